@@ -1,5 +1,5 @@
 -- An element: an identifier octet, the length octets and the content octets (X.690 8.1).
-use Rattle.std.specs.Prelude.{ℕ, ◌/◌, ◌%◌, Bool, ◌&&◌, not, nat_lt, nat_eq, List, [], ◌∷◌, ◌++◌, length, if◌then◌else◌}
+use Rattle.std.specs.Prelude.{ℕ, ◌/◌, ◌%◌, Bool, ◌&&◌, ◌||◌, not, nat_lt, nat_le, nat_eq, List, [], ◌∷◌, ◌++◌, length, if◌then◌else◌}
 
 -- The length octets of a number (X.690 8.1.3, 10.1). A length below 128 is one octet. Any other is 128 + k and its k
 -- digits in base 256, most significant first, as few as there can be. Here the fourth digit is the last that a length
@@ -20,11 +20,19 @@ header tag n = tag ∷ length_octets n
 unfoldable pub element : ℕ → List ℕ → List ℕ
 element tag content = tag ∷ (length_octets (length content) ++ content)
 
--- the most octets that an element has here
+-- the most octets that an element has here (our own limit)
 abbrev pub limit : ℕ
 limit = 268435455
 
--- A single identifier octet that takes no further identifier octets: its number, the low five bits, is at most 30
--- (X.690 8.1.2.2, 8.1.2.4).
-unfoldable pub is_low_number : ℕ → Bool
-is_low_number tag = nat_lt tag 256 && not (nat_eq (tag % 32) 31)
+-- The identifier octets of the universal class that begin an element here: the types of X.680 8.4 up to number 30
+-- that certificates are made of, SEQUENCE and SET constructed and all others primitive.
+unfoldable pub is_universal : ℕ → Bool
+is_universal tag =
+    (nat_le 1 tag && nat_le tag 6)
+    || (nat_eq tag 9 || (nat_eq tag 10 || (nat_eq tag 12 || (nat_eq tag 13
+    || ((nat_le 18 tag && nat_le tag 28) || (nat_eq tag 30 || (nat_eq tag 48 || nat_eq tag 49)))))))
+
+-- The identifier octets that begin an element: the universal ones, and those of the other classes, whose low five bits
+-- are a number of at most 30, so that no further identifier octets follow (X.690 8.1.2.2, 8.1.2.4).
+unfoldable pub is_identifier : ℕ → Bool
+is_identifier tag = is_universal tag || (nat_le 64 tag && (nat_lt tag 256 && not (nat_eq (tag % 32) 31)))

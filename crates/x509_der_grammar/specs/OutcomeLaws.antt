@@ -1,0 +1,32 @@
+-- What a step that may be refused says of its parts.
+use Rattle.std.proofs.Common.{◌≡◌, ◌⊎◌, inl, inr, Bool, true, false, cond, Result, Ok, Err, refl}
+use Rattle.x509_der_grammar.specs.declared.error.ErrorKind.{ErrorKind}
+use Rattle.x509_der_grammar.specs.Outcome.{◌>>=◌}
+
+abbrev pub made : {A : Type 0} → A → Result A ErrorKind
+made x = Ok x
+
+pub ok_is : {A : Type 0} (x y : A) → made x ≡ made y → x ≡ y
+ok_is x y e = cc
+
+pub bind_ok : {A B : Type 0} (r : Result A ErrorKind) (f : A → Result B ErrorKind) (y : B) → (r >>= f) ≡ Ok y → (x : A) × (r ≡ Ok x) × (f x ≡ Ok y)
+bind_ok (Ok x) f y e = (x, refl, e)
+bind_ok (Err d) f y e = absurd cc
+
+pub bind_err : {A B : Type 0} (r : Result A ErrorKind) (f : A → Result B ErrorKind) (e : ErrorKind) → (r >>= f) ≡ Err e → (r ≡ Err e) ⊎ ((x : A) × (r ≡ Ok x) × (f x ≡ Err e))
+bind_err (Ok x) f e h = inr (x, refl, h)
+bind_err (Err d) f e h = inl (let k : d ≡ e = cc in rw k refl)
+
+-- a refusal where the test holds
+pub guard_ok : {A : Type 0} (b : Bool) (d : ErrorKind) (r : Result A ErrorKind) (y : A) → cond b (Err d) r ≡ Ok y → (b ≡ false) × (r ≡ Ok y)
+guard_ok true d r y e = absurd cc
+guard_ok false d r y e = (refl, e)
+
+-- a refusal where the test does not hold
+pub test_ok : {A : Type 0} (b : Bool) (d : ErrorKind) (r : Result A ErrorKind) (y : A) → cond b r (Err d) ≡ Ok y → (b ≡ true) × (r ≡ Ok y)
+test_ok true d r y e = (refl, e)
+test_ok false d r y e = absurd cc
+
+pub test_err : {A : Type 0} (b : Bool) (d : ErrorKind) (r : Result A ErrorKind) (e : ErrorKind) → cond b r (Err d) ≡ Err e → (r ≡ Err e) ⊎ (d ≡ e)
+test_err true d r e h = inl h
+test_err false d r e h = inr cc
