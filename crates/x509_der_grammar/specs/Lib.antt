@@ -5,3 +5,7 @@ pub mod ElementReading
 pub mod ElementLaws
 pub mod Tag
 pub mod TagLaws
+pub mod Form
+pub mod FormLaws
+pub mod Writing
+pub mod WritingLaws

@@ -1,10 +1,16 @@
 //! The grammar of strict DER.
 #![tactic(auto)]
 
+mod decode;
+mod element;
 mod error;
+mod grammar;
 mod length;
 mod tag;
 
+pub use decode::{Decode, read_whole};
+pub use element::{Piece, split_element};
 pub use error::{Error, ErrorKind};
+pub use grammar::{FixedTag, Grammar, Tagged};
 pub use length::Length;
 pub use tag::{Tag, TagNumber};

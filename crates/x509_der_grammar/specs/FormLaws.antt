@@ -1,0 +1,63 @@
+-- What holds of every form.
+use Rattle.std.proofs.Common.{◌≡◌, ℕ, ◌≤◌, true, false, ◌||◌, eqb, ◌⊎◌, List, [], ◌∷◌, ◌++◌, length, Result, Ok, Err, refl, sym, ap, subst, ◌∙◌, inl, inr}
+use Rattle.std.proofs.lemmas.Bool.{eqb-true, eq-eqb, or_left}
+use Rattle.std.proofs.lemmas.List.{append-nil}
+use Rattle.x509_der_grammar.specs.declared.error.ErrorKind.{ErrorKind}
+use Rattle.x509_der_grammar.specs.declared.error.ErrorKind.TheVariants.{Malformed}
+use Rattle.x509_der_grammar.specs.Outcome.{◌>>=◌}
+use Rattle.x509_der_grammar.specs.OutcomeLaws.{ok_is, bind_ok, bind_err, guard_ok, test_ok, test_err}
+use Rattle.x509_der_grammar.specs.Element.{element, is_identifier, length_octets}
+use Rattle.x509_der_grammar.specs.ElementReading.{piece_at, length_at}
+use Rattle.x509_der_grammar.specs.ElementLaws.{piece_at-sound, piece_at-whole, piece_at-refused}
+use Rattle.x509_der_grammar.specs.Form.{is_in, is_empty, Form, spelling, Spells, IsForm, Content, IsContent, alone, whole_reading, universal}
+
+pub is_empty-true : (bytes : List ℕ) → is_empty bytes ≡ true → bytes ≡ []
+is_empty-true [] h = refl
+is_empty-true (b ∷ bytes) h = absurd cc
+
+pub is_in-front : (t : ℕ) (ts : List ℕ) → is_in t (t ∷ ts) ≡ true
+is_in-front t ts = or_left (eqb t t) (is_in t ts) (eq-eqb t t refl)
+
+-- a content under its own identifier octet
+pub universal_lawful : {X : Type 0} {R : ErrorKind → Type 0} (c : Content X) → IsContent R c → IsForm R (universal c)
+universal_lawful c h = record {
+  sound = λ t bytes v e.
+      let g = test_ok (eqb t c.tag) Malformed (c.reading bytes) v e in
+      let s = h.sound bytes v g.1 in
+      (s.0, eqb-true t c.tag g.0, s.1);
+  complete = λ v g. rw (eq-eqb c.tag c.tag refl) (h.complete v g);
+  refused = λ t bytes e r. elim (test_err (eqb t c.tag) Malformed (c.reading bytes) e r) [ inl j ↦ h.refused bytes e j | inr j ↦ inl (sym j) ];
+  tagged = λ v g. (is_in-front c.tag [], h.identifier);
+}
+
+-- ---- one whole element
+
+same_element : (bytes : List ℕ) (u t : ℕ) (d c rest : List ℕ) → bytes ≡ element u d ++ rest → u ≡ t → d ≡ c → rest ≡ [] → bytes ≡ element t c
+same_element bytes u t d c rest e tag-is content-is rest-is = e ∙ rw (tag-is, content-is, rest-is) (append-nil (element t c))
+
+pub whole_sound : {X : Type 0} {R : ErrorKind → Type 0} (f : Form X) (h : IsForm R f) (bytes : List ℕ) (v : X) → whole_reading f.reading bytes ≡ Ok v → f.good v × (bytes ≡ spelling f v)
+unfolding whole_reading
+whole_sound f h bytes v e =
+    let b = bind_ok (piece_at bytes) (alone f.reading) v e in
+    let p = b.0 in
+    let g = test_ok (is_empty p.rest) Malformed (f.reading p.tag p.content) v b.2 in
+    let k = piece_at-sound bytes p b.1 in
+    let m = h.sound p.tag p.content v g.1 in
+    let parts : bytes ≡ element p.tag p.content ++ p.rest = k.0 in
+    let all : bytes ≡ spelling f v = same_element bytes p.tag (f.tag v) p.content (f.content v) p.rest parts m.1 m.2 (is_empty-true p.rest g.0) in
+    (m.0, all)
+
+pub whole_complete : {X : Type 0} {R : ErrorKind → Type 0} (f : Form X) (h : IsForm R f) (v : X) → f.good v → whole_reading f.reading (spelling f v) ≡ Ok v
+unfolding whole_reading
+whole_complete f h v g = rw (piece_at-whole (f.tag v) (f.content v) (h.tagged v g).1) (h.complete v g)
+
+pub whole_refused : {X : Type 0} {R : ErrorKind → Type 0} (f : Form X) (h : IsForm R f) (bytes : List ℕ) (e : ErrorKind) → whole_reading f.reading bytes ≡ Err e → (e ≡ Malformed) ⊎ R e
+unfolding whole_reading
+whole_refused f h bytes e r =
+    elim (bind_err (piece_at bytes) (alone f.reading) e r) [
+      | inl k ↦ inl (piece_at-refused bytes e k)
+      | inr k ↦ elim (test_err (is_empty k.0.rest) Malformed (f.reading k.0.tag k.0.content) e k.2) [
+        | inl j ↦ h.refused k.0.tag k.0.content e j
+        | inr j ↦ inl (sym j)
+      ]
+    ]

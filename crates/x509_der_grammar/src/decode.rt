@@ -1,0 +1,54 @@
+//! Reading a value from the bytes of its one spelling.
+
+ghost use Rattle.x509_der_grammar.specs.Outcome.{Gives};
+ghost use Rattle.x509_der_grammar.specs.Form.{whole_reading};
+
+use crate::element::split_element;
+use crate::error::{Error, ErrorKind};
+use crate::grammar::Grammar;
+use crate::length::Length;
+use std::alloc::Global;
+
+/// A type that is read from its spelling.
+pub trait Decode: Grammar {
+    ghost use Rattle.std.specs.Prelude.{◌≡◌, List, length, ◌<◌, ◌≤◌, ◌⊎◌, IfOk, IfErr};
+    ghost use Rattle.x509_der_grammar.specs.Outcome.{Gives};
+    ghost use Rattle.x509_der_grammar.specs.Element.{limit};
+    ghost use Rattle.x509_der_grammar.specs.Form.{Spells};
+    ghost use Rattle.x509_der_grammar.specs.declared.error.ErrorKind.TheVariants as errors;
+
+    /// The value of an element with this identifier octet and this content.
+    fn read(alloc: Global, tag: u8, content: &[u8]) -> Result<Self, Error>
+        ensures exact { Gives result (Self.form.reading tag content.now) };
+
+    /// The one value that the bytes spell.
+    ///
+    /// `Overlength` exactly where they are more than [`Length::MAX`]; within that `Malformed`, or an error of
+    /// the type's own, exactly where they spell no value. Memory may be refused.
+    #[tactic(auto, unfolding(crate::specs::Form::whole_reading), using(crate::specs::FormLaws::whole_sound, crate::specs::FormLaws::whole_complete, crate::specs::FormLaws::whole_refused))]
+    final fn from_der(alloc: Global, bytes: &[u8]) -> Result<Self, Error>
+        ensures found { IfOk result (λ value. Spells Self.form value bytes.now) }
+        ensures overlength { limit < length bytes.now → IfErr result (λ e. e.kind ≡ errors.Overlength) }
+        ensures too_long { limit < length bytes.now → IfOk result (λ value. ⊥) }
+        ensures refused { length bytes.now ≤ limit → IfErr result (λ e. (e.kind ≡ errors.Memory) ⊎ ((e.kind ≡ errors.Malformed) ⊎ Self.refuses e.kind)) }
+        ensures only { length bytes.now ≤ limit → (value : Self) → Spells Self.form value bytes.now → IfErr result (λ e. e.kind ≡ errors.Memory) }
+        ensures value { (value : Self) → Spells Self.form value bytes.now → IfOk result (λ found. found ≡ value) }
+    {
+        if bytes.len() > Length::MAX.as_u32() as usize {
+            return Err(ErrorKind::Overlength.into());
+        }
+        read_whole::<Self>(alloc, bytes)
+    }
+}
+
+/// The value of one element with nothing after it.
+#[tactic(auto, unfolding(crate::specs::Form::whole_reading))]
+pub fn read_whole<T: Decode>(alloc: Global, bytes: &[u8]) -> Result<T, Error>
+    ensures exact { Gives result (whole_reading T.form.reading bytes.now) }
+{
+    let piece = split_element(bytes)?;
+    if !piece.rest.is_empty() {
+        return Err(ErrorKind::Malformed.into());
+    }
+    T::read(alloc, piece.tag, piece.content)
+}

@@ -1,0 +1,69 @@
+//! Elements at the front of bytes (X.690 8.1).
+
+ghost use Rattle.std.specs.Prelude.{◌≡◌, ◌≤◌, ◌<◌, ◌++◌, length, List, ℕ, IfOk, IfErr};
+ghost use Rattle.x509_der_grammar.specs.declared.error.ErrorKind.TheVariants as errors;
+ghost use Rattle.x509_der_grammar.specs.declared.tag.Tag.{Tag};
+ghost use Rattle.x509_der_grammar.specs.Outcome.{GivesBy};
+ghost use Rattle.x509_der_grammar.specs.Element.{element, limit};
+ghost use Rattle.x509_der_grammar.specs.ElementReading.{length_at, piece_at};
+ghost use Rattle.x509_der_grammar.specs.Tag.{octet_of};
+
+use crate::error::{Error, ErrorKind};
+use crate::length::Length;
+use crate::tag::{Tag, check_identifier};
+
+/// An element and what follows it.
+#[derive(Clone, Copy)]
+pub struct Piece<'a> {
+    /// The identifier octet.
+    pub tag: u8,
+
+    /// The content octets.
+    pub content: &'a [u8],
+
+    /// What follows the element.
+    pub rest: &'a [u8],
+}
+
+/// The length at the front, and what follows it; `Malformed` where it is not the shortest form (X.690 10.1).
+#[tactic(auto, unfolding(crate::specs::ElementReading::length_at, crate::specs::ElementReading::one_digit, crate::specs::ElementReading::two_digits, crate::specs::ElementReading::three_digits, crate::specs::ElementReading::four_digits))]
+fn read_length(bytes: &[u8]) -> Result<(usize, &[u8]), Error>
+    ensures exact { GivesBy (λ x. (x.0, x.1.now)) result (length_at bytes.now) }
+{
+    match bytes {
+        [a, rest @ ..] if *a < 128 => Ok((*a as usize, rest)),
+        [0x81, a, rest @ ..] if *a >= 128 => Ok((*a as usize, rest)),
+        [0x82, a, b, rest @ ..] if *a > 0 => Ok((256 * *a as usize + *b as usize, rest)),
+        [0x83, a, b, c, rest @ ..] if *a > 0 => {
+            Ok((65_536 * *a as usize + 256 * *b as usize + *c as usize, rest))
+        }
+        [0x84, a, b, c, d, rest @ ..] if *a > 0 => Ok((
+            16_777_216 * *a as usize + 65_536 * *b as usize + 256 * *c as usize + *d as usize,
+            rest,
+        )),
+        _ => Err(ErrorKind::Malformed.into()),
+    }
+}
+
+/// The element at the front, of any length; `Malformed` where none stands there.
+#[tactic(auto, unfolding(crate::specs::ElementReading::piece_at, crate::specs::ElementReading::content_at))]
+pub fn split_element(bytes: &[u8]) -> Result<Piece<'_>, Error>
+    ensures exact { GivesBy (λ x. record { tag = x.tag; content = x.content.now; rest = x.rest.now }) result (piece_at bytes.now) }
+{
+    let [tag, after @ ..] = bytes else {
+        return Err(ErrorKind::Malformed.into());
+    };
+    if !check_identifier(*tag) {
+        return Err(ErrorKind::Malformed.into());
+    }
+    let (len, after) = read_length(after)?;
+    if after.len() < len {
+        return Err(ErrorKind::Malformed.into());
+    }
+    let (content, rest) = after.split_at(len);
+    Ok(Piece {
+        tag: *tag,
+        content,
+        rest,
+    })
+}

@@ -1,0 +1,60 @@
+//! The written form of a type.
+
+use crate::tag::Tag;
+
+/// A type each value of which is one element. What reading and writing speak of.
+pub trait Grammar: Sized {
+    ghost use Rattle.std.specs.Prelude.{◌≡◌};
+    ghost use Rattle.x509_der_grammar.specs.declared.error.ErrorKind.{ErrorKind};
+    ghost use Rattle.x509_der_grammar.specs.Form.{Form, IsForm, is_in};
+    ghost use Rattle.x509_der_grammar.specs.Tag.{octet_of};
+
+    ghost form: { Form Self };
+
+    /// The refusals of reading besides `Malformed`.
+    ghost refuses: { ErrorKind → Type 0 } = { λ _. ⊥ };
+
+    /// The identifier of the value.
+    fn identifier(&self) -> Tag
+        ensures { octet_of result ≡ form.tag self.now };
+
+    /// Whether the element of a value may begin with the identifier octet.
+    fn is_start(octet: u8) -> bool
+        ensures { result ≡ is_in octet form.starts };
+
+    ghost lawful: { IsForm refuses form };
+}
+
+/// A value with an identifier.
+pub trait Tagged {
+    ghost use Rattle.std.specs.Prelude.{◌≡◌, ℕ};
+    ghost use Rattle.x509_der_grammar.specs.Tag.{octet_of};
+
+    ghost identifier_octet: { Self → ℕ };
+
+    /// The identifier of the value.
+    fn tag(&self) -> Tag
+        ensures { octet_of result ≡ identifier_octet self.now };
+}
+
+impl<T: Grammar> Tagged for T {
+    ghost identifier_octet = { T.form.tag };
+
+    fn tag(&self) -> Tag {
+        self.identifier()
+    }
+}
+
+/// A type whose values have one identifier.
+pub trait FixedTag: Grammar {
+    ghost use Rattle.x509_der_grammar.specs.declared.tag.Tag.{Tag};
+    ghost use Rattle.x509_der_grammar.specs.Form.{HasTag};
+    ghost use Rattle.x509_der_grammar.specs.Tag.{octet_of};
+
+    ghost TAG: { Tag };
+
+    /// The identifier.
+    const TAG: Tag;
+
+    ghost fixed: { HasTag (octet_of TAG) Self.form };
+}
