@@ -9,3 +9,6 @@ pub mod Form
 pub mod FormLaws
 pub mod Writing
 pub mod WritingLaws
+pub mod CountingRoom
+pub mod GrowingRoom
+pub mod FixedRoom

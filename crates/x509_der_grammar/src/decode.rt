@@ -11,7 +11,7 @@ use std::alloc::Global;
 
 /// A type that is read from its spelling.
 pub trait Decode: Grammar {
-    ghost use Rattle.std.specs.Prelude.{◌≡◌, List, length, ◌<◌, ◌≤◌, ◌⊎◌, IfOk, IfErr};
+    ghost use Rattle.std.specs.Prelude.{◌≡◌, List, length, ◌<◌, ◌≤◌, ◌⊎◌, IfOk, IfErr, IsErrAnd};
     ghost use Rattle.x509_der_grammar.specs.Outcome.{Gives};
     ghost use Rattle.x509_der_grammar.specs.Element.{limit};
     ghost use Rattle.x509_der_grammar.specs.Form.{Spells};
@@ -28,8 +28,7 @@ pub trait Decode: Grammar {
     #[tactic(auto, unfolding(crate::specs::Form::whole_reading), using(crate::specs::FormLaws::whole_sound, crate::specs::FormLaws::whole_complete, crate::specs::FormLaws::whole_refused))]
     final fn from_der(alloc: Global, bytes: &[u8]) -> Result<Self, Error>
         ensures found { IfOk result (λ value. Spells Self.form value bytes.now) }
-        ensures overlength { limit < length bytes.now → IfErr result (λ e. e.kind ≡ errors.Overlength) }
-        ensures too_long { limit < length bytes.now → IfOk result (λ value. ⊥) }
+        ensures overlength { limit < length bytes.now → IsErrAnd result (λ e. e.kind ≡ errors.Overlength) }
         ensures refused { length bytes.now ≤ limit → IfErr result (λ e. (e.kind ≡ errors.Memory) ⊎ ((e.kind ≡ errors.Malformed) ⊎ Self.refuses e.kind)) }
         ensures only { length bytes.now ≤ limit → (value : Self) → Spells Self.form value bytes.now → IfErr result (λ e. e.kind ≡ errors.Memory) }
         ensures value { (value : Self) → Spells Self.form value bytes.now → IfOk result (λ found. found ≡ value) }

@@ -6,6 +6,7 @@ mod element;
 mod error;
 mod grammar;
 mod length;
+mod room;
 mod tag;
 
 pub use decode::{Decode, read_whole};
@@ -13,4 +14,5 @@ pub use element::{Piece, split_element};
 pub use error::{Error, ErrorKind};
 pub use grammar::{FixedTag, Grammar, Tagged};
 pub use length::Length;
+pub use room::{Counting, Fixed, Growing, Room};
 pub use tag::{Tag, TagNumber};

@@ -1,0 +1,30 @@
+//! Rooms that are filled from their end.
+
+use crate::error::Error;
+
+mod counting;
+mod fixed;
+mod growing;
+
+pub use counting::Counting;
+pub use fixed::Fixed;
+pub use growing::Growing;
+
+/// Room in which bytes are put in front of those that stand already.
+pub trait Room {
+    ghost use Rattle.std.specs.Prelude.{◌≡◌, ◌≤◌, None};
+    ghost use Rattle.x509_der_grammar.specs.Writing.{Kind, IsKind, Puts};
+
+    ghost kind: { Kind Self };
+
+    /// How many bytes stand.
+    fn len(&self) -> usize
+        ensures count { result ≡ kind.count self.now }
+        ensures within { result ≤ kind.most self.now };
+
+    /// Puts the bytes in front of those that stand.
+    fn put(&mut self, bytes: &[u8]) -> Result<(), Error>
+        ensures { Puts kind bytes.now None result self.old self.new };
+
+    ghost lawful: { IsKind kind };
+}

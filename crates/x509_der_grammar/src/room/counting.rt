@@ -1,0 +1,50 @@
+//! Room that counts and keeps nothing.
+
+ghost use Rattle.std.specs.Prelude.{◌≡◌, ◌≤◌};
+
+use crate::error::{Error, ErrorKind};
+use crate::length::Length;
+use crate::room::Room;
+
+/// Counts the bytes that are put, up to [`Length::MAX`].
+#[derive(Drop)]
+pub struct Counting {
+    count: u32,
+    ghost within: { count ≤ 268435455 },
+}
+
+impl Counting {
+    /// No bytes yet.
+    pub fn new() -> Counting
+        ensures { result.count ≡ 0 }
+    {
+        Counting { count: 0 }
+    }
+
+    /// How many bytes were put.
+    pub fn count(&self) -> u32
+        ensures { result ≡ self.now.count }
+    {
+        self.count
+    }
+}
+
+impl Room for Counting {
+    ghost use Rattle.x509_der_grammar.specs.CountingRoom.{counting, counting_lawful};
+
+    ghost kind = { counting };
+
+    fn len(&self) -> usize {
+        self.count as usize
+    }
+
+    fn put(&mut self, bytes: &[u8]) -> Result<(), Error> {
+        if bytes.len() > (Length::MAX.as_u32() - self.count) as usize {
+            return Err(ErrorKind::Overlength.into());
+        }
+        self.count += bytes.len() as u32;
+        Ok(())
+    }
+
+    ghost lawful = { counting_lawful };
+}

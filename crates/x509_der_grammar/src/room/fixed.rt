@@ -1,0 +1,59 @@
+//! Room in bytes that the caller has.
+
+ghost use Rattle.std.specs.Prelude.{◌≡◌, ◌≤◌, ◌+◌, length};
+ghost use Rattle.x509_der_grammar.specs.Element.{limit};
+
+use crate::error::{Error, ErrorKind};
+use crate::length::Length;
+use crate::room::Room;
+
+/// Bytes of the caller that are filled from their end.
+#[derive(Drop)]
+pub struct Fixed<'a> {
+    room: &'a mut [u8],
+    start: usize,
+    ghost within: { start ≤ length room.now },
+    ghost limited: { length room.now ≤ limit + start },
+}
+
+impl<'a> Fixed<'a> {
+    /// The whole room, in which nothing stands.
+    pub fn new(room: &'a mut [u8]) -> Fixed<'a>
+        ensures same_reference { result.room.ghost_name ≡ room.entry.ghost_name }
+        ensures same { result.room.now ≡ room.old }
+        ensures start { result.start ≡ length room.old }
+    {
+        let start = room.len();
+        Fixed { room, start }
+    }
+
+    /// How many bytes of the room come before those that were put.
+    pub fn start(&self) -> usize
+        ensures { result ≡ self.now.start }
+    {
+        self.start
+    }
+}
+
+impl Room for Fixed<'_> {
+    ghost use Rattle.x509_der_grammar.specs.FixedRoom.{fixed, fixed_lawful};
+
+    ghost kind = { fixed };
+
+    fn len(&self) -> usize {
+        self.room.len() - self.start
+    }
+
+    fn put(&mut self, bytes: &[u8]) -> Result<(), Error> {
+        let len = self.room.len() - self.start;
+        if bytes.len() > self.start || bytes.len() > Length::MAX.as_u32() as usize - len {
+            return Err(ErrorKind::Overlength.into());
+        }
+        let start = self.start - bytes.len();
+        self.room[start..self.start].copy_from_slice(bytes);
+        self.start = start;
+        Ok(())
+    }
+
+    ghost lawful = { fixed_lawful };
+}
