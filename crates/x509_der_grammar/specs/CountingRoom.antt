@@ -6,9 +6,9 @@ use Rattle.x509_der_grammar.specs.Writing.{Kind, IsKind}
 use Rattle.x509_der_grammar.specs.declared.room.counting.Counting.{Counting}
 
 abbrev pub counting : Kind Counting
-counting = record { puts = λ bytes x y. y.count ≡ length bytes + x.count; count = λ x. x.count; most = λ x. limit; lacks = ⊥ }
+counting = record { puts = λ bytes x y. y.count.octets ≡ length bytes + x.count.octets; count = λ x. x.count.octets; most = λ x. limit; lacks = ⊥ }
 
-counted_further : (a b : List ℕ) (x y z : Counting) → y.count ≡ length b + x.count → z.count ≡ length a + y.count → z.count ≡ length (a ++ b) + x.count
+counted_further : (a b : List ℕ) (x y z : Counting) → y.count.octets ≡ length b + x.count.octets → z.count.octets ≡ length a + y.count.octets → z.count.octets ≡ length (a ++ b) + x.count.octets
 counted_further a b x y z p q = omega (arith, p, q, length-append a b)
 
 pub counting_lawful : IsKind counting

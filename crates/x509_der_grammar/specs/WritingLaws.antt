@@ -1,9 +1,12 @@
 -- Texts put one in front of the other.
-use Rattle.std.proofs.Common.{◌≡◌, ℕ, ◌+◌, ◌-◌, ◌<◌, ◌≤◌, List, [], ◌++◌, ◌∷◌, length, Option, Some, None, Result, Ok, Err, refl, sym, ap, ◌∙◌, append_assoc, arith, length-append, inl, inr}
+use Rattle.std.proofs.Common.{◌≡◌, ◌⊎◌, ℕ, ◌+◌, ◌-◌, ◌<◌, ◌≤◌, List, [], ◌++◌, ◌∷◌, length, Option, Some, None, Result, Ok, Err, refl, sym, ap, ◌∙◌, append_assoc, arith, length-append, inl, inr}
 use Rattle.x509_der_grammar.specs.declared.error.Error.{Error}
 use Rattle.x509_der_grammar.specs.declared.error.ErrorKind.{ErrorKind}
 use Rattle.x509_der_grammar.specs.Element.{element, header, length_octets, limit}
+use Rattle.x509_der_grammar.specs.declared.error.ErrorKind.TheVariants.{Overlength}
+use Rattle.x509_der_grammar.specs.declared.room.counting.Counting.{Counting}
 use Rattle.x509_der_grammar.specs.Writing.{first, Kind, IsKind, Puts}
+use Rattle.x509_der_grammar.specs.CountingRoom.{counting, counting_lawful}
 
 first-none : (p q : Option ErrorKind) → p ≡ None → first p q ≡ q
 first-none p q e = rw e refl
@@ -55,3 +58,27 @@ puts_element {R} k h t c n m q done r old mid new s e f u =
 pub puts_no_element : {R : Type 0} (k : Kind R) (t : ℕ) (c : List ℕ) (q : Option ErrorKind) (e : Error) (old new : R) → Puts k c q (Err e) old new → Puts k (element t c) q (Err e) old new
 unfolding element
 puts_no_element k t c q e old new s = rw (← first-alone q) (puts_not k (header t (length c)) c None q e old new s)
+
+-- the same under an identifier octet that is known by an equation
+pub puts_header : {R : Type 0} (k : Kind R) → IsKind k → (u t : ℕ) (c : List ℕ) (n m : ℕ) (q : Option ErrorKind) (done : Unit) (r : Result Unit Error) (old mid new : R) → u ≡ t → Puts k c q (Ok done) old mid → n ≡ k.count mid → m ≡ k.count old → Puts k (header u (n - m)) None r mid new → Puts k (element t c) q r old new
+puts_header k h u t c n m q done r old mid new is s e f w = rw (← is) (puts_element k h u c n m q done r old mid new s e f w)
+
+-- ---- counting
+
+-- what a count from nothing says where it is refused
+pub count_refused : (text : List ℕ) (q : Option ErrorKind) (e : Error) (old new : Counting) → old.count.octets ≡ 0 → Puts counting text q (Err e) old new → (q ≡ Some e.kind) ⊎ ((e.kind ≡ Overlength) × (limit < length text))
+count_refused text q e old new zero (inl m) = absurd m.1
+count_refused text q e old new zero (inr (inl o)) = let long : limit < length text + old.count.octets = o.1 in inr (o.0, omega (arith, long, zero))
+count_refused text q e old new zero (inr (inr d)) = inl d
+
+-- and where it is not
+pub count_put : (text : List ℕ) (q : Option ErrorKind) (done : Unit) (old new : Counting) → old.count.octets ≡ 0 → Puts counting text q (Ok done) old new → (q ≡ None) × (length text ≤ limit) × (new.count.octets ≡ length text)
+count_put text q done old new zero s =
+    let counted : new.count.octets ≡ length text + old.count.octets = s.1 in
+    let within : new.count.octets ≤ limit = new.count.within in
+    (s.0, omega (arith, counted, zero, within), omega (arith, counted, zero))
+
+pub count_header : (u t : ℕ) (c : List ℕ) (n : ℕ) (q : Option ErrorKind) (done : Unit) (r : Result Unit Error) (old mid new : Counting) → u ≡ t → old.count.octets ≡ 0 → Puts counting c q (Ok done) old mid → n ≡ mid.count.octets → Puts counting (header u n) None r mid new → Puts counting (element t c) q r old new
+count_header u t c n q done r old mid new is zero s e w =
+    let same : n - 0 ≡ n = omega arith in
+    puts_header counting counting_lawful u t c n 0 q done r old mid new is s e (sym zero) (rw same w)

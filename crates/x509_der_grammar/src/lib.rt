@@ -3,6 +3,7 @@
 
 mod decode;
 mod element;
+mod encode;
 mod error;
 mod grammar;
 mod length;
@@ -11,6 +12,7 @@ mod tag;
 
 pub use decode::{Decode, read_whole};
 pub use element::{Piece, split_element};
+pub use encode::{Encode, put_header};
 pub use error::{Error, ErrorKind};
 pub use grammar::{FixedTag, Grammar, Tagged};
 pub use length::Length;

@@ -1,6 +1,6 @@
 //! Room that counts and keeps nothing.
 
-ghost use Rattle.std.specs.Prelude.{◌≡◌, ◌≤◌};
+ghost use Rattle.std.specs.Prelude.{◌≡◌};
 
 use crate::error::{Error, ErrorKind};
 use crate::length::Length;
@@ -9,20 +9,21 @@ use crate::room::Room;
 /// Counts the bytes that are put, up to [`Length::MAX`].
 #[derive(Drop)]
 pub struct Counting {
-    count: u32,
-    ghost within: { count ≤ 268435455 },
+    count: Length,
 }
 
 impl Counting {
     /// No bytes yet.
     pub fn new() -> Counting
-        ensures { result.count ≡ 0 }
+        ensures { result.count.octets ≡ 0 }
     {
-        Counting { count: 0 }
+        Counting {
+            count: Length::ZERO,
+        }
     }
 
     /// How many bytes were put.
-    pub fn count(&self) -> u32
+    pub fn count(&self) -> Length
         ensures { result ≡ self.now.count }
     {
         self.count
@@ -35,14 +36,15 @@ impl Room for Counting {
     ghost kind = { counting };
 
     fn len(&self) -> usize {
-        self.count as usize
+        self.count.as_u32() as usize
     }
 
     fn put(&mut self, bytes: &[u8]) -> Result<(), Error> {
-        if bytes.len() > (Length::MAX.as_u32() - self.count) as usize {
+        let count = self.count.as_u32();
+        if bytes.len() > (Length::MAX.as_u32() - count) as usize {
             return Err(ErrorKind::Overlength.into());
         }
-        self.count += bytes.len() as u32;
+        self.count = Length::new(count + bytes.len() as u32)?;
         Ok(())
     }
 

@@ -9,6 +9,9 @@ use crate::room::Room;
 use std::alloc::Global;
 use std::marker::Model;
 
+/// Room for the headers that mostly follow.
+const SPARE: usize = 64;
+
 /// A vector that is filled from its end, and grows at its front. Contracts see the bytes that stand.
 #[derive(Drop)]
 pub struct Growing {
@@ -80,8 +83,8 @@ impl Room for Growing {
             return Err(ErrorKind::Overlength.into());
         }
         if bytes.len() > self.start {
-            // Twice what is needed, so that what stands is moved seldom.
-            let more = bytes.len() + len;
+            // Twice what is needed and some headers, so that what stands is moved seldom.
+            let more = bytes.len() + len + SPARE;
             grow(&mut self.items, self.start, more)?;
             self.start += more;
         }

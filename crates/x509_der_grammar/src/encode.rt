@@ -1,0 +1,119 @@
+//! Writing a value as the bytes of its one spelling.
+
+ghost use Rattle.std.specs.Prelude.{◌≡◌, ◌≤◌, None};
+ghost use Rattle.x509_der_grammar.specs.Element.{header, limit};
+ghost use Rattle.x509_der_grammar.specs.Writing.{Puts};
+
+use crate::error::Error;
+use crate::grammar::Grammar;
+use crate::length::Length;
+use crate::room::{Counting, Fixed, Growing, Room};
+use std::alloc::Global;
+
+/// A type that is written as its spelling, in one pass from the end.
+pub trait Encode: Grammar {
+    ghost use Rattle.std.specs.Prelude.{◌≡◌, ◌<◌, ◌≤◌, ◌++◌, ◌⊎◌, Some, None, IfOk, IfErr, OnOk, length, take, min};
+    ghost use Rattle.x509_der_grammar.specs.Element.{limit};
+    ghost use Rattle.x509_der_grammar.specs.Form.{spelling};
+    ghost use Rattle.x509_der_grammar.specs.Writing.{Writing, plain, writes, Puts, IsWritable, IsUnwritable, written_spelling};
+    ghost use Rattle.x509_der_grammar.specs.declared.error.ErrorKind.TheVariants as errors;
+
+    /// How values are written.
+    ghost writing: { Writing Self } = { plain };
+
+    /// Puts the content in front of what stands.
+    fn put_content<R: Room>(&self, room: &mut R) -> Result<(), Error>
+        ensures { Puts R.kind (Self.form.content (writes writing self.now).value) (writes writing self.now).refusal result room.old room.new };
+
+    ghost same_tag: { (value : Self) → Self.form.tag (writes writing value).value ≡ Self.form.tag value };
+
+    /// Puts the element in front of what stands. Its content stands before its header is put.
+    final fn put_element<R: Room>(&self, room: &mut R) -> Result<(), Error>
+        ensures { Puts R.kind (spelling Self.form (writes writing self.now).value) (writes writing self.now).refusal result room.old room.new }
+    {
+        let before = room.len();
+        self.put_content(room)?;
+        let len = room.len() - before;
+        put_header(self.identifier().octet(), len as u32, room)
+    }
+
+    /// The bytes of the value's one spelling.
+    ///
+    /// `Overlength` exactly where they are more than [`Length::MAX`](crate::Length::MAX), or the refusal of a
+    /// part that can't be written. Memory may be refused.
+    final fn to_der(&self, alloc: Global) -> Result<Vec<u8>, Error>
+        ensures ok { IfOk result (λ bytes. (bytes.items ≡ written_spelling Self.form (writes writing self.now)) × IsWritable Self.form (writes writing self.now) limit) }
+        ensures err { IfErr result (λ e. (e.kind ≡ errors.Memory) ⊎ IsUnwritable Self.form (writes writing self.now) limit e.kind) }
+    {
+        let mut room = Growing::new(alloc);
+        self.put_element(&mut room)?;
+        Ok(room.into_vec())
+    }
+
+    /// How many bytes `to_der` writes; it takes no memory, and is refused exactly where `to_der` is refused for
+    /// another cause than memory.
+    final fn encoded_len(&self) -> Result<Length, Error>
+        ensures ok { IfOk result (λ len. (len.octets ≡ length (written_spelling Self.form (writes writing self.now))) × IsWritable Self.form (writes writing self.now) limit) }
+        ensures err { IfErr result (λ e. IsUnwritable Self.form (writes writing self.now) limit e.kind) }
+    {
+        let mut room = Counting::new();
+        self.put_element(&mut room)?;
+        Ok(room.count())
+    }
+
+    /// How many bytes of content `to_der` writes; as `encoded_len` otherwise.
+    final fn value_len(&self) -> Result<Length, Error>
+        ensures ok { IfOk result (λ len. (len.octets ≡ length (Self.form.content (writes writing self.now).value)) × IsWritable Self.form (writes writing self.now) limit) }
+        ensures err { IfErr result (λ e. IsUnwritable Self.form (writes writing self.now) limit e.kind) }
+    {
+        let mut room = Counting::new();
+        self.put_content(&mut room)?;
+        let content = room.count();
+        put_header(self.identifier().octet(), content.as_u32(), &mut room)?;
+        Ok(content)
+    }
+
+    /// Writes the bytes of the value at the end of the room, and answers how many bytes of the room come before
+    /// them; those stay as they were. It takes no memory.
+    final fn encode_into(&self, room: &mut [u8]) -> Result<usize, Error>
+        ensures ok { OnOk result (IsWritable Self.form (writes writing self.now) (min (length room.old) limit)) }
+        ensures bytes { IfOk result (λ before. room.new ≡ take before room.old ++ written_spelling Self.form (writes writing self.now)) }
+        ensures before { IfOk result (λ before. before ≤ length room.old) }
+        ensures err { IfErr result (λ e. IsUnwritable Self.form (writes writing self.now) (min (length room.old) limit) e.kind) }
+    {
+        let mut fixed = Fixed::new(room);
+        self.put_element(&mut fixed)?;
+        Ok(fixed.start())
+    }
+
+    /// Writes the bytes of the value at the end of the room, and answers that part. What comes before it stays as
+    /// it was. It takes no memory.
+    final fn encode_to_slice<'a>(&self, room: &'a mut [u8]) -> Result<&'a [u8], Error>
+        ensures ok { OnOk result (IsWritable Self.form (writes writing self.now) (min (length room.old) limit)) }
+        ensures bytes { IfOk result (λ bytes. bytes.now ≡ written_spelling Self.form (writes writing self.now)) }
+        ensures err { IfErr result (λ e. IsUnwritable Self.form (writes writing self.now) (min (length room.old) limit) e.kind) }
+    {
+        let start = self.encode_into(&mut *room)?;
+        Ok(&room[start..])
+    }
+}
+
+/// Puts an identifier octet and the length of what follows.
+#[tactic(auto, unfolding(crate::specs::Element::length_octets))]
+pub fn put_header<R: Room>(tag: u8, len: u32, room: &mut R) -> Result<(), Error>
+    requires { len ≤ limit }
+    ensures { Puts R.kind (header tag len) None result room.old room.new }
+{
+    let [a, b, c, d] = len.to_be_bytes();
+    if len < 128 {
+        room.put(&[tag, d])
+    } else if len < 256 {
+        room.put(&[tag, 0x81, d])
+    } else if len < 65_536 {
+        room.put(&[tag, 0x82, c, d])
+    } else if len < 16_777_216 {
+        room.put(&[tag, 0x83, b, c, d])
+    } else {
+        room.put(&[tag, 0x84, a, b, c, d])
+    }
+}
