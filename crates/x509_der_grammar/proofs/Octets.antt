@@ -1,5 +1,5 @@
 -- An octet that begins no element is that of no tag.
-use Rattle.std.proofs.Common.{◌≡◌, ◌≢◌, ℕ, true, false, sym, ap, ◌∙◌}
+use Rattle.std.proofs.Common.{◌≡◌, ◌≢◌, ℕ, false, sym, ap, ◌∙◌}
 use Rattle.std.proofs.lemmas.Bool.{true≢false}
 use Rattle.x509_der_grammar.specs.Element.{is_identifier}
 use Rattle.x509_der_grammar.specs.Tag.{octet_of}

@@ -12,3 +12,4 @@ pub mod WritingLaws
 pub mod CountingRoom
 pub mod GrowingRoom
 pub mod FixedRoom
+pub mod ContentLaws

@@ -1,6 +1,6 @@
 //! Elements at the front of bytes (X.690 8.1).
 
-ghost use Rattle.std.specs.Prelude.{◌≡◌, ◌≤◌, ◌<◌, ◌++◌, length, List, ℕ, IfOk, IfErr};
+ghost use Rattle.std.specs.Prelude.{◌≡◌, ◌≤◌, ◌<◌, ◌++◌, length, List, ℕ, IfOk, IfErr, OnOk};
 ghost use Rattle.x509_der_grammar.specs.declared.error.ErrorKind.TheVariants as errors;
 ghost use Rattle.x509_der_grammar.specs.declared.tag.Tag.{Tag};
 ghost use Rattle.x509_der_grammar.specs.Outcome.{GivesBy};
@@ -29,6 +29,7 @@ pub struct Piece<'a> {
 #[tactic(auto, unfolding(crate::specs::ElementReading::length_at, crate::specs::ElementReading::one_digit, crate::specs::ElementReading::two_digits, crate::specs::ElementReading::three_digits, crate::specs::ElementReading::four_digits))]
 fn read_length(bytes: &[u8]) -> Result<(usize, &[u8]), Error>
     ensures exact { GivesBy (λ x. (x.0, x.1.now)) result (length_at bytes.now) }
+    ensures err { IfErr result (λ e. e.kind ≡ errors.Malformed) }
 {
     match bytes {
         [a, rest @ ..] if *a < 128 => Ok((*a as usize, rest)),
@@ -49,6 +50,7 @@ fn read_length(bytes: &[u8]) -> Result<(usize, &[u8]), Error>
 #[tactic(auto, unfolding(crate::specs::ElementReading::piece_at, crate::specs::ElementReading::content_at))]
 pub fn split_element(bytes: &[u8]) -> Result<Piece<'_>, Error>
     ensures exact { GivesBy (λ x. record { tag = x.tag; content = x.content.now; rest = x.rest.now }) result (piece_at bytes.now) }
+    ensures err { IfErr result (λ e. e.kind ≡ errors.Malformed) }
 {
     let [tag, after @ ..] = bytes else {
         return Err(ErrorKind::Malformed.into());
@@ -66,4 +68,70 @@ pub fn split_element(bytes: &[u8]) -> Result<Piece<'_>, Error>
         content,
         rest,
     })
+}
+
+/// The longest content whose element is no longer than [`Length::MAX`].
+const LONGEST_CONTENT: usize = 268_435_449;
+
+/// `Overlength` exactly where an element with the content is longer than [`Length::MAX`].
+pub fn check_content(content: &[u8]) -> Result<(), Error>
+    ensures ok { OnOk result ((tag : ℕ) → length (element tag content.now) ≤ limit) }
+    ensures err { IfErr result (λ e. (e.kind ≡ errors.Overlength) × ((tag : ℕ) → limit < length (element tag content.now))) }
+{
+    if content.len() > LONGEST_CONTENT {
+        return Err(ErrorKind::Overlength.into());
+    }
+    Ok(())
+}
+
+/// An element that is borrowed: its identifier and its content, which is not looked into.
+#[derive(Clone, Copy, Debug, PartialEq, Eq)]
+pub struct AnyRef<'a> {
+    tag: Tag,
+    value: &'a [u8],
+}
+
+impl<'a> AnyRef<'a> {
+    /// The element with the identifier and the content; `Overlength` exactly where it would be longer than
+    /// [`Length::MAX`].
+    pub fn new(tag: Tag, value: &'a [u8]) -> Result<AnyRef<'a>, Error>
+        ensures ok { IfOk result (λ any. (any.tag ≡ tag) × (any.value.now ≡ value.now) × (length (element (octet_of tag) value.now) ≤ limit)) }
+        ensures err { IfErr result (λ e. (e.kind ≡ errors.Overlength) × (limit < length (element (octet_of tag) value.now))) }
+    {
+        check_content(value)?;
+        Ok(AnyRef { tag, value })
+    }
+
+    /// The identifier.
+    pub fn tag(self) -> Tag
+        ensures { result ≡ self.entry.tag }
+    {
+        self.tag
+    }
+
+    /// The content octets.
+    pub fn value(self) -> &'a [u8]
+        ensures { result.now ≡ self.entry.value.now }
+    {
+        self.value
+    }
+}
+
+/// The element at the front and what follows it; `Malformed` exactly where the bytes begin with no element of at
+/// most [`Length::MAX`] octets (X.690 8.1, 10.1).
+pub fn take_element(bytes: &[u8]) -> Result<(AnyRef<'_>, &[u8]), Error>
+    ensures ok { IfOk result (λ found. bytes.now ≡ element (octet_of found.0.tag) found.0.value.now ++ found.1.now) }
+    ensures within { IfOk result (λ found. length (element (octet_of found.0.tag) found.0.value.now) ≤ limit) }
+    ensures err { IfErr result (λ e. (e.kind ≡ errors.Malformed) × ((tag : Tag) (content rest : List ℕ) → bytes.now ≡ element (octet_of tag) content ++ rest → limit < length (element (octet_of tag) content))) }
+{
+    let piece = split_element(bytes)?;
+    if piece.content.len() > LONGEST_CONTENT {
+        return Err(ErrorKind::Malformed.into());
+    }
+    let tag = Tag::from_octet(piece.tag)?;
+    let element = AnyRef {
+        tag,
+        value: piece.content,
+    };
+    Ok((element, piece.rest))
 }

@@ -1,20 +1,25 @@
 //! The grammar of strict DER.
 #![tactic(auto)]
 
+mod clone;
 mod decode;
 mod element;
 mod encode;
 mod error;
 mod grammar;
+mod header;
+pub mod laws;
 mod length;
 mod room;
 mod tag;
 
+pub use clone::TryClone;
 pub use decode::{Decode, read_whole};
-pub use element::{Piece, split_element};
+pub use element::{AnyRef, Piece, check_content, split_element, take_element};
 pub use encode::{Encode, put_header};
 pub use error::{Error, ErrorKind};
 pub use grammar::{FixedTag, Grammar, Tagged};
+pub use header::Header;
 pub use length::Length;
 pub use room::{Counting, Fixed, Growing, Room};
 pub use tag::{Tag, TagNumber};

@@ -16,7 +16,7 @@ returns-in_err-put_header-clause-err g c =
     let is = c.octet.ensures.octet ∙ c.identifier.ensures ∙ sym (g.met.Self.Encode.same_tag c.args.self.now) in
     let n = c.as_u32.ensures.octets ∙ ap (λ (l : Length). l.octets) c.count-content.ensures in
     rw (p.1, p.2) (count_refused _ _ c.in_err-put_header.field-0.0 c.new-room.result c.put_header.new.room c.new-room.ensures
-        (count_header _ _ _ _ _ _ (Err c.in_err-put_header.field-0.0) c.new-room.result c.put_content.new.room c.put_header.new.room is c.new-room.ensures c.in_ok-put_content.ensures n c.in_err-put_header.ensures))
+    (count_header _ _ _ _ _ _ (Err c.in_err-put_header.field-0.0) c.new-room.result c.put_content.new.room c.put_header.new.room is c.new-room.ensures c.in_ok-put_content.ensures n c.in_err-put_header.ensures))
 
 pub returns-clause-ok : goal.returns-clause-ok
 returns-clause-ok g c =
@@ -24,6 +24,6 @@ returns-clause-ok g c =
     let content-is = ap (λ (l : Length). l.octets) c.count-content.ensures in
     let n = c.as_u32.ensures.octets ∙ content-is in
     let whole = count_put _ _ tt c.new-room.result c.put_header.new.room c.new-room.ensures
-        (count_header _ _ _ _ _ _ (Ok tt) c.new-room.result c.put_content.new.room c.put_header.new.room is c.new-room.ensures c.in_ok-put_content.ensures n c.in_ok-put_header.ensures) in
+    (count_header _ _ _ _ _ _ (Ok tt) c.new-room.result c.put_content.new.room c.put_header.new.room is c.new-room.ensures c.in_ok-put_content.ensures n c.in_ok-put_header.ensures) in
     let own = count_put _ _ _ c.new-room.result c.put_content.new.room c.new-room.ensures c.in_ok-put_content.ensures in
     (content-is ∙ own.2, (whole.0, whole.1))
