@@ -13,3 +13,48 @@ pub trait TryClone: Sized {
         ensures ok { IfOk result (λ copy. copy ≡ self.now) }
         ensures err { IfErr result (λ e. e.kind ≡ Memory) };
 }
+
+impl<T: TryClone> TryClone for Option<T> {
+    fn try_clone(&self, alloc: Global) -> Result<Option<T>, Error> {
+        match self {
+            None => Ok(None),
+            Some(value) => Ok(Some(value.try_clone(alloc)?)),
+        }
+    }
+}
+
+impl TryClone for bool {
+    fn try_clone(&self, _alloc: Global) -> Result<bool, Error> {
+        Ok(*self)
+    }
+}
+
+impl TryClone for u8 {
+    fn try_clone(&self, _alloc: Global) -> Result<u8, Error> {
+        Ok(*self)
+    }
+}
+
+impl TryClone for u16 {
+    fn try_clone(&self, _alloc: Global) -> Result<u16, Error> {
+        Ok(*self)
+    }
+}
+
+impl TryClone for u32 {
+    fn try_clone(&self, _alloc: Global) -> Result<u32, Error> {
+        Ok(*self)
+    }
+}
+
+impl TryClone for u64 {
+    fn try_clone(&self, _alloc: Global) -> Result<u64, Error> {
+        Ok(*self)
+    }
+}
+
+impl TryClone for u128 {
+    fn try_clone(&self, _alloc: Global) -> Result<u128, Error> {
+        Ok(*self)
+    }
+}

@@ -1,6 +1,7 @@
 //! The grammar of strict DER.
 #![tactic(auto)]
 
+mod bytes;
 mod clone;
 mod decode;
 mod element;
@@ -13,6 +14,7 @@ mod length;
 mod room;
 mod tag;
 
+pub use bytes::Bytes;
 pub use clone::TryClone;
 pub use decode::{Decode, read_whole};
 pub use element::{AnyRef, Piece, check_content, split_element, take_element};
