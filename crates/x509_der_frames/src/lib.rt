@@ -1,0 +1,16 @@
+//! The frames of strict DER: what the fields of a sequence, lists and choices are read and written with.
+#![tactic(auto)]
+
+mod part;
+mod reading;
+mod standard;
+
+pub use part::{
+    PutPart, Retagged, Wrapped, defaulted, explicit, explicit_default, explicit_optional, implicit,
+    implicit_default, implicit_optional, optional,
+};
+pub use reading::{
+    default_explicit, default_field, default_implicit, end, expect_tag, explicit_field, field,
+    implicit_field, implicit_octet, optional_explicit, optional_field, optional_implicit,
+};
+pub use standard::Standard;

@@ -1,0 +1,245 @@
+//! Writing what stands in a sequence. A pair of parts is the first and then the second.
+
+ghost use Rattle.std.specs.Prelude.{◌≡◌, ◌+◌, ◌<◌};
+ghost use Rattle.x509_der_grammar.specs.Element.{element};
+ghost use Rattle.x509_der_grammar.specs.Form.{spelling};
+ghost use Rattle.x509_der_grammar.specs.Tag.{octet_of};
+ghost use Rattle.x509_der_grammar.specs.Writing.{Puts, writes};
+ghost use Rattle.x509_der_frames.specs.Frames.{implicit_tag, optional_text, default_text};
+ghost use Rattle.x509_der_frames.specs.FrameWriting.{optional_refusal, default_refusal};
+
+use crate::reading::implicit_octet;
+use crate::standard::Standard;
+use x509_der_grammar::{Encode, Error, FixedTag, Room, put_header};
+
+/// What stands in a sequence, as it is written.
+pub trait PutPart {
+    ghost use Rattle.std.specs.Prelude.{List, ℕ, Option};
+    ghost use Rattle.x509_der_grammar.specs.declared.error.ErrorKind.{ErrorKind};
+    ghost use Rattle.x509_der_grammar.specs.Writing.{Puts};
+
+    ghost text: { Self → List ℕ };
+
+    ghost refusal: { Self → Option ErrorKind };
+
+    /// Puts the text in front of what stands.
+    fn put_text<R: Room>(&self, room: &mut R) -> Result<(), Error>
+        ensures { Puts R.kind (text self.now) (refusal self.now) result room.old room.new };
+}
+
+/// One part and another behind it.
+impl<A: PutPart, B: PutPart> PutPart for (A, B) {
+    ghost use Rattle.std.specs.Prelude.{◌++◌};
+    ghost use Rattle.x509_der_grammar.specs.Writing.{first};
+
+    ghost text = { λ p. A.text p.0 ++ B.text p.1 };
+
+    ghost refusal = { λ p. first (B.refusal p.1) (A.refusal p.0) };
+
+    fn put_text<R: Room>(&self, room: &mut R) -> Result<(), Error> {
+        self.1.put_text(room)?;
+        self.0.put_text(room)
+    }
+}
+
+/// Puts the part as the content of an element. The content stands before its header is put.
+fn put_in_element<P: PutPart, R: Room>(part: &P, tag: u8, room: &mut R) -> Result<(), Error>
+    ensures { Puts R.kind (element tag (P.text part.now)) (P.refusal part.now) result room.old room.new }
+{
+    let before = room.len();
+    part.put_text(room)?;
+    let len = room.len() - before;
+    put_header(tag, len as u32, room)
+}
+
+/// The content of a value.
+#[derive(Clone, Copy)]
+struct Contents<'a, T>(&'a T);
+
+impl<T: Encode> PutPart for Contents<'_, T> {
+    ghost use Rattle.x509_der_grammar.specs.Writing.{writes};
+
+    ghost text = { λ v. T.form.content (writes T.writing v.0.now).value };
+
+    ghost refusal = { λ v. (writes T.writing v.0.now).refusal };
+
+    fn put_text<R: Room>(&self, room: &mut R) -> Result<(), Error> {
+        self.0.put_content(room)
+    }
+}
+
+/// x
+impl<T: Encode> PutPart for &T {
+    ghost use Rattle.x509_der_grammar.specs.Form.{spelling};
+    ghost use Rattle.x509_der_grammar.specs.Writing.{writes};
+
+    ghost text = { λ v. spelling T.form (writes T.writing v.now).value };
+
+    ghost refusal = { λ v. (writes T.writing v.now).refusal };
+
+    fn put_text<R: Room>(&self, room: &mut R) -> Result<(), Error> {
+        self.put_element(room)
+    }
+}
+
+/// x under another identifier octet
+#[derive(Clone, Copy)]
+pub struct Retagged<'a, T> {
+    tag: u8,
+    value: &'a T,
+}
+
+/// [n]x
+pub fn implicit<T: Encode + FixedTag>(n: u8, value: &T) -> Retagged<'_, T>
+    requires { n < 31 }
+    ensures tag { result.tag ≡ implicit_tag n (octet_of T.TAG) }
+    ensures value { result.value.now ≡ value.now }
+{
+    Retagged {
+        tag: implicit_octet::<T>(n),
+        value,
+    }
+}
+
+impl<T: Encode> PutPart for Retagged<'_, T> {
+    ghost use Rattle.x509_der_grammar.specs.Element.{element};
+    ghost use Rattle.x509_der_grammar.specs.Writing.{writes};
+
+    ghost text = { λ p. element p.tag (T.form.content (writes T.writing p.value.now).value) };
+
+    ghost refusal = { λ p. (writes T.writing p.value.now).refusal };
+
+    fn put_text<R: Room>(&self, room: &mut R) -> Result<(), Error> {
+        put_in_element(&Contents(self.value), self.tag, room)
+    }
+}
+
+/// x in an element of its own
+#[derive(Clone, Copy)]
+pub struct Wrapped<'a, T> {
+    tag: u8,
+    value: &'a T,
+}
+
+/// {n}x
+pub fn explicit<T: Encode>(n: u8, value: &T) -> Wrapped<'_, T>
+    requires { n < 31 }
+    ensures tag { result.tag ≡ 160 + n }
+    ensures value { result.value.now ≡ value.now }
+{
+    Wrapped {
+        tag: 0xA0 + n,
+        value,
+    }
+}
+
+impl<T: Encode> PutPart for Wrapped<'_, T> {
+    ghost use Rattle.x509_der_grammar.specs.Element.{element};
+    ghost use Rattle.x509_der_grammar.specs.Form.{spelling};
+    ghost use Rattle.x509_der_grammar.specs.Writing.{writes};
+
+    ghost text = { λ p. element p.tag (spelling T.form (writes T.writing p.value.now).value) };
+
+    ghost refusal = { λ p. (writes T.writing p.value.now).refusal };
+
+    fn put_text<R: Room>(&self, room: &mut R) -> Result<(), Error> {
+        put_in_element(&self.value, self.tag, room)
+    }
+}
+
+/// A part that may be left out.
+impl<P: PutPart> PutPart for Option<P> {
+    ghost use Rattle.x509_der_frames.specs.Frames.{optional_text};
+    ghost use Rattle.x509_der_frames.specs.FrameWriting.{optional_refusal};
+
+    ghost text = { optional_text P.text };
+
+    ghost refusal = { optional_refusal P.refusal };
+
+    #[tactic(auto, using(x509_der_grammar::specs::WritingLaws::puts_nothing))]
+    fn put_text<R: Room>(&self, room: &mut R) -> Result<(), Error> {
+        match self {
+            None => Ok(()),
+            Some(part) => part.put_text(room),
+        }
+    }
+}
+
+/// x?
+pub fn optional<T: Encode>(value: &Option<T>) -> Option<&T>
+    ensures text { optional_text (λ p. spelling T.form (writes T.writing p.now).value) result ≡ optional_text (λ v. spelling T.form (writes T.writing v).value) value.now }
+    ensures refusal { optional_refusal (λ p. (writes T.writing p.now).refusal) result ≡ optional_refusal (λ v. (writes T.writing v).refusal) value.now }
+{
+    match value {
+        None => None,
+        Some(value) => Some(value),
+    }
+}
+
+/// [n]x?
+pub fn implicit_optional<T: Encode + FixedTag>(n: u8, value: &Option<T>) -> Option<Retagged<'_, T>>
+    requires { n < 31 }
+    ensures text { optional_text (λ p. element p.tag (T.form.content (writes T.writing p.value.now).value)) result ≡ optional_text (λ v. element (implicit_tag n (octet_of T.TAG)) (T.form.content (writes T.writing v).value)) value.now }
+    ensures refusal { optional_refusal (λ p. (writes T.writing p.value.now).refusal) result ≡ optional_refusal (λ v. (writes T.writing v).refusal) value.now }
+{
+    match value {
+        None => None,
+        Some(value) => Some(implicit(n, value)),
+    }
+}
+
+/// {n}x?
+pub fn explicit_optional<T: Encode>(n: u8, value: &Option<T>) -> Option<Wrapped<'_, T>>
+    requires { n < 31 }
+    ensures text { optional_text (λ p. element p.tag (spelling T.form (writes T.writing p.value.now).value)) result ≡ optional_text (λ v. element (160 + n) (spelling T.form (writes T.writing v).value)) value.now }
+    ensures refusal { optional_refusal (λ p. (writes T.writing p.value.now).refusal) result ≡ optional_refusal (λ v. (writes T.writing v).refusal) value.now }
+{
+    match value {
+        None => None,
+        Some(value) => Some(explicit(n, value)),
+    }
+}
+
+/// x=d
+#[tactic(auto, unfolding(crate::specs::Frames::default_text))]
+pub fn defaulted<T: Encode + Standard>(value: &T) -> Option<&T>
+    ensures text { optional_text (λ p. spelling T.form (writes T.writing p.now).value) result ≡ default_text T.default (λ v. spelling T.form (writes T.writing v).value) value.now }
+    ensures refusal { optional_refusal (λ p. (writes T.writing p.now).refusal) result ≡ default_refusal T.default (λ v. (writes T.writing v).refusal) value.now }
+{
+    if value.is_standard() {
+        None
+    } else {
+        Some(value)
+    }
+}
+
+/// [n]x=d
+#[tactic(auto, unfolding(crate::specs::Frames::default_text))]
+pub fn implicit_default<T: Encode + FixedTag + Standard>(
+    n: u8,
+    value: &T,
+) -> Option<Retagged<'_, T>>
+    requires { n < 31 }
+    ensures text { optional_text (λ p. element p.tag (T.form.content (writes T.writing p.value.now).value)) result ≡ default_text T.default (λ v. element (implicit_tag n (octet_of T.TAG)) (T.form.content (writes T.writing v).value)) value.now }
+    ensures refusal { optional_refusal (λ p. (writes T.writing p.value.now).refusal) result ≡ default_refusal T.default (λ v. (writes T.writing v).refusal) value.now }
+{
+    if value.is_standard() {
+        None
+    } else {
+        Some(implicit(n, value))
+    }
+}
+
+/// {n}x=d
+#[tactic(auto, unfolding(crate::specs::Frames::default_text))]
+pub fn explicit_default<T: Encode + Standard>(n: u8, value: &T) -> Option<Wrapped<'_, T>>
+    requires { n < 31 }
+    ensures text { optional_text (λ p. element p.tag (spelling T.form (writes T.writing p.value.now).value)) result ≡ default_text T.default (λ v. element (160 + n) (spelling T.form (writes T.writing v).value)) value.now }
+    ensures refusal { optional_refusal (λ p. (writes T.writing p.value.now).refusal) result ≡ default_refusal T.default (λ v. (writes T.writing v).refusal) value.now }
+{
+    if value.is_standard() {
+        None
+    } else {
+        Some(explicit(n, value))
+    }
+}

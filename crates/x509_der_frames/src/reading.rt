@@ -1,0 +1,201 @@
+//! Reading the fields of a sequence. Each reader takes its field from the front of `rest`; `Malformed`, or the
+//! refusal of the type, where the field does not stand there. Memory may be refused.
+
+ghost use Rattle.std.specs.Prelude.{◌≡◌, ◌<◌, IfErr};
+ghost use Rattle.x509_der_grammar.specs.declared.error.ErrorKind.TheVariants.{Malformed};
+ghost use Rattle.x509_der_grammar.specs.Outcome.{Gives, GivesBefore};
+ghost use Rattle.x509_der_grammar.specs.Form.{tag_at};
+ghost use Rattle.x509_der_grammar.specs.Tag.{octet_of};
+ghost use Rattle.x509_der_frames.specs.Frames.{optional, defaulted, explicit, implicit, implicit_tag, required, end_at};
+
+use crate::standard::Standard;
+use std::alloc::Global;
+use x509_der_grammar::{Decode, Error, ErrorKind, FixedTag, Tag, read_whole, split_element};
+
+/// `Malformed` where the identifier octet is not that of the tag which is wanted.
+pub fn expect_tag(tag: u8, wanted: Tag) -> Result<(), Error>
+    ensures exact { Gives result (tag_at tag (octet_of wanted)) }
+    ensures err { IfErr result (λ e. e.kind ≡ Malformed) }
+{
+    if tag == wanted.octet() {
+        Ok(())
+    } else {
+        Err(ErrorKind::Malformed.into())
+    }
+}
+
+/// The end of a sequence; `Malformed` where bytes are left.
+pub fn end(rest: &[u8]) -> Result<(), Error>
+    ensures exact { Gives result (end_at rest.now) }
+    ensures err { IfErr result (λ e. e.kind ≡ Malformed) }
+{
+    if rest.is_empty() {
+        Ok(())
+    } else {
+        Err(ErrorKind::Malformed.into())
+    }
+}
+
+/// The identifier octet under [n] of a type with a tag of its own (X.690 8.14.3).
+pub fn implicit_octet<T: FixedTag>(n: u8) -> u8
+    requires { n < 31 }
+    ensures { result ≡ implicit_tag n (octet_of T.TAG) }
+{
+    if T::TAG.octet() % 64 < 32 {
+        0x80 + n
+    } else {
+        0xA0 + n
+    }
+}
+
+/// x: a field that is there.
+#[tactic(auto, unfolding(crate::specs::Frames::field_at))]
+pub fn field<T: Decode>(alloc: Global, rest: &mut &[u8]) -> Result<T, Error>
+    ensures exact { GivesBefore result rest.new.now ((required T.form).reading rest.old.now) }
+{
+    let piece = split_element(*rest)?;
+    let value = T::read(alloc, piece.tag, piece.content)?;
+    *rest = piece.rest;
+    Ok(value)
+}
+
+/// {n}x: a field in an element of its own, with the identifier octet A0 + n (X.690 8.14.2).
+#[tactic(auto, unfolding(crate::specs::Frames::field_at))]
+pub fn explicit_field<T: Decode>(alloc: Global, n: u8, rest: &mut &[u8]) -> Result<T, Error>
+    requires { n < 31 }
+    ensures exact { GivesBefore result rest.new.now ((required (explicit n T.form)).reading rest.old.now) }
+{
+    let piece = split_element(*rest)?;
+    if piece.tag != 0xA0 + n {
+        return Err(ErrorKind::Malformed.into());
+    }
+    let value = read_whole::<T>(alloc, piece.content)?;
+    *rest = piece.rest;
+    Ok(value)
+}
+
+/// [n]x: a field under the identifier octet 80 + n, or A0 + n where its content is elements (X.690 8.14.3).
+#[tactic(auto, unfolding(crate::specs::Frames::field_at))]
+pub fn implicit_field<T: Decode + FixedTag>(
+    alloc: Global,
+    n: u8,
+    rest: &mut &[u8],
+) -> Result<T, Error>
+    requires { n < 31 }
+    ensures exact { GivesBefore result rest.new.now ((required (implicit n (octet_of T.TAG) T.form)).reading rest.old.now) }
+{
+    let piece = split_element(*rest)?;
+    if piece.tag != implicit_octet::<T>(n) {
+        return Err(ErrorKind::Malformed.into());
+    }
+    let value = T::read(alloc, T::TAG.octet(), piece.content)?;
+    *rest = piece.rest;
+    Ok(value)
+}
+
+/// x?: a field that may be left out; it is there where the next identifier octet may begin one (X.690 8.9.3).
+#[tactic(auto, unfolding(crate::specs::Frames::optional_at))]
+pub fn optional_field<T: Decode>(alloc: Global, rest: &mut &[u8]) -> Result<Option<T>, Error>
+    ensures exact { GivesBefore result rest.new.now ((optional T.form).reading rest.old.now) }
+{
+    match *rest {
+        [octet, ..] if T::is_start(*octet) => Ok(Some(field::<T>(alloc, rest)?)),
+        _ => Ok(None),
+    }
+}
+
+/// {n}x?: the same in an element of its own.
+#[tactic(auto, unfolding(crate::specs::Frames::optional_at))]
+pub fn optional_explicit<T: Decode>(
+    alloc: Global,
+    n: u8,
+    rest: &mut &[u8],
+) -> Result<Option<T>, Error>
+    requires { n < 31 }
+    ensures exact { GivesBefore result rest.new.now ((optional (explicit n T.form)).reading rest.old.now) }
+{
+    match *rest {
+        [octet, ..] if *octet == 0xA0 + n => Ok(Some(explicit_field::<T>(alloc, n, rest)?)),
+        _ => Ok(None),
+    }
+}
+
+/// [n]x?: the same under a tag in place of its own.
+#[tactic(auto, unfolding(crate::specs::Frames::optional_at))]
+pub fn optional_implicit<T: Decode + FixedTag>(
+    alloc: Global,
+    n: u8,
+    rest: &mut &[u8],
+) -> Result<Option<T>, Error>
+    requires { n < 31 }
+    ensures exact { GivesBefore result rest.new.now ((optional (implicit n (octet_of T.TAG) T.form)).reading rest.old.now) }
+{
+    match *rest {
+        [octet, ..] if *octet == implicit_octet::<T>(n) => Ok(Some(implicit_field::<T>(
+            alloc, n, rest,
+        )?)),
+        _ => Ok(None),
+    }
+}
+
+/// x=d: a field that is left out exactly where it has its default, which is `Malformed` where it is written
+/// (X.690 11.5).
+#[tactic(auto, unfolding(crate::specs::Frames::default_at))]
+pub fn default_field<T: Decode + Standard>(alloc: Global, rest: &mut &[u8]) -> Result<T, Error>
+    ensures exact { GivesBefore result rest.new.now ((defaulted T.default T.form).reading rest.old.now) }
+{
+    let found = optional_field::<T>(alloc, rest)?;
+    match found {
+        None => Ok(T::standard()),
+        Some(value) => {
+            if value.is_standard() {
+                return Err(ErrorKind::Malformed.into());
+            }
+            Ok(value)
+        }
+    }
+}
+
+/// {n}x=d: the same in an element of its own.
+#[tactic(auto, unfolding(crate::specs::Frames::default_at))]
+pub fn default_explicit<T: Decode + Standard>(
+    alloc: Global,
+    n: u8,
+    rest: &mut &[u8],
+) -> Result<T, Error>
+    requires { n < 31 }
+    ensures exact { GivesBefore result rest.new.now ((defaulted T.default (explicit n T.form)).reading rest.old.now) }
+{
+    let found = optional_explicit::<T>(alloc, n, rest)?;
+    match found {
+        None => Ok(T::standard()),
+        Some(value) => {
+            if value.is_standard() {
+                return Err(ErrorKind::Malformed.into());
+            }
+            Ok(value)
+        }
+    }
+}
+
+/// [n]x=d: the same under a tag in place of its own.
+#[tactic(auto, unfolding(crate::specs::Frames::default_at))]
+pub fn default_implicit<T: Decode + FixedTag + Standard>(
+    alloc: Global,
+    n: u8,
+    rest: &mut &[u8],
+) -> Result<T, Error>
+    requires { n < 31 }
+    ensures exact { GivesBefore result rest.new.now ((defaulted T.default (implicit n (octet_of T.TAG) T.form)).reading rest.old.now) }
+{
+    let found = optional_implicit::<T>(alloc, n, rest)?;
+    match found {
+        None => Ok(T::standard()),
+        Some(value) => {
+            if value.is_standard() {
+                return Err(ErrorKind::Malformed.into());
+            }
+            Ok(value)
+        }
+    }
+}
