@@ -1,3 +1,4 @@
 pub mod Frames
 pub mod FrameLaws
 pub mod FrameWriting
+pub mod DefaultValues

@@ -1,6 +1,7 @@
 //! The frames of strict DER: what the fields of a sequence, lists and choices are read and written with.
 #![tactic(auto)]
 
+mod default_values;
 mod part;
 mod reading;
 mod standard;
@@ -10,7 +11,7 @@ pub use part::{
     implicit_default, implicit_optional, optional,
 };
 pub use reading::{
-    default_explicit, default_field, default_implicit, end, expect_tag, explicit_field, field,
-    implicit_field, implicit_octet, optional_explicit, optional_field, optional_implicit,
+    default_explicit, default_field, default_implicit, end, explicit_field, field, implicit_field,
+    implicit_octet, optional_explicit, optional_field, optional_implicit,
 };
 pub use standard::Standard;

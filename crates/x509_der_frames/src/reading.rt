@@ -4,25 +4,12 @@
 ghost use Rattle.std.specs.Prelude.{◌≡◌, ◌<◌, IfErr};
 ghost use Rattle.x509_der_grammar.specs.declared.error.ErrorKind.TheVariants.{Malformed};
 ghost use Rattle.x509_der_grammar.specs.Outcome.{Gives, GivesBefore};
-ghost use Rattle.x509_der_grammar.specs.Form.{tag_at};
 ghost use Rattle.x509_der_grammar.specs.Tag.{octet_of};
 ghost use Rattle.x509_der_frames.specs.Frames.{optional, defaulted, explicit, implicit, implicit_tag, required, end_at};
 
 use crate::standard::Standard;
 use std::alloc::Global;
-use x509_der_grammar::{Decode, Error, ErrorKind, FixedTag, Tag, read_whole, split_element};
-
-/// `Malformed` where the identifier octet is not that of the tag which is wanted.
-pub fn expect_tag(tag: u8, wanted: Tag) -> Result<(), Error>
-    ensures exact { Gives result (tag_at tag (octet_of wanted)) }
-    ensures err { IfErr result (λ e. e.kind ≡ Malformed) }
-{
-    if tag == wanted.octet() {
-        Ok(())
-    } else {
-        Err(ErrorKind::Malformed.into())
-    }
-}
+use x509_der_grammar::{Decode, Error, ErrorKind, FixedTag, read_whole, split_element};
 
 /// The end of a sequence; `Malformed` where bytes are left.
 pub fn end(rest: &[u8]) -> Result<(), Error>

@@ -13,3 +13,6 @@ pub mod CountingRoom
 pub mod GrowingRoom
 pub mod FixedRoom
 pub mod ContentLaws
+pub mod Boolean
+pub mod Natural
+pub mod NaturalLaws

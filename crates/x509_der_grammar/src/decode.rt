@@ -1,12 +1,16 @@
 //! Reading a value from the bytes of its one spelling.
 
+ghost use Rattle.std.specs.Prelude.{◌≡◌, IfErr};
+ghost use Rattle.x509_der_grammar.specs.declared.error.ErrorKind.TheVariants.{Malformed};
 ghost use Rattle.x509_der_grammar.specs.Outcome.{Gives};
-ghost use Rattle.x509_der_grammar.specs.Form.{whole_reading};
+ghost use Rattle.x509_der_grammar.specs.Form.{whole_reading, tag_at};
+ghost use Rattle.x509_der_grammar.specs.Tag.{octet_of};
 
 use crate::element::split_element;
 use crate::error::{Error, ErrorKind};
 use crate::grammar::Grammar;
 use crate::length::Length;
+use crate::tag::Tag;
 use std::alloc::Global;
 
 /// A type that is read from its spelling.
@@ -50,4 +54,16 @@ pub fn read_whole<T: Decode>(alloc: Global, bytes: &[u8]) -> Result<T, Error>
         return Err(ErrorKind::Malformed.into());
     }
     T::read(alloc, piece.tag, piece.content)
+}
+
+/// `Malformed` where the identifier octet is not that of the tag which is wanted.
+pub fn expect_tag(tag: u8, wanted: Tag) -> Result<(), Error>
+    ensures exact { Gives result (tag_at tag (octet_of wanted)) }
+    ensures err { IfErr result (λ e. e.kind ≡ Malformed) }
+{
+    if tag == wanted.octet() {
+        Ok(())
+    } else {
+        Err(ErrorKind::Malformed.into())
+    }
 }

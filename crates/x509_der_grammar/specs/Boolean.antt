@@ -1,0 +1,49 @@
+-- BOOLEAN: one octet, 00 or FF (X.690 8.2, 11.1).
+use Rattle.std.specs.Prelude.{◌≡◌, ℕ, Bool, true, false, nat_eq, List, [], ◌∷◌, Result, Ok, Err, if◌then◌else◌, refl}
+use Rattle.std.proofs.Common.{arith, inl}
+use Rattle.std.proofs.lemmas.Bool.Decides.{nat_tests}
+use Rattle.x509_der_grammar.specs.declared.error.ErrorKind.{ErrorKind}
+use Rattle.x509_der_grammar.specs.declared.error.ErrorKind.TheVariants.{Malformed}
+use Rattle.x509_der_grammar.specs.Element.{is_identifier, is_universal}
+use Rattle.x509_der_grammar.specs.Form.{Form, IsForm, Content, IsContent, universal}
+use Rattle.x509_der_grammar.specs.FormLaws.{universal_lawful}
+
+unfoldable pub boolean_octets : Bool → List ℕ
+boolean_octets true = 0xFF ∷ []
+boolean_octets false = 0x00 ∷ []
+
+unfoldable pub boolean_reading : List ℕ → Result Bool ErrorKind
+boolean_reading [] = Err Malformed
+boolean_reading (a ∷ []) = if nat_eq a 0x00 then Ok false else (if nat_eq a 0xFF then Ok true else Err Malformed)
+boolean_reading (a ∷ b ∷ bytes) = Err Malformed
+
+abbrev pub boolean_content : Content Bool
+boolean_content = record { tag = 0x01; octets = boolean_octets; good = λ value. Unit {0}; reading = boolean_reading }
+
+abbrev pub boolean : Form Bool
+boolean = universal boolean_content
+
+boolean_sound : (bytes : List ℕ) (v : Bool) → boolean_reading bytes ≡ Ok v → Unit {0} × (bytes ≡ boolean_octets v)
+unfolding boolean_octets boolean_reading
+boolean_sound [] v e = absurd cc
+boolean_sound (a ∷ []) true e = (tt, grind (arith, nat_tests))
+boolean_sound (a ∷ []) false e = (tt, grind (arith, nat_tests))
+boolean_sound (a ∷ b ∷ bytes) v e = absurd cc
+
+boolean_complete : (v : Bool) → Unit {0} → boolean_reading (boolean_octets v) ≡ Ok v
+unfolding boolean_octets boolean_reading
+boolean_complete true g = refl
+boolean_complete false g = refl
+
+boolean_refused : (bytes : List ℕ) (e : ErrorKind) → boolean_reading bytes ≡ Err e → e ≡ Malformed
+unfolding boolean_octets boolean_reading
+boolean_refused [] e h = cc
+boolean_refused (a ∷ []) e h = grind (arith, nat_tests)
+boolean_refused (a ∷ b ∷ bytes) e h = cc
+
+pub boolean_content_lawful : {R : ErrorKind → Type 0} → IsContent R boolean_content
+unfolding is_identifier is_universal
+boolean_content_lawful = record { sound = boolean_sound; complete = boolean_complete; refused = λ bytes e r. inl (boolean_refused bytes e r); identifier = refl }
+
+pub boolean_lawful : {R : ErrorKind → Type 0} → IsForm R boolean
+boolean_lawful = universal_lawful boolean_content boolean_content_lawful
