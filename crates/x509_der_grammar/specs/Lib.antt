@@ -16,3 +16,4 @@ pub mod ContentLaws
 pub mod Boolean
 pub mod Natural
 pub mod NaturalLaws
+pub mod TagReading

@@ -1,5 +1,5 @@
 -- Tags and identifier octets are one to one.
-use Rattle.std.proofs.Common.{◌≡◌, ℕ, ◌+◌, ◌%◌, ◌≤◌, Bool, true, false, refl, arith}
+use Rattle.std.proofs.Common.{◌≡◌, ℕ, ◌+◌, ◌%◌, ◌<◌, ◌≤◌, Bool, true, false, refl, arith}
 use Rattle.std.proofs.lemmas.Bool.Decides.{nat_tests}
 use Rattle.x509_der_grammar.specs.Element.{is_identifier, is_universal}
 use Rattle.x509_der_grammar.specs.Tag.{octet_of, constructed_bit}
@@ -41,3 +41,7 @@ is_identifier-octet_of Set = refl
 is_identifier-octet_of (Application constructed number) = class_identifier 64 number.number constructed (omega arith) (omega arith) refl number.low
 is_identifier-octet_of (ContextSpecific constructed number) = class_identifier 128 number.number constructed (omega arith) (omega arith) refl number.low
 is_identifier-octet_of (Private constructed number) = class_identifier 192 number.number constructed (omega arith) (omega arith) refl number.low
+
+pub is_identifier-octet : (octet : ℕ) → is_identifier octet ≡ true → octet < 256
+unfolding is_identifier is_universal
+is_identifier-octet octet h = grind (arith, nat_tests)
