@@ -1,11 +1,13 @@
 //! The frames of strict DER: what the fields of a sequence, lists and choices are read and written with.
 #![tactic(auto)]
 
+mod any;
 mod default_values;
 mod part;
 mod reading;
 mod standard;
 
+pub use any::{Any, FromAny};
 pub use part::{
     PutPart, Retagged, Wrapped, defaulted, explicit, explicit_default, explicit_optional, implicit,
     implicit_default, implicit_optional, optional,

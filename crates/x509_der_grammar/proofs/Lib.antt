@@ -1,4 +1,3 @@
 pub mod Octets
 pub mod Elements
-pub mod Fronts
 pub mod Naturals

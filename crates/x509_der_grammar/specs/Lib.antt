@@ -17,3 +17,4 @@ pub mod Boolean
 pub mod Natural
 pub mod NaturalLaws
 pub mod TagReading
+pub mod SpellingLaws

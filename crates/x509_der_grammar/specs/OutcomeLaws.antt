@@ -1,7 +1,10 @@
 -- What a step that may be refused says of its parts.
-use Rattle.std.proofs.Common.{◌≡◌, ◌⊎◌, inl, inr, Bool, true, false, cond, Result, Ok, Err, refl}
+use Rattle.std.proofs.Common.{◌≡◌, ◌⊎◌, inl, inr, Bool, true, false, cond, Result, Ok, Err, refl, sym, ◌∙◌}
+use Rattle.std.specs.Prelude.{IfOk, IfErr}
+use Rattle.x509_der_grammar.specs.declared.error.Error.{Error}
+use Rattle.x509_der_grammar.specs.declared.error.ErrorKind.TheVariants as errors
 use Rattle.x509_der_grammar.specs.declared.error.ErrorKind.{ErrorKind}
-use Rattle.x509_der_grammar.specs.Outcome.{◌>>=◌}
+use Rattle.x509_der_grammar.specs.Outcome.{◌>>=◌, Gives, IsRefusal}
 
 abbrev pub made : {A : Type 0} → A → Result A ErrorKind
 made x = Ok x
@@ -30,3 +33,21 @@ test_ok false d r y e = absurd cc
 pub test_err : {A : Type 0} (b : Bool) (d : ErrorKind) (r : Result A ErrorKind) (e : ErrorKind) → cond b r (Err d) ≡ Err e → (r ≡ Err e) ⊎ (d ≡ e)
 test_err true d r e h = inl h
 test_err false d r e h = inr cc
+
+-- ---- what a call answers where reading gives a value
+
+pub gives_value : {X : Type 0} (r : Result X Error) (reading : Result X ErrorKind) (v : X) → Gives r reading → reading ≡ Ok v → IfOk r (λ found. found ≡ v)
+gives_value (Ok x) reading v g e = ok_is x v (sym g ∙ e)
+gives_value (Err d) reading v g e = tt
+
+refusal_only : {X : Type 0} (k : ErrorKind) (reading : Result X ErrorKind) (v : X) → IsRefusal k reading → reading ≡ Ok v → k ≡ errors.Memory
+refusal_only errors.Memory reading v g e = refl
+refusal_only errors.Overlength reading v g e = absurd (let x = sym g ∙ e in cc)
+refusal_only errors.Malformed reading v g e = absurd (let x = sym g ∙ e in cc)
+refusal_only errors.Failed reading v g e = absurd (let x = sym g ∙ e in cc)
+refusal_only errors.SetDuplicate reading v g e = absurd (let x = sym g ∙ e in cc)
+refusal_only errors.Value reading v g e = absurd (let x = sym g ∙ e in cc)
+
+pub gives_only : {X : Type 0} (r : Result X Error) (reading : Result X ErrorKind) (v : X) → Gives r reading → reading ≡ Ok v → IfErr r (λ e. e.kind ≡ errors.Memory)
+gives_only (Ok x) reading v g e = tt
+gives_only (Err d) reading v g e = refusal_only d.kind reading v g e

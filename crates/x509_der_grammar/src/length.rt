@@ -7,7 +7,7 @@ ghost use Rattle.x509_der_grammar.specs.Element.{limit};
 use crate::error::{Error, ErrorKind};
 
 /// A length in octets of at most [`Length::MAX`] (X.690 8.1.3).
-#[derive(Clone, Copy, Debug, PartialEq, Eq, PartialOrd, Ord)]
+#[derive(Clone, Copy, Debug, PartialEq, Eq, PartialOrd, Ord, Hash)]
 pub struct Length {
     octets: u32,
     ghost within: { octets ≤ 268435455 },

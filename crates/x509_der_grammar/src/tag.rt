@@ -1,6 +1,6 @@
 //! Identifiers of elements (X.690 8.1.2).
 
-ghost use Rattle.std.specs.Prelude.{◌≡◌, ◌≤◌, ◌<◌, ◌+◌, ◌≢◌, ◌%◌, IfOk, IfErr};
+ghost use Rattle.std.specs.Prelude.{◌≡◌, ◌≤◌, ◌<◌, ◌+◌, ◌≢◌, ◌%◌, IfOk, IfErr, is_ok};
 ghost use Rattle.x509_der_grammar.specs.declared.error.ErrorKind.TheVariants as errors;
 ghost use Rattle.x509_der_grammar.specs.declared.tag.Tag.{Tag};
 ghost use Rattle.x509_der_grammar.specs.Element.{is_identifier};
@@ -14,7 +14,7 @@ pub use number::TagNumber;
 
 /// An identifier: the class, whether the content is elements, and the number (X.690 8.1.2; the universal
 /// types of X.680 8.4).
-#[derive(Clone, Copy, Debug, PartialEq, Eq)]
+#[derive(Clone, Copy, Debug, PartialEq, Eq, Hash)]
 pub enum Tag {
     /// BOOLEAN, 01.
     Boolean,
@@ -175,6 +175,7 @@ impl Tag {
         ensures ok { IfOk result (λ tag. octet_of tag ≡ octet) }
         ensures err { IfErr result (λ e. (e.kind ≡ errors.Malformed) × ((tag : Tag) → octet_of tag ≢ octet)) }
         ensures value { (tag : Tag) → octet_of tag ≡ octet → IfOk result (λ found. found ≡ tag) }
+        ensures test { is_ok result ≡ is_identifier octet }
     {
         if !check_identifier(octet) {
             return Err(ErrorKind::Malformed.into());

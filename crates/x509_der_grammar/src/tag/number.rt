@@ -6,7 +6,7 @@ ghost use Rattle.x509_der_grammar.specs.declared.error.ErrorKind.TheVariants as 
 use crate::error::{Error, ErrorKind};
 
 /// The number of an identifier outside the universal class, from 0 to 30 (X.690 8.1.2.2).
-#[derive(Clone, Copy, Debug, PartialEq, Eq, PartialOrd, Ord)]
+#[derive(Clone, Copy, Debug, PartialEq, Eq, PartialOrd, Ord, Hash)]
 pub struct TagNumber {
     number: u8,
     ghost low: { number ≤ 30 },

@@ -1,4 +1,4 @@
-use Rattle.x509_der_grammar.proofs.Fronts.{spellings}
+use Rattle.x509_der_grammar.specs.SpellingLaws.{spellings}
 use Rattle.x509_der_grammar.proofs.laws.no_spelling_begins_another.Goals as goal
 
 pub returns : goal.returns

@@ -1,4 +1,4 @@
-use Rattle.x509_der_grammar.proofs.Fronts.{values}
+use Rattle.x509_der_grammar.specs.SpellingLaws.{values}
 use Rattle.x509_der_grammar.proofs.laws.one_value.Goals as goal
 
 pub returns : goal.returns

@@ -1,5 +1,5 @@
--- Elements and spellings at the front of bytes.
-use Rattle.std.proofs.Common.{◌≡◌, ℕ, List, [], ◌∷◌, ◌++◌, length, take, drop, refl, sym, ap, ◌∙◌, append_assoc}
+-- No element and no spelling begins another, and none is that of two values.
+use Rattle.std.proofs.Common.{Ok, ◌≡◌, ℕ, List, [], ◌∷◌, ◌++◌, length, take, drop, refl, sym, ap, ◌∙◌, append_assoc}
 use Rattle.std.proofs.lemmas.List.{take_at, drop_at}
 use Rattle.x509_der_grammar.specs.declared.error.ErrorKind.{ErrorKind}
 use Rattle.x509_der_grammar.specs.Element.{element, length_octets}
@@ -42,3 +42,17 @@ values f h v w b p q =
     let e : spelling f v ++ [] ≡ spelling f w ++ [] = ap (λ (x : List ℕ). x ++ []) (sym p.1 ∙ q.1) in
     let k = elements (f.tag v) (f.tag w) (f.content v) (f.content w) [] [] e in
     ok_is v w (sym (h.complete v p.0) ∙ ap (λ (t : ℕ). f.reading t (f.content v)) k.0 ∙ ap (λ (c : List ℕ). f.reading (f.tag w) c) k.1 ∙ h.complete w q.0)
+
+-- ---- the element of a value
+
+pub element_is : (s t : ℕ) (c d : List ℕ) → element s c ≡ element t d → (s ≡ t) × (c ≡ d)
+element_is s t c d e = let k = elements s t c d [] [] (ap (λ (x : List ℕ). x ++ []) e) in (k.0, k.1)
+
+-- what is read of an element is the value whose element it is
+pub read_found : {X : Type 0} {R : ErrorKind → Type 0} (f : Form X) → IsForm R f → (t : ℕ) (c : List ℕ) (v : X) → f.reading t c ≡ Ok v → f.good v × (element t c ≡ spelling f v)
+read_found f h t c v e = let s = h.sound t c v e in (s.0, ap (λ (u : ℕ). element u c) s.1 ∙ ap (λ (d : List ℕ). element (f.tag v) d) s.2)
+
+pub read_value : {X : Type 0} {R : ErrorKind → Type 0} (f : Form X) → IsForm R f → (t : ℕ) (c : List ℕ) (v : X) → f.good v → element t c ≡ spelling f v → f.reading t c ≡ Ok v
+read_value f h t c v g e =
+    let k = element_is t (f.tag v) c (f.content v) e in
+    ap (λ (u : ℕ). f.reading u c) k.0 ∙ ap (λ (d : List ℕ). f.reading (f.tag v) d) k.1 ∙ h.complete v g

@@ -1,0 +1,6 @@
+use Rattle.std.proofs.Common.{sym}
+use Rattle.x509_der_frames.specs.Any.{any_found}
+use Rattle.x509_der_frames.proofs.any.AnyDecode.read.Goals as goal
+
+pub returns : goal.returns
+returns c = record { exact = rw c.in_ok-from_slice.ensures.ok (any_found c.args.tag c.args.content.now c.in_ok-from_octet.field-0 c.in_ok-from_octet.ensures.ok) }

@@ -1,0 +1,145 @@
+//! Elements that are not looked into.
+
+ghost use Rattle.std.specs.Prelude.{◌≡◌, ◌<◌, ◌≤◌, ◌↔◌, ◌⊎◌, [], length, IfOk, IfErr, IsErrAnd, IsTrue};
+ghost use Rattle.x509_der_grammar.specs.declared.error.ErrorKind.TheVariants as errors;
+ghost use Rattle.x509_der_grammar.specs.declared.tag.Tag.TheVariants.{Null};
+ghost use Rattle.x509_der_grammar.specs.Element.{element, limit};
+ghost use Rattle.x509_der_grammar.specs.Form.{spelling};
+ghost use Rattle.x509_der_grammar.specs.Tag.{octet_of};
+ghost use Rattle.x509_der_grammar.specs.Writing.{writes, written_spelling, IsWritable, IsUnwritable};
+
+use std::alloc::Global;
+use x509_der_grammar::{
+    AnyRef, Bytes, Decode, Encode, Error, ErrorKind, Grammar, Growing, Room, Tag, TryClone,
+    check_content,
+};
+
+/// An element whose content is not looked into: its identifier and its content octets (X.690 8.1).
+#[derive(Debug, Drop, PartialEq, Eq, Hash)]
+pub struct Any {
+    tag: Tag,
+    value: Bytes,
+}
+
+impl Any {
+    /// The element with the identifier and a copy of the content; `Overlength` exactly where it would be longer
+    /// than `Length::MAX`. Memory may be refused.
+    pub fn new(alloc: Global, tag: Tag, bytes: &[u8]) -> Result<Any, Error>
+        ensures ok { IfOk result (λ any. (any.tag ≡ tag) × (any.value ≡ bytes.now)) }
+        ensures overlength { limit < length (element (octet_of tag) bytes.now) → IsErrAnd result (λ e. e.kind ≡ errors.Overlength) }
+        ensures err { length (element (octet_of tag) bytes.now) ≤ limit → IfErr result (λ e. e.kind ≡ errors.Memory) }
+    {
+        check_content(bytes)?;
+        Ok(Any {
+            tag,
+            value: Bytes::from_slice(alloc, bytes)?,
+        })
+    }
+
+    /// The identifier.
+    pub fn tag(&self) -> Tag
+        ensures { result ≡ self.now.tag }
+    {
+        self.tag
+    }
+
+    /// The content octets.
+    pub fn value(&self) -> &[u8]
+        ensures { result.now ≡ self.now.value }
+    {
+        self.value.as_slice()
+    }
+
+    /// The value that the element spells: what the type's decoder answers on it. `Malformed`, or the refusal of the
+    /// type, exactly where it spells none. Memory may be refused.
+    pub fn decode_as<T: Decode>(&self, alloc: Global) -> Result<T, Error>
+        ensures found { IfOk result (λ value. T.form.good value × (element (octet_of self.now.tag) self.now.value ≡ spelling T.form value)) }
+        ensures refused { IfErr result (λ e. (e.kind ≡ errors.Memory) ⊎ ((e.kind ≡ errors.Malformed) ⊎ T.refuses e.kind)) }
+        ensures only { (value : T) → T.form.good value → element (octet_of self.now.tag) self.now.value ≡ spelling T.form value → IfErr result (λ e. e.kind ≡ errors.Memory) }
+        ensures value { (value : T) → T.form.good value → element (octet_of self.now.tag) self.now.value ≡ spelling T.form value → IfOk result (λ found. found ≡ value) }
+    {
+        T::read(alloc, self.tag.octet(), self.value.as_slice())
+    }
+
+    /// The element of the value, as `to_der` writes it; refused as `to_der` is.
+    pub fn encode_from<T: Encode>(alloc: Global, value: &T) -> Result<Any, Error>
+        ensures ok { IfOk result (λ any. (element (octet_of any.tag) any.value ≡ written_spelling T.form (writes T.writing value.now)) × IsWritable T.form (writes T.writing value.now) limit) }
+        ensures err { IfErr result (λ e. (e.kind ≡ errors.Memory) ⊎ IsUnwritable T.form (writes T.writing value.now) limit e.kind) }
+    {
+        let mut room = Growing::new(alloc);
+        value.put_content(&mut room)?;
+        let content = room.into_vec();
+        check_content(content.as_slice())?;
+        Ok(Any {
+            tag: value.identifier(),
+            value: Bytes::from(content),
+        })
+    }
+
+    /// Whether the element is a NULL, with no content (X.690 8.8).
+    pub fn is_null(&self) -> bool
+        ensures { IsTrue result ↔ ((self.now.tag ≡ Null) × (self.now.value ≡ [])) }
+    {
+        self.tag == Tag::Null && self.value.as_slice().is_empty()
+    }
+}
+
+impl Grammar for Any {
+    ghost use Rattle.x509_der_frames.specs.Any.{any, any_lawful};
+
+    ghost form = { any };
+
+    fn identifier(&self) -> Tag {
+        self.tag
+    }
+
+    #[tactic(auto, using(crate::specs::Any::is_in_identifiers))]
+    fn is_start(octet: u8) -> bool {
+        Tag::from_octet(octet).is_ok()
+    }
+
+    ghost lawful = { any_lawful };
+}
+
+#[tactic(auto, using(crate::specs::Any::any_found, crate::specs::Any::any_not_found))]
+impl Decode for Any {
+    fn read(alloc: Global, tag: u8, content: &[u8]) -> Result<Any, Error> {
+        Ok(Any {
+            tag: Tag::from_octet(tag)?,
+            value: Bytes::from_slice(alloc, content)?,
+        })
+    }
+}
+
+impl Encode for Any {
+    ghost use Rattle.std.specs.Prelude.{refl};
+
+    fn put_content<R: Room>(&self, room: &mut R) -> Result<(), Error> {
+        room.put(self.value.as_slice())
+    }
+
+    ghost same_tag = { λ value. refl };
+}
+
+impl TryClone for Any {
+    fn try_clone(&self, alloc: Global) -> Result<Any, Error> {
+        Ok(Any {
+            tag: self.tag,
+            value: self.value.try_clone(alloc)?,
+        })
+    }
+}
+
+/// A value that borrows from an element.
+pub trait FromAny<'a>: Sized {
+    ghost use Rattle.x509_der_grammar.specs.declared.error.Error.{Error};
+    ghost use Rattle.std.specs.Prelude.{Result};
+    ghost use Rattle.x509_der_frames.specs.declared.any.Any.{Any};
+
+    /// What may be answered on an element.
+    ghost from_any_gives: { Any → Result Self Error → Type 0 };
+
+    /// The value in the element. Memory may be refused.
+    fn from_any(alloc: Global, any: &'a Any) -> Result<Self, Error>
+        ensures { from_any_gives any.now result };
+}
