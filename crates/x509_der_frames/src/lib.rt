@@ -3,11 +3,13 @@
 
 mod any;
 mod default_values;
+mod list;
 mod part;
 mod reading;
 mod standard;
 
 pub use any::{Any, FromAny};
+pub use list::{SequenceOf, put_members, read_members};
 pub use part::{
     PutPart, Retagged, Wrapped, defaulted, explicit, explicit_default, explicit_optional, implicit,
     implicit_default, implicit_optional, optional,

@@ -1,0 +1,58 @@
+-- Members are written from the last to the first.
+use Rattle.std.specs.Prelude.{◌≡◌, ℕ, zero, suc, ◌+◌, ◌-◌, ◌≤◌, ◌<◌, List, [], ◌∷◌, ◌++◌, length, drop, get_or, Some, None, Result, Ok, Err, refl}
+use Rattle.std.proofs.Common.{add-one, arith, length-drop}
+use Rattle.std.proofs.lemmas.List.{nil_from_length}
+use Rattle.std.proofs.Math.Seq.{drop-cons}
+use Rattle.x509_der_grammar.specs.declared.error.Error.{Error}
+use Rattle.x509_der_grammar.specs.declared.error.ErrorKind.{ErrorKind}
+use Rattle.x509_der_grammar.specs.Form.{Form, spelling}
+use Rattle.x509_der_grammar.specs.Writing.{Written, Writing, plain, respelling, writes, Kind, IsKind, Puts, first}
+use Rattle.x509_der_grammar.specs.WritingLaws.{puts_after, puts_not, puts_nothing}
+use Rattle.x509_der_frames.specs.List.{members_writing, joined, members_value, members_refusal, members_text}
+
+module _ {X : Type 0} (f : Form X) (w : X → Written X) where
+  -- what is left from a place on, where item stands there
+  text_left : (xs : List X) (i : ℕ) (x : X) → i < length xs → x ≡ get_or xs i x → members_text f w (drop i xs) ≡ spelling f (w x).value ++ members_text f w (drop (i + 1) xs)
+  unfolding joined members_value
+  text_left xs i x lt e = rw (add-one, drop-cons xs i x, ← e) refl
+
+  refusal_left : (xs : List X) (i : ℕ) (x : X) → i < length xs → x ≡ get_or xs i x → members_refusal w (drop i xs) ≡ first (members_refusal w (drop (i + 1) xs)) (w x).refusal
+  unfolding members_refusal
+  refusal_left xs i x lt e = rw (add-one, drop-cons xs i x, ← e) refl
+
+  -- none are left
+  pub puts_end : {R : Type 0} (k : Kind R) → IsKind k → (xs : List X) (room : R) → Puts k (members_text f w (drop (length xs) xs)) (members_refusal w (drop (length xs) xs)) (Ok tt) room room
+  unfolding joined members_value members_refusal
+  puts_end k h xs room = let nil : drop (length xs) xs ≡ [] = nil_from_length (drop (length xs) xs) (omega (arith, length-drop (length xs) xs)) in rw nil (puts_nothing k h room)
+
+  -- one more in front
+  pub puts_member : {R : Type 0} (k : Kind R) → IsKind k → (xs : List X) (i : ℕ) (x : X) (r : Result Unit Error) (old mid new : R) → 0 < i → i ≤ length xs → x ≡ get_or xs (i - 1) x
+      → Puts k (members_text f w (drop i xs)) (members_refusal w (drop i xs)) (Ok tt) old mid → Puts k (spelling f (w x).value) (w x).refusal r mid new
+      → Puts k (members_text f w (drop (i - 1) xs)) (members_refusal w (drop (i - 1) xs)) r old new
+  puts_member k h xs i x r old mid new pos le e s t =
+      let lt : i - 1 < length xs = omega arith in
+      let back : (i - 1) + 1 ≡ i = omega arith in
+      rw (text_left xs (i - 1) x lt e, refusal_left xs (i - 1) x lt e, back) (puts_after k h (spelling f (w x).value) (members_text f w (drop i xs)) (w x).refusal (members_refusal w (drop i xs)) tt r old mid new s t)
+
+  -- what is refused from a place on refuses the whole
+  pub puts_no_members : {R : Type 0} (k : Kind R) (i : ℕ) (xs : List X) (e : Error) (old new : R) → Puts k (members_text f w (drop i xs)) (members_refusal w (drop i xs)) (Err e) old new → Puts k (members_text f w xs) (members_refusal w xs) (Err e) old new
+  unfolding joined members_value members_refusal
+  puts_no_members k zero xs e old new s = s
+  puts_no_members k (suc i) [] e old new s = s
+  puts_no_members k (suc i) (x ∷ xs) e old new s = puts_not k (spelling f (w x).value) (members_text f w xs) (w x).refusal (members_refusal w xs) e old new (puts_no_members k i xs e old new s)
+
+-- ---- members that are written as they are
+
+value_plain : {X : Type 0} (xs : List X) → members_value (writes plain) xs ≡ xs
+unfolding members_value
+value_plain [] = refl
+value_plain (x ∷ xs) = rw (value_plain xs) refl
+
+refusal_plain : {X : Type 0} (xs : List X) → members_refusal {X = X} (writes plain) xs ≡ None
+unfolding members_refusal
+refusal_plain [] = refl
+refusal_plain (x ∷ xs) = rw (refusal_plain xs) refl
+
+pub puts_list : {X R : Type 0} (f : Form X) (w : Writing X) (k : Kind R) (xs : List X) (r : Result Unit Error) (old new : R) → Puts k (members_text f (writes w) xs) (members_refusal (writes w) xs) r old new → Puts k (joined (spelling f) (writes (members_writing w) xs).value) (writes (members_writing w) xs).refusal r old new
+puts_list f plain k xs r old new h = rw (value_plain xs, refusal_plain xs) at h
+puts_list f (respelling w) k xs r old new h = h

@@ -1,0 +1,229 @@
+//! SEQUENCE OF (X.690 8.10).
+
+ghost use Rattle.std.specs.Prelude.{◌≡◌, ◌↔◌, ◌++◌, [], ◌∷◌, length, IsTrue, IfOk, IfErr, OnOk, OnErr};
+ghost use Rattle.x509_der_grammar.specs.declared.error.ErrorKind.TheVariants.{Memory};
+ghost use Rattle.x509_der_grammar.specs.Outcome.{GivesBy};
+ghost use Rattle.x509_der_grammar.specs.Writing.{Puts, writes};
+ghost use Rattle.x509_der_frames.specs.List.{list_reading, members_text, members_refusal};
+
+use crate::reading::field;
+use std::alloc::Global;
+use std::fmt;
+use std::hash::{Hash, Hasher};
+use std::marker::Model;
+use x509_der_grammar::{Decode, Encode, Error, FixedTag, Grammar, Room, Tag, TryClone, expect_tag};
+
+/// Values one after the other, which contracts see as a list (X.690 8.10). It is made from a vector and gives it
+/// back without a copy.
+#[derive(Drop)]
+pub struct SequenceOf<T> {
+    items: Vec<T>,
+}
+
+impl<T> Model for SequenceOf<T> {
+    ghost use Rattle.std.specs.Prelude.{List};
+
+    ghost Value = { List T };
+
+    ghost view = { λ sequence. sequence.items.items };
+}
+
+impl<T> SequenceOf<T> {
+    /// No values. It takes no memory.
+    pub fn new(alloc: Global) -> SequenceOf<T>
+        ensures { result ≡ [] }
+    {
+        SequenceOf {
+            items: Vec::new(alloc),
+        }
+    }
+
+    /// The values.
+    pub fn as_slice(&self) -> &[T]
+        ensures { result.now ≡ self.now }
+    {
+        self.items.as_slice()
+    }
+
+    /// How many values there are.
+    pub fn len(&self) -> usize
+        ensures { result ≡ length self.now }
+    {
+        self.items.len()
+    }
+
+    /// Whether there are none.
+    pub fn is_empty(&self) -> bool
+        ensures { IsTrue result ↔ (self.now ≡ []) }
+    {
+        self.items.is_empty()
+    }
+
+    /// Puts the value behind the others. Where memory is refused the values are as they were, and the item is
+    /// dropped.
+    pub fn push(&mut self, item: T) -> Result<(), Error>
+    where
+        T: Drop,
+        ensures ok { OnOk result (self.new ≡ self.old ++ item ∷ []) }
+        ensures err { IfErr result (λ e. e.kind ≡ Memory) }
+        ensures unchanged { OnErr result (self.new ≡ self.old) }
+    {
+        self.items.push(item)?;
+        Ok(())
+    }
+
+    /// The vector of the values, without a copy.
+    pub fn into_vec(self) -> Vec<T>
+        ensures { result.items ≡ self }
+    {
+        let SequenceOf { items } = self;
+        items
+    }
+}
+
+impl<T> From<Vec<T>> for SequenceOf<T> {
+    ghost from_gives = { λ items sequence. sequence ≡ items.items };
+
+    fn from(items: Vec<T>) -> SequenceOf<T> {
+        SequenceOf { items }
+    }
+}
+
+impl<T: TryClone + Drop> TryClone for SequenceOf<T> {
+    fn try_clone(&self, alloc: Global) -> Result<SequenceOf<T>, Error> {
+        Ok(SequenceOf {
+            items: clone_members(alloc, self.as_slice())?,
+        })
+    }
+}
+
+impl<T: PartialEq> PartialEq for SequenceOf<T> {
+    ghost use Rattle.std.specs.Cmp.Lexicographic.{pointwise, lists_per};
+
+    ghost eq = { pointwise T.eq };
+
+    ghost laws = { lists_per T.laws };
+
+    fn eq(&self, other: &SequenceOf<T>) -> bool {
+        self.as_slice() == other.as_slice()
+    }
+}
+
+impl<T: Eq> Eq for SequenceOf<T> {
+    ghost use Rattle.std.specs.Cmp.Lexicographic.{lists_equiv};
+
+    ghost laws = { lists_equiv T.Eq.laws };
+}
+
+impl<T: Hash> Hash for SequenceOf<T> {
+    ghost use Rattle.std.specs.Hash as fed;
+    ghost use Rattle.std.specs.Hash.{items_Alike};
+
+    ghost hash_input = { fed.slice T.hash_input };
+
+    ghost respects_eq = { (items_Alike (record { fed = T.respects_eq })).fed };
+
+    fn hash<H: Hasher>(&self, state: &mut H) {
+        self.as_slice().hash(state);
+    }
+}
+
+impl<T: fmt::Debug> fmt::Debug for SequenceOf<T> {
+    fn fmt<W: fmt::Write>(&self, f: &mut fmt::Formatter<W>) -> fmt::Result {
+        fmt::Debug::fmt(&self.as_slice(), f)
+    }
+}
+
+/// Copies of the members, in their order. Memory may be refused.
+fn clone_members<T: TryClone + Drop>(alloc: Global, members: &[T]) -> Result<Vec<T>, Error>
+    ensures ok { IfOk result (λ copies. copies.items ≡ members.now) }
+    ensures err { IfErr result (λ e. e.kind ≡ Memory) }
+{
+    let mut copies = Vec::with_capacity(alloc, members.len())?;
+    for member in members {
+        copies.push(member.try_clone(alloc)?)?;
+    }
+    Ok(copies)
+}
+
+/// The values whose elements the bytes are, one after the other; `Malformed`, or the refusal of the type, where they
+/// are not. Memory may be refused.
+pub fn read_members<T: Decode + Drop>(alloc: Global, bytes: &[u8]) -> Result<Vec<T>, Error>
+    ensures exact { GivesBy (λ v. v.items) result (list_reading T.form.reading bytes.now) }
+{
+    let mut items = Vec::new(alloc);
+    let mut rest = bytes;
+    while !rest.is_empty() {
+        let item = field::<T>(alloc, &mut rest)?;
+        items.push(item)?;
+    }
+    Ok(items)
+}
+
+/// Puts the elements of the values in front of what stands, the last first.
+pub fn put_members<T: Encode, R: Room>(items: &[T], room: &mut R) -> Result<(), Error>
+    ensures { Puts R.kind (members_text T.form (writes T.writing) items.now) (members_refusal (writes T.writing) items.now) result room.old room.new }
+{
+    let mut i = items.len();
+    while i > 0 {
+        i -= 1;
+        let item = &items[i];
+        item.put_element(room)?;
+    }
+    Ok(())
+}
+
+impl<T: Grammar> Grammar for SequenceOf<T> {
+    ghost use Rattle.x509_der_grammar.specs.Form.{universal};
+    ghost use Rattle.x509_der_grammar.specs.FormLaws.{universal_lawful};
+    ghost use Rattle.x509_der_frames.specs.List.{list_of};
+    ghost use Rattle.x509_der_frames.specs.ListLaws.{list_lawful};
+
+    ghost form = { universal (list_of T.form) };
+
+    ghost refuses = { T.refuses };
+
+    fn identifier(&self) -> Tag {
+        Tag::Sequence
+    }
+
+    fn is_start(octet: u8) -> bool {
+        octet == 0x30
+    }
+
+    ghost lawful = { universal_lawful (list_of T.form) (list_lawful T.form T.lawful) };
+}
+
+impl<T: Decode + Drop> Decode for SequenceOf<T> {
+    fn read(alloc: Global, tag: u8, content: &[u8]) -> Result<SequenceOf<T>, Error> {
+        expect_tag(tag, Tag::Sequence)?;
+        Ok(SequenceOf {
+            items: read_members::<T>(alloc, content)?,
+        })
+    }
+}
+
+impl<T: Encode> Encode for SequenceOf<T> {
+    ghost use Rattle.std.specs.Prelude.{refl};
+    ghost use Rattle.x509_der_frames.specs.List.{members_writing};
+
+    ghost writing = { members_writing T.writing };
+
+    #[tactic(auto, using(crate::specs::ListWriting::puts_list))]
+    fn put_content<R: Room>(&self, room: &mut R) -> Result<(), Error> {
+        put_members(self.as_slice(), room)
+    }
+
+    ghost same_tag = { λ value. refl };
+}
+
+impl<T: Grammar> FixedTag for SequenceOf<T> {
+    ghost use Rattle.std.specs.Prelude.{refl};
+    ghost use Rattle.x509_der_grammar.specs.declared.tag.Tag.TheVariants.{Sequence};
+
+    ghost TAG = { Sequence };
+
+    const TAG: Tag = Tag::Sequence;
+
+    ghost fixed = { λ value good. refl };
+}
