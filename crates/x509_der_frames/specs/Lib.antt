@@ -6,3 +6,4 @@ pub mod Any
 pub mod List
 pub mod ListLaws
 pub mod ListWriting
+pub mod Choice
