@@ -1,0 +1,5 @@
+pub mod Stored
+pub mod Subidentifiers
+pub mod ArcLaws
+pub mod TextLaws
+pub mod Numerals

@@ -1,0 +1,74 @@
+//! Content octets as they are put together from arcs, with no allocation.
+
+ghost use Rattle.std.specs.Prelude.{◌≡◌, ℕ, ◌+◌, ◌<◌, ◌≤◌, List, [], ◌∷◌, ◌++◌, length, map, take, IfSome, IfNone, OnSome};
+ghost use Rattle.std.specs.Int.Digits.{digits_of};
+ghost use Rattle.x509_der_oid.specs.Arcs.{subidentifier, high_octets};
+
+use std::marker::Model;
+
+/// Up to 39 octets.
+#[derive(Drop)]
+pub struct Content {
+    len: usize,
+    octets: [u8; 39],
+}
+
+impl Model for Content {
+    ghost Value = { List ℕ };
+
+    ghost view = { λ c. take c.len c.octets };
+
+    ghost invariant = { λ c. c.len ≤ 39 };
+}
+
+impl Content {
+    pub fn new() -> Content
+        ensures { result ≡ [] }
+    {
+        Content {
+            len: 0,
+            octets: [0; 39],
+        }
+    }
+
+    /// The octets.
+    pub fn as_slice(&self) -> &[u8]
+        ensures octets { result.now ≡ self.now }
+        ensures short { length self.now ≤ 39 }
+    {
+        &self.octets[..self.len]
+    }
+
+    /// Puts a subidentifier at the end, or answers `None` where there is no room for it.
+    pub fn push(&mut self, n: u32) -> Option<()>
+        ensures some { OnSome result (self.new ≡ self.old ++ subidentifier n) }
+        ensures none { IfNone result (39 < length self.old + length (subidentifier n)) }
+    {
+        self.push_high(n / 128)?;
+        self.push_octet((n % 128) as u8)
+    }
+
+    // The digits of n in base 128, each with the high bit set.
+    fn push_high(&mut self, n: u32) -> Option<()>
+        ensures some { OnSome result (self.new ≡ self.old ++ high_octets (digits_of 128 n)) }
+        ensures none { IfNone result (39 < length self.old + length (digits_of 128 n)) }
+    {
+        if n == 0 {
+            return Some(());
+        }
+        self.push_high(n / 128)?;
+        self.push_octet(128 + (n % 128) as u8)
+    }
+
+    fn push_octet(&mut self, octet: u8) -> Option<()>
+        ensures some { OnSome result (self.new ≡ self.old ++ octet ∷ []) }
+        ensures none { IfNone result (length self.old ≡ 39) }
+    {
+        if self.len == 39 {
+            return None;
+        }
+        self.octets[self.len] = octet;
+        self.len += 1;
+        Some(())
+    }
+}

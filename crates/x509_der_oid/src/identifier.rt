@@ -1,0 +1,102 @@
+//! The value of an OBJECT IDENTIFIER.
+
+ghost use Rattle.std.specs.Prelude.{◌≡◌, ◌≤◌, ◌<◌, ℕ, List, length, true, IfOk, IfErr, IsOkAnd, Ok, Err, if◌then◌else◌};
+ghost use Rattle.x509_der_grammar.specs.Outcome.{Gives};
+ghost use Rattle.x509_der_grammar.specs.declared.error.ErrorKind.TheVariants.{Malformed};
+ghost use Rattle.x509_der_oid.specs.Arcs.{AreArcs, content_of};
+ghost use Rattle.x509_der_oid.specs.ObjectIdentifier.{are_subidentifiers, is_object_identifier};
+
+use std::marker::Model;
+use x509_der_grammar::{Error, ErrorKind};
+
+/// An object identifier, as its content octets (X.690 8.19).
+///
+/// A literal is checked where it is used: the first `len` octets are the content of an object identifier, and zeros
+/// follow them.
+#[derive(Clone, Copy, Debug, PartialEq, Eq)]
+pub struct ObjectIdentifier {
+    /// How many content octets there are, at most 39.
+    pub len: u8,
+
+    /// The content octets, then zeros.
+    pub octets: [u8; 39],
+}
+
+impl Model for ObjectIdentifier {
+    ghost use Rattle.std.specs.Prelude.{List, ℕ, ◌-◌, ◌++◌, take, replicate, length};
+    ghost use Rattle.x509_der_oid.specs.ObjectIdentifier.{IsStored, front_length, padded};
+
+    ghost Value = { List ℕ };
+
+    ghost view = { λ o. take o.len o.octets };
+
+    ghost invariant = { λ o. IsStored o.len o.octets };
+
+    ghost inverse = { λ v. record { len = length v; octets = v ++ replicate (39 - length v) 0 } };
+
+    ghost inverse_ok = { λ a h i. record { len = front_length a.len a.octets h i; octets = padded a.len a.octets h i } };
+}
+
+// Whether the octets are whole subidentifiers, none above 4,294,967,295.
+fn is_content(octets: &[u8]) -> bool
+    ensures { result ≡ is_object_identifier octets.now }
+{
+    if octets.is_empty() || octets.len() > 39 {
+        return false;
+    }
+    let mut high: u32 = 0;
+    let mut fresh = true;
+    for octet in octets {
+        let octet = *octet;
+        if high >= 33_554_432 || (fresh && octet == 128) {
+            return false;
+        }
+        if octet < 128 {
+            high = 0;
+            fresh = true;
+        } else {
+            high = 128 * high + (octet - 128) as u32;
+            fresh = false;
+        }
+    }
+    fresh
+}
+
+impl ObjectIdentifier {
+    fn from_checked(content: &[u8]) -> ObjectIdentifier
+        requires { is_object_identifier content.now ≡ true }
+        ensures { result ≡ content.now }
+    {
+        let mut octets = [0; 39];
+        let (front, _) = octets.split_at_mut(content.len());
+        front.copy_from_slice(content);
+        ObjectIdentifier {
+            len: content.len() as u8,
+            octets,
+        }
+    }
+
+    /// The object identifier that has these content octets.
+    ///
+    /// # Errors
+    ///
+    /// `Malformed` where no arcs have this content: it is empty, ends within a subidentifier, has one that begins with
+    /// the octet 0x80 or is above 4,294,967,295, or is longer than 39 octets (X.690 8.19.2).
+    pub fn from_bytes(content: &[u8]) -> Result<ObjectIdentifier, Error>
+        ensures exact { Gives result (if is_object_identifier content.now then Ok content.now else Err Malformed) }
+        ensures err { IfErr result (λ e. e.kind ≡ Malformed) }
+    {
+        if is_content(content) {
+            Ok(ObjectIdentifier::from_checked(content))
+        } else {
+            Err(ErrorKind::Malformed.into())
+        }
+    }
+
+    /// The content octets.
+    pub fn as_bytes(&self) -> &[u8]
+        ensures { result.now ≡ self.now }
+    {
+        &self.octets[..self.len as usize]
+    }
+}
