@@ -1,22 +1,26 @@
 -- Subidentifiers and the octets that stand for them.
 use Rattle.std.proofs.Common.{◌≡◌, ℕ, zero, suc, ◌+◌, ◌-◌, ◌*◌, ◌/◌, ◌%◌, ◌^◌, ◌<◌, ◌≤◌, Bool, true, false, cond, List, [], ◌∷◌, ◌++◌, map, length, get_or, refl, sym, ap, ◌∙◌, arith, append_assoc, ⊎_elim, inl, inr}
-use Rattle.std.specs.Prelude.{nat_eq, nat_lt, ◌&&◌, not}
+use Rattle.std.specs.Prelude.{Option, None, Some, OnSome, IfNone, nat_eq, nat_lt, ◌&&◌, not}
 use Rattle.std.specs.Int.Digits.{digits_of, AllBelowBase, number_from_digits_after}
 use Rattle.std.specs.List.{flat_map, AllByRecursion}
 use Rattle.std.proofs.lemmas.Bool.{cases_Bool, cases_lt, and_parts, and_from, ltb-true, ltb-false, lt-ltb, le-ltb, eqb-true, eqb-false, eq-eqb, ne_eqb, not-true}
 use Rattle.std.proofs.lemmas.Bool.Decides.{nat_tests}
-use Rattle.std.proofs.lemmas.Int.Digits.{digits_of_step, all_below_base_digits_of, first_digits_of, number_digits_of, number_after_ge}
-use Rattle.std.proofs.lemmas.List.{map_push, append-nil}
+use Rattle.std.proofs.lemmas.Int.Digits.{digits_of_step, length-digits_of_step, all_below_base_digits_of, first_digits_of, number_digits_of, number_after_ge}
+use Rattle.std.proofs.lemmas.Option.{IfSome_then}
+use Rattle.std.proofs.lemmas.List.{map_push, length-append, length-map}
 use Rattle.x509_der_oid.specs.Arcs.{high_octets, subidentifier, subidentifier_limit, AreSmall}
 use Rattle.x509_der_oid.specs.ObjectIdentifier.{are_subidentifiers, subidentifiers_in}
+
+pub high_octets_step : (n : ℕ) → 0 < n → high_octets (digits_of 128 n) ≡ high_octets (digits_of 128 (n / 128)) ++ (128 + n % 128) ∷ []
+high_octets_step n some =
+    ap high_octets (digits_of_step 128 n (omega arith) some)
+    ∙ map_push (λ digit. 128 + digit) (digits_of 128 (n / 128)) (n % 128)
 
 pub high_octets_push : (h d : ℕ) → d < 128 → 0 < 128 * h + d → high_octets (digits_of 128 (128 * h + d)) ≡ high_octets (digits_of 128 h) ++ (128 + d) ∷ []
 high_octets_push h d small some =
     let front : (128 * h + d) / 128 ≡ h = omega arith in
     let end : (128 * h + d) % 128 ≡ d = omega arith in
-    ap high_octets (digits_of_step 128 (128 * h + d) (omega arith) some)
-    ∙ map_push (λ digit. 128 + digit) (digits_of 128 ((128 * h + d) / 128)) ((128 * h + d) % 128)
-    ∙ (λ i. high_octets (digits_of 128 (front i)) ++ (128 + end i) ∷ [])
+    high_octets_step (128 * h + d) some ∙ (λ i. high_octets (digits_of 128 (front i)) ++ (128 + end i) ∷ [])
 
 pub subidentifier_from : (h d : ℕ) → d < 128 → subidentifier (128 * h + d) ≡ high_octets (digits_of 128 h) ++ d ∷ []
 unfolding subidentifier
@@ -141,3 +145,29 @@ subidentifier_passes n rest small =
 pub subidentifiers_pass : (ns : List ℕ) → AreSmall ns → are_subidentifiers 0 true (flat_map subidentifier ns) ≡ true
 subidentifiers_pass [] h = refl
 subidentifiers_pass (n ∷ ns) h = subidentifier_passes n (flat_map subidentifier ns) h.0 ∙ subidentifiers_pass ns h.1
+
+-- what putting digits at the end leaves, and when there is no room
+pub high_pushed : (old front : List ℕ) (n : ℕ) → 0 < n → front ≡ old ++ high_octets (digits_of 128 (n / 128)) → front ++ (128 + n % 128) ∷ [] ≡ old ++ high_octets (digits_of 128 n)
+high_pushed old front n some e = ap (λ xs. xs ++ (128 + n % 128) ∷ []) e ∙ append_assoc old (high_octets (digits_of 128 (n / 128))) ((128 + n % 128) ∷ []) ∙ ap (λ xs. old ++ xs) (sym (high_octets_step n some))
+
+pub length-high_pushed : (n : ℕ) → 0 < n → length (digits_of 128 n) ≡ length (digits_of 128 (n / 128)) + 1
+length-high_pushed n some = length-digits_of_step 128 n (omega arith) some
+
+pub length-high_octets : (digits : List ℕ) → length (high_octets digits) ≡ length digits
+length-high_octets digits = length-map digits (λ digit. 128 + digit)
+
+pub subidentifier_pushed : (old front : List ℕ) (n : ℕ) → front ≡ old ++ high_octets (digits_of 128 (n / 128)) → front ++ (n % 128) ∷ [] ≡ old ++ subidentifier n
+unfolding subidentifier
+subidentifier_pushed old front n e = ap (λ xs. xs ++ (n % 128) ∷ []) e ∙ append_assoc old (high_octets (digits_of 128 (n / 128))) ((n % 128) ∷ [])
+
+pub length-subidentifier : (n : ℕ) → length (subidentifier n) ≡ length (digits_of 128 (n / 128)) + 1
+unfolding subidentifier
+length-subidentifier n = omega (arith, length-append (high_octets (digits_of 128 (n / 128))) ((n % 128) ∷ []), length-high_octets (digits_of 128 (n / 128)))
+
+-- what may come after a step that may find no room
+pub OnSome-then : {P Q : Type 0} (r : Option (Unit {0})) → OnSome r P → (P → Q) → OnSome r Q
+OnSome-then r h f = IfSome_then r h (λ x p. f p)
+
+pub IfNone-then : {P Q : Type 0} (r : Option (Unit {0})) → IfNone r P → (P → Q) → IfNone r Q
+IfNone-then None h f = f h
+IfNone-then (Some x) h f = tt
