@@ -1,10 +1,10 @@
 -- Arcs and content octets.
-use Rattle.std.proofs.Common.{◌≡◌, ℕ, ◌+◌, ◌-◌, ◌*◌, ◌/◌, ◌%◌, ◌^◌, ◌<◌, ◌≤◌, Bool, true, false, List, [], ◌∷◌, ◌++◌, length, refl, sym, ap, ◌∙◌, arith, length-append, ⊎_elim}
+use Rattle.std.proofs.Common.{◌≡◌, ℕ, zero, suc, ◌+◌, ◌-◌, ◌*◌, ◌/◌, ◌%◌, ◌^◌, ◌<◌, ◌≤◌, Bool, true, false, List, [], ◌∷◌, ◌++◌, drop, length, get_or, refl, sym, ap, ◌∙◌, arith, length-append, ⊎_elim}
 use Rattle.std.specs.Prelude.{nat_le, ◌&&◌, min}
 use Rattle.std.specs.List.{flat_map, AllByRecursion}
 use Rattle.std.proofs.lemmas.Bool.{and_from, le-leb, cases_lt}
 use Rattle.std.proofs.lemmas.Bool.Decides.{nat_tests}
-use Rattle.x509_der_oid.specs.Arcs.{subidentifier, first_subidentifier, subidentifiers, content_of, BeginAsArcs, AreArcs, subidentifier_limit, content_limit}
+use Rattle.x509_der_oid.specs.Arcs.{AreSmall, subidentifier, first_subidentifier, subidentifiers, content_of, BeginAsArcs, AreArcs, subidentifier_limit, content_limit}
 use Rattle.x509_der_oid.specs.ObjectIdentifier.{are_subidentifiers, subidentifiers_in, is_object_identifier, first_arc, arcs_from, arcs_of}
 use Rattle.x509_der_oid.proofs.Stored.{test_parts}
 use Rattle.x509_der_oid.proofs.Subidentifiers.{made_of_subidentifiers, small_subidentifiers, in_subidentifiers, subidentifiers_pass}
@@ -51,6 +51,9 @@ subidentifiers_some : (c : List ℕ) (ns : List ℕ) → is_object_identifier c 
 subidentifiers_some c [] h e = absurd (let k : is_object_identifier [] ≡ true = rw e at h in cc)
 subidentifiers_some c (n ∷ ns) h e = omega arith
 
+pub subidentifiers_in-some : (c : List ℕ) → is_object_identifier c ≡ true → 0 < length (subidentifiers_in 0 c)
+subidentifiers_in-some c h = subidentifiers_some c (subidentifiers_in 0 c) h (made_of_subidentifiers 0 true c refl (test_parts c h).1)
+
 -- what passes the test is the content of its arcs
 pub content_of-arcs_of : (c : List ℕ) → is_object_identifier c ≡ true → AreArcs (arcs_of c) × (content_of (arcs_of c) ≡ c)
 unfolding arcs_of
@@ -83,3 +86,45 @@ passes (x ∷ xs) some short h = and_from (nat_le (length (x ∷ xs)) 39) _ (le-
 -- the content of arcs passes the test
 pub content_of-passes : (arcs : List ℕ) → AreArcs arcs → is_object_identifier (content_of arcs) ≡ true
 content_of-passes arcs h = passes (content_of arcs) (content_some arcs h.begin) h.short (subidentifiers_pass (subidentifiers arcs) h.small)
+
+below_all : (ns : List ℕ) → ((k : ℕ) → k < length ns → get_or ns k 0 < 2 ^ 32) → AreSmall ns
+below_all [] h = tt
+below_all (n ∷ ns) h = (omega (arith, h 0 (omega arith)), below_all ns (λ k below. h (suc k) (omega arith)))
+
+-- arcs that were tested and put together within the room
+pub tested_arcs : (arcs content : List ℕ) → 2 ≤ length arcs → ((k : ℕ) → k < length arcs → get_or arcs k 0 < 2 ^ 32) → get_or arcs 0 0 ≤ 2 → (get_or arcs 0 0 < 2 → get_or arcs 1 0 ≤ 39)
+    → 40 * get_or arcs 0 0 + get_or arcs 1 0 < 2 ^ 32 → content ≡ subidentifier (40 * get_or arcs 0 0 + get_or arcs 1 0) ++ flat_map subidentifier (drop 2 arcs) → length content ≤ 39
+    → AreArcs arcs × (content ≡ content_of arcs)
+tested_arcs [] content two each first second small made short = absurd (omega arith)
+tested_arcs (a ∷ []) content two each first second small made short = absurd (omega arith)
+tested_arcs (a ∷ b ∷ arcs) content two each first second small made short =
+    (record {
+      begin = (first, second);
+      small = (omega arith, below_all arcs (λ k below. each (suc (suc k)) (omega arith)));
+      short = omega (arith, ap length made);
+    }, made)
+
+-- the arcs that subidentifiers stand for, from the first and those behind it
+pub arcs_of_first : (c ns : List ℕ) → ns ≡ subidentifiers_in 0 c → 0 < length ns → arcs_of c ≡ first_arc (get_or ns 0 0) ∷ (get_or ns 0 0 - 40 * first_arc (get_or ns 0 0)) ∷ drop 1 ns
+unfolding arcs_of
+arcs_of_first c [] e some = absurd (omega arith)
+arcs_of_first c (n ∷ ns) e some = ap arcs_from (sym e)
+
+-- arcs within the limits are small, and few enough for 39 octets
+length-content : (ns : List ℕ) → length ns ≤ length (flat_map subidentifier ns)
+length-content [] = omega arith
+length-content (n ∷ ns) = omega (arith, subidentifier_some n, length-append (subidentifier n) (flat_map subidentifier ns), length-content ns)
+
+pub few_arcs : (arcs : List ℕ) → AreArcs arcs → length arcs ≤ 40
+few_arcs [] h = omega arith
+few_arcs (a ∷ []) h = omega arith
+few_arcs (a ∷ b ∷ arcs) h = omega (arith, h.short, length-content ((40 * a + b) ∷ arcs))
+
+pub some_arcs : (arcs : List ℕ) → AreArcs arcs → 0 < length arcs
+some_arcs [] h = absurd h.begin
+some_arcs (a ∷ arcs) h = omega arith
+
+pub small_arcs : (arcs : List ℕ) → AreArcs arcs → AreSmall arcs
+small_arcs [] h = tt
+small_arcs (a ∷ []) h = absurd h.begin
+small_arcs (a ∷ b ∷ arcs) h = (omega (arith, h.begin.0), (omega (arith, h.small.0), h.small.1))

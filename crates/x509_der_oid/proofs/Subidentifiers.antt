@@ -1,5 +1,5 @@
 -- Subidentifiers and the octets that stand for them.
-use Rattle.std.proofs.Common.{◌≡◌, ℕ, zero, suc, ◌+◌, ◌-◌, ◌*◌, ◌/◌, ◌%◌, ◌^◌, ◌<◌, ◌≤◌, Bool, true, false, cond, List, [], ◌∷◌, ◌++◌, map, length, get_or, refl, sym, ap, ◌∙◌, arith, append_assoc, ⊎_elim, inl, inr}
+use Rattle.std.proofs.Common.{◌≡◌, ℕ, zero, suc, ◌+◌, ◌-◌, ◌*◌, ◌/◌, ◌%◌, ◌^◌, ◌<◌, ◌≤◌, Bool, true, false, cond, List, [], ◌∷◌, ◌++◌, map, length, take, get_or, refl, sym, ap, ◌∙◌, arith, append_assoc, ⊎_elim, inl, inr}
 use Rattle.std.specs.Prelude.{Option, None, Some, OnSome, IfNone, nat_eq, nat_lt, ◌&&◌, not}
 use Rattle.std.specs.Int.Digits.{digits_of, AllBelowBase, number_from_digits_after}
 use Rattle.std.specs.List.{flat_map, AllByRecursion}
@@ -171,3 +171,9 @@ OnSome-then r h f = IfSome_then r h (λ x p. f p)
 pub IfNone-then : {P Q : Type 0} (r : Option (Unit {0})) → IfNone r P → (P → Q) → IfNone r Q
 IfNone-then None h f = f h
 IfNone-then (Some x) h f = tt
+
+-- the octets of some subidentifiers and of the one behind them are no more than those of all
+pub length-front : (ns : List ℕ) (i : ℕ) → i < length ns → length (flat_map subidentifier (take i ns)) + length (subidentifier (get_or ns i 0)) ≤ length (flat_map subidentifier ns)
+length-front [] i h = absurd (omega arith)
+length-front (n ∷ ns) zero h = omega (arith, length-append (subidentifier n) (flat_map subidentifier ns))
+length-front (n ∷ ns) (suc i) h = omega (arith, length-front ns i (omega arith), length-append (subidentifier n) (flat_map subidentifier ns), length-append (subidentifier n) (flat_map subidentifier (take i ns)))

@@ -4,7 +4,7 @@ use Rattle.std.specs.Fmt.{decimal}
 use Rattle.std.specs.List.{All, AllByRecursion, slice_split, join_with_byte}
 use Rattle.std.proofs.lemmas.Bool.{ne_eqb}
 use Rattle.std.proofs.lemmas.Fmt.{decimal_is_IsNumeral, decimal_injective}
-use Rattle.std.proofs.lemmas.List.{get_or_default, get_or-map, length-map}
+use Rattle.std.proofs.lemmas.List.{append_assoc, get_or_default, get_or-map, length-map, map_push}
 use Rattle.std.proofs.lemmas.List.Elements.{All-from_recursion}
 use Rattle.std.proofs.lemmas.List.Splits.{slice_split_none, slice_split_at, length-slice_split, join_with_byte-slice_split}
 use Rattle.std.proofs.lemmas.Str.Parse.{digit_at}
@@ -73,3 +73,16 @@ parts_some text arcs e = omega (arith, ap length e, length-map arcs decimal, len
 
 pub one_arcs : (text xs ys : List ℕ) → map decimal xs ≡ slice_split is_stop text → AreSmall xs → 0 < length ys → AreSmall ys → text ≡ dotted ys → xs ≡ ys
 one_arcs text xs ys e p some q is = decimals_injective xs ys p q (e ∙ split_is text ys some q is)
+
+join_push : (octet : ℕ) (part : List ℕ) (parts : List (List ℕ)) (x : List ℕ) → join_with_byte octet (part ∷ (parts ++ x ∷ [])) ≡ join_with_byte octet (part ∷ parts) ++ (octet ∷ x)
+join_push octet part [] x = refl
+join_push octet part (p ∷ parts) x = ap (λ xs. part ++ (octet ∷ xs)) (join_push octet p parts x) ∙ sym (append_assoc part (octet ∷ join_with_byte octet (p ∷ parts)) (octet ∷ x))
+
+pub dotted_two : (a b : ℕ) → dotted (a ∷ b ∷ []) ≡ decimal a ++ (46 ∷ decimal b)
+unfolding dotted
+dotted_two a b = refl
+
+-- one more arc is a full stop and its digits
+pub dotted_push : (a : ℕ) (arcs : List ℕ) (b : ℕ) → dotted (a ∷ (arcs ++ b ∷ [])) ≡ dotted (a ∷ arcs) ++ (46 ∷ decimal b)
+unfolding dotted
+dotted_push a arcs b = ap (λ parts. join_with_byte 46 (decimal a ∷ parts)) (map_push decimal arcs b) ∙ join_push 46 (decimal a) (map decimal arcs) (decimal b)

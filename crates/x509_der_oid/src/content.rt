@@ -1,8 +1,9 @@
 //! Content octets as they are put together from arcs, with no allocation.
 
-ghost use Rattle.std.specs.Prelude.{◌≡◌, ℕ, ◌+◌, ◌<◌, ◌≤◌, List, [], ◌∷◌, ◌++◌, length, map, take, IfSome, IfNone, OnSome};
+ghost use Rattle.std.specs.Prelude.{◌≡◌, ℕ, ◌+◌, ◌<◌, ◌≤◌, List, [], ◌∷◌, ◌++◌, length, map, take, Some, IfSome, IfNone, OnSome};
+ghost use Rattle.std.specs.List.{flat_map};
 ghost use Rattle.std.specs.Int.Digits.{digits_of};
-ghost use Rattle.x509_der_oid.specs.Arcs.{subidentifier, high_octets};
+ghost use Rattle.x509_der_oid.specs.Arcs.{AreArcs, content_of, high_octets, subidentifier};
 
 use std::marker::Model;
 
@@ -22,7 +23,25 @@ impl Model for Content {
 }
 
 impl Content {
-    pub fn new() -> Content
+    /// The content octets of arcs, where they are within the limits.
+    pub fn of_arcs(arcs: &[u32]) -> Option<Content>
+        ensures found { IfSome result (λ content. AreArcs arcs.now × (content ≡ content_of arcs.now)) }
+        ensures only { AreArcs arcs.now → result ≡ Some (content_of arcs.now) }
+    {
+        let [first, second, others @ ..] = arcs else {
+            return None;
+        };
+        if *first > 2 || (*first < 2 && *second > 39) {
+            return None;
+        }
+        let mut content = Content::new();
+        content.push(second.checked_add(40 * *first)?)?;
+        content.push_all(others)?;
+        prove!(content.len <= 39);
+        Some(content)
+    }
+
+    fn new() -> Content
         ensures { result ≡ [] }
     {
         Content {
@@ -33,19 +52,29 @@ impl Content {
 
     /// The octets.
     pub fn as_slice(&self) -> &[u8]
-        ensures octets { result.now ≡ self.now }
-        ensures short { length self.now ≤ 39 }
+        ensures { result.now ≡ self.now }
     {
         &self.octets[..self.len]
     }
 
-    /// Puts a subidentifier at the end, or answers `None` where there is no room for it.
-    pub fn push(&mut self, n: u32) -> Option<()>
+    // Puts a subidentifier at the end, or answers `None` where there is no room for it.
+    fn push(&mut self, n: u32) -> Option<()>
         ensures some { OnSome result (self.new ≡ self.old ++ subidentifier n) }
         ensures none { IfNone result (39 < length self.old + length (subidentifier n)) }
     {
         self.push_high(n / 128)?;
         self.push_octet((n % 128) as u8)
+    }
+
+    // Puts subidentifiers at the end, or answers `None` where there is no room for them.
+    fn push_all(&mut self, numbers: &[u32]) -> Option<()>
+        ensures some { OnSome result (self.new ≡ self.old ++ flat_map subidentifier numbers.now) }
+        ensures none { IfNone result (39 < length self.old + length (flat_map subidentifier numbers.now)) }
+    {
+        for number in numbers {
+            self.push(*number)?;
+        }
+        Some(())
     }
 
     // The digits of n in base 128, each with the high bit set.

@@ -1,11 +1,14 @@
 //! The value of an OBJECT IDENTIFIER.
 
-ghost use Rattle.std.specs.Prelude.{◌≡◌, ◌≤◌, ◌<◌, ℕ, List, length, true, IfOk, IfErr, IsOkAnd, Ok, Err, if◌then◌else◌};
+ghost use Rattle.std.specs.Prelude.{◌≡◌, ◌*◌, ◌≤◌, ◌<◌, ℕ, List, length, true, IfOk, IfErr, Ok, Err, if◌then◌else◌};
 ghost use Rattle.x509_der_grammar.specs.Outcome.{Gives};
-ghost use Rattle.x509_der_grammar.specs.declared.error.ErrorKind.TheVariants.{Malformed};
-ghost use Rattle.x509_der_oid.specs.Arcs.{AreArcs, content_of};
-ghost use Rattle.x509_der_oid.specs.ObjectIdentifier.{are_subidentifiers, is_object_identifier};
+ghost use Rattle.x509_der_grammar.specs.declared.error.ErrorKind.TheVariants.{Failed, Malformed};
+ghost use Rattle.x509_der_oid.specs.Arcs.{AreArcs, content_of, dotted};
+ghost use Rattle.x509_der_oid.specs.ObjectIdentifier.{first_arc, is_object_identifier};
 
+use crate::content::Content;
+use crate::numbers::Numbers;
+use std::fmt;
 use std::marker::Model;
 use x509_der_grammar::{Error, ErrorKind};
 
@@ -62,6 +65,14 @@ fn is_content(octets: &[u8]) -> bool
     fresh
 }
 
+// The first arc that the first subidentifier stands for (X.690 8.19.4).
+fn first_arc(subidentifier: u32) -> u32
+    ensures value { result ≡ first_arc subidentifier }
+    ensures small { 40 * result ≤ subidentifier }
+{
+    (subidentifier / 40).min(2)
+}
+
 impl ObjectIdentifier {
     fn from_checked(content: &[u8]) -> ObjectIdentifier
         requires { is_object_identifier content.now ≡ true }
@@ -74,6 +85,27 @@ impl ObjectIdentifier {
             len: content.len() as u8,
             octets,
         }
+    }
+
+    /// The object identifier of a dotted text, as `2.5.4.6`.
+    ///
+    /// # Errors
+    ///
+    /// `Failed` where no object identifier has this text: it is not two or more arcs of decimal digits without leading
+    /// zeros, joined by full stops; the first arc is above 2, or the second above 39 under 0 or 1 (X.690 8.19.4); or the
+    /// content has a subidentifier above 4,294,967,295 or more than 39 octets.
+    pub fn new(text: &str) -> Result<ObjectIdentifier, Error>
+        ensures ok { IfOk result (λ v. (arcs : List ℕ) × AreArcs arcs × (text.now ≡ dotted arcs) × (v ≡ content_of arcs)) }
+        ensures value { (arcs : List ℕ) → AreArcs arcs → text.now ≡ dotted arcs → result ≡ Ok (content_of arcs) }
+        ensures err { IfErr result (λ e. e.kind ≡ Failed) }
+    {
+        let Some(arcs) = Numbers::arcs_in(text) else {
+            return Err(ErrorKind::Failed.into());
+        };
+        let Some(content) = Content::of_arcs(arcs.as_slice()) else {
+            return Err(ErrorKind::Failed.into());
+        };
+        Ok(ObjectIdentifier::from_checked(content.as_slice()))
     }
 
     /// The object identifier that has these content octets.
@@ -95,8 +127,30 @@ impl ObjectIdentifier {
 
     /// The content octets.
     pub fn as_bytes(&self) -> &[u8]
-        ensures { result.now ≡ self.now }
+        ensures octets { result.now ≡ self.now }
+        ensures content { is_object_identifier self.now ≡ true }
     {
         &self.octets[..self.len as usize]
+    }
+}
+
+impl fmt::Display for ObjectIdentifier {
+    ghost use Rattle.std.specs.Prelude.{Some};
+    ghost use Rattle.x509_der_oid.specs.Arcs.{dotted};
+    ghost use Rattle.x509_der_oid.specs.ObjectIdentifier.{arcs_of};
+
+    ghost output = { λ o. Some (dotted (arcs_of o)) };
+
+    fn fmt<W: fmt::Write>(&self, f: &mut fmt::Formatter<W>) -> fmt::Result {
+        let subidentifiers = Numbers::subidentifiers_in(self.as_bytes());
+        let numbers = subidentifiers.as_slice();
+        let root = first_arc(numbers[0]);
+        let second = numbers[0] - 40 * root;
+        write!(f, "{root}.{second}")?;
+        let others = &numbers[1..];
+        for arc in others {
+            write!(f, ".{arc}")?;
+        }
+        Ok(())
     }
 }

@@ -1,8 +1,8 @@
 //! Object identifiers: their content octets, their arcs and their dotted text.
 #![tactic(auto)]
 
-mod arcs;
 mod content;
 mod identifier;
+mod numbers;
 
 pub use identifier::ObjectIdentifier;

@@ -2,8 +2,8 @@ use Rattle.std.proofs.Common.{◌≡◌, ◌≤◌, ◌<◌, List, ℕ, length, 
 use Rattle.std.specs.Prelude.{IfSome, Option}
 use Rattle.std.specs.Fmt.{decimal}
 use Rattle.x509_der_oid.proofs.Numerals.{parsed_is_decimal, decimal_is_parsed, decimal_begins}
-use Rattle.x509_der_oid.proofs.arcs.arc_in.Goals as goal
-use Rattle.x509_der_oid.proofs.arcs.arc_in.Goals.{else-text-gt1-via-then-text-gt1+else-as_bytes-lt49, else-text-gt1-via-else-text-gt1}
+use Rattle.x509_der_oid.proofs.numbers.arc_in.Goals as goal
+use Rattle.x509_der_oid.proofs.numbers.arc_in.Goals.{else-text-gt1-via-then-text-gt1+else-as_bytes-lt49, else-text-gt1-via-else-text-gt1}
 
 pub returns-then-as_bytes-lt49-clause-only : goal.returns-then-as_bytes-lt49-clause-only
 returns-then-as_bytes-lt49-clause-only c = λ n small is.
