@@ -63,12 +63,14 @@ content_of-arcs_of c h =
     let made : c ≡ flat_map subidentifier ns = made_of_subidentifiers 0 true c refl p.1 in
     let some : 0 < length ns = subidentifiers_some c ns h made in
     let again : subidentifiers (arcs_from ns) ≡ ns = subidentifiers-arcs_from ns some in
-    let whole : content_of (arcs_from ns) ≡ c = ap (flat_map subidentifier) again ∙ sym made in
-    (record {
-      begin = BeginAsArcs-arcs_from ns some;
-      small = rw again (small_subidentifiers 0 true c p.1);
-      short = omega (arith, p.0, ap length whole);
-    }, whole)
+    let whole : content_of (arcs_from ns) ≡ c = ap (flat_map subidentifier) again ∙ sym made in (
+      record {
+        begin = BeginAsArcs-arcs_from ns some;
+        small = rw again (small_subidentifiers 0 true c p.1);
+        short = omega (arith, p.0, ap length whole);
+      },
+      whole,
+    )
 
 subidentifier_some : (n : ℕ) → 0 < length (subidentifier n)
 unfolding subidentifier
@@ -97,12 +99,14 @@ pub tested_arcs : (arcs content : List ℕ) → 2 ≤ length arcs → ((k : ℕ)
     → AreArcs arcs × (content ≡ content_of arcs)
 tested_arcs [] content two each first second small made short = absurd (omega arith)
 tested_arcs (a ∷ []) content two each first second small made short = absurd (omega arith)
-tested_arcs (a ∷ b ∷ arcs) content two each first second small made short =
-    (record {
-      begin = (first, second);
-      small = (omega arith, below_all arcs (λ k below. each (suc (suc k)) (omega arith)));
-      short = omega (arith, ap length made);
-    }, made)
+tested_arcs (a ∷ b ∷ arcs) content two each first second small made short = (
+  record {
+    begin = (first, second);
+    small = (omega arith, below_all arcs (λ k below. each (suc (suc k)) (omega arith)));
+    short = omega (arith, ap length made);
+  },
+  made,
+)
 
 -- the arcs that subidentifiers stand for, from the first and those behind it
 pub arcs_of_first : (c ns : List ℕ) → ns ≡ subidentifiers_in 0 c → 0 < length ns → arcs_of c ≡ first_arc (get_or ns 0 0) ∷ (get_or ns 0 0 - 40 * first_arc (get_or ns 0 0)) ∷ drop 1 ns

@@ -3,3 +3,4 @@ pub mod Subidentifiers
 pub mod ArcLaws
 pub mod TextLaws
 pub mod Numerals
+pub mod StandardFacts

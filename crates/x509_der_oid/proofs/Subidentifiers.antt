@@ -58,19 +58,19 @@ made_of_subidentifiers high fresh [] f h =
     rw none refl
 made_of_subidentifiers high fresh (b ∷ bs) f h = ⊎_elim
     (λ (low : b < 128).
-        let p = last_octet high b fresh bs low h in
-        let rest = made_of_subidentifiers 0 true bs refl p.1 in
-        rw (lt-ltb b 128 low) (sym (append_assoc (high_octets (digits_of 128 high)) (b ∷ []) bs) ∙ (λ i. sym (subidentifier_from high b low) i ++ rest i)))
+    let p = last_octet high b fresh bs low h in
+    let rest = made_of_subidentifiers 0 true bs refl p.1 in
+    rw (lt-ltb b 128 low) (sym (append_assoc (high_octets (digits_of 128 high)) (b ∷ []) bs) ∙ (λ i. sym (subidentifier_from high b low) i ++ rest i)))
     (λ (up : 128 ≤ b).
-        let p = high_octet high b fresh bs up h in
-        let lead : high ≡ 0 → b ≡ 128 → ⊥ = λ e. p.lead (f ∙ eq-eqb high 0 e) in
-        let some : 0 < 128 * high + (b - 128) = grind arith in
-        let more : false ≡ nat_eq (128 * high + (b - 128)) 0 = sym (ne_eqb _ 0 (λ e. omega arith)) in
-        let rest = made_of_subidentifiers (128 * high + (b - 128)) false bs more p.rest in
-        let octet : 128 + (b - 128) ≡ b = omega arith in
-        let this : high_octets (digits_of 128 (128 * high + (b - 128))) ≡ high_octets (digits_of 128 high) ++ b ∷ [] =
-            high_octets_push high (b - 128) (let o = p.octet in omega arith) some ∙ ap (λ x. high_octets (digits_of 128 high) ++ x ∷ []) octet in
-        rw (le-ltb b 128 up) (sym (append_assoc (high_octets (digits_of 128 high)) (b ∷ []) bs) ∙ ap (λ x. x ++ bs) (sym this) ∙ rest))
+    let p = high_octet high b fresh bs up h in
+    let lead : high ≡ 0 → b ≡ 128 → ⊥ = λ e. p.lead (f ∙ eq-eqb high 0 e) in
+    let some : 0 < 128 * high + (b - 128) = grind arith in
+    let more : false ≡ nat_eq (128 * high + (b - 128)) 0 = sym (ne_eqb _ 0 (λ e. omega arith)) in
+    let rest = made_of_subidentifiers (128 * high + (b - 128)) false bs more p.rest in
+    let octet : 128 + (b - 128) ≡ b = omega arith in
+    let this : high_octets (digits_of 128 (128 * high + (b - 128))) ≡ high_octets (digits_of 128 high) ++ b ∷ [] =
+    high_octets_push high (b - 128) (let o = p.octet in omega arith) some ∙ ap (λ x. high_octets (digits_of 128 high) ++ x ∷ []) octet in
+    rw (le-ltb b 128 up) (sym (append_assoc (high_octets (digits_of 128 high)) (b ∷ []) bs) ∙ ap (λ x. x ++ bs) (sym this) ∙ rest))
     (cases_lt b 128)
 
 -- none is above the limit
@@ -78,10 +78,10 @@ pub small_subidentifiers : (high : ℕ) (fresh : Bool) (bs : List ℕ) → are_s
 small_subidentifiers high fresh [] h = tt
 small_subidentifiers high fresh (b ∷ bs) h = ⊎_elim
     (λ (low : b < 128).
-        let p = last_octet high b fresh bs low h in
-        rw (lt-ltb b 128 low) (omega arith, small_subidentifiers 0 true bs p.1))
+    let p = last_octet high b fresh bs low h in
+    rw (lt-ltb b 128 low) (omega arith, small_subidentifiers 0 true bs p.1))
     (λ (up : 128 ≤ b).
-        rw (le-ltb b 128 up) (small_subidentifiers (128 * high + (b - 128)) false bs (high_octet high b fresh bs up h).rest))
+    rw (le-ltb b 128 up) (small_subidentifiers (128 * high + (b - 128)) false bs (high_octet high b fresh bs up h).rest))
     (cases_lt b 128)
 
 -- the digits of a number, read again

@@ -4,7 +4,7 @@ ghost use Rattle.std.specs.Prelude.{◌≡◌, ◌*◌, ◌≤◌, ◌<◌, ℕ,
 ghost use Rattle.x509_der_grammar.specs.Outcome.{Gives};
 ghost use Rattle.x509_der_grammar.specs.declared.error.ErrorKind.TheVariants.{Failed, Malformed};
 ghost use Rattle.x509_der_oid.specs.Arcs.{AreArcs, content_of, dotted};
-ghost use Rattle.x509_der_oid.specs.ObjectIdentifier.{first_arc, is_object_identifier};
+ghost use Rattle.x509_der_oid.specs.ObjectIdentifier.{arcs_of, first_arc, is_object_identifier};
 
 use crate::content::Content;
 use crate::numbers::Numbers;
@@ -98,6 +98,9 @@ impl ObjectIdentifier {
         ensures ok { IfOk result (λ v. (arcs : List ℕ) × AreArcs arcs × (text.now ≡ dotted arcs) × (v ≡ content_of arcs)) }
         ensures value { (arcs : List ℕ) → AreArcs arcs → text.now ≡ dotted arcs → result ≡ Ok (content_of arcs) }
         ensures err { IfErr result (λ e. e.kind ≡ Failed) }
+        // What `Display` writes is read as the value that it was written of, and is the text that was read.
+        ensures written { (content : List ℕ) → is_object_identifier content ≡ true → text.now ≡ dotted (arcs_of content) → result ≡ Ok content }
+        ensures writes { IfOk result (λ v. text.now ≡ dotted (arcs_of v)) }
     {
         let Some(arcs) = Numbers::arcs_in(text) else {
             return Err(ErrorKind::Failed.into());
@@ -115,8 +118,11 @@ impl ObjectIdentifier {
     /// `Malformed` where no arcs have this content: it is empty, ends within a subidentifier, has one that begins with
     /// the octet 0x80 or is above 4,294,967,295, or is longer than 39 octets (X.690 8.19.2).
     pub fn from_bytes(content: &[u8]) -> Result<ObjectIdentifier, Error>
-        ensures exact { Gives result (if is_object_identifier content.now then Ok content.now else Err Malformed) }
+        ensures ok { IfOk result (λ v. (arcs : List ℕ) × AreArcs arcs × (content.now ≡ content_of arcs) × (v ≡ content.now)) }
+        ensures value { (arcs : List ℕ) → AreArcs arcs → content.now ≡ content_of arcs → result ≡ Ok content.now }
         ensures err { IfErr result (λ e. e.kind ≡ Malformed) }
+        // The same by the test that a reader runs.
+        ensures exact { Gives result (if is_object_identifier content.now then Ok content.now else Err Malformed) }
     {
         if is_content(content) {
             Ok(ObjectIdentifier::from_checked(content))

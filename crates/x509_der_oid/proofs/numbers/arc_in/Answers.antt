@@ -14,7 +14,7 @@ returns-then-as_bytes-lt49-clause-only c = λ n small is.
 pub returns-clause-found : goal.returns-clause-found
 returns-clause-found c =
     let lead : 1 < length c.args.text.now → 49 ≤ get_or c.args.text.now 0 0 = λ long. elim c.else-text-gt1.branch [
-      else-text-gt1-via-then-text-gt1+else-as_bytes-lt49 w ↦ (let same = ap (λ (xs : List ℕ). get_or xs 0 0) w.as_bytes.ensures.value in omega arith)
+      | else-text-gt1-via-then-text-gt1+else-as_bytes-lt49 w ↦ (let same = ap (λ (xs : List ℕ). get_or xs 0 0) w.as_bytes.ensures.value in omega arith)
       | else-text-gt1-via-else-text-gt1 w ↦ absurd (omega arith)
     ] in
     let P : Option ℕ → Type 0 = λ o. IfSome o (λ n. c.args.text.now ≡ decimal n) in

@@ -18,7 +18,7 @@ loop-arc-preserved g c = λ plain.
     let second : ℕ = get_or c.as_slice-numbers.result.now 0 0 - 40 * c.first_arc-root.result in
     let root : ℕ = c.first_arc-root.result in
     let text : dotted (root ∷ (second ∷ take i others)) ++ (46 ∷ decimal (get_or others i 0)) ≡ dotted (root ∷ (second ∷ take (i + 1) others)) =
-        sym (dotted_push root (second ∷ take i others) (get_or others i 0)) ∙ ap (λ (xs : List ℕ). dotted (root ∷ second ∷ xs)) (sym (take_more others i 0 (omega arith))) in
+    sym (dotted_push root (second ∷ take i others) (get_or others i 0)) ∙ ap (λ (xs : List ℕ). dotted (root ∷ second ∷ xs)) (sym (take_more others i 0 (omega arith))) in
     has_written_of_eq _ _ _ _ _ text (has_written_append _ _ _ _ _ _ (c.loop-arc.invariant plain) (search rules))
 
 pub returns-clause-writes : goal.returns-clause-writes
@@ -28,8 +28,8 @@ returns-clause-writes g c = λ plain ok.
     let read : numbers ≡ subidentifiers_in 0 content = c.as_slice-numbers.ensures ∙ c.subidentifiers_in-subidentifiers.ensures.numbers ∙ ap (subidentifiers_in 0) c.as_bytes.ensures.octets in
     let some : 0 < length numbers = omega (arith, c.subidentifiers_in-subidentifiers.ensures.some, ap length c.as_slice-numbers.ensures) in
     let all : take c.loop-arc.arc-index (take (length numbers - 1) (drop 1 numbers)) ≡ drop 1 numbers =
-        take_all c.loop-arc.arc-index (take (length numbers - 1) (drop 1 numbers)) c.loop-arc-test.false ∙ take_rest numbers 1 in
+    take_all c.loop-arc.arc-index (take (length numbers - 1) (drop 1 numbers)) c.loop-arc-test.false ∙ take_rest numbers 1 in
     let root = c.first_arc-root.ensures.value in
     let text : dotted (c.first_arc-root.result ∷ (get_or numbers 0 0 - 40 * c.first_arc-root.result) ∷ take c.loop-arc.arc-index (take (length numbers - 1) (drop 1 numbers))) ≡ dotted (arcs_of content) =
-        (λ i. dotted (root i ∷ (get_or numbers 0 0 - 40 * root i) ∷ all i)) ∙ ap dotted (sym (arcs_of_first content numbers read some)) in
+    (λ i. dotted (root i ∷ (get_or numbers 0 0 - 40 * root i) ∷ all i)) ∙ ap dotted (sym (arcs_of_first content numbers read some)) in
     has_written_of_eq _ _ _ _ _ text (c.loop-arc.invariant plain)
