@@ -1,10 +1,9 @@
 -- Arcs and content octets.
-use Rattle.std.proofs.Common.{◌≡◌, ℕ, zero, suc, ◌+◌, ◌-◌, ◌*◌, ◌/◌, ◌%◌, ◌^◌, ◌<◌, ◌≤◌, Bool, true, false, List, [], ◌∷◌, ◌++◌, drop, length, get_or, refl, sym, ap, ◌∙◌, arith, length-append, ⊎_elim}
-use Rattle.std.specs.Prelude.{nat_le, ◌&&◌, min}
-use Rattle.std.specs.List.{flat_map, AllByRecursion}
+use Rattle.std.proofs.Common.{◌≡◌, ℕ, suc, ◌+◌, ◌-◌, ◌*◌, ◌^◌, ◌<◌, ◌≤◌, true, List, [], ◌∷◌, ◌++◌, drop, length, get_or, refl, sym, ap, ◌∙◌, arith, length-append, ⊎_elim}
+use Rattle.std.specs.Prelude.{nat_le}
+use Rattle.std.specs.List.{flat_map}
 use Rattle.std.proofs.lemmas.Bool.{and_from, le-leb, cases_lt}
-use Rattle.std.proofs.lemmas.Bool.Decides.{nat_tests}
-use Rattle.x509_der_oid.specs.Arcs.{AreSmall, subidentifier, first_subidentifier, subidentifiers, content_of, BeginAsArcs, AreArcs, subidentifier_limit, content_limit}
+use Rattle.x509_der_oid.specs.Arcs.{AreSmall, subidentifier, subidentifiers, content_of, BeginAsArcs, AreArcs}
 use Rattle.x509_der_oid.specs.ObjectIdentifier.{are_subidentifiers, subidentifiers_in, is_object_identifier, first_arc, arcs_from, arcs_of}
 use Rattle.x509_der_oid.proofs.Stored.{test_parts}
 use Rattle.x509_der_oid.proofs.Subidentifiers.{made_of_subidentifiers, small_subidentifiers, in_subidentifiers, subidentifiers_pass}

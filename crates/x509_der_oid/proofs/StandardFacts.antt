@@ -1,5 +1,5 @@
 -- Object identifiers of the standards, computed from the definitions.
-use Rattle.std.specs.Prelude.{◌≡◌, List, [], ◌∷◌, refl, codes}
+use Rattle.std.specs.Prelude.{◌≡◌, [], ◌∷◌, refl, codes}
 use Rattle.std.specs.Fmt.{digits}
 use Rattle.x509_der_oid.specs.Arcs.{subidentifier, content_of, dotted}
 use Rattle.x509_der_oid.specs.ObjectIdentifier.{arcs_of}

@@ -1,6 +1,6 @@
 -- Content octets with zeros behind them.
-use Rattle.std.proofs.Common.{◌≡◌, ℕ, ◌-◌, ◌≤◌, Bool, true, List, [], ◌∷◌, ◌++◌, take, drop, length, arith, length-append, refl, ap, ◌∙◌}
-use Rattle.std.specs.Prelude.{replicate, nat_le, ◌&&◌}
+use Rattle.std.proofs.Common.{◌≡◌, ℕ, ◌-◌, ◌≤◌, true, List, [], ◌∷◌, ◌++◌, drop, length, arith, length-append, refl, ap, ◌∙◌}
+use Rattle.std.specs.Prelude.{replicate, nat_le}
 use Rattle.std.proofs.lemmas.Bool.{and_parts, leb-true}
 use Rattle.std.proofs.lemmas.List.{drop-replicate, length-replicate, take_at, drop_at}
 use Rattle.x509_der_oid.specs.ObjectIdentifier.{is_object_identifier, are_subidentifiers, IsStored}

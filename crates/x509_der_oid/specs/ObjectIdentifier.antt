@@ -1,22 +1,26 @@
 -- Content octets as a reader goes over them: which are an object identifier's, and its arcs. The laws of the crate tie
 -- both to `content_of`.
-use Rattle.std.specs.Prelude.{◌≡◌, ℕ, ◌+◌, ◌-◌, ◌*◌, ◌/◌, ◌≤◌, Bool, true, false, ◌&&◌, not, nat_eq, nat_lt, nat_le, min, List, [], ◌∷◌, ◌++◌, take, drop, replicate, length, if◌then◌else◌, refl}
-use Rattle.std.proofs.Common.{arith, length-take, length-append, ap, ◌∙◌}
-use Rattle.std.proofs.lemmas.Bool.{and_parts, leb-true}
-use Rattle.std.proofs.lemmas.List.{take-append-drop, drop-replicate, length-replicate, take_at, drop_at}
+use Rattle.std.specs.Prelude.{◌≡◌, ℕ, ◌+◌, ◌-◌, ◌*◌, ◌/◌, ◌≤◌, Bool, true, false, ◌&&◌, not, nat_eq, nat_lt, nat_le, min, List, [], ◌∷◌, ◌++◌, take, drop, replicate, length, if◌then◌else◌}
+use Rattle.std.proofs.Common.{arith, length-take}
+use Rattle.std.proofs.lemmas.List.{take-append-drop}
+use Rattle.x509_der_oid.specs.Arcs.{content_limit}
 
--- Whether the octets are whole subidentifiers, where high is what the octets of the one at hand have said so far, and
+-- 128 times as much is past the largest subidentifier
+abbrev pub high_end : ℕ
+high_end = 33554432
+
+-- Whether the octets are whole subidentifiers within the limit, where high is what the octets of the one at hand have said so far, and
 -- fresh is whether one begins here.
 abbrev pub are_subidentifiers : ℕ → Bool → List ℕ → Bool
 are_subidentifiers high fresh [] = fresh
 are_subidentifiers high fresh (octet ∷ octets) =
-    if nat_lt octet 128 then nat_lt high 33554432 && are_subidentifiers 0 true octets
-    else (not (fresh && nat_eq octet 128) && (nat_lt high 33554432 && (nat_lt octet 256 && are_subidentifiers (128 * high + (octet - 128)) false octets)))
+    if nat_lt octet 128 then nat_lt high high_end && are_subidentifiers 0 true octets
+    else (not (fresh && nat_eq octet 128) && (nat_lt high high_end && (nat_lt octet 256 && are_subidentifiers (128 * high + (octet - 128)) false octets)))
 
--- whether the octets are the content of an object identifier: at least one, at most 39, and whole subidentifiers
+-- whether the octets are the content of an object identifier: at least one, at most `content_limit`, and whole subidentifiers
 abbrev pub is_object_identifier : List ℕ → Bool
 is_object_identifier [] = false
-is_object_identifier (octet ∷ octets) = nat_le (length (octet ∷ octets)) 39 && are_subidentifiers 0 true (octet ∷ octets)
+is_object_identifier (octet ∷ octets) = nat_le (length (octet ∷ octets)) content_limit && are_subidentifiers 0 true (octet ∷ octets)
 
 -- the subidentifiers in octets, where high is what the octets before have said of the first
 abbrev pub subidentifiers_in : ℕ → List ℕ → List ℕ

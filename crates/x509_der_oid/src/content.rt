@@ -3,15 +3,18 @@
 ghost use Rattle.std.specs.Prelude.{◌≡◌, ℕ, ◌+◌, ◌<◌, ◌≤◌, List, [], ◌∷◌, ◌++◌, length, map, take, Some, IfSome, IfNone, OnSome};
 ghost use Rattle.std.specs.List.{flat_map};
 ghost use Rattle.std.specs.Int.Digits.{digits_of};
-ghost use Rattle.x509_der_oid.specs.Arcs.{AreArcs, content_of, high_octets, subidentifier};
+ghost use Rattle.x509_der_oid.specs.Arcs.{AreArcs, content_limit, content_of, high_octets, subidentifier};
 
 use std::marker::Model;
 
-/// Up to 39 octets.
+/// The most content octets that an object identifier has here.
+pub const MAX_OCTETS: usize = 39;
+
+/// Up to [`MAX_OCTETS`] octets.
 #[derive(Drop)]
 pub struct Content {
     len: usize,
-    octets: [u8; 39],
+    octets: [u8; MAX_OCTETS],
 }
 
 impl Model for Content {
@@ -19,7 +22,7 @@ impl Model for Content {
 
     ghost view = { λ c. take c.len c.octets };
 
-    ghost invariant = { λ c. c.len ≤ 39 };
+    ghost invariant = { λ c. c.len ≤ content_limit };
 }
 
 impl Content {
@@ -37,7 +40,8 @@ impl Content {
         let mut content = Content::new();
         content.push(second.checked_add(40 * *first)?)?;
         content.push_all(others)?;
-        prove!(content.len <= 39);
+        // Of every `Content`, and what the clauses want of this one.
+        prove!(content.len <= MAX_OCTETS);
         Some(content)
     }
 
@@ -46,7 +50,7 @@ impl Content {
     {
         Content {
             len: 0,
-            octets: [0; 39],
+            octets: [0; MAX_OCTETS],
         }
     }
 
@@ -60,7 +64,7 @@ impl Content {
     // Puts a subidentifier at the end, or answers `None` where there is no room for it.
     fn push(&mut self, n: u32) -> Option<()>
         ensures some { OnSome result (self.new ≡ self.old ++ subidentifier n) }
-        ensures none { IfNone result (39 < length self.old + length (subidentifier n)) }
+        ensures none { IfNone result (content_limit < length self.old + length (subidentifier n)) }
     {
         self.push_high(n / 128)?;
         self.push_octet((n % 128) as u8)
@@ -69,7 +73,7 @@ impl Content {
     // Puts subidentifiers at the end, or answers `None` where there is no room for them.
     fn push_all(&mut self, numbers: &[u32]) -> Option<()>
         ensures some { OnSome result (self.new ≡ self.old ++ flat_map subidentifier numbers.now) }
-        ensures none { IfNone result (39 < length self.old + length (flat_map subidentifier numbers.now)) }
+        ensures none { IfNone result (content_limit < length self.old + length (flat_map subidentifier numbers.now)) }
     {
         for number in numbers {
             self.push(*number)?;
@@ -80,7 +84,7 @@ impl Content {
     // The digits of n in base 128, each with the high bit set.
     fn push_high(&mut self, n: u32) -> Option<()>
         ensures some { OnSome result (self.new ≡ self.old ++ high_octets (digits_of 128 n)) }
-        ensures none { IfNone result (39 < length self.old + length (digits_of 128 n)) }
+        ensures none { IfNone result (content_limit < length self.old + length (digits_of 128 n)) }
     {
         if n == 0 {
             return Some(());
@@ -91,9 +95,9 @@ impl Content {
 
     fn push_octet(&mut self, octet: u8) -> Option<()>
         ensures some { OnSome result (self.new ≡ self.old ++ octet ∷ []) }
-        ensures none { IfNone result (length self.old ≡ 39) }
+        ensures none { IfNone result (length self.old ≡ content_limit) }
     {
-        if self.len == 39 {
+        if self.len == MAX_OCTETS {
             return None;
         }
         self.octets[self.len] = octet;

@@ -6,7 +6,7 @@ ghost use Rattle.x509_der_grammar.specs.declared.error.ErrorKind.TheVariants.{Fa
 ghost use Rattle.x509_der_oid.specs.Arcs.{AreArcs, content_of, dotted};
 ghost use Rattle.x509_der_oid.specs.ObjectIdentifier.{arcs_of, first_arc, is_object_identifier};
 
-use crate::content::Content;
+use crate::content::{Content, MAX_OCTETS};
 use crate::numbers::Numbers;
 use std::fmt;
 use std::marker::Model;
@@ -40,18 +40,21 @@ impl Model for ObjectIdentifier {
     ghost inverse_ok = { λ a h i. record { len = front_length a.len a.octets h i; octets = padded a.len a.octets h i } };
 }
 
-// Whether the octets are whole subidentifiers, none above 4,294,967,295.
+// 128 times as much is past the largest subidentifier, 4,294,967,295.
+const HIGH_END: u32 = 33_554_432;
+
+// Whether the octets are the content of an object identifier.
 fn is_content(octets: &[u8]) -> bool
     ensures { result ≡ is_object_identifier octets.now }
 {
-    if octets.is_empty() || octets.len() > 39 {
+    if octets.is_empty() || octets.len() > MAX_OCTETS {
         return false;
     }
     let mut high: u32 = 0;
     let mut fresh = true;
     for octet in octets {
         let octet = *octet;
-        if high >= 33_554_432 || (fresh && octet == 128) {
+        if high >= HIGH_END || (fresh && octet == 128) {
             return false;
         }
         if octet < 128 {
@@ -78,7 +81,7 @@ impl ObjectIdentifier {
         requires { is_object_identifier content.now ≡ true }
         ensures { result ≡ content.now }
     {
-        let mut octets = [0; 39];
+        let mut octets = [0; MAX_OCTETS];
         let (front, _) = octets.split_at_mut(content.len());
         front.copy_from_slice(content);
         ObjectIdentifier {

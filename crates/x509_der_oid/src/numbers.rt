@@ -7,11 +7,14 @@ ghost use Rattle.x509_der_oid.specs.ObjectIdentifier.{is_object_identifier, subi
 
 use std::marker::Model;
 
-/// Up to 40 numbers in their order: as many as the arcs that 39 content octets can say.
+// As many arcs as the most content octets can say: one for each octet, and one more for the first.
+const MAX_NUMBERS: usize = 40;
+
+/// Up to 40 numbers in their order.
 #[derive(Drop)]
 pub struct Numbers {
     len: usize,
-    numbers: [u32; 40],
+    numbers: [u32; MAX_NUMBERS],
 }
 
 impl Model for Numbers {
@@ -28,7 +31,7 @@ impl Numbers {
     {
         Numbers {
             len: 0,
-            numbers: [0; 40],
+            numbers: [0; MAX_NUMBERS],
         }
     }
 
@@ -36,7 +39,7 @@ impl Numbers {
     fn is_full(&self) -> bool
         ensures { IsTrue result ↔ (length self.now ≡ 40) }
     {
-        self.len == 40
+        self.len == MAX_NUMBERS
     }
 
     fn push(&mut self, number: u32)

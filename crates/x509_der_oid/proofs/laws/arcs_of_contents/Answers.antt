@@ -1,5 +1,3 @@
-use Rattle.std.proofs.Common.{sym, ap, ◌∙◌}
-use Rattle.x509_der_oid.specs.ObjectIdentifier.{arcs_of}
 use Rattle.x509_der_oid.proofs.laws.arcs_of_contents.Goals as goal
 use Rattle.x509_der_oid.proofs.ArcLaws.{arcs_of-content_of, content_of-arcs_of}
 

@@ -1,5 +1,3 @@
-use Rattle.std.proofs.Common.{sym, ap, ◌∙◌}
-use Rattle.x509_der_oid.specs.ObjectIdentifier.{arcs_of}
 use Rattle.x509_der_oid.proofs.laws.one_text.Goals as goal
 use Rattle.x509_der_oid.proofs.ArcLaws.{some_arcs, small_arcs}
 use Rattle.x509_der_oid.proofs.TextLaws.{dotted_injective}

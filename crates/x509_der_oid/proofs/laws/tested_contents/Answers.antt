@@ -1,4 +1,4 @@
-use Rattle.std.proofs.Common.{sym, ap, ◌∙◌}
+use Rattle.std.proofs.Common.{sym}
 use Rattle.x509_der_oid.specs.ObjectIdentifier.{arcs_of}
 use Rattle.x509_der_oid.proofs.laws.tested_contents.Goals as goal
 use Rattle.x509_der_oid.proofs.ArcLaws.{content_of-arcs_of, content_of-passes}

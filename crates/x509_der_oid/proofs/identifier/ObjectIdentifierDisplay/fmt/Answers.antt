@@ -1,9 +1,9 @@
-use Rattle.std.proofs.Common.{◌≡◌, ◌*◌, ◌-◌, ◌+◌, ◌<◌, ◌≤◌, ℕ, List, ◌∷◌, ◌++◌, length, take, drop, get_or, sym, ap, ◌∙◌, arith, rules, take_all}
+use Rattle.std.proofs.Common.{◌≡◌, ◌*◌, ◌-◌, ◌+◌, ◌<◌, ℕ, List, ◌∷◌, ◌++◌, length, take, drop, get_or, sym, ap, ◌∙◌, arith, rules, take_all}
 use Rattle.std.proofs.Output.{has_written_append, has_written_of_eq}
 use Rattle.std.specs.Fmt.{decimal}
 use Rattle.std.proofs.lemmas.List.{take_more, take_rest}
 use Rattle.x509_der_oid.specs.Arcs.{dotted}
-use Rattle.x509_der_oid.specs.ObjectIdentifier.{first_arc, arcs_of, subidentifiers_in}
+use Rattle.x509_der_oid.specs.ObjectIdentifier.{arcs_of, subidentifiers_in}
 use Rattle.x509_der_oid.proofs.ArcLaws.{arcs_of_first}
 use Rattle.x509_der_oid.proofs.TextLaws.{dotted_two, dotted_push}
 use Rattle.x509_der_oid.proofs.identifier.ObjectIdentifierDisplay.fmt.Goals as goal
