@@ -9,6 +9,7 @@ ghost use Rattle.x509_der_oid.specs.ObjectIdentifier.{arcs_of, first_arc, is_obj
 use crate::content::{Content, MAX_OCTETS};
 use crate::numbers::Numbers;
 use std::fmt;
+use std::hash::{Hash, Hasher};
 use std::marker::Model;
 use x509_der_grammar::{Error, ErrorKind};
 
@@ -16,7 +17,7 @@ use x509_der_grammar::{Error, ErrorKind};
 ///
 /// A literal is checked where it is used: the first `len` octets are the content of an object identifier, and zeros
 /// follow them.
-#[derive(Clone, Copy, Debug, PartialEq, Eq)]
+#[derive(Clone, Copy, Debug)]
 pub struct ObjectIdentifier {
     /// How many content octets there are, at most 39.
     pub len: u8,
@@ -140,6 +141,40 @@ impl ObjectIdentifier {
         ensures content { is_object_identifier self.now ≡ true }
     {
         &self.octets[..self.len as usize]
+    }
+}
+
+impl PartialEq for ObjectIdentifier {
+    ghost use Rattle.std.specs.Prelude.{nat_eq};
+    ghost use Rattle.std.specs.Cmp.{partial_equiv_from_equiv};
+    ghost use Rattle.std.specs.Cmp.Lexicographic.{pointwise, nat_list_eq_equiv};
+
+    ghost eq = { pointwise nat_eq };
+
+    ghost laws = { partial_equiv_from_equiv nat_list_eq_equiv };
+
+    fn eq(&self, other: &ObjectIdentifier) -> bool {
+        self.as_bytes() == other.as_bytes()
+    }
+}
+
+impl Eq for ObjectIdentifier {
+    ghost use Rattle.std.specs.Cmp.Lexicographic.{nat_list_eq_equiv};
+
+    ghost laws = { nat_list_eq_equiv };
+}
+
+impl Hash for ObjectIdentifier {
+    ghost use Rattle.std.specs.Hash as fed;
+    ghost use Rattle.std.specs.Cmp.Rules.{hashing};
+    ghost use Rattle.std.proofs.Common.{rules};
+
+    ghost hash_input = { fed.slice fed.u8 };
+
+    ghost respects_eq = { Prim.search (hashing, rules) };
+
+    fn hash<H: Hasher>(&self, state: &mut H) {
+        self.as_bytes().hash(state);
     }
 }
 
