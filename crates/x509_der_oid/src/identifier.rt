@@ -166,12 +166,11 @@ impl Eq for ObjectIdentifier {
 
 impl Hash for ObjectIdentifier {
     ghost use Rattle.std.specs.Hash as fed;
-    ghost use Rattle.std.specs.Cmp.Rules.{hashing};
-    ghost use Rattle.std.proofs.Common.{rules};
+    ghost use Rattle.std.specs.Cmp.Lexicographic.{bytes_decides};
 
     ghost hash_input = { fed.slice fed.u8 };
 
-    ghost respects_eq = { Prim.search (hashing, rules) };
+    ghost respects_eq = { (fed.same_Alike (fed.slice fed.u8) bytes_decides).fed };
 
     fn hash<H: Hasher>(&self, state: &mut H) {
         self.as_bytes().hash(state);

@@ -1,4 +1,5 @@
 use super::*;
+use std::hash::{DefaultHasher, Hash, Hasher};
 use std::test::*;
 use x509_der_grammar::ErrorKind;
 
@@ -96,5 +97,16 @@ fn constants(rt: HostRuntime) -> Result<(), Fail> {
     let key_usage = <KeyUsage as AssociatedOid>::OID;
     assert_eq!(rt; key_usage, ObjectIdentifier::new("2.5.29.15")?);
     assert_eq!(rt; key_usage.to_string(rt.alloc())?.as_str(), "2.5.29.15");
+    assert_eq!(rt;
+        hash_of(key_usage),
+        hash_of(ObjectIdentifier::new("2.5.29.15")?)
+    );
+    assert_ne!(rt; key_usage, ObjectIdentifier::new("2.5.29.16")?);
     Ok(())
+}
+
+fn hash_of(identifier: ObjectIdentifier) -> u64 {
+    let mut hasher = DefaultHasher::new();
+    identifier.hash(&mut hasher);
+    hasher.finish()
 }
