@@ -1,0 +1,56 @@
+//! OBJECT IDENTIFIER, read and written (X.690 8.19).
+
+use crate::identifier::ObjectIdentifier;
+use std::alloc::Global;
+use x509_der_grammar::{Decode, Encode, Error, FixedTag, Grammar, Room, Tag, TryClone, expect_tag};
+
+impl Grammar for ObjectIdentifier {
+    ghost use Rattle.x509_der_oid.specs.ObjectIdentifierForm as grammar;
+
+    ghost form = { grammar.object_identifier };
+
+    fn identifier(&self) -> Tag {
+        Tag::ObjectIdentifier
+    }
+
+    fn is_start(octet: u8) -> bool {
+        octet == 0x06
+    }
+
+    ghost lawful = { grammar.object_identifier_lawful };
+}
+
+#[tactic(auto, unfolding(crate::specs::ObjectIdentifierForm::object_identifier_reading))]
+impl Decode for ObjectIdentifier {
+    fn read(_alloc: Global, tag: u8, content: &[u8]) -> Result<ObjectIdentifier, Error> {
+        expect_tag(tag, Tag::ObjectIdentifier)?;
+        ObjectIdentifier::from_bytes(content)
+    }
+}
+
+impl Encode for ObjectIdentifier {
+    ghost use Rattle.std.specs.Prelude.{refl};
+
+    fn put_content<R: Room>(&self, room: &mut R) -> Result<(), Error> {
+        room.put(self.as_bytes())
+    }
+
+    ghost same_tag = { λ value. refl };
+}
+
+impl FixedTag for ObjectIdentifier {
+    ghost use Rattle.std.specs.Prelude.{refl};
+    ghost use Rattle.x509_der_grammar.specs.declared.tag.Tag.TheVariants.{ObjectIdentifier as object_identifier_tag};
+
+    ghost TAG = { object_identifier_tag };
+
+    const TAG: Tag = Tag::ObjectIdentifier;
+
+    ghost fixed = { λ value good. refl };
+}
+
+impl TryClone for ObjectIdentifier {
+    fn try_clone(&self, _alloc: Global) -> Result<ObjectIdentifier, Error> {
+        Ok(*self)
+    }
+}

@@ -1,0 +1,14 @@
+//! Object identifiers: their content octets, their arcs and their dotted text.
+#![tactic(auto)]
+
+mod associated;
+mod codec;
+mod content;
+mod identifier;
+pub mod laws;
+mod numbers;
+#[cfg(test)]
+mod tests;
+
+pub use associated::AssociatedOid;
+pub use identifier::ObjectIdentifier;
