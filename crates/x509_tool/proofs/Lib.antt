@@ -1,0 +1,3 @@
+pub mod Transfers
+pub mod Inputs
+pub mod Writes

@@ -1,5 +1,8 @@
 -- What comes from a reader, and how it ends.
-use Rattle.std.specs.Prelude.{◌≡◌, ◌<◌, ◌≤◌, ℕ, List, [], length, Option, Some, None}
+use Rattle.std.specs.Prelude.{◌≡◌, ◌<◌, ◌≤◌, ℕ, List, [], length, Option, Some, None, Result, Ok, Err}
+use Rattle.x509_der_grammar.specs.declared.error.ErrorKind.TheVariants.{Memory, Overlength, Malformed, Failed, SetDuplicate, Value}
+use Rattle.x509_tool.specs.declared.refusal.Refusal.{Refusal}
+use Rattle.x509_tool.specs.declared.refusal.Refusal.TheVariants.{Read, Because}
 use Rattle.x509_tool.specs.Transfer.{Moves}
 
 -- the most bytes that are read as an input
@@ -35,3 +38,14 @@ IsRead {S} step s Unreadable t =
 IsRead step s Unkept t =
     (bytes : List ℕ) × (reads : ℕ)
     × Moves step s reads bytes t × (reads ≤ read_limit)
+
+-- what reading answers, seen by view, tells which input came
+abbrev pub EndsReading : {X S : Type 0} → (X → List ℕ) → (S → Option (List ℕ) → S → Type 0) → S → Result X Refusal → S → Type 0
+EndsReading view step s (Ok bytes) t = IsRead step s (Whole (view bytes)) t
+EndsReading view step s (Err Read) t = IsRead step s Unreadable t
+EndsReading view step s (Err (Because Memory)) t = IsRead step s Unkept t
+EndsReading view step s (Err (Because Overlength)) t = IsRead step s TooLong t
+EndsReading view step s (Err (Because Malformed)) t = ⊥
+EndsReading view step s (Err (Because Failed)) t = ⊥
+EndsReading view step s (Err (Because SetDuplicate)) t = ⊥
+EndsReading view step s (Err (Because Value)) t = ⊥

@@ -2,6 +2,9 @@
 #![tactic(auto)]
 
 mod command;
+mod input;
+mod output;
+mod refusal;
 
 fn main(rt: HostRuntime) {
     let _ = rt.alloc();
