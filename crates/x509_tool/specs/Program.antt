@@ -20,10 +20,13 @@ abbrev pub Says : {S : Type 0} → (S → Option (List ℕ) → S → Type 0) �
 Says takes old text status new ended =
     (IsWritten takes old (as_line text) new × (ended ≡ status)) ⊎ (IsCutOff takes old (as_line text) new × (ended ≡ 1))
 
--- a run that obeys a command: it reads an input and says the answer to it
-pub record Obeys {R W : Type 0} (reencodes : Reencoding) (command : Command) (gives : R → Option (List ℕ) → R → Type 0) (from to : R) (takes : W → Option (List ℕ) → W → Type 0) (old new : W) (ended : ℕ) : Type 0 where
-  pub input : Input
-  pub answer : Answer
-  pub read : IsRead gives from input to
-  pub answered : IsAnswer reencodes command input answer
-  pub said : Says takes old (text_of answer) (status_of answer) new ended
+-- reads give an input, and this is an answer to a command with it
+abbrev pub Answers : {R : Type 0} → Reencoding → Command → (R → Option (List ℕ) → R → Type 0) → R → R → Answer → Type 0
+Answers reencodes command gives from to answer =
+    (input : Input) × IsRead gives from input to × IsAnswer reencodes command input answer
+
+-- a run that obeys a command reads an input and says an answer to it
+abbrev pub Obeys : {R W : Type 0} → Reencoding → Command → (R → Option (List ℕ) → R → Type 0) → R → R → (W → Option (List ℕ) → W → Type 0) → W → W → ℕ → Type 0
+Obeys reencodes command gives from to takes old new ended =
+    (answer : Answer) × Answers reencodes command gives from to answer
+    × Says takes old (text_of answer) (status_of answer) new ended
