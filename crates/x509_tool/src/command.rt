@@ -72,9 +72,6 @@ impl Command {
         if command != "reencode" {
             return None;
         }
-        Some(Command::Reencode(
-            Kind::from_word(kind)?,
-            ProfileName::from_word(profile)?,
-        ))
+        Some(Command::Reencode(Kind::from_word(kind)?, ProfileName::from_word(profile)?))
     }
 }

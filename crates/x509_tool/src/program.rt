@@ -5,7 +5,7 @@ ghost use Rattle.hex.specs.Hex.{decode_of};
 ghost use Rattle.x509_der_grammar.specs.declared.error.ErrorKind.TheVariants.{Memory, Failed};
 ghost use Rattle.x509_tool.specs.declared.refusal.Refusal.TheVariants.{Because};
 ghost use Rattle.x509_tool.specs.Command.{command_of};
-ghost use Rattle.x509_tool.specs.Answer.{IsLineAnswer, as_line, line_of, usage};
+ghost use Rattle.x509_tool.specs.Answer.{IsLineAnswer, as_line, line_of, text_of, usage};
 ghost use Rattle.x509_tool.specs.Program.{Says, Answers, Obeys};
 
 use crate::command::Command;
@@ -80,6 +80,13 @@ fn read_and_answer<C: Codec, R: Source>(
 {
     let input = read_input(alloc, reader)?;
     answer::<C>(alloc, command, line_of(input.as_slice()))
+}
+
+/// The answer where no memory was left for the words.
+pub fn refuse_memory<W: Sink>(writer: &mut W) -> u8
+    ensures { Says W.takes writer.old (text_of (Err (Because Memory))) 1 writer.new result }
+{
+    say(writer, Refusal::Because(ErrorKind::Memory).line(), 1)
 }
 
 /// What [`run`] does, with the decoders and encoders of `C`.
