@@ -1,0 +1,4 @@
+pub mod Transfers
+pub mod Inputs
+pub mod Writes
+pub mod AnswerLemmas

@@ -1,0 +1,77 @@
+//! What the words after the program's name ask for.
+
+ghost use Rattle.std.specs.Prelude.{◌≡◌, map, string_bytes, ◌∷◌, []};
+ghost use Rattle.x509_tool.specs.Command.{kind_of, profile_of, command_of};
+
+/// A type whose encodings the program reads.
+#[derive(Clone, Copy, Debug, PartialEq, Eq)]
+pub enum Kind {
+    /// An object identifier.
+    Oid,
+}
+
+/// The profile under which bytes are read and written.
+#[derive(Clone, Copy, Debug, PartialEq, Eq)]
+pub enum ProfileName {
+    /// The rules of RFC 5280.
+    Rfc5280,
+
+    /// No rules beyond the grammar.
+    Raw,
+}
+
+/// What the program is asked to do.
+#[derive(Clone, Copy, Debug, PartialEq, Eq)]
+pub enum Command {
+    /// Decode the bytes of the line, and encode the value again.
+    Reencode(Kind, ProfileName),
+}
+
+impl Kind {
+    /// The type that a word names.
+    pub fn from_word(word: &str) -> Option<Kind>
+        ensures { result ≡ kind_of word.now }
+    {
+        match word {
+            "oid" => Some(Kind::Oid),
+            _ => None,
+        }
+    }
+}
+
+impl ProfileName {
+    /// The profile that a word names.
+    pub fn from_word(word: &str) -> Option<ProfileName>
+        ensures { result ≡ profile_of word.now }
+    {
+        match word {
+            "rfc5280" => Some(ProfileName::Rfc5280),
+            "raw" => Some(ProfileName::Raw),
+            _ => None,
+        }
+    }
+}
+
+impl Command {
+    /// The command that the words make, if they make one.
+    pub fn from_words(words: &[String]) -> Option<Command>
+        ensures { result ≡ command_of (map string_bytes words.now) }
+    {
+        match words {
+            [command, kind] => Command::reencode(command.as_str(), kind.as_str(), "rfc5280"),
+            [command, kind, profile] => {
+                Command::reencode(command.as_str(), kind.as_str(), profile.as_str())
+            }
+            _ => None,
+        }
+    }
+
+    fn reencode(command: &str, kind: &str, profile: &str) -> Option<Command>
+        ensures { result ≡ command_of (command.now ∷ kind.now ∷ profile.now ∷ []) }
+    {
+        if command != "reencode" {
+            return None;
+        }
+        Some(Command::Reencode(Kind::from_word(kind)?, ProfileName::from_word(profile)?))
+    }
+}
