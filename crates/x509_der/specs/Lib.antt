@@ -1,0 +1,14 @@
+pub use Rattle.x509_der_grammar.specs.Outcome
+pub use Rattle.x509_der_grammar.specs.Element
+pub use Rattle.x509_der_grammar.specs.Tag
+pub use Rattle.x509_der_grammar.specs.Form
+pub use Rattle.x509_der_grammar.specs.Writing
+pub use Rattle.x509_der_grammar.specs.Boolean
+pub use Rattle.x509_der_grammar.specs.Natural
+pub use Rattle.x509_der_frames.specs.Frames
+pub use Rattle.x509_der_frames.specs.Any
+pub use Rattle.x509_der_frames.specs.List
+pub use Rattle.x509_der_frames.specs.Choice
+pub use Rattle.x509_der_oid.specs.Arcs
+pub use Rattle.x509_der_oid.specs.ObjectIdentifier
+pub use Rattle.x509_der_oid.specs.ObjectIdentifierForm

@@ -1,0 +1,21 @@
+//! Strict DER (X.690): values that are read from the bytes of their one spelling and written as them.
+//!
+//! The parts stand in crates of their own: the grammar with its two traits and the elements, the frames that sequences,
+//! lists and choices are made of, and the object identifiers.
+#![tactic(auto)]
+
+pub mod laws;
+
+pub use x509_der_frames::{
+    Any, FromAny, PutPart, Retagged, SequenceOf, Standard, Wrapped, default_explicit,
+    default_field, default_implicit, defaulted, end, explicit, explicit_default, explicit_field,
+    explicit_optional, field, implicit, implicit_default, implicit_field, implicit_octet,
+    implicit_optional, optional, optional_explicit, optional_field, optional_implicit, put_members,
+    read_members,
+};
+pub use x509_der_grammar::{
+    AnyRef, Bytes, Counting, Decode, Encode, Error, ErrorKind, Fixed, FixedTag, Grammar, Growing,
+    Header, Length, Piece, Room, Tag, TagNumber, Tagged, TryClone, check_content, expect_tag,
+    put_header, put_natural, read_natural, read_whole, split_element, take_element,
+};
+pub use x509_der_oid::{AssociatedOid, ObjectIdentifier};
