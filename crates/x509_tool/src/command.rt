@@ -6,6 +6,9 @@ ghost use Rattle.x509_tool.specs.Command.{kind_of, profile_of, command_of};
 /// A type whose encodings the program reads.
 #[derive(Clone, Copy, Debug, PartialEq, Eq)]
 pub enum Kind {
+    /// An element that is not looked into.
+    Any,
+
     /// An object identifier.
     Oid,
 }
@@ -33,6 +36,7 @@ impl Kind {
         ensures { result ≡ kind_of word.now }
     {
         match word {
+            "any" => Some(Kind::Any),
             "oid" => Some(Kind::Oid),
             _ => None,
         }

@@ -11,11 +11,11 @@ ghost use Rattle.x509_tool.specs.Program.{Says, Answers, Obeys};
 use crate::command::Command;
 use crate::input::{Source, read_input};
 use crate::output::{Sink, WriteError, write_text};
-use crate::reencode::{Codec, Octets};
+use crate::reencode::{Codec, Types};
 use crate::refusal::Refusal;
 use hex::FromHexError;
 use std::alloc::Global;
-use x509_der_grammar::ErrorKind;
+use x509_der::ErrorKind;
 
 const USAGE: &[u8] =
     b"usage: x509_tool reencode TYPE [rfc5280|raw] | name | encode-name | path MOMENT\n";
@@ -121,7 +121,7 @@ pub fn run<R: Source, W: Sink>(
     ensures untouched { command_of (map string_bytes words.now) ≡ None → reader.new ≡ reader.old }
     ensures usage { command_of (map string_bytes words.now) ≡ None → Says W.takes writer.old usage 2 writer.new result }
     ensures obeys { IfSome (command_of (map string_bytes words.now)) (λ command.
-        Obeys ⟦<Octets as Codec>⟧.reencodes command R.gives reader.old reader.new W.takes writer.old writer.new result) }
+        Obeys ⟦<Types as Codec>⟧.reencodes command R.gives reader.old reader.new W.takes writer.old writer.new result) }
 {
-    run_with::<Octets, R, W>(alloc, words, reader, writer)
+    run_with::<Types, R, W>(alloc, words, reader, writer)
 }

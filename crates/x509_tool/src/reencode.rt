@@ -3,12 +3,13 @@
 ghost use Rattle.std.specs.Prelude.{◌≡◌, ◌⊎◌, ℕ, List, Result, Ok, Err, MatchResult};
 ghost use Rattle.x509_der_grammar.specs.declared.error.ErrorKind.{ErrorKind};
 ghost use Rattle.x509_der_grammar.specs.declared.error.ErrorKind.TheVariants.{Memory};
+ghost use Rattle.x509_tool.specs.Reencoding.{Reencodes};
 ghost use Rattle.x509_tool.specs.declared.command.Kind.{Kind};
 ghost use Rattle.x509_tool.specs.declared.command.ProfileName.{ProfileName};
 
 use crate::command::{Kind, ProfileName};
 use std::alloc::Global;
-use x509_der_grammar::Error;
+use x509_der::{Any, Decode, Encode, Error, ObjectIdentifier};
 
 /// The decoders and encoders of the types that have a name.
 pub trait Codec {
@@ -28,18 +29,33 @@ pub trait Codec {
             (λ e. (e.kind ≡ Memory) ⊎ reencodes kind profile bytes.now (Err e.kind)) };
 }
 
-/// Gives the bytes back as they are.
-pub struct Octets;
+/// The decoders and encoders of this library.
+pub struct Types;
 
-impl Codec for Octets {
-    ghost reencodes = { λ kind profile bytes encoding. encoding ≡ Ok bytes };
+impl Codec for Types {
+    ghost use Rattle.x509_tool.specs.Reencoding.{type_reencodes};
+
+    ghost reencodes = { type_reencodes };
 
     fn reencode(
         alloc: Global,
-        _kind: Kind,
+        kind: Kind,
         _profile: ProfileName,
         bytes: &[u8],
     ) -> Result<Vec<u8>, Error> {
-        Ok(bytes.to_vec(alloc)?)
+        match kind {
+            Kind::Any => reencode_as::<Any>(alloc, bytes),
+            Kind::Oid => reencode_as::<ObjectIdentifier>(alloc, bytes),
+        }
     }
+}
+
+/// The encoding of the value of a type that the bytes spell.
+fn reencode_as<T: Decode + Encode + Drop>(alloc: Global, bytes: &[u8]) -> Result<Vec<u8>, Error>
+    ensures { MatchResult result
+        (λ encoding. Reencodes T.form T.writing T.refuses bytes.now (Ok encoding.items))
+        (λ e. (e.kind ≡ Memory) ⊎ Reencodes T.form T.writing T.refuses bytes.now (Err e.kind)) }
+{
+    let value = T::from_der(alloc, bytes)?;
+    value.to_der(alloc)
 }

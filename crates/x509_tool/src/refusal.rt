@@ -5,7 +5,7 @@ ghost use Rattle.x509_der_grammar.specs.declared.error.ErrorKind.TheVariants.{Me
 ghost use Rattle.x509_tool.specs.declared.refusal.Refusal.TheVariants.{Because};
 
 use std::alloc::AllocError;
-use x509_der_grammar::{Error, ErrorKind};
+use x509_der::{Error, ErrorKind};
 
 /// Why an input is refused.
 #[derive(Clone, Copy, Debug, PartialEq, Eq)]

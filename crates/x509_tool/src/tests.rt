@@ -4,7 +4,7 @@ use crate::reencode::Codec;
 use std::alloc::{AllocError, Global};
 use std::io;
 use std::test::Fail;
-use x509_der_grammar::{Error, ErrorKind};
+use x509_der::{Error, ErrorKind};
 
 /// A reader of bytes that can fail at one of its reads.
 #[derive(Drop)]
