@@ -1,0 +1,9 @@
+use Rattle.std.proofs.Common.{◌∷◌, [], None, rules}
+use Rattle.x509_der_grammar.specs.WritingLaws.{puts_after}
+use Rattle.x509_prim_string.proofs.bit_string.BitStringEncode.put_content.Goals as goal
+
+pub returns : goal.returns
+returns g c =
+    let first = c.in_ok-put.ensures in
+    let second = c.put-2.ensures in
+    rw (← c.self.view_is, ← c.as_slice.ensures) (puts_after g.R.Room.kind g.met.R.Room.lawful (c.self.inside.unused ∷ []) c.as_slice.result.now None None c.in_ok-put.field-0 c.put-2.result c.args.room.now c.put.new.self c.put-2.new.self first second)

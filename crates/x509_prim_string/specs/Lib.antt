@@ -1,0 +1,3 @@
+pub mod OctetString
+pub mod BitString
+pub mod BitStringLaws

@@ -1,0 +1,12 @@
+//! Bit strings, octet strings and texts in strict DER.
+#![tactic(auto)]
+
+mod bit_string;
+mod octet_string;
+mod tags;
+
+pub use bit_string::BitString;
+pub use octet_string::OctetString;
+
+#[cfg(test)]
+mod tests;

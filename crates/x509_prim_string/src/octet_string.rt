@@ -1,0 +1,159 @@
+//! OCTET STRING.
+
+ghost use Rattle.std.specs.Prelude.{◌≡◌, ◌≤◌, ◌<◌, ◌⊎◌, length, bytes_eq, IfOk, IfErr};
+ghost use Rattle.std.proofs.Common.{rules};
+ghost use Rattle.std.specs.Hash as fed;
+ghost use Rattle.std.specs.Cmp.{partial_equiv_from_equiv};
+ghost use Rattle.std.specs.Cmp.Lexicographic.{nat_list_eq_equiv};
+ghost use Rattle.std.specs.Cmp.Rules.{hashing};
+ghost use Rattle.x509_der_grammar.specs.declared.error.ErrorKind.TheVariants as errors;
+ghost use Rattle.x509_der_grammar.specs.Element.{limit};
+ghost use Rattle.x509_der_grammar.specs.Form.{spelling};
+ghost use Rattle.x509_prim_string.specs.OctetString.{octet_string};
+
+use crate::tags::expect_tag;
+use std::alloc::Global;
+use std::fmt;
+use std::hash::{Hash, Hasher};
+use std::marker::Model;
+use x509_der_grammar::{
+    Bytes, Decode, Encode, Error, FixedTag, Grammar, Room, Tag, TryClone, check_content,
+};
+
+/// Any octets (X.690 8.7). Contracts see their list.
+#[derive(Drop)]
+pub struct OctetString {
+    bytes: Bytes,
+}
+
+impl Model for OctetString {
+    ghost use Rattle.std.specs.Prelude.{List, ℕ};
+
+    ghost Value = { List ℕ };
+
+    ghost view = { λ string. string.bytes };
+}
+
+impl OctetString {
+    /// A copy of the octets; `Overlength` exactly where their element would be longer than
+    /// [`Length::MAX`](x509_der_grammar::Length::MAX). Memory may be refused.
+    pub fn new(alloc: Global, octets: &[u8]) -> Result<OctetString, Error>
+        ensures ok { IfOk result (λ string. (string ≡ octets.now) × (length (spelling octet_string octets.now) ≤ limit)) }
+        ensures err { IfErr result (λ e. (e.kind ≡ errors.Memory) ⊎ ((e.kind ≡ errors.Overlength) × (limit < length (spelling octet_string octets.now)))) }
+    {
+        check_content(octets)?;
+        Ok(OctetString {
+            bytes: Bytes::from_slice(alloc, octets)?,
+        })
+    }
+
+    /// The octets of the vector, without a copy; `Overlength` as for [`OctetString::new`].
+    pub fn from_vec(octets: Vec<u8>) -> Result<OctetString, Error>
+        ensures ok { IfOk result (λ string. (string ≡ octets.items) × (length (spelling octet_string octets.items) ≤ limit)) }
+        ensures err { IfErr result (λ e. (e.kind ≡ errors.Overlength) × (limit < length (spelling octet_string octets.items))) }
+    {
+        check_content(octets.as_slice())?;
+        Ok(OctetString {
+            bytes: Bytes::from(octets),
+        })
+    }
+
+    /// The octets.
+    pub fn as_bytes(&self) -> &[u8]
+        ensures { result.now ≡ self.now }
+    {
+        self.bytes.as_slice()
+    }
+
+    /// The vector of the octets, without a copy.
+    pub fn into_bytes(self) -> Vec<u8>
+        ensures { result.items ≡ self }
+    {
+        let OctetString { bytes } = self;
+        bytes.into_vec()
+    }
+}
+
+impl Grammar for OctetString {
+    ghost use Rattle.x509_prim_string.specs.OctetString.{octet_string, octet_string_lawful};
+
+    ghost form = { octet_string };
+
+    fn identifier(&self) -> Tag {
+        Tag::OctetString
+    }
+
+    fn is_start(octet: u8) -> bool {
+        octet == Tag::OctetString.octet()
+    }
+
+    ghost lawful = { octet_string_lawful };
+}
+
+impl Decode for OctetString {
+    fn read(alloc: Global, tag: u8, content: &[u8]) -> Result<OctetString, Error> {
+        expect_tag(tag, Tag::OctetString)?;
+        Ok(OctetString {
+            bytes: Bytes::from_slice(alloc, content)?,
+        })
+    }
+}
+
+impl Encode for OctetString {
+    ghost use Rattle.std.specs.Prelude.{refl};
+
+    fn put_content<R: Room>(&self, room: &mut R) -> Result<(), Error> {
+        room.put(self.as_bytes())
+    }
+
+    ghost same_tag = { λ value. refl };
+}
+
+impl FixedTag for OctetString {
+    ghost use Rattle.std.specs.Prelude.{refl};
+    ghost use Rattle.x509_der_grammar.specs.declared.tag.Tag.TheVariants as tags;
+
+    ghost TAG = { tags.OctetString };
+
+    const TAG: Tag = Tag::OctetString;
+
+    ghost fixed = { λ value good. refl };
+}
+
+impl TryClone for OctetString {
+    fn try_clone(&self, alloc: Global) -> Result<OctetString, Error> {
+        Ok(OctetString {
+            bytes: self.bytes.try_clone(alloc)?,
+        })
+    }
+}
+
+impl PartialEq for OctetString {
+    ghost eq = { bytes_eq };
+
+    ghost laws = { partial_equiv_from_equiv nat_list_eq_equiv };
+
+    fn eq(&self, other: &OctetString) -> bool {
+        self.as_bytes() == other.as_bytes()
+    }
+}
+
+impl Eq for OctetString {
+    ghost laws = { nat_list_eq_equiv };
+}
+
+impl Hash for OctetString {
+    ghost hash_input = { fed.slice fed.u8 };
+
+    ghost respects_eq = { Prim.search (hashing, rules) };
+
+    fn hash<H: Hasher>(&self, state: &mut H) {
+        self.as_bytes().hash(state);
+    }
+}
+
+impl fmt::Debug for OctetString {
+    fn fmt<W: fmt::Write>(&self, f: &mut fmt::Formatter<W>) -> fmt::Result {
+        fmt::Debug::fmt(&self.as_bytes(), f)
+    }
+}

@@ -1,0 +1,61 @@
+use super::{is_malformed, stays};
+use crate::OctetString;
+use std::test::*;
+use x509_der_grammar::{Encode, TryClone};
+
+/// The first octets of the element of that many octets.
+fn front(rt: &HostRuntime, len: usize) -> Result<Vec<u8>, Fail> {
+    let octets = Vec::from_elem(rt.alloc(), 0xAB, len)?;
+    let mut bytes = OctetString::from_vec(octets)?.to_der(rt.alloc())?;
+    bytes.truncate(5);
+    Ok(bytes)
+}
+
+#[test]
+fn octet_strings(rt: HostRuntime) -> Result<(), Fail> {
+    assert!(rt; stays::<OctetString>(&rt, &[0x04, 0x00])?);
+    assert!(rt; stays::<OctetString>(&rt, &[0x04, 0x02, 0x00, 0xFF])?);
+    assert!(rt; is_malformed::<OctetString>(&rt, &[0x04, 0x81, 0x00]));
+    assert!(rt; is_malformed::<OctetString>(&rt, &[0x04, 0x82, 0x00, 0x01, 0xFF]));
+    assert!(rt; is_malformed::<OctetString>(&rt, &[0x24, 0x00]));
+    Ok(())
+}
+
+#[test]
+fn octet_string_lengths(rt: HostRuntime) -> Result<(), Fail> {
+    assert_eq!(rt;
+        front(&rt, 127)?.as_slice(),
+        [0x04, 0x7F, 0xAB, 0xAB, 0xAB].as_slice()
+    );
+    assert_eq!(rt;
+        front(&rt, 128)?.as_slice(),
+        [0x04, 0x81, 0x80, 0xAB, 0xAB].as_slice()
+    );
+    assert_eq!(rt;
+        front(&rt, 255)?.as_slice(),
+        [0x04, 0x81, 0xFF, 0xAB, 0xAB].as_slice()
+    );
+    assert_eq!(rt;
+        front(&rt, 256)?.as_slice(),
+        [0x04, 0x82, 0x01, 0x00, 0xAB].as_slice()
+    );
+    assert_eq!(rt;
+        front(&rt, 65_535)?.as_slice(),
+        [0x04, 0x82, 0xFF, 0xFF, 0xAB].as_slice()
+    );
+    assert_eq!(rt;
+        front(&rt, 65_536)?.as_slice(),
+        [0x04, 0x83, 0x01, 0x00, 0x00].as_slice()
+    );
+    Ok(())
+}
+
+#[test]
+fn octet_string_calls(rt: HostRuntime) -> Result<(), Fail> {
+    let string = OctetString::new(rt.alloc(), &[1, 2, 3])?;
+    let copy = string.try_clone(rt.alloc())?;
+    assert!(rt; copy == string);
+    assert_eq!(rt; copy.as_bytes(), [1, 2, 3].as_slice());
+    assert_eq!(rt; copy.into_bytes().as_slice(), [1, 2, 3].as_slice());
+    Ok(())
+}

@@ -1,0 +1,215 @@
+//! BMPString.
+
+ghost use Rattle.std.specs.Prelude.{◌≡◌, ◌⊎◌, true, false, bytes_eq, string_bytes, encode_utf8_all, IfOk, IfErr};
+ghost use Rattle.std.proofs.Common.{rules};
+ghost use Rattle.std.specs.Hash as fed;
+ghost use Rattle.std.specs.Cmp.{partial_equiv_from_equiv};
+ghost use Rattle.std.specs.Cmp.Lexicographic.{nat_list_eq_equiv};
+ghost use Rattle.std.specs.Cmp.Rules.{hashing};
+ghost use Rattle.std.specs.List.{list_all};
+ghost use Rattle.std.specs.Str.{chars};
+ghost use Rattle.x509_der_grammar.specs.declared.error.ErrorKind.TheVariants as errors;
+ghost use Rattle.x509_prim_text.specs.Bmp as plane;
+
+use std::alloc::Global;
+use std::fmt;
+use std::hash::{Hash, Hasher};
+use std::marker::Model;
+use x509_der_grammar::{
+    Bytes, Decode, Encode, Error, ErrorKind, FixedTag, Grammar, Room, Tag, TryClone,
+};
+
+/// A BMPString (X.680 41.15, X.690 8.23.9): characters of the basic multilingual plane. Contracts see their octets,
+/// two for each character.
+#[derive(Drop)]
+pub struct BmpString {
+    octets: Bytes,
+}
+
+impl Model for BmpString {
+    ghost use Rattle.std.specs.Prelude.{List, ℕ, ◌≡◌, true};
+    ghost use Rattle.x509_prim_text.specs.Bmp.{is_bmp};
+
+    ghost Value = { List ℕ };
+
+    ghost view = { λ string. string.octets };
+
+    ghost invariant = { λ string. is_bmp string.octets ≡ true };
+}
+
+/// Whether the code is a character of the plane.
+#[tactic(auto, unfolding(crate::specs::Bmp::is_bmp_char))]
+fn check_char(code: u32) -> bool
+    ensures { result ≡ plane.is_bmp_char code }
+{
+    matches!(code, 0..=0xD7FF | 0xE000..=0xFFFF)
+}
+
+/// The octets of the characters; `Value` exactly where one is not of the plane.
+#[tactic(auto, unfolding(crate::specs::Bmp::is_bmp_char))]
+fn octets_of(alloc: Global, text: &str) -> Result<Vec<u8>, Error>
+    ensures ok { IfOk result (λ octets. (octets.items ≡ plane.bmp_octets (chars text.now)) × (list_all plane.is_bmp_char (chars text.now) ≡ true)) }
+    ensures err { IfErr result (λ e. (e.kind ≡ errors.Memory) ⊎ ((e.kind ≡ errors.Value) × (list_all plane.is_bmp_char (chars text.now) ≡ false))) }
+{
+    let mut octets = Vec::new(alloc);
+    for c in text.chars() {
+        let code = c as u32;
+        if !check_char(code) {
+            return Err(ErrorKind::Value.into());
+        }
+        octets.push((code / 256) as u8)?;
+        octets.push((code % 256) as u8)?;
+    }
+    Ok(octets)
+}
+
+/// Whether the octets are those of characters of the plane.
+fn check_octets(octets: &[u8]) -> bool
+    ensures { result ≡ plane.is_bmp octets.now }
+{
+    let mut rest = octets;
+    while let [high, low, after @ ..] = rest {
+        if !check_char(256 * *high as u32 + *low as u32) {
+            return false;
+        }
+        rest = after;
+    }
+    rest.is_empty()
+}
+
+/// The text of the characters.
+fn text_of(alloc: Global, octets: &[u8]) -> Result<String, Error>
+    requires { plane.is_bmp octets.now ≡ true }
+    ensures ok { IfOk result (λ text. string_bytes text ≡ encode_utf8_all (plane.bmp_chars octets.now)) }
+    ensures err { IfErr result (λ e. e.kind ≡ errors.Memory) }
+{
+    let mut text = String::new(alloc);
+    let mut rest = octets;
+    while let [high, low, after @ ..] = rest {
+        let Some(c) = char::from_u32(256 * *high as u32 + *low as u32) else {
+            unreachable!()
+        };
+        text.push(c)?;
+        rest = after;
+    }
+    Ok(text)
+}
+
+impl BmpString {
+    /// The text, two octets for each character; `Value` exactly where a character is above FFFF. Memory may be refused.
+    pub fn from_str(alloc: Global, text: &str) -> Result<BmpString, Error>
+        ensures ok { IfOk result (λ string. (string ≡ plane.bmp_octets (chars text.now)) × (list_all plane.is_bmp_char (chars text.now) ≡ true)) }
+        ensures err { IfErr result (λ e. (e.kind ≡ errors.Memory) ⊎ ((e.kind ≡ errors.Value) × (list_all plane.is_bmp_char (chars text.now) ≡ false))) }
+    {
+        let octets = octets_of(alloc, text)?;
+        Ok(BmpString {
+            octets: Bytes::from(octets),
+        })
+    }
+
+    /// The text. Memory may be refused.
+    pub fn to_text(&self, alloc: Global) -> Result<String, Error>
+        ensures ok { IfOk result (λ text. string_bytes text ≡ encode_utf8_all (plane.bmp_chars self.now)) }
+        ensures err { IfErr result (λ e. e.kind ≡ errors.Memory) }
+    {
+        text_of(alloc, self.octets.as_slice())
+    }
+
+    /// The octets of the characters.
+    pub fn as_bytes(&self) -> &[u8]
+        ensures octets { result.now ≡ self.now }
+        ensures plane { plane.is_bmp self.now ≡ true }
+    {
+        self.octets.as_slice()
+    }
+}
+
+impl Grammar for BmpString {
+    ghost use Rattle.x509_der_grammar.specs.TagLaws.{is_identifier-octet_of};
+    ghost use Rattle.x509_der_grammar.specs.declared.tag.Tag.TheVariants as tags;
+    ghost use Rattle.x509_prim_text.specs.Bmp.{is_bmp};
+    ghost use Rattle.x509_prim_text.specs.Text.{text, text_lawful};
+
+    ghost form = { text 0x1E is_bmp };
+
+    fn identifier(&self) -> Tag {
+        Tag::BmpString
+    }
+
+    fn is_start(octet: u8) -> bool {
+        octet == Tag::BmpString.octet()
+    }
+
+    ghost lawful = { text_lawful 0x1E is_bmp (is_identifier-octet_of tags.BmpString) };
+}
+
+#[tactic(auto, unfolding(crate::specs::Text::text_reading))]
+impl Decode for BmpString {
+    fn read(alloc: Global, tag: u8, content: &[u8]) -> Result<BmpString, Error> {
+        if tag != Tag::BmpString.octet() || !check_octets(content) {
+            return Err(ErrorKind::Malformed.into());
+        }
+        Ok(BmpString {
+            octets: Bytes::from_slice(alloc, content)?,
+        })
+    }
+}
+
+impl Encode for BmpString {
+    ghost use Rattle.std.specs.Prelude.{refl};
+
+    fn put_content<R: Room>(&self, room: &mut R) -> Result<(), Error> {
+        room.put(self.octets.as_slice())
+    }
+
+    ghost same_tag = { λ value. refl };
+}
+
+impl FixedTag for BmpString {
+    ghost use Rattle.std.specs.Prelude.{refl};
+    ghost use Rattle.x509_der_grammar.specs.declared.tag.Tag.TheVariants as tags;
+
+    ghost TAG = { tags.BmpString };
+
+    const TAG: Tag = Tag::BmpString;
+
+    ghost fixed = { λ value good. refl };
+}
+
+impl TryClone for BmpString {
+    fn try_clone(&self, alloc: Global) -> Result<BmpString, Error> {
+        Ok(BmpString {
+            octets: self.octets.try_clone(alloc)?,
+        })
+    }
+}
+
+impl PartialEq for BmpString {
+    ghost eq = { bytes_eq };
+
+    ghost laws = { partial_equiv_from_equiv nat_list_eq_equiv };
+
+    fn eq(&self, other: &BmpString) -> bool {
+        self.octets.as_slice() == other.octets.as_slice()
+    }
+}
+
+impl Eq for BmpString {
+    ghost laws = { nat_list_eq_equiv };
+}
+
+impl Hash for BmpString {
+    ghost hash_input = { fed.slice fed.u8 };
+
+    ghost respects_eq = { Prim.search (hashing, rules) };
+
+    fn hash<H: Hasher>(&self, state: &mut H) {
+        self.octets.as_slice().hash(state);
+    }
+}
+
+impl fmt::Debug for BmpString {
+    fn fmt<W: fmt::Write>(&self, f: &mut fmt::Formatter<W>) -> fmt::Result {
+        fmt::Debug::fmt(&self.octets.as_slice(), f)
+    }
+}

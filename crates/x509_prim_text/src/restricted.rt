@@ -1,0 +1,168 @@
+//! Restricted character strings.
+
+ghost use Rattle.std.specs.Prelude.{◌≡◌, ◌⊎◌, true, false, bytes_eq, string_bytes, IfOk, IfErr};
+ghost use Rattle.std.proofs.Common.{rules};
+ghost use Rattle.std.specs.Hash as fed;
+ghost use Rattle.std.specs.Cmp.{partial_equiv_from_equiv};
+ghost use Rattle.std.specs.Cmp.Lexicographic.{nat_list_eq_equiv};
+ghost use Rattle.std.specs.Cmp.Rules.{hashing};
+ghost use Rattle.std.specs.List.{list_all};
+ghost use Rattle.x509_der_grammar.specs.declared.error.ErrorKind.TheVariants as errors;
+
+use crate::alphabet::Alphabet;
+use crate::restricted_ref::{check_text, text_of};
+use std::alloc::Global;
+use std::fmt;
+use std::hash::{Hash, Hasher};
+use std::marker::{Model, PhantomData};
+use x509_der_grammar::{Decode, Encode, Error, ErrorKind, FixedTag, Grammar, Room, Tag, TryClone};
+
+/// A text of a restricted character string type (X.680 41). Contracts see its octets, one for each character.
+#[derive(Drop)]
+pub struct RestrictedString<A: Alphabet> {
+    text: String,
+    alphabet: PhantomData<A>,
+}
+
+impl<A: Alphabet> Model for RestrictedString<A> {
+    ghost use Rattle.std.specs.Prelude.{List, ℕ, ◌≡◌, true, string_bytes};
+    ghost use Rattle.std.specs.List.{list_all};
+
+    ghost Value = { List ℕ };
+
+    ghost view = { λ string. string_bytes string.text };
+
+    ghost invariant = { λ string. list_all A.has_char (string_bytes string.text) ≡ true };
+}
+
+impl<A: Alphabet> RestrictedString<A> {
+    /// A copy of the text; `Value` exactly where a character is not one of the type's. Memory may be refused.
+    pub fn new(alloc: Global, text: &str) -> Result<RestrictedString<A>, Error>
+        ensures ok { IfOk result (λ string. (string ≡ text.now) × (list_all A.has_char text.now ≡ true)) }
+        ensures err { IfErr result (λ e. (e.kind ≡ errors.Memory) ⊎ ((e.kind ≡ errors.Value) × (list_all A.has_char text.now ≡ false))) }
+    {
+        if !check_text::<A>(text.as_bytes()) {
+            return Err(ErrorKind::Value.into());
+        }
+        Ok(RestrictedString {
+            text: String::from_str(alloc, text)?,
+            alphabet: PhantomData,
+        })
+    }
+
+    /// The text.
+    pub fn as_str(&self) -> &str
+        ensures text { result.now ≡ self.now }
+        ensures chars { list_all A.has_char self.now ≡ true }
+    {
+        self.text.as_str()
+    }
+
+    /// The text as a string, without a copy.
+    pub fn into_string(self) -> String
+        ensures { string_bytes result ≡ self }
+    {
+        let RestrictedString { text, alphabet: _ } = self;
+        text
+    }
+}
+
+impl<A: Alphabet> Grammar for RestrictedString<A> {
+    ghost use Rattle.std.specs.List.{list_all};
+    ghost use Rattle.x509_der_grammar.specs.Tag.{octet_of};
+    ghost use Rattle.x509_der_grammar.specs.TagLaws.{is_identifier-octet_of};
+    ghost use Rattle.x509_prim_text.specs.Text.{text, text_lawful};
+
+    ghost form = { text (octet_of A.TAG) (list_all A.has_char) };
+
+    fn identifier(&self) -> Tag {
+        A::TAG
+    }
+
+    fn is_start(octet: u8) -> bool {
+        octet == A::TAG.octet()
+    }
+
+    ghost lawful = { text_lawful (octet_of A.TAG) (list_all A.has_char) (is_identifier-octet_of A.TAG) };
+}
+
+#[tactic(auto, unfolding(crate::specs::Text::text_reading))]
+impl<A: Alphabet> Decode for RestrictedString<A> {
+    fn read(alloc: Global, tag: u8, content: &[u8]) -> Result<RestrictedString<A>, Error> {
+        if tag != A::TAG.octet() {
+            return Err(ErrorKind::Malformed.into());
+        }
+        let Some(text) = text_of::<A>(content) else {
+            return Err(ErrorKind::Malformed.into());
+        };
+        Ok(RestrictedString {
+            text: String::from_str(alloc, text)?,
+            alphabet: PhantomData,
+        })
+    }
+}
+
+impl<A: Alphabet> Encode for RestrictedString<A> {
+    ghost use Rattle.std.specs.Prelude.{refl};
+
+    fn put_content<R: Room>(&self, room: &mut R) -> Result<(), Error> {
+        room.put(self.text.as_bytes())
+    }
+
+    ghost same_tag = { λ value. refl };
+}
+
+impl<A: Alphabet> FixedTag for RestrictedString<A> {
+    ghost use Rattle.std.specs.Prelude.{refl};
+
+    ghost TAG = { A.TAG };
+
+    const TAG: Tag = A::TAG;
+
+    ghost fixed = { λ value good. refl };
+}
+
+impl<A: Alphabet> TryClone for RestrictedString<A> {
+    fn try_clone(&self, alloc: Global) -> Result<RestrictedString<A>, Error> {
+        Ok(RestrictedString {
+            text: String::from_str(alloc, self.text.as_str())?,
+            alphabet: PhantomData,
+        })
+    }
+}
+
+impl<A: Alphabet> PartialEq for RestrictedString<A> {
+    ghost eq = { bytes_eq };
+
+    ghost laws = { partial_equiv_from_equiv nat_list_eq_equiv };
+
+    fn eq(&self, other: &RestrictedString<A>) -> bool {
+        self.text.as_bytes() == other.text.as_bytes()
+    }
+}
+
+impl<A: Alphabet> Eq for RestrictedString<A> {
+    ghost laws = { nat_list_eq_equiv };
+}
+
+impl<A: Alphabet> Hash for RestrictedString<A> {
+    ghost hash_input = { fed.slice fed.u8 };
+
+    ghost respects_eq = { Prim.search (hashing, rules) };
+
+    fn hash<H: Hasher>(&self, state: &mut H) {
+        self.text.as_bytes().hash(state);
+    }
+}
+
+impl<A: Alphabet> fmt::Display for RestrictedString<A> {
+    fn fmt<W: fmt::Write>(&self, f: &mut fmt::Formatter<W>) -> fmt::Result {
+        fmt::Display::fmt(&self.text.as_str(), f)
+    }
+}
+
+impl<A: Alphabet> fmt::Debug for RestrictedString<A> {
+    fn fmt<W: fmt::Write>(&self, f: &mut fmt::Formatter<W>) -> fmt::Result {
+        fmt::Debug::fmt(&self.text.as_str(), f)
+    }
+}

@@ -1,0 +1,79 @@
+//! Borrowed restricted character strings.
+
+ghost use Rattle.std.specs.Prelude.{◌≡◌, ◌≢◌, ◌⊎◌, true, false, IfOk, IfErr, IfSome, IfNone};
+ghost use Rattle.std.specs.List.{list_all};
+ghost use Rattle.x509_der_grammar.specs.declared.error.ErrorKind.TheVariants as errors;
+ghost use Rattle.x509_der_grammar.specs.Tag.{octet_of};
+
+use crate::alphabet::Alphabet;
+use std::marker::PhantomData;
+use x509_der_grammar::{AnyRef, Error, ErrorKind};
+
+/// Whether each character is one of the type's.
+pub(crate) fn check_text<A: Alphabet>(octets: &[u8]) -> bool
+    ensures { result ≡ list_all A.has_char octets.now }
+{
+    octets.iter().all(|octet| A::has_char(*octet))
+}
+
+/// The octets as a text, where each is a character of the type.
+pub(crate) fn text_of<A: Alphabet>(octets: &[u8]) -> Option<&str>
+    ensures some { IfSome result (λ text. (text.now ≡ octets.now) × (list_all A.has_char octets.now ≡ true)) }
+    ensures none { IfNone result (list_all A.has_char octets.now ≡ false) }
+{
+    if !check_text::<A>(octets) {
+        return None;
+    }
+    match std::str::from_utf8(octets) {
+        Ok(text) => Some(text),
+        Err(_) => None,
+    }
+}
+
+/// A borrowed text of a restricted character string type.
+#[derive(Clone, Copy, Debug)]
+pub struct RestrictedStringRef<'a, A: Alphabet> {
+    text: &'a str,
+    alphabet: PhantomData<A>,
+}
+
+impl<'a, A: Alphabet> RestrictedStringRef<'a, A> {
+    /// The text; `Value` exactly where a character is not one of the type's.
+    pub fn new(text: &'a str) -> Result<RestrictedStringRef<'a, A>, Error>
+        ensures ok { IfOk result (λ string. (string.text.now ≡ text.now) × (list_all A.has_char text.now ≡ true)) }
+        ensures err { IfErr result (λ e. (e.kind ≡ errors.Value) × (list_all A.has_char text.now ≡ false)) }
+    {
+        if !check_text::<A>(text.as_bytes()) {
+            return Err(ErrorKind::Value.into());
+        }
+        Ok(RestrictedStringRef {
+            text,
+            alphabet: PhantomData,
+        })
+    }
+
+    /// The text of an element; `Malformed` exactly where it has another identifier, or a character that is not one of
+    /// the type's.
+    pub fn from_any(any: AnyRef<'a>) -> Result<RestrictedStringRef<'a, A>, Error>
+        ensures ok { IfOk result (λ string. (string.text.now ≡ any.entry.value.now) × (octet_of any.entry.tag ≡ octet_of A.TAG) × (list_all A.has_char any.entry.value.now ≡ true)) }
+        ensures err { IfErr result (λ e. (e.kind ≡ errors.Malformed) × ((octet_of any.entry.tag ≢ octet_of A.TAG) ⊎ (list_all A.has_char any.entry.value.now ≡ false))) }
+    {
+        if any.tag().octet() != A::TAG.octet() {
+            return Err(ErrorKind::Malformed.into());
+        }
+        let Some(text) = text_of::<A>(any.value()) else {
+            return Err(ErrorKind::Malformed.into());
+        };
+        Ok(RestrictedStringRef {
+            text,
+            alphabet: PhantomData,
+        })
+    }
+
+    /// The text.
+    pub fn as_str(self) -> &'a str
+        ensures { result.now ≡ self.entry.text.now }
+    {
+        self.text
+    }
+}

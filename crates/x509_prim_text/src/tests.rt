@@ -1,0 +1,107 @@
+//! Rows of bytes, and each call once with ample memory.
+
+use crate::*;
+use std::test::*;
+use x509_der_grammar::{AnyRef, Decode, Encode, Error, ErrorKind, Tag, TryClone};
+
+/// Whether the bytes are read, and written again as they were.
+fn stays<T: Decode + Encode + Drop>(rt: &HostRuntime, bytes: &[u8]) -> Result<bool, Fail> {
+    let value = T::from_der(rt.alloc(), bytes)?;
+    let len = value.encoded_len()?.as_u32() as usize;
+    Ok(value.to_der(rt.alloc())?.as_slice() == bytes && len == bytes.len())
+}
+
+/// Whether the bytes are refused as `Malformed`.
+fn is_malformed<T: Decode + Drop>(rt: &HostRuntime, bytes: &[u8]) -> bool {
+    is_refused(T::from_der(rt.alloc(), bytes), ErrorKind::Malformed)
+}
+
+/// Whether a call was refused so.
+fn is_refused<T: Drop>(outcome: Result<T, Error>, kind: ErrorKind) -> bool {
+    match outcome {
+        Ok(_) => false,
+        Err(e) => e.kind() == kind,
+    }
+}
+
+#[test]
+fn restricted_strings(rt: HostRuntime) -> Result<(), Fail> {
+    assert!(rt; stays::<PrintableString>(&rt, &[0x13, 0x02, 0x55, 0x53])?);
+    assert!(rt; is_malformed::<PrintableString>(&rt, &[0x13, 0x01, 0x2A]));
+    assert!(rt; is_malformed::<PrintableString>(&rt, &[0x16, 0x01, 0x41]));
+    assert!(rt; stays::<Ia5String>(&rt, &[0x16, 0x02, 0x40, 0x7F])?);
+    assert!(rt; is_malformed::<Ia5String>(&rt, &[0x16, 0x01, 0x80]));
+    assert!(rt; stays::<TeletexString>(&rt, &[0x14, 0x01, 0x40])?);
+    assert!(rt; is_malformed::<TeletexString>(&rt, &[0x14, 0x01, 0xE4]));
+    Ok(())
+}
+
+#[test]
+fn alphabets(rt: HostRuntime) -> Result<(), Fail> {
+    let printable = "AZaz09 '()+,-./:=?";
+    let string = PrintableString::new(rt.alloc(), printable)?;
+    assert_eq!(rt; string.as_str(), printable);
+    for other in ["*", "@", "&", "_", ";", "!", "\"", "ä"] {
+        assert!(rt; is_refused(PrintableString::new(rt.alloc(), other), ErrorKind::Value));
+    }
+    let copy = string.try_clone(rt.alloc())?;
+    assert!(rt; copy == string);
+    assert_eq!(rt; copy.into_string().as_str(), printable);
+    assert_eq!(rt; Ia5String::new(rt.alloc(), "a@b.c")?.as_str(), "a@b.c");
+    assert!(rt; is_refused(Ia5String::new(rt.alloc(), "é"), ErrorKind::Value));
+    assert!(rt; is_refused(TeletexString::new(rt.alloc(), "é"), ErrorKind::Value));
+    Ok(())
+}
+
+#[test]
+fn utf8_strings(rt: HostRuntime) -> Result<(), Fail> {
+    assert!(rt; stays::<Utf8String>(&rt, &[0x0C, 0x02, 0xC3, 0xA4])?);
+    assert!(rt; is_malformed::<Utf8String>(&rt, &[0x0C, 0x01, 0xC3]));
+    let string = Utf8String::new(rt.alloc(), "ä")?;
+    let copy = string.try_clone(rt.alloc())?;
+    assert!(rt; copy == string);
+    assert_eq!(rt; Utf8String::from(copy.into_string()).as_str(), "ä");
+    Ok(())
+}
+
+#[test]
+fn borrowed_texts(rt: HostRuntime) -> Result<(), Fail> {
+    let any = AnyRef::new(Tag::PrintableString, b"US")?;
+    assert_eq!(rt; PrintableStringRef::from_any(any)?.as_str(), "US");
+    assert!(rt; is_refused(Ia5StringRef::from_any(any), ErrorKind::Malformed));
+    assert!(rt; is_refused(Utf8StringRef::from_any(any), ErrorKind::Malformed));
+    let any = AnyRef::new(Tag::Utf8String, b"\xC3\xA4")?;
+    assert_eq!(rt; Utf8StringRef::from_any(any)?.as_str(), "ä");
+    let any = AnyRef::new(Tag::TeletexString, b"\xC3\xA4")?;
+    assert!(rt; is_refused(TeletexStringRef::from_any(any), ErrorKind::Malformed));
+    assert_eq!(rt; PrintableStringRef::new("US")?.as_str(), "US");
+    assert!(rt; is_refused(PrintableStringRef::new("U*"), ErrorKind::Value));
+    assert_eq!(rt; Utf8StringRef::new("ä")?.as_str(), "ä");
+    Ok(())
+}
+
+#[test]
+fn printed_texts(rt: HostRuntime) -> Result<(), Fail> {
+    let printable = PrintableString::new(rt.alloc(), "US")?;
+    let utf8 = Utf8String::new(rt.alloc(), "ä")?;
+    assert_eq!(rt;
+        format!(in rt.alloc(); "{printable} {utf8}")?.as_str(),
+        "US ä"
+    );
+    Ok(())
+}
+
+#[test]
+fn bmp_strings(rt: HostRuntime) -> Result<(), Fail> {
+    assert!(rt; stays::<BmpString>(&rt, &[0x1E, 0x04, 0x00, 0x41, 0x20, 0xAC])?);
+    assert!(rt; is_malformed::<BmpString>(&rt, &[0x1E, 0x02, 0xD8, 0x00]));
+    assert!(rt; is_malformed::<BmpString>(&rt, &[0x1E, 0x02, 0xDF, 0xFF]));
+    assert!(rt; is_malformed::<BmpString>(&rt, &[0x1E, 0x01, 0x41]));
+    let string = BmpString::from_str(rt.alloc(), "A€")?;
+    assert_eq!(rt; string.as_bytes(), [0x00, 0x41, 0x20, 0xAC].as_slice());
+    let copy = string.try_clone(rt.alloc())?;
+    assert!(rt; copy == string);
+    assert_eq!(rt; copy.to_text(rt.alloc())?.as_str(), "A€");
+    assert!(rt; is_refused(BmpString::from_str(rt.alloc(), "😀"), ErrorKind::Value));
+    Ok(())
+}

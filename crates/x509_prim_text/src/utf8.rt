@@ -1,0 +1,213 @@
+//! UTF8String.
+
+ghost use Rattle.std.specs.Prelude.{◌≡◌, ◌≢◌, ◌⊎◌, true, false, bytes_eq, string_bytes, IfOk, IfErr, IfSome, IfNone, IsOkAnd};
+ghost use Rattle.std.proofs.Common.{rules};
+ghost use Rattle.std.specs.Hash as fed;
+ghost use Rattle.std.specs.Cmp.{partial_equiv_from_equiv};
+ghost use Rattle.std.specs.Cmp.Lexicographic.{nat_list_eq_equiv};
+ghost use Rattle.std.specs.Cmp.Rules.{hashing};
+ghost use Rattle.std.specs.Str.{is_utf8};
+ghost use Rattle.x509_der_grammar.specs.declared.error.ErrorKind.TheVariants as errors;
+ghost use Rattle.x509_der_grammar.specs.declared.tag.Tag.TheVariants as tags;
+
+use std::alloc::Global;
+use std::fmt;
+use std::hash::{Hash, Hasher};
+use std::marker::Model;
+use x509_der_grammar::{
+    AnyRef, Decode, Encode, Error, ErrorKind, FixedTag, Grammar, Room, Tag, TryClone,
+};
+
+/// A UTF8String (X.680 41.16, X.690 8.23.10). Contracts see the UTF-8 octets of its characters.
+#[derive(Drop)]
+pub struct Utf8String {
+    text: String,
+}
+
+impl Model for Utf8String {
+    ghost use Rattle.std.specs.Prelude.{List, ℕ, string_bytes};
+
+    ghost Value = { List ℕ };
+
+    ghost view = { λ string. string_bytes string.text };
+}
+
+impl Utf8String {
+    /// A copy of the text. Memory may be refused.
+    pub fn new(alloc: Global, text: &str) -> Result<Utf8String, Error>
+        ensures ok { IfOk result (λ string. string ≡ text.now) }
+        ensures err { IfErr result (λ e. e.kind ≡ errors.Memory) }
+    {
+        Ok(Utf8String {
+            text: String::from_str(alloc, text)?,
+        })
+    }
+
+    /// The text.
+    pub fn as_str(&self) -> &str
+        ensures { result.now ≡ self.now }
+    {
+        self.text.as_str()
+    }
+
+    /// The text as a string, without a copy.
+    pub fn into_string(self) -> String
+        ensures { string_bytes result ≡ self }
+    {
+        let Utf8String { text } = self;
+        text
+    }
+}
+
+impl From<String> for Utf8String {
+    ghost from_gives = { λ text string. string ≡ string_bytes text };
+
+    fn from(text: String) -> Utf8String {
+        Utf8String { text }
+    }
+}
+
+impl Grammar for Utf8String {
+    ghost use Rattle.std.specs.Str.{is_utf8};
+    ghost use Rattle.x509_der_grammar.specs.Tag.{octet_of};
+    ghost use Rattle.x509_der_grammar.specs.TagLaws.{is_identifier-octet_of};
+    ghost use Rattle.x509_der_grammar.specs.declared.tag.Tag.TheVariants as tags;
+    ghost use Rattle.x509_prim_text.specs.Text.{text, text_lawful};
+
+    ghost form = { text 0x0C is_utf8 };
+
+    fn identifier(&self) -> Tag {
+        Tag::Utf8String
+    }
+
+    fn is_start(octet: u8) -> bool {
+        octet == Tag::Utf8String.octet()
+    }
+
+    ghost lawful = { text_lawful 0x0C is_utf8 (is_identifier-octet_of tags.Utf8String) };
+}
+
+/// The octets as a text, where they are UTF-8.
+fn utf8_text(octets: &[u8]) -> Option<&str>
+    ensures some { IfSome result (λ text. (text.now ≡ octets.now) × (is_utf8 octets.now ≡ true)) }
+    ensures none { IfNone result (is_utf8 octets.now ≡ false) }
+{
+    match std::str::from_utf8(octets) {
+        Ok(text) => Some(text),
+        Err(_) => None,
+    }
+}
+
+#[tactic(auto, unfolding(crate::specs::Text::text_reading))]
+impl Decode for Utf8String {
+    fn read(alloc: Global, tag: u8, content: &[u8]) -> Result<Utf8String, Error> {
+        if tag != Tag::Utf8String.octet() {
+            return Err(ErrorKind::Malformed.into());
+        }
+        let Some(text) = utf8_text(content) else {
+            return Err(ErrorKind::Malformed.into());
+        };
+        Ok(Utf8String {
+            text: String::from_str(alloc, text)?,
+        })
+    }
+}
+
+impl Encode for Utf8String {
+    ghost use Rattle.std.specs.Prelude.{refl};
+
+    fn put_content<R: Room>(&self, room: &mut R) -> Result<(), Error> {
+        room.put(self.text.as_bytes())
+    }
+
+    ghost same_tag = { λ value. refl };
+}
+
+impl FixedTag for Utf8String {
+    ghost use Rattle.std.specs.Prelude.{refl};
+    ghost use Rattle.x509_der_grammar.specs.declared.tag.Tag.TheVariants as tags;
+
+    ghost TAG = { tags.Utf8String };
+
+    const TAG: Tag = Tag::Utf8String;
+
+    ghost fixed = { λ value good. refl };
+}
+
+impl TryClone for Utf8String {
+    fn try_clone(&self, alloc: Global) -> Result<Utf8String, Error> {
+        Utf8String::new(alloc, self.as_str())
+    }
+}
+
+impl PartialEq for Utf8String {
+    ghost eq = { bytes_eq };
+
+    ghost laws = { partial_equiv_from_equiv nat_list_eq_equiv };
+
+    fn eq(&self, other: &Utf8String) -> bool {
+        self.text.as_bytes() == other.text.as_bytes()
+    }
+}
+
+impl Eq for Utf8String {
+    ghost laws = { nat_list_eq_equiv };
+}
+
+impl Hash for Utf8String {
+    ghost hash_input = { fed.slice fed.u8 };
+
+    ghost respects_eq = { Prim.search (hashing, rules) };
+
+    fn hash<H: Hasher>(&self, state: &mut H) {
+        self.text.as_bytes().hash(state);
+    }
+}
+
+impl fmt::Display for Utf8String {
+    fn fmt<W: fmt::Write>(&self, f: &mut fmt::Formatter<W>) -> fmt::Result {
+        fmt::Display::fmt(&self.text.as_str(), f)
+    }
+}
+
+impl fmt::Debug for Utf8String {
+    fn fmt<W: fmt::Write>(&self, f: &mut fmt::Formatter<W>) -> fmt::Result {
+        fmt::Debug::fmt(&self.text.as_str(), f)
+    }
+}
+
+/// A borrowed UTF8String.
+#[derive(Clone, Copy, Debug)]
+pub struct Utf8StringRef<'a> {
+    text: &'a str,
+}
+
+impl<'a> Utf8StringRef<'a> {
+    /// The text. Any text is one of this type, so no text is refused.
+    pub fn new(text: &'a str) -> Result<Utf8StringRef<'a>, Error>
+        ensures { IsOkAnd result (λ string. string.text.now ≡ text.now) }
+    {
+        Ok(Utf8StringRef { text })
+    }
+
+    /// The text of an element; `Malformed` exactly where it has another identifier, or a content that is not UTF-8.
+    pub fn from_any(any: AnyRef<'a>) -> Result<Utf8StringRef<'a>, Error>
+        ensures ok { IfOk result (λ string. (string.text.now ≡ any.entry.value.now) × (any.entry.tag ≡ tags.Utf8String) × (is_utf8 any.entry.value.now ≡ true)) }
+        ensures err { IfErr result (λ e. (e.kind ≡ errors.Malformed) × ((any.entry.tag ≢ tags.Utf8String) ⊎ (is_utf8 any.entry.value.now ≡ false))) }
+    {
+        if any.tag() != Tag::Utf8String {
+            return Err(ErrorKind::Malformed.into());
+        }
+        let Some(text) = utf8_text(any.value()) else {
+            return Err(ErrorKind::Malformed.into());
+        };
+        Ok(Utf8StringRef { text })
+    }
+
+    /// The text.
+    pub fn as_str(self) -> &'a str
+        ensures { result.now ≡ self.entry.text.now }
+    {
+        self.text
+    }
+}
