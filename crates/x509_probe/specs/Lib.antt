@@ -1,0 +1,3 @@
+pub mod Probe
+pub mod TenFields
+pub mod Number

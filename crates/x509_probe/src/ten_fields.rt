@@ -1,0 +1,138 @@
+//! A sequence of ten fields.
+
+use crate::number::Number;
+use crate::probe::Probe;
+use std::alloc::Global;
+use x509_der::{
+    Decode, Encode, Error, Grammar, ObjectIdentifier, PutPart, Room, SequenceOf, Tag,
+    default_explicit, end, expect_tag, explicit, explicit_default, explicit_field,
+    explicit_optional, field, implicit, implicit_field, implicit_optional, optional,
+    optional_explicit, optional_field, optional_implicit,
+};
+use x509_prim_string::{BitString, OctetString};
+
+/// Ten fields, of the kinds that a certificate has.
+///
+/// ```text
+/// TenFields ::= SEQUENCE {
+///     version       [0] EXPLICIT INTEGER (0..255) DEFAULT 0,
+///     name          OBJECT IDENTIFIER,
+///     number        Number,
+///     probes        SEQUENCE OF Probe,
+///     bits          [1] IMPLICIT BIT STRING OPTIONAL,
+///     further_bits  [2] IMPLICIT BIT STRING OPTIONAL,
+///     wrapped       [3] EXPLICIT OCTET STRING OPTIONAL,
+///     inner         [4] EXPLICIT Number,
+///     retagged      [5] IMPLICIT Probe,
+///     last          Probe OPTIONAL }
+/// ```
+#[derive(Debug, Drop, PartialEq, Eq)]
+pub struct TenFields {
+    /// The first field, with a default.
+    pub version: u8,
+
+    /// An identifier.
+    pub name: ObjectIdentifier,
+
+    /// A choice.
+    pub number: Number,
+
+    /// A list of sequences.
+    pub probes: SequenceOf<Probe>,
+
+    /// Bits.
+    pub bits: Option<BitString>,
+
+    /// Further bits.
+    pub further_bits: Option<BitString>,
+
+    /// Octets in an element of their own.
+    pub wrapped: Option<OctetString>,
+
+    /// A choice in an element of its own.
+    pub inner: Number,
+
+    /// A sequence under a tag in place of its own.
+    pub retagged: Probe,
+
+    /// A sequence that may be left out.
+    pub last: Option<Probe>,
+}
+
+impl Grammar for TenFields {
+    ghost use Rattle.x509_probe.specs.TenFields as grammar;
+
+    ghost form = { grammar.ten_fields };
+
+    fn identifier(&self) -> Tag {
+        Tag::Sequence
+    }
+
+    fn is_start(octet: u8) -> bool {
+        octet == 0x30
+    }
+
+    ghost lawful = { grammar.ten_fields_lawful };
+}
+
+#[tactic(auto, unfolding(crate::specs::TenFields::ten_fields_parts, x509_der_frames::specs::Frames::fields_reading))]
+impl Decode for TenFields {
+    fn read(alloc: Global, tag: u8, content: &[u8]) -> Result<TenFields, Error> {
+        expect_tag(tag, Tag::Sequence)?;
+        let mut rest = content;
+        let version = default_explicit::<u8>(alloc, 0, &mut rest)?;
+        let name = field::<ObjectIdentifier>(alloc, &mut rest)?;
+        let number = field::<Number>(alloc, &mut rest)?;
+        let probes = field::<SequenceOf<Probe>>(alloc, &mut rest)?;
+        let bits = optional_implicit::<BitString>(alloc, 1, &mut rest)?;
+        let further_bits = optional_implicit::<BitString>(alloc, 2, &mut rest)?;
+        let wrapped = optional_explicit::<OctetString>(alloc, 3, &mut rest)?;
+        let inner = explicit_field::<Number>(alloc, 4, &mut rest)?;
+        let retagged = implicit_field::<Probe>(alloc, 5, &mut rest)?;
+        let last = optional_field::<Probe>(alloc, &mut rest)?;
+        end(rest)?;
+        Ok(TenFields {
+            version,
+            name,
+            number,
+            probes,
+            bits,
+            further_bits,
+            wrapped,
+            inner,
+            retagged,
+            last,
+        })
+    }
+}
+
+#[tactic(auto, unfolding(crate::specs::TenFields::ten_fields_parts, x509_der_frames::specs::Frames::fields_octets))]
+impl Encode for TenFields {
+    ghost use Rattle.std.specs.Prelude.{refl};
+
+    fn put_content<R: Room>(&self, room: &mut R) -> Result<(), Error> {
+        let front = (
+            explicit_default(0, &self.version),
+            (
+                &self.name,
+                (
+                    &self.number,
+                    (&self.probes, implicit_optional(1, &self.bits)),
+                ),
+            ),
+        );
+        let behind = (
+            implicit_optional(2, &self.further_bits),
+            (
+                explicit_optional(3, &self.wrapped),
+                (
+                    explicit(4, &self.inner),
+                    (implicit(5, &self.retagged), optional(&self.last)),
+                ),
+            ),
+        );
+        (front, behind).put_text(room)
+    }
+
+    ghost same_tag = { λ value. refl };
+}
