@@ -1,3 +1,4 @@
+pub mod Steps
 pub mod Stored
 pub mod Subidentifiers
 pub mod ArcLaws
