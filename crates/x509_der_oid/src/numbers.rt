@@ -59,8 +59,10 @@ impl Numbers {
 
     /// The arcs that a dotted text says.
     pub fn arcs_in(text: &str) -> Option<Numbers>
-        ensures found { IfSome result (λ arcs. (0 < length arcs) × AreSmall arcs × (text.now ≡ dotted arcs)) }
-        ensures only { (arcs : List ℕ) → 0 < length arcs → length arcs ≤ 40 → AreSmall arcs → text.now ≡ dotted arcs → result ≡ Some arcs }
+        ensures found { IfSome result (λ arcs.
+            (0 < length arcs) × AreSmall arcs × (text.now ≡ dotted arcs)) }
+        ensures only { (arcs : List ℕ) → 0 < length arcs → length arcs ≤ 40 → AreSmall arcs
+            → text.now ≡ dotted arcs → result ≡ Some arcs }
     {
         let mut numbers = Numbers::new();
         for part in text.split('.') {
