@@ -1,3 +1,4 @@
+pub mod Steps
 pub mod TextLaws
 pub mod Numerals
 pub mod StandardFacts

@@ -1,6 +1,6 @@
 //! Content octets as they are put together from arcs, with no allocation.
 
-ghost use Rattle.std.specs.Prelude.{◌≡◌, ℕ, ◌+◌, ◌<◌, ◌≤◌, List, [], ◌∷◌, ◌++◌, length, map, take, Some, IfSome, IfNone, OnSome};
+ghost use Rattle.std.specs.Prelude.{◌≡◌, ℕ, ◌+◌, ◌<◌, ◌≤◌, List, [], ◌∷◌, ◌++◌, length, take, Some, IfSome, IfNone, OnSome};
 ghost use Rattle.std.specs.List.{flat_map};
 ghost use Rattle.std.specs.Int.Digits.{digits_of};
 ghost use Rattle.x509_der_oid.specs.Arcs.{AreArcs, content_limit, content_of, high_octets, subidentifier};

@@ -1,6 +1,6 @@
 //! The value of an OBJECT IDENTIFIER.
 
-ghost use Rattle.std.specs.Prelude.{◌≡◌, ◌*◌, ◌≤◌, ◌<◌, ℕ, List, length, true, IfOk, IfErr, Ok, Err, if◌then◌else◌};
+ghost use Rattle.std.specs.Prelude.{◌≡◌, ◌*◌, ◌≤◌, ℕ, List, true, IfOk, IfErr, Ok, Err, if◌then◌else◌};
 ghost use Rattle.x509_der_grammar.specs.Outcome.{Gives};
 ghost use Rattle.x509_der_grammar.specs.declared.error.ErrorKind.TheVariants.{Failed, Malformed};
 ghost use Rattle.x509_der_oid.specs.Arcs.{AreArcs, content_of, dotted};
@@ -38,7 +38,10 @@ impl Model for ObjectIdentifier {
 
     ghost inverse = { λ v. record { len = length v; octets = v ++ replicate (39 - length v) 0 } };
 
-    ghost inverse_ok = { λ a h i. record { len = front_length a.len a.octets h i; octets = padded a.len a.octets h i } };
+    ghost inverse_ok = { λ a h i. record {
+      len = front_length a.len a.octets h i;
+      octets = padded a.len a.octets h i;
+    } };
 }
 
 // 128 times as much is past the largest subidentifier, 4,294,967,295.
@@ -99,11 +102,14 @@ impl ObjectIdentifier {
     /// zeros, joined by full stops; the first arc is above 2, or the second above 39 under 0 or 1 (X.690 8.19.4); or the
     /// content has a subidentifier above 4,294,967,295 or more than 39 octets.
     pub fn new(text: &str) -> Result<ObjectIdentifier, Error>
-        ensures ok { IfOk result (λ v. (arcs : List ℕ) × AreArcs arcs × (text.now ≡ dotted arcs) × (v ≡ content_of arcs)) }
-        ensures value { (arcs : List ℕ) → AreArcs arcs → text.now ≡ dotted arcs → result ≡ Ok (content_of arcs) }
+        ensures ok { IfOk result (λ v. (arcs : List ℕ) × AreArcs arcs
+            × (text.now ≡ dotted arcs) × (v ≡ content_of arcs)) }
+        ensures value { (arcs : List ℕ) → AreArcs arcs
+            → text.now ≡ dotted arcs → result ≡ Ok (content_of arcs) }
         ensures err { IfErr result (λ e. e.kind ≡ Failed) }
         // What `Display` writes is read as the value that it was written of, and is the text that was read.
-        ensures written { (content : List ℕ) → is_object_identifier content ≡ true → text.now ≡ dotted (arcs_of content) → result ≡ Ok content }
+        ensures written { (content : List ℕ) → is_object_identifier content ≡ true
+            → text.now ≡ dotted (arcs_of content) → result ≡ Ok content }
         ensures writes { IfOk result (λ v. text.now ≡ dotted (arcs_of v)) }
     {
         let Some(arcs) = Numbers::arcs_in(text) else {
@@ -122,11 +128,14 @@ impl ObjectIdentifier {
     /// `Malformed` where no arcs have this content: it is empty, ends within a subidentifier, has one that begins with
     /// the octet 0x80 or is above 4,294,967,295, or is longer than 39 octets (X.690 8.19.2).
     pub fn from_bytes(content: &[u8]) -> Result<ObjectIdentifier, Error>
-        ensures ok { IfOk result (λ v. (arcs : List ℕ) × AreArcs arcs × (content.now ≡ content_of arcs) × (v ≡ content.now)) }
-        ensures value { (arcs : List ℕ) → AreArcs arcs → content.now ≡ content_of arcs → result ≡ Ok content.now }
+        ensures ok { IfOk result (λ v. (arcs : List ℕ) × AreArcs arcs
+            × (content.now ≡ content_of arcs) × (v ≡ content.now)) }
+        ensures value { (arcs : List ℕ) → AreArcs arcs
+            → content.now ≡ content_of arcs → result ≡ Ok content.now }
         ensures err { IfErr result (λ e. e.kind ≡ Malformed) }
         // The same by the test that a reader runs.
-        ensures exact { Gives result (if is_object_identifier content.now then Ok content.now else Err Malformed) }
+        ensures exact { Gives result
+            (if is_object_identifier content.now then Ok content.now else Err Malformed) }
     {
         if is_content(content) {
             Ok(ObjectIdentifier::from_checked(content))

@@ -16,11 +16,13 @@ pub fn one_text()
 
 /// The test of content octets passes exactly what is the content of arcs.
 pub fn tested_contents()
-    ensures { (content : List ℕ) → (is_object_identifier content ≡ true) ↔ ((arcs : List ℕ) × AreArcs arcs × (content ≡ content_of arcs)) }
+    ensures { (content : List ℕ) → (is_object_identifier content ≡ true)
+        ↔ ((arcs : List ℕ) × AreArcs arcs × (content ≡ content_of arcs)) }
 {}
 
 /// The arcs of a content are the arcs that have it.
 pub fn arcs_of_contents()
-    ensures content { (content : List ℕ) → is_object_identifier content ≡ true → AreArcs (arcs_of content) × (content_of (arcs_of content) ≡ content) }
+    ensures content { (content : List ℕ) → is_object_identifier content ≡ true
+        → AreArcs (arcs_of content) × (content_of (arcs_of content) ≡ content) }
     ensures arcs { (arcs : List ℕ) → AreArcs arcs → arcs_of (content_of arcs) ≡ arcs }
 {}

@@ -1,6 +1,6 @@
 //! Arcs and subidentifiers, with no allocation.
 
-ghost use Rattle.std.specs.Prelude.{◌≡◌, ℕ, ◌+◌, ◌^◌, ◌<◌, ◌≤◌, List, [], ◌∷◌, ◌++◌, length, take, Some, IfSome, true, IsTrue, ◌↔◌};
+ghost use Rattle.std.specs.Prelude.{◌≡◌, ℕ, ◌^◌, ◌<◌, ◌≤◌, List, [], ◌∷◌, ◌++◌, length, take, Some, IfSome, true, IsTrue, ◌↔◌};
 ghost use Rattle.std.specs.Fmt.{decimal};
 ghost use Rattle.x509_der_oid.specs.Arcs.{AreSmall, dotted};
 ghost use Rattle.x509_der_oid.specs.ObjectIdentifier.{is_object_identifier, subidentifiers_in};
@@ -59,8 +59,10 @@ impl Numbers {
 
     /// The arcs that a dotted text says.
     pub fn arcs_in(text: &str) -> Option<Numbers>
-        ensures found { IfSome result (λ arcs. (0 < length arcs) × AreSmall arcs × (text.now ≡ dotted arcs)) }
-        ensures only { (arcs : List ℕ) → 0 < length arcs → length arcs ≤ 40 → AreSmall arcs → text.now ≡ dotted arcs → result ≡ Some arcs }
+        ensures found { IfSome result (λ arcs.
+            (0 < length arcs) × AreSmall arcs × (text.now ≡ dotted arcs)) }
+        ensures only { (arcs : List ℕ) → 0 < length arcs → length arcs ≤ 40 → AreSmall arcs
+            → text.now ≡ dotted arcs → result ≡ Some arcs }
     {
         let mut numbers = Numbers::new();
         for part in text.split('.') {
@@ -93,13 +95,16 @@ impl Numbers {
     }
 }
 
+// The least octet with which two or more digits begin.
+const LEAST_FIRST_DIGIT: u8 = b'1';
+
 // The arc that a text says: decimal digits without leading zeros.
 fn arc_in(text: &str) -> Option<u32>
     ensures found { IfSome result (λ arc. text.now ≡ decimal arc) }
     ensures only { (arc : ℕ) → arc < 2 ^ 32 → text.now ≡ decimal arc → result ≡ Some arc }
 {
-    // A sign or a leading zero, which `parse` would take.
-    if text.len() > 1 && text.as_bytes()[0] < b'1' {
+    // Below it are the sign and the leading zero, which `parse` would take.
+    if text.len() > 1 && text.as_bytes()[0] < LEAST_FIRST_DIGIT {
         return None;
     }
     text.parse::<u32>().ok()

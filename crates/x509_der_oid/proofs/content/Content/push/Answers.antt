@@ -1,5 +1,6 @@
 use Rattle.std.proofs.Common.{◌/◌, length, arith, ap, length-append}
-use Rattle.x509_der_oid.specs.Subidentifiers.{subidentifier_pushed, length-subidentifier, length-high_octets, OnSome-then, IfNone-then}
+use Rattle.x509_der_oid.specs.Subidentifiers.{subidentifier_pushed, length-subidentifier, length-high_octets}
+use Rattle.x509_der_oid.proofs.Steps.{OnSome-then, IfNone-then}
 use Rattle.std.specs.Int.Digits.{digits_of}
 use Rattle.x509_der_oid.specs.Arcs.{high_octets}
 use Rattle.x509_der_oid.proofs.content.Content.push.Goals as goal
