@@ -1,3 +1,4 @@
 pub mod Octets
 pub mod Elements
 pub mod Fronts
+pub mod Tags

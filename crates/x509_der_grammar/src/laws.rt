@@ -3,9 +3,16 @@
 
 ghost use Rattle.std.specs.Prelude.{◌≡◌, ◌++◌, List, ℕ};
 ghost use Rattle.x509_der_grammar.specs.Element.{element};
+ghost use Rattle.x509_der_grammar.specs.Tag.{octet_of};
+ghost use Rattle.x509_der_grammar.specs.declared.tag.Tag.{Tag};
 ghost use Rattle.x509_der_grammar.specs.Form.{spelling, Spells};
 
 use crate::grammar::Grammar;
+
+/// No two tags share an identifier octet.
+pub fn one_tag()
+    ensures { (s t : Tag) → octet_of s ≡ octet_of t → s ≡ t }
+{}
 
 /// No element begins another: bytes that begin with two elements begin with one, and the same follows it.
 pub fn no_element_begins_another()

@@ -170,10 +170,11 @@ impl Tag {
     }
 
     /// The tag with the identifier octet; `Malformed` where there is none.
-    #[tactic(auto, using(crate::proofs::Octets::octet_refused), unfolding(crate::specs::Element::is_identifier, crate::specs::Element::is_universal))]
+    #[tactic(auto, using(crate::proofs::Octets::octet_refused, crate::proofs::Tags::same_tag), unfolding(crate::specs::Element::is_identifier, crate::specs::Element::is_universal))]
     pub fn from_octet(octet: u8) -> Result<Tag, Error>
         ensures ok { IfOk result (λ tag. octet_of tag ≡ octet) }
         ensures err { IfErr result (λ e. (e.kind ≡ errors.Malformed) × ((tag : Tag) → octet_of tag ≢ octet)) }
+        ensures value { (tag : Tag) → octet_of tag ≡ octet → IfOk result (λ found. found ≡ tag) }
     {
         if !check_identifier(octet) {
             return Err(ErrorKind::Malformed.into());
