@@ -30,3 +30,7 @@ test_ok false d r y e = absurd cc
 pub test_err : {A : Type 0} (b : Bool) (d : ErrorKind) (r : Result A ErrorKind) (e : ErrorKind) → cond b r (Err d) ≡ Err e → (r ≡ Err e) ⊎ (d ≡ e)
 test_err true d r e h = inl h
 test_err false d r e h = inr cc
+
+-- a value is no refusal
+pub not_refused : {A Q : Type 0} (x : A) (e : ErrorKind) → made x ≡ Err e → Q
+not_refused x e h = absurd cc

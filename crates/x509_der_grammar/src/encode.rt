@@ -74,7 +74,7 @@ pub trait Encode: Grammar {
     }
 
     /// Writes the bytes of the value at the end of the room, and answers how many bytes of the room come before
-    /// them; those stay as they were. It takes no memory.
+    /// them; those stay as they were. It takes no memory. Where it is refused, the room may hold a part of them.
     final fn encode_into(&self, room: &mut [u8]) -> Result<usize, Error>
         ensures ok { OnOk result (IsWritable Self.form (writes writing self.now) (min (length room.old) limit)) }
         ensures bytes { IfOk result (λ before. room.new ≡ take before room.old ++ written_spelling Self.form (writes writing self.now)) }
@@ -86,8 +86,10 @@ pub trait Encode: Grammar {
         Ok(fixed.start())
     }
 
-    /// Writes the bytes of the value at the end of the room, and answers that part. What comes before it stays as
-    /// it was. It takes no memory.
+    /// Writes the bytes of the value at the end of the room, and answers that part, as [`encode_into`]: what comes
+    /// before it stays as it was. It takes no memory.
+    ///
+    /// [`encode_into`]: Encode::encode_into
     final fn encode_to_slice<'a>(&self, room: &'a mut [u8]) -> Result<&'a [u8], Error>
         ensures ok { OnOk result (IsWritable Self.form (writes writing self.now) (min (length room.old) limit)) }
         ensures bytes { IfOk result (λ bytes. bytes.now ≡ written_spelling Self.form (writes writing self.now)) }

@@ -13,6 +13,8 @@ pub mod laws;
 mod length;
 mod room;
 mod tag;
+#[cfg(test)]
+mod tests;
 
 pub use bytes::Bytes;
 pub use clone::TryClone;
