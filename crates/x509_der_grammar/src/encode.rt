@@ -12,7 +12,7 @@ use std::alloc::Global;
 
 /// A type that is written as its spelling, in one pass from the end.
 pub trait Encode: Grammar {
-    ghost use Rattle.std.specs.Prelude.{◌≡◌, ◌<◌, ◌≤◌, ◌++◌, ◌⊎◌, Some, None, IfOk, IfErr, OnOk, length, take, min};
+    ghost use Rattle.std.specs.Prelude.{◌≡◌, ◌+◌, ◌<◌, ◌≤◌, ◌++◌, ◌⊎◌, Some, None, IfOk, IfErr, OnOk, length, take, min};
     ghost use Rattle.x509_der_grammar.specs.Element.{limit};
     ghost use Rattle.x509_der_grammar.specs.Form.{spelling};
     ghost use Rattle.x509_der_grammar.specs.Writing.{Writing, plain, writes, Puts, IsWritable, IsUnwritable, written_spelling};
@@ -78,7 +78,7 @@ pub trait Encode: Grammar {
     final fn encode_into(&self, room: &mut [u8]) -> Result<usize, Error>
         ensures ok { OnOk result (IsWritable Self.form (writes writing self.now) (min (length room.old) limit)) }
         ensures bytes { IfOk result (λ before. room.new ≡ take before room.old ++ written_spelling Self.form (writes writing self.now)) }
-        ensures before { IfOk result (λ before. before ≤ length room.old) }
+        ensures before { IfOk result (λ before. before + length (written_spelling Self.form (writes writing self.now)) ≡ length room.old) }
         ensures err { IfErr result (λ e. IsUnwritable Self.form (writes writing self.now) (min (length room.old) limit) e.kind) }
     {
         let mut fixed = Fixed::new(room);

@@ -1,6 +1,6 @@
 //! Rooms, and values that are written into them.
 
-use crate::{Bytes, Counting, Encode, Error, ErrorKind, Fixed, Growing, Room, put_header};
+use crate::{Bytes, Counting, Decode, Encode, Error, ErrorKind, Fixed, Growing, Room, put_header};
 use std::test::*;
 
 #[test]
@@ -87,17 +87,40 @@ fn headers(rt: HostRuntime) -> Result<(), Fail> {
     Ok(())
 }
 
-/// The spelling of five octets, or that memory was refused.
-fn spelling(rt: &HostRuntime) -> Result<bool, Error> {
-    let value = Bytes::from_slice(rt.alloc(), &[0x01, 0x02, 0x03, 0x04, 0x05])?;
+/// Whether five octets are read and written again; each step may be refused memory.
+fn written_again(rt: &HostRuntime) -> Result<bool, Error> {
+    let spelling = [0x04, 0x05, 0x01, 0x02, 0x03, 0x04, 0x05];
+    let value = Bytes::from_der(rt.alloc(), &spelling)?;
     let der = value.to_der(rt.alloc())?;
-    Ok(der.as_slice() == [0x04, 0x05, 0x01, 0x02, 0x03, 0x04, 0x05].as_slice())
+    Ok(der.as_slice() == spelling.as_slice())
+}
+
+/// Whether 400 octets and their header stand in a room that grew several times.
+fn grown(rt: &HostRuntime) -> Result<bool, Error> {
+    let mut room = Growing::new(rt.alloc());
+    for _ in 0..4 {
+        room.put(&[0xAB; 100])?;
+    }
+    put_header(0x04, 400, &mut room)?;
+    let bytes = room.into_vec();
+    Ok(
+        bytes.len() == 404
+            && bytes
+                .as_slice()
+                .starts_with(&[0x04, 0x82, 0x01, 0x90, 0xAB]),
+    )
+}
+
+/// The right answer, or that memory was refused.
+fn is_right_or_memory(answer: Result<bool, Error>) -> bool {
+    match answer {
+        Ok(right) => right,
+        Err(e) => e.kind() == ErrorKind::Memory,
+    }
 }
 
 #[test]
 fn refused_memory(rt: HostRuntime) {
-    match spelling(&rt) {
-        Ok(right) => assert!(rt; right),
-        Err(e) => assert_eq!(rt; e.kind(), ErrorKind::Memory),
-    }
+    assert!(rt; is_right_or_memory(written_again(&rt)));
+    assert!(rt; is_right_or_memory(grown(&rt)));
 }
