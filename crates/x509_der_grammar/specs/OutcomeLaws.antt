@@ -51,3 +51,7 @@ refusal_only errors.Value reading v g e = absurd (let x = sym g ∙ e in cc)
 pub gives_only : {X : Type 0} (r : Result X Error) (reading : Result X ErrorKind) (v : X) → Gives r reading → reading ≡ Ok v → IfErr r (λ e. e.kind ≡ errors.Memory)
 gives_only (Ok x) reading v g e = tt
 gives_only (Err d) reading v g e = refusal_only d.kind reading v g e
+
+-- a value is no refusal
+pub not_refused : {A Q : Type 0} (x : A) (e : ErrorKind) → made x ≡ Err e → Q
+not_refused x e h = absurd cc

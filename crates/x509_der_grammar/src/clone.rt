@@ -1,5 +1,8 @@
 //! Copies that may want memory.
 
+ghost use Rattle.std.specs.Prelude.{◌≡◌, Ok, None, IfOk, IfErr};
+ghost use Rattle.x509_der_grammar.specs.declared.error.ErrorKind.TheVariants.{Memory};
+
 use crate::error::Error;
 use std::alloc::Global;
 
@@ -15,7 +18,11 @@ pub trait TryClone: Sized {
 }
 
 impl<T: TryClone> TryClone for Option<T> {
-    fn try_clone(&self, alloc: Global) -> Result<Option<T>, Error> {
+    fn try_clone(&self, alloc: Global) -> Result<Option<T>, Error>
+        ensures ok { IfOk result (λ copy. copy ≡ self.now) }
+        ensures err { IfErr result (λ e. e.kind ≡ Memory) }
+        ensures none { self.now ≡ None → result ≡ Ok None }
+    {
         match self {
             None => Ok(None),
             Some(value) => Ok(Some(value.try_clone(alloc)?)),
@@ -24,37 +31,49 @@ impl<T: TryClone> TryClone for Option<T> {
 }
 
 impl TryClone for bool {
-    fn try_clone(&self, _alloc: Global) -> Result<bool, Error> {
+    fn try_clone(&self, _alloc: Global) -> Result<bool, Error>
+        ensures { result ≡ Ok self.now }
+    {
         Ok(*self)
     }
 }
 
 impl TryClone for u8 {
-    fn try_clone(&self, _alloc: Global) -> Result<u8, Error> {
+    fn try_clone(&self, _alloc: Global) -> Result<u8, Error>
+        ensures { result ≡ Ok self.now }
+    {
         Ok(*self)
     }
 }
 
 impl TryClone for u16 {
-    fn try_clone(&self, _alloc: Global) -> Result<u16, Error> {
+    fn try_clone(&self, _alloc: Global) -> Result<u16, Error>
+        ensures { result ≡ Ok self.now }
+    {
         Ok(*self)
     }
 }
 
 impl TryClone for u32 {
-    fn try_clone(&self, _alloc: Global) -> Result<u32, Error> {
+    fn try_clone(&self, _alloc: Global) -> Result<u32, Error>
+        ensures { result ≡ Ok self.now }
+    {
         Ok(*self)
     }
 }
 
 impl TryClone for u64 {
-    fn try_clone(&self, _alloc: Global) -> Result<u64, Error> {
+    fn try_clone(&self, _alloc: Global) -> Result<u64, Error>
+        ensures { result ≡ Ok self.now }
+    {
         Ok(*self)
     }
 }
 
 impl TryClone for u128 {
-    fn try_clone(&self, _alloc: Global) -> Result<u128, Error> {
+    fn try_clone(&self, _alloc: Global) -> Result<u128, Error>
+        ensures { result ≡ Ok self.now }
+    {
         Ok(*self)
     }
 }

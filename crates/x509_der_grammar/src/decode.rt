@@ -18,7 +18,7 @@ pub trait Decode: Grammar {
     ghost use Rattle.std.specs.Prelude.{◌≡◌, List, length, ◌<◌, ◌≤◌, ◌⊎◌, IfOk, IfErr, IsErrAnd};
     ghost use Rattle.x509_der_grammar.specs.Outcome.{Gives};
     ghost use Rattle.x509_der_grammar.specs.Element.{limit};
-    ghost use Rattle.x509_der_grammar.specs.Form.{Spells};
+    ghost use Rattle.x509_der_grammar.specs.Form.{Spells, whole_reading};
     ghost use Rattle.x509_der_grammar.specs.declared.error.ErrorKind.TheVariants as errors;
 
     /// The value of an element with this identifier octet and this content.
@@ -36,6 +36,7 @@ pub trait Decode: Grammar {
         ensures refused { length bytes.now ≤ limit → IfErr result (λ e. (e.kind ≡ errors.Memory) ⊎ ((e.kind ≡ errors.Malformed) ⊎ Self.refuses e.kind)) }
         ensures only { length bytes.now ≤ limit → (value : Self) → Spells Self.form value bytes.now → IfErr result (λ e. e.kind ≡ errors.Memory) }
         ensures value { (value : Self) → Spells Self.form value bytes.now → IfOk result (λ found. found ≡ value) }
+        ensures which { length bytes.now ≤ limit → Gives result (whole_reading Self.form.reading bytes.now) }
     {
         if bytes.len() > Length::MAX.as_u32() as usize {
             return Err(ErrorKind::Overlength.into());

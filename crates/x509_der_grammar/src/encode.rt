@@ -12,7 +12,7 @@ use std::alloc::Global;
 
 /// A type that is written as its spelling, in one pass from the end.
 pub trait Encode: Grammar {
-    ghost use Rattle.std.specs.Prelude.{◌≡◌, ◌<◌, ◌≤◌, ◌++◌, ◌⊎◌, Some, None, IfOk, IfErr, OnOk, length, take, min};
+    ghost use Rattle.std.specs.Prelude.{◌≡◌, ◌+◌, ◌<◌, ◌≤◌, ◌++◌, ◌⊎◌, Some, None, IfOk, IfErr, OnOk, length, take, min};
     ghost use Rattle.x509_der_grammar.specs.Element.{limit};
     ghost use Rattle.x509_der_grammar.specs.Form.{spelling};
     ghost use Rattle.x509_der_grammar.specs.Writing.{Writing, plain, writes, Puts, IsWritable, IsUnwritable, written_spelling};
@@ -74,11 +74,11 @@ pub trait Encode: Grammar {
     }
 
     /// Writes the bytes of the value at the end of the room, and answers how many bytes of the room come before
-    /// them; those stay as they were. It takes no memory.
+    /// them; those stay as they were. It takes no memory. Where it is refused, the room may hold a part of them.
     final fn encode_into(&self, room: &mut [u8]) -> Result<usize, Error>
         ensures ok { OnOk result (IsWritable Self.form (writes writing self.now) (min (length room.old) limit)) }
         ensures bytes { IfOk result (λ before. room.new ≡ take before room.old ++ written_spelling Self.form (writes writing self.now)) }
-        ensures before { IfOk result (λ before. before ≤ length room.old) }
+        ensures before { IfOk result (λ before. before + length (written_spelling Self.form (writes writing self.now)) ≡ length room.old) }
         ensures err { IfErr result (λ e. IsUnwritable Self.form (writes writing self.now) (min (length room.old) limit) e.kind) }
     {
         let mut fixed = Fixed::new(room);
@@ -86,8 +86,10 @@ pub trait Encode: Grammar {
         Ok(fixed.start())
     }
 
-    /// Writes the bytes of the value at the end of the room, and answers that part. What comes before it stays as
-    /// it was. It takes no memory.
+    /// Writes the bytes of the value at the end of the room, and answers that part, as [`encode_into`]: what comes
+    /// before it stays as it was. It takes no memory.
+    ///
+    /// [`encode_into`]: Encode::encode_into
     final fn encode_to_slice<'a>(&self, room: &'a mut [u8]) -> Result<&'a [u8], Error>
         ensures ok { OnOk result (IsWritable Self.form (writes writing self.now) (min (length room.old) limit)) }
         ensures bytes { IfOk result (λ bytes. bytes.now ≡ written_spelling Self.form (writes writing self.now)) }

@@ -16,6 +16,8 @@ mod length;
 mod natural;
 mod room;
 mod tag;
+#[cfg(test)]
+mod tests;
 
 pub use bytes::Bytes;
 pub use clone::TryClone;
