@@ -1,5 +1,5 @@
 -- Calls of readers and writers whose bytes std knows.
-use Rattle.std.proofs.Common.{◌≡◌, ◌<◌, ◌≤◌, ◌+◌, ℕ, suc, zero, List, [], ◌++◌, length, Option, Some, None, refl, ap, sym, ◌∙◌, arith, subst, append_assoc, append-nil, length-append}
+use Rattle.std.proofs.Common.{◌≡◌, ◌<◌, ℕ, suc, zero, List, [], ◌++◌, length, Option, Some, None, refl, ap, sym, ◌∙◌, arith, subst, append_assoc, append-nil, length-append}
 use Rattle.std.specs.Io.KnownBytes.{Consumes, Appends, IsAtEnd}
 use Rattle.x509_tool.specs.Transfer.{Moves, ReadGives, WriteTakes}
 use Rattle.x509_tool.specs.Input.{Whole, TooLong, IsRead, input_limit}
@@ -23,8 +23,7 @@ Moves-reads remaining s zero bytes t known is h =
     (known, ap remaining h.1 ∙ is, sym (ap (λ xs. xs ++ known) h.0))
 Moves-reads remaining s (suc calls) bytes t known is h =
     let before = Moves-reads remaining s calls h.1 h.0 known is h.3 in
-    let after = consumes-known (remaining h.0) (remaining t) before.0 h.2 before.1 h.4.0 in
-    (
+    let after = consumes-known (remaining h.0) (remaining t) before.0 h.2 before.1 h.4.0 in (
       after.0,
       after.1,
       before.2 ∙ ap (λ xs. h.1 ++ xs) after.2 ∙ sym (append_assoc h.1 h.2 after.0) ∙ sym (ap (λ xs. xs ++ after.0) h.6),

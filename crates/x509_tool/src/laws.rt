@@ -14,12 +14,10 @@ pub fn known_input<R: io::Read>()
         → IsRead ⟦<R as Source>⟧.gives from (Whole bytes) to → bytes ≡ known }
     ensures too_long { (from to : R) (known : List ℕ) → R.remaining from ≡ Some known
         → IsRead ⟦<R as Source>⟧.gives from TooLong to → input_limit < length known }
-{
-}
+{}
 
 /// A text that is written stands after what the writer held.
 pub fn known_output<W: io::Write>()
     ensures { (from to : W) (known text : List ℕ) → W.contents from ≡ Some known
         → IsWritten ⟦<W as Sink>⟧.takes from text to → W.contents to ≡ Some (known ++ text) }
-{
-}
+{}

@@ -35,7 +35,7 @@ fn bytes_of(alloc: Global, line: &[u8]) -> Result<Vec<u8>, Refusal>
     ensures { MatchResult result
         (λ bytes. decode_of line.now ≡ Ok bytes.items)
         (λ refusal. (refusal ≡ Because Memory)
-            ⊎ ((refusal ≡ Because Failed) × IsErr (decode_of line.now))) }
+        ⊎ ((refusal ≡ Because Failed) × IsErr (decode_of line.now))) }
 {
     match hex::decode(alloc, line) {
         Ok(bytes) => Ok(bytes),
@@ -48,9 +48,9 @@ fn bytes_of(alloc: Global, line: &[u8]) -> Result<Vec<u8>, Refusal>
 fn answer<C: Codec>(alloc: Global, command: Command, line: &[u8]) -> Result<String, Refusal>
     ensures { MatchResult result
         (λ text. (answer : List ℕ) × IsLineAnswer C.reencodes command line.now (Ok answer)
-            × (string_bytes text ≡ as_line answer))
+        × (string_bytes text ≡ as_line answer))
         (λ refusal. (refusal ≡ Because Memory)
-            ⊎ IsLineAnswer C.reencodes command line.now (Err refusal)) }
+        ⊎ IsLineAnswer C.reencodes command line.now (Err refusal)) }
 {
     let bytes = bytes_of(alloc, line)?;
     let encoding = match command {
@@ -80,8 +80,8 @@ fn read_and_answer<C: Codec, R: Source>(
 ) -> Result<String, Refusal>
     ensures { MatchResult result
         (λ line. (text : List ℕ)
-            × Answers C.reencodes command R.gives reader.old reader.new (Ok text)
-            × (string_bytes line ≡ as_line text))
+        × Answers C.reencodes command R.gives reader.old reader.new (Ok text)
+        × (string_bytes line ≡ as_line text))
         (λ refusal. Answers C.reencodes command R.gives reader.old reader.new (Err refusal)) }
 {
     let input = read_input(alloc, reader)?;
@@ -108,7 +108,7 @@ pub fn run_with<C: Codec, R: Source, W: Sink>(
         → Says W.takes writer.old usage 2 writer.new result }
     ensures obeys { IfSome (command_of (map string_bytes words.now)) (λ command.
         Obeys C.reencodes command
-            R.gives reader.old reader.new W.takes writer.old writer.new result) }
+        R.gives reader.old reader.new W.takes writer.old writer.new result) }
 {
     let Some(command) = Command::from_words(words) else {
         return say(writer, USAGE, 2);
@@ -131,7 +131,7 @@ pub fn run<R: Source, W: Sink>(
         → Says W.takes writer.old usage 2 writer.new result }
     ensures obeys { IfSome (command_of (map string_bytes words.now)) (λ command.
         Obeys ⟦<Octets as Codec>⟧.reencodes command
-            R.gives reader.old reader.new W.takes writer.old writer.new result) }
+        R.gives reader.old reader.new W.takes writer.old writer.new result) }
 {
     run_with::<Octets, R, W>(alloc, words, reader, writer)
 }
