@@ -5,7 +5,7 @@ use Rattle.x509_tool.specs.declared.command.Command.{Command}
 use Rattle.x509_tool.specs.declared.refusal.Refusal.{Refusal}
 use Rattle.x509_tool.specs.declared.refusal.Refusal.TheVariants.{Because}
 use Rattle.x509_tool.specs.Input.{Whole, IsRead}
-use Rattle.x509_tool.specs.Answer.{Answer, Reencoding, IsLineAnswer, line_of}
+use Rattle.x509_tool.specs.Answer.{Reencoding, IsLineAnswer, line_of}
 use Rattle.x509_tool.specs.Program.{Answers}
 
 -- an answer to the line is one to the input

@@ -1,10 +1,9 @@
 -- How reading ends.
-use Rattle.std.proofs.Common.{◌≡◌, ◌<◌, ◌≤◌, ℕ, List, length, Option, Result, Ok, Err, sym, subst, arith}
+use Rattle.std.proofs.Common.{◌≡◌, ℕ, List, Option, Result, Ok, Err, sym, subst}
 use Rattle.std.specs.Result.{IsErrAnd}
 use Rattle.x509_der_grammar.specs.declared.error.ErrorKind.TheVariants.{Memory}
 use Rattle.x509_tool.specs.declared.refusal.Refusal.{Refusal}
 use Rattle.x509_tool.specs.declared.refusal.Refusal.TheVariants.{Because}
-use Rattle.x509_tool.specs.Transfer.{Moves}
 use Rattle.x509_tool.specs.Input.{Unkept, IsRead, EndsReading}
 
 -- a refusal for want of memory leaves an input that isn't kept

@@ -2,3 +2,4 @@ pub mod Transfers
 pub mod Inputs
 pub mod Writes
 pub mod AnswerLemmas
+pub mod Known

@@ -1,5 +1,5 @@
 -- Calls that move bytes, one after the other.
-use Rattle.std.proofs.Common.{◌≡◌, ◌≢◌, ◌≤◌, ◌+◌, ℕ, suc, zero, List, [], ◌∷◌, ◌++◌, length, Option, Some, refl, arith, add-one, length-append, length-take, min, take, ap, sym}
+use Rattle.std.proofs.Common.{◌≡◌, ◌≢◌, ◌≤◌, ◌+◌, ℕ, suc, zero, List, [], ◌∷◌, ◌++◌, length, Option, Some, refl, arith, add-one, length-append, length-take, take, ap}
 use Rattle.x509_tool.specs.Transfer.{Moves}
 
 -- a list that isn't empty has an item

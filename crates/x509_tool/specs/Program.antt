@@ -2,7 +2,7 @@
 use Rattle.std.specs.Prelude.{◌≡◌, ◌≢◌, ℕ, List, [], ◌++◌, Option, Some, None, ◌⊎◌}
 use Rattle.x509_tool.specs.Transfer.{Moves}
 use Rattle.x509_tool.specs.Input.{Input, IsRead}
-use Rattle.x509_tool.specs.Answer.{Answer, Reencoding, IsAnswer, text_of, status_of, as_line, usage}
+use Rattle.x509_tool.specs.Answer.{Answer, Reencoding, IsAnswer, text_of, status_of, as_line}
 use Rattle.x509_tool.specs.declared.command.Command.{Command}
 
 -- writes lead from one state to another and take this text

@@ -4,6 +4,7 @@
 mod arguments;
 mod command;
 mod input;
+mod laws;
 mod output;
 mod program;
 mod reencode;

@@ -34,7 +34,8 @@ fn line_of(input: &[u8]) -> &[u8]
 fn bytes_of(alloc: Global, line: &[u8]) -> Result<Vec<u8>, Refusal>
     ensures { MatchResult result
         (λ bytes. decode_of line.now ≡ Ok bytes.items)
-        (λ refusal. (refusal ≡ Because Memory) ⊎ ((refusal ≡ Because Failed) × IsErr (decode_of line.now))) }
+        (λ refusal. (refusal ≡ Because Memory)
+        ⊎ ((refusal ≡ Because Failed) × IsErr (decode_of line.now))) }
 {
     match hex::decode(alloc, line) {
         Ok(bytes) => Ok(bytes),
@@ -46,8 +47,10 @@ fn bytes_of(alloc: Global, line: &[u8]) -> Result<Vec<u8>, Refusal>
 /// The answer to a command with a line, and a line feed.
 fn answer<C: Codec>(alloc: Global, command: Command, line: &[u8]) -> Result<String, Refusal>
     ensures { MatchResult result
-        (λ text. (answer : List ℕ) × IsLineAnswer C.reencodes command line.now (Ok answer) × (string_bytes text ≡ as_line answer))
-        (λ refusal. (refusal ≡ Because Memory) ⊎ IsLineAnswer C.reencodes command line.now (Err refusal)) }
+        (λ text. (answer : List ℕ) × IsLineAnswer C.reencodes command line.now (Ok answer)
+        × (string_bytes text ≡ as_line answer))
+        (λ refusal. (refusal ≡ Because Memory)
+        ⊎ IsLineAnswer C.reencodes command line.now (Err refusal)) }
 {
     let bytes = bytes_of(alloc, line)?;
     let encoding = match command {
@@ -60,7 +63,8 @@ fn answer<C: Codec>(alloc: Global, command: Command, line: &[u8]) -> Result<Stri
 
 /// Writes a line, and answers the status: 1 where it can't be written.
 fn say<W: Sink>(writer: &mut W, line: &[u8], status: u8) -> u8
-    ensures { (text : List ℕ) → line.now ≡ as_line text → Says W.takes writer.old text status writer.new result }
+    ensures { (text : List ℕ) → line.now ≡ as_line text
+        → Says W.takes writer.old text status writer.new result }
 {
     match write_text(writer, line) {
         Ok(()) => status,
@@ -75,7 +79,9 @@ fn read_and_answer<C: Codec, R: Source>(
     reader: &mut R,
 ) -> Result<String, Refusal>
     ensures { MatchResult result
-        (λ line. (text : List ℕ) × Answers C.reencodes command R.gives reader.old reader.new (Ok text) × (string_bytes line ≡ as_line text))
+        (λ line. (text : List ℕ)
+        × Answers C.reencodes command R.gives reader.old reader.new (Ok text)
+        × (string_bytes line ≡ as_line text))
         (λ refusal. Answers C.reencodes command R.gives reader.old reader.new (Err refusal)) }
 {
     let input = read_input(alloc, reader)?;
@@ -98,9 +104,11 @@ pub fn run_with<C: Codec, R: Source, W: Sink>(
 ) -> u8
     // With other words nothing is read.
     ensures untouched { command_of (map string_bytes words.now) ≡ None → reader.new ≡ reader.old }
-    ensures usage { command_of (map string_bytes words.now) ≡ None → Says W.takes writer.old usage 2 writer.new result }
+    ensures usage { command_of (map string_bytes words.now) ≡ None
+        → Says W.takes writer.old usage 2 writer.new result }
     ensures obeys { IfSome (command_of (map string_bytes words.now)) (λ command.
-        Obeys C.reencodes command R.gives reader.old reader.new W.takes writer.old writer.new result) }
+        Obeys C.reencodes command
+        R.gives reader.old reader.new W.takes writer.old writer.new result) }
 {
     let Some(command) = Command::from_words(words) else {
         return say(writer, USAGE, 2);
@@ -119,9 +127,11 @@ pub fn run<R: Source, W: Sink>(
     writer: &mut W,
 ) -> u8
     ensures untouched { command_of (map string_bytes words.now) ≡ None → reader.new ≡ reader.old }
-    ensures usage { command_of (map string_bytes words.now) ≡ None → Says W.takes writer.old usage 2 writer.new result }
+    ensures usage { command_of (map string_bytes words.now) ≡ None
+        → Says W.takes writer.old usage 2 writer.new result }
     ensures obeys { IfSome (command_of (map string_bytes words.now)) (λ command.
-        Obeys ⟦<Types as Codec>⟧.reencodes command R.gives reader.old reader.new W.takes writer.old writer.new result) }
+        Obeys ⟦<Types as Codec>⟧.reencodes command
+        R.gives reader.old reader.new W.takes writer.old writer.new result) }
 {
     run_with::<Types, R, W>(alloc, words, reader, writer)
 }

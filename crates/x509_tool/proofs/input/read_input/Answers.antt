@@ -1,4 +1,4 @@
-use Rattle.std.proofs.Common.{◌≡◌, ◌+◌, arith}
+use Rattle.std.proofs.Common.{◌+◌, arith}
 use Rattle.x509_tool.proofs.Transfers.{Moves-counted, Moves-length}
 use Rattle.x509_tool.proofs.Inputs.{ends_unkept}
 use Rattle.x509_tool.proofs.input.read_input.Goals as goal
