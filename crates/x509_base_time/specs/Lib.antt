@@ -1,0 +1,2 @@
+pub mod CivilTime
+pub mod Moment

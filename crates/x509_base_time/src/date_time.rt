@@ -1,0 +1,188 @@
+//! A date-time of the calendar.
+
+ghost use Rattle.std.specs.Prelude.{pos, ◌≤ℤ◌, ◌≡◌, ◌↔◌, ◌≤◌, ◌*◌, IsOk, Ok, IfOk, IfErr};
+ghost use Rattle.std.specs.Duration.{as_nanos};
+ghost use Rattle.jiff_core.specs.DateTime.{civil_nanos};
+ghost use Rattle.x509_base_time.specs.CivilTime.{CivilTime, civil_time, IsDateTime, unix_seconds, whole_seconds};
+ghost use Rattle.x509_base_time.specs.Moment.{shown_time};
+ghost use Rattle.x509_der_grammar.specs.declared.error.ErrorKind.TheVariants.{Value};
+
+use jiff::civil;
+use std::marker::Model;
+use std::time::Duration;
+use x509_der_grammar::{Error, ErrorKind};
+
+/// A date and a time of day in Coordinated Universal Time, from 1970 to 9999.
+#[derive(Clone, Copy, Debug, PartialEq, Eq, PartialOrd, Ord, Hash)]
+pub struct DateTime {
+    year: u16,
+    month: u8,
+    day: u8,
+    hour: u8,
+    minutes: u8,
+    seconds: u8,
+}
+
+impl Model for DateTime {
+    ghost Value = { CivilTime };
+
+    ghost view = { λ d. civil_time d.year d.month d.day d.hour d.minutes d.seconds };
+
+    ghost invariant = { λ d. IsDateTime
+        (civil_time d.year d.month d.day d.hour d.minutes d.seconds) };
+
+    ghost inverse = { λ c. record { year = c.year; month = c.month; day = c.day; hour = c.hour; minutes = c.minutes; seconds = c.seconds } };
+}
+
+impl DateTime {
+    /// 9999-12-31T23:59:59Z, which stands for no end (RFC 5280 4.1.2.5).
+    pub const INFINITY: DateTime = DateTime {
+        year: 9999,
+        month: 12,
+        day: 31,
+        hour: 23,
+        minutes: 59,
+        seconds: 59,
+    };
+
+    /// The date-time with these parts.
+    ///
+    /// # Errors
+    ///
+    /// `Value` where the calendar or a clock has no such date-time, or the year is not from 1970 to 9999.
+    pub fn new(
+        year: u16,
+        month: u8,
+        day: u8,
+        hour: u8,
+        minutes: u8,
+        seconds: u8,
+    ) -> Result<DateTime, Error>
+        ensures succeeds { IsOk result ↔ IsDateTime (civil_time year month day hour minutes seconds) }
+        ensures value { IfOk result (λ d. d ≡ civil_time year month day hour minutes seconds) }
+        ensures refused { IfErr result (λ e. e.kind ≡ Value) }
+    {
+        if year < 1970 || year > 9999 || month > 12 || day > 31 {
+            return Err(ErrorKind::Value.into());
+        }
+        if hour > 23 || minutes > 59 || seconds > 59 {
+            return Err(ErrorKind::Value.into());
+        }
+        if civil::Date::new(year as i16, month as i8, day as i8).is_err() {
+            return Err(ErrorKind::Value.into());
+        }
+        Ok(DateTime {
+            year,
+            month,
+            day,
+            hour,
+            minutes,
+            seconds,
+        })
+    }
+
+    /// The date-time that long after 1970-01-01T00:00:00Z. A fraction of a second is dropped.
+    ///
+    /// # Errors
+    ///
+    /// `Value` after the year 9999.
+    pub fn from_unix_duration(duration: Duration) -> Result<DateTime, Error>
+        ensures found { IfOk result
+            (λ d. IsDateTime d × (unix_seconds d ≡ whole_seconds duration)) }
+        ensures every { (d : CivilTime) → IsDateTime d → unix_seconds d ≡ whole_seconds duration
+            → result ≡ Ok d }
+        ensures refused { IfErr result (λ e. e.kind ≡ Value) }
+    {
+        let Ok(moment) = unix_epoch().checked_add(duration) else {
+            return Err(ErrorKind::Value.into());
+        };
+        Ok(DateTime::at(moment))
+    }
+
+    // The date-time that a clock shows, without the fraction of a second.
+    fn at(moment: civil::DateTime) -> DateTime
+        requires { pos 1970 ≤ℤ moment.date.year }
+        ensures { result ≡ shown_time moment }
+    {
+        DateTime {
+            year: moment.year() as u16,
+            month: moment.month() as u8,
+            day: moment.day() as u8,
+            hour: moment.hour() as u8,
+            minutes: moment.minute() as u8,
+            seconds: moment.second() as u8,
+        }
+    }
+
+    // The clock that shows this date-time.
+    fn moment(&self) -> civil::DateTime
+        ensures { civil_nanos result ≡ pos (unix_seconds self.now * 1_000_000_000) }
+    {
+        civil::datetime(
+            self.year as i16,
+            self.month as i8,
+            self.day as i8,
+            self.hour as i8,
+            self.minutes as i8,
+            self.seconds as i8,
+            0,
+        )
+    }
+
+    /// The time since 1970-01-01T00:00:00Z.
+    pub fn unix_duration(&self) -> Duration
+        ensures { as_nanos result ≡ unix_seconds self.now * 1_000_000_000 }
+    {
+        let since = self.moment().duration_since(unix_epoch());
+        Duration::from_secs(since.as_secs() as u64)
+    }
+
+    /// The year, from 1970 to 9999.
+    pub fn year(&self) -> u16
+        ensures { result ≡ self.now.year }
+    {
+        self.year
+    }
+
+    /// The month, from 1 to 12.
+    pub fn month(&self) -> u8
+        ensures { result ≡ self.now.month }
+    {
+        self.month
+    }
+
+    /// The day of the month, from 1.
+    pub fn day(&self) -> u8
+        ensures { result ≡ self.now.day }
+    {
+        self.day
+    }
+
+    /// The hour, from 0 to 23.
+    pub fn hour(&self) -> u8
+        ensures { result ≡ self.now.hour }
+    {
+        self.hour
+    }
+
+    /// The minutes of the hour, from 0 to 59.
+    pub fn minutes(&self) -> u8
+        ensures { result ≡ self.now.minutes }
+    {
+        self.minutes
+    }
+
+    /// The seconds of the minute, from 0 to 59.
+    pub fn seconds(&self) -> u8
+        ensures { result ≡ self.now.seconds }
+    {
+        self.seconds
+    }
+}
+
+// 1970-01-01T00:00:00
+fn unix_epoch() -> civil::DateTime
+    ensures { civil_nanos result ≡ pos 0 }
+{
+    civil::datetime(1970, 1, 1, 0, 0, 0, 0)
+}
