@@ -1,2 +1,3 @@
 pub mod CivilTime
 pub mod Moment
+pub mod TimeText

@@ -1,13 +1,15 @@
 //! A date-time of the calendar.
 
-ghost use Rattle.std.specs.Prelude.{pos, ◌≤ℤ◌, ◌≡◌, ◌↔◌, ◌≤◌, ◌*◌, IsOk, Ok, IfOk, IfErr};
+ghost use Rattle.std.specs.Prelude.{Some, pos, ◌≤ℤ◌, ◌≡◌, ◌↔◌, ◌≤◌, ◌*◌, IsOk, Ok, IfOk, IfErr};
 ghost use Rattle.std.specs.Duration.{as_nanos};
 ghost use Rattle.jiff_core.specs.DateTime.{civil_nanos};
 ghost use Rattle.x509_base_time.specs.CivilTime.{CivilTime, civil_time, IsDateTime, unix_seconds, whole_seconds};
 ghost use Rattle.x509_base_time.specs.Moment.{shown_time};
+ghost use Rattle.x509_base_time.specs.TimeText.{date_time_text};
 ghost use Rattle.x509_der_grammar.specs.declared.error.ErrorKind.TheVariants.{Value};
 
 use jiff::civil;
+use std::fmt;
 use std::marker::Model;
 use std::time::Duration;
 use x509_der_grammar::{Error, ErrorKind};
@@ -185,4 +187,18 @@ fn unix_epoch() -> civil::DateTime
     ensures { civil_nanos result ≡ pos 0 }
 {
     civil::datetime(1970, 1, 1, 0, 0, 0, 0)
+}
+
+impl fmt::Display for DateTime {
+    ghost output = { λ d. Some (date_time_text d) };
+
+    fn fmt<W: fmt::Write>(&self, f: &mut fmt::Formatter<W>) -> fmt::Result {
+        let year = self.year;
+        let month = self.month;
+        let day = self.day;
+        let hour = self.hour;
+        let minutes = self.minutes;
+        let seconds = self.seconds;
+        write!(f, "{year:04}-{month:02}-{day:02}T{hour:02}:{minutes:02}:{seconds:02}Z")
+    }
 }
