@@ -1,3 +1,4 @@
 pub mod CalendarLemmas
 pub mod MomentLemmas
 pub mod DigitLemmas
+pub mod ReadingLemmas

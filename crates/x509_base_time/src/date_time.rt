@@ -1,13 +1,16 @@
 //! A date-time of the calendar.
 
-ghost use Rattle.std.specs.Prelude.{Some, pos, ◌≤ℤ◌, ◌≡◌, ◌↔◌, ◌≤◌, ◌*◌, IsOk, Ok, IfOk, IfErr};
+ghost use Rattle.std.specs.Prelude.{◌+◌, ◌<◌, length, Some, pos, ◌≤ℤ◌, ◌≡◌, ◌↔◌, ◌≤◌, ◌*◌, IsOk, Ok, IfOk, IfErr};
 ghost use Rattle.std.specs.Duration.{as_nanos};
+ghost use Rattle.std.specs.Int.{IsInRange};
 ghost use Rattle.jiff_core.specs.DateTime.{civil_nanos};
 ghost use Rattle.x509_base_time.specs.CivilTime.{CivilTime, civil_time, IsDateTime, unix_seconds, whole_seconds};
 ghost use Rattle.x509_base_time.specs.Moment.{shown_time};
 ghost use Rattle.x509_base_time.specs.TimeText.{date_time_text};
+ghost use Rattle.x509_base_time.specs.TimeReading.{time_from_month};
 ghost use Rattle.x509_der_grammar.specs.declared.error.ErrorKind.TheVariants.{Value};
 
+use crate::digits::number_at;
 use jiff::civil;
 use std::fmt;
 use std::marker::Model;
@@ -141,7 +144,8 @@ impl DateTime {
 
     /// The year, from 1970 to 9999.
     pub fn year(&self) -> u16
-        ensures { result ≡ self.now.year }
+        ensures value { result ≡ self.now.year }
+        ensures range { IsInRange 1970 9999 result }
     {
         self.year
     }
@@ -180,6 +184,22 @@ impl DateTime {
     {
         self.seconds
     }
+}
+
+/// The date-time of the year, where the two digits for month, day, hour, minutes and seconds stand from a place on.
+pub(crate) fn from_month(year: u16, bytes: &[u8], place: usize) -> Result<DateTime, Error>
+    requires { place + 9 < length bytes.now }
+    ensures succeeds { IsOk result ↔ IsDateTime (time_from_month year bytes.now place) }
+    ensures value { IfOk result (λ d. d ≡ time_from_month year bytes.now place) }
+{
+    DateTime::new(
+        year,
+        number_at(bytes, place),
+        number_at(bytes, place + 2),
+        number_at(bytes, place + 4),
+        number_at(bytes, place + 6),
+        number_at(bytes, place + 8),
+    )
 }
 
 // 1970-01-01T00:00:00

@@ -2,5 +2,8 @@
 #![tactic(auto)]
 
 mod date_time;
+mod digits;
+mod generalized_time;
 
 pub use date_time::DateTime;
+pub use generalized_time::GeneralizedTime;
