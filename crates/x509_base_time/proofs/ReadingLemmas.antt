@@ -1,5 +1,7 @@
 -- What a reader has to show of its answer.
-use Rattle.std.proofs.Common.{◌≡◌, ℕ, List, Result, Ok, Err, refl, sym, ap, ◌∙◌}
+use Rattle.std.proofs.Common.{◌≡◌, ℕ, Bool, true, false, not, nat_eq, inl, inr, List, Result, Ok, Err, refl, sym, ap, ◌∙◌}
+use Rattle.std.specs.Cmp.Lexicographic.{pointwise, same_text, other_text}
+use Rattle.std.proofs.lemmas.Bool.{cases_Bool}
 use Rattle.x509_der_grammar.specs.declared.error.Error.{Error}
 use Rattle.x509_der_grammar.specs.declared.error.ErrorKind.{ErrorKind}
 use Rattle.x509_der_grammar.specs.declared.error.ErrorKind.TheVariants.{Malformed}
@@ -34,3 +36,20 @@ answers_reading {good} {spelling} reading sound complete refused bytes (Err e) h
         let found = h.every c good_one.0 good_one.1 in
         absurd cc
     by_reading (Err kind) is = is ∙ ap Err (refused bytes kind is ∙ sym h.refused)
+
+-- what the bytes name is not good, or they are not its spelling
+pub reads_err_named : {good : CivilTime → Type 0} {spelling : CivilTime → List ℕ} (named : List ℕ → CivilTime) → ((c : CivilTime) → good c → named (spelling c) ≡ c) → (refusal : ErrorKind) (bytes : List ℕ) (e : Error) → e.kind ≡ refusal → (good (named bytes) → bytes ≡ spelling (named bytes) → ⊥) → Reads good spelling refusal bytes (Err e)
+reads_err_named named again refusal bytes e kind bad =
+    reads_err refusal bytes e kind (λ c h same. let is : named bytes ≡ c = ap named same ∙ again c h in bad (rw is h) (rw is same))
+
+-- what `!=` of two byte strings tells
+pub equal_bytes : (r : Bool) (xs ys : List ℕ) → r ≡ not (pointwise nat_eq xs ys) → r ≡ false → xs ≡ ys
+equal_bytes r xs ys e is =
+    elim (cases_Bool (pointwise nat_eq xs ys)) [ inl same ↦ same_text xs ys (sym same) | inr other ↦ absurd (let unequal = rw other at e in cc) ]
+
+pub other_bytes : (r : Bool) (xs ys : List ℕ) → r ≡ not (pointwise nat_eq xs ys) → r ≡ true → xs ≡ ys → ⊥
+other_bytes r xs ys e is =
+    elim (cases_Bool (pointwise nat_eq xs ys)) [ inl same ↦ absurd (let equal = rw same at e in cc) | inr other ↦ other_text xs ys (sym other) ]
+
+pub kind_of : (e : Error) (kind : ErrorKind) → e ≡ record { kind = kind } → e.kind ≡ kind
+kind_of e kind is = ap (λ (x : Error). x.kind) is

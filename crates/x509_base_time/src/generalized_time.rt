@@ -51,6 +51,7 @@ impl GeneralizedTime {
     }
 
     /// The content octets, `YYYYMMDDHHMMSSZ` (X.690 11.7).
+    #[tactic(auto, unfolding(crate::specs::TimeText::generalized_time_octets))]
     pub fn content(&self) -> [u8; 15]
         ensures { result ≡ generalized_time_octets self.now }
     {
