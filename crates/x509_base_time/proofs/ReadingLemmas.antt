@@ -5,7 +5,7 @@ use Rattle.std.proofs.lemmas.Bool.{cases_Bool}
 use Rattle.x509_der_grammar.specs.declared.error.Error.{Error}
 use Rattle.x509_der_grammar.specs.declared.error.ErrorKind.{ErrorKind}
 use Rattle.x509_der_grammar.specs.declared.error.ErrorKind.TheVariants.{Malformed}
-use Rattle.x509_base_time.specs.CivilTime.{CivilTime}
+use Rattle.x509_base_time.specs.CivilTime.{CivilTime, IsDateTime}
 use Rattle.x509_base_time.specs.TimeReading.{Reads, Answers}
 
 -- the value that was found is the only one, since the bytes name it again
@@ -53,3 +53,7 @@ other_bytes r xs ys e is =
 
 pub kind_of : (e : Error) (kind : ErrorKind) → e ≡ record { kind = kind } → e.kind ≡ kind
 kind_of e kind is = ap (λ (x : Error). x.kind) is
+
+-- the same date-time
+pub is_date_time_too : (c d : CivilTime) → c ≡ d → IsDateTime d → IsDateTime c
+is_date_time_too c d is h = rw is h

@@ -7,13 +7,14 @@ ghost use Rattle.jiff_core.specs.DateTime.{civil_nanos};
 ghost use Rattle.x509_base_time.specs.CivilTime.{CivilTime, civil_time, IsDateTime, unix_seconds, whole_seconds};
 ghost use Rattle.x509_base_time.specs.Moment.{shown_time};
 ghost use Rattle.x509_base_time.specs.TimeText.{date_time_text};
-ghost use Rattle.x509_base_time.specs.TimeReading.{time_from_month};
-ghost use Rattle.x509_der_grammar.specs.declared.error.ErrorKind.TheVariants.{Value};
+ghost use Rattle.x509_base_time.specs.TimeReading.{Reads, time_from_month};
+ghost use Rattle.x509_der_grammar.specs.declared.error.ErrorKind.TheVariants.{Failed, Value};
 
-use crate::digits::number_at;
+use crate::digits::{long_number_at, number_at, ones, tens};
 use jiff::civil;
 use std::fmt;
 use std::marker::Model;
+use std::str::FromStr;
 use std::time::Duration;
 use x509_der_grammar::{Error, ErrorKind};
 
@@ -142,6 +143,37 @@ impl DateTime {
         Duration::from_secs(since.as_secs() as u64)
     }
 
+    // The characters of the text, `YYYY-MM-DDTHH:MM:SSZ`.
+    #[tactic(auto, unfolding(crate::specs::TimeText::date_time_text))]
+    fn text(&self) -> [u8; 20]
+        ensures { result ≡ date_time_text self.now }
+    {
+        let century = (self.year / 100) as u8;
+        let year = (self.year % 100) as u8;
+        [
+            tens(century),
+            ones(century),
+            tens(year),
+            ones(year),
+            b'-',
+            tens(self.month),
+            ones(self.month),
+            b'-',
+            tens(self.day),
+            ones(self.day),
+            b'T',
+            tens(self.hour),
+            ones(self.hour),
+            b':',
+            tens(self.minutes),
+            ones(self.minutes),
+            b':',
+            tens(self.seconds),
+            ones(self.seconds),
+            b'Z',
+        ]
+    }
+
     /// The year, from 1970 to 9999.
     pub fn year(&self) -> u16
         ensures value { result ≡ self.now.year }
@@ -220,5 +252,37 @@ impl fmt::Display for DateTime {
         let minutes = self.minutes;
         let seconds = self.seconds;
         write!(f, "{year:04}-{month:02}-{day:02}T{hour:02}:{minutes:02}:{seconds:02}Z")
+    }
+}
+
+impl FromStr for DateTime {
+    type Err = Error;
+
+    ghost from_str_gives = { Reads IsDateTime date_time_text Failed };
+
+    /// The date-time with this text, `YYYY-MM-DDTHH:MM:SSZ`.
+    ///
+    /// # Errors
+    ///
+    /// `Failed` where no date-time has it.
+    fn from_str(text: &str) -> Result<DateTime, Error> {
+        let bytes = text.as_bytes();
+        if bytes.len() != 20 {
+            return Err(ErrorKind::Failed.into());
+        }
+        let Ok(date_time) = DateTime::new(
+            long_number_at(bytes, 0),
+            number_at(bytes, 5),
+            number_at(bytes, 8),
+            number_at(bytes, 11),
+            number_at(bytes, 14),
+            number_at(bytes, 17),
+        ) else {
+            return Err(ErrorKind::Failed.into());
+        };
+        if date_time.text().as_slice() != bytes {
+            return Err(ErrorKind::Failed.into());
+        }
+        Ok(date_time)
     }
 }

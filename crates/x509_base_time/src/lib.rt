@@ -4,6 +4,8 @@
 mod date_time;
 mod digits;
 mod generalized_time;
+mod utc_time;
 
 pub use date_time::DateTime;
 pub use generalized_time::GeneralizedTime;
+pub use utc_time::UtcTime;
