@@ -2,3 +2,4 @@ pub mod CalendarLemmas
 pub mod MomentLemmas
 pub mod DigitLemmas
 pub mod ReadingLemmas
+pub mod StandardFacts

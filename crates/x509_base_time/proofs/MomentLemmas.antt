@@ -120,11 +120,6 @@ pub shown_time-whole : (m : DateTime) (n : ℕ) (c : CivilTime) → civil_nanos 
 shown_time-whole m n c is h e =
     same_shown m (plain_of c h (n % 1_000_000_000) (fraction_small n)) (is ∙ sym (civil_nanos-whole c h n e))
 
--- two date-times with the same seconds are one
-pub unix_seconds_injective : (c d : CivilTime) → IsDateTime c → IsDateTime d → unix_seconds c ≡ unix_seconds d → c ≡ d
-unix_seconds_injective c d hc hd e =
-    same_shown (plain_of c hc 0 (omega arith)) (plain_of d hd 0 (omega arith)) (civil_nanos-plain_of c hc 0 (omega arith) ∙ ap (λ (n : ℕ). pos (n * 1_000_000_000 + 0)) e ∙ sym (civil_nanos-plain_of d hd 0 (omega arith)))
-
 -- so many nanoseconds after the epoch
 pub after_epoch : (epoch later : ℤ) (n : ℕ) → epoch ≡ pos 0 → later ≡ epoch +ℤ pos n → later ≡ pos n
 after_epoch epoch later n e h = omega (arith, signed_arith)
@@ -132,3 +127,10 @@ after_epoch epoch later n e h = omega (arith, signed_arith)
 -- so the library has the moment that is so many nanoseconds after the epoch
 pub in_range_after : (epoch : ℤ) (c : CivilTime) (n : ℕ) → epoch ≡ pos 0 → IsDateTime c → unix_seconds c ≡ n / 1_000_000_000 → IsCivilNanos (epoch +ℤ pos n)
 in_range_after epoch c n e h s = omega (arith, signed_arith, in_range c n h s)
+
+-- and only within its range
+pub in_range_only : (epoch : ℤ) (n : ℕ) → epoch ≡ pos 0 → IsCivilNanos (epoch +ℤ pos n) → n / 1_000_000_000 ≤ 253_402_300_799
+in_range_only epoch n e h = omega (arith, signed_arith)
+
+pub range_in : (epoch : ℤ) (n : ℕ) → epoch ≡ pos 0 → n / 1_000_000_000 ≤ 253_402_300_799 → IsCivilNanos (epoch +ℤ pos n)
+range_in epoch n e h = omega (arith, signed_arith)

@@ -37,6 +37,10 @@ IsDateTime c =
     IsInRange 1970 9999 c.year × IsInRange 1 12 c.month × IsInRange 1 (days_in_month c.year c.month) c.day
     × (c.hour ≤ 23) × (c.minutes ≤ 59) × (c.seconds ≤ 59)
 
+-- 9999-12-31T23:59:59Z
+abbrev pub last_date_time : CivilTime
+last_date_time = civil_time 9999 12 31 23 59 59
+
 -- the days of the first n years from 1970 on
 unfoldable pub days_of_years : ℕ → ℕ
 days_of_years zero = 0

@@ -4,7 +4,7 @@ ghost use Rattle.std.specs.Prelude.{◌+◌, ◌<◌, length, Some, pos, ◌≤�
 ghost use Rattle.std.specs.Duration.{as_nanos};
 ghost use Rattle.std.specs.Int.{IsInRange};
 ghost use Rattle.jiff_core.specs.DateTime.{civil_nanos};
-ghost use Rattle.x509_base_time.specs.CivilTime.{CivilTime, civil_time, IsDateTime, unix_seconds, whole_seconds};
+ghost use Rattle.x509_base_time.specs.CivilTime.{CivilTime, civil_time, last_date_time, IsDateTime, unix_seconds, whole_seconds};
 ghost use Rattle.x509_base_time.specs.Moment.{shown_time};
 ghost use Rattle.x509_base_time.specs.TimeText.{date_time_text};
 ghost use Rattle.x509_base_time.specs.TimeReading.{Reads, time_from_month};
@@ -39,6 +39,8 @@ impl Model for DateTime {
 
     ghost inverse = { λ c. record { year = c.year; month = c.month; day = c.day; hour = c.hour; minutes = c.minutes; seconds = c.seconds } };
 }
+
+const _: () = prove!(DateTime::INFINITY.year == 9999);
 
 impl DateTime {
     /// 9999-12-31T23:59:59Z, which stands for no end (RFC 5280 4.1.2.5).
@@ -91,8 +93,10 @@ impl DateTime {
     ///
     /// # Errors
     ///
-    /// `Value` after the year 9999.
+    /// `Value` after [`DateTime::INFINITY`].
     pub fn from_unix_duration(duration: Duration) -> Result<DateTime, Error>
+        ensures succeeds { IsOk result
+            ↔ (whole_seconds duration ≤ unix_seconds last_date_time) }
         ensures found { IfOk result
             (λ d. IsDateTime d × (unix_seconds d ≡ whole_seconds duration)) }
         ensures every { (d : CivilTime) → IsDateTime d → unix_seconds d ≡ whole_seconds duration
@@ -137,8 +141,10 @@ impl DateTime {
 
     /// The time since 1970-01-01T00:00:00Z.
     pub fn unix_duration(&self) -> Duration
-        ensures { as_nanos result ≡ unix_seconds self.now * 1_000_000_000 }
+        ensures value { as_nanos result ≡ unix_seconds self.now * 1_000_000_000 }
+        ensures real { IsDateTime self.now }
     {
+        let _ = &self.year;
         let since = self.moment().duration_since(unix_epoch());
         Duration::from_secs(since.as_secs() as u64)
     }
