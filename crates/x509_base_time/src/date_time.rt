@@ -40,7 +40,14 @@ impl Model for DateTime {
     ghost inverse = { λ c. record { year = c.year; month = c.month; day = c.day; hour = c.hour; minutes = c.minutes; seconds = c.seconds } };
 }
 
-const _: () = prove!(DateTime::INFINITY.year == 9999);
+const _: () = prove!(
+    DateTime::INFINITY.year == 9999
+        && DateTime::INFINITY.month == 12
+        && DateTime::INFINITY.day == 31
+        && DateTime::INFINITY.hour == 23
+        && DateTime::INFINITY.minutes == 59
+        && DateTime::INFINITY.seconds == 59
+);
 
 impl DateTime {
     /// 9999-12-31T23:59:59Z, which stands for no end (RFC 5280 4.1.2.5).

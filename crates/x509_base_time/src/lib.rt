@@ -4,6 +4,8 @@
 mod date_time;
 mod digits;
 mod generalized_time;
+#[cfg(test)]
+mod tests;
 mod utc_time;
 
 pub use date_time::DateTime;
