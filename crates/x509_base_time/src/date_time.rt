@@ -2,7 +2,6 @@
 
 ghost use Rattle.std.specs.Prelude.{◌+◌, ◌<◌, length, Some, pos, ◌≤ℤ◌, ◌≡◌, ◌↔◌, ◌≤◌, ◌*◌, IsOk, Ok, IfOk, IfErr};
 ghost use Rattle.std.specs.Duration.{as_nanos};
-ghost use Rattle.std.specs.Int.{IsInRange};
 ghost use Rattle.jiff_core.specs.DateTime.{civil_nanos};
 ghost use Rattle.x509_base_time.specs.CivilTime.{CivilTime, civil_time, last_date_time, IsDateTime, unix_seconds, whole_seconds};
 ghost use Rattle.x509_base_time.specs.Moment.{shown_time};
@@ -148,10 +147,8 @@ impl DateTime {
 
     /// The time since 1970-01-01T00:00:00Z.
     pub fn unix_duration(&self) -> Duration
-        ensures value { as_nanos result ≡ unix_seconds self.now * 1_000_000_000 }
-        ensures real { IsDateTime self.now }
+        ensures { as_nanos result ≡ unix_seconds self.now * 1_000_000_000 }
     {
-        let _ = &self.year;
         let since = self.moment().duration_since(unix_epoch());
         Duration::from_secs(since.as_secs() as u64)
     }
@@ -190,7 +187,7 @@ impl DateTime {
     /// The year, from 1970 to 9999.
     pub fn year(&self) -> u16
         ensures value { result ≡ self.now.year }
-        ensures range { IsInRange 1970 9999 result }
+        ensures real { IsDateTime self.now }
     {
         self.year
     }

@@ -53,7 +53,8 @@ impl GeneralizedTime {
     /// The content octets, `YYYYMMDDHHMMSSZ` (X.690 11.7).
     #[tactic(auto, unfolding(crate::specs::TimeText::generalized_time_octets))]
     pub fn content(&self) -> [u8; 15]
-        ensures { result ≡ generalized_time_octets self.now }
+        ensures octets { result ≡ generalized_time_octets self.now }
+        ensures good { IsDateTime self.now }
     {
         let date_time = self.date_time;
         let century = (date_time.year() / 100) as u8;
@@ -122,10 +123,28 @@ impl From<DateTime> for GeneralizedTime {
     }
 }
 
+impl From<&DateTime> for GeneralizedTime {
+    ghost from_gives = { λ d t. t ≡ d.now };
+
+    fn from(date_time: &DateTime) -> GeneralizedTime {
+        GeneralizedTime {
+            date_time: *date_time,
+        }
+    }
+}
+
 impl From<GeneralizedTime> for DateTime {
     ghost from_gives = { λ t d. d ≡ t };
 
     fn from(time: GeneralizedTime) -> DateTime {
+        time.date_time
+    }
+}
+
+impl From<&GeneralizedTime> for DateTime {
+    ghost from_gives = { λ t d. d ≡ t.now };
+
+    fn from(time: &GeneralizedTime) -> DateTime {
         time.date_time
     }
 }

@@ -86,11 +86,13 @@ fn texts(rt: HostRuntime) -> Result<(), Fail> {
     assert_eq!(rt; noon.to_string(rt.alloc())?.as_str(), "2002-01-01T12:01:00Z");
     let infinity = DateTime::INFINITY.to_string(rt.alloc())?;
     assert_eq!(rt; infinity.as_str(), "9999-12-31T23:59:59Z");
-    let utc = UtcTime::try_from(noon)?;
+    let utc = UtcTime::from_date_time(noon)?;
     assert_eq!(rt; utc.to_string(rt.alloc())?.as_str(), "2002-01-01T12:01:00Z");
     let general = GeneralizedTime::from(noon);
     assert_eq!(rt; general.to_string(rt.alloc())?.as_str(), "2002-01-01T12:01:00Z");
-    assert_eq!(rt; DateTime::from(utc), DateTime::from(general));
+    assert_eq!(rt; GeneralizedTime::from(&noon), general);
+    assert_eq!(rt; DateTime::from(general), noon);
+    assert_eq!(rt; DateTime::from(&general), utc.to_date_time());
     let failed = Some(ErrorKind::Failed);
     assert_eq!(rt; kind(DateTime::from_str("2002-01-01T12:01:00")), failed);
     assert_eq!(rt; kind(DateTime::from_str("2002-01-01 12:01:00Z")), failed);

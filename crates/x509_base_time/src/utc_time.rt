@@ -69,7 +69,8 @@ impl UtcTime {
     /// The content octets, `YYMMDDHHMMSSZ` (X.690 11.8).
     #[tactic(auto, unfolding(crate::specs::TimeText::utc_time_octets))]
     pub fn content(&self) -> [u8; 13]
-        ensures { result ≡ utc_time_octets self.now }
+        ensures octets { result ≡ utc_time_octets self.now }
+        ensures good { IsUtcTime self.now }
     {
         let date_time = self.date_time;
         let year = (date_time.year() % 100) as u8;
@@ -137,24 +138,5 @@ impl fmt::Display for UtcTime {
     fn fmt<W: fmt::Write>(&self, f: &mut fmt::Formatter<W>) -> fmt::Result {
         let date_time = self.date_time;
         write!(f, "{date_time}")
-    }
-}
-
-impl From<UtcTime> for DateTime {
-    ghost from_gives = { λ t d. d ≡ t };
-
-    fn from(time: UtcTime) -> DateTime {
-        time.date_time
-    }
-}
-
-impl TryFrom<DateTime> for UtcTime {
-    type Error = Error;
-
-    ghost try_from_gives = { λ d r. (IsOk r ↔ (d.year ≤ 2049)) × IfOk r (λ t. t ≡ d)
-        × IfErr r (λ e. e.kind ≡ Value) };
-
-    fn try_from(date_time: DateTime) -> Result<UtcTime, Error> {
-        UtcTime::from_date_time(date_time)
     }
 }

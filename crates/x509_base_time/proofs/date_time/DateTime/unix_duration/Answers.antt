@@ -8,8 +8,8 @@ overflow_cast-as_secs c =
     let secs = c.as_secs.ensures in
     omega (arith, signed_arith)
 
-pub returns-clause-value : goal.returns-clause-value
-returns-clause-value c =
+pub returns : goal.returns
+returns c =
     let since = rw (c.moment.ensures, c.unix_epoch.ensures) at c.duration_since-since.ensures in
     let secs = c.as_secs.ensures in
     let from = c.from_secs.ensures in

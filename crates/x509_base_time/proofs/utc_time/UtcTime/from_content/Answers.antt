@@ -32,12 +32,12 @@ returns-in_default-from_date_time-clause-reads c =
 pub returns-then-ne-clause-reads : goal.returns-then-ne-clause-reads
 returns-then-ne-clause-reads c =
     let is = c.in-Ok-from_date_time.ensures.value ∙ c.in-Ok.ensures.value ∙ named _ _ c.args.content.now _ c.full_year.ensures c.number_at.ensures in
-    let octets = c.as_slice.ensures ∙ c.content.ensures ∙ ap utc_time_octets is in
+    let octets = c.as_slice.ensures ∙ c.content.ensures.octets ∙ ap utc_time_octets is in
     reads_err_named named_utc_time named_utc_time-octets Malformed c.args.content.now _ (kind_of _ _ c.into-then-ne.ensures) (λ h same. other_bytes _ _ _ c.ne.ensures c.if-ne.true (octets ∙ sym same))
 
 pub returns-clause-reads : goal.returns-clause-reads
 returns-clause-reads c =
-    let octets = c.as_slice.ensures ∙ c.content.ensures in
+    let octets = c.as_slice.ensures ∙ c.content.ensures.octets in
     let is = c.in-Ok-from_date_time.ensures.value ∙ c.in-Ok.ensures.value in
     reads_ok named_utc_time named_utc_time-octets Malformed c.args.content.now c.in-Ok-from_date_time.time (is_date_time_too _ _ is (c.in-Ok.ensures.succeeds.0 refl), rw c.in-Ok-from_date_time.ensures.value (c.in-Ok-from_date_time.ensures.succeeds.0 refl)) (sym (equal_bytes _ _ _ c.ne.ensures c.if-ne.false) ∙ octets)
 
