@@ -1,9 +1,7 @@
 -- Known values, so that a wrong rule in the specs does not check.
-use Rattle.std.proofs.Common.{◌≡◌, ℕ, List, [], ◌∷◌, map, true, false, Ok, Err, refl, codes}
-use Rattle.x509_der_grammar.specs.declared.error.ErrorKind.TheVariants.{Malformed}
+use Rattle.std.proofs.Common.{◌≡◌, [], ◌∷◌, map, true, false, refl, codes}
 use Rattle.x509_base_time.specs.CivilTime.{civil_time, last_date_time, is_leap_year, days_in_month, days_of_years, days_of_months, unix_seconds}
 use Rattle.x509_base_time.specs.TimeText.{date_time_text, generalized_time_octets, utc_time_octets}
-use Rattle.x509_base_time.specs.TimeReading.{generalized_time_reading, utc_time_reading}
 
 -- 1900 and 2100 are no leap years, 2000 and 2400 are
 pub leap_years : map is_leap_year (1900 ∷ 2000 ∷ 2023 ∷ 2024 ∷ 2100 ∷ 2400 ∷ []) ≡ false ∷ true ∷ false ∷ true ∷ false ∷ true ∷ []

@@ -1,5 +1,5 @@
 -- Civil date-times of Coordinated Universal Time in the Gregorian calendar (ISO 8601 4.3.2), and the seconds since 1970.
-use Rattle.std.specs.Prelude.{◌≡◌, ℕ, zero, suc, ◌+◌, ◌-◌, ◌*◌, ◌%◌, ◌/◌, ◌<◌, ◌≤◌, Bool, ◌&&◌, ◌||◌, not, ◌==◌, if◌then◌else◌}
+use Rattle.std.specs.Prelude.{ℕ, zero, suc, ◌+◌, ◌-◌, ◌*◌, ◌%◌, ◌/◌, ◌≤◌, Bool, ◌&&◌, ◌||◌, not, ◌==◌, if◌then◌else◌}
 use Rattle.std.specs.Int.{IsInRange}
 use Rattle.std.specs.Duration.{as_nanos}
 use Rattle.std.specs.declared.time.Duration.{Duration}

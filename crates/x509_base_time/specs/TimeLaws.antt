@@ -1,5 +1,5 @@
 -- Each content has one date-time, and each date-time one content.
-use Rattle.std.specs.Prelude.{◌≡◌, ℕ, ◌+◌, ◌*◌, ◌/◌, ◌%◌, ◌≤◌, ◌<◌, Bool, true, false, ◌&&◌, nat_eq, nat_lt, nat_le, List, [], ◌∷◌, ◌++◌, length, Result, Ok, Err, if◌then◌else◌, refl}
+use Rattle.std.specs.Prelude.{◌≡◌, ℕ, ◌+◌, ◌*◌, ◌/◌, ◌%◌, ◌≤◌, ◌<◌, Bool, true, false, ◌&&◌, nat_eq, nat_le, List, Ok, Err, if◌then◌else◌, refl}
 use Rattle.std.specs.Bool.{Decides}
 use Rattle.std.specs.Cmp.Lexicographic.{pointwise, same_text, other_text}
 use Rattle.std.specs.Int.{IsInRange}
@@ -9,8 +9,8 @@ use Rattle.std.proofs.lemmas.Bool.Decides.{nat_tests, Decides-and, Decides-like}
 use Rattle.x509_der_grammar.specs.declared.error.ErrorKind.{ErrorKind}
 use Rattle.x509_der_grammar.specs.declared.error.ErrorKind.TheVariants.{Malformed}
 use Rattle.x509_base_time.specs.CivilTime.{CivilTime, days_in_month, IsDateTime}
-use Rattle.x509_base_time.specs.TimeText.{two_digits, date_time_text, generalized_time_octets, utc_time_octets}
-use Rattle.x509_base_time.specs.TimeReading.{IsUtcTime, number_at, long_number_at, full_year, named_generalized_time, named_utc_time, named_by_text, is_in_range, is_date_time, is_utc_time, read_as, generalized_time_reading, utc_time_reading}
+use Rattle.x509_base_time.specs.TimeText.{date_time_text, generalized_time_octets, utc_time_octets}
+use Rattle.x509_base_time.specs.TimeReading.{IsUtcTime, full_year, named_generalized_time, named_utc_time, named_by_text, is_in_range, is_date_time, is_utc_time, read_as, generalized_time_reading, utc_time_reading}
 
 -- ---- the tests
 

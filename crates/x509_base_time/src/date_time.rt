@@ -261,7 +261,10 @@ impl fmt::Display for DateTime {
         let hour = self.hour;
         let minutes = self.minutes;
         let seconds = self.seconds;
-        write!(f, "{year:04}-{month:02}-{day:02}T{hour:02}:{minutes:02}:{seconds:02}Z")
+        write!(
+            f,
+            "{year:04}-{month:02}-{day:02}T{hour:02}:{minutes:02}:{seconds:02}Z"
+        )
     }
 }
 

@@ -1,4 +1,4 @@
-use Rattle.std.proofs.Common.{◌≡◌, ◌≤◌, refl, ap, sym, ◌∙◌, Ok, true, false, true≢false, arith}
+use Rattle.std.proofs.Common.{◌≤◌, refl, ap, sym, ◌∙◌, Ok, true≢false}
 use Rattle.std.specs.Duration.{as_nanos}
 use Rattle.jiff_core.specs.DateTime.{civil_nanos}
 use Rattle.x509_base_time.proofs.MomentLemmas.{after_epoch, year_from_epoch, unix_seconds-shown, shown_is_date_time, in_range_after, shown_time-whole, in_range_only, range_in}

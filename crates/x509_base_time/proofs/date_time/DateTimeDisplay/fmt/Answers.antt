@@ -1,4 +1,4 @@
-use Rattle.std.proofs.Common.{rules, arith, ◌≡◌}
+use Rattle.std.proofs.Common.{arith}
 use Rattle.std.proofs.lemmas.Grind.{common_steps}
 use Rattle.x509_base_time.specs.TimeText.{date_time_text}
 use Rattle.x509_base_time.proofs.DigitLemmas.{zero_filled-two, zero_filled-four}

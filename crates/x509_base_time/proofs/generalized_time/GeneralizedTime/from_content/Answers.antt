@@ -1,6 +1,6 @@
-use Rattle.std.proofs.Common.{◌≡◌, length, List, ℕ, refl, ap, sym, ◌∙◌, true≢false}
+use Rattle.std.proofs.Common.{◌≡◌, length, ℕ, refl, ap, sym, ◌∙◌, true≢false}
 use Rattle.x509_der_grammar.specs.declared.error.ErrorKind.TheVariants.{Malformed}
-use Rattle.x509_base_time.specs.CivilTime.{CivilTime, IsDateTime}
+use Rattle.x509_base_time.specs.CivilTime.{CivilTime}
 use Rattle.x509_base_time.specs.TimeText.{generalized_time_octets}
 use Rattle.x509_base_time.specs.TimeReading.{named_generalized_time, generalized_time_reading, time_from_month}
 use Rattle.x509_base_time.specs.TimeLaws.{named_generalized_time-octets, generalized_time_sound, generalized_time_complete, generalized_time_refused}
