@@ -63,7 +63,8 @@ impl DateTime {
     ///
     /// # Errors
     ///
-    /// `Value` where the calendar or a clock has no such date-time, or the year is not from 1970 to 9999.
+    /// `Value` where the calendar or a clock has no such date-time, or the year is not from 1970 to
+    /// 9999.
     pub fn new(
         year: u16,
         month: u8,
@@ -228,7 +229,8 @@ impl DateTime {
     }
 }
 
-/// The date-time of the year, where the two digits for month, day, hour, minutes and seconds stand from a place on.
+/// The date-time of a year whose month, day, hour, minutes and seconds stand from a place on, as two
+/// digits each.
 pub(crate) fn from_month(year: u16, bytes: &[u8], place: usize) -> Result<DateTime, Error>
     requires { place + 9 < length bytes.now }
     ensures succeeds { IsOk result ↔ IsDateTime (time_from_month year bytes.now place) }

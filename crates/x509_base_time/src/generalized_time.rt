@@ -98,7 +98,7 @@ impl GeneralizedTime {
         let Ok(date_time) = from_month(long_number_at(content, 0), content, 4) else {
             return Err(ErrorKind::Malformed.into());
         };
-        let time = GeneralizedTime { date_time };
+        let time = GeneralizedTime::from_date_time(date_time);
         if time.content().as_slice() != content {
             return Err(ErrorKind::Malformed.into());
         }
@@ -119,7 +119,7 @@ impl From<DateTime> for GeneralizedTime {
     ghost from_gives = { λ d t. t ≡ d };
 
     fn from(date_time: DateTime) -> GeneralizedTime {
-        GeneralizedTime { date_time }
+        GeneralizedTime::from_date_time(date_time)
     }
 }
 
@@ -127,9 +127,7 @@ impl From<&DateTime> for GeneralizedTime {
     ghost from_gives = { λ d t. t ≡ d.now };
 
     fn from(date_time: &DateTime) -> GeneralizedTime {
-        GeneralizedTime {
-            date_time: *date_time,
-        }
+        GeneralizedTime::from_date_time(*date_time)
     }
 }
 
@@ -145,6 +143,6 @@ impl From<&GeneralizedTime> for DateTime {
     ghost from_gives = { λ t d. d ≡ t.now };
 
     fn from(time: &GeneralizedTime) -> DateTime {
-        time.date_time
+        time.to_date_time()
     }
 }

@@ -22,14 +22,14 @@ returns-in_default-clause-reads c =
 
 pub returns-then-ne-clause-reads : goal.returns-then-ne-clause-reads
 returns-then-ne-clause-reads c =
-    let named = c.in-Ok.ensures.value ∙ ap (λ (y : ℕ). time_from_month y c.args.content.now 4) c.long_number_at.ensures in
+    let named = c.from_date_time-time.ensures ∙ c.in-Ok.ensures.value ∙ ap (λ (y : ℕ). time_from_month y c.args.content.now 4) c.long_number_at.ensures in
     let octets = c.as_slice.ensures ∙ c.content.ensures.octets ∙ ap generalized_time_octets named in
     reads_err_named named_generalized_time named_generalized_time-octets Malformed c.args.content.now _ (kind_of _ _ c.into-then-ne.ensures) (λ h same. other_bytes _ _ _ c.ne.ensures c.if-ne.true (octets ∙ sym same))
 
 pub returns-clause-reads : goal.returns-clause-reads
 returns-clause-reads c =
     let octets = c.as_slice.ensures ∙ c.content.ensures.octets in
-    reads_ok named_generalized_time named_generalized_time-octets Malformed c.args.content.now c.in-Ok.date_time (rw c.in-Ok.ensures.value (c.in-Ok.ensures.succeeds.0 refl)) (sym (equal_bytes _ _ _ c.ne.ensures c.if-ne.false) ∙ octets)
+    reads_ok named_generalized_time named_generalized_time-octets Malformed c.args.content.now c.from_date_time-time.result (rw (c.from_date_time-time.ensures, c.in-Ok.ensures.value) (c.in-Ok.ensures.succeeds.0 refl)) (sym (equal_bytes _ _ _ c.ne.ensures c.if-ne.false) ∙ octets)
 
 pub returns-then-content-ne15-clause-answers : goal.returns-then-content-ne15-clause-answers
 returns-then-content-ne15-clause-answers c =
