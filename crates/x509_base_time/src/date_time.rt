@@ -1,6 +1,6 @@
 //! A date-time of the calendar.
 
-ghost use Rattle.std.specs.Prelude.{◌+◌, ◌<◌, length, Some, pos, ◌≤ℤ◌, ◌≡◌, ◌↔◌, ◌≤◌, ◌*◌, IsOk, Ok, IfOk, IfErr};
+ghost use Rattle.std.specs.Prelude.{IsTrue, ◌+◌, ◌<◌, length, Some, pos, ◌≤ℤ◌, ◌≡◌, ◌↔◌, ◌≤◌, ◌*◌, IsOk, Ok, IfOk, IfErr};
 ghost use Rattle.std.specs.Duration.{as_nanos};
 ghost use Rattle.jiff_core.specs.DateTime.{civil_nanos};
 ghost use Rattle.x509_base_time.specs.CivilTime.{CivilTime, civil_time, last_date_time, IsDateTime, unix_seconds, whole_seconds};
@@ -38,15 +38,6 @@ impl Model for DateTime {
 
     ghost inverse = { λ c. record { year = c.year; month = c.month; day = c.day; hour = c.hour; minutes = c.minutes; seconds = c.seconds } };
 }
-
-const _: () = prove!(
-    DateTime::INFINITY.year == 9999
-        && DateTime::INFINITY.month == 12
-        && DateTime::INFINITY.day == 31
-        && DateTime::INFINITY.hour == 23
-        && DateTime::INFINITY.minutes == 59
-        && DateTime::INFINITY.seconds == 59
-);
 
 impl DateTime {
     /// 9999-12-31T23:59:59Z, which stands for no end (RFC 5280 4.1.2.5).
@@ -94,6 +85,13 @@ impl DateTime {
             minutes,
             seconds,
         })
+    }
+
+    /// Whether this is [`DateTime::INFINITY`].
+    pub fn is_infinity(&self) -> bool
+        ensures { IsTrue result ↔ (self.now ≡ last_date_time) }
+    {
+        *self == DateTime::INFINITY
     }
 
     /// The date-time that long after 1970-01-01T00:00:00Z. A fraction of a second is dropped.

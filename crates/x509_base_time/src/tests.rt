@@ -101,6 +101,7 @@ fn seconds_since_1970(rt: HostRuntime) -> Result<(), Fail> {
     assert_eq!(rt; (end.hour(), end.minutes(), end.seconds()), (8, 30, 0));
     let last = DateTime::from_unix_duration(Duration::new(253_402_300_799, 999_999_999))?;
     assert_eq!(rt; last, DateTime::INFINITY);
+    assert!(rt; last.is_infinity());
     let beyond = DateTime::from_unix_duration(Duration::from_secs(253_402_300_800));
     assert_eq!(rt; kind(beyond), Some(ErrorKind::Value));
     Ok(())
