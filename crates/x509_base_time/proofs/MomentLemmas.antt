@@ -28,7 +28,7 @@ shown_is_date_time m low =
     let day_in = rw (y, days_in_month-library (unsigned_abs m.date.year) m.date.month) at m.date.day_in in
     (omega (arith, signed_arith, m.date.year_in), m.date.month_in, day_in, omega (arith, m.time.hour_in), omega (arith, m.time.minute_in), omega (arith, m.time.second_in))
 
-epoch_day-shown : (m : DateTime) → pos 1970 ≤ℤ m.date.year → epoch_day m.date ≡ pos (days_since_1970 (shown_time m))
+pub epoch_day-shown : (m : DateTime) → pos 1970 ≤ℤ m.date.year → epoch_day m.date ≡ pos (days_since_1970 (shown_time m))
 epoch_day-shown m low =
     rw (year_is m.date.year low) (days_since_1970-library (shown_time m) (year_low m.date.year low) m.date.month_in.0 m.date.day_in.0)
 
@@ -84,7 +84,7 @@ unix_seconds-shown m n e =
     omega arith
 
 -- the library's date-time with these parts and a fraction
-abbrev plain_of : (c : CivilTime) → IsDateTime c → (k : ℕ) → k < 1_000_000_000 → DateTime
+abbrev pub plain_of : (c : CivilTime) → IsDateTime c → (k : ℕ) → k < 1_000_000_000 → DateTime
 plain_of c h k small = record {
   date = record { year = pos c.year; month = c.month; day = c.day; year_in = omega (arith, signed_arith); month_in = h.1; day_in = rw (days_in_month-library c.year c.month) h.2 };
   time = record { hour = c.hour; minute = c.minutes; second = c.seconds; subsec_nanosecond = k; hour_in = omega arith; minute_in = omega arith; second_in = omega arith; subsec_in = small };

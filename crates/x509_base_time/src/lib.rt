@@ -8,6 +8,6 @@ mod generalized_time;
 mod tests;
 mod utc_time;
 
-pub use date_time::DateTime;
+pub use date_time::{DateTime, date_times_are_in_order_of_time};
 pub use generalized_time::GeneralizedTime;
 pub use utc_time::UtcTime;
