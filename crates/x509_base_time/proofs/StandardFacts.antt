@@ -1,7 +1,9 @@
 -- Known values, so that a wrong rule in the specs does not check.
-use Rattle.std.proofs.Common.{◌≡◌, [], ◌∷◌, map, true, false, refl, codes}
+use Rattle.std.proofs.Common.{◌≡◌, [], ◌∷◌, map, true, false, Ok, Err, refl, codes}
+use Rattle.x509_der_grammar.specs.declared.error.ErrorKind.TheVariants.{Malformed}
 use Rattle.x509_base_time.specs.CivilTime.{civil_time, last_date_time, is_leap_year, days_in_month, days_of_years, days_of_months, unix_seconds}
 use Rattle.x509_base_time.specs.TimeText.{date_time_text, generalized_time_octets, utc_time_octets}
+use Rattle.x509_base_time.specs.TimeReading.{generalized_time_reading, utc_time_reading}
 
 -- 1900 and 2100 are no leap years, 2000 and 2400 are
 pub leap_years : map is_leap_year (1900 ∷ 2000 ∷ 2023 ∷ 2024 ∷ 2100 ∷ 2400 ∷ []) ≡ false ∷ true ∷ false ∷ true ∷ false ∷ true ∷ []
@@ -30,3 +32,11 @@ pub known_texts : (date_time_text (civil_time 2002 1 1 12 1 0) ≡ codes "2002-0
     × (utc_time_octets (civil_time 1970 1 1 0 0 0) ≡ codes "700101000000Z")
 unfolding date_time_text generalized_time_octets utc_time_octets
 known_texts = (refl, refl, refl, refl)
+
+-- 29 February 2000; there is no 29 February in 2100, no year 1969, no second 60, no year 50 and no 29 February 2023
+pub known_readings : (generalized_time_reading (codes "20000229000000Z") ≡ Ok (civil_time 2000 2 29 0 0 0))
+    × (generalized_time_reading (codes "21000229000000Z") ≡ Err Malformed) × (generalized_time_reading (codes "19691231235959Z") ≡ Err Malformed)
+    × (utc_time_reading (codes "161231235960Z") ≡ Err Malformed) × (utc_time_reading (codes "500101000000Z") ≡ Err Malformed)
+    × (utc_time_reading (codes "230229000000Z") ≡ Err Malformed) × (utc_time_reading (codes "700101000000Z") ≡ Ok (civil_time 1970 1 1 0 0 0))
+unfolding generalized_time_reading utc_time_reading generalized_time_octets utc_time_octets
+known_readings = (refl, refl, refl, refl, refl, refl, refl)

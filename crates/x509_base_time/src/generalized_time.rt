@@ -29,6 +29,11 @@ impl Model for GeneralizedTime {
 }
 
 impl GeneralizedTime {
+    /// 9999-12-31T23:59:59Z, which stands for no end (RFC 5280 4.1.2.5).
+    pub const INFINITY: GeneralizedTime = GeneralizedTime {
+        date_time: DateTime::INFINITY,
+    };
+
     /// The date-time, to be spelled as GeneralizedTime.
     pub fn from_date_time(date_time: DateTime) -> GeneralizedTime
         ensures { result ≡ date_time }

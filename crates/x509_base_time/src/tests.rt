@@ -102,6 +102,10 @@ fn seconds_since_1970(rt: HostRuntime) -> Result<(), Fail> {
     let last = DateTime::from_unix_duration(Duration::new(253_402_300_799, 999_999_999))?;
     assert_eq!(rt; last, DateTime::INFINITY);
     assert!(rt; last.is_infinity());
+    assert_eq!(rt;
+        GeneralizedTime::INFINITY.to_date_time(),
+        DateTime::INFINITY
+    );
     let beyond = DateTime::from_unix_duration(Duration::from_secs(253_402_300_800));
     assert_eq!(rt; kind(beyond), Some(ErrorKind::Value));
     Ok(())
