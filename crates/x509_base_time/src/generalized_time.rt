@@ -1,6 +1,6 @@
 //! GeneralizedTime.
 
-ghost use Rattle.std.specs.Prelude.{◌≡◌, ◌↔◌, ◌+◌, ◌*◌, ◌<◌, Some, IsOk, IfOk, length};
+ghost use Rattle.std.specs.Prelude.{◌≡◌, ◌*◌, Some};
 ghost use Rattle.std.specs.Duration.{as_nanos};
 ghost use Rattle.x509_base_time.specs.CivilTime.{CivilTime, IsDateTime, unix_seconds};
 ghost use Rattle.x509_base_time.specs.TimeText.{date_time_text, generalized_time_octets};
