@@ -1,0 +1,6 @@
+pub mod CalendarLemmas
+pub mod MomentLemmas
+pub mod DigitLemmas
+pub mod ReadingLemmas
+pub mod OrderLemmas
+pub mod StandardFacts

@@ -1,0 +1,5 @@
+pub mod CivilTime
+pub mod Moment
+pub mod TimeText
+pub mod TimeReading
+pub mod TimeLaws

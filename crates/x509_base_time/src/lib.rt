@@ -1,0 +1,13 @@
+//! Calendar times of certificates: seconds since 1970, texts and contents.
+#![tactic(auto)]
+
+mod date_time;
+mod digits;
+mod generalized_time;
+#[cfg(test)]
+mod tests;
+mod utc_time;
+
+pub use date_time::{DateTime, date_times_are_in_order_of_time};
+pub use generalized_time::GeneralizedTime;
+pub use utc_time::UtcTime;
