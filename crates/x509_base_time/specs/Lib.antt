@@ -3,3 +3,4 @@ pub mod Moment
 pub mod TimeText
 pub mod TimeReading
 pub mod TimeLaws
+pub mod TimeForms

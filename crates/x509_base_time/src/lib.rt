@@ -1,6 +1,7 @@
 //! Calendar times of certificates: seconds since 1970, texts and contents.
 #![tactic(auto)]
 
+mod codec;
 mod date_time;
 mod digits;
 mod generalized_time;

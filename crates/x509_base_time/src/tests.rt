@@ -4,7 +4,7 @@ use crate::{DateTime, GeneralizedTime, UtcTime};
 use std::str::FromStr;
 use std::test::Fail;
 use std::time::Duration;
-use x509_der_grammar::{Error, ErrorKind};
+use x509_der_grammar::{Decode, Encode, Error, ErrorKind};
 
 fn kind<T: Drop>(answer: Result<T, Error>) -> Option<ErrorKind> {
     match answer {
@@ -149,5 +149,25 @@ fn texts(rt: HostRuntime) -> Result<(), Fail> {
     assert_eq!(rt; kind(DateTime::from_str("2002-02-30T12:01:00Z")), failed);
     assert_eq!(rt; kind(DateTime::from_str("2002-1-01T12:01:000Z")), failed);
     assert_eq!(rt; kind(DateTime::from_str("+002-01-01T12:01:00Z")), failed);
+    Ok(())
+}
+
+/// Whether the element is read, and the value written as the same bytes; else it is malformed.
+fn is_same<T: Decode + Encode + Drop>(rt: &HostRuntime, bytes: &[u8]) -> Result<bool, Fail> {
+    match T::from_der(rt.alloc(), bytes) {
+        Ok(value) => Ok(value.to_der(rt.alloc())?.as_slice() == bytes),
+        Err(e) if e.kind() == ErrorKind::Malformed => Ok(false),
+        Err(_) => Err(Fail::from("not malformed")),
+    }
+}
+
+#[test]
+fn elements(rt: HostRuntime) -> Result<(), Fail> {
+    let leap_day = b"\x18\x0F20000229000000Z";
+    assert!(rt; is_same::<GeneralizedTime>(&rt, leap_day)?);
+    assert!(rt; !is_same::<UtcTime>(&rt, leap_day)?);
+    assert!(rt; !is_same::<GeneralizedTime>(&rt, b"\x18\x0F21000229000000Z")?);
+    assert!(rt; is_same::<UtcTime>(&rt, b"\x17\x0D491231235959Z")?);
+    assert!(rt; !is_same::<UtcTime>(&rt, b"\x17\x0D161231235960Z")?);
     Ok(())
 }

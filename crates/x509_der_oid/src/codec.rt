@@ -1,5 +1,7 @@
 //! OBJECT IDENTIFIER, read and written (X.690 8.19).
 
+ghost use Rattle.std.specs.Prelude.{◌≡◌, Ok};
+
 use crate::identifier::ObjectIdentifier;
 use std::alloc::Global;
 use x509_der_grammar::{Decode, Encode, Error, FixedTag, Grammar, Room, Tag, TryClone, expect_tag};
@@ -50,7 +52,9 @@ impl FixedTag for ObjectIdentifier {
 }
 
 impl TryClone for ObjectIdentifier {
-    fn try_clone(&self, _alloc: Global) -> Result<ObjectIdentifier, Error> {
+    fn try_clone(&self, _alloc: Global) -> Result<ObjectIdentifier, Error>
+        ensures { result ≡ Ok self.now }
+    {
         Ok(*self)
     }
 }
