@@ -1,0 +1,12 @@
+//! Integers of any size in strict DER.
+#![tactic(auto)]
+
+mod content;
+mod int;
+mod uint;
+
+pub use int::Int;
+pub use uint::Uint;
+
+#[cfg(test)]
+mod tests;
