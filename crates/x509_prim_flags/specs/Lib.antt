@@ -1,0 +1,2 @@
+pub mod NamedBits
+pub mod NamedBitsLaws
