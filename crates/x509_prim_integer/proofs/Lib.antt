@@ -1,1 +1,2 @@
 pub mod Naturals
+pub mod Numbers

@@ -3,6 +3,7 @@
 
 mod content;
 mod int;
+pub mod laws;
 mod uint;
 
 pub use int::Int;
