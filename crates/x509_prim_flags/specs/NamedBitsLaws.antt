@@ -45,13 +45,13 @@ some_when false x y e = absurd cc
 not_zero : (n : ℕ) → not (nat_eq n 0) ≡ true → 0 < n
 not_zero n h = grind (arith, nat_tests)
 
-set_octets-one : (set : ℕ) → 0 < set → set < 256 → set_octets set ≡ unused_after set ∷ turned set ∷ []
+pub set_octets-one : (set : ℕ) → 0 < set → set < 256 → set_octets set ≡ unused_after set ∷ turned set ∷ []
 unfolding set_octets
 set_octets-one set some small =
     let ne : nat_eq set 0 ≡ false = ne_eqb set 0 (λ e. omega arith) in
     rw (ne, lt-ltb set 256 small) refl
 
-set_octets-two : (set : ℕ) → 256 ≤ set → set_octets set ≡ unused_after (set / 256) ∷ turned (set % 256) ∷ turned (set / 256) ∷ []
+pub set_octets-two : (set : ℕ) → 256 ≤ set → set_octets set ≡ unused_after (set / 256) ∷ turned (set % 256) ∷ turned (set / 256) ∷ []
 unfolding set_octets
 set_octets-two set large =
     let ne : nat_eq set 0 ≡ false = ne_eqb set 0 (λ e. omega arith) in
