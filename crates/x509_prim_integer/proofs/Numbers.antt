@@ -1,12 +1,12 @@
 -- Contents of integers and whole numbers are one to one.
-use Rattle.std.proofs.Common.{◌≡◌, ℕ, zero, suc, ◌+◌, ◌-◌, ◌*◌, ◌/◌, ◌%◌, ◌<◌, ◌≤◌, Bool, true, false, not, nat_eq, nat_lt, nat_le, List, [], ◌∷◌, ◌++◌, length, take, drop, get_or, map, fold, ℤ, pos, negsuc, refl, sym, ap, ◌∙◌, length-append, length-drop, inl, inr, arith}
+use Rattle.std.proofs.Common.{◌≡◌, ℕ, zero, suc, ◌+◌, ◌-◌, ◌*◌, ◌/◌, ◌%◌, ◌<◌, ◌≤◌, true, false, nat_eq, nat_le, List, [], ◌∷◌, ◌++◌, length, take, drop, get_or, map, fold, ℤ, pos, negsuc, refl, sym, ap, ◌∙◌, length-append, length-drop, inl, inr, arith}
 use Rattle.std.specs.List.{All}
-use Rattle.std.proofs.lemmas.Bool.{and_parts, cases_Bool, cases_lt, eqb-true, eqb-false, ne_eqb, lt-leb, le-leb, leb-true}
+use Rattle.std.proofs.lemmas.Bool.{cases_Bool, cases_lt, eqb-true, eqb-false, ne_eqb, le-leb}
 use Rattle.std.proofs.lemmas.Bool.Decides.{nat_tests}
 use Rattle.std.proofs.lemmas.List.{take-append-drop}
 use Rattle.std.proofs.lemmas.List.Elements.{All-nil, All-cons, All-head, All-tail, All-append}
 use Rattle.x509_prim_integer.specs.Integer.{is_integer, is_negative, is_natural, number, integer_value, without_zeros, with_sign}
-use Rattle.x509_prim_integer.proofs.Naturals.{number-without_zeros, number-content, is_natural-content, is_natural-is_integer, is_natural-some, some_octets}
+use Rattle.x509_prim_integer.proofs.Naturals.{number-without_zeros, number-content, is_natural-content, is_natural-is_integer, is_natural-some}
 
 abbrev small : ℕ → Type 0
 small octet = octet < 256

@@ -1,4 +1,4 @@
-use Rattle.std.proofs.Common.{◌<◌, length, ap, ◌∙◌}
+use Rattle.std.proofs.Common.{ap, ◌∙◌}
 use Rattle.x509_prim_integer.specs.Integer.{number, without_zeros}
 use Rattle.x509_prim_integer.proofs.Naturals.{number-without_zeros, some_octets, is_natural-some}
 use Rattle.x509_prim_integer.proofs.uint.Uint.as_bytes.Goals as goal
