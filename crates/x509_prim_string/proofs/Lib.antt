@@ -1,1 +1,2 @@
 pub mod LastOctets
+pub mod Bits

@@ -2,6 +2,7 @@
 #![tactic(auto)]
 
 mod bit_string;
+pub mod laws;
 mod octet_string;
 mod tags;
 

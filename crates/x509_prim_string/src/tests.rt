@@ -1,8 +1,9 @@
 //! Rows of bytes, and each call once with ample memory.
 
 use std::test::*;
-use x509_der_grammar::{Decode, Encode, ErrorKind};
+use x509_der_grammar::{Decode, Encode, Error, ErrorKind};
 
+mod bit_string;
 mod octet_string;
 
 /// Whether the bytes are read, and written again as they were.
@@ -14,8 +15,13 @@ fn stays<T: Decode + Encode + Drop>(rt: &HostRuntime, bytes: &[u8]) -> Result<bo
 
 /// Whether the bytes are refused as `Malformed`.
 fn is_malformed<T: Decode + Drop>(rt: &HostRuntime, bytes: &[u8]) -> bool {
-    match T::from_der(rt.alloc(), bytes) {
+    is_refused(T::from_der(rt.alloc(), bytes), ErrorKind::Malformed)
+}
+
+/// Whether a call was refused so.
+fn is_refused<T: Drop>(outcome: Result<T, Error>, kind: ErrorKind) -> bool {
+    match outcome {
         Ok(_) => false,
-        Err(e) => e.kind() == ErrorKind::Malformed,
+        Err(e) => e.kind() == kind,
     }
 }

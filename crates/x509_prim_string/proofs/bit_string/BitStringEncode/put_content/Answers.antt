@@ -1,4 +1,4 @@
-use Rattle.std.proofs.Common.{◌∷◌, [], None, rules}
+use Rattle.std.proofs.Common.{◌∷◌, [], None}
 use Rattle.x509_der_grammar.specs.WritingLaws.{puts_after}
 use Rattle.x509_prim_string.proofs.bit_string.BitStringEncode.put_content.Goals as goal
 

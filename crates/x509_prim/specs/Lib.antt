@@ -1,0 +1,10 @@
+pub use Rattle.x509_prim_flags.specs.NamedBits
+pub use Rattle.x509_prim_flags.specs.NamedBitsLaws
+pub use Rattle.x509_prim_integer.specs.Integer
+pub use Rattle.x509_prim_integer.specs.IntegerLaws
+pub use Rattle.x509_prim_string.specs.BitString
+pub use Rattle.x509_prim_string.specs.BitStringLaws
+pub use Rattle.x509_prim_string.specs.OctetString
+pub use Rattle.x509_prim_text.specs.Alphabet
+pub use Rattle.x509_prim_text.specs.Bmp
+pub use Rattle.x509_prim_text.specs.Text

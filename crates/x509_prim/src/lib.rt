@@ -1,0 +1,11 @@
+//! The primitive types of strict DER: integers, bit and octet strings, texts and named bits.
+#![tactic(auto)]
+
+pub use x509_prim_flags::{NamedBits, put_named_bits, read_named_bits};
+pub use x509_prim_integer::{Int, Uint};
+pub use x509_prim_string::{BitString, OctetString};
+pub use x509_prim_text::{
+    Alphabet, BmpString, Ia5, Ia5String, Ia5StringRef, Printable, PrintableString,
+    PrintableStringRef, RestrictedString, RestrictedStringRef, Teletex, TeletexString,
+    TeletexStringRef, Utf8String, Utf8StringRef,
+};

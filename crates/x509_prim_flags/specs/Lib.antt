@@ -1,0 +1,3 @@
+pub mod NamedBits
+pub mod NamedBitsLaws
+pub mod SetBits

@@ -1,0 +1,122 @@
+//! Sets of named bits (X.680 22.7).
+
+ghost use Rattle.std.specs.Prelude.{◌≡◌, ◌<◌, Some, None, MatchOption};
+ghost use Rattle.x509_der_grammar.specs.Outcome.{Gives};
+ghost use Rattle.x509_der_grammar.specs.Writing.{Puts};
+ghost use Rattle.x509_prim_flags.specs.NamedBits as grammar;
+
+use bitflags::Flags;
+use x509_der_grammar::{Error, ErrorKind, Room, Tag};
+
+/// A flag type of which bit n stands for the named bit n of a BIT STRING.
+pub trait NamedBits: Flags<Bits = u16> {
+    ghost use Rattle.std.specs.Prelude.{◌≡◌, ℕ};
+
+    ghost of_set: { ℕ → Self };
+
+    ghost is_exact: { Self.exact };
+
+    ghost back: { (value : Self) → of_set (Self.set_of value) ≡ value };
+
+    ghost there: { (set : ℕ) → Self.set_of (of_set set) ≡ set };
+}
+
+/// The octet of eight named bits, of which the first is the highest bit; or these bits of such an octet.
+#[tactic(auto, unfolding(crate::specs::NamedBits::turned))]
+fn turn(bits: u8) -> u8
+    ensures { result ≡ grammar.turned bits }
+{
+    128 * (bits % 2)
+        + 64 * (bits / 2 % 2)
+        + 32 * (bits / 4 % 2)
+        + 16 * (bits / 8 % 2)
+        + 8 * (bits / 16 % 2)
+        + 4 * (bits / 32 % 2)
+        + 2 * (bits / 64 % 2)
+        + bits / 128 % 2
+}
+
+/// How many bits of the octet of these named bits come after the last of them.
+#[tactic(auto, unfolding(crate::specs::NamedBits::unused_after))]
+fn unused_after(bits: u8) -> u8
+    ensures { result ≡ grammar.unused_after bits }
+{
+    match bits {
+        0..=1 => 7,
+        2..=3 => 6,
+        4..=7 => 5,
+        8..=15 => 4,
+        16..=31 => 3,
+        32..=63 => 2,
+        64..=127 => 1,
+        _ => 0,
+    }
+}
+
+/// Whether the last octet ends with the last of its named bits.
+fn check_end(unused: u8, octet: u8) -> bool
+    ensures { result ≡ grammar.ends unused octet }
+{
+    let bits = turn(octet);
+    bits != 0 && unused == unused_after(bits)
+}
+
+/// The set of a content; `None` where the string ends in a zero bit or an unused bit is one.
+#[tactic(auto, unfolding(crate::specs::NamedBits::set_at))]
+fn set_of_content(content: &[u8]) -> Option<u16>
+    ensures { result ≡ grammar.set_at content.now }
+{
+    match content {
+        [0] => Some(0),
+        [unused, octet] if check_end(*unused, *octet) => Some(turn(*octet) as u16),
+        [unused, first, last] if check_end(*unused, *last) => {
+            Some(turn(*first) as u16 + 256 * turn(*last) as u16)
+        }
+        _ => None,
+    }
+}
+
+/// Puts the content of a set.
+#[tactic(auto, unfolding(crate::specs::NamedBits::set_octets))]
+fn put_set<R: Room>(set: u16, room: &mut R) -> Result<(), Error>
+    ensures { Puts R.kind (grammar.set_octets set) None result room.old room.new }
+{
+    let low = (set % 256) as u8;
+    let high = (set / 256) as u8;
+    if set == 0 {
+        room.put(&[0])
+    } else if set < 256 {
+        room.put(&[unused_after(low), turn(low)])
+    } else {
+        room.put(&[unused_after(high), turn(low), turn(high)])
+    }
+}
+
+/// The value of an element with this identifier octet and this content; `Malformed` where it is no BIT STRING, a zero
+/// bit ends it, an unused bit is one, or a bit has no name.
+#[tactic(auto, unfolding(crate::specs::NamedBits::named_reading))]
+pub fn read_named_bits<T: NamedBits>(tag: u8, content: &[u8]) -> Result<T, Error>
+    ensures exact { Gives result ((grammar.named_bits T.of_set T.set_of T.table).reading tag content.now) }
+{
+    if tag != Tag::BitString.octet() {
+        return Err(ErrorKind::Malformed.into());
+    }
+    let Some(set) = set_of_content(content) else {
+        return Err(ErrorKind::Malformed.into());
+    };
+    let value = T::from_bits_retain(set);
+    if value.contains_unknown_bits() {
+        return Err(ErrorKind::Malformed.into());
+    }
+    Ok(value)
+}
+
+/// Puts the content of the value; `Value` exactly where a bit of it has no name.
+pub fn put_named_bits<T: NamedBits, R: Room>(value: &T, room: &mut R) -> Result<(), Error>
+    ensures { let written = grammar.named_written T.set_of T.table value.now in Puts R.kind ((grammar.named_bits T.of_set T.set_of T.table).content written.value) written.refusal result room.old room.new }
+{
+    if value.contains_unknown_bits() {
+        return Err(ErrorKind::Value.into());
+    }
+    put_set(value.bits(), room)
+}

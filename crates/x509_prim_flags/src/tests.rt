@@ -1,0 +1,142 @@
+//! A flag type of three named bits, and rows of its bytes.
+
+ghost use Rattle.std.specs.Prelude.{⊤, [], ◌∷◌, codes};
+
+use crate::{NamedBits, put_named_bits, read_named_bits};
+use bitflags::{Flag, Flags, bitflag_items};
+use std::alloc::Global;
+use std::test::*;
+use x509_der_grammar::{Decode, Encode, Error, ErrorKind, Grammar, Room, Tag};
+
+/// Three named bits.
+#[derive(Clone, Copy, PartialEq, Eq, Debug)]
+struct Trio(u16);
+
+bitflag_items! {
+    impl Trio: u16 {
+        const FIRST = 1;
+        const SECOND = 2;
+        const THIRD = 4;
+    }
+}
+
+impl Flags for Trio {
+    type Bits = u16;
+
+    ghost exact = { ⊤ };
+
+    ghost table = { (codes "FIRST", 1) ∷ (codes "SECOND", 2) ∷ (codes "THIRD", 4) ∷ [] };
+
+    ghost set_of = { λ trio. trio.0 };
+
+    fn flags<'a>() -> &'a [Flag<Trio>] {
+        Trio::FLAGS
+    }
+
+    fn bits(&self) -> u16 {
+        self.0
+    }
+
+    fn from_bits_retain(bits: u16) -> Trio {
+        Trio(bits)
+    }
+}
+
+impl NamedBits for Trio {
+    ghost use Rattle.std.specs.Prelude.{refl};
+
+    ghost of_set = { λ set. record { 0 = set } };
+
+    ghost is_exact = { tt };
+
+    ghost back = { λ value. refl };
+
+    ghost there = { λ set. refl };
+}
+
+impl Grammar for Trio {
+    ghost use Rattle.std.specs.Prelude.{[], ◌∷◌, codes, refl};
+    ghost use Rattle.x509_prim_flags.specs.NamedBits.{named_bits};
+    ghost use Rattle.x509_prim_flags.specs.NamedBitsLaws.{named_bits_lawful};
+
+    ghost form = { named_bits (λ set. record { 0 = set }) (λ trio. trio.0) ((codes "FIRST", 1) ∷ (codes "SECOND", 2) ∷ (codes "THIRD", 4) ∷ []) };
+
+    fn identifier(&self) -> Tag {
+        Tag::BitString
+    }
+
+    fn is_start(octet: u8) -> bool {
+        octet == Tag::BitString.octet()
+    }
+
+    ghost lawful = { named_bits_lawful (λ set. record { 0 = set }) (λ trio. trio.0) ((codes "FIRST", 1) ∷ (codes "SECOND", 2) ∷ (codes "THIRD", 4) ∷ []) (λ value. refl) (λ set. refl) };
+}
+
+impl Decode for Trio {
+    fn read(_alloc: Global, tag: u8, content: &[u8]) -> Result<Trio, Error> {
+        read_named_bits(tag, content)
+    }
+}
+
+impl Encode for Trio {
+    ghost use Rattle.std.specs.Prelude.{[], ◌∷◌, codes, refl};
+    ghost use Rattle.x509_der_grammar.specs.Writing.{respelling};
+    ghost use Rattle.x509_prim_flags.specs.NamedBits.{named_written};
+
+    ghost writing = { respelling (named_written (λ trio. trio.0) ((codes "FIRST", 1) ∷ (codes "SECOND", 2) ∷ (codes "THIRD", 4) ∷ [])) };
+
+    fn put_content<R: Room>(&self, room: &mut R) -> Result<(), Error> {
+        put_named_bits(self, room)
+    }
+
+    ghost same_tag = { λ value. refl };
+}
+
+/// Whether the bytes are read as the value, and written again as they were.
+fn stays(rt: &HostRuntime, bytes: &[u8], value: Trio) -> Result<bool, Fail> {
+    let read = Trio::from_der(rt.alloc(), bytes)?;
+    let len = read.encoded_len()?.as_u32() as usize;
+    Ok(read == value && read.to_der(rt.alloc())?.as_slice() == bytes && len == bytes.len())
+}
+
+/// Whether a call was refused so.
+fn is_refused<T: Drop>(outcome: Result<T, Error>, kind: ErrorKind) -> bool {
+    match outcome {
+        Ok(_) => false,
+        Err(e) => e.kind() == kind,
+    }
+}
+
+#[test]
+fn named_bits(rt: HostRuntime) -> Result<(), Fail> {
+    assert!(rt; stays(&rt, &[0x03, 0x01, 0x00], Trio::empty())?);
+    assert!(rt; stays(&rt, &[0x03, 0x02, 0x06, 0x40], Trio::SECOND)?);
+    assert!(rt;
+        stays(
+            &rt,
+            &[0x03, 0x02, 0x05, 0xA0],
+            Trio::FIRST.union(Trio::THIRD)
+        )?
+    );
+    assert!(rt; stays(&rt, &[0x03, 0x02, 0x05, 0xE0], Trio::all())?);
+    for bytes in [
+        [0x03, 0x02, 0x00, 0xA0].as_slice(),
+        &[0x03, 0x02, 0x04, 0x10],
+        &[0x03, 0x02, 0x04, 0xA0],
+        &[0x03, 0x02, 0x05, 0xA1],
+        &[0x03, 0x03, 0x07, 0xE0, 0x80],
+        &[0x03, 0x02, 0x00, 0x00],
+    ] {
+        assert!(rt; is_refused(Trio::from_der(rt.alloc(), bytes), ErrorKind::Malformed));
+    }
+    Ok(())
+}
+
+#[test]
+fn bits_without_names(rt: HostRuntime) -> Result<(), Fail> {
+    let unnamed = Trio::from_bits_retain(9);
+    assert!(rt; is_refused(unnamed.to_der(rt.alloc()), ErrorKind::Value));
+    assert!(rt; is_refused(unnamed.encoded_len(), ErrorKind::Value));
+    assert!(rt; is_refused(unnamed.value_len(), ErrorKind::Value));
+    Ok(())
+}

@@ -1,0 +1,13 @@
+//! Integers of any size in strict DER.
+#![tactic(auto)]
+
+mod content;
+mod int;
+pub mod laws;
+mod uint;
+
+pub use int::Int;
+pub use uint::Uint;
+
+#[cfg(test)]
+mod tests;

@@ -1,0 +1,173 @@
+//! INTEGER that is not negative.
+
+ghost use Rattle.std.specs.Prelude.{◌≡◌, ◌<◌, ◌⊎◌, true, false, [], length, bytes_eq, IfOk, IfErr};
+ghost use Rattle.std.proofs.Common.{rules};
+ghost use Rattle.std.specs.Hash as fed;
+ghost use Rattle.std.specs.Cmp.{partial_equiv_from_equiv};
+ghost use Rattle.std.specs.Cmp.Lexicographic.{nat_list_eq_equiv};
+ghost use Rattle.std.specs.Cmp.Rules.{hashing};
+ghost use Rattle.x509_der_grammar.specs.declared.error.ErrorKind.TheVariants as errors;
+ghost use Rattle.x509_prim_integer.specs.Integer.{is_natural, number, with_sign, without_zeros};
+
+use crate::content::{check_natural, is_signed, strip_zeros};
+use std::alloc::Global;
+use std::fmt;
+use std::hash::{Hash, Hasher};
+use std::marker::Model;
+use x509_der_grammar::{
+    Bytes, Decode, Encode, Error, ErrorKind, FixedTag, Grammar, Room, Tag, TryClone,
+};
+
+/// A whole number of any size that is not negative (X.690 8.3). Contracts see its content octets.
+#[derive(Drop)]
+pub struct Uint {
+    content: Bytes,
+}
+
+impl Model for Uint {
+    ghost use Rattle.std.specs.Prelude.{List, ℕ, ◌≡◌, true};
+    ghost use Rattle.x509_prim_integer.specs.Integer.{is_natural};
+
+    ghost Value = { List ℕ };
+
+    ghost view = { λ uint. uint.content };
+
+    ghost invariant = { λ uint. is_natural uint.content ≡ true };
+}
+
+impl Uint {
+    /// The number of the octets, most significant first, which may begin with zeros; `Value` exactly where there are
+    /// no octets. Memory may be refused.
+    pub fn new(alloc: Global, octets: &[u8]) -> Result<Uint, Error>
+        ensures ok { IfOk result (λ uint. uint ≡ with_sign (without_zeros octets.now)) }
+        ensures number { IfOk result (λ uint. number uint ≡ number octets.now) }
+        ensures err { IfErr result (λ e. (e.kind ≡ errors.Memory) ⊎ ((e.kind ≡ errors.Value) × (octets.now ≡ []))) }
+    {
+        if octets.is_empty() {
+            return Err(ErrorKind::Value.into());
+        }
+        let content = signed_content(alloc, strip_zeros(octets))?;
+        Ok(Uint {
+            content: Bytes::from(content),
+        })
+    }
+
+    /// The octets of the number, most significant first, without zeros in front; the number 0 has one octet.
+    pub fn as_bytes(&self) -> &[u8]
+        ensures octets { result.now ≡ without_zeros self.now }
+        ensures number { number result.now ≡ number self.now }
+        ensures some { 0 < length result.now }
+    {
+        strip_zeros(self.content.as_slice())
+    }
+
+    /// The content octets, without a copy.
+    pub(crate) fn into_content(self) -> Bytes
+        ensures content { result ≡ self }
+        ensures natural { is_natural self ≡ true }
+    {
+        let Uint { content } = self;
+        content
+    }
+}
+
+/// The octets, with a zero in front where bit 8 of the first is 1.
+fn signed_content(alloc: Global, octets: &[u8]) -> Result<Vec<u8>, Error>
+    ensures ok { IfOk result (λ content. content.items ≡ with_sign octets.now) }
+    ensures err { IfErr result (λ e. e.kind ≡ errors.Memory) }
+{
+    if !is_signed(octets) {
+        return Ok(Vec::from_slice(alloc, octets)?);
+    }
+    let mut content = Vec::from_slice(alloc, &[0x00])?;
+    content.extend_from_slice(octets)?;
+    Ok(content)
+}
+
+impl Grammar for Uint {
+    ghost use Rattle.x509_prim_integer.specs.Integer.{natural};
+    ghost use Rattle.x509_prim_integer.specs.IntegerLaws.{natural_lawful};
+
+    ghost form = { natural };
+
+    fn identifier(&self) -> Tag {
+        Tag::Integer
+    }
+
+    fn is_start(octet: u8) -> bool {
+        octet == Tag::Integer.octet()
+    }
+
+    ghost lawful = { natural_lawful };
+}
+
+#[tactic(auto, unfolding(crate::specs::Integer::tested_reading))]
+impl Decode for Uint {
+    fn read(alloc: Global, tag: u8, content: &[u8]) -> Result<Uint, Error> {
+        if tag != Tag::Integer.octet() || !check_natural(content) {
+            return Err(ErrorKind::Malformed.into());
+        }
+        Ok(Uint {
+            content: Bytes::from_slice(alloc, content)?,
+        })
+    }
+}
+
+impl Encode for Uint {
+    ghost use Rattle.std.specs.Prelude.{refl};
+
+    fn put_content<R: Room>(&self, room: &mut R) -> Result<(), Error> {
+        room.put(self.content.as_slice())
+    }
+
+    ghost same_tag = { λ value. refl };
+}
+
+impl FixedTag for Uint {
+    ghost use Rattle.std.specs.Prelude.{refl};
+    ghost use Rattle.x509_der_grammar.specs.declared.tag.Tag.TheVariants as tags;
+
+    ghost TAG = { tags.Integer };
+
+    const TAG: Tag = Tag::Integer;
+
+    ghost fixed = { λ value good. refl };
+}
+
+impl TryClone for Uint {
+    fn try_clone(&self, alloc: Global) -> Result<Uint, Error> {
+        Ok(Uint {
+            content: self.content.try_clone(alloc)?,
+        })
+    }
+}
+
+impl PartialEq for Uint {
+    ghost eq = { bytes_eq };
+
+    ghost laws = { partial_equiv_from_equiv nat_list_eq_equiv };
+
+    fn eq(&self, other: &Uint) -> bool {
+        self.content.as_slice() == other.content.as_slice()
+    }
+}
+
+impl Eq for Uint {
+    ghost laws = { nat_list_eq_equiv };
+}
+
+impl Hash for Uint {
+    ghost hash_input = { fed.slice fed.u8 };
+
+    ghost respects_eq = { Prim.search (hashing, rules) };
+
+    fn hash<H: Hasher>(&self, state: &mut H) {
+        self.content.as_slice().hash(state);
+    }
+}
+
+impl fmt::Debug for Uint {
+    fn fmt<W: fmt::Write>(&self, f: &mut fmt::Formatter<W>) -> fmt::Result {
+        fmt::Debug::fmt(&self.content.as_slice(), f)
+    }
+}
