@@ -4,12 +4,11 @@ ghost use Rattle.std.specs.Prelude.{◌≡◌, ◌<◌, ◌⊎◌, true, false, 
 ghost use Rattle.x509_der_grammar.specs.declared.error.ErrorKind.TheVariants as errors;
 ghost use Rattle.x509_prim_string.specs.BitString as grammar;
 
-use crate::tags::expect_tag;
 use std::alloc::Global;
 use std::fmt;
 use std::marker::Model;
 use x509_der_grammar::{
-    Bytes, Decode, Encode, Error, ErrorKind, FixedTag, Grammar, Room, Tag, TryClone,
+    Bytes, Decode, Encode, Error, ErrorKind, FixedTag, Grammar, Room, Tag, TryClone, expect_tag,
 };
 
 /// A list of bits (X.690 8.6). Contracts see the octets in which they stand, bit 8 of the first octet first, and

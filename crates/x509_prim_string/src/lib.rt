@@ -4,7 +4,6 @@
 mod bit_string;
 pub mod laws;
 mod octet_string;
-mod tags;
 
 pub use bit_string::BitString;
 pub use octet_string::OctetString;

@@ -11,13 +11,12 @@ ghost use Rattle.x509_der_grammar.specs.Element.{limit};
 ghost use Rattle.x509_der_grammar.specs.Form.{spelling};
 ghost use Rattle.x509_prim_string.specs.OctetString.{octet_string};
 
-use crate::tags::expect_tag;
 use std::alloc::Global;
 use std::fmt;
 use std::hash::{Hash, Hasher};
 use std::marker::Model;
 use x509_der_grammar::{
-    Bytes, Decode, Encode, Error, FixedTag, Grammar, Room, Tag, TryClone, check_content,
+    Bytes, Decode, Encode, Error, FixedTag, Grammar, Room, Tag, TryClone, check_content, expect_tag,
 };
 
 /// Any octets (X.690 8.7). Contracts see their list.

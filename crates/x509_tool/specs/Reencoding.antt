@@ -6,6 +6,7 @@ use Rattle.x509_der_grammar.specs.Element.{limit}
 use Rattle.x509_der_grammar.specs.Form.{Form, Spells}
 use Rattle.x509_der_grammar.specs.Writing.{Writing, plain, writes, IsWritable, IsUnwritable, written_spelling}
 use Rattle.x509_der_frames.specs.Any.{any}
+use Rattle.x509_prim_integer.specs.Integer.{integer}
 use Rattle.x509_der_oid.specs.ObjectIdentifierForm.{object_identifier}
 use Rattle.x509_tool.specs.declared.command.Kind.{Kind}
 use Rattle.x509_tool.specs.declared.command.Kind.TheVariants as kinds
@@ -24,4 +25,5 @@ Reencodes {X} form writing refuses bytes (Err e) =
 -- the types of the program; none of them has a profile or errors of its own
 abbrev pub type_reencodes : Kind → ProfileName → List ℕ → Result (List ℕ) ErrorKind → Type 0
 type_reencodes kinds.Any profile = Reencodes any plain (λ e. ⊥)
+type_reencodes kinds.Integer profile = Reencodes integer plain (λ e. ⊥)
 type_reencodes kinds.Oid profile = Reencodes object_identifier plain (λ e. ⊥)

@@ -9,6 +9,9 @@ pub enum Kind {
     /// An element that is not looked into.
     Any,
 
+    /// A whole number.
+    Integer,
+
     /// An object identifier.
     Oid,
 }
@@ -37,6 +40,7 @@ impl Kind {
     {
         match word {
             "any" => Some(Kind::Any),
+            "integer" => Some(Kind::Integer),
             "oid" => Some(Kind::Oid),
             _ => None,
         }

@@ -10,6 +10,7 @@ ghost use Rattle.x509_tool.specs.declared.command.ProfileName.{ProfileName};
 use crate::command::{Kind, ProfileName};
 use std::alloc::Global;
 use x509_der::{Any, Decode, Encode, Error, ObjectIdentifier};
+use x509_prim::Int;
 
 /// The decoders and encoders of the types that have a name.
 pub trait Codec {
@@ -45,6 +46,7 @@ impl Codec for Types {
     ) -> Result<Vec<u8>, Error> {
         match kind {
             Kind::Any => reencode_as::<Any>(alloc, bytes),
+            Kind::Integer => reencode_as::<Int>(alloc, bytes),
             Kind::Oid => reencode_as::<ObjectIdentifier>(alloc, bytes),
         }
     }
