@@ -1,6 +1,6 @@
 -- BMPString: the characters in two octets each, the high octet first (X.680 41.15, X.690 8.23.9).
-use Rattle.std.specs.Prelude.{◌≡◌, ℕ, ◌+◌, ◌*◌, ◌/◌, ◌%◌, Bool, true, false, ◌&&◌, ◌||◌, nat_lt, nat_le, List, [], ◌∷◌, ◌++◌}
-use Rattle.std.specs.List.{flat_map, list_all}
+use Rattle.std.specs.Prelude.{ℕ, ◌+◌, ◌*◌, ◌/◌, ◌%◌, Bool, true, false, ◌&&◌, ◌||◌, nat_lt, nat_le, List, [], ◌∷◌}
+use Rattle.std.specs.List.{flat_map}
 
 -- a character of the basic multilingual plane, which is not above FFFF and no half of a surrogate pair
 unfoldable pub is_bmp_char : ℕ → Bool

@@ -45,7 +45,8 @@ impl Utf8String {
 
     /// The text.
     pub fn as_str(&self) -> &str
-        ensures { result.now ≡ self.now }
+        ensures text { result.now ≡ self.now }
+        ensures utf8 { is_utf8 self.now ≡ true }
     {
         self.text.as_str()
     }

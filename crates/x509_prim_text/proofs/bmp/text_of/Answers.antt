@@ -1,4 +1,3 @@
-use Rattle.std.proofs.Common.{◌≡◌}
 use Rattle.std.proofs.lemmas.Bool.{false≢true}
 use Rattle.x509_prim_text.proofs.Plane.{scalar_front, one_char_more}
 use Rattle.x509_prim_text.proofs.bmp.text_of.Goals as goal
