@@ -94,7 +94,7 @@ impl BitString {
         ensures none { IfNone result (0 < self.now.unused) }
     {
         if self.unused == 0 {
-            Some(self.octets.as_slice())
+            Some(self.raw_bytes())
         } else {
             None
         }
@@ -139,8 +139,8 @@ impl Encode for BitString {
     ghost use Rattle.std.specs.Prelude.{refl};
 
     fn put_content<R: Room>(&self, room: &mut R) -> Result<(), Error> {
-        room.put(self.octets.as_slice())?;
-        room.put(&[self.unused])
+        room.put(self.raw_bytes())?;
+        room.put(&[self.unused_bits()])
     }
 
     ghost same_tag = { λ value. refl };
@@ -168,6 +168,6 @@ impl TryClone for BitString {
 
 impl fmt::Debug for BitString {
     fn fmt<W: fmt::Write>(&self, f: &mut fmt::Formatter<W>) -> fmt::Result {
-        write!(f, "{:?}, {} unused", self.octets.as_slice(), self.unused)
+        write!(f, "{:?}, {} unused", self.raw_bytes(), self.unused_bits())
     }
 }

@@ -6,4 +6,4 @@ pub returns : goal.returns
 returns g c =
     let first = c.in_ok-put.ensures in
     let second = c.put-2.ensures in
-    rw (← c.self.view_is, ← c.as_slice.ensures) (puts_after g.R.Room.kind g.met.R.Room.lawful (c.self.inside.unused ∷ []) c.as_slice.result.now None None c.in_ok-put.field-0 c.put-2.result c.args.room.now c.put.new.self c.put-2.new.self first second)
+    rw (← c.unused_bits.ensures.unused, ← c.raw_bytes.ensures.octets) (puts_after g.R.Room.kind g.met.R.Room.lawful (c.unused_bits.result ∷ []) c.raw_bytes.result.now None None c.in_ok-put.field-0 c.put-2.result c.args.room.now c.put.new.self c.put-2.new.self first second)
