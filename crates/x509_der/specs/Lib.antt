@@ -12,3 +12,4 @@ pub use Rattle.x509_der_frames.specs.Choice
 pub use Rattle.x509_der_oid.specs.Arcs
 pub use Rattle.x509_der_oid.specs.ObjectIdentifier
 pub use Rattle.x509_der_oid.specs.ObjectIdentifierForm
+pub use Rattle.x509_prim_text.specs.Text
