@@ -6,7 +6,8 @@ use Rattle.x509_der_grammar.specs.declared.error.Error.{Error}
 use Rattle.x509_der_grammar.specs.declared.error.ErrorKind.{ErrorKind}
 use Rattle.x509_der_grammar.specs.declared.error.ErrorKind.TheVariants.{Malformed}
 use Rattle.x509_base_time.specs.CivilTime.{CivilTime, IsDateTime}
-use Rattle.x509_base_time.specs.TimeReading.{Reads, Answers}
+use Rattle.x509_der_grammar.specs.Outcome.{Answers}
+use Rattle.x509_base_time.specs.TimeReading.{Reads}
 
 -- the value that was found is the only one, since the bytes name it again
 pub reads_ok : {good : CivilTime → Type 0} {spelling : CivilTime → List ℕ} (named : List ℕ → CivilTime) → ((c : CivilTime) → good c → named (spelling c) ≡ c) → (refusal : ErrorKind) (bytes : List ℕ) (v : CivilTime) → good v → bytes ≡ spelling v → Reads good spelling refusal bytes (Ok v)

@@ -1,5 +1,5 @@
 -- What reading a text or a content of a date-time answers.
-use Rattle.std.specs.Prelude.{◌≡◌, ℕ, ◌+◌, ◌*◌, ◌%◌, ◌≤◌, Bool, ◌&&◌, nat_le, nat_lt, nat_eq, List, Result, Ok, Err, IfOk, IfErr, MatchResult, slice_index, if◌then◌else◌}
+use Rattle.std.specs.Prelude.{◌≡◌, ℕ, ◌+◌, ◌*◌, ◌%◌, ◌≤◌, Bool, ◌&&◌, nat_le, nat_lt, nat_eq, List, Result, Ok, Err, IfOk, IfErr, slice_index, if◌then◌else◌}
 use Rattle.std.specs.Cmp.Lexicographic.{pointwise}
 use Rattle.x509_der_grammar.specs.declared.error.Error.{Error}
 use Rattle.x509_der_grammar.specs.declared.error.ErrorKind.{ErrorKind}
@@ -12,10 +12,6 @@ pub record Reads (good : CivilTime → Type 0) (spelling : CivilTime → List �
   pub found : IfOk answer (λ c. good c × (bytes ≡ spelling c))
   pub every : (c : CivilTime) → good c → bytes ≡ spelling c → answer ≡ Ok c
   pub refused : IfErr answer (λ e. e.kind ≡ refusal)
-
--- a call answers what reading gives, and asks for no memory
-abbrev pub Answers : {X : Type 0} → Result X Error → Result X ErrorKind → Type 0
-Answers result reading = MatchResult result (λ v. reading ≡ Ok v) (λ e. reading ≡ Err e.kind)
 
 -- a date-time that a UTCTime spells: through 2049 (RFC 5280 4.1.2.5.1)
 abbrev pub IsUtcTime : CivilTime → Type 0

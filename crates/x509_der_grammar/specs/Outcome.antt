@@ -1,5 +1,5 @@
 -- Steps that may be refused, and what a call answers: what reading gives, unless memory was refused.
-use Rattle.std.specs.Prelude.{◌≡◌, ℕ, List, Result, Ok, Err}
+use Rattle.std.specs.Prelude.{◌≡◌, ℕ, List, Result, Ok, Err, MatchResult}
 use Rattle.x509_der_grammar.specs.declared.error.Error.{Error}
 use Rattle.x509_der_grammar.specs.declared.error.ErrorKind.{ErrorKind}
 use Rattle.x509_der_grammar.specs.declared.error.ErrorKind.TheVariants.{Memory, Overlength, Malformed, Failed, SetDuplicate, Value}
@@ -31,3 +31,7 @@ Gives result reading = GivesBy (λ x. x) result reading
 abbrev pub GivesBefore : {X : Type 0} → Result X Error → List ℕ → Result (X × List ℕ) ErrorKind → Type 0
 GivesBefore (Ok x) rest reading = reading ≡ Ok (x, rest)
 GivesBefore (Err e) rest reading = IsRefusal e.kind reading
+
+-- a call that takes no memory answers what the definition says
+abbrev pub Answers : {X : Type 0} → Result X Error → Result X ErrorKind → Type 0
+Answers result answer = MatchResult result (λ x. answer ≡ Ok x) (λ e. answer ≡ Err e.kind)

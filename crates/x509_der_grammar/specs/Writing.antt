@@ -22,6 +22,16 @@ abbrev pub writes : {X : Type 0} → Writing X → X → Written X
 writes plain value = record { value = value; refusal = None }
 writes (respelling by) value = by value
 
+-- a value one field of which is written by a function of its own, and the others as they are
+abbrev pub with_field : {X Y : Type 0} → (X → Y) → (X → Y → X) → Writing Y → Writing X
+with_field get put plain = plain
+with_field get put (respelling by) = respelling (λ x. record { value = put x (by (get x)).value; refusal = (by (get x)).refusal })
+
+-- what a step answers in place of a part: the part stays as it is where the step is refused
+abbrev pub respelled : {X : Type 0} → X → Result X ErrorKind → Written X
+respelled part (Ok other) = record { value = other; refusal = None }
+respelled part (Err e) = record { value = part; refusal = Some e }
+
 -- the refusal of two that is met first
 abbrev pub first : Option ErrorKind → Option ErrorKind → Option ErrorKind
 first (Some e) later = Some e
@@ -64,3 +74,10 @@ IsWritable form written most = (written.refusal ≡ None) × (length (written_sp
 -- it can't be, for this reason
 abbrev pub IsUnwritable : {X : Type 0} → Form X → Written X → ℕ → ErrorKind → Type 0
 IsUnwritable form written most e = (written.refusal ≡ Some e) ⊎ ((e ≡ Overlength) × (most < length (written_spelling form written)))
+
+-- ---- writing again
+
+-- What is written of a value of the form is a value of the form, which is written as it is.
+pub record IsStable {X : Type 0} (form : Form X) (writing : Writing X) : Type 0 where
+  pub good : (value : X) → form.good value → (writes writing value).refusal ≡ None → form.good (writes writing value).value
+  pub again : (value : X) → form.good value → (writes writing value).refusal ≡ None → writes writing (writes writing value).value ≡ record { value = (writes writing value).value; refusal = None }

@@ -1,12 +1,14 @@
 //! What holds of all elements and of all types that are read and written. Each law is a function with an empty body,
 //! whose contract is the law.
 
-ghost use Rattle.std.specs.Prelude.{◌≡◌, ◌++◌, List, ℕ};
+ghost use Rattle.std.specs.Prelude.{◌≡◌, ◌++◌, List, ℕ, None};
 ghost use Rattle.x509_der_grammar.specs.Element.{element};
 ghost use Rattle.x509_der_grammar.specs.Tag.{octet_of};
 ghost use Rattle.x509_der_grammar.specs.declared.tag.Tag.{Tag};
 ghost use Rattle.x509_der_grammar.specs.Form.{spelling, Spells};
+ghost use Rattle.x509_der_grammar.specs.Writing.{IsStable, writes, written_spelling};
 
+use crate::encode::Encode;
 use crate::grammar::Grammar;
 
 /// No two tags share an identifier octet.
@@ -32,4 +34,9 @@ pub fn one_spelling<T: Grammar>()
 /// No two values share a spelling.
 pub fn one_value<T: Grammar>()
     ensures { (v w : T) (b : List ℕ) → Spells T.form v b → Spells T.form w b → v ≡ w }
+{}
+
+/// Decoding what was written and writing it again gives the same bytes, where what is written is written as it is.
+pub fn writing_again_gives_the_same<T: Encode>()
+    ensures { IsStable T.form T.writing → (v w : T) → T.form.good v → (writes T.writing v).refusal ≡ None → Spells T.form w (written_spelling T.form (writes T.writing v)) → ((writes T.writing w).refusal ≡ None) × (written_spelling T.form (writes T.writing w) ≡ written_spelling T.form (writes T.writing v)) }
 {}

@@ -1,0 +1,3 @@
+pub mod Time
+pub mod Profiles
+pub mod Validity

@@ -1,0 +1,30 @@
+//! What is written of dates. Each law is a function with an empty body, whose contract is the law.
+
+ghost use Rattle.std.specs.Prelude.{◌≡◌, Ok, None};
+ghost use Rattle.x509_der_grammar.specs.Writing.{IsStable, writes};
+ghost use Rattle.x509_base_validity.specs.Profiles.{rfc5280_time};
+ghost use Rattle.x509_base_validity.specs.Time.{time};
+ghost use Rattle.x509_base_validity.specs.Validity.{validity};
+ghost use Rattle.x509_base_validity.specs.declared.time.Time.{Time};
+ghost use Rattle.x509_base_validity.specs.declared.validity.Validity.{Validity};
+ghost use Rattle.x509_base_validity.specs.declared.profile.Raw as raw;
+ghost use Rattle.x509_base_validity.specs.declared.profile.Rfc5280 as rfc5280;
+
+use crate::profile::{Profile, Raw, Rfc5280};
+use crate::validity::Validity;
+use x509_der_grammar::Encode;
+
+/// Under [`Raw`] a validity is written as it is.
+pub fn raw_dates_stay()
+    ensures { (v : Validity raw.Raw) → writes ⟦<Validity<Raw> as Encode>⟧.writing v ≡ record { value = v; refusal = None } }
+{}
+
+/// Under [`Rfc5280`] each of the two dates is written as UTCTime through 2049 and else as it is; none is refused.
+pub fn rfc5280_dates()
+    ensures { (v : Validity rfc5280.Rfc5280) → writes ⟦<Validity<Rfc5280> as Encode>⟧.writing v ≡ record { value = record { not_before = rfc5280_time v.not_before; not_after = rfc5280_time v.not_after; profile = v.profile }; refusal = None } }
+{}
+
+/// Where a profile spells a date that it has spelled as it is, what is written of a validity is written as it is.
+pub fn dates_are_written_once<P: Profile>()
+    ensures { ((t u : Time) → time.good t → P.time_of t ≡ Ok u → time.good u × (P.time_of u ≡ Ok u)) → IsStable validity ⟦<Validity<P> as Encode>⟧.writing }
+{}

@@ -1,0 +1,12 @@
+//! Times, profiles and validity of certificates.
+#![tactic(auto)]
+
+mod laws;
+mod profile;
+mod time;
+mod validity;
+
+pub use laws::{dates_are_written_once, raw_dates_stay, rfc5280_dates};
+pub use profile::{Profile, Raw, Rfc5280};
+pub use time::Time;
+pub use validity::Validity;

@@ -1,0 +1,164 @@
+//! From when and until when a certificate holds.
+
+ghost use Rattle.std.specs.Prelude.{◌≡◌, ◌↔◌, ◌+◌, ◌/◌, ◌≤◌, IsOk, IfOk, IfErr, Ok};
+ghost use Rattle.std.specs.Duration.{as_nanos};
+ghost use Rattle.x509_base_time.specs.CivilTime.{last_date_time, unix_seconds, whole_seconds};
+ghost use Rattle.x509_base_validity.specs.Time.{IsTimeAt};
+ghost use Rattle.x509_base_validity.specs.declared.time.Time.TheVariants.{GeneralTime};
+ghost use Rattle.x509_der_grammar.specs.declared.error.ErrorKind.TheVariants.{Memory, Value};
+
+use crate::profile::{Profile, Rfc5280};
+use crate::time::Time;
+use std::alloc::Global;
+use std::marker::PhantomData;
+use std::time::Duration;
+use x509_base_time::DateTime;
+use x509_der_frames::{PutPart, end, field};
+use x509_der_grammar::{
+    Decode, Encode, Error, ErrorKind, FixedTag, Grammar, Room, Tag, TryClone, expect_tag,
+};
+
+/// The two dates between which a certificate holds, both included (RFC 5280 4.1.2.5). They are written as the profile
+/// spells them.
+///
+/// ```text
+/// Validity ::= SEQUENCE {
+///     notBefore  Time,
+///     notAfter   Time }
+/// ```
+#[derive(Clone, Copy, Debug, PartialEq, Eq)]
+pub struct Validity<P: Profile = Rfc5280> {
+    /// The first moment.
+    pub not_before: Time,
+
+    /// The last moment.
+    pub not_after: Time,
+
+    profile: PhantomData<P>,
+}
+
+impl<P: Profile> Validity<P> {
+    /// From the one date to the other, in the spelling that they have.
+    pub fn new(not_before: Time, not_after: Time) -> Validity<P>
+        ensures before { result.not_before ≡ not_before }
+        ensures after { result.not_after ≡ not_after }
+    {
+        Validity {
+            not_before,
+            not_after,
+            profile: PhantomData,
+        }
+    }
+
+    /// From a moment on, for some time. `now` is the time since 1970-01-01T00:00:00Z. Fractions of a second are dropped
+    /// from `now`, and from the sum of the two. Dates through 2049 are UTCTimes.
+    ///
+    /// # Errors
+    ///
+    /// `Value` where the sum is after 9999-12-31T23:59:59Z.
+    #[tactic(auto, using(crate::proofs::Dates::last_second))]
+    pub fn from_now(now: Duration, lasting: Duration) -> Result<Validity<P>, Error>
+        ensures succeeds { IsOk result ↔ ((as_nanos now + as_nanos lasting) / 1_000_000_000 ≤ unix_seconds last_date_time) }
+        ensures before { IfOk result (λ validity. IsTimeAt (whole_seconds now) validity.not_before) }
+        ensures after { IfOk result (λ validity. IsTimeAt ((as_nanos now + as_nanos lasting) / 1_000_000_000) validity.not_after) }
+        ensures refused { IfErr result (λ e. e.kind ≡ Value) }
+    {
+        let Some(until) = now.checked_add(lasting) else {
+            return Err(ErrorKind::Value.into());
+        };
+        let not_before = time_after(now)?;
+        let not_after = time_after(until)?;
+        Ok(Validity::new(not_before, not_after))
+    }
+
+    /// From a moment on, without an end: until 9999-12-31T23:59:59Z (RFC 5280 4.1.2.5). `now` is the time since
+    /// 1970-01-01T00:00:00Z, of which a fraction of a second is dropped.
+    ///
+    /// # Errors
+    ///
+    /// `Value` where `now` is after that.
+    pub fn infinity(now: Duration) -> Result<Validity<P>, Error>
+        ensures succeeds { IsOk result ↔ (whole_seconds now ≤ unix_seconds last_date_time) }
+        ensures before { IfOk result (λ validity. IsTimeAt (whole_seconds now) validity.not_before) }
+        ensures after { IfOk result (λ validity. validity.not_after ≡ GeneralTime last_date_time) }
+        ensures refused { IfErr result (λ e. e.kind ≡ Value) }
+    {
+        Ok(Validity::new(time_after(now)?, Time::INFINITY))
+    }
+}
+
+// The time that long after 1970-01-01T00:00:00Z, without a fraction of a second; as UTCTime through 2049.
+fn time_after(duration: Duration) -> Result<Time, Error>
+    ensures succeeds { IsOk result ↔ (whole_seconds duration ≤ unix_seconds last_date_time) }
+    ensures at { IfOk result (λ time. IsTimeAt (whole_seconds duration) time) }
+    ensures refused { IfErr result (λ e. e.kind ≡ Value) }
+{
+    Ok(Time::from(DateTime::from_unix_duration(duration)?))
+}
+
+impl<P: Profile> TryClone for Validity<P> {
+    fn try_clone(&self, _alloc: Global) -> Result<Validity<P>, Error>
+        ensures ok { IfOk result (λ copy. copy ≡ self.now) }
+        ensures err { IfErr result (λ e. e.kind ≡ Memory) }
+        ensures value { result ≡ Ok self.now }
+    {
+        Ok(*self)
+    }
+}
+
+impl<P: Profile> Grammar for Validity<P> {
+    ghost use Rattle.x509_base_validity.specs.Validity as grammar;
+
+    ghost form = { grammar.validity };
+
+    fn identifier(&self) -> Tag {
+        Tag::Sequence
+    }
+
+    fn is_start(octet: u8) -> bool {
+        octet == 0x30
+    }
+
+    ghost lawful = { grammar.validity_lawful };
+}
+
+#[tactic(auto, unfolding(crate::specs::Validity::validity_fields, x509_der_frames::specs::Frames::fields_reading))]
+impl<P: Profile> Decode for Validity<P> {
+    fn read(alloc: Global, tag: u8, content: &[u8]) -> Result<Validity<P>, Error> {
+        expect_tag(tag, Tag::Sequence)?;
+        let mut rest = content;
+        let not_before = field::<Time>(alloc, &mut rest)?;
+        let not_after = field::<Time>(alloc, &mut rest)?;
+        end(rest)?;
+        Ok(Validity::new(not_before, not_after))
+    }
+}
+
+#[tactic(auto, unfolding(crate::specs::Validity::validity_fields, x509_der_frames::specs::Frames::fields_octets))]
+impl<P: Profile> Encode for Validity<P> {
+    ghost use Rattle.std.specs.Prelude.{refl};
+    ghost use Rattle.x509_der_grammar.specs.Writing.{respelling};
+    ghost use Rattle.x509_base_validity.specs.Validity.{respelled_validity};
+
+    ghost writing = { respelling (respelled_validity P.time_of) };
+
+    fn put_content<R: Room>(&self, room: &mut R) -> Result<(), Error> {
+        let not_before = P::time_encoding(self.not_before)?;
+        let not_after = P::time_encoding(self.not_after)?;
+        let parts = (&not_before, &not_after);
+        parts.put_text(room)
+    }
+
+    ghost same_tag = { λ value. refl };
+}
+
+impl<P: Profile> FixedTag for Validity<P> {
+    ghost use Rattle.std.specs.Prelude.{refl};
+    ghost use Rattle.x509_der_grammar.specs.declared.tag.Tag.TheVariants.{Sequence};
+
+    ghost TAG = { Sequence };
+
+    const TAG: Tag = Tag::Sequence;
+
+    ghost fixed = { λ value good. refl };
+}
