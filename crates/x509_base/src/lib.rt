@@ -1,4 +1,5 @@
-//! Times of certificates. Serial numbers, validity and keys are to come.
+//! Serial numbers, times, profiles, validity and keys of certificates.
 #![tactic(auto)]
 
 pub use x509_base_time::{DateTime, GeneralizedTime, UtcTime};
+pub use x509_base_validity::{Profile, Raw, Rfc5280, Time, Validity};

@@ -3,6 +3,8 @@
 
 mod laws;
 mod profile;
+#[cfg(test)]
+mod tests;
 mod time;
 mod validity;
 

@@ -2,7 +2,7 @@
 use Rattle.std.specs.Prelude.{ℕ, List, [], ◌∷◌, Option, Some, None, codes, if◌then◌else◌}
 use Rattle.std.specs.Str.{bytes_eq}
 use Rattle.x509_tool.specs.declared.command.Kind.{Kind}
-use Rattle.x509_tool.specs.declared.command.Kind.TheVariants.{Any, Integer, Oid}
+use Rattle.x509_tool.specs.declared.command.Kind.TheVariants.{Any, Integer, Oid, Time, Validity}
 use Rattle.x509_tool.specs.declared.command.ProfileName.{ProfileName}
 use Rattle.x509_tool.specs.declared.command.ProfileName.TheVariants.{Rfc5280, Raw}
 use Rattle.x509_tool.specs.declared.command.Command.{Command}
@@ -14,6 +14,8 @@ kind_of word =
     if bytes_eq word (codes "any") then Some Any
     else if bytes_eq word (codes "integer") then Some Integer
     else if bytes_eq word (codes "oid") then Some Oid
+    else if bytes_eq word (codes "time") then Some Time
+    else if bytes_eq word (codes "validity") then Some Validity
     else None
 
 -- the profile that a word names

@@ -4,13 +4,20 @@ use Rattle.x509_der_grammar.specs.declared.error.ErrorKind.{ErrorKind}
 use Rattle.x509_der_grammar.specs.declared.error.ErrorKind.TheVariants.{Overlength, Malformed}
 use Rattle.x509_der_grammar.specs.Element.{limit}
 use Rattle.x509_der_grammar.specs.Form.{Form, Spells}
-use Rattle.x509_der_grammar.specs.Writing.{Writing, plain, writes, IsWritable, IsUnwritable, written_spelling}
+use Rattle.x509_der_grammar.specs.Writing.{Writing, plain, respelling, writes, IsWritable, IsUnwritable, written_spelling}
 use Rattle.x509_der_frames.specs.Any.{any}
 use Rattle.x509_prim_integer.specs.Integer.{integer}
 use Rattle.x509_der_oid.specs.ObjectIdentifierForm.{object_identifier}
+use Rattle.x509_base_validity.specs.declared.time.Time.{Time}
+use Rattle.x509_base_validity.specs.declared.profile.Rfc5280.{Rfc5280}
+use Rattle.x509_base_validity.specs.declared.profile.Raw.{Raw}
+use Rattle.x509_base_validity.specs.Profiles.{rfc5280_time}
+use Rattle.x509_base_validity.specs.Time.{time}
+use Rattle.x509_base_validity.specs.Validity.{validity, respelled_validity}
 use Rattle.x509_tool.specs.declared.command.Kind.{Kind}
 use Rattle.x509_tool.specs.declared.command.Kind.TheVariants as kinds
 use Rattle.x509_tool.specs.declared.command.ProfileName.{ProfileName}
+use Rattle.x509_tool.specs.declared.command.ProfileName.TheVariants as names
 
 -- The encoding is that of the value which the bytes spell. An error comes where they are too long, where they spell no
 -- value, or where that value can't be written; refuses are the errors of the type's own in reading.
@@ -22,8 +29,15 @@ Reencodes {X} form writing refuses bytes (Err e) =
     ⊎ (((length bytes ≤ limit) × ((e ≡ Malformed) ⊎ refuses e) × ((value : X) → Spells form value bytes → ⊥))
     ⊎ ((value : X) × Spells form value bytes × IsUnwritable form (writes writing value) limit e))
 
--- the types of the program; none of them has a profile or errors of its own
+-- the types of the program, under a profile P of which these are the check of serial numbers and the spelling of dates
+abbrev pub reencodes_under : (P : Type 0) → (Time → Result Time ErrorKind) → Kind → List ℕ → Result (List ℕ) ErrorKind → Type 0
+reencodes_under P time_of kinds.Any = Reencodes any plain (λ e. ⊥)
+reencodes_under P time_of kinds.Integer = Reencodes integer plain (λ e. ⊥)
+reencodes_under P time_of kinds.Oid = Reencodes object_identifier plain (λ e. ⊥)
+reencodes_under P time_of kinds.Time = Reencodes time plain (λ e. ⊥)
+reencodes_under P time_of kinds.Validity = Reencodes (validity {P = P}) (respelling (respelled_validity time_of)) (λ e. ⊥)
+
+-- the same for the two profiles
 abbrev pub type_reencodes : Kind → ProfileName → List ℕ → Result (List ℕ) ErrorKind → Type 0
-type_reencodes kinds.Any profile = Reencodes any plain (λ e. ⊥)
-type_reencodes kinds.Integer profile = Reencodes integer plain (λ e. ⊥)
-type_reencodes kinds.Oid profile = Reencodes object_identifier plain (λ e. ⊥)
+type_reencodes kind names.Rfc5280 = reencodes_under Rfc5280 (λ t. Ok (rfc5280_time t)) kind
+type_reencodes kind names.Raw = reencodes_under Raw (λ t. Ok t) kind

@@ -14,6 +14,12 @@ pub enum Kind {
 
     /// An object identifier.
     Oid,
+
+    /// A date of a certificate.
+    Time,
+
+    /// The two dates between which a certificate holds.
+    Validity,
 }
 
 /// The profile under which bytes are read and written.
@@ -42,6 +48,8 @@ impl Kind {
             "any" => Some(Kind::Any),
             "integer" => Some(Kind::Integer),
             "oid" => Some(Kind::Oid),
+            "time" => Some(Kind::Time),
+            "validity" => Some(Kind::Validity),
             _ => None,
         }
     }

@@ -3,12 +3,13 @@
 ghost use Rattle.std.specs.Prelude.{◌≡◌, ◌⊎◌, ℕ, List, Result, Ok, Err, MatchResult};
 ghost use Rattle.x509_der_grammar.specs.declared.error.ErrorKind.{ErrorKind};
 ghost use Rattle.x509_der_grammar.specs.declared.error.ErrorKind.TheVariants.{Memory};
-ghost use Rattle.x509_tool.specs.Reencoding.{Reencodes};
+ghost use Rattle.x509_tool.specs.Reencoding.{Reencodes, reencodes_under};
 ghost use Rattle.x509_tool.specs.declared.command.Kind.{Kind};
 ghost use Rattle.x509_tool.specs.declared.command.ProfileName.{ProfileName};
 
 use crate::command::{Kind, ProfileName};
 use std::alloc::Global;
+use x509_base::{Profile, Raw, Rfc5280, Time, Validity};
 use x509_der::{Any, Decode, Encode, Error, ObjectIdentifier};
 use x509_prim::Int;
 
@@ -41,14 +42,28 @@ impl Codec for Types {
     fn reencode(
         alloc: Global,
         kind: Kind,
-        _profile: ProfileName,
+        profile: ProfileName,
         bytes: &[u8],
     ) -> Result<Vec<u8>, Error> {
-        match kind {
-            Kind::Any => reencode_as::<Any>(alloc, bytes),
-            Kind::Integer => reencode_as::<Int>(alloc, bytes),
-            Kind::Oid => reencode_as::<ObjectIdentifier>(alloc, bytes),
+        match profile {
+            ProfileName::Rfc5280 => reencode_under::<Rfc5280>(alloc, kind, bytes),
+            ProfileName::Raw => reencode_under::<Raw>(alloc, kind, bytes),
         }
+    }
+}
+
+/// The encoding of the value of a type that the bytes spell, under a profile.
+fn reencode_under<P: Profile>(alloc: Global, kind: Kind, bytes: &[u8]) -> Result<Vec<u8>, Error>
+    ensures { MatchResult result
+        (λ encoding. reencodes_under P P.time_of kind bytes.now (Ok encoding.items))
+        (λ e. (e.kind ≡ Memory) ⊎ reencodes_under P P.time_of kind bytes.now (Err e.kind)) }
+{
+    match kind {
+        Kind::Any => reencode_as::<Any>(alloc, bytes),
+        Kind::Integer => reencode_as::<Int>(alloc, bytes),
+        Kind::Oid => reencode_as::<ObjectIdentifier>(alloc, bytes),
+        Kind::Time => reencode_as::<Time>(alloc, bytes),
+        Kind::Validity => reencode_as::<Validity<P>>(alloc, bytes),
     }
 }
 
