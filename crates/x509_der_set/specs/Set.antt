@@ -1,6 +1,6 @@
 -- SET OF: the elements of the members, one after the other, in the byte order of their elements (X.690 8.12, 11.6). Our sets have no
 -- member twice, so each element is below the next.
-use Rattle.std.specs.Prelude.{◌≡◌, ℕ, Bool, true, ◌&&◌, List, [], ◌∷◌, Result, Ok, Err, if◌then◌else◌}
+use Rattle.std.specs.Prelude.{◌≡◌, ◌<◌, ℕ, Bool, true, ◌&&◌, List, [], ◌∷◌, length, get_or, Result, Ok, Err, if◌then◌else◌}
 use Rattle.std.specs.List.Sorted.{IsStrictlySortedBy}
 use Rattle.std.specs.Ordering.{is_lt}
 use Rattle.x509_der_grammar.specs.declared.error.ErrorKind.{ErrorKind}
@@ -34,3 +34,9 @@ set_reading order read bytes = list_reading read bytes >>= if_rising order
 
 abbrev pub set_of : {X : Type 0} → Form X → Order X → Content (List X)
 set_of form order = record { tag = 0x31; octets = joined (spelling form); good = set_good order form.good; reading = set_reading order form.reading }
+
+-- ---- members
+
+-- no two of them are equal
+abbrev pub AreDistinct : {X : Type 0} → List X → Type 0
+AreDistinct {X} members = (i j : ℕ) (other : X) → i < j → j < length members → get_or members i other ≡ get_or members j other → ⊥

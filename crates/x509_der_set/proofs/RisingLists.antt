@@ -1,35 +1,42 @@
 -- Places in a list whose members rise.
 use Rattle.std.proofs.Common.{◌≡◌, ℕ, ◌≤◌, ◌<◌, ◌-◌, ◌+◌, List, [], ◌∷◌, length, refl, sym, ap, ◌∙◌, subst, arith, Bool, true, false, slice_index_or}
 use Rattle.std.specs.Prelude.{Contains, Err}
-use Rattle.std.specs.List.{insert, IsDistinct, list_any, AllByRecursion}
+use Rattle.std.specs.List.{insert, IsDistinct}
 use Rattle.std.specs.List.Sorted.{IsStrictlySortedBy, IsSortedBy, IsPartitionPoint, IsBinarySearchResult, IsPermutation}
 use Rattle.std.specs.Ordering.{is_lt, ordering_reverse, nat_cmp, eq_by_cmp, is_eq}
 use Rattle.std.specs.Cmp.{IsTotalOrder}
 use Rattle.std.specs.declared.cmp.Ordering.{Ordering}
 use Rattle.std.specs.declared.cmp.Ordering.TheVariants.{Less, Equal, Greater}
+use Rattle.std.proofs.lemmas.Bool.{cases_Bool}
 use Rattle.std.proofs.lemmas.Cmp.{tied_itself, ranked, by_ranked, eq_by_cmp_equiv}
-use Rattle.std.proofs.lemmas.List.Sorted.{searchable_from_sorted, IsPermutation-sym, list_any-IsPermutation}
+use Rattle.std.proofs.lemmas.List.Sorted.{searchable_from_sorted, IsPermutation-sym}
 use Rattle.std.proofs.lemmas.List.Edits.{length-insert, get_or-insert_below, get_or-insert_at, get_or-insert_above}
-use Rattle.std.proofs.lemmas.Map.Keys.{Less-from_sorted, sorted_from_all_adjacent, apart_from_distinct, IsDistinct-IsPermutation, IsDistinct-from_sorted}
+use Rattle.std.proofs.lemmas.Map.Keys.{Less-from_sorted, sorted_from_all_adjacent, apart_from_distinct, IsDistinct-from_apart, IsDistinct-IsPermutation, IsDistinct-from_sorted}
 use Rattle.std.proofs.lemmas.List.{get_or_default}
+use Rattle.std.proofs.Common.{inl, inr}
+use Rattle.x509_der_set.specs.Set.{AreDistinct}
+use Rattle.x509_der_set.specs.SetLaws.{is_less}
 
 module _ {X : Type 0} {R : X → X → Ordering} (o : IsTotalOrder R) where
   turned : (x y : X) → R x y ≡ Greater → R y x ≡ Less
   turned x y e = o.antisymm y x ∙ ap ordering_reverse e
 
+  -- ---- where a search ends
+
   loose : (xs : List X) → IsStrictlySortedBy R xs → IsSortedBy (λ a b. is_lt (R a b)) xs
   loose xs s k d low high = ap is_lt (o.antisymm (slice_index_or xs (k + 1) d) (slice_index_or xs k d) ∙ ap ordering_reverse (Less-from_sorted R xs k (k + 1) d s (omega arith) high))
 
-  -- what a search says of a list that rises
+  -- what a search that finds nothing says
   pub searched : (xs : List X) (x : X) (i : ℕ) → IsStrictlySortedBy R xs → IsBinarySearchResult (λ y. R y x) xs (Err i) → IsPartitionPoint (λ y. R y x ≡ Less) (λ y. R y x ≡ Greater) xs i
   searched xs x i s h = h (searchable_from_sorted o (λ y. y) xs x (loose xs s))
+
+  -- ---- a member in its place
 
   after : (xs : List X) (x : X) (i k : ℕ) → i < k → i ≤ length xs → slice_index_or (insert xs i x) k x ≡ slice_index_or xs (k - 1) x
   after xs x i k a le =
       let m : (k - 1) + 1 ≡ k = omega arith in
       subst (λ n. slice_index_or (insert xs i x) n x ≡ slice_index_or xs (k - 1) x) m (get_or-insert_above xs i x x (k - 1) (omega arith) le)
 
-  -- an item in its place
   pub put_sorted : (xs : List X) (x : X) (i : ℕ) → i ≤ length xs → IsStrictlySortedBy R xs → IsPartitionPoint (λ y. R y x ≡ Less) (λ y. R y x ≡ Greater) xs i → IsStrictlySortedBy R (insert xs i x)
   put_sorted xs x i le s p = sorted_from_all_adjacent o (insert xs i x) x (λ k h.
       let len = length-insert xs i x le in
@@ -41,7 +48,7 @@ module _ {X : Type 0} {R : X → X → Ordering} (o : IsTotalOrder R) where
       (λ _ e. rw (get_or-insert_above xs i x x k (omega arith) le, e, get_or-insert_at xs i x x le) (turned _ _ (p.1 i x (omega arith) (omega arith))))
       (λ _ a. rw (get_or-insert_above xs i x x k (omega arith) le, after xs x i k a le) (let m : (k - 1) + 1 ≡ k = omega arith in subst (λ n. R (slice_index_or xs (k - 1) x) (slice_index_or xs n x) ≡ Less) m (Less-from_sorted R xs (k - 1) ((k - 1) + 1) x s (omega arith) (omega arith))))))
 
-  -- an item whose place is between others is not there
+  -- a member whose place is between others is not there
   pub absent : (xs : List X) (x : X) (i : ℕ) → IsPartitionPoint (λ y. R y x ≡ Less) (λ y. R y x ≡ Greater) xs i → ¬ Contains xs x
   absent xs x i p c =
       let same : R (slice_index_or xs c.0 x) x ≡ Equal = rw c.2 (tied_itself o x) in
@@ -50,19 +57,19 @@ module _ {X : Type 0} {R : X → X → Ordering} (o : IsTotalOrder R) where
       (λ _ a. let e = p.1 c.0 x (omega arith) c.1 in cc)
       (λ _ a. let e = p.1 c.0 x (omega arith) c.1 in cc)
 
-  -- an item with no equal and no greater neighbour
+  -- ---- after a sort
+
   strict : (x y : X) → is_lt (R y x) ≡ false → eq_by_cmp R x y ≡ false → R x y ≡ Less
   strict x y a b = go (R x y) (R y x) (o.antisymm x y) a b
     where
       go : (r q : Ordering) → r ≡ ordering_reverse q → is_lt q ≡ false → is_eq r ≡ false → r ≡ Less
       go Less q e a b = refl
-      go Equal q e a b = absurd (cc)
-      go Greater Less e a b = absurd (cc)
-      go Greater Equal e a b = absurd (cc)
-      go Greater Greater e a b = absurd (cc)
+      go Equal q e a b = absurd cc
+      go Greater Less e a b = absurd cc
+      go Greater Equal e a b = absurd cc
+      go Greater Greater e a b = absurd cc
 
-  -- a list that does not fall, with no two equal items, rises
-  pub distinct_rises : (xs : List X) → IsSortedBy (λ a b. is_lt (R a b)) xs → IsDistinct (eq_by_cmp R) xs → IsStrictlySortedBy R xs
+  distinct_rises : (xs : List X) → IsSortedBy (λ a b. is_lt (R a b)) xs → IsDistinct (eq_by_cmp R) xs → IsStrictlySortedBy R xs
   unfolding IsStrictlySortedBy
   distinct_rises [] s d = tt
   distinct_rises (x ∷ xs) s d = sorted_from_all_adjacent o (x ∷ xs) x (λ k h. strict _ _ (s k x (omega arith) h) (apart_from_distinct (eq_by_cmp R) (x ∷ xs) k (k + 1) x d (omega arith) h))
@@ -70,20 +77,39 @@ module _ {X : Type 0} {R : X → X → Ordering} (o : IsTotalOrder R) where
   flips : (x y : X) → eq_by_cmp R x y ≡ eq_by_cmp R y x
   flips x y = (eq_by_cmp_equiv o).symm x y
 
-  -- after a sort, whether the list rises is whether no two items were equal
-  pub rises_then : (xs ys : List X) → IsPermutation xs ys → IsStrictlySortedBy R ys → IsDistinct (eq_by_cmp R) xs
-  rises_then xs ys p s = IsDistinct-IsPermutation (eq_by_cmp R) flips ys xs (IsPermutation-sym xs ys p) (IsDistinct-from_sorted R ys s)
+  apart : (xs : List X) → IsDistinct (eq_by_cmp R) xs → AreDistinct xs
+  apart xs d i j other below within same =
+      let differ = apart_from_distinct (eq_by_cmp R) xs i j other d below within in
+      let tied : R (slice_index_or xs i other) (slice_index_or xs j other) ≡ Equal = rw same (tied_itself o (slice_index_or xs j other)) in
+      let equal : eq_by_cmp R (slice_index_or xs i other) (slice_index_or xs j other) ≡ true = rw tied refl in
+      cc
 
-  pub rises_from : (xs ys : List X) → IsPermutation xs ys → IsSortedBy (λ a b. is_lt (R a b)) ys → IsDistinct (eq_by_cmp R) xs → IsStrictlySortedBy R ys
-  rises_from xs ys p s d = distinct_rises ys s (IsDistinct-IsPermutation (eq_by_cmp R) flips xs ys p d)
+  -- members that were sorted, and rise, were distinct
+  pub distinct_from_rising : (xs ys : List X) → IsPermutation xs ys → IsStrictlySortedBy R ys → AreDistinct xs
+  distinct_from_rising xs ys p s = apart xs (IsDistinct-IsPermutation (eq_by_cmp R) flips ys xs (IsPermutation-sym xs ys p) (IsDistinct-from_sorted R ys s))
 
-  -- a list of which each item is below the next
+  is_equal : (r : Ordering) → is_eq r ≡ true → r ≡ Equal
+  is_equal Less e = absurd cc
+  is_equal Equal e = refl
+  is_equal Greater e = absurd cc
+
+  differ : ((x y : X) → R x y ≡ Equal → x ≡ y) → (x y : X) → (x ≡ y → ⊥) → eq_by_cmp R x y ≡ false
+  differ exact x y n = elim (cases_Bool (eq_by_cmp R x y)) [ inl t ↦ absurd (n (exact x y (is_equal (R x y) t))) | inr f ↦ f ]
+
+  -- and distinct members rise after a sort
+  pub rising_from_distinct : ((x y : X) → R x y ≡ Equal → x ≡ y) → (xs ys : List X) → IsPermutation xs ys → IsSortedBy (λ a b. is_lt (R a b)) ys → AreDistinct xs → IsStrictlySortedBy R ys
+  rising_from_distinct exact xs ys p s d =
+      distinct_rises ys s (IsDistinct-IsPermutation (eq_by_cmp R) flips xs ys p (IsDistinct-from_apart (eq_by_cmp R) xs (λ i j other below within. differ exact (slice_index_or xs i other) (slice_index_or xs j other) (d i j other below within))))
+
+  -- ---- a walk over neighbours
+
+  -- none were passed, or each that was passed is below the next
   pub rising_from_next : (xs : List X) (i : ℕ) → length xs ≤ i → ((k : ℕ) (d : X) → k + 1 < i → R (slice_index_or xs k d) (slice_index_or xs (k + 1) d) ≡ Less) → IsStrictlySortedBy R xs
   unfolding IsStrictlySortedBy
   rising_from_next [] i le h = tt
   rising_from_next (x ∷ xs) i le h = sorted_from_all_adjacent o (x ∷ xs) x (λ k low. h k x (omega arith))
 
-  -- one more item that is below the next
+  -- one more that is below the next
   pub rises_more : (xs : List X) (i : ℕ) (a b : X) → 1 ≤ i → i < length xs → a ≡ slice_index_or xs (i - 1) a → b ≡ slice_index_or xs i b → is_lt (R a b) ≡ true → ((k : ℕ) (d : X) → k + 1 < i → R (slice_index_or xs k d) (slice_index_or xs (k + 1) d) ≡ Less) → (k : ℕ) (d : X) → k + 1 < i + 1 → R (slice_index_or xs k d) (slice_index_or xs (k + 1) d) ≡ Less
   rises_more xs i a b low high p q e before k d h = by_ranked (k + 1 < i) (k + 1 ≡ i) (i < k + 1) (nat_cmp (k + 1) i) (ranked (k + 1) i _ refl)
       (λ _ lt. before k d lt)
@@ -91,57 +117,13 @@ module _ {X : Type 0} {R : X → X → Ordering} (o : IsTotalOrder R) where
       let at : k ≡ i - 1 = omega arith in
       let one : slice_index_or xs k d ≡ a = rw at (get_or_default xs (i - 1) d a (omega arith) ∙ sym p) in
       let two : slice_index_or xs (k + 1) d ≡ b = rw eq (get_or_default xs i d b high ∙ sym q) in
-      rw (one, two) (less (R a b) e))
+      rw (one, two) (is_less (R a b) e))
       (λ _ gt. absurd (omega arith))
-    where
-      less : (r : Ordering) → is_lt r ≡ true → r ≡ Less
-      less Less t = refl
-      less Equal t = absurd (cc)
-      less Greater t = absurd (cc)
 
-  -- an item that is not below the next one
+  -- one that is not below the next
   pub falls : (xs : List X) (i : ℕ) (a b : X) → 1 ≤ i → i < length xs → a ≡ slice_index_or xs (i - 1) a → b ≡ slice_index_or xs i b → is_lt (R a b) ≡ false → ¬ IsStrictlySortedBy R xs
   falls xs i a b low high p q e s =
       let less : R (slice_index_or xs (i - 1) a) (slice_index_or xs i a) ≡ Less = Less-from_sorted R xs (i - 1) i a s (omega arith) high in
       let r = get_or_default xs i a b high in
       let same : R a b ≡ Less = ap (λ x. R x b) p ∙ ap (R (slice_index_or xs (i - 1) a)) (q ∙ sym r) ∙ less in
       cc
-
-  -- whether an item that ties with q is there
-  abbrev there : X → List X → Bool
-  there q xs = list_any (eq_by_cmp R q) xs
-
-  below_all : (x : X) (xs : List X) → AllByRecursion (λ y. R x y ≡ Less) xs → there x xs ≡ false
-  below_all x [] a = refl
-  below_all x (y ∷ ys) a = rw (a.0) (below_all x ys a.1)
-
-  further : (x y : X) (ys : List X) → R x y ≡ Less → AllByRecursion (λ z. R y z ≡ Less) ys → AllByRecursion (λ z. R x z ≡ Less) ys
-  further x y [] e a = tt
-  further x y (z ∷ zs) e a = (o.trans x y z e a.0, further x y zs e a.1)
-
-  -- an item that is at the front of neither list is in both tails or in neither
-  tails : (x y q : X) (xs ys : List X) → x ≡ y → AllByRecursion (λ z. R x z ≡ Less) xs → AllByRecursion (λ z. R y z ≡ Less) ys → ((x y : X) → R x y ≡ Equal → x ≡ y) → there q (x ∷ xs) ≡ there q (y ∷ ys) → there q xs ≡ there q ys
-  tails x y q xs ys e a b exact h = elim (R q x) as (λ r. R q x ≡ r → there q xs ≡ there q ys) [
-    | Equal ↦ λ t. let f : q ≡ x = exact q x t in subst (λ v. there v xs ≡ there v ys) (sym f) (below_all x xs a ∙ sym (subst (λ v. there v ys ≡ false) (sym e) (below_all y ys b)))
-    | Less ↦ λ t. let u : R q y ≡ Less = subst (λ v. R q v ≡ Less) e t in let k = rw (t, u) at h in k
-    | Greater ↦ λ t. let u : R q y ≡ Greater = subst (λ v. R q v ≡ Greater) e t in let k = rw (t, u) at h in k
-  ] refl
-
-  -- two lists that rise and have the same members are one
-  pub unique : ((x y : X) → R x y ≡ Equal → x ≡ y) → (xs ys : List X) → IsStrictlySortedBy R xs → IsStrictlySortedBy R ys → ((q : X) → there q xs ≡ there q ys) → xs ≡ ys
-  unfolding IsStrictlySortedBy
-  unique exact [] [] s t h = refl
-  unique exact [] (y ∷ ys) s t h = absurd (let e = h y in let f = tied_itself o y in cc)
-  unique exact (x ∷ xs) [] s t h = absurd (let e = h x in let f = tied_itself o x in cc)
-  unique exact (x ∷ xs) (y ∷ ys) s t h = elim (R x y) as (λ r. R x y ≡ r → (x ∷ xs) ≡ (y ∷ ys)) [
-    | Equal ↦ λ e.
-        let f : x ≡ y = exact x y e in
-        let rest = unique exact xs ys s.1 t.1 (λ q. tails x y q xs ys f s.0 t.0 exact (h q)) in
-        cc
-    | Less ↦ λ e. absurd (let k = h x in let own = tied_itself o x in let none = below_all x ys (further x y ys e t.0) in let k2 = rw (own, e, none) at k in cc)
-    | Greater ↦ λ e. absurd (let k = h y in let own = tied_itself o y in let turn = turned x y e in let none = below_all y xs (further y x xs turn s.0) in let k2 = rw (own, turn, none) at k in cc)
-  ] refl
-
-  -- two lists that rise and differ in their order alone are one
-  pub unique_order : ((x y : X) → R x y ≡ Equal → x ≡ y) → (xs ys : List X) → IsStrictlySortedBy R xs → IsStrictlySortedBy R ys → IsPermutation xs ys → xs ≡ ys
-  unique_order exact xs ys s t p = unique exact xs ys s t (λ q. list_any-IsPermutation (eq_by_cmp R q) xs ys p)
