@@ -27,6 +27,15 @@ abbrev pub with_field : {X Y : Type 0} → (X → Y) → (X → Y → X) → Wri
 with_field get put plain = plain
 with_field get put (respelling by) = respelling (λ x. record { value = put x (by (get x)).value; refusal = (by (get x)).refusal })
 
+-- a value that may be left out, written by a function of its own
+abbrev pub written_option : {X : Type 0} → (X → Written X) → Option X → Written (Option X)
+written_option by None = record { value = None; refusal = None }
+written_option by (Some x) = record { value = Some (by x).value; refusal = (by x).refusal }
+
+abbrev pub in_option : {X : Type 0} → Writing X → Writing (Option X)
+in_option plain = plain
+in_option (respelling by) = respelling (written_option by)
+
 -- what a step answers in place of a part: the part stays as it is where the step is refused
 abbrev pub respelled : {X : Type 0} → X → Result X ErrorKind → Written X
 respelled part (Ok other) = record { value = other; refusal = None }

@@ -1,3 +1,4 @@
 pub mod Probe
 pub mod TenFields
 pub mod Number
+pub mod Dated

@@ -1,0 +1,2 @@
+pub mod AlgorithmIdentifier
+pub mod SubjectPublicKeyInfo

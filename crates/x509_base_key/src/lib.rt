@@ -1,0 +1,10 @@
+//! Algorithm identifiers and public keys of certificates.
+#![tactic(auto)]
+
+mod algorithm_identifier;
+mod subject_public_key_info;
+#[cfg(test)]
+mod tests;
+
+pub use algorithm_identifier::AlgorithmIdentifier;
+pub use subject_public_key_info::SubjectPublicKeyInfo;

@@ -1,0 +1,166 @@
+//! Sequences with a validity in them, at some depth.
+
+use std::alloc::Global;
+use x509_base::{Profile, Rfc5280, Validity};
+use x509_der::{
+    Decode, Encode, Error, FixedTag, Grammar, ObjectIdentifier, PutPart, Room, Tag, default_field,
+    defaulted, end, expect_tag, field, implicit_optional, optional_implicit,
+};
+use x509_prim_string::OctetString;
+
+/// A sequence one field of which a profile respells.
+///
+/// ```text
+/// Dated ::= SEQUENCE {
+///     name      OBJECT IDENTIFIER,
+///     validity  Validity,
+///     note      [0] IMPLICIT OCTET STRING OPTIONAL }
+/// ```
+#[derive(Debug, PartialEq, Eq)]
+pub struct Dated<P: Profile = Rfc5280> {
+    /// What the dates are of.
+    pub name: ObjectIdentifier,
+
+    /// The dates.
+    pub validity: Validity<P>,
+
+    /// What is said of them.
+    pub note: Option<OctetString>,
+}
+
+impl<P: Profile> Drop for Dated<P> {
+    fn drop(self) {
+        let Dated {
+            name: _,
+            validity: _,
+            note: _,
+        } = self;
+    }
+}
+
+impl<P: Profile> Grammar for Dated<P> {
+    ghost use Rattle.x509_probe.specs.Dated as grammar;
+
+    ghost form = { grammar.dated };
+
+    fn identifier(&self) -> Tag {
+        Tag::Sequence
+    }
+
+    fn is_start(octet: u8) -> bool {
+        octet == 0x30
+    }
+
+    ghost lawful = { grammar.dated_lawful };
+}
+
+#[tactic(auto, unfolding(crate::specs::Dated::dated_fields, x509_der_frames::specs::Frames::fields_reading))]
+impl<P: Profile> Decode for Dated<P> {
+    fn read(alloc: Global, tag: u8, content: &[u8]) -> Result<Dated<P>, Error> {
+        expect_tag(tag, Tag::Sequence)?;
+        let mut rest = content;
+        let name = field::<ObjectIdentifier>(alloc, &mut rest)?;
+        let validity = field::<Validity<P>>(alloc, &mut rest)?;
+        let note = optional_implicit::<OctetString>(alloc, 0, &mut rest)?;
+        end(rest)?;
+        Ok(Dated {
+            name,
+            validity,
+            note,
+        })
+    }
+}
+
+#[tactic(auto, unfolding(crate::specs::Dated::dated_fields, x509_der_frames::specs::Frames::fields_octets))]
+impl<P: Profile> Encode for Dated<P> {
+    ghost use Rattle.std.specs.Prelude.{refl};
+    ghost use Rattle.x509_der_grammar.specs.Writing.{with_field};
+
+    ghost writing = { with_field (λ d. d.validity) (λ d v. record d { validity = v }) ⟦<Validity<P> as Encode>⟧.writing };
+
+    fn put_content<R: Room>(&self, room: &mut R) -> Result<(), Error> {
+        let parts = (
+            &self.name,
+            (&self.validity, implicit_optional(0, &self.note)),
+        );
+        parts.put_text(room)
+    }
+
+    ghost same_tag = { λ value. refl };
+}
+
+impl<P: Profile> FixedTag for Dated<P> {
+    ghost use Rattle.std.specs.Prelude.{refl};
+    ghost use Rattle.x509_der_grammar.specs.declared.tag.Tag.TheVariants.{Sequence};
+
+    ghost TAG = { Sequence };
+
+    const TAG: Tag = Tag::Sequence;
+
+    ghost fixed = { λ value good. refl };
+}
+
+/// A sequence with such a sequence in it, which may be left out.
+///
+/// ```text
+/// Enclosing ::= SEQUENCE {
+///     kept  [1] IMPLICIT Dated OPTIONAL,
+///     last  BOOLEAN DEFAULT FALSE }
+/// ```
+#[derive(Debug, PartialEq, Eq)]
+pub struct Enclosing<P: Profile = Rfc5280> {
+    /// The dates.
+    pub kept: Option<Dated<P>>,
+
+    /// Whether they are the last.
+    pub last: bool,
+}
+
+impl<P: Profile> Drop for Enclosing<P> {
+    fn drop(self) {
+        let Enclosing { kept: _, last: _ } = self;
+    }
+}
+
+impl<P: Profile> Grammar for Enclosing<P> {
+    ghost use Rattle.x509_probe.specs.Dated as grammar;
+
+    ghost form = { grammar.enclosing };
+
+    fn identifier(&self) -> Tag {
+        Tag::Sequence
+    }
+
+    fn is_start(octet: u8) -> bool {
+        octet == 0x30
+    }
+
+    ghost lawful = { grammar.enclosing_lawful };
+}
+
+#[tactic(auto, unfolding(crate::specs::Dated::enclosing_fields, x509_der_frames::specs::Frames::fields_reading))]
+impl<P: Profile> Decode for Enclosing<P> {
+    fn read(alloc: Global, tag: u8, content: &[u8]) -> Result<Enclosing<P>, Error> {
+        expect_tag(tag, Tag::Sequence)?;
+        let mut rest = content;
+        let kept = optional_implicit::<Dated<P>>(alloc, 1, &mut rest)?;
+        let last = default_field::<bool>(alloc, &mut rest)?;
+        end(rest)?;
+        Ok(Enclosing { kept, last })
+    }
+}
+
+#[tactic(auto, unfolding(crate::specs::Dated::enclosing_fields, x509_der_frames::specs::Frames::fields_octets), using(x509_der_frames::specs::FrameWriting::text_in_option, x509_der_frames::specs::FrameWriting::refusal_in_option))]
+impl<P: Profile> Encode for Enclosing<P> {
+    ghost use Rattle.std.specs.Prelude.{refl};
+    ghost use Rattle.x509_der_grammar.specs.Writing.{with_field, in_option};
+
+    ghost writing = { with_field (λ e. e.kept) (λ e d. record e { kept = d }) (in_option ⟦<Dated<P> as Encode>⟧.writing) };
+
+    fn put_content<R: Room>(&self, room: &mut R) -> Result<(), Error> {
+        let parts = (implicit_optional(1, &self.kept), defaulted(&self.last));
+        parts.put_text(room)
+    }
+
+    ghost same_tag = { λ value. refl };
+}
