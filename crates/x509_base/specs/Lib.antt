@@ -5,3 +5,5 @@ pub use Rattle.x509_base_time.specs.TimeForms
 pub use Rattle.x509_base_validity.specs.Time
 pub use Rattle.x509_base_validity.specs.Profiles
 pub use Rattle.x509_base_validity.specs.Validity
+pub use Rattle.x509_base_key.specs.AlgorithmIdentifier
+pub use Rattle.x509_base_key.specs.SubjectPublicKeyInfo

@@ -1,5 +1,6 @@
 //! Serial numbers, times, profiles, validity and keys of certificates.
 #![tactic(auto)]
 
+pub use x509_base_key::{AlgorithmIdentifier, SubjectPublicKeyInfo};
 pub use x509_base_time::{DateTime, GeneralizedTime, UtcTime};
 pub use x509_base_validity::{Profile, Raw, Rfc5280, Time, Validity};

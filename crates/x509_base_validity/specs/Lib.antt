@@ -1,3 +1,4 @@
 pub mod Time
 pub mod Profiles
 pub mod Validity
+pub mod TimeOrder

@@ -1,12 +1,14 @@
 //! Types with each kind of field, which show what a type over the frames costs and are used by tests alone.
 #![tactic(auto)]
 
+mod dated;
 mod number;
 mod probe;
 mod ten_fields;
 #[cfg(test)]
 mod tests;
 
+pub use dated::{Dated, Enclosing};
 pub use number::Number;
 pub use probe::Probe;
 pub use ten_fields::TenFields;
