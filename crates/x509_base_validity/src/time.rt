@@ -8,11 +8,13 @@ ghost use Rattle.x509_base_validity.specs.Time.{date_time_of, time_at, ReadsTime
 ghost use Rattle.x509_base_validity.specs.declared.time.Time.TheVariants as times;
 
 use std::alloc::Global;
+use std::cmp::Ordering;
 use std::fmt;
 use std::str::FromStr;
 use std::time::Duration;
 use x509_base_time::{DateTime, GeneralizedTime, UtcTime};
 use x509_der_grammar::{Decode, Encode, Error, Grammar, Room, Tag, TryClone};
+use x509_der_order::ValueOrd;
 
 /// A date-time, and how it is spelled (RFC 5280 4.1.2.5).
 ///
@@ -155,4 +157,26 @@ impl Encode for Time {
     }
 
     ghost same_tag = { λ value. refl };
+}
+
+impl ValueOrd for Time {
+    ghost use Rattle.x509_der_grammar.specs.Writing.{plain, writes};
+    ghost use Rattle.x509_base_validity.specs.TimeOrder.{time_order, time_ordered};
+
+    ghost order = { time_order };
+
+    fn value_cmp(&self, other: &Time) -> Ordering {
+        match (self, other) {
+            (Time::UtcTime(a), Time::UtcTime(b)) => a.content().cmp(&b.content()),
+            (Time::UtcTime(a), Time::GeneralTime(b)) => {
+                a.content().as_slice().cmp(b.content().as_slice())
+            }
+            (Time::GeneralTime(a), Time::UtcTime(b)) => {
+                a.content().as_slice().cmp(b.content().as_slice())
+            }
+            (Time::GeneralTime(a), Time::GeneralTime(b)) => a.content().cmp(&b.content()),
+        }
+    }
+
+    ghost ordered = { time_ordered (writes plain) };
 }
