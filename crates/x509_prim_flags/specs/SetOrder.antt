@@ -23,7 +23,7 @@ unfoldable pub unused_of : ℕ → ℕ
 unused_of set = if nat_eq set 0 then 0 else (if nat_lt set 256 then unused_after set else unused_after (set / 256))
 
 -- the octets behind the first, and what stands for those that are not there
-AreFurther : List ℕ → ℕ → ℕ → Type 0
+abbrev AreFurther : List ℕ → ℕ → ℕ → Type 0
 AreFurther [] low high = (low ≡ 0) × (high ≡ 0)
 AreFurther (a ∷ []) low high = (a ≡ low) × (0 < low) × (high ≡ 0)
 AreFurther (a ∷ b ∷ []) low high = (a ≡ low) × (b ≡ high) × (0 < high)

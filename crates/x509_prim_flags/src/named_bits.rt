@@ -129,14 +129,10 @@ pub fn put_named_bits<T: NamedBits, R: Room>(value: &T, room: &mut R) -> Result<
 fn unused_bits(set: u16) -> u8
     ensures { result ≡ unused_of set }
 {
-    let low = (set % 256) as u8;
-    let high = (set / 256) as u8;
-    if set == 0 {
-        0
-    } else if set < 256 {
-        unused_after(low)
-    } else {
-        unused_after(high)
+    match set {
+        0 => 0,
+        1..=255 => unused_after(set as u8),
+        _ => unused_after((set / 256) as u8),
     }
 }
 

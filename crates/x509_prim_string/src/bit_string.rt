@@ -170,7 +170,7 @@ impl ValueOrd for BitString {
     fn value_cmp(&self, other: &BitString) -> Ordering {
         self.unused
             .cmp(&other.unused)
-            .then(self.octets.as_slice().cmp(other.octets.as_slice()))
+            .then(self.raw_bytes().cmp(other.raw_bytes()))
     }
 
     ghost ordered = { by_bytes_lawful bit_string (writes plain) (λ x y p q. one_bit_string x y q) };
