@@ -164,7 +164,12 @@ fn flags_in_order(rt: HostRuntime) -> Result<(), Fail> {
     let high = Trio::from_bits_retain(0x0100);
     for row in [
         (Trio::empty(), Trio::FIRST, Ordering::Less, Ordering::Less),
-        (Trio::FIRST, Trio::SECOND, Ordering::Greater, Ordering::Greater),
+        (
+            Trio::FIRST,
+            Trio::SECOND,
+            Ordering::Greater,
+            Ordering::Greater,
+        ),
         (Trio::THIRD, Trio::all(), Ordering::Less, Ordering::Less),
         (Trio::all(), Trio::all(), Ordering::Equal, Ordering::Equal),
         (unnamed, Trio::all(), Ordering::Greater, Ordering::Less),
