@@ -1,5 +1,5 @@
 -- Any element: an identifier and a content that is not looked into (X.690 8.1).
-use Rattle.std.specs.Prelude.{◌≡◌, ◌<◌, ℕ, zero, suc, true, List, [], ◌∷◌, Result, Ok, Err, if◌then◌else◌, refl}
+use Rattle.std.specs.Prelude.{◌≡◌, ◌<◌, ℕ, zero, suc, List, [], ◌∷◌, Result, Ok, Err, if◌then◌else◌, refl}
 use Rattle.std.proofs.Common.{sym, ap, ◌∙◌, inl, inr, false}
 use Rattle.std.proofs.lemmas.Bool.{agree_below_at}
 use Rattle.x509_der_grammar.specs.declared.error.ErrorKind.{ErrorKind}

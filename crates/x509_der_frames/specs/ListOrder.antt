@@ -1,7 +1,7 @@
 -- The byte order of members one after the other.
-use Rattle.std.specs.Prelude.{◌≡◌, ℕ, ◌≤◌, List, [], ◌∷◌, ◌++◌, length, Option, Some, None, refl}
+use Rattle.std.specs.Prelude.{◌≡◌, ℕ, ◌≤◌, List, [], ◌∷◌, length, Option, Some, None, refl}
 use Rattle.std.specs.List.{AllByRecursion}
-use Rattle.std.proofs.Common.{ap, sym, ◌∙◌, arith, length-append}
+use Rattle.std.proofs.Common.{ap, arith, length-append}
 use Rattle.x509_der_grammar.specs.declared.error.ErrorKind.{ErrorKind}
 use Rattle.x509_der_grammar.specs.Element.{element, limit}
 use Rattle.x509_der_grammar.specs.Form.{Form, universal, spelling}
@@ -19,6 +19,7 @@ same_front {X} x y xs ys e = (ap head e, ap tail e)
     head : List X → X
     head [] = x
     head (z ∷ zs) = z
+
     tail : List X → List X
     tail [] = []
     tail (z ∷ zs) = zs
@@ -51,9 +52,10 @@ members_as_they_are (respelling write) xs e = as_they_are write xs (ap (λ (r : 
 members_there : {X : Type 0} (f : Form X) (w : X → Written X) (xs : List X) → all_good f.good xs → AllByRecursion (λ x. w x ≡ writes plain x) xs → length (joined (spelling f) xs) ≤ limit → AllByRecursion (HasEncoding f w) xs
 unfolding all_good joined
 members_there f w [] good same le = tt
-members_there f w (x ∷ xs) good same le =
-    ((good.0, same.0, omega (arith, le, length-append (spelling f x) (joined (spelling f) xs))),
-    members_there f w xs good.1 same.1 (omega (arith, le, length-append (spelling f x) (joined (spelling f) xs))))
+members_there f w (x ∷ xs) good same le = (
+  (good.0, same.0, omega (arith, le, length-append (spelling f x) (joined (spelling f) xs))),
+  members_there f w xs good.1 same.1 (omega (arith, le, length-append (spelling f x) (joined (spelling f) xs))),
+)
 
 -- each member of a list with an encoding has one
 pub members_have_encodings : {X : Type 0} (f : Form X) (w : Writing X) (tag : ℕ) (xs : List X) → all_good f.good xs → writes (members_writing w) xs ≡ writes plain xs → length (element tag (joined (spelling f) xs)) ≤ limit → AllByRecursion (HasEncoding f (writes w)) xs

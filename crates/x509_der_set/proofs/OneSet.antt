@@ -1,5 +1,5 @@
 -- Members make one set, whatever their order; and the encodings of its members rise.
-use Rattle.std.proofs.Common.{arith, ◌≡◌, List, [], ◌∷◌, refl, sym, ap, ◌∙◌, subst, Bool, true, false}
+use Rattle.std.proofs.Common.{arith, ◌≡◌, List, [], ◌∷◌, refl, sym, ap, ◌∙◌, subst, Bool, false}
 use Rattle.std.specs.List.{list_any, All, AllByRecursion}
 use Rattle.std.specs.List.Sorted.{IsStrictlySortedBy, IsPermutation}
 use Rattle.std.specs.Ordering.{ordering_reverse, eq_by_cmp}

@@ -1,5 +1,5 @@
 -- Places in a list whose members rise.
-use Rattle.std.proofs.Common.{◌≡◌, ℕ, ◌≤◌, ◌<◌, ◌-◌, ◌+◌, List, [], ◌∷◌, length, refl, sym, ap, ◌∙◌, subst, arith, Bool, true, false, slice_index_or}
+use Rattle.std.proofs.Common.{◌≡◌, Bool, ℕ, ◌≤◌, ◌<◌, ◌-◌, ◌+◌, List, [], ◌∷◌, length, refl, sym, ap, ◌∙◌, subst, arith, true, false, slice_index_or}
 use Rattle.std.specs.Prelude.{Contains, Err}
 use Rattle.std.specs.List.{insert, IsDistinct}
 use Rattle.std.specs.List.Sorted.{IsStrictlySortedBy, IsSortedBy, IsPartitionPoint, IsBinarySearchResult, IsPermutation}
@@ -16,6 +16,10 @@ use Rattle.std.proofs.lemmas.List.{get_or_default}
 use Rattle.std.proofs.Common.{inl, inr}
 use Rattle.x509_der_set.specs.Set.{AreDistinct}
 use Rattle.x509_der_set.specs.SetLaws.{is_less}
+
+-- what a test of an answer says of the order that was answered
+pub answered : (answer order : Ordering) (tested is : Bool) → answer ≡ order → tested ≡ is_lt answer → tested ≡ is → is_lt order ≡ is
+answered answer order tested is e f g = ap is_lt (sym e) ∙ sym f ∙ g
 
 module _ {X : Type 0} {R : X → X → Ordering} (o : IsTotalOrder R) where
   turned : (x y : X) → R x y ≡ Greater → R y x ≡ Less

@@ -1,5 +1,5 @@
 -- Sets are read as they are spelled, and have an order.
-use Rattle.std.specs.Prelude.{◌≡◌, ℕ, Bool, true, false, ◌&&◌, List, [], ◌∷◌, Ok, refl}
+use Rattle.std.specs.Prelude.{◌≡◌, true, false, List, [], ◌∷◌, Ok, refl}
 use Rattle.std.specs.List.{AllByRecursion}
 use Rattle.std.specs.List.Sorted.{IsStrictlySortedBy}
 use Rattle.std.specs.Ordering.{is_lt}
@@ -9,7 +9,6 @@ use Rattle.std.proofs.Common.{inl, inr, sym, subst, ◌∙◌}
 use Rattle.std.proofs.lemmas.Bool.{and_parts, cases_Bool, true≢false}
 use Rattle.x509_der_grammar.specs.declared.error.ErrorKind.{ErrorKind}
 use Rattle.x509_der_grammar.specs.declared.error.ErrorKind.TheVariants.{Malformed}
-use Rattle.x509_der_grammar.specs.Outcome.{◌>>=◌}
 use Rattle.x509_der_grammar.specs.OutcomeLaws.{ok_is, bind_ok, bind_err, test_ok, test_err}
 use Rattle.x509_der_grammar.specs.Element.{is_identifier, is_universal}
 use Rattle.x509_der_grammar.specs.Form.{Form, IsForm, IsContent, universal, spelling}

@@ -116,14 +116,14 @@ impl<T: DerOrd> SetOfVec<T> {
         ensures runs { IterYieldsInOrder T }
         ensures runs_back { IterYieldsInReverse T }
     {
-        self.members.as_slice().iter()
+        self.as_slice().iter()
     }
 
     /// The member at that place, from 0 on.
     pub fn get(&self, index: usize) -> Option<&T>
         ensures { option_copied result ≡ slice_get self.now index }
     {
-        self.members.as_slice().get(index)
+        self.as_slice().get(index)
     }
 
     /// How many members there are.

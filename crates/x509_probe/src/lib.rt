@@ -4,6 +4,7 @@
 mod dated;
 mod number;
 mod probe;
+mod purposes;
 mod ten_fields;
 #[cfg(test)]
 mod tests;
@@ -11,4 +12,5 @@ mod tests;
 pub use dated::{Dated, Enclosing};
 pub use number::Number;
 pub use probe::Probe;
+pub use purposes::Purposes;
 pub use ten_fields::TenFields;

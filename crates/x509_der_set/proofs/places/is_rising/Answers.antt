@@ -1,9 +1,8 @@
-use Rattle.std.proofs.Common.{arith, ap, ◌∙◌, sym}
-use Rattle.std.specs.Ordering.{is_lt}
+use Rattle.std.proofs.Common.{arith, sym, true, false}
 use Rattle.x509_der_order.specs.Ordered.{der_lawful}
 use Rattle.x509_der_set.specs.SetLaws.{rising_from_sorted, not_rising}
 use Rattle.x509_der_grammar.specs.Writing.{writes}
-use Rattle.x509_der_set.proofs.RisingLists.{rising_from_next, rises_more, falls}
+use Rattle.x509_der_set.proofs.RisingLists.{answered, rising_from_next, rises_more, falls}
 use Rattle.x509_der_set.proofs.places.is_rising.Goals as goal
 
 pub loop-i-preserved : goal.loop-i-preserved
@@ -11,7 +10,7 @@ loop-i-preserved g c =
     let o = (der_lawful g.T.Grammar.form (writes g.T.Encode.writing) g.T.ValueOrd.order g.met.T.ValueOrd.ordered).total in (
       omega arith,
       rises_more o c.args.members.now c.loop-i.i c.index-members-i.result c.index-members-i-in-loop-i.result c.loop-i.invariant.0 c.loop-i-test.true c.index-members-i.is c.index-members-i-in-loop-i.is
-          (ap is_lt (sym c.der_cmp.ensures) ∙ sym c.is_lt.ensures ∙ c.if-not-is_lt.false) c.loop-i.invariant.1,
+          (answered c.der_cmp.result _ c.is_lt.result true c.der_cmp.ensures c.is_lt.ensures c.if-not-is_lt.false) c.loop-i.invariant.1,
     )
 
 pub returns-then-not-is_lt : goal.returns-then-not-is_lt
@@ -20,7 +19,7 @@ returns-then-not-is_lt g c =
     not_rising _ c.args.members.now
     (falls o c.args.members.now c.loop-i.i c.index-members-i.result c.index-members-i-in-loop-i.result
     c.loop-i.invariant.0 c.loop-i-test.true c.index-members-i.is c.index-members-i-in-loop-i.is
-    (ap is_lt (sym c.der_cmp.ensures) ∙ sym c.is_lt.ensures ∙ c.if-not-is_lt.true))
+    (answered c.der_cmp.result _ c.is_lt.result false c.der_cmp.ensures c.is_lt.ensures c.if-not-is_lt.true))
 
 pub returns : goal.returns
 returns g c =

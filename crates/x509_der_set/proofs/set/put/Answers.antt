@@ -1,4 +1,3 @@
-use Rattle.std.proofs.Common.{rules}
 use Rattle.std.proofs.lemmas.List.Sorted.{IsPermutation-insert}
 use Rattle.x509_der_order.specs.Ordered.{der_lawful}
 use Rattle.x509_der_grammar.specs.Writing.{writes}
