@@ -1,5 +1,7 @@
 -- SerialNumber: INTEGER, whose content octets a profile checks in reading (RFC 5280 4.1.2.2).
-use Rattle.std.specs.Prelude.{ℕ, List, Result}
+use Rattle.std.specs.Prelude.{ℕ, ◌/◌, ◌%◌, List, [], ◌∷◌, map, true, Result}
+use Rattle.std.specs.Fmt.{digit_glyph}
+use Rattle.std.specs.List.{join_with_byte}
 use Rattle.x509_der_grammar.specs.declared.error.ErrorKind.{ErrorKind}
 use Rattle.x509_der_grammar.specs.Form.{Form, IsForm, universal}
 use Rattle.x509_der_grammar.specs.FormLaws.{universal_lawful}
@@ -22,3 +24,13 @@ serial_number_lawful check = universal_lawful _ (checked_lawful check _ (tested_
 -- zero where the first bit would be 1, which is the sign (X.690 8.3.2, 8.3.3).
 abbrev pub number_content : List ℕ → List ℕ
 number_content octets = with_sign (without_zeros octets)
+
+-- ---- text
+
+-- an octet as two hex digits, 0 to 9 and A to F, the high four bits first
+abbrev pub hex_octet : ℕ → List ℕ
+hex_octet octet = digit_glyph true (octet / 16) ∷ digit_glyph true (octet % 16) ∷ []
+
+-- the octets in hex, joined by colons
+unfoldable pub colon_hex : List ℕ → List ℕ
+colon_hex octets = join_with_byte 58 (map hex_octet octets)

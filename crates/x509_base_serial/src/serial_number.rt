@@ -7,6 +7,7 @@ ghost use Rattle.std.specs.Cmp.{partial_equiv_from_equiv};
 ghost use Rattle.std.specs.Cmp.Lexicographic.{nat_list_eq_equiv};
 ghost use Rattle.std.specs.Cmp.Rules.{hashing};
 ghost use Rattle.x509_der_grammar.specs.declared.error.ErrorKind.TheVariants as errors;
+ghost use Rattle.x509_der_grammar.specs.Natural.{natural_octets};
 ghost use Rattle.x509_prim_integer.specs.Integer.{is_integer, number, with_sign};
 ghost use Rattle.x509_base_serial.specs.Serial.{number_content};
 
@@ -64,6 +65,52 @@ impl<P: Profile> SerialNumber<P> {
             return Err(ErrorKind::Overlength.into());
         }
         Ok(SerialNumber::from_number(Int::from(Uint::new(alloc, octets)?)))
+    }
+
+    /// The number.
+    ///
+    /// # Errors
+    ///
+    /// Memory may be refused, and nothing else; so for the other number types.
+    pub fn from_u8(alloc: Global, number: u8) -> Result<SerialNumber<P>, Error>
+        ensures ok { IfOk result (λ serial. serial ≡ natural_octets number) }
+        ensures err { IfErr result (λ e. e.kind ≡ errors.Memory) }
+    {
+        SerialNumber::from_u64(alloc, u64::from(number))
+    }
+
+    /// The number.
+    pub fn from_u16(alloc: Global, number: u16) -> Result<SerialNumber<P>, Error>
+        ensures ok { IfOk result (λ serial. serial ≡ natural_octets number) }
+        ensures err { IfErr result (λ e. e.kind ≡ errors.Memory) }
+    {
+        SerialNumber::from_u64(alloc, u64::from(number))
+    }
+
+    /// The number.
+    pub fn from_u32(alloc: Global, number: u32) -> Result<SerialNumber<P>, Error>
+        ensures ok { IfOk result (λ serial. serial ≡ natural_octets number) }
+        ensures err { IfErr result (λ e. e.kind ≡ errors.Memory) }
+    {
+        SerialNumber::from_u64(alloc, u64::from(number))
+    }
+
+    /// The number.
+    #[tactic(auto, using(crate::proofs::Numbers::u64_content))]
+    pub fn from_u64(alloc: Global, number: u64) -> Result<SerialNumber<P>, Error>
+        ensures ok { IfOk result (λ serial. serial ≡ natural_octets number) }
+        ensures err { IfErr result (λ e. e.kind ≡ errors.Memory) }
+    {
+        let uint = Uint::new(alloc, &number.to_be_bytes())?;
+        Ok(SerialNumber::from_number(Int::from(uint)))
+    }
+
+    /// The number.
+    pub fn from_usize(alloc: Global, number: usize) -> Result<SerialNumber<P>, Error>
+        ensures ok { IfOk result (λ serial. serial ≡ natural_octets number) }
+        ensures err { IfErr result (λ e. e.kind ≡ errors.Memory) }
+    {
+        SerialNumber::from_u64(alloc, number as u64)
     }
 
     /// The content octets: the number in two's complement, most significant first (X.690 8.3.3).
@@ -185,5 +232,25 @@ impl<P: Profile> Hash for SerialNumber<P> {
 impl<P: Profile> fmt::Debug for SerialNumber<P> {
     fn fmt<W: fmt::Write>(&self, f: &mut fmt::Formatter<W>) -> fmt::Result {
         fmt::Debug::fmt(&self.as_bytes(), f)
+    }
+}
+
+impl<P: Profile> fmt::Display for SerialNumber<P> {
+    ghost use Rattle.std.specs.Prelude.{Some};
+    ghost use Rattle.x509_base_serial.specs.Serial.{colon_hex};
+
+    ghost output = { λ serial. Some (colon_hex serial) };
+
+    fn fmt<W: fmt::Write>(&self, f: &mut fmt::Formatter<W>) -> fmt::Result {
+        let octets = self.as_bytes();
+        let [first, ..] = octets else {
+            return Ok(());
+        };
+        write!(f, "{first:02X}")?;
+        for i in 1..octets.len() {
+            let octet = octets[i];
+            write!(f, ":{octet:02X}")?;
+        }
+        Ok(())
     }
 }
