@@ -1,5 +1,5 @@
 -- Fills, one after the other, and the number of one.
-use Rattle.std.proofs.Common.{◌≡◌, ◌≢◌, ℕ, ◌+◌, ◌<◌, List, [], ◌++◌, length, take, drop, ◌-◌, ◌≤◌, ◌⊎◌, inl, inr, Result, Ok, Err, length-append, length-drop, refl, sym, ap, ◌∙◌, add-one, arith, get_or, below_more}
+use Rattle.std.proofs.Common.{◌≡◌, ◌≢◌, ℕ, ◌+◌, ◌<◌, List, ◌++◌, length, take, drop, ◌-◌, ◌≤◌, ◌⊎◌, inr, Result, Ok, Err, length-append, length-drop, refl, sym, ap, ◌∙◌, add-one, arith, get_or, below_more}
 use Rattle.std.specs.Prelude.{IfOk, IfErr}
 use Rattle.std.proofs.lemmas.List.{length-take}
 use Rattle.std.proofs.Math.Seq.{take-append_seam}
@@ -50,22 +50,16 @@ filled_buffer prefix copy zeros fill j n all same fits size =
     ∙ ap (λ (front : List ℕ). front ++ fill) (take-append_seam prefix (drop (length prefix) zeros)))
 
 pub made_of : (r : Result (List ℕ) Error) (octets prefix fill : List ℕ) (n : ℕ) (source left : Stream)
-    → IfOk r (λ serial. (serial ≡ number_content octets) × (0 < length octets) × (length (number_content octets) ≤ 20)) → octets ≡ prefix ++ fill → Draws n source fill left
+    → IfOk r (λ serial. serial ≡ number_content octets) → octets ≡ prefix ++ fill → Draws n source fill left
     → IfOk r (λ serial. (x : List ℕ) × Draws n source x left × (serial ≡ number_content (prefix ++ x)))
-made_of (Ok serial) octets prefix fill n source left h is draws = (fill, draws, h.0 ∙ ap number_content is)
+made_of (Ok serial) octets prefix fill n source left h is draws = (fill, draws, h ∙ ap number_content is)
 made_of (Err e) octets prefix fill n source left h is draws = tt
 
 pub refused_of : (r : Result (List ℕ) Error) (octets prefix fill : List ℕ) (n : ℕ) (source left : Stream)
-    → IfErr r (λ e. (e.kind ≡ errors.Memory) ⊎ (((e.kind ≡ errors.Value) × (octets ≡ [])) ⊎ ((e.kind ≡ errors.Overlength) × (20 < length (number_content octets)))))
+    → (0 < length octets → length (number_content octets) ≤ 20 → IfErr r (λ e. e.kind ≡ errors.Memory))
     → octets ≡ prefix ++ fill → 0 < length fill → length prefix + length fill ≤ 19 → Draws n source fill left
     → IfErr r (λ e. ((e.kind ≡ errors.Failed) × GivesZeros n source left) ⊎ ((e.kind ≡ errors.Memory) × ((x : List ℕ) × Draws n source x left)))
 refused_of (Ok serial) octets prefix fill n source left h is some few draws = tt
 refused_of (Err e) octets prefix fill n source left h is some few draws =
     let all : length octets ≡ length prefix + length fill = ap length is ∙ length-append prefix fill in
-    elim h [
-      | inl memory ↦ inr (memory, (fill, draws))
-      | inr other ↦ elim other [
-        | inl none ↦ absurd (omega (arith, ap length none.1))
-        | inr long ↦ absurd (omega (arith, long.1, length_content octets))
-      ]
-    ]
+    inr (h (omega arith) (omega (arith, length_content octets)), (fill, draws))

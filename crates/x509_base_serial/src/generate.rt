@@ -21,7 +21,8 @@ const MOST_OCTETS: usize = 19;
 const FEWEST_RANDOM: usize = 8;
 
 impl<P: Profile> SerialNumber<P> {
-    /// The number of 17 random bytes, the first of which is no zero: the source fills them until it isn't, at most 64 times.
+    /// The number of 17 random bytes. The source fills them until the first is no zero, at most 64 times, so that the number
+    /// has all 17. For a certificate the source is to be cryptographically secure.
     ///
     /// # Errors
     ///
@@ -33,19 +34,27 @@ impl<P: Profile> SerialNumber<P> {
         SerialNumber::generate_with_prefix(alloc, &[], 17, rng)
     }
 
-    /// The number of the octets of the prefix and then of random bytes, the first of which is no zero: the source fills them
-    /// until it isn't, at most 64 times.
+    /// The number of the octets of the prefix and of random bytes behind them. The source fills those until the first of
+    /// them is no zero, at most 64 times. For a certificate the source is to be cryptographically secure.
     ///
     /// # Errors
     ///
     /// `Failed` where fewer than 8 random bytes are asked for, or more than 19 octets in all; then no fill is made.
     /// `Failed` where each of the 64 fills begins with a zero. Memory may be refused after the fills.
-    pub fn generate_with_prefix<R: Rng>(alloc: Global, prefix: &[u8], rand_len: usize, rng: &mut R) -> Result<SerialNumber<P>, Error>
+    pub fn generate_with_prefix<R: Rng>(
+        alloc: Global,
+        prefix: &[u8],
+        rand_len: usize,
+        rng: &mut R,
+    ) -> Result<SerialNumber<P>, Error>
         ensures lengths { are_lengths prefix.now rand_len ≡ false → IsErrAnd result (λ e. (e.kind ≡ errors.Failed) × (rng.new ≡ rng.old)) }
         ensures ok { IfOk result (λ serial. (fill : List ℕ) × Draws rand_len (R.stream rng.old) fill (R.stream rng.new) × (serial ≡ number_content (prefix.now ++ fill))) }
         ensures err { are_lengths prefix.now rand_len ≡ true → IfErr result (λ e. ((e.kind ≡ errors.Failed) × GivesZeros rand_len (R.stream rng.old) (R.stream rng.new)) ⊎ ((e.kind ≡ errors.Memory) × ((fill : List ℕ) × Draws rand_len (R.stream rng.old) fill (R.stream rng.new)))) }
     {
-        if rand_len < FEWEST_RANDOM || rand_len > MOST_OCTETS || prefix.len() > MOST_OCTETS - rand_len {
+        if rand_len < FEWEST_RANDOM
+            || rand_len > MOST_OCTETS
+            || prefix.len() > MOST_OCTETS - rand_len
+        {
             return Err(ErrorKind::Failed.into());
         }
         let len = prefix.len() + rand_len;

@@ -5,3 +5,6 @@ mod generate;
 mod serial_number;
 
 pub use serial_number::SerialNumber;
+
+#[cfg(test)]
+mod tests;

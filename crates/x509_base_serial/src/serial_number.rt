@@ -1,6 +1,6 @@
 //! Serial numbers.
 
-ghost use Rattle.std.specs.Prelude.{◌≡◌, ◌<◌, ◌≤◌, ◌⊎◌, true, [], length, bytes_eq, IfOk, IfErr};
+ghost use Rattle.std.specs.Prelude.{◌≡◌, ◌<◌, ◌≤◌, true, [], length, bytes_eq, IfOk, IfErr, IsErrAnd};
 ghost use Rattle.std.proofs.Common.{rules};
 ghost use Rattle.std.specs.Hash as fed;
 ghost use Rattle.std.specs.Cmp.{partial_equiv_from_equiv};
@@ -49,14 +49,14 @@ impl<P: Profile> SerialNumber<P> {
     ///
     /// # Errors
     ///
-    /// `Value` where there are no octets; `Overlength` where the number has more than [`SerialNumber::MAX_LEN`] content
-    /// octets, of which one is the sign. Memory may be refused for any other number.
+    /// `Value` where there are no octets; `Overlength` where the content has more than [`SerialNumber::MAX_LEN`] octets,
+    /// the first of which may be there for the sign. Memory may be refused for any other number.
     pub fn new(alloc: Global, octets: &[u8]) -> Result<SerialNumber<P>, Error>
-        ensures ok { IfOk result (λ serial. (serial ≡ number_content octets.now) × (0 < length octets.now) × (length (number_content octets.now) ≤ 20)) }
+        ensures value { IfOk result (λ serial. serial ≡ number_content octets.now) }
         ensures number { IfOk result (λ serial. number serial ≡ number octets.now) }
-        ensures empty { octets.now ≡ [] → IfErr result (λ e. e.kind ≡ errors.Value) }
-        ensures overlength { 20 < length (number_content octets.now) → IfErr result (λ e. e.kind ≡ errors.Overlength) }
-        ensures err { IfErr result (λ e. (e.kind ≡ errors.Memory) ⊎ (((e.kind ≡ errors.Value) × (octets.now ≡ [])) ⊎ ((e.kind ≡ errors.Overlength) × (20 < length (number_content octets.now))))) }
+        ensures empty { octets.now ≡ [] → IsErrAnd result (λ e. e.kind ≡ errors.Value) }
+        ensures overlength { 20 < length (number_content octets.now) → IsErrAnd result (λ e. e.kind ≡ errors.Overlength) }
+        ensures err { 0 < length octets.now → length (number_content octets.now) ≤ 20 → IfErr result (λ e. e.kind ≡ errors.Memory) }
     {
         if octets.is_empty() {
             return Err(ErrorKind::Value.into());
@@ -76,7 +76,7 @@ impl<P: Profile> SerialNumber<P> {
         ensures ok { IfOk result (λ serial. serial ≡ natural_octets number) }
         ensures err { IfErr result (λ e. e.kind ≡ errors.Memory) }
     {
-        SerialNumber::from_u64(alloc, u64::from(number))
+        SerialNumber::from_u16(alloc, u16::from(number))
     }
 
     /// The number.
@@ -84,7 +84,7 @@ impl<P: Profile> SerialNumber<P> {
         ensures ok { IfOk result (λ serial. serial ≡ natural_octets number) }
         ensures err { IfErr result (λ e. e.kind ≡ errors.Memory) }
     {
-        SerialNumber::from_u64(alloc, u64::from(number))
+        SerialNumber::from_u32(alloc, u32::from(number))
     }
 
     /// The number.
@@ -182,7 +182,7 @@ impl<P: Profile> Encode for SerialNumber<P> {
     ghost use Rattle.std.specs.Prelude.{refl};
 
     fn put_content<R: Room>(&self, room: &mut R) -> Result<(), Error> {
-        room.put(self.number.as_bytes())
+        room.put(self.as_bytes())
     }
 
     ghost same_tag = { λ value. refl };

@@ -19,7 +19,7 @@ loop-done-preserved g c =
     let filled = c.fill_bytes.ensures ∙ ap (λ (n : ℕ). fill_bytes n before) c.loop-done.auto.octets in
     record {
       zeros = another_zero (length c.args.octets.now) (g.R.Rng.stream c.args.rng.now) before (g.R.Rng.stream c.fill_bytes.new.self) c.fill_bytes.new.dst c.loop-done._done
-      c.loop-done.invariant.rest filled c.loop-done.invariant.zeros c.if-octets-ne0.false;
+          c.loop-done.invariant.rest filled c.loop-done.invariant.zeros c.if-octets-ne0.false;
       rest = leaves (length c.args.octets.now) (g.R.Rng.stream c.args.rng.now) before (g.R.Rng.stream c.fill_bytes.new.self) c.fill_bytes.new.dst c.loop-done._done
-      c.loop-done.invariant.rest filled;
+          c.loop-done.invariant.rest filled;
     }

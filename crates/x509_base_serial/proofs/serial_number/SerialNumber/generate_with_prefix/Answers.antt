@@ -14,7 +14,7 @@ returns-clause-ok g c =
     let left : Stream = g.R.Rng.stream c.draw.new.rng in
     let draws = subst (λ (n : ℕ). Draws n source c.draw.new.octets left) size c.in_ok-draw.ensures.ok in
     let is = filled_buffer c.args.prefix.now c.copy_from_slice.new.self zeros c.draw.new.octets _ c.args.rand_len refl c.copy_from_slice.ensures.after (omega arith) (c.draw.auto.octets ∙ size) in
-    made_of c.new.result _ c.args.prefix.now c.draw.new.octets c.args.rand_len source left c.new.ensures.ok is draws
+    made_of c.new.result _ c.args.prefix.now c.draw.new.octets c.args.rand_len source left c.new.ensures.value is draws
 
 pub returns-clause-err : goal.returns-clause-err
 returns-clause-err g c = λ lengths.
