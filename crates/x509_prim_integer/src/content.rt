@@ -32,8 +32,8 @@ pub(crate) fn is_signed(octets: &[u8]) -> bool
     matches!(octets, [first, ..] if *first >= 0x80)
 }
 
-/// The octets without zeros in front, but with one octet at least.
-pub(crate) fn strip_zeros(octets: &[u8]) -> &[u8]
+/// The octets of a number, most significant first, without zeros in front, but with one octet where there are some.
+pub fn strip_zeros(octets: &[u8]) -> &[u8]
     ensures { result.now ≡ without_zeros octets.now }
 {
     let mut rest = octets;

@@ -6,6 +6,7 @@ mod int;
 pub mod laws;
 mod uint;
 
+pub use content::strip_zeros;
 pub use int::Int;
 pub use uint::Uint;
 

@@ -1,0 +1,10 @@
+//! Serial numbers of certificates.
+#![tactic(auto)]
+
+mod generate;
+mod serial_number;
+
+pub use serial_number::SerialNumber;
+
+#[cfg(test)]
+mod tests;

@@ -1,0 +1,256 @@
+//! Serial numbers.
+
+ghost use Rattle.std.specs.Prelude.{◌≡◌, ◌<◌, ◌≤◌, true, [], length, bytes_eq, IfOk, IfErr, IsErrAnd};
+ghost use Rattle.std.proofs.Common.{rules};
+ghost use Rattle.std.specs.Hash as fed;
+ghost use Rattle.std.specs.Cmp.{partial_equiv_from_equiv};
+ghost use Rattle.std.specs.Cmp.Lexicographic.{nat_list_eq_equiv};
+ghost use Rattle.std.specs.Cmp.Rules.{hashing};
+ghost use Rattle.x509_der_grammar.specs.declared.error.ErrorKind.TheVariants as errors;
+ghost use Rattle.x509_der_grammar.specs.Natural.{natural_octets};
+ghost use Rattle.x509_prim_integer.specs.Integer.{is_integer, number, with_sign};
+ghost use Rattle.x509_base_serial.specs.Serial.{number_content};
+
+use std::alloc::Global;
+use std::fmt;
+use std::hash::{Hash, Hasher};
+use std::marker::{Model, PhantomData};
+use x509_base_validity::{Profile, Rfc5280};
+use x509_der_grammar::{Decode, Encode, Error, ErrorKind, FixedTag, Grammar, Room, Tag, TryClone};
+use x509_prim_integer::{Int, Uint, strip_zeros};
+
+const MOST_OCTETS: usize = 20;
+
+/// The number that the issuer of a certificate gave it (RFC 5280 4.1.2.2). Reading asks the profile whether the content
+/// octets may stand; writing doesn't. Contracts see the content octets.
+///
+/// ```text
+/// CertificateSerialNumber ::= INTEGER
+/// ```
+#[derive(Drop)]
+pub struct SerialNumber<P: Profile = Rfc5280> {
+    number: Int,
+    profile: PhantomData<P>,
+}
+
+impl<P: Profile> Model for SerialNumber<P> {
+    ghost use Rattle.std.specs.Prelude.{List, ℕ};
+
+    ghost Value = { List ℕ };
+
+    ghost view = { λ serial. serial.number };
+}
+
+impl<P: Profile> SerialNumber<P> {
+    /// The most content octets of a number that [`SerialNumber::new`] makes.
+    pub const MAX_LEN: usize = MOST_OCTETS;
+
+    /// The number of the octets, most significant first, which may begin with zeros.
+    ///
+    /// # Errors
+    ///
+    /// `Value` where there are no octets; `Overlength` where the content has more than [`SerialNumber::MAX_LEN`] octets,
+    /// the first of which may be there for the sign. Memory may be refused for any other number.
+    pub fn new(alloc: Global, octets: &[u8]) -> Result<SerialNumber<P>, Error>
+        ensures value { IfOk result (λ serial. serial ≡ number_content octets.now) }
+        ensures number { IfOk result (λ serial. number serial ≡ number octets.now) }
+        ensures empty { octets.now ≡ [] → IsErrAnd result (λ e. e.kind ≡ errors.Value) }
+        ensures overlength { 20 < length (number_content octets.now) → IsErrAnd result (λ e. e.kind ≡ errors.Overlength) }
+        ensures err { 0 < length octets.now → length (number_content octets.now) ≤ 20 → IfErr result (λ e. e.kind ≡ errors.Memory) }
+    {
+        if octets.is_empty() {
+            return Err(ErrorKind::Value.into());
+        }
+        if signed_len(strip_zeros(octets)) > MOST_OCTETS {
+            return Err(ErrorKind::Overlength.into());
+        }
+        Ok(SerialNumber::from_number(Int::from(Uint::new(alloc, octets)?)))
+    }
+
+    /// The number.
+    ///
+    /// # Errors
+    ///
+    /// Memory may be refused, and nothing else; so for the other number types.
+    pub fn from_u8(alloc: Global, number: u8) -> Result<SerialNumber<P>, Error>
+        ensures ok { IfOk result (λ serial. serial ≡ natural_octets number) }
+        ensures err { IfErr result (λ e. e.kind ≡ errors.Memory) }
+    {
+        SerialNumber::from_u16(alloc, u16::from(number))
+    }
+
+    /// The number.
+    pub fn from_u16(alloc: Global, number: u16) -> Result<SerialNumber<P>, Error>
+        ensures ok { IfOk result (λ serial. serial ≡ natural_octets number) }
+        ensures err { IfErr result (λ e. e.kind ≡ errors.Memory) }
+    {
+        SerialNumber::from_u32(alloc, u32::from(number))
+    }
+
+    /// The number.
+    pub fn from_u32(alloc: Global, number: u32) -> Result<SerialNumber<P>, Error>
+        ensures ok { IfOk result (λ serial. serial ≡ natural_octets number) }
+        ensures err { IfErr result (λ e. e.kind ≡ errors.Memory) }
+    {
+        SerialNumber::from_u64(alloc, u64::from(number))
+    }
+
+    /// The number.
+    #[tactic(auto, using(crate::proofs::Numbers::u64_content))]
+    pub fn from_u64(alloc: Global, number: u64) -> Result<SerialNumber<P>, Error>
+        ensures ok { IfOk result (λ serial. serial ≡ natural_octets number) }
+        ensures err { IfErr result (λ e. e.kind ≡ errors.Memory) }
+    {
+        let uint = Uint::new(alloc, &number.to_be_bytes())?;
+        Ok(SerialNumber::from_number(Int::from(uint)))
+    }
+
+    /// The number.
+    pub fn from_usize(alloc: Global, number: usize) -> Result<SerialNumber<P>, Error>
+        ensures ok { IfOk result (λ serial. serial ≡ natural_octets number) }
+        ensures err { IfErr result (λ e. e.kind ≡ errors.Memory) }
+    {
+        SerialNumber::from_u64(alloc, number as u64)
+    }
+
+    /// The content octets: the number in two's complement, most significant first (X.690 8.3.3).
+    pub fn as_bytes(&self) -> &[u8]
+        ensures content { result.now ≡ self.now }
+        ensures integer { is_integer self.now ≡ true }
+    {
+        self.number.as_bytes()
+    }
+
+    fn from_number(number: Int) -> SerialNumber<P>
+        ensures { result ≡ number }
+    {
+        SerialNumber {
+            number,
+            profile: PhantomData,
+        }
+    }
+}
+
+/// How many content octets a number from 0 on has, by its octets without zeros in front (X.690 8.3.3).
+fn signed_len(digits: &[u8]) -> usize
+    ensures { result ≡ length (with_sign digits.now) }
+{
+    match digits {
+        [first, ..] if *first >= 0x80 => digits.len() + 1,
+        _ => digits.len(),
+    }
+}
+
+impl<P: Profile> From<SerialNumber<P>> for Int {
+    ghost from_gives = { λ serial int. int ≡ serial };
+
+    fn from(serial: SerialNumber<P>) -> Int {
+        let SerialNumber { number, profile: _ } = serial;
+        number
+    }
+}
+
+impl<P: Profile> Grammar for SerialNumber<P> {
+    ghost use Rattle.x509_base_serial.specs.Checked.{CheckRefuses};
+    ghost use Rattle.x509_base_serial.specs.Serial.{serial_number, serial_number_lawful};
+
+    ghost form = { serial_number P.serial_check };
+
+    ghost refuses = { CheckRefuses P.serial_check };
+
+    fn identifier(&self) -> Tag {
+        Tag::Integer
+    }
+
+    fn is_start(octet: u8) -> bool {
+        octet == Tag::Integer.octet()
+    }
+
+    ghost lawful = { serial_number_lawful P.serial_check };
+}
+
+#[tactic(auto, unfolding(crate::specs::Checked::checked_reading))]
+impl<P: Profile> Decode for SerialNumber<P> {
+    fn read(alloc: Global, tag: u8, content: &[u8]) -> Result<SerialNumber<P>, Error> {
+        let number = Int::read(alloc, tag, content)?;
+        P::check_serial_number(content)?;
+        Ok(SerialNumber::from_number(number))
+    }
+}
+
+impl<P: Profile> Encode for SerialNumber<P> {
+    ghost use Rattle.std.specs.Prelude.{refl};
+
+    fn put_content<R: Room>(&self, room: &mut R) -> Result<(), Error> {
+        room.put(self.as_bytes())
+    }
+
+    ghost same_tag = { λ value. refl };
+}
+
+impl<P: Profile> FixedTag for SerialNumber<P> {
+    ghost use Rattle.std.specs.Prelude.{refl};
+    ghost use Rattle.x509_der_grammar.specs.declared.tag.Tag.TheVariants as tags;
+
+    ghost TAG = { tags.Integer };
+
+    const TAG: Tag = Tag::Integer;
+
+    ghost fixed = { λ value good. refl };
+}
+
+impl<P: Profile> TryClone for SerialNumber<P> {
+    fn try_clone(&self, alloc: Global) -> Result<SerialNumber<P>, Error> {
+        Ok(SerialNumber::from_number(self.number.try_clone(alloc)?))
+    }
+}
+
+impl<P: Profile> PartialEq for SerialNumber<P> {
+    ghost eq = { bytes_eq };
+
+    ghost laws = { partial_equiv_from_equiv nat_list_eq_equiv };
+
+    fn eq(&self, other: &SerialNumber<P>) -> bool {
+        self.as_bytes() == other.as_bytes()
+    }
+}
+
+impl<P: Profile> Eq for SerialNumber<P> {
+    ghost laws = { nat_list_eq_equiv };
+}
+
+impl<P: Profile> Hash for SerialNumber<P> {
+    ghost hash_input = { fed.slice fed.u8 };
+
+    ghost respects_eq = { Prim.search (hashing, rules) };
+
+    fn hash<H: Hasher>(&self, state: &mut H) {
+        self.as_bytes().hash(state);
+    }
+}
+
+impl<P: Profile> fmt::Debug for SerialNumber<P> {
+    fn fmt<W: fmt::Write>(&self, f: &mut fmt::Formatter<W>) -> fmt::Result {
+        fmt::Debug::fmt(&self.as_bytes(), f)
+    }
+}
+
+impl<P: Profile> fmt::Display for SerialNumber<P> {
+    ghost use Rattle.std.specs.Prelude.{Some};
+    ghost use Rattle.x509_base_serial.specs.Serial.{colon_hex};
+
+    ghost output = { λ serial. Some (colon_hex serial) };
+
+    fn fmt<W: fmt::Write>(&self, f: &mut fmt::Formatter<W>) -> fmt::Result {
+        let octets = self.as_bytes();
+        let [first, ..] = octets else {
+            return Ok(());
+        };
+        write!(f, "{first:02X}")?;
+        for i in 1..octets.len() {
+            let octet = octets[i];
+            write!(f, ":{octet:02X}")?;
+        }
+        Ok(())
+    }
+}
