@@ -1,7 +1,9 @@
 -- AttributeTypeAndValue: oid: OBJECT IDENTIFIER, value: ANY (RFC 5280 4.1.2.4)
 use Rattle.std.specs.Prelude.{◌≡◌, ℕ, ◌≤◌, true, Bool, List, length, refl}
-use Rattle.std.specs.Cmp.{IsTotalOrder, Equal-is}
+use Rattle.std.specs.Bool.{Decides}
+use Rattle.std.specs.Cmp.{IsEquivalence, IsTotalOrder, Equal-is, eq_by_cmp_equiv}
 use Rattle.std.specs.Ordering.{eq_by_cmp}
+use Rattle.std.proofs.Common.{subst}
 use Rattle.x509_der_grammar.specs.declared.error.ErrorKind.{ErrorKind}
 use Rattle.x509_der_grammar.specs.Element.{limit}
 use Rattle.x509_der_grammar.specs.Form.{Form, IsForm, universal, spelling}
@@ -70,6 +72,13 @@ type_and_value_cmp = der_order attribute_type_and_value (writes plain) type_and_
 pub type_and_value_total : IsTotalOrder type_and_value_cmp
 type_and_value_total = types_and_values_lawful.total
 
--- what the order finds equal is one value
-pub type_and_value_exact : (x y : AttributeTypeAndValue) → eq_by_cmp type_and_value_cmp x y ≡ true → x ≡ y
-type_and_value_exact x y e = types_and_values_lawful.exact x y ((Equal-is (type_and_value_cmp x y)).0 e)
+-- whether the order finds two equal
+abbrev pub type_and_value_eq : AttributeTypeAndValue → AttributeTypeAndValue → Bool
+type_and_value_eq = eq_by_cmp type_and_value_cmp
+
+pub type_and_value_equivalence : IsEquivalence type_and_value_eq
+type_and_value_equivalence = eq_by_cmp_equiv type_and_value_total
+
+-- it finds a value equal to itself alone
+pub type_and_value_decides : (x y : AttributeTypeAndValue) → Decides (type_and_value_eq x y) (x ≡ y)
+type_and_value_decides x y = (λ e. types_and_values_lawful.exact x y ((Equal-is (type_and_value_cmp x y)).0 e), λ e. subst (λ (v : AttributeTypeAndValue). type_and_value_eq x v ≡ true) e (type_and_value_equivalence.refl x))

@@ -2,6 +2,7 @@
 #![tactic(auto)]
 
 mod attribute;
+pub mod laws;
 #[cfg(test)]
 mod tests;
 mod type_and_value;

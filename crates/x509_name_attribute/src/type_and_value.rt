@@ -105,24 +105,22 @@ impl ValueOrd for AttributeTypeAndValue {
 }
 
 impl PartialEq for AttributeTypeAndValue {
-    ghost use Rattle.std.specs.Cmp.{partial_equiv_from_equiv, eq_by_cmp_equiv};
-    ghost use Rattle.std.specs.Ordering.{eq_by_cmp};
+    ghost use Rattle.std.specs.Cmp.{partial_equiv_from_equiv};
     ghost use Rattle.x509_name_attribute.specs.TypeAndValue as grammar;
 
-    ghost eq = { eq_by_cmp grammar.type_and_value_cmp };
+    ghost eq = { grammar.type_and_value_eq };
 
-    ghost laws = { partial_equiv_from_equiv (eq_by_cmp_equiv grammar.type_and_value_total) };
+    ghost laws = { partial_equiv_from_equiv grammar.type_and_value_equivalence };
 
     fn eq(&self, other: &AttributeTypeAndValue) -> bool {
-        self.der_cmp(other).is_eq()
+        self.cmp(other).is_eq()
     }
 }
 
 impl Eq for AttributeTypeAndValue {
-    ghost use Rattle.std.specs.Cmp.{eq_by_cmp_equiv};
     ghost use Rattle.x509_name_attribute.specs.TypeAndValue as grammar;
 
-    ghost laws = { eq_by_cmp_equiv grammar.type_and_value_total };
+    ghost laws = { grammar.type_and_value_equivalence };
 }
 
 impl PartialOrd for AttributeTypeAndValue {
@@ -136,7 +134,7 @@ impl PartialOrd for AttributeTypeAndValue {
     ghost laws = { po grammar.type_and_value_total (λ x y. refl) };
 
     fn partial_cmp(&self, other: &AttributeTypeAndValue) -> Option<Ordering> {
-        Some(self.der_cmp(other))
+        Some(self.cmp(other))
     }
 }
 
@@ -159,12 +157,12 @@ impl Ord for AttributeTypeAndValue {
 
 impl Hash for AttributeTypeAndValue {
     ghost use Rattle.std.specs.Prelude.{◌++◌};
-    ghost use Rattle.std.proofs.Common.{ap};
+    ghost use Rattle.std.specs.Hash.{same_Alike};
     ghost use Rattle.x509_name_attribute.specs.TypeAndValue as grammar;
 
     ghost hash_input = { λ a. ⟦<AttributeType as Hash>⟧.hash_input a.oid ++ ⟦<AttributeValue as Hash>⟧.hash_input a.value };
 
-    ghost respects_eq = { λ x y e. ap (λ a. ⟦<AttributeType as Hash>⟧.hash_input a.oid ++ ⟦<AttributeValue as Hash>⟧.hash_input a.value) (grammar.type_and_value_exact x y e) };
+    ghost respects_eq = { (same_Alike (λ a. ⟦<AttributeType as Hash>⟧.hash_input a.oid ++ ⟦<AttributeValue as Hash>⟧.hash_input a.value) grammar.type_and_value_decides).fed };
 
     fn hash<H: Hasher>(&self, state: &mut H) {
         self.oid.hash(state);
