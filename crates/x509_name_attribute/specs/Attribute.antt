@@ -1,5 +1,5 @@
 -- Attribute: oid: OBJECT IDENTIFIER, values: SET OF ANY (RFC 2986 4.1)
-use Rattle.std.specs.Prelude.{◌≡◌, ℕ, ◌≤◌, List, length, refl}
+use Rattle.std.specs.Prelude.{ℕ, List, refl}
 use Rattle.x509_der_grammar.specs.declared.error.ErrorKind.{ErrorKind}
 use Rattle.x509_der_grammar.specs.Element.{limit}
 use Rattle.x509_der_grammar.specs.Form.{Form, IsForm, universal, spelling}

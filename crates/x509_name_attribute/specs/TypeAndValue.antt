@@ -1,5 +1,5 @@
 -- AttributeTypeAndValue: oid: OBJECT IDENTIFIER, value: ANY (RFC 5280 4.1.2.4)
-use Rattle.std.specs.Prelude.{◌≡◌, ℕ, ◌≤◌, true, Bool, List, length, refl}
+use Rattle.std.specs.Prelude.{◌≡◌, ℕ, true, Bool, List, refl}
 use Rattle.std.specs.Bool.{Decides}
 use Rattle.std.specs.Cmp.{IsEquivalence, IsTotalOrder, Equal-is, eq_by_cmp_equiv}
 use Rattle.std.specs.Ordering.{eq_by_cmp}
@@ -8,9 +8,9 @@ use Rattle.x509_der_grammar.specs.declared.error.ErrorKind.{ErrorKind}
 use Rattle.x509_der_grammar.specs.Element.{limit}
 use Rattle.x509_der_grammar.specs.Form.{Form, IsForm, universal, spelling}
 use Rattle.x509_der_grammar.specs.FormLaws.{universal_lawful}
-use Rattle.x509_der_grammar.specs.Writing.{Written, plain, writes}
+use Rattle.x509_der_grammar.specs.Writing.{plain, writes}
 use Rattle.x509_der_order.specs.Order.{HasEncoding, Order, IsOrder, IsDerOrder, der_order}
-use Rattle.x509_der_order.specs.OrderLaws.{part_length, content_length}
+use Rattle.x509_der_order.specs.OrderLaws.{part_length}
 use Rattle.x509_der_order.specs.Ordered.{by_bytes, by_fields, by_fields_lawful, der_lawful}
 use Rattle.x509_der_oid.specs.ObjectIdentifierForm.{object_identifier, object_identifier_lawful, object_identifier_ordered}
 use Rattle.x509_der_frames.specs.Any.{any, any_lawful, any_ordered}

@@ -81,11 +81,7 @@ fn rows(rt: HostRuntime) -> Result<(), Fail> {
     Ok(())
 }
 
-fn attribute(
-    rt: &HostRuntime,
-    oid: &str,
-    text: &[u8],
-) -> Result<AttributeTypeAndValue, Fail> {
+fn attribute(rt: &HostRuntime, oid: &str, text: &[u8]) -> Result<AttributeTypeAndValue, Fail> {
     Ok(AttributeTypeAndValue {
         oid: ObjectIdentifier::new(oid)?,
         value: AttributeValue::new(rt.alloc(), Tag::Utf8String, text)?,
