@@ -7,6 +7,9 @@ use Rattle.x509_der_grammar.specs.Element.{is_identifier, is_universal}
 use Rattle.x509_der_grammar.specs.Form.{Form, IsForm, Content, IsContent, universal}
 use Rattle.x509_der_grammar.specs.FormLaws.{universal_lawful}
 use Rattle.x509_der_grammar.specs.OutcomeLaws.{ok_is, test_ok, test_err}
+use Rattle.x509_der_grammar.specs.Writing.{Written}
+use Rattle.x509_der_order.specs.Order.{IsOrder}
+use Rattle.x509_der_order.specs.Ordered.{by_bytes, by_bytes_lawful}
 use Rattle.x509_der_oid.specs.Arcs.{AreArcs, content_of}
 use Rattle.x509_der_oid.specs.ArcLaws.{content_of-arcs_of, content_of-passes}
 use Rattle.x509_der_oid.specs.ObjectIdentifier.{is_object_identifier, arcs_of}
@@ -51,3 +54,6 @@ object_identifier_content_lawful = record { sound = object_identifier_sound; com
 
 pub object_identifier_lawful : {R : ErrorKind → Type 0} → IsForm R object_identifier
 object_identifier_lawful = universal_lawful object_identifier_content object_identifier_content_lawful
+
+pub object_identifier_ordered : (write : List ℕ → Written (List ℕ)) → IsOrder object_identifier write (by_bytes object_identifier)
+object_identifier_ordered write = by_bytes_lawful object_identifier write (λ x y p q. q)

@@ -1,4 +1,4 @@
-//! OBJECT IDENTIFIER, read, written and compared (X.690 8.19, 11.6).
+//! OBJECT IDENTIFIER, read and written (X.690 8.19).
 
 ghost use Rattle.std.specs.Prelude.{◌≡◌, Ok};
 
@@ -54,17 +54,17 @@ impl FixedTag for ObjectIdentifier {
 }
 
 impl ValueOrd for ObjectIdentifier {
-    ghost use Rattle.x509_der_oid.specs.ObjectIdentifierForm.{object_identifier};
     ghost use Rattle.x509_der_grammar.specs.Writing.{plain, writes};
-    ghost use Rattle.x509_der_order.specs.Ordered.{by_bytes, by_bytes_lawful};
+    ghost use Rattle.x509_der_oid.specs.ObjectIdentifierForm as grammar;
+    ghost use Rattle.x509_der_order.specs.Ordered.{by_bytes};
 
-    ghost order = { by_bytes object_identifier };
+    ghost order = { by_bytes grammar.object_identifier };
 
     fn value_cmp(&self, other: &ObjectIdentifier) -> Ordering {
         self.as_bytes().cmp(other.as_bytes())
     }
 
-    ghost ordered = { by_bytes_lawful object_identifier (writes plain) (λ x y p q. q) };
+    ghost ordered = { grammar.object_identifier_ordered (writes plain) };
 }
 
 impl TryClone for ObjectIdentifier {

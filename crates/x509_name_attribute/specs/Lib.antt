@@ -1,0 +1,2 @@
+pub mod TypeAndValue
+pub mod Attribute

@@ -1,0 +1,84 @@
+-- AttributeTypeAndValue: oid: OBJECT IDENTIFIER, value: ANY (RFC 5280 4.1.2.4)
+use Rattle.std.specs.Prelude.{◌≡◌, ℕ, true, Bool, List, refl}
+use Rattle.std.specs.Bool.{Decides}
+use Rattle.std.specs.Cmp.{IsEquivalence, IsTotalOrder, Equal-is, eq_by_cmp_equiv}
+use Rattle.std.specs.Ordering.{eq_by_cmp}
+use Rattle.std.proofs.Common.{subst}
+use Rattle.x509_der_grammar.specs.declared.error.ErrorKind.{ErrorKind}
+use Rattle.x509_der_grammar.specs.Element.{limit}
+use Rattle.x509_der_grammar.specs.Form.{Form, IsForm, universal, spelling}
+use Rattle.x509_der_grammar.specs.FormLaws.{universal_lawful}
+use Rattle.x509_der_grammar.specs.Writing.{plain, writes}
+use Rattle.x509_der_order.specs.Order.{HasEncoding, Order, IsOrder, IsDerOrder, der_order}
+use Rattle.x509_der_order.specs.OrderLaws.{part_length}
+use Rattle.x509_der_order.specs.Ordered.{by_bytes, by_fields, by_fields_lawful, der_lawful}
+use Rattle.x509_der_oid.specs.ObjectIdentifierForm.{object_identifier, object_identifier_lawful, object_identifier_ordered}
+use Rattle.x509_der_frames.specs.Any.{any, any_lawful, any_ordered}
+use Rattle.x509_der_frames.specs.Frames.{Part, required, ◌⊗◌, fields, fields_octets, fields_good}
+use Rattle.x509_der_frames.specs.FrameLaws.{required_lawful, pair_lawful, fields_lawful}
+use Rattle.x509_der_frames.specs.declared.any.Any.{Any}
+use Rattle.x509_name_attribute.specs.declared.type_and_value.AttributeTypeAndValue.{AttributeTypeAndValue}
+
+unfoldable pub type_and_value_fields : Part (List ℕ × Any)
+type_and_value_fields = required object_identifier ⊗ required any
+
+abbrev pub attribute_type_and_value : Form AttributeTypeAndValue
+attribute_type_and_value = universal (fields (λ a. (a.oid, a.value)) (λ x. record { oid = x.0; value = x.1 }) type_and_value_fields)
+
+pub type_and_value_lawful : {R : ErrorKind → Type 0} → IsForm R attribute_type_and_value
+unfolding type_and_value_fields
+type_and_value_lawful = universal_lawful _ (fields_lawful _ _ type_and_value_fields (λ a. refl) (λ x. refl) (pair_lawful _ _ (required_lawful _ object_identifier_lawful) (required_lawful _ any_lawful) refl))
+
+-- ---- the byte order
+
+-- the order of object identifiers by their encodings
+abbrev pub type_order : Order (List ℕ)
+type_order = der_order object_identifier (writes plain) (by_bytes object_identifier)
+
+-- the order of elements by their octets
+abbrev pub value_order : Order Any
+value_order = der_order any (writes plain) (by_bytes any)
+
+-- by the type, then by the value
+abbrev pub type_and_value_order : Order AttributeTypeAndValue
+type_and_value_order = by_fields (λ a. a.oid) type_order (λ a. a.value) value_order
+
+pub types_lawful : IsDerOrder (HasEncoding object_identifier (writes plain)) (spelling object_identifier) type_order
+types_lawful = der_lawful object_identifier (writes plain) (by_bytes object_identifier) (object_identifier_ordered (writes plain))
+
+values_lawful : IsDerOrder (HasEncoding any (writes plain)) (spelling any) value_order
+values_lawful = der_lawful any (writes plain) (by_bytes any) (any_ordered (writes plain))
+
+fields_there : (a : AttributeTypeAndValue) → HasEncoding attribute_type_and_value (writes plain) a → HasEncoding object_identifier (writes plain) a.oid × HasEncoding any (writes plain) a.value
+unfolding type_and_value_fields fields_octets fields_good
+fields_there a h =
+    let le = part_length 48 (spelling object_identifier a.oid) (spelling any a.value) limit h.2 in
+    ((h.0.0, refl, le.0), (h.0.1, refl, le.1))
+
+pub type_and_value_ordered : IsOrder attribute_type_and_value (writes plain) type_and_value_order
+unfolding type_and_value_fields fields_octets
+type_and_value_ordered =
+    by_fields_lawful attribute_type_and_value (writes plain) (λ a. a.oid) (λ a. a.value) (λ x y p q i. record { oid = p i; value = q i }) (λ x. refl) fields_there types_lawful values_lawful
+
+-- ---- equality
+
+types_and_values_lawful : IsDerOrder (HasEncoding attribute_type_and_value (writes plain)) (spelling attribute_type_and_value) (der_order attribute_type_and_value (writes plain) type_and_value_order)
+types_and_values_lawful = der_lawful attribute_type_and_value (writes plain) type_and_value_order type_and_value_ordered
+
+-- the order of the encodings
+abbrev pub type_and_value_cmp : Order AttributeTypeAndValue
+type_and_value_cmp = der_order attribute_type_and_value (writes plain) type_and_value_order
+
+pub type_and_value_total : IsTotalOrder type_and_value_cmp
+type_and_value_total = types_and_values_lawful.total
+
+-- whether the order finds two equal
+abbrev pub type_and_value_eq : AttributeTypeAndValue → AttributeTypeAndValue → Bool
+type_and_value_eq = eq_by_cmp type_and_value_cmp
+
+pub type_and_value_equivalence : IsEquivalence type_and_value_eq
+type_and_value_equivalence = eq_by_cmp_equiv type_and_value_total
+
+-- it finds a value equal to itself alone
+pub type_and_value_decides : (x y : AttributeTypeAndValue) → Decides (type_and_value_eq x y) (x ≡ y)
+type_and_value_decides x y = (λ e. types_and_values_lawful.exact x y ((Equal-is (type_and_value_cmp x y)).0 e), λ e. subst (λ (v : AttributeTypeAndValue). type_and_value_eq x v ≡ true) e (type_and_value_equivalence.refl x))

@@ -1,0 +1,11 @@
+//! What holds of all attributes. Each law is a function with an empty body, whose contract is the law.
+
+ghost use Rattle.std.specs.Prelude.{◌≡◌, ◌↔◌, true};
+
+use crate::type_and_value::AttributeTypeAndValue;
+
+/// `==` holds exactly of equal values.
+#[tactic(auto, using(crate::specs::TypeAndValue::type_and_value_decides))]
+pub fn equality_is_exact()
+    ensures { (a b : AttributeTypeAndValue) → (⟦<AttributeTypeAndValue as PartialEq>⟧.eq a b ≡ true) ↔ (a ≡ b) }
+{}

@@ -1,0 +1,171 @@
+//! What one part of a name says: the type of an attribute, and its value.
+
+use std::alloc::Global;
+use std::cmp::Ordering;
+use std::hash::{Hash, Hasher};
+use x509_der_frames::{Any, PutPart, end, field};
+use x509_der_grammar::{Decode, Encode, Error, FixedTag, Grammar, Room, Tag, TryClone, expect_tag};
+use x509_der_oid::ObjectIdentifier;
+use x509_der_order::{DerOrd, ValueOrd};
+
+/// The type of an attribute (RFC 5280 4.1.2.4).
+pub type AttributeType = ObjectIdentifier;
+
+/// A value of an attribute: an element that is not looked into (RFC 5280 4.1.2.4).
+pub type AttributeValue = Any;
+
+/// The type of an attribute, with one value (RFC 5280 4.1.2.4). Their order is that of `der_cmp`.
+///
+/// ```text
+/// AttributeTypeAndValue ::= SEQUENCE {
+///     type   OBJECT IDENTIFIER,
+///     value  ANY }
+/// ```
+#[derive(Debug, Drop)]
+pub struct AttributeTypeAndValue {
+    /// The type.
+    pub oid: AttributeType,
+
+    /// The value.
+    pub value: AttributeValue,
+}
+
+impl TryClone for AttributeTypeAndValue {
+    fn try_clone(&self, alloc: Global) -> Result<AttributeTypeAndValue, Error> {
+        Ok(AttributeTypeAndValue {
+            oid: self.oid,
+            value: self.value.try_clone(alloc)?,
+        })
+    }
+}
+
+impl Grammar for AttributeTypeAndValue {
+    ghost use Rattle.x509_name_attribute.specs.TypeAndValue as grammar;
+
+    ghost form = { grammar.attribute_type_and_value };
+
+    fn identifier(&self) -> Tag {
+        Tag::Sequence
+    }
+
+    fn is_start(octet: u8) -> bool {
+        octet == 0x30
+    }
+
+    ghost lawful = { grammar.type_and_value_lawful };
+}
+
+#[tactic(auto, unfolding(crate::specs::TypeAndValue::type_and_value_fields, x509_der_frames::specs::Frames::fields_reading))]
+impl Decode for AttributeTypeAndValue {
+    fn read(alloc: Global, tag: u8, content: &[u8]) -> Result<AttributeTypeAndValue, Error> {
+        expect_tag(tag, Tag::Sequence)?;
+        let mut rest = content;
+        let oid = field::<AttributeType>(alloc, &mut rest)?;
+        let value = field::<AttributeValue>(alloc, &mut rest)?;
+        end(rest)?;
+        Ok(AttributeTypeAndValue { oid, value })
+    }
+}
+
+#[tactic(auto, unfolding(crate::specs::TypeAndValue::type_and_value_fields, x509_der_frames::specs::Frames::fields_octets))]
+impl Encode for AttributeTypeAndValue {
+    ghost use Rattle.std.specs.Prelude.{refl};
+
+    fn put_content<R: Room>(&self, room: &mut R) -> Result<(), Error> {
+        let parts = (&self.oid, &self.value);
+        parts.put_text(room)
+    }
+
+    ghost same_tag = { λ value. refl };
+}
+
+impl FixedTag for AttributeTypeAndValue {
+    ghost use Rattle.std.specs.Prelude.{refl};
+    ghost use Rattle.x509_der_grammar.specs.declared.tag.Tag.TheVariants.{Sequence};
+
+    ghost TAG = { Sequence };
+
+    const TAG: Tag = Tag::Sequence;
+
+    ghost fixed = { λ value good. refl };
+}
+
+impl ValueOrd for AttributeTypeAndValue {
+    ghost use Rattle.x509_name_attribute.specs.TypeAndValue as grammar;
+
+    ghost order = { grammar.type_and_value_order };
+
+    fn value_cmp(&self, other: &AttributeTypeAndValue) -> Ordering {
+        self.oid
+            .der_cmp(&other.oid)
+            .then(self.value.der_cmp(&other.value))
+    }
+
+    ghost ordered = { grammar.type_and_value_ordered };
+}
+
+impl PartialEq for AttributeTypeAndValue {
+    ghost use Rattle.std.specs.Cmp.{partial_equiv_from_equiv};
+    ghost use Rattle.x509_name_attribute.specs.TypeAndValue as grammar;
+
+    ghost eq = { grammar.type_and_value_eq };
+
+    ghost laws = { partial_equiv_from_equiv grammar.type_and_value_equivalence };
+
+    fn eq(&self, other: &AttributeTypeAndValue) -> bool {
+        self.cmp(other).is_eq()
+    }
+}
+
+impl Eq for AttributeTypeAndValue {
+    ghost use Rattle.x509_name_attribute.specs.TypeAndValue as grammar;
+
+    ghost laws = { grammar.type_and_value_equivalence };
+}
+
+impl PartialOrd for AttributeTypeAndValue {
+    ghost use Rattle.std.specs.Prelude.{refl};
+    ghost use Rattle.std.specs.Cmp.{po};
+    ghost use Rattle.std.specs.Ordering.{as_partial_cmp};
+    ghost use Rattle.x509_name_attribute.specs.TypeAndValue as grammar;
+
+    ghost partial_cmp = { as_partial_cmp grammar.type_and_value_cmp };
+
+    ghost laws = { po grammar.type_and_value_total (λ x y. refl) };
+
+    fn partial_cmp(&self, other: &AttributeTypeAndValue) -> Option<Ordering> {
+        Some(self.cmp(other))
+    }
+}
+
+impl Ord for AttributeTypeAndValue {
+    ghost use Rattle.std.specs.Prelude.{refl};
+    ghost use Rattle.x509_name_attribute.specs.TypeAndValue as grammar;
+
+    ghost cmp = { grammar.type_and_value_cmp };
+
+    ghost total = { grammar.type_and_value_total };
+
+    ghost matches_partial_cmp = { λ x y. refl };
+
+    ghost matches_eq = { λ x y. refl };
+
+    fn cmp(&self, other: &AttributeTypeAndValue) -> Ordering {
+        self.der_cmp(other)
+    }
+}
+
+impl Hash for AttributeTypeAndValue {
+    ghost use Rattle.std.specs.Prelude.{◌++◌};
+    ghost use Rattle.std.specs.Hash.{same_Alike};
+    ghost use Rattle.x509_name_attribute.specs.TypeAndValue as grammar;
+
+    ghost hash_input = { λ a. ⟦<AttributeType as Hash>⟧.hash_input a.oid ++ ⟦<AttributeValue as Hash>⟧.hash_input a.value };
+
+    ghost respects_eq = { (same_Alike (λ a. ⟦<AttributeType as Hash>⟧.hash_input a.oid ++ ⟦<AttributeValue as Hash>⟧.hash_input a.value) grammar.type_and_value_decides).fed };
+
+    fn hash<H: Hasher>(&self, state: &mut H) {
+        self.oid.hash(state);
+        self.value.hash(state);
+    }
+}

@@ -1,0 +1,15 @@
+//! Names: relative distinguished names, sequences of them, and names.
+#![tactic(auto)]
+
+mod attributes;
+pub mod laws;
+mod name;
+mod rdn;
+mod rdn_sequence;
+#[cfg(test)]
+mod tests;
+
+pub use attributes::AttributesOf;
+pub use name::Name;
+pub use rdn::RelativeDistinguishedName;
+pub use rdn_sequence::{DistinguishedName, RdnSequence};

@@ -1,0 +1,193 @@
+//! Names of issuers and subjects.
+
+ghost use Rattle.std.specs.Prelude.{◌≡◌, ◌<◌, ◌^◌, ◌↔◌, [], length, List, IsTrue};
+ghost use Rattle.std.specs.Iterator.Adapters.{IterYieldsInOrder, IterYieldsInReverse};
+ghost use Rattle.std.specs.Slice.Iter.{iter_rest};
+ghost use Rattle.x509_name_attribute.specs.declared.type_and_value.AttributeTypeAndValue.{AttributeTypeAndValue};
+ghost use Rattle.x509_name_rdn.specs.AttributesOf.{attributes_left, members_of};
+
+use crate::attributes::AttributesOf;
+use crate::rdn::RelativeDistinguishedName;
+use crate::rdn_sequence::RdnSequence;
+use std::alloc::Global;
+use std::cmp::Ordering;
+use std::hash::{Hash, Hasher};
+use std::marker::Model;
+use std::slice;
+use x509_der_grammar::{Decode, Encode, Error, FixedTag, Grammar, Room, Tag, TryClone};
+use x509_der_order::ValueOrd;
+
+/// The name of an issuer or a subject (RFC 5280 4.1.2.4). Contracts see the list of its relative distinguished names.
+///
+/// ```text
+/// Name ::= CHOICE { rdnSequence  RDNSequence }
+/// ```
+#[derive(Debug, Drop)]
+pub struct Name(RdnSequence);
+
+impl Model for Name {
+    ghost use Rattle.std.specs.Prelude.{List};
+    ghost use Rattle.x509_name_attribute.specs.declared.type_and_value.AttributeTypeAndValue.{AttributeTypeAndValue};
+
+    ghost Value = { List (List AttributeTypeAndValue) };
+
+    ghost view = { λ name. name.0 };
+}
+
+impl Name {
+    /// The empty name. It takes no memory.
+    pub fn new(alloc: Global) -> Name
+        ensures { result ≡ [] }
+    {
+        Name(RdnSequence::new(alloc))
+    }
+
+    /// The name of these relative distinguished names. That they keep the rules of RFC 5280 4.1.2.4 for the types and
+    /// the texts of attributes is the caller's to see to.
+    pub fn hazmat_from_rdn_sequence(rdns: RdnSequence) -> Name
+        ensures { result ≡ rdns }
+    {
+        Name(rdns)
+    }
+
+    /// How many relative distinguished names there are.
+    pub fn len(&self) -> usize
+        ensures { result ≡ length self.now }
+    {
+        self.0.len()
+    }
+
+    /// Whether there are none.
+    pub fn is_empty(&self) -> bool
+        ensures { IsTrue result ↔ (self.now ≡ []) }
+    {
+        self.0.is_empty()
+    }
+
+    /// The attributes of the relative distinguished names, one after the other; `iter_rdn` tells which stand together.
+    pub fn iter(&self) -> AttributesOf<'_>
+        ensures { attributes_left result ≡ members_of self.now }
+    {
+        AttributesOf::new(self.0.as_slice())
+    }
+
+    /// The relative distinguished names.
+    pub fn iter_rdn(&self) -> slice::Iter<'_, RelativeDistinguishedName>
+        ensures rest { iter_rest result ≡ self.now }
+        ensures bound { length (iter_rest result) < 2 ^ 64 }
+        ensures runs { IterYieldsInOrder (List AttributeTypeAndValue) }
+        ensures runs_back { IterYieldsInReverse (List AttributeTypeAndValue) }
+    {
+        self.0.iter()
+    }
+}
+
+impl AsRef<RdnSequence> for Name {
+    fn as_ref(&self) -> &RdnSequence
+        ensures { result.now ≡ self.now }
+    {
+        &self.0
+    }
+}
+
+impl From<Name> for RdnSequence {
+    ghost from_gives = { λ name rdns. rdns ≡ name };
+
+    fn from(name: Name) -> RdnSequence {
+        let Name(rdns) = name;
+        rdns
+    }
+}
+
+impl TryClone for Name {
+    fn try_clone(&self, alloc: Global) -> Result<Name, Error> {
+        Ok(Name(self.0.try_clone(alloc)?))
+    }
+}
+
+impl Grammar for Name {
+    ghost use Rattle.x509_name_rdn.specs.Names as grammar;
+
+    ghost form = { grammar.name };
+
+    fn identifier(&self) -> Tag {
+        Tag::Sequence
+    }
+
+    fn is_start(octet: u8) -> bool {
+        octet == 0x30
+    }
+
+    ghost lawful = { grammar.rdn_sequence_lawful };
+}
+
+impl Decode for Name {
+    fn read(alloc: Global, tag: u8, content: &[u8]) -> Result<Name, Error> {
+        Ok(Name(RdnSequence::read(alloc, tag, content)?))
+    }
+}
+
+impl Encode for Name {
+    ghost use Rattle.std.specs.Prelude.{refl};
+
+    fn put_content<R: Room>(&self, room: &mut R) -> Result<(), Error> {
+        self.0.put_content(room)
+    }
+
+    ghost same_tag = { λ value. refl };
+}
+
+impl FixedTag for Name {
+    ghost use Rattle.std.specs.Prelude.{refl};
+    ghost use Rattle.x509_der_grammar.specs.declared.tag.Tag.TheVariants.{Sequence};
+
+    ghost TAG = { Sequence };
+
+    const TAG: Tag = Tag::Sequence;
+
+    ghost fixed = { λ value good. refl };
+}
+
+impl ValueOrd for Name {
+    ghost use Rattle.x509_name_rdn.specs.Names as grammar;
+
+    ghost order = { grammar.rdn_sequence_order };
+
+    fn value_cmp(&self, other: &Name) -> Ordering {
+        self.0.value_cmp(&other.0)
+    }
+
+    ghost ordered = { grammar.rdn_sequence_ordered };
+}
+
+impl PartialEq for Name {
+    ghost use Rattle.std.specs.Cmp.{partial_equiv_from_equiv};
+    ghost use Rattle.x509_name_rdn.specs.Names as grammar;
+
+    ghost eq = { grammar.rdn_sequence_eq };
+
+    ghost laws = { partial_equiv_from_equiv grammar.rdn_sequence_equivalence };
+
+    fn eq(&self, other: &Name) -> bool {
+        self.0 == other.0
+    }
+}
+
+impl Eq for Name {
+    ghost use Rattle.x509_name_rdn.specs.Names as grammar;
+
+    ghost laws = { grammar.rdn_sequence_equivalence };
+}
+
+impl Hash for Name {
+    ghost use Rattle.std.specs.Hash as fed;
+    ghost use Rattle.x509_name_rdn.specs.Names as grammar;
+
+    ghost hash_input = { ⟦<RdnSequence as Hash>⟧.hash_input };
+
+    ghost respects_eq = { (fed.same_Alike ⟦<RdnSequence as Hash>⟧.hash_input grammar.rdn_sequence_decides).fed };
+
+    fn hash<H: Hasher>(&self, state: &mut H) {
+        self.0.hash(state);
+    }
+}

@@ -1,0 +1,221 @@
+//! Relative distinguished names.
+
+ghost use Rattle.std.specs.Prelude.{◌≡◌, ◌<◌, ◌^◌, ◌↔◌, ◌⊎◌, [], ◌∷◌, length, IsTrue, Contains, IfOk, IfErr, OnOk, OnErr, IsErrAnd, slice_get};
+ghost use Rattle.std.specs.Option.{option_copied};
+ghost use Rattle.std.specs.List.Sorted.{IsStrictlySortedBy, IsPermutation};
+ghost use Rattle.std.specs.Iterator.Adapters.{IterYieldsInOrder, IterYieldsInReverse};
+ghost use Rattle.std.specs.Slice.Iter.{iter_rest};
+ghost use Rattle.x509_der_grammar.specs.declared.error.ErrorKind.TheVariants as errors;
+ghost use Rattle.x509_der_set.specs.Set.{AreDistinct};
+ghost use Rattle.x509_name_attribute.specs.TypeAndValue.{type_and_value_cmp};
+
+use std::alloc::Global;
+use std::cmp::Ordering;
+use std::hash::{Hash, Hasher};
+use std::marker::Model;
+use std::slice;
+use x509_der_grammar::{Decode, Encode, Error, FixedTag, Grammar, Room, Tag, TryClone};
+use x509_der_order::ValueOrd;
+use x509_der_set::SetOfVec;
+use x509_name_attribute::AttributeTypeAndValue;
+
+/// One step of a name: a set of attributes (RFC 5280 4.1.2.4). Contracts see their list, in the byte order of their
+/// encodings. A set without attributes is read and written too.
+///
+/// ```text
+/// RelativeDistinguishedName ::= SET OF AttributeTypeAndValue
+/// ```
+#[derive(Debug, Drop)]
+pub struct RelativeDistinguishedName(SetOfVec<AttributeTypeAndValue>);
+
+impl Model for RelativeDistinguishedName {
+    ghost use Rattle.std.specs.Prelude.{List};
+    ghost use Rattle.x509_name_attribute.specs.declared.type_and_value.AttributeTypeAndValue.{AttributeTypeAndValue};
+
+    ghost Value = { List AttributeTypeAndValue };
+
+    ghost view = { λ rdn. rdn.0 };
+}
+
+impl RelativeDistinguishedName {
+    /// No attributes. It takes no memory.
+    pub fn new(alloc: Global) -> RelativeDistinguishedName
+        ensures { result ≡ [] }
+    {
+        RelativeDistinguishedName(SetOfVec::new(alloc))
+    }
+
+    /// The set of the attributes, in O(n log n) comparisons and without memory; `SetDuplicate` exactly where two of
+    /// them are equal.
+    pub fn try_from_vec(
+        attributes: Vec<AttributeTypeAndValue>,
+    ) -> Result<RelativeDistinguishedName, Error>
+        ensures ok { IfOk result (λ rdn. IsPermutation attributes.items rdn × IsStrictlySortedBy type_and_value_cmp rdn) }
+        ensures distinct { OnOk result (AreDistinct attributes.items) }
+        ensures err { IfErr result (λ e. (e.kind ≡ errors.SetDuplicate) × (¬ AreDistinct attributes.items)) }
+    {
+        let set = SetOfVec::try_from_vec(attributes)?;
+        Ok(RelativeDistinguishedName(set))
+    }
+
+    /// Puts the attribute in its place; `SetDuplicate` exactly where an equal one is there, and memory may be refused.
+    /// Where it is refused the name is as it was, and the attribute is dropped.
+    pub fn insert(&mut self, attribute: AttributeTypeAndValue) -> Result<(), Error>
+        ensures put { OnOk result (IsPermutation (attribute ∷ self.old) self.new) }
+        ensures sorted { IsStrictlySortedBy type_and_value_cmp self.new }
+        ensures duplicate { Contains self.old attribute → IsErrAnd result (λ e. e.kind ≡ errors.SetDuplicate) }
+        ensures err { IfErr result (λ e. (e.kind ≡ errors.Memory) ⊎ ((e.kind ≡ errors.SetDuplicate) × Contains self.old attribute)) }
+        ensures unchanged { OnErr result (self.new ≡ self.old) }
+    {
+        self.0.insert(attribute)
+    }
+
+    /// The attributes, in their order.
+    pub fn as_slice(&self) -> &[AttributeTypeAndValue]
+        ensures members { result.now ≡ self.now }
+        ensures sorted { IsStrictlySortedBy type_and_value_cmp self.now }
+    {
+        self.0.as_slice()
+    }
+
+    /// The attributes, in their order.
+    pub fn iter(&self) -> slice::Iter<'_, AttributeTypeAndValue>
+        ensures rest { iter_rest result ≡ self.now }
+        ensures bound { length (iter_rest result) < 2 ^ 64 }
+        ensures runs { IterYieldsInOrder AttributeTypeAndValue }
+        ensures runs_back { IterYieldsInReverse AttributeTypeAndValue }
+    {
+        self.0.iter()
+    }
+
+    /// The attribute at that place, from 0 on.
+    pub fn get(&self, index: usize) -> Option<&AttributeTypeAndValue>
+        ensures { option_copied result ≡ slice_get self.now index }
+    {
+        self.0.get(index)
+    }
+
+    /// How many attributes there are.
+    pub fn len(&self) -> usize
+        ensures { result ≡ length self.now }
+    {
+        self.0.len()
+    }
+
+    /// Whether there are none.
+    pub fn is_empty(&self) -> bool
+        ensures { IsTrue result ↔ (self.now ≡ []) }
+    {
+        self.0.is_empty()
+    }
+}
+
+impl From<SetOfVec<AttributeTypeAndValue>> for RelativeDistinguishedName {
+    ghost from_gives = { λ attributes rdn. rdn ≡ attributes };
+
+    fn from(attributes: SetOfVec<AttributeTypeAndValue>) -> RelativeDistinguishedName {
+        RelativeDistinguishedName(attributes)
+    }
+}
+
+impl AsRef<SetOfVec<AttributeTypeAndValue>> for RelativeDistinguishedName {
+    fn as_ref(&self) -> &SetOfVec<AttributeTypeAndValue>
+        ensures { result.now ≡ self.now }
+    {
+        &self.0
+    }
+}
+
+impl TryClone for RelativeDistinguishedName {
+    fn try_clone(&self, alloc: Global) -> Result<RelativeDistinguishedName, Error> {
+        Ok(RelativeDistinguishedName(self.0.try_clone(alloc)?))
+    }
+}
+
+impl Grammar for RelativeDistinguishedName {
+    ghost use Rattle.x509_name_rdn.specs.Names as grammar;
+
+    ghost form = { grammar.relative_distinguished_name };
+
+    fn identifier(&self) -> Tag {
+        Tag::Set
+    }
+
+    fn is_start(octet: u8) -> bool {
+        octet == 0x31
+    }
+
+    ghost lawful = { grammar.rdn_lawful };
+}
+
+impl Decode for RelativeDistinguishedName {
+    fn read(alloc: Global, tag: u8, content: &[u8]) -> Result<RelativeDistinguishedName, Error> {
+        let set = Decode::read(alloc, tag, content)?;
+        Ok(RelativeDistinguishedName(set))
+    }
+}
+
+impl Encode for RelativeDistinguishedName {
+    ghost use Rattle.std.specs.Prelude.{refl};
+
+    fn put_content<R: Room>(&self, room: &mut R) -> Result<(), Error> {
+        self.0.put_content(room)
+    }
+
+    ghost same_tag = { λ value. refl };
+}
+
+impl FixedTag for RelativeDistinguishedName {
+    ghost use Rattle.std.specs.Prelude.{refl};
+    ghost use Rattle.x509_der_grammar.specs.declared.tag.Tag.TheVariants.{Set};
+
+    ghost TAG = { Set };
+
+    const TAG: Tag = Tag::Set;
+
+    ghost fixed = { λ value good. refl };
+}
+
+impl ValueOrd for RelativeDistinguishedName {
+    ghost use Rattle.x509_name_rdn.specs.Names as grammar;
+
+    ghost order = { grammar.rdn_order };
+
+    fn value_cmp(&self, other: &RelativeDistinguishedName) -> Ordering {
+        self.0.value_cmp(&other.0)
+    }
+
+    ghost ordered = { grammar.rdn_ordered };
+}
+
+impl PartialEq for RelativeDistinguishedName {
+    ghost use Rattle.std.specs.Cmp.{partial_equiv_from_equiv};
+    ghost use Rattle.x509_name_rdn.specs.Names as grammar;
+
+    ghost eq = { grammar.rdn_eq };
+
+    ghost laws = { partial_equiv_from_equiv grammar.rdn_equivalence };
+
+    fn eq(&self, other: &RelativeDistinguishedName) -> bool {
+        self.0 == other.0
+    }
+}
+
+impl Eq for RelativeDistinguishedName {
+    ghost use Rattle.x509_name_rdn.specs.Names as grammar;
+
+    ghost laws = { grammar.rdn_equivalence };
+}
+
+impl Hash for RelativeDistinguishedName {
+    ghost use Rattle.std.specs.Hash as fed;
+    ghost use Rattle.x509_name_rdn.specs.Names as grammar;
+
+    ghost hash_input = { fed.slice ⟦<AttributeTypeAndValue as Hash>⟧.hash_input };
+
+    ghost respects_eq = { (fed.same_Alike (fed.slice ⟦<AttributeTypeAndValue as Hash>⟧.hash_input) grammar.rdn_decides).fed };
+
+    fn hash<H: Hasher>(&self, state: &mut H) {
+        self.0.hash(state);
+    }
+}

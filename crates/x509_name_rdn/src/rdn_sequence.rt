@@ -1,0 +1,197 @@
+//! Sequences of relative distinguished names.
+
+ghost use Rattle.std.specs.Prelude.{◌≡◌, ◌<◌, ◌^◌, ◌↔◌, ◌++◌, [], ◌∷◌, length, List, IsTrue, IfErr, OnOk, OnErr};
+ghost use Rattle.std.specs.Iterator.Adapters.{IterYieldsInOrder, IterYieldsInReverse};
+ghost use Rattle.std.specs.Slice.Iter.{iter_rest};
+ghost use Rattle.x509_der_grammar.specs.declared.error.ErrorKind.TheVariants.{Memory};
+ghost use Rattle.x509_name_attribute.specs.declared.type_and_value.AttributeTypeAndValue.{AttributeTypeAndValue};
+
+use crate::rdn::RelativeDistinguishedName;
+use std::alloc::Global;
+use std::cmp::Ordering;
+use std::hash::{Hash, Hasher};
+use std::marker::Model;
+use std::slice;
+use x509_der_frames::SequenceOf;
+use x509_der_grammar::{Decode, Encode, Error, FixedTag, Grammar, Room, Tag, TryClone};
+use x509_der_order::ValueOrd;
+
+/// Relative distinguished names, the most general first (RFC 5280 4.1.2.4). Contracts see their list. A sequence
+/// without members is read and written too.
+///
+/// ```text
+/// RDNSequence ::= SEQUENCE OF RelativeDistinguishedName
+/// ```
+#[derive(Debug, Drop)]
+pub struct RdnSequence(SequenceOf<RelativeDistinguishedName>);
+
+/// The same by another name (RFC 5280 appendix A.1).
+pub type DistinguishedName = RdnSequence;
+
+impl Model for RdnSequence {
+    ghost use Rattle.std.specs.Prelude.{List};
+    ghost use Rattle.x509_name_attribute.specs.declared.type_and_value.AttributeTypeAndValue.{AttributeTypeAndValue};
+
+    ghost Value = { List (List AttributeTypeAndValue) };
+
+    ghost view = { λ sequence. sequence.0 };
+}
+
+impl RdnSequence {
+    /// No relative distinguished names. It takes no memory.
+    pub fn new(alloc: Global) -> RdnSequence
+        ensures { result ≡ [] }
+    {
+        RdnSequence(SequenceOf::new(alloc))
+    }
+
+    /// Puts the relative distinguished name behind the others. Where memory is refused the sequence is as it was, and
+    /// the one that was to be put is dropped.
+    pub fn push(&mut self, rdn: RelativeDistinguishedName) -> Result<(), Error>
+        ensures ok { OnOk result (self.new ≡ self.old ++ rdn ∷ []) }
+        ensures err { IfErr result (λ e. e.kind ≡ Memory) }
+        ensures unchanged { OnErr result (self.new ≡ self.old) }
+    {
+        self.0.push(rdn)
+    }
+
+    /// The relative distinguished names.
+    pub fn as_slice(&self) -> &[RelativeDistinguishedName]
+        ensures { result.now ≡ self.now }
+    {
+        self.0.as_slice()
+    }
+
+    /// The relative distinguished names.
+    pub fn iter(&self) -> slice::Iter<'_, RelativeDistinguishedName>
+        ensures rest { iter_rest result ≡ self.now }
+        ensures bound { length (iter_rest result) < 2 ^ 64 }
+        ensures runs { IterYieldsInOrder (List AttributeTypeAndValue) }
+        ensures runs_back { IterYieldsInReverse (List AttributeTypeAndValue) }
+    {
+        self.as_slice().iter()
+    }
+
+    /// How many relative distinguished names there are.
+    pub fn len(&self) -> usize
+        ensures { result ≡ length self.now }
+    {
+        self.0.len()
+    }
+
+    /// Whether there are none.
+    pub fn is_empty(&self) -> bool
+        ensures { IsTrue result ↔ (self.now ≡ []) }
+    {
+        self.0.is_empty()
+    }
+
+    /// The vector of the relative distinguished names, without a copy.
+    pub fn into_vec(self) -> Vec<RelativeDistinguishedName>
+        ensures { result.items ≡ self }
+    {
+        let RdnSequence(rdns) = self;
+        rdns.into_vec()
+    }
+}
+
+impl From<Vec<RelativeDistinguishedName>> for RdnSequence {
+    ghost from_gives = { λ rdns sequence. sequence ≡ rdns.items };
+
+    fn from(rdns: Vec<RelativeDistinguishedName>) -> RdnSequence {
+        RdnSequence(SequenceOf::from(rdns))
+    }
+}
+
+impl TryClone for RdnSequence {
+    fn try_clone(&self, alloc: Global) -> Result<RdnSequence, Error> {
+        Ok(RdnSequence(self.0.try_clone(alloc)?))
+    }
+}
+
+impl Grammar for RdnSequence {
+    ghost use Rattle.x509_name_rdn.specs.Names as grammar;
+
+    ghost form = { grammar.rdn_sequence };
+
+    fn identifier(&self) -> Tag {
+        Tag::Sequence
+    }
+
+    fn is_start(octet: u8) -> bool {
+        octet == 0x30
+    }
+
+    ghost lawful = { grammar.rdn_sequence_lawful };
+}
+
+impl Decode for RdnSequence {
+    fn read(alloc: Global, tag: u8, content: &[u8]) -> Result<RdnSequence, Error> {
+        Ok(RdnSequence(Decode::read(alloc, tag, content)?))
+    }
+}
+
+impl Encode for RdnSequence {
+    ghost use Rattle.std.specs.Prelude.{refl};
+
+    fn put_content<R: Room>(&self, room: &mut R) -> Result<(), Error> {
+        self.0.put_content(room)
+    }
+
+    ghost same_tag = { λ value. refl };
+}
+
+impl FixedTag for RdnSequence {
+    ghost use Rattle.std.specs.Prelude.{refl};
+    ghost use Rattle.x509_der_grammar.specs.declared.tag.Tag.TheVariants.{Sequence};
+
+    ghost TAG = { Sequence };
+
+    const TAG: Tag = Tag::Sequence;
+
+    ghost fixed = { λ value good. refl };
+}
+
+impl ValueOrd for RdnSequence {
+    ghost use Rattle.x509_name_rdn.specs.Names as grammar;
+
+    ghost order = { grammar.rdn_sequence_order };
+
+    fn value_cmp(&self, other: &RdnSequence) -> Ordering {
+        self.0.value_cmp(&other.0)
+    }
+
+    ghost ordered = { grammar.rdn_sequence_ordered };
+}
+
+impl PartialEq for RdnSequence {
+    ghost use Rattle.std.specs.Cmp.{partial_equiv_from_equiv};
+    ghost use Rattle.x509_name_rdn.specs.Names as grammar;
+
+    ghost eq = { grammar.rdn_sequence_eq };
+
+    ghost laws = { partial_equiv_from_equiv grammar.rdn_sequence_equivalence };
+
+    fn eq(&self, other: &RdnSequence) -> bool {
+        self.0 == other.0
+    }
+}
+
+impl Eq for RdnSequence {
+    ghost use Rattle.x509_name_rdn.specs.Names as grammar;
+
+    ghost laws = { grammar.rdn_sequence_equivalence };
+}
+
+impl Hash for RdnSequence {
+    ghost use Rattle.std.specs.Hash as fed;
+    ghost use Rattle.x509_name_rdn.specs.Names as grammar;
+
+    ghost hash_input = { fed.slice ⟦<RelativeDistinguishedName as Hash>⟧.hash_input };
+
+    ghost respects_eq = { (fed.same_Alike (fed.slice ⟦<RelativeDistinguishedName as Hash>⟧.hash_input) grammar.rdn_sequence_decides).fed };
+
+    fn hash<H: Hasher>(&self, state: &mut H) {
+        self.0.hash(state);
+    }
+}

@@ -1,0 +1,183 @@
+//! Rows of names, and each call once with ample memory.
+
+use crate::{DistinguishedName, Name, RdnSequence, RelativeDistinguishedName, laws};
+use std::hash::{DefaultHasher, Hash, Hasher};
+use std::test::*;
+use x509_der_grammar::{Decode, Encode, Error, ErrorKind, FixedTag, Grammar, Tag, TryClone};
+use x509_der_oid::ObjectIdentifier;
+use x509_der_order::{DerOrd, ValueOrd};
+use x509_der_set::SetOfVec;
+use x509_name_attribute::{AttributeTypeAndValue, AttributeValue};
+
+/// Whether each row is read, and written again as it was.
+fn all_stay<T: Decode + Encode + Drop>(rt: &HostRuntime, rows: &[&[u8]]) -> Result<bool, Fail> {
+    for row in rows {
+        let value = T::from_der(rt.alloc(), row)?;
+        if value.to_der(rt.alloc())?.as_slice() != *row {
+            return Ok(false);
+        }
+    }
+    Ok(true)
+}
+
+/// Whether each row is refused as `Malformed`.
+fn all_malformed<T: Decode + Drop>(rt: &HostRuntime, rows: &[&[u8]]) -> bool {
+    for row in rows {
+        if !is_refused(T::from_der(rt.alloc(), row), ErrorKind::Malformed) {
+            return false;
+        }
+    }
+    true
+}
+
+/// Whether a call was refused so.
+fn is_refused<T: Drop>(outcome: Result<T, Error>, kind: ErrorKind) -> bool {
+    match outcome {
+        Ok(_) => false,
+        Err(e) => e.kind() == kind,
+    }
+}
+
+/// The organization 123 and the common name JOHN SMITH, in this order since the first is shorter.
+const BOTH: &[u8] =
+    b"\x31\x1F\x30\x0A\x06\x03\x55\x04\x0A\x0C\x03123\x30\x11\x06\x03\x55\x04\x03\x0C\x0AJOHN SMITH";
+
+/// One attribute, two, and none.
+const RDNS: [&[u8]; 3] = [
+    b"\x31\x0C\x30\x0A\x06\x03\x55\x04\x0A\x0C\x03123",
+    BOTH,
+    b"\x31\x00",
+];
+
+/// Two attributes out of order, one twice, one without a set, and a sequence in place of the set.
+const NO_RDNS: [&[u8]; 4] = [
+    b"\x31\x1F\x30\x11\x06\x03\x55\x04\x03\x0C\x0AJOHN SMITH\x30\x0A\x06\x03\x55\x04\x0A\x0C\x03123",
+    b"\x31\x18\x30\x0A\x06\x03\x55\x04\x0A\x0C\x03123\x30\x0A\x06\x03\x55\x04\x0A\x0C\x03123",
+    b"\x30\x0A\x06\x03\x55\x04\x0A\x0C\x03123",
+    b"\x30\x0C\x30\x0A\x06\x03\x55\x04\x0A\x0C\x03123",
+];
+
+/// The empty name; C=US, O=Test Certificates 2011, CN=Good CA, of the NIST test suite for certification paths.
+const NAMES: [&[u8]; 2] = [
+    b"\x30\x00",
+    b"\x30\x40\x31\x0B\x30\x09\x06\x03\x55\x04\x06\x13\x02US\x31\x1F\x30\x1D\x06\x03\x55\x04\x0A\x13\x16Test Certificates 2011\x31\x10\x30\x0E\x06\x03\x55\x04\x03\x13\x07Good CA",
+];
+
+/// An attribute without a set, a set in place of the sequence, and bytes behind the name.
+const NO_NAMES: [&[u8]; 3] = [
+    b"\x30\x0C\x30\x0A\x06\x03\x55\x04\x0A\x0C\x03123",
+    b"\x31\x00",
+    b"\x30\x00\x00",
+];
+
+#[test]
+fn rows(rt: HostRuntime) -> Result<(), Fail> {
+    assert!(rt; all_stay::<RelativeDistinguishedName>(&rt, &RDNS)?);
+    assert!(rt; all_malformed::<RelativeDistinguishedName>(&rt, &NO_RDNS));
+    assert!(rt; all_stay::<RdnSequence>(&rt, &NAMES)?);
+    assert!(rt; all_malformed::<RdnSequence>(&rt, &NO_NAMES));
+    assert!(rt; all_stay::<Name>(&rt, &NAMES)?);
+    assert!(rt; all_malformed::<Name>(&rt, &NO_NAMES));
+    Ok(())
+}
+
+fn attribute(rt: &HostRuntime, oid: &str, text: &[u8]) -> Result<AttributeTypeAndValue, Fail> {
+    Ok(AttributeTypeAndValue {
+        oid: ObjectIdentifier::new(oid)?,
+        value: AttributeValue::new(rt.alloc(), Tag::Utf8String, text)?,
+    })
+}
+
+fn person(rt: &HostRuntime) -> Result<AttributeTypeAndValue, Fail> {
+    attribute(rt, "2.5.4.3", b"JOHN SMITH")
+}
+
+fn organization(rt: &HostRuntime) -> Result<AttributeTypeAndValue, Fail> {
+    attribute(rt, "2.5.4.10", b"123")
+}
+
+fn hash_of<T: Hash>(value: &T) -> u64 {
+    let mut hasher = DefaultHasher::new();
+    value.hash(&mut hasher);
+    hasher.finish()
+}
+
+#[test]
+fn inserts_in_either_order(rt: HostRuntime) -> Result<(), Fail> {
+    let mut up = RelativeDistinguishedName::new(rt.alloc());
+    up.insert(person(&rt)?)?;
+    up.insert(organization(&rt)?)?;
+    let mut down = RelativeDistinguishedName::new(rt.alloc());
+    down.insert(organization(&rt)?)?;
+    down.insert(person(&rt)?)?;
+    assert_eq!(rt; up.to_der(rt.alloc())?.as_slice(), BOTH);
+    assert_eq!(rt; down.to_der(rt.alloc())?.as_slice(), BOTH);
+    assert!(rt; up == down && hash_of(&up) == hash_of(&down));
+    assert!(rt; is_refused(down.insert(person(&rt)?), ErrorKind::SetDuplicate));
+    assert!(rt; down == up);
+    Ok(())
+}
+
+#[test]
+fn rdns(rt: HostRuntime) -> Result<(), Fail> {
+    let mut attributes = Vec::new(rt.alloc());
+    attributes.push(person(&rt)?)?;
+    attributes.push(organization(&rt)?)?;
+    let rdn = RelativeDistinguishedName::try_from_vec(attributes)?;
+    assert!(rt; rdn.len() == 2 && !rdn.is_empty());
+    assert!(rt; rdn.as_slice()[0] == organization(&rt)?);
+    assert!(rt; rdn.get(1).is_some() && rdn.get(2).is_none());
+    assert_eq!(rt; rdn.iter().count(), 2);
+    let set: &SetOfVec<AttributeTypeAndValue> = rdn.as_ref();
+    let copy = RelativeDistinguishedName::from(set.try_clone(rt.alloc())?);
+    assert!(rt; copy == rdn && rdn.try_clone(rt.alloc())? == copy);
+    Ok(())
+}
+
+#[test]
+fn sequences(rt: HostRuntime) -> Result<(), Fail> {
+    let mut rdns = RdnSequence::new(rt.alloc());
+    rdns.push(RelativeDistinguishedName::from_der(rt.alloc(), BOTH)?)?;
+    let copy: DistinguishedName = rdns.try_clone(rt.alloc())?;
+    assert!(rt; rdns == copy && hash_of(&rdns) == hash_of(&copy));
+    assert!(rt; rdns.len() == 1 && !rdns.is_empty());
+    assert_eq!(rt; rdns.iter().count(), rdns.as_slice().len());
+    assert!(rt; RdnSequence::from(rdns.into_vec()) == copy);
+    Ok(())
+}
+
+#[test]
+fn names(rt: HostRuntime) -> Result<(), Fail> {
+    let none = Name::new(rt.alloc());
+    let name = Name::from_der(rt.alloc(), NAMES[1])?;
+    assert!(rt; none.is_empty() && name.len() == 3 && name.iter_rdn().count() == 3);
+    let copy = Name::hazmat_from_rdn_sequence(RdnSequence::from(name.try_clone(rt.alloc())?));
+    assert!(rt; copy == name && copy.as_ref() == name.as_ref() && name != none);
+    assert_eq!(rt; hash_of(&copy), hash_of(&name));
+    assert!(rt; none.der_cmp(&name).is_lt() && name.value_cmp(&none).is_gt());
+    Ok(())
+}
+
+#[test]
+fn attributes_of_a_name(rt: HostRuntime) -> Result<(), Fail> {
+    let name = Name::from_der(rt.alloc(), NAMES[1])?;
+    let mut values: Vec<&[u8]> = Vec::new(rt.alloc());
+    for attribute in name.iter() {
+        values.push(attribute.value.value())?;
+    }
+    assert_eq!(rt; values.len(), 3);
+    assert_eq!(rt; values[0], b"US".as_slice());
+    assert_eq!(rt; values[2], b"Good CA".as_slice());
+    Ok(())
+}
+
+#[test]
+fn identifiers(rt: HostRuntime) -> Result<(), Fail> {
+    assert!(rt; RelativeDistinguishedName::is_start(0x31) && Name::is_start(0x30));
+    assert!(rt; RdnSequence::is_start(0x30) && !RdnSequence::is_start(0x31));
+    assert_eq!(rt; RelativeDistinguishedName::TAG, Tag::Set);
+    assert_eq!(rt; RdnSequence::TAG, Tag::Sequence);
+    assert_eq!(rt; Name::TAG, Name::new(rt.alloc()).identifier());
+    laws::bytes_determine_the_name();
+    Ok(())
+}
