@@ -7,3 +7,6 @@ pub use Rattle.x509_base_validity.specs.Profiles
 pub use Rattle.x509_base_validity.specs.Validity
 pub use Rattle.x509_base_key.specs.AlgorithmIdentifier
 pub use Rattle.x509_base_key.specs.SubjectPublicKeyInfo
+pub use Rattle.x509_base_serial.specs.Checked
+pub use Rattle.x509_base_serial.specs.Serial
+pub use Rattle.x509_base_serial.specs.Fills

@@ -2,5 +2,6 @@
 #![tactic(auto)]
 
 pub use x509_base_key::{AlgorithmIdentifier, SubjectPublicKeyInfo};
+pub use x509_base_serial::SerialNumber;
 pub use x509_base_time::{DateTime, GeneralizedTime, UtcTime};
 pub use x509_base_validity::{Profile, Raw, Rfc5280, Time, Validity};

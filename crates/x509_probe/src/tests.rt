@@ -1,8 +1,10 @@
 use super::*;
 use std::cmp::Ordering;
 use std::test::*;
+use x509_base::{Raw, Rfc5280};
 use x509_der::{
-    Any, Decode, DerOrd, Encode, ErrorKind, ObjectIdentifier, SequenceOf, SetOfVec, Tag, TryClone,
+    Any, Decode, DerOrd, Encode, Error, ErrorKind, ObjectIdentifier, SequenceOf, SetOfVec, Tag,
+    TryClone,
 };
 use x509_prim_string::OctetString;
 
@@ -284,7 +286,8 @@ fn elements_in_order(rt: HostRuntime) -> Result<(), Fail> {
             == (less, less)
     );
     assert!(rt;
-        compared::<Purposes>(&rt, &[0x30, 3, 6, 1, 0x2A], &[0x30, 4, 6, 2, 0x2A, 3])? == (less, less)
+        compared::<Purposes>(&rt, &[0x30, 3, 6, 1, 0x2A], &[0x30, 4, 6, 2, 0x2A, 3])?
+            == (less, less)
     );
     Ok(())
 }
@@ -294,5 +297,76 @@ fn purposes(rt: HostRuntime) -> Result<(), Fail> {
     assert!(rt; same::<Purposes>(&rt, &[0x30, 7, 6, 1, 0x2A, 6, 2, 0x2A, 3])?);
     assert!(rt; is_malformed::<Purposes>(&rt, &[0x31, 3, 6, 1, 0x2A]));
     assert!(rt; same::<SetOfVec<Any>>(&rt, &[0x31, 5, 4, 1, 0x41, 5, 0])?);
+    Ok(())
+}
+
+/// The bytes that are written of the value that the bytes spell.
+fn written<T: Decode + Encode + Drop>(rt: &HostRuntime, bytes: &[u8]) -> Result<Vec<u8>, Error> {
+    let value = T::from_der(rt.alloc(), bytes)?;
+    value.to_der(rt.alloc())
+}
+
+const LONG_DATED: &[u8] =
+    b"\x30\x27\x06\x03\x55\x04\x03\x30\x20\x18\x0F20020101120100Z\x17\x0D301231083000Z";
+
+const SHORT_DATED: &[u8] =
+    b"\x30\x25\x06\x03\x55\x04\x03\x30\x1E\x17\x0D020101120100Z\x17\x0D301231083000Z";
+
+const LONG_ENCLOSING: &[u8] =
+    b"\x30\x29\xA1\x27\x06\x03\x55\x04\x03\x30\x20\x18\x0F20020101120100Z\x17\x0D301231083000Z";
+
+const SHORT_ENCLOSING: &[u8] =
+    b"\x30\x27\xA1\x25\x06\x03\x55\x04\x03\x30\x1E\x17\x0D020101120100Z\x17\x0D301231083000Z";
+
+const LONG_LIST: &[u8] =
+    b"\x30\x29\x30\x27\x06\x03\x55\x04\x03\x30\x20\x18\x0F20020101120100Z\x17\x0D301231083000Z";
+
+const SHORT_LIST: &[u8] =
+    b"\x30\x27\x30\x25\x06\x03\x55\x04\x03\x30\x1E\x17\x0D020101120100Z\x17\x0D301231083000Z";
+
+#[test]
+fn dates_in_a_sequence(rt: HostRuntime) -> Result<(), Fail> {
+    assert_eq!(rt;
+        written::<Dated<Rfc5280>>(&rt, LONG_DATED)?.as_slice(),
+        SHORT_DATED
+    );
+    assert_eq!(rt;
+        written::<Dated<Rfc5280>>(&rt, SHORT_DATED)?.as_slice(),
+        SHORT_DATED
+    );
+    assert_eq!(rt;
+        written::<Dated<Raw>>(&rt, LONG_DATED)?.as_slice(),
+        LONG_DATED
+    );
+    Ok(())
+}
+
+#[test]
+fn dates_in_an_inner_sequence(rt: HostRuntime) -> Result<(), Fail> {
+    assert_eq!(rt;
+        written::<Enclosing<Rfc5280>>(&rt, LONG_ENCLOSING)?.as_slice(),
+        SHORT_ENCLOSING
+    );
+    assert_eq!(rt;
+        written::<Enclosing<Raw>>(&rt, LONG_ENCLOSING)?.as_slice(),
+        LONG_ENCLOSING
+    );
+    assert_eq!(rt;
+        written::<Enclosing<Rfc5280>>(&rt, b"\x30\x00")?.as_slice(),
+        b"\x30\x00".as_slice()
+    );
+    Ok(())
+}
+
+#[test]
+fn dates_in_a_list(rt: HostRuntime) -> Result<(), Fail> {
+    assert_eq!(rt;
+        written::<SequenceOf<Dated<Rfc5280>>>(&rt, LONG_LIST)?.as_slice(),
+        SHORT_LIST
+    );
+    assert_eq!(rt;
+        written::<SequenceOf<Dated<Raw>>>(&rt, LONG_LIST)?.as_slice(),
+        LONG_LIST
+    );
     Ok(())
 }

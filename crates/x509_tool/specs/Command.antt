@@ -2,7 +2,7 @@
 use Rattle.std.specs.Prelude.{ℕ, List, [], ◌∷◌, Option, Some, None, codes, if◌then◌else◌}
 use Rattle.std.specs.Str.{bytes_eq}
 use Rattle.x509_tool.specs.declared.command.Kind.{Kind}
-use Rattle.x509_tool.specs.declared.command.Kind.TheVariants.{Any, Integer, Oid, Time, Validity}
+use Rattle.x509_tool.specs.declared.command.Kind.TheVariants.{Any, Integer, Name, Oid, Rdn, Serial, Time, Validity}
 use Rattle.x509_tool.specs.declared.command.ProfileName.{ProfileName}
 use Rattle.x509_tool.specs.declared.command.ProfileName.TheVariants.{Rfc5280, Raw}
 use Rattle.x509_tool.specs.declared.command.Command.{Command}
@@ -13,7 +13,10 @@ abbrev pub kind_of : List ℕ → Option Kind
 kind_of word =
     if bytes_eq word (codes "any") then Some Any
     else if bytes_eq word (codes "integer") then Some Integer
+    else if bytes_eq word (codes "name") then Some Name
     else if bytes_eq word (codes "oid") then Some Oid
+    else if bytes_eq word (codes "rdn") then Some Rdn
+    else if bytes_eq word (codes "serial") then Some Serial
     else if bytes_eq word (codes "time") then Some Time
     else if bytes_eq word (codes "validity") then Some Validity
     else None

@@ -12,8 +12,17 @@ pub enum Kind {
     /// A whole number.
     Integer,
 
+    /// A name.
+    Name,
+
     /// An object identifier.
     Oid,
+
+    /// A relative distinguished name.
+    Rdn,
+
+    /// A serial number of a certificate.
+    Serial,
 
     /// A date of a certificate.
     Time,
@@ -47,7 +56,10 @@ impl Kind {
         match word {
             "any" => Some(Kind::Any),
             "integer" => Some(Kind::Integer),
+            "name" => Some(Kind::Name),
             "oid" => Some(Kind::Oid),
+            "rdn" => Some(Kind::Rdn),
+            "serial" => Some(Kind::Serial),
             "time" => Some(Kind::Time),
             "validity" => Some(Kind::Validity),
             _ => None,

@@ -9,8 +9,9 @@ ghost use Rattle.x509_tool.specs.declared.command.ProfileName.{ProfileName};
 
 use crate::command::{Kind, ProfileName};
 use std::alloc::Global;
-use x509_base::{Profile, Raw, Rfc5280, Time, Validity};
+use x509_base::{Profile, Raw, Rfc5280, SerialNumber, Time, Validity};
 use x509_der::{Any, Decode, Encode, Error, ObjectIdentifier};
+use x509_name::name::{Name, RelativeDistinguishedName};
 use x509_prim::Int;
 
 /// The decoders and encoders of the types that have a name.
@@ -55,13 +56,16 @@ impl Codec for Types {
 /// The encoding of the value of a type that the bytes spell, under a profile.
 fn reencode_under<P: Profile>(alloc: Global, kind: Kind, bytes: &[u8]) -> Result<Vec<u8>, Error>
     ensures { MatchResult result
-        (λ encoding. reencodes_under P P.time_of kind bytes.now (Ok encoding.items))
-        (λ e. (e.kind ≡ Memory) ⊎ reencodes_under P P.time_of kind bytes.now (Err e.kind)) }
+        (λ encoding. reencodes_under P P.serial_check P.time_of kind bytes.now (Ok encoding.items))
+        (λ e. (e.kind ≡ Memory) ⊎ reencodes_under P P.serial_check P.time_of kind bytes.now (Err e.kind)) }
 {
     match kind {
         Kind::Any => reencode_as::<Any>(alloc, bytes),
         Kind::Integer => reencode_as::<Int>(alloc, bytes),
+        Kind::Name => reencode_as::<Name>(alloc, bytes),
         Kind::Oid => reencode_as::<ObjectIdentifier>(alloc, bytes),
+        Kind::Rdn => reencode_as::<RelativeDistinguishedName>(alloc, bytes),
+        Kind::Serial => reencode_as::<SerialNumber<P>>(alloc, bytes),
         Kind::Time => reencode_as::<Time>(alloc, bytes),
         Kind::Validity => reencode_as::<Validity<P>>(alloc, bytes),
     }
