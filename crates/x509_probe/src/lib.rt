@@ -2,6 +2,7 @@
 #![tactic(auto)]
 
 mod number;
+mod pair;
 mod probe;
 mod purposes;
 mod ten_fields;
@@ -9,6 +10,7 @@ mod ten_fields;
 mod tests;
 
 pub use number::Number;
+pub use pair::Pair;
 pub use probe::Probe;
 pub use purposes::Purposes;
 pub use ten_fields::TenFields;

@@ -3,9 +3,7 @@
 use std::alloc::Global;
 use std::cmp::Ordering;
 use std::marker::Model;
-use x509_der::{
-    Decode, Encode, Error, Grammar, ObjectIdentifier, Room, SequenceOf, Tag, ValueOrd,
-};
+use x509_der::{Decode, Encode, Error, Grammar, ObjectIdentifier, Room, SequenceOf, Tag, ValueOrd};
 
 /// Purposes::= SEQUENCE OF OBJECT IDENTIFIER, which contracts see as the list that it keeps.
 #[derive(Drop)]

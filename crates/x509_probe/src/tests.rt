@@ -284,8 +284,18 @@ fn elements_in_order(rt: HostRuntime) -> Result<(), Fail> {
             == (less, less)
     );
     assert!(rt;
-        compared::<Purposes>(&rt, &[0x30, 3, 6, 1, 0x2A], &[0x30, 4, 6, 2, 0x2A, 3])? == (less, less)
+        compared::<Purposes>(&rt, &[0x30, 3, 6, 1, 0x2A], &[0x30, 4, 6, 2, 0x2A, 3])?
+            == (less, less)
     );
+    Ok(())
+}
+
+#[test]
+fn pairs_in_order(rt: HostRuntime) -> Result<(), Fail> {
+    let less = (Ordering::Less, Ordering::Less);
+    let three = [0x30, 6, 6, 1, 0x2A, 2, 1, 3].as_slice();
+    assert!(rt; compared::<Pair>(&rt, three, &[0x30, 6, 6, 1, 0x2A, 2, 1, 4])? == less);
+    assert!(rt; compared::<Pair>(&rt, three, &[0x30, 6, 6, 2, 0x2A, 3, 5, 0])? == less);
     Ok(())
 }
 
