@@ -1,5 +1,5 @@
 -- The byte order of a sequence of two required fields.
-use Rattle.std.specs.Prelude.{◌≡◌, List, ◌++◌, refl}
+use Rattle.std.specs.Prelude.{◌≡◌, refl}
 use Rattle.std.proofs.Common.{ap, sym, ◌∙◌}
 use Rattle.x509_der_grammar.specs.Element.{limit}
 use Rattle.x509_der_grammar.specs.Form.{Form, universal, spelling}
