@@ -7,4 +7,5 @@ pub mod List
 pub mod ListLaws
 pub mod ListWriting
 pub mod ListOrder
+pub mod FieldsOrder
 pub mod Choice

@@ -11,7 +11,6 @@ use Rattle.std.proofs.lemmas.Cmp.{tied_itself}
 use Rattle.std.proofs.lemmas.List.Sorted.{list_any-IsPermutation}
 use Rattle.x509_der_order.specs.Order.{bytes_cmp, IsDerOrder}
 
-
 module _ {X : Type 0} {R : X → X → Ordering} (o : IsTotalOrder R) (exact : (x y : X) → R x y ≡ Equal → x ≡ y) where
   turned : (x y : X) → R x y ≡ Greater → R y x ≡ Less
   turned x y e = o.antisymm y x ∙ ap ordering_reverse e

@@ -13,10 +13,9 @@ ghost use Rattle.x509_der_set.specs.Set.{AreDistinct};
 use crate::places::{is_rising, place};
 use std::alloc::Global;
 use std::cmp::Ordering;
-use std::fmt;
 use std::hash::{Hash, Hasher};
 use std::marker::Model;
-use std::slice;
+use std::{fmt, slice};
 use x509_der_frames::{put_members, read_members};
 use x509_der_grammar::{
     Decode, Encode, Error, ErrorKind, FixedTag, Grammar, Room, Tag, TryClone, expect_tag,

@@ -140,7 +140,9 @@ fn sets_in_order(rt: HostRuntime) -> Result<(), Fail> {
     let more = set_of(&rt, &[1, 2, 3])?;
     let later = set_of(&rt, &[1, 128])?;
     assert!(rt; few.value_cmp(&more) == Ordering::Less && few.der_cmp(&more) == Ordering::Less);
-    assert!(rt; more.value_cmp(&later) == Ordering::Less && more.der_cmp(&later) == Ordering::Greater);
+    assert!(rt;
+        more.value_cmp(&later) == Ordering::Less && more.der_cmp(&later) == Ordering::Greater
+    );
     assert!(rt; more.value_cmp(&more) == Ordering::Equal);
     Ok(())
 }

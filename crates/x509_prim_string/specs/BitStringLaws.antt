@@ -44,6 +44,7 @@ one_bit_string x y e =
     head : List ℕ → ℕ
     head [] = 0
     head (octet ∷ octets) = octet
+
     tail : List ℕ → List ℕ
     tail [] = []
     tail (octet ∷ octets) = octets

@@ -3,6 +3,7 @@
 
 mod dated;
 mod number;
+mod pair;
 mod probe;
 mod purposes;
 mod ten_fields;
@@ -11,6 +12,7 @@ mod tests;
 
 pub use dated::{Dated, Enclosing};
 pub use number::Number;
+pub use pair::Pair;
 pub use probe::Probe;
 pub use purposes::Purposes;
 pub use ten_fields::TenFields;

@@ -293,6 +293,15 @@ fn elements_in_order(rt: HostRuntime) -> Result<(), Fail> {
 }
 
 #[test]
+fn pairs_in_order(rt: HostRuntime) -> Result<(), Fail> {
+    let less = (Ordering::Less, Ordering::Less);
+    let three = [0x30, 6, 6, 1, 0x2A, 2, 1, 3].as_slice();
+    assert!(rt; compared::<Pair>(&rt, three, &[0x30, 6, 6, 1, 0x2A, 2, 1, 4])? == less);
+    assert!(rt; compared::<Pair>(&rt, three, &[0x30, 6, 6, 2, 0x2A, 3, 5, 0])? == less);
+    Ok(())
+}
+
+#[test]
 fn purposes(rt: HostRuntime) -> Result<(), Fail> {
     assert!(rt; same::<Purposes>(&rt, &[0x30, 7, 6, 1, 0x2A, 6, 2, 0x2A, 3])?);
     assert!(rt; is_malformed::<Purposes>(&rt, &[0x31, 3, 6, 1, 0x2A]));

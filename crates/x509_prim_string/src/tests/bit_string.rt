@@ -38,7 +38,9 @@ fn bit_strings_in_order(rt: HostRuntime) -> Result<(), Fail> {
     let four = BitString::new(rt.alloc(), 4, &[0x10])?;
     let more = BitString::new(rt.alloc(), 0, &[0xFF, 0x00])?;
     assert!(rt; eight.der_cmp(&four) == Ordering::Less);
-    assert!(rt; four.der_cmp(&more) == Ordering::Less && four.value_cmp(&more) == Ordering::Greater);
+    assert!(rt;
+        four.der_cmp(&more) == Ordering::Less && four.value_cmp(&more) == Ordering::Greater
+    );
     assert!(rt; more.value_cmp(&eight) == Ordering::Greater);
     Ok(())
 }
