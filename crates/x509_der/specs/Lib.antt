@@ -9,6 +9,9 @@ pub use Rattle.x509_der_frames.specs.Frames
 pub use Rattle.x509_der_frames.specs.Any
 pub use Rattle.x509_der_frames.specs.List
 pub use Rattle.x509_der_frames.specs.Choice
+pub use Rattle.x509_der_order.specs.Order
+pub use Rattle.x509_der_order.specs.Ordered
+pub use Rattle.x509_der_set.specs.Set
 pub use Rattle.x509_der_oid.specs.Arcs
 pub use Rattle.x509_der_oid.specs.ObjectIdentifier
 pub use Rattle.x509_der_oid.specs.ObjectIdentifierForm

@@ -1,7 +1,11 @@
-//! What holds of all elements, spellings, tags and object identifiers. Each law is a function with an empty body, whose
+//! What holds of all elements, spellings, tags, object identifiers, byte orders and sets. Each law is a function with an empty body, whose
 //! contract is the law.
 
 pub use x509_der_grammar::laws::{
     no_element_begins_another, no_spelling_begins_another, one_spelling, one_tag, one_value,
 };
 pub use x509_der_oid::laws::{arcs_of_contents, one_content, one_text, tested_contents};
+pub use x509_der_order::laws::{
+    contents_in_order, encodings_in_order, equal_values_alone_are_equal, orders_are_total,
+};
+pub use x509_der_set::laws::{encodings_rise, members_make_the_set};

@@ -1,7 +1,8 @@
 //! Strict DER (X.690): values that are read from the bytes of their one spelling and written as them.
 //!
 //! The parts stand in crates of their own: the grammar with its two traits and the elements, the frames that sequences,
-//! lists and choices are made of, the object identifiers, and UTF8String beside the other texts.
+//! lists and choices are made of, the byte orders, the sets that stand in them, the object identifiers, and UTF8String
+//! beside the other texts.
 #![tactic(auto)]
 
 pub mod laws;
@@ -19,4 +20,6 @@ pub use x509_der_grammar::{
     put_header, put_natural, read_natural, read_whole, split_element, take_element,
 };
 pub use x509_der_oid::{AssociatedOid, ObjectIdentifier};
+pub use x509_der_order::{DerOrd, ValueOrd, cmp_members, cmp_naturals};
+pub use x509_der_set::SetOfVec;
 pub use x509_prim_text::Utf8String;

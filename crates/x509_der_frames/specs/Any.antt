@@ -1,5 +1,5 @@
 -- Any element: an identifier and a content that is not looked into (X.690 8.1).
-use Rattle.std.specs.Prelude.{◌≡◌, ◌<◌, ℕ, zero, suc, true, List, [], ◌∷◌, Result, Ok, Err, if◌then◌else◌, refl}
+use Rattle.std.specs.Prelude.{◌≡◌, ◌<◌, ℕ, zero, suc, List, [], ◌∷◌, Result, Ok, Err, if◌then◌else◌, refl}
 use Rattle.std.proofs.Common.{sym, ap, ◌∙◌, inl, inr, false}
 use Rattle.std.proofs.lemmas.Bool.{agree_below_at}
 use Rattle.x509_der_grammar.specs.declared.error.ErrorKind.{ErrorKind}
@@ -11,6 +11,9 @@ use Rattle.x509_der_grammar.specs.Tag.{octet_of}
 use Rattle.x509_der_grammar.specs.TagLaws.{is_identifier-octet_of, is_identifier-octet}
 use Rattle.x509_der_grammar.specs.TagReading.{tag_at, tag_at-octet_of, octet_of-tag_at}
 use Rattle.x509_der_grammar.specs.declared.tag.Tag.{Tag}
+use Rattle.x509_der_grammar.specs.Writing.{Written}
+use Rattle.x509_der_order.specs.Order.{IsOrder}
+use Rattle.x509_der_order.specs.Ordered.{by_bytes, by_bytes_lawful}
 use Rattle.x509_der_frames.specs.declared.any.Any.{Any}
 
 abbrev pub identifiers_below : ℕ → List ℕ
@@ -64,3 +67,10 @@ any_lawful = record {
   refused = λ t c e h. inl (any_refused t c e h);
   tagged = λ v g. let is = is_identifier-octet_of v.tag in (sym (is_in_identifiers (octet_of v.tag) (is_identifier-octet (octet_of v.tag) is)) ∙ is, is);
 }
+
+one_tag : (s t : Tag) → octet_of s ≡ octet_of t → s ≡ t
+one_tag s t e = sym (tag_at-octet_of s) ∙ ap tag_at e ∙ tag_at-octet_of t
+
+-- by the content alone: the identifier octets stay out
+pub any_ordered : (write : Any → Written Any) → IsOrder any write (by_bytes any)
+any_ordered write = by_bytes_lawful any write (λ x y p q. let tags = one_tag x.tag y.tag p in λ i. record { tag = tags i; value = q i })

@@ -6,4 +6,5 @@ pub mod Any
 pub mod List
 pub mod ListLaws
 pub mod ListWriting
+pub mod ListOrder
 pub mod Choice

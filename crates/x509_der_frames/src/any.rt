@@ -9,10 +9,12 @@ ghost use Rattle.x509_der_grammar.specs.Tag.{octet_of};
 ghost use Rattle.x509_der_grammar.specs.Writing.{writes, written_spelling, IsWritable, IsUnwritable};
 
 use std::alloc::Global;
+use std::cmp::Ordering;
 use x509_der_grammar::{
     AnyRef, Bytes, Decode, Encode, Error, ErrorKind, Grammar, Growing, Room, Tag, TryClone,
     check_content,
 };
+use x509_der_order::ValueOrd;
 
 /// An element whose content is not looked into: its identifier and its content octets (X.690 8.1).
 #[derive(Debug, Drop, PartialEq, Eq, Hash)]
@@ -119,6 +121,21 @@ impl Encode for Any {
     }
 
     ghost same_tag = { λ value. refl };
+}
+
+/// `value_cmp` leaves the identifiers out.
+impl ValueOrd for Any {
+    ghost use Rattle.x509_der_frames.specs.Any.{any, any_ordered};
+    ghost use Rattle.x509_der_grammar.specs.Writing.{plain, writes};
+    ghost use Rattle.x509_der_order.specs.Ordered.{by_bytes};
+
+    ghost order = { by_bytes any };
+
+    fn value_cmp(&self, other: &Any) -> Ordering {
+        self.value.as_slice().cmp(other.value.as_slice())
+    }
+
+    ghost ordered = { any_ordered (writes plain) };
 }
 
 impl TryClone for Any {

@@ -8,10 +8,12 @@ ghost use Rattle.x509_der_frames.specs.List.{list_reading, members_text, members
 
 use crate::reading::field;
 use std::alloc::Global;
+use std::cmp::Ordering;
 use std::fmt;
 use std::hash::{Hash, Hasher};
 use std::marker::Model;
 use x509_der_grammar::{Decode, Encode, Error, FixedTag, Grammar, Room, Tag, TryClone, expect_tag};
+use x509_der_order::{ValueOrd, cmp_members};
 
 /// Values one after the other, which contracts see as a list (X.690 8.10). It is made from a vector and gives it
 /// back without a copy.
@@ -226,4 +228,19 @@ impl<T: Grammar> FixedTag for SequenceOf<T> {
     const TAG: Tag = Tag::Sequence;
 
     ghost fixed = { λ value good. refl };
+}
+
+impl<T: ValueOrd> ValueOrd for SequenceOf<T> {
+    ghost use Rattle.x509_der_frames.specs.ListOrder.{list_ordered};
+    ghost use Rattle.x509_der_grammar.specs.Writing.{writes};
+    ghost use Rattle.x509_der_order.specs.Order.{der_order};
+    ghost use Rattle.x509_der_order.specs.Ordered.{by_members};
+
+    ghost order = { by_members (der_order T.form (writes T.writing) T.order) };
+
+    fn value_cmp(&self, other: &SequenceOf<T>) -> Ordering {
+        cmp_members(self.as_slice(), other.as_slice())
+    }
+
+    ghost ordered = { list_ordered T.form T.writing T.order T.ordered };
 }

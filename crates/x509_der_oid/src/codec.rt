@@ -1,10 +1,12 @@
-//! OBJECT IDENTIFIER, read and written (X.690 8.19).
+//! OBJECT IDENTIFIER, read, written and compared (X.690 8.19, 11.6).
 
 ghost use Rattle.std.specs.Prelude.{◌≡◌, Ok};
 
 use crate::identifier::ObjectIdentifier;
 use std::alloc::Global;
+use std::cmp::Ordering;
 use x509_der_grammar::{Decode, Encode, Error, FixedTag, Grammar, Room, Tag, TryClone, expect_tag};
+use x509_der_order::ValueOrd;
 
 impl Grammar for ObjectIdentifier {
     ghost use Rattle.x509_der_oid.specs.ObjectIdentifierForm as grammar;
@@ -49,6 +51,20 @@ impl FixedTag for ObjectIdentifier {
     const TAG: Tag = Tag::ObjectIdentifier;
 
     ghost fixed = { λ value good. refl };
+}
+
+impl ValueOrd for ObjectIdentifier {
+    ghost use Rattle.x509_der_oid.specs.ObjectIdentifierForm.{object_identifier};
+    ghost use Rattle.x509_der_grammar.specs.Writing.{plain, writes};
+    ghost use Rattle.x509_der_order.specs.Ordered.{by_bytes, by_bytes_lawful};
+
+    ghost order = { by_bytes object_identifier };
+
+    fn value_cmp(&self, other: &ObjectIdentifier) -> Ordering {
+        self.as_bytes().cmp(other.as_bytes())
+    }
+
+    ghost ordered = { by_bytes_lawful object_identifier (writes plain) (λ x y p q. q) };
 }
 
 impl TryClone for ObjectIdentifier {

@@ -1,7 +1,9 @@
 use super::*;
+use std::cmp::Ordering;
 use std::hash::{DefaultHasher, Hash, Hasher};
 use std::test::*;
 use x509_der_grammar::ErrorKind;
+use x509_der_order::{DerOrd, ValueOrd};
 
 const ID_CE_KEY_USAGE: ObjectIdentifier = ObjectIdentifier {
     len: 3,
@@ -109,4 +111,13 @@ fn hash_of(identifier: ObjectIdentifier) -> u64 {
     let mut hasher = DefaultHasher::new();
     identifier.hash(&mut hasher);
     hasher.finish()
+}
+
+#[test]
+fn identifiers_in_order(rt: HostRuntime) -> Result<(), Fail> {
+    let long = ObjectIdentifier::new("1.2.840.113549")?;
+    assert!(rt; long.value_cmp(&ID_CE_KEY_USAGE) == Ordering::Less);
+    assert!(rt; long.der_cmp(&ID_CE_KEY_USAGE) == Ordering::Greater);
+    assert!(rt; long.der_cmp(&long) == Ordering::Equal);
+    Ok(())
 }

@@ -1,5 +1,6 @@
 pub use Rattle.x509_prim_flags.specs.NamedBits
 pub use Rattle.x509_prim_flags.specs.NamedBitsLaws
+pub use Rattle.x509_prim_flags.specs.SetOrder
 pub use Rattle.x509_prim_integer.specs.Integer
 pub use Rattle.x509_prim_integer.specs.IntegerLaws
 pub use Rattle.x509_prim_string.specs.BitString

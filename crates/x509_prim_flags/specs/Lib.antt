@@ -1,3 +1,4 @@
 pub mod NamedBits
 pub mod NamedBitsLaws
 pub mod SetBits
+pub mod SetOrder

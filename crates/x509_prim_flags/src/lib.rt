@@ -4,7 +4,7 @@
 pub mod laws;
 mod named_bits;
 
-pub use named_bits::{NamedBits, put_named_bits, read_named_bits};
+pub use named_bits::{NamedBits, cmp_named_bits, put_named_bits, read_named_bits};
 
 #[cfg(test)]
 mod tests;

@@ -3,9 +3,12 @@
 ghost use Rattle.std.specs.Prelude.{◌≡◌, ◌<◌, Some, None, MatchOption};
 ghost use Rattle.x509_der_grammar.specs.Outcome.{Gives};
 ghost use Rattle.x509_der_grammar.specs.Writing.{Puts};
+ghost use Rattle.x509_der_order.specs.Order.{bytes_cmp};
 ghost use Rattle.x509_prim_flags.specs.NamedBits as grammar;
+ghost use Rattle.x509_prim_flags.specs.SetOrder.{named_order, unused_of};
 
 use bitflags::Flags;
+use std::cmp::Ordering;
 use x509_der_grammar::{Error, ErrorKind, Room, Tag};
 
 /// A flag type of which bit n stands for the named bit n of a BIT STRING.
@@ -119,4 +122,35 @@ pub fn put_named_bits<T: NamedBits, R: Room>(value: &T, room: &mut R) -> Result<
         return Err(ErrorKind::Value.into());
     }
     put_set(value.bits(), room)
+}
+
+/// How many bits the content of the set says to be unused.
+#[tactic(auto, unfolding(crate::specs::SetOrder::unused_of))]
+fn unused_bits(set: u16) -> u8
+    ensures { result ≡ unused_of set }
+{
+    match set {
+        0 => 0,
+        1..=255 => unused_after(set as u8),
+        _ => unused_after((set / 256) as u8),
+    }
+}
+
+/// The byte order of the contents of two sets. An octet that one of them lacks is zero here: the last octet of a
+/// content never is.
+#[tactic(auto, using(crate::specs::SetOrder::sets_cmp))]
+fn cmp_sets(a: u16, b: u16) -> Ordering
+    ensures { result ≡ bytes_cmp (grammar.set_octets a) (grammar.set_octets b) }
+{
+    let low = turn((a % 256) as u8).cmp(&turn((b % 256) as u8));
+    let high = turn((a / 256) as u8).cmp(&turn((b / 256) as u8));
+    unused_bits(a).cmp(&unused_bits(b)).then(low).then(high)
+}
+
+/// The byte order of the contents of the values. It takes no memory. Values with bits that have no name stand where
+/// these bits would put them.
+pub fn cmp_named_bits<T: NamedBits>(a: &T, b: &T) -> Ordering
+    ensures { result ≡ named_order T.of_set T.set_of T.table a.now b.now }
+{
+    cmp_sets(a.bits(), b.bits()).then(a.bits().cmp(&b.bits()))
 }

@@ -2,11 +2,13 @@
 
 ghost use Rattle.std.specs.Prelude.{⊤, [], ◌∷◌, codes};
 
-use crate::{NamedBits, put_named_bits, read_named_bits};
+use crate::{NamedBits, cmp_named_bits, put_named_bits, read_named_bits};
 use bitflags::{Flag, Flags, bitflag_items};
 use std::alloc::Global;
+use std::cmp::Ordering;
 use std::test::*;
 use x509_der_grammar::{Decode, Encode, Error, ErrorKind, Grammar, Room, Tag};
+use x509_der_order::{DerOrd, ValueOrd};
 
 /// Three named bits.
 #[derive(Clone, Copy, PartialEq, Eq, Debug)]
@@ -92,6 +94,21 @@ impl Encode for Trio {
     ghost same_tag = { λ value. refl };
 }
 
+impl ValueOrd for Trio {
+    ghost use Rattle.std.specs.Prelude.{[], ◌∷◌, codes, refl};
+    ghost use Rattle.x509_der_grammar.specs.Writing.{writes, respelling};
+    ghost use Rattle.x509_prim_flags.specs.NamedBits.{named_written};
+    ghost use Rattle.x509_prim_flags.specs.SetOrder.{named_order, named_ordered};
+
+    ghost order = { named_order (λ set. record { 0 = set }) (λ trio. trio.0) ((codes "FIRST", 1) ∷ (codes "SECOND", 2) ∷ (codes "THIRD", 4) ∷ []) };
+
+    fn value_cmp(&self, other: &Trio) -> Ordering {
+        cmp_named_bits(self, other)
+    }
+
+    ghost ordered = { named_ordered (λ set. record { 0 = set }) (λ trio. trio.0) ((codes "FIRST", 1) ∷ (codes "SECOND", 2) ∷ (codes "THIRD", 4) ∷ []) (λ value. refl) (writes (respelling (named_written (λ trio. trio.0) ((codes "FIRST", 1) ∷ (codes "SECOND", 2) ∷ (codes "THIRD", 4) ∷ [])))) };
+}
+
 /// Whether the bytes are read as the value, and written again as they were.
 fn stays(rt: &HostRuntime, bytes: &[u8], value: Trio) -> Result<bool, Fail> {
     let read = Trio::from_der(rt.alloc(), bytes)?;
@@ -138,5 +155,28 @@ fn bits_without_names(rt: HostRuntime) -> Result<(), Fail> {
     assert!(rt; is_refused(unnamed.to_der(rt.alloc()), ErrorKind::Value));
     assert!(rt; is_refused(unnamed.encoded_len(), ErrorKind::Value));
     assert!(rt; is_refused(unnamed.value_len(), ErrorKind::Value));
+    Ok(())
+}
+
+#[test]
+fn flags_in_order(rt: HostRuntime) -> Result<(), Fail> {
+    let unnamed = Trio::from_bits_retain(9);
+    let high = Trio::from_bits_retain(0x0100);
+    for row in [
+        (Trio::empty(), Trio::FIRST, Ordering::Less, Ordering::Less),
+        (
+            Trio::FIRST,
+            Trio::SECOND,
+            Ordering::Greater,
+            Ordering::Greater,
+        ),
+        (Trio::THIRD, Trio::all(), Ordering::Less, Ordering::Less),
+        (Trio::all(), Trio::all(), Ordering::Equal, Ordering::Equal),
+        (unnamed, Trio::all(), Ordering::Greater, Ordering::Less),
+        (unnamed, high, Ordering::Less, Ordering::Less),
+    ] {
+        let (a, b, by_encoding, by_content) = row;
+        assert!(rt; a.der_cmp(&b) == by_encoding && a.value_cmp(&b) == by_content);
+    }
     Ok(())
 }

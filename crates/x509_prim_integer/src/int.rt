@@ -12,12 +12,14 @@ ghost use Rattle.x509_prim_integer.specs.Integer.{is_integer};
 use crate::content::check_integer;
 use crate::uint::Uint;
 use std::alloc::Global;
+use std::cmp::Ordering;
 use std::fmt;
 use std::hash::{Hash, Hasher};
 use std::marker::Model;
 use x509_der_grammar::{
     Bytes, Decode, Encode, Error, ErrorKind, FixedTag, Grammar, Room, Tag, TryClone,
 };
+use x509_der_order::ValueOrd;
 
 /// A whole number of any size (X.690 8.3). Contracts see its content octets.
 #[derive(Drop)]
@@ -106,6 +108,20 @@ impl Encode for Int {
     }
 
     ghost same_tag = { λ value. refl };
+}
+
+impl ValueOrd for Int {
+    ghost use Rattle.x509_prim_integer.specs.Integer.{integer};
+    ghost use Rattle.x509_der_grammar.specs.Writing.{plain, writes};
+    ghost use Rattle.x509_der_order.specs.Ordered.{by_bytes, by_bytes_lawful};
+
+    ghost order = { by_bytes integer };
+
+    fn value_cmp(&self, other: &Int) -> Ordering {
+        self.content.as_slice().cmp(other.content.as_slice())
+    }
+
+    ghost ordered = { by_bytes_lawful integer (writes plain) (λ x y p q. q) };
 }
 
 impl FixedTag for Int {

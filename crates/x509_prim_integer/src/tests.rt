@@ -1,8 +1,10 @@
 //! Rows of bytes, and each call once with ample memory.
 
 use crate::*;
+use std::cmp::Ordering;
 use std::test::*;
 use x509_der_grammar::{Decode, Encode, Error, ErrorKind, TryClone};
+use x509_der_order::{DerOrd, ValueOrd};
 
 /// Whether the bytes are read, and written again as they were.
 fn stays<T: Decode + Encode + Drop>(rt: &HostRuntime, bytes: &[u8]) -> Result<bool, Fail> {
@@ -64,5 +66,16 @@ fn naturals(rt: HostRuntime) -> Result<(), Fail> {
         [0x00].as_slice()
     );
     assert!(rt; is_refused(Uint::new(rt.alloc(), &[]), ErrorKind::Value));
+    Ok(())
+}
+
+#[test]
+fn integers_in_order(rt: HostRuntime) -> Result<(), Fail> {
+    let low = Uint::new(rt.alloc(), &[127])?;
+    let high = Uint::new(rt.alloc(), &[128])?;
+    assert!(rt; low.der_cmp(&high) == Ordering::Less && low.value_cmp(&high) == Ordering::Greater);
+    let one = Int::new(rt.alloc(), &[1])?;
+    let below = Int::new(rt.alloc(), &[0xFF])?;
+    assert!(rt; one.der_cmp(&below) == Ordering::Less && one.value_cmp(&below) == Ordering::Less);
     Ok(())
 }

@@ -11,12 +11,14 @@ ghost use Rattle.x509_prim_integer.specs.Integer.{is_natural, number, with_sign,
 
 use crate::content::{check_natural, is_signed, strip_zeros};
 use std::alloc::Global;
+use std::cmp::Ordering;
 use std::fmt;
 use std::hash::{Hash, Hasher};
 use std::marker::Model;
 use x509_der_grammar::{
     Bytes, Decode, Encode, Error, ErrorKind, FixedTag, Grammar, Room, Tag, TryClone,
 };
+use x509_der_order::ValueOrd;
 
 /// A whole number of any size that is not negative (X.690 8.3). Contracts see its content octets.
 #[derive(Drop)]
@@ -121,6 +123,20 @@ impl Encode for Uint {
     }
 
     ghost same_tag = { λ value. refl };
+}
+
+impl ValueOrd for Uint {
+    ghost use Rattle.x509_prim_integer.specs.Integer.{natural};
+    ghost use Rattle.x509_der_grammar.specs.Writing.{plain, writes};
+    ghost use Rattle.x509_der_order.specs.Ordered.{by_bytes, by_bytes_lawful};
+
+    ghost order = { by_bytes natural };
+
+    fn value_cmp(&self, other: &Uint) -> Ordering {
+        self.content.as_slice().cmp(other.content.as_slice())
+    }
+
+    ghost ordered = { by_bytes_lawful natural (writes plain) (λ x y p q. q) };
 }
 
 impl FixedTag for Uint {

@@ -1,5 +1,5 @@
 -- The contents of bit strings are read as they are written.
-use Rattle.std.proofs.Common.{◌≡◌, ℕ, true, List, [], ◌∷◌, Ok, Err, refl, sym, subst, inl, inr}
+use Rattle.std.proofs.Common.{◌≡◌, ℕ, true, List, [], ◌∷◌, Ok, Err, refl, sym, ap, subst, inl, inr}
 use Rattle.x509_der_grammar.specs.declared.error.ErrorKind.{ErrorKind}
 use Rattle.x509_der_grammar.specs.declared.error.ErrorKind.TheVariants.{Malformed}
 use Rattle.x509_der_grammar.specs.Element.{is_identifier, is_universal}
@@ -33,3 +33,17 @@ bit_string_content_lawful = record { sound = bit_string_sound; complete = bit_st
 
 pub bit_string_lawful : {R : ErrorKind → Type 0} → IsForm R bit_string
 bit_string_lawful = universal_lawful bit_string_content bit_string_content_lawful
+
+-- no two bit strings share a content
+pub one_bit_string : (x y : BitParts) → x.unused ∷ x.octets ≡ y.unused ∷ y.octets → x ≡ y
+one_bit_string x y e =
+    let first : x.unused ≡ y.unused = ap head e in
+    let others : x.octets ≡ y.octets = ap tail e in
+    λ i. record { unused = first i; octets = others i }
+  where
+    head : List ℕ → ℕ
+    head [] = 0
+    head (octet ∷ octets) = octet
+    tail : List ℕ → List ℕ
+    tail [] = []
+    tail (octet ∷ octets) = octets

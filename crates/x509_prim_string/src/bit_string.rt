@@ -5,11 +5,13 @@ ghost use Rattle.x509_der_grammar.specs.declared.error.ErrorKind.TheVariants as 
 ghost use Rattle.x509_prim_string.specs.BitString as grammar;
 
 use std::alloc::Global;
+use std::cmp::Ordering;
 use std::fmt;
 use std::marker::Model;
 use x509_der_grammar::{
     Bytes, Decode, Encode, Error, ErrorKind, FixedTag, Grammar, Room, Tag, TryClone, expect_tag,
 };
+use x509_der_order::ValueOrd;
 
 /// A list of bits (X.690 8.6). Contracts see the octets in which they stand, bit 8 of the first octet first, and
 /// how many bits of the last octet are unused; those are zero (X.690 11.2.1).
@@ -155,6 +157,23 @@ impl FixedTag for BitString {
     const TAG: Tag = Tag::BitString;
 
     ghost fixed = { λ value good. refl };
+}
+
+impl ValueOrd for BitString {
+    ghost use Rattle.x509_der_grammar.specs.Writing.{plain, writes};
+    ghost use Rattle.x509_der_order.specs.Ordered.{by_bytes, by_bytes_lawful};
+    ghost use Rattle.x509_prim_string.specs.BitString.{bit_string};
+    ghost use Rattle.x509_prim_string.specs.BitStringLaws.{one_bit_string};
+
+    ghost order = { by_bytes bit_string };
+
+    fn value_cmp(&self, other: &BitString) -> Ordering {
+        self.unused
+            .cmp(&other.unused)
+            .then(self.raw_bytes().cmp(other.raw_bytes()))
+    }
+
+    ghost ordered = { by_bytes_lawful bit_string (writes plain) (λ x y p q. one_bit_string x y q) };
 }
 
 impl TryClone for BitString {

@@ -12,12 +12,14 @@ ghost use Rattle.x509_der_grammar.specs.Form.{spelling};
 ghost use Rattle.x509_prim_string.specs.OctetString.{octet_string};
 
 use std::alloc::Global;
+use std::cmp::Ordering;
 use std::fmt;
 use std::hash::{Hash, Hasher};
 use std::marker::Model;
 use x509_der_grammar::{
     Bytes, Decode, Encode, Error, FixedTag, Grammar, Room, Tag, TryClone, check_content, expect_tag,
 };
+use x509_der_order::ValueOrd;
 
 /// Any octets (X.690 8.7). Contracts see their list.
 #[derive(Drop)]
@@ -106,6 +108,20 @@ impl Encode for OctetString {
     }
 
     ghost same_tag = { λ value. refl };
+}
+
+impl ValueOrd for OctetString {
+    ghost use Rattle.x509_prim_string.specs.OctetString.{octet_string};
+    ghost use Rattle.x509_der_grammar.specs.Writing.{plain, writes};
+    ghost use Rattle.x509_der_order.specs.Ordered.{by_bytes, by_bytes_lawful};
+
+    ghost order = { by_bytes octet_string };
+
+    fn value_cmp(&self, other: &OctetString) -> Ordering {
+        self.as_bytes().cmp(other.as_bytes())
+    }
+
+    ghost ordered = { by_bytes_lawful octet_string (writes plain) (λ x y p q. q) };
 }
 
 impl FixedTag for OctetString {

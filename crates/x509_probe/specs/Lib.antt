@@ -1,3 +1,4 @@
 pub mod Probe
+pub mod Purposes
 pub mod TenFields
 pub mod Number

@@ -3,10 +3,12 @@
 
 mod number;
 mod probe;
+mod purposes;
 mod ten_fields;
 #[cfg(test)]
 mod tests;
 
 pub use number::Number;
 pub use probe::Probe;
+pub use purposes::Purposes;
 pub use ten_fields::TenFields;

@@ -1,6 +1,9 @@
 use super::*;
+use std::cmp::Ordering;
 use std::test::*;
-use x509_der::{Any, Decode, Encode, ErrorKind, ObjectIdentifier, SequenceOf, Tag, TryClone};
+use x509_der::{
+    Any, Decode, DerOrd, Encode, ErrorKind, ObjectIdentifier, SequenceOf, SetOfVec, Tag, TryClone,
+};
 use x509_prim_string::OctetString;
 
 /// Reads the bytes and writes the value again, in each way.
@@ -256,5 +259,40 @@ fn lengths(rt: HostRuntime) -> Result<(), Fail> {
     assert!(rt; begins(&rt, 256, &[4, 0x82, 1, 0])?);
     assert!(rt; begins(&rt, 65_535, &[4, 0x82, 0xFF, 0xFF])?);
     assert!(rt; begins(&rt, 65_536, &[4, 0x83, 1, 0, 0])?);
+    Ok(())
+}
+
+/// How the encodings and the contents of two elements compare.
+fn compared<T: Decode + DerOrd + Drop>(
+    rt: &HostRuntime,
+    a: &[u8],
+    b: &[u8],
+) -> Result<(Ordering, Ordering), Fail> {
+    let a = T::from_der(rt.alloc(), a)?;
+    let b = T::from_der(rt.alloc(), b)?;
+    Ok((a.der_cmp(&b), a.value_cmp(&b)))
+}
+
+#[test]
+fn elements_in_order(rt: HostRuntime) -> Result<(), Fail> {
+    let less = Ordering::Less;
+    let more = Ordering::Greater;
+    assert!(rt; compared::<Any>(&rt, &[4, 1, 5], &[2, 1, 5])? == (more, Ordering::Equal));
+    assert!(rt; compared::<Any>(&rt, &[4, 1, 0xFF], &[4, 2, 0, 0])? == (less, more));
+    assert!(rt;
+        compared::<SequenceOf<u32>>(&rt, &[0x30, 3, 2, 1, 7], &[0x30, 6, 2, 1, 7, 2, 1, 0])?
+            == (less, less)
+    );
+    assert!(rt;
+        compared::<Purposes>(&rt, &[0x30, 3, 6, 1, 0x2A], &[0x30, 4, 6, 2, 0x2A, 3])? == (less, less)
+    );
+    Ok(())
+}
+
+#[test]
+fn purposes(rt: HostRuntime) -> Result<(), Fail> {
+    assert!(rt; same::<Purposes>(&rt, &[0x30, 7, 6, 1, 0x2A, 6, 2, 0x2A, 3])?);
+    assert!(rt; is_malformed::<Purposes>(&rt, &[0x31, 3, 6, 1, 0x2A]));
+    assert!(rt; same::<SetOfVec<Any>>(&rt, &[0x31, 5, 4, 1, 0x41, 5, 0])?);
     Ok(())
 }

@@ -1,7 +1,9 @@
 use super::{is_malformed, is_refused, stays};
 use crate::BitString;
+use std::cmp::Ordering;
 use std::test::*;
 use x509_der_grammar::{ErrorKind, TryClone};
+use x509_der_order::{DerOrd, ValueOrd};
 
 #[test]
 fn bit_strings(rt: HostRuntime) -> Result<(), Fail> {
@@ -27,5 +29,16 @@ fn bit_string_calls(rt: HostRuntime) -> Result<(), Fail> {
     assert!(rt; is_refused(BitString::new(rt.alloc(), 1, &[]), ErrorKind::Value));
     assert!(rt; is_refused(BitString::new(rt.alloc(), 8, &[0]), ErrorKind::Value));
     assert!(rt; is_refused(BitString::new(rt.alloc(), 1, &[1]), ErrorKind::Value));
+    Ok(())
+}
+
+#[test]
+fn bit_strings_in_order(rt: HostRuntime) -> Result<(), Fail> {
+    let eight = BitString::new(rt.alloc(), 0, &[0xFF])?;
+    let four = BitString::new(rt.alloc(), 4, &[0x10])?;
+    let more = BitString::new(rt.alloc(), 0, &[0xFF, 0x00])?;
+    assert!(rt; eight.der_cmp(&four) == Ordering::Less);
+    assert!(rt; four.der_cmp(&more) == Ordering::Less && four.value_cmp(&more) == Ordering::Greater);
+    assert!(rt; more.value_cmp(&eight) == Ordering::Greater);
     Ok(())
 }

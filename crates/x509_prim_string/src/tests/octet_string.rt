@@ -1,7 +1,9 @@
 use super::{is_malformed, stays};
 use crate::OctetString;
+use std::cmp::Ordering;
 use std::test::*;
 use x509_der_grammar::{Encode, TryClone};
+use x509_der_order::{DerOrd, ValueOrd};
 
 /// The first octets of the element of that many octets.
 fn front(rt: &HostRuntime, len: usize) -> Result<Vec<u8>, Fail> {
@@ -57,5 +59,15 @@ fn octet_string_calls(rt: HostRuntime) -> Result<(), Fail> {
     assert!(rt; copy == string);
     assert_eq!(rt; copy.as_bytes(), [1, 2, 3].as_slice());
     assert_eq!(rt; copy.into_bytes().as_slice(), [1, 2, 3].as_slice());
+    Ok(())
+}
+
+#[test]
+fn octet_strings_in_order(rt: HostRuntime) -> Result<(), Fail> {
+    let short = OctetString::from_vec(Vec::from_elem(rt.alloc(), 0xFF, 127)?)?;
+    let long = OctetString::from_vec(Vec::from_elem(rt.alloc(), 0x00, 128)?)?;
+    assert!(rt; short.der_cmp(&long) == Ordering::Less);
+    assert!(rt; short.value_cmp(&long) == Ordering::Greater);
+    assert!(rt; long.der_cmp(&long) == Ordering::Equal);
     Ok(())
 }

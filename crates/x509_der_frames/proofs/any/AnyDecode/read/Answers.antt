@@ -1,4 +1,3 @@
-use Rattle.std.proofs.Common.{sym}
 use Rattle.x509_der_frames.specs.Any.{any_found}
 use Rattle.x509_der_frames.proofs.any.AnyDecode.read.Goals as goal
 

@@ -1,0 +1,13 @@
+//! The byte order of strict DER: of contents and of encodings, without encoding (X.690 11.6).
+#![tactic(auto)]
+
+pub mod laws;
+mod members;
+mod number;
+mod order;
+#[cfg(test)]
+mod tests;
+
+pub use members::cmp_members;
+pub use number::cmp_naturals;
+pub use order::{DerOrd, ValueOrd};

@@ -1,0 +1,25 @@
+//! Members one after the other.
+
+ghost use Rattle.std.specs.Prelude.{◌≡◌};
+ghost use Rattle.x509_der_grammar.specs.Writing.{writes};
+ghost use Rattle.x509_der_order.specs.Order.{der_order};
+ghost use Rattle.x509_der_order.specs.Ordered.{by_members};
+
+use crate::order::DerOrd;
+use std::cmp::Ordering;
+
+/// The byte order of the elements of the members, one after the other: by the first members that differ, and members
+/// that begin others stand before them.
+pub fn cmp_members<T: DerOrd>(a: &[T], b: &[T]) -> Ordering
+    ensures { result ≡ by_members (der_order T.form (writes T.writing) T.order) a.now b.now }
+{
+    let mut i = 0;
+    while i < a.len() && i < b.len() {
+        let order = a[i].der_cmp(&b[i]);
+        if !order.is_eq() {
+            return order;
+        }
+        i += 1;
+    }
+    a.len().cmp(&b.len())
+}

@@ -1,0 +1,10 @@
+//! Sets of strict DER: SET OF (X.690 8.12, 11.6).
+#![tactic(auto)]
+
+pub mod laws;
+mod places;
+mod set;
+#[cfg(test)]
+mod tests;
+
+pub use set::SetOfVec;
