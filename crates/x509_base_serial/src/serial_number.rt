@@ -21,6 +21,7 @@ use x509_der_grammar::{Decode, Encode, Error, ErrorKind, FixedTag, Grammar, Room
 use x509_der_order::{DerOrd, ValueOrd};
 use x509_prim_integer::{Int, Uint, strip_zeros};
 
+/// The most content octets of a number that is made here.
 const MOST_OCTETS: usize = 20;
 
 /// The number that the issuer of a certificate gave it (RFC 5280 4.1.2.2). Reading asks the profile whether the content
@@ -69,11 +70,7 @@ impl<P: Profile> SerialNumber<P> {
         Ok(SerialNumber::from_number(Int::from(Uint::new(alloc, octets)?)))
     }
 
-    /// The number.
-    ///
-    /// # Errors
-    ///
-    /// Memory may be refused, and nothing else; so for the other number types.
+    /// The serial number with that value. Memory may be refused, and nothing else.
     pub fn from_u8(alloc: Global, number: u8) -> Result<SerialNumber<P>, Error>
         ensures ok { IfOk result (λ serial. serial ≡ natural_octets number) }
         ensures err { IfErr result (λ e. e.kind ≡ errors.Memory) }
@@ -81,7 +78,7 @@ impl<P: Profile> SerialNumber<P> {
         SerialNumber::from_u16(alloc, u16::from(number))
     }
 
-    /// The number.
+    /// The serial number with that value. Memory may be refused, and nothing else.
     pub fn from_u16(alloc: Global, number: u16) -> Result<SerialNumber<P>, Error>
         ensures ok { IfOk result (λ serial. serial ≡ natural_octets number) }
         ensures err { IfErr result (λ e. e.kind ≡ errors.Memory) }
@@ -89,7 +86,7 @@ impl<P: Profile> SerialNumber<P> {
         SerialNumber::from_u32(alloc, u32::from(number))
     }
 
-    /// The number.
+    /// The serial number with that value. Memory may be refused, and nothing else.
     pub fn from_u32(alloc: Global, number: u32) -> Result<SerialNumber<P>, Error>
         ensures ok { IfOk result (λ serial. serial ≡ natural_octets number) }
         ensures err { IfErr result (λ e. e.kind ≡ errors.Memory) }
@@ -97,7 +94,7 @@ impl<P: Profile> SerialNumber<P> {
         SerialNumber::from_u64(alloc, u64::from(number))
     }
 
-    /// The number.
+    /// The serial number with that value. Memory may be refused, and nothing else.
     #[tactic(auto, using(crate::proofs::Numbers::u64_content))]
     pub fn from_u64(alloc: Global, number: u64) -> Result<SerialNumber<P>, Error>
         ensures ok { IfOk result (λ serial. serial ≡ natural_octets number) }
@@ -107,7 +104,7 @@ impl<P: Profile> SerialNumber<P> {
         Ok(SerialNumber::from_number(Int::from(uint)))
     }
 
-    /// The number.
+    /// The serial number with that value. Memory may be refused, and nothing else.
     pub fn from_usize(alloc: Global, number: usize) -> Result<SerialNumber<P>, Error>
         ensures ok { IfOk result (λ serial. serial ≡ natural_octets number) }
         ensures err { IfErr result (λ e. e.kind ≡ errors.Memory) }
