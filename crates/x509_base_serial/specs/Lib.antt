@@ -1,3 +1,4 @@
 pub mod Checked
 pub mod Serial
 pub mod Fills
+pub mod SerialOrder

@@ -12,13 +12,16 @@ ghost use Rattle.x509_prim_integer.specs.Integer.{is_integer, number, with_sign}
 ghost use Rattle.x509_base_serial.specs.Serial.{number_content};
 
 use std::alloc::Global;
+use std::cmp::Ordering;
 use std::fmt;
 use std::hash::{Hash, Hasher};
 use std::marker::{Model, PhantomData};
 use x509_base_validity::{Profile, Rfc5280};
 use x509_der_grammar::{Decode, Encode, Error, ErrorKind, FixedTag, Grammar, Room, Tag, TryClone};
+use x509_der_order::{DerOrd, ValueOrd};
 use x509_prim_integer::{Int, Uint, strip_zeros};
 
+/// The most content octets of a number that is made here.
 const MOST_OCTETS: usize = 20;
 
 /// The number that the issuer of a certificate gave it (RFC 5280 4.1.2.2). Reading asks the profile whether the content
@@ -67,11 +70,7 @@ impl<P: Profile> SerialNumber<P> {
         Ok(SerialNumber::from_number(Int::from(Uint::new(alloc, octets)?)))
     }
 
-    /// The number.
-    ///
-    /// # Errors
-    ///
-    /// Memory may be refused, and nothing else; so for the other number types.
+    /// The serial number with that value. Memory may be refused, and nothing else.
     pub fn from_u8(alloc: Global, number: u8) -> Result<SerialNumber<P>, Error>
         ensures ok { IfOk result (λ serial. serial ≡ natural_octets number) }
         ensures err { IfErr result (λ e. e.kind ≡ errors.Memory) }
@@ -79,7 +78,7 @@ impl<P: Profile> SerialNumber<P> {
         SerialNumber::from_u16(alloc, u16::from(number))
     }
 
-    /// The number.
+    /// The serial number with that value. Memory may be refused, and nothing else.
     pub fn from_u16(alloc: Global, number: u16) -> Result<SerialNumber<P>, Error>
         ensures ok { IfOk result (λ serial. serial ≡ natural_octets number) }
         ensures err { IfErr result (λ e. e.kind ≡ errors.Memory) }
@@ -87,7 +86,7 @@ impl<P: Profile> SerialNumber<P> {
         SerialNumber::from_u32(alloc, u32::from(number))
     }
 
-    /// The number.
+    /// The serial number with that value. Memory may be refused, and nothing else.
     pub fn from_u32(alloc: Global, number: u32) -> Result<SerialNumber<P>, Error>
         ensures ok { IfOk result (λ serial. serial ≡ natural_octets number) }
         ensures err { IfErr result (λ e. e.kind ≡ errors.Memory) }
@@ -95,7 +94,7 @@ impl<P: Profile> SerialNumber<P> {
         SerialNumber::from_u64(alloc, u64::from(number))
     }
 
-    /// The number.
+    /// The serial number with that value. Memory may be refused, and nothing else.
     #[tactic(auto, using(crate::proofs::Numbers::u64_content))]
     pub fn from_u64(alloc: Global, number: u64) -> Result<SerialNumber<P>, Error>
         ensures ok { IfOk result (λ serial. serial ≡ natural_octets number) }
@@ -105,7 +104,7 @@ impl<P: Profile> SerialNumber<P> {
         Ok(SerialNumber::from_number(Int::from(uint)))
     }
 
-    /// The number.
+    /// The serial number with that value. Memory may be refused, and nothing else.
     pub fn from_usize(alloc: Global, number: usize) -> Result<SerialNumber<P>, Error>
         ensures ok { IfOk result (λ serial. serial ≡ natural_octets number) }
         ensures err { IfErr result (λ e. e.kind ≡ errors.Memory) }
@@ -217,6 +216,53 @@ impl<P: Profile> PartialEq for SerialNumber<P> {
 
 impl<P: Profile> Eq for SerialNumber<P> {
     ghost laws = { nat_list_eq_equiv };
+}
+
+impl<P: Profile> ValueOrd for SerialNumber<P> {
+    ghost use Rattle.x509_der_grammar.specs.Writing.{plain, writes};
+    ghost use Rattle.x509_der_order.specs.Ordered.{by_bytes};
+    ghost use Rattle.x509_base_serial.specs.Serial.{serial_number};
+    ghost use Rattle.x509_base_serial.specs.SerialOrder.{serial_ordered};
+
+    ghost order = { by_bytes (serial_number P.serial_check) };
+
+    fn value_cmp(&self, other: &SerialNumber<P>) -> Ordering {
+        self.as_bytes().cmp(other.as_bytes())
+    }
+
+    ghost ordered = { serial_ordered P.serial_check (writes plain) };
+}
+
+/// By the encodings, as [`DerOrd`] compares them.
+impl<P: Profile> Ord for SerialNumber<P> {
+    ghost use Rattle.std.specs.Prelude.{refl};
+    ghost use Rattle.x509_base_serial.specs.SerialOrder.{serial_order, serial_total, serial_ties};
+
+    ghost cmp = { serial_order P.serial_check };
+
+    ghost total = { serial_total P.serial_check };
+
+    ghost matches_partial_cmp = { λ x y. refl };
+
+    ghost matches_eq = { serial_ties P.serial_check };
+
+    fn cmp(&self, other: &SerialNumber<P>) -> Ordering {
+        self.der_cmp(other)
+    }
+}
+
+impl<P: Profile> PartialOrd for SerialNumber<P> {
+    ghost use Rattle.std.specs.Ordering.{as_partial_cmp};
+    ghost use Rattle.std.specs.Cmp.{po};
+    ghost use Rattle.x509_base_serial.specs.SerialOrder.{serial_order, serial_total, serial_ties};
+
+    ghost partial_cmp = { as_partial_cmp (serial_order P.serial_check) };
+
+    ghost laws = { po (serial_total P.serial_check) (serial_ties P.serial_check) };
+
+    fn partial_cmp(&self, other: &SerialNumber<P>) -> Option<Ordering> {
+        Some(self.cmp(other))
+    }
 }
 
 impl<P: Profile> Hash for SerialNumber<P> {

@@ -4,9 +4,11 @@ mod source;
 
 use crate::SerialNumber;
 use source::Source;
+use std::cmp::Ordering;
 use std::test::Fail;
 use x509_base_validity::{Profile, Raw, Rfc5280, Time};
 use x509_der_grammar::{Decode, Encode, Error, ErrorKind, FixedTag, Tag, TryClone};
+use x509_der_order::ValueOrd;
 use x509_prim_integer::Int;
 
 /// A profile that refuses serial numbers below 0.
@@ -223,5 +225,16 @@ fn copies_and_conversions(rt: HostRuntime) -> Result<(), Fail> {
     assert_eq!(rt; SerialNumber::<Rfc5280>::TAG, Tag::Integer);
     assert_eq!(rt; format!(in rt.alloc(); "{serial:?}")?.as_str(), "[5]");
     assert_eq!(rt; Int::from(serial).as_bytes(), b"\x05".as_slice());
+    Ok(())
+}
+
+#[test]
+fn order_of_encodings(rt: HostRuntime) -> Result<(), Fail> {
+    let one = SerialNumber::<Raw>::from_u8(rt.alloc(), 1)?;
+    let long = SerialNumber::<Raw>::from_u8(rt.alloc(), 0x80)?;
+    let negative = SerialNumber::<Raw>::from_der(rt.alloc(), b"\x02\x01\xFF")?;
+    assert!(rt; one < negative && negative < long);
+    assert_eq!(rt; long.value_cmp(&one), Ordering::Less);
+    assert_eq!(rt; negative.cmp(&negative), Ordering::Equal);
     Ok(())
 }
