@@ -7,8 +7,8 @@ use Rattle.std.proofs.lemmas.Bool.{cases_Bool, lt-ltb, le-leb}
 use Rattle.std.proofs.lemmas.Bool.Decides.{nat_tests}
 use Rattle.x509_der_grammar.specs.Natural.{natural_octets, natural_reading, number_after, are_octets, is_shortest}
 use Rattle.x509_der_grammar.specs.NaturalLaws.{natural_content_lawful}
-use Rattle.x509_prim_integer.specs.Integer.{is_integer, is_natural, number, with_sign, without_zeros}
-use Rattle.x509_prim_integer.proofs.Naturals.{number-content, is_natural-content}
+use Rattle.x509_prim_integer.specs.Integer.{is_integer, is_unsigned, number, with_sign, without_zeros}
+use Rattle.x509_prim_integer.proofs.Naturals.{number-content, is_unsigned-content}
 
 both : (a b : Bool) → a ≡ true → b ≡ true → (a && b) ≡ true
 both a b p q = rw (p, q) refl
@@ -45,8 +45,8 @@ length_with_sign (first ∷ octets) = elim (cases_Bool (nat_le 0x80 first)) [ in
 pub length_content : (octets : List ℕ) → length (with_sign (without_zeros octets)) ≤ length octets + 1
 length_content octets = let a = length_without_zeros octets in let b = length_with_sign (without_zeros octets) in omega arith
 
-shortest : (octets : List ℕ) → are_octets octets ≡ true → is_natural octets ≡ true → is_shortest octets ≡ true
-unfolding is_natural is_integer
+shortest : (octets : List ℕ) → are_octets octets ≡ true → is_unsigned octets ≡ true → is_shortest octets ≡ true
+unfolding is_unsigned is_integer
 shortest [] o h = absurd cc
 shortest (a ∷ []) o h = grind (arith, nat_tests)
 shortest (a ∷ b ∷ octets) o h = grind (arith, nat_tests)
@@ -59,7 +59,7 @@ content_is octets n o some few small is =
     let all = octets_with_sign (without_zeros octets) (octets_without_zeros octets o) in
     let value : number_after 0 content ≡ n = number_after-fold 0 content ∙ number-content octets ∙ is in
     let fits : length content ≤ 17 = let l = length_content octets in omega arith in
-    let good = both (are_octets content) _ all (both (is_shortest content) _ (shortest content all (is_natural-content octets some)) (le-leb (length content) 17 fits)) in
+    let good = both (are_octets content) _ all (both (is_shortest content) _ (shortest content all (is_unsigned-content octets some)) (le-leb (length content) 17 fits)) in
     let read : natural_reading (2 ^ 128) content ≡ Ok n = rw (good, value, lt-ltb n (2 ^ 128) small) refl in
     ((natural_content_lawful {R = λ e. ⊥} (2 ^ 128) (omega arith)).sound content n read).1
 

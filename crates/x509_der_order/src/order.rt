@@ -36,11 +36,15 @@ pub trait DerOrd: ValueOrd {
     fn der_cmp(&self, other: &Self) -> Ordering
         ensures { result ≡ der_order Self.form (writes Self.writing) Self.order self.now other.now }
     {
-        self.identifier()
-            .octet()
-            .cmp(&other.identifier().octet())
-            .then(counted_len(self).cmp(&counted_len(other)))
-            .then(self.value_cmp(other))
+        let by_tag = self.identifier().octet().cmp(&other.identifier().octet());
+        if by_tag.is_ne() {
+            return by_tag;
+        }
+        let by_length = counted_len(self).cmp(&counted_len(other));
+        if by_length.is_ne() {
+            return by_length;
+        }
+        self.value_cmp(other)
     }
 }
 

@@ -5,17 +5,16 @@ use Rattle.std.specs.Cmp.{IsEquivalence, IsTotalOrder, Equal-is, eq_by_cmp_equiv
 use Rattle.std.specs.Ordering.{eq_by_cmp}
 use Rattle.std.proofs.Common.{subst}
 use Rattle.x509_der_grammar.specs.declared.error.ErrorKind.{ErrorKind}
-use Rattle.x509_der_grammar.specs.Element.{limit}
 use Rattle.x509_der_grammar.specs.Form.{Form, IsForm, universal, spelling}
 use Rattle.x509_der_grammar.specs.FormLaws.{universal_lawful}
 use Rattle.x509_der_grammar.specs.Writing.{plain, writes}
 use Rattle.x509_der_order.specs.Order.{HasEncoding, Order, IsOrder, IsDerOrder, der_order}
-use Rattle.x509_der_order.specs.OrderLaws.{part_length}
-use Rattle.x509_der_order.specs.Ordered.{by_bytes, by_fields, by_fields_lawful, der_lawful}
+use Rattle.x509_der_order.specs.Ordered.{by_bytes, der_lawful}
 use Rattle.x509_der_oid.specs.ObjectIdentifierForm.{object_identifier, object_identifier_lawful, object_identifier_ordered}
 use Rattle.x509_der_frames.specs.Any.{any, any_lawful, any_ordered}
-use Rattle.x509_der_frames.specs.Frames.{Part, required, ◌⊗◌, fields, fields_octets, fields_good}
+use Rattle.x509_der_frames.specs.Frames.{Part, required, ◌⊗◌, fields}
 use Rattle.x509_der_frames.specs.FrameLaws.{required_lawful, pair_lawful, fields_lawful}
+use Rattle.x509_der_frames.specs.FieldsOrder.{by_two, two_ordered}
 use Rattle.x509_der_frames.specs.declared.any.Any.{Any}
 use Rattle.x509_name_attribute.specs.declared.type_and_value.AttributeTypeAndValue.{AttributeTypeAndValue}
 
@@ -31,34 +30,13 @@ type_and_value_lawful = universal_lawful _ (fields_lawful _ _ type_and_value_fie
 
 -- ---- the byte order
 
--- the order of object identifiers by their encodings
-abbrev pub type_order : Order (List ℕ)
-type_order = der_order object_identifier (writes plain) (by_bytes object_identifier)
-
--- the order of elements by their octets
-abbrev pub value_order : Order Any
-value_order = der_order any (writes plain) (by_bytes any)
-
 -- by the type, then by the value
 abbrev pub type_and_value_order : Order AttributeTypeAndValue
-type_and_value_order = by_fields (λ a. a.oid) type_order (λ a. a.value) value_order
-
-pub types_lawful : IsDerOrder (HasEncoding object_identifier (writes plain)) (spelling object_identifier) type_order
-types_lawful = der_lawful object_identifier (writes plain) (by_bytes object_identifier) (object_identifier_ordered (writes plain))
-
-values_lawful : IsDerOrder (HasEncoding any (writes plain)) (spelling any) value_order
-values_lawful = der_lawful any (writes plain) (by_bytes any) (any_ordered (writes plain))
-
-fields_there : (a : AttributeTypeAndValue) → HasEncoding attribute_type_and_value (writes plain) a → HasEncoding object_identifier (writes plain) a.oid × HasEncoding any (writes plain) a.value
-unfolding type_and_value_fields fields_octets fields_good
-fields_there a h =
-    let le = part_length 48 (spelling object_identifier a.oid) (spelling any a.value) limit h.2 in
-    ((h.0.0, refl, le.0), (h.0.1, refl, le.1))
+type_and_value_order = by_two (λ a. (a.oid, a.value)) object_identifier (by_bytes object_identifier) any (by_bytes any)
 
 pub type_and_value_ordered : IsOrder attribute_type_and_value (writes plain) type_and_value_order
-unfolding type_and_value_fields fields_octets
-type_and_value_ordered =
-    by_fields_lawful attribute_type_and_value (writes plain) (λ a. a.oid) (λ a. a.value) (λ x y p q i. record { oid = p i; value = q i }) (λ x. refl) fields_there types_lawful values_lawful
+unfolding type_and_value_fields
+type_and_value_ordered = two_ordered (λ a. (a.oid, a.value)) (λ x. record { oid = x.0; value = x.1 }) object_identifier (by_bytes object_identifier) any (by_bytes any) (λ a. refl) (object_identifier_ordered (writes plain)) (any_ordered (writes plain))
 
 -- ---- equality
 

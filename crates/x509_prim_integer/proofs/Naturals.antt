@@ -2,7 +2,7 @@
 use Rattle.std.proofs.Common.{◌≡◌, ℕ, ◌<◌, true, false, not, List, [], ◌∷◌, length, nat_eq, refl, ◌∙◌, inl, inr, arith}
 use Rattle.std.proofs.lemmas.Bool.{and_parts, cases_Bool, cases_lt, eqb-true}
 use Rattle.std.proofs.lemmas.Bool.Decides.{nat_tests}
-use Rattle.x509_prim_integer.specs.Integer.{is_integer, is_negative, is_natural, number, without_zeros, with_sign}
+use Rattle.x509_prim_integer.specs.Integer.{is_integer, is_negative, is_unsigned, number, without_zeros, with_sign}
 
 pub number-without_zeros : (octets : List ℕ) → number (without_zeros octets) ≡ number octets
 number-without_zeros [] = refl
@@ -23,24 +23,24 @@ some_octets [] h = h
 some_octets (first ∷ []) h = h
 some_octets (first ∷ second ∷ octets) h = elim (cases_Bool (nat_eq first 0)) [ inl zero ↦ rw zero (some_octets (second ∷ octets) (omega arith)) | inr some ↦ rw some (omega arith) ]
 
-one_natural : (first : ℕ) → is_natural (with_sign (first ∷ [])) ≡ true
-unfolding is_natural is_integer
+one_natural : (first : ℕ) → is_unsigned (with_sign (first ∷ [])) ≡ true
+unfolding is_unsigned is_integer
 one_natural first = elim (cases_lt first 128) [ inl low ↦ grind (arith, nat_tests) | inr high ↦ grind (arith, nat_tests) ]
 
-more_natural : (first second : ℕ) (octets : List ℕ) → nat_eq first 0 ≡ false → is_natural (with_sign (first ∷ second ∷ octets)) ≡ true
-unfolding is_natural is_integer
+more_natural : (first second : ℕ) (octets : List ℕ) → nat_eq first 0 ≡ false → is_unsigned (with_sign (first ∷ second ∷ octets)) ≡ true
+unfolding is_unsigned is_integer
 more_natural first second octets some = elim (cases_lt first 128) [ inl low ↦ grind (arith, nat_tests) | inr high ↦ grind (arith, nat_tests) ]
 
-pub is_natural-content : (octets : List ℕ) → 0 < length octets → is_natural (with_sign (without_zeros octets)) ≡ true
-is_natural-content [] h = absurd (omega arith)
-is_natural-content (first ∷ []) h = one_natural first
-is_natural-content (first ∷ second ∷ octets) h = elim (cases_Bool (nat_eq first 0)) [ inl zero ↦ rw zero (is_natural-content (second ∷ octets) (omega arith)) | inr some ↦ rw some (more_natural first second octets some) ]
+pub is_unsigned-content : (octets : List ℕ) → 0 < length octets → is_unsigned (with_sign (without_zeros octets)) ≡ true
+is_unsigned-content [] h = absurd (omega arith)
+is_unsigned-content (first ∷ []) h = one_natural first
+is_unsigned-content (first ∷ second ∷ octets) h = elim (cases_Bool (nat_eq first 0)) [ inl zero ↦ rw zero (is_unsigned-content (second ∷ octets) (omega arith)) | inr some ↦ rw some (more_natural first second octets some) ]
 
-pub is_natural-is_integer : (octets : List ℕ) → is_natural octets ≡ true → is_integer octets ≡ true
-unfolding is_natural
-is_natural-is_integer octets h = (and_parts (is_integer octets) (not (is_negative octets)) h).0
+pub is_unsigned-is_integer : (octets : List ℕ) → is_unsigned octets ≡ true → is_integer octets ≡ true
+unfolding is_unsigned
+is_unsigned-is_integer octets h = (and_parts (is_integer octets) (not (is_negative octets)) h).0
 
-pub is_natural-some : (octets : List ℕ) → is_natural octets ≡ true → 0 < length octets
-unfolding is_natural is_integer
-is_natural-some [] h = absurd cc
-is_natural-some (first ∷ octets) h = omega arith
+pub is_unsigned-some : (octets : List ℕ) → is_unsigned octets ≡ true → 0 < length octets
+unfolding is_unsigned is_integer
+is_unsigned-some [] h = absurd cc
+is_unsigned-some (first ∷ octets) h = omega arith

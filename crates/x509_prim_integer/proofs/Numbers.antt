@@ -5,8 +5,8 @@ use Rattle.std.proofs.lemmas.Bool.{cases_Bool, cases_lt, eqb-true, eqb-false, ne
 use Rattle.std.proofs.lemmas.Bool.Decides.{nat_tests}
 use Rattle.std.proofs.lemmas.List.{take-append-drop}
 use Rattle.std.proofs.lemmas.List.Elements.{All-nil, All-cons, All-head, All-tail, All-append}
-use Rattle.x509_prim_integer.specs.Integer.{is_integer, is_negative, is_natural, number, integer_value, without_zeros, with_sign}
-use Rattle.x509_prim_integer.proofs.Naturals.{number-without_zeros, number-content, is_natural-content, is_natural-is_integer, is_natural-some}
+use Rattle.x509_prim_integer.specs.Integer.{is_integer, is_negative, is_unsigned, number, integer_value, without_zeros, with_sign}
+use Rattle.x509_prim_integer.proofs.Naturals.{number-without_zeros, number-content, is_unsigned-content, is_unsigned-is_integer, is_unsigned-some}
 
 abbrev small : ℕ → Type 0
 small octet = octet < 256
@@ -94,8 +94,8 @@ high_octet : (second : ℕ) (octets : List ℕ) → 128 ≤ second → with_sign
 high_octet second [] high = rw (le-leb 128 second high) refl
 high_octet second (third ∷ octets) high = rw (ne_eqb second 0 (λ e. omega arith), le-leb 128 second high) refl
 
-natural_again : (octets : List ℕ) → is_natural octets ≡ true → with_sign (without_zeros octets) ≡ octets
-unfolding is_natural is_integer
+natural_again : (octets : List ℕ) → is_unsigned octets ≡ true → with_sign (without_zeros octets) ≡ octets
+unfolding is_unsigned is_integer
 natural_again [] h = absurd cc
 natural_again (first ∷ []) h = let low : nat_le 128 first ≡ false = grind (arith, nat_tests) in rw low refl
 natural_again (first ∷ second ∷ octets) h = elim (cases_Bool (nat_eq first 0)) [
@@ -105,9 +105,9 @@ natural_again (first ∷ second ∷ octets) h = elim (cases_Bool (nat_eq first 0
   | inr some ↦ (let low : nat_le 128 first ≡ false = grind (arith, nat_tests) in rw (some, low) refl)
 ]
 
-one_natural : (xs ys : List ℕ) → AreOctets xs → AreOctets ys → is_natural xs ≡ true → is_natural ys ≡ true → number xs ≡ number ys → xs ≡ ys
+one_natural : (xs ys : List ℕ) → AreOctets xs → AreOctets ys → is_unsigned xs ≡ true → is_unsigned ys ≡ true → number xs ≡ number ys → xs ≡ ys
 one_natural xs ys p q n m e =
-    let same = one_short (without_zeros xs) (without_zeros ys) (octets_without_zeros xs p) (octets_without_zeros ys q) (short_without_zeros xs (is_natural-some xs n)) (short_without_zeros ys (is_natural-some ys m)) (number-without_zeros xs ∙ e ∙ sym (number-without_zeros ys)) in
+    let same = one_short (without_zeros xs) (without_zeros ys) (octets_without_zeros xs p) (octets_without_zeros ys q) (short_without_zeros xs (is_unsigned-some xs n)) (short_without_zeros ys (is_unsigned-some ys m)) (number-without_zeros xs ∙ e ∙ sym (number-without_zeros ys)) in
     sym (natural_again xs n) ∙ ap with_sign same ∙ natural_again ys m
 
 -- ---- turned bits
@@ -126,8 +126,8 @@ turned-turned (octet ∷ octets) p =
     let twice : 255 - (255 - octet) ≡ octet = omega arith in
     rw (twice, turned-turned octets (All-tail small octet octets p)) refl
 
-turned_natural : (octets : List ℕ) → AreOctets octets → is_integer octets ≡ true → is_negative octets ≡ true → is_natural (turned octets) ≡ true
-unfolding is_natural is_integer
+turned_natural : (octets : List ℕ) → AreOctets octets → is_integer octets ≡ true → is_negative octets ≡ true → is_unsigned (turned octets) ≡ true
+unfolding is_unsigned is_integer
 turned_natural [] p h n = absurd cc
 turned_natural (first ∷ []) p h n = let little = All-head small first [] p in grind (arith, nat_tests)
 turned_natural (first ∷ second ∷ octets) p h n =
@@ -135,8 +135,8 @@ turned_natural (first ∷ second ∷ octets) p h n =
     let less = All-head small second octets (All-tail small first (second ∷ octets) p) in
     grind (arith, nat_tests)
 
-turned_integer : (octets : List ℕ) → AreOctets octets → is_natural octets ≡ true → (is_integer (turned octets) ≡ true) × (is_negative (turned octets) ≡ true)
-unfolding is_natural is_integer
+turned_integer : (octets : List ℕ) → AreOctets octets → is_unsigned octets ≡ true → (is_integer (turned octets) ≡ true) × (is_negative (turned octets) ≡ true)
+unfolding is_unsigned is_integer
 turned_integer [] p n = absurd cc
 turned_integer (first ∷ []) p n = (refl, grind (arith, nat_tests))
 turned_integer (first ∷ second ∷ octets) p n =
@@ -146,8 +146,8 @@ turned_integer (first ∷ second ∷ octets) p n =
 
 -- ---- integers
 
-made_natural : (octets : List ℕ) → is_integer octets ≡ true → is_negative octets ≡ false → is_natural octets ≡ true
-unfolding is_natural
+made_natural : (octets : List ℕ) → is_integer octets ≡ true → is_negative octets ≡ false → is_unsigned octets ≡ true
+unfolding is_unsigned
 made_natural octets h n = rw (h, n) refl
 
 pos_is : (n m : ℕ) → pos n ≡ pos m → n ≡ m
@@ -202,7 +202,7 @@ octets_with_sign octets p = elim (cases_Bool (is_negative octets)) [ inl signed 
 pub record Content (n : ℕ) : Type 0 where
   pub octets : List ℕ
   pub small_ones : AreOctets octets
-  pub natural : is_natural octets ≡ true
+  pub natural : is_unsigned octets ≡ true
   pub is : number octets ≡ n
 
 natural_content : (n : ℕ) → Content n
@@ -211,19 +211,19 @@ natural_content n =
     record {
       octets = with_sign (without_zeros spelled.octets);
       small_ones = octets_with_sign (without_zeros spelled.octets) (octets_without_zeros spelled.octets spelled.small_ones);
-      natural = is_natural-content spelled.octets spelled.some;
+      natural = is_unsigned-content spelled.octets spelled.some;
       is = number-content spelled.octets ∙ spelled.is;
     }
 
-natural_sign : (octets : List ℕ) → is_natural octets ≡ true → is_negative octets ≡ false
-unfolding is_natural
+natural_sign : (octets : List ℕ) → is_unsigned octets ≡ true → is_negative octets ≡ false
+unfolding is_unsigned
 natural_sign octets h = grind (arith, nat_tests)
 
 pub integer_content : (z : ℤ) → (octets : List ℕ) × (AreOctets octets × ((is_integer octets ≡ true) × (integer_value octets ≡ z)))
 integer_content (pos n) =
     let content = natural_content n in
     let value : integer_value content.octets ≡ pos n = rw (natural_sign content.octets content.natural) (ap pos content.is) in
-    (content.octets, (content.small_ones, (is_natural-is_integer content.octets content.natural, value)))
+    (content.octets, (content.small_ones, (is_unsigned-is_integer content.octets content.natural, value)))
 integer_content (negsuc n) =
     let content = natural_content n in
     let signs = turned_integer content.octets content.small_ones content.natural in

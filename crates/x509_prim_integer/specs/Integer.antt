@@ -19,8 +19,8 @@ is_negative [] = false
 is_negative (first ∷ octets) = nat_le 0x80 first
 
 -- the content of a number that is not negative
-unfoldable pub is_natural : List ℕ → Bool
-is_natural octets = is_integer octets && not (is_negative octets)
+unfoldable pub is_unsigned : List ℕ → Bool
+is_unsigned octets = is_integer octets && not (is_negative octets)
 
 unfoldable pub tested_reading : (List ℕ → Bool) → List ℕ → Result (List ℕ) ErrorKind
 tested_reading is_good bytes = if is_good bytes then Ok bytes else Err Malformed
@@ -32,8 +32,8 @@ tested_content is_good = record { tag = 0x02; octets = λ octets. octets; good =
 abbrev pub integer : Form (List ℕ)
 integer = universal (tested_content is_integer)
 
-abbrev pub natural : Form (List ℕ)
-natural = universal (tested_content is_natural)
+abbrev pub unsigned_integer : Form (List ℕ)
+unsigned_integer = universal (tested_content is_unsigned)
 
 -- ---- numbers
 

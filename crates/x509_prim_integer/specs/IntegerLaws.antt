@@ -6,7 +6,7 @@ use Rattle.x509_der_grammar.specs.Element.{is_identifier, is_universal}
 use Rattle.x509_der_grammar.specs.Form.{IsForm, IsContent}
 use Rattle.x509_der_grammar.specs.FormLaws.{universal_lawful}
 use Rattle.x509_der_grammar.specs.OutcomeLaws.{ok_is, test_ok, test_err}
-use Rattle.x509_prim_integer.specs.Integer.{is_integer, is_natural, tested_reading, tested_content, integer, natural}
+use Rattle.x509_prim_integer.specs.Integer.{is_integer, is_unsigned, tested_reading, tested_content, integer, unsigned_integer}
 
 tested_sound : (is_good : List ℕ → Bool) (bytes octets : List ℕ) → tested_reading is_good bytes ≡ Ok octets → (is_good octets ≡ true) × (bytes ≡ octets)
 unfolding tested_reading
@@ -29,5 +29,5 @@ tested_content_lawful is_good = record { sound = tested_sound is_good; complete 
 pub integer_lawful : {R : ErrorKind → Type 0} → IsForm R integer
 integer_lawful = universal_lawful (tested_content is_integer) (tested_content_lawful is_integer)
 
-pub natural_lawful : {R : ErrorKind → Type 0} → IsForm R natural
-natural_lawful = universal_lawful (tested_content is_natural) (tested_content_lawful is_natural)
+pub unsigned_integer_lawful : {R : ErrorKind → Type 0} → IsForm R unsigned_integer
+unsigned_integer_lawful = universal_lawful (tested_content is_unsigned) (tested_content_lawful is_unsigned)

@@ -1,7 +1,7 @@
 //! Contents of integers (X.690 8.3).
 
 ghost use Rattle.std.specs.Prelude.{◌≡◌};
-ghost use Rattle.x509_prim_integer.specs.Integer.{is_integer, is_natural, is_negative, without_zeros};
+ghost use Rattle.x509_prim_integer.specs.Integer.{is_integer, is_unsigned, is_negative, without_zeros};
 
 /// Whether the octets are the content of an integer.
 #[tactic(auto, unfolding(crate::specs::Integer::is_integer))]
@@ -18,9 +18,9 @@ pub(crate) fn check_integer(content: &[u8]) -> bool
 }
 
 /// Whether the octets are the content of an integer that is not negative.
-#[tactic(auto, unfolding(crate::specs::Integer::is_natural, crate::specs::Integer::is_integer))]
-pub(crate) fn check_natural(content: &[u8]) -> bool
-    ensures { result ≡ is_natural content.now }
+#[tactic(auto, unfolding(crate::specs::Integer::is_unsigned, crate::specs::Integer::is_integer))]
+pub(crate) fn check_unsigned(content: &[u8]) -> bool
+    ensures { result ≡ is_unsigned content.now }
 {
     check_integer(content) && !is_signed(content)
 }

@@ -7,9 +7,9 @@ ghost use Rattle.std.specs.Cmp.{partial_equiv_from_equiv};
 ghost use Rattle.std.specs.Cmp.Lexicographic.{nat_list_eq_equiv};
 ghost use Rattle.std.specs.Cmp.Rules.{hashing};
 ghost use Rattle.x509_der_grammar.specs.declared.error.ErrorKind.TheVariants as errors;
-ghost use Rattle.x509_prim_integer.specs.Integer.{is_natural, number, with_sign, without_zeros};
+ghost use Rattle.x509_prim_integer.specs.Integer.{is_unsigned, number, with_sign, without_zeros};
 
-use crate::content::{check_natural, is_signed, strip_zeros};
+use crate::content::{check_unsigned, is_signed, strip_zeros};
 use std::alloc::Global;
 use std::cmp::Ordering;
 use std::fmt;
@@ -28,13 +28,13 @@ pub struct Uint {
 
 impl Model for Uint {
     ghost use Rattle.std.specs.Prelude.{List, ℕ, ◌≡◌, true};
-    ghost use Rattle.x509_prim_integer.specs.Integer.{is_natural};
+    ghost use Rattle.x509_prim_integer.specs.Integer.{is_unsigned};
 
     ghost Value = { List ℕ };
 
     ghost view = { λ uint. uint.content };
 
-    ghost invariant = { λ uint. is_natural uint.content ≡ true };
+    ghost invariant = { λ uint. is_unsigned uint.content ≡ true };
 }
 
 impl Uint {
@@ -66,7 +66,7 @@ impl Uint {
     /// The content octets, without a copy.
     pub(crate) fn into_content(self) -> Bytes
         ensures content { result ≡ self }
-        ensures natural { is_natural self ≡ true }
+        ensures unsigned { is_unsigned self ≡ true }
     {
         let Uint { content } = self;
         content
@@ -87,10 +87,10 @@ fn signed_content(alloc: Global, octets: &[u8]) -> Result<Vec<u8>, Error>
 }
 
 impl Grammar for Uint {
-    ghost use Rattle.x509_prim_integer.specs.Integer.{natural};
-    ghost use Rattle.x509_prim_integer.specs.IntegerLaws.{natural_lawful};
+    ghost use Rattle.x509_prim_integer.specs.Integer.{unsigned_integer};
+    ghost use Rattle.x509_prim_integer.specs.IntegerLaws.{unsigned_integer_lawful};
 
-    ghost form = { natural };
+    ghost form = { unsigned_integer };
 
     fn identifier(&self) -> Tag {
         Tag::Integer
@@ -100,13 +100,13 @@ impl Grammar for Uint {
         octet == Tag::Integer.octet()
     }
 
-    ghost lawful = { natural_lawful };
+    ghost lawful = { unsigned_integer_lawful };
 }
 
 #[tactic(auto, unfolding(crate::specs::Integer::tested_reading))]
 impl Decode for Uint {
     fn read(alloc: Global, tag: u8, content: &[u8]) -> Result<Uint, Error> {
-        if tag != Tag::Integer.octet() || !check_natural(content) {
+        if tag != Tag::Integer.octet() || !check_unsigned(content) {
             return Err(ErrorKind::Malformed.into());
         }
         Ok(Uint {
@@ -126,17 +126,17 @@ impl Encode for Uint {
 }
 
 impl ValueOrd for Uint {
-    ghost use Rattle.x509_prim_integer.specs.Integer.{natural};
+    ghost use Rattle.x509_prim_integer.specs.Integer.{unsigned_integer};
     ghost use Rattle.x509_der_grammar.specs.Writing.{plain, writes};
     ghost use Rattle.x509_der_order.specs.Ordered.{by_bytes, by_bytes_lawful};
 
-    ghost order = { by_bytes natural };
+    ghost order = { by_bytes unsigned_integer };
 
     fn value_cmp(&self, other: &Uint) -> Ordering {
         self.content.as_slice().cmp(other.content.as_slice())
     }
 
-    ghost ordered = { by_bytes_lawful natural (writes plain) (λ x y p q. q) };
+    ghost ordered = { by_bytes_lawful unsigned_integer (writes plain) (λ x y p q. q) };
 }
 
 impl FixedTag for Uint {
