@@ -422,3 +422,52 @@ fn an_input_may_be_as_long_as_the_limit(rt: HostRuntime) -> Result<(), Fail> {
     );
     Ok(())
 }
+
+/// The status and the line of a run with the types of the library.
+fn real_answer(alloc: Global, command: &str, input: &[u8]) -> Result<(u8, Vec<u8>), AllocError> {
+    let mut writer = FakeWriter::new(alloc);
+    let words = words(alloc, command)?;
+    let mut reader = FakeReader::new(input);
+    let status = run::<FakeReader, FakeWriter>(alloc, words.as_slice(), &mut reader, &mut writer);
+    let FakeWriter { taken, .. } = writer;
+    Ok((status, taken))
+}
+
+/// A validity from 2002, in four digits, to 2030.
+const LONG_2002: &[u8] = b"3020180F32303032303130313132303130305A170D3330313233313038333030305A\n";
+
+const SHORT_2002: &[u8] = b"301E170D3032303130313132303130305A170D3330313233313038333030305A\n";
+
+const LONG_TIME: &[u8] = b"180F32303032303130313132303130305A\n";
+
+const UNSORTED: &[u8] = b"311F301106035504030C0A4A4F484E20534D495448300A060355040A0C03313233\n";
+
+const SORTED: &[u8] = b"311F300A060355040A0C03313233301106035504030C0A4A4F484E20534D495448\n";
+
+#[test]
+fn re_encodes_each_type(rt: HostRuntime) -> Result<(), Fail> {
+    let alloc = rt.alloc();
+    for (command, input, want) in [
+        ("reencode validity", LONG_2002, SHORT_2002),
+        ("reencode validity raw", LONG_2002, LONG_2002),
+        ("reencode time", LONG_TIME, LONG_TIME),
+        (
+            "reencode serial",
+            b"0201FF\n".as_slice(),
+            b"0201FF\n".as_slice(),
+        ),
+        ("reencode rdn", SORTED, SORTED),
+        ("reencode rdn", UNSORTED, b"refused: Malformed\n".as_slice()),
+        ("reencode name", b"3000\n".as_slice(), b"3000\n".as_slice()),
+        (
+            "reencode integer",
+            b"020100\n".as_slice(),
+            b"020100\n".as_slice(),
+        ),
+        ("reencode any", b"0500\n".as_slice(), b"0500\n".as_slice()),
+    ] {
+        let (_, line) = real_answer(alloc, command, input)?;
+        assert_eq!(rt; line.as_slice(), want);
+    }
+    Ok(())
+}

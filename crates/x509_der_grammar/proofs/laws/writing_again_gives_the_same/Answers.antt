@@ -1,7 +1,7 @@
-use Rattle.std.proofs.Common.{◌≡◌, refl, sym, ap, ◌∙◌}
+use Rattle.std.proofs.Common.{◌≡◌, refl, ap, ◌∙◌}
 use Rattle.x509_der_grammar.specs.SpellingLaws.{values}
 use Rattle.x509_der_grammar.specs.Form.{spelling}
-use Rattle.x509_der_grammar.specs.Writing.{writes, written_spelling}
+use Rattle.x509_der_grammar.specs.Writing.{writes}
 use Rattle.x509_der_grammar.proofs.laws.writing_again_gives_the_same.Goals as goal
 
 -- the value that is read is the one that was written
