@@ -28,3 +28,9 @@ pub fn rfc5280_dates()
 pub fn dates_are_written_once<P: Profile>()
     ensures { ((t u : Time) → time.good t → P.time_of t ≡ Ok u → time.good u × (P.time_of u ≡ Ok u)) → IsStable validity ⟦<Validity<P> as Encode>⟧.writing }
 {}
+
+/// Under [`Rfc5280`] what is written of a validity is written as it is: decoding and encoding twice gives the bytes of
+/// once.
+pub fn rfc5280_dates_are_written_once()
+    ensures { IsStable validity ⟦<Validity<Rfc5280> as Encode>⟧.writing }
+{}

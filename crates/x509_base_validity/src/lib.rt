@@ -8,7 +8,9 @@ mod tests;
 mod time;
 mod validity;
 
-pub use laws::{dates_are_written_once, raw_dates_stay, rfc5280_dates};
+pub use laws::{
+    dates_are_written_once, raw_dates_stay, rfc5280_dates, rfc5280_dates_are_written_once,
+};
 pub use profile::{Profile, Raw, Rfc5280};
 pub use time::Time;
 pub use validity::Validity;

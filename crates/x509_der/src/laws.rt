@@ -3,6 +3,7 @@
 
 pub use x509_der_grammar::laws::{
     no_element_begins_another, no_spelling_begins_another, one_spelling, one_tag, one_value,
+    writing_again_gives_the_same,
 };
 pub use x509_der_oid::laws::{arcs_of_contents, one_content, one_text, tested_contents};
 pub use x509_der_order::laws::{
