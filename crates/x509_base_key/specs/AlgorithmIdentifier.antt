@@ -1,6 +1,6 @@
 -- AlgorithmIdentifier: oid: OBJECT IDENTIFIER, parameters: ANY? (RFC 5280 4.1.1.2)
 use Rattle.std.specs.Prelude.{ℕ, List, Option, refl}
-use Rattle.x509_der_grammar.specs.declared.error.ErrorKind.{ErrorKind}
+use Rattle.x509_der_element.specs.declared.error.ErrorKind.{ErrorKind}
 use Rattle.x509_der_grammar.specs.Form.{Form, IsForm, universal}
 use Rattle.x509_der_grammar.specs.FormLaws.{universal_lawful}
 use Rattle.x509_der_frames.specs.declared.any.Any.{Any}

@@ -1,6 +1,6 @@
 -- SubjectPublicKeyInfo: algorithm: AlgorithmIdentifier, subject_public_key: BIT STRING (RFC 5280 4.1.2.7)
 use Rattle.std.specs.Prelude.{refl}
-use Rattle.x509_der_grammar.specs.declared.error.ErrorKind.{ErrorKind}
+use Rattle.x509_der_element.specs.declared.error.ErrorKind.{ErrorKind}
 use Rattle.x509_der_grammar.specs.Form.{Form, IsForm, universal}
 use Rattle.x509_der_grammar.specs.FormLaws.{universal_lawful}
 use Rattle.x509_der_frames.specs.Frames.{Part, required, ◌⊗◌, fields}

@@ -6,7 +6,7 @@ use Rattle.std.specs.Cmp.{IsTotalOrder, both_ways, Equal-is}
 use Rattle.std.specs.Cmp.Lexicographic.{bytes_decides}
 use Rattle.std.proofs.Common.{subst}
 use Rattle.std.proofs.lemmas.Cmp.{tied_itself}
-use Rattle.x509_der_grammar.specs.declared.error.ErrorKind.{ErrorKind}
+use Rattle.x509_der_element.specs.declared.error.ErrorKind.{ErrorKind}
 use Rattle.x509_der_grammar.specs.Writing.{Written, plain, writes}
 use Rattle.x509_der_order.specs.Order.{Order, IsOrder, IsDerOrder, HasEncoding, der_order}
 use Rattle.x509_der_order.specs.Ordered.{by_bytes, by_bytes_lawful, der_lawful}

@@ -6,7 +6,7 @@ ghost use Rattle.std.specs.Hash as fed;
 ghost use Rattle.std.specs.Cmp.{partial_equiv_from_equiv};
 ghost use Rattle.std.specs.Cmp.Lexicographic.{nat_list_eq_equiv};
 ghost use Rattle.std.specs.Cmp.Rules.{hashing};
-ghost use Rattle.x509_der_grammar.specs.declared.error.ErrorKind.TheVariants as errors;
+ghost use Rattle.x509_der_element.specs.declared.error.ErrorKind.TheVariants as errors;
 ghost use Rattle.x509_der_grammar.specs.Natural.{natural_octets};
 ghost use Rattle.x509_prim_integer.specs.Integer.{is_integer, number, with_sign};
 ghost use Rattle.x509_base_serial.specs.Serial.{number_content};
@@ -189,7 +189,7 @@ impl<P: Profile> Encode for SerialNumber<P> {
 
 impl<P: Profile> FixedTag for SerialNumber<P> {
     ghost use Rattle.std.specs.Prelude.{refl};
-    ghost use Rattle.x509_der_grammar.specs.declared.tag.Tag.TheVariants as tags;
+    ghost use Rattle.x509_der_element.specs.declared.tag.Tag.TheVariants as tags;
 
     ghost TAG = { tags.Integer };
 

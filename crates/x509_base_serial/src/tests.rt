@@ -17,7 +17,7 @@ struct NotNegative;
 
 impl Profile for NotNegative {
     ghost use Rattle.std.specs.Prelude.{Ok, Err, if◌then◌else◌};
-    ghost use Rattle.x509_der_grammar.specs.declared.error.ErrorKind.TheVariants.{Failed};
+    ghost use Rattle.x509_der_element.specs.declared.error.ErrorKind.TheVariants.{Failed};
     ghost use Rattle.x509_prim_integer.specs.Integer.{is_negative};
 
     ghost serial_check = { λ content. if is_negative content then Err Failed else Ok tt };
@@ -42,7 +42,7 @@ struct NoNumbers;
 
 impl Profile for NoNumbers {
     ghost use Rattle.std.specs.Prelude.{Ok, Err};
-    ghost use Rattle.x509_der_grammar.specs.declared.error.ErrorKind.TheVariants.{Value};
+    ghost use Rattle.x509_der_element.specs.declared.error.ErrorKind.TheVariants.{Value};
 
     ghost serial_check = { λ content. Err Value };
 

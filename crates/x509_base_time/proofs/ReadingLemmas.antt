@@ -2,11 +2,11 @@
 use Rattle.std.proofs.Common.{◌≡◌, ℕ, Bool, true, false, not, nat_eq, inl, inr, List, Result, Ok, Err, refl, sym, ap, ◌∙◌}
 use Rattle.std.specs.Cmp.Lexicographic.{pointwise, same_text, other_text}
 use Rattle.std.proofs.lemmas.Bool.{cases_Bool}
-use Rattle.x509_der_grammar.specs.declared.error.Error.{Error}
-use Rattle.x509_der_grammar.specs.declared.error.ErrorKind.{ErrorKind}
-use Rattle.x509_der_grammar.specs.declared.error.ErrorKind.TheVariants.{Malformed}
+use Rattle.x509_der_element.specs.declared.error.Error.{Error}
+use Rattle.x509_der_element.specs.declared.error.ErrorKind.{ErrorKind}
+use Rattle.x509_der_element.specs.declared.error.ErrorKind.TheVariants.{Malformed}
 use Rattle.x509_base_time.specs.CivilTime.{CivilTime, IsDateTime}
-use Rattle.x509_der_grammar.specs.Outcome.{Answers}
+use Rattle.x509_der_element.specs.Outcome.{Answers}
 use Rattle.x509_base_time.specs.TimeReading.{Reads}
 
 -- the value that was found is the only one, since the bytes name it again

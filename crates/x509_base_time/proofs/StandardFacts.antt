@@ -1,6 +1,6 @@
 -- Known values, so that a wrong rule in the specs does not check.
 use Rattle.std.proofs.Common.{◌≡◌, [], ◌∷◌, map, true, false, Ok, Err, refl, codes}
-use Rattle.x509_der_grammar.specs.declared.error.ErrorKind.TheVariants.{Malformed}
+use Rattle.x509_der_element.specs.declared.error.ErrorKind.TheVariants.{Malformed}
 use Rattle.x509_base_time.specs.CivilTime.{civil_time, last_date_time, is_leap_year, days_in_month, days_of_years, days_of_months, unix_seconds}
 use Rattle.x509_base_time.specs.TimeText.{date_time_text, generalized_time_octets, utc_time_octets}
 use Rattle.x509_base_time.specs.TimeReading.{generalized_time_reading, utc_time_reading}

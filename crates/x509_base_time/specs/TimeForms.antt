@@ -1,8 +1,8 @@
 -- UTCTime and GeneralizedTime (X.690 11.7, 11.8; RFC 5280 4.1.2.5).
 use Rattle.std.specs.Prelude.{refl}
 use Rattle.std.proofs.Common.{inl}
-use Rattle.x509_der_grammar.specs.declared.error.ErrorKind.{ErrorKind}
-use Rattle.x509_der_grammar.specs.Element.{is_identifier, is_universal}
+use Rattle.x509_der_element.specs.declared.error.ErrorKind.{ErrorKind}
+use Rattle.x509_der_element.specs.Element.{is_identifier, is_universal}
 use Rattle.x509_der_grammar.specs.Form.{Form, IsForm, Content, IsContent, universal}
 use Rattle.x509_der_grammar.specs.FormLaws.{universal_lawful}
 use Rattle.x509_base_time.specs.CivilTime.{CivilTime, IsDateTime}

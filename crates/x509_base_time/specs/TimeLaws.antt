@@ -6,8 +6,8 @@ use Rattle.std.specs.Int.{IsInRange}
 use Rattle.std.proofs.Common.{arith, sym, ap, ◌∙◌, inl, inr}
 use Rattle.std.proofs.lemmas.Bool.{cases_Bool, and_parts}
 use Rattle.std.proofs.lemmas.Bool.Decides.{nat_tests, Decides-and, Decides-like}
-use Rattle.x509_der_grammar.specs.declared.error.ErrorKind.{ErrorKind}
-use Rattle.x509_der_grammar.specs.declared.error.ErrorKind.TheVariants.{Malformed}
+use Rattle.x509_der_element.specs.declared.error.ErrorKind.{ErrorKind}
+use Rattle.x509_der_element.specs.declared.error.ErrorKind.TheVariants.{Malformed}
 use Rattle.x509_base_time.specs.CivilTime.{CivilTime, days_in_month, IsDateTime}
 use Rattle.x509_base_time.specs.TimeText.{date_time_text, generalized_time_octets, utc_time_octets}
 use Rattle.x509_base_time.specs.TimeReading.{IsUtcTime, full_year, named_generalized_time, named_utc_time, named_by_text, is_in_range, is_date_time, is_utc_time, read_as, generalized_time_reading, utc_time_reading}

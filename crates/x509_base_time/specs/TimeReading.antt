@@ -1,9 +1,9 @@
 -- What reading a text or a content of a date-time answers.
 use Rattle.std.specs.Prelude.{◌≡◌, ℕ, ◌+◌, ◌*◌, ◌%◌, ◌≤◌, Bool, ◌&&◌, nat_le, nat_lt, nat_eq, List, Result, Ok, Err, IfOk, IfErr, slice_index, if◌then◌else◌}
 use Rattle.std.specs.Cmp.Lexicographic.{pointwise}
-use Rattle.x509_der_grammar.specs.declared.error.Error.{Error}
-use Rattle.x509_der_grammar.specs.declared.error.ErrorKind.{ErrorKind}
-use Rattle.x509_der_grammar.specs.declared.error.ErrorKind.TheVariants.{Malformed}
+use Rattle.x509_der_element.specs.declared.error.Error.{Error}
+use Rattle.x509_der_element.specs.declared.error.ErrorKind.{ErrorKind}
+use Rattle.x509_der_element.specs.declared.error.ErrorKind.TheVariants.{Malformed}
 use Rattle.x509_base_time.specs.CivilTime.{CivilTime, civil_time, days_in_month, IsDateTime}
 use Rattle.x509_base_time.specs.TimeText.{generalized_time_octets, utc_time_octets}
 

@@ -42,7 +42,7 @@ impl Encode for UtcTime {
 
 impl FixedTag for UtcTime {
     ghost use Rattle.std.specs.Prelude.{refl};
-    ghost use Rattle.x509_der_grammar.specs.declared.tag.Tag.TheVariants as tags;
+    ghost use Rattle.x509_der_element.specs.declared.tag.Tag.TheVariants as tags;
 
     ghost TAG = { tags.UtcTime };
 
@@ -94,7 +94,7 @@ impl Encode for GeneralizedTime {
 
 impl FixedTag for GeneralizedTime {
     ghost use Rattle.std.specs.Prelude.{refl};
-    ghost use Rattle.x509_der_grammar.specs.declared.tag.Tag.TheVariants as tags;
+    ghost use Rattle.x509_der_element.specs.declared.tag.Tag.TheVariants as tags;
 
     ghost TAG = { tags.GeneralizedTime };
 

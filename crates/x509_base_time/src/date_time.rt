@@ -8,7 +8,7 @@ ghost use Rattle.x509_base_time.specs.CivilTime.{CivilTime, civil_time, last_dat
 ghost use Rattle.x509_base_time.specs.Moment.{shown_time};
 ghost use Rattle.x509_base_time.specs.TimeText.{date_time_text};
 ghost use Rattle.x509_base_time.specs.TimeReading.{Reads, time_from_month};
-ghost use Rattle.x509_der_grammar.specs.declared.error.ErrorKind.TheVariants.{Failed, Value};
+ghost use Rattle.x509_der_element.specs.declared.error.ErrorKind.TheVariants.{Failed, Value};
 
 use crate::digits::{long_number_at, number_at, ones, tens};
 use jiff::civil;

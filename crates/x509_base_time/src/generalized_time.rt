@@ -5,8 +5,8 @@ ghost use Rattle.std.specs.Duration.{as_nanos};
 ghost use Rattle.x509_base_time.specs.CivilTime.{CivilTime, IsDateTime, unix_seconds};
 ghost use Rattle.x509_base_time.specs.TimeText.{date_time_text, generalized_time_octets};
 ghost use Rattle.x509_base_time.specs.TimeReading.{Reads, generalized_time_reading};
-ghost use Rattle.x509_der_grammar.specs.Outcome.{Answers};
-ghost use Rattle.x509_der_grammar.specs.declared.error.ErrorKind.TheVariants.{Malformed};
+ghost use Rattle.x509_der_element.specs.Outcome.{Answers};
+ghost use Rattle.x509_der_element.specs.declared.error.ErrorKind.TheVariants.{Malformed};
 
 use crate::date_time::{DateTime, from_month};
 use crate::digits::{long_number_at, ones, tens};

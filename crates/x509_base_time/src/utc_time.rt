@@ -6,8 +6,8 @@ ghost use Rattle.x509_base_time.specs.CivilTime.{CivilTime, unix_seconds};
 ghost use Rattle.x509_base_time.specs.TimeText.{date_time_text, utc_time_octets};
 ghost use Rattle.x509_base_time.specs.TimeReading.{IsUtcTime, Reads, utc_time_reading};
 ghost use Rattle.x509_base_time.specs.TimeReading as reading;
-ghost use Rattle.x509_der_grammar.specs.Outcome.{Answers};
-ghost use Rattle.x509_der_grammar.specs.declared.error.ErrorKind.TheVariants.{Malformed, Value};
+ghost use Rattle.x509_der_element.specs.Outcome.{Answers};
+ghost use Rattle.x509_der_element.specs.declared.error.ErrorKind.TheVariants.{Malformed, Value};
 
 use crate::date_time::{DateTime, from_month};
 use crate::digits::{number_at, ones, tens};

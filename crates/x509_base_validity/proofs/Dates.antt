@@ -1,9 +1,9 @@
 -- Dates that a profile has spelled, spelled once more; sums of durations that are too long.
 use Rattle.std.proofs.Common.{◌≡◌, refl, Option, Some, None, Result, Ok, Err, nat_le, subst, ap, inl, inr}
 use Rattle.std.proofs.lemmas.Bool.{cases_Bool, leb-true}
-use Rattle.x509_der_grammar.specs.declared.error.ErrorKind.{ErrorKind}
+use Rattle.x509_der_element.specs.declared.error.ErrorKind.{ErrorKind}
 use Rattle.x509_der_grammar.specs.Writing.{first, respelled, respelling, IsStable}
-use Rattle.x509_der_grammar.specs.OutcomeLaws.{ok_is}
+use Rattle.x509_der_element.specs.OutcomeLaws.{ok_is}
 use Rattle.x509_der_frames.specs.Choice as choice
 use Rattle.x509_der_frames.specs.Frames as frames
 use Rattle.x509_base_time.specs.CivilTime.{last_date_time, unix_seconds, days_of_years, days_of_months}

@@ -1,7 +1,7 @@
 -- What the two profiles check and how they spell dates (RFC 5280 4.1.2.2, 4.1.2.5).
 use Rattle.std.specs.Prelude.{ℕ, nat_lt, List, length, Result, Ok, Err, if◌then◌else◌}
-use Rattle.x509_der_grammar.specs.declared.error.ErrorKind.{ErrorKind}
-use Rattle.x509_der_grammar.specs.declared.error.ErrorKind.TheVariants.{Malformed}
+use Rattle.x509_der_element.specs.declared.error.ErrorKind.{ErrorKind}
+use Rattle.x509_der_element.specs.declared.error.ErrorKind.TheVariants.{Malformed}
 use Rattle.x509_base_validity.specs.Time.{time_at}
 use Rattle.x509_base_validity.specs.declared.time.Time.{Time}
 use Rattle.x509_base_validity.specs.declared.time.Time.TheVariants.{UtcTime, GeneralTime}

@@ -1,9 +1,9 @@
 -- Time: UTCTime / GeneralizedTime (RFC 5280 4.1.2.5)
 use Rattle.std.specs.Prelude.{◌≡◌, ℕ, ◌⊎◌, nat_le, List, Result, Ok, IfOk, IfErr, if◌then◌else◌, refl}
 use Rattle.std.proofs.Common.{inl, inr}
-use Rattle.x509_der_grammar.specs.declared.error.Error.{Error}
-use Rattle.x509_der_grammar.specs.declared.error.ErrorKind.{ErrorKind}
-use Rattle.x509_der_grammar.specs.declared.error.ErrorKind.TheVariants.{Failed}
+use Rattle.x509_der_element.specs.declared.error.Error.{Error}
+use Rattle.x509_der_element.specs.declared.error.ErrorKind.{ErrorKind}
+use Rattle.x509_der_element.specs.declared.error.ErrorKind.TheVariants.{Failed}
 use Rattle.x509_der_grammar.specs.Form.{Form, IsForm}
 use Rattle.x509_der_frames.specs.Choice.{either, either_lawful}
 use Rattle.x509_base_time.specs.CivilTime.{CivilTime, IsDateTime, unix_seconds}

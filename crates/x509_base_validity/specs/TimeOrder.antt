@@ -3,10 +3,10 @@ use Rattle.std.specs.Prelude.{◌≡◌, ℕ, List, [], ◌∷◌, slice_index, 
 use Rattle.std.proofs.Common.{ap, sym, ◌∙◌, arith}
 use Rattle.std.proofs.lemmas.Cmp.{nat_list_cmp_total}
 use Rattle.std.proofs.lemmas.Map.Lookups.{exact_bytes}
-use Rattle.x509_der_grammar.specs.declared.error.ErrorKind.{ErrorKind}
-use Rattle.x509_der_grammar.specs.Element.{element, length_octets}
+use Rattle.x509_der_element.specs.declared.error.ErrorKind.{ErrorKind}
+use Rattle.x509_der_element.specs.Element.{element, length_octets}
 use Rattle.x509_der_grammar.specs.Form.{IsForm}
-use Rattle.x509_der_grammar.specs.OutcomeLaws.{ok_is}
+use Rattle.x509_der_element.specs.OutcomeLaws.{ok_is}
 use Rattle.x509_der_grammar.specs.Writing.{Written, plain, writes}
 use Rattle.x509_der_order.specs.Order.{bytes_cmp, HasEncoding, Order, IsOrder}
 use Rattle.x509_der_order.specs.Ordered.{by_key, by_key_lawful}

@@ -1,6 +1,6 @@
 -- Validity: not_before: Time, not_after: Time (RFC 5280 4.1.2.5)
 use Rattle.std.specs.Prelude.{Result, refl}
-use Rattle.x509_der_grammar.specs.declared.error.ErrorKind.{ErrorKind}
+use Rattle.x509_der_element.specs.declared.error.ErrorKind.{ErrorKind}
 use Rattle.x509_der_grammar.specs.Form.{Form, IsForm, universal}
 use Rattle.x509_der_grammar.specs.FormLaws.{universal_lawful}
 use Rattle.x509_der_grammar.specs.Writing.{Written, first, respelled}

@@ -9,8 +9,8 @@ use x509_der_grammar::{Error, ErrorKind};
 /// two definitions; no other law is asked of it.
 pub trait Profile: PartialEq + Eq + PartialOrd + Ord + Debug + Clone + Copy + Default + 'static {
     ghost use Rattle.std.specs.Prelude.{ℕ, List, Result};
-    ghost use Rattle.x509_der_grammar.specs.declared.error.ErrorKind.{ErrorKind};
-    ghost use Rattle.x509_der_grammar.specs.Outcome.{Answers};
+    ghost use Rattle.x509_der_element.specs.declared.error.ErrorKind.{ErrorKind};
+    ghost use Rattle.x509_der_element.specs.Outcome.{Answers};
     ghost use Rattle.x509_base_validity.specs.declared.time.Time.{Time};
 
     /// What the check of a serial number's content answers.

@@ -35,7 +35,7 @@ struct NoDates;
 
 impl Profile for NoDates {
     ghost use Rattle.std.specs.Prelude.{Ok, Err};
-    ghost use Rattle.x509_der_grammar.specs.declared.error.ErrorKind.TheVariants.{Failed};
+    ghost use Rattle.x509_der_element.specs.declared.error.ErrorKind.TheVariants.{Failed};
 
     ghost serial_check = { λ content. Ok tt };
 

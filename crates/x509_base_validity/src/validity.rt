@@ -5,7 +5,7 @@ ghost use Rattle.std.specs.Duration.{as_nanos};
 ghost use Rattle.x509_base_time.specs.CivilTime.{last_date_time, unix_seconds, whole_seconds};
 ghost use Rattle.x509_base_validity.specs.Time.{IsTimeAt};
 ghost use Rattle.x509_base_validity.specs.declared.time.Time.TheVariants.{GeneralTime};
-ghost use Rattle.x509_der_grammar.specs.declared.error.ErrorKind.TheVariants.{Memory, Value};
+ghost use Rattle.x509_der_element.specs.declared.error.ErrorKind.TheVariants.{Memory, Value};
 
 use crate::profile::{Profile, Rfc5280};
 use crate::time::Time;
@@ -154,7 +154,7 @@ impl<P: Profile> Encode for Validity<P> {
 
 impl<P: Profile> FixedTag for Validity<P> {
     ghost use Rattle.std.specs.Prelude.{refl};
-    ghost use Rattle.x509_der_grammar.specs.declared.tag.Tag.TheVariants.{Sequence};
+    ghost use Rattle.x509_der_element.specs.declared.tag.Tag.TheVariants.{Sequence};
 
     ghost TAG = { Sequence };
 

@@ -1,6 +1,6 @@
-pub use Rattle.x509_der_grammar.specs.Outcome
-pub use Rattle.x509_der_grammar.specs.Element
-pub use Rattle.x509_der_grammar.specs.Tag
+pub use Rattle.x509_der_element.specs.Outcome
+pub use Rattle.x509_der_element.specs.Element
+pub use Rattle.x509_der_element.specs.Tag
 pub use Rattle.x509_der_grammar.specs.Form
 pub use Rattle.x509_der_grammar.specs.Writing
 pub use Rattle.x509_der_grammar.specs.Boolean

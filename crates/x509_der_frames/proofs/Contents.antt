@@ -1,9 +1,9 @@
 -- A content that is put on its own.
 use Rattle.std.proofs.Common.{◌≡◌, ◌⊎◌, ℕ, ◌+◌, ◌<◌, List, [], length, Option, Some, Err, inl, inr, arith, length-append}
-use Rattle.x509_der_grammar.specs.declared.error.Error.{Error}
-use Rattle.x509_der_grammar.specs.declared.error.ErrorKind.{ErrorKind}
-use Rattle.x509_der_grammar.specs.declared.error.ErrorKind.TheVariants as errors
-use Rattle.x509_der_grammar.specs.Element.{element, length_octets, limit}
+use Rattle.x509_der_element.specs.declared.error.Error.{Error}
+use Rattle.x509_der_element.specs.declared.error.ErrorKind.{ErrorKind}
+use Rattle.x509_der_element.specs.declared.error.ErrorKind.TheVariants as errors
+use Rattle.x509_der_element.specs.Element.{element, length_octets, limit}
 use Rattle.x509_der_grammar.specs.GrowingRoom.{growing}
 use Rattle.x509_der_grammar.specs.Writing.{Puts}
 

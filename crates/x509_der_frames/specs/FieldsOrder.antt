@@ -1,7 +1,7 @@
 -- The byte order of a sequence of two required fields.
 use Rattle.std.specs.Prelude.{◌≡◌, refl}
 use Rattle.std.proofs.Common.{ap, sym, ◌∙◌}
-use Rattle.x509_der_grammar.specs.Element.{limit}
+use Rattle.x509_der_element.specs.Element.{limit}
 use Rattle.x509_der_grammar.specs.Form.{Form, universal, spelling}
 use Rattle.x509_der_grammar.specs.Writing.{plain, writes}
 use Rattle.x509_der_order.specs.Order.{Order, IsOrder, der_order}

@@ -1,6 +1,6 @@
 -- Where a part that may be left out can't be written.
 use Rattle.std.specs.Prelude.{◌≡◌, ℕ, List, Option, Some, None, if◌then◌else◌, refl}
-use Rattle.x509_der_grammar.specs.declared.error.ErrorKind.{ErrorKind}
+use Rattle.x509_der_element.specs.declared.error.ErrorKind.{ErrorKind}
 use Rattle.x509_der_grammar.specs.Writing.{Writing, plain, respelling, writes, in_option}
 use Rattle.x509_der_frames.specs.Frames.{Default, optional_text}
 

@@ -1,8 +1,8 @@
 -- SEQUENCE OF: the elements of the members, one after the other (X.690 8.10).
 use Rattle.std.specs.Prelude.{ℕ, zero, suc, List, [], ◌∷◌, ◌++◌, length, Option, None, Result, Ok, Err}
-use Rattle.x509_der_grammar.specs.declared.error.ErrorKind.{ErrorKind}
-use Rattle.x509_der_grammar.specs.declared.error.ErrorKind.TheVariants.{Malformed}
-use Rattle.x509_der_grammar.specs.Outcome.{◌>>=◌}
+use Rattle.x509_der_element.specs.declared.error.ErrorKind.{ErrorKind}
+use Rattle.x509_der_element.specs.declared.error.ErrorKind.TheVariants.{Malformed}
+use Rattle.x509_der_element.specs.Outcome.{◌>>=◌}
 use Rattle.x509_der_grammar.specs.Form.{Form, Content, spelling}
 use Rattle.x509_der_grammar.specs.Writing.{Written, Writing, plain, respelling, first}
 use Rattle.x509_der_frames.specs.Frames.{field_at}

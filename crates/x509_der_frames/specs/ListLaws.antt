@@ -1,14 +1,14 @@
 -- Members one after the other are read as they are spelled.
 use Rattle.std.proofs.Common.{◌≡◌, ℕ, true, zero, suc, ◌<◌, ◌≤◌, ◌⊎◌, List, [], ◌∷◌, ◌++◌, length, Result, Ok, Err, refl, sym, ap, subst, ◌∙◌, append_assoc, arith, inl, inr, length-append}
 use Rattle.std.proofs.lemmas.List.{append-nil}
-use Rattle.x509_der_grammar.specs.declared.error.ErrorKind.{ErrorKind}
-use Rattle.x509_der_grammar.specs.declared.error.ErrorKind.TheVariants.{Malformed}
-use Rattle.x509_der_grammar.specs.declared.error.ErrorKind.TheVariants as errors
-use Rattle.x509_der_grammar.specs.Outcome.{◌>>=◌, IsRefusal}
-use Rattle.x509_der_grammar.specs.OutcomeLaws.{ok_is, bind_ok, bind_err}
-use Rattle.x509_der_grammar.specs.Element.{element, is_identifier, is_universal}
-use Rattle.x509_der_grammar.specs.ElementReading.{piece_at}
-use Rattle.x509_der_grammar.specs.ElementLaws.{piece_at-sound}
+use Rattle.x509_der_element.specs.declared.error.ErrorKind.{ErrorKind}
+use Rattle.x509_der_element.specs.declared.error.ErrorKind.TheVariants.{Malformed}
+use Rattle.x509_der_element.specs.declared.error.ErrorKind.TheVariants as errors
+use Rattle.x509_der_element.specs.Outcome.{◌>>=◌, IsRefusal}
+use Rattle.x509_der_element.specs.OutcomeLaws.{ok_is, bind_ok, bind_err}
+use Rattle.x509_der_element.specs.Element.{element, is_identifier, is_universal}
+use Rattle.x509_der_element.specs.ElementReading.{piece_at}
+use Rattle.x509_der_element.specs.ElementLaws.{piece_at-sound}
 use Rattle.x509_der_grammar.specs.Form.{Form, IsForm, IsContent, spelling}
 use Rattle.x509_der_frames.specs.Frames.{field_at}
 use Rattle.x509_der_frames.specs.FrameLaws.{field_sound, field_complete, field_refused}

@@ -2,8 +2,8 @@
 use Rattle.std.specs.Prelude.{◌≡◌, ℕ, ◌≤◌, List, [], ◌∷◌, length, Option, Some, None, refl}
 use Rattle.std.specs.List.{AllByRecursion}
 use Rattle.std.proofs.Common.{ap, arith, length-append}
-use Rattle.x509_der_grammar.specs.declared.error.ErrorKind.{ErrorKind}
-use Rattle.x509_der_grammar.specs.Element.{element, limit}
+use Rattle.x509_der_element.specs.declared.error.ErrorKind.{ErrorKind}
+use Rattle.x509_der_element.specs.Element.{element, limit}
 use Rattle.x509_der_grammar.specs.Form.{Form, universal, spelling}
 use Rattle.x509_der_grammar.specs.Writing.{Written, Writing, plain, respelling, writes, first}
 use Rattle.x509_der_order.specs.Order.{HasEncoding, Order, IsOrder, der_order}

@@ -3,7 +3,7 @@ use Rattle.std.specs.Prelude.{◌≡◌, ℕ, zero, suc, ◌+◌, ◌-◌, ◌�
 use Rattle.std.proofs.Common.{add-one, arith, length-drop}
 use Rattle.std.proofs.lemmas.List.{nil_from_length}
 use Rattle.std.proofs.Math.Seq.{drop-cons}
-use Rattle.x509_der_grammar.specs.declared.error.Error.{Error}
+use Rattle.x509_der_element.specs.declared.error.Error.{Error}
 use Rattle.x509_der_grammar.specs.Form.{Form, spelling}
 use Rattle.x509_der_grammar.specs.Writing.{Written, Writing, plain, respelling, writes, Kind, IsKind, Puts, first}
 use Rattle.x509_der_grammar.specs.WritingLaws.{puts_after, puts_not, puts_nothing}

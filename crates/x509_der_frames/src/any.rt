@@ -1,11 +1,11 @@
 //! Elements that are not looked into.
 
 ghost use Rattle.std.specs.Prelude.{◌≡◌, ◌<◌, ◌≤◌, ◌↔◌, ◌⊎◌, [], length, IfOk, IfErr, IsErrAnd, IsTrue};
-ghost use Rattle.x509_der_grammar.specs.declared.error.ErrorKind.TheVariants as errors;
-ghost use Rattle.x509_der_grammar.specs.declared.tag.Tag.TheVariants.{Null};
-ghost use Rattle.x509_der_grammar.specs.Element.{element, limit};
+ghost use Rattle.x509_der_element.specs.declared.error.ErrorKind.TheVariants as errors;
+ghost use Rattle.x509_der_element.specs.declared.tag.Tag.TheVariants.{Null};
+ghost use Rattle.x509_der_element.specs.Element.{element, limit};
 ghost use Rattle.x509_der_grammar.specs.Form.{spelling};
-ghost use Rattle.x509_der_grammar.specs.Tag.{octet_of};
+ghost use Rattle.x509_der_element.specs.Tag.{octet_of};
 ghost use Rattle.x509_der_grammar.specs.Writing.{writes, written_spelling, IsWritable, IsUnwritable};
 
 use std::alloc::Global;
@@ -149,7 +149,7 @@ impl TryClone for Any {
 
 /// A value that borrows from an element.
 pub trait FromAny<'a>: Sized {
-    ghost use Rattle.x509_der_grammar.specs.declared.error.Error.{Error};
+    ghost use Rattle.x509_der_element.specs.declared.error.Error.{Error};
     ghost use Rattle.std.specs.Prelude.{Result};
     ghost use Rattle.x509_der_frames.specs.declared.any.Any.{Any};
 

@@ -1,8 +1,8 @@
 //! SEQUENCE OF (X.690 8.10).
 
 ghost use Rattle.std.specs.Prelude.{◌≡◌, ◌↔◌, ◌++◌, [], ◌∷◌, length, IsTrue, IfOk, IfErr, OnOk, OnErr};
-ghost use Rattle.x509_der_grammar.specs.declared.error.ErrorKind.TheVariants.{Memory};
-ghost use Rattle.x509_der_grammar.specs.Outcome.{GivesBy};
+ghost use Rattle.x509_der_element.specs.declared.error.ErrorKind.TheVariants.{Memory};
+ghost use Rattle.x509_der_element.specs.Outcome.{GivesBy};
 ghost use Rattle.x509_der_grammar.specs.Writing.{Puts, writes};
 ghost use Rattle.x509_der_frames.specs.List.{list_reading, members_text, members_refusal};
 
@@ -221,7 +221,7 @@ impl<T: Encode> Encode for SequenceOf<T> {
 
 impl<T: Grammar> FixedTag for SequenceOf<T> {
     ghost use Rattle.std.specs.Prelude.{refl};
-    ghost use Rattle.x509_der_grammar.specs.declared.tag.Tag.TheVariants.{Sequence};
+    ghost use Rattle.x509_der_element.specs.declared.tag.Tag.TheVariants.{Sequence};
 
     ghost TAG = { Sequence };
 

@@ -1,9 +1,9 @@
 //! Writing what stands in a sequence. A pair of parts is the first and then the second.
 
 ghost use Rattle.std.specs.Prelude.{◌≡◌, ◌+◌, ◌<◌};
-ghost use Rattle.x509_der_grammar.specs.Element.{element};
+ghost use Rattle.x509_der_element.specs.Element.{element};
 ghost use Rattle.x509_der_grammar.specs.Form.{spelling};
-ghost use Rattle.x509_der_grammar.specs.Tag.{octet_of};
+ghost use Rattle.x509_der_element.specs.Tag.{octet_of};
 ghost use Rattle.x509_der_grammar.specs.Writing.{Puts, writes};
 ghost use Rattle.x509_der_frames.specs.Frames.{implicit_tag, optional_text, default_text};
 ghost use Rattle.x509_der_frames.specs.FrameWriting.{optional_refusal, default_refusal};
@@ -15,7 +15,7 @@ use x509_der_grammar::{Encode, Error, FixedTag, Room, put_header};
 /// What stands in a sequence, as it is written.
 pub trait PutPart {
     ghost use Rattle.std.specs.Prelude.{List, ℕ, Option};
-    ghost use Rattle.x509_der_grammar.specs.declared.error.ErrorKind.{ErrorKind};
+    ghost use Rattle.x509_der_element.specs.declared.error.ErrorKind.{ErrorKind};
     ghost use Rattle.x509_der_grammar.specs.Writing.{Puts};
 
     ghost text: { Self → List ℕ };
@@ -102,7 +102,7 @@ pub fn implicit<T: Encode + FixedTag>(n: u8, value: &T) -> Retagged<'_, T>
 }
 
 impl<T: Encode> PutPart for Retagged<'_, T> {
-    ghost use Rattle.x509_der_grammar.specs.Element.{element};
+    ghost use Rattle.x509_der_element.specs.Element.{element};
     ghost use Rattle.x509_der_grammar.specs.Writing.{writes};
 
     ghost text = { λ p. element p.tag (T.form.content (writes T.writing p.value.now).value) };
@@ -134,7 +134,7 @@ pub fn explicit<T: Encode>(n: u8, value: &T) -> Wrapped<'_, T>
 }
 
 impl<T: Encode> PutPart for Wrapped<'_, T> {
-    ghost use Rattle.x509_der_grammar.specs.Element.{element};
+    ghost use Rattle.x509_der_element.specs.Element.{element};
     ghost use Rattle.x509_der_grammar.specs.Form.{spelling};
     ghost use Rattle.x509_der_grammar.specs.Writing.{writes};
 

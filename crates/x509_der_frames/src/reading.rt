@@ -2,9 +2,9 @@
 //! refusal of the type, where the field does not stand there. Memory may be refused.
 
 ghost use Rattle.std.specs.Prelude.{◌≡◌, ◌<◌, IfErr};
-ghost use Rattle.x509_der_grammar.specs.declared.error.ErrorKind.TheVariants.{Malformed};
-ghost use Rattle.x509_der_grammar.specs.Outcome.{Gives, GivesBefore};
-ghost use Rattle.x509_der_grammar.specs.Tag.{octet_of};
+ghost use Rattle.x509_der_element.specs.declared.error.ErrorKind.TheVariants.{Malformed};
+ghost use Rattle.x509_der_element.specs.Outcome.{Gives, GivesBefore};
+ghost use Rattle.x509_der_element.specs.Tag.{octet_of};
 ghost use Rattle.x509_der_frames.specs.Frames.{optional, defaulted, explicit, implicit, implicit_tag, required, end_at};
 
 use crate::standard::Standard;

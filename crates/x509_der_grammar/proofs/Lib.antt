@@ -1,3 +1,1 @@
-pub mod Octets
-pub mod Elements
 pub mod Naturals

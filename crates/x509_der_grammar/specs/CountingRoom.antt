@@ -1,7 +1,7 @@
 -- Room that counts and keeps nothing.
 use Rattle.std.specs.Prelude.{◌≡◌, ℕ, ◌+◌, List, ◌++◌, length, refl}
 use Rattle.std.proofs.Common.{arith, length-append}
-use Rattle.x509_der_grammar.specs.Element.{limit}
+use Rattle.x509_der_element.specs.Element.{limit}
 use Rattle.x509_der_grammar.specs.Writing.{Kind, IsKind}
 use Rattle.x509_der_grammar.specs.declared.room.counting.Counting.{Counting}
 

@@ -1,10 +1,10 @@
 -- What the one element of a type's values is. A type's grammar is one record, its form.
 use Rattle.std.specs.Prelude.{◌≡◌, ℕ, ◌≤◌, Bool, true, false, ◌||◌, nat_eq, ◌⊎◌, List, [], ◌∷◌, length, Result, Ok, Err, if◌then◌else◌}
-use Rattle.x509_der_grammar.specs.declared.error.ErrorKind.{ErrorKind}
-use Rattle.x509_der_grammar.specs.declared.error.ErrorKind.TheVariants.{Malformed}
-use Rattle.x509_der_grammar.specs.Outcome.{◌>>=◌}
-use Rattle.x509_der_grammar.specs.Element.{element, is_identifier, limit}
-use Rattle.x509_der_grammar.specs.ElementReading.{Piece, piece_at}
+use Rattle.x509_der_element.specs.declared.error.ErrorKind.{ErrorKind}
+use Rattle.x509_der_element.specs.declared.error.ErrorKind.TheVariants.{Malformed}
+use Rattle.x509_der_element.specs.Outcome.{◌>>=◌}
+use Rattle.x509_der_element.specs.Element.{element, is_identifier, limit}
+use Rattle.x509_der_element.specs.ElementReading.{Piece, piece_at}
 
 -- ---- the element of a value
 

@@ -2,12 +2,12 @@
 use Rattle.std.proofs.Common.{◌≡◌, ℕ, true, eqb, ◌⊎◌, List, [], ◌∷◌, ◌++◌, Ok, Err, refl, sym, ◌∙◌, inl, inr}
 use Rattle.std.proofs.lemmas.Bool.{eqb-true, eq-eqb, or_left}
 use Rattle.std.proofs.lemmas.List.{append-nil}
-use Rattle.x509_der_grammar.specs.declared.error.ErrorKind.{ErrorKind}
-use Rattle.x509_der_grammar.specs.declared.error.ErrorKind.TheVariants.{Malformed}
-use Rattle.x509_der_grammar.specs.OutcomeLaws.{bind_ok, bind_err, test_ok, test_err}
-use Rattle.x509_der_grammar.specs.Element.{element}
-use Rattle.x509_der_grammar.specs.ElementReading.{piece_at}
-use Rattle.x509_der_grammar.specs.ElementLaws.{piece_at-sound, piece_at-whole, piece_at-refused}
+use Rattle.x509_der_element.specs.declared.error.ErrorKind.{ErrorKind}
+use Rattle.x509_der_element.specs.declared.error.ErrorKind.TheVariants.{Malformed}
+use Rattle.x509_der_element.specs.OutcomeLaws.{bind_ok, bind_err, test_ok, test_err}
+use Rattle.x509_der_element.specs.Element.{element}
+use Rattle.x509_der_element.specs.ElementReading.{piece_at}
+use Rattle.x509_der_element.specs.ElementLaws.{piece_at-sound, piece_at-whole, piece_at-refused}
 use Rattle.x509_der_grammar.specs.Form.{is_in, is_empty, Form, spelling, IsForm, Content, IsContent, alone, whole_reading, universal}
 
 pub is_empty-true : (bytes : List ℕ) → is_empty bytes ≡ true → bytes ≡ []

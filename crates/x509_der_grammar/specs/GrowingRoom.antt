@@ -1,7 +1,7 @@
 -- Room that grows as it is filled, up to the limit.
 use Rattle.std.specs.Prelude.{◌≡◌, ℕ, List, ◌++◌, length, refl}
 use Rattle.std.proofs.Common.{arith, ap, sym, ◌∙◌, append_assoc, length-append}
-use Rattle.x509_der_grammar.specs.Element.{limit}
+use Rattle.x509_der_element.specs.Element.{limit}
 use Rattle.x509_der_grammar.specs.Writing.{Kind, IsKind}
 
 abbrev pub growing : Kind (List ℕ)

@@ -1,10 +1,3 @@
-pub mod Outcome
-pub mod OutcomeLaws
-pub mod Element
-pub mod ElementReading
-pub mod ElementLaws
-pub mod Tag
-pub mod TagLaws
 pub mod Form
 pub mod FormLaws
 pub mod Writing
@@ -12,9 +5,7 @@ pub mod WritingLaws
 pub mod CountingRoom
 pub mod GrowingRoom
 pub mod FixedRoom
-pub mod ContentLaws
 pub mod Boolean
 pub mod Natural
 pub mod NaturalLaws
-pub mod TagReading
 pub mod SpellingLaws

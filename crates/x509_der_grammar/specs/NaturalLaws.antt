@@ -4,10 +4,10 @@ use Rattle.std.specs.Prelude.{◌&&◌, not, nat_eq, nat_lt, nat_le}
 use Rattle.std.proofs.lemmas.Bool.{cases_lt, and_parts, lt-ltb, le-ltb, ltb-true, leb-true, le-leb}
 use Rattle.std.proofs.lemmas.Bool.Decides.{nat_tests}
 use Rattle.std.proofs.lemmas.List.{append-nil}
-use Rattle.x509_der_grammar.specs.declared.error.ErrorKind.{ErrorKind}
-use Rattle.x509_der_grammar.specs.declared.error.ErrorKind.TheVariants.{Malformed}
-use Rattle.x509_der_grammar.specs.OutcomeLaws.{ok_is, test_ok, test_err}
-use Rattle.x509_der_grammar.specs.Element.{is_identifier, is_universal}
+use Rattle.x509_der_element.specs.declared.error.ErrorKind.{ErrorKind}
+use Rattle.x509_der_element.specs.declared.error.ErrorKind.TheVariants.{Malformed}
+use Rattle.x509_der_element.specs.OutcomeLaws.{ok_is, test_ok, test_err}
+use Rattle.x509_der_element.specs.Element.{is_identifier, is_universal}
 use Rattle.x509_der_grammar.specs.Form.{IsForm, IsContent}
 use Rattle.x509_der_grammar.specs.FormLaws.{universal_lawful}
 use Rattle.x509_der_grammar.specs.Natural.{digits, natural_octets, number_after, are_octets, is_shortest, is_natural, natural_reading, natural_content, natural}

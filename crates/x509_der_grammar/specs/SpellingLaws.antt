@@ -1,11 +1,11 @@
 -- No element and no spelling begins another, and none is that of two values.
 use Rattle.std.proofs.Common.{Ok, ◌≡◌, ℕ, List, [], ◌∷◌, ◌++◌, length, take, drop, refl, sym, ap, ◌∙◌, append_assoc}
 use Rattle.std.proofs.lemmas.List.{take_at, drop_at}
-use Rattle.x509_der_grammar.specs.declared.error.ErrorKind.{ErrorKind}
-use Rattle.x509_der_grammar.specs.Element.{element, length_octets}
-use Rattle.x509_der_grammar.specs.ElementReading.{length_at}
-use Rattle.x509_der_grammar.specs.ElementLaws.{length_at-length_octets}
-use Rattle.x509_der_grammar.specs.OutcomeLaws.{ok_is}
+use Rattle.x509_der_element.specs.declared.error.ErrorKind.{ErrorKind}
+use Rattle.x509_der_element.specs.Element.{element, length_octets}
+use Rattle.x509_der_element.specs.ElementReading.{length_at}
+use Rattle.x509_der_element.specs.ElementLaws.{length_at-length_octets}
+use Rattle.x509_der_element.specs.OutcomeLaws.{ok_is}
 use Rattle.x509_der_grammar.specs.Form.{Form, IsForm, spelling, Spells}
 
 same_heads : (s t : ℕ) (a b : List ℕ) → s ∷ a ≡ t ∷ b → (s ≡ t) × (a ≡ b)

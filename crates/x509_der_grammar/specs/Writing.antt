@@ -1,9 +1,9 @@
 -- What is written of a value, and what a call that writes leaves.
 use Rattle.std.specs.Prelude.{◌≡◌, ℕ, ◌+◌, ◌<◌, ◌≤◌, ◌⊎◌, List, [], ◌++◌, length, Option, Some, None, Result, Ok, Err}
-use Rattle.x509_der_grammar.specs.declared.error.Error.{Error}
-use Rattle.x509_der_grammar.specs.declared.error.ErrorKind.{ErrorKind}
-use Rattle.x509_der_grammar.specs.declared.error.ErrorKind.TheVariants.{Memory, Overlength}
-use Rattle.x509_der_grammar.specs.Element.{limit}
+use Rattle.x509_der_element.specs.declared.error.Error.{Error}
+use Rattle.x509_der_element.specs.declared.error.ErrorKind.{ErrorKind}
+use Rattle.x509_der_element.specs.declared.error.ErrorKind.TheVariants.{Memory, Overlength}
+use Rattle.x509_der_element.specs.Element.{limit}
 use Rattle.x509_der_grammar.specs.Form.{Form, spelling}
 
 -- ---- values

@@ -1,9 +1,9 @@
 -- Texts put one in front of the other.
 use Rattle.std.proofs.Common.{◌≡◌, ◌⊎◌, ℕ, ◌+◌, ◌-◌, ◌<◌, ◌≤◌, List, [], ◌++◌, length, Option, Some, None, Result, Ok, Err, refl, sym, ◌∙◌, arith, length-append, inl, inr}
-use Rattle.x509_der_grammar.specs.declared.error.Error.{Error}
-use Rattle.x509_der_grammar.specs.declared.error.ErrorKind.{ErrorKind}
-use Rattle.x509_der_grammar.specs.Element.{element, header, limit}
-use Rattle.x509_der_grammar.specs.declared.error.ErrorKind.TheVariants.{Overlength}
+use Rattle.x509_der_element.specs.declared.error.Error.{Error}
+use Rattle.x509_der_element.specs.declared.error.ErrorKind.{ErrorKind}
+use Rattle.x509_der_element.specs.Element.{element, header, limit}
+use Rattle.x509_der_element.specs.declared.error.ErrorKind.TheVariants.{Overlength}
 use Rattle.x509_der_grammar.specs.declared.room.counting.Counting.{Counting}
 use Rattle.x509_der_grammar.specs.Writing.{first, Kind, IsKind, Puts}
 use Rattle.x509_der_grammar.specs.CountingRoom.{counting, counting_lawful}

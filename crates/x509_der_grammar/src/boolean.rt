@@ -2,11 +2,10 @@
 
 use crate::decode::{Decode, expect_tag};
 use crate::encode::Encode;
-use crate::error::{Error, ErrorKind};
 use crate::grammar::{FixedTag, Grammar};
 use crate::room::Room;
-use crate::tag::Tag;
 use std::alloc::Global;
+use x509_der_element::{Error, ErrorKind, Tag};
 
 impl Grammar for bool {
     ghost use Rattle.x509_der_grammar.specs.Boolean.{boolean, boolean_lawful};
@@ -49,7 +48,7 @@ impl Encode for bool {
 
 impl FixedTag for bool {
     ghost use Rattle.std.specs.Prelude.{refl};
-    ghost use Rattle.x509_der_grammar.specs.declared.tag.Tag.TheVariants.{Boolean};
+    ghost use Rattle.x509_der_element.specs.declared.tag.Tag.TheVariants.{Boolean};
 
     ghost TAG = { Boolean };
 

@@ -1,25 +1,22 @@
 //! Reading a value from the bytes of its one spelling.
 
 ghost use Rattle.std.specs.Prelude.{◌≡◌, IfErr};
-ghost use Rattle.x509_der_grammar.specs.declared.error.ErrorKind.TheVariants.{Malformed};
-ghost use Rattle.x509_der_grammar.specs.Outcome.{Gives};
+ghost use Rattle.x509_der_element.specs.declared.error.ErrorKind.TheVariants.{Malformed};
+ghost use Rattle.x509_der_element.specs.Outcome.{Gives};
 ghost use Rattle.x509_der_grammar.specs.Form.{whole_reading, tag_at};
-ghost use Rattle.x509_der_grammar.specs.Tag.{octet_of};
+ghost use Rattle.x509_der_element.specs.Tag.{octet_of};
 
-use crate::element::split_element;
-use crate::error::{Error, ErrorKind};
 use crate::grammar::Grammar;
-use crate::length::Length;
-use crate::tag::Tag;
 use std::alloc::Global;
+use x509_der_element::{Error, ErrorKind, Length, Tag, split_element};
 
 /// A type that is read from its spelling.
 pub trait Decode: Grammar {
     ghost use Rattle.std.specs.Prelude.{◌≡◌, List, length, ◌<◌, ◌≤◌, ◌⊎◌, IfOk, IfErr, IsErrAnd};
-    ghost use Rattle.x509_der_grammar.specs.Outcome.{Gives};
-    ghost use Rattle.x509_der_grammar.specs.Element.{limit};
+    ghost use Rattle.x509_der_element.specs.Outcome.{Gives};
+    ghost use Rattle.x509_der_element.specs.Element.{limit};
     ghost use Rattle.x509_der_grammar.specs.Form.{Spells, whole_reading};
-    ghost use Rattle.x509_der_grammar.specs.declared.error.ErrorKind.TheVariants as errors;
+    ghost use Rattle.x509_der_element.specs.declared.error.ErrorKind.TheVariants as errors;
 
     /// The value of an element with this identifier octet and this content.
     fn read(alloc: Global, tag: u8, content: &[u8]) -> Result<Self, Error>

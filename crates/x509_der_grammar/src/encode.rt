@@ -1,22 +1,21 @@
 //! Writing a value as the bytes of its one spelling.
 
 ghost use Rattle.std.specs.Prelude.{◌≡◌, ◌≤◌, None};
-ghost use Rattle.x509_der_grammar.specs.Element.{header, limit};
+ghost use Rattle.x509_der_element.specs.Element.{header, limit};
 ghost use Rattle.x509_der_grammar.specs.Writing.{Puts};
 
-use crate::error::Error;
 use crate::grammar::Grammar;
-use crate::length::Length;
 use crate::room::{Counting, Fixed, Growing, Room};
 use std::alloc::Global;
+use x509_der_element::{Error, Length};
 
 /// A type that is written as its spelling, in one pass from the end.
 pub trait Encode: Grammar {
     ghost use Rattle.std.specs.Prelude.{◌≡◌, ◌+◌, ◌<◌, ◌≤◌, ◌++◌, ◌⊎◌, Some, None, IfOk, IfErr, OnOk, length, take, min};
-    ghost use Rattle.x509_der_grammar.specs.Element.{limit};
+    ghost use Rattle.x509_der_element.specs.Element.{limit};
     ghost use Rattle.x509_der_grammar.specs.Form.{spelling};
     ghost use Rattle.x509_der_grammar.specs.Writing.{Writing, plain, writes, Puts, IsWritable, IsUnwritable, written_spelling};
-    ghost use Rattle.x509_der_grammar.specs.declared.error.ErrorKind.TheVariants as errors;
+    ghost use Rattle.x509_der_element.specs.declared.error.ErrorKind.TheVariants as errors;
 
     /// How values are written.
     ghost writing: { Writing Self } = { plain };
@@ -101,7 +100,7 @@ pub trait Encode: Grammar {
 }
 
 /// Puts an identifier octet and the length of what follows.
-#[tactic(auto, unfolding(crate::specs::Element::length_octets))]
+#[tactic(auto, unfolding(x509_der_element::specs::Element::length_octets))]
 pub fn put_header<R: Room>(tag: u8, len: u32, room: &mut R) -> Result<(), Error>
     requires { len ≤ limit }
     ensures { Puts R.kind (header tag len) None result room.old room.new }

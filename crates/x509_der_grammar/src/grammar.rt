@@ -1,13 +1,13 @@
 //! The written form of a type.
 
-use crate::tag::Tag;
+use x509_der_element::Tag;
 
 /// A type each value of which is one element. What reading and writing speak of.
 pub trait Grammar: Sized {
     ghost use Rattle.std.specs.Prelude.{◌≡◌};
-    ghost use Rattle.x509_der_grammar.specs.declared.error.ErrorKind.{ErrorKind};
+    ghost use Rattle.x509_der_element.specs.declared.error.ErrorKind.{ErrorKind};
     ghost use Rattle.x509_der_grammar.specs.Form.{Form, IsForm, is_in};
-    ghost use Rattle.x509_der_grammar.specs.Tag.{octet_of};
+    ghost use Rattle.x509_der_element.specs.Tag.{octet_of};
 
     ghost form: { Form Self };
 
@@ -28,7 +28,7 @@ pub trait Grammar: Sized {
 /// A value with an identifier.
 pub trait Tagged {
     ghost use Rattle.std.specs.Prelude.{◌≡◌, ℕ};
-    ghost use Rattle.x509_der_grammar.specs.Tag.{octet_of};
+    ghost use Rattle.x509_der_element.specs.Tag.{octet_of};
 
     ghost identifier_octet: { Self → ℕ };
 
@@ -47,9 +47,9 @@ impl<T: Grammar> Tagged for T {
 
 /// A type whose values have one identifier.
 pub trait FixedTag: Grammar {
-    ghost use Rattle.x509_der_grammar.specs.declared.tag.Tag.{Tag};
+    ghost use Rattle.x509_der_element.specs.declared.tag.Tag.{Tag};
     ghost use Rattle.x509_der_grammar.specs.Form.{HasTag};
-    ghost use Rattle.x509_der_grammar.specs.Tag.{octet_of};
+    ghost use Rattle.x509_der_element.specs.Tag.{octet_of};
 
     ghost TAG: { Tag };
 

@@ -2,12 +2,11 @@
 
 use crate::decode::{Decode, expect_tag};
 use crate::encode::Encode;
-use crate::error::{Error, ErrorKind};
 use crate::grammar::{FixedTag, Grammar};
 use crate::natural::{put_natural, read_natural};
 use crate::room::Room;
-use crate::tag::Tag;
 use std::alloc::Global;
+use x509_der_element::{Error, ErrorKind, Tag};
 
 impl Grammar for u8 {
     ghost use Rattle.std.specs.Prelude.{◌^◌};
@@ -51,7 +50,7 @@ impl Encode for u8 {
 
 impl FixedTag for u8 {
     ghost use Rattle.std.specs.Prelude.{refl};
-    ghost use Rattle.x509_der_grammar.specs.declared.tag.Tag.TheVariants.{Integer};
+    ghost use Rattle.x509_der_element.specs.declared.tag.Tag.TheVariants.{Integer};
 
     ghost TAG = { Integer };
 
@@ -102,7 +101,7 @@ impl Encode for u16 {
 
 impl FixedTag for u16 {
     ghost use Rattle.std.specs.Prelude.{refl};
-    ghost use Rattle.x509_der_grammar.specs.declared.tag.Tag.TheVariants.{Integer};
+    ghost use Rattle.x509_der_element.specs.declared.tag.Tag.TheVariants.{Integer};
 
     ghost TAG = { Integer };
 
@@ -153,7 +152,7 @@ impl Encode for u32 {
 
 impl FixedTag for u32 {
     ghost use Rattle.std.specs.Prelude.{refl};
-    ghost use Rattle.x509_der_grammar.specs.declared.tag.Tag.TheVariants.{Integer};
+    ghost use Rattle.x509_der_element.specs.declared.tag.Tag.TheVariants.{Integer};
 
     ghost TAG = { Integer };
 
@@ -204,7 +203,7 @@ impl Encode for u64 {
 
 impl FixedTag for u64 {
     ghost use Rattle.std.specs.Prelude.{refl};
-    ghost use Rattle.x509_der_grammar.specs.declared.tag.Tag.TheVariants.{Integer};
+    ghost use Rattle.x509_der_element.specs.declared.tag.Tag.TheVariants.{Integer};
 
     ghost TAG = { Integer };
 
@@ -251,7 +250,7 @@ impl Encode for u128 {
 
 impl FixedTag for u128 {
     ghost use Rattle.std.specs.Prelude.{refl};
-    ghost use Rattle.x509_der_grammar.specs.declared.tag.Tag.TheVariants.{Integer};
+    ghost use Rattle.x509_der_element.specs.declared.tag.Tag.TheVariants.{Integer};
 
     ghost TAG = { Integer };
 

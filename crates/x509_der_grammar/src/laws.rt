@@ -2,9 +2,9 @@
 //! whose contract is the law.
 
 ghost use Rattle.std.specs.Prelude.{◌≡◌, ◌++◌, List, ℕ, None};
-ghost use Rattle.x509_der_grammar.specs.Element.{element};
-ghost use Rattle.x509_der_grammar.specs.Tag.{octet_of};
-ghost use Rattle.x509_der_grammar.specs.declared.tag.Tag.{Tag};
+ghost use Rattle.x509_der_element.specs.Element.{element};
+ghost use Rattle.x509_der_element.specs.Tag.{octet_of};
+ghost use Rattle.x509_der_element.specs.declared.tag.Tag.{Tag};
 ghost use Rattle.x509_der_grammar.specs.Form.{spelling, Spells};
 ghost use Rattle.x509_der_grammar.specs.Writing.{IsStable, writes, written_spelling};
 

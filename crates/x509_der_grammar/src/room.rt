@@ -1,6 +1,6 @@
 //! Rooms that are filled from their end.
 
-use crate::error::Error;
+use x509_der_element::Error;
 
 mod counting;
 mod fixed;

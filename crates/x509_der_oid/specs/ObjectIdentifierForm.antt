@@ -1,12 +1,12 @@
 -- OBJECT IDENTIFIER, as its content octets (X.690 8.19).
 use Rattle.std.specs.Prelude.{◌≡◌, ℕ, true, List, Result, Ok, Err, if◌then◌else◌, refl}
 use Rattle.std.proofs.Common.{inl, inr, sym}
-use Rattle.x509_der_grammar.specs.declared.error.ErrorKind.{ErrorKind}
-use Rattle.x509_der_grammar.specs.declared.error.ErrorKind.TheVariants.{Malformed}
-use Rattle.x509_der_grammar.specs.Element.{is_identifier, is_universal}
+use Rattle.x509_der_element.specs.declared.error.ErrorKind.{ErrorKind}
+use Rattle.x509_der_element.specs.declared.error.ErrorKind.TheVariants.{Malformed}
+use Rattle.x509_der_element.specs.Element.{is_identifier, is_universal}
 use Rattle.x509_der_grammar.specs.Form.{Form, IsForm, Content, IsContent, universal}
 use Rattle.x509_der_grammar.specs.FormLaws.{universal_lawful}
-use Rattle.x509_der_grammar.specs.OutcomeLaws.{ok_is, test_ok, test_err}
+use Rattle.x509_der_element.specs.OutcomeLaws.{ok_is, test_ok, test_err}
 use Rattle.x509_der_grammar.specs.Writing.{Written}
 use Rattle.x509_der_order.specs.Order.{IsOrder}
 use Rattle.x509_der_order.specs.Ordered.{by_bytes, by_bytes_lawful}

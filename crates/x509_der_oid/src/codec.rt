@@ -44,7 +44,7 @@ impl Encode for ObjectIdentifier {
 
 impl FixedTag for ObjectIdentifier {
     ghost use Rattle.std.specs.Prelude.{refl};
-    ghost use Rattle.x509_der_grammar.specs.declared.tag.Tag.TheVariants.{ObjectIdentifier as object_identifier_tag};
+    ghost use Rattle.x509_der_element.specs.declared.tag.Tag.TheVariants.{ObjectIdentifier as object_identifier_tag};
 
     ghost TAG = { object_identifier_tag };
 

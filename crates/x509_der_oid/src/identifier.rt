@@ -1,8 +1,8 @@
 //! The value of an OBJECT IDENTIFIER.
 
 ghost use Rattle.std.specs.Prelude.{◌≡◌, ◌*◌, ◌≤◌, ℕ, List, true, IfOk, IfErr, Ok, Err, if◌then◌else◌};
-ghost use Rattle.x509_der_grammar.specs.Outcome.{Gives};
-ghost use Rattle.x509_der_grammar.specs.declared.error.ErrorKind.TheVariants.{Failed, Malformed};
+ghost use Rattle.x509_der_element.specs.Outcome.{Gives};
+ghost use Rattle.x509_der_element.specs.declared.error.ErrorKind.TheVariants.{Failed, Malformed};
 ghost use Rattle.x509_der_oid.specs.Arcs.{AreArcs, content_of, dotted};
 ghost use Rattle.x509_der_oid.specs.ObjectIdentifier.{arcs_of, first_arc, is_object_identifier};
 

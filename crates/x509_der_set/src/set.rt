@@ -6,7 +6,7 @@ ghost use Rattle.std.specs.List.Sorted.{IsStrictlySortedBy, IsPermutation};
 ghost use Rattle.std.specs.Iterator.Adapters.{IterYieldsInOrder, IterYieldsInReverse};
 ghost use Rattle.std.specs.Slice.Iter.{iter_rest};
 ghost use Rattle.x509_der_grammar.specs.Writing.{writes};
-ghost use Rattle.x509_der_grammar.specs.declared.error.ErrorKind.TheVariants as errors;
+ghost use Rattle.x509_der_element.specs.declared.error.ErrorKind.TheVariants as errors;
 ghost use Rattle.x509_der_order.specs.Order.{der_order};
 ghost use Rattle.x509_der_set.specs.Set.{AreDistinct};
 
@@ -200,7 +200,7 @@ impl<T: DerOrd> Encode for SetOfVec<T> {
 
 impl<T: DerOrd> FixedTag for SetOfVec<T> {
     ghost use Rattle.std.specs.Prelude.{refl};
-    ghost use Rattle.x509_der_grammar.specs.declared.tag.Tag.TheVariants.{Set};
+    ghost use Rattle.x509_der_element.specs.declared.tag.Tag.TheVariants.{Set};
 
     ghost TAG = { Set };
 

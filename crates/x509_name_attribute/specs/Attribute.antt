@@ -1,6 +1,6 @@
 -- Attribute: oid: OBJECT IDENTIFIER, values: SET OF ANY (RFC 2986 4.1)
 use Rattle.std.specs.Prelude.{ℕ, List, refl}
-use Rattle.x509_der_grammar.specs.declared.error.ErrorKind.{ErrorKind}
+use Rattle.x509_der_element.specs.declared.error.ErrorKind.{ErrorKind}
 use Rattle.x509_der_grammar.specs.Form.{Form, IsForm, universal}
 use Rattle.x509_der_grammar.specs.FormLaws.{universal_lawful}
 use Rattle.x509_der_grammar.specs.Writing.{plain, writes}

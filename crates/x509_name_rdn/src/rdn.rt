@@ -5,7 +5,7 @@ ghost use Rattle.std.specs.Option.{option_copied};
 ghost use Rattle.std.specs.List.Sorted.{IsStrictlySortedBy, IsPermutation};
 ghost use Rattle.std.specs.Iterator.Adapters.{IterYieldsInOrder, IterYieldsInReverse};
 ghost use Rattle.std.specs.Slice.Iter.{iter_rest};
-ghost use Rattle.x509_der_grammar.specs.declared.error.ErrorKind.TheVariants as errors;
+ghost use Rattle.x509_der_element.specs.declared.error.ErrorKind.TheVariants as errors;
 ghost use Rattle.x509_der_set.specs.Set.{AreDistinct};
 ghost use Rattle.x509_name_attribute.specs.TypeAndValue.{type_and_value_cmp};
 
@@ -167,7 +167,7 @@ impl Encode for RelativeDistinguishedName {
 
 impl FixedTag for RelativeDistinguishedName {
     ghost use Rattle.std.specs.Prelude.{refl};
-    ghost use Rattle.x509_der_grammar.specs.declared.tag.Tag.TheVariants.{Set};
+    ghost use Rattle.x509_der_element.specs.declared.tag.Tag.TheVariants.{Set};
 
     ghost TAG = { Set };
 

@@ -3,7 +3,7 @@
 ghost use Rattle.std.specs.Prelude.{◌≡◌, ◌<◌, ◌^◌, ◌↔◌, ◌++◌, [], ◌∷◌, length, List, IsTrue, IfErr, OnOk, OnErr};
 ghost use Rattle.std.specs.Iterator.Adapters.{IterYieldsInOrder, IterYieldsInReverse};
 ghost use Rattle.std.specs.Slice.Iter.{iter_rest};
-ghost use Rattle.x509_der_grammar.specs.declared.error.ErrorKind.TheVariants.{Memory};
+ghost use Rattle.x509_der_element.specs.declared.error.ErrorKind.TheVariants.{Memory};
 ghost use Rattle.x509_name_attribute.specs.declared.type_and_value.AttributeTypeAndValue.{AttributeTypeAndValue};
 
 use crate::rdn::RelativeDistinguishedName;
@@ -143,7 +143,7 @@ impl Encode for RdnSequence {
 
 impl FixedTag for RdnSequence {
     ghost use Rattle.std.specs.Prelude.{refl};
-    ghost use Rattle.x509_der_grammar.specs.declared.tag.Tag.TheVariants.{Sequence};
+    ghost use Rattle.x509_der_element.specs.declared.tag.Tag.TheVariants.{Sequence};
 
     ghost TAG = { Sequence };
 

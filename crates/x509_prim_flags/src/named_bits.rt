@@ -1,7 +1,7 @@
 //! Sets of named bits (X.680 22.7).
 
 ghost use Rattle.std.specs.Prelude.{◌≡◌, ◌<◌, Some, None, MatchOption};
-ghost use Rattle.x509_der_grammar.specs.Outcome.{Gives};
+ghost use Rattle.x509_der_element.specs.Outcome.{Gives};
 ghost use Rattle.x509_der_grammar.specs.Writing.{Puts};
 ghost use Rattle.x509_der_order.specs.Order.{bytes_cmp};
 ghost use Rattle.x509_prim_flags.specs.NamedBits as grammar;

@@ -1,7 +1,7 @@
 -- INTEGER: a whole number as a two's complement number in octets, as few as there can be (X.690 8.3).
 use Rattle.std.specs.Prelude.{◌≡◌, ℕ, ◌+◌, ◌-◌, ◌*◌, Bool, true, false, ◌&&◌, not, nat_eq, nat_lt, nat_le, List, [], ◌∷◌, ℤ, pos, negsuc, map, fold, Result, Ok, Err, if◌then◌else◌}
-use Rattle.x509_der_grammar.specs.declared.error.ErrorKind.{ErrorKind}
-use Rattle.x509_der_grammar.specs.declared.error.ErrorKind.TheVariants.{Malformed}
+use Rattle.x509_der_element.specs.declared.error.ErrorKind.{ErrorKind}
+use Rattle.x509_der_element.specs.declared.error.ErrorKind.TheVariants.{Malformed}
 use Rattle.x509_der_grammar.specs.Form.{Form, Content, universal}
 
 -- ---- contents

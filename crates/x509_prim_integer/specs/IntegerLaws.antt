@@ -1,11 +1,11 @@
 -- The contents of integers are read as they are written.
 use Rattle.std.proofs.Common.{◌≡◌, ℕ, Bool, true, List, Ok, Err, refl, sym, subst, inl, inr}
-use Rattle.x509_der_grammar.specs.declared.error.ErrorKind.{ErrorKind}
-use Rattle.x509_der_grammar.specs.declared.error.ErrorKind.TheVariants.{Malformed}
-use Rattle.x509_der_grammar.specs.Element.{is_identifier, is_universal}
+use Rattle.x509_der_element.specs.declared.error.ErrorKind.{ErrorKind}
+use Rattle.x509_der_element.specs.declared.error.ErrorKind.TheVariants.{Malformed}
+use Rattle.x509_der_element.specs.Element.{is_identifier, is_universal}
 use Rattle.x509_der_grammar.specs.Form.{IsForm, IsContent}
 use Rattle.x509_der_grammar.specs.FormLaws.{universal_lawful}
-use Rattle.x509_der_grammar.specs.OutcomeLaws.{ok_is, test_ok, test_err}
+use Rattle.x509_der_element.specs.OutcomeLaws.{ok_is, test_ok, test_err}
 use Rattle.x509_prim_integer.specs.Integer.{is_integer, is_unsigned, tested_reading, tested_content, integer, unsigned_integer}
 
 tested_sound : (is_good : List ℕ → Bool) (bytes octets : List ℕ) → tested_reading is_good bytes ≡ Ok octets → (is_good octets ≡ true) × (bytes ≡ octets)

@@ -1,10 +1,10 @@
 -- OCTET STRING: any octets, as they are (X.690 8.7).
 use Rattle.std.specs.Prelude.{ℕ, List, Ok, refl}
-use Rattle.x509_der_grammar.specs.declared.error.ErrorKind.{ErrorKind}
-use Rattle.x509_der_grammar.specs.Element.{is_identifier, is_universal}
+use Rattle.x509_der_element.specs.declared.error.ErrorKind.{ErrorKind}
+use Rattle.x509_der_element.specs.Element.{is_identifier, is_universal}
 use Rattle.x509_der_grammar.specs.Form.{Form, IsForm, Content, IsContent, universal}
 use Rattle.x509_der_grammar.specs.FormLaws.{universal_lawful}
-use Rattle.x509_der_grammar.specs.OutcomeLaws.{ok_is}
+use Rattle.x509_der_element.specs.OutcomeLaws.{ok_is}
 
 -- a value is the list of its octets
 abbrev pub octet_string_content : Content (List ℕ)

@@ -6,8 +6,8 @@ ghost use Rattle.std.specs.Hash as fed;
 ghost use Rattle.std.specs.Cmp.{partial_equiv_from_equiv};
 ghost use Rattle.std.specs.Cmp.Lexicographic.{nat_list_eq_equiv};
 ghost use Rattle.std.specs.Cmp.Rules.{hashing};
-ghost use Rattle.x509_der_grammar.specs.declared.error.ErrorKind.TheVariants as errors;
-ghost use Rattle.x509_der_grammar.specs.Element.{limit};
+ghost use Rattle.x509_der_element.specs.declared.error.ErrorKind.TheVariants as errors;
+ghost use Rattle.x509_der_element.specs.Element.{limit};
 ghost use Rattle.x509_der_grammar.specs.Form.{spelling};
 ghost use Rattle.x509_prim_string.specs.OctetString.{octet_string};
 
@@ -126,7 +126,7 @@ impl ValueOrd for OctetString {
 
 impl FixedTag for OctetString {
     ghost use Rattle.std.specs.Prelude.{refl};
-    ghost use Rattle.x509_der_grammar.specs.declared.tag.Tag.TheVariants as tags;
+    ghost use Rattle.x509_der_element.specs.declared.tag.Tag.TheVariants as tags;
 
     ghost TAG = { tags.OctetString };
 

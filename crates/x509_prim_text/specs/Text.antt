@@ -1,12 +1,12 @@
 -- Texts: the content octets are the octets of the characters (X.690 8.23).
 use Rattle.std.specs.Prelude.{◌≡◌, ℕ, Bool, true, List, Result, Ok, Err, if◌then◌else◌, refl}
 use Rattle.std.proofs.Common.{inl, inr, sym, subst}
-use Rattle.x509_der_grammar.specs.declared.error.ErrorKind.{ErrorKind}
-use Rattle.x509_der_grammar.specs.declared.error.ErrorKind.TheVariants.{Malformed}
-use Rattle.x509_der_grammar.specs.Element.{is_identifier}
+use Rattle.x509_der_element.specs.declared.error.ErrorKind.{ErrorKind}
+use Rattle.x509_der_element.specs.declared.error.ErrorKind.TheVariants.{Malformed}
+use Rattle.x509_der_element.specs.Element.{is_identifier}
 use Rattle.x509_der_grammar.specs.Form.{Form, IsForm, Content, IsContent, universal}
 use Rattle.x509_der_grammar.specs.FormLaws.{universal_lawful}
-use Rattle.x509_der_grammar.specs.OutcomeLaws.{ok_is, test_ok, test_err}
+use Rattle.x509_der_element.specs.OutcomeLaws.{ok_is, test_ok, test_err}
 
 unfoldable pub text_reading : (List ℕ → Bool) → List ℕ → Result (List ℕ) ErrorKind
 text_reading is_text bytes = if is_text bytes then Ok bytes else Err Malformed

@@ -8,7 +8,7 @@ ghost use Rattle.std.specs.Cmp.Lexicographic.{nat_list_eq_equiv};
 ghost use Rattle.std.specs.Cmp.Rules.{hashing};
 ghost use Rattle.std.specs.List.{list_all};
 ghost use Rattle.std.specs.Str.{chars};
-ghost use Rattle.x509_der_grammar.specs.declared.error.ErrorKind.TheVariants as errors;
+ghost use Rattle.x509_der_element.specs.declared.error.ErrorKind.TheVariants as errors;
 ghost use Rattle.x509_prim_text.specs.Bmp as plane;
 
 use std::alloc::Global;
@@ -125,8 +125,8 @@ impl BmpString {
 }
 
 impl Grammar for BmpString {
-    ghost use Rattle.x509_der_grammar.specs.TagLaws.{is_identifier-octet_of};
-    ghost use Rattle.x509_der_grammar.specs.declared.tag.Tag.TheVariants as tags;
+    ghost use Rattle.x509_der_element.specs.TagLaws.{is_identifier-octet_of};
+    ghost use Rattle.x509_der_element.specs.declared.tag.Tag.TheVariants as tags;
     ghost use Rattle.x509_prim_text.specs.Bmp.{is_bmp};
     ghost use Rattle.x509_prim_text.specs.Text.{text, text_lawful};
 
@@ -167,7 +167,7 @@ impl Encode for BmpString {
 
 impl FixedTag for BmpString {
     ghost use Rattle.std.specs.Prelude.{refl};
-    ghost use Rattle.x509_der_grammar.specs.declared.tag.Tag.TheVariants as tags;
+    ghost use Rattle.x509_der_element.specs.declared.tag.Tag.TheVariants as tags;
 
     ghost TAG = { tags.BmpString };
 

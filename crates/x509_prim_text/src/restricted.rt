@@ -7,7 +7,7 @@ ghost use Rattle.std.specs.Cmp.{partial_equiv_from_equiv};
 ghost use Rattle.std.specs.Cmp.Lexicographic.{nat_list_eq_equiv};
 ghost use Rattle.std.specs.Cmp.Rules.{hashing};
 ghost use Rattle.std.specs.List.{list_all};
-ghost use Rattle.x509_der_grammar.specs.declared.error.ErrorKind.TheVariants as errors;
+ghost use Rattle.x509_der_element.specs.declared.error.ErrorKind.TheVariants as errors;
 
 use crate::alphabet::Alphabet;
 use crate::restricted_ref::{check_text, text_of};
@@ -69,8 +69,8 @@ impl<A: Alphabet> RestrictedString<A> {
 
 impl<A: Alphabet> Grammar for RestrictedString<A> {
     ghost use Rattle.std.specs.List.{list_all};
-    ghost use Rattle.x509_der_grammar.specs.Tag.{octet_of};
-    ghost use Rattle.x509_der_grammar.specs.TagLaws.{is_identifier-octet_of};
+    ghost use Rattle.x509_der_element.specs.Tag.{octet_of};
+    ghost use Rattle.x509_der_element.specs.TagLaws.{is_identifier-octet_of};
     ghost use Rattle.x509_prim_text.specs.Text.{text, text_lawful};
 
     ghost form = { text (octet_of A.TAG) (list_all A.has_char) };

@@ -7,8 +7,8 @@ ghost use Rattle.std.specs.Cmp.{partial_equiv_from_equiv};
 ghost use Rattle.std.specs.Cmp.Lexicographic.{nat_list_eq_equiv};
 ghost use Rattle.std.specs.Cmp.Rules.{hashing};
 ghost use Rattle.std.specs.Str.{is_utf8};
-ghost use Rattle.x509_der_grammar.specs.declared.error.ErrorKind.TheVariants as errors;
-ghost use Rattle.x509_der_grammar.specs.declared.tag.Tag.TheVariants as tags;
+ghost use Rattle.x509_der_element.specs.declared.error.ErrorKind.TheVariants as errors;
+ghost use Rattle.x509_der_element.specs.declared.tag.Tag.TheVariants as tags;
 
 use std::alloc::Global;
 use std::fmt;
@@ -70,9 +70,9 @@ impl From<String> for Utf8String {
 
 impl Grammar for Utf8String {
     ghost use Rattle.std.specs.Str.{is_utf8};
-    ghost use Rattle.x509_der_grammar.specs.Tag.{octet_of};
-    ghost use Rattle.x509_der_grammar.specs.TagLaws.{is_identifier-octet_of};
-    ghost use Rattle.x509_der_grammar.specs.declared.tag.Tag.TheVariants as tags;
+    ghost use Rattle.x509_der_element.specs.Tag.{octet_of};
+    ghost use Rattle.x509_der_element.specs.TagLaws.{is_identifier-octet_of};
+    ghost use Rattle.x509_der_element.specs.declared.tag.Tag.TheVariants as tags;
     ghost use Rattle.x509_prim_text.specs.Text.{text, text_lawful};
 
     ghost form = { text 0x0C is_utf8 };
@@ -126,7 +126,7 @@ impl Encode for Utf8String {
 
 impl FixedTag for Utf8String {
     ghost use Rattle.std.specs.Prelude.{refl};
-    ghost use Rattle.x509_der_grammar.specs.declared.tag.Tag.TheVariants as tags;
+    ghost use Rattle.x509_der_element.specs.declared.tag.Tag.TheVariants as tags;
 
     ghost TAG = { tags.Utf8String };
 

@@ -1,7 +1,7 @@
 -- Number: u32 / OCTET STRING / OBJECT IDENTIFIER
 use Rattle.std.specs.Prelude.{ℕ, ◌^◌, List, ◌⊎◌, refl}
 use Rattle.std.proofs.Common.{inl, inr}
-use Rattle.x509_der_grammar.specs.declared.error.ErrorKind.{ErrorKind}
+use Rattle.x509_der_element.specs.declared.error.ErrorKind.{ErrorKind}
 use Rattle.x509_der_grammar.specs.Form.{Form, IsForm}
 use Rattle.x509_der_grammar.specs.Natural.{natural}
 use Rattle.x509_der_grammar.specs.NaturalLaws.{u32_lawful}

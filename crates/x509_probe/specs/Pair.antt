@@ -1,6 +1,6 @@
 -- Pair: id: OBJECT IDENTIFIER, value: ANY
 use Rattle.std.specs.Prelude.{ℕ, List, refl}
-use Rattle.x509_der_grammar.specs.declared.error.ErrorKind.{ErrorKind}
+use Rattle.x509_der_element.specs.declared.error.ErrorKind.{ErrorKind}
 use Rattle.x509_der_grammar.specs.Form.{Form, IsForm, universal}
 use Rattle.x509_der_grammar.specs.FormLaws.{universal_lawful}
 use Rattle.x509_der_grammar.specs.Writing.{plain, writes}

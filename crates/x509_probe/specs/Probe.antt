@@ -1,7 +1,7 @@
 -- Probe: a: {0}u8=0, b: [1]OCTET STRING?, c: BOOLEAN=FALSE, d: OBJECT IDENTIFIER
 use Rattle.std.specs.Prelude.{ℕ, ◌^◌, Bool, List, Option, refl}
 use Rattle.std.proofs.Common.{arith}
-use Rattle.x509_der_grammar.specs.declared.error.ErrorKind.{ErrorKind}
+use Rattle.x509_der_element.specs.declared.error.ErrorKind.{ErrorKind}
 use Rattle.x509_der_grammar.specs.Form.{Form, IsForm, universal}
 use Rattle.x509_der_grammar.specs.FormLaws.{universal_lawful}
 use Rattle.x509_der_grammar.specs.Boolean.{boolean, boolean_lawful}

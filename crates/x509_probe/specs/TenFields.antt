@@ -2,7 +2,7 @@
 -- further_bits: [2]BIT STRING?, wrapped: {3}OCTET STRING?, inner: {4}Number, retagged: [5]Probe, last: Probe?
 use Rattle.std.specs.Prelude.{ℕ, ◌^◌, List, Option, refl}
 use Rattle.std.proofs.Common.{arith}
-use Rattle.x509_der_grammar.specs.declared.error.ErrorKind.{ErrorKind}
+use Rattle.x509_der_element.specs.declared.error.ErrorKind.{ErrorKind}
 use Rattle.x509_der_grammar.specs.Form.{Form, IsForm, universal}
 use Rattle.x509_der_grammar.specs.FormLaws.{universal_lawful}
 use Rattle.x509_der_grammar.specs.Natural.{natural}

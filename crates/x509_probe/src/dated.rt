@@ -91,7 +91,7 @@ impl<P: Profile> Encode for Dated<P> {
 
 impl<P: Profile> FixedTag for Dated<P> {
     ghost use Rattle.std.specs.Prelude.{refl};
-    ghost use Rattle.x509_der_grammar.specs.declared.tag.Tag.TheVariants.{Sequence};
+    ghost use Rattle.x509_der_element.specs.declared.tag.Tag.TheVariants.{Sequence};
 
     ghost TAG = { Sequence };
 

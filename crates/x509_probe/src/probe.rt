@@ -79,7 +79,7 @@ impl Encode for Probe {
 
 impl FixedTag for Probe {
     ghost use Rattle.std.specs.Prelude.{refl};
-    ghost use Rattle.x509_der_grammar.specs.declared.tag.Tag.TheVariants.{Sequence};
+    ghost use Rattle.x509_der_element.specs.declared.tag.Tag.TheVariants.{Sequence};
 
     ghost TAG = { Sequence };
 

@@ -1,6 +1,6 @@
 -- Answers to the line of an input that was read whole.
 use Rattle.std.proofs.Common.{◌≡◌, ℕ, List, Option, Result, Ok, Err, MatchResult, ◌⊎◌, inl, inr, ap, subst}
-use Rattle.x509_der_grammar.specs.declared.error.ErrorKind.TheVariants.{Memory}
+use Rattle.x509_der_element.specs.declared.error.ErrorKind.TheVariants.{Memory}
 use Rattle.x509_tool.specs.declared.command.Command.{Command}
 use Rattle.x509_tool.specs.declared.refusal.Refusal.{Refusal}
 use Rattle.x509_tool.specs.declared.refusal.Refusal.TheVariants.{Because}

@@ -1,8 +1,8 @@
 -- What the bytes of a type give: the encoding of the value that they spell, or why there is none.
 use Rattle.std.specs.Prelude.{◌≡◌, ◌<◌, ◌≤◌, ◌⊎◌, ℕ, List, length, Result, Ok, Err}
-use Rattle.x509_der_grammar.specs.declared.error.ErrorKind.{ErrorKind}
-use Rattle.x509_der_grammar.specs.declared.error.ErrorKind.TheVariants.{Overlength, Malformed}
-use Rattle.x509_der_grammar.specs.Element.{limit}
+use Rattle.x509_der_element.specs.declared.error.ErrorKind.{ErrorKind}
+use Rattle.x509_der_element.specs.declared.error.ErrorKind.TheVariants.{Overlength, Malformed}
+use Rattle.x509_der_element.specs.Element.{limit}
 use Rattle.x509_der_grammar.specs.Form.{Form, Spells}
 use Rattle.x509_der_grammar.specs.Writing.{Writing, plain, respelling, writes, IsWritable, IsUnwritable, written_spelling}
 use Rattle.x509_der_frames.specs.Any.{any}

@@ -2,7 +2,7 @@
 
 ghost use Rattle.std.specs.Prelude.{◌≡◌, ◌⊎◌, ℕ, List, map, string_bytes, Ok, Err, None, MatchResult, IfSome, IsErr};
 ghost use Rattle.hex.specs.Hex.{decode_of};
-ghost use Rattle.x509_der_grammar.specs.declared.error.ErrorKind.TheVariants.{Memory, Failed};
+ghost use Rattle.x509_der_element.specs.declared.error.ErrorKind.TheVariants.{Memory, Failed};
 ghost use Rattle.x509_tool.specs.declared.refusal.Refusal.TheVariants.{Because};
 ghost use Rattle.x509_tool.specs.Command.{command_of};
 ghost use Rattle.x509_tool.specs.Answer.{IsLineAnswer, as_line, line_of, text_of, usage};

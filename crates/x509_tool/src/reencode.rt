@@ -1,8 +1,8 @@
 //! Decoding bytes and encoding the value again.
 
 ghost use Rattle.std.specs.Prelude.{◌≡◌, ◌⊎◌, ℕ, List, Result, Ok, Err, MatchResult};
-ghost use Rattle.x509_der_grammar.specs.declared.error.ErrorKind.{ErrorKind};
-ghost use Rattle.x509_der_grammar.specs.declared.error.ErrorKind.TheVariants.{Memory};
+ghost use Rattle.x509_der_element.specs.declared.error.ErrorKind.{ErrorKind};
+ghost use Rattle.x509_der_element.specs.declared.error.ErrorKind.TheVariants.{Memory};
 ghost use Rattle.x509_tool.specs.Reencoding.{Reencodes, reencodes_under};
 ghost use Rattle.x509_tool.specs.declared.command.Kind.{Kind};
 ghost use Rattle.x509_tool.specs.declared.command.ProfileName.{ProfileName};

@@ -1,7 +1,7 @@
 //! Why the program refuses an input.
 
 ghost use Rattle.std.specs.Prelude.{◌≡◌, Err};
-ghost use Rattle.x509_der_grammar.specs.declared.error.ErrorKind.TheVariants.{Memory};
+ghost use Rattle.x509_der_element.specs.declared.error.ErrorKind.TheVariants.{Memory};
 ghost use Rattle.x509_tool.specs.declared.refusal.Refusal.TheVariants.{Because};
 
 use std::alloc::AllocError;

@@ -2,9 +2,8 @@
 
 ghost use Rattle.std.specs.Prelude.{◌≡◌};
 
-use crate::error::{Error, ErrorKind};
-use crate::length::Length;
 use crate::room::Room;
+use x509_der_element::{Error, ErrorKind, Length};
 
 /// Counts the bytes that are put, up to [`Length::MAX`].
 #[derive(Drop)]

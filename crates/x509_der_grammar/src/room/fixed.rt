@@ -1,11 +1,10 @@
 //! Room in bytes that the caller has.
 
 ghost use Rattle.std.specs.Prelude.{◌≡◌, ◌≤◌, ◌+◌, length};
-ghost use Rattle.x509_der_grammar.specs.Element.{limit};
+ghost use Rattle.x509_der_element.specs.Element.{limit};
 
-use crate::error::{Error, ErrorKind};
-use crate::length::Length;
 use crate::room::Room;
+use x509_der_element::{Error, ErrorKind, Length};
 
 /// Bytes of the caller that are filled from their end.
 #[derive(Drop)]

@@ -1,13 +1,12 @@
 //! Room in a vector that grows at its front.
 
 ghost use Rattle.std.specs.Prelude.{◌≡◌, ◌+◌, ◌<◌, ◌≤◌, [], length, drop, IfErr, OnOk, OnErr};
-ghost use Rattle.x509_der_grammar.specs.declared.error.ErrorKind.TheVariants.{Memory};
+ghost use Rattle.x509_der_element.specs.declared.error.ErrorKind.TheVariants.{Memory};
 
-use crate::error::{Error, ErrorKind};
-use crate::length::Length;
 use crate::room::Room;
 use std::alloc::Global;
 use std::marker::Model;
+use x509_der_element::{Error, ErrorKind, Length};
 
 /// Room for the headers that mostly follow.
 const SPARE: usize = 64;
@@ -21,7 +20,7 @@ pub struct Growing {
 
 impl Model for Growing {
     ghost use Rattle.std.specs.Prelude.{List, ℕ, ◌≤◌, ◌+◌, length, drop};
-    ghost use Rattle.x509_der_grammar.specs.Element.{limit};
+    ghost use Rattle.x509_der_element.specs.Element.{limit};
 
     ghost Value = { List ℕ };
 

@@ -1,20 +1,18 @@
 //! A type that is read and written: octets as an OCTET STRING (X.690 8.7).
 
 use crate::{
-    Bytes, Decode, Encode, Error, ErrorKind, FixedTag, Grammar, Room, Tag, Tagged, TryClone, laws,
-    read_whole,
+    Bytes, Decode, Encode, Error, ErrorKind, FixedTag, Grammar, Room, Tag, Tagged, laws, read_whole,
 };
 use std::alloc::Global;
-use std::hash::{DefaultHasher, Hash, Hasher};
 use std::test::*;
 
 impl Grammar for Bytes {
     ghost use Rattle.std.specs.Prelude.{Ok, refl};
     ghost use Rattle.x509_der_grammar.specs.Form.{universal};
     ghost use Rattle.x509_der_grammar.specs.FormLaws.{universal_lawful};
-    ghost use Rattle.x509_der_grammar.specs.OutcomeLaws.{ok_is, not_refused};
-    ghost use Rattle.x509_der_grammar.specs.TagLaws.{is_identifier-octet_of};
-    ghost use Rattle.x509_der_grammar.specs.declared.tag.Tag.TheVariants as tags;
+    ghost use Rattle.x509_der_element.specs.OutcomeLaws.{ok_is, not_refused};
+    ghost use Rattle.x509_der_element.specs.TagLaws.{is_identifier-octet_of};
+    ghost use Rattle.x509_der_element.specs.declared.tag.Tag.TheVariants as tags;
 
     ghost form = { universal (record { tag = 4; octets = λ octets. octets; good = λ octets. Unit {0}; reading = λ bytes. Ok bytes }) };
 
@@ -50,7 +48,7 @@ impl Encode for Bytes {
 
 impl FixedTag for Bytes {
     ghost use Rattle.std.specs.Prelude.{refl};
-    ghost use Rattle.x509_der_grammar.specs.declared.tag.Tag.TheVariants as tags;
+    ghost use Rattle.x509_der_element.specs.declared.tag.Tag.TheVariants as tags;
 
     ghost TAG = { tags.OctetString };
 
@@ -105,40 +103,10 @@ fn identified(rt: HostRuntime) -> Result<(), Fail> {
     assert_eq!(rt; value.tag(), Tag::OctetString);
     assert_eq!(rt; Bytes::TAG, Tag::OctetString);
     assert!(rt; Bytes::is_start(0x04) && !Bytes::is_start(0x05));
+    laws::one_tag();
+    laws::no_element_begins_another();
     laws::one_spelling::<Bytes>();
     laws::one_value::<Bytes>();
     laws::no_spelling_begins_another::<Bytes, Bytes>();
-    Ok(())
-}
-
-fn hash_of(value: &Bytes) -> u64 {
-    let mut hasher = DefaultHasher::new();
-    value.hash(&mut hasher);
-    hasher.finish()
-}
-
-#[test]
-fn owned(rt: HostRuntime) -> Result<(), Fail> {
-    let value = Bytes::from_slice(rt.alloc(), &[0x01, 0xFF])?;
-    let copy = value.try_clone(rt.alloc())?;
-    let other = Bytes::from(Vec::from_slice(rt.alloc(), &[0x01])?);
-    assert!(rt; value == copy && value != other);
-    assert_eq!(rt; hash_of(&value), hash_of(&copy));
-    assert_eq!(rt; format!(in rt.alloc(); "{value:?}")?.as_str(), "[1, 255]");
-    assert_eq!(rt; copy.into_vec().as_slice(), [0x01, 0xFF].as_slice());
-    Ok(())
-}
-
-#[test]
-fn copies(rt: HostRuntime) -> Result<(), Fail> {
-    let alloc = rt.alloc();
-    assert!(rt; true.try_clone(alloc)?);
-    assert_eq!(rt; 8u8.try_clone(alloc)?, 8);
-    assert_eq!(rt; 16u16.try_clone(alloc)?, 16);
-    assert_eq!(rt; 32u32.try_clone(alloc)?, 32);
-    assert_eq!(rt; 64u64.try_clone(alloc)?, 64);
-    assert!(rt; 128u128.try_clone(alloc)? == 128);
-    assert_eq!(rt; Some(1u8).try_clone(alloc)?, Some(1));
-    assert_eq!(rt; None::<u8>.try_clone(alloc)?, None);
     Ok(())
 }

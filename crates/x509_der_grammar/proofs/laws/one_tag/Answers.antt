@@ -1,4 +1,4 @@
-use Rattle.x509_der_grammar.specs.TagReading.{same_tag}
+use Rattle.x509_der_element.specs.TagReading.{same_tag}
 use Rattle.x509_der_grammar.proofs.laws.one_tag.Goals as goal
 
 pub returns : goal.returns

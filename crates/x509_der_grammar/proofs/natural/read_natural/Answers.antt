@@ -1,5 +1,5 @@
 use Rattle.std.proofs.Common.{ap}
-use Rattle.x509_der_grammar.specs.declared.error.Error.{Error}
+use Rattle.x509_der_element.specs.declared.error.Error.{Error}
 use Rattle.x509_der_grammar.proofs.Naturals.{too_large}
 use Rattle.x509_der_grammar.proofs.natural.read_natural.Goals as goal
 

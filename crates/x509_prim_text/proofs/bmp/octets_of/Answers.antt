@@ -4,7 +4,7 @@ use Rattle.std.proofs.lemmas.Iterator.{YieldsList-from_chars}
 use Rattle.std.proofs.lemmas.Iterator.Consumers.{YieldsList-turn, YieldsList-end}
 use Rattle.std.proofs.lemmas.List.{map-id}
 use Rattle.std.proofs.lemmas.List.Folds.{list_all_at}
-use Rattle.x509_der_grammar.specs.declared.error.Error.{Error}
+use Rattle.x509_der_element.specs.declared.error.Error.{Error}
 use Rattle.x509_prim_text.specs.Bmp.{is_bmp_char}
 use Rattle.x509_prim_text.proofs.bmp.octets_of.Goals as goal
 

@@ -1,5 +1,5 @@
 use Rattle.std.proofs.Common.{◌≡◌, length, List, ℕ, refl, ap, sym, ◌∙◌, true≢false}
-use Rattle.x509_der_grammar.specs.declared.error.ErrorKind.TheVariants.{Failed}
+use Rattle.x509_der_element.specs.declared.error.ErrorKind.TheVariants.{Failed}
 use Rattle.x509_base_time.specs.CivilTime.{CivilTime, civil_time}
 use Rattle.x509_base_time.specs.TimeText.{date_time_text}
 use Rattle.x509_base_time.specs.TimeReading.{number_at, long_number_at, named_by_text}

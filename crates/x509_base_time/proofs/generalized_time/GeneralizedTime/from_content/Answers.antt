@@ -1,5 +1,5 @@
 use Rattle.std.proofs.Common.{◌≡◌, length, ℕ, refl, ap, sym, ◌∙◌, true≢false}
-use Rattle.x509_der_grammar.specs.declared.error.ErrorKind.TheVariants.{Malformed}
+use Rattle.x509_der_element.specs.declared.error.ErrorKind.TheVariants.{Malformed}
 use Rattle.x509_base_time.specs.CivilTime.{CivilTime}
 use Rattle.x509_base_time.specs.TimeText.{generalized_time_octets}
 use Rattle.x509_base_time.specs.TimeReading.{named_generalized_time, generalized_time_reading, time_from_month}

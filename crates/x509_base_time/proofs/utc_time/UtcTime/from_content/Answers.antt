@@ -1,5 +1,5 @@
 use Rattle.std.proofs.Common.{◌≡◌, length, List, ℕ, refl, ap, sym, ◌∙◌, true≢false}
-use Rattle.x509_der_grammar.specs.declared.error.ErrorKind.TheVariants.{Malformed}
+use Rattle.x509_der_element.specs.declared.error.ErrorKind.TheVariants.{Malformed}
 use Rattle.x509_base_time.specs.CivilTime.{CivilTime}
 use Rattle.x509_base_time.specs.TimeText.{utc_time_octets}
 use Rattle.x509_base_time.specs.TimeReading.{full_year, named_utc_time, utc_time_reading, time_from_month}

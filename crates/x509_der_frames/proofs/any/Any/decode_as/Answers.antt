@@ -1,4 +1,4 @@
-use Rattle.x509_der_grammar.specs.OutcomeLaws.{gives_only, gives_value}
+use Rattle.x509_der_element.specs.OutcomeLaws.{gives_only, gives_value}
 use Rattle.x509_der_grammar.specs.SpellingLaws.{read_value}
 use Rattle.x509_der_frames.proofs.any.Any.decode_as.Goals as goal
 

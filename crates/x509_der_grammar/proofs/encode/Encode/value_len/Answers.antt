@@ -1,6 +1,6 @@
 use Rattle.std.proofs.Common.{sym, ap, ◌∙◌, Ok, Err}
 use Rattle.std.proofs.lemmas.Result.{err_from_is_err_and}
-use Rattle.x509_der_grammar.specs.declared.length.Length.{Length}
+use Rattle.x509_der_element.specs.declared.length.Length.{Length}
 use Rattle.x509_der_grammar.specs.CountingRoom.{counting}
 use Rattle.x509_der_grammar.specs.WritingLaws.{count_header, puts_no_element, count_refused, count_put}
 use Rattle.x509_der_grammar.proofs.encode.Encode.value_len.Goals as goal

@@ -1,10 +1,10 @@
 use Rattle.std.proofs.Common.{ap}
 use Rattle.std.proofs.lemmas.Result.{err_from_is_err_and}
-use Rattle.x509_der_grammar.specs.ContentLaws.{content_fits}
-use Rattle.x509_der_grammar.specs.ElementLaws.{piece_at-sound}
-use Rattle.x509_der_grammar.specs.declared.error.Error.{Error}
-use Rattle.x509_der_grammar.proofs.Elements.{no_element, long_element, foreign_element}
-use Rattle.x509_der_grammar.proofs.element.take_element.Goals as goal
+use Rattle.x509_der_element.specs.ContentLaws.{content_fits}
+use Rattle.x509_der_element.specs.ElementLaws.{piece_at-sound}
+use Rattle.x509_der_element.specs.declared.error.Error.{Error}
+use Rattle.x509_der_element.proofs.Elements.{no_element, long_element, foreign_element}
+use Rattle.x509_der_element.proofs.element.take_element.Goals as goal
 
 pub returns-in_err-piece-clause-err : goal.returns-in_err-piece-clause-err
 returns-in_err-piece-clause-err c =

@@ -1,10 +1,10 @@
 -- Tags and identifier octets are one to one.
 use Rattle.std.proofs.Common.{◌≡◌, ℕ, ◌+◌, ◌%◌, ◌<◌, ◌≤◌, Bool, true, false, refl, arith}
 use Rattle.std.proofs.lemmas.Bool.Decides.{nat_tests}
-use Rattle.x509_der_grammar.specs.Element.{is_identifier, is_universal}
-use Rattle.x509_der_grammar.specs.Tag.{octet_of, constructed_bit}
-use Rattle.x509_der_grammar.specs.declared.tag.Tag.{Tag}
-use Rattle.x509_der_grammar.specs.declared.tag.Tag.TheVariants.{Boolean, Integer, BitString, OctetString, Null, ObjectIdentifier, Real, Enumerated, Utf8String, RelativeOid, NumericString, PrintableString, TeletexString, VideotexString, Ia5String, UtcTime, GeneralizedTime, GraphicString, VisibleString, GeneralString, UniversalString, BmpString, Sequence, Set, Application, ContextSpecific, Private}
+use Rattle.x509_der_element.specs.Element.{is_identifier, is_universal}
+use Rattle.x509_der_element.specs.Tag.{octet_of, constructed_bit}
+use Rattle.x509_der_element.specs.declared.tag.Tag.{Tag}
+use Rattle.x509_der_element.specs.declared.tag.Tag.TheVariants.{Boolean, Integer, BitString, OctetString, Null, ObjectIdentifier, Real, Enumerated, Utf8String, RelativeOid, NumericString, PrintableString, TeletexString, VideotexString, Ia5String, UtcTime, GeneralizedTime, GraphicString, VisibleString, GeneralString, UniversalString, BmpString, Sequence, Set, Application, ContextSpecific, Private}
 
 -- an octet of another class
 class_identifier : (class n : ℕ) (constructed : Bool) → 64 ≤ class → class ≤ 192 → class % 32 ≡ 0 → n ≤ 30 → is_identifier (class + constructed_bit constructed + n) ≡ true

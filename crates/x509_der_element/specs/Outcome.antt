@@ -1,8 +1,8 @@
 -- Steps that may be refused, and what a call answers: what reading gives, unless memory was refused.
 use Rattle.std.specs.Prelude.{◌≡◌, ℕ, List, Result, Ok, Err, MatchResult}
-use Rattle.x509_der_grammar.specs.declared.error.Error.{Error}
-use Rattle.x509_der_grammar.specs.declared.error.ErrorKind.{ErrorKind}
-use Rattle.x509_der_grammar.specs.declared.error.ErrorKind.TheVariants.{Memory, Overlength, Malformed, Failed, SetDuplicate, Value}
+use Rattle.x509_der_element.specs.declared.error.Error.{Error}
+use Rattle.x509_der_element.specs.declared.error.ErrorKind.{ErrorKind}
+use Rattle.x509_der_element.specs.declared.error.ErrorKind.TheVariants.{Memory, Overlength, Malformed, Failed, SetDuplicate, Value}
 
 -- what follows a step, unless it is refused
 infixl 10 ◌>>=◌

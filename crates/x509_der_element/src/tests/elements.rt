@@ -1,7 +1,7 @@
 //! Elements at the front of bytes.
 
 use crate::{
-    AnyRef, ErrorKind, Header, Length, Tag, TagNumber, check_content, laws, split_element,
+    AnyRef, ErrorKind, Header, Length, Tag, TagNumber, check_content, split_element,
     take_element,
 };
 use std::test::*;
@@ -138,10 +138,4 @@ fn parts(rt: HostRuntime) -> Result<(), Fail> {
     let debug = format!(in rt.alloc(); "{one:?}")?;
     assert_eq!(rt; debug.as_str(), "AnyRef { tag: Integer, value: [1] }");
     Ok(())
-}
-
-#[test]
-fn laws_are_called(_rt: HostRuntime) {
-    laws::one_tag();
-    laws::no_element_begins_another();
 }

@@ -1,14 +1,14 @@
 -- The element at the front of bytes is the only one.
 use Rattle.std.proofs.Common.{◌≡◌, ◌≢◌, ℕ, ◌<◌, List, ◌++◌, length, Ok, Err, sym, ap, ◌∙◌}
-use Rattle.x509_der_grammar.specs.declared.error.ErrorKind.TheVariants.{Malformed}
-use Rattle.x509_der_grammar.specs.declared.tag.Tag.{Tag}
-use Rattle.x509_der_grammar.specs.Element.{element, limit}
-use Rattle.x509_der_grammar.specs.ElementReading.{Piece, piece_at}
-use Rattle.x509_der_grammar.specs.ElementLaws.{piece_at-element}
-use Rattle.x509_der_grammar.specs.OutcomeLaws.{ok_is}
-use Rattle.x509_der_grammar.specs.ContentLaws.{content_overlong}
-use Rattle.x509_der_grammar.specs.Tag.{octet_of}
-use Rattle.x509_der_grammar.specs.TagLaws.{is_identifier-octet_of}
+use Rattle.x509_der_element.specs.declared.error.ErrorKind.TheVariants.{Malformed}
+use Rattle.x509_der_element.specs.declared.tag.Tag.{Tag}
+use Rattle.x509_der_element.specs.Element.{element, limit}
+use Rattle.x509_der_element.specs.ElementReading.{Piece, piece_at}
+use Rattle.x509_der_element.specs.ElementLaws.{piece_at-element}
+use Rattle.x509_der_element.specs.OutcomeLaws.{ok_is}
+use Rattle.x509_der_element.specs.ContentLaws.{content_overlong}
+use Rattle.x509_der_element.specs.Tag.{octet_of}
+use Rattle.x509_der_element.specs.TagLaws.{is_identifier-octet_of}
 
 at_front : (bytes : List ℕ) (tag : Tag) (content rest : List ℕ) → bytes ≡ element (octet_of tag) content ++ rest → piece_at bytes ≡ Ok (record { tag = octet_of tag; content = content; rest = rest })
 at_front bytes tag content rest e = ap piece_at e ∙ piece_at-element (octet_of tag) content rest (is_identifier-octet_of tag)

@@ -1,10 +1,10 @@
 //! Identifiers of elements (X.690 8.1.2).
 
 ghost use Rattle.std.specs.Prelude.{◌≡◌, ◌≤◌, ◌<◌, ◌+◌, ◌≢◌, ◌%◌, IfOk, IfErr, is_ok};
-ghost use Rattle.x509_der_grammar.specs.declared.error.ErrorKind.TheVariants as errors;
-ghost use Rattle.x509_der_grammar.specs.declared.tag.Tag.{Tag};
-ghost use Rattle.x509_der_grammar.specs.Element.{is_identifier};
-ghost use Rattle.x509_der_grammar.specs.Tag.{octet_of, constructed_bit};
+ghost use Rattle.x509_der_element.specs.declared.error.ErrorKind.TheVariants as errors;
+ghost use Rattle.x509_der_element.specs.declared.tag.Tag.{Tag};
+ghost use Rattle.x509_der_element.specs.Element.{is_identifier};
+ghost use Rattle.x509_der_element.specs.Tag.{octet_of, constructed_bit};
 
 use crate::error::{Error, ErrorKind};
 

@@ -1,12 +1,12 @@
 //! Elements at the front of bytes (X.690 8.1).
 
 ghost use Rattle.std.specs.Prelude.{◌≡◌, ◌≤◌, ◌<◌, ◌++◌, length, List, ℕ, IfOk, IfErr, OnOk};
-ghost use Rattle.x509_der_grammar.specs.declared.error.ErrorKind.TheVariants as errors;
-ghost use Rattle.x509_der_grammar.specs.declared.tag.Tag.{Tag};
-ghost use Rattle.x509_der_grammar.specs.Outcome.{GivesBy};
-ghost use Rattle.x509_der_grammar.specs.Element.{element, limit};
-ghost use Rattle.x509_der_grammar.specs.ElementReading.{length_at, piece_at};
-ghost use Rattle.x509_der_grammar.specs.Tag.{octet_of};
+ghost use Rattle.x509_der_element.specs.declared.error.ErrorKind.TheVariants as errors;
+ghost use Rattle.x509_der_element.specs.declared.tag.Tag.{Tag};
+ghost use Rattle.x509_der_element.specs.Outcome.{GivesBy};
+ghost use Rattle.x509_der_element.specs.Element.{element, limit};
+ghost use Rattle.x509_der_element.specs.ElementReading.{length_at, piece_at};
+ghost use Rattle.x509_der_element.specs.Tag.{octet_of};
 
 use crate::error::{Error, ErrorKind};
 use crate::length::Length;

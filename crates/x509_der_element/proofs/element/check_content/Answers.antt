@@ -1,7 +1,7 @@
 use Rattle.std.proofs.Common.{ap}
-use Rattle.x509_der_grammar.specs.ContentLaws.{content_fits, content_overlong}
-use Rattle.x509_der_grammar.specs.declared.error.Error.{Error}
-use Rattle.x509_der_grammar.proofs.element.check_content.Goals as goal
+use Rattle.x509_der_element.specs.ContentLaws.{content_fits, content_overlong}
+use Rattle.x509_der_element.specs.declared.error.Error.{Error}
+use Rattle.x509_der_element.proofs.element.check_content.Goals as goal
 
 pub returns-then-content-gt-LONGEST_CONTENT-clause-err :
     goal.returns-then-content-gt-LONGEST_CONTENT-clause-err

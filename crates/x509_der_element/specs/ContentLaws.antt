@@ -1,7 +1,7 @@
 -- How long the content of an element may be.
 use Rattle.std.proofs.Common.{ℕ, ◌<◌, ◌≤◌, List, length, arith, length-append}
 use Rattle.std.proofs.lemmas.Bool.Decides.{nat_tests}
-use Rattle.x509_der_grammar.specs.Element.{element, length_octets, limit}
+use Rattle.x509_der_element.specs.Element.{element, length_octets, limit}
 
 pub content_fits : (content : List ℕ) → length content ≤ 268435449 → (tag : ℕ) → length (element tag content) ≤ limit
 unfolding element length_octets

@@ -4,12 +4,12 @@ use Rattle.std.proofs.lemmas.Bool.{ltb-true, ne_eqb, eqb-true, agree_below_at}
 use Rattle.std.proofs.lemmas.Bool.Decides.{nat_tests}
 use Rattle.std.specs.Coded.{le_prop}
 use Rattle.std.specs.Prelude.{nat_eq}
-use Rattle.x509_der_grammar.specs.Element.{is_identifier, is_universal}
-use Rattle.x509_der_grammar.specs.TagLaws.{is_identifier-octet}
-use Rattle.x509_der_grammar.specs.Tag.{octet_of, constructed_bit}
-use Rattle.x509_der_grammar.specs.declared.tag.Tag.{Tag}
-use Rattle.x509_der_grammar.specs.declared.tag.Tag.TheVariants.{Boolean, Integer, BitString, OctetString, Null, ObjectIdentifier, Real, Enumerated, Utf8String, RelativeOid, NumericString, PrintableString, TeletexString, VideotexString, Ia5String, UtcTime, GeneralizedTime, GraphicString, VisibleString, GeneralString, UniversalString, BmpString, Sequence, Set, Application, ContextSpecific, Private}
-use Rattle.x509_der_grammar.specs.declared.tag.number.TagNumber.{TagNumber}
+use Rattle.x509_der_element.specs.Element.{is_identifier, is_universal}
+use Rattle.x509_der_element.specs.TagLaws.{is_identifier-octet}
+use Rattle.x509_der_element.specs.Tag.{octet_of, constructed_bit}
+use Rattle.x509_der_element.specs.declared.tag.Tag.{Tag}
+use Rattle.x509_der_element.specs.declared.tag.Tag.TheVariants.{Boolean, Integer, BitString, OctetString, Null, ObjectIdentifier, Real, Enumerated, Utf8String, RelativeOid, NumericString, PrintableString, TeletexString, VideotexString, Ia5String, UtcTime, GeneralizedTime, GraphicString, VisibleString, GeneralString, UniversalString, BmpString, Sequence, Set, Application, ContextSpecific, Private}
+use Rattle.x509_der_element.specs.declared.tag.number.TagNumber.{TagNumber}
 
 number_is : (a b : TagNumber) → a.number ≡ b.number → a ≡ b
 number_is a b e =

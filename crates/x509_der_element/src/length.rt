@@ -1,8 +1,8 @@
 //! Lengths of elements and contents.
 
 ghost use Rattle.std.specs.Prelude.{◌≡◌, ◌≤◌, ◌<◌, IfOk, IfErr};
-ghost use Rattle.x509_der_grammar.specs.declared.error.ErrorKind.TheVariants as errors;
-ghost use Rattle.x509_der_grammar.specs.Element.{limit};
+ghost use Rattle.x509_der_element.specs.declared.error.ErrorKind.TheVariants as errors;
+ghost use Rattle.x509_der_element.specs.Element.{limit};
 
 use crate::error::{Error, ErrorKind};
 

@@ -1,7 +1,7 @@
 -- The identifier octet of a tag (X.690 8.1.2; the universal types of X.680 8.4).
 use Rattle.std.specs.Prelude.{ℕ, ◌+◌, Bool, if◌then◌else◌}
-use Rattle.x509_der_grammar.specs.declared.tag.Tag.{Tag}
-use Rattle.x509_der_grammar.specs.declared.tag.Tag.TheVariants.{Boolean, Integer, BitString, OctetString, Null, ObjectIdentifier, Real, Enumerated, Utf8String, RelativeOid, NumericString, PrintableString, TeletexString, VideotexString, Ia5String, UtcTime, GeneralizedTime, GraphicString, VisibleString, GeneralString, UniversalString, BmpString, Sequence, Set, Application, ContextSpecific, Private}
+use Rattle.x509_der_element.specs.declared.tag.Tag.{Tag}
+use Rattle.x509_der_element.specs.declared.tag.Tag.TheVariants.{Boolean, Integer, BitString, OctetString, Null, ObjectIdentifier, Real, Enumerated, Utf8String, RelativeOid, NumericString, PrintableString, TeletexString, VideotexString, Ia5String, UtcTime, GeneralizedTime, GraphicString, VisibleString, GeneralString, UniversalString, BmpString, Sequence, Set, Application, ContextSpecific, Private}
 
 -- the sixth bit says that the content is elements (X.690 8.1.2.5)
 abbrev pub constructed_bit : Bool → ℕ

@@ -3,12 +3,12 @@ use Rattle.std.proofs.Common.{◌≡◌, ℕ, ◌/◌, ◌%◌, ◌<◌, ◌≤�
 use Rattle.std.proofs.lemmas.Bool.{cases_lt, ltb-false, lt-ltb, le-ltb}
 use Rattle.std.proofs.lemmas.Bool.Decides.{nat_tests}
 use Rattle.std.proofs.lemmas.List.{take_at, drop_at, take-append-drop, length-append, length-take, append-nil}
-use Rattle.x509_der_grammar.specs.declared.error.ErrorKind.{ErrorKind}
-use Rattle.x509_der_grammar.specs.declared.error.ErrorKind.TheVariants.{Malformed}
-use Rattle.x509_der_grammar.specs.Outcome.{◌>>=◌}
-use Rattle.x509_der_grammar.specs.OutcomeLaws.{bind_ok, bind_err, guard_ok, test_ok, test_err, ok_is}
-use Rattle.x509_der_grammar.specs.Element.{length_octets, element, is_identifier}
-use Rattle.x509_der_grammar.specs.ElementReading.{Piece, piece_at, length_at, one_digit, two_digits, three_digits, four_digits, content_at}
+use Rattle.x509_der_element.specs.declared.error.ErrorKind.{ErrorKind}
+use Rattle.x509_der_element.specs.declared.error.ErrorKind.TheVariants.{Malformed}
+use Rattle.x509_der_element.specs.Outcome.{◌>>=◌}
+use Rattle.x509_der_element.specs.OutcomeLaws.{bind_ok, bind_err, guard_ok, test_ok, test_err, ok_is}
+use Rattle.x509_der_element.specs.Element.{length_octets, element, is_identifier}
+use Rattle.x509_der_element.specs.ElementReading.{Piece, piece_at, length_at, one_digit, two_digits, three_digits, four_digits, content_at}
 
 -- ---- lengths
 

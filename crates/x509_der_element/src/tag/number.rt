@@ -1,7 +1,7 @@
 //! Numbers of identifiers outside the universal class.
 
 ghost use Rattle.std.specs.Prelude.{◌≡◌, ◌≤◌, ◌<◌, ◌%◌, IfOk, IfErr};
-ghost use Rattle.x509_der_grammar.specs.declared.error.ErrorKind.TheVariants as errors;
+ghost use Rattle.x509_der_element.specs.declared.error.ErrorKind.TheVariants as errors;
 
 use crate::error::{Error, ErrorKind};
 

@@ -1,9 +1,9 @@
 -- How an element is read from the front of bytes. A tool of the proofs: `ElementLaws` ties it to `element`.
 use Rattle.std.specs.Prelude.{ℕ, ◌+◌, ◌*◌, ◌&&◌, ◌||◌, not, nat_lt, nat_eq, List, [], ◌∷◌, length, take, drop, Result, Ok, Err, if◌then◌else◌}
-use Rattle.x509_der_grammar.specs.declared.error.ErrorKind.{ErrorKind}
-use Rattle.x509_der_grammar.specs.declared.error.ErrorKind.TheVariants.{Malformed}
-use Rattle.x509_der_grammar.specs.Outcome.{◌>>=◌}
-use Rattle.x509_der_grammar.specs.Element.{is_identifier}
+use Rattle.x509_der_element.specs.declared.error.ErrorKind.{ErrorKind}
+use Rattle.x509_der_element.specs.declared.error.ErrorKind.TheVariants.{Malformed}
+use Rattle.x509_der_element.specs.Outcome.{◌>>=◌}
+use Rattle.x509_der_element.specs.Element.{is_identifier}
 
 -- an element, and what follows it
 pub record Piece : Type 0 where

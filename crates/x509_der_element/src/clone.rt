@@ -1,7 +1,7 @@
 //! Copies that may want memory.
 
 ghost use Rattle.std.specs.Prelude.{◌≡◌, Ok, None, IfOk, IfErr};
-ghost use Rattle.x509_der_grammar.specs.declared.error.ErrorKind.TheVariants.{Memory};
+ghost use Rattle.x509_der_element.specs.declared.error.ErrorKind.TheVariants.{Memory};
 
 use crate::error::Error;
 use std::alloc::Global;
@@ -9,7 +9,7 @@ use std::alloc::Global;
 /// A value that can be copied where there is memory for it.
 pub trait TryClone: Sized {
     ghost use Rattle.std.specs.Prelude.{◌≡◌, IfOk, IfErr};
-    ghost use Rattle.x509_der_grammar.specs.declared.error.ErrorKind.TheVariants.{Memory};
+    ghost use Rattle.x509_der_element.specs.declared.error.ErrorKind.TheVariants.{Memory};
 
     /// A copy, which equals the value. Memory may be refused.
     fn try_clone(&self, alloc: Global) -> Result<Self, Error>

@@ -1,0 +1,20 @@
+//! Elements of strict DER: identifiers, lengths, contents, and why a call was refused.
+#![tactic(auto)]
+
+mod bytes;
+mod clone;
+mod element;
+mod error;
+mod header;
+mod length;
+mod tag;
+#[cfg(test)]
+mod tests;
+
+pub use bytes::Bytes;
+pub use clone::TryClone;
+pub use element::{AnyRef, Piece, check_content, split_element, take_element};
+pub use error::{Error, ErrorKind};
+pub use header::Header;
+pub use length::Length;
+pub use tag::{Tag, TagNumber};
