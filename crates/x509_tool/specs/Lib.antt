@@ -1,6 +1,1 @@
-pub mod Transfer
-pub mod Command
-pub mod Input
-pub mod Answer
-pub mod Program
 pub mod Reencoding

@@ -17,10 +17,10 @@ use Rattle.x509_base_serial.specs.Serial.{serial_number}
 use Rattle.x509_name_rdn.specs.Names.{name, relative_distinguished_name}
 use Rattle.x509_base_validity.specs.Time.{time}
 use Rattle.x509_base_validity.specs.Validity.{validity, respelled_validity}
-use Rattle.x509_tool.specs.declared.command.Kind.{Kind}
-use Rattle.x509_tool.specs.declared.command.Kind.TheVariants as kinds
-use Rattle.x509_tool.specs.declared.command.ProfileName.{ProfileName}
-use Rattle.x509_tool.specs.declared.command.ProfileName.TheVariants as names
+use Rattle.x509_tool_run.specs.declared.command.Kind.{Kind}
+use Rattle.x509_tool_run.specs.declared.command.Kind.TheVariants as kinds
+use Rattle.x509_tool_run.specs.declared.command.ProfileName.{ProfileName}
+use Rattle.x509_tool_run.specs.declared.command.ProfileName.TheVariants as names
 
 -- The encoding is that of the value which the bytes spell. An error comes where they are too long, where they spell no
 -- value, or where that value can't be written; refuses are the errors of the type's own in reading.

@@ -1,36 +1,15 @@
 //! Decoding bytes and encoding the value again.
 
-ghost use Rattle.std.specs.Prelude.{◌≡◌, ◌⊎◌, ℕ, List, Result, Ok, Err, MatchResult};
-ghost use Rattle.x509_der_element.specs.declared.error.ErrorKind.{ErrorKind};
+ghost use Rattle.std.specs.Prelude.{◌≡◌, ◌⊎◌, MatchResult};
 ghost use Rattle.x509_der_element.specs.declared.error.ErrorKind.TheVariants.{Memory};
 ghost use Rattle.x509_tool.specs.Reencoding.{Reencodes, reencodes_under};
-ghost use Rattle.x509_tool.specs.declared.command.Kind.{Kind};
-ghost use Rattle.x509_tool.specs.declared.command.ProfileName.{ProfileName};
 
-use crate::command::{Kind, ProfileName};
 use std::alloc::Global;
 use x509_base::{Profile, Raw, Rfc5280, SerialNumber, Time, Validity};
 use x509_der::{Any, Decode, Encode, Error, ObjectIdentifier};
 use x509_name::name::{Name, RelativeDistinguishedName};
 use x509_prim::Int;
-
-/// The decoders and encoders of the types that have a name.
-pub trait Codec {
-    /// What the bytes of a type may give under a profile, memory aside: the encoding of the value that they spell, or
-    /// an error.
-    ghost reencodes: { Kind → ProfileName → List ℕ → Result (List ℕ) ErrorKind → Type 0 };
-
-    /// Decodes the bytes and encodes the value again.
-    fn reencode(
-        alloc: Global,
-        kind: Kind,
-        profile: ProfileName,
-        bytes: &[u8],
-    ) -> Result<Vec<u8>, Error>
-        ensures { MatchResult result
-            (λ encoding. reencodes kind profile bytes.now (Ok encoding.items))
-            (λ e. (e.kind ≡ Memory) ⊎ reencodes kind profile bytes.now (Err e.kind)) };
-}
+use x509_tool_run::{Codec, Kind, ProfileName};
 
 /// The decoders and encoders of this library.
 pub struct Types;

@@ -1,5 +1,0 @@
-use Rattle.x509_tool.proofs.Known.{written-known}
-use Rattle.x509_tool.proofs.laws.known_output.Goals as goal
-
-pub returns : goal.returns
-returns g c from to known text is h = written-known g.W.Write.contents from to known text is h

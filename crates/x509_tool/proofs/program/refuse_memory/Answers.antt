@@ -1,8 +1,0 @@
-use Rattle.std.proofs.Common.{Err}
-use Rattle.x509_der_element.specs.declared.error.ErrorKind.TheVariants.{Memory}
-use Rattle.x509_tool.specs.declared.refusal.Refusal.TheVariants.{Because}
-use Rattle.x509_tool.specs.Answer.{text_of}
-use Rattle.x509_tool.proofs.program.refuse_memory.Goals as goal
-
-pub returns : goal.returns
-returns g c = c.say.ensures (text_of (Err (Because Memory))) c.line.ensures

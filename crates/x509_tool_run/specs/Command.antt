@@ -1,0 +1,43 @@
+-- What the words after the program's name ask for.
+use Rattle.std.specs.Prelude.{ℕ, List, [], ◌∷◌, Option, Some, None, codes, if◌then◌else◌}
+use Rattle.std.specs.Str.{bytes_eq}
+use Rattle.x509_tool_run.specs.declared.command.Kind.{Kind}
+use Rattle.x509_tool_run.specs.declared.command.Kind.TheVariants.{Any, Integer, Name, Oid, Rdn, Serial, Time, Validity}
+use Rattle.x509_tool_run.specs.declared.command.ProfileName.{ProfileName}
+use Rattle.x509_tool_run.specs.declared.command.ProfileName.TheVariants.{Rfc5280, Raw}
+use Rattle.x509_tool_run.specs.declared.command.Command.{Command}
+use Rattle.x509_tool_run.specs.declared.command.Command.TheVariants.{Reencode}
+
+-- the type that a word names
+abbrev pub kind_of : List ℕ → Option Kind
+kind_of word =
+    if bytes_eq word (codes "any") then Some Any
+    else if bytes_eq word (codes "integer") then Some Integer
+    else if bytes_eq word (codes "name") then Some Name
+    else if bytes_eq word (codes "oid") then Some Oid
+    else if bytes_eq word (codes "rdn") then Some Rdn
+    else if bytes_eq word (codes "serial") then Some Serial
+    else if bytes_eq word (codes "time") then Some Time
+    else if bytes_eq word (codes "validity") then Some Validity
+    else None
+
+-- the profile that a word names
+abbrev pub profile_of : List ℕ → Option ProfileName
+profile_of word =
+    if bytes_eq word (codes "rfc5280") then Some Rfc5280
+    else if bytes_eq word (codes "raw") then Some Raw
+    else None
+
+-- a re-encoding, where both of its words are names
+abbrev pub reencoding_of : Option Kind → Option ProfileName → Option Command
+reencoding_of (Some kind) (Some profile) = Some (Reencode kind profile)
+reencoding_of (Some kind) None = None
+reencoding_of None profile = None
+
+-- `reencode TYPE [rfc5280|raw]`, under rfc5280 where the last word is left out
+abbrev pub command_of : List (List ℕ) → Option Command
+command_of (command ∷ kind ∷ []) =
+    if bytes_eq command (codes "reencode") then reencoding_of (kind_of kind) (Some Rfc5280) else None
+command_of (command ∷ kind ∷ profile ∷ []) =
+    if bytes_eq command (codes "reencode") then reencoding_of (kind_of kind) (profile_of profile) else None
+command_of words = None

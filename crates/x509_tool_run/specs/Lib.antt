@@ -1,0 +1,5 @@
+pub mod Transfer
+pub mod Command
+pub mod Input
+pub mod Answer
+pub mod Program

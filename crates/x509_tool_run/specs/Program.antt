@@ -1,0 +1,32 @@
+-- What a run of the program does, from what it reads to what it writes.
+use Rattle.std.specs.Prelude.{◌≡◌, ◌≢◌, ℕ, List, [], ◌++◌, Option, Some, None, ◌⊎◌}
+use Rattle.x509_tool_run.specs.Transfer.{Moves}
+use Rattle.x509_tool_run.specs.Input.{Input, IsRead}
+use Rattle.x509_tool_run.specs.Answer.{Answer, Reencoding, IsAnswer, text_of, status_of, as_line}
+use Rattle.x509_tool_run.specs.declared.command.Command.{Command}
+
+-- writes lead from one state to another and take this text
+abbrev pub IsWritten : {S : Type 0} → (S → Option (List ℕ) → S → Type 0) → S → List ℕ → S → Type 0
+IsWritten step s text t = (writes : ℕ) × Moves step s writes text t
+
+-- writes take only a front of this text, since the last of them fails or takes no bytes
+abbrev pub IsCutOff : {S : Type 0} → (S → Option (List ℕ) → S → Type 0) → S → List ℕ → S → Type 0
+IsCutOff {S} step s text t =
+    (u : S) × (front : List ℕ) × (rest : List ℕ)
+    × IsWritten step s front u × (step u None t ⊎ step u (Some []) t) × (text ≡ front ++ rest) × (rest ≢ [])
+
+-- a run ends by a line and a status, and by status 1 where the line can't be written
+abbrev pub Says : {S : Type 0} → (S → Option (List ℕ) → S → Type 0) → S → List ℕ → ℕ → S → ℕ → Type 0
+Says takes old text status new ended =
+    (IsWritten takes old (as_line text) new × (ended ≡ status)) ⊎ (IsCutOff takes old (as_line text) new × (ended ≡ 1))
+
+-- reads give an input, and this is an answer to a command with it
+abbrev pub Answers : {R : Type 0} → Reencoding → Command → (R → Option (List ℕ) → R → Type 0) → R → R → Answer → Type 0
+Answers reencodes command gives from to answer =
+    (input : Input) × IsRead gives from input to × IsAnswer reencodes command input answer
+
+-- a run that obeys a command reads an input and says an answer to it
+abbrev pub Obeys : {R W : Type 0} → Reencoding → Command → (R → Option (List ℕ) → R → Type 0) → R → R → (W → Option (List ℕ) → W → Type 0) → W → W → ℕ → Type 0
+Obeys reencodes command gives from to takes old new ended =
+    (answer : Answer) × Answers reencodes command gives from to answer
+    × Says takes old (text_of answer) (status_of answer) new ended

@@ -1,0 +1,105 @@
+//! What the words after the program's name ask for.
+
+ghost use Rattle.std.specs.Prelude.{◌≡◌, map, string_bytes, ◌∷◌, []};
+ghost use Rattle.x509_tool_run.specs.Command.{kind_of, profile_of, command_of};
+
+/// A type whose encodings the program reads.
+#[derive(Clone, Copy, Debug, PartialEq, Eq)]
+pub enum Kind {
+    /// An element that is not looked into.
+    Any,
+
+    /// A whole number.
+    Integer,
+
+    /// A name.
+    Name,
+
+    /// An object identifier.
+    Oid,
+
+    /// A relative distinguished name.
+    Rdn,
+
+    /// A serial number of a certificate.
+    Serial,
+
+    /// A date of a certificate.
+    Time,
+
+    /// The two dates between which a certificate holds.
+    Validity,
+}
+
+/// The profile under which bytes are read and written.
+#[derive(Clone, Copy, Debug, PartialEq, Eq)]
+pub enum ProfileName {
+    /// The rules of RFC 5280.
+    Rfc5280,
+
+    /// No rules beyond the grammar.
+    Raw,
+}
+
+/// What the program is asked to do.
+#[derive(Clone, Copy, Debug, PartialEq, Eq)]
+pub enum Command {
+    /// Decode the bytes of the line, and encode the value again.
+    Reencode(Kind, ProfileName),
+}
+
+impl Kind {
+    /// The type that a word names.
+    pub fn from_word(word: &str) -> Option<Kind>
+        ensures { result ≡ kind_of word.now }
+    {
+        match word {
+            "any" => Some(Kind::Any),
+            "integer" => Some(Kind::Integer),
+            "name" => Some(Kind::Name),
+            "oid" => Some(Kind::Oid),
+            "rdn" => Some(Kind::Rdn),
+            "serial" => Some(Kind::Serial),
+            "time" => Some(Kind::Time),
+            "validity" => Some(Kind::Validity),
+            _ => None,
+        }
+    }
+}
+
+impl ProfileName {
+    /// The profile that a word names.
+    pub fn from_word(word: &str) -> Option<ProfileName>
+        ensures { result ≡ profile_of word.now }
+    {
+        match word {
+            "rfc5280" => Some(ProfileName::Rfc5280),
+            "raw" => Some(ProfileName::Raw),
+            _ => None,
+        }
+    }
+}
+
+impl Command {
+    /// The command that the words make, if they make one.
+    pub fn from_words(words: &[String]) -> Option<Command>
+        ensures { result ≡ command_of (map string_bytes words.now) }
+    {
+        match words {
+            [command, kind] => Command::reencode(command.as_str(), kind.as_str(), "rfc5280"),
+            [command, kind, profile] => {
+                Command::reencode(command.as_str(), kind.as_str(), profile.as_str())
+            }
+            _ => None,
+        }
+    }
+
+    fn reencode(command: &str, kind: &str, profile: &str) -> Option<Command>
+        ensures { result ≡ command_of (command.now ∷ kind.now ∷ profile.now ∷ []) }
+    {
+        if command != "reencode" {
+            return None;
+        }
+        Some(Command::Reencode(Kind::from_word(kind)?, ProfileName::from_word(profile)?))
+    }
+}

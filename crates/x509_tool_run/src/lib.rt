@@ -1,0 +1,22 @@
+//! A program over lines of hex text: its words, its input, its answer and its status. What it makes of the bytes is a
+//! [`Codec`]'s.
+#![tactic(auto)]
+
+mod arguments;
+mod codec;
+mod command;
+mod input;
+pub mod laws;
+mod output;
+mod program;
+mod refusal;
+#[cfg(test)]
+mod tests;
+
+pub use arguments::words;
+pub use codec::Codec;
+pub use command::{Command, Kind, ProfileName};
+pub use input::{INPUT_LIMIT, READ_LIMIT, ReadError, Source, read_input};
+pub use output::{Sink, WriteError, write_text};
+pub use program::{refuse_memory, run_with};
+pub use refusal::Refusal;
