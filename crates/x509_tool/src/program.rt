@@ -7,7 +7,7 @@ ghost use Rattle.x509_tool_run.specs.Program.{Says, Obeys};
 
 use crate::reencode::Types;
 use std::alloc::Global;
-use x509_tool_run::{Sink, Source, run_with};
+use x509_tool_run::{Codec, Sink, Source, run_with};
 
 /// Does what the words ask for with the input of the reader, writes one line to the writer, and answers the status.
 pub fn run<R: Source, W: Sink>(
