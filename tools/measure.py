@@ -1,14 +1,19 @@
 #!/usr/bin/env python3
-"""Times the program over growing inputs, to show that its work grows as the bytes do.
+"""Times the program over growing inputs, and counts its allocations, to show that its work grows as the bytes do.
 
     tools/measure.py crates/x509_tool/out/x509_tool
 
-For each kind of input it prints how many members there are, how many bytes, the seconds of the fastest of three runs, and
-the nanoseconds a byte. A quadratic step would show as nanoseconds a byte that grow with the input.
+For each kind of input it prints how many members there are, how many bytes, the seconds of the fastest of three runs, the
+nanoseconds a byte, the allocations, and the most bytes of memory that stood at once for each byte of input. A quadratic
+step would show as nanoseconds a byte that grow with the input.
 """
+import itertools
 import subprocess
 import sys
 import time
+from allocations import Counted
+
+COUNTS = [1_000, 10_000, 100_000, 1_000_000]
 
 
 def length(n):
@@ -22,21 +27,35 @@ def element(tag, content):
     return bytes([tag]) + length(len(content)) + content
 
 
-def attribute(place):
-    """An attribute of a name, the type 2.5.4.3 with a text of its place."""
-    return element(0x30, b"\x06\x03\x55\x04\x03" + element(0x0C, b"%07d" % place))
+def attributes(count):
+    """So many attributes of eight bytes: a type of two arcs or three, and an empty value under any identifier."""
+    types = [bytes([first, last]) for first in range(0x2A, 0x2E) for last in range(128)]
+    types += [bytes([first, last]) for first in range(0x81, 0xC1) for last in range(128)]
+    tags = [tag for tag in range(0x40, 0x100) if tag % 32 != 31]
+    made = (element(0x30, element(0x06, kind) + bytes([tag, 0])) for tag in tags for kind in types)
+    return itertools.islice(made, count)
 
 
 def one_element(count):
     return element(0x04, bytes(count))
 
 
-def name_of_sets(count):
-    return element(0x30, b"".join(element(0x31, attribute(i)) for i in range(count)))
+def empty_sets(count):
+    return element(0x30, element(0x31, b"") * count)
+
+
+def sets_of_one(count):
+    # nine bytes a set: a shorter type, so that most of a million fit into the program's limit
+    return element(0x30, element(0x31, element(0x30, b"\x06\x01\x2a\x05\x00")) * count)
+
+
+def sets_of_many(count):
+    made = sorted(attributes(1_000))
+    return element(0x30, element(0x31, b"".join(made)) * (count // 1_000))
 
 
 def one_set(count):
-    return element(0x31, b"".join(attribute(i) for i in range(count)))
+    return element(0x31, b"".join(sorted(attributes(count))))
 
 
 def fastest(program, word, data):
@@ -52,16 +71,25 @@ def fastest(program, word, data):
 
 def main():
     program = sys.argv[1]
-    print("what, members, bytes, seconds, nanoseconds a byte")
+    counted = Counted(program)
+    print("| Input | Members | Bytes | Seconds | Nanoseconds a byte | Allocations | Memory a byte |")
+    print("|---|---|---|---|---|---|---|")
     for what, word, make, counts in [
-        ("one element", "any", one_element, [1_000, 10_000, 100_000, 1_000_000, 8_000_000]),
-        ("a name, each attribute in a set of its own", "name", name_of_sets, [1_000, 10_000, 100_000, 400_000]),
-        ("a set of attributes", "rdn", one_set, [1_000, 10_000, 100_000, 450_000]),
+        ("`any`: one element, its octets", "any", one_element, COUNTS + [8_000_000]),
+        ("`name`: empty sets", "name", empty_sets, COUNTS),
+        ("`name`: sets of one attribute", "name", sets_of_one, COUNTS[:3] + [900_000]),
+        ("`name`: attributes in sets of 1,000", "name", sets_of_many, COUNTS),
+        ("`rdn`: attributes of one set", "rdn", one_set, COUNTS),
     ]:
         for count in counts:
             encoding = make(count)
-            seconds = fastest(program, word, encoding.hex().upper().encode())
-            print(f"{what}, {count}, {len(encoding)}, {seconds:.3f}, {seconds * 1e9 / len(encoding):.0f}")
+            data = encoding.hex().upper().encode()
+            seconds = fastest(program, word, data)
+            _, _, (made, most, _) = counted.run(["reencode", word], data)
+            a_byte = seconds * 1e9 / len(encoding)
+            print(f"| {what} | {count:,} | {len(encoding):,} | {seconds:.3f} | {a_byte:.0f} | {made:,} | {most / len(encoding):.1f} |")
+            what = ""
 
 
-main()
+if __name__ == "__main__":
+    main()

@@ -1,8 +1,9 @@
 //! Each type through the program once.
 
-use crate::program::run;
+use crate::reencode::Types;
 use std::alloc::{AllocError, Global};
 use std::test::Fail;
+use x509_tool_run::run;
 
 /// The status and the line of a run over an input.
 fn answer(alloc: Global, command: &str, mut input: &[u8]) -> Result<(u8, Vec<u8>), AllocError> {
@@ -11,7 +12,7 @@ fn answer(alloc: Global, command: &str, mut input: &[u8]) -> Result<(u8, Vec<u8>
         words.push(String::from_str(alloc, word)?)?;
     }
     let mut line = Vec::new(alloc);
-    let status = run(alloc, words.as_slice(), &mut input, &mut line);
+    let status = run::<Types, _, _>(alloc, words.as_slice(), &mut input, &mut line);
     Ok((status, line))
 }
 

@@ -95,8 +95,9 @@ pub fn refuse_memory<W: Sink>(writer: &mut W) -> u8
     say(writer, Refusal::Because(ErrorKind::Memory).line(), 1)
 }
 
-/// What [`run`] does, with the decoders and encoders of `C`.
-pub fn run_with<C: Codec, R: Source, W: Sink>(
+/// Does what the words ask for with the input of the reader, by the decoders and encoders of `C`: writes one line to the
+/// writer, and answers the status.
+pub fn run<C: Codec, R: Source, W: Sink>(
     alloc: Global,
     words: &[String],
     reader: &mut R,

@@ -1,8 +1,10 @@
 //! Runs over readers and writers that may fail, with decoders of the test's own.
 
+mod arguments;
+
 use crate::codec::Codec;
 use crate::command::{Kind, ProfileName};
-use crate::program::run_with;
+use crate::program::run;
 use std::alloc::{AllocError, Global};
 use std::io;
 use std::test::Fail;
@@ -176,7 +178,7 @@ fn answer(alloc: Global, command: &str, input: &[u8]) -> Result<(u8, Vec<u8>), A
     let mut writer = FakeWriter::new(alloc);
     let words = words(alloc, command)?;
     let mut reader = FakeReader::new(input);
-    let status = run_with::<Reversing, FakeReader, FakeWriter>(
+    let status = run::<Reversing, FakeReader, FakeWriter>(
         alloc,
         words.as_slice(),
         &mut reader,
@@ -277,7 +279,7 @@ fn other_words_read_nothing(rt: HostRuntime) -> Result<(), Fail> {
         let words = words(alloc, command)?;
         let mut reader = FakeReader::failing(b"0603550406", 1, 1, io::ErrorKind::Other);
         let mut writer = FakeWriter::new(alloc);
-        let status = run_with::<Reversing, _, _>(alloc, words.as_slice(), &mut reader, &mut writer);
+        let status = run::<Reversing, _, _>(alloc, words.as_slice(), &mut reader, &mut writer);
         assert_eq!(rt; status, 2, "{command:?}");
         assert_eq!(rt; reader.reads, 0);
         assert_eq!(rt; writer.taken.as_slice(), USAGE);
@@ -285,7 +287,7 @@ fn other_words_read_nothing(rt: HostRuntime) -> Result<(), Fail> {
     let mut reader = FakeReader::new(b"");
     let mut writer = FakeWriter::new(alloc);
     assert_eq!(rt;
-        run_with::<Reversing, _, _>(alloc, &[], &mut reader, &mut writer),
+        run::<Reversing, _, _>(alloc, &[], &mut reader, &mut writer),
         2
     );
     assert_eq!(rt; reader.reads, 0);
@@ -302,7 +304,7 @@ fn the_first_failing_read_ends_the_reading(rt: HostRuntime) -> Result<(), Fail> 
         for failing in 1..12 {
             let mut reader = FakeReader::failing(b"0603550406", 1, failing, kind);
             let mut writer = FakeWriter::new(alloc);
-            let status = run_with::<Reversing, FakeReader, FakeWriter>(
+            let status = run::<Reversing, FakeReader, FakeWriter>(
                 alloc,
                 words.as_slice(),
                 &mut reader,
@@ -315,7 +317,7 @@ fn the_first_failing_read_ends_the_reading(rt: HostRuntime) -> Result<(), Fail> 
     }
     let mut reader = FakeReader::failing(b"0803550406", 1, 12, io::ErrorKind::Other);
     let mut writer = FakeWriter::new(alloc);
-    let status = run_with::<Reversing, FakeReader, FakeWriter>(
+    let status = run::<Reversing, FakeReader, FakeWriter>(
         alloc,
         words.as_slice(),
         &mut reader,
@@ -349,7 +351,7 @@ fn the_first_lapse_of_a_writer_ends_the_run(rt: HostRuntime) -> Result<(), Fail>
             for lapsing in 1..line.len() + 1 {
                 let mut reader = FakeReader::new(input);
                 let mut writer = FakeWriter::lapsing(alloc, 1, lapsing, lapse);
-                let ended = run_with::<Reversing, FakeReader, FakeWriter>(
+                let ended = run::<Reversing, FakeReader, FakeWriter>(
                     alloc,
                     words.as_slice(),
                     &mut reader,
@@ -361,7 +363,7 @@ fn the_first_lapse_of_a_writer_ends_the_run(rt: HostRuntime) -> Result<(), Fail>
             }
             let mut reader = FakeReader::new(input);
             let mut writer = FakeWriter::lapsing(alloc, 1, line.len() + 1, lapse);
-            let ended = run_with::<Reversing, FakeReader, FakeWriter>(
+            let ended = run::<Reversing, FakeReader, FakeWriter>(
                 alloc,
                 words.as_slice(),
                 &mut reader,
@@ -384,7 +386,7 @@ fn an_input_that_never_ends_is_too_long(rt: HostRuntime) -> Result<(), Fail> {
             reads: 0,
         };
         let mut writer = FakeWriter::new(alloc);
-        let status = run_with::<Reversing, _, _>(alloc, words.as_slice(), &mut reader, &mut writer);
+        let status = run::<Reversing, _, _>(alloc, words.as_slice(), &mut reader, &mut writer);
         assert_eq!(rt; status, 1);
         assert_eq!(rt;
             writer.taken.as_slice(),
@@ -402,7 +404,7 @@ fn an_input_may_be_as_long_as_the_limit(rt: HostRuntime) -> Result<(), Fail> {
     let mut input = vec![in alloc; b'8'; 16_777_216]?;
     let mut reader = FakeReader::new(input.as_slice());
     let mut writer = FakeWriter::new(alloc);
-    let status = run_with::<Reversing, FakeReader, FakeWriter>(
+    let status = run::<Reversing, FakeReader, FakeWriter>(
         alloc,
         words.as_slice(),
         &mut reader,
@@ -414,7 +416,7 @@ fn an_input_may_be_as_long_as_the_limit(rt: HostRuntime) -> Result<(), Fail> {
     input.push(b'\n')?;
     let mut reader = FakeReader::new(input.as_slice());
     let mut writer = FakeWriter::new(alloc);
-    let status = run_with::<Reversing, FakeReader, FakeWriter>(
+    let status = run::<Reversing, FakeReader, FakeWriter>(
         alloc,
         words.as_slice(),
         &mut reader,

@@ -1,6 +1,6 @@
 use Rattle.std.proofs.Common.{refl, sym, ◌∙◌, Err}
 use Rattle.x509_tool_run.specs.Answer.{usage, text_of}
-use Rattle.x509_tool_run.proofs.program.run_with.Goals as goal
+use Rattle.x509_tool_run.proofs.program.run.Goals as goal
 
 pub returns-in_default-clause-usage : goal.returns-in_default-clause-usage
 returns-in_default-clause-usage g c none = c.say.ensures usage refl
