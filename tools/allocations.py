@@ -16,11 +16,11 @@ class Counted:
         subprocess.run(["cc", "-O2", "-shared", "-fPIC", "-o", self.library, source, "-ldl"], check=True)
 
     def run(self, words, data, refuse=None):
-        """The status, the line out, and what was counted: allocations, most bytes at once, refused ones."""
+        """The status, what was printed and said, and what was counted: allocations, most bytes at once, refused ones."""
         env = dict(os.environ, LD_PRELOAD=self.library, COUNTS=self.counts)
         if refuse:
             env["REFUSE"] = refuse
-        done = subprocess.run([self.program, *words], input=data, capture_output=True, env=env)
+        done = subprocess.run([self.program, *words], input=data, capture_output=True, env=env, timeout=60)
         with open(self.counts, encoding="ascii") as file:
             counted = [int(number) for number in file.read().split()]
-        return done.returncode, done.stdout, counted
+        return done.returncode, done.stdout, done.stderr, counted

@@ -85,7 +85,7 @@ def main():
             encoding = make(count)
             data = encoding.hex().upper().encode()
             seconds = fastest(program, word, data)
-            _, _, (made, most, _) = counted.run(["reencode", word], data)
+            _, _, _, (made, most, _) = counted.run(["reencode", word], data)
             a_byte = seconds * 1e9 / len(encoding)
             print(f"| {what} | {count:,} | {len(encoding):,} | {seconds:.3f} | {a_byte:.0f} | {made:,} | {most / len(encoding):.1f} |")
             what = ""

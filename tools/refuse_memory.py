@@ -1,44 +1,80 @@
 #!/usr/bin/env python3
-"""Refuses each allocation of the program in turn: a run must end with its answer or with `refused: Memory`.
+"""Refuses each allocation in turn: a run must end with its answer, or as one that lacked memory.
 
     tools/refuse_memory.py crates/x509_tool/out/x509_tool < CASES
+    tools/refuse_memory.py --tests crates/*/out/*_tests
 
 A line of CASES is the words, a tab, the line in, a tab and the line out. Each case is run with no allocation refused, then with
-the Nth one refused, and with all from the Nth on, for N from 1 until so many aren't asked for.
+the Nth one refused, and with all from the Nth on, for N from 1 until so many aren't asked for. The second form runs each test
+of the crates so; it must end well, by an error that says that memory was refused, or by an assertion of its own, where the answer
+that it wants is another than a want of memory. All else is printed, as a fault or a run without end.
 """
 import collections
+import re
+import subprocess
 import sys
 from allocations import Counted
 
 MEMORY = (1, b"refused: Memory\n")
 
 
-def main():
-    counted = Counted(sys.argv[1])
+def each_refusal(asked):
+    for place in range(1, asked + 1):
+        yield str(place)
+        yield f"{place}+"
+
+
+def program(path):
+    counted = Counted(path)
     cases = runs = memory = wrong = 0
     most = collections.Counter()
     for line in sys.stdin.buffer.read().rstrip(b"\n").split(b"\n"):
         words, data, want = (part.decode() for part in line.split(b"\t"))
         answer = (1 if want.startswith("refused: ") else 0, want.encode() + b"\n")
         cases += 1
-        status, out, (asked, _, _) = counted.run(words.split(), data.encode())
+        status, out, _, (asked, _, _) = counted.run(words.split(), data.encode())
         if (status, out) != answer:
             wrong += 1
             print(f"{words}: {data[:60]}: {out[:60]!r}, not {want[:60]}")
         most[words] = max(most[words], asked)
-        for place in range(1, asked + 1):
-            for refuse in (str(place), f"{place}+"):
-                status, out, (_, _, refused) = counted.run(words.split(), data.encode(), refuse)
-                runs += 1
-                memory += (status, out) == MEMORY
-                if (status, out) not in (MEMORY, answer) or not refused:
-                    wrong += 1
-                    print(f"{words}: {data[:60]}: allocation {refuse} refused: {status} {out[:60]!r}")
+        for refuse in each_refusal(asked):
+            status, out, _, (_, _, refused) = counted.run(words.split(), data.encode(), refuse)
+            runs += 1
+            memory += (status, out) == MEMORY
+            if (status, out) not in (MEMORY, answer) or not refused:
+                wrong += 1
+                print(f"{words}: {data[:60]}: allocation {refuse} refused: {status} {out[:60]!r}")
     for words, asked in sorted(most.items()):
         print(f"{words}: at most {asked} allocations")
     print(f"{cases} cases, {runs} runs with refused allocations, {memory} ended with Memory, {wrong} disagreements")
     return 1 if wrong or not runs else 0
 
 
+def tests(paths):
+    names, wrong, ends = 0, 0, collections.Counter()
+    for path in paths:
+        counted = Counted(path)
+        listed = subprocess.run([path, "--list"], capture_output=True, text=True, check=True).stdout
+        for name in re.findall(r"(?m)^(\S+): test$", listed):
+            names += 1
+            status, _, said, (asked, _, _) = counted.run([name], b"")
+            if status:
+                sys.exit(f"{path} {name}: {said.decode()}")
+            for refuse in each_refusal(min(asked, 400)):
+                status, _, said, _ = counted.run([name], b"", refuse)
+                if not status:
+                    ends["ended well"] += 1
+                elif status == 101 and re.search(rb"Memory|Alloc(Error|Failed)", said):
+                    ends["for want of memory"] += 1
+                elif status == -6 and said.startswith(b"assertion "):
+                    ends["by an assertion"] += 1
+                else:
+                    wrong += 1
+                    print(f"{path} {name}: allocation {refuse} refused: {status} {said.decode().strip()[:200]}")
+    told = ", ".join(f"{count} {how}" for how, count in ends.items())
+    print(f"{names} tests, {sum(ends.values()) + wrong} runs with refused allocations: {told}, {wrong} otherwise")
+    return 1 if wrong or not ends else 0
+
+
 if __name__ == "__main__":
-    sys.exit(main())
+    sys.exit(tests(sys.argv[2:]) if sys.argv[1] == "--tests" else program(sys.argv[1]))
