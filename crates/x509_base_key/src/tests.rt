@@ -50,6 +50,22 @@ fn all_malformed<T: Decode + Drop>(rt: &HostRuntime, rows: &[&[u8]]) -> bool {
     true
 }
 
+/// Whether the values of the rows are equal exactly where the rows are.
+fn all_differ<T: Decode + PartialEq + Drop>(
+    rt: &HostRuntime,
+    rows: &[&[u8]],
+) -> Result<bool, Fail> {
+    for a in rows {
+        for b in rows {
+            let same = T::from_der(rt.alloc(), a)? == T::from_der(rt.alloc(), b)?;
+            if same != (a == b) {
+                return Ok(false);
+            }
+        }
+    }
+    Ok(true)
+}
+
 /// No parameters, NULL, an element of the context-specific class, and the named curve of RFC 5480 2.1.1.
 const ALGORITHMS: [&[u8]; 4] = [
     &[0x30, 0x05, 0x06, 0x03, 0x2A, 0x03, 0x04],
@@ -78,6 +94,7 @@ const NO_ALGORITHMS: [&[u8]; 7] = [
 #[test]
 fn algorithms(rt: HostRuntime) -> Result<(), Fail> {
     assert!(rt; all_same::<AlgorithmIdentifier>(&rt, &ALGORITHMS)?);
+    assert!(rt; all_differ::<AlgorithmIdentifier>(&rt, &ALGORITHMS)?);
     assert!(rt; all_malformed::<AlgorithmIdentifier>(&rt, &NO_ALGORITHMS));
     Ok(())
 }
@@ -109,7 +126,7 @@ fn an_algorithm_that_is_made(rt: HostRuntime) -> Result<(), Fail> {
     Ok(())
 }
 
-/// The public key of RFC 8410 10.1; a key of eight bits, and one of four; an algorithm with parameters.
+/// The public key of RFC 8410 10.1; a key of eight bits, and one of the first four of them; an algorithm with parameters.
 const KEYS: [&[u8]; 4] = [
     &[
         0x30, 0x2A, 0x30, 0x05, 0x06, 0x03, 0x2B, 0x65, 0x70, 0x03, 0x21, 0x00, 0x19, 0xBF, 0x44,
@@ -117,19 +134,19 @@ const KEYS: [&[u8]; 4] = [
         0x86, 0xAA, 0x30, 0xB6, 0xB6, 0xCB, 0x0C, 0x5C, 0x38, 0xAD, 0x70, 0x31, 0x66, 0xE1,
     ],
     &[
-        0x30, 0x0B, 0x30, 0x05, 0x06, 0x03, 0x2A, 0x03, 0x04, 0x03, 0x02, 0x00, 0xFF,
+        0x30, 0x0B, 0x30, 0x05, 0x06, 0x03, 0x2A, 0x03, 0x04, 0x03, 0x02, 0x00, 0xF0,
     ],
     &[
         0x30, 0x0B, 0x30, 0x05, 0x06, 0x03, 0x2A, 0x03, 0x04, 0x03, 0x02, 0x04, 0xF0,
     ],
     &[
-        0x30, 0x0D, 0x30, 0x07, 0x06, 0x03, 0x2A, 0x03, 0x04, 0x05, 0x00, 0x03, 0x02, 0x00, 0xFF,
+        0x30, 0x0D, 0x30, 0x07, 0x06, 0x03, 0x2A, 0x03, 0x04, 0x05, 0x00, 0x03, 0x02, 0x00, 0xF0,
     ],
 ];
 
 /// A further field; no key; two parameters; no algorithm; fields in another order; a key that is no BIT STRING; an unused
-/// bit that is one.
-const NO_KEYS: [&[u8]; 7] = [
+/// bit that is one; another identifier.
+const NO_KEYS: [&[u8]; 8] = [
     &[
         0x30, 0x0D, 0x30, 0x05, 0x06, 0x03, 0x2A, 0x03, 0x04, 0x03, 0x02, 0x00, 0xFF, 0x05, 0x00,
     ],
@@ -148,11 +165,15 @@ const NO_KEYS: [&[u8]; 7] = [
     &[
         0x30, 0x0B, 0x30, 0x05, 0x06, 0x03, 0x2A, 0x03, 0x04, 0x03, 0x02, 0x04, 0xFF,
     ],
+    &[
+        0x31, 0x0B, 0x30, 0x05, 0x06, 0x03, 0x2A, 0x03, 0x04, 0x03, 0x02, 0x00, 0xFF,
+    ],
 ];
 
 #[test]
 fn keys(rt: HostRuntime) -> Result<(), Fail> {
     assert!(rt; all_same::<SubjectPublicKeyInfo>(&rt, &KEYS)?);
+    assert!(rt; all_differ::<SubjectPublicKeyInfo>(&rt, &KEYS)?);
     assert!(rt; all_malformed::<SubjectPublicKeyInfo>(&rt, &NO_KEYS));
     Ok(())
 }

@@ -4,6 +4,7 @@ ghost use Rattle.std.specs.Prelude.{◌≡◌, ◌<◌, ◌≤◌, ◌↔◌, �
 ghost use Rattle.x509_der_element.specs.declared.error.ErrorKind.TheVariants as errors;
 ghost use Rattle.x509_der_element.specs.declared.tag.Tag.TheVariants.{Null};
 ghost use Rattle.x509_der_element.specs.Element.{element, limit};
+ghost use Rattle.x509_der_element.specs.Outcome.{Gives};
 ghost use Rattle.x509_der_grammar.specs.Form.{spelling};
 ghost use Rattle.x509_der_element.specs.Tag.{octet_of};
 ghost use Rattle.x509_der_grammar.specs.Writing.{writes, written_spelling, IsWritable, IsUnwritable};
@@ -59,6 +60,7 @@ impl Any {
         ensures refused { IfErr result (λ e. (e.kind ≡ errors.Memory) ⊎ ((e.kind ≡ errors.Malformed) ⊎ T.refuses e.kind)) }
         ensures only { (value : T) → T.form.good value → element (octet_of self.now.tag) self.now.value ≡ spelling T.form value → IfErr result (λ e. e.kind ≡ errors.Memory) }
         ensures value { (value : T) → T.form.good value → element (octet_of self.now.tag) self.now.value ≡ spelling T.form value → IfOk result (λ found. found ≡ value) }
+        ensures which { Gives result (T.form.reading (octet_of self.now.tag) self.now.value) }
     {
         T::read(alloc, self.tag.octet(), self.value.as_slice())
     }

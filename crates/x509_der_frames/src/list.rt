@@ -137,7 +137,7 @@ impl<T: fmt::Debug> fmt::Debug for SequenceOf<T> {
 }
 
 /// Copies of the members, in their order. Memory may be refused.
-fn clone_members<T: TryClone + Drop>(alloc: Global, members: &[T]) -> Result<Vec<T>, Error>
+pub fn clone_members<T: TryClone + Drop>(alloc: Global, members: &[T]) -> Result<Vec<T>, Error>
     ensures ok { IfOk result (λ copies. copies.items ≡ members.now) }
     ensures err { IfErr result (λ e. e.kind ≡ Memory) }
 {

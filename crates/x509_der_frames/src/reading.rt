@@ -1,7 +1,8 @@
 //! Reading the fields of a sequence. Each reader takes its field from the front of `rest`; `Malformed`, or the
-//! refusal of the type, where the field does not stand there. Memory may be refused.
+//! refusal of the type, where the field does not stand there. Memory may be refused. Where it is refused, `rest` is as
+//! it was.
 
-ghost use Rattle.std.specs.Prelude.{◌≡◌, ◌<◌, IfErr};
+ghost use Rattle.std.specs.Prelude.{◌≡◌, ◌<◌, IfErr, OnErr};
 ghost use Rattle.x509_der_element.specs.declared.error.ErrorKind.TheVariants.{Malformed};
 ghost use Rattle.x509_der_element.specs.Outcome.{Gives, GivesBefore};
 ghost use Rattle.x509_der_element.specs.Tag.{octet_of};
@@ -39,6 +40,7 @@ pub fn implicit_octet<T: FixedTag>(n: u8) -> u8
 #[tactic(auto, unfolding(crate::specs::Frames::field_at))]
 pub fn field<T: Decode>(alloc: Global, rest: &mut &[u8]) -> Result<T, Error>
     ensures exact { GivesBefore result rest.new.now ((required T.form).reading rest.old.now) }
+    ensures unchanged { OnErr result (rest.new.now ≡ rest.old.now) }
 {
     let piece = split_element(*rest)?;
     let value = T::read(alloc, piece.tag, piece.content)?;
@@ -51,6 +53,7 @@ pub fn field<T: Decode>(alloc: Global, rest: &mut &[u8]) -> Result<T, Error>
 pub fn explicit_field<T: Decode>(alloc: Global, n: u8, rest: &mut &[u8]) -> Result<T, Error>
     requires { n < 31 }
     ensures exact { GivesBefore result rest.new.now ((required (explicit n T.form)).reading rest.old.now) }
+    ensures unchanged { OnErr result (rest.new.now ≡ rest.old.now) }
 {
     let piece = split_element(*rest)?;
     if piece.tag != 0xA0 + n {
@@ -70,6 +73,7 @@ pub fn implicit_field<T: Decode + FixedTag>(
 ) -> Result<T, Error>
     requires { n < 31 }
     ensures exact { GivesBefore result rest.new.now ((required (implicit n (octet_of T.TAG) T.form)).reading rest.old.now) }
+    ensures unchanged { OnErr result (rest.new.now ≡ rest.old.now) }
 {
     let piece = split_element(*rest)?;
     if piece.tag != implicit_octet::<T>(n) {
@@ -84,6 +88,7 @@ pub fn implicit_field<T: Decode + FixedTag>(
 #[tactic(auto, unfolding(crate::specs::Frames::optional_at))]
 pub fn optional_field<T: Decode>(alloc: Global, rest: &mut &[u8]) -> Result<Option<T>, Error>
     ensures exact { GivesBefore result rest.new.now ((optional T.form).reading rest.old.now) }
+    ensures unchanged { OnErr result (rest.new.now ≡ rest.old.now) }
 {
     match *rest {
         [octet, ..] if T::is_start(*octet) => Ok(Some(field::<T>(alloc, rest)?)),
@@ -100,6 +105,7 @@ pub fn optional_explicit<T: Decode>(
 ) -> Result<Option<T>, Error>
     requires { n < 31 }
     ensures exact { GivesBefore result rest.new.now ((optional (explicit n T.form)).reading rest.old.now) }
+    ensures unchanged { OnErr result (rest.new.now ≡ rest.old.now) }
 {
     match *rest {
         [octet, ..] if *octet == 0xA0 + n => Ok(Some(explicit_field::<T>(alloc, n, rest)?)),
@@ -116,6 +122,7 @@ pub fn optional_implicit<T: Decode + FixedTag>(
 ) -> Result<Option<T>, Error>
     requires { n < 31 }
     ensures exact { GivesBefore result rest.new.now ((optional (implicit n (octet_of T.TAG) T.form)).reading rest.old.now) }
+    ensures unchanged { OnErr result (rest.new.now ≡ rest.old.now) }
 {
     match *rest {
         [octet, ..] if *octet == implicit_octet::<T>(n) => Ok(Some(implicit_field::<T>(
@@ -130,17 +137,21 @@ pub fn optional_implicit<T: Decode + FixedTag>(
 #[tactic(auto, unfolding(crate::specs::Frames::default_at))]
 pub fn default_field<T: Decode + Standard>(alloc: Global, rest: &mut &[u8]) -> Result<T, Error>
     ensures exact { GivesBefore result rest.new.now ((defaulted T.default T.form).reading rest.old.now) }
+    ensures unchanged { OnErr result (rest.new.now ≡ rest.old.now) }
 {
-    let found = optional_field::<T>(alloc, rest)?;
-    match found {
-        None => Ok(T::standard()),
+    let mut ahead = *rest;
+    let found = optional_field::<T>(alloc, &mut ahead)?;
+    let value = match found {
+        None => T::standard(),
         Some(value) => {
             if value.is_standard() {
                 return Err(ErrorKind::Malformed.into());
             }
-            Ok(value)
+            value
         }
-    }
+    };
+    *rest = ahead;
+    Ok(value)
 }
 
 /// {n}x=d: the same in an element of its own.
@@ -152,17 +163,21 @@ pub fn default_explicit<T: Decode + Standard>(
 ) -> Result<T, Error>
     requires { n < 31 }
     ensures exact { GivesBefore result rest.new.now ((defaulted T.default (explicit n T.form)).reading rest.old.now) }
+    ensures unchanged { OnErr result (rest.new.now ≡ rest.old.now) }
 {
-    let found = optional_explicit::<T>(alloc, n, rest)?;
-    match found {
-        None => Ok(T::standard()),
+    let mut ahead = *rest;
+    let found = optional_explicit::<T>(alloc, n, &mut ahead)?;
+    let value = match found {
+        None => T::standard(),
         Some(value) => {
             if value.is_standard() {
                 return Err(ErrorKind::Malformed.into());
             }
-            Ok(value)
+            value
         }
-    }
+    };
+    *rest = ahead;
+    Ok(value)
 }
 
 /// [n]x=d: the same under a tag in place of its own.
@@ -174,15 +189,19 @@ pub fn default_implicit<T: Decode + FixedTag + Standard>(
 ) -> Result<T, Error>
     requires { n < 31 }
     ensures exact { GivesBefore result rest.new.now ((defaulted T.default (implicit n (octet_of T.TAG) T.form)).reading rest.old.now) }
+    ensures unchanged { OnErr result (rest.new.now ≡ rest.old.now) }
 {
-    let found = optional_implicit::<T>(alloc, n, rest)?;
-    match found {
-        None => Ok(T::standard()),
+    let mut ahead = *rest;
+    let found = optional_implicit::<T>(alloc, n, &mut ahead)?;
+    let value = match found {
+        None => T::standard(),
         Some(value) => {
             if value.is_standard() {
                 return Err(ErrorKind::Malformed.into());
             }
-            Ok(value)
+            value
         }
-    }
+    };
+    *rest = ahead;
+    Ok(value)
 }

@@ -1,20 +1,18 @@
 -- Members make one set, whatever their order; and the encodings of its members rise.
-use Rattle.std.proofs.Common.{arith, ◌≡◌, List, [], ◌∷◌, refl, sym, ap, ◌∙◌, subst, Bool, false}
-use Rattle.std.specs.List.{list_any, All, AllByRecursion}
+use Rattle.std.proofs.Common.{◌≡◌, List, [], ◌∷◌, refl, sym, ◌∙◌, subst, Bool, false}
+use Rattle.std.specs.List.{list_any, AllByRecursion}
 use Rattle.std.specs.List.Sorted.{IsStrictlySortedBy, IsPermutation}
-use Rattle.std.specs.Ordering.{ordering_reverse, eq_by_cmp}
+use Rattle.std.specs.Ordering.{eq_by_cmp}
 use Rattle.std.specs.Cmp.{IsTotalOrder}
-use Rattle.std.specs.Prelude.{ℕ, suc, map}
+use Rattle.std.specs.Prelude.{ℕ, map}
 use Rattle.std.specs.declared.cmp.Ordering.{Ordering}
 use Rattle.std.specs.declared.cmp.Ordering.TheVariants.{Less, Equal, Greater}
 use Rattle.std.proofs.lemmas.Cmp.{tied_itself}
 use Rattle.std.proofs.lemmas.List.Sorted.{list_any-IsPermutation}
 use Rattle.x509_der_order.specs.Order.{bytes_cmp, IsDerOrder}
+use Rattle.x509_der_set.proofs.RisingLists.{turned}
 
 module _ {X : Type 0} {R : X → X → Ordering} (o : IsTotalOrder R) (exact : (x y : X) → R x y ≡ Equal → x ≡ y) where
-  turned : (x y : X) → R x y ≡ Greater → R y x ≡ Less
-  turned x y e = o.antisymm y x ∙ ap ordering_reverse e
-
   -- whether a member that ties with q is there
   abbrev there : X → List X → Bool
   there q xs = list_any (eq_by_cmp R q) xs
@@ -46,7 +44,7 @@ module _ {X : Type 0} {R : X → X → Ordering} (o : IsTotalOrder R) (exact : (
         let rest = unique xs ys s.1 t.1 (λ q. tails x y q xs ys f s.0 t.0 (h q)) in
         cc
     | Less ↦ λ e. absurd (let k = h x in let own = tied_itself o x in let none = below_all x ys (further x y ys e t.0) in let k2 = rw (own, e, none) at k in cc)
-    | Greater ↦ λ e. absurd (let k = h y in let own = tied_itself o y in let turn = turned x y e in let none = below_all y xs (further y x xs turn s.0) in let k2 = rw (own, turn, none) at k in cc)
+    | Greater ↦ λ e. absurd (let k = h y in let own = tied_itself o y in let turn = turned o x y e in let none = below_all y xs (further y x xs turn s.0) in let k2 = rw (own, turn, none) at k in cc)
   ] refl
 
   -- rising lists of the same members are one
@@ -63,7 +61,3 @@ module _ {X : Type 0} {Has : X → Type 0} {text : X → List ℕ} {order : X �
   unfolding IsStrictlySortedBy
   texts_rise [] p s = tt
   texts_rise (x ∷ xs) p s = (texts_above x xs p.0 p.1 s.0, texts_rise xs p.1 s.1)
-
-pub by_recursion : {X : Type 0} (P : X → Type 0) (xs : List X) → All P xs → AllByRecursion P xs
-by_recursion P [] h = tt
-by_recursion P (x ∷ xs) h = (h 0 x (omega arith), by_recursion P xs (λ k d lt. h (suc k) d (omega arith)))

@@ -22,7 +22,7 @@ pub answered : (answer order : Ordering) (tested is : Bool) → answer ≡ order
 answered answer order tested is e f g = ap is_lt (sym e) ∙ sym f ∙ g
 
 module _ {X : Type 0} {R : X → X → Ordering} (o : IsTotalOrder R) where
-  turned : (x y : X) → R x y ≡ Greater → R y x ≡ Less
+  pub turned : (x y : X) → R x y ≡ Greater → R y x ≡ Less
   turned x y e = o.antisymm y x ∙ ap ordering_reverse e
 
   -- ---- where a search ends

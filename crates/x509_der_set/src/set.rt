@@ -16,7 +16,7 @@ use std::cmp::Ordering;
 use std::hash::{Hash, Hasher};
 use std::marker::Model;
 use std::{fmt, slice};
-use x509_der_frames::{put_members, read_members};
+use x509_der_frames::{clone_members, put_members, read_members};
 use x509_der_grammar::{
     Decode, Encode, Error, ErrorKind, FixedTag, Grammar, Room, Tag, TryClone, expect_tag,
 };
@@ -222,18 +222,6 @@ impl<T: DerOrd> ValueOrd for SetOfVec<T> {
     }
 
     ghost ordered = { set_ordered T.form T.writing T.order T.ordered };
-}
-
-/// Copies of the members, in their order. Memory may be refused.
-fn clone_members<T: TryClone + Drop>(alloc: Global, members: &[T]) -> Result<Vec<T>, Error>
-    ensures ok { IfOk result (λ copies. copies.items ≡ members.now) }
-    ensures err { IfErr result (λ e. e.kind ≡ errors.Memory) }
-{
-    let mut copies = Vec::with_capacity(alloc, members.len())?;
-    for member in members {
-        copies.push(member.try_clone(alloc)?)?;
-    }
-    Ok(copies)
 }
 
 impl<T: DerOrd + TryClone + Drop> TryClone for SetOfVec<T> {

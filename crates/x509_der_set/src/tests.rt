@@ -94,6 +94,16 @@ fn a_member_again_is_refused(rt: HostRuntime) -> Result<(), Fail> {
 }
 
 #[test]
+fn many_members(rt: HostRuntime) -> Result<(), Fail> {
+    let mut set = SetOfVec::new(rt.alloc());
+    for count in 0..300_u32 {
+        set.insert(7 * count % 300)?;
+    }
+    assert!(rt; set.len() == 300 && set.get(299) == Some(&299));
+    Ok(())
+}
+
+#[test]
 fn refused_memory_leaves_the_set(rt: HostRuntime) -> Result<(), Fail> {
     let mut set: SetOfVec<u32> = SetOfVec::new(rt.alloc());
     for count in 0..40 {

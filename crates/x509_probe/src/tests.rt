@@ -3,9 +3,10 @@ use std::cmp::Ordering;
 use std::test::*;
 use x509_base::{Raw, Rfc5280};
 use x509_der::{
-    Any, Decode, DerOrd, Encode, Error, ErrorKind, ObjectIdentifier, SequenceOf, SetOfVec, Tag,
-    TryClone,
+    Any, Decode, DerOrd, Encode, Error, ErrorKind, ObjectIdentifier, PutPart, SequenceOf, SetOfVec,
+    Tag, TryClone, default_implicit, explicit_field, implicit_default, implicit_field,
 };
+use x509_der_grammar::Growing;
 use x509_prim_string::OctetString;
 
 /// Reads the bytes and writes the value again, in each way.
@@ -31,11 +32,15 @@ fn all_same<T: Decode + Encode + Drop>(rt: &HostRuntime, rows: &[&[u8]]) -> Resu
     Ok(true)
 }
 
-fn is_malformed<T: Decode + Drop>(rt: &HostRuntime, bytes: &[u8]) -> bool {
-    match T::from_der(rt.alloc(), bytes) {
+fn malformed<T: Drop>(outcome: Result<T, Error>) -> bool {
+    match outcome {
         Ok(_) => false,
         Err(e) => e.kind() == ErrorKind::Malformed,
     }
+}
+
+fn is_malformed<T: Decode + Drop>(rt: &HostRuntime, bytes: &[u8]) -> bool {
+    malformed(T::from_der(rt.alloc(), bytes))
 }
 
 fn all_malformed<T: Decode + Drop>(rt: &HostRuntime, rows: &[&[u8]]) -> bool {
@@ -45,6 +50,29 @@ fn all_malformed<T: Decode + Drop>(rt: &HostRuntime, rows: &[&[u8]]) -> bool {
         }
     }
     true
+}
+
+#[test]
+fn tags_of_another_number(rt: HostRuntime) {
+    let mut rest = [0xA2, 3, 1, 1, 0xFF].as_slice();
+    assert!(rt; malformed(explicit_field::<bool>(rt.alloc(), 1, &mut rest)));
+    let mut rest = [0x82, 1, 0xFF].as_slice();
+    assert!(rt; malformed(implicit_field::<bool>(rt.alloc(), 1, &mut rest)));
+}
+
+#[test]
+fn a_default_under_a_tag(rt: HostRuntime) -> Result<(), Fail> {
+    let mut rest = [0x81, 1, 0xFF, 5, 0].as_slice();
+    assert!(rt; default_implicit::<bool>(rt.alloc(), 1, &mut rest)?);
+    assert!(rt; !default_implicit::<bool>(rt.alloc(), 1, &mut rest)?);
+    assert_eq!(rt; rest, [5, 0].as_slice());
+    let mut rest = [0x81, 1, 0].as_slice();
+    assert!(rt; malformed(default_implicit::<bool>(rt.alloc(), 1, &mut rest)));
+    let mut room = Growing::new(rt.alloc());
+    let parts = (implicit_default(1, &false), implicit_default(2, &true));
+    parts.put_text(&mut room)?;
+    assert_eq!(rt; room.into_vec().as_slice(), [0x82, 1, 0xFF].as_slice());
+    Ok(())
 }
 
 const PROBES: [&[u8]; 4] = [
@@ -123,7 +151,8 @@ const IDENTIFIERS: [&[u8]; 3] = [
     &[6, 10, 0x2B, 6, 1, 4, 1, 0xD6, 0x79, 2, 4, 2],
 ];
 
-const NO_IDENTIFIERS: [&[u8]; 7] = [
+const NO_IDENTIFIERS: [&[u8]; 8] = [
+    &[0x0D, 3, 0x55, 4, 6],
     &[6, 6, 0x2A, 0x90, 0x80, 0x80, 0x80, 0],
     &[6, 2, 0x80, 0x3A],
     &[6, 0],
@@ -204,6 +233,7 @@ fn lists(rt: HostRuntime) -> Result<(), Fail> {
     assert!(rt; all_same::<SequenceOf<u8>>(&rt, &[&[0x30, 0], &[0x30, 6, 2, 1, 7, 2, 1, 5]])?);
     assert!(rt; same::<SequenceOf<Probe>>(&rt, &[0x30, 7, 0x30, 5, 6, 3, 0x55, 4, 6])?);
     assert!(rt; is_malformed::<SequenceOf<u8>>(&rt, &[0x30, 5, 2, 1, 7, 2, 1]));
+    assert!(rt; is_malformed::<SequenceOf<u8>>(&rt, &[0x31, 3, 2, 1, 7]));
     Ok(())
 }
 
@@ -215,6 +245,7 @@ fn lists_that_are_made(rt: HostRuntime) -> Result<(), Fail> {
     numbers.push(5)?;
     assert_eq!(rt; numbers.len(), 2);
     assert!(rt; numbers.try_clone(rt.alloc())? == numbers);
+    assert_eq!(rt; format!(in rt.alloc(); "{numbers:?}")?.as_str(), "[7, 5]");
     assert_eq!(rt;
         SequenceOf::from(numbers.into_vec()).as_slice(),
         [7, 5].as_slice()
