@@ -1,6 +1,6 @@
 //! What holds of all bit strings. Each law is a function with an empty body, whose contract is the law.
 
-ghost use Rattle.std.specs.Prelude.{◌≡◌, ◌<◌, ℕ, Bool, true, List};
+ghost use Rattle.std.specs.Prelude.{◌≡◌, ◌<◌, Bool, true, List};
 ghost use Rattle.std.specs.List.{All};
 ghost use Rattle.x509_prim_string.specs.BitString.{BitParts, HasBits, is_padded};
 
