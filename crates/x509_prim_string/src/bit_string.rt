@@ -186,6 +186,11 @@ impl TryClone for BitString {
 }
 
 impl fmt::Debug for BitString {
+    ghost use Rattle.std.specs.Prelude.{Some, codes, ◌++◌};
+    ghost use Rattle.std.specs.Fmt.{debug_list, decimal, ◌++?◌};
+
+    ghost debug_output = { λ string. debug_list (λ octet. Some (decimal octet)) string.octets ++? Some (codes ", " ++ decimal string.unused ++ codes " unused") };
+
     fn fmt<W: fmt::Write>(&self, f: &mut fmt::Formatter<W>) -> fmt::Result {
         write!(f, "{:?}, {} unused", self.raw_bytes(), self.unused_bits())
     }
