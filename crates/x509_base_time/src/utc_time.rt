@@ -43,6 +43,7 @@ impl UtcTime {
     /// `Value` after the year 2049.
     pub fn from_date_time(date_time: DateTime) -> Result<UtcTime, Error>
         ensures succeeds { IsOk result ↔ (date_time.year ≤ 2049) }
+        ensures last_year { UtcTime.MAX_YEAR ≡ 2049 }
         ensures value { IfOk result (λ t. t ≡ date_time) }
         ensures refused { IfErr result (λ e. e.kind ≡ Value) }
     {

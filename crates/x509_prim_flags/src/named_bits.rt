@@ -1,6 +1,7 @@
 //! Sets of named bits (X.680 22.7).
 
-ghost use Rattle.std.specs.Prelude.{◌≡◌, ◌<◌, Some, None, MatchOption};
+ghost use Rattle.std.specs.Prelude.{◌≡◌, Some, None, IfErr};
+ghost use Rattle.x509_der_element.specs.declared.error.ErrorKind.TheVariants.{Malformed};
 ghost use Rattle.x509_der_element.specs.Outcome.{Gives};
 ghost use Rattle.x509_der_grammar.specs.Writing.{Puts};
 ghost use Rattle.x509_der_order.specs.Order.{bytes_cmp};
@@ -100,6 +101,7 @@ fn put_set<R: Room>(set: u16, room: &mut R) -> Result<(), Error>
 #[tactic(auto, unfolding(crate::specs::NamedBits::named_reading))]
 pub fn read_named_bits<T: NamedBits>(tag: u8, content: &[u8]) -> Result<T, Error>
     ensures exact { Gives result ((grammar.named_bits T.of_set T.set_of T.table).reading tag content.now) }
+    ensures err { IfErr result (λ e. e.kind ≡ Malformed) }
 {
     if tag != Tag::BitString.octet() {
         return Err(ErrorKind::Malformed.into());

@@ -42,7 +42,7 @@ impl Int {
     /// The number with that content; `Value` exactly where it is not the content of an INTEGER. Memory may be refused.
     pub fn new(alloc: Global, content: &[u8]) -> Result<Int, Error>
         ensures ok { IfOk result (λ int. (int ≡ content.now) × (is_integer content.now ≡ true)) }
-        ensures err { IfErr result (λ e. (e.kind ≡ errors.Memory) ⊎ ((e.kind ≡ errors.Value) × (is_integer content.now ≡ false))) }
+        ensures err { IfErr result (λ e. ((e.kind ≡ errors.Memory) × (is_integer content.now ≡ true)) ⊎ ((e.kind ≡ errors.Value) × (is_integer content.now ≡ false))) }
     {
         if !check_integer(content) {
             return Err(ErrorKind::Value.into());
@@ -168,6 +168,11 @@ impl Hash for Int {
 }
 
 impl fmt::Debug for Int {
+    ghost use Rattle.std.specs.Prelude.{Some};
+    ghost use Rattle.std.specs.Fmt.{debug_list, decimal};
+
+    ghost debug_output = { debug_list (λ octet. Some (decimal octet)) };
+
     fn fmt<W: fmt::Write>(&self, f: &mut fmt::Formatter<W>) -> fmt::Result {
         fmt::Debug::fmt(&self.content.as_slice(), f)
     }

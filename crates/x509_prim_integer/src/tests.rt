@@ -79,3 +79,14 @@ fn integers_in_order(rt: HostRuntime) -> Result<(), Fail> {
     assert!(rt; one.der_cmp(&below) == Ordering::Less && one.value_cmp(&below) == Ordering::Less);
     Ok(())
 }
+
+#[test]
+fn printed_texts(rt: HostRuntime) -> Result<(), Fail> {
+    let int = Int::new(rt.alloc(), &[0xFF, 0x7F])?;
+    let uint = Uint::new(rt.alloc(), &[0x80])?;
+    assert_eq!(rt;
+        format!(in rt.alloc(); "{int:?} {uint:?}")?.as_str(),
+        "[255, 127] [0, 128]"
+    );
+    Ok(())
+}

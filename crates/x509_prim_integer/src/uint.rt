@@ -1,6 +1,6 @@
 //! INTEGER that is not negative.
 
-ghost use Rattle.std.specs.Prelude.{◌≡◌, ◌<◌, ◌⊎◌, true, false, [], length, bytes_eq, IfOk, IfErr};
+ghost use Rattle.std.specs.Prelude.{◌≡◌, ◌<◌, ◌⊎◌, true, [], length, bytes_eq, IfOk, IfErr};
 ghost use Rattle.std.proofs.Common.{rules};
 ghost use Rattle.std.specs.Hash as fed;
 ghost use Rattle.std.specs.Cmp.{partial_equiv_from_equiv};
@@ -43,7 +43,7 @@ impl Uint {
     pub fn new(alloc: Global, octets: &[u8]) -> Result<Uint, Error>
         ensures ok { IfOk result (λ uint. uint ≡ with_sign (without_zeros octets.now)) }
         ensures number { IfOk result (λ uint. number uint ≡ number octets.now) }
-        ensures err { IfErr result (λ e. (e.kind ≡ errors.Memory) ⊎ ((e.kind ≡ errors.Value) × (octets.now ≡ []))) }
+        ensures err { IfErr result (λ e. ((e.kind ≡ errors.Memory) × (0 < length octets.now)) ⊎ ((e.kind ≡ errors.Value) × (octets.now ≡ []))) }
     {
         if octets.is_empty() {
             return Err(ErrorKind::Value.into());
@@ -183,6 +183,11 @@ impl Hash for Uint {
 }
 
 impl fmt::Debug for Uint {
+    ghost use Rattle.std.specs.Prelude.{Some};
+    ghost use Rattle.std.specs.Fmt.{debug_list, decimal};
+
+    ghost debug_output = { debug_list (λ octet. Some (decimal octet)) };
+
     fn fmt<W: fmt::Write>(&self, f: &mut fmt::Formatter<W>) -> fmt::Result {
         fmt::Debug::fmt(&self.content.as_slice(), f)
     }

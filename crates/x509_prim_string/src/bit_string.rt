@@ -51,7 +51,7 @@ impl BitString {
     /// one of them is not zero, or there is no octet and yet an unused bit. Memory may be refused.
     pub fn new(alloc: Global, unused: u8, octets: &[u8]) -> Result<BitString, Error>
         ensures ok { IfOk result (λ string. (string ≡ grammar.parts_of unused octets.now) × (grammar.is_padded (grammar.parts_of unused octets.now) ≡ true)) }
-        ensures err { IfErr result (λ e. (e.kind ≡ errors.Memory) ⊎ ((e.kind ≡ errors.Value) × (grammar.is_padded (grammar.parts_of unused octets.now) ≡ false))) }
+        ensures err { IfErr result (λ e. ((e.kind ≡ errors.Memory) × (grammar.is_padded (grammar.parts_of unused octets.now) ≡ true)) ⊎ ((e.kind ≡ errors.Value) × (grammar.is_padded (grammar.parts_of unused octets.now) ≡ false))) }
     {
         if !check_padding(unused, octets) {
             return Err(ErrorKind::Value.into());
@@ -186,6 +186,11 @@ impl TryClone for BitString {
 }
 
 impl fmt::Debug for BitString {
+    ghost use Rattle.std.specs.Prelude.{Some, codes, ◌++◌};
+    ghost use Rattle.std.specs.Fmt.{debug_list, decimal, ◌++?◌};
+
+    ghost debug_output = { λ string. debug_list (λ octet. Some (decimal octet)) string.octets ++? Some (codes ", " ++ decimal string.unused ++ codes " unused") };
+
     fn fmt<W: fmt::Write>(&self, f: &mut fmt::Formatter<W>) -> fmt::Result {
         write!(f, "{:?}, {} unused", self.raw_bytes(), self.unused_bits())
     }

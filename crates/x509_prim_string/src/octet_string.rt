@@ -40,7 +40,7 @@ impl OctetString {
     /// [`Length::MAX`](x509_der_grammar::Length::MAX). Memory may be refused.
     pub fn new(alloc: Global, octets: &[u8]) -> Result<OctetString, Error>
         ensures ok { IfOk result (λ string. (string ≡ octets.now) × (length (spelling octet_string octets.now) ≤ limit)) }
-        ensures err { IfErr result (λ e. (e.kind ≡ errors.Memory) ⊎ ((e.kind ≡ errors.Overlength) × (limit < length (spelling octet_string octets.now)))) }
+        ensures err { IfErr result (λ e. ((e.kind ≡ errors.Memory) × (length (spelling octet_string octets.now) ≤ limit)) ⊎ ((e.kind ≡ errors.Overlength) × (limit < length (spelling octet_string octets.now)))) }
     {
         check_content(octets)?;
         Ok(OctetString {
@@ -168,6 +168,11 @@ impl Hash for OctetString {
 }
 
 impl fmt::Debug for OctetString {
+    ghost use Rattle.std.specs.Prelude.{Some};
+    ghost use Rattle.std.specs.Fmt.{debug_list, decimal};
+
+    ghost debug_output = { debug_list (λ octet. Some (decimal octet)) };
+
     fn fmt<W: fmt::Write>(&self, f: &mut fmt::Formatter<W>) -> fmt::Result {
         fmt::Debug::fmt(&self.as_bytes(), f)
     }

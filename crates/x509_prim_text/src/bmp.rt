@@ -209,6 +209,11 @@ impl Hash for BmpString {
 }
 
 impl fmt::Debug for BmpString {
+    ghost use Rattle.std.specs.Prelude.{Some};
+    ghost use Rattle.std.specs.Fmt.{debug_list, decimal};
+
+    ghost debug_output = { debug_list (λ octet. Some (decimal octet)) };
+
     fn fmt<W: fmt::Write>(&self, f: &mut fmt::Formatter<W>) -> fmt::Result {
         fmt::Debug::fmt(&self.octets.as_slice(), f)
     }

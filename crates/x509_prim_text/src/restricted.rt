@@ -39,7 +39,7 @@ impl<A: Alphabet> RestrictedString<A> {
     /// A copy of the text; `Value` exactly where a character is not one of the type's. Memory may be refused.
     pub fn new(alloc: Global, text: &str) -> Result<RestrictedString<A>, Error>
         ensures ok { IfOk result (λ string. (string ≡ text.now) × (list_all A.has_char text.now ≡ true)) }
-        ensures err { IfErr result (λ e. (e.kind ≡ errors.Memory) ⊎ ((e.kind ≡ errors.Value) × (list_all A.has_char text.now ≡ false))) }
+        ensures err { IfErr result (λ e. ((e.kind ≡ errors.Memory) × (list_all A.has_char text.now ≡ true)) ⊎ ((e.kind ≡ errors.Value) × (list_all A.has_char text.now ≡ false))) }
     {
         if !check_text::<A>(text.as_bytes()) {
             return Err(ErrorKind::Value.into());
@@ -156,12 +156,20 @@ impl<A: Alphabet> Hash for RestrictedString<A> {
 }
 
 impl<A: Alphabet> fmt::Display for RestrictedString<A> {
+    ghost use Rattle.std.specs.Prelude.{Some};
+
+    ghost output = { λ string. Some string };
+
     fn fmt<W: fmt::Write>(&self, f: &mut fmt::Formatter<W>) -> fmt::Result {
         fmt::Display::fmt(&self.text.as_str(), f)
     }
 }
 
 impl<A: Alphabet> fmt::Debug for RestrictedString<A> {
+    ghost use Rattle.std.specs.Fmt.{debug_str};
+
+    ghost debug_output = { debug_str };
+
     fn fmt<W: fmt::Write>(&self, f: &mut fmt::Formatter<W>) -> fmt::Result {
         fmt::Debug::fmt(&self.text.as_str(), f)
     }

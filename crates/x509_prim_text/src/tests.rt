@@ -72,6 +72,10 @@ fn borrowed_texts(rt: HostRuntime) -> Result<(), Fail> {
     assert!(rt; is_refused(Utf8StringRef::from_any(any), ErrorKind::Malformed));
     let any = AnyRef::new(Tag::Utf8String, b"\xC3\xA4")?;
     assert_eq!(rt; Utf8StringRef::from_any(any)?.as_str(), "ä");
+    let any = AnyRef::new(Tag::Ia5String, b"@")?;
+    assert_eq!(rt; Ia5StringRef::from_any(any)?.as_str(), "@");
+    let any = AnyRef::new(Tag::TeletexString, b"@")?;
+    assert_eq!(rt; TeletexStringRef::from_any(any)?.as_str(), "@");
     let any = AnyRef::new(Tag::TeletexString, b"\xC3\xA4")?;
     assert!(rt; is_refused(TeletexStringRef::from_any(any), ErrorKind::Malformed));
     assert_eq!(rt; PrintableStringRef::new("US")?.as_str(), "US");
@@ -84,9 +88,14 @@ fn borrowed_texts(rt: HostRuntime) -> Result<(), Fail> {
 fn printed_texts(rt: HostRuntime) -> Result<(), Fail> {
     let printable = PrintableString::new(rt.alloc(), "US")?;
     let utf8 = Utf8String::new(rt.alloc(), "ä")?;
+    let bmp = BmpString::from_str(rt.alloc(), "€")?;
     assert_eq!(rt;
         format!(in rt.alloc(); "{printable} {utf8}")?.as_str(),
         "US ä"
+    );
+    assert_eq!(rt;
+        format!(in rt.alloc(); "{printable:?} {utf8:?} {bmp:?}")?.as_str(),
+        "\"US\" \"ä\" [32, 172]"
     );
     Ok(())
 }

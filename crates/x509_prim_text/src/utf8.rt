@@ -70,7 +70,6 @@ impl From<String> for Utf8String {
 
 impl Grammar for Utf8String {
     ghost use Rattle.std.specs.Str.{is_utf8};
-    ghost use Rattle.x509_der_element.specs.Tag.{octet_of};
     ghost use Rattle.x509_der_element.specs.TagLaws.{is_identifier-octet_of};
     ghost use Rattle.x509_der_element.specs.declared.tag.Tag.TheVariants as tags;
     ghost use Rattle.x509_prim_text.specs.Text.{text, text_lawful};
@@ -166,12 +165,20 @@ impl Hash for Utf8String {
 }
 
 impl fmt::Display for Utf8String {
+    ghost use Rattle.std.specs.Prelude.{Some};
+
+    ghost output = { λ string. Some string };
+
     fn fmt<W: fmt::Write>(&self, f: &mut fmt::Formatter<W>) -> fmt::Result {
         fmt::Display::fmt(&self.text.as_str(), f)
     }
 }
 
 impl fmt::Debug for Utf8String {
+    ghost use Rattle.std.specs.Fmt.{debug_str};
+
+    ghost debug_output = { debug_str };
+
     fn fmt<W: fmt::Write>(&self, f: &mut fmt::Formatter<W>) -> fmt::Result {
         fmt::Debug::fmt(&self.text.as_str(), f)
     }

@@ -26,6 +26,10 @@ fn bit_string_calls(rt: HostRuntime) -> Result<(), Fail> {
     assert!(rt; string.try_clone(rt.alloc())? == string);
     let whole = BitString::from_bytes(rt.alloc(), &[0xFF, 0x81])?;
     assert!(rt; matches!(whole.as_bytes(), Some([0xFF, 0x81])));
+    assert_eq!(rt;
+        format!(in rt.alloc(); "{string:?}")?.as_str(),
+        "[255, 128], 4 unused"
+    );
     assert!(rt; is_refused(BitString::new(rt.alloc(), 1, &[]), ErrorKind::Value));
     assert!(rt; is_refused(BitString::new(rt.alloc(), 8, &[0]), ErrorKind::Value));
     assert!(rt; is_refused(BitString::new(rt.alloc(), 1, &[1]), ErrorKind::Value));

@@ -57,6 +57,7 @@ fn octet_string_calls(rt: HostRuntime) -> Result<(), Fail> {
     let string = OctetString::new(rt.alloc(), &[1, 2, 3])?;
     let copy = string.try_clone(rt.alloc())?;
     assert!(rt; copy == string);
+    assert_eq!(rt; format!(in rt.alloc(); "{copy:?}")?.as_str(), "[1, 2, 3]");
     assert_eq!(rt; copy.as_bytes(), [1, 2, 3].as_slice());
     assert_eq!(rt; copy.into_bytes().as_slice(), [1, 2, 3].as_slice());
     Ok(())

@@ -2,4 +2,4 @@ use Rattle.x509_base_time.proofs.OrderLemmas.{time_cmp-unix_seconds}
 use Rattle.x509_base_time.proofs.date_time.date_times_are_in_order_of_time.Goals as goal
 
 pub returns : goal.returns
-returns c = time_cmp-unix_seconds
+returns c = record { date_times = time_cmp-unix_seconds; utc_times = time_cmp-unix_seconds; generalized_times = time_cmp-unix_seconds }
