@@ -1,6 +1,6 @@
 //! Serial numbers from a source of random bytes.
 
-ghost use Rattle.std.specs.Prelude.{◌≡◌, ◌<◌, ◌⊎◌, ℕ, List, true, false, ◌++◌, length, IfOk, IfErr, IsErrAnd, OnOk, OnErr};
+ghost use Rattle.std.specs.Prelude.{◌≡◌, ◌<◌, ◌⊎◌, ℕ, List, true, false, ◌++◌, length, IfOk, IfErr, IsErrAnd, OnOk};
 ghost use Rattle.x509_der_element.specs.declared.error.ErrorKind.TheVariants as errors;
 ghost use Rattle.x509_base_serial.specs.Fills.{are_lengths, Draws, GivesZeros};
 ghost use Rattle.x509_base_serial.specs.Serial.{number_content};

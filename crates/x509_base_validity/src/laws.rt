@@ -1,6 +1,6 @@
-//! What is written of dates. Each law is a function with an empty body, whose contract is the law.
+//! What is written of dates, and which are equal. Each law is a function with an empty body, whose contract is the law.
 
-ghost use Rattle.std.specs.Prelude.{◌≡◌, Ok, None};
+ghost use Rattle.std.specs.Prelude.{◌≡◌, ◌↔◌, Ok, None, true};
 ghost use Rattle.x509_der_grammar.specs.Writing.{IsStable, writes};
 ghost use Rattle.x509_base_validity.specs.Profiles.{rfc5280_time};
 ghost use Rattle.x509_base_validity.specs.Time.{time};
@@ -11,6 +11,7 @@ ghost use Rattle.x509_base_validity.specs.declared.profile.Raw as raw;
 ghost use Rattle.x509_base_validity.specs.declared.profile.Rfc5280 as rfc5280;
 
 use crate::profile::{Profile, Raw, Rfc5280};
+use crate::time::Time;
 use crate::validity::Validity;
 use x509_der_grammar::Encode;
 
@@ -33,4 +34,10 @@ pub fn dates_are_written_once<P: Profile>()
 /// once.
 pub fn rfc5280_dates_are_written_once()
     ensures { IsStable validity ⟦<Validity<Rfc5280> as Encode>⟧.writing }
+{}
+
+/// `==` holds exactly of equal values: a time in the one spelling is not the same in the other.
+pub fn equality_is_exact<P: Profile>()
+    ensures times { (a b : Time) → (⟦<Time as PartialEq>⟧.eq a b ≡ true) ↔ (a ≡ b) }
+    ensures validities { (a b : Validity P) → (⟦<Validity<P> as PartialEq>⟧.eq a b ≡ true) ↔ (a ≡ b) }
 {}

@@ -9,7 +9,8 @@ mod time;
 mod validity;
 
 pub use laws::{
-    dates_are_written_once, raw_dates_stay, rfc5280_dates, rfc5280_dates_are_written_once,
+    dates_are_written_once, equality_is_exact, raw_dates_stay, rfc5280_dates,
+    rfc5280_dates_are_written_once,
 };
 pub use profile::{Profile, Raw, Rfc5280};
 pub use time::Time;

@@ -176,7 +176,7 @@ fn past_9999(rt: HostRuntime) -> Result<(), Fail> {
 
 #[test]
 fn without_an_end(rt: HostRuntime) -> Result<(), Fail> {
-    let validity = Validity::<Rfc5280>::infinity(Duration::from_secs(0))?;
+    let validity: Validity = Validity::<Rfc5280>::infinity(Duration::from_secs(0))?;
     let bytes = b"\x30\x20\x17\x0D700101000000Z\x18\x0F99991231235959Z";
     assert_eq!(rt; validity.to_der(rt.alloc())?.as_slice(), bytes.as_slice());
     assert_eq!(rt; validity.not_after, Time::INFINITY);

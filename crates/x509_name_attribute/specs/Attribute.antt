@@ -1,11 +1,14 @@
 -- Attribute: oid: OBJECT IDENTIFIER, values: SET OF ANY (RFC 2986 4.1)
-use Rattle.std.specs.Prelude.{ℕ, List, refl}
+use Rattle.std.specs.Prelude.{◌≡◌, ℕ, Bool, List, refl}
+use Rattle.std.specs.Bool.{Decides}
+use Rattle.std.specs.Cmp.{IsEquivalence}
+use Rattle.std.specs.Ordering.{eq_by_cmp}
 use Rattle.x509_der_element.specs.declared.error.ErrorKind.{ErrorKind}
-use Rattle.x509_der_grammar.specs.Form.{Form, IsForm, universal}
+use Rattle.x509_der_grammar.specs.Form.{Form, IsForm, universal, spelling}
 use Rattle.x509_der_grammar.specs.FormLaws.{universal_lawful}
 use Rattle.x509_der_grammar.specs.Writing.{plain, writes}
-use Rattle.x509_der_order.specs.Order.{Order, IsOrder, der_order}
-use Rattle.x509_der_order.specs.Ordered.{by_bytes, by_members}
+use Rattle.x509_der_order.specs.Order.{HasEncoding, Order, IsOrder, IsDerOrder, der_order}
+use Rattle.x509_der_order.specs.Ordered.{by_bytes, by_members, der_lawful}
 use Rattle.x509_der_oid.specs.ObjectIdentifierForm.{object_identifier, object_identifier_lawful, object_identifier_ordered}
 use Rattle.x509_der_frames.specs.Any.{any, any_lawful, any_ordered}
 use Rattle.x509_der_frames.specs.Frames.{Part, required, ◌⊗◌, fields}
@@ -14,6 +17,7 @@ use Rattle.x509_der_frames.specs.FieldsOrder.{by_two, two_ordered}
 use Rattle.x509_der_frames.specs.declared.any.Any.{Any}
 use Rattle.x509_der_set.specs.Set.{set_of}
 use Rattle.x509_der_set.specs.SetLaws.{set_lawful, set_ordered}
+use Rattle.x509_name_attribute.specs.Equality.{order_equivalence, order_decides}
 use Rattle.x509_name_attribute.specs.declared.attribute.Attribute.{Attribute}
 
 -- the order of the values by their octets
@@ -46,3 +50,19 @@ attribute_order = by_two (λ a. (a.oid, a.values)) object_identifier (by_bytes o
 pub attribute_ordered : IsOrder attribute (writes plain) attribute_order
 unfolding attribute_fields
 attribute_ordered = two_ordered (λ a. (a.oid, a.values)) (λ x. record { oid = x.0; values = x.1 }) object_identifier (by_bytes object_identifier) value_set (by_members value_order) (λ a. refl) (object_identifier_ordered (writes plain)) (set_ordered any plain (by_bytes any) (any_ordered (writes plain)))
+
+-- ---- equality
+
+attributes_lawful : IsDerOrder (HasEncoding attribute (writes plain)) (spelling attribute) (der_order attribute (writes plain) attribute_order)
+attributes_lawful = der_lawful attribute (writes plain) attribute_order attribute_ordered
+
+-- whether the order of the encodings finds two equal
+abbrev pub attribute_eq : Attribute → Attribute → Bool
+attribute_eq = eq_by_cmp (der_order attribute (writes plain) attribute_order)
+
+pub attribute_equivalence : IsEquivalence attribute_eq
+attribute_equivalence = order_equivalence attributes_lawful
+
+-- it finds a value equal to itself alone
+pub attribute_decides : (x y : Attribute) → Decides (attribute_eq x y) (x ≡ y)
+attribute_decides = order_decides attributes_lawful

@@ -1,9 +1,8 @@
 -- AttributeTypeAndValue: oid: OBJECT IDENTIFIER, value: ANY (RFC 5280 4.1.2.4)
-use Rattle.std.specs.Prelude.{◌≡◌, ℕ, true, Bool, List, refl}
+use Rattle.std.specs.Prelude.{◌≡◌, ℕ, Bool, List, refl}
 use Rattle.std.specs.Bool.{Decides}
-use Rattle.std.specs.Cmp.{IsEquivalence, IsTotalOrder, Equal-is, eq_by_cmp_equiv}
+use Rattle.std.specs.Cmp.{IsEquivalence, IsTotalOrder}
 use Rattle.std.specs.Ordering.{eq_by_cmp}
-use Rattle.std.proofs.Common.{subst}
 use Rattle.x509_der_element.specs.declared.error.ErrorKind.{ErrorKind}
 use Rattle.x509_der_grammar.specs.Form.{Form, IsForm, universal, spelling}
 use Rattle.x509_der_grammar.specs.FormLaws.{universal_lawful}
@@ -16,6 +15,7 @@ use Rattle.x509_der_frames.specs.Frames.{Part, required, ◌⊗◌, fields}
 use Rattle.x509_der_frames.specs.FrameLaws.{required_lawful, pair_lawful, fields_lawful}
 use Rattle.x509_der_frames.specs.FieldsOrder.{by_two, two_ordered}
 use Rattle.x509_der_frames.specs.declared.any.Any.{Any}
+use Rattle.x509_name_attribute.specs.Equality.{order_equivalence, order_decides}
 use Rattle.x509_name_attribute.specs.declared.type_and_value.AttributeTypeAndValue.{AttributeTypeAndValue}
 
 unfoldable pub type_and_value_fields : Part (List ℕ × Any)
@@ -55,8 +55,8 @@ abbrev pub type_and_value_eq : AttributeTypeAndValue → AttributeTypeAndValue �
 type_and_value_eq = eq_by_cmp type_and_value_cmp
 
 pub type_and_value_equivalence : IsEquivalence type_and_value_eq
-type_and_value_equivalence = eq_by_cmp_equiv type_and_value_total
+type_and_value_equivalence = order_equivalence types_and_values_lawful
 
 -- it finds a value equal to itself alone
 pub type_and_value_decides : (x y : AttributeTypeAndValue) → Decides (type_and_value_eq x y) (x ≡ y)
-type_and_value_decides x y = (λ e. types_and_values_lawful.exact x y ((Equal-is (type_and_value_cmp x y)).0 e), λ e. subst (λ (v : AttributeTypeAndValue). type_and_value_eq x v ≡ true) e (type_and_value_equivalence.refl x))
+type_and_value_decides = order_decides types_and_values_lawful

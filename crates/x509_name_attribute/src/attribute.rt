@@ -15,7 +15,7 @@ use x509_der_set::SetOfVec;
 ///     type    OBJECT IDENTIFIER,
 ///     values  SET OF ANY }
 /// ```
-#[derive(Debug, Drop, PartialEq, Eq)]
+#[derive(Debug, Drop)]
 pub struct Attribute {
     /// The type.
     pub oid: AttributeType,
@@ -99,4 +99,24 @@ impl ValueOrd for Attribute {
     }
 
     ghost ordered = { grammar.attribute_ordered };
+}
+
+/// By the encodings, as [`DerOrd`] compares them.
+impl PartialEq for Attribute {
+    ghost use Rattle.std.specs.Cmp.{partial_equiv_from_equiv};
+    ghost use Rattle.x509_name_attribute.specs.Attribute as grammar;
+
+    ghost eq = { grammar.attribute_eq };
+
+    ghost laws = { partial_equiv_from_equiv grammar.attribute_equivalence };
+
+    fn eq(&self, other: &Attribute) -> bool {
+        self.der_cmp(other).is_eq()
+    }
+}
+
+impl Eq for Attribute {
+    ghost use Rattle.x509_name_attribute.specs.Attribute as grammar;
+
+    ghost laws = { grammar.attribute_equivalence };
 }

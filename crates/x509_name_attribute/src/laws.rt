@@ -2,10 +2,12 @@
 
 ghost use Rattle.std.specs.Prelude.{◌≡◌, ◌↔◌, true};
 
+use crate::attribute::Attribute;
 use crate::type_and_value::AttributeTypeAndValue;
 
 /// `==` holds exactly of equal values.
-#[tactic(auto, using(crate::specs::TypeAndValue::type_and_value_decides))]
+#[tactic(auto, using(crate::specs::TypeAndValue::type_and_value_decides, crate::specs::Attribute::attribute_decides))]
 pub fn equality_is_exact()
-    ensures { (a b : AttributeTypeAndValue) → (⟦<AttributeTypeAndValue as PartialEq>⟧.eq a b ≡ true) ↔ (a ≡ b) }
+    ensures pairs { (a b : AttributeTypeAndValue) → (⟦<AttributeTypeAndValue as PartialEq>⟧.eq a b ≡ true) ↔ (a ≡ b) }
+    ensures attributes { (a b : Attribute) → (⟦<Attribute as PartialEq>⟧.eq a b ≡ true) ↔ (a ≡ b) }
 {}
