@@ -1,9 +1,9 @@
 //! What holds of all elements, spellings, tags, object identifiers, byte orders and sets. Each law is a function with an empty body, whose
 //! contract is the law.
 
+pub use x509_der_element::laws::{no_element_begins_another, one_tag};
 pub use x509_der_grammar::laws::{
-    no_element_begins_another, no_spelling_begins_another, one_spelling, one_tag, one_value,
-    writing_again_gives_the_same,
+    no_spelling_begins_another, one_spelling, one_value, writing_again_gives_the_same,
 };
 pub use x509_der_oid::laws::{arcs_of_contents, one_content, one_text, tested_contents};
 pub use x509_der_order::laws::{

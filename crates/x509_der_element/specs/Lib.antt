@@ -3,6 +3,7 @@ pub mod OutcomeLaws
 pub mod Element
 pub mod ElementReading
 pub mod ElementLaws
+pub mod FrontLaws
 pub mod Tag
 pub mod TagLaws
 pub mod TagReading

@@ -1,6 +1,6 @@
 -- The tag with an identifier octet. A tool of the proofs: tags and identifier octets are one to one.
 use Rattle.std.proofs.Common.{◌≡◌, ℕ, ◌+◌, ◌%◌, ◌<◌, ◌≤◌, min, Bool, true, false, ◌&&◌, cond, ltb, leb, eqb, List, [], ◌∷◌, refl, sym, ap, subst, ◌∙◌, arith}
-use Rattle.std.proofs.lemmas.Bool.{ltb-true, ne_eqb, eqb-true, agree_below_at}
+use Rattle.std.proofs.lemmas.Bool.{and_parts, ltb-true, ne_eqb, eqb-true, agree_below_at}
 use Rattle.std.proofs.lemmas.Bool.Decides.{nat_tests}
 use Rattle.std.specs.Coded.{le_prop}
 use Rattle.std.specs.Prelude.{nat_eq}
@@ -60,14 +60,10 @@ abbrev are_universal : List Tag → Bool
 are_universal [] = true
 are_universal (tag ∷ tags) = ltb (octet_of tag) 64 && are_universal tags
 
-both : (x y : Bool) → (x && y) ≡ true → (x ≡ true) × (y ≡ true)
-both true y e = (refl, e)
-both false y e = absurd cc
-
 find_past : (octet : ℕ) (tags : List Tag) (other : Tag) → are_universal tags ≡ true → 64 ≤ octet → find_tag octet tags other ≡ other
 find_past octet [] other all le = refl
 find_past octet (tag ∷ tags) other all le =
-    let parts = both (ltb (octet_of tag) 64) (are_universal tags) all in
+    let parts = and_parts (ltb (octet_of tag) 64) (are_universal tags) all in
     let low : octet_of tag < 64 = ltb-true _ _ parts.0 in
     rw (ne_eqb (octet_of tag) octet (λ e. absurd (omega (arith, low, le, e)))) (find_past octet tags other parts.1 le)
 

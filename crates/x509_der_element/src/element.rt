@@ -9,7 +9,6 @@ ghost use Rattle.x509_der_element.specs.ElementReading.{length_at, piece_at};
 ghost use Rattle.x509_der_element.specs.Tag.{octet_of};
 
 use crate::error::{Error, ErrorKind};
-use crate::length::Length;
 use crate::tag::{Tag, check_identifier};
 
 /// An element and what follows it.
@@ -70,10 +69,10 @@ pub fn split_element(bytes: &[u8]) -> Result<Piece<'_>, Error>
     })
 }
 
-/// The longest content whose element is no longer than [`Length::MAX`].
+/// The longest content whose element is no longer than [`Length::MAX`](crate::Length::MAX).
 const LONGEST_CONTENT: usize = 268_435_449;
 
-/// `Overlength` exactly where an element with the content is longer than [`Length::MAX`].
+/// `Overlength` exactly where an element with the content is longer than [`Length::MAX`](crate::Length::MAX).
 pub fn check_content(content: &[u8]) -> Result<(), Error>
     ensures ok { OnOk result ((tag : ℕ) → length (element tag content.now) ≤ limit) }
     ensures err { IfErr result (λ e. (e.kind ≡ errors.Overlength) × ((tag : ℕ) → limit < length (element tag content.now))) }
@@ -93,7 +92,7 @@ pub struct AnyRef<'a> {
 
 impl<'a> AnyRef<'a> {
     /// The element with the identifier and the content; `Overlength` exactly where it would be longer than
-    /// [`Length::MAX`].
+    /// [`Length::MAX`](crate::Length::MAX).
     pub fn new(tag: Tag, value: &'a [u8]) -> Result<AnyRef<'a>, Error>
         ensures ok { IfOk result (λ any. (any.tag ≡ tag) × (any.value.now ≡ value.now) × (length (element (octet_of tag) value.now) ≤ limit)) }
         ensures err { IfErr result (λ e. (e.kind ≡ errors.Overlength) × (limit < length (element (octet_of tag) value.now))) }
@@ -118,7 +117,7 @@ impl<'a> AnyRef<'a> {
 }
 
 /// The element at the front and what follows it; `Malformed` exactly where the bytes begin with no element of at
-/// most [`Length::MAX`] octets (X.690 8.1, 10.1).
+/// most [`Length::MAX`](crate::Length::MAX) octets (X.690 8.1, 10.1).
 pub fn take_element(bytes: &[u8]) -> Result<(AnyRef<'_>, &[u8]), Error>
     ensures ok { IfOk result (λ found. bytes.now ≡ element (octet_of found.0.tag) found.0.value.now ++ found.1.now) }
     ensures within { IfOk result (λ found. length (element (octet_of found.0.tag) found.0.value.now) ≤ limit) }

@@ -6,6 +6,7 @@ mod clone;
 mod element;
 mod error;
 mod header;
+pub mod laws;
 mod length;
 mod tag;
 #[cfg(test)]

@@ -1,6 +1,6 @@
 //! Identifiers of elements (X.690 8.1.2).
 
-ghost use Rattle.std.specs.Prelude.{◌≡◌, ◌≤◌, ◌<◌, ◌+◌, ◌≢◌, ◌%◌, IfOk, IfErr, is_ok};
+ghost use Rattle.std.specs.Prelude.{◌≡◌, ◌≤◌, ◌+◌, ◌≢◌, ◌%◌, IfOk, IfErr, is_ok};
 ghost use Rattle.x509_der_element.specs.declared.error.ErrorKind.TheVariants as errors;
 ghost use Rattle.x509_der_element.specs.declared.tag.Tag.{Tag};
 ghost use Rattle.x509_der_element.specs.Element.{is_identifier};

@@ -28,6 +28,10 @@ fn errors(rt: HostRuntime) -> Result<(), Fail> {
         assert!(rt; prints(&rt, kind, text)?, "at {text}");
     }
     assert_eq!(rt; Error::from(AllocError).kind(), ErrorKind::Memory);
+    assert_eq!(rt;
+        Error::from(AllocFailed { value: 7u8 }).kind(),
+        ErrorKind::Memory
+    );
     assert_ne!(rt;
         Error::from(ErrorKind::Value),
         Error::from(ErrorKind::Failed)

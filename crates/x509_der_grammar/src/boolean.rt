@@ -1,5 +1,10 @@
 //! BOOLEAN (X.690 8.2, 11.1).
 
+ghost use Rattle.std.specs.Prelude.{◌≡◌, IfErr};
+ghost use Rattle.x509_der_element.specs.Outcome.{Gives};
+ghost use Rattle.x509_der_element.specs.declared.error.ErrorKind.TheVariants.{Malformed};
+ghost use Rattle.x509_der_grammar.specs.Boolean.{boolean};
+
 use crate::decode::{Decode, expect_tag};
 use crate::encode::Encode;
 use crate::grammar::{FixedTag, Grammar};
@@ -8,7 +13,7 @@ use std::alloc::Global;
 use x509_der_element::{Error, ErrorKind, Tag};
 
 impl Grammar for bool {
-    ghost use Rattle.x509_der_grammar.specs.Boolean.{boolean, boolean_lawful};
+    ghost use Rattle.x509_der_grammar.specs.Boolean.{boolean_lawful};
 
     ghost form = { boolean };
 
@@ -25,7 +30,10 @@ impl Grammar for bool {
 
 #[tactic(auto, unfolding(crate::specs::Boolean::boolean_reading))]
 impl Decode for bool {
-    fn read(_alloc: Global, tag: u8, content: &[u8]) -> Result<bool, Error> {
+    fn read(_alloc: Global, tag: u8, content: &[u8]) -> Result<bool, Error>
+        ensures exact { Gives result (boolean.reading tag content.now) }
+        ensures err { IfErr result (λ e. e.kind ≡ Malformed) }
+    {
         expect_tag(tag, Tag::Boolean)?;
         match content {
             [0x00] => Ok(false),

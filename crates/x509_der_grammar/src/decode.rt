@@ -12,7 +12,7 @@ use x509_der_element::{Error, ErrorKind, Length, Tag, split_element};
 
 /// A type that is read from its spelling.
 pub trait Decode: Grammar {
-    ghost use Rattle.std.specs.Prelude.{◌≡◌, List, length, ◌<◌, ◌≤◌, ◌⊎◌, IfOk, IfErr, IsErrAnd};
+    ghost use Rattle.std.specs.Prelude.{◌≡◌, length, ◌<◌, ◌≤◌, ◌⊎◌, IfOk, IfErr, IsErrAnd};
     ghost use Rattle.x509_der_element.specs.Outcome.{Gives};
     ghost use Rattle.x509_der_element.specs.Element.{limit};
     ghost use Rattle.x509_der_grammar.specs.Form.{Spells, whole_reading};

@@ -11,7 +11,7 @@ use x509_der_element::{Error, Length};
 
 /// A type that is written as its spelling, in one pass from the end.
 pub trait Encode: Grammar {
-    ghost use Rattle.std.specs.Prelude.{◌≡◌, ◌+◌, ◌<◌, ◌≤◌, ◌++◌, ◌⊎◌, Some, None, IfOk, IfErr, OnOk, length, take, min};
+    ghost use Rattle.std.specs.Prelude.{◌≡◌, ◌+◌, ◌≤◌, ◌++◌, ◌⊎◌, None, IfOk, IfErr, OnOk, length, take, min};
     ghost use Rattle.x509_der_element.specs.Element.{limit};
     ghost use Rattle.x509_der_grammar.specs.Form.{spelling};
     ghost use Rattle.x509_der_grammar.specs.Writing.{Writing, plain, writes, Puts, IsWritable, IsUnwritable, written_spelling};

@@ -1,5 +1,10 @@
 //! INTEGER fields of the number types (X.690 8.3): each takes the numbers of its own range.
 
+ghost use Rattle.std.specs.Prelude.{◌≡◌, ◌^◌, IfErr};
+ghost use Rattle.x509_der_element.specs.Outcome.{Gives};
+ghost use Rattle.x509_der_element.specs.declared.error.ErrorKind.TheVariants.{Malformed};
+ghost use Rattle.x509_der_grammar.specs.Natural.{natural};
+
 use crate::decode::{Decode, expect_tag};
 use crate::encode::Encode;
 use crate::grammar::{FixedTag, Grammar};
@@ -9,8 +14,6 @@ use std::alloc::Global;
 use x509_der_element::{Error, ErrorKind, Tag};
 
 impl Grammar for u8 {
-    ghost use Rattle.std.specs.Prelude.{◌^◌};
-    ghost use Rattle.x509_der_grammar.specs.Natural.{natural};
     ghost use Rattle.x509_der_grammar.specs.NaturalLaws.{u8_lawful};
 
     ghost form = { natural (2 ^ 8) };
@@ -28,7 +31,10 @@ impl Grammar for u8 {
 
 #[tactic(auto, unfolding(crate::specs::Natural::natural_reading))]
 impl Decode for u8 {
-    fn read(_alloc: Global, tag: u8, content: &[u8]) -> Result<u8, Error> {
+    fn read(_alloc: Global, tag: u8, content: &[u8]) -> Result<u8, Error>
+        ensures exact { Gives result ((natural (2 ^ 8)).reading tag content.now) }
+        ensures err { IfErr result (λ e. e.kind ≡ Malformed) }
+    {
         expect_tag(tag, Tag::Integer)?;
         let number = read_natural(content)?;
         match u8::try_from(number) {
@@ -60,8 +66,6 @@ impl FixedTag for u8 {
 }
 
 impl Grammar for u16 {
-    ghost use Rattle.std.specs.Prelude.{◌^◌};
-    ghost use Rattle.x509_der_grammar.specs.Natural.{natural};
     ghost use Rattle.x509_der_grammar.specs.NaturalLaws.{u16_lawful};
 
     ghost form = { natural (2 ^ 16) };
@@ -79,7 +83,10 @@ impl Grammar for u16 {
 
 #[tactic(auto, unfolding(crate::specs::Natural::natural_reading))]
 impl Decode for u16 {
-    fn read(_alloc: Global, tag: u8, content: &[u8]) -> Result<u16, Error> {
+    fn read(_alloc: Global, tag: u8, content: &[u8]) -> Result<u16, Error>
+        ensures exact { Gives result ((natural (2 ^ 16)).reading tag content.now) }
+        ensures err { IfErr result (λ e. e.kind ≡ Malformed) }
+    {
         expect_tag(tag, Tag::Integer)?;
         let number = read_natural(content)?;
         match u16::try_from(number) {
@@ -111,8 +118,6 @@ impl FixedTag for u16 {
 }
 
 impl Grammar for u32 {
-    ghost use Rattle.std.specs.Prelude.{◌^◌};
-    ghost use Rattle.x509_der_grammar.specs.Natural.{natural};
     ghost use Rattle.x509_der_grammar.specs.NaturalLaws.{u32_lawful};
 
     ghost form = { natural (2 ^ 32) };
@@ -130,7 +135,10 @@ impl Grammar for u32 {
 
 #[tactic(auto, unfolding(crate::specs::Natural::natural_reading))]
 impl Decode for u32 {
-    fn read(_alloc: Global, tag: u8, content: &[u8]) -> Result<u32, Error> {
+    fn read(_alloc: Global, tag: u8, content: &[u8]) -> Result<u32, Error>
+        ensures exact { Gives result ((natural (2 ^ 32)).reading tag content.now) }
+        ensures err { IfErr result (λ e. e.kind ≡ Malformed) }
+    {
         expect_tag(tag, Tag::Integer)?;
         let number = read_natural(content)?;
         match u32::try_from(number) {
@@ -162,8 +170,6 @@ impl FixedTag for u32 {
 }
 
 impl Grammar for u64 {
-    ghost use Rattle.std.specs.Prelude.{◌^◌};
-    ghost use Rattle.x509_der_grammar.specs.Natural.{natural};
     ghost use Rattle.x509_der_grammar.specs.NaturalLaws.{u64_lawful};
 
     ghost form = { natural (2 ^ 64) };
@@ -181,7 +187,10 @@ impl Grammar for u64 {
 
 #[tactic(auto, unfolding(crate::specs::Natural::natural_reading))]
 impl Decode for u64 {
-    fn read(_alloc: Global, tag: u8, content: &[u8]) -> Result<u64, Error> {
+    fn read(_alloc: Global, tag: u8, content: &[u8]) -> Result<u64, Error>
+        ensures exact { Gives result ((natural (2 ^ 64)).reading tag content.now) }
+        ensures err { IfErr result (λ e. e.kind ≡ Malformed) }
+    {
         expect_tag(tag, Tag::Integer)?;
         let number = read_natural(content)?;
         match u64::try_from(number) {
@@ -213,8 +222,6 @@ impl FixedTag for u64 {
 }
 
 impl Grammar for u128 {
-    ghost use Rattle.std.specs.Prelude.{◌^◌};
-    ghost use Rattle.x509_der_grammar.specs.Natural.{natural};
     ghost use Rattle.x509_der_grammar.specs.NaturalLaws.{u128_lawful};
 
     ghost form = { natural (2 ^ 128) };
@@ -232,7 +239,10 @@ impl Grammar for u128 {
 
 #[tactic(auto, unfolding(crate::specs::Natural::natural_reading))]
 impl Decode for u128 {
-    fn read(_alloc: Global, tag: u8, content: &[u8]) -> Result<u128, Error> {
+    fn read(_alloc: Global, tag: u8, content: &[u8]) -> Result<u128, Error>
+        ensures exact { Gives result ((natural (2 ^ 128)).reading tag content.now) }
+        ensures err { IfErr result (λ e. e.kind ≡ Malformed) }
+    {
         expect_tag(tag, Tag::Integer)?;
         read_natural(content)
     }

@@ -1,17 +1,13 @@
 //! INTEGER from 0 on (X.690 8.3), as `u8`, `u16`, `u32`, `u64` and `u128`.
 
-ghost use Rattle.std.specs.Prelude.{◌≡◌, ◌^◌, Ok, None, IfErr};
+ghost use Rattle.std.specs.Prelude.{◌≡◌, ◌^◌, None, IfErr};
 ghost use Rattle.x509_der_element.specs.declared.error.ErrorKind.TheVariants.{Malformed};
 ghost use Rattle.x509_der_grammar.specs.Natural.{is_natural, natural_octets, natural_reading};
 ghost use Rattle.x509_der_element.specs.Outcome.{Gives};
 ghost use Rattle.x509_der_grammar.specs.Writing.{Puts};
 
-use crate::decode::{Decode, expect_tag};
-use crate::encode::Encode;
-use crate::grammar::{FixedTag, Grammar};
 use crate::room::Room;
-use std::alloc::Global;
-use x509_der_element::{Error, ErrorKind, Tag};
+use x509_der_element::{Error, ErrorKind};
 
 /// Whether the octets are an INTEGER content of a number from 0 on in at most 17 octets.
 #[tactic(auto, using(crate::proofs::Naturals::octets_are_octets))]

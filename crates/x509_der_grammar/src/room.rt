@@ -12,7 +12,7 @@ pub use growing::Growing;
 
 /// Room in which bytes are put in front of those that stand already.
 pub trait Room {
-    ghost use Rattle.std.specs.Prelude.{◌≡◌, ◌≤◌, None};
+    ghost use Rattle.std.specs.Prelude.{◌≡◌, ◌≤◌, None, OnErr};
     ghost use Rattle.x509_der_grammar.specs.Writing.{Kind, IsKind, Puts};
 
     ghost kind: { Kind Self };
@@ -22,9 +22,10 @@ pub trait Room {
         ensures count { result ≡ kind.count self.now }
         ensures within { result ≤ kind.most self.now };
 
-    /// Puts the bytes in front of those that stand.
+    /// Puts the bytes in front of those that stand. Where it is refused, the room is as it was.
     fn put(&mut self, bytes: &[u8]) -> Result<(), Error>
-        ensures { Puts kind bytes.now None result self.old self.new };
+        ensures put { Puts kind bytes.now None result self.old self.new }
+        ensures unchanged { OnErr result (self.new ≡ self.old) };
 
     ghost lawful: { IsKind kind };
 }

@@ -6,7 +6,7 @@ use Rattle.std.specs.declared.cmp.Ordering.{Ordering}
 use Rattle.std.specs.declared.cmp.Ordering.TheVariants.{Less, Equal, Greater}
 use Rattle.std.specs.Cmp.{IsTotalOrder}
 use Rattle.std.specs.Cmp.Lexicographic.{slice_cmp}
-use Rattle.std.proofs.Common.{refl, sym, ◌∙◌, subst, arith}
+use Rattle.std.proofs.Common.{refl, sym, subst, arith}
 use Rattle.std.proofs.lemmas.Bool.{le-leb}
 use Rattle.std.proofs.lemmas.Bool.Decides.{nat_tests}
 use Rattle.std.proofs.lemmas.Cmp.{tied_itself, nat_cmp_total, nat_list_cmp_total, lists_total, on_total, then_total}
@@ -73,22 +73,6 @@ by_key_lawful {X} {K} form write key cmp t apart one = record {
     | Greater ↦ λ e. refl
   ] refl;
   exact = λ x y p e. let both = then_both _ _ e in apart x y p (exact_bytes (form.content x) (form.content y) both.0) both.1;
-}
-
--- ---- a value kept in another
-
--- the order of the value that is kept
-abbrev pub by_inner : {X Y : Type 0} → (Y → X) → Order X → Order Y
-by_inner inner order = on inner order
-
--- where it has the identifier, the content and the encodings of the value that is kept
-pub by_inner_lawful : {X Y : Type 0} (inner : Y → X) (form : Form X) (write : X → Written X) (order : Order X) (outer : Form Y) (write_outer : Y → Written Y)
-    → ((x y : Y) → inner x ≡ inner y → x ≡ y) → ((y : Y) → outer.tag y ≡ form.tag (inner y)) → ((y : Y) → outer.content y ≡ form.content (inner y))
-    → ((y : Y) → HasEncoding outer write_outer y → HasEncoding form write (inner y)) → IsOrder form write order → IsOrder outer write_outer (by_inner inner order)
-by_inner_lawful inner form write order outer write_outer one tags contents has h = record {
-  total = on_total inner h.total;
-  agrees = λ x y p q. rw (contents x, contents y) (h.agrees (inner x) (inner y) (has x p) (has y q));
-  exact = λ x y p e. one x y (h.exact (inner x) (inner y) (sym (tags x) ∙ p ∙ tags y) e);
 }
 
 -- ---- two fields

@@ -5,7 +5,7 @@ ghost use Rattle.x509_der_grammar.specs.Writing.{writes};
 ghost use Rattle.x509_der_order.specs.Order.{counted};
 
 use std::cmp::Ordering;
-use x509_der_grammar::{Encode, Length};
+use x509_der_grammar::Encode;
 
 /// A type whose values are compared as their contents: the byte order of the content octets, by the first that differ, a
 /// content that begins another before it (X.690 11.6).
@@ -50,7 +50,8 @@ pub trait DerOrd: ValueOrd {
 
 impl<T: ValueOrd> DerOrd for T {}
 
-/// How many content octets are written; one more than [`Length::MAX`] where the value can't be written.
+/// How many content octets are written; one more than [`Length::MAX`](x509_der_grammar::Length::MAX) where the value
+/// can't be written.
 #[tactic(auto, using(crate::specs::Ordered::counted_written, crate::specs::Ordered::counted_refused, crate::specs::Ordered::counted_too_long))]
 fn counted_len<T: Encode>(value: &T) -> u32
     ensures { result ≡ counted T.form (writes T.writing) value.now }

@@ -1,7 +1,7 @@
 //! Elements at the front of bytes.
 
 use crate::{
-    AnyRef, ErrorKind, Header, Length, Tag, TagNumber, check_content, split_element,
+    AnyRef, ErrorKind, Header, Length, Tag, TagNumber, check_content, laws, split_element,
     take_element,
 };
 use std::test::*;
@@ -130,6 +130,8 @@ fn no_headers(rt: HostRuntime) -> Result<(), Fail> {
 #[test]
 fn parts(rt: HostRuntime) -> Result<(), Fail> {
     check_content(&[0x01, 0x02])?;
+    laws::one_tag();
+    laws::no_element_begins_another();
     let header = Header::new(Tag::Null, Length::ZERO);
     assert_eq!(rt; header.tag, Tag::Null);
     assert_eq!(rt; header.length, Length::ZERO);

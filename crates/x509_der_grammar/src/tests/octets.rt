@@ -103,8 +103,6 @@ fn identified(rt: HostRuntime) -> Result<(), Fail> {
     assert_eq!(rt; value.tag(), Tag::OctetString);
     assert_eq!(rt; Bytes::TAG, Tag::OctetString);
     assert!(rt; Bytes::is_start(0x04) && !Bytes::is_start(0x05));
-    laws::one_tag();
-    laws::no_element_begins_another();
     laws::one_spelling::<Bytes>();
     laws::one_value::<Bytes>();
     laws::no_spelling_begins_another::<Bytes, Bytes>();

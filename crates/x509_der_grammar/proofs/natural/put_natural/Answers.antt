@@ -9,10 +9,10 @@ loop-rest-init g c = stands_first g.R.Room.kind g.met.R.Room.lawful c.args.numbe
 pub returns-in_err-put : goal.returns-in_err-put
 returns-in_err-put g c =
     let p = err_from_is_err_and c.from_residual.result c.from_residual.ensures.1 in
-    rw (p.1, p.2) (stands_refused g.R.Room.kind g.met.R.Room.lawful c.args.number c.loop-rest.rest c.in_err-put.field-0.0 c.args.room.now c.loop-rest.room c.put.new.self c.loop-rest-test.true c.loop-rest.invariant c.in_err-put.ensures)
+    rw (p.1, p.2) (stands_refused g.R.Room.kind g.met.R.Room.lawful c.args.number c.loop-rest.rest c.in_err-put.field-0.0 c.args.room.now c.loop-rest.room c.put.new.self c.loop-rest-test.true c.loop-rest.invariant c.in_err-put.ensures.put)
 
 pub loop-rest-preserved : goal.loop-rest-preserved
-loop-rest-preserved g c = stands_next g.R.Room.kind g.met.R.Room.lawful c.args.number c.loop-rest.rest c.args.room.now c.loop-rest.room c.put.new.self c.loop-rest-test.true c.loop-rest.invariant c.in_ok-put.ensures
+loop-rest-preserved g c = stands_next g.R.Room.kind g.met.R.Room.lawful c.args.number c.loop-rest.rest c.args.room.now c.loop-rest.room c.put.new.self c.loop-rest-test.true c.loop-rest.invariant c.in_ok-put.ensures.put
 
 pub returns : goal.returns
-returns g c = stands_last g.R.Room.kind g.met.R.Room.lawful c.args.number c.loop-rest.rest c.put-2.result c.args.room.now c.loop-rest.room c.put-2.new.self c.loop-rest-test.false c.loop-rest.invariant c.put-2.ensures
+returns g c = stands_last g.R.Room.kind g.met.R.Room.lawful c.args.number c.loop-rest.rest c.put-2.result c.args.room.now c.loop-rest.room c.put-2.new.self c.loop-rest-test.false c.loop-rest.invariant c.put-2.ensures.put

@@ -1,5 +1,5 @@
 use Rattle.x509_der_element.specs.TagReading.{same_tag}
-use Rattle.x509_der_grammar.proofs.laws.one_tag.Goals as goal
+use Rattle.x509_der_element.proofs.laws.one_tag.Goals as goal
 
 pub returns : goal.returns
 returns c = same_tag
