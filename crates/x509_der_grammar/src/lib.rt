@@ -18,6 +18,6 @@ pub use grammar::{FixedTag, Grammar, Tagged};
 pub use natural::{put_natural, read_natural};
 pub use room::{Counting, Fixed, Growing, Room};
 pub use x509_der_element::{
-    AnyRef, Bytes, Error, ErrorKind, Header, Length, Piece, Tag, TagNumber, TryClone, check_content,
-    split_element, take_element,
+    AnyRef, Bytes, Error, ErrorKind, Header, Length, Piece, Tag, TagNumber, TryClone,
+    check_content, split_element, take_element,
 };
