@@ -9,7 +9,7 @@ use Rattle.x509_der_grammar.specs.Form.{Form, IsForm, is_in}
 use Rattle.x509_der_element.specs.OutcomeLaws.{ok_is, test_ok, test_err}
 use Rattle.x509_der_element.specs.Tag.{octet_of}
 use Rattle.x509_der_element.specs.TagLaws.{is_identifier-octet_of, is_identifier-octet}
-use Rattle.x509_der_element.specs.TagReading.{tag_at, tag_at-octet_of, octet_of-tag_at}
+use Rattle.x509_der_element.specs.TagReading.{tag_at, tag_at-octet_of, octet_of-tag_at, same_tag}
 use Rattle.x509_der_element.specs.declared.tag.Tag.{Tag}
 use Rattle.x509_der_grammar.specs.Writing.{Written}
 use Rattle.x509_der_order.specs.Order.{IsOrder}
@@ -68,9 +68,6 @@ any_lawful = record {
   tagged = λ v g. let is = is_identifier-octet_of v.tag in (sym (is_in_identifiers (octet_of v.tag) (is_identifier-octet (octet_of v.tag) is)) ∙ is, is);
 }
 
-one_tag : (s t : Tag) → octet_of s ≡ octet_of t → s ≡ t
-one_tag s t e = sym (tag_at-octet_of s) ∙ ap tag_at e ∙ tag_at-octet_of t
-
 -- by the content alone: the identifier octets stay out
 pub any_ordered : (write : Any → Written Any) → IsOrder any write (by_bytes any)
-any_ordered write = by_bytes_lawful any write (λ x y p q. let tags = one_tag x.tag y.tag p in λ i. record { tag = tags i; value = q i })
+any_ordered write = by_bytes_lawful any write (λ x y p q. let tags = same_tag x.tag y.tag p in λ i. record { tag = tags i; value = q i })

@@ -9,3 +9,4 @@ pub mod Boolean
 pub mod Natural
 pub mod NaturalLaws
 pub mod SpellingLaws
+pub mod Tested

@@ -8,6 +8,7 @@ use Rattle.x509_prim_string.specs.BitString.{BitParts, parts_of, is_one, octet_b
 use Rattle.x509_prim_flags.specs.NamedBits.{turned, unused_after, set_octets}
 use Rattle.x509_prim_flags.specs.NamedBitsLaws.{set_octets-one, set_octets-two}
 use Rattle.x509_prim_flags.specs.SetBits.{AreSetBits}
+use Rattle.x509_prim_string.specs.Below.{all_below, all_below-at}
 
 -- the lowest bits of a set, the lowest first
 abbrev low_bits : ℕ → ℕ → List Bool
@@ -59,19 +60,6 @@ no_bits : AreSetBits 0 []
 no_bits = record { named = λ n. named_low 0 0 (omega arith) n; trimmed = no_front }
 
 -- ---- one octet
-
-abbrev all_below : (ℕ → Bool) → ℕ → Bool
-all_below test zero = true
-all_below test (suc n) = test n && all_below test n
-
-all_below-at : (test : ℕ → Bool) (n : ℕ) → all_below test n ≡ true → (k : ℕ) → k < n → test k ≡ true
-all_below-at test zero h k lt = absurd (omega arith)
-all_below-at test (suc n) h k lt =
-    let parts = and_parts (test n) (all_below test n) h in
-    elim (cases_lt k n) [
-      | inl less ↦ all_below-at test n parts.1 k less
-      | inr more ↦ (let is : k ≡ n = omega arith in rw is parts.0)
-    ]
 
 abbrev same_bit : Bool → Bool → Bool
 same_bit true b = b

@@ -1,5 +1,5 @@
 -- The contents of sets of named bits are read as they are written.
-use Rattle.std.proofs.Common.{◌≡◌, ℕ, zero, suc, ◌+◌, ◌*◌, ◌/◌, ◌%◌, ◌<◌, ◌≤◌, Bool, true, false, cond, ◌&&◌, not, nat_eq, nat_lt, List, [], ◌∷◌, Some, None, Ok, Err, refl, sym, ap, ◌∙◌, subst, inl, inr, arith}
+use Rattle.std.proofs.Common.{◌≡◌, ℕ, ◌+◌, ◌*◌, ◌/◌, ◌%◌, ◌<◌, ◌≤◌, Bool, true, false, cond, ◌&&◌, not, nat_eq, nat_lt, List, [], ◌∷◌, Some, None, Ok, Err, refl, sym, ap, ◌∙◌, subst, inl, inr, arith}
 use Rattle.std.proofs.lemmas.Bool.{and_parts, cases_lt, eqb-true, eq-eqb, ne_eqb, ltb-true, lt-ltb, le-ltb}
 use Rattle.std.proofs.lemmas.Bool.Decides.{nat_tests}
 use Rattle.std.specs.Prelude.{Option}
@@ -10,21 +10,9 @@ use Rattle.x509_der_grammar.specs.Form.{IsForm, IsContent}
 use Rattle.x509_der_grammar.specs.FormLaws.{universal_lawful}
 use Rattle.x509_der_element.specs.OutcomeLaws.{ok_is, test_ok, test_err}
 use Rattle.x509_prim_flags.specs.NamedBits.{turned, unused_after, set_octets, ends, set_at, has_names, named, named_reading, named_content, named_bits}
+use Rattle.x509_prim_string.specs.Below.{all_below, all_below-at}
 
 -- ---- octets
-
-abbrev all_below : (ℕ → Bool) → ℕ → Bool
-all_below test zero = true
-all_below test (suc n) = test n && all_below test n
-
-all_below-at : (test : ℕ → Bool) (n : ℕ) → all_below test n ≡ true → (k : ℕ) → k < n → test k ≡ true
-all_below-at test zero h k lt = absurd (omega arith)
-all_below-at test (suc n) h k lt =
-    let parts = and_parts (test n) (all_below test n) h in
-    elim (cases_lt k n) [
-      | inl less ↦ all_below-at test n parts.1 k less
-      | inr more ↦ (let is : k ≡ n = omega arith in rw is parts.0)
-    ]
 
 all_octets : all_below (λ octet. nat_eq (turned (turned octet)) octet && nat_lt (turned octet) 256) 256 ≡ true
 unfolding turned

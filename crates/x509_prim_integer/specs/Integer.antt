@@ -1,8 +1,7 @@
 -- INTEGER: a whole number as a two's complement number in octets, as few as there can be (X.690 8.3).
-use Rattle.std.specs.Prelude.{◌≡◌, ℕ, ◌+◌, ◌-◌, ◌*◌, Bool, true, false, ◌&&◌, not, nat_eq, nat_lt, nat_le, List, [], ◌∷◌, ℤ, pos, negsuc, map, fold, Result, Ok, Err, if◌then◌else◌}
-use Rattle.x509_der_element.specs.declared.error.ErrorKind.{ErrorKind}
-use Rattle.x509_der_element.specs.declared.error.ErrorKind.TheVariants.{Malformed}
-use Rattle.x509_der_grammar.specs.Form.{Form, Content, universal}
+use Rattle.std.specs.Prelude.{ℕ, ◌+◌, ◌-◌, ◌*◌, Bool, true, false, ◌&&◌, not, nat_eq, nat_lt, nat_le, List, [], ◌∷◌, ℤ, pos, negsuc, map, fold, if◌then◌else◌}
+use Rattle.x509_der_grammar.specs.Form.{Form}
+use Rattle.x509_der_grammar.specs.Tested.{tested}
 
 -- ---- contents
 
@@ -22,18 +21,12 @@ is_negative (first ∷ octets) = nat_le 0x80 first
 unfoldable pub is_unsigned : List ℕ → Bool
 is_unsigned octets = is_integer octets && not (is_negative octets)
 
-unfoldable pub tested_reading : (List ℕ → Bool) → List ℕ → Result (List ℕ) ErrorKind
-tested_reading is_good bytes = if is_good bytes then Ok bytes else Err Malformed
-
 -- a value is seen as its content octets
-abbrev pub tested_content : (List ℕ → Bool) → Content (List ℕ)
-tested_content is_good = record { tag = 0x02; octets = λ octets. octets; good = λ octets. is_good octets ≡ true; reading = tested_reading is_good }
-
 abbrev pub integer : Form (List ℕ)
-integer = universal (tested_content is_integer)
+integer = tested 0x02 is_integer
 
 abbrev pub unsigned_integer : Form (List ℕ)
-unsigned_integer = universal (tested_content is_unsigned)
+unsigned_integer = tested 0x02 is_unsigned
 
 -- ---- numbers
 

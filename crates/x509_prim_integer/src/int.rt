@@ -88,7 +88,7 @@ impl Grammar for Int {
     ghost lawful = { integer_lawful };
 }
 
-#[tactic(auto, unfolding(crate::specs::Integer::tested_reading))]
+#[tactic(auto, unfolding(x509_der_grammar::specs::Tested::tested_reading))]
 impl Decode for Int {
     fn read(alloc: Global, tag: u8, content: &[u8]) -> Result<Int, Error> {
         if tag != Tag::Integer.octet() || !check_integer(content) {

@@ -103,7 +103,7 @@ impl Grammar for Uint {
     ghost lawful = { unsigned_integer_lawful };
 }
 
-#[tactic(auto, unfolding(crate::specs::Integer::tested_reading))]
+#[tactic(auto, unfolding(x509_der_grammar::specs::Tested::tested_reading))]
 impl Decode for Uint {
     fn read(alloc: Global, tag: u8, content: &[u8]) -> Result<Uint, Error> {
         if tag != Tag::Integer.octet() || !check_unsigned(content) {

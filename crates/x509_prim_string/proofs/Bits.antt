@@ -1,28 +1,16 @@
 -- The bits that stand in octets.
 use Rattle.std.proofs.Common.{◌≡◌, ℕ, zero, suc, ◌+◌, ◌*◌, ◌/◌, ◌%◌, ◌^◌, ◌<◌, ◌≤◌, Bool, true, false, ◌&&◌, nat_eq, nat_lt, List, [], ◌∷◌, ◌++◌, length, take, drop, replicate, fold, refl, sym, ap, ◌∙◌, append_assoc, length-append, inl, inr, arith}
 use Rattle.std.specs.List.{flat_map, All}
-use Rattle.std.proofs.lemmas.Bool.{and_parts, or_right, cases_lt, cases_Bool, eqb-true, eqb-false, ne_eqb, lt-ltb, ltb-true}
+use Rattle.std.proofs.lemmas.Bool.{and_parts, or_right, cases_Bool, eqb-true, eqb-false, ne_eqb, lt-ltb, ltb-true}
 use Rattle.std.proofs.lemmas.List.{append_cancel_right, append-nil, length-replicate, take_at, drop_at, drop-append-le}
 use Rattle.std.proofs.lemmas.List.Elements.{All-nil, All-cons, All-head, All-tail}
 use Rattle.x509_prim_string.specs.BitString.{BitParts, parts_of, is_one, octet_bits, HasBits, last_octet, has_octets, is_padded}
+use Rattle.x509_prim_string.specs.Below.{all_below, all_below-at}
 
 abbrev pub AreOctets : List ℕ → Type 0
 AreOctets octets = All (λ octet. octet < 256) octets
 
 -- ---- one octet
-
-abbrev all_below : (ℕ → Bool) → ℕ → Bool
-all_below test zero = true
-all_below test (suc n) = test n && all_below test n
-
-all_below-at : (test : ℕ → Bool) (n : ℕ) → all_below test n ≡ true → (k : ℕ) → k < n → test k ≡ true
-all_below-at test zero h k lt = absurd (omega arith)
-all_below-at test (suc n) h k lt =
-    let parts = and_parts (test n) (all_below test n) h in
-    elim (cases_lt k n) [
-      | inl less ↦ all_below-at test n parts.1 k less
-      | inr more ↦ (let is : k ≡ n = omega arith in rw is parts.0)
-    ]
 
 abbrev digit : Bool → ℕ
 digit true = 1

@@ -1,3 +1,4 @@
 pub mod OctetString
 pub mod BitString
 pub mod BitStringLaws
+pub mod Below

@@ -128,7 +128,8 @@ impl Grammar for BmpString {
     ghost use Rattle.x509_der_element.specs.TagLaws.{is_identifier-octet_of};
     ghost use Rattle.x509_der_element.specs.declared.tag.Tag.TheVariants as tags;
     ghost use Rattle.x509_prim_text.specs.Bmp.{is_bmp};
-    ghost use Rattle.x509_prim_text.specs.Text.{text, text_lawful};
+    ghost use Rattle.x509_der_grammar.specs.Tested.{tested_lawful};
+    ghost use Rattle.x509_prim_text.specs.Text.{text};
 
     ghost form = { text 0x1E is_bmp };
 
@@ -140,10 +141,10 @@ impl Grammar for BmpString {
         octet == Tag::BmpString.octet()
     }
 
-    ghost lawful = { text_lawful 0x1E is_bmp (is_identifier-octet_of tags.BmpString) };
+    ghost lawful = { tested_lawful 0x1E is_bmp (is_identifier-octet_of tags.BmpString) };
 }
 
-#[tactic(auto, unfolding(crate::specs::Text::text_reading))]
+#[tactic(auto, unfolding(x509_der_grammar::specs::Tested::tested_reading))]
 impl Decode for BmpString {
     fn read(alloc: Global, tag: u8, content: &[u8]) -> Result<BmpString, Error> {
         if tag != Tag::BmpString.octet() || !check_octets(content) {

@@ -71,7 +71,8 @@ impl<A: Alphabet> Grammar for RestrictedString<A> {
     ghost use Rattle.std.specs.List.{list_all};
     ghost use Rattle.x509_der_element.specs.Tag.{octet_of};
     ghost use Rattle.x509_der_element.specs.TagLaws.{is_identifier-octet_of};
-    ghost use Rattle.x509_prim_text.specs.Text.{text, text_lawful};
+    ghost use Rattle.x509_der_grammar.specs.Tested.{tested_lawful};
+    ghost use Rattle.x509_prim_text.specs.Text.{text};
 
     ghost form = { text (octet_of A.TAG) (list_all A.has_char) };
 
@@ -83,10 +84,10 @@ impl<A: Alphabet> Grammar for RestrictedString<A> {
         octet == A::TAG.octet()
     }
 
-    ghost lawful = { text_lawful (octet_of A.TAG) (list_all A.has_char) (is_identifier-octet_of A.TAG) };
+    ghost lawful = { tested_lawful (octet_of A.TAG) (list_all A.has_char) (is_identifier-octet_of A.TAG) };
 }
 
-#[tactic(auto, unfolding(crate::specs::Text::text_reading))]
+#[tactic(auto, unfolding(x509_der_grammar::specs::Tested::tested_reading))]
 impl<A: Alphabet> Decode for RestrictedString<A> {
     fn read(alloc: Global, tag: u8, content: &[u8]) -> Result<RestrictedString<A>, Error> {
         if tag != A::TAG.octet() {

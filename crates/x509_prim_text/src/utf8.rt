@@ -72,7 +72,8 @@ impl Grammar for Utf8String {
     ghost use Rattle.std.specs.Str.{is_utf8};
     ghost use Rattle.x509_der_element.specs.TagLaws.{is_identifier-octet_of};
     ghost use Rattle.x509_der_element.specs.declared.tag.Tag.TheVariants as tags;
-    ghost use Rattle.x509_prim_text.specs.Text.{text, text_lawful};
+    ghost use Rattle.x509_der_grammar.specs.Tested.{tested_lawful};
+    ghost use Rattle.x509_prim_text.specs.Text.{text};
 
     ghost form = { text 0x0C is_utf8 };
 
@@ -84,7 +85,7 @@ impl Grammar for Utf8String {
         octet == Tag::Utf8String.octet()
     }
 
-    ghost lawful = { text_lawful 0x0C is_utf8 (is_identifier-octet_of tags.Utf8String) };
+    ghost lawful = { tested_lawful 0x0C is_utf8 (is_identifier-octet_of tags.Utf8String) };
 }
 
 /// The octets as a text, where they are UTF-8.
@@ -98,7 +99,7 @@ fn utf8_text(octets: &[u8]) -> Option<&str>
     }
 }
 
-#[tactic(auto, unfolding(crate::specs::Text::text_reading))]
+#[tactic(auto, unfolding(x509_der_grammar::specs::Tested::tested_reading))]
 impl Decode for Utf8String {
     fn read(alloc: Global, tag: u8, content: &[u8]) -> Result<Utf8String, Error> {
         if tag != Tag::Utf8String.octet() {

@@ -1,4 +1,4 @@
-use Rattle.std.proofs.Common.{◌≡◌, ℕ, true, ◌&&◌, nat_eq, bytes_eq, refl}
+use Rattle.std.proofs.Common.{◌≡◌, true, ◌&&◌, nat_eq, bytes_eq, refl}
 use Rattle.std.proofs.lemmas.Bool.{and_parts, eqb-true, eq-eqb}
 use Rattle.std.proofs.lemmas.Slice.Eq.{bytes_eq-Decides}
 use Rattle.x509_prim_string.specs.BitString.{BitParts}
