@@ -1,0 +1,80 @@
+#!/usr/bin/env python3
+"""Runs the gate, and prints the processor seconds of each crate: of its proofs, of its tests, and of its wrong bodies.
+
+    tools/gate.py [FILE]
+
+In the top folder of a clean clone. What `rt ci` prints goes to FILE (gate.log, if left out) with the time of each line, and the
+table to standard output, also where the run is interrupted. The checker's processes are looked at every second, so a
+figure can lack the last second of each.
+"""
+import collections
+import os
+import subprocess
+import sys
+import threading
+import time
+
+TICK = os.sysconf("SC_CLK_TCK")
+
+
+def checks():
+    """Each process of the checker: what tells it from others, its crate, its part of the gate, its processor seconds."""
+    for process in filter(str.isdigit, os.listdir("/proc")):
+        try:
+            with open(f"/proc/{process}/cmdline", encoding="utf-8", errors="replace") as file:
+                words = file.read().split("\0")
+            if os.path.basename(words[0]) != "rattle" or "--crate-name" not in words:
+                continue
+            folder = os.readlink(f"/proc/{process}/cwd")
+            with open(f"/proc/{process}/stat", encoding="utf-8", errors="replace") as file:
+                numbers = file.read().rsplit(")", 1)[1].split()
+        except OSError:
+            continue
+        part = "wrong bodies" if "rt-edit-" in folder else "tests" if "--test" in words else "proofs"
+        crate = words[words.index("--crate-name") + 1]
+        yield (process, numbers[19]), crate, part, sum(map(int, numbers[11:15])) / TICK
+
+
+def watch(seen, is_over):
+    while not is_over.wait(1):
+        for key, crate, part, seconds in checks():
+            seen[key] = crate, part, seconds
+
+
+def table(seen):
+    parts = ["proofs", "tests", "wrong bodies"]
+    spent, bodies = collections.Counter(), collections.Counter()
+    for crate, part, seconds in seen.values():
+        spent[crate, part] += seconds
+        bodies[crate] += part == parts[2]
+    print("| Crate | Proofs | Tests | Wrong bodies | each |")
+    print("|---|---|---|---|---|")
+    for crate in sorted({crate for crate, _, _ in seen.values()}):
+        row = [f"{spent[crate, part]:.0f}" for part in parts]
+        each = f"{spent[crate, parts[2]] / bodies[crate]:.0f}" if bodies[crate] else ""
+        print(f"| `{crate}` | {' | '.join(row)} | {each} |")
+    totals = [sum(spent[crate, part] for crate in bodies) / 60 for part in parts]
+    print(f"| all, in minutes | {' | '.join(f'{total:.0f}' for total in totals)} | |")
+
+
+def main():
+    seen, is_over, start = {}, threading.Event(), time.time()
+    watcher = threading.Thread(target=watch, args=(seen, is_over))
+    watcher.start()
+    try:
+        with open(sys.argv[1] if len(sys.argv) > 1 else "gate.log", "w", encoding="utf-8") as log:
+            gate = subprocess.Popen(["rt", "ci"], stdout=subprocess.PIPE, stderr=subprocess.STDOUT, text=True)
+            last = ""
+            for line in gate.stdout:
+                last = line.rstrip("\n")
+                log.write(f"{time.strftime('%T')} {last}\n")
+                log.flush()
+        print(f"{last}, in {(time.time() - start) / 60:.0f} minutes")
+    finally:
+        is_over.set()
+        watcher.join()
+        table(seen)
+
+
+if __name__ == "__main__":
+    main()
