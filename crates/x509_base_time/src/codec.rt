@@ -1,6 +1,9 @@
 //! UTCTime and GeneralizedTime, read and written (X.690 11.7, 11.8).
 
-ghost use Rattle.std.specs.Prelude.{◌≡◌, Ok};
+ghost use Rattle.std.specs.Prelude.{◌≡◌, Ok, IfErr};
+ghost use Rattle.x509_base_time.specs.TimeForms.{utc_time, generalized_time};
+ghost use Rattle.x509_der_element.specs.Outcome.{Gives};
+ghost use Rattle.x509_der_element.specs.declared.error.ErrorKind.TheVariants.{Malformed};
 
 use crate::generalized_time::GeneralizedTime;
 use crate::utc_time::UtcTime;
@@ -24,7 +27,10 @@ impl Grammar for UtcTime {
 }
 
 impl Decode for UtcTime {
-    fn read(_alloc: Global, tag: u8, content: &[u8]) -> Result<UtcTime, Error> {
+    fn read(_alloc: Global, tag: u8, content: &[u8]) -> Result<UtcTime, Error>
+        ensures exact { Gives result (utc_time.reading tag content.now) }
+        ensures err { IfErr result (λ e. e.kind ≡ Malformed) }
+    {
         expect_tag(tag, Tag::UtcTime)?;
         UtcTime::from_content(content)
     }
@@ -76,7 +82,10 @@ impl Grammar for GeneralizedTime {
 }
 
 impl Decode for GeneralizedTime {
-    fn read(_alloc: Global, tag: u8, content: &[u8]) -> Result<GeneralizedTime, Error> {
+    fn read(_alloc: Global, tag: u8, content: &[u8]) -> Result<GeneralizedTime, Error>
+        ensures exact { Gives result (generalized_time.reading tag content.now) }
+        ensures err { IfErr result (λ e. e.kind ≡ Malformed) }
+    {
         expect_tag(tag, Tag::GeneralizedTime)?;
         GeneralizedTime::from_content(content)
     }

@@ -60,6 +60,9 @@ pub any_not_found : (t : ℕ) (c : List ℕ) → is_identifier t ≡ false → a
 unfolding any_reading
 any_not_found t c e = rw e refl
 
+pub begins_an_element : (t : ℕ) (tag : Tag) → octet_of tag ≡ t → is_identifier t ≡ false → ⊥
+begins_an_element t tag e n = let is = is_identifier-octet_of tag in cc
+
 pub any_lawful : {R : ErrorKind → Type 0} → IsForm R any
 any_lawful = record {
   sound = any_sound;

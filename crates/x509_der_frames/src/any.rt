@@ -1,12 +1,14 @@
 //! Elements that are not looked into.
 
-ghost use Rattle.std.specs.Prelude.{◌≡◌, ◌<◌, ◌≤◌, ◌↔◌, ◌⊎◌, [], length, IfOk, IfErr, IsErrAnd, IsTrue};
+ghost use Rattle.std.specs.Prelude.{◌≡◌, ◌<◌, ◌≤◌, ◌↔◌, ◌⊎◌, [], length, false, IfOk, IfErr, IsErrAnd, IsTrue};
 ghost use Rattle.x509_der_element.specs.declared.error.ErrorKind.TheVariants as errors;
 ghost use Rattle.x509_der_element.specs.declared.tag.Tag.TheVariants.{Null};
-ghost use Rattle.x509_der_element.specs.Element.{element, limit};
+ghost use Rattle.x509_der_element.specs.Element.{element, is_identifier, limit};
 ghost use Rattle.x509_der_element.specs.Outcome.{Gives};
 ghost use Rattle.x509_der_grammar.specs.Form.{spelling};
 ghost use Rattle.x509_der_element.specs.Tag.{octet_of};
+ghost use Rattle.x509_der_element.specs.declared.error.ErrorKind.TheVariants.{Malformed};
+ghost use Rattle.x509_der_frames.specs.Any.{any_reading};
 ghost use Rattle.x509_der_grammar.specs.Writing.{writes, written_spelling, IsWritable, IsUnwritable};
 
 use std::alloc::Global;
@@ -105,9 +107,12 @@ impl Grammar for Any {
     ghost lawful = { any_lawful };
 }
 
-#[tactic(auto, using(crate::specs::Any::any_found, crate::specs::Any::any_not_found))]
+#[tactic(auto, using(crate::specs::Any::any_found, crate::specs::Any::any_not_found, crate::specs::Any::begins_an_element))]
 impl Decode for Any {
-    fn read(alloc: Global, tag: u8, content: &[u8]) -> Result<Any, Error> {
+    fn read(alloc: Global, tag: u8, content: &[u8]) -> Result<Any, Error>
+        ensures exact { Gives result (any_reading tag content.now) }
+        ensures malformed { is_identifier tag ≡ false → IfErr result (λ e. e.kind ≡ Malformed) }
+    {
         Ok(Any {
             tag: Tag::from_octet(tag)?,
             value: Bytes::from_slice(alloc, content)?,

@@ -1,6 +1,9 @@
 //! OBJECT IDENTIFIER, read and written (X.690 8.19).
 
-ghost use Rattle.std.specs.Prelude.{◌≡◌, Ok};
+ghost use Rattle.std.specs.Prelude.{◌≡◌, Ok, IfErr};
+ghost use Rattle.x509_der_element.specs.Outcome.{Gives};
+ghost use Rattle.x509_der_element.specs.declared.error.ErrorKind.TheVariants.{Malformed};
+ghost use Rattle.x509_der_oid.specs.ObjectIdentifierForm.{object_identifier};
 
 use crate::identifier::ObjectIdentifier;
 use std::alloc::Global;
@@ -26,7 +29,10 @@ impl Grammar for ObjectIdentifier {
 
 #[tactic(auto, unfolding(crate::specs::ObjectIdentifierForm::object_identifier_reading))]
 impl Decode for ObjectIdentifier {
-    fn read(_alloc: Global, tag: u8, content: &[u8]) -> Result<ObjectIdentifier, Error> {
+    fn read(_alloc: Global, tag: u8, content: &[u8]) -> Result<ObjectIdentifier, Error>
+        ensures exact { Gives result (object_identifier.reading tag content.now) }
+        ensures err { IfErr result (λ e. e.kind ≡ Malformed) }
+    {
         expect_tag(tag, Tag::ObjectIdentifier)?;
         ObjectIdentifier::from_bytes(content)
     }
