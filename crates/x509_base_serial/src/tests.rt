@@ -118,18 +118,26 @@ fn profiles_are_not_asked_in_writing(rt: HostRuntime) -> Result<(), Fail> {
     Ok(())
 }
 
+/// Whether the serial number is printed so.
+fn prints<P: Profile>(
+    rt: &HostRuntime,
+    serial: &SerialNumber<P>,
+    text: &str,
+) -> Result<bool, Fail> {
+    Ok(serial.to_string(rt.alloc())?.as_str() == text)
+}
+
 #[test]
 fn texts(rt: HostRuntime) -> Result<(), Fail> {
-    let negative = SerialNumber::<Rfc5280>::from_der(rt.alloc(), b"\x02\x01\xFF")?;
-    assert_eq!(rt; negative.to_string(rt.alloc())?.as_str(), "FF");
     for (octets, text) in [
         (b"\x00".as_slice(), "00"),
         (b"\x00\x00\x01", "01"),
         (b"\xAA\xBB\xCC\x01\x10\x00\x11", "00:AA:BB:CC:01:10:00:11"),
     ] {
-        let serial = SerialNumber::<Raw>::new(rt.alloc(), octets)?;
-        assert_eq!(rt; serial.to_string(rt.alloc())?.as_str(), text);
+        assert!(rt; prints(&rt, &SerialNumber::<Raw>::new(rt.alloc(), octets)?, text)?);
     }
+    let negative = SerialNumber::<Rfc5280>::from_der(rt.alloc(), b"\x02\x01\xFF")?;
+    assert!(rt; prints(&rt, &negative, "FF")?);
     Ok(())
 }
 
@@ -147,21 +155,27 @@ fn numbers_of_octets(rt: HostRuntime) -> Result<(), Fail> {
     Ok(())
 }
 
+/// Whether that is a serial number with these content octets.
+fn has_content(serial: Result<SerialNumber<Raw>, Error>, content: &[u8]) -> bool {
+    match serial {
+        Ok(serial) => serial.as_bytes() == content,
+        Err(_) => false,
+    }
+}
+
 #[test]
 fn numbers(rt: HostRuntime) -> Result<(), Fail> {
-    let byte = SerialNumber::<Raw>::from_u8(rt.alloc(), 0x80)?;
-    assert_eq!(rt; byte.as_bytes(), b"\x00\x80".as_slice());
-    let short = SerialNumber::<Raw>::from_u16(rt.alloc(), 0x0102)?;
-    assert_eq!(rt; short.as_bytes(), b"\x01\x02".as_slice());
-    let word = SerialNumber::<Raw>::from_u32(rt.alloc(), 0)?;
-    assert_eq!(rt; word.as_bytes(), b"\x00".as_slice());
-    let long = SerialNumber::<Raw>::from_u64(rt.alloc(), u64::MAX)?;
-    assert_eq!(rt;
-        long.as_bytes(),
-        b"\x00\xFF\xFF\xFF\xFF\xFF\xFF\xFF\xFF".as_slice()
+    let alloc = rt.alloc();
+    assert!(rt; has_content(SerialNumber::from_u8(alloc, 0x80), b"\x00\x80"));
+    assert!(rt; has_content(SerialNumber::from_u16(alloc, 0x0102), b"\x01\x02"));
+    assert!(rt; has_content(SerialNumber::from_u32(alloc, 0), b"\x00"));
+    assert!(rt;
+        has_content(
+            SerialNumber::from_u64(alloc, u64::MAX),
+            b"\x00\xFF\xFF\xFF\xFF\xFF\xFF\xFF\xFF"
+        )
     );
-    let size = SerialNumber::<Raw>::from_usize(rt.alloc(), 0x7F_0000)?;
-    assert_eq!(rt; size.as_bytes(), b"\x7F\x00\x00".as_slice());
+    assert!(rt; has_content(SerialNumber::from_usize(alloc, 0x7F_0000), b"\x7F\x00\x00"));
     Ok(())
 }
 
@@ -184,7 +198,7 @@ fn generated(rt: HostRuntime) -> Result<(), Fail> {
 }
 
 #[test]
-fn generated_with_prefix(rt: HostRuntime) -> Result<(), Fail> {
+fn lengths_that_are_not_generated(rt: HostRuntime) -> Result<(), Fail> {
     let mut source = Source { fills: 0, zeros: 0 };
     for (prefix, rand_len) in [
         (b"".as_slice(), 7),
@@ -201,30 +215,48 @@ fn generated_with_prefix(rt: HostRuntime) -> Result<(), Fail> {
         assert_eq!(rt; kind(refused), Some(ErrorKind::Failed));
         assert_eq!(rt; source.fills, 0);
     }
-    let long = SerialNumber::<Rfc5280>::generate_with_prefix(
-        rt.alloc(),
-        &[0xFF; 11],
-        8,
-        &mut source,
-    )?;
-    assert_eq!(rt;
-        long.as_bytes(),
-        b"\0\xFF\xFF\xFF\xFF\xFF\xFF\xFF\xFF\xFF\xFF\xFF\x01\x01\x01\x01\x01\x01\x01\x01".as_slice()
-    );
-    let short = SerialNumber::<Rfc5280>::generate_with_prefix(rt.alloc(), &[0], 8, &mut source)?;
-    assert_eq!(rt; short.as_bytes(), [1; 8].as_slice());
-    assert_eq!(rt; source.fills, 2);
     Ok(())
+}
+
+/// Whether the number of the prefix and of 8 random bytes, each 1, has these content octets, after one fill.
+fn has_prefix(rt: &HostRuntime, prefix: &[u8], content: &[u8]) -> bool {
+    let mut source = Source { fills: 0, zeros: 0 };
+    let serial = SerialNumber::generate_with_prefix(rt.alloc(), prefix, 8, &mut source);
+    has_content(serial, content) && source.fills == 1
+}
+
+#[test]
+fn generated_with_prefix(rt: HostRuntime) {
+    assert!(rt;
+        has_prefix(
+            &rt,
+            &[0xFF; 11],
+            b"\0\xFF\xFF\xFF\xFF\xFF\xFF\xFF\xFF\xFF\xFF\xFF\x01\x01\x01\x01\x01\x01\x01\x01"
+        )
+    );
+    assert!(rt; has_prefix(&rt, &[0], &[1; 8]));
+    assert!(rt; has_prefix(&rt, &[], &[1; 8]));
 }
 
 #[test]
 fn copies_and_conversions(rt: HostRuntime) -> Result<(), Fail> {
     let serial = SerialNumber::<Rfc5280>::from_u8(rt.alloc(), 5)?;
-    assert!(rt; serial == serial.try_clone(rt.alloc())?);
-    assert!(rt; serial != SerialNumber::<Rfc5280>::from_u8(rt.alloc(), 6)?);
-    assert_eq!(rt; SerialNumber::<Rfc5280>::TAG, Tag::Integer);
     assert_eq!(rt; format!(in rt.alloc(); "{serial:?}")?.as_str(), "[5]");
+    assert!(rt; serial == serial.try_clone(rt.alloc())?);
     assert_eq!(rt; Int::from(serial).as_bytes(), b"\x05".as_slice());
+    Ok(())
+}
+
+/// A serial number, where the profile that is none other said is [`Rfc5280`].
+fn of_the_default_profile(serial: SerialNumber) -> SerialNumber<Rfc5280> {
+    serial
+}
+
+#[test]
+fn serial_numbers_that_differ(rt: HostRuntime) -> Result<(), Fail> {
+    let five = of_the_default_profile(SerialNumber::from_u8(rt.alloc(), 5)?);
+    assert!(rt; five != SerialNumber::from_u8(rt.alloc(), 6)?);
+    assert_eq!(rt; SerialNumber::<Rfc5280>::TAG, Tag::Integer);
     Ok(())
 }
 

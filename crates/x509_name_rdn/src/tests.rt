@@ -118,16 +118,34 @@ fn inserts_in_either_order(rt: HostRuntime) -> Result<(), Fail> {
     Ok(())
 }
 
+/// The organization and the person, of a vector in the other order.
+fn both(rt: &HostRuntime) -> Result<RelativeDistinguishedName, Fail> {
+    let mut attributes = Vec::new(rt.alloc());
+    attributes.push(person(rt)?)?;
+    attributes.push(organization(rt)?)?;
+    Ok(RelativeDistinguishedName::try_from_vec(attributes)?)
+}
+
+/// Whether there are two attributes, that one first.
+fn has_two(rdn: &RelativeDistinguishedName, first: &AttributeTypeAndValue) -> bool {
+    rdn.len() == 2
+        && !rdn.is_empty()
+        && rdn.as_slice().first() == Some(first)
+        && rdn.get(1).is_some()
+        && rdn.get(2).is_none()
+        && rdn.iter().count() == 2
+}
+
 #[test]
 fn rdns(rt: HostRuntime) -> Result<(), Fail> {
-    let mut attributes = Vec::new(rt.alloc());
-    attributes.push(person(&rt)?)?;
-    attributes.push(organization(&rt)?)?;
-    let rdn = RelativeDistinguishedName::try_from_vec(attributes)?;
-    assert!(rt; rdn.len() == 2 && !rdn.is_empty());
-    assert!(rt; rdn.as_slice()[0] == organization(&rt)?);
-    assert!(rt; rdn.get(1).is_some() && rdn.get(2).is_none());
-    assert_eq!(rt; rdn.iter().count(), 2);
+    let rdn = both(&rt)?;
+    assert!(rt; has_two(&rdn, &organization(&rt)?));
+    Ok(())
+}
+
+#[test]
+fn copies_of_an_rdn(rt: HostRuntime) -> Result<(), Fail> {
+    let rdn = both(&rt)?;
     let set: &SetOfVec<AttributeTypeAndValue> = rdn.as_ref();
     let copy = RelativeDistinguishedName::from(set.try_clone(rt.alloc())?);
     assert!(rt; copy == rdn && rdn.try_clone(rt.alloc())? == copy);
@@ -146,15 +164,27 @@ fn sequences(rt: HostRuntime) -> Result<(), Fail> {
     Ok(())
 }
 
+/// Whether the first is empty and the other has three sets, and the orders tell them apart.
+fn are_apart(none: &Name, name: &Name) -> bool {
+    none.is_empty()
+        && name.len() == 3
+        && name.iter_rdn().count() == 3
+        && name != none
+        && none.der_cmp(name).is_lt()
+        && name.value_cmp(none).is_gt()
+}
+
+/// Whether the names are the same, with their sequences and their hashes.
+fn are_same(copy: &Name, name: &Name) -> bool {
+    copy == name && copy.as_ref() == name.as_ref() && hash_of(copy) == hash_of(name)
+}
+
 #[test]
 fn names(rt: HostRuntime) -> Result<(), Fail> {
-    let none = Name::new(rt.alloc());
     let name = Name::from_der(rt.alloc(), NAMES[1])?;
-    assert!(rt; none.is_empty() && name.len() == 3 && name.iter_rdn().count() == 3);
+    assert!(rt; are_apart(&Name::new(rt.alloc()), &name));
     let copy = Name::hazmat_from_rdn_sequence(RdnSequence::from(name.try_clone(rt.alloc())?));
-    assert!(rt; copy == name && copy.as_ref() == name.as_ref() && name != none);
-    assert_eq!(rt; hash_of(&copy), hash_of(&name));
-    assert!(rt; none.der_cmp(&name).is_lt() && name.value_cmp(&none).is_gt());
+    assert!(rt; are_same(&copy, &name));
     Ok(())
 }
 

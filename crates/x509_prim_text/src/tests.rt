@@ -1,6 +1,7 @@
 //! Rows of bytes, and each call once with ample memory.
 
 use crate::*;
+use std::fmt::{Debug, Display};
 use std::test::*;
 use x509_der_grammar::{AnyRef, Decode, Encode, Error, ErrorKind, Tag, TryClone};
 
@@ -68,35 +69,50 @@ fn utf8_strings(rt: HostRuntime) -> Result<(), Fail> {
 fn borrowed_texts(rt: HostRuntime) -> Result<(), Fail> {
     let any = AnyRef::new(Tag::PrintableString, b"US")?;
     assert_eq!(rt; PrintableStringRef::from_any(any)?.as_str(), "US");
-    assert!(rt; is_refused(Ia5StringRef::from_any(any), ErrorKind::Malformed));
-    assert!(rt; is_refused(Utf8StringRef::from_any(any), ErrorKind::Malformed));
     let any = AnyRef::new(Tag::Utf8String, b"\xC3\xA4")?;
     assert_eq!(rt; Utf8StringRef::from_any(any)?.as_str(), "ä");
     let any = AnyRef::new(Tag::Ia5String, b"@")?;
     assert_eq!(rt; Ia5StringRef::from_any(any)?.as_str(), "@");
     let any = AnyRef::new(Tag::TeletexString, b"@")?;
     assert_eq!(rt; TeletexStringRef::from_any(any)?.as_str(), "@");
+    Ok(())
+}
+
+#[test]
+fn borrowed_texts_that_are_none(rt: HostRuntime) -> Result<(), Fail> {
+    let any = AnyRef::new(Tag::PrintableString, b"US")?;
+    assert!(rt; is_refused(Ia5StringRef::from_any(any), ErrorKind::Malformed));
+    assert!(rt; is_refused(Utf8StringRef::from_any(any), ErrorKind::Malformed));
     let any = AnyRef::new(Tag::TeletexString, b"\xC3\xA4")?;
     assert!(rt; is_refused(TeletexStringRef::from_any(any), ErrorKind::Malformed));
-    assert_eq!(rt; PrintableStringRef::new("US")?.as_str(), "US");
     assert!(rt; is_refused(PrintableStringRef::new("U*"), ErrorKind::Value));
+    Ok(())
+}
+
+#[test]
+fn borrowed_texts_that_are_made(rt: HostRuntime) -> Result<(), Fail> {
+    assert_eq!(rt; PrintableStringRef::new("US")?.as_str(), "US");
     assert_eq!(rt; Utf8StringRef::new("ä")?.as_str(), "ä");
     Ok(())
+}
+
+/// Whether the value is printed so.
+fn prints<T: Display>(rt: &HostRuntime, value: &T, text: &str) -> Result<bool, Fail> {
+    Ok(value.to_string(rt.alloc())?.as_str() == text)
+}
+
+/// Whether the value is shown so.
+fn shows<T: Debug>(rt: &HostRuntime, value: &T, text: &str) -> Result<bool, Fail> {
+    Ok(format!(in rt.alloc(); "{value:?}")?.as_str() == text)
 }
 
 #[test]
 fn printed_texts(rt: HostRuntime) -> Result<(), Fail> {
     let printable = PrintableString::new(rt.alloc(), "US")?;
+    assert!(rt; prints(&rt, &printable, "US")? && shows(&rt, &printable, "\"US\"")?);
     let utf8 = Utf8String::new(rt.alloc(), "ä")?;
-    let bmp = BmpString::from_str(rt.alloc(), "€")?;
-    assert_eq!(rt;
-        format!(in rt.alloc(); "{printable} {utf8}")?.as_str(),
-        "US ä"
-    );
-    assert_eq!(rt;
-        format!(in rt.alloc(); "{printable:?} {utf8:?} {bmp:?}")?.as_str(),
-        "\"US\" \"ä\" [32, 172]"
-    );
+    assert!(rt; prints(&rt, &utf8, "ä")? && shows(&rt, &utf8, "\"ä\"")?);
+    assert!(rt; shows(&rt, &BmpString::from_str(rt.alloc(), "€")?, "[32, 172]")?);
     Ok(())
 }
 

@@ -25,41 +25,26 @@ fn octet_strings(rt: HostRuntime) -> Result<(), Fail> {
 
 #[test]
 fn octet_string_lengths(rt: HostRuntime) -> Result<(), Fail> {
-    assert_eq!(rt;
-        front(&rt, 127)?.as_slice(),
-        [0x04, 0x7F, 0xAB, 0xAB, 0xAB].as_slice()
-    );
-    assert_eq!(rt;
-        front(&rt, 128)?.as_slice(),
-        [0x04, 0x81, 0x80, 0xAB, 0xAB].as_slice()
-    );
-    assert_eq!(rt;
-        front(&rt, 255)?.as_slice(),
-        [0x04, 0x81, 0xFF, 0xAB, 0xAB].as_slice()
-    );
-    assert_eq!(rt;
-        front(&rt, 256)?.as_slice(),
-        [0x04, 0x82, 0x01, 0x00, 0xAB].as_slice()
-    );
-    assert_eq!(rt;
-        front(&rt, 65_535)?.as_slice(),
-        [0x04, 0x82, 0xFF, 0xFF, 0xAB].as_slice()
-    );
-    assert_eq!(rt;
-        front(&rt, 65_536)?.as_slice(),
-        [0x04, 0x83, 0x01, 0x00, 0x00].as_slice()
-    );
+    for (len, octets) in [
+        (127, [0x04, 0x7F, 0xAB, 0xAB, 0xAB]),
+        (128, [0x04, 0x81, 0x80, 0xAB, 0xAB]),
+        (255, [0x04, 0x81, 0xFF, 0xAB, 0xAB]),
+        (256, [0x04, 0x82, 0x01, 0x00, 0xAB]),
+        (65_535, [0x04, 0x82, 0xFF, 0xFF, 0xAB]),
+        (65_536, [0x04, 0x83, 0x01, 0x00, 0x00]),
+    ] {
+        assert_eq!(rt; front(&rt, len)?.as_slice(), octets.as_slice());
+    }
     Ok(())
 }
 
 #[test]
 fn octet_string_calls(rt: HostRuntime) -> Result<(), Fail> {
     let string = OctetString::new(rt.alloc(), &[1, 2, 3])?;
-    let copy = string.try_clone(rt.alloc())?;
-    assert!(rt; copy == string);
-    assert_eq!(rt; format!(in rt.alloc(); "{copy:?}")?.as_str(), "[1, 2, 3]");
-    assert_eq!(rt; copy.as_bytes(), [1, 2, 3].as_slice());
-    assert_eq!(rt; copy.into_bytes().as_slice(), [1, 2, 3].as_slice());
+    assert_eq!(rt; format!(in rt.alloc(); "{string:?}")?.as_str(), "[1, 2, 3]");
+    assert!(rt; string.try_clone(rt.alloc())? == string);
+    assert_eq!(rt; string.as_bytes(), [1, 2, 3].as_slice());
+    assert_eq!(rt; string.into_bytes().as_slice(), [1, 2, 3].as_slice());
     Ok(())
 }
 

@@ -44,13 +44,11 @@ fn words_of_any_length(rt: HostRuntime) -> Result<(), Fail> {
         b"\xFF".as_slice(),
         b"raw".as_slice(),
     ];
+    let wanted = [b"reencode".as_slice(), &long, &just, b"", b"", b"raw"];
     let words = words(rt.alloc(), &Arguments { items: &items })?;
-    assert_eq!(rt; words.len(), 6);
-    assert_eq!(rt; words[0].as_str(), "reencode");
-    assert_eq!(rt; words[1].as_bytes(), long.as_slice());
-    assert_eq!(rt; words[2].as_bytes(), just.as_slice());
-    assert_eq!(rt; words[3].as_str(), "");
-    assert_eq!(rt; words[4].as_str(), "");
-    assert_eq!(rt; words[5].as_str(), "raw");
+    assert_eq!(rt; words.len(), wanted.len());
+    for (word, octets) in words.iter().zip(wanted) {
+        assert_eq!(rt; word.as_bytes(), octets);
+    }
     Ok(())
 }
