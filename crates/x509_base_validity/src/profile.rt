@@ -36,7 +36,8 @@ pub trait Profile: PartialEq + Eq + PartialOrd + Ord + Debug + Clone + Copy + De
         ensures { Answers result (time_of time) };
 }
 
-/// The rules of RFC 5280: a serial number has at most 21 content octets, and a date through 2049 is written as UTCTime.
+/// The rules of RFC 5280: a serial number has at most 21 content octets (the 20 of 4.1.2.2, and one in front where their first bit
+/// is set), and a date through 2049 is written as UTCTime.
 #[derive(Clone, Copy, Debug, Default, PartialEq, Eq, PartialOrd, Ord)]
 pub struct Rfc5280;
 

@@ -2,9 +2,10 @@
 use Rattle.std.proofs.Common.{◌≡◌, ℕ, ◌+◌, ◌-◌, ◌*◌, ◌/◌, ◌%◌, ◌<◌, ◌≤◌, true, ◌&&◌, List, [], ◌∷◌, ◌++◌, length, take, drop, get_or, encode_utf8, encode_utf8_all, ltb, refl, append_assoc, arith}
 use Rattle.std.specs.Char.{InScalarRange}
 use Rattle.std.specs.List.{list_all}
-use Rattle.std.proofs.lemmas.Bool.{and_parts, lt-ltb, ltb-true}
+use Rattle.std.proofs.lemmas.Bool.{and_parts, lt-ltb, ltb-true, true_from_ne_false}
 use Rattle.std.proofs.lemmas.Bool.Decides.{nat_tests}
 use Rattle.std.proofs.lemmas.List.{take_all}
+use Rattle.std.proofs.lemmas.List.Folds.{list_all_at}
 use Rattle.x509_prim_text.specs.Bmp.{is_bmp_char, bmp_octets, bmp_chars, is_bmp}
 
 -- the octets of characters of the plane are such octets
@@ -26,6 +27,14 @@ bmp_chars-bmp_octets (char ∷ chars) =
 scalar : (char : ℕ) → is_bmp_char char ≡ true → InScalarRange char
 unfolding is_bmp_char
 scalar char h = grind (arith, nat_tests)
+
+-- a character of a text, all of whose characters are of the plane, has two octets
+pub fits_two_octets : (text : List ℕ) (i d char : ℕ) → list_all is_bmp_char text ≡ true → i < length text → char ≡ get_or text i d → char < 65536
+unfolding is_bmp_char
+fits_two_octets text i d char all lt at =
+    let of_plane : is_bmp_char (get_or text i d) ≡ true = true_from_ne_false _ (λ no. let some = list_all_at is_bmp_char text i d lt no in cc) in
+    let in_range : InScalarRange (get_or text i d) = scalar _ of_plane in
+    rw at (let low = of_plane in grind (arith, nat_tests))
 
 -- the character at the front
 pub scalar_front : (octets : List ℕ) → 2 ≤ length octets → is_bmp octets ≡ true → InScalarRange (256 * get_or octets 0 0 + get_or octets 1 0)

@@ -1,6 +1,6 @@
 //! BMPString.
 
-ghost use Rattle.std.specs.Prelude.{◌≡◌, ◌⊎◌, true, false, bytes_eq, string_bytes, encode_utf8_all, IfOk, IfErr};
+ghost use Rattle.std.specs.Prelude.{◌≡◌, true, false, bytes_eq, string_bytes, encode_utf8_all, IfOk, IfErr, IsErrAnd};
 ghost use Rattle.std.proofs.Common.{rules};
 ghost use Rattle.std.specs.Hash as fed;
 ghost use Rattle.std.specs.Cmp.{partial_equiv_from_equiv};
@@ -45,18 +45,23 @@ fn check_char(code: u32) -> bool
     matches!(code, 0..=0xD7FF | 0xE000..=0xFFFF)
 }
 
-/// The octets of the characters; `Value` exactly where one is not of the plane.
+/// Whether each character is one of the plane.
+fn check_text(text: &str) -> bool
+    ensures { result ≡ list_all plane.is_bmp_char (chars text.now) }
+{
+    text.chars().all(|c| check_char(c as u32))
+}
+
+/// The octets of the characters.
 #[tactic(auto, unfolding(crate::specs::Bmp::is_bmp_char))]
 fn octets_of(alloc: Global, text: &str) -> Result<Vec<u8>, Error>
-    ensures ok { IfOk result (λ octets. (octets.items ≡ plane.bmp_octets (chars text.now)) × (list_all plane.is_bmp_char (chars text.now) ≡ true)) }
-    ensures err { IfErr result (λ e. (e.kind ≡ errors.Memory) ⊎ ((e.kind ≡ errors.Value) × (list_all plane.is_bmp_char (chars text.now) ≡ false))) }
+    requires { list_all plane.is_bmp_char (chars text.now) ≡ true }
+    ensures ok { IfOk result (λ octets. octets.items ≡ plane.bmp_octets (chars text.now)) }
+    ensures err { IfErr result (λ e. e.kind ≡ errors.Memory) }
 {
     let mut octets = Vec::new(alloc);
     for c in text.chars() {
         let code = c as u32;
-        if !check_char(code) {
-            return Err(ErrorKind::Value.into());
-        }
         octets.push((code / 256) as u8)?;
         octets.push((code % 256) as u8)?;
     }
@@ -98,9 +103,13 @@ fn text_of(alloc: Global, octets: &[u8]) -> Result<String, Error>
 impl BmpString {
     /// The text, two octets for each character; `Value` exactly where a character is above FFFF. Memory may be refused.
     pub fn from_str(alloc: Global, text: &str) -> Result<BmpString, Error>
-        ensures ok { IfOk result (λ string. (string ≡ plane.bmp_octets (chars text.now)) × (list_all plane.is_bmp_char (chars text.now) ≡ true)) }
-        ensures err { IfErr result (λ e. (e.kind ≡ errors.Memory) ⊎ ((e.kind ≡ errors.Value) × (list_all plane.is_bmp_char (chars text.now) ≡ false))) }
+        ensures ok { IfOk result (λ string. string ≡ plane.bmp_octets (chars text.now)) }
+        ensures value { list_all plane.is_bmp_char (chars text.now) ≡ false → IsErrAnd result (λ e. e.kind ≡ errors.Value) }
+        ensures err { list_all plane.is_bmp_char (chars text.now) ≡ true → IfErr result (λ e. e.kind ≡ errors.Memory) }
     {
+        if !check_text(text) {
+            return Err(ErrorKind::Value.into());
+        }
         let octets = octets_of(alloc, text)?;
         Ok(BmpString {
             octets: Bytes::from(octets),
