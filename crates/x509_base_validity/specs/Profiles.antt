@@ -6,7 +6,7 @@ use Rattle.x509_base_validity.specs.Time.{time_at}
 use Rattle.x509_base_validity.specs.declared.time.Time.{Time}
 use Rattle.x509_base_validity.specs.declared.time.Time.TheVariants.{UtcTime, GeneralTime}
 
--- a serial number of at most 20 octets, and perhaps one in front for the sign, since it is above 0
+-- a serial number of at most 21 content octets: the 20 of RFC 5280 4.1.2.2, and one that may stand in front for the sign
 abbrev pub rfc5280_serial_number : List ℕ → Result Unit ErrorKind
 rfc5280_serial_number content = if nat_lt 21 (length content) then Err Malformed else Ok tt
 
