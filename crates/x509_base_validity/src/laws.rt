@@ -27,13 +27,13 @@ pub fn rfc5280_dates()
 
 /// Where a profile spells a date that it has spelled as it is, what is written of a validity is written as it is.
 pub fn dates_are_written_once<P: Profile>()
-    ensures { ((t u : Time) → time.good t → P.time_of t ≡ Ok u → time.good u × (P.time_of u ≡ Ok u)) → IsStable validity ⟦<Validity<P> as Encode>⟧.writing }
+    ensures { ((t u : Time) → time.good t → P.time_of t ≡ Ok u → time.good u × (P.time_of u ≡ Ok u)) → IsStable validity.good ⟦<Validity<P> as Encode>⟧.writing }
 {}
 
 /// Under [`Rfc5280`] what is written of a validity is written as it is: decoding and encoding twice gives the bytes of
 /// once.
 pub fn rfc5280_dates_are_written_once()
-    ensures { IsStable validity ⟦<Validity<Rfc5280> as Encode>⟧.writing }
+    ensures { IsStable validity.good ⟦<Validity<Rfc5280> as Encode>⟧.writing }
 {}
 
 /// `==` holds exactly of equal values: a time in the one spelling is not the same in the other.

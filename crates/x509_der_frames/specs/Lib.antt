@@ -9,3 +9,4 @@ pub mod ListWriting
 pub mod ListOrder
 pub mod FieldsOrder
 pub mod Choice
+pub mod ChoiceWriting

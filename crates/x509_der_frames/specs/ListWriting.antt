@@ -5,9 +5,10 @@ use Rattle.std.proofs.lemmas.List.{nil_from_length}
 use Rattle.std.proofs.Math.Seq.{drop-cons}
 use Rattle.x509_der_element.specs.declared.error.Error.{Error}
 use Rattle.x509_der_grammar.specs.Form.{Form, spelling}
-use Rattle.x509_der_grammar.specs.Writing.{Written, Writing, plain, respelling, writes, Kind, IsKind, Puts, first}
+use Rattle.x509_der_grammar.specs.Writing.{Written, Writing, plain, respelling, writes, Kind, IsKind, Puts, first, IsStable}
+use Rattle.x509_der_grammar.specs.StableLaws.{first_none, plain_stable}
 use Rattle.x509_der_grammar.specs.WritingLaws.{puts_after, puts_not, puts_nothing}
-use Rattle.x509_der_frames.specs.List.{members_writing, joined, members_value, members_refusal, members_text}
+use Rattle.x509_der_frames.specs.List.{members_writing, joined, all_good, members_value, members_refusal, members_text}
 
 module _ {X : Type 0} (f : Form X) (w : X → Written X) where
   -- what is left from a place on, where item stands there
@@ -55,3 +56,26 @@ refusal_plain (x ∷ xs) = rw (refusal_plain xs) refl
 pub puts_list : {X R : Type 0} (f : Form X) (w : Writing X) (k : Kind R) (xs : List X) (r : Result Unit Error) (old new : R) → Puts k (members_text f (writes w) xs) (members_refusal (writes w) xs) r old new → Puts k (joined (spelling f) (writes (members_writing w) xs).value) (writes (members_writing w) xs).refusal r old new
 puts_list f plain k xs r old new h = rw (value_plain xs, refusal_plain xs) at h
 puts_list f (respelling w) k xs r old new h = h
+
+-- ---- members that are written once more
+
+module _ {X : Type 0} (good : X → Type 0) (by : X → Written X) (stable : IsStable good (respelling by)) where
+  kept_members : (xs : List X) → all_good good xs → members_refusal by xs ≡ None → all_good good (members_value by xs)
+  unfolding all_good members_value members_refusal
+  kept_members [] g free = tt
+  kept_members (x ∷ xs) g free = let each = first_none _ _ free in (stable.kept x g.0 each.1, kept_members xs g.1 each.0)
+
+  again_members : (xs : List X) → all_good good xs → members_refusal by xs ≡ None → (members_value by (members_value by xs) ≡ members_value by xs) × (members_refusal by (members_value by xs) ≡ None)
+  unfolding all_good members_value members_refusal
+  again_members [] g free = (refl, refl)
+  again_members (x ∷ xs) g free =
+      let each = first_none _ _ free in
+      let more = again_members xs g.1 each.0 in
+      rw (stable.again x g.0 each.1, more.0, more.1) (refl, refl)
+
+pub members_stable : {X : Type 0} {good : X → Type 0} (writing : Writing X) → IsStable good writing → IsStable (all_good good) (members_writing writing)
+members_stable plain stable = plain_stable
+members_stable {X} {good} (respelling by) stable = record {
+  kept = kept_members good by stable;
+  again = λ xs g free. let same = again_members good by stable xs g free in rw (same.0, same.1) refl;
+}

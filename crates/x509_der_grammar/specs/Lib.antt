@@ -9,4 +9,5 @@ pub mod Boolean
 pub mod Natural
 pub mod NaturalLaws
 pub mod SpellingLaws
+pub mod StableLaws
 pub mod Tested

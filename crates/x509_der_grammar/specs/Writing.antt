@@ -86,7 +86,7 @@ IsUnwritable form written most e = (written.refusal ≡ Some e) ⊎ ((e ≡ Over
 
 -- ---- writing again
 
--- What is written of a value of the form is a value of the form, which is written as it is.
-pub record IsStable {X : Type 0} (form : Form X) (writing : Writing X) : Type 0 where
-  pub good : (value : X) → form.good value → (writes writing value).refusal ≡ None → form.good (writes writing value).value
-  pub again : (value : X) → form.good value → (writes writing value).refusal ≡ None → writes writing (writes writing value).value ≡ record { value = (writes writing value).value; refusal = None }
+-- What is written of a good value is a good value, which is written as it is.
+pub record IsStable {X : Type 0} (good : X → Type 0) (writing : Writing X) : Type 0 where
+  pub kept : (value : X) → good value → (writes writing value).refusal ≡ None → good (writes writing value).value
+  pub again : (value : X) → good value → (writes writing value).refusal ≡ None → writes writing (writes writing value).value ≡ record { value = (writes writing value).value; refusal = None }

@@ -25,5 +25,5 @@ pub fn one_value<T: Grammar>()
 
 /// Decoding what was written and writing it again gives the same bytes, where what is written is written as it is.
 pub fn writing_again_gives_the_same<T: Encode>()
-    ensures { IsStable T.form T.writing → (v w : T) → T.form.good v → (writes T.writing v).refusal ≡ None → Spells T.form w (written_spelling T.form (writes T.writing v)) → ((writes T.writing w).refusal ≡ None) × (written_spelling T.form (writes T.writing w) ≡ written_spelling T.form (writes T.writing v)) }
+    ensures { IsStable T.form.good T.writing → (v w : T) → T.form.good v → (writes T.writing v).refusal ≡ None → Spells T.form w (written_spelling T.form (writes T.writing v)) → ((writes T.writing w).refusal ≡ None) × (written_spelling T.form (writes T.writing w) ≡ written_spelling T.form (writes T.writing v)) }
 {}

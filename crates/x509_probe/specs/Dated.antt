@@ -6,7 +6,9 @@ use Rattle.x509_der_element.specs.declared.error.ErrorKind.{ErrorKind}
 use Rattle.x509_der_grammar.specs.Form.{Form, IsForm, universal}
 use Rattle.x509_der_grammar.specs.FormLaws.{universal_lawful}
 use Rattle.x509_der_grammar.specs.Boolean.{boolean, boolean_lawful}
-use Rattle.x509_der_frames.specs.Frames.{implicit, Part, required, optional, defaulted, ◌⊗◌, fields}
+use Rattle.x509_der_grammar.specs.StableLaws.{with_field_stable, in_option_stable}
+use Rattle.x509_der_grammar.specs.Writing.{Writing, with_field, in_option, IsStable}
+use Rattle.x509_der_frames.specs.Frames.{implicit, Part, required, optional, defaulted, ◌⊗◌, fields, fields_good}
 use Rattle.x509_der_frames.specs.FrameLaws.{implicit_lawful, required_lawful, optional_lawful, defaulted_lawful, pair_lawful, fields_lawful}
 use Rattle.x509_der_frames.specs.DefaultValues.{boolean_default, boolean_default_lawful}
 use Rattle.x509_der_oid.specs.ObjectIdentifierForm.{object_identifier, object_identifier_lawful}
@@ -28,6 +30,10 @@ dated_lawful = universal_lawful _ (fields_lawful _ _ dated_fields (λ d. refl) (
     (pair_lawful _ _ (required_lawful _ object_identifier_lawful)
     (pair_lawful _ _ (required_lawful _ validity_lawful) (optional_lawful _ (implicit_lawful 0 4 _ (omega arith) (λ v g. refl) octet_string_lawful)) refl) refl))
 
+pub dated_stable : {P : Type 0} (writing : Writing (Validity P)) → IsStable (validity {P = P}).good writing → IsStable (dated {P = P}).good (with_field (λ d. d.validity) (λ d v. record d { validity = v }) writing)
+unfolding dated_fields fields_good
+dated_stable writing stable = with_field_stable _ _ writing (λ d v. refl) (λ d u v. refl) (λ d g. g.1.0) (λ d v g h. (g.0, (h, g.1.1))) stable
+
 unfoldable pub enclosing_fields : {P : Type 0} → Part (Option (Dated P) × Bool)
 enclosing_fields = optional (implicit 1 48 dated) ⊗ defaulted boolean_default boolean
 
@@ -38,3 +44,7 @@ pub enclosing_lawful : {P : Type 0} {R : ErrorKind → Type 0} → IsForm R (enc
 unfolding enclosing_fields
 enclosing_lawful = universal_lawful _ (fields_lawful _ _ enclosing_fields (λ e. refl) (λ x. refl)
     (pair_lawful _ _ (optional_lawful _ (implicit_lawful 1 48 _ (omega arith) (λ v g. refl) dated_lawful)) (defaulted_lawful _ _ boolean_default_lawful boolean_lawful) refl))
+
+pub enclosing_stable : {P : Type 0} (writing : Writing (Dated P)) → IsStable (dated {P = P}).good writing → IsStable (enclosing {P = P}).good (with_field (λ e. e.kept) (λ e d. record e { kept = d }) (in_option writing))
+unfolding enclosing_fields fields_good
+enclosing_stable writing stable = with_field_stable _ _ (in_option writing) (λ e d. refl) (λ e c d. refl) (λ e g. g.0) (λ e d g h. (h, g.1)) (in_option_stable writing stable)

@@ -2,5 +2,6 @@ pub mod Probe
 pub mod Pair
 pub mod Purposes
 pub mod TenFields
+pub mod Moment
 pub mod Number
 pub mod Dated

@@ -2,6 +2,8 @@
 #![tactic(auto)]
 
 mod dated;
+mod laws;
+mod moment;
 mod number;
 mod pair;
 mod probe;
@@ -11,6 +13,8 @@ mod ten_fields;
 mod tests;
 
 pub use dated::{Dated, Enclosing};
+pub use laws::{dates_are_written_once, rfc5280_dates_are_written_once};
+pub use moment::Moment;
 pub use number::Number;
 pub use pair::Pair;
 pub use probe::Probe;

@@ -399,6 +399,16 @@ fn dates_in_an_inner_sequence(rt: HostRuntime) -> Result<(), Fail> {
 }
 
 #[test]
+fn dates_in_a_choice(rt: HostRuntime) -> Result<(), Fail> {
+    let (long, short) = (&LONG_DATED[7..], &SHORT_DATED[7..]);
+    assert_eq!(rt; written::<Moment<Rfc5280>>(&rt, long)?.as_slice(), short);
+    assert_eq!(rt; written::<Moment<Raw>>(&rt, long)?.as_slice(), long);
+    assert!(rt; all_same::<Moment<Rfc5280>>(&rt, &[short, b"\x06\x03\x55\x04\x03"])?);
+    assert!(rt; all_malformed::<Moment<Raw>>(&rt, &[b"\x05\x00", b"\x30\x00", &long[1..]]));
+    Ok(())
+}
+
+#[test]
 fn dates_in_a_list(rt: HostRuntime) -> Result<(), Fail> {
     assert_eq!(rt;
         written::<SequenceOf<Dated<Rfc5280>>>(&rt, LONG_LIST)?.as_slice(),

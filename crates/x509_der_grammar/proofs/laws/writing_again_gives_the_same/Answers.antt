@@ -10,6 +10,6 @@ returns g c = λ stable v w good free spells.
     let form = g.T.Grammar.form in
     let writing = g.T.Encode.writing in
     let written = (writes writing v).value in
-    let same : w ≡ written = values form g.met.T.Grammar.lawful w written (spelling form written) spells (stable.good v good free, refl, spells.2) in
+    let same : w ≡ written = values form g.met.T.Grammar.lawful w written (spelling form written) spells (stable.kept v good free, refl, spells.2) in
     let again = ap (writes writing) same ∙ stable.again v good free in
     (ap (λ r. r.refusal) again, ap (λ r. spelling form r.value) again)
