@@ -1,6 +1,6 @@
 //! Octets that a value owns.
 
-ghost use Rattle.std.specs.Prelude.{◌≡◌, IfOk, IfErr, bytes_eq};
+ghost use Rattle.std.specs.Prelude.{◌≡◌, ◌<◌, length, IfOk, IfErr, bytes_eq};
 ghost use Rattle.std.proofs.Common.{rules};
 ghost use Rattle.std.specs.Hash as fed;
 ghost use Rattle.std.specs.Cmp.{partial_equiv_from_equiv};
@@ -8,17 +8,17 @@ ghost use Rattle.std.specs.Cmp.Lexicographic.{nat_list_eq_equiv};
 ghost use Rattle.std.specs.Cmp.Rules.{hashing};
 ghost use Rattle.x509_der_element.specs.declared.error.ErrorKind.TheVariants.{Memory};
 
-use crate::clone::TryClone;
 use crate::error::Error;
+use smallvec::SmallVec;
 use std::alloc::Global;
 use std::fmt;
 use std::hash::{Hash, Hasher};
 use std::marker::Model;
 
-/// Octets, which contracts see as a list.
+/// Octets, which contracts see as a list. Up to 24 lie inside the value and take no memory.
 #[derive(Drop)]
 pub struct Bytes {
-    items: Vec<u8>,
+    items: SmallVec<u8, 24>,
 }
 
 impl Model for Bytes {
@@ -30,13 +30,13 @@ impl Model for Bytes {
 }
 
 impl Bytes {
-    /// A copy of the octets. Memory may be refused.
+    /// A copy of the octets. More than 24 take memory, which may be refused.
     pub fn from_slice(alloc: Global, octets: &[u8]) -> Result<Bytes, Error>
         ensures ok { IfOk result (λ bytes. bytes ≡ octets.now) }
-        ensures err { IfErr result (λ e. e.kind ≡ Memory) }
+        ensures err { IfErr result (λ e. (e.kind ≡ Memory) × (24 < length octets.now)) }
     {
         Ok(Bytes {
-            items: Vec::from_slice(alloc, octets)?,
+            items: SmallVec::from_slice(alloc, octets)?,
         })
     }
 
@@ -47,12 +47,13 @@ impl Bytes {
         self.items.as_slice()
     }
 
-    /// The vector of the octets, without a copy.
-    pub fn into_vec(self) -> Vec<u8>
-        ensures { result.items ≡ self }
+    /// The vector of the octets. Those inside the value are copied, for which memory may be refused.
+    pub fn into_vec(self) -> Result<Vec<u8>, Error>
+        ensures ok { IfOk result (λ octets. octets.items ≡ self) }
+        ensures err { IfErr result (λ e. e.kind ≡ Memory) }
     {
         let Bytes { items } = self;
-        items
+        Ok(items.into_vec()?)
     }
 }
 
@@ -60,13 +61,9 @@ impl From<Vec<u8>> for Bytes {
     ghost from_gives = { λ items bytes. bytes ≡ items.items };
 
     fn from(items: Vec<u8>) -> Bytes {
-        Bytes { items }
-    }
-}
-
-impl TryClone for Bytes {
-    fn try_clone(&self, alloc: Global) -> Result<Bytes, Error> {
-        Bytes::from_slice(alloc, self.as_slice())
+        Bytes {
+            items: SmallVec::from_vec(items),
+        }
     }
 }
 

@@ -2,7 +2,6 @@
 #![tactic(auto)]
 
 mod bytes;
-mod clone;
 mod element;
 mod error;
 mod header;
@@ -13,7 +12,6 @@ mod tag;
 mod tests;
 
 pub use bytes::Bytes;
-pub use clone::TryClone;
 pub use element::{AnyRef, Piece, check_content, split_element, take_element};
 pub use error::{Error, ErrorKind};
 pub use header::Header;

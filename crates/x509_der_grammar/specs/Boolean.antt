@@ -4,8 +4,8 @@ use Rattle.std.proofs.Common.{arith, inl}
 use Rattle.std.proofs.lemmas.Bool.Decides.{nat_tests}
 use Rattle.x509_der_element.specs.declared.error.ErrorKind.{ErrorKind}
 use Rattle.x509_der_element.specs.declared.error.ErrorKind.TheVariants.{Malformed}
-use Rattle.x509_der_element.specs.Element.{is_identifier, is_universal}
-use Rattle.x509_der_grammar.specs.Form.{Form, IsForm, Content, IsContent, universal}
+use Rattle.x509_der_element.specs.declared.tag.Tag.TheVariants.{Boolean}
+use Rattle.x509_der_grammar.specs.Form.{Form, IsForm, Contents, IsContents, universal}
 use Rattle.x509_der_grammar.specs.FormLaws.{universal_lawful}
 
 unfoldable pub boolean_octets : Bool → List ℕ
@@ -17,11 +17,11 @@ boolean_reading [] = Err Malformed
 boolean_reading (a ∷ []) = if nat_eq a 0x00 then Ok false else (if nat_eq a 0xFF then Ok true else Err Malformed)
 boolean_reading (a ∷ b ∷ bytes) = Err Malformed
 
-abbrev pub boolean_content : Content Bool
-boolean_content = record { tag = 0x01; octets = boolean_octets; good = λ value. Unit {0}; reading = boolean_reading }
+abbrev pub boolean_contents : Contents Bool
+boolean_contents = record { octets = boolean_octets; good = λ value. Unit {0}; reading = boolean_reading }
 
 abbrev pub boolean : Form Bool
-boolean = universal boolean_content
+boolean = universal Boolean boolean_contents
 
 boolean_sound : (bytes : List ℕ) (v : Bool) → boolean_reading bytes ≡ Ok v → Unit {0} × (bytes ≡ boolean_octets v)
 unfolding boolean_octets boolean_reading
@@ -41,9 +41,8 @@ boolean_refused [] e h = cc
 boolean_refused (a ∷ []) e h = grind (arith, nat_tests)
 boolean_refused (a ∷ b ∷ bytes) e h = cc
 
-pub boolean_content_lawful : {R : ErrorKind → Type 0} → IsContent R boolean_content
-unfolding is_identifier is_universal
-boolean_content_lawful = record { sound = boolean_sound; complete = boolean_complete; refused = λ bytes e r. inl (boolean_refused bytes e r); identifier = refl }
+pub boolean_contents_lawful : {R : ErrorKind → Type 0} → IsContents R boolean_contents
+boolean_contents_lawful = record { sound = boolean_sound; complete = boolean_complete; refused = λ bytes e r. inl (boolean_refused bytes e r) }
 
 pub boolean_lawful : {R : ErrorKind → Type 0} → IsForm R boolean
-boolean_lawful = universal_lawful boolean_content boolean_content_lawful
+boolean_lawful = universal_lawful Boolean boolean_contents boolean_contents_lawful

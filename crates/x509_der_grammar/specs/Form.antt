@@ -3,8 +3,10 @@ use Rattle.std.specs.Prelude.{◌≡◌, ℕ, ◌≤◌, Bool, true, false, ◌|
 use Rattle.x509_der_element.specs.declared.error.ErrorKind.{ErrorKind}
 use Rattle.x509_der_element.specs.declared.error.ErrorKind.TheVariants.{Malformed}
 use Rattle.x509_der_element.specs.Outcome.{◌>>=◌}
+use Rattle.x509_der_element.specs.declared.tag.Tag.{Tag}
 use Rattle.x509_der_element.specs.Element.{element, is_identifier, limit}
 use Rattle.x509_der_element.specs.ElementReading.{Piece, piece_at}
+use Rattle.x509_der_element.specs.Tag.{octet_of}
 
 -- ---- the element of a value
 
@@ -44,32 +46,35 @@ HasTag {X} tag form = (value : X) → form.good value → form.tag value ≡ tag
 
 -- ---- a content under one identifier
 
--- The content octets of a type all of whose values have one identifier octet.
-pub record Content (X : Type 0) : Type 1 where
-  pub tag : ℕ
+-- The content octets of a type all of whose values have one identifier.
+pub record Contents (X : Type 0) : Type 1 where
   pub octets : X → List ℕ
   pub good : X → Type 0
   pub reading : List ℕ → Result X ErrorKind
 
-pub record IsContent {X : Type 0} (R : ErrorKind → Type 0) (content : Content X) : Type 0 where
-  pub sound : (bytes : List ℕ) (value : X) → content.reading bytes ≡ Ok value → content.good value × (bytes ≡ content.octets value)
-  pub complete : (value : X) → content.good value → content.reading (content.octets value) ≡ Ok value
-  pub refused : (bytes : List ℕ) (e : ErrorKind) → content.reading bytes ≡ Err e → (e ≡ Malformed) ⊎ R e
-  pub identifier : is_identifier content.tag ≡ true
+-- Reading answers a value exactly on its content octets; else Malformed, or one of the errors R.
+pub record IsContents {X : Type 0} (R : ErrorKind → Type 0) (contents : Contents X) : Type 0 where
+  pub sound : (bytes : List ℕ) (value : X) → contents.reading bytes ≡ Ok value → contents.good value × (bytes ≡ contents.octets value)
+  pub complete : (value : X) → contents.good value → contents.reading (contents.octets value) ≡ Ok value
+  pub refused : (bytes : List ℕ) (e : ErrorKind) → contents.reading bytes ≡ Err e → (e ≡ Malformed) ⊎ R e
 
 -- a content is read under its own identifier octet alone
-abbrev pub under : {X : Type 0} → ℕ → (List ℕ → Result X ErrorKind) → ℕ → List ℕ → Result X ErrorKind
-under wanted read tag content = if nat_eq tag wanted then read content else Err Malformed
+abbrev pub reading_under : {X : Type 0} → ℕ → (List ℕ → Result X ErrorKind) → ℕ → List ℕ → Result X ErrorKind
+reading_under wanted read tag content = if nat_eq tag wanted then read content else Err Malformed
 
--- the content under its own identifier octet
-abbrev pub universal : {X : Type 0} → Content X → Form X
-universal content = record {
-  tag = λ value. content.tag;
-  content = content.octets;
-  good = content.good;
-  starts = content.tag ∷ [];
-  reading = under content.tag content.reading;
+-- the contents under one identifier octet
+abbrev pub under : {X : Type 0} → ℕ → Contents X → Form X
+under tag contents = record {
+  tag = λ value. tag;
+  content = contents.octets;
+  good = contents.good;
+  starts = tag ∷ [];
+  reading = reading_under tag contents.reading;
 }
+
+-- the contents under one identifier
+abbrev pub universal : {X : Type 0} → Tag → Contents X → Form X
+universal tag contents = under (octet_of tag) contents
 
 -- the identifier octet is the one that is wanted
 abbrev pub tag_at : ℕ → ℕ → Result Unit ErrorKind

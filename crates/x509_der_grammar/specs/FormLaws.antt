@@ -4,11 +4,14 @@ use Rattle.std.proofs.lemmas.Bool.{eqb-true, eq-eqb, or_left}
 use Rattle.std.proofs.lemmas.List.{append-nil}
 use Rattle.x509_der_element.specs.declared.error.ErrorKind.{ErrorKind}
 use Rattle.x509_der_element.specs.declared.error.ErrorKind.TheVariants.{Malformed}
+use Rattle.x509_der_element.specs.declared.tag.Tag.{Tag}
 use Rattle.x509_der_element.specs.OutcomeLaws.{bind_ok, bind_err, test_ok, test_err}
-use Rattle.x509_der_element.specs.Element.{element}
+use Rattle.x509_der_element.specs.Element.{element, is_identifier}
 use Rattle.x509_der_element.specs.ElementReading.{piece_at}
+use Rattle.x509_der_element.specs.Tag.{octet_of}
+use Rattle.x509_der_element.specs.TagLaws.{is_identifier-octet_of}
 use Rattle.x509_der_element.specs.ElementLaws.{piece_at-sound, piece_at-whole, piece_at-refused}
-use Rattle.x509_der_grammar.specs.Form.{is_in, is_empty, Form, spelling, IsForm, Content, IsContent, alone, whole_reading, universal}
+use Rattle.x509_der_grammar.specs.Form.{is_in, is_empty, Form, spelling, IsForm, Contents, IsContents, alone, whole_reading, under, universal}
 
 pub is_empty-true : (bytes : List ℕ) → is_empty bytes ≡ true → bytes ≡ []
 is_empty-true [] h = refl
@@ -17,17 +20,21 @@ is_empty-true (b ∷ bytes) h = absurd cc
 pub is_in-front : (t : ℕ) (ts : List ℕ) → is_in t (t ∷ ts) ≡ true
 is_in-front t ts = or_left (eqb t t) (is_in t ts) (eq-eqb t t refl)
 
--- a content under its own identifier octet
-pub universal_lawful : {X : Type 0} {R : ErrorKind → Type 0} (c : Content X) → IsContent R c → IsForm R (universal c)
-universal_lawful c h = record {
+-- contents under one identifier octet
+pub under_lawful : {X : Type 0} {R : ErrorKind → Type 0} (tag : ℕ) (c : Contents X) → is_identifier tag ≡ true → IsContents R c → IsForm R (under tag c)
+under_lawful tag c identifier h = record {
   sound = λ t bytes v e.
-      let g = test_ok (eqb t c.tag) Malformed (c.reading bytes) v e in
+      let g = test_ok (eqb t tag) Malformed (c.reading bytes) v e in
       let s = h.sound bytes v g.1 in
-      (s.0, eqb-true t c.tag g.0, s.1);
-  complete = λ v g. rw (eq-eqb c.tag c.tag refl) (h.complete v g);
-  refused = λ t bytes e r. elim (test_err (eqb t c.tag) Malformed (c.reading bytes) e r) [ inl j ↦ h.refused bytes e j | inr j ↦ inl (sym j) ];
-  tagged = λ v g. (is_in-front c.tag [], h.identifier);
+      (s.0, eqb-true t tag g.0, s.1);
+  complete = λ v g. rw (eq-eqb tag tag refl) (h.complete v g);
+  refused = λ t bytes e r. elim (test_err (eqb t tag) Malformed (c.reading bytes) e r) [ inl j ↦ h.refused bytes e j | inr j ↦ inl (sym j) ];
+  tagged = λ v g. (is_in-front tag [], identifier);
 }
+
+-- contents under one identifier
+pub universal_lawful : {X : Type 0} {R : ErrorKind → Type 0} (tag : Tag) (c : Contents X) → IsContents R c → IsForm R (universal tag c)
+universal_lawful tag c h = under_lawful (octet_of tag) c (is_identifier-octet_of tag) h
 
 -- ---- one whole element
 

@@ -10,4 +10,5 @@ pub mod Natural
 pub mod NaturalLaws
 pub mod SpellingLaws
 pub mod StableLaws
+pub mod Round
 pub mod Tested

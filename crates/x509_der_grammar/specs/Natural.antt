@@ -2,7 +2,8 @@
 use Rattle.std.specs.Prelude.{ℕ, zero, suc, ◌+◌, ◌*◌, ◌/◌, ◌%◌, ◌<◌, Bool, true, false, ◌&&◌, not, nat_eq, nat_lt, nat_le, List, [], ◌∷◌, ◌++◌, length, Result, Ok, Err, if◌then◌else◌}
 use Rattle.x509_der_element.specs.declared.error.ErrorKind.{ErrorKind}
 use Rattle.x509_der_element.specs.declared.error.ErrorKind.TheVariants.{Malformed}
-use Rattle.x509_der_grammar.specs.Form.{Form, Content, universal}
+use Rattle.x509_der_element.specs.declared.tag.Tag.TheVariants.{Integer}
+use Rattle.x509_der_grammar.specs.Form.{Form, Contents, universal}
 
 -- The number in base 256, most significant digit first, in as few octets as there can be where the first is below 128
 -- (two's complement, X.690 8.3.2, 8.3.3): a number below 128 is one octet, and any other ends with its last digit
@@ -39,8 +40,8 @@ unfoldable pub natural_reading : ℕ → List ℕ → Result ℕ ErrorKind
 natural_reading bound bytes = if is_natural bytes && nat_lt (number_after 0 bytes) bound then Ok (number_after 0 bytes) else Err Malformed
 
 -- the numbers below a bound
-abbrev pub natural_content : ℕ → Content ℕ
-natural_content bound = record { tag = 0x02; octets = natural_octets; good = λ n. n < bound; reading = natural_reading bound }
+abbrev pub natural_contents : ℕ → Contents ℕ
+natural_contents bound = record { octets = natural_octets; good = λ n. n < bound; reading = natural_reading bound }
 
 abbrev pub natural : ℕ → Form ℕ
-natural bound = universal (natural_content bound)
+natural bound = universal Integer (natural_contents bound)

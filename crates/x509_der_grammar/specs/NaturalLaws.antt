@@ -7,10 +7,10 @@ use Rattle.std.proofs.lemmas.List.{append-nil}
 use Rattle.x509_der_element.specs.declared.error.ErrorKind.{ErrorKind}
 use Rattle.x509_der_element.specs.declared.error.ErrorKind.TheVariants.{Malformed}
 use Rattle.x509_der_element.specs.OutcomeLaws.{ok_is, test_ok, test_err}
-use Rattle.x509_der_element.specs.Element.{is_identifier, is_universal}
-use Rattle.x509_der_grammar.specs.Form.{IsForm, IsContent}
+use Rattle.x509_der_element.specs.declared.tag.Tag.TheVariants.{Integer}
+use Rattle.x509_der_grammar.specs.Form.{IsForm, IsContents}
 use Rattle.x509_der_grammar.specs.FormLaws.{universal_lawful}
-use Rattle.x509_der_grammar.specs.Natural.{digits, natural_octets, number_after, are_octets, is_shortest, is_natural, natural_reading, natural_content, natural}
+use Rattle.x509_der_grammar.specs.Natural.{digits, natural_octets, number_after, are_octets, is_shortest, is_natural, natural_reading, natural_contents, natural}
 
 -- ---- what is read is spelled so
 
@@ -156,25 +156,39 @@ natural_refused : (most : ℕ) (bytes : List ℕ) (e : ErrorKind) → natural_re
 unfolding natural_reading
 natural_refused most bytes e h = elim (test_err (is_natural bytes && nat_lt (number_after 0 bytes) most) Malformed (Ok (number_after 0 bytes)) e h) [ inl k ↦ absurd cc | inr k ↦ sym k ]
 
-pub natural_content_lawful : {R : ErrorKind → Type 0} (most : ℕ) → most ≤ 2 ^ 128 → IsContent R (natural_content most)
-unfolding is_identifier is_universal
-natural_content_lawful most le = record { sound = natural_sound most; complete = natural_complete most (within most le); refused = λ bytes e r. inl (natural_refused most bytes e r); identifier = refl }
+pub natural_contents_lawful : {R : ErrorKind → Type 0} (most : ℕ) → most ≤ 2 ^ 128 → IsContents R (natural_contents most)
+natural_contents_lawful most le = record { sound = natural_sound most; complete = natural_complete most (within most le); refused = λ bytes e r. inl (natural_refused most bytes e r) }
 
 pub natural_lawful : {R : ErrorKind → Type 0} (most : ℕ) → most ≤ 2 ^ 128 → IsForm R (natural most)
-natural_lawful most le = universal_lawful (natural_content most) (natural_content_lawful most le)
+natural_lawful most le = universal_lawful Integer (natural_contents most) (natural_contents_lawful most le)
 
 -- the number types
+pub u8_contents_lawful : {R : ErrorKind → Type 0} → IsContents R (natural_contents (2 ^ 8))
+u8_contents_lawful = natural_contents_lawful (2 ^ 8) (omega arith)
+
 pub u8_lawful : {R : ErrorKind → Type 0} → IsForm R (natural (2 ^ 8))
 u8_lawful = natural_lawful (2 ^ 8) (omega arith)
+
+pub u16_contents_lawful : {R : ErrorKind → Type 0} → IsContents R (natural_contents (2 ^ 16))
+u16_contents_lawful = natural_contents_lawful (2 ^ 16) (omega arith)
 
 pub u16_lawful : {R : ErrorKind → Type 0} → IsForm R (natural (2 ^ 16))
 u16_lawful = natural_lawful (2 ^ 16) (omega arith)
 
+pub u32_contents_lawful : {R : ErrorKind → Type 0} → IsContents R (natural_contents (2 ^ 32))
+u32_contents_lawful = natural_contents_lawful (2 ^ 32) (omega arith)
+
 pub u32_lawful : {R : ErrorKind → Type 0} → IsForm R (natural (2 ^ 32))
 u32_lawful = natural_lawful (2 ^ 32) (omega arith)
 
+pub u64_contents_lawful : {R : ErrorKind → Type 0} → IsContents R (natural_contents (2 ^ 64))
+u64_contents_lawful = natural_contents_lawful (2 ^ 64) (omega arith)
+
 pub u64_lawful : {R : ErrorKind → Type 0} → IsForm R (natural (2 ^ 64))
 u64_lawful = natural_lawful (2 ^ 64) (omega arith)
+
+pub u128_contents_lawful : {R : ErrorKind → Type 0} → IsContents R (natural_contents (2 ^ 128))
+u128_contents_lawful = natural_contents_lawful (2 ^ 128) (omega arith)
 
 pub u128_lawful : {R : ErrorKind → Type 0} → IsForm R (natural (2 ^ 128))
 u128_lawful = natural_lawful (2 ^ 128) (omega arith)

@@ -3,20 +3,20 @@ use Rattle.std.specs.Prelude.{◌≡◌, ℕ, Bool, true, List, Result, Ok, Err,
 use Rattle.std.proofs.Common.{inl, inr, sym, subst}
 use Rattle.x509_der_element.specs.declared.error.ErrorKind.{ErrorKind}
 use Rattle.x509_der_element.specs.declared.error.ErrorKind.TheVariants.{Malformed}
-use Rattle.x509_der_element.specs.Element.{is_identifier}
+use Rattle.x509_der_element.specs.declared.tag.Tag.{Tag}
 use Rattle.x509_der_element.specs.OutcomeLaws.{ok_is, test_ok, test_err}
-use Rattle.x509_der_grammar.specs.Form.{Form, IsForm, Content, IsContent, universal}
+use Rattle.x509_der_grammar.specs.Form.{Form, IsForm, Contents, IsContents, universal}
 use Rattle.x509_der_grammar.specs.FormLaws.{universal_lawful}
 
 unfoldable pub tested_reading : (List ℕ → Bool) → List ℕ → Result (List ℕ) ErrorKind
 tested_reading is_good bytes = if is_good bytes then Ok bytes else Err Malformed
 
--- the octets that pass the test, under an identifier octet
-abbrev pub tested_content : ℕ → (List ℕ → Bool) → Content (List ℕ)
-tested_content tag is_good = record { tag = tag; octets = λ octets. octets; good = λ octets. is_good octets ≡ true; reading = tested_reading is_good }
+-- the octets that pass the test
+abbrev pub tested_contents : (List ℕ → Bool) → Contents (List ℕ)
+tested_contents is_good = record { octets = λ octets. octets; good = λ octets. is_good octets ≡ true; reading = tested_reading is_good }
 
-abbrev pub tested : ℕ → (List ℕ → Bool) → Form (List ℕ)
-tested tag is_good = universal (tested_content tag is_good)
+abbrev pub tested : Tag → (List ℕ → Bool) → Form (List ℕ)
+tested tag is_good = universal tag (tested_contents is_good)
 
 tested_sound : (is_good : List ℕ → Bool) (bytes octets : List ℕ) → tested_reading is_good bytes ≡ Ok octets → (is_good octets ≡ true) × (bytes ≡ octets)
 unfolding tested_reading
@@ -32,8 +32,8 @@ tested_refused : (is_good : List ℕ → Bool) (bytes : List ℕ) (e : ErrorKind
 unfolding tested_reading
 tested_refused is_good bytes e h = elim (test_err (is_good bytes) Malformed (Ok bytes) e h) [ inl j ↦ absurd (let k = j in cc) | inr j ↦ sym j ]
 
-pub tested_content_lawful : {R : ErrorKind → Type 0} (tag : ℕ) (is_good : List ℕ → Bool) → is_identifier tag ≡ true → IsContent R (tested_content tag is_good)
-tested_content_lawful tag is_good identifier = record { sound = tested_sound is_good; complete = tested_complete is_good; refused = λ bytes e r. inl (tested_refused is_good bytes e r); identifier = identifier }
+pub tested_contents_lawful : {R : ErrorKind → Type 0} (is_good : List ℕ → Bool) → IsContents R (tested_contents is_good)
+tested_contents_lawful is_good = record { sound = tested_sound is_good; complete = tested_complete is_good; refused = λ bytes e r. inl (tested_refused is_good bytes e r) }
 
-pub tested_lawful : {R : ErrorKind → Type 0} (tag : ℕ) (is_good : List ℕ → Bool) → is_identifier tag ≡ true → IsForm R (tested tag is_good)
-tested_lawful tag is_good identifier = universal_lawful (tested_content tag is_good) (tested_content_lawful tag is_good identifier)
+pub tested_lawful : {R : ErrorKind → Type 0} (tag : Tag) (is_good : List ℕ → Bool) → IsForm R (tested tag is_good)
+tested_lawful tag is_good = universal_lawful tag (tested_contents is_good) (tested_contents_lawful is_good)

@@ -1,7 +1,7 @@
 //! Reading a value from the bytes of its one spelling.
 
 ghost use Rattle.std.specs.Prelude.{◌≡◌, IfErr};
-ghost use Rattle.x509_der_element.specs.declared.error.ErrorKind.TheVariants.{Malformed};
+ghost use Rattle.x509_der_element.specs.declared.error.ErrorKind.TheVariants.{Malformed, Memory};
 ghost use Rattle.x509_der_element.specs.Outcome.{Gives};
 ghost use Rattle.x509_der_grammar.specs.Form.{whole_reading, tag_at};
 ghost use Rattle.x509_der_element.specs.Tag.{octet_of};
@@ -18,20 +18,25 @@ pub trait Decode: Grammar {
     ghost use Rattle.x509_der_grammar.specs.Form.{Spells, whole_reading};
     ghost use Rattle.x509_der_element.specs.declared.error.ErrorKind.TheVariants as errors;
 
-    /// The value of an element with this identifier octet and this content.
+    /// Whether reading may want memory.
+    ghost wants_memory: { Type 0 } = { Unit };
+
+    /// The value of an element with this identifier octet and this content. Memory may be refused where reading wants
+    /// it.
     fn read(alloc: Global, tag: u8, content: &[u8]) -> Result<Self, Error>
-        ensures exact { Gives result (Self.form.reading tag content.now) };
+        ensures exact { Gives result (Self.form.reading tag content.now) }
+        ensures memory { IfErr result (λ e. e.kind ≡ errors.Memory → Self.wants_memory) };
 
     /// The one value that the bytes spell.
     ///
     /// `Overlength` exactly where they are more than [`Length::MAX`]; within that `Malformed`, or an error of
-    /// the type's own, exactly where they spell no value. Memory may be refused.
+    /// the type's own, exactly where they spell no value. Memory may be refused where reading wants it.
     #[tactic(auto, unfolding(crate::specs::Form::whole_reading), using(crate::specs::FormLaws::whole_sound, crate::specs::FormLaws::whole_complete, crate::specs::FormLaws::whole_refused))]
     final fn from_der(alloc: Global, bytes: &[u8]) -> Result<Self, Error>
         ensures found { IfOk result (λ value. Spells Self.form value bytes.now) }
         ensures overlength { limit < length bytes.now → IsErrAnd result (λ e. e.kind ≡ errors.Overlength) }
-        ensures refused { length bytes.now ≤ limit → IfErr result (λ e. (e.kind ≡ errors.Memory) ⊎ ((e.kind ≡ errors.Malformed) ⊎ Self.refuses e.kind)) }
-        ensures only { length bytes.now ≤ limit → (value : Self) → Spells Self.form value bytes.now → IfErr result (λ e. e.kind ≡ errors.Memory) }
+        ensures refused { length bytes.now ≤ limit → IfErr result (λ e. ((e.kind ≡ errors.Memory) × Self.wants_memory) ⊎ ((e.kind ≡ errors.Malformed) ⊎ Self.refuses e.kind)) }
+        ensures only { length bytes.now ≤ limit → (value : Self) → Spells Self.form value bytes.now → IfErr result (λ e. (e.kind ≡ errors.Memory) × Self.wants_memory) }
         ensures value { (value : Self) → Spells Self.form value bytes.now → IfOk result (λ found. found ≡ value) }
         ensures which { length bytes.now ≤ limit → Gives result (whole_reading Self.form.reading bytes.now) }
     {
@@ -46,6 +51,7 @@ pub trait Decode: Grammar {
 #[tactic(auto, unfolding(crate::specs::Form::whole_reading))]
 pub fn read_whole<T: Decode>(alloc: Global, bytes: &[u8]) -> Result<T, Error>
     ensures exact { Gives result (whole_reading T.form.reading bytes.now) }
+    ensures memory { IfErr result (λ e. e.kind ≡ Memory → T.wants_memory) }
 {
     let piece = split_element(bytes)?;
     if !piece.rest.is_empty() {

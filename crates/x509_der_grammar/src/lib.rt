@@ -2,22 +2,28 @@
 #![tactic(auto)]
 
 mod boolean;
+mod clone;
+mod content;
 mod decode;
 mod encode;
 mod grammar;
 mod integer;
 pub mod laws;
 mod natural;
+mod newtype;
 mod room;
 #[cfg(test)]
 mod tests;
 
+pub use clone::TryClone;
+pub use content::Content;
 pub use decode::{Decode, expect_tag, read_whole};
 pub use encode::{Encode, put_header};
 pub use grammar::{FixedTag, Grammar, Tagged};
 pub use natural::{put_natural, read_natural};
+pub use newtype::Newtype;
 pub use room::{Counting, Fixed, Growing, Room};
 pub use x509_der_element::{
-    AnyRef, Bytes, Error, ErrorKind, Header, Length, Piece, Tag, TagNumber, TryClone,
-    check_content, split_element, take_element,
+    AnyRef, Bytes, Error, ErrorKind, Header, Length, Piece, Tag, TagNumber, check_content,
+    split_element, take_element,
 };

@@ -1,10 +1,10 @@
 //! Copies that may want memory.
 
-ghost use Rattle.std.specs.Prelude.{◌≡◌, Ok, None, IfOk, IfErr};
+ghost use Rattle.std.specs.Prelude.{◌≡◌, Ok, None, IfOk, IfErr, IsOk};
 ghost use Rattle.x509_der_element.specs.declared.error.ErrorKind.TheVariants.{Memory};
 
-use crate::error::Error;
 use std::alloc::Global;
+use x509_der_element::{AnyRef, Bytes, Error, ErrorKind, Header, Length, Tag, TagNumber};
 
 /// A value that can be copied where there is memory for it.
 pub trait TryClone: Sized {
@@ -75,5 +75,69 @@ impl TryClone for u128 {
         ensures { result ≡ Ok self.now }
     {
         Ok(*self)
+    }
+}
+
+impl TryClone for Error {
+    fn try_clone(&self, _alloc: Global) -> Result<Error, Error>
+        ensures { result ≡ Ok self.now }
+    {
+        Ok(*self)
+    }
+}
+
+impl TryClone for ErrorKind {
+    fn try_clone(&self, _alloc: Global) -> Result<ErrorKind, Error>
+        ensures { result ≡ Ok self.now }
+    {
+        Ok(*self)
+    }
+}
+
+impl TryClone for Length {
+    fn try_clone(&self, _alloc: Global) -> Result<Length, Error>
+        ensures { result ≡ Ok self.now }
+    {
+        Ok(*self)
+    }
+}
+
+impl TryClone for Tag {
+    fn try_clone(&self, _alloc: Global) -> Result<Tag, Error>
+        ensures { result ≡ Ok self.now }
+    {
+        Ok(*self)
+    }
+}
+
+impl TryClone for TagNumber {
+    fn try_clone(&self, _alloc: Global) -> Result<TagNumber, Error>
+        ensures { result ≡ Ok self.now }
+    {
+        Ok(*self)
+    }
+}
+
+impl TryClone for Header {
+    fn try_clone(&self, _alloc: Global) -> Result<Header, Error>
+        ensures { result ≡ Ok self.now }
+    {
+        Ok(*self)
+    }
+}
+
+impl TryClone for AnyRef<'_> {
+    fn try_clone(&self, _alloc: Global) -> Result<Self, Error>
+        ensures ok { IfOk result (λ copy. copy ≡ self.now) }
+        ensures err { IfErr result (λ e. e.kind ≡ Memory) }
+        ensures always { IsOk result }
+    {
+        Ok(*self)
+    }
+}
+
+impl TryClone for Bytes {
+    fn try_clone(&self, alloc: Global) -> Result<Bytes, Error> {
+        Bytes::from_slice(alloc, self.as_slice())
     }
 }

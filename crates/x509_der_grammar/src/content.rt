@@ -1,0 +1,97 @@
+//! Types with one identifier.
+
+use crate::decode::{Decode, expect_tag};
+use crate::encode::Encode;
+use crate::grammar::{FixedTag, Grammar};
+use crate::room::Room;
+use std::alloc::Global;
+use x509_der_element::{Error, Tag};
+
+/// A type each value of which is a content under one identifier (X.690 8.1). From it come [`Grammar`], [`FixedTag`],
+/// [`Decode`] and [`Encode`].
+pub trait Content: Sized {
+    ghost use Rattle.std.specs.Prelude.{◌≡◌, IfErr};
+    ghost use Rattle.x509_der_element.specs.Outcome.{Gives};
+    ghost use Rattle.x509_der_element.specs.declared.error.ErrorKind.{ErrorKind};
+    ghost use Rattle.x509_der_element.specs.declared.error.ErrorKind.TheVariants.{Memory};
+    ghost use Rattle.x509_der_element.specs.declared.tag.Tag.{Tag};
+    ghost use Rattle.x509_der_grammar.specs.Form.{Contents, IsContents};
+    ghost use Rattle.x509_der_grammar.specs.Writing.{Writing, plain, writes, Puts};
+
+    ghost contents: { Contents Self };
+
+    /// The refusals of reading besides `Malformed`.
+    ghost refusals: { ErrorKind → Type 0 } = { λ _. ⊥ };
+
+    /// Whether reading may want memory.
+    ghost takes_memory: { Type 0 } = { Unit };
+
+    /// How values are written.
+    ghost written_as: { Writing Self } = { plain };
+
+    ghost IDENTIFIER: { Tag };
+
+    /// The identifier.
+    const IDENTIFIER: Tag;
+
+    /// The value of the content octets. Memory may be refused where reading wants it.
+    fn read_content(alloc: Global, octets: &[u8]) -> Result<Self, Error>
+        ensures exact { Gives result (contents.reading octets.now) }
+        ensures memory { IfErr result (λ e. e.kind ≡ Memory → takes_memory) };
+
+    /// Puts the content octets in front of what stands.
+    fn write_content<R: Room>(&self, room: &mut R) -> Result<(), Error>
+        ensures { Puts R.kind (contents.octets (writes written_as self.now).value) (writes written_as self.now).refusal result room.old room.new };
+
+    ghost contents_lawful: { IsContents refusals contents };
+}
+
+impl<T: Content> Grammar for T {
+    ghost use Rattle.x509_der_grammar.specs.Form.{universal};
+    ghost use Rattle.x509_der_grammar.specs.FormLaws.{universal_lawful};
+
+    ghost form = { universal T.IDENTIFIER T.contents };
+
+    ghost refuses = { T.refusals };
+
+    fn identifier(&self) -> Tag {
+        T::IDENTIFIER
+    }
+
+    fn is_start(octet: u8) -> bool {
+        octet == T::IDENTIFIER.octet()
+    }
+
+    ghost lawful = { universal_lawful T.IDENTIFIER T.contents T.contents_lawful };
+}
+
+impl<T: Content> FixedTag for T {
+    ghost use Rattle.std.specs.Prelude.{refl};
+
+    ghost TAG = { T.IDENTIFIER };
+
+    const TAG: Tag = T::IDENTIFIER;
+
+    ghost fixed = { λ value good. refl };
+}
+
+impl<T: Content> Decode for T {
+    ghost wants_memory = { T.takes_memory };
+
+    fn read(alloc: Global, tag: u8, content: &[u8]) -> Result<T, Error> {
+        expect_tag(tag, T::IDENTIFIER)?;
+        T::read_content(alloc, content)
+    }
+}
+
+impl<T: Content> Encode for T {
+    ghost use Rattle.std.specs.Prelude.{refl};
+
+    ghost writing = { T.written_as };
+
+    fn put_content<R: Room>(&self, room: &mut R) -> Result<(), Error> {
+        self.write_content(room)
+    }
+
+    ghost same_tag = { λ value. refl };
+}

@@ -1,0 +1,67 @@
+//! Types round one value.
+
+use crate::clone::TryClone;
+use crate::content::Content;
+use crate::room::Room;
+use std::alloc::Global;
+use x509_der_element::{Error, Tag};
+
+/// A type round one value, which is copied, read and written as that value is. From it come [`Content`] and
+/// [`TryClone`].
+pub trait Newtype: Sized {
+    ghost use Rattle.std.specs.Prelude.{◌≡◌};
+    ghost use Rattle.x509_der_grammar.specs.Round.{Round};
+
+    /// The type of the value within.
+    type Inner;
+
+    /// Each value of the type is one value within, and nothing else.
+    ghost round: { Round Self Self.Inner };
+
+    /// The value within.
+    fn inner(&self) -> &Self::Inner
+        ensures { result.now ≡ round.to self.now };
+
+    /// The value round it.
+    fn from_inner(inner: Self::Inner) -> Self
+        ensures { result ≡ round.from inner };
+}
+
+impl<T: Newtype> TryClone for T
+where
+    T::Inner: TryClone,
+{
+    fn try_clone(&self, alloc: Global) -> Result<T, Error> {
+        Ok(T::from_inner(self.inner().try_clone(alloc)?))
+    }
+}
+
+#[tactic(auto, using(crate::specs::Round::round_within, crate::specs::Round::round_refusal))]
+impl<T: Newtype> Content for T
+where
+    T::Inner: Content,
+{
+    ghost use Rattle.x509_der_grammar.specs.Round.{round_contents, round_writing, round_lawful};
+
+    ghost contents = { round_contents T.round T.Inner.contents };
+
+    ghost refusals = { T.Inner.refusals };
+
+    ghost takes_memory = { T.Inner.takes_memory };
+
+    ghost written_as = { round_writing T.round T.Inner.written_as };
+
+    ghost IDENTIFIER = { T.Inner.IDENTIFIER };
+
+    const IDENTIFIER: Tag = T::Inner::IDENTIFIER;
+
+    fn read_content(alloc: Global, octets: &[u8]) -> Result<T, Error> {
+        Ok(T::from_inner(T::Inner::read_content(alloc, octets)?))
+    }
+
+    fn write_content<R: Room>(&self, room: &mut R) -> Result<(), Error> {
+        self.inner().write_content(room)
+    }
+
+    ghost contents_lawful = { round_lawful T.round T.Inner.contents T.Inner.contents_lawful };
+}
