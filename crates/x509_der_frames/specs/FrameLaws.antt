@@ -1,7 +1,7 @@
 -- Frames of lawful types are lawful.
-use Rattle.std.proofs.Common.{◌≡◌, ℕ, ◌+◌, ◌<◌, true, false, not, ◌||◌, eqb, ◌⊎◌, List, [], ◌∷◌, ◌++◌, Option, Some, None, Result, Ok, Err, refl, sym, ap, subst, ◌∙◌, append_assoc, inl, inr, arith}
+use Rattle.std.proofs.Common.{◌≡◌, ℕ, ◌+◌, ◌<◌, true, false, not, ◌||◌, eqb, ltb, ◌⊎◌, List, [], ◌∷◌, ◌++◌, Option, Some, None, Result, Ok, Err, refl, sym, ap, subst, ◌∙◌, append_assoc, inl, inr, arith}
 use Rattle.std.specs.Prelude.{IfSome}
-use Rattle.std.proofs.lemmas.Bool.{cases_Bool, eqb-true, and_parts, or_parts, or_left, or_right, not-true, true≢false}
+use Rattle.std.proofs.lemmas.Bool.{cases_Bool, eqb-true, ltb-true, and_parts, or_parts, or_left, or_right, not-true, true≢false}
 use Rattle.std.proofs.lemmas.Bool.Decides.{nat_tests}
 use Rattle.std.proofs.lemmas.List.{append-nil}
 use Rattle.x509_der_element.specs.declared.error.ErrorKind.{ErrorKind}
@@ -11,29 +11,28 @@ use Rattle.x509_der_element.specs.OutcomeLaws.{ok_is, bind_ok, bind_err, guard_o
 use Rattle.x509_der_element.specs.Element.{element, is_identifier, is_universal}
 use Rattle.x509_der_element.specs.ElementReading.{piece_at}
 use Rattle.x509_der_element.specs.ElementLaws.{piece_at-sound, piece_at-element, piece_at-refused}
-use Rattle.x509_der_grammar.specs.Form.{is_in, Form, spelling, IsForm, IsContent, HasTag}
-use Rattle.x509_der_grammar.specs.FormLaws.{universal_lawful, whole_sound, whole_complete, whole_refused}
-use Rattle.x509_der_frames.specs.Frames.{explicit_content, explicit, implicit_tag, implicit_content, implicit, Part, IsPart, BeginsIn, nothing, begins, IsClearOf, are_apart, field_at, required, optional_text, optional_at, optional, Default, IsDefault, default_of, default_at, defaulted, default_text, ◌⊗◌, end_at, fields, fields_octets, fields_good, fields_reading}
+use Rattle.x509_der_grammar.specs.Form.{is_in, Form, spelling, IsForm, IsContents, HasTag}
+use Rattle.x509_der_grammar.specs.FormLaws.{under_lawful, whole_sound, whole_complete, whole_refused}
+use Rattle.x509_der_frames.specs.Frames.{explicit_contents, explicit, implicit_tag, implicit_contents, implicit, Part, IsPart, BeginsIn, nothing, begins, IsClearOf, are_apart, field_at, required, optional_text, optional_at, optional, Default, IsDefault, default_of, default_at, defaulted, default_text, ◌⊗◌, end_at, fields, fields_octets, fields_good, fields_reading}
 
 -- ---- tags
 
-explicit_identifier : (n : ℕ) → n < 31 → is_identifier (160 + n) ≡ true
+explicit_identifier : (n : ℕ) → ltb n 31 ≡ true → is_identifier (160 + n) ≡ true
 unfolding is_identifier is_universal
-explicit_identifier n lt = grind (arith, nat_tests)
+explicit_identifier n low = let lt : n < 31 = ltb-true n 31 low in grind (arith, nat_tests)
 
-implicit_identifier : (n tag : ℕ) → n < 31 → is_identifier (implicit_tag n tag) ≡ true
+implicit_identifier : (n tag : ℕ) → ltb n 31 ≡ true → is_identifier (implicit_tag n tag) ≡ true
 unfolding is_identifier is_universal
-implicit_identifier n tag lt = grind (arith, nat_tests)
+implicit_identifier n tag low = let lt : n < 31 = ltb-true n 31 low in grind (arith, nat_tests)
 
-pub explicit_lawful : {X : Type 0} {R : ErrorKind → Type 0} (n : ℕ) (f : Form X) → n < 31 → IsForm R f → IsForm R (explicit n f)
-explicit_lawful n f lt h = universal_lawful (explicit_content n f) (record { sound = whole_sound f h; complete = whole_complete f h; refused = whole_refused f h; identifier = explicit_identifier n lt })
+pub explicit_lawful : {X : Type 0} {R : ErrorKind → Type 0} (n : ℕ) (f : Form X) → ltb n 31 ≡ true → IsForm R f → IsForm R (explicit n f)
+explicit_lawful n f low h = under_lawful (160 + n) (explicit_contents f) (explicit_identifier n low) (record { sound = whole_sound f h; complete = whole_complete f h; refused = whole_refused f h })
 
-pub implicit_lawful : {X : Type 0} {R : ErrorKind → Type 0} (n tag : ℕ) (f : Form X) → n < 31 → HasTag tag f → IsForm R f → IsForm R (implicit n tag f)
-implicit_lawful n tag f lt fixed h = universal_lawful (implicit_content n tag f) (record {
+pub implicit_lawful : {X : Type 0} {R : ErrorKind → Type 0} (n tag : ℕ) (f : Form X) → ltb n 31 ≡ true → HasTag tag f → IsForm R f → IsForm R (implicit n tag f)
+implicit_lawful n tag f low fixed h = under_lawful (implicit_tag n tag) (implicit_contents tag f) (implicit_identifier n tag low) (record {
   sound = λ bytes v e. let s = h.sound tag bytes v e in (s.0, s.2);
   complete = λ v g. rw (← fixed v g) (h.complete v g);
   refused = λ bytes e r. h.refused tag bytes e r;
-  identifier = implicit_identifier n tag lt;
 })
 
 -- ---- a field
@@ -298,11 +297,7 @@ end_err : {A : Type 0} (rest : List ℕ) (f : Unit → Result A ErrorKind) (e : 
 end_err [] f e h = inr h
 end_err (b ∷ rest) f e h = inl (let k : Malformed ≡ e = cc in sym k)
 
-sequence_identifier : is_identifier 48 ≡ true
-unfolding is_identifier is_universal
-sequence_identifier = refl
-
-pub fields_lawful : {X Y : Type 0} {R : ErrorKind → Type 0} (to : Y → X) (from : X → Y) (p : Part X) → ((y : Y) → from (to y) ≡ y) → ((x : X) → to (from x) ≡ x) → IsPart R p → IsContent R (fields to from p)
+pub fields_lawful : {X Y : Type 0} {R : ErrorKind → Type 0} (to : Y → X) (from : X → Y) (p : Part X) → ((y : Y) → from (to y) ≡ y) → ((x : X) → to (from x) ≡ x) → IsPart R p → IsContents R (fields to from p)
 unfolding fields_octets fields_good fields_reading
 fields_lawful {X} {Y} to from p back there h = record {
   sound = λ bytes v e.
@@ -328,5 +323,4 @@ fields_lawful {X} {Y} to from p back there h = record {
           | inr j ↦ absurd (let x = j in cc)
         ]
       ];
-  identifier = sequence_identifier;
 }

@@ -4,27 +4,27 @@ use Rattle.x509_der_element.specs.declared.error.ErrorKind.{ErrorKind}
 use Rattle.x509_der_element.specs.declared.error.ErrorKind.TheVariants.{Malformed}
 use Rattle.x509_der_element.specs.Outcome.{◌>>=◌}
 use Rattle.x509_der_element.specs.ElementReading.{piece_at}
-use Rattle.x509_der_grammar.specs.Form.{is_in, is_empty, Form, spelling, Content, universal, whole_reading}
+use Rattle.x509_der_grammar.specs.Form.{is_in, is_empty, Form, spelling, Contents, under, whole_reading}
 
 -- ---- tags of the context-specific class
 
 -- {n}: the element of the value is the content of an element with the identifier octet A0 + n (X.690 8.14.2)
-abbrev pub explicit_content : {X : Type 0} → ℕ → Form X → Content X
-explicit_content n form = record { tag = 160 + n; octets = spelling form; good = form.good; reading = whole_reading form.reading }
+abbrev pub explicit_contents : {X : Type 0} → Form X → Contents X
+explicit_contents form = record { octets = spelling form; good = form.good; reading = whole_reading form.reading }
 
 abbrev pub explicit : {X : Type 0} → ℕ → Form X → Form X
-explicit n form = universal (explicit_content n form)
+explicit n form = under (160 + n) (explicit_contents form)
 
 -- the identifier octet under [n] of a type whose own is tag: 80 + n, or A0 + n where the content is elements
 abbrev pub implicit_tag : ℕ → ℕ → ℕ
 implicit_tag n tag = if nat_lt (tag % 64) 32 then 128 + n else 160 + n
 
 -- [n]: the content of the value under this identifier octet (X.690 8.14.3)
-abbrev pub implicit_content : {X : Type 0} → ℕ → ℕ → Form X → Content X
-implicit_content n tag form = record { tag = implicit_tag n tag; octets = form.content; good = form.good; reading = form.reading tag }
+abbrev pub implicit_contents : {X : Type 0} → ℕ → Form X → Contents X
+implicit_contents tag form = record { octets = form.content; good = form.good; reading = form.reading tag }
 
 abbrev pub implicit : {X : Type 0} → ℕ → ℕ → Form X → Form X
-implicit n tag form = universal (implicit_content n tag form)
+implicit n tag form = under (implicit_tag n tag) (implicit_contents tag form)
 
 -- ---- parts of a sequence
 
@@ -136,5 +136,5 @@ unfoldable pub fields_reading : {X Y : Type 0} → (X → Y) → Part X → List
 fields_reading from part bytes = part.reading bytes >>= λ x. end_at x.1 >>= λ done. Ok (from x.0)
 
 -- SEQUENCE: the fields, one after the other (X.690 8.9)
-abbrev pub fields : {X Y : Type 0} → (Y → X) → (X → Y) → Part X → Content Y
-fields to from part = record { tag = 48; octets = fields_octets to part; good = fields_good to part; reading = fields_reading from part }
+abbrev pub fields : {X Y : Type 0} → (Y → X) → (X → Y) → Part X → Contents Y
+fields to from part = record { octets = fields_octets to part; good = fields_good to part; reading = fields_reading from part }

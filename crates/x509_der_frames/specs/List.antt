@@ -3,7 +3,7 @@ use Rattle.std.specs.Prelude.{ℕ, zero, suc, List, [], ◌∷◌, ◌++◌, len
 use Rattle.x509_der_element.specs.declared.error.ErrorKind.{ErrorKind}
 use Rattle.x509_der_element.specs.declared.error.ErrorKind.TheVariants.{Malformed}
 use Rattle.x509_der_element.specs.Outcome.{◌>>=◌}
-use Rattle.x509_der_grammar.specs.Form.{Form, Content, spelling}
+use Rattle.x509_der_grammar.specs.Form.{Form, Contents, spelling}
 use Rattle.x509_der_grammar.specs.Writing.{Written, Writing, plain, respelling, first}
 use Rattle.x509_der_frames.specs.Frames.{field_at}
 
@@ -24,8 +24,8 @@ members_at (suc n) read (b ∷ bytes) = field_at read (b ∷ bytes) >>= λ x. me
 abbrev pub list_reading : {X : Type 0} → (ℕ → List ℕ → Result X ErrorKind) → List ℕ → Result (List X) ErrorKind
 list_reading read bytes = members_at (length bytes) read bytes
 
-abbrev pub list_of : {X : Type 0} → Form X → Content (List X)
-list_of form = record { tag = 48; octets = joined (spelling form); good = all_good form.good; reading = list_reading form.reading }
+abbrev pub list_of : {X : Type 0} → Form X → Contents (List X)
+list_of form = record { octets = joined (spelling form); good = all_good form.good; reading = list_reading form.reading }
 
 -- what was read before, and what is still read
 abbrev pub with_front : {X : Type 0} → List X → Result (List X) ErrorKind → Result (List X) ErrorKind

@@ -6,10 +6,10 @@ use Rattle.x509_der_element.specs.declared.error.ErrorKind.TheVariants.{Malforme
 use Rattle.x509_der_element.specs.declared.error.ErrorKind.TheVariants as errors
 use Rattle.x509_der_element.specs.Outcome.{◌>>=◌, IsRefusal}
 use Rattle.x509_der_element.specs.OutcomeLaws.{ok_is, bind_ok, bind_err}
-use Rattle.x509_der_element.specs.Element.{element, is_identifier, is_universal}
+use Rattle.x509_der_element.specs.Element.{element}
 use Rattle.x509_der_element.specs.ElementReading.{piece_at}
 use Rattle.x509_der_element.specs.ElementLaws.{piece_at-sound}
-use Rattle.x509_der_grammar.specs.Form.{Form, IsForm, IsContent, spelling}
+use Rattle.x509_der_grammar.specs.Form.{Form, IsForm, IsContents, spelling}
 use Rattle.x509_der_frames.specs.Frames.{field_at}
 use Rattle.x509_der_frames.specs.FrameLaws.{field_sound, field_complete, field_refused}
 use Rattle.x509_der_frames.specs.List.{joined, all_good, members_at, list_reading, list_of, with_front}
@@ -89,16 +89,11 @@ members_refused f h (suc n) (b ∷ bs) e r =
       ]
     ]
 
-list_identifier : is_identifier 48 ≡ true
-unfolding is_identifier is_universal
-list_identifier = refl
-
-pub list_lawful : {X : Type 0} {R : ErrorKind → Type 0} (f : Form X) → IsForm R f → IsContent R (list_of f)
+pub list_lawful : {X : Type 0} {R : ErrorKind → Type 0} (f : Form X) → IsForm R f → IsContents R (list_of f)
 list_lawful f h = record {
   sound = λ bytes vs e. members_sound f h (length bytes) bytes vs e;
   complete = λ vs g. members_complete f h (length (joined (spelling f) vs)) vs g (omega arith);
   refused = λ bytes e r. members_refused f h (length bytes) bytes e r;
-  identifier = list_identifier;
 }
 
 -- ---- the loop that reads them

@@ -3,6 +3,7 @@ use Rattle.std.specs.Prelude.{◌≡◌, ℕ, ◌≤◌, List, [], ◌∷◌, le
 use Rattle.std.specs.List.{AllByRecursion}
 use Rattle.std.proofs.Common.{ap, arith, length-append}
 use Rattle.x509_der_element.specs.declared.error.ErrorKind.{ErrorKind}
+use Rattle.x509_der_element.specs.declared.tag.Tag.TheVariants.{Sequence}
 use Rattle.x509_der_element.specs.Element.{element, limit}
 use Rattle.x509_der_grammar.specs.Form.{Form, universal, spelling}
 use Rattle.x509_der_grammar.specs.Writing.{Written, Writing, plain, respelling, writes, first}
@@ -61,8 +62,8 @@ members_there f w (x ∷ xs) good same le = (
 pub members_have_encodings : {X : Type 0} (f : Form X) (w : Writing X) (tag : ℕ) (xs : List X) → all_good f.good xs → writes (members_writing w) xs ≡ writes plain xs → length (element tag (joined (spelling f) xs)) ≤ limit → AllByRecursion (HasEncoding f (writes w)) xs
 members_have_encodings f w tag xs good same le = members_there f (writes w) xs good (members_as_they_are w xs same) (content_length tag (joined (spelling f) xs) limit le)
 
-pub list_ordered : {X : Type 0} (f : Form X) (w : Writing X) (order : Order X) → IsOrder f (writes w) order → IsOrder (universal (list_of f)) (writes (members_writing w)) (by_members (der_order f (writes w) order))
+pub list_ordered : {X : Type 0} (f : Form X) (w : Writing X) (order : Order X) → IsOrder f (writes w) order → IsOrder (universal Sequence (list_of f)) (writes (members_writing w)) (by_members (der_order f (writes w) order))
 unfolding joined
 list_ordered f w order h =
-    by_members_lawful (der_lawful f (writes w) order h) (joined (spelling f)) refl (λ x xs. refl) (universal (list_of f)) (writes (members_writing w)) (λ xs. refl)
+    by_members_lawful (der_lawful f (writes w) order h) (joined (spelling f)) refl (λ x xs. refl) (universal Sequence (list_of f)) (writes (members_writing w)) (λ xs. refl)
     (λ xs e. members_have_encodings f w 48 xs e.0 e.1 e.2)

@@ -56,11 +56,11 @@ impl Any {
     }
 
     /// The value that the element spells: what the type's decoder answers on it. `Malformed`, or the refusal of the
-    /// type, exactly where it spells none. Memory may be refused.
+    /// type, exactly where it spells none. Memory may be refused where reading the type wants it.
     pub fn decode_as<T: Decode>(&self, alloc: Global) -> Result<T, Error>
         ensures found { IfOk result (λ value. T.form.good value × (element (octet_of self.now.tag) self.now.value ≡ spelling T.form value)) }
-        ensures refused { IfErr result (λ e. (e.kind ≡ errors.Memory) ⊎ ((e.kind ≡ errors.Malformed) ⊎ T.refuses e.kind)) }
-        ensures only { (value : T) → T.form.good value → element (octet_of self.now.tag) self.now.value ≡ spelling T.form value → IfErr result (λ e. e.kind ≡ errors.Memory) }
+        ensures refused { IfErr result (λ e. ((e.kind ≡ errors.Memory) × T.wants_memory) ⊎ ((e.kind ≡ errors.Malformed) ⊎ T.refuses e.kind)) }
+        ensures only { (value : T) → T.form.good value → element (octet_of self.now.tag) self.now.value ≡ spelling T.form value → IfErr result (λ e. (e.kind ≡ errors.Memory) × T.wants_memory) }
         ensures value { (value : T) → T.form.good value → element (octet_of self.now.tag) self.now.value ≡ spelling T.form value → IfOk result (λ found. found ≡ value) }
         ensures which { Gives result (T.form.reading (octet_of self.now.tag) self.now.value) }
     {
@@ -112,6 +112,7 @@ impl Decode for Any {
     fn read(alloc: Global, tag: u8, content: &[u8]) -> Result<Any, Error>
         ensures exact { Gives result (any_reading tag content.now) }
         ensures malformed { is_identifier tag ≡ false → IfErr result (λ e. e.kind ≡ Malformed) }
+        ensures memory { IfErr result (λ e. e.kind ≡ errors.Memory → 24 < length content.now) }
     {
         Ok(Any {
             tag: Tag::from_octet(tag)?,

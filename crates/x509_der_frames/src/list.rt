@@ -12,7 +12,7 @@ use std::cmp::Ordering;
 use std::fmt;
 use std::hash::{Hash, Hasher};
 use std::marker::Model;
-use x509_der_grammar::{Decode, Encode, Error, FixedTag, Grammar, Room, Tag, TryClone, expect_tag};
+use x509_der_grammar::{Content, Decode, Encode, Error, Room, Tag, TryClone, split_element};
 use x509_der_order::{ValueOrd, cmp_members};
 
 /// Values one after the other, which contracts see as a list (X.690 8.10). It is made from a vector and gives it
@@ -148,12 +148,28 @@ pub fn clone_members<T: TryClone + Drop>(alloc: Global, members: &[T]) -> Result
     Ok(copies)
 }
 
+/// For how many members a list takes memory at once. More make it grow, so that bytes of many members which turn out
+/// to be none cost little.
+const FORESEEN: usize = 1024;
+
+/// How many elements stand at the front of the bytes, up to [`FORESEEN`].
+fn count_elements(bytes: &[u8]) -> usize {
+    let mut rest = bytes;
+    for count in 0..FORESEEN {
+        match split_element(rest) {
+            Ok(piece) => rest = piece.rest,
+            Err(_) => return count,
+        }
+    }
+    FORESEEN
+}
+
 /// The values whose elements the bytes are, one after the other; `Malformed`, or the refusal of the type, where they
 /// are not. Memory may be refused.
 pub fn read_members<T: Decode + Drop>(alloc: Global, bytes: &[u8]) -> Result<Vec<T>, Error>
     ensures exact { GivesBy (λ v. v.items) result (list_reading T.form.reading bytes.now) }
 {
-    let mut items = Vec::new(alloc);
+    let mut items = Vec::with_capacity(alloc, count_elements(bytes))?;
     let mut rest = bytes;
     while !rest.is_empty() {
         let item = field::<T>(alloc, &mut rest)?;
@@ -175,62 +191,36 @@ pub fn put_members<T: Encode, R: Room>(items: &[T], room: &mut R) -> Result<(), 
     Ok(())
 }
 
-impl<T: Grammar> Grammar for SequenceOf<T> {
-    ghost use Rattle.x509_der_grammar.specs.Form.{universal};
-    ghost use Rattle.x509_der_grammar.specs.FormLaws.{universal_lawful};
-    ghost use Rattle.x509_der_frames.specs.List.{list_of};
+impl<T: Decode + Encode + Drop> Content for SequenceOf<T> {
+    ghost use Rattle.x509_der_element.specs.declared.tag.Tag.TheVariants.{Sequence};
+    ghost use Rattle.x509_der_frames.specs.List.{list_of, members_writing};
     ghost use Rattle.x509_der_frames.specs.ListLaws.{list_lawful};
 
-    ghost form = { universal (list_of T.form) };
+    ghost contents = { list_of T.form };
 
-    ghost refuses = { T.refuses };
+    ghost refusals = { T.refuses };
 
-    fn identifier(&self) -> Tag {
-        Tag::Sequence
-    }
+    ghost written_as = { members_writing T.writing };
 
-    fn is_start(octet: u8) -> bool {
-        octet == 0x30
-    }
+    ghost IDENTIFIER = { Sequence };
 
-    ghost lawful = { universal_lawful (list_of T.form) (list_lawful T.form T.lawful) };
-}
+    const IDENTIFIER: Tag = Tag::Sequence;
 
-impl<T: Decode + Drop> Decode for SequenceOf<T> {
-    fn read(alloc: Global, tag: u8, content: &[u8]) -> Result<SequenceOf<T>, Error> {
-        expect_tag(tag, Tag::Sequence)?;
+    fn read_content(alloc: Global, octets: &[u8]) -> Result<SequenceOf<T>, Error> {
         Ok(SequenceOf {
-            items: read_members::<T>(alloc, content)?,
+            items: read_members::<T>(alloc, octets)?,
         })
     }
-}
-
-impl<T: Encode> Encode for SequenceOf<T> {
-    ghost use Rattle.std.specs.Prelude.{refl};
-    ghost use Rattle.x509_der_frames.specs.List.{members_writing};
-
-    ghost writing = { members_writing T.writing };
 
     #[tactic(auto, using(crate::specs::ListWriting::puts_list))]
-    fn put_content<R: Room>(&self, room: &mut R) -> Result<(), Error> {
+    fn write_content<R: Room>(&self, room: &mut R) -> Result<(), Error> {
         put_members(self.as_slice(), room)
     }
 
-    ghost same_tag = { λ value. refl };
+    ghost contents_lawful = { list_lawful T.form T.lawful };
 }
 
-impl<T: Grammar> FixedTag for SequenceOf<T> {
-    ghost use Rattle.std.specs.Prelude.{refl};
-    ghost use Rattle.x509_der_element.specs.declared.tag.Tag.TheVariants.{Sequence};
-
-    ghost TAG = { Sequence };
-
-    const TAG: Tag = Tag::Sequence;
-
-    ghost fixed = { λ value good. refl };
-}
-
-impl<T: ValueOrd> ValueOrd for SequenceOf<T> {
+impl<T: Decode + ValueOrd + Drop> ValueOrd for SequenceOf<T> {
     ghost use Rattle.x509_der_frames.specs.ListOrder.{list_ordered};
     ghost use Rattle.x509_der_grammar.specs.Writing.{writes};
     ghost use Rattle.x509_der_order.specs.Order.{der_order};

@@ -1,9 +1,9 @@
 //! Reading the fields of a sequence. Each reader takes its field from the front of `rest`; `Malformed`, or the
-//! refusal of the type, where the field does not stand there. Memory may be refused. Where it is refused, `rest` is as
-//! it was.
+//! refusal of the type, where the field does not stand there. Memory may be refused where reading the type wants it.
+//! Where a reader is refused, `rest` is as it was.
 
 ghost use Rattle.std.specs.Prelude.{◌≡◌, ◌<◌, IfErr, OnErr};
-ghost use Rattle.x509_der_element.specs.declared.error.ErrorKind.TheVariants.{Malformed};
+ghost use Rattle.x509_der_element.specs.declared.error.ErrorKind.TheVariants.{Malformed, Memory};
 ghost use Rattle.x509_der_element.specs.Outcome.{Gives, GivesBefore};
 ghost use Rattle.x509_der_element.specs.Tag.{octet_of};
 ghost use Rattle.x509_der_frames.specs.Frames.{optional, defaulted, explicit, implicit, implicit_tag, required, end_at};
@@ -41,6 +41,7 @@ pub fn implicit_octet<T: FixedTag>(n: u8) -> u8
 pub fn field<T: Decode>(alloc: Global, rest: &mut &[u8]) -> Result<T, Error>
     ensures exact { GivesBefore result rest.new.now ((required T.form).reading rest.old.now) }
     ensures unchanged { OnErr result (rest.new.now ≡ rest.old.now) }
+    ensures memory { IfErr result (λ e. e.kind ≡ Memory → T.wants_memory) }
 {
     let piece = split_element(*rest)?;
     let value = T::read(alloc, piece.tag, piece.content)?;
@@ -54,6 +55,7 @@ pub fn explicit_field<T: Decode>(alloc: Global, n: u8, rest: &mut &[u8]) -> Resu
     requires { n < 31 }
     ensures exact { GivesBefore result rest.new.now ((required (explicit n T.form)).reading rest.old.now) }
     ensures unchanged { OnErr result (rest.new.now ≡ rest.old.now) }
+    ensures memory { IfErr result (λ e. e.kind ≡ Memory → T.wants_memory) }
 {
     let piece = split_element(*rest)?;
     if piece.tag != 0xA0 + n {
@@ -74,6 +76,7 @@ pub fn implicit_field<T: Decode + FixedTag>(
     requires { n < 31 }
     ensures exact { GivesBefore result rest.new.now ((required (implicit n (octet_of T.TAG) T.form)).reading rest.old.now) }
     ensures unchanged { OnErr result (rest.new.now ≡ rest.old.now) }
+    ensures memory { IfErr result (λ e. e.kind ≡ Memory → T.wants_memory) }
 {
     let piece = split_element(*rest)?;
     if piece.tag != implicit_octet::<T>(n) {
@@ -89,6 +92,7 @@ pub fn implicit_field<T: Decode + FixedTag>(
 pub fn optional_field<T: Decode>(alloc: Global, rest: &mut &[u8]) -> Result<Option<T>, Error>
     ensures exact { GivesBefore result rest.new.now ((optional T.form).reading rest.old.now) }
     ensures unchanged { OnErr result (rest.new.now ≡ rest.old.now) }
+    ensures memory { IfErr result (λ e. e.kind ≡ Memory → T.wants_memory) }
 {
     match *rest {
         [octet, ..] if T::is_start(*octet) => Ok(Some(field::<T>(alloc, rest)?)),
@@ -106,6 +110,7 @@ pub fn optional_explicit<T: Decode>(
     requires { n < 31 }
     ensures exact { GivesBefore result rest.new.now ((optional (explicit n T.form)).reading rest.old.now) }
     ensures unchanged { OnErr result (rest.new.now ≡ rest.old.now) }
+    ensures memory { IfErr result (λ e. e.kind ≡ Memory → T.wants_memory) }
 {
     match *rest {
         [octet, ..] if *octet == 0xA0 + n => Ok(Some(explicit_field::<T>(alloc, n, rest)?)),
@@ -123,6 +128,7 @@ pub fn optional_implicit<T: Decode + FixedTag>(
     requires { n < 31 }
     ensures exact { GivesBefore result rest.new.now ((optional (implicit n (octet_of T.TAG) T.form)).reading rest.old.now) }
     ensures unchanged { OnErr result (rest.new.now ≡ rest.old.now) }
+    ensures memory { IfErr result (λ e. e.kind ≡ Memory → T.wants_memory) }
 {
     match *rest {
         [octet, ..] if *octet == implicit_octet::<T>(n) => Ok(Some(implicit_field::<T>(
@@ -138,6 +144,7 @@ pub fn optional_implicit<T: Decode + FixedTag>(
 pub fn default_field<T: Decode + Standard>(alloc: Global, rest: &mut &[u8]) -> Result<T, Error>
     ensures exact { GivesBefore result rest.new.now ((defaulted T.default T.form).reading rest.old.now) }
     ensures unchanged { OnErr result (rest.new.now ≡ rest.old.now) }
+    ensures memory { IfErr result (λ e. e.kind ≡ Memory → T.wants_memory) }
 {
     let mut ahead = *rest;
     let found = optional_field::<T>(alloc, &mut ahead)?;
@@ -164,6 +171,7 @@ pub fn default_explicit<T: Decode + Standard>(
     requires { n < 31 }
     ensures exact { GivesBefore result rest.new.now ((defaulted T.default (explicit n T.form)).reading rest.old.now) }
     ensures unchanged { OnErr result (rest.new.now ≡ rest.old.now) }
+    ensures memory { IfErr result (λ e. e.kind ≡ Memory → T.wants_memory) }
 {
     let mut ahead = *rest;
     let found = optional_explicit::<T>(alloc, n, &mut ahead)?;
@@ -190,6 +198,7 @@ pub fn default_implicit<T: Decode + FixedTag + Standard>(
     requires { n < 31 }
     ensures exact { GivesBefore result rest.new.now ((defaulted T.default (implicit n (octet_of T.TAG) T.form)).reading rest.old.now) }
     ensures unchanged { OnErr result (rest.new.now ≡ rest.old.now) }
+    ensures memory { IfErr result (λ e. e.kind ≡ Memory → T.wants_memory) }
 {
     let mut ahead = *rest;
     let found = optional_implicit::<T>(alloc, n, &mut ahead)?;
