@@ -8,10 +8,10 @@ use Rattle.x509_der_element.specs.ElementLaws.{piece_at-element}
 use Rattle.x509_der_element.specs.OutcomeLaws.{ok_is}
 use Rattle.x509_der_element.specs.ContentLaws.{content_overlong}
 use Rattle.x509_der_element.specs.Tag.{octet_of}
-use Rattle.x509_der_element.specs.TagLaws.{is_identifier-octet_of}
+use Rattle.x509_der_element.specs.TagLaws.{tag_is_identifier}
 
 at_front : (bytes : List ℕ) (tag : Tag) (content rest : List ℕ) → bytes ≡ element (octet_of tag) content ++ rest → piece_at bytes ≡ Ok (record { tag = octet_of tag; content = content; rest = rest })
-at_front bytes tag content rest e = ap piece_at e ∙ piece_at-element (octet_of tag) content rest (is_identifier-octet_of tag)
+at_front bytes tag content rest e = ap piece_at e ∙ piece_at-element (octet_of tag) content rest (tag_is_identifier tag)
 
 pub no_element : (bytes : List ℕ) → piece_at bytes ≡ Err Malformed → (tag : Tag) (content rest : List ℕ) → bytes ≡ element (octet_of tag) content ++ rest → limit < length (element (octet_of tag) content)
 no_element bytes h tag content rest e = absurd (let k = sym h ∙ at_front bytes tag content rest e in cc)

@@ -3,8 +3,8 @@ use Rattle.std.proofs.Common.{◌≡◌, ◌≢◌, ℕ, false, sym, ap, ◌∙�
 use Rattle.std.proofs.lemmas.Bool.{true≢false}
 use Rattle.x509_der_element.specs.Element.{is_identifier}
 use Rattle.x509_der_element.specs.Tag.{octet_of}
-use Rattle.x509_der_element.specs.TagLaws.{is_identifier-octet_of}
+use Rattle.x509_der_element.specs.TagLaws.{tag_is_identifier}
 use Rattle.x509_der_element.specs.declared.tag.Tag.{Tag}
 
 pub octet_refused : (octet : ℕ) → is_identifier octet ≡ false → (tag : Tag) → octet_of tag ≢ octet
-octet_refused octet refused tag is = true≢false (sym (is_identifier-octet_of tag) ∙ ap is_identifier is ∙ refused)
+octet_refused octet refused tag is = true≢false (sym (tag_is_identifier tag) ∙ ap is_identifier is ∙ refused)

@@ -48,9 +48,10 @@ refusal_only errors.Failed reading v g e = absurd (let x = sym g ∙ e in cc)
 refusal_only errors.SetDuplicate reading v g e = absurd (let x = sym g ∙ e in cc)
 refusal_only errors.Value reading v g e = absurd (let x = sym g ∙ e in cc)
 
-pub gives_only : {X : Type 0} (r : Result X Error) (reading : Result X ErrorKind) (v : X) → Gives r reading → reading ≡ Ok v → IfErr r (λ e. e.kind ≡ errors.Memory)
-gives_only (Ok x) reading v g e = tt
-gives_only (Err d) reading v g e = refusal_only d.kind reading v g e
+-- memory alone is refused, where W says that it may be wanted
+pub gives_only : {X : Type 0} (W : Type 0) (r : Result X Error) (reading : Result X ErrorKind) (v : X) → Gives r reading → IfErr r (λ e. e.kind ≡ errors.Memory → W) → reading ≡ Ok v → IfErr r (λ e. (e.kind ≡ errors.Memory) × W)
+gives_only W (Ok x) reading v g m e = tt
+gives_only W (Err d) reading v g m e = let k = refusal_only d.kind reading v g e in (k, m k)
 
 -- a value is no refusal
 pub not_refused : {A Q : Type 0} (x : A) (e : ErrorKind) → made x ≡ Err e → Q

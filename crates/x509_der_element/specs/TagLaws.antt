@@ -12,35 +12,35 @@ unfolding is_identifier is_universal
 class_identifier class n true low high even small = grind (arith, nat_tests)
 class_identifier class n false low high even small = grind (arith, nat_tests)
 
-pub is_identifier-octet_of : (tag : Tag) → is_identifier (octet_of tag) ≡ true
+pub tag_is_identifier : (tag : Tag) → is_identifier (octet_of tag) ≡ true
 unfolding is_identifier is_universal
-is_identifier-octet_of Boolean = refl
-is_identifier-octet_of Integer = refl
-is_identifier-octet_of BitString = refl
-is_identifier-octet_of OctetString = refl
-is_identifier-octet_of Null = refl
-is_identifier-octet_of ObjectIdentifier = refl
-is_identifier-octet_of Real = refl
-is_identifier-octet_of Enumerated = refl
-is_identifier-octet_of Utf8String = refl
-is_identifier-octet_of RelativeOid = refl
-is_identifier-octet_of NumericString = refl
-is_identifier-octet_of PrintableString = refl
-is_identifier-octet_of TeletexString = refl
-is_identifier-octet_of VideotexString = refl
-is_identifier-octet_of Ia5String = refl
-is_identifier-octet_of UtcTime = refl
-is_identifier-octet_of GeneralizedTime = refl
-is_identifier-octet_of GraphicString = refl
-is_identifier-octet_of VisibleString = refl
-is_identifier-octet_of GeneralString = refl
-is_identifier-octet_of UniversalString = refl
-is_identifier-octet_of BmpString = refl
-is_identifier-octet_of Sequence = refl
-is_identifier-octet_of Set = refl
-is_identifier-octet_of (Application constructed number) = class_identifier 64 number.number constructed (omega arith) (omega arith) refl number.low
-is_identifier-octet_of (ContextSpecific constructed number) = class_identifier 128 number.number constructed (omega arith) (omega arith) refl number.low
-is_identifier-octet_of (Private constructed number) = class_identifier 192 number.number constructed (omega arith) (omega arith) refl number.low
+tag_is_identifier Boolean = refl
+tag_is_identifier Integer = refl
+tag_is_identifier BitString = refl
+tag_is_identifier OctetString = refl
+tag_is_identifier Null = refl
+tag_is_identifier ObjectIdentifier = refl
+tag_is_identifier Real = refl
+tag_is_identifier Enumerated = refl
+tag_is_identifier Utf8String = refl
+tag_is_identifier RelativeOid = refl
+tag_is_identifier NumericString = refl
+tag_is_identifier PrintableString = refl
+tag_is_identifier TeletexString = refl
+tag_is_identifier VideotexString = refl
+tag_is_identifier Ia5String = refl
+tag_is_identifier UtcTime = refl
+tag_is_identifier GeneralizedTime = refl
+tag_is_identifier GraphicString = refl
+tag_is_identifier VisibleString = refl
+tag_is_identifier GeneralString = refl
+tag_is_identifier UniversalString = refl
+tag_is_identifier BmpString = refl
+tag_is_identifier Sequence = refl
+tag_is_identifier Set = refl
+tag_is_identifier (Application constructed number) = class_identifier 64 number.number constructed (omega arith) (omega arith) refl number.low
+tag_is_identifier (ContextSpecific constructed number) = class_identifier 128 number.number constructed (omega arith) (omega arith) refl number.low
+tag_is_identifier (Private constructed number) = class_identifier 192 number.number constructed (omega arith) (omega arith) refl number.low
 
 pub is_identifier-octet : (octet : ℕ) → is_identifier octet ≡ true → octet < 256
 unfolding is_identifier is_universal

@@ -4,7 +4,7 @@ ghost use Rattle.std.specs.Prelude.{◌≡◌, ◌≤◌, ◌<◌, ◌++◌, len
 ghost use Rattle.x509_der_element.specs.declared.error.ErrorKind.TheVariants as errors;
 ghost use Rattle.x509_der_element.specs.declared.tag.Tag.{Tag};
 ghost use Rattle.x509_der_element.specs.Outcome.{GivesBy};
-ghost use Rattle.x509_der_element.specs.Element.{element, limit};
+ghost use Rattle.x509_der_element.specs.Element.{element, is_identifier, limit};
 ghost use Rattle.x509_der_element.specs.ElementReading.{length_at, piece_at};
 ghost use Rattle.x509_der_element.specs.Tag.{octet_of};
 
@@ -26,6 +26,7 @@ pub struct Piece<'a> {
 
 /// The length at the front, and what follows it; `Malformed` where it is not the shortest form (X.690 10.1).
 #[tactic(auto, unfolding(crate::specs::ElementReading::length_at, crate::specs::ElementReading::one_digit, crate::specs::ElementReading::two_digits, crate::specs::ElementReading::three_digits, crate::specs::ElementReading::four_digits))]
+#[inline(always)]
 fn read_length(bytes: &[u8]) -> Result<(usize, &[u8]), Error>
     ensures exact { GivesBy (λ x. (x.0, x.1.now)) result (length_at bytes.now) }
     ensures err { IfErr result (λ e. e.kind ≡ errors.Malformed) }
@@ -46,15 +47,36 @@ fn read_length(bytes: &[u8]) -> Result<(usize, &[u8]), Error>
 }
 
 /// The element at the front, of any length; `Malformed` where none stands there.
-#[tactic(auto, unfolding(crate::specs::ElementReading::piece_at, crate::specs::ElementReading::content_at))]
 pub fn split_element(bytes: &[u8]) -> Result<Piece<'_>, Error>
+    ensures exact { GivesBy (λ x. record { tag = x.tag; content = x.content.now; rest = x.rest.now }) result (piece_at bytes.now) }
+    ensures err { IfErr result (λ e. e.kind ≡ errors.Malformed) }
+{
+    split_usual(bytes, Tag::Sequence)
+}
+
+/// Whether an element may begin with the octet. The usual identifier is looked for first.
+#[tactic(auto, using(crate::specs::TagLaws::tag_is_identifier))]
+#[inline(always)]
+fn may_begin(octet: u8, usual: Tag) -> bool
+    ensures { result ≡ is_identifier octet }
+{
+    if octet == usual.octet() {
+        return true;
+    }
+    check_identifier(octet)
+}
+
+/// As [`split_element`], of an element that mostly has this identifier.
+#[tactic(auto, unfolding(crate::specs::ElementReading::piece_at, crate::specs::ElementReading::content_at))]
+#[inline(always)]
+pub fn split_usual(bytes: &[u8], usual: Tag) -> Result<Piece<'_>, Error>
     ensures exact { GivesBy (λ x. record { tag = x.tag; content = x.content.now; rest = x.rest.now }) result (piece_at bytes.now) }
     ensures err { IfErr result (λ e. e.kind ≡ errors.Malformed) }
 {
     let [tag, after @ ..] = bytes else {
         return Err(ErrorKind::Malformed.into());
     };
-    if !check_identifier(*tag) {
+    if !may_begin(*tag, usual) {
         return Err(ErrorKind::Malformed.into());
     }
     let (len, after) = read_length(after)?;

@@ -12,7 +12,7 @@ mod tag;
 mod tests;
 
 pub use bytes::Bytes;
-pub use element::{AnyRef, Piece, check_content, split_element, take_element};
+pub use element::{AnyRef, Piece, check_content, split_element, split_usual, take_element};
 pub use error::{Error, ErrorKind};
 pub use header::Header;
 pub use length::Length;

@@ -126,6 +126,7 @@ fn class_octet(class: u8, constructed: bool, number: TagNumber) -> u8
 
 impl Tag {
     /// The identifier octet.
+    #[inline(always)]
     pub fn octet(self) -> u8
         ensures octet { result ≡ octet_of self }
     {
@@ -177,9 +178,6 @@ impl Tag {
         ensures value { (tag : Tag) → octet_of tag ≡ octet → IfOk result (λ found. found ≡ tag) }
         ensures test { is_ok result ≡ is_identifier octet }
     {
-        if !check_identifier(octet) {
-            return Err(ErrorKind::Malformed.into());
-        }
         Ok(match octet {
             0x01 => Tag::Boolean,
             0x02 => Tag::Integer,
@@ -205,7 +203,8 @@ impl Tag {
             0x1E => Tag::BmpString,
             0x30 => Tag::Sequence,
             0x31 => Tag::Set,
-            _ => Tag::of_class(octet),
+            _ if check_identifier(octet) => Tag::of_class(octet),
+            _ => return Err(ErrorKind::Malformed.into()),
         })
     }
 
@@ -239,6 +238,7 @@ impl Tag {
 
 /// Whether an element may begin with the octet.
 #[tactic(auto, unfolding(crate::specs::Element::is_identifier, crate::specs::Element::is_universal))]
+#[inline(never)]
 pub(crate) fn check_identifier(octet: u8) -> bool
     ensures { result ≡ is_identifier octet }
 {

@@ -8,7 +8,7 @@ use Rattle.x509_der_element.specs.Element.{is_identifier, is_universal}
 use Rattle.x509_der_grammar.specs.Form.{Form, IsForm, is_in}
 use Rattle.x509_der_element.specs.OutcomeLaws.{ok_is, test_ok, test_err}
 use Rattle.x509_der_element.specs.Tag.{octet_of}
-use Rattle.x509_der_element.specs.TagLaws.{is_identifier-octet_of, is_identifier-octet}
+use Rattle.x509_der_element.specs.TagLaws.{tag_is_identifier, is_identifier-octet}
 use Rattle.x509_der_element.specs.TagReading.{tag_at, tag_at-octet_of, octet_of-tag_at, same_tag}
 use Rattle.x509_der_element.specs.declared.tag.Tag.{Tag}
 use Rattle.x509_der_grammar.specs.Writing.{Written}
@@ -45,7 +45,7 @@ any_sound t c v e =
 
 any_complete : (v : Any) → Unit {0} → any_reading (octet_of v.tag) v.value ≡ Ok v
 unfolding any_reading
-any_complete v g = rw (is_identifier-octet_of v.tag, tag_at-octet_of v.tag) refl
+any_complete v g = rw (tag_is_identifier v.tag, tag_at-octet_of v.tag) refl
 
 any_refused : (t : ℕ) (c : List ℕ) (e : ErrorKind) → any_reading t c ≡ Err e → e ≡ Malformed
 unfolding any_reading
@@ -61,14 +61,14 @@ unfolding any_reading
 any_not_found t c e = rw e refl
 
 pub begins_an_element : (t : ℕ) (tag : Tag) → octet_of tag ≡ t → is_identifier t ≡ false → ⊥
-begins_an_element t tag e n = let is = is_identifier-octet_of tag in cc
+begins_an_element t tag e n = let is = tag_is_identifier tag in cc
 
 pub any_lawful : {R : ErrorKind → Type 0} → IsForm R any
 any_lawful = record {
   sound = any_sound;
   complete = any_complete;
   refused = λ t c e h. inl (any_refused t c e h);
-  tagged = λ v g. let is = is_identifier-octet_of v.tag in (sym (is_in_identifiers (octet_of v.tag) (is_identifier-octet (octet_of v.tag) is)) ∙ is, is);
+  tagged = λ v g. let is = tag_is_identifier v.tag in (sym (is_in_identifiers (octet_of v.tag) (is_identifier-octet (octet_of v.tag) is)) ∙ is, is);
 }
 
 -- by the content alone: the identifier octets stay out

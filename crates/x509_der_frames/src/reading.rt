@@ -10,7 +10,7 @@ ghost use Rattle.x509_der_frames.specs.Frames.{optional, defaulted, explicit, im
 
 use crate::standard::Standard;
 use std::alloc::Global;
-use x509_der_grammar::{Decode, Error, ErrorKind, FixedTag, read_whole, split_element};
+use x509_der_grammar::{Decode, Error, ErrorKind, FixedTag, read_whole, split_element, split_usual};
 
 /// The end of a sequence; `Malformed` where bytes are left.
 pub fn end(rest: &[u8]) -> Result<(), Error>
@@ -43,7 +43,7 @@ pub fn field<T: Decode>(alloc: Global, rest: &mut &[u8]) -> Result<T, Error>
     ensures unchanged { OnErr result (rest.new.now ≡ rest.old.now) }
     ensures memory { IfErr result (λ e. e.kind ≡ Memory → T.wants_memory) }
 {
-    let piece = split_element(*rest)?;
+    let piece = split_usual(*rest, T::usual())?;
     let value = T::read(alloc, piece.tag, piece.content)?;
     *rest = piece.rest;
     Ok(value)

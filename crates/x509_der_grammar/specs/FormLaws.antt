@@ -9,7 +9,7 @@ use Rattle.x509_der_element.specs.OutcomeLaws.{bind_ok, bind_err, test_ok, test_
 use Rattle.x509_der_element.specs.Element.{element, is_identifier}
 use Rattle.x509_der_element.specs.ElementReading.{piece_at}
 use Rattle.x509_der_element.specs.Tag.{octet_of}
-use Rattle.x509_der_element.specs.TagLaws.{is_identifier-octet_of}
+use Rattle.x509_der_element.specs.TagLaws.{tag_is_identifier}
 use Rattle.x509_der_element.specs.ElementLaws.{piece_at-sound, piece_at-whole, piece_at-refused}
 use Rattle.x509_der_grammar.specs.Form.{is_in, is_empty, Form, spelling, IsForm, Contents, IsContents, alone, whole_reading, under, universal}
 
@@ -34,7 +34,7 @@ under_lawful tag c identifier h = record {
 
 -- contents under one identifier
 pub universal_lawful : {X : Type 0} {R : ErrorKind → Type 0} (tag : Tag) (c : Contents X) → IsContents R c → IsForm R (universal tag c)
-universal_lawful tag c h = under_lawful (octet_of tag) c (is_identifier-octet_of tag) h
+universal_lawful tag c h = under_lawful (octet_of tag) c (tag_is_identifier tag) h
 
 -- ---- one whole element
 

@@ -62,6 +62,10 @@ impl<T: Content> Grammar for T {
         octet == T::IDENTIFIER.octet()
     }
 
+    fn usual() -> Tag {
+        T::IDENTIFIER
+    }
+
     ghost lawful = { universal_lawful T.IDENTIFIER T.contents T.contents_lawful };
 }
 

@@ -8,7 +8,7 @@ ghost use Rattle.x509_der_element.specs.Tag.{octet_of};
 
 use crate::grammar::Grammar;
 use std::alloc::Global;
-use x509_der_element::{Error, ErrorKind, Length, Tag, split_element};
+use x509_der_element::{Error, ErrorKind, Length, Tag, split_usual};
 
 /// A type that is read from its spelling.
 pub trait Decode: Grammar {
@@ -53,7 +53,7 @@ pub fn read_whole<T: Decode>(alloc: Global, bytes: &[u8]) -> Result<T, Error>
     ensures exact { Gives result (whole_reading T.form.reading bytes.now) }
     ensures memory { IfErr result (λ e. e.kind ≡ Memory → T.wants_memory) }
 {
-    let piece = split_element(bytes)?;
+    let piece = split_usual(bytes, T::usual())?;
     if !piece.rest.is_empty() {
         return Err(ErrorKind::Malformed.into());
     }

@@ -22,6 +22,11 @@ pub trait Grammar: Sized {
     fn is_start(octet: u8) -> bool
         ensures { result ≡ is_in octet form.starts };
 
+    /// The identifier that most values have: the one that readers look for first.
+    fn usual() -> Tag {
+        Tag::Sequence
+    }
+
     ghost lawful: { IsForm refuses form };
 }
 

@@ -11,7 +11,7 @@ impl Grammar for Bytes {
     ghost use Rattle.x509_der_grammar.specs.Form.{universal};
     ghost use Rattle.x509_der_grammar.specs.FormLaws.{universal_lawful};
     ghost use Rattle.x509_der_element.specs.OutcomeLaws.{ok_is, not_refused};
-    ghost use Rattle.x509_der_element.specs.TagLaws.{is_identifier-octet_of};
+    ghost use Rattle.x509_der_element.specs.TagLaws.{tag_is_identifier};
     ghost use Rattle.x509_der_element.specs.declared.tag.Tag.TheVariants as tags;
 
     ghost form = { universal (record { tag = 4; octets = λ octets. octets; good = λ octets. Unit {0}; reading = λ bytes. Ok bytes }) };
@@ -24,7 +24,7 @@ impl Grammar for Bytes {
         octet == 0x04
     }
 
-    ghost lawful = { universal_lawful (record { tag = 4; octets = λ octets. octets; good = λ octets. Unit {0}; reading = λ bytes. Ok bytes }) (record { sound = λ bytes value e. (tt, ok_is bytes value e); complete = λ value good. refl; refused = λ bytes e r. not_refused bytes e r; identifier = is_identifier-octet_of tags.OctetString }) };
+    ghost lawful = { universal_lawful (record { tag = 4; octets = λ octets. octets; good = λ octets. Unit {0}; reading = λ bytes. Ok bytes }) (record { sound = λ bytes value e. (tt, ok_is bytes value e); complete = λ value good. refl; refused = λ bytes e r. not_refused bytes e r; identifier = tag_is_identifier tags.OctetString }) };
 }
 
 impl Decode for Bytes {

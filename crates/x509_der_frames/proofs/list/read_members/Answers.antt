@@ -7,7 +7,7 @@ use Rattle.x509_der_frames.proofs.list.read_members.Goals as goal
 
 pub returns-in_err-item : goal.returns-in_err-item
 returns-in_err-item g c =
-    let p = err_from_is_err_and c.from_residual.result c.from_residual.ensures.1 in
+    let p = err_from_is_err_and c.from_residual-in_err-item.result c.from_residual-in_err-item.ensures.1 in
     let r = g.T.Grammar.form.reading in
     let more : 0 < length c.loop-rest.rest.now = grind (arith, nat_tests) in
     record { exact = rw (p.1, p.2) (ends_refused c.in_err-item.field-0.0.kind r c.loop-rest.items.items c.loop-rest.rest.now (list_reading r c.args.bytes.now) c.in_err-item.ensures.exact more c.loop-rest.invariant) }
