@@ -9,7 +9,7 @@ mod reading;
 mod standard;
 
 pub use any::{Any, FromAny};
-pub use list::{SequenceOf, clone_members, put_members, read_members};
+pub use list::{SequenceOf, clone_members, put_members, read_further, read_members};
 pub use part::{
     PutPart, Retagged, Wrapped, defaulted, explicit, explicit_default, explicit_optional, implicit,
     implicit_default, implicit_optional, optional,

@@ -4,7 +4,7 @@ ghost use Rattle.std.specs.Prelude.{◌≡◌, ◌↔◌, ◌++◌, [], ◌∷�
 ghost use Rattle.x509_der_element.specs.declared.error.ErrorKind.TheVariants.{Memory};
 ghost use Rattle.x509_der_element.specs.Outcome.{GivesBy};
 ghost use Rattle.x509_der_grammar.specs.Writing.{Puts, writes};
-ghost use Rattle.x509_der_frames.specs.List.{list_reading, members_text, members_refusal};
+ghost use Rattle.x509_der_frames.specs.List.{list_reading, with_front, members_text, members_refusal};
 
 use crate::reading::field;
 use std::alloc::Global;
@@ -169,7 +169,18 @@ fn count_elements(bytes: &[u8]) -> usize {
 pub fn read_members<T: Decode + Drop>(alloc: Global, bytes: &[u8]) -> Result<Vec<T>, Error>
     ensures exact { GivesBy (λ v. v.items) result (list_reading T.form.reading bytes.now) }
 {
-    let mut items = Vec::with_capacity(alloc, count_elements(bytes))?;
+    read_further(alloc, Vec::new(alloc), bytes)
+}
+
+/// The items, and behind them the values that [`read_members`] answers.
+pub fn read_further<T: Decode + Drop>(
+    alloc: Global,
+    mut items: Vec<T>,
+    bytes: &[u8],
+) -> Result<Vec<T>, Error>
+    ensures exact { GivesBy (λ v. v.items) result (with_front items.items (list_reading T.form.reading bytes.now)) }
+{
+    items.reserve(count_elements(bytes))?;
     let mut rest = bytes;
     while !rest.is_empty() {
         let item = field::<T>(alloc, &mut rest)?;
