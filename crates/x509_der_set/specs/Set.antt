@@ -6,7 +6,7 @@ use Rattle.std.specs.Ordering.{is_lt}
 use Rattle.x509_der_element.specs.declared.error.ErrorKind.{ErrorKind}
 use Rattle.x509_der_element.specs.declared.error.ErrorKind.TheVariants.{Malformed}
 use Rattle.x509_der_element.specs.Outcome.{◌>>=◌}
-use Rattle.x509_der_grammar.specs.Form.{Form, Content, spelling}
+use Rattle.x509_der_grammar.specs.Form.{Form, Contents, spelling}
 use Rattle.x509_der_order.specs.Order.{Order}
 use Rattle.x509_der_frames.specs.List.{joined, all_good, list_reading}
 
@@ -32,8 +32,8 @@ set_reading order read bytes = list_reading read bytes >>= if_rising order
 
 -- ---- the form
 
-abbrev pub set_of : {X : Type 0} → Form X → Order X → Content (List X)
-set_of form order = record { tag = 0x31; octets = joined (spelling form); good = set_good order form.good; reading = set_reading order form.reading }
+abbrev pub set_of : {X : Type 0} → Form X → Order X → Contents (List X)
+set_of form order = record { octets = joined (spelling form); good = set_good order form.good; reading = set_reading order form.reading }
 
 -- ---- members
 

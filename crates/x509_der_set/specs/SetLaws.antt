@@ -10,8 +10,8 @@ use Rattle.std.proofs.lemmas.Bool.{and_parts, cases_Bool, true≢false}
 use Rattle.x509_der_element.specs.declared.error.ErrorKind.{ErrorKind}
 use Rattle.x509_der_element.specs.declared.error.ErrorKind.TheVariants.{Malformed}
 use Rattle.x509_der_element.specs.OutcomeLaws.{ok_is, bind_ok, bind_err, test_ok, test_err}
-use Rattle.x509_der_element.specs.Element.{is_identifier, is_universal}
-use Rattle.x509_der_grammar.specs.Form.{Form, IsForm, IsContent, universal, spelling}
+use Rattle.x509_der_element.specs.declared.tag.Tag.TheVariants.{Set}
+use Rattle.x509_der_grammar.specs.Form.{Form, IsForm, IsContents, universal, spelling}
 use Rattle.x509_der_grammar.specs.Writing.{Writing, writes}
 use Rattle.x509_der_order.specs.Order.{Order, IsOrder, der_order}
 use Rattle.x509_der_order.specs.Ordered.{der_lawful, by_members, by_members_lawful}
@@ -51,11 +51,7 @@ not_rising R xs n = elim (cases_Bool (is_rising R xs)) [ inl y ↦ absurd (n (so
 pub not_sorted : {X : Type 0} (R : Order X) (xs : List X) → is_rising R xs ≡ false → ¬ IsStrictlySortedBy R xs
 not_sorted R xs e s = true≢false (sym (rising_from_sorted R xs s) ∙ e)
 
-set_identifier : is_identifier 0x31 ≡ true
-unfolding is_identifier is_universal
-set_identifier = refl
-
-pub set_lawful : {X : Type 0} {Q : ErrorKind → Type 0} (f : Form X) (R : Order X) → IsForm Q f → IsContent Q (set_of f R)
+pub set_lawful : {X : Type 0} {Q : ErrorKind → Type 0} (f : Form X) (R : Order X) → IsForm Q f → IsContents Q (set_of f R)
 unfolding set_reading set_good
 set_lawful {X} f R h =
     let l = list_lawful f h in record {
@@ -70,11 +66,10 @@ set_lawful {X} f R h =
             | inl k ↦ l.refused bytes e k
             | inr k ↦ elim (test_err (is_rising R k.0) Malformed (Ok k.0) e k.2) [ inl j ↦ absurd (let x = j in cc) | inr j ↦ inl (sym j) ]
           ];
-      identifier = set_identifier;
     }
 
-pub set_ordered : {X : Type 0} (f : Form X) (w : Writing X) (order : Order X) → IsOrder f (writes w) order → IsOrder (universal (set_of f (der_order f (writes w) order))) (writes (members_writing w)) (by_members (der_order f (writes w) order))
+pub set_ordered : {X : Type 0} (f : Form X) (w : Writing X) (order : Order X) → IsOrder f (writes w) order → IsOrder (universal Set (set_of f (der_order f (writes w) order))) (writes (members_writing w)) (by_members (der_order f (writes w) order))
 unfolding joined set_good
 set_ordered f w order h =
-    by_members_lawful (der_lawful f (writes w) order h) (joined (spelling f)) refl (λ x xs. refl) (universal (set_of f (der_order f (writes w) order))) (writes (members_writing w)) (λ xs. refl)
+    by_members_lawful (der_lawful f (writes w) order h) (joined (spelling f)) refl (λ x xs. refl) (universal Set (set_of f (der_order f (writes w) order))) (writes (members_writing w)) (λ xs. refl)
     (λ xs e. members_have_encodings f w 0x31 xs e.0.0 e.1 e.2)

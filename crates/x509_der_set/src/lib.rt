@@ -2,6 +2,7 @@
 #![tactic(auto)]
 
 pub mod laws;
+mod members;
 mod places;
 mod set;
 #[cfg(test)]

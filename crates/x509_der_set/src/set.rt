@@ -10,23 +10,22 @@ ghost use Rattle.x509_der_element.specs.declared.error.ErrorKind.TheVariants as 
 ghost use Rattle.x509_der_order.specs.Order.{der_order};
 ghost use Rattle.x509_der_set.specs.Set.{AreDistinct};
 
+use crate::members::Members;
 use crate::places::{is_rising, place};
 use std::alloc::Global;
 use std::cmp::Ordering;
 use std::hash::{Hash, Hasher};
 use std::marker::Model;
 use std::{fmt, slice};
-use x509_der_frames::{clone_members, put_members, read_members};
-use x509_der_grammar::{
-    Decode, Encode, Error, ErrorKind, FixedTag, Grammar, Room, Tag, TryClone, expect_tag,
-};
+use x509_der_frames::put_members;
+use x509_der_grammar::{Content, Decode, Error, ErrorKind, Room, Tag, TryClone};
 use x509_der_order::{DerOrd, ValueOrd, cmp_members};
 
 /// The members of a SET OF, no two of them equal, in the byte order of their encodings (X.690 11.6). Contracts see
 /// their list.
 #[derive(Drop)]
 pub struct SetOfVec<T: DerOrd> {
-    members: Vec<T>,
+    members: Members<T>,
 }
 
 impl<T: DerOrd> Model for SetOfVec<T> {
@@ -37,19 +36,19 @@ impl<T: DerOrd> Model for SetOfVec<T> {
 
     ghost Value = { List T };
 
-    ghost view = { λ set. set.members.items };
+    ghost view = { λ set. set.members };
 
-    ghost invariant = { λ set. IsStrictlySortedBy (der_order T.form (writes T.writing) T.order) set.members.items };
+    ghost invariant = { λ set. IsStrictlySortedBy (der_order T.form (writes T.writing) T.order) set.members };
 }
 
 /// Puts the item in its place among the members. Where it is refused they are as they were.
-fn put<T: DerOrd + Drop>(members: &mut Vec<T>, item: T) -> Result<(), Error>
-    requires { IsStrictlySortedBy (der_order T.form (writes T.writing) T.order) members.old.items }
-    ensures put { OnOk result (IsPermutation (item ∷ members.old.items) members.new.items) }
-    ensures sorted { IsStrictlySortedBy (der_order T.form (writes T.writing) T.order) members.new.items }
-    ensures duplicate { Contains members.old.items item → IsErrAnd result (λ e. e.kind ≡ errors.SetDuplicate) }
-    ensures err { IfErr result (λ e. (e.kind ≡ errors.Memory) ⊎ ((e.kind ≡ errors.SetDuplicate) × Contains members.old.items item)) }
-    ensures unchanged { OnErr result (members.new.items ≡ members.old.items) }
+fn put<T: DerOrd + Drop>(members: &mut Members<T>, item: T) -> Result<(), Error>
+    requires { IsStrictlySortedBy (der_order T.form (writes T.writing) T.order) members.old }
+    ensures put { OnOk result (IsPermutation (item ∷ members.old) members.new) }
+    ensures sorted { IsStrictlySortedBy (der_order T.form (writes T.writing) T.order) members.new }
+    ensures duplicate { Contains members.old item → IsErrAnd result (λ e. e.kind ≡ errors.SetDuplicate) }
+    ensures err { IfErr result (λ e. (e.kind ≡ errors.Memory) ⊎ ((e.kind ≡ errors.SetDuplicate) × Contains members.old item)) }
+    ensures unchanged { OnErr result (members.new ≡ members.old) }
 {
     match place(members.as_slice(), &item) {
         Ok(_) => Err(ErrorKind::SetDuplicate.into()),
@@ -66,7 +65,7 @@ impl<T: DerOrd> SetOfVec<T> {
         ensures { result ≡ [] }
     {
         SetOfVec {
-            members: Vec::new(alloc),
+            members: Members::new(alloc),
         }
     }
 
@@ -83,7 +82,9 @@ impl<T: DerOrd> SetOfVec<T> {
         if !is_rising(items.as_slice()) {
             return Err(ErrorKind::SetDuplicate.into());
         }
-        Ok(SetOfVec { members: items })
+        Ok(SetOfVec {
+            members: Members::from_vec(items),
+        })
     }
 
     /// Puts the item in its place; `SetDuplicate` exactly where an equal member is there, and memory may be refused.
@@ -129,87 +130,65 @@ impl<T: DerOrd> SetOfVec<T> {
     pub fn len(&self) -> usize
         ensures { result ≡ length self.now }
     {
-        self.members.len()
+        self.as_slice().len()
     }
 
     /// Whether there are none.
     pub fn is_empty(&self) -> bool
         ensures { IsTrue result ↔ (self.now ≡ []) }
     {
-        self.members.is_empty()
+        self.as_slice().is_empty()
     }
 
-    /// The vector of the members, in their order, without a copy.
-    pub fn into_vec(self) -> Vec<T>
-        ensures members { result.items ≡ self }
+    /// The vector of the members, in their order. One alone is moved into a vector, for which memory may be refused.
+    pub fn into_vec(self) -> Result<Vec<T>, Error>
+    where
+        T: Drop,
+        ensures members { IfOk result (λ members. members.items ≡ self) }
+        ensures err { IfErr result (λ e. e.kind ≡ errors.Memory) }
         ensures sorted { IsStrictlySortedBy (der_order T.form (writes T.writing) T.order) self }
     {
         let SetOfVec { members } = self;
-        members
+        members.into_vec()
     }
 }
 
-impl<T: DerOrd> Grammar for SetOfVec<T> {
-    ghost use Rattle.x509_der_grammar.specs.Form.{universal};
-    ghost use Rattle.x509_der_grammar.specs.FormLaws.{universal_lawful};
+impl<T: Decode + DerOrd + Drop> Content for SetOfVec<T> {
+    ghost use Rattle.x509_der_element.specs.declared.tag.Tag.TheVariants.{Set};
+    ghost use Rattle.x509_der_frames.specs.List.{members_writing};
     ghost use Rattle.x509_der_grammar.specs.Writing.{writes};
     ghost use Rattle.x509_der_order.specs.Order.{der_order};
     ghost use Rattle.x509_der_set.specs.Set.{set_of};
     ghost use Rattle.x509_der_set.specs.SetLaws.{set_lawful};
 
-    ghost form = { universal (set_of T.form (der_order T.form (writes T.writing) T.order)) };
+    ghost contents = { set_of T.form (der_order T.form (writes T.writing) T.order) };
 
-    ghost refuses = { T.refuses };
+    ghost refusals = { T.refuses };
 
-    fn identifier(&self) -> Tag {
-        Tag::Set
-    }
+    ghost written_as = { members_writing T.writing };
 
-    fn is_start(octet: u8) -> bool {
-        octet == 0x31
-    }
+    ghost IDENTIFIER = { Set };
 
-    ghost lawful = { universal_lawful (set_of T.form (der_order T.form (writes T.writing) T.order)) (set_lawful T.form (der_order T.form (writes T.writing) T.order) T.lawful) };
-}
+    const IDENTIFIER: Tag = Tag::Set;
 
-#[tactic(auto, unfolding(crate::specs::Set::set_reading))]
-impl<T: DerOrd + Decode + Drop> Decode for SetOfVec<T> {
-    fn read(alloc: Global, tag: u8, content: &[u8]) -> Result<SetOfVec<T>, Error> {
-        expect_tag(tag, Tag::Set)?;
-        let members = read_members::<T>(alloc, content)?;
+    #[tactic(auto, unfolding(crate::specs::Set::set_reading))]
+    fn read_content(alloc: Global, octets: &[u8]) -> Result<SetOfVec<T>, Error> {
+        let members = Members::<T>::read(alloc, octets)?;
         if !is_rising(members.as_slice()) {
             return Err(ErrorKind::Malformed.into());
         }
         Ok(SetOfVec { members })
     }
-}
-
-impl<T: DerOrd> Encode for SetOfVec<T> {
-    ghost use Rattle.std.specs.Prelude.{refl};
-    ghost use Rattle.x509_der_frames.specs.List.{members_writing};
-
-    ghost writing = { members_writing T.writing };
 
     #[tactic(auto, using(x509_der_frames::specs::ListWriting::puts_list))]
-    fn put_content<R: Room>(&self, room: &mut R) -> Result<(), Error> {
+    fn write_content<R: Room>(&self, room: &mut R) -> Result<(), Error> {
         put_members(self.as_slice(), room)
     }
 
-    ghost same_tag = { λ value. refl };
+    ghost contents_lawful = { set_lawful T.form (der_order T.form (writes T.writing) T.order) T.lawful };
 }
 
-impl<T: DerOrd> FixedTag for SetOfVec<T> {
-    ghost use Rattle.std.specs.Prelude.{refl};
-    ghost use Rattle.x509_der_element.specs.declared.tag.Tag.TheVariants.{Set};
-
-    ghost TAG = { Set };
-
-    const TAG: Tag = Tag::Set;
-
-    ghost fixed = { λ value good. refl };
-}
-
-impl<T: DerOrd> ValueOrd for SetOfVec<T> {
+impl<T: Decode + DerOrd + Drop> ValueOrd for SetOfVec<T> {
     ghost use Rattle.x509_der_grammar.specs.Writing.{writes};
     ghost use Rattle.x509_der_order.specs.Order.{der_order};
     ghost use Rattle.x509_der_order.specs.Ordered.{by_members};
@@ -227,7 +206,7 @@ impl<T: DerOrd> ValueOrd for SetOfVec<T> {
 impl<T: DerOrd + TryClone + Drop> TryClone for SetOfVec<T> {
     fn try_clone(&self, alloc: Global) -> Result<SetOfVec<T>, Error> {
         Ok(SetOfVec {
-            members: clone_members(alloc, self.as_slice())?,
+            members: self.members.copy(alloc)?,
         })
     }
 }

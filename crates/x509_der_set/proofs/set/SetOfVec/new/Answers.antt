@@ -3,4 +3,4 @@ use Rattle.x509_der_set.proofs.set.SetOfVec.new.Goals as goal
 
 pub invariant_of-result : goal.invariant_of-result
 unfolding IsStrictlySortedBy
-invariant_of-result g c = rw c.new.ensures.items tt
+invariant_of-result g c = rw c.new.ensures tt

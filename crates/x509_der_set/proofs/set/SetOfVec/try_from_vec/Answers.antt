@@ -16,10 +16,10 @@ returns-then-not-is_rising-clause-err g c =
     (search rules, λ distinct. not_sorted _ c.sort_unstable_by.new.self.items (rw (← c.as_slice.ensures.value) (sym c.is_rising.ensures ∙ c.if-not-is_rising.true)) (rising_from_distinct lawful.total lawful.exact c.args.items.items c.sort_unstable_by.new.self.items c.sort_unstable_by.ensures.permutation sorted distinct))
 
 pub invariant_of-result : goal.invariant_of-result
-invariant_of-result g c = sorted_from_rising _ c.sort_unstable_by.new.self.items (rw (← c.as_slice.ensures.value) (sym c.is_rising.ensures ∙ c.if-not-is_rising.false))
+invariant_of-result g c = rw c.from_vec.ensures (sorted_from_rising _ c.sort_unstable_by.new.self.items (rw (← c.as_slice.ensures.value) (sym c.is_rising.ensures ∙ c.if-not-is_rising.false)))
 
 pub returns-clause-ok : goal.returns-clause-ok
-returns-clause-ok g c = (c.sort_unstable_by.ensures.permutation, sorted_from_rising _ c.sort_unstable_by.new.self.items (rw (← c.as_slice.ensures.value) (sym c.is_rising.ensures ∙ c.if-not-is_rising.false)))
+returns-clause-ok g c = rw c.from_vec.ensures (c.sort_unstable_by.ensures.permutation, sorted_from_rising _ c.sort_unstable_by.new.self.items (rw (← c.as_slice.ensures.value) (sym c.is_rising.ensures ∙ c.if-not-is_rising.false)))
 
 pub returns-clause-distinct : goal.returns-clause-distinct
 returns-clause-distinct g c =
