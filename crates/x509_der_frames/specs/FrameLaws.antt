@@ -31,7 +31,7 @@ explicit_lawful n f low h = under_lawful (160 + n) (explicit_contents f) (explic
 pub implicit_lawful : {X : Type 0} {R : ErrorKind → Type 0} (n tag : ℕ) (f : Form X) → ltb n 31 ≡ true → HasTag tag f → IsForm R f → IsForm R (implicit n tag f)
 implicit_lawful n tag f low fixed h = under_lawful (implicit_tag n tag) (implicit_contents tag f) (implicit_identifier n tag low) (record {
   sound = λ bytes v e. let s = h.sound tag bytes v e in (s.0, s.2);
-  complete = λ v g. rw (← fixed v g) (h.complete v g);
+  complete = λ v g. rw (← fixed v) (h.complete v g);
   refused = λ bytes e r. h.refused tag bytes e r;
 })
 

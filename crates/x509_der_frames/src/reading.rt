@@ -10,7 +10,9 @@ ghost use Rattle.x509_der_frames.specs.Frames.{optional, defaulted, explicit, im
 
 use crate::standard::Standard;
 use std::alloc::Global;
-use x509_der_grammar::{Decode, Error, ErrorKind, FixedTag, read_whole, split_element, split_usual};
+use x509_der_grammar::{
+    Decode, Error, ErrorKind, FixedTag, read_whole, split_element, split_usual,
+};
 
 /// The end of a sequence; `Malformed` where bytes are left.
 pub fn end(rest: &[u8]) -> Result<(), Error>

@@ -42,7 +42,7 @@ pub record IsForm {X : Type 0} (R : ErrorKind → Type 0) (form : Form X) : Type
 
 -- each value has this identifier octet
 abbrev pub HasTag : {X : Type 0} → ℕ → Form X → Type 0
-HasTag {X} tag form = (value : X) → form.good value → form.tag value ≡ tag
+HasTag {X} tag form = (value : X) → form.tag value ≡ tag
 
 -- ---- a content under one identifier
 

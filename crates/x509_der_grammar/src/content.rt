@@ -76,7 +76,7 @@ impl<T: Content> FixedTag for T {
 
     const TAG: Tag = T::IDENTIFIER;
 
-    ghost fixed = { λ value good. refl };
+    ghost fixed = { λ value. refl };
 }
 
 impl<T: Content> Decode for T {

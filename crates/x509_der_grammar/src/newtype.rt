@@ -2,6 +2,9 @@
 
 use crate::clone::TryClone;
 use crate::content::Content;
+use crate::decode::Decode;
+use crate::encode::Encode;
+use crate::grammar::FixedTag;
 use crate::room::Room;
 use std::alloc::Global;
 use x509_der_element::{Error, Tag};
@@ -39,29 +42,29 @@ where
 #[tactic(auto, using(crate::specs::Round::round_within, crate::specs::Round::round_refusal))]
 impl<T: Newtype> Content for T
 where
-    T::Inner: Content,
+    T::Inner: FixedTag + Decode + Encode,
 {
     ghost use Rattle.x509_der_grammar.specs.Round.{round_contents, round_writing, round_lawful};
 
-    ghost contents = { round_contents T.round T.Inner.contents };
+    ghost contents = { round_contents T.round T.Inner.TAG T.Inner.form };
 
-    ghost refusals = { T.Inner.refusals };
+    ghost refusals = { T.Inner.refuses };
 
-    ghost takes_memory = { T.Inner.takes_memory };
+    ghost takes_memory = { T.Inner.wants_memory };
 
-    ghost written_as = { round_writing T.round T.Inner.written_as };
+    ghost written_as = { round_writing T.round T.Inner.writing };
 
-    ghost IDENTIFIER = { T.Inner.IDENTIFIER };
+    ghost IDENTIFIER = { T.Inner.TAG };
 
-    const IDENTIFIER: Tag = T::Inner::IDENTIFIER;
+    const IDENTIFIER: Tag = T::Inner::TAG;
 
     fn read_content(alloc: Global, octets: &[u8]) -> Result<T, Error> {
-        Ok(T::from_inner(T::Inner::read_content(alloc, octets)?))
+        Ok(T::from_inner(T::Inner::read(alloc, T::Inner::TAG.octet(), octets)?))
     }
 
     fn write_content<R: Room>(&self, room: &mut R) -> Result<(), Error> {
-        self.inner().write_content(room)
+        self.inner().put_content(room)
     }
 
-    ghost contents_lawful = { round_lawful T.round T.Inner.contents T.Inner.contents_lawful };
+    ghost contents_lawful = { round_lawful T.round T.Inner.TAG T.Inner.form T.Inner.fixed T.Inner.lawful };
 }

@@ -3,11 +3,13 @@
 
 pub mod laws;
 mod members;
+mod newtype;
 mod number;
 mod order;
 #[cfg(test)]
 mod tests;
 
 pub use members::cmp_members;
+pub use newtype::NewtypeOrd;
 pub use number::cmp_naturals;
 pub use order::{DerOrd, ValueOrd};

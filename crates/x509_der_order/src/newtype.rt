@@ -1,0 +1,23 @@
+//! The order of types round one value.
+
+use crate::order::ValueOrd;
+use std::cmp::Ordering;
+use x509_der_grammar::{Decode, FixedTag, Newtype};
+
+/// A type round one value, which is compared as that value is: from it comes [`ValueOrd`].
+pub trait NewtypeOrd: Newtype {}
+
+impl<T: NewtypeOrd> ValueOrd for T
+where
+    T::Inner: FixedTag + Decode + ValueOrd,
+{
+    ghost use Rattle.x509_der_order.specs.RoundOrder.{round_order, round_ordered};
+
+    ghost order = { round_order T.round T.Inner.order };
+
+    fn value_cmp(&self, other: &T) -> Ordering {
+        self.inner().value_cmp(other.inner())
+    }
+
+    ghost ordered = { round_ordered T.round T.Inner.TAG T.Inner.form T.Inner.fixed T.Inner.writing T.Inner.order T.Inner.ordered };
+}
