@@ -6,7 +6,7 @@ ghost use Rattle.x509_der_element.specs.declared.error.ErrorKind.TheVariants.{Fa
 ghost use Rattle.x509_der_oid.specs.Arcs.{AreArcs, content_of, dotted};
 ghost use Rattle.x509_der_oid.specs.ObjectIdentifier.{arcs_of, first_arc, is_object_identifier};
 
-use crate::content::{Content, MAX_OCTETS};
+use crate::content::{ContentOctets, MAX_OCTETS};
 use crate::numbers::Numbers;
 use std::fmt;
 use std::hash::{Hash, Hasher};
@@ -115,7 +115,7 @@ impl ObjectIdentifier {
         let Some(arcs) = Numbers::arcs_in(text) else {
             return Err(ErrorKind::Failed.into());
         };
-        let Some(content) = Content::of_arcs(arcs.as_slice()) else {
+        let Some(content) = ContentOctets::of_arcs(arcs.as_slice()) else {
             return Err(ErrorKind::Failed.into());
         };
         Ok(ObjectIdentifier::from_checked(content.as_slice()))
