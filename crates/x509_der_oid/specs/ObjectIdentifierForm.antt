@@ -3,8 +3,8 @@ use Rattle.std.specs.Prelude.{◌≡◌, ℕ, true, List, Result, Ok, Err, if◌
 use Rattle.std.proofs.Common.{inl, inr, sym}
 use Rattle.x509_der_element.specs.declared.error.ErrorKind.{ErrorKind}
 use Rattle.x509_der_element.specs.declared.error.ErrorKind.TheVariants.{Malformed}
-use Rattle.x509_der_element.specs.Element.{is_identifier, is_universal}
-use Rattle.x509_der_grammar.specs.Form.{Form, IsForm, Content, IsContent, universal}
+use Rattle.x509_der_element.specs.declared.tag.Tag.TheVariants.{ObjectIdentifier}
+use Rattle.x509_der_grammar.specs.Form.{Form, IsForm, Contents, IsContents, universal}
 use Rattle.x509_der_grammar.specs.FormLaws.{universal_lawful}
 use Rattle.x509_der_element.specs.OutcomeLaws.{ok_is, test_ok, test_err}
 use Rattle.x509_der_grammar.specs.Writing.{Written}
@@ -21,11 +21,11 @@ IsContentOfArcs content = (arcs : List ℕ) × AreArcs arcs × (content ≡ cont
 unfoldable pub object_identifier_reading : List ℕ → Result (List ℕ) ErrorKind
 object_identifier_reading bytes = if is_object_identifier bytes then Ok bytes else Err Malformed
 
-abbrev pub object_identifier_content : Content (List ℕ)
-object_identifier_content = record { tag = 0x06; octets = λ content. content; good = IsContentOfArcs; reading = object_identifier_reading }
+abbrev pub object_identifier_contents : Contents (List ℕ)
+object_identifier_contents = record { octets = λ content. content; good = IsContentOfArcs; reading = object_identifier_reading }
 
 abbrev pub object_identifier : Form (List ℕ)
-object_identifier = universal object_identifier_content
+object_identifier = universal ObjectIdentifier object_identifier_contents
 
 pub arcs_pass : (content : List ℕ) → IsContentOfArcs content → is_object_identifier content ≡ true
 arcs_pass content h = rw h.2 (content_of-passes h.0 h.1)
@@ -48,12 +48,11 @@ object_identifier_refused : (bytes : List ℕ) (e : ErrorKind) → object_identi
 unfolding object_identifier_reading
 object_identifier_refused bytes e h = elim (test_err (is_object_identifier bytes) Malformed (Ok bytes) e h) [ inl j ↦ absurd (let x = j in cc) | inr j ↦ sym j ]
 
-pub object_identifier_content_lawful : {R : ErrorKind → Type 0} → IsContent R object_identifier_content
-unfolding is_identifier is_universal
-object_identifier_content_lawful = record { sound = object_identifier_sound; complete = object_identifier_complete; refused = λ bytes e r. inl (object_identifier_refused bytes e r); identifier = refl }
+pub object_identifier_contents_lawful : {R : ErrorKind → Type 0} → IsContents R object_identifier_contents
+object_identifier_contents_lawful = record { sound = object_identifier_sound; complete = object_identifier_complete; refused = λ bytes e r. inl (object_identifier_refused bytes e r) }
 
 pub object_identifier_lawful : {R : ErrorKind → Type 0} → IsForm R object_identifier
-object_identifier_lawful = universal_lawful object_identifier_content object_identifier_content_lawful
+object_identifier_lawful = universal_lawful ObjectIdentifier object_identifier_contents object_identifier_contents_lawful
 
 pub object_identifier_ordered : (write : List ℕ → Written (List ℕ)) → IsOrder object_identifier write (by_bytes object_identifier)
 object_identifier_ordered write = by_bytes_lawful object_identifier write (λ x y p q. q)

@@ -1,62 +1,35 @@
 //! OBJECT IDENTIFIER, read and written (X.690 8.19).
 
-ghost use Rattle.std.specs.Prelude.{◌≡◌, Ok, IfErr};
-ghost use Rattle.x509_der_element.specs.Outcome.{Gives};
-ghost use Rattle.x509_der_element.specs.declared.error.ErrorKind.TheVariants.{Malformed};
-ghost use Rattle.x509_der_oid.specs.ObjectIdentifierForm.{object_identifier};
+ghost use Rattle.std.specs.Prelude.{◌≡◌, Ok};
 
 use crate::identifier::ObjectIdentifier;
 use std::alloc::Global;
 use std::cmp::Ordering;
-use x509_der_grammar::{Decode, Encode, Error, FixedTag, Grammar, Room, Tag, TryClone, expect_tag};
+use x509_der_grammar::{Content, Error, Room, Tag, TryClone};
 use x509_der_order::ValueOrd;
 
-impl Grammar for ObjectIdentifier {
+#[tactic(auto, unfolding(crate::specs::ObjectIdentifierForm::object_identifier_reading))]
+impl Content for ObjectIdentifier {
+    ghost use Rattle.x509_der_element.specs.declared.tag.Tag.TheVariants as tags;
     ghost use Rattle.x509_der_oid.specs.ObjectIdentifierForm as grammar;
 
-    ghost form = { grammar.object_identifier };
+    ghost contents = { grammar.object_identifier_contents };
 
-    fn identifier(&self) -> Tag {
-        Tag::ObjectIdentifier
+    ghost takes_memory = { ⊥ };
+
+    ghost IDENTIFIER = { tags.ObjectIdentifier };
+
+    const IDENTIFIER: Tag = Tag::ObjectIdentifier;
+
+    fn read_content(_alloc: Global, octets: &[u8]) -> Result<ObjectIdentifier, Error> {
+        ObjectIdentifier::from_bytes(octets)
     }
 
-    fn is_start(octet: u8) -> bool {
-        octet == 0x06
-    }
-
-    ghost lawful = { grammar.object_identifier_lawful };
-}
-
-#[tactic(auto, unfolding(crate::specs::ObjectIdentifierForm::object_identifier_reading))]
-impl Decode for ObjectIdentifier {
-    fn read(_alloc: Global, tag: u8, content: &[u8]) -> Result<ObjectIdentifier, Error>
-        ensures exact { Gives result (object_identifier.reading tag content.now) }
-        ensures err { IfErr result (λ e. e.kind ≡ Malformed) }
-    {
-        expect_tag(tag, Tag::ObjectIdentifier)?;
-        ObjectIdentifier::from_bytes(content)
-    }
-}
-
-impl Encode for ObjectIdentifier {
-    ghost use Rattle.std.specs.Prelude.{refl};
-
-    fn put_content<R: Room>(&self, room: &mut R) -> Result<(), Error> {
+    fn write_content<R: Room>(&self, room: &mut R) -> Result<(), Error> {
         room.put(self.as_bytes())
     }
 
-    ghost same_tag = { λ value. refl };
-}
-
-impl FixedTag for ObjectIdentifier {
-    ghost use Rattle.std.specs.Prelude.{refl};
-    ghost use Rattle.x509_der_element.specs.declared.tag.Tag.TheVariants.{ObjectIdentifier as object_identifier_tag};
-
-    ghost TAG = { object_identifier_tag };
-
-    const TAG: Tag = Tag::ObjectIdentifier;
-
-    ghost fixed = { λ value good. refl };
+    ghost contents_lawful = { grammar.object_identifier_contents_lawful };
 }
 
 impl ValueOrd for ObjectIdentifier {

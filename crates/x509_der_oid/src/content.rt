@@ -12,12 +12,12 @@ pub const MAX_OCTETS: usize = 39;
 
 /// Up to [`MAX_OCTETS`] octets.
 #[derive(Drop)]
-pub struct Content {
+pub struct ContentOctets {
     len: usize,
     octets: [u8; MAX_OCTETS],
 }
 
-impl Model for Content {
+impl Model for ContentOctets {
     ghost Value = { List ℕ };
 
     ghost view = { λ c. take c.len c.octets };
@@ -25,9 +25,9 @@ impl Model for Content {
     ghost invariant = { λ c. c.len ≤ content_limit };
 }
 
-impl Content {
+impl ContentOctets {
     /// The content octets of arcs, where they are within the limits.
-    pub fn of_arcs(arcs: &[u32]) -> Option<Content>
+    pub fn of_arcs(arcs: &[u32]) -> Option<ContentOctets>
         ensures found { IfSome result (λ content. AreArcs arcs.now × (content ≡ content_of arcs.now)) }
         ensures only { AreArcs arcs.now → result ≡ Some (content_of arcs.now) }
     {
@@ -37,18 +37,18 @@ impl Content {
         if *first > 2 || (*first < 2 && *second > 39) {
             return None;
         }
-        let mut content = Content::new();
+        let mut content = ContentOctets::new();
         content.push(second.checked_add(40 * *first)?)?;
         content.push_all(others)?;
-        // Of every `Content`, and what the clauses want of this one.
+        // Of every value, and what the clauses want of this one.
         prove!(content.len <= MAX_OCTETS);
         Some(content)
     }
 
-    fn new() -> Content
+    fn new() -> ContentOctets
         ensures { result ≡ [] }
     {
-        Content {
+        ContentOctets {
             len: 0,
             octets: [0; MAX_OCTETS],
         }

@@ -6,7 +6,7 @@ ghost use Rattle.x509_der_element.specs.declared.error.ErrorKind.TheVariants.{Fa
 ghost use Rattle.x509_der_oid.specs.Arcs.{AreArcs, content_of, dotted};
 ghost use Rattle.x509_der_oid.specs.ObjectIdentifier.{arcs_of, first_arc, is_object_identifier};
 
-use crate::content::{Content, MAX_OCTETS};
+use crate::content::{ContentOctets, MAX_OCTETS};
 use crate::numbers::Numbers;
 use std::fmt;
 use std::hash::{Hash, Hasher};
@@ -54,22 +54,23 @@ fn is_content(octets: &[u8]) -> bool
     if octets.is_empty() || octets.len() > MAX_OCTETS {
         return false;
     }
+    // What the subidentifier at hand has said so far: 0 where one begins, since none begins with the octet 128.
     let mut high: u32 = 0;
-    let mut fresh = true;
     for octet in octets {
         let octet = *octet;
-        if high >= HIGH_END || (fresh && octet == 128) {
-            return false;
-        }
-        if octet < 128 {
-            high = 0;
-            fresh = true;
-        } else {
-            high = 128 * high + (octet - 128) as u32;
-            fresh = false;
+        // Most subidentifiers have one octet, which changes nothing.
+        if octet >= 128 || high != 0 {
+            if high >= HIGH_END || (high == 0 && octet == 128) {
+                return false;
+            }
+            high = if octet < 128 {
+                0
+            } else {
+                128 * high + (octet - 128) as u32
+            };
         }
     }
-    fresh
+    high == 0
 }
 
 // The first arc that the first subidentifier stands for (X.690 8.19.4).
@@ -81,6 +82,7 @@ fn first_arc(subidentifier: u32) -> u32
 }
 
 impl ObjectIdentifier {
+    #[inline(always)]
     fn from_checked(content: &[u8]) -> ObjectIdentifier
         requires { is_object_identifier content.now ≡ true }
         ensures { result ≡ content.now }
@@ -115,7 +117,7 @@ impl ObjectIdentifier {
         let Some(arcs) = Numbers::arcs_in(text) else {
             return Err(ErrorKind::Failed.into());
         };
-        let Some(content) = Content::of_arcs(arcs.as_slice()) else {
+        let Some(content) = ContentOctets::of_arcs(arcs.as_slice()) else {
             return Err(ErrorKind::Failed.into());
         };
         Ok(ObjectIdentifier::from_checked(content.as_slice()))
@@ -127,6 +129,7 @@ impl ObjectIdentifier {
     ///
     /// `Malformed` where no arcs have this content: it is empty, ends within a subidentifier, has one that begins with
     /// the octet 0x80 or is above 4,294,967,295, or is longer than 39 octets (X.690 8.19.2).
+    #[inline(always)]
     pub fn from_bytes(content: &[u8]) -> Result<ObjectIdentifier, Error>
         ensures ok { IfOk result (λ v. (arcs : List ℕ) × AreArcs arcs
             × (content.now ≡ content_of arcs) × (v ≡ content.now)) }

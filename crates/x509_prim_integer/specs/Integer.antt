@@ -1,7 +1,8 @@
 -- INTEGER: a whole number as a two's complement number in octets, as few as there can be (X.690 8.3).
 use Rattle.std.specs.Prelude.{ℕ, ◌+◌, ◌-◌, ◌*◌, Bool, true, false, ◌&&◌, not, nat_eq, nat_lt, nat_le, List, [], ◌∷◌, ℤ, pos, negsuc, map, fold, if◌then◌else◌}
-use Rattle.x509_der_grammar.specs.Form.{Form}
-use Rattle.x509_der_grammar.specs.Tested.{tested}
+use Rattle.x509_der_element.specs.declared.tag.Tag.TheVariants as tags
+use Rattle.x509_der_grammar.specs.Form.{Form, Contents, universal}
+use Rattle.x509_der_grammar.specs.Tested.{tested_contents}
 
 -- ---- contents
 
@@ -22,11 +23,17 @@ unfoldable pub is_unsigned : List ℕ → Bool
 is_unsigned octets = is_integer octets && not (is_negative octets)
 
 -- a value is seen as its content octets
+abbrev pub integer_contents : Contents (List ℕ)
+integer_contents = tested_contents is_integer
+
+abbrev pub unsigned_integer_contents : Contents (List ℕ)
+unsigned_integer_contents = tested_contents is_unsigned
+
 abbrev pub integer : Form (List ℕ)
-integer = tested 0x02 is_integer
+integer = universal tags.Integer integer_contents
 
 abbrev pub unsigned_integer : Form (List ℕ)
-unsigned_integer = tested 0x02 is_unsigned
+unsigned_integer = universal tags.Integer unsigned_integer_contents
 
 -- ---- numbers
 

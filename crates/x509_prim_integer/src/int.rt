@@ -16,9 +16,7 @@ use std::cmp::Ordering;
 use std::fmt;
 use std::hash::{Hash, Hasher};
 use std::marker::Model;
-use x509_der_grammar::{
-    Bytes, Decode, Encode, Error, ErrorKind, FixedTag, Grammar, Room, Tag, TryClone,
-};
+use x509_der_grammar::{Bytes, Content, Error, ErrorKind, Room, Tag, TryClone};
 use x509_der_order::ValueOrd;
 
 /// A whole number of any size (X.690 8.3). Contracts see its content octets.
@@ -71,43 +69,32 @@ impl From<Uint> for Int {
     }
 }
 
-impl Grammar for Int {
-    ghost use Rattle.x509_prim_integer.specs.Integer.{integer};
-    ghost use Rattle.x509_prim_integer.specs.IntegerLaws.{integer_lawful};
-
-    ghost form = { integer };
-
-    fn identifier(&self) -> Tag {
-        Tag::Integer
-    }
-
-    fn is_start(octet: u8) -> bool {
-        octet == Tag::Integer.octet()
-    }
-
-    ghost lawful = { integer_lawful };
-}
-
 #[tactic(auto, unfolding(x509_der_grammar::specs::Tested::tested_reading))]
-impl Decode for Int {
-    fn read(alloc: Global, tag: u8, content: &[u8]) -> Result<Int, Error> {
-        if tag != Tag::Integer.octet() || !check_integer(content) {
+impl Content for Int {
+    ghost use Rattle.x509_der_element.specs.declared.tag.Tag.TheVariants as tags;
+    ghost use Rattle.x509_prim_integer.specs.Integer.{integer_contents};
+    ghost use Rattle.x509_prim_integer.specs.IntegerLaws.{integer_contents_lawful};
+
+    ghost contents = { integer_contents };
+
+    ghost IDENTIFIER = { tags.Integer };
+
+    const IDENTIFIER: Tag = Tag::Integer;
+
+    fn read_content(alloc: Global, octets: &[u8]) -> Result<Int, Error> {
+        if !check_integer(octets) {
             return Err(ErrorKind::Malformed.into());
         }
         Ok(Int {
-            content: Bytes::from_slice(alloc, content)?,
+            content: Bytes::from_slice(alloc, octets)?,
         })
     }
-}
 
-impl Encode for Int {
-    ghost use Rattle.std.specs.Prelude.{refl};
-
-    fn put_content<R: Room>(&self, room: &mut R) -> Result<(), Error> {
+    fn write_content<R: Room>(&self, room: &mut R) -> Result<(), Error> {
         room.put(self.content.as_slice())
     }
 
-    ghost same_tag = { λ value. refl };
+    ghost contents_lawful = { integer_contents_lawful };
 }
 
 impl ValueOrd for Int {
@@ -122,17 +109,6 @@ impl ValueOrd for Int {
     }
 
     ghost ordered = { by_bytes_lawful integer (writes plain) (λ x y p q. q) };
-}
-
-impl FixedTag for Int {
-    ghost use Rattle.std.specs.Prelude.{refl};
-    ghost use Rattle.x509_der_element.specs.declared.tag.Tag.TheVariants as tags;
-
-    ghost TAG = { tags.Integer };
-
-    const TAG: Tag = Tag::Integer;
-
-    ghost fixed = { λ value good. refl };
 }
 
 impl TryClone for Int {

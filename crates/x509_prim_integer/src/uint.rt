@@ -15,9 +15,7 @@ use std::cmp::Ordering;
 use std::fmt;
 use std::hash::{Hash, Hasher};
 use std::marker::Model;
-use x509_der_grammar::{
-    Bytes, Decode, Encode, Error, ErrorKind, FixedTag, Grammar, Room, Tag, TryClone,
-};
+use x509_der_grammar::{Bytes, Content, Error, ErrorKind, Room, Tag, TryClone};
 use x509_der_order::ValueOrd;
 
 /// A whole number of any size that is not negative (X.690 8.3). Contracts see its content octets.
@@ -48,9 +46,8 @@ impl Uint {
         if octets.is_empty() {
             return Err(ErrorKind::Value.into());
         }
-        let content = signed_content(alloc, strip_zeros(octets))?;
         Ok(Uint {
-            content: Bytes::from(content),
+            content: signed_content(alloc, strip_zeros(octets))?,
         })
     }
 
@@ -74,55 +71,44 @@ impl Uint {
 }
 
 /// The octets, with a zero in front where bit 8 of the first is 1.
-fn signed_content(alloc: Global, octets: &[u8]) -> Result<Vec<u8>, Error>
-    ensures ok { IfOk result (λ content. content.items ≡ with_sign octets.now) }
+fn signed_content(alloc: Global, octets: &[u8]) -> Result<Bytes, Error>
+    ensures ok { IfOk result (λ content. content ≡ with_sign octets.now) }
     ensures err { IfErr result (λ e. e.kind ≡ errors.Memory) }
 {
     if !is_signed(octets) {
-        return Ok(Vec::from_slice(alloc, octets)?);
+        return Bytes::from_slice(alloc, octets);
     }
     let mut content = Vec::from_slice(alloc, &[0x00])?;
     content.extend_from_slice(octets)?;
-    Ok(content)
-}
-
-impl Grammar for Uint {
-    ghost use Rattle.x509_prim_integer.specs.Integer.{unsigned_integer};
-    ghost use Rattle.x509_prim_integer.specs.IntegerLaws.{unsigned_integer_lawful};
-
-    ghost form = { unsigned_integer };
-
-    fn identifier(&self) -> Tag {
-        Tag::Integer
-    }
-
-    fn is_start(octet: u8) -> bool {
-        octet == Tag::Integer.octet()
-    }
-
-    ghost lawful = { unsigned_integer_lawful };
+    Ok(Bytes::from(content))
 }
 
 #[tactic(auto, unfolding(x509_der_grammar::specs::Tested::tested_reading))]
-impl Decode for Uint {
-    fn read(alloc: Global, tag: u8, content: &[u8]) -> Result<Uint, Error> {
-        if tag != Tag::Integer.octet() || !check_unsigned(content) {
+impl Content for Uint {
+    ghost use Rattle.x509_der_element.specs.declared.tag.Tag.TheVariants as tags;
+    ghost use Rattle.x509_prim_integer.specs.Integer.{unsigned_integer_contents};
+    ghost use Rattle.x509_prim_integer.specs.IntegerLaws.{unsigned_integer_contents_lawful};
+
+    ghost contents = { unsigned_integer_contents };
+
+    ghost IDENTIFIER = { tags.Integer };
+
+    const IDENTIFIER: Tag = Tag::Integer;
+
+    fn read_content(alloc: Global, octets: &[u8]) -> Result<Uint, Error> {
+        if !check_unsigned(octets) {
             return Err(ErrorKind::Malformed.into());
         }
         Ok(Uint {
-            content: Bytes::from_slice(alloc, content)?,
+            content: Bytes::from_slice(alloc, octets)?,
         })
     }
-}
 
-impl Encode for Uint {
-    ghost use Rattle.std.specs.Prelude.{refl};
-
-    fn put_content<R: Room>(&self, room: &mut R) -> Result<(), Error> {
+    fn write_content<R: Room>(&self, room: &mut R) -> Result<(), Error> {
         room.put(self.content.as_slice())
     }
 
-    ghost same_tag = { λ value. refl };
+    ghost contents_lawful = { unsigned_integer_contents_lawful };
 }
 
 impl ValueOrd for Uint {
@@ -137,17 +123,6 @@ impl ValueOrd for Uint {
     }
 
     ghost ordered = { by_bytes_lawful unsigned_integer (writes plain) (λ x y p q. q) };
-}
-
-impl FixedTag for Uint {
-    ghost use Rattle.std.specs.Prelude.{refl};
-    ghost use Rattle.x509_der_element.specs.declared.tag.Tag.TheVariants as tags;
-
-    ghost TAG = { tags.Integer };
-
-    const TAG: Tag = Tag::Integer;
-
-    ghost fixed = { λ value good. refl };
 }
 
 impl TryClone for Uint {

@@ -4,7 +4,8 @@ use Rattle.std.specs.Int.{bit_at}
 use Rattle.std.specs.List.{flat_map}
 use Rattle.x509_der_element.specs.declared.error.ErrorKind.{ErrorKind}
 use Rattle.x509_der_element.specs.declared.error.ErrorKind.TheVariants.{Malformed}
-use Rattle.x509_der_grammar.specs.Form.{Form, Content, universal}
+use Rattle.x509_der_element.specs.declared.tag.Tag.TheVariants as tags
+use Rattle.x509_der_grammar.specs.Form.{Form, Contents, universal}
 
 -- the octets in which the bits stand, and how many bits of the last octet are unused
 pub record BitParts : Type 0 where
@@ -49,13 +50,12 @@ bit_string_reading [] = Err Malformed
 bit_string_reading (unused ∷ octets) = if is_padded (parts_of unused octets) then Ok (parts_of unused octets) else Err Malformed
 
 -- the count of unused bits is the first octet of the content (X.690 8.6.2.2)
-abbrev pub bit_string_content : Content BitParts
-bit_string_content = record {
-  tag = 0x03;
+abbrev pub bit_string_contents : Contents BitParts
+bit_string_contents = record {
   octets = λ parts. parts.unused ∷ parts.octets;
   good = λ parts. is_padded parts ≡ true;
   reading = bit_string_reading;
 }
 
 abbrev pub bit_string : Form BitParts
-bit_string = universal bit_string_content
+bit_string = universal tags.BitString bit_string_contents

@@ -2,11 +2,11 @@
 use Rattle.std.proofs.Common.{◌≡◌, ℕ, true, List, [], ◌∷◌, Ok, Err, refl, sym, ap, subst, inl, inr}
 use Rattle.x509_der_element.specs.declared.error.ErrorKind.{ErrorKind}
 use Rattle.x509_der_element.specs.declared.error.ErrorKind.TheVariants.{Malformed}
-use Rattle.x509_der_element.specs.Element.{is_identifier, is_universal}
-use Rattle.x509_der_grammar.specs.Form.{IsForm, IsContent}
+use Rattle.x509_der_element.specs.declared.tag.Tag.TheVariants as tags
+use Rattle.x509_der_grammar.specs.Form.{IsForm, IsContents}
 use Rattle.x509_der_grammar.specs.FormLaws.{universal_lawful}
 use Rattle.x509_der_element.specs.OutcomeLaws.{ok_is, test_ok, test_err}
-use Rattle.x509_prim_string.specs.BitString.{BitParts, parts_of, is_padded, bit_string_reading, bit_string_content, bit_string}
+use Rattle.x509_prim_string.specs.BitString.{BitParts, parts_of, is_padded, bit_string_reading, bit_string_contents, bit_string}
 
 bit_string_sound : (bytes : List ℕ) (parts : BitParts) → bit_string_reading bytes ≡ Ok parts → (is_padded parts ≡ true) × (bytes ≡ parts.unused ∷ parts.octets)
 unfolding bit_string_reading
@@ -27,12 +27,11 @@ bit_string_refused (unused ∷ octets) e h =
     let read : BitParts = parts_of unused octets in
     elim (test_err (is_padded read) Malformed (Ok read) e h) [ inl j ↦ absurd (let k = j in cc) | inr j ↦ sym j ]
 
-pub bit_string_content_lawful : {R : ErrorKind → Type 0} → IsContent R bit_string_content
-unfolding is_identifier is_universal
-bit_string_content_lawful = record { sound = bit_string_sound; complete = bit_string_complete; refused = λ bytes e r. inl (bit_string_refused bytes e r); identifier = refl }
+pub bit_string_contents_lawful : {R : ErrorKind → Type 0} → IsContents R bit_string_contents
+bit_string_contents_lawful = record { sound = bit_string_sound; complete = bit_string_complete; refused = λ bytes e r. inl (bit_string_refused bytes e r) }
 
 pub bit_string_lawful : {R : ErrorKind → Type 0} → IsForm R bit_string
-bit_string_lawful = universal_lawful bit_string_content bit_string_content_lawful
+bit_string_lawful = universal_lawful tags.BitString bit_string_contents bit_string_contents_lawful
 
 -- no two bit strings share a content
 pub one_bit_string : (x y : BitParts) → x.unused ∷ x.octets ≡ y.unused ∷ y.octets → x ≡ y

@@ -8,9 +8,7 @@ use std::alloc::Global;
 use std::cmp::Ordering;
 use std::fmt;
 use std::marker::Model;
-use x509_der_grammar::{
-    Bytes, Decode, Encode, Error, ErrorKind, FixedTag, Grammar, Room, Tag, TryClone, expect_tag,
-};
+use x509_der_grammar::{Bytes, Content, Error, ErrorKind, Room, Tag, TryClone};
 use x509_der_order::ValueOrd;
 
 /// A list of bits (X.690 8.6). Contracts see the octets in which they stand, bit 8 of the first octet first, and
@@ -103,28 +101,20 @@ impl BitString {
     }
 }
 
-impl Grammar for BitString {
-    ghost use Rattle.x509_prim_string.specs.BitString.{bit_string};
-    ghost use Rattle.x509_prim_string.specs.BitStringLaws.{bit_string_lawful};
-
-    ghost form = { bit_string };
-
-    fn identifier(&self) -> Tag {
-        Tag::BitString
-    }
-
-    fn is_start(octet: u8) -> bool {
-        octet == Tag::BitString.octet()
-    }
-
-    ghost lawful = { bit_string_lawful };
-}
-
 #[tactic(auto, unfolding(crate::specs::BitString::bit_string_reading))]
-impl Decode for BitString {
-    fn read(alloc: Global, tag: u8, content: &[u8]) -> Result<BitString, Error> {
-        expect_tag(tag, Tag::BitString)?;
-        let [unused, octets @ ..] = content else {
+impl Content for BitString {
+    ghost use Rattle.x509_der_element.specs.declared.tag.Tag.TheVariants as tags;
+    ghost use Rattle.x509_prim_string.specs.BitString.{bit_string_contents};
+    ghost use Rattle.x509_prim_string.specs.BitStringLaws.{bit_string_contents_lawful};
+
+    ghost contents = { bit_string_contents };
+
+    ghost IDENTIFIER = { tags.BitString };
+
+    const IDENTIFIER: Tag = Tag::BitString;
+
+    fn read_content(alloc: Global, octets: &[u8]) -> Result<BitString, Error> {
+        let [unused, octets @ ..] = octets else {
             return Err(ErrorKind::Malformed.into());
         };
         if !check_padding(*unused, octets) {
@@ -135,28 +125,13 @@ impl Decode for BitString {
             octets: Bytes::from_slice(alloc, octets)?,
         })
     }
-}
 
-impl Encode for BitString {
-    ghost use Rattle.std.specs.Prelude.{refl};
-
-    fn put_content<R: Room>(&self, room: &mut R) -> Result<(), Error> {
+    fn write_content<R: Room>(&self, room: &mut R) -> Result<(), Error> {
         room.put(self.raw_bytes())?;
         room.put(&[self.unused_bits()])
     }
 
-    ghost same_tag = { λ value. refl };
-}
-
-impl FixedTag for BitString {
-    ghost use Rattle.std.specs.Prelude.{refl};
-    ghost use Rattle.x509_der_element.specs.declared.tag.Tag.TheVariants as tags;
-
-    ghost TAG = { tags.BitString };
-
-    const TAG: Tag = Tag::BitString;
-
-    ghost fixed = { λ value good. refl };
+    ghost contents_lawful = { bit_string_contents_lawful };
 }
 
 impl ValueOrd for BitString {

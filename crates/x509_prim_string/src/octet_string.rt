@@ -16,9 +16,7 @@ use std::cmp::Ordering;
 use std::fmt;
 use std::hash::{Hash, Hasher};
 use std::marker::Model;
-use x509_der_grammar::{
-    Bytes, Decode, Encode, Error, FixedTag, Grammar, Room, Tag, TryClone, check_content, expect_tag,
-};
+use x509_der_grammar::{Bytes, Content, Error, Room, Tag, TryClone, check_content};
 use x509_der_order::ValueOrd;
 
 /// Any octets (X.690 8.7). Contracts see their list.
@@ -66,48 +64,38 @@ impl OctetString {
         self.bytes.as_slice()
     }
 
-    /// The vector of the octets, without a copy.
-    pub fn into_bytes(self) -> Vec<u8>
-        ensures { result.items ≡ self }
+    /// The vector of the octets. Up to 24 octets may lie inside the value; those are copied, for which memory may be
+    /// refused.
+    pub fn into_bytes(self) -> Result<Vec<u8>, Error>
+        ensures ok { IfOk result (λ octets. octets.items ≡ self) }
+        ensures err { IfErr result (λ e. e.kind ≡ errors.Memory) }
     {
         let OctetString { bytes } = self;
         bytes.into_vec()
     }
 }
 
-impl Grammar for OctetString {
-    ghost use Rattle.x509_prim_string.specs.OctetString.{octet_string, octet_string_lawful};
+impl Content for OctetString {
+    ghost use Rattle.x509_der_element.specs.declared.tag.Tag.TheVariants as tags;
+    ghost use Rattle.x509_prim_string.specs.OctetString.{octet_string_contents, octet_string_contents_lawful};
 
-    ghost form = { octet_string };
+    ghost contents = { octet_string_contents };
 
-    fn identifier(&self) -> Tag {
-        Tag::OctetString
-    }
+    ghost IDENTIFIER = { tags.OctetString };
 
-    fn is_start(octet: u8) -> bool {
-        octet == Tag::OctetString.octet()
-    }
+    const IDENTIFIER: Tag = Tag::OctetString;
 
-    ghost lawful = { octet_string_lawful };
-}
-
-impl Decode for OctetString {
-    fn read(alloc: Global, tag: u8, content: &[u8]) -> Result<OctetString, Error> {
-        expect_tag(tag, Tag::OctetString)?;
+    fn read_content(alloc: Global, octets: &[u8]) -> Result<OctetString, Error> {
         Ok(OctetString {
-            bytes: Bytes::from_slice(alloc, content)?,
+            bytes: Bytes::from_slice(alloc, octets)?,
         })
     }
-}
 
-impl Encode for OctetString {
-    ghost use Rattle.std.specs.Prelude.{refl};
-
-    fn put_content<R: Room>(&self, room: &mut R) -> Result<(), Error> {
+    fn write_content<R: Room>(&self, room: &mut R) -> Result<(), Error> {
         room.put(self.as_bytes())
     }
 
-    ghost same_tag = { λ value. refl };
+    ghost contents_lawful = { octet_string_contents_lawful };
 }
 
 impl ValueOrd for OctetString {
@@ -122,17 +110,6 @@ impl ValueOrd for OctetString {
     }
 
     ghost ordered = { by_bytes_lawful octet_string (writes plain) (λ x y p q. q) };
-}
-
-impl FixedTag for OctetString {
-    ghost use Rattle.std.specs.Prelude.{refl};
-    ghost use Rattle.x509_der_element.specs.declared.tag.Tag.TheVariants as tags;
-
-    ghost TAG = { tags.OctetString };
-
-    const TAG: Tag = Tag::OctetString;
-
-    ghost fixed = { λ value good. refl };
 }
 
 impl TryClone for OctetString {

@@ -44,7 +44,7 @@ fn octet_string_calls(rt: HostRuntime) -> Result<(), Fail> {
     assert_eq!(rt; format!(in rt.alloc(); "{string:?}")?.as_str(), "[1, 2, 3]");
     assert!(rt; string.try_clone(rt.alloc())? == string);
     assert_eq!(rt; string.as_bytes(), [1, 2, 3].as_slice());
-    assert_eq!(rt; string.into_bytes().as_slice(), [1, 2, 3].as_slice());
+    assert_eq!(rt; string.into_bytes()?.as_slice(), [1, 2, 3].as_slice());
     Ok(())
 }
 

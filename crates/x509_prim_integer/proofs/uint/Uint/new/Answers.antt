@@ -7,8 +7,8 @@ use Rattle.x509_prim_integer.proofs.uint.Uint.new.Goals as goal
 pub invariant_of-result : goal.invariant_of-result
 invariant_of-result c =
     let some = eqb-false (length c.args.octets.now) 0 (sym c.is_empty.ensures ∙ c.if-is_empty.false) in
-    ap is_unsigned (c.from.ensures ∙ c.in_ok-content.ensures.ok ∙ ap with_sign c.strip_zeros.ensures) ∙ is_unsigned-content c.args.octets.now (omega arith)
+    ap is_unsigned (c.in_ok-signed_content.ensures.ok ∙ ap with_sign c.strip_zeros.ensures) ∙ is_unsigned-content c.args.octets.now (omega arith)
 
 pub returns-clause-number : goal.returns-clause-number
 returns-clause-number c =
-    ap number (c.from.ensures ∙ c.in_ok-content.ensures.ok ∙ ap with_sign c.strip_zeros.ensures) ∙ number-content c.args.octets.now
+    ap number (c.in_ok-signed_content.ensures.ok ∙ ap with_sign c.strip_zeros.ensures) ∙ number-content c.args.octets.now

@@ -4,8 +4,8 @@ use Rattle.std.proofs.lemmas.Bool.Decides.{nat_tests}
 use Rattle.std.proofs.lemmas.List.{take_rest}
 use Rattle.x509_der_oid.specs.Arcs.{AreArcs, content_of, subidentifier}
 use Rattle.x509_der_oid.specs.ArcLaws.{tested_arcs}
-use Rattle.x509_der_oid.proofs.content.Content.of_arcs.Goals as goal
-use Rattle.x509_der_oid.proofs.content.Content.of_arcs.Goals.{then-first-lt2, else-first-lt2}
+use Rattle.x509_der_oid.proofs.content.ContentOctets.of_arcs.Goals as goal
+use Rattle.x509_der_oid.proofs.content.ContentOctets.of_arcs.Goals.{then-first-lt2, else-first-lt2}
 
 tested : (c : goal.Else-prove) → AreArcs c.args.arcs.now × (c.push_all.new.self ≡ content_of c.args.arcs.now)
 tested c =

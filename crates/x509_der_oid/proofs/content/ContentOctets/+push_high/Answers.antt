@@ -3,7 +3,7 @@ use Rattle.x509_der_oid.specs.Subidentifiers.{high_pushed, length-high_pushed, l
 use Rattle.x509_der_oid.proofs.Steps.{OnSome-then, IfNone-then}
 use Rattle.std.specs.Int.Digits.{digits_of}
 use Rattle.x509_der_oid.specs.Arcs.{high_octets}
-use Rattle.x509_der_oid.proofs.content.Content.+push_high.Goals as goal
+use Rattle.x509_der_oid.proofs.content.ContentOctets.+push_high.Goals as goal
 
 pub returns-in_err-push_high-clause-none : goal.returns-in_err-push_high-clause-none
 returns-in_err-push_high-clause-none t c =

@@ -2,7 +2,7 @@ use Rattle.std.proofs.Common.{take, length, arith, ap, length-append}
 use Rattle.std.specs.List.{flat_map}
 use Rattle.x509_der_oid.specs.Arcs.{subidentifier}
 use Rattle.x509_der_oid.specs.Subidentifiers.{length-front}
-use Rattle.x509_der_oid.proofs.content.Content.push_all.Goals as goal
+use Rattle.x509_der_oid.proofs.content.ContentOctets.push_all.Goals as goal
 
 pub returns-in_err-push-clause-none : goal.returns-in_err-push-clause-none
 returns-in_err-push-clause-none c =
