@@ -1,9 +1,9 @@
 //! UTF8String.
 
-ghost use Rattle.std.specs.Prelude.{◌≡◌, ◌≢◌, ◌⊎◌, true, false, bytes_eq, string_bytes, IfOk, IfErr, IfSome, IfNone, IsOkAnd};
+ghost use Rattle.std.specs.Prelude.{◌≡◌, ◌≢◌, ◌⊎◌, true, false, bytes_eq, string_bytes, IfOk, IfErr, IfSome, IfNone, IsOk, IsOkAnd};
 ghost use Rattle.std.proofs.Common.{rules};
 ghost use Rattle.std.specs.Hash as fed;
-ghost use Rattle.std.specs.Cmp.{partial_equiv_from_equiv};
+ghost use Rattle.std.specs.Cmp.{on_equiv, on_per, partial_equiv_from_equiv};
 ghost use Rattle.std.specs.Cmp.Lexicographic.{nat_list_eq_equiv};
 ghost use Rattle.std.specs.Cmp.Rules.{hashing};
 ghost use Rattle.std.specs.Str.{is_utf8};
@@ -186,4 +186,28 @@ impl<'a> Utf8StringRef<'a> {
     {
         self.text
     }
+}
+
+impl TryClone for Utf8StringRef<'_> {
+    fn try_clone(&self, _alloc: Global) -> Result<Self, Error>
+        ensures ok { IfOk result (λ copy. copy ≡ self.now) }
+        ensures err { IfErr result (λ e. e.kind ≡ errors.Memory) }
+        ensures always { IsOk result }
+    {
+        Ok(*self)
+    }
+}
+
+impl PartialEq for Utf8StringRef<'_> {
+    ghost eq = { λ a b. bytes_eq a.text.now b.text.now };
+
+    ghost laws = { on_per (λ string. string.text.now) (partial_equiv_from_equiv nat_list_eq_equiv) };
+
+    fn eq(&self, other: &Self) -> bool {
+        self.text.as_bytes() == other.text.as_bytes()
+    }
+}
+
+impl Eq for Utf8StringRef<'_> {
+    ghost laws = { on_equiv (λ string. string.text.now) nat_list_eq_equiv };
 }
