@@ -1,60 +1,65 @@
-//! UTCTime and GeneralizedTime, read and written (X.690 11.7, 11.8).
+//! UTCTime and GeneralizedTime, read and written (X.690 11.7, 11.8), and copies of times.
 
-ghost use Rattle.std.specs.Prelude.{◌≡◌, Ok, IfErr};
-ghost use Rattle.x509_base_time.specs.TimeForms.{utc_time, generalized_time};
-ghost use Rattle.x509_der_element.specs.Outcome.{Gives};
-ghost use Rattle.x509_der_element.specs.declared.error.ErrorKind.TheVariants.{Malformed};
+ghost use Rattle.std.specs.Prelude.{◌≡◌, Ok};
 
+use crate::date_time::DateTime;
 use crate::generalized_time::GeneralizedTime;
 use crate::utc_time::UtcTime;
 use std::alloc::Global;
-use x509_der_grammar::{Decode, Encode, Error, FixedTag, Grammar, Room, Tag, TryClone, expect_tag};
+use x509_der_grammar::{Content, Error, Room, Tag, TryClone};
 
-impl Grammar for UtcTime {
-    ghost use Rattle.x509_base_time.specs.TimeForms as grammar;
+impl Content for UtcTime {
+    ghost use Rattle.x509_base_time.specs.TimeForms.{utc_time_contents, utc_time_contents_lawful};
+    ghost use Rattle.x509_der_element.specs.declared.tag.Tag.TheVariants as tags;
 
-    ghost form = { grammar.utc_time };
+    ghost contents = { utc_time_contents };
 
-    fn identifier(&self) -> Tag {
-        Tag::UtcTime
+    ghost takes_memory = { ⊥ };
+
+    ghost IDENTIFIER = { tags.UtcTime };
+
+    const IDENTIFIER: Tag = Tag::UtcTime;
+
+    fn read_content(_alloc: Global, octets: &[u8]) -> Result<UtcTime, Error> {
+        UtcTime::from_content(octets)
     }
 
-    fn is_start(octet: u8) -> bool {
-        octet == 0x17
-    }
-
-    ghost lawful = { grammar.utc_time_lawful };
-}
-
-impl Decode for UtcTime {
-    fn read(_alloc: Global, tag: u8, content: &[u8]) -> Result<UtcTime, Error>
-        ensures exact { Gives result (utc_time.reading tag content.now) }
-        ensures err { IfErr result (λ e. e.kind ≡ Malformed) }
-    {
-        expect_tag(tag, Tag::UtcTime)?;
-        UtcTime::from_content(content)
-    }
-}
-
-impl Encode for UtcTime {
-    ghost use Rattle.std.specs.Prelude.{refl};
-
-    fn put_content<R: Room>(&self, room: &mut R) -> Result<(), Error> {
+    fn write_content<R: Room>(&self, room: &mut R) -> Result<(), Error> {
         room.put(&self.content())
     }
 
-    ghost same_tag = { λ value. refl };
+    ghost contents_lawful = { utc_time_contents_lawful };
 }
 
-impl FixedTag for UtcTime {
-    ghost use Rattle.std.specs.Prelude.{refl};
+impl Content for GeneralizedTime {
+    ghost use Rattle.x509_base_time.specs.TimeForms.{generalized_time_contents, generalized_time_contents_lawful};
     ghost use Rattle.x509_der_element.specs.declared.tag.Tag.TheVariants as tags;
 
-    ghost TAG = { tags.UtcTime };
+    ghost contents = { generalized_time_contents };
 
-    const TAG: Tag = Tag::UtcTime;
+    ghost takes_memory = { ⊥ };
 
-    ghost fixed = { λ value good. refl };
+    ghost IDENTIFIER = { tags.GeneralizedTime };
+
+    const IDENTIFIER: Tag = Tag::GeneralizedTime;
+
+    fn read_content(_alloc: Global, octets: &[u8]) -> Result<GeneralizedTime, Error> {
+        GeneralizedTime::from_content(octets)
+    }
+
+    fn write_content<R: Room>(&self, room: &mut R) -> Result<(), Error> {
+        room.put(&self.content())
+    }
+
+    ghost contents_lawful = { generalized_time_contents_lawful };
+}
+
+impl TryClone for DateTime {
+    fn try_clone(&self, _alloc: Global) -> Result<DateTime, Error>
+        ensures { result ≡ Ok self.now }
+    {
+        Ok(*self)
+    }
 }
 
 impl TryClone for UtcTime {
@@ -63,53 +68,6 @@ impl TryClone for UtcTime {
     {
         Ok(*self)
     }
-}
-
-impl Grammar for GeneralizedTime {
-    ghost use Rattle.x509_base_time.specs.TimeForms as grammar;
-
-    ghost form = { grammar.generalized_time };
-
-    fn identifier(&self) -> Tag {
-        Tag::GeneralizedTime
-    }
-
-    fn is_start(octet: u8) -> bool {
-        octet == 0x18
-    }
-
-    ghost lawful = { grammar.generalized_time_lawful };
-}
-
-impl Decode for GeneralizedTime {
-    fn read(_alloc: Global, tag: u8, content: &[u8]) -> Result<GeneralizedTime, Error>
-        ensures exact { Gives result (generalized_time.reading tag content.now) }
-        ensures err { IfErr result (λ e. e.kind ≡ Malformed) }
-    {
-        expect_tag(tag, Tag::GeneralizedTime)?;
-        GeneralizedTime::from_content(content)
-    }
-}
-
-impl Encode for GeneralizedTime {
-    ghost use Rattle.std.specs.Prelude.{refl};
-
-    fn put_content<R: Room>(&self, room: &mut R) -> Result<(), Error> {
-        room.put(&self.content())
-    }
-
-    ghost same_tag = { λ value. refl };
-}
-
-impl FixedTag for GeneralizedTime {
-    ghost use Rattle.std.specs.Prelude.{refl};
-    ghost use Rattle.x509_der_element.specs.declared.tag.Tag.TheVariants as tags;
-
-    ghost TAG = { tags.GeneralizedTime };
-
-    const TAG: Tag = Tag::GeneralizedTime;
-
-    ghost fixed = { λ value good. refl };
 }
 
 impl TryClone for GeneralizedTime {

@@ -2,7 +2,6 @@
 
 ghost use Rattle.std.specs.Prelude.{IsTrue, ◌+◌, ◌<◌, length, Some, pos, ◌≤ℤ◌, ◌≡◌, ◌↔◌, ◌≤◌, ◌*◌, IsOk, Ok, IfOk, IfErr};
 ghost use Rattle.std.specs.Duration.{as_nanos};
-ghost use Rattle.std.specs.Ordering.{nat_cmp};
 ghost use Rattle.jiff_core.specs.DateTime.{civil_nanos};
 ghost use Rattle.x509_base_time.specs.CivilTime.{CivilTime, civil_time, last_date_time, IsDateTime, unix_seconds, whole_seconds};
 ghost use Rattle.x509_base_time.specs.Moment.{shown_time};
@@ -11,8 +10,6 @@ ghost use Rattle.x509_base_time.specs.TimeReading.{Reads, time_from_month};
 ghost use Rattle.x509_der_element.specs.declared.error.ErrorKind.TheVariants.{Failed, Value};
 
 use crate::digits::{long_number_at, number_at, ones, tens};
-use crate::generalized_time::GeneralizedTime;
-use crate::utc_time::UtcTime;
 use jiff::civil;
 use std::fmt;
 use std::marker::Model;
@@ -229,16 +226,6 @@ impl DateTime {
         self.seconds
     }
 }
-
-/// [`Ord`] of date-times is the order of time. This is a law, and there is nothing to run.
-pub fn date_times_are_in_order_of_time()
-    ensures date_times { (c d : CivilTime) → IsDateTime c → IsDateTime d
-        → ⟦<DateTime as Ord>⟧.cmp c d ≡ nat_cmp (unix_seconds c) (unix_seconds d) }
-    ensures utc_times { (c d : CivilTime) → IsDateTime c → IsDateTime d
-        → ⟦<UtcTime as Ord>⟧.cmp c d ≡ nat_cmp (unix_seconds c) (unix_seconds d) }
-    ensures generalized_times { (c d : CivilTime) → IsDateTime c → IsDateTime d
-        → ⟦<GeneralizedTime as Ord>⟧.cmp c d ≡ nat_cmp (unix_seconds c) (unix_seconds d) }
-{}
 
 /// The date-time of a year whose month, day, hour, minutes and seconds stand from a place on, as two
 /// digits each.

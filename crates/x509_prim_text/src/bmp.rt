@@ -15,9 +15,7 @@ use std::alloc::Global;
 use std::fmt;
 use std::hash::{Hash, Hasher};
 use std::marker::Model;
-use x509_der_grammar::{
-    Bytes, Decode, Encode, Error, ErrorKind, FixedTag, Grammar, Room, Tag, TryClone,
-};
+use x509_der_grammar::{Bytes, Content, Error, ErrorKind, Room, Tag, TryClone};
 
 /// A BMPString (X.680 41.15, X.690 8.23.9): characters of the basic multilingual plane. Contracts see their octets,
 /// two for each character.
@@ -133,57 +131,32 @@ impl BmpString {
     }
 }
 
-impl Grammar for BmpString {
-    ghost use Rattle.x509_der_element.specs.TagLaws.{is_identifier-octet_of};
-    ghost use Rattle.x509_der_element.specs.declared.tag.Tag.TheVariants as tags;
-    ghost use Rattle.x509_prim_text.specs.Bmp.{is_bmp};
-    ghost use Rattle.x509_der_grammar.specs.Tested.{tested_lawful};
-    ghost use Rattle.x509_prim_text.specs.Text.{text};
-
-    ghost form = { text 0x1E is_bmp };
-
-    fn identifier(&self) -> Tag {
-        Tag::BmpString
-    }
-
-    fn is_start(octet: u8) -> bool {
-        octet == Tag::BmpString.octet()
-    }
-
-    ghost lawful = { tested_lawful 0x1E is_bmp (is_identifier-octet_of tags.BmpString) };
-}
-
 #[tactic(auto, unfolding(x509_der_grammar::specs::Tested::tested_reading))]
-impl Decode for BmpString {
-    fn read(alloc: Global, tag: u8, content: &[u8]) -> Result<BmpString, Error> {
-        if tag != Tag::BmpString.octet() || !check_octets(content) {
+impl Content for BmpString {
+    ghost use Rattle.x509_der_element.specs.declared.tag.Tag.TheVariants as tags;
+    ghost use Rattle.x509_der_grammar.specs.Tested.{tested_contents, tested_contents_lawful};
+    ghost use Rattle.x509_prim_text.specs.Bmp.{is_bmp};
+
+    ghost contents = { tested_contents is_bmp };
+
+    ghost IDENTIFIER = { tags.BmpString };
+
+    const IDENTIFIER: Tag = Tag::BmpString;
+
+    fn read_content(alloc: Global, octets: &[u8]) -> Result<BmpString, Error> {
+        if !check_octets(octets) {
             return Err(ErrorKind::Malformed.into());
         }
         Ok(BmpString {
-            octets: Bytes::from_slice(alloc, content)?,
+            octets: Bytes::from_slice(alloc, octets)?,
         })
     }
-}
 
-impl Encode for BmpString {
-    ghost use Rattle.std.specs.Prelude.{refl};
-
-    fn put_content<R: Room>(&self, room: &mut R) -> Result<(), Error> {
+    fn write_content<R: Room>(&self, room: &mut R) -> Result<(), Error> {
         room.put(self.octets.as_slice())
     }
 
-    ghost same_tag = { λ value. refl };
-}
-
-impl FixedTag for BmpString {
-    ghost use Rattle.std.specs.Prelude.{refl};
-    ghost use Rattle.x509_der_element.specs.declared.tag.Tag.TheVariants as tags;
-
-    ghost TAG = { tags.BmpString };
-
-    const TAG: Tag = Tag::BmpString;
-
-    ghost fixed = { λ value good. refl };
+    ghost contents_lawful = { tested_contents_lawful is_bmp };
 }
 
 impl TryClone for BmpString {

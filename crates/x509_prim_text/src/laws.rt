@@ -6,8 +6,13 @@ ghost use Rattle.x509_der_grammar.specs.Form.{Spells};
 ghost use Rattle.x509_prim_text.specs.Alphabet.{is_printable, is_ia5};
 ghost use Rattle.x509_prim_text.specs.Bmp.{is_bmp, is_bmp_char, bmp_chars, bmp_octets};
 ghost use Rattle.x509_prim_text.specs.Text.{text};
+ghost use Rattle.x509_prim_text.specs.declared.restricted_ref.RestrictedStringRef.{RestrictedStringRef};
+ghost use Rattle.x509_prim_text.specs.declared.utf8.Utf8StringRef.{Utf8StringRef};
 
-use crate::{Ia5String, PrintableString, TeletexString};
+use crate::{
+    Alphabet, BmpString, Ia5String, PrintableString, RestrictedString, RestrictedStringRef,
+    TeletexString, Utf8String, Utf8StringRef,
+};
 use x509_der_grammar::Grammar;
 
 /// Characters of the basic multilingual plane and contents of BMPString are one to one.
@@ -21,4 +26,13 @@ pub fn restricted_strings_are_theirs()
     ensures printable { (string bytes : List ℕ) → Spells ⟦<PrintableString as Grammar>⟧.form string bytes ↔ Spells (text 0x13 (list_all is_printable)) string bytes }
     ensures ia5 { (string bytes : List ℕ) → Spells ⟦<Ia5String as Grammar>⟧.form string bytes ↔ Spells (text 0x16 (list_all is_ia5)) string bytes }
     ensures teletex { (string bytes : List ℕ) → Spells ⟦<TeletexString as Grammar>⟧.form string bytes ↔ Spells (text 0x14 (list_all is_ia5)) string bytes }
+{}
+
+/// `==` holds exactly of equal texts, owned or borrowed.
+pub fn equality_is_exact<'a, A: Alphabet>()
+    ensures restricted { (a b : List ℕ) → (⟦<RestrictedString<A> as PartialEq>⟧.eq a b ≡ true) ↔ (a ≡ b) }
+    ensures utf8 { (a b : List ℕ) → (⟦<Utf8String as PartialEq>⟧.eq a b ≡ true) ↔ (a ≡ b) }
+    ensures bmp { (a b : List ℕ) → (⟦<BmpString as PartialEq>⟧.eq a b ≡ true) ↔ (a ≡ b) }
+    ensures restricted_refs { (a b : RestrictedStringRef A) → (⟦<RestrictedStringRef<'a, A> as PartialEq>⟧.eq a b ≡ true) ↔ (a.text.now ≡ b.text.now) }
+    ensures utf8_refs { (a b : Utf8StringRef) → (⟦<Utf8StringRef<'a> as PartialEq>⟧.eq a b ≡ true) ↔ (a.text.now ≡ b.text.now) }
 {}

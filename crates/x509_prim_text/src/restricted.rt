@@ -15,7 +15,7 @@ use std::alloc::Global;
 use std::fmt;
 use std::hash::{Hash, Hasher};
 use std::marker::{Model, PhantomData};
-use x509_der_grammar::{Decode, Encode, Error, ErrorKind, FixedTag, Grammar, Room, Tag, TryClone};
+use x509_der_grammar::{Content, Error, ErrorKind, Room, Tag, TryClone};
 
 /// A text of a restricted character string type (X.680 41). Contracts see its octets, one for each character.
 #[derive(Drop)]
@@ -67,33 +67,19 @@ impl<A: Alphabet> RestrictedString<A> {
     }
 }
 
-impl<A: Alphabet> Grammar for RestrictedString<A> {
-    ghost use Rattle.std.specs.List.{list_all};
-    ghost use Rattle.x509_der_element.specs.Tag.{octet_of};
-    ghost use Rattle.x509_der_element.specs.TagLaws.{is_identifier-octet_of};
-    ghost use Rattle.x509_der_grammar.specs.Tested.{tested_lawful};
-    ghost use Rattle.x509_prim_text.specs.Text.{text};
-
-    ghost form = { text (octet_of A.TAG) (list_all A.has_char) };
-
-    fn identifier(&self) -> Tag {
-        A::TAG
-    }
-
-    fn is_start(octet: u8) -> bool {
-        octet == A::TAG.octet()
-    }
-
-    ghost lawful = { tested_lawful (octet_of A.TAG) (list_all A.has_char) (is_identifier-octet_of A.TAG) };
-}
-
 #[tactic(auto, unfolding(x509_der_grammar::specs::Tested::tested_reading))]
-impl<A: Alphabet> Decode for RestrictedString<A> {
-    fn read(alloc: Global, tag: u8, content: &[u8]) -> Result<RestrictedString<A>, Error> {
-        if tag != A::TAG.octet() {
-            return Err(ErrorKind::Malformed.into());
-        }
-        let Some(text) = text_of::<A>(content) else {
+impl<A: Alphabet> Content for RestrictedString<A> {
+    ghost use Rattle.std.specs.List.{list_all};
+    ghost use Rattle.x509_der_grammar.specs.Tested.{tested_contents, tested_contents_lawful};
+
+    ghost contents = { tested_contents (list_all A.has_char) };
+
+    ghost IDENTIFIER = { A.TAG };
+
+    const IDENTIFIER: Tag = A::TAG;
+
+    fn read_content(alloc: Global, octets: &[u8]) -> Result<RestrictedString<A>, Error> {
+        let Some(text) = text_of::<A>(octets) else {
             return Err(ErrorKind::Malformed.into());
         };
         Ok(RestrictedString {
@@ -101,26 +87,12 @@ impl<A: Alphabet> Decode for RestrictedString<A> {
             alphabet: PhantomData,
         })
     }
-}
 
-impl<A: Alphabet> Encode for RestrictedString<A> {
-    ghost use Rattle.std.specs.Prelude.{refl};
-
-    fn put_content<R: Room>(&self, room: &mut R) -> Result<(), Error> {
+    fn write_content<R: Room>(&self, room: &mut R) -> Result<(), Error> {
         room.put(self.text.as_bytes())
     }
 
-    ghost same_tag = { λ value. refl };
-}
-
-impl<A: Alphabet> FixedTag for RestrictedString<A> {
-    ghost use Rattle.std.specs.Prelude.{refl};
-
-    ghost TAG = { A.TAG };
-
-    const TAG: Tag = A::TAG;
-
-    ghost fixed = { λ value good. refl };
+    ghost contents_lawful = { tested_contents_lawful (list_all A.has_char) };
 }
 
 impl<A: Alphabet> TryClone for RestrictedString<A> {

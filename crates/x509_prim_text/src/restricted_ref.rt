@@ -1,13 +1,16 @@
 //! Borrowed restricted character strings.
 
-ghost use Rattle.std.specs.Prelude.{◌≡◌, ◌≢◌, ◌⊎◌, true, false, IfOk, IfErr, IfSome, IfNone};
+ghost use Rattle.std.specs.Prelude.{◌≡◌, ◌≢◌, ◌⊎◌, true, false, bytes_eq, IfOk, IfErr, IfSome, IfNone, IsOk};
+ghost use Rattle.std.specs.Cmp.{on_equiv, on_per, partial_equiv_from_equiv};
+ghost use Rattle.std.specs.Cmp.Lexicographic.{nat_list_eq_equiv};
 ghost use Rattle.std.specs.List.{list_all};
 ghost use Rattle.x509_der_element.specs.declared.error.ErrorKind.TheVariants as errors;
 ghost use Rattle.x509_der_element.specs.Tag.{octet_of};
 
 use crate::alphabet::Alphabet;
+use std::alloc::Global;
 use std::marker::PhantomData;
-use x509_der_grammar::{AnyRef, Error, ErrorKind};
+use x509_der_grammar::{AnyRef, Error, ErrorKind, TryClone};
 
 /// Whether each character is one of the type's.
 pub(crate) fn check_text<A: Alphabet>(octets: &[u8]) -> bool
@@ -76,4 +79,31 @@ impl<'a, A: Alphabet> RestrictedStringRef<'a, A> {
     {
         self.text
     }
+}
+
+impl<A: Alphabet> TryClone for RestrictedStringRef<'_, A> {
+    fn try_clone(&self, _alloc: Global) -> Result<Self, Error>
+        ensures ok { IfOk result (λ copy. copy ≡ self.now) }
+        ensures err { IfErr result (λ e. e.kind ≡ errors.Memory) }
+        ensures always { IsOk result }
+    {
+        Ok(RestrictedStringRef {
+            text: self.text,
+            alphabet: PhantomData,
+        })
+    }
+}
+
+impl<A: Alphabet> PartialEq for RestrictedStringRef<'_, A> {
+    ghost eq = { λ a b. bytes_eq a.text.now b.text.now };
+
+    ghost laws = { on_per (λ string. string.text.now) (partial_equiv_from_equiv nat_list_eq_equiv) };
+
+    fn eq(&self, other: &Self) -> bool {
+        self.text.as_bytes() == other.text.as_bytes()
+    }
+}
+
+impl<A: Alphabet> Eq for RestrictedStringRef<'_, A> {
+    ghost laws = { on_equiv (λ string. string.text.now) nat_list_eq_equiv };
 }

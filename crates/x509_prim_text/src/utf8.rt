@@ -1,9 +1,9 @@
 //! UTF8String.
 
-ghost use Rattle.std.specs.Prelude.{◌≡◌, ◌≢◌, ◌⊎◌, true, false, bytes_eq, string_bytes, IfOk, IfErr, IfSome, IfNone, IsOkAnd};
+ghost use Rattle.std.specs.Prelude.{◌≡◌, ◌≢◌, ◌⊎◌, true, false, bytes_eq, string_bytes, IfOk, IfErr, IfSome, IfNone, IsOk, IsOkAnd};
 ghost use Rattle.std.proofs.Common.{rules};
 ghost use Rattle.std.specs.Hash as fed;
-ghost use Rattle.std.specs.Cmp.{partial_equiv_from_equiv};
+ghost use Rattle.std.specs.Cmp.{on_equiv, on_per, partial_equiv_from_equiv};
 ghost use Rattle.std.specs.Cmp.Lexicographic.{nat_list_eq_equiv};
 ghost use Rattle.std.specs.Cmp.Rules.{hashing};
 ghost use Rattle.std.specs.Str.{is_utf8};
@@ -14,9 +14,7 @@ use std::alloc::Global;
 use std::fmt;
 use std::hash::{Hash, Hasher};
 use std::marker::Model;
-use x509_der_grammar::{
-    AnyRef, Decode, Encode, Error, ErrorKind, FixedTag, Grammar, Room, Tag, TryClone,
-};
+use x509_der_grammar::{AnyRef, Content, Error, ErrorKind, Room, Tag, TryClone};
 
 /// A UTF8String (X.680 41.16, X.690 8.23.10). Contracts see the UTF-8 octets of its characters.
 #[derive(Drop)]
@@ -68,26 +66,6 @@ impl From<String> for Utf8String {
     }
 }
 
-impl Grammar for Utf8String {
-    ghost use Rattle.std.specs.Str.{is_utf8};
-    ghost use Rattle.x509_der_element.specs.TagLaws.{is_identifier-octet_of};
-    ghost use Rattle.x509_der_element.specs.declared.tag.Tag.TheVariants as tags;
-    ghost use Rattle.x509_der_grammar.specs.Tested.{tested_lawful};
-    ghost use Rattle.x509_prim_text.specs.Text.{text};
-
-    ghost form = { text 0x0C is_utf8 };
-
-    fn identifier(&self) -> Tag {
-        Tag::Utf8String
-    }
-
-    fn is_start(octet: u8) -> bool {
-        octet == Tag::Utf8String.octet()
-    }
-
-    ghost lawful = { tested_lawful 0x0C is_utf8 (is_identifier-octet_of tags.Utf8String) };
-}
-
 /// The octets as a text, where they are UTF-8.
 fn utf8_text(octets: &[u8]) -> Option<&str>
     ensures some { IfSome result (λ text. (text.now ≡ octets.now) × (is_utf8 octets.now ≡ true)) }
@@ -100,39 +78,28 @@ fn utf8_text(octets: &[u8]) -> Option<&str>
 }
 
 #[tactic(auto, unfolding(x509_der_grammar::specs::Tested::tested_reading))]
-impl Decode for Utf8String {
-    fn read(alloc: Global, tag: u8, content: &[u8]) -> Result<Utf8String, Error> {
-        if tag != Tag::Utf8String.octet() {
-            return Err(ErrorKind::Malformed.into());
-        }
-        let Some(text) = utf8_text(content) else {
+impl Content for Utf8String {
+    ghost use Rattle.std.specs.Str.{is_utf8};
+    ghost use Rattle.x509_der_grammar.specs.Tested.{tested_contents, tested_contents_lawful};
+
+    ghost contents = { tested_contents is_utf8 };
+
+    ghost IDENTIFIER = { tags.Utf8String };
+
+    const IDENTIFIER: Tag = Tag::Utf8String;
+
+    fn read_content(alloc: Global, octets: &[u8]) -> Result<Utf8String, Error> {
+        let Some(text) = utf8_text(octets) else {
             return Err(ErrorKind::Malformed.into());
         };
-        Ok(Utf8String {
-            text: String::from_str(alloc, text)?,
-        })
+        Utf8String::new(alloc, text)
     }
-}
 
-impl Encode for Utf8String {
-    ghost use Rattle.std.specs.Prelude.{refl};
-
-    fn put_content<R: Room>(&self, room: &mut R) -> Result<(), Error> {
+    fn write_content<R: Room>(&self, room: &mut R) -> Result<(), Error> {
         room.put(self.text.as_bytes())
     }
 
-    ghost same_tag = { λ value. refl };
-}
-
-impl FixedTag for Utf8String {
-    ghost use Rattle.std.specs.Prelude.{refl};
-    ghost use Rattle.x509_der_element.specs.declared.tag.Tag.TheVariants as tags;
-
-    ghost TAG = { tags.Utf8String };
-
-    const TAG: Tag = Tag::Utf8String;
-
-    ghost fixed = { λ value good. refl };
+    ghost contents_lawful = { tested_contents_lawful is_utf8 };
 }
 
 impl TryClone for Utf8String {
@@ -219,4 +186,28 @@ impl<'a> Utf8StringRef<'a> {
     {
         self.text
     }
+}
+
+impl TryClone for Utf8StringRef<'_> {
+    fn try_clone(&self, _alloc: Global) -> Result<Self, Error>
+        ensures ok { IfOk result (λ copy. copy ≡ self.now) }
+        ensures err { IfErr result (λ e. e.kind ≡ errors.Memory) }
+        ensures always { IsOk result }
+    {
+        Ok(*self)
+    }
+}
+
+impl PartialEq for Utf8StringRef<'_> {
+    ghost eq = { λ a b. bytes_eq a.text.now b.text.now };
+
+    ghost laws = { on_per (λ string. string.text.now) (partial_equiv_from_equiv nat_list_eq_equiv) };
+
+    fn eq(&self, other: &Self) -> bool {
+        self.text.as_bytes() == other.text.as_bytes()
+    }
+}
+
+impl Eq for Utf8StringRef<'_> {
+    ghost laws = { on_equiv (λ string. string.text.now) nat_list_eq_equiv };
 }
