@@ -324,3 +324,10 @@ fields_lawful {X} {Y} to from p back there h = record {
         ]
       ];
 }
+
+-- ---- bytes are those of one value of a part, and of one rest
+
+pub one_part : {X : Type 0} {R : ErrorKind → Type 0} (p : Part X) → IsPart R p → (v w : X) (x y : List ℕ) → p.good v → p.good w → IsClearOf p.avoids x → IsClearOf p.avoids y → p.text v ++ x ≡ p.text w ++ y → (v ≡ w) × (x ≡ y)
+one_part {X} p h v w x y good_v good_w clear_x clear_y e =
+    let same : (v, x) ≡ (w, y) = ok_is (v, x) (w, y) (sym (h.complete v x good_v clear_x) ∙ ap p.reading e ∙ h.complete w y good_w clear_y) in
+    (ap (λ (z : X × List ℕ). z.0) same, ap (λ (z : X × List ℕ). z.1) same)
