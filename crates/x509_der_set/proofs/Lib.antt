@@ -1,3 +1,2 @@
 pub mod RisingLists
 pub mod OneSet
-mod FewMembers

@@ -1,4 +1,3 @@
-use Rattle.std.proofs.Common.{sym, ap, ◌∙◌}
 use Rattle.x509_der_frames.specs.Frames.{optional}
 use Rattle.x509_der_frames.specs.FrameLaws.{optional_lawful, one_part}
 use Rattle.x509_der_frames.proofs.laws.the_next_octet_decides_an_optional_field.Goals as goal
