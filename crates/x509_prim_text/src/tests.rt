@@ -32,8 +32,10 @@ fn is_refused<T: Drop>(outcome: Result<T, Error>, kind: ErrorKind) -> bool {
 /// Whether the value is printed and shown so.
 fn prints<T: Display + Debug>(rt: &HostRuntime, value: &T, text: &str) -> Result<bool, Fail> {
     let shown = format!(in rt.alloc(); "{value:?}")?;
-    Ok(value.to_string(rt.alloc())?.as_str() == text
-        && format!(in rt.alloc(); "\"{text}\"")?.as_str() == shown.as_str())
+    Ok(
+        value.to_string(rt.alloc())?.as_str() == text
+            && format!(in rt.alloc(); "\"{text}\"")?.as_str() == shown.as_str(),
+    )
 }
 
 #[test]
@@ -53,7 +55,7 @@ fn alphabets(rt: HostRuntime) -> Result<(), Fail> {
     let printable = "AZaz09 '()+,-./:=?";
     let string = PrintableString::new(rt.alloc(), printable)?;
     assert!(rt; prints(&rt, &string, printable)? && string.as_str() == printable);
-    assert_eq!(rt; string.into_string().as_str(), printable);
+    assert_eq!(rt; string.into_string(rt.alloc())?.as_str(), printable);
     for other in ["*", "@", "&", "_", ";", "!", "\"", "ä"] {
         assert!(rt; is_refused(PrintableString::new(rt.alloc(), other), ErrorKind::Value));
     }
@@ -67,9 +69,14 @@ fn alphabets(rt: HostRuntime) -> Result<(), Fail> {
 fn utf8_strings(rt: HostRuntime) -> Result<(), Fail> {
     assert!(rt; stays::<Utf8String>(&rt, &[0x0C, 0x02, 0xC3, 0xA4])?);
     assert!(rt; is_malformed::<Utf8String>(&rt, &[0x0C, 0x01, 0xC3]));
-    let string = Utf8String::new(rt.alloc(), "ä")?;
-    assert!(rt; prints(&rt, &string, "ä")?);
-    assert_eq!(rt; Utf8String::from(string.into_string()).as_str(), "ä");
+    for text in ["ä", "ä and more than 24 octets"] {
+        let string = Utf8String::new(rt.alloc(), text)?;
+        assert!(rt; prints(&rt, &string, text)?);
+        assert_eq!(rt;
+            Utf8String::from(string.into_string(rt.alloc())?).as_str(),
+            text
+        );
+    }
     Ok(())
 }
 
@@ -82,7 +89,10 @@ fn bmp_strings(rt: HostRuntime) -> Result<(), Fail> {
     let string = BmpString::from_str(rt.alloc(), "A€")?;
     assert_eq!(rt; string.as_bytes(), [0x00, 0x41, 0x20, 0xAC].as_slice());
     assert_eq!(rt; string.to_text(rt.alloc())?.as_str(), "A€");
-    assert_eq!(rt; format!(in rt.alloc(); "{string:?}")?.as_str(), "[0, 65, 32, 172]");
+    assert_eq!(rt;
+        format!(in rt.alloc(); "{string:?}")?.as_str(),
+        "[0, 65, 32, 172]"
+    );
     assert!(rt; is_refused(BmpString::from_str(rt.alloc(), "😀"), ErrorKind::Value));
     Ok(())
 }
@@ -90,7 +100,10 @@ fn bmp_strings(rt: HostRuntime) -> Result<(), Fail> {
 #[test]
 fn borrowed_texts(rt: HostRuntime) -> Result<(), Fail> {
     let country = PrintableStringRef::from_any(AnyRef::new(Tag::PrintableString, b"US")?)?;
-    assert_eq!(rt; country.try_clone(rt.alloc())?, PrintableStringRef::new("US")?);
+    assert_eq!(rt;
+        country.try_clone(rt.alloc())?,
+        PrintableStringRef::new("US")?
+    );
     assert_eq!(rt; country.as_str(), "US");
     let letter = Utf8StringRef::from_any(AnyRef::new(Tag::Utf8String, b"\xC3\xA4")?)?;
     assert_eq!(rt; letter.try_clone(rt.alloc())?, Utf8StringRef::new("ä")?);
