@@ -5,6 +5,7 @@ pub mod DefaultValues
 pub mod Any
 pub mod List
 pub mod ListLaws
+pub mod PartRules
 pub mod ListWriting
 pub mod ListOrder
 pub mod FieldsOrder
