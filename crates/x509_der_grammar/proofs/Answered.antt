@@ -6,19 +6,21 @@ use Rattle.std.proofs.Math.Seq.{drop-append_seam}
 use Rattle.x509_der_element.specs.declared.error.Error.{Error}
 use Rattle.x509_der_element.specs.declared.error.ErrorKind.{ErrorKind}
 
--- what the spelling is after, in the room
+-- what `encode_into` says of how many bytes come before the spelling, or of its refusal
 pub record Wrote (old now spelling : List ℕ) (W : Type 0) (U : ErrorKind → Type 0) (before : Result ℕ Error) : Type 0 where
   pub ok : OnOk before W
   pub bytes : IfOk before (λ n. now ≡ take n old ++ spelling)
   pub len : IfOk before (λ n. n + length spelling ≡ length old)
   pub err : IfErr before (λ e. U e.kind)
 
+-- what `encode_to_slice` says
 pub record Answers (old now spelling : List ℕ) (W : Type 0) (U : ErrorKind → Type 0) (answer : Result (Bor (List ℕ)) Error) : Type 0 where
   pub ok : OnOk answer W
   pub bytes : IfOk answer (λ b. b.now ≡ spelling)
   pub err : IfErr answer (λ e. U e.kind)
   pub place : IfOk answer (λ b. now ≡ take (length old - length b.now) old ++ b.now)
 
+-- what `bytes_after` says
 abbrev pub After : Result ℕ Error → List ℕ → Result (Bor (List ℕ)) Error → Type 0
 After before shown answer = MatchResult before (λ n. IsOkAnd answer (λ part. part.now ≡ drop n shown)) (λ e. IsErrAnd answer (λ same. same ≡ e))
 
