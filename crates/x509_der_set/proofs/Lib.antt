@@ -1,3 +1,4 @@
 pub mod RisingLists
 pub mod OneSet
 mod FewMembers
+mod SetOrders
