@@ -89,6 +89,19 @@ impl AsRef<RdnSequence> for Name {
     }
 }
 
+impl AsMut<RdnSequence> for Name {
+    ghost use Rattle.std.specs.Borrow.{Lends, sem};
+    ghost use Rattle.x509_name_rdn.specs.contracts.name.Name.{the_row};
+    ghost use Rattle.x509_name_rdn.specs.contracts.rdn_sequence.RdnSequence as sequence;
+
+    fn as_mut(&mut self) -> &mut RdnSequence
+        ensures* writes_back { sem 𝓛 (Lends the_row sequence.the_row self.entry result (λ w. w)) }
+        ensures value { result.now ≡ self.old }
+    {
+        &mut self.0
+    }
+}
+
 impl From<Name> for RdnSequence {
     ghost from_gives = { λ name rdns. rdns ≡ name };
 

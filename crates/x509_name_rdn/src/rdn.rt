@@ -125,6 +125,19 @@ impl AsRef<SetOfVec<AttributeTypeAndValue>> for RelativeDistinguishedName {
     }
 }
 
+impl AsMut<SetOfVec<AttributeTypeAndValue>> for RelativeDistinguishedName {
+    ghost use Rattle.std.specs.Borrow.{Lends, sem};
+    ghost use Rattle.x509_name_rdn.specs.contracts.rdn.RelativeDistinguishedName.{the_row};
+    ghost use Rattle.x509_name_rdn.specs.Rows.{attribute_set_row};
+
+    fn as_mut(&mut self) -> &mut SetOfVec<AttributeTypeAndValue>
+        ensures* writes_back { sem 𝓛 (Lends the_row attribute_set_row self.entry result (λ w. w)) }
+        ensures value { result.now ≡ self.old }
+    {
+        &mut self.0
+    }
+}
+
 impl From<RelativeDistinguishedName> for SetOfVec<AttributeTypeAndValue> {
     ghost from_gives = { λ rdn attributes. attributes ≡ rdn };
 

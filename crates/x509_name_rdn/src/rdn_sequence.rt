@@ -118,6 +118,19 @@ impl AsRef<SequenceOf<RelativeDistinguishedName>> for RdnSequence {
     }
 }
 
+impl AsMut<SequenceOf<RelativeDistinguishedName>> for RdnSequence {
+    ghost use Rattle.std.specs.Borrow.{Lends, sem};
+    ghost use Rattle.x509_name_rdn.specs.contracts.rdn_sequence.RdnSequence.{the_row};
+    ghost use Rattle.x509_name_rdn.specs.Rows.{rdn_list_row};
+
+    fn as_mut(&mut self) -> &mut SequenceOf<RelativeDistinguishedName>
+        ensures* writes_back { sem 𝓛 (Lends the_row rdn_list_row self.entry result (λ w. w)) }
+        ensures value { result.now ≡ self.old }
+    {
+        &mut self.0
+    }
+}
+
 impl Newtype for RdnSequence {
     ghost use Rattle.x509_der_grammar.specs.Round.{same};
 
