@@ -2,7 +2,7 @@
 
 use std::alloc::Global;
 use x509_der_frames::{Any, PutPart, end, field, optional, optional_field};
-use x509_der_grammar::{Decode, Encode, Error, FixedTag, Grammar, Room, Tag, TryClone, expect_tag};
+use x509_der_grammar::{Content, Error, Room, Tag, TryClone};
 use x509_der_oid::ObjectIdentifier;
 
 /// An algorithm, by its name, and the parameters with which it is used (RFC 5280 4.1.1.2).
@@ -31,55 +31,31 @@ impl Drop for AlgorithmIdentifier {
     }
 }
 
-impl Grammar for AlgorithmIdentifier {
+#[tactic(auto, unfolding(crate::specs::AlgorithmIdentifier::algorithm_identifier_fields, x509_der_frames::specs::Frames::fields_reading, x509_der_frames::specs::Frames::fields_octets))]
+impl Content for AlgorithmIdentifier {
+    ghost use Rattle.x509_der_element.specs.declared.tag.Tag.TheVariants.{Sequence};
     ghost use Rattle.x509_base_key.specs.AlgorithmIdentifier as grammar;
 
-    ghost form = { grammar.algorithm_identifier };
+    ghost contents = { grammar.algorithm_identifier_contents };
 
-    fn identifier(&self) -> Tag {
-        Tag::Sequence
-    }
+    ghost IDENTIFIER = { Sequence };
 
-    fn is_start(octet: u8) -> bool {
-        octet == Tag::Sequence.octet()
-    }
+    const IDENTIFIER: Tag = Tag::Sequence;
 
-    ghost lawful = { grammar.algorithm_identifier_lawful };
-}
-
-#[tactic(auto, unfolding(crate::specs::AlgorithmIdentifier::algorithm_identifier_fields, x509_der_frames::specs::Frames::fields_reading))]
-impl Decode for AlgorithmIdentifier {
-    fn read(alloc: Global, tag: u8, content: &[u8]) -> Result<AlgorithmIdentifier, Error> {
-        expect_tag(tag, Tag::Sequence)?;
-        let mut rest = content;
+    fn read_content(alloc: Global, octets: &[u8]) -> Result<AlgorithmIdentifier, Error> {
+        let mut rest = octets;
         let oid = field::<ObjectIdentifier>(alloc, &mut rest)?;
         let parameters = optional_field::<Any>(alloc, &mut rest)?;
         end(rest)?;
         Ok(AlgorithmIdentifier { oid, parameters })
     }
-}
 
-#[tactic(auto, unfolding(crate::specs::AlgorithmIdentifier::algorithm_identifier_fields, x509_der_frames::specs::Frames::fields_octets))]
-impl Encode for AlgorithmIdentifier {
-    ghost use Rattle.std.specs.Prelude.{refl};
-
-    fn put_content<R: Room>(&self, room: &mut R) -> Result<(), Error> {
+    fn write_content<R: Room>(&self, room: &mut R) -> Result<(), Error> {
         let parts = (&self.oid, optional(&self.parameters));
         parts.put_text(room)
     }
 
-    ghost same_tag = { λ value. refl };
-}
-
-impl FixedTag for AlgorithmIdentifier {
-    ghost use Rattle.std.specs.Prelude.{refl};
-    ghost use Rattle.x509_der_element.specs.declared.tag.Tag.TheVariants.{Sequence};
-
-    ghost TAG = { Sequence };
-
-    const TAG: Tag = Tag::Sequence;
-
-    ghost fixed = { λ value good. refl };
+    ghost contents_lawful = { grammar.algorithm_identifier_contents_lawful };
 }
 
 impl TryClone for AlgorithmIdentifier {

@@ -3,7 +3,7 @@
 use crate::algorithm_identifier::AlgorithmIdentifier;
 use std::alloc::Global;
 use x509_der_frames::{PutPart, end, field};
-use x509_der_grammar::{Decode, Encode, Error, FixedTag, Grammar, Room, Tag, TryClone, expect_tag};
+use x509_der_grammar::{Content, Error, Room, Tag, TryClone};
 use x509_prim_string::BitString;
 
 /// A public key, and the algorithm with which it is used (RFC 5280 4.1.2.7).
@@ -31,27 +31,19 @@ impl Drop for SubjectPublicKeyInfo {
     }
 }
 
-impl Grammar for SubjectPublicKeyInfo {
+#[tactic(auto, unfolding(crate::specs::SubjectPublicKeyInfo::subject_public_key_info_fields, x509_der_frames::specs::Frames::fields_reading, x509_der_frames::specs::Frames::fields_octets))]
+impl Content for SubjectPublicKeyInfo {
+    ghost use Rattle.x509_der_element.specs.declared.tag.Tag.TheVariants.{Sequence};
     ghost use Rattle.x509_base_key.specs.SubjectPublicKeyInfo as grammar;
 
-    ghost form = { grammar.subject_public_key_info };
+    ghost contents = { grammar.subject_public_key_info_contents };
 
-    fn identifier(&self) -> Tag {
-        Tag::Sequence
-    }
+    ghost IDENTIFIER = { Sequence };
 
-    fn is_start(octet: u8) -> bool {
-        octet == Tag::Sequence.octet()
-    }
+    const IDENTIFIER: Tag = Tag::Sequence;
 
-    ghost lawful = { grammar.subject_public_key_info_lawful };
-}
-
-#[tactic(auto, unfolding(crate::specs::SubjectPublicKeyInfo::subject_public_key_info_fields, x509_der_frames::specs::Frames::fields_reading))]
-impl Decode for SubjectPublicKeyInfo {
-    fn read(alloc: Global, tag: u8, content: &[u8]) -> Result<SubjectPublicKeyInfo, Error> {
-        expect_tag(tag, Tag::Sequence)?;
-        let mut rest = content;
+    fn read_content(alloc: Global, octets: &[u8]) -> Result<SubjectPublicKeyInfo, Error> {
+        let mut rest = octets;
         let algorithm = field::<AlgorithmIdentifier>(alloc, &mut rest)?;
         let subject_public_key = field::<BitString>(alloc, &mut rest)?;
         end(rest)?;
@@ -60,29 +52,13 @@ impl Decode for SubjectPublicKeyInfo {
             subject_public_key,
         })
     }
-}
 
-#[tactic(auto, unfolding(crate::specs::SubjectPublicKeyInfo::subject_public_key_info_fields, x509_der_frames::specs::Frames::fields_octets))]
-impl Encode for SubjectPublicKeyInfo {
-    ghost use Rattle.std.specs.Prelude.{refl};
-
-    fn put_content<R: Room>(&self, room: &mut R) -> Result<(), Error> {
+    fn write_content<R: Room>(&self, room: &mut R) -> Result<(), Error> {
         let parts = (&self.algorithm, &self.subject_public_key);
         parts.put_text(room)
     }
 
-    ghost same_tag = { λ value. refl };
-}
-
-impl FixedTag for SubjectPublicKeyInfo {
-    ghost use Rattle.std.specs.Prelude.{refl};
-    ghost use Rattle.x509_der_element.specs.declared.tag.Tag.TheVariants.{Sequence};
-
-    ghost TAG = { Sequence };
-
-    const TAG: Tag = Tag::Sequence;
-
-    ghost fixed = { λ value good. refl };
+    ghost contents_lawful = { grammar.subject_public_key_info_contents_lawful };
 }
 
 impl TryClone for SubjectPublicKeyInfo {

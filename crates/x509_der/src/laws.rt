@@ -1,7 +1,8 @@
-//! What holds of all elements, spellings, tags, object identifiers, byte orders and sets. Each law is a function with an empty body, whose
-//! contract is the law.
+//! What holds of all elements, spellings, tags, fields, object identifiers, byte orders and sets. Each law is a function
+//! with an empty body, whose contract is the law.
 
 pub use x509_der_element::laws::{no_element_begins_another, one_tag};
+pub use x509_der_frames::laws::the_next_octet_decides_an_optional_field;
 pub use x509_der_grammar::laws::{
     no_spelling_begins_another, one_spelling, one_value, writing_again_gives_the_same,
 };

@@ -12,14 +12,15 @@ pub use x509_der_frames::{
     default_explicit, default_field, default_implicit, defaulted, end, explicit, explicit_default,
     explicit_field, explicit_optional, field, implicit, implicit_default, implicit_field,
     implicit_octet, implicit_optional, optional, optional_explicit, optional_field,
-    optional_implicit, put_members, read_members,
+    optional_implicit, put_members, read_further, read_members,
 };
 pub use x509_der_grammar::{
-    AnyRef, Bytes, Counting, Decode, Encode, Error, ErrorKind, Fixed, FixedTag, Grammar, Growing,
-    Header, Length, Piece, Room, Tag, TagNumber, Tagged, TryClone, check_content, expect_tag,
-    put_header, put_natural, read_natural, read_whole, split_element, take_element,
+    AnyRef, Bytes, Content, Counting, Decode, Encode, Error, ErrorKind, Fixed, FixedTag, Grammar,
+    Growing, Header, Length, Newtype, Piece, Room, Tag, TagNumber, Tagged, TryClone, check_content,
+    expect_tag, put_header, put_natural, read_natural, read_whole, split_element, split_usual,
+    take_element,
 };
 pub use x509_der_oid::{AssociatedOid, ObjectIdentifier};
-pub use x509_der_order::{DerOrd, ValueOrd, cmp_members, cmp_naturals};
+pub use x509_der_order::{DerOrd, NewtypeOrd, ValueOrd, cmp_members, cmp_naturals};
 pub use x509_der_set::SetOfVec;
 pub use x509_prim_text::Utf8String;

@@ -11,9 +11,9 @@ use Rattle.x509_der_element.specs.OutcomeLaws.{ok_is, bind_ok, bind_err, guard_o
 use Rattle.x509_der_element.specs.Element.{element, is_identifier, is_universal}
 use Rattle.x509_der_element.specs.ElementReading.{piece_at}
 use Rattle.x509_der_element.specs.ElementLaws.{piece_at-sound, piece_at-element, piece_at-refused}
-use Rattle.x509_der_grammar.specs.Form.{is_in, Form, spelling, IsForm, IsContents, HasTag}
-use Rattle.x509_der_grammar.specs.FormLaws.{under_lawful, whole_sound, whole_complete, whole_refused}
-use Rattle.x509_der_frames.specs.Frames.{explicit_contents, explicit, implicit_tag, implicit_contents, implicit, Part, IsPart, BeginsIn, nothing, begins, IsClearOf, are_apart, field_at, required, optional_text, optional_at, optional, Default, IsDefault, default_of, default_at, defaulted, default_text, ◌⊗◌, end_at, fields, fields_octets, fields_good, fields_reading}
+use Rattle.x509_der_grammar.specs.Form.{is_in, Form, spelling, IsForm, IsContents, HasTag, contents_of}
+use Rattle.x509_der_grammar.specs.FormLaws.{under_lawful, contents_of_lawful, whole_sound, whole_complete, whole_refused}
+use Rattle.x509_der_frames.specs.Frames.{explicit_contents, explicit, implicit_tag, implicit, Part, IsPart, BeginsIn, nothing, begins, IsClearOf, are_apart, field_at, required, optional_text, optional_at, optional, Default, IsDefault, default_of, default_at, defaulted, default_text, ◌⊗◌, end_at, fields, fields_octets, fields_good, fields_reading}
 
 -- ---- tags
 
@@ -29,11 +29,7 @@ pub explicit_lawful : {X : Type 0} {R : ErrorKind → Type 0} (n : ℕ) (f : For
 explicit_lawful n f low h = under_lawful (160 + n) (explicit_contents f) (explicit_identifier n low) (record { sound = whole_sound f h; complete = whole_complete f h; refused = whole_refused f h })
 
 pub implicit_lawful : {X : Type 0} {R : ErrorKind → Type 0} (n tag : ℕ) (f : Form X) → ltb n 31 ≡ true → HasTag tag f → IsForm R f → IsForm R (implicit n tag f)
-implicit_lawful n tag f low fixed h = under_lawful (implicit_tag n tag) (implicit_contents tag f) (implicit_identifier n tag low) (record {
-  sound = λ bytes v e. let s = h.sound tag bytes v e in (s.0, s.2);
-  complete = λ v g. rw (← fixed v) (h.complete v g);
-  refused = λ bytes e r. h.refused tag bytes e r;
-})
+implicit_lawful n tag f low fixed h = under_lawful (implicit_tag n tag) (contents_of tag f) (implicit_identifier n tag low) (contents_of_lawful tag f fixed h)
 
 -- ---- a field
 
@@ -324,3 +320,10 @@ fields_lawful {X} {Y} to from p back there h = record {
         ]
       ];
 }
+
+-- ---- bytes are those of one value of a part, and of one rest
+
+pub one_part : {X : Type 0} {R : ErrorKind → Type 0} (p : Part X) → IsPart R p → (v w : X) (x y : List ℕ) → p.good v → p.good w → IsClearOf p.avoids x → IsClearOf p.avoids y → p.text v ++ x ≡ p.text w ++ y → (v ≡ w) × (x ≡ y)
+one_part {X} p h v w x y good_v good_w clear_x clear_y e =
+    let same : (v, x) ≡ (w, y) = ok_is (v, x) (w, y) (sym (h.complete v x good_v clear_x) ∙ ap p.reading e ∙ h.complete w y good_w clear_y) in
+    (ap (λ (z : X × List ℕ). z.0) same, ap (λ (z : X × List ℕ). z.1) same)

@@ -4,7 +4,7 @@ use Rattle.x509_der_element.specs.declared.error.ErrorKind.{ErrorKind}
 use Rattle.x509_der_element.specs.declared.error.ErrorKind.TheVariants.{Malformed}
 use Rattle.x509_der_element.specs.Outcome.{◌>>=◌}
 use Rattle.x509_der_element.specs.ElementReading.{piece_at}
-use Rattle.x509_der_grammar.specs.Form.{is_in, is_empty, Form, spelling, Contents, under, whole_reading}
+use Rattle.x509_der_grammar.specs.Form.{is_in, is_empty, Form, spelling, Contents, contents_of, under, whole_reading}
 
 -- ---- tags of the context-specific class
 
@@ -20,11 +20,8 @@ abbrev pub implicit_tag : ℕ → ℕ → ℕ
 implicit_tag n tag = if nat_lt (tag % 64) 32 then 128 + n else 160 + n
 
 -- [n]: the content of the value under this identifier octet (X.690 8.14.3)
-abbrev pub implicit_contents : {X : Type 0} → ℕ → Form X → Contents X
-implicit_contents tag form = record { octets = form.content; good = form.good; reading = form.reading tag }
-
 abbrev pub implicit : {X : Type 0} → ℕ → ℕ → Form X → Form X
-implicit n tag form = under (implicit_tag n tag) (implicit_contents tag form)
+implicit n tag form = under (implicit_tag n tag) (contents_of tag form)
 
 -- ---- parts of a sequence
 

@@ -10,3 +10,4 @@ pub mod ListOrder
 pub mod FieldsOrder
 pub mod Choice
 pub mod ChoiceWriting
+pub mod PartRules

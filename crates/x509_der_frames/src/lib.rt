@@ -3,6 +3,7 @@
 
 mod any;
 mod default_values;
+pub mod laws;
 mod list;
 mod part;
 mod reading;

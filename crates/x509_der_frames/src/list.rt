@@ -1,6 +1,6 @@
 //! SEQUENCE OF (X.690 8.10).
 
-ghost use Rattle.std.specs.Prelude.{◌≡◌, ◌↔◌, ◌++◌, [], ◌∷◌, length, IsTrue, IfOk, IfErr, OnOk, OnErr};
+ghost use Rattle.std.specs.Prelude.{◌≡◌, ◌≤◌, ◌↔◌, ◌++◌, [], ◌∷◌, length, IsTrue, IfOk, IfErr, OnOk, OnErr};
 ghost use Rattle.x509_der_element.specs.declared.error.ErrorKind.TheVariants.{Memory};
 ghost use Rattle.x509_der_element.specs.Outcome.{GivesBy};
 ghost use Rattle.x509_der_grammar.specs.Writing.{Puts, writes};
@@ -153,7 +153,9 @@ pub fn clone_members<T: TryClone + Drop>(alloc: Global, members: &[T]) -> Result
 const FORESEEN: usize = 1024;
 
 /// How many elements stand at the front of the bytes, up to [`FORESEEN`].
-fn count_elements(bytes: &[u8]) -> usize {
+fn count_elements(bytes: &[u8]) -> usize
+    ensures { result ≤ 1024 }
+{
     let mut rest = bytes;
     for count in 0..FORESEEN {
         match split_element(rest) {
@@ -169,18 +171,24 @@ fn count_elements(bytes: &[u8]) -> usize {
 pub fn read_members<T: Decode + Drop>(alloc: Global, bytes: &[u8]) -> Result<Vec<T>, Error>
     ensures exact { GivesBy (λ v. v.items) result (list_reading T.form.reading bytes.now) }
 {
-    read_further(alloc, Vec::new(alloc), bytes)
+    if bytes.is_empty() {
+        return Ok(Vec::new(alloc));
+    }
+    let mut rest = bytes;
+    let first = field::<T>(alloc, &mut rest)?;
+    read_further(alloc, first, rest)
 }
 
-/// The items, and behind them the values that [`read_members`] answers.
+/// The first value, and behind it those that [`read_members`] answers.
 pub fn read_further<T: Decode + Drop>(
     alloc: Global,
-    mut items: Vec<T>,
+    first: T,
     bytes: &[u8],
 ) -> Result<Vec<T>, Error>
-    ensures exact { GivesBy (λ v. v.items) result (with_front items.items (list_reading T.form.reading bytes.now)) }
+    ensures exact { GivesBy (λ v. v.items) result (with_front (first ∷ []) (list_reading T.form.reading bytes.now)) }
 {
-    items.reserve(count_elements(bytes))?;
+    let mut items = Vec::with_capacity(alloc, 1 + count_elements(bytes))?;
+    items.push(first)?;
     let mut rest = bytes;
     while !rest.is_empty() {
         let item = field::<T>(alloc, &mut rest)?;

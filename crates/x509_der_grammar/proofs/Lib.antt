@@ -1,1 +1,3 @@
+pub mod Answered
 pub mod Naturals
+pub mod Rests

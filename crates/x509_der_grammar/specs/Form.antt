@@ -58,6 +58,10 @@ pub record IsContents {X : Type 0} (R : ErrorKind → Type 0) (contents : Conten
   pub complete : (value : X) → contents.good value → contents.reading (contents.octets value) ≡ Ok value
   pub refused : (bytes : List ℕ) (e : ErrorKind) → contents.reading bytes ≡ Err e → (e ≡ Malformed) ⊎ R e
 
+-- the contents of a form each value of which has this identifier octet
+abbrev pub contents_of : {X : Type 0} → ℕ → Form X → Contents X
+contents_of tag form = record { octets = form.content; good = form.good; reading = form.reading tag }
+
 -- a content is read under its own identifier octet alone
 abbrev pub reading_under : {X : Type 0} → ℕ → (List ℕ → Result X ErrorKind) → ℕ → List ℕ → Result X ErrorKind
 reading_under wanted read tag content = if nat_eq tag wanted then read content else Err Malformed

@@ -11,7 +11,7 @@ use Rattle.x509_der_element.specs.ElementReading.{piece_at}
 use Rattle.x509_der_element.specs.Tag.{octet_of}
 use Rattle.x509_der_element.specs.TagLaws.{tag_is_identifier}
 use Rattle.x509_der_element.specs.ElementLaws.{piece_at-sound, piece_at-whole, piece_at-refused}
-use Rattle.x509_der_grammar.specs.Form.{is_in, is_empty, Form, spelling, IsForm, Contents, IsContents, alone, whole_reading, under, universal}
+use Rattle.x509_der_grammar.specs.Form.{is_in, is_empty, Form, spelling, IsForm, HasTag, Contents, IsContents, contents_of, alone, whole_reading, under, universal}
 
 pub is_empty-true : (bytes : List ℕ) → is_empty bytes ≡ true → bytes ≡ []
 is_empty-true [] h = refl
@@ -35,6 +35,13 @@ under_lawful tag c identifier h = record {
 -- contents under one identifier
 pub universal_lawful : {X : Type 0} {R : ErrorKind → Type 0} (tag : Tag) (c : Contents X) → IsContents R c → IsForm R (universal tag c)
 universal_lawful tag c h = under_lawful (octet_of tag) c (tag_is_identifier tag) h
+
+pub contents_of_lawful : {X : Type 0} {R : ErrorKind → Type 0} (tag : ℕ) (f : Form X) → HasTag tag f → IsForm R f → IsContents R (contents_of tag f)
+contents_of_lawful tag f fixed h = record {
+  sound = λ bytes v e. let s = h.sound tag bytes v e in (s.0, s.2);
+  complete = λ v g. rw (← fixed v) (h.complete v g);
+  refused = λ bytes e r. h.refused tag bytes e r;
+}
 
 -- ---- one whole element
 

@@ -2,11 +2,9 @@
 use Rattle.std.specs.Prelude.{◌≡◌, Ok, refl}
 use Rattle.std.proofs.Common.{sym, ◌∙◌, ap, inl, inr}
 use Rattle.x509_der_element.specs.declared.error.ErrorKind.{ErrorKind}
-use Rattle.x509_der_element.specs.declared.tag.Tag.{Tag}
-use Rattle.x509_der_element.specs.Tag.{octet_of}
 use Rattle.x509_der_element.specs.Outcome.{◌>>=◌}
 use Rattle.x509_der_element.specs.OutcomeLaws.{bind_ok, bind_err, ok_is, not_refused}
-use Rattle.x509_der_grammar.specs.Form.{Form, IsForm, HasTag, Contents, IsContents}
+use Rattle.x509_der_grammar.specs.Form.{Contents, IsContents}
 use Rattle.x509_der_grammar.specs.StableLaws.{with_field_stable}
 use Rattle.x509_der_grammar.specs.Writing.{Writing, plain, respelling, writes, with_field, IsStable}
 
@@ -21,11 +19,11 @@ abbrev pub same : {X : Type 0} → Round X X
 same = record { to = λ x. x; from = λ x. x; back = λ x. refl; there = λ x. refl }
 
 -- the content octets are those of the value within
-abbrev pub round_contents : {X Y : Type 0} → Round Y X → Tag → Form X → Contents Y
-round_contents round tag form = record {
-  octets = λ y. form.content (round.to y);
-  good = λ y. form.good (round.to y);
-  reading = λ bytes. form.reading (octet_of tag) bytes >>= λ x. Ok (round.from x);
+abbrev pub round_contents : {X Y : Type 0} → Round Y X → Contents X → Contents Y
+round_contents round contents = record {
+  octets = λ y. contents.octets (round.to y);
+  good = λ y. contents.good (round.to y);
+  reading = λ bytes. contents.reading bytes >>= λ x. Ok (round.from x);
 }
 
 -- the value within is written as it is written alone
@@ -33,16 +31,15 @@ abbrev pub round_writing : {X Y : Type 0} → Round Y X → Writing X → Writin
 round_writing round writing = with_field round.to (λ y x. round.from x) writing
 
 module _ {X Y : Type 0} (round : Round Y X) where
-  pub round_lawful : {R : ErrorKind → Type 0} (tag : Tag) (form : Form X) → HasTag (octet_of tag) form → IsForm R form → IsContents R (round_contents round tag form)
-  round_lawful tag form fixed h = record {
+  pub round_lawful : {R : ErrorKind → Type 0} (contents : Contents X) → IsContents R contents → IsContents R (round_contents round contents)
+  round_lawful contents h = record {
     sound = λ bytes y e.
-        let a = bind_ok (form.reading (octet_of tag) bytes) (λ x. Ok (round.from x)) y e in
+        let a = bind_ok (contents.reading bytes) (λ x. Ok (round.from x)) y e in
         let is : round.to y ≡ a.0 = ap round.to (sym (ok_is (round.from a.0) y a.2)) ∙ round.there a.0 in
-        let s = h.sound (octet_of tag) bytes a.0 a.1 in
-        rw is (s.0, s.2);
-    complete = λ y g. rw (← fixed (round.to y), h.complete (round.to y) g, round.back y) refl;
-    refused = λ bytes e r. elim (bind_err (form.reading (octet_of tag) bytes) (λ x. Ok (round.from x)) e r) [
-      | inl k ↦ h.refused (octet_of tag) bytes e k
+        rw is (h.sound bytes a.0 a.1);
+    complete = λ y g. rw (h.complete (round.to y) g, round.back y) refl;
+    refused = λ bytes e r. elim (bind_err (contents.reading bytes) (λ x. Ok (round.from x)) e r) [
+      | inl k ↦ h.refused bytes e k
       | inr k ↦ not_refused (round.from k.0) e k.2
     ];
   }

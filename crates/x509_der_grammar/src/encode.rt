@@ -5,13 +5,15 @@ ghost use Rattle.x509_der_element.specs.Element.{header, limit};
 ghost use Rattle.x509_der_grammar.specs.Writing.{Puts};
 
 use crate::grammar::Grammar;
-use crate::room::{Counting, Fixed, Growing, Room};
+use crate::room::{Counting, Fixed, Growing, Room, bytes_after, share};
 use std::alloc::Global;
 use x509_der_element::{Error, Length};
 
 /// A type that is written as its spelling, in one pass from the end.
 pub trait Encode: Grammar {
-    ghost use Rattle.std.specs.Prelude.{◌≡◌, ◌+◌, ◌≤◌, ◌++◌, ◌⊎◌, None, IfOk, IfErr, OnOk, length, take, min};
+    ghost use Rattle.std.specs.Prelude.{◌≡◌, ◌+◌, ◌-◌, ◌≤◌, ◌++◌, ◌⊎◌, None, IfOk, IfErr, OnOk, length, take, min};
+    ghost use Rattle.std.specs.Borrow.{sem, Array, u8};
+    ghost use Rattle.std.specs.Io.BufRead.{Rests};
     ghost use Rattle.x509_der_element.specs.Element.{limit};
     ghost use Rattle.x509_der_grammar.specs.Form.{spelling};
     ghost use Rattle.x509_der_grammar.specs.Writing.{Writing, plain, writes, Puts, IsWritable, IsUnwritable, written_spelling};
@@ -93,9 +95,10 @@ pub trait Encode: Grammar {
         ensures ok { OnOk result (IsWritable Self.form (writes writing self.now) (min (length room.old) limit)) }
         ensures bytes { IfOk result (λ bytes. bytes.now ≡ written_spelling Self.form (writes writing self.now)) }
         ensures err { IfErr result (λ e. IsUnwritable Self.form (writes writing self.now) (min (length room.old) limit) e.kind) }
+        ensures* place { sem 𝓛 (Rests (Array u8 0) room.entry (λ last. IfOk result (λ bytes. last ≡ take (length room.old - length bytes.now) room.old ++ bytes.now))) }
     {
-        let start = self.encode_into(&mut *room)?;
-        Ok(&room[start..])
+        let before = self.encode_into(&mut *room);
+        bytes_after(before, share(room))
     }
 }
 

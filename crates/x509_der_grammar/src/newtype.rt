@@ -44,9 +44,12 @@ impl<T: Newtype> Content for T
 where
     T::Inner: FixedTag + Decode + Encode,
 {
+    ghost use Rattle.x509_der_element.specs.Tag.{octet_of};
+    ghost use Rattle.x509_der_grammar.specs.Form.{contents_of};
+    ghost use Rattle.x509_der_grammar.specs.FormLaws.{contents_of_lawful};
     ghost use Rattle.x509_der_grammar.specs.Round.{round_contents, round_writing, round_lawful};
 
-    ghost contents = { round_contents T.round T.Inner.TAG T.Inner.form };
+    ghost contents = { round_contents T.round (contents_of (octet_of T.Inner.TAG) T.Inner.form) };
 
     ghost refusals = { T.Inner.refuses };
 
@@ -66,5 +69,5 @@ where
         self.inner().put_content(room)
     }
 
-    ghost contents_lawful = { round_lawful T.round T.Inner.TAG T.Inner.form T.Inner.fixed T.Inner.lawful };
+    ghost contents_lawful = { round_lawful T.round (contents_of (octet_of T.Inner.TAG) T.Inner.form) (contents_of_lawful (octet_of T.Inner.TAG) T.Inner.form T.Inner.fixed T.Inner.lawful) };
 }

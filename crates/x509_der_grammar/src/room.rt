@@ -5,10 +5,12 @@ use x509_der_element::Error;
 mod counting;
 mod fixed;
 mod growing;
+mod shared;
 
 pub use counting::Counting;
 pub use fixed::Fixed;
 pub use growing::Growing;
+pub(crate) use shared::{bytes_after, share};
 
 /// Room in which bytes are put in front of those that stand already.
 pub trait Room {

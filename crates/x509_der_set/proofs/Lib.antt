@@ -1,4 +1,3 @@
 pub mod RisingLists
 pub mod OneSet
-mod FewMembers
 mod SetOrders

@@ -149,7 +149,6 @@ impl<T: Decode + Drop> Members<T> {
                 kept: Kept::One([first], alloc),
             });
         }
-        let first = Vec::from_array(alloc, [first])?;
         Ok(Members::from_vec(read_further(alloc, first, rest)?))
     }
 }

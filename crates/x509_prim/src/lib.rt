@@ -1,7 +1,9 @@
 //! The primitive types of strict DER: integers, bit and octet strings, texts and named bits.
 #![tactic(auto)]
 
-pub use x509_prim_flags::{NamedBits, cmp_named_bits, put_named_bits, read_named_bits};
+pub mod laws;
+
+pub use x509_prim_flags::{cmp_named_bits, put_named_bits, read_named_bits};
 pub use x509_prim_integer::{Int, Uint};
 pub use x509_prim_string::{BitString, OctetString};
 pub use x509_prim_text::{

@@ -6,8 +6,10 @@ use Rattle.std.specs.Int.RustNames.{bit_and}
 use Rattle.bitflags.specs.Sets.{known_bits}
 use Rattle.x509_der_element.specs.declared.error.ErrorKind.{ErrorKind}
 use Rattle.x509_der_element.specs.declared.error.ErrorKind.TheVariants.{Malformed, Value}
-use Rattle.x509_der_grammar.specs.Form.{Form, Content, universal}
-use Rattle.x509_der_grammar.specs.Writing.{Written}
+use Rattle.x509_der_element.specs.declared.tag.Tag.TheVariants.{BitString}
+use Rattle.x509_der_grammar.specs.Form.{Form, Contents, universal}
+use Rattle.x509_der_grammar.specs.Round.{Round, round_contents, round_writing}
+use Rattle.x509_der_grammar.specs.Writing.{Written, Writing, respelling}
 
 -- ---- contents
 
@@ -41,31 +43,39 @@ set_at (unused ∷ octet ∷ []) = if ends unused octet then Some (turned octet)
 set_at (unused ∷ first ∷ last ∷ []) = if nat_lt first 256 && ends unused last then Some (turned first + 256 * turned last) else None
 set_at (unused ∷ first ∷ second ∷ third ∷ octets) = None
 
--- ---- values of a flag type
+-- ---- sets whose bits have names
 
 -- each bit of the set has a name in the table (our own rule)
 abbrev pub has_names : List (List ℕ × ℕ) → ℕ → Bool
 has_names table set = nat_eq (bit_and (known_bits table) set) set
 
-abbrev pub named : {T : Type 0} → (ℕ → T) → List (List ℕ × ℕ) → Option ℕ → Result T ErrorKind
-named of_set table None = Err Malformed
-named of_set table (Some set) = if has_names table set then Ok (of_set set) else Err Malformed
+abbrev pub named : List (List ℕ × ℕ) → Option ℕ → Result ℕ ErrorKind
+named table None = Err Malformed
+named table (Some set) = if has_names table set then Ok set else Err Malformed
 
-unfoldable pub named_reading : {T : Type 0} → (ℕ → T) → List (List ℕ × ℕ) → List ℕ → Result T ErrorKind
-named_reading of_set table bytes = named of_set table (set_at bytes)
+unfoldable pub named_reading : List (List ℕ × ℕ) → List ℕ → Result ℕ ErrorKind
+named_reading table bytes = named table (set_at bytes)
 
-abbrev pub named_content : {T : Type 0} → (ℕ → T) → (T → ℕ) → List (List ℕ × ℕ) → Content T
-named_content of_set set_of table = record {
-  tag = 0x03;
-  octets = λ value. set_octets (set_of value);
-  good = λ value. (set_of value < 65536) × (has_names table (set_of value) ≡ true);
-  reading = named_reading of_set table;
+-- the contents of sets of which each bit has a name
+abbrev pub named_contents : List (List ℕ × ℕ) → Contents ℕ
+named_contents table = record {
+  octets = set_octets;
+  good = λ set. (set < 65536) × (has_names table set ≡ true);
+  reading = named_reading table;
 }
 
--- The form of a flag type: of_set and set_of turn its values into sets and back, and table has its names.
-abbrev pub named_bits : {T : Type 0} → (ℕ → T) → (T → ℕ) → List (List ℕ × ℕ) → Form T
-named_bits of_set set_of table = universal (named_content of_set set_of table)
+-- a set with a bit without a name is refused
+abbrev pub named_written : List (List ℕ × ℕ) → ℕ → Written ℕ
+named_written table set = record { value = set; refusal = if has_names table set then None else Some Value }
 
--- a value with a bit without a name is refused
-abbrev pub named_written : {T : Type 0} → (T → ℕ) → List (List ℕ × ℕ) → T → Written T
-named_written set_of table value = record { value = value; refusal = if has_names table (set_of value) then None else Some Value }
+-- ---- values of a flag type
+
+-- The contents of a flag type: each of its values is a set and nothing else, and table has its names.
+abbrev pub flag_contents : {T : Type 0} → Round T ℕ → List (List ℕ × ℕ) → Contents T
+flag_contents round table = round_contents round (named_contents table)
+
+abbrev pub flag_bits : {T : Type 0} → Round T ℕ → List (List ℕ × ℕ) → Form T
+flag_bits round table = universal BitString (flag_contents round table)
+
+abbrev pub flag_writing : {T : Type 0} → Round T ℕ → List (List ℕ × ℕ) → Writing T
+flag_writing round table = round_writing round (respelling (named_written table))

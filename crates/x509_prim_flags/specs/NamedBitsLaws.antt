@@ -1,15 +1,18 @@
 -- The contents of sets of named bits are read as they are written.
-use Rattle.std.proofs.Common.{◌≡◌, ℕ, ◌+◌, ◌*◌, ◌/◌, ◌%◌, ◌<◌, ◌≤◌, Bool, true, false, cond, ◌&&◌, not, nat_eq, nat_lt, List, [], ◌∷◌, Some, None, Ok, Err, refl, sym, ap, ◌∙◌, subst, inl, inr, arith}
+use Rattle.std.proofs.Common.{◌≡◌, ℕ, ◌+◌, ◌*◌, ◌/◌, ◌%◌, ◌<◌, ◌≤◌, Bool, true, false, cond, ◌&&◌, not, nat_eq, nat_lt, List, [], ◌∷◌, Some, None, Ok, Err, refl, sym, subst, inl, inr, arith}
 use Rattle.std.proofs.lemmas.Bool.{and_parts, cases_lt, eqb-true, eq-eqb, ne_eqb, ltb-true, lt-ltb, le-ltb}
 use Rattle.std.proofs.lemmas.Bool.Decides.{nat_tests}
-use Rattle.std.specs.Prelude.{Option}
+use Rattle.std.specs.Prelude.{Option, Result}
 use Rattle.x509_der_element.specs.declared.error.ErrorKind.{ErrorKind}
-use Rattle.x509_der_element.specs.declared.error.ErrorKind.TheVariants.{Malformed}
-use Rattle.x509_der_element.specs.Element.{is_identifier, is_universal}
-use Rattle.x509_der_grammar.specs.Form.{IsForm, IsContent}
+use Rattle.x509_der_element.specs.declared.error.ErrorKind.TheVariants.{Memory, Overlength, Malformed, Failed, SetDuplicate, Value}
+use Rattle.x509_der_element.specs.declared.tag.Tag.TheVariants.{BitString}
+use Rattle.x509_der_grammar.specs.Form.{IsForm, IsContents}
 use Rattle.x509_der_grammar.specs.FormLaws.{universal_lawful}
+use Rattle.x509_der_grammar.specs.Round.{Round, round_lawful}
+use Rattle.x509_der_element.specs.declared.error.Error.{Error}
+use Rattle.x509_der_element.specs.Outcome.{◌>>=◌, IsRefusal, GivesBy, Gives}
 use Rattle.x509_der_element.specs.OutcomeLaws.{ok_is, test_ok, test_err}
-use Rattle.x509_prim_flags.specs.NamedBits.{turned, unused_after, set_octets, ends, set_at, has_names, named, named_reading, named_content, named_bits}
+use Rattle.x509_prim_flags.specs.NamedBits.{turned, unused_after, set_octets, ends, set_at, has_names, named, named_reading, named_contents, flag_contents, flag_bits}
 use Rattle.x509_prim_string.specs.Below.{all_below, all_below-at}
 
 -- ---- octets
@@ -122,29 +125,44 @@ set_at-complete set small = elim (cases_lt set 1) [
   ]
 ]
 
--- ---- values
+-- ---- sets whose bits have names
 
-named_sound : {T : Type 0} (of_set : ℕ → T) (set_of : T → ℕ) (table : List (List ℕ × ℕ)) → ((set : ℕ) → set_of (of_set set) ≡ set) → (bytes : List ℕ) (found : Option ℕ) (value : T) → set_at bytes ≡ found → named of_set table found ≡ Ok value
-    → ((set_of value < 65536) × (has_names table (set_of value) ≡ true)) × (bytes ≡ set_octets (set_of value))
-named_sound of_set set_of table there bytes None value f e = absurd cc
-named_sound {T} of_set set_of table there bytes (Some set) value f e =
-    let t = test_ok (has_names table set) Malformed (Ok (of_set set)) value e in
-    let s = set_at-sound bytes set f in
-    let is : set ≡ set_of value = sym (there set) ∙ ap set_of (ok_is (of_set set) value t.1) in
-    subst (λ (n : ℕ). ((n < 65536) × (has_names table n ≡ true)) × (bytes ≡ set_octets n)) is ((s.0, t.0), s.1)
+named_sound : (table : List (List ℕ × ℕ)) (bytes : List ℕ) (found : Option ℕ) (set : ℕ) → set_at bytes ≡ found → named table found ≡ Ok set → ((set < 65536) × (has_names table set ≡ true)) × (bytes ≡ set_octets set)
+named_sound table bytes None set f e = absurd cc
+named_sound table bytes (Some n) set f e =
+    let t = test_ok (has_names table n) Malformed (Ok n) set e in
+    let s = set_at-sound bytes n f in
+    subst (λ (m : ℕ). ((m < 65536) × (has_names table m ≡ true)) × (bytes ≡ set_octets m)) (ok_is n set t.1) ((s.0, t.0), s.1)
 
-named_refused : {T : Type 0} (of_set : ℕ → T) (table : List (List ℕ × ℕ)) (found : Option ℕ) (e : ErrorKind) → named of_set table found ≡ Err e → e ≡ Malformed
-named_refused of_set table None e h = cc
-named_refused of_set table (Some set) e h = elim (test_err (has_names table set) Malformed (Ok (of_set set)) e h) [ inl j ↦ absurd (let k = j in cc) | inr j ↦ sym j ]
+named_refused : (table : List (List ℕ × ℕ)) (found : Option ℕ) (e : ErrorKind) → named table found ≡ Err e → e ≡ Malformed
+named_refused table None e h = cc
+named_refused table (Some set) e h = elim (test_err (has_names table set) Malformed (Ok set) e h) [ inl j ↦ absurd (let k = j in cc) | inr j ↦ sym j ]
 
-pub named_content_lawful : {T : Type 0} {R : ErrorKind → Type 0} (of_set : ℕ → T) (set_of : T → ℕ) (table : List (List ℕ × ℕ)) → ((value : T) → of_set (set_of value) ≡ value) → ((set : ℕ) → set_of (of_set set) ≡ set) → IsContent R (named_content of_set set_of table)
-unfolding named_reading is_identifier is_universal
-named_content_lawful of_set set_of table back there = record {
-  sound = λ bytes value e. named_sound of_set set_of table there bytes (set_at bytes) value refl e;
-  complete = λ value good. rw (set_at-complete (set_of value) good.0, good.1, back value) refl;
-  refused = λ bytes e r. inl (named_refused of_set table (set_at bytes) e r);
-  identifier = refl;
+pub named_contents_lawful : {R : ErrorKind → Type 0} (table : List (List ℕ × ℕ)) → IsContents R (named_contents table)
+unfolding named_reading
+named_contents_lawful table = record {
+  sound = λ bytes set e. named_sound table bytes (set_at bytes) set refl e;
+  complete = λ set good. rw (set_at-complete set good.0, good.1) refl;
+  refused = λ bytes e r. inl (named_refused table (set_at bytes) e r);
 }
 
-pub named_bits_lawful : {T : Type 0} {R : ErrorKind → Type 0} (of_set : ℕ → T) (set_of : T → ℕ) (table : List (List ℕ × ℕ)) → ((value : T) → of_set (set_of value) ≡ value) → ((set : ℕ) → set_of (of_set set) ≡ set) → IsForm R (named_bits of_set set_of table)
-named_bits_lawful of_set set_of table back there = universal_lawful (named_content of_set set_of table) (named_content_lawful of_set set_of table back there)
+-- ---- values of a flag type
+
+pub flag_contents_lawful : {T : Type 0} {R : ErrorKind → Type 0} (round : Round T ℕ) (table : List (List ℕ × ℕ)) → IsContents R (flag_contents round table)
+flag_contents_lawful round table = round_lawful round (named_contents table) (named_contents_lawful table)
+
+pub flag_bits_lawful : {T : Type 0} {R : ErrorKind → Type 0} (round : Round T ℕ) (table : List (List ℕ × ℕ)) → IsForm R (flag_bits round table)
+flag_bits_lawful round table = universal_lawful BitString (flag_contents round table) (flag_contents_lawful round table)
+
+-- a value of which the set was read is the value that was read
+pub flag_is_read : {T : Type 0} (round : Round T ℕ) (table : List (List ℕ × ℕ)) (result : Result T Error) (octets : List ℕ) → GivesBy round.to result (named_reading table octets) → Gives result ((flag_contents round table).reading octets)
+flag_is_read round table (Ok value) octets e = rw (e, round.back value) refl
+flag_is_read round table (Err e) octets r = refused e.kind (named_reading table octets) r
+  where
+    refused : (kind : ErrorKind) (reading : Result ℕ ErrorKind) → IsRefusal kind reading → IsRefusal kind (reading >>= λ set. Ok (round.from set))
+    refused Memory reading r = tt
+    refused Overlength reading r = rw r refl
+    refused Malformed reading r = rw r refl
+    refused Failed reading r = rw r refl
+    refused SetDuplicate reading r = rw r refl
+    refused Value reading r = rw r refl

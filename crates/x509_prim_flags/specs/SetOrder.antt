@@ -5,16 +5,21 @@ use Rattle.std.proofs.Common.{refl, sym, ap, ◌∙◌, arith, inl, inr}
 use Rattle.std.proofs.lemmas.Bool.{cases_lt, ne_eqb, lt-ltb, le-ltb}
 use Rattle.std.proofs.lemmas.Cmp.{nat_cmp_total}
 use Rattle.std.proofs.lemmas.Map.Lookups.{exact_unsigned}
+use Rattle.x509_der_grammar.specs.Round.{Round}
 use Rattle.x509_der_grammar.specs.Writing.{Written}
 use Rattle.x509_der_order.specs.Order.{bytes_cmp, Order, IsOrder}
 use Rattle.x509_der_order.specs.OrderLaws.{then_assoc, then_equal, less_from, greater_from}
 use Rattle.x509_der_order.specs.Ordered.{by_key, by_key_lawful}
-use Rattle.x509_prim_flags.specs.NamedBits.{turned, unused_after, set_octets, set_at, named_bits}
+use Rattle.x509_prim_flags.specs.NamedBits.{turned, unused_after, set_octets, set_at, flag_bits}
 use Rattle.x509_prim_flags.specs.NamedBitsLaws.{turned_octet, set_octets-one, set_octets-two, set_at-complete}
 
 -- By the contents, and then by the sets: a set of more than sixteen bits has no content of its own.
-abbrev pub named_order : {T : Type 0} → (ℕ → T) → (T → ℕ) → List (List ℕ × ℕ) → Order T
-named_order of_set set_of table = by_key (named_bits of_set set_of table) set_of nat_cmp
+abbrev pub flag_order : {T : Type 0} → Round T ℕ → List (List ℕ × ℕ) → Order T
+flag_order round table = by_key (flag_bits round table) round.to nat_cmp
+
+-- the same of two sets
+abbrev pub set_order : Order ℕ
+set_order a b = ordering_then (bytes_cmp (set_octets a) (set_octets b)) (nat_cmp a b)
 
 -- ---- contents by their octets
 
@@ -100,8 +105,8 @@ same_set a b p q e = inner (sym (set_at-complete a p) ∙ ap set_at e ∙ set_at
     inner : {x y : ℕ} → Some x ≡ Some y → x ≡ y
     inner f = cc
 
-pub named_ordered : {T : Type 0} (of_set : ℕ → T) (set_of : T → ℕ) (table : List (List ℕ × ℕ)) → ((value : T) → of_set (set_of value) ≡ value) → (write : T → Written T) → IsOrder (named_bits of_set set_of table) write (named_order of_set set_of table)
-named_ordered of_set set_of table back write =
-    by_key_lawful (named_bits of_set set_of table) write set_of nat_cmp nat_cmp_total
-    (λ x y _ _ e. sym (back x) ∙ ap of_set (exact_unsigned (set_of x) (set_of y) e) ∙ back y)
-    (λ x y p q e. same_set (set_of x) (set_of y) p.0.0 q.0.0 e)
+pub flag_ordered : {T : Type 0} (round : Round T ℕ) (table : List (List ℕ × ℕ)) (write : T → Written T) → IsOrder (flag_bits round table) write (flag_order round table)
+flag_ordered round table write =
+    by_key_lawful (flag_bits round table) write round.to nat_cmp nat_cmp_total
+    (λ x y _ _ e. sym (round.back x) ∙ ap round.from (exact_unsigned (round.to x) (round.to y) e) ∙ round.back y)
+    (λ x y p q e. same_set (round.to x) (round.to y) p.0.0 q.0.0 e)

@@ -2,28 +2,15 @@
 
 ghost use Rattle.std.specs.Prelude.{◌≡◌, Some, None, IfErr};
 ghost use Rattle.x509_der_element.specs.declared.error.ErrorKind.TheVariants.{Malformed};
-ghost use Rattle.x509_der_element.specs.Outcome.{Gives};
+ghost use Rattle.x509_der_element.specs.Outcome.{GivesBy};
 ghost use Rattle.x509_der_grammar.specs.Writing.{Puts};
 ghost use Rattle.x509_der_order.specs.Order.{bytes_cmp};
 ghost use Rattle.x509_prim_flags.specs.NamedBits as grammar;
-ghost use Rattle.x509_prim_flags.specs.SetOrder.{named_order, unused_of};
+ghost use Rattle.x509_prim_flags.specs.SetOrder.{set_order, unused_of};
 
 use bitflags::Flags;
 use std::cmp::Ordering;
-use x509_der_grammar::{Error, ErrorKind, Room, Tag};
-
-/// A flag type of which bit n stands for the named bit n of a BIT STRING.
-pub trait NamedBits: Flags<Bits = u16> {
-    ghost use Rattle.std.specs.Prelude.{◌≡◌, ℕ};
-
-    ghost of_set: { ℕ → Self };
-
-    ghost is_exact: { Self.exact };
-
-    ghost back: { (value : Self) → of_set (Self.set_of value) ≡ value };
-
-    ghost there: { (set : ℕ) → Self.set_of (of_set set) ≡ set };
-}
+use x509_der_grammar::{Error, ErrorKind, Room};
 
 /// The octet of eight named bits, of which the first is the highest bit; or these bits of such an octet.
 #[tactic(auto, unfolding(crate::specs::NamedBits::turned))]
@@ -96,17 +83,14 @@ fn put_set<R: Room>(set: u16, room: &mut R) -> Result<(), Error>
     }
 }
 
-/// The value of an element with this identifier octet and this content; `Malformed` where it is no BIT STRING, a zero
-/// bit ends it, an unused bit is one, or a bit has no name.
+/// The value of these content octets; `Malformed` where a zero bit ends the string, an unused bit is one, or a bit has
+/// no name.
 #[tactic(auto, unfolding(crate::specs::NamedBits::named_reading))]
-pub fn read_named_bits<T: NamedBits>(tag: u8, content: &[u8]) -> Result<T, Error>
-    ensures exact { Gives result ((grammar.named_bits T.of_set T.set_of T.table).reading tag content.now) }
+pub fn read_named_bits<T: Flags<Bits = u16>>(octets: &[u8]) -> Result<T, Error>
+    ensures exact { T.exact → GivesBy T.set_of result (grammar.named_reading T.table octets.now) }
     ensures err { IfErr result (λ e. e.kind ≡ Malformed) }
 {
-    if tag != Tag::BitString.octet() {
-        return Err(ErrorKind::Malformed.into());
-    }
-    let Some(set) = set_of_content(content) else {
+    let Some(set) = set_of_content(octets) else {
         return Err(ErrorKind::Malformed.into());
     };
     let value = T::from_bits_retain(set);
@@ -116,9 +100,9 @@ pub fn read_named_bits<T: NamedBits>(tag: u8, content: &[u8]) -> Result<T, Error
     Ok(value)
 }
 
-/// Puts the content of the value; `Value` exactly where a bit of it has no name.
-pub fn put_named_bits<T: NamedBits, R: Room>(value: &T, room: &mut R) -> Result<(), Error>
-    ensures { let written = grammar.named_written T.set_of T.table value.now in Puts R.kind ((grammar.named_bits T.of_set T.set_of T.table).content written.value) written.refusal result room.old room.new }
+/// Puts the content octets of the value; `Value` exactly where a bit of it has no name.
+pub fn put_named_bits<T: Flags<Bits = u16>, R: Room>(value: &T, room: &mut R) -> Result<(), Error>
+    ensures { T.exact → let written = grammar.named_written T.table (T.set_of value.now) in Puts R.kind (grammar.set_octets written.value) written.refusal result room.old room.new }
 {
     if value.contains_unknown_bits() {
         return Err(ErrorKind::Value.into());
@@ -151,8 +135,8 @@ fn cmp_sets(a: u16, b: u16) -> Ordering
 
 /// The byte order of the contents of the values. It takes no memory. Values with bits that have no name stand where
 /// these bits would put them.
-pub fn cmp_named_bits<T: NamedBits>(a: &T, b: &T) -> Ordering
-    ensures { result ≡ named_order T.of_set T.set_of T.table a.now b.now }
+pub fn cmp_named_bits<T: Flags<Bits = u16>>(a: &T, b: &T) -> Ordering
+    ensures { T.exact → result ≡ set_order (T.set_of a.now) (T.set_of b.now) }
 {
     cmp_sets(a.bits(), b.bits()).then(a.bits().cmp(&b.bits()))
 }

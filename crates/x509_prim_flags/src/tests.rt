@@ -2,12 +2,12 @@
 
 ghost use Rattle.std.specs.Prelude.{⊤, [], ◌∷◌, codes};
 
-use crate::{NamedBits, cmp_named_bits, put_named_bits, read_named_bits};
+use crate::{cmp_named_bits, put_named_bits, read_named_bits};
 use bitflags::{Flag, Flags, bitflag_items};
 use std::alloc::Global;
 use std::cmp::Ordering;
 use std::test::*;
-use x509_der_grammar::{Decode, Encode, Error, ErrorKind, Grammar, Room, Tag};
+use x509_der_grammar::{Content, Decode, Encode, Error, ErrorKind, Room, Tag};
 use x509_der_order::{DerOrd, ValueOrd};
 
 /// Three named bits.
@@ -44,69 +44,59 @@ impl Flags for Trio {
     }
 }
 
-impl NamedBits for Trio {
+// Each trio is one set and nothing else.
+trait NamedSet: Sized {
+    ghost use Rattle.std.specs.Prelude.{ℕ};
+    ghost use Rattle.x509_der_grammar.specs.Round.{Round};
+
+    ghost round: { Round Self ℕ };
+}
+
+impl NamedSet for Trio {
     ghost use Rattle.std.specs.Prelude.{refl};
 
-    ghost of_set = { λ set. record { 0 = set } };
-
-    ghost is_exact = { tt };
-
-    ghost back = { λ value. refl };
-
-    ghost there = { λ set. refl };
+    ghost round = { record { to = λ trio. trio.0; from = λ set. record { 0 = set }; back = λ trio. refl; there = λ set. refl } };
 }
 
-impl Grammar for Trio {
-    ghost use Rattle.std.specs.Prelude.{[], ◌∷◌, codes, refl};
-    ghost use Rattle.x509_prim_flags.specs.NamedBits.{named_bits};
-    ghost use Rattle.x509_prim_flags.specs.NamedBitsLaws.{named_bits_lawful};
+#[tactic(auto, using(crate::specs::NamedBitsLaws::flag_is_read))]
+impl Content for Trio {
+    ghost use Rattle.x509_der_element.specs.declared.tag.Tag.TheVariants.{BitString};
+    ghost use Rattle.x509_prim_flags.specs.NamedBits.{flag_contents, flag_writing};
+    ghost use Rattle.x509_prim_flags.specs.NamedBitsLaws.{flag_contents_lawful};
 
-    ghost form = { named_bits (λ set. record { 0 = set }) (λ trio. trio.0) ((codes "FIRST", 1) ∷ (codes "SECOND", 2) ∷ (codes "THIRD", 4) ∷ []) };
+    ghost contents = { flag_contents ⟦<Trio as NamedSet>⟧.round ⟦<Trio as Flags>⟧.table };
 
-    fn identifier(&self) -> Tag {
-        Tag::BitString
+    ghost takes_memory = { ⊥ };
+
+    ghost written_as = { flag_writing ⟦<Trio as NamedSet>⟧.round ⟦<Trio as Flags>⟧.table };
+
+    ghost IDENTIFIER = { BitString };
+
+    const IDENTIFIER: Tag = Tag::BitString;
+
+    fn read_content(_alloc: Global, octets: &[u8]) -> Result<Trio, Error> {
+        read_named_bits(octets)
     }
 
-    fn is_start(octet: u8) -> bool {
-        octet == Tag::BitString.octet()
-    }
-
-    ghost lawful = { named_bits_lawful (λ set. record { 0 = set }) (λ trio. trio.0) ((codes "FIRST", 1) ∷ (codes "SECOND", 2) ∷ (codes "THIRD", 4) ∷ []) (λ value. refl) (λ set. refl) };
-}
-
-impl Decode for Trio {
-    fn read(_alloc: Global, tag: u8, content: &[u8]) -> Result<Trio, Error> {
-        read_named_bits(tag, content)
-    }
-}
-
-impl Encode for Trio {
-    ghost use Rattle.std.specs.Prelude.{[], ◌∷◌, codes, refl};
-    ghost use Rattle.x509_der_grammar.specs.Writing.{respelling};
-    ghost use Rattle.x509_prim_flags.specs.NamedBits.{named_written};
-
-    ghost writing = { respelling (named_written (λ trio. trio.0) ((codes "FIRST", 1) ∷ (codes "SECOND", 2) ∷ (codes "THIRD", 4) ∷ [])) };
-
-    fn put_content<R: Room>(&self, room: &mut R) -> Result<(), Error> {
+    fn write_content<R: Room>(&self, room: &mut R) -> Result<(), Error> {
         put_named_bits(self, room)
     }
 
-    ghost same_tag = { λ value. refl };
+    ghost contents_lawful = { flag_contents_lawful ⟦<Trio as NamedSet>⟧.round ⟦<Trio as Flags>⟧.table };
 }
 
 impl ValueOrd for Trio {
-    ghost use Rattle.std.specs.Prelude.{[], ◌∷◌, codes, refl};
-    ghost use Rattle.x509_der_grammar.specs.Writing.{writes, respelling};
-    ghost use Rattle.x509_prim_flags.specs.NamedBits.{named_written};
-    ghost use Rattle.x509_prim_flags.specs.SetOrder.{named_order, named_ordered};
+    ghost use Rattle.x509_der_grammar.specs.Writing.{writes};
+    ghost use Rattle.x509_prim_flags.specs.NamedBits.{flag_writing};
+    ghost use Rattle.x509_prim_flags.specs.SetOrder.{flag_order, flag_ordered};
 
-    ghost order = { named_order (λ set. record { 0 = set }) (λ trio. trio.0) ((codes "FIRST", 1) ∷ (codes "SECOND", 2) ∷ (codes "THIRD", 4) ∷ []) };
+    ghost order = { flag_order ⟦<Trio as NamedSet>⟧.round ⟦<Trio as Flags>⟧.table };
 
     fn value_cmp(&self, other: &Trio) -> Ordering {
         cmp_named_bits(self, other)
     }
 
-    ghost ordered = { named_ordered (λ set. record { 0 = set }) (λ trio. trio.0) ((codes "FIRST", 1) ∷ (codes "SECOND", 2) ∷ (codes "THIRD", 4) ∷ []) (λ value. refl) (writes (respelling (named_written (λ trio. trio.0) ((codes "FIRST", 1) ∷ (codes "SECOND", 2) ∷ (codes "THIRD", 4) ∷ [])))) };
+    ghost ordered = { flag_ordered ⟦<Trio as NamedSet>⟧.round ⟦<Trio as Flags>⟧.table (writes (flag_writing ⟦<Trio as NamedSet>⟧.round ⟦<Trio as Flags>⟧.table)) };
 }
 
 /// Whether the bytes are read as the value, and written again as they were.

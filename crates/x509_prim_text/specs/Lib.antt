@@ -1,3 +1,4 @@
+pub mod Place
 pub mod Text
 pub mod Alphabet
 pub mod Bmp

@@ -6,6 +6,7 @@ mod bmp;
 pub mod laws;
 mod restricted;
 mod restricted_ref;
+mod text;
 mod utf8;
 
 pub use alphabet::{Alphabet, Ia5, Printable, Teletex};

@@ -1,6 +1,6 @@
 //! Restricted character strings.
 
-ghost use Rattle.std.specs.Prelude.{◌≡◌, ◌⊎◌, true, false, bytes_eq, string_bytes, IfOk, IfErr};
+ghost use Rattle.std.specs.Prelude.{◌≡◌, ◌<◌, ◌⊎◌, true, false, length, bytes_eq, string_bytes, IfOk, IfErr};
 ghost use Rattle.std.proofs.Common.{rules};
 ghost use Rattle.std.specs.Hash as fed;
 ghost use Rattle.std.specs.Cmp.{partial_equiv_from_equiv};
@@ -11,6 +11,7 @@ ghost use Rattle.x509_der_element.specs.declared.error.ErrorKind.TheVariants as 
 
 use crate::alphabet::Alphabet;
 use crate::restricted_ref::{check_text, text_of};
+use crate::text::Text;
 use std::alloc::Global;
 use std::fmt;
 use std::hash::{Hash, Hasher};
@@ -20,32 +21,33 @@ use x509_der_grammar::{Content, Error, ErrorKind, Room, Tag, TryClone};
 /// A text of a restricted character string type (X.680 41). Contracts see its octets, one for each character.
 #[derive(Drop)]
 pub struct RestrictedString<A: Alphabet> {
-    text: String,
+    text: Text,
     alphabet: PhantomData<A>,
 }
 
 impl<A: Alphabet> Model for RestrictedString<A> {
-    ghost use Rattle.std.specs.Prelude.{List, ℕ, ◌≡◌, true, string_bytes};
+    ghost use Rattle.std.specs.Prelude.{List, ℕ, ◌≡◌, true};
     ghost use Rattle.std.specs.List.{list_all};
 
     ghost Value = { List ℕ };
 
-    ghost view = { λ string. string_bytes string.text };
+    ghost view = { λ string. string.text };
 
-    ghost invariant = { λ string. list_all A.has_char (string_bytes string.text) ≡ true };
+    ghost invariant = { λ string. list_all A.has_char string.text ≡ true };
 }
 
 impl<A: Alphabet> RestrictedString<A> {
-    /// A copy of the text; `Value` exactly where a character is not one of the type's. Memory may be refused.
+    /// A copy of the text; `Value` exactly where a character is not one of the type's. More than 24 octets take memory,
+    /// which may be refused.
     pub fn new(alloc: Global, text: &str) -> Result<RestrictedString<A>, Error>
         ensures ok { IfOk result (λ string. (string ≡ text.now) × (list_all A.has_char text.now ≡ true)) }
-        ensures err { IfErr result (λ e. ((e.kind ≡ errors.Memory) × (list_all A.has_char text.now ≡ true)) ⊎ ((e.kind ≡ errors.Value) × (list_all A.has_char text.now ≡ false))) }
+        ensures err { IfErr result (λ e. ((e.kind ≡ errors.Memory) × (24 < length text.now) × (list_all A.has_char text.now ≡ true)) ⊎ ((e.kind ≡ errors.Value) × (list_all A.has_char text.now ≡ false))) }
     {
         if !check_text::<A>(text.as_bytes()) {
             return Err(ErrorKind::Value.into());
         }
         Ok(RestrictedString {
-            text: String::from_str(alloc, text)?,
+            text: Text::new(alloc, text)?,
             alphabet: PhantomData,
         })
     }
@@ -58,12 +60,13 @@ impl<A: Alphabet> RestrictedString<A> {
         self.text.as_str()
     }
 
-    /// The text as a string, without a copy.
-    pub fn into_string(self) -> String
-        ensures { string_bytes result ≡ self }
+    /// The text as a string. Up to 24 octets are copied, for which memory may be refused.
+    pub fn into_string(self, alloc: Global) -> Result<String, Error>
+        ensures ok { IfOk result (λ text. string_bytes text ≡ self) }
+        ensures err { IfErr result (λ e. e.kind ≡ errors.Memory) }
     {
         let RestrictedString { text, alphabet: _ } = self;
-        text
+        text.into_string(alloc)
     }
 }
 
@@ -83,13 +86,13 @@ impl<A: Alphabet> Content for RestrictedString<A> {
             return Err(ErrorKind::Malformed.into());
         };
         Ok(RestrictedString {
-            text: String::from_str(alloc, text)?,
+            text: Text::new(alloc, text)?,
             alphabet: PhantomData,
         })
     }
 
     fn write_content<R: Room>(&self, room: &mut R) -> Result<(), Error> {
-        room.put(self.text.as_bytes())
+        room.put(self.text.as_str().as_bytes())
     }
 
     ghost contents_lawful = { tested_contents_lawful (list_all A.has_char) };
@@ -98,7 +101,7 @@ impl<A: Alphabet> Content for RestrictedString<A> {
 impl<A: Alphabet> TryClone for RestrictedString<A> {
     fn try_clone(&self, alloc: Global) -> Result<RestrictedString<A>, Error> {
         Ok(RestrictedString {
-            text: String::from_str(alloc, self.text.as_str())?,
+            text: Text::new(alloc, self.text.as_str())?,
             alphabet: PhantomData,
         })
     }
@@ -110,7 +113,7 @@ impl<A: Alphabet> PartialEq for RestrictedString<A> {
     ghost laws = { partial_equiv_from_equiv nat_list_eq_equiv };
 
     fn eq(&self, other: &RestrictedString<A>) -> bool {
-        self.text.as_bytes() == other.text.as_bytes()
+        self.text.as_str().as_bytes() == other.text.as_str().as_bytes()
     }
 }
 
@@ -124,7 +127,7 @@ impl<A: Alphabet> Hash for RestrictedString<A> {
     ghost respects_eq = { Prim.search (hashing, rules) };
 
     fn hash<H: Hasher>(&self, state: &mut H) {
-        self.text.as_bytes().hash(state);
+        self.text.as_str().as_bytes().hash(state);
     }
 }
 

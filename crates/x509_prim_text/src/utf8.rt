@@ -1,6 +1,6 @@
 //! UTF8String.
 
-ghost use Rattle.std.specs.Prelude.{◌≡◌, ◌≢◌, ◌⊎◌, true, false, bytes_eq, string_bytes, IfOk, IfErr, IfSome, IfNone, IsOk, IsOkAnd};
+ghost use Rattle.std.specs.Prelude.{◌≡◌, ◌<◌, ◌≢◌, ◌⊎◌, true, false, length, bytes_eq, string_bytes, IfOk, IfErr, IfSome, IfNone, IsOk, IsOkAnd};
 ghost use Rattle.std.proofs.Common.{rules};
 ghost use Rattle.std.specs.Hash as fed;
 ghost use Rattle.std.specs.Cmp.{on_equiv, on_per, partial_equiv_from_equiv};
@@ -10,6 +10,7 @@ ghost use Rattle.std.specs.Str.{is_utf8};
 ghost use Rattle.x509_der_element.specs.declared.error.ErrorKind.TheVariants as errors;
 ghost use Rattle.x509_der_element.specs.declared.tag.Tag.TheVariants as tags;
 
+use crate::text::Text;
 use std::alloc::Global;
 use std::fmt;
 use std::hash::{Hash, Hasher};
@@ -19,25 +20,25 @@ use x509_der_grammar::{AnyRef, Content, Error, ErrorKind, Room, Tag, TryClone};
 /// A UTF8String (X.680 41.16, X.690 8.23.10). Contracts see the UTF-8 octets of its characters.
 #[derive(Drop)]
 pub struct Utf8String {
-    text: String,
+    text: Text,
 }
 
 impl Model for Utf8String {
-    ghost use Rattle.std.specs.Prelude.{List, ℕ, string_bytes};
+    ghost use Rattle.std.specs.Prelude.{List, ℕ};
 
     ghost Value = { List ℕ };
 
-    ghost view = { λ string. string_bytes string.text };
+    ghost view = { λ string. string.text };
 }
 
 impl Utf8String {
-    /// A copy of the text. Memory may be refused.
+    /// A copy of the text. More than 24 octets take memory, which may be refused.
     pub fn new(alloc: Global, text: &str) -> Result<Utf8String, Error>
         ensures ok { IfOk result (λ string. string ≡ text.now) }
-        ensures err { IfErr result (λ e. e.kind ≡ errors.Memory) }
+        ensures err { IfErr result (λ e. (e.kind ≡ errors.Memory) × (24 < length text.now)) }
     {
         Ok(Utf8String {
-            text: String::from_str(alloc, text)?,
+            text: Text::new(alloc, text)?,
         })
     }
 
@@ -49,12 +50,13 @@ impl Utf8String {
         self.text.as_str()
     }
 
-    /// The text as a string, without a copy.
-    pub fn into_string(self) -> String
-        ensures { string_bytes result ≡ self }
+    /// The text as a string. Up to 24 octets are copied, for which memory may be refused.
+    pub fn into_string(self, alloc: Global) -> Result<String, Error>
+        ensures ok { IfOk result (λ text. string_bytes text ≡ self) }
+        ensures err { IfErr result (λ e. e.kind ≡ errors.Memory) }
     {
         let Utf8String { text } = self;
-        text
+        text.into_string(alloc)
     }
 }
 
@@ -62,7 +64,9 @@ impl From<String> for Utf8String {
     ghost from_gives = { λ text string. string ≡ string_bytes text };
 
     fn from(text: String) -> Utf8String {
-        Utf8String { text }
+        Utf8String {
+            text: Text::from(text),
+        }
     }
 }
 
@@ -96,7 +100,7 @@ impl Content for Utf8String {
     }
 
     fn write_content<R: Room>(&self, room: &mut R) -> Result<(), Error> {
-        room.put(self.text.as_bytes())
+        room.put(self.text.as_str().as_bytes())
     }
 
     ghost contents_lawful = { tested_contents_lawful is_utf8 };
@@ -114,7 +118,7 @@ impl PartialEq for Utf8String {
     ghost laws = { partial_equiv_from_equiv nat_list_eq_equiv };
 
     fn eq(&self, other: &Utf8String) -> bool {
-        self.text.as_bytes() == other.text.as_bytes()
+        self.text.as_str().as_bytes() == other.text.as_str().as_bytes()
     }
 }
 
@@ -128,7 +132,7 @@ impl Hash for Utf8String {
     ghost respects_eq = { Prim.search (hashing, rules) };
 
     fn hash<H: Hasher>(&self, state: &mut H) {
-        self.text.as_bytes().hash(state);
+        self.text.as_str().as_bytes().hash(state);
     }
 }
 

@@ -1,16 +1,16 @@
 -- Dated: name: OBJECT IDENTIFIER, validity: Validity, note: [0]OCTET STRING?
 -- Enclosing: kept: [1]Dated?, last: BOOLEAN=FALSE
 use Rattle.std.specs.Prelude.{ℕ, Bool, List, Option, refl}
-use Rattle.std.proofs.Common.{arith}
 use Rattle.x509_der_element.specs.declared.error.ErrorKind.{ErrorKind}
-use Rattle.x509_der_grammar.specs.Form.{Form, IsForm, universal}
+use Rattle.x509_der_element.specs.declared.tag.Tag.TheVariants.{Sequence}
+use Rattle.x509_der_grammar.specs.Form.{Form, IsForm, Contents, IsContents, universal}
 use Rattle.x509_der_grammar.specs.FormLaws.{universal_lawful}
-use Rattle.x509_der_grammar.specs.Boolean.{boolean, boolean_lawful}
+use Rattle.x509_der_grammar.specs.Boolean.{boolean}
 use Rattle.x509_der_grammar.specs.StableLaws.{with_field_stable, in_option_stable}
 use Rattle.x509_der_grammar.specs.Writing.{Writing, with_field, in_option, IsStable}
 use Rattle.x509_der_frames.specs.Frames.{implicit, Part, required, optional, defaulted, ◌⊗◌, fields, fields_good}
-use Rattle.x509_der_frames.specs.FrameLaws.{implicit_lawful, required_lawful, optional_lawful, defaulted_lawful, pair_lawful, fields_lawful}
-use Rattle.x509_der_frames.specs.DefaultValues.{boolean_default, boolean_default_lawful}
+use Rattle.x509_der_frames.specs.DefaultValues.{boolean_default}
+use Rattle.x509_der_frames.specs.PartRules.{part_rules}
 use Rattle.x509_der_oid.specs.ObjectIdentifierForm.{object_identifier, object_identifier_lawful}
 use Rattle.x509_prim_string.specs.OctetString.{octet_string, octet_string_lawful}
 use Rattle.x509_base_validity.specs.Validity.{validity, validity_lawful}
@@ -21,14 +21,18 @@ use Rattle.x509_probe.specs.declared.dated.Enclosing.{Enclosing}
 unfoldable pub dated_fields : {P : Type 0} → Part (List ℕ × (Validity P × Option (List ℕ)))
 dated_fields = required object_identifier ⊗ (required validity ⊗ optional (implicit 0 4 octet_string))
 
+abbrev pub dated_contents : {P : Type 0} → Contents (Dated P)
+dated_contents = fields (λ d. (d.name, (d.validity, d.note))) (λ (name, (validity, note)). record { name = name; validity = validity; note = note }) dated_fields
+
 abbrev pub dated : {P : Type 0} → Form (Dated P)
-dated = universal (fields (λ d. (d.name, (d.validity, d.note))) (λ x. record { name = x.0; validity = x.1.0; note = x.1.1 }) dated_fields)
+dated = universal Sequence dated_contents
+
+pub dated_contents_lawful : {P : Type 0} {R : ErrorKind → Type 0} → IsContents R (dated_contents {P = P})
+unfolding dated_fields
+dated_contents_lawful = search (part_rules, object_identifier_lawful, validity_lawful, octet_string_lawful) depth 20
 
 pub dated_lawful : {P : Type 0} {R : ErrorKind → Type 0} → IsForm R (dated {P = P})
-unfolding dated_fields
-dated_lawful = universal_lawful _ (fields_lawful _ _ dated_fields (λ d. refl) (λ x. refl)
-    (pair_lawful _ _ (required_lawful _ object_identifier_lawful)
-    (pair_lawful _ _ (required_lawful _ validity_lawful) (optional_lawful _ (implicit_lawful 0 4 _ (omega arith) (λ v g. refl) octet_string_lawful)) refl) refl))
+dated_lawful = universal_lawful Sequence dated_contents dated_contents_lawful
 
 pub dated_stable : {P : Type 0} (writing : Writing (Validity P)) → IsStable (validity {P = P}).good writing → IsStable (dated {P = P}).good (with_field (λ d. d.validity) (λ d v. record d { validity = v }) writing)
 unfolding dated_fields fields_good
@@ -37,13 +41,15 @@ dated_stable writing stable = with_field_stable _ _ writing (λ d v. refl) (λ d
 unfoldable pub enclosing_fields : {P : Type 0} → Part (Option (Dated P) × Bool)
 enclosing_fields = optional (implicit 1 48 dated) ⊗ defaulted boolean_default boolean
 
-abbrev pub enclosing : {P : Type 0} → Form (Enclosing P)
-enclosing = universal (fields (λ e. (e.kept, e.last)) (λ x. record { kept = x.0; last = x.1 }) enclosing_fields)
+abbrev pub enclosing_contents : {P : Type 0} → Contents (Enclosing P)
+enclosing_contents = fields (λ e. (e.kept, e.last)) (λ (kept, last). record { kept = kept; last = last }) enclosing_fields
 
-pub enclosing_lawful : {P : Type 0} {R : ErrorKind → Type 0} → IsForm R (enclosing {P = P})
+abbrev pub enclosing : {P : Type 0} → Form (Enclosing P)
+enclosing = universal Sequence enclosing_contents
+
+pub enclosing_contents_lawful : {P : Type 0} {R : ErrorKind → Type 0} → IsContents R (enclosing_contents {P = P})
 unfolding enclosing_fields
-enclosing_lawful = universal_lawful _ (fields_lawful _ _ enclosing_fields (λ e. refl) (λ x. refl)
-    (pair_lawful _ _ (optional_lawful _ (implicit_lawful 1 48 _ (omega arith) (λ v g. refl) dated_lawful)) (defaulted_lawful _ _ boolean_default_lawful boolean_lawful) refl))
+enclosing_contents_lawful = search (part_rules, dated_lawful) depth 20
 
 pub enclosing_stable : {P : Type 0} (writing : Writing (Dated P)) → IsStable (dated {P = P}).good writing → IsStable (enclosing {P = P}).good (with_field (λ e. e.kept) (λ e d. record e { kept = d }) (in_option writing))
 unfolding enclosing_fields fields_good

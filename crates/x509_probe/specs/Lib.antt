@@ -1,6 +1,5 @@
 pub mod Probe
 pub mod Pair
-pub mod Purposes
 pub mod TenFields
 pub mod Moment
 pub mod Number

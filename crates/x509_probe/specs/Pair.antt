@@ -1,14 +1,14 @@
 -- Pair: id: OBJECT IDENTIFIER, value: ANY
 use Rattle.std.specs.Prelude.{ℕ, List, refl}
 use Rattle.x509_der_element.specs.declared.error.ErrorKind.{ErrorKind}
-use Rattle.x509_der_grammar.specs.Form.{Form, IsForm, universal}
-use Rattle.x509_der_grammar.specs.FormLaws.{universal_lawful}
+use Rattle.x509_der_element.specs.declared.tag.Tag.TheVariants.{Sequence}
+use Rattle.x509_der_grammar.specs.Form.{Form, Contents, IsContents, universal}
 use Rattle.x509_der_grammar.specs.Writing.{plain, writes}
 use Rattle.x509_der_order.specs.Order.{Order, IsOrder}
 use Rattle.x509_der_order.specs.Ordered.{by_bytes, by_bytes_lawful}
 use Rattle.x509_der_frames.specs.Frames.{Part, required, ◌⊗◌, fields}
-use Rattle.x509_der_frames.specs.FrameLaws.{required_lawful, pair_lawful as two_lawful, fields_lawful}
 use Rattle.x509_der_frames.specs.FieldsOrder.{by_two, two_ordered}
+use Rattle.x509_der_frames.specs.PartRules.{part_rules}
 use Rattle.x509_der_frames.specs.Any.{any, any_lawful, any_ordered}
 use Rattle.x509_der_frames.specs.declared.any.Any.{Any}
 use Rattle.x509_der_oid.specs.ObjectIdentifierForm.{object_identifier, object_identifier_lawful}
@@ -17,16 +17,19 @@ use Rattle.x509_probe.specs.declared.pair.Pair.{Pair}
 unfoldable pub pair_fields : Part (List ℕ × Any)
 pair_fields = required object_identifier ⊗ required any
 
-abbrev pub pair : Form Pair
-pair = universal (fields (λ p. (p.id, p.value)) (λ x. record { id = x.0; value = x.1 }) pair_fields)
+abbrev pub pair_contents : Contents Pair
+pair_contents = fields (λ p. (p.id, p.value)) (λ (id, value). record { id = id; value = value }) pair_fields
 
-pub pair_lawful : {R : ErrorKind → Type 0} → IsForm R pair
+abbrev pub pair : Form Pair
+pair = universal Sequence pair_contents
+
+pub pair_contents_lawful : {R : ErrorKind → Type 0} → IsContents R pair_contents
 unfolding pair_fields
-pair_lawful = universal_lawful _ (fields_lawful _ _ pair_fields (λ p. refl) (λ x. refl) (two_lawful _ _ (required_lawful _ object_identifier_lawful) (required_lawful _ any_lawful) refl))
+pair_contents_lawful = search (part_rules, object_identifier_lawful, any_lawful) depth 20
 
 abbrev pub pair_order : Order Pair
 pair_order = by_two (λ p. (p.id, p.value)) object_identifier (by_bytes object_identifier) any (by_bytes any)
 
 pub pair_ordered : IsOrder pair (writes plain) pair_order
 unfolding pair_fields
-pair_ordered = two_ordered (λ p. (p.id, p.value)) (λ x. record { id = x.0; value = x.1 }) object_identifier (by_bytes object_identifier) any (by_bytes any) (λ p. refl) (by_bytes_lawful object_identifier (writes plain) (λ x y p q. q)) (any_ordered (writes plain))
+pair_ordered = two_ordered (λ p. (p.id, p.value)) (λ (id, value). record { id = id; value = value }) object_identifier (by_bytes object_identifier) any (by_bytes any) (λ p. refl) (by_bytes_lawful object_identifier (writes plain) (λ x y p q. q)) (any_ordered (writes plain))

@@ -3,8 +3,8 @@
 use std::alloc::Global;
 use x509_base::{Profile, Rfc5280, Validity};
 use x509_der::{
-    Decode, Encode, Error, FixedTag, Grammar, ObjectIdentifier, PutPart, Room, Tag, default_field,
-    defaulted, end, expect_tag, field, implicit_optional, optional_implicit,
+    Content, Encode, Error, ObjectIdentifier, PutPart, Room, Tag, default_field, defaulted, end,
+    field, implicit_optional, optional_implicit,
 };
 use x509_prim_string::OctetString;
 
@@ -38,27 +38,22 @@ impl<P: Profile> Drop for Dated<P> {
     }
 }
 
-impl<P: Profile> Grammar for Dated<P> {
+#[tactic(auto, unfolding(crate::specs::Dated::dated_fields, x509_der_frames::specs::Frames::fields_reading, x509_der_frames::specs::Frames::fields_octets))]
+impl<P: Profile> Content for Dated<P> {
+    ghost use Rattle.x509_der_element.specs.declared.tag.Tag.TheVariants.{Sequence};
+    ghost use Rattle.x509_der_grammar.specs.Writing.{with_field};
     ghost use Rattle.x509_probe.specs.Dated as grammar;
 
-    ghost form = { grammar.dated };
+    ghost contents = { grammar.dated_contents };
 
-    fn identifier(&self) -> Tag {
-        Tag::Sequence
-    }
+    ghost written_as = { with_field (λ d. d.validity) (λ d v. record d { validity = v }) ⟦<Validity<P> as Encode>⟧.writing };
 
-    fn is_start(octet: u8) -> bool {
-        octet == 0x30
-    }
+    ghost IDENTIFIER = { Sequence };
 
-    ghost lawful = { grammar.dated_lawful };
-}
+    const IDENTIFIER: Tag = Tag::Sequence;
 
-#[tactic(auto, unfolding(crate::specs::Dated::dated_fields, x509_der_frames::specs::Frames::fields_reading))]
-impl<P: Profile> Decode for Dated<P> {
-    fn read(alloc: Global, tag: u8, content: &[u8]) -> Result<Dated<P>, Error> {
-        expect_tag(tag, Tag::Sequence)?;
-        let mut rest = content;
+    fn read_content(alloc: Global, octets: &[u8]) -> Result<Dated<P>, Error> {
+        let mut rest = octets;
         let name = field::<ObjectIdentifier>(alloc, &mut rest)?;
         let validity = field::<Validity<P>>(alloc, &mut rest)?;
         let note = optional_implicit::<OctetString>(alloc, 0, &mut rest)?;
@@ -69,16 +64,8 @@ impl<P: Profile> Decode for Dated<P> {
             note,
         })
     }
-}
 
-#[tactic(auto, unfolding(crate::specs::Dated::dated_fields, x509_der_frames::specs::Frames::fields_octets))]
-impl<P: Profile> Encode for Dated<P> {
-    ghost use Rattle.std.specs.Prelude.{refl};
-    ghost use Rattle.x509_der_grammar.specs.Writing.{with_field};
-
-    ghost writing = { with_field (λ d. d.validity) (λ d v. record d { validity = v }) ⟦<Validity<P> as Encode>⟧.writing };
-
-    fn put_content<R: Room>(&self, room: &mut R) -> Result<(), Error> {
+    fn write_content<R: Room>(&self, room: &mut R) -> Result<(), Error> {
         let parts = (
             &self.name,
             (&self.validity, implicit_optional(0, &self.note)),
@@ -86,18 +73,7 @@ impl<P: Profile> Encode for Dated<P> {
         parts.put_text(room)
     }
 
-    ghost same_tag = { λ value. refl };
-}
-
-impl<P: Profile> FixedTag for Dated<P> {
-    ghost use Rattle.std.specs.Prelude.{refl};
-    ghost use Rattle.x509_der_element.specs.declared.tag.Tag.TheVariants.{Sequence};
-
-    ghost TAG = { Sequence };
-
-    const TAG: Tag = Tag::Sequence;
-
-    ghost fixed = { λ value good. refl };
+    ghost contents_lawful = { grammar.dated_contents_lawful };
 }
 
 /// A sequence with such a sequence in it, which may be left out.
@@ -122,45 +98,32 @@ impl<P: Profile> Drop for Enclosing<P> {
     }
 }
 
-impl<P: Profile> Grammar for Enclosing<P> {
+#[tactic(auto, unfolding(crate::specs::Dated::enclosing_fields, x509_der_frames::specs::Frames::fields_reading, x509_der_frames::specs::Frames::fields_octets), using(x509_der_frames::specs::FrameWriting::text_in_option, x509_der_frames::specs::FrameWriting::refusal_in_option))]
+impl<P: Profile> Content for Enclosing<P> {
+    ghost use Rattle.x509_der_element.specs.declared.tag.Tag.TheVariants.{Sequence};
+    ghost use Rattle.x509_der_grammar.specs.Writing.{with_field, in_option};
     ghost use Rattle.x509_probe.specs.Dated as grammar;
 
-    ghost form = { grammar.enclosing };
+    ghost contents = { grammar.enclosing_contents };
 
-    fn identifier(&self) -> Tag {
-        Tag::Sequence
-    }
+    ghost written_as = { with_field (λ e. e.kept) (λ e d. record e { kept = d }) (in_option ⟦<Dated<P> as Encode>⟧.writing) };
 
-    fn is_start(octet: u8) -> bool {
-        octet == 0x30
-    }
+    ghost IDENTIFIER = { Sequence };
 
-    ghost lawful = { grammar.enclosing_lawful };
-}
+    const IDENTIFIER: Tag = Tag::Sequence;
 
-#[tactic(auto, unfolding(crate::specs::Dated::enclosing_fields, x509_der_frames::specs::Frames::fields_reading))]
-impl<P: Profile> Decode for Enclosing<P> {
-    fn read(alloc: Global, tag: u8, content: &[u8]) -> Result<Enclosing<P>, Error> {
-        expect_tag(tag, Tag::Sequence)?;
-        let mut rest = content;
+    fn read_content(alloc: Global, octets: &[u8]) -> Result<Enclosing<P>, Error> {
+        let mut rest = octets;
         let kept = optional_implicit::<Dated<P>>(alloc, 1, &mut rest)?;
         let last = default_field::<bool>(alloc, &mut rest)?;
         end(rest)?;
         Ok(Enclosing { kept, last })
     }
-}
 
-#[tactic(auto, unfolding(crate::specs::Dated::enclosing_fields, x509_der_frames::specs::Frames::fields_octets), using(x509_der_frames::specs::FrameWriting::text_in_option, x509_der_frames::specs::FrameWriting::refusal_in_option))]
-impl<P: Profile> Encode for Enclosing<P> {
-    ghost use Rattle.std.specs.Prelude.{refl};
-    ghost use Rattle.x509_der_grammar.specs.Writing.{with_field, in_option};
-
-    ghost writing = { with_field (λ e. e.kept) (λ e d. record e { kept = d }) (in_option ⟦<Dated<P> as Encode>⟧.writing) };
-
-    fn put_content<R: Room>(&self, room: &mut R) -> Result<(), Error> {
+    fn write_content<R: Room>(&self, room: &mut R) -> Result<(), Error> {
         let parts = (implicit_optional(1, &self.kept), defaulted(&self.last));
         parts.put_text(room)
     }
 
-    ghost same_tag = { λ value. refl };
+    ghost contents_lawful = { grammar.enclosing_contents_lawful };
 }

@@ -3,8 +3,7 @@
 use std::alloc::Global;
 use std::cmp::Ordering;
 use x509_der::{
-    Any, Decode, DerOrd, Encode, Error, Grammar, ObjectIdentifier, PutPart, Room, Tag, ValueOrd,
-    end, expect_tag, field,
+    Any, Content, DerOrd, Error, ObjectIdentifier, PutPart, Room, Tag, ValueOrd, end, field,
 };
 
 /// Two fields that are always there.
@@ -23,44 +22,31 @@ pub struct Pair {
     pub value: Any,
 }
 
-impl Grammar for Pair {
+#[tactic(auto, unfolding(crate::specs::Pair::pair_fields, x509_der_frames::specs::Frames::fields_reading, x509_der_frames::specs::Frames::fields_octets))]
+impl Content for Pair {
+    ghost use Rattle.x509_der_element.specs.declared.tag.Tag.TheVariants.{Sequence};
     ghost use Rattle.x509_probe.specs.Pair as grammar;
 
-    ghost form = { grammar.pair };
+    ghost contents = { grammar.pair_contents };
 
-    fn identifier(&self) -> Tag {
-        Tag::Sequence
-    }
+    ghost IDENTIFIER = { Sequence };
 
-    fn is_start(octet: u8) -> bool {
-        octet == 0x30
-    }
+    const IDENTIFIER: Tag = Tag::Sequence;
 
-    ghost lawful = { grammar.pair_lawful };
-}
-
-#[tactic(auto, unfolding(crate::specs::Pair::pair_fields, x509_der_frames::specs::Frames::fields_reading))]
-impl Decode for Pair {
-    fn read(alloc: Global, tag: u8, content: &[u8]) -> Result<Pair, Error> {
-        expect_tag(tag, Tag::Sequence)?;
-        let mut rest = content;
+    fn read_content(alloc: Global, octets: &[u8]) -> Result<Pair, Error> {
+        let mut rest = octets;
         let id = field::<ObjectIdentifier>(alloc, &mut rest)?;
         let value = field::<Any>(alloc, &mut rest)?;
         end(rest)?;
         Ok(Pair { id, value })
     }
-}
 
-#[tactic(auto, unfolding(crate::specs::Pair::pair_fields, x509_der_frames::specs::Frames::fields_octets))]
-impl Encode for Pair {
-    ghost use Rattle.std.specs.Prelude.{refl};
-
-    fn put_content<R: Room>(&self, room: &mut R) -> Result<(), Error> {
+    fn write_content<R: Room>(&self, room: &mut R) -> Result<(), Error> {
         let parts = (&self.id, &self.value);
         parts.put_text(room)
     }
 
-    ghost same_tag = { λ value. refl };
+    ghost contents_lawful = { grammar.pair_contents_lawful };
 }
 
 impl ValueOrd for Pair {

@@ -2,9 +2,8 @@
 
 use std::alloc::Global;
 use x509_der::{
-    Decode, Encode, Error, FixedTag, Grammar, ObjectIdentifier, PutPart, Room, Tag,
-    default_explicit, default_field, defaulted, end, expect_tag, explicit_default, field,
-    implicit_optional, optional_implicit,
+    Content, Error, ObjectIdentifier, PutPart, Room, Tag, default_explicit, default_field,
+    defaulted, end, explicit_default, field, implicit_optional, optional_implicit,
 };
 use x509_prim_string::OctetString;
 
@@ -32,27 +31,19 @@ pub struct Probe {
     pub d: ObjectIdentifier,
 }
 
-impl Grammar for Probe {
+#[tactic(auto, unfolding(crate::specs::Probe::probe_fields, x509_der_frames::specs::Frames::fields_reading, x509_der_frames::specs::Frames::fields_octets))]
+impl Content for Probe {
+    ghost use Rattle.x509_der_element.specs.declared.tag.Tag.TheVariants.{Sequence};
     ghost use Rattle.x509_probe.specs.Probe as grammar;
 
-    ghost form = { grammar.probe };
+    ghost contents = { grammar.probe_contents };
 
-    fn identifier(&self) -> Tag {
-        Tag::Sequence
-    }
+    ghost IDENTIFIER = { Sequence };
 
-    fn is_start(octet: u8) -> bool {
-        octet == 0x30
-    }
+    const IDENTIFIER: Tag = Tag::Sequence;
 
-    ghost lawful = { grammar.probe_lawful };
-}
-
-#[tactic(auto, unfolding(crate::specs::Probe::probe_fields, x509_der_frames::specs::Frames::fields_reading))]
-impl Decode for Probe {
-    fn read(alloc: Global, tag: u8, content: &[u8]) -> Result<Probe, Error> {
-        expect_tag(tag, Tag::Sequence)?;
-        let mut rest = content;
+    fn read_content(alloc: Global, octets: &[u8]) -> Result<Probe, Error> {
+        let mut rest = octets;
         let a = default_explicit::<u8>(alloc, 0, &mut rest)?;
         let b = optional_implicit::<OctetString>(alloc, 1, &mut rest)?;
         let c = default_field::<bool>(alloc, &mut rest)?;
@@ -60,13 +51,8 @@ impl Decode for Probe {
         end(rest)?;
         Ok(Probe { a, b, c, d })
     }
-}
 
-#[tactic(auto, unfolding(crate::specs::Probe::probe_fields, x509_der_frames::specs::Frames::fields_octets))]
-impl Encode for Probe {
-    ghost use Rattle.std.specs.Prelude.{refl};
-
-    fn put_content<R: Room>(&self, room: &mut R) -> Result<(), Error> {
+    fn write_content<R: Room>(&self, room: &mut R) -> Result<(), Error> {
         let parts = (
             explicit_default(0, &self.a),
             (implicit_optional(1, &self.b), (defaulted(&self.c), &self.d)),
@@ -74,16 +60,5 @@ impl Encode for Probe {
         parts.put_text(room)
     }
 
-    ghost same_tag = { λ value. refl };
-}
-
-impl FixedTag for Probe {
-    ghost use Rattle.std.specs.Prelude.{refl};
-    ghost use Rattle.x509_der_element.specs.declared.tag.Tag.TheVariants.{Sequence};
-
-    ghost TAG = { Sequence };
-
-    const TAG: Tag = Tag::Sequence;
-
-    ghost fixed = { λ value good. refl };
+    ghost contents_lawful = { grammar.probe_contents_lawful };
 }

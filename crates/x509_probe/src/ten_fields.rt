@@ -4,8 +4,8 @@ use crate::number::Number;
 use crate::probe::Probe;
 use std::alloc::Global;
 use x509_der::{
-    Decode, Encode, Error, Grammar, ObjectIdentifier, PutPart, Room, SequenceOf, Tag,
-    default_explicit, end, expect_tag, explicit, explicit_default, explicit_field,
+    Content, Error, ObjectIdentifier, PutPart, Room, SequenceOf, Tag, default_explicit, end,
+    explicit, explicit_default, explicit_field,
     explicit_optional, field, implicit, implicit_field, implicit_optional, optional,
     optional_explicit, optional_field, optional_implicit,
 };
@@ -59,27 +59,19 @@ pub struct TenFields {
     pub last: Option<Probe>,
 }
 
-impl Grammar for TenFields {
+#[tactic(auto, unfolding(crate::specs::TenFields::ten_fields_parts, x509_der_frames::specs::Frames::fields_reading, x509_der_frames::specs::Frames::fields_octets))]
+impl Content for TenFields {
+    ghost use Rattle.x509_der_element.specs.declared.tag.Tag.TheVariants.{Sequence};
     ghost use Rattle.x509_probe.specs.TenFields as grammar;
 
-    ghost form = { grammar.ten_fields };
+    ghost contents = { grammar.ten_fields_contents };
 
-    fn identifier(&self) -> Tag {
-        Tag::Sequence
-    }
+    ghost IDENTIFIER = { Sequence };
 
-    fn is_start(octet: u8) -> bool {
-        octet == 0x30
-    }
+    const IDENTIFIER: Tag = Tag::Sequence;
 
-    ghost lawful = { grammar.ten_fields_lawful };
-}
-
-#[tactic(auto, unfolding(crate::specs::TenFields::ten_fields_parts, x509_der_frames::specs::Frames::fields_reading))]
-impl Decode for TenFields {
-    fn read(alloc: Global, tag: u8, content: &[u8]) -> Result<TenFields, Error> {
-        expect_tag(tag, Tag::Sequence)?;
-        let mut rest = content;
+    fn read_content(alloc: Global, octets: &[u8]) -> Result<TenFields, Error> {
+        let mut rest = octets;
         let version = default_explicit::<u8>(alloc, 0, &mut rest)?;
         let name = field::<ObjectIdentifier>(alloc, &mut rest)?;
         let number = field::<Number>(alloc, &mut rest)?;
@@ -104,13 +96,8 @@ impl Decode for TenFields {
             last,
         })
     }
-}
 
-#[tactic(auto, unfolding(crate::specs::TenFields::ten_fields_parts, x509_der_frames::specs::Frames::fields_octets))]
-impl Encode for TenFields {
-    ghost use Rattle.std.specs.Prelude.{refl};
-
-    fn put_content<R: Room>(&self, room: &mut R) -> Result<(), Error> {
+    fn write_content<R: Room>(&self, room: &mut R) -> Result<(), Error> {
         let front = (
             explicit_default(0, &self.version),
             (
@@ -134,5 +121,5 @@ impl Encode for TenFields {
         (front, behind).put_text(room)
     }
 
-    ghost same_tag = { λ value. refl };
+    ghost contents_lawful = { grammar.ten_fields_contents_lawful };
 }

@@ -1,7 +1,7 @@
 use Rattle.std.proofs.Common.{◌≡◌, ◌<◌, length, arith}
 use Rattle.std.proofs.lemmas.Bool.Decides.{nat_tests}
 use Rattle.std.proofs.lemmas.Result.{err_from_is_err_and}
-use Rattle.x509_der_set.proofs.FewMembers.{none_read, first_read, one_read, first_refused}
+use Rattle.x509_der_frames.specs.ListLaws.{none_read, first_read, one_read, first_refused}
 use Rattle.x509_der_set.proofs.members.Members.read.Goals as goal
 
 pub returns-then-is_empty : goal.returns-then-is_empty
@@ -24,9 +24,9 @@ pub returns-in_err-read_further : goal.returns-in_err-read_further
 returns-in_err-read_further g c =
     let p = err_from_is_err_and c.from_residual-in_err-read_further.result c.from_residual-in_err-read_further.ensures.1 in
     let read = first_read g.T.Grammar.form.reading c.args.bytes.now c.field.new.rest.now c.in_ok-first.first c.in_ok-first.ensures.exact in
-    record { exact = rw (p.1, p.2) (rw (c.in_ok-first-2.ensures.items, read) at c.in_err-read_further.ensures.exact) }
+    record { exact = rw (p.1, p.2) (rw read at c.in_err-read_further.ensures.exact) }
 
 pub returns : goal.returns
 returns g c =
     let read = first_read g.T.Grammar.form.reading c.args.bytes.now c.field.new.rest.now c.in_ok-first.first c.in_ok-first.ensures.exact in
-    record { exact = rw c.from_vec.ensures (rw (c.in_ok-first-2.ensures.items, read) at c.in_ok-read_further.ensures.exact) }
+    record { exact = rw c.from_vec.ensures (rw read at c.in_ok-read_further.ensures.exact) }
