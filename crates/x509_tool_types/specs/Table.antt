@@ -1,7 +1,6 @@
 -- A table of types by their names.
 use Rattle.std.specs.Prelude.{◌≡◌, ◌⊎◌, ℕ, List, Bool, true, false, Result, Ok, Err, MatchResult}
 use Rattle.std.specs.Str.{bytes_eq}
-use Rattle.std.specs.declared.vec.Vec.{Vec}
 use Rattle.x509_der_element.specs.declared.error.Error.{Error}
 use Rattle.x509_der_element.specs.declared.error.ErrorKind.{ErrorKind}
 use Rattle.x509_der_element.specs.declared.error.ErrorKind.TheVariants.{Memory, Failed}

@@ -5,10 +5,10 @@ use crate::reencode::Reencode;
 use crate::table::Table;
 use std::alloc::Global;
 use std::marker::PhantomData;
-use x509_base::{
-    AlgorithmIdentifier, GeneralizedTime, Profile, SerialNumber, SubjectPublicKeyInfo, Time,
-    UtcTime, Validity,
-};
+use x509_base_key::{AlgorithmIdentifier, SubjectPublicKeyInfo};
+use x509_base_serial::SerialNumber;
+use x509_base_time::{GeneralizedTime, UtcTime};
+use x509_base_validity::{Profile, Time, Validity};
 use x509_der_grammar::Error;
 
 /// Times, validity, serial numbers and keys, and then names.

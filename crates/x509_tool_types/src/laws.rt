@@ -8,11 +8,12 @@ ghost use Rattle.x509_tool_run.specs.declared.command.ProfileName.TheVariants as
 
 use crate::reencode::Reencode;
 use crate::table::Types;
-use x509_base::{Raw, Rfc5280, SerialNumber, Time, Validity};
+use x509_base_serial::SerialNumber;
+use x509_base_validity::{Raw, Rfc5280, Time, Validity};
 use x509_der_frames::Any;
 use x509_der_oid::ObjectIdentifier;
-use x509_name::name::{Name, RelativeDistinguishedName};
-use x509_prim::Int;
+use x509_name_rdn::{Name, RelativeDistinguishedName};
+use x509_prim_integer::Int;
 use x509_tool_run::Codec;
 
 /// What the program re-encodes is of the type that its word stands for.

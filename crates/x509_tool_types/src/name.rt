@@ -6,8 +6,8 @@ use std::alloc::Global;
 use std::marker::PhantomData;
 use x509_base_validity::Profile;
 use x509_der_grammar::Error;
-use x509_name::attr::{Attribute, AttributeTypeAndValue};
-use x509_name::name::{Name, RdnSequence, RelativeDistinguishedName};
+use x509_name_attribute::{Attribute, AttributeTypeAndValue};
+use x509_name_rdn::{Name, RdnSequence, RelativeDistinguishedName};
 
 /// Attributes and names.
 pub struct Names<P> {

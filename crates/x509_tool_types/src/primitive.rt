@@ -9,10 +9,9 @@ use x509_base_validity::Profile;
 use x509_der_frames::Any;
 use x509_der_grammar::Error;
 use x509_der_oid::ObjectIdentifier;
-use x509_prim::{
-    BitString, BmpString, Ia5String, Int, OctetString, PrintableString, TeletexString, Uint,
-    Utf8String,
-};
+use x509_prim_integer::{Int, Uint};
+use x509_prim_string::{BitString, OctetString};
+use x509_prim_text::{BmpString, Ia5String, PrintableString, TeletexString, Utf8String};
 
 /// The primitive types, and then those of certificates.
 pub struct Primitives<P> {
