@@ -7,7 +7,7 @@ use Rattle.x509_der_element.specs.declared.error.ErrorKind.{ErrorKind}
 use Rattle.x509_der_element.specs.declared.tag.Tag.TheVariants.{Sequence, Set}
 use Rattle.x509_der_grammar.specs.Form.{Form, IsForm, universal}
 use Rattle.x509_der_grammar.specs.FormLaws.{universal_lawful}
-use Rattle.x509_der_grammar.specs.Round.{same, round_contents, round_lawful}
+use Rattle.x509_der_grammar.specs.Round.{same, rounded, rounded_lawful}
 use Rattle.x509_der_frames.specs.List.{list_of}
 use Rattle.x509_der_frames.specs.ListLaws.{list_lawful}
 use Rattle.x509_der_set.specs.Set.{set_of}
@@ -21,7 +21,7 @@ attribute_set = universal Set (set_of attribute_type_and_value type_and_value_cm
 
 -- RelativeDistinguishedName: SET OF AttributeTypeAndValue
 abbrev pub relative_distinguished_name : Form (List AttributeTypeAndValue)
-relative_distinguished_name = universal Set (round_contents same Set attribute_set)
+relative_distinguished_name = rounded same Set attribute_set
 
 -- SEQUENCE OF RelativeDistinguishedName
 abbrev pub rdn_list : Form (List (List AttributeTypeAndValue))
@@ -29,26 +29,26 @@ rdn_list = universal Sequence (list_of relative_distinguished_name)
 
 -- RDNSequence: SEQUENCE OF RelativeDistinguishedName
 abbrev pub rdn_sequence : Form (List (List AttributeTypeAndValue))
-rdn_sequence = universal Sequence (round_contents same Sequence rdn_list)
+rdn_sequence = rounded same Sequence rdn_list
 
 -- Name: a choice of one, RDNSequence
 abbrev pub name : Form (List (List AttributeTypeAndValue))
-name = universal Sequence (round_contents same Sequence rdn_sequence)
+name = rounded same Sequence rdn_sequence
 
 attribute_set_lawful : {R : ErrorKind → Type 0} → IsForm R attribute_set
 attribute_set_lawful = universal_lawful Set _ (set_lawful attribute_type_and_value type_and_value_cmp (universal_lawful Sequence _ type_and_value_contents_lawful))
 
 pub rdn_lawful : {R : ErrorKind → Type 0} → IsForm R relative_distinguished_name
-rdn_lawful = universal_lawful Set _ (round_lawful same Set attribute_set (λ v. refl) attribute_set_lawful)
+rdn_lawful = rounded_lawful same Set attribute_set (λ v. refl) attribute_set_lawful
 
 rdn_list_lawful : {R : ErrorKind → Type 0} → IsForm R rdn_list
 rdn_list_lawful = universal_lawful Sequence _ (list_lawful relative_distinguished_name rdn_lawful)
 
 pub rdn_sequence_lawful : {R : ErrorKind → Type 0} → IsForm R rdn_sequence
-rdn_sequence_lawful = universal_lawful Sequence _ (round_lawful same Sequence rdn_list (λ v. refl) rdn_list_lawful)
+rdn_sequence_lawful = rounded_lawful same Sequence rdn_list (λ v. refl) rdn_list_lawful
 
 pub name_lawful : {R : ErrorKind → Type 0} → IsForm R name
-name_lawful = universal_lawful Sequence _ (round_lawful same Sequence rdn_sequence (λ v. refl) rdn_sequence_lawful)
+name_lawful = rounded_lawful same Sequence rdn_sequence (λ v. refl) rdn_sequence_lawful
 
 -- ---- equality
 
