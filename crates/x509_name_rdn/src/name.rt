@@ -10,11 +10,12 @@ use crate::attributes::AttributesOf;
 use crate::rdn::RelativeDistinguishedName;
 use crate::rdn_sequence::RdnSequence;
 use std::alloc::Global;
+use std::cmp::Ordering;
 use std::hash::{Hash, Hasher};
 use std::marker::Model;
 use std::slice;
-use x509_der_grammar::Newtype;
-use x509_der_order::NewtypeOrd;
+use x509_der_grammar::{Content, Error, Room, Tag, TryClone};
+use x509_der_order::ValueOrd;
 
 /// The name of an issuer or a subject (RFC 5280 4.1.2.4). Contracts see the list of its relative distinguished names.
 ///
@@ -111,23 +112,44 @@ impl From<Name> for RdnSequence {
     }
 }
 
-impl Newtype for Name {
-    ghost use Rattle.x509_der_grammar.specs.Round.{same};
-
-    type Inner = RdnSequence;
-
-    ghost round = { same };
-
-    fn inner(&self) -> &RdnSequence {
-        &self.0
-    }
-
-    fn from_inner(inner: RdnSequence) -> Name {
-        Name(inner)
+impl TryClone for Name {
+    fn try_clone(&self, alloc: Global) -> Result<Name, Error> {
+        Ok(Name(self.0.try_clone(alloc)?))
     }
 }
 
-impl NewtypeOrd for Name {}
+impl Content for Name {
+    ghost use Rattle.x509_der_element.specs.declared.tag.Tag.TheVariants.{Sequence};
+    ghost use Rattle.x509_name_rdn.specs.Names as grammar;
+
+    ghost contents = { grammar.rdn_sequence_contents };
+
+    ghost IDENTIFIER = { Sequence };
+
+    const IDENTIFIER: Tag = Tag::Sequence;
+
+    fn read_content(alloc: Global, octets: &[u8]) -> Result<Name, Error> {
+        Ok(Name(RdnSequence::read_content(alloc, octets)?))
+    }
+
+    fn write_content<R: Room>(&self, room: &mut R) -> Result<(), Error> {
+        self.0.write_content(room)
+    }
+
+    ghost contents_lawful = { grammar.rdn_sequence_contents_lawful };
+}
+
+impl ValueOrd for Name {
+    ghost use Rattle.x509_name_rdn.specs.Names as grammar;
+
+    ghost order = { grammar.rdn_sequence_order };
+
+    fn value_cmp(&self, other: &Name) -> Ordering {
+        self.0.value_cmp(&other.0)
+    }
+
+    ghost ordered = { grammar.rdn_sequence_ordered };
+}
 
 impl PartialEq for Name {
     ghost use Rattle.std.specs.Cmp.{partial_equiv_from_equiv};
