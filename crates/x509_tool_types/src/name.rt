@@ -17,13 +17,16 @@ pub struct Names<P> {
 #[tactic(auto, using(crate::proofs::Rows::is_found, crate::proofs::Rows::is_passed))]
 impl<P: Profile> Table for Names<P> {
     ghost use Rattle.std.specs.Prelude.{codes};
+    ghost use Rattle.x509_der_grammar.specs.Writing.{plain};
+    ghost use Rattle.x509_name_rdn.specs.Names.{rdn_sequence, relative_distinguished_name};
+    ghost use Rattle.x509_tool_types.specs.Reencoding.{Reencodes};
     ghost use Rattle.x509_tool_types.specs.Table.{named, ◌otherwise◌};
 
     ghost table = { named (codes "Attribute") ⟦<Attribute as Reencode>⟧.reencodes otherwise
         named (codes "AttributeTypeAndValue") ⟦<AttributeTypeAndValue as Reencode>⟧.reencodes otherwise
         named (codes "Name") ⟦<Name as Reencode>⟧.reencodes otherwise
-        named (codes "RdnSequence") ⟦<RdnSequence as Reencode>⟧.reencodes otherwise
-        named (codes "RelativeDistinguishedName") ⟦<RelativeDistinguishedName as Reencode>⟧.reencodes otherwise
+        named (codes "RdnSequence") (Reencodes rdn_sequence plain (λ _. ⊥)) otherwise
+        named (codes "RelativeDistinguishedName") (Reencodes relative_distinguished_name plain (λ _. ⊥)) otherwise
         ⟦<Nothing as Table>⟧.table };
 
     fn reencode(alloc: Global, name: &str, bytes: &[u8]) -> Result<Vec<u8>, Error> {
