@@ -1,6 +1,8 @@
 //! Serial numbers, times, profiles, validity and keys of certificates.
 #![tactic(auto)]
 
+pub mod laws;
+
 pub use x509_base_key::{AlgorithmIdentifier, SubjectPublicKeyInfo};
 pub use x509_base_serial::SerialNumber;
 pub use x509_base_time::{DateTime, GeneralizedTime, UtcTime};

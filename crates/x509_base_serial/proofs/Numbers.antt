@@ -6,7 +6,7 @@ use Rattle.std.proofs.lemmas.Nat.{from_be_bytes-to_be_bytes_8}
 use Rattle.std.proofs.lemmas.Bool.{cases_Bool, lt-ltb, le-leb}
 use Rattle.std.proofs.lemmas.Bool.Decides.{nat_tests}
 use Rattle.x509_der_grammar.specs.Natural.{natural_octets, natural_reading, number_after, are_octets, is_shortest}
-use Rattle.x509_der_grammar.specs.NaturalLaws.{natural_content_lawful}
+use Rattle.x509_der_grammar.specs.NaturalLaws.{natural_contents_lawful}
 use Rattle.x509_prim_integer.specs.Integer.{is_integer, is_unsigned, number, with_sign, without_zeros}
 use Rattle.x509_prim_integer.proofs.Naturals.{number-content, is_unsigned-content}
 
@@ -61,7 +61,7 @@ content_is octets n o some few small is =
     let fits : length content ≤ 17 = let l = length_content octets in omega arith in
     let good = both (are_octets content) _ all (both (is_shortest content) _ (shortest content all (is_unsigned-content octets some)) (le-leb (length content) 17 fits)) in
     let read : natural_reading (2 ^ 128) content ≡ Ok n = rw (good, value, lt-ltb n (2 ^ 128) small) refl in
-    ((natural_content_lawful {R = λ e. ⊥} (2 ^ 128) (omega arith)).sound content n read).1
+    ((natural_contents_lawful {R = λ e. ⊥} (2 ^ 128) (omega arith)).sound content n read).1
 
 eight : (a b c d e f g h : ℕ) → number (a ∷ b ∷ c ∷ d ∷ e ∷ f ∷ g ∷ h ∷ []) ≡ from_be_bytes w64 (a ∷ b ∷ c ∷ d ∷ e ∷ f ∷ g ∷ h ∷ [])
 eight a b c d e f g h = omega arith

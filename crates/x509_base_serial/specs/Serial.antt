@@ -1,24 +1,25 @@
 -- SerialNumber: INTEGER, whose content octets a profile checks in reading (RFC 5280 4.1.2.2).
-use Rattle.std.specs.Prelude.{ℕ, ◌/◌, ◌%◌, List, [], ◌∷◌, map, true, Result, refl}
+use Rattle.std.specs.Prelude.{ℕ, ◌/◌, ◌%◌, List, [], ◌∷◌, map, true, Result}
 use Rattle.std.specs.Fmt.{digit_glyph}
 use Rattle.std.specs.List.{join_with_byte}
 use Rattle.x509_der_element.specs.declared.error.ErrorKind.{ErrorKind}
-use Rattle.x509_der_grammar.specs.Form.{Form, IsForm, universal}
-use Rattle.x509_der_grammar.specs.FormLaws.{universal_lawful}
-use Rattle.x509_der_element.specs.Element.{is_identifier, is_universal}
-use Rattle.x509_der_grammar.specs.Tested.{tested_content, tested_content_lawful}
-use Rattle.x509_prim_integer.specs.Integer.{is_integer, with_sign, without_zeros}
+use Rattle.x509_der_element.specs.declared.tag.Tag.TheVariants as tags
+use Rattle.x509_der_grammar.specs.Form.{Form, Contents, IsContents, universal}
+use Rattle.x509_prim_integer.specs.Integer.{integer_contents, with_sign, without_zeros}
+use Rattle.x509_prim_integer.specs.IntegerLaws.{integer_contents_lawful}
 use Rattle.x509_base_serial.specs.Checked.{checked, CheckRefuses, checked_lawful}
 
 -- ---- the grammar
 
 -- a value is seen as its content octets
-abbrev pub serial_number : (List ℕ → Result Unit ErrorKind) → Form (List ℕ)
-serial_number check = universal (checked check (tested_content 0x02 is_integer))
+abbrev pub serial_number_contents : (List ℕ → Result Unit ErrorKind) → Contents (List ℕ)
+serial_number_contents check = checked check integer_contents
 
-pub serial_number_lawful : (check : List ℕ → Result Unit ErrorKind) → IsForm (CheckRefuses check) (serial_number check)
-unfolding is_identifier is_universal
-serial_number_lawful check = universal_lawful _ (checked_lawful check _ (tested_content_lawful 0x02 is_integer refl))
+pub serial_number_contents_lawful : (check : List ℕ → Result Unit ErrorKind) → IsContents (CheckRefuses check) (serial_number_contents check)
+serial_number_contents_lawful check = checked_lawful check integer_contents integer_contents_lawful
+
+abbrev pub serial_number : (List ℕ → Result Unit ErrorKind) → Form (List ℕ)
+serial_number check = universal tags.Integer (serial_number_contents check)
 
 -- ---- numbers
 

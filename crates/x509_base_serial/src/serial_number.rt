@@ -17,7 +17,7 @@ use std::fmt;
 use std::hash::{Hash, Hasher};
 use std::marker::{Model, PhantomData};
 use x509_base_validity::{Profile, Rfc5280};
-use x509_der_grammar::{Decode, Encode, Error, ErrorKind, FixedTag, Grammar, Room, Tag, TryClone};
+use x509_der_grammar::{Content, Error, ErrorKind, Room, Tag, TryClone};
 use x509_der_order::{DerOrd, ValueOrd};
 use x509_prim_integer::{Int, Uint, strip_zeros};
 
@@ -149,53 +149,31 @@ impl<P: Profile> From<SerialNumber<P>> for Int {
     }
 }
 
-impl<P: Profile> Grammar for SerialNumber<P> {
-    ghost use Rattle.x509_base_serial.specs.Checked.{CheckRefuses};
-    ghost use Rattle.x509_base_serial.specs.Serial.{serial_number, serial_number_lawful};
-
-    ghost form = { serial_number P.serial_check };
-
-    ghost refuses = { CheckRefuses P.serial_check };
-
-    fn identifier(&self) -> Tag {
-        Tag::Integer
-    }
-
-    fn is_start(octet: u8) -> bool {
-        octet == Tag::Integer.octet()
-    }
-
-    ghost lawful = { serial_number_lawful P.serial_check };
-}
-
 #[tactic(auto, unfolding(crate::specs::Checked::checked_reading))]
-impl<P: Profile> Decode for SerialNumber<P> {
-    fn read(alloc: Global, tag: u8, content: &[u8]) -> Result<SerialNumber<P>, Error> {
-        let number = Int::read(alloc, tag, content)?;
-        P::check_serial_number(content)?;
+impl<P: Profile> Content for SerialNumber<P> {
+    ghost use Rattle.x509_base_serial.specs.Checked.{CheckRefuses};
+    ghost use Rattle.x509_base_serial.specs.Serial.{serial_number_contents, serial_number_contents_lawful};
+    ghost use Rattle.x509_der_element.specs.declared.tag.Tag.TheVariants as tags;
+
+    ghost contents = { serial_number_contents P.serial_check };
+
+    ghost refusals = { CheckRefuses P.serial_check };
+
+    ghost IDENTIFIER = { tags.Integer };
+
+    const IDENTIFIER: Tag = Tag::Integer;
+
+    fn read_content(alloc: Global, octets: &[u8]) -> Result<SerialNumber<P>, Error> {
+        let number = Int::read_content(alloc, octets)?;
+        P::check_serial_number(octets)?;
         Ok(SerialNumber::from_number(number))
     }
-}
 
-impl<P: Profile> Encode for SerialNumber<P> {
-    ghost use Rattle.std.specs.Prelude.{refl};
-
-    fn put_content<R: Room>(&self, room: &mut R) -> Result<(), Error> {
+    fn write_content<R: Room>(&self, room: &mut R) -> Result<(), Error> {
         room.put(self.as_bytes())
     }
 
-    ghost same_tag = { λ value. refl };
-}
-
-impl<P: Profile> FixedTag for SerialNumber<P> {
-    ghost use Rattle.std.specs.Prelude.{refl};
-    ghost use Rattle.x509_der_element.specs.declared.tag.Tag.TheVariants as tags;
-
-    ghost TAG = { tags.Integer };
-
-    const TAG: Tag = Tag::Integer;
-
-    ghost fixed = { λ value good. refl };
+    ghost contents_lawful = { serial_number_contents_lawful P.serial_check };
 }
 
 impl<P: Profile> TryClone for SerialNumber<P> {

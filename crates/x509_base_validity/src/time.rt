@@ -1,12 +1,10 @@
 //! A date of a certificate.
 
-ghost use Rattle.std.specs.Prelude.{◌≡◌, ◌*◌, Some, Ok, IfErr};
+ghost use Rattle.std.specs.Prelude.{◌≡◌, ◌*◌, Some, Ok};
 ghost use Rattle.std.specs.Duration.{as_nanos};
 ghost use Rattle.x509_base_time.specs.CivilTime.{unix_seconds};
 ghost use Rattle.x509_base_time.specs.TimeText.{date_time_text};
-ghost use Rattle.x509_base_validity.specs.Time.{date_time_of, time, time_at, ReadsTime};
-ghost use Rattle.x509_der_element.specs.Outcome.{Gives};
-ghost use Rattle.x509_der_element.specs.declared.error.ErrorKind.TheVariants.{Malformed};
+ghost use Rattle.x509_base_validity.specs.Time.{date_time_of, time_at, ReadsTime};
 ghost use Rattle.x509_base_validity.specs.declared.time.Time.TheVariants as times;
 
 use std::alloc::Global;
@@ -133,15 +131,18 @@ impl Grammar for Time {
         UtcTime::is_start(octet) || GeneralizedTime::is_start(octet)
     }
 
+    fn usual() -> Tag {
+        Tag::UtcTime
+    }
+
     ghost lawful = { grammar.time_lawful };
 }
 
 #[tactic(auto, unfolding(x509_der_frames::specs::Choice::either_reading))]
 impl Decode for Time {
-    fn read(alloc: Global, tag: u8, content: &[u8]) -> Result<Time, Error>
-        ensures exact { Gives result (time.reading tag content.now) }
-        ensures err { IfErr result (λ e. e.kind ≡ Malformed) }
-    {
+    ghost wants_memory = { ⊥ };
+
+    fn read(alloc: Global, tag: u8, content: &[u8]) -> Result<Time, Error> {
         if UtcTime::is_start(tag) {
             Ok(Time::UtcTime(UtcTime::read(alloc, tag, content)?))
         } else {

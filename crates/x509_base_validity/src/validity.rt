@@ -14,9 +14,7 @@ use std::marker::PhantomData;
 use std::time::Duration;
 use x509_base_time::DateTime;
 use x509_der_frames::{PutPart, end, field};
-use x509_der_grammar::{
-    Decode, Encode, Error, ErrorKind, FixedTag, Grammar, Room, Tag, TryClone, expect_tag,
-};
+use x509_der_grammar::{Content, Error, ErrorKind, Room, Tag, TryClone};
 
 /// The two dates between which a certificate holds, both included (RFC 5280 4.1.2.5). They are written as the profile
 /// spells them.
@@ -106,59 +104,36 @@ impl<P: Profile> TryClone for Validity<P> {
     }
 }
 
-impl<P: Profile> Grammar for Validity<P> {
+#[tactic(auto, unfolding(crate::specs::Validity::validity_fields, x509_der_frames::specs::Frames::fields_reading, x509_der_frames::specs::Frames::fields_octets))]
+impl<P: Profile> Content for Validity<P> {
+    ghost use Rattle.x509_der_element.specs.declared.tag.Tag.TheVariants.{Sequence};
+    ghost use Rattle.x509_der_grammar.specs.Writing.{respelling};
     ghost use Rattle.x509_base_validity.specs.Validity as grammar;
 
-    ghost form = { grammar.validity };
+    ghost contents = { grammar.validity_contents };
 
-    fn identifier(&self) -> Tag {
-        Tag::Sequence
-    }
+    ghost takes_memory = { ⊥ };
 
-    fn is_start(octet: u8) -> bool {
-        octet == 0x30
-    }
+    ghost written_as = { respelling (grammar.respelled_validity P.time_of) };
 
-    ghost lawful = { grammar.validity_lawful };
-}
+    ghost IDENTIFIER = { Sequence };
 
-#[tactic(auto, unfolding(crate::specs::Validity::validity_fields, x509_der_frames::specs::Frames::fields_reading))]
-impl<P: Profile> Decode for Validity<P> {
-    fn read(alloc: Global, tag: u8, content: &[u8]) -> Result<Validity<P>, Error> {
-        expect_tag(tag, Tag::Sequence)?;
-        let mut rest = content;
+    const IDENTIFIER: Tag = Tag::Sequence;
+
+    fn read_content(alloc: Global, octets: &[u8]) -> Result<Validity<P>, Error> {
+        let mut rest = octets;
         let not_before = field::<Time>(alloc, &mut rest)?;
         let not_after = field::<Time>(alloc, &mut rest)?;
         end(rest)?;
         Ok(Validity::new(not_before, not_after))
     }
-}
 
-#[tactic(auto, unfolding(crate::specs::Validity::validity_fields, x509_der_frames::specs::Frames::fields_octets))]
-impl<P: Profile> Encode for Validity<P> {
-    ghost use Rattle.std.specs.Prelude.{refl};
-    ghost use Rattle.x509_der_grammar.specs.Writing.{respelling};
-    ghost use Rattle.x509_base_validity.specs.Validity.{respelled_validity};
-
-    ghost writing = { respelling (respelled_validity P.time_of) };
-
-    fn put_content<R: Room>(&self, room: &mut R) -> Result<(), Error> {
+    fn write_content<R: Room>(&self, room: &mut R) -> Result<(), Error> {
         let not_before = P::time_encoding(self.not_before)?;
         let not_after = P::time_encoding(self.not_after)?;
         let parts = (&not_before, &not_after);
         parts.put_text(room)
     }
 
-    ghost same_tag = { λ value. refl };
-}
-
-impl<P: Profile> FixedTag for Validity<P> {
-    ghost use Rattle.std.specs.Prelude.{refl};
-    ghost use Rattle.x509_der_element.specs.declared.tag.Tag.TheVariants.{Sequence};
-
-    ghost TAG = { Sequence };
-
-    const TAG: Tag = Tag::Sequence;
-
-    ghost fixed = { λ value good. refl };
+    ghost contents_lawful = { grammar.validity_contents_lawful };
 }

@@ -27,6 +27,6 @@ pub fn rfc5280_dates_are_written_once()
     ensures chosen { IsStable moment.good ⟦<Moment<Rfc5280> as Encode>⟧.writing }
     ensures listed { IsStable (all_good dated.good) ⟦<SequenceOf<Dated<Rfc5280>> as Encode>⟧.writing }
 {
-    x509_base_validity::rfc5280_dates_are_written_once();
+    x509_base_validity::laws::rfc5280_dates_are_written_once();
     dates_are_written_once::<Rfc5280>();
 }
