@@ -21,9 +21,6 @@ use x509_der_grammar::{Content, Error, ErrorKind, Room, Tag, TryClone};
 use x509_der_order::{DerOrd, ValueOrd};
 use x509_prim_integer::{Int, Uint, strip_zeros};
 
-/// The most content octets of a number that is made here.
-const MOST_OCTETS: usize = 20;
-
 /// The number that the issuer of a certificate gave it (RFC 5280 4.1.2.2). Reading asks the profile whether the content
 /// octets may stand; writing doesn't. Contracts see the content octets.
 ///
@@ -44,10 +41,12 @@ impl<P: Profile> Model for SerialNumber<P> {
     ghost view = { λ serial. serial.number };
 }
 
-impl<P: Profile> SerialNumber<P> {
-    /// The most content octets of a number that [`SerialNumber::new`] makes.
-    pub const MAX_LEN: usize = MOST_OCTETS;
+impl SerialNumber<Rfc5280> {
+    /// The most content octets of a number that [`SerialNumber::new`] makes, under any profile (RFC 5280 4.1.2.2).
+    pub const MAX_LEN: usize = 20;
+}
 
+impl<P: Profile> SerialNumber<P> {
     /// The number of the octets, most significant first, which may begin with zeros.
     ///
     /// # Errors
@@ -64,7 +63,7 @@ impl<P: Profile> SerialNumber<P> {
         if octets.is_empty() {
             return Err(ErrorKind::Value.into());
         }
-        if signed_len(strip_zeros(octets)) > MOST_OCTETS {
+        if signed_len(strip_zeros(octets)) > SerialNumber::<Rfc5280>::MAX_LEN {
             return Err(ErrorKind::Overlength.into());
         }
         Ok(SerialNumber::from_number(Int::from(Uint::new(alloc, octets)?)))

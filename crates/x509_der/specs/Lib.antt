@@ -11,6 +11,7 @@ pub use Rattle.x509_der_frames.specs.List
 pub use Rattle.x509_der_frames.specs.Choice
 pub use Rattle.x509_der_order.specs.Order
 pub use Rattle.x509_der_order.specs.Ordered
+pub use Rattle.x509_der_set.specs.MemberOrder
 pub use Rattle.x509_der_set.specs.Set
 pub use Rattle.x509_der_oid.specs.Arcs
 pub use Rattle.x509_der_oid.specs.ObjectIdentifier

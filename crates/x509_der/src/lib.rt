@@ -22,5 +22,5 @@ pub use x509_der_grammar::{
 };
 pub use x509_der_oid::{AssociatedOid, ObjectIdentifier};
 pub use x509_der_order::{DerOrd, NewtypeOrd, ValueOrd, cmp_members, cmp_naturals};
-pub use x509_der_set::SetOfVec;
+pub use x509_der_set::{SetMember, SetOfVec, SetOrd};
 pub use x509_prim_text::Utf8String;

@@ -4,7 +4,10 @@ use Rattle.std.proofs.Common.{sym, ◌∙◌, ap, inl, inr}
 use Rattle.x509_der_element.specs.declared.error.ErrorKind.{ErrorKind}
 use Rattle.x509_der_element.specs.Outcome.{◌>>=◌}
 use Rattle.x509_der_element.specs.OutcomeLaws.{bind_ok, bind_err, ok_is, not_refused}
-use Rattle.x509_der_grammar.specs.Form.{Contents, IsContents}
+use Rattle.x509_der_element.specs.declared.tag.Tag.{Tag}
+use Rattle.x509_der_element.specs.Tag.{octet_of}
+use Rattle.x509_der_grammar.specs.Form.{Form, IsForm, HasTag, Contents, IsContents, contents_of, universal}
+use Rattle.x509_der_grammar.specs.FormLaws.{contents_of_lawful, universal_lawful}
 use Rattle.x509_der_grammar.specs.StableLaws.{with_field_stable}
 use Rattle.x509_der_grammar.specs.Writing.{Writing, plain, respelling, writes, with_field, IsStable}
 
@@ -43,6 +46,13 @@ module _ {X Y : Type 0} (round : Round Y X) where
       | inr k ↦ not_refused (round.from k.0) e k.2
     ];
   }
+
+  -- the element of the value within, as a value of the type
+  abbrev pub rounded : Tag → Form X → Form Y
+  rounded tag form = universal tag (round_contents round (contents_of (octet_of tag) form))
+
+  pub rounded_lawful : {R : ErrorKind → Type 0} (tag : Tag) (form : Form X) → HasTag (octet_of tag) form → IsForm R form → IsForm R (rounded tag form)
+  rounded_lawful tag form fixed h = universal_lawful tag _ (round_lawful (contents_of (octet_of tag) form) (contents_of_lawful (octet_of tag) form fixed h))
 
   -- what is written of the type is what is written of the value within
   pub round_within : (writing : Writing X) (y : Y) → round.to (writes (round_writing round writing) y).value ≡ (writes writing (round.to y)).value

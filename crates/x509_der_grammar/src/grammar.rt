@@ -1,5 +1,7 @@
 //! The written form of a type.
 
+use crate::decode::Decode;
+use crate::encode::Encode;
 use x509_der_element::Tag;
 
 /// A type each value of which is one element. What reading and writing speak of.
@@ -50,8 +52,8 @@ impl<T: Grammar> Tagged for T {
     }
 }
 
-/// A type whose values have one identifier.
-pub trait FixedTag: Grammar {
+/// A type whose values have one identifier. Each type with [`Content`](crate::Content) is one.
+pub trait FixedTag: Decode + Encode {
     ghost use Rattle.x509_der_element.specs.declared.tag.Tag.{Tag};
     ghost use Rattle.x509_der_grammar.specs.Form.{HasTag};
     ghost use Rattle.x509_der_element.specs.Tag.{octet_of};

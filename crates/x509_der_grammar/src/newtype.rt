@@ -42,7 +42,7 @@ where
 #[tactic(auto, using(crate::specs::Round::round_within, crate::specs::Round::round_refusal))]
 impl<T: Newtype> Content for T
 where
-    T::Inner: FixedTag + Decode + Encode,
+    T::Inner: FixedTag,
 {
     ghost use Rattle.x509_der_element.specs.Tag.{octet_of};
     ghost use Rattle.x509_der_grammar.specs.Form.{contents_of};

@@ -2,14 +2,14 @@
 
 use crate::order::ValueOrd;
 use std::cmp::Ordering;
-use x509_der_grammar::{Decode, FixedTag, Newtype};
+use x509_der_grammar::{FixedTag, Newtype};
 
 /// A type round one value, which is compared as that value is: from it comes [`ValueOrd`].
 pub trait NewtypeOrd: Newtype {}
 
 impl<T: NewtypeOrd> ValueOrd for T
 where
-    T::Inner: FixedTag + Decode + ValueOrd,
+    T::Inner: FixedTag + ValueOrd,
 {
     ghost use Rattle.x509_der_order.specs.RoundOrder.{round_order, round_ordered};
 

@@ -1,2 +1,3 @@
 pub mod RisingLists
 pub mod OneSet
+mod SetOrders

@@ -1,3 +1,4 @@
 pub mod Set
 pub mod SetLaws
 pub mod Members
+pub mod MemberOrder

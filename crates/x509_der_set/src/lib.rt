@@ -2,10 +2,13 @@
 #![tactic(auto)]
 
 pub mod laws;
+mod member;
 mod members;
+mod numbers;
 mod places;
 mod set;
 #[cfg(test)]
 mod tests;
 
+pub use member::{SetMember, SetOrd};
 pub use set::SetOfVec;

@@ -10,6 +10,7 @@ ghost use Rattle.x509_der_element.specs.declared.error.ErrorKind.TheVariants as 
 ghost use Rattle.x509_der_order.specs.Order.{der_order};
 ghost use Rattle.x509_der_set.specs.Set.{AreDistinct};
 
+use crate::member::{SetMember, SetOrd};
 use crate::members::Members;
 use crate::places::{is_rising, place};
 use std::alloc::Global;
@@ -24,21 +25,19 @@ use x509_der_order::{DerOrd, ValueOrd, cmp_members};
 /// The members of a SET OF, no two of them equal, in the byte order of their encodings (X.690 11.6). Contracts see
 /// their list.
 #[derive(Drop)]
-pub struct SetOfVec<T: DerOrd> {
+pub struct SetOfVec<T: SetOrd> {
     members: Members<T>,
 }
 
-impl<T: DerOrd> Model for SetOfVec<T> {
+impl<T: SetOrd> Model for SetOfVec<T> {
     ghost use Rattle.std.specs.Prelude.{List};
     ghost use Rattle.std.specs.List.Sorted.{IsStrictlySortedBy};
-    ghost use Rattle.x509_der_grammar.specs.Writing.{writes};
-    ghost use Rattle.x509_der_order.specs.Order.{der_order};
 
     ghost Value = { List T };
 
     ghost view = { λ set. set.members };
 
-    ghost invariant = { λ set. IsStrictlySortedBy (der_order T.form (writes T.writing) T.order) set.members };
+    ghost invariant = { λ set. IsStrictlySortedBy T.set_order set.members };
 }
 
 /// Puts the item in its place among the members. Where it is refused they are as they were.
@@ -59,7 +58,7 @@ fn put<T: DerOrd + Drop>(members: &mut Members<T>, item: T) -> Result<(), Error>
     }
 }
 
-impl<T: DerOrd> SetOfVec<T> {
+impl<T: SetMember> SetOfVec<T> {
     /// No members. It takes no memory.
     pub fn new(alloc: Global) -> SetOfVec<T>
         ensures { result ≡ [] }
@@ -153,7 +152,7 @@ impl<T: DerOrd> SetOfVec<T> {
     }
 }
 
-impl<T: Decode + DerOrd + Drop> Content for SetOfVec<T> {
+impl<T: Decode + SetMember + Drop> Content for SetOfVec<T> {
     ghost use Rattle.x509_der_element.specs.declared.tag.Tag.TheVariants.{Set};
     ghost use Rattle.x509_der_frames.specs.List.{members_writing};
     ghost use Rattle.x509_der_grammar.specs.Writing.{writes};
@@ -188,7 +187,7 @@ impl<T: Decode + DerOrd + Drop> Content for SetOfVec<T> {
     ghost contents_lawful = { set_lawful T.form (der_order T.form (writes T.writing) T.order) T.lawful };
 }
 
-impl<T: Decode + DerOrd + Drop> ValueOrd for SetOfVec<T> {
+impl<T: Decode + SetMember + Drop> ValueOrd for SetOfVec<T> {
     ghost use Rattle.x509_der_grammar.specs.Writing.{writes};
     ghost use Rattle.x509_der_order.specs.Order.{der_order};
     ghost use Rattle.x509_der_order.specs.Ordered.{by_members};
@@ -203,7 +202,7 @@ impl<T: Decode + DerOrd + Drop> ValueOrd for SetOfVec<T> {
     ghost ordered = { set_ordered T.form T.writing T.order T.ordered };
 }
 
-impl<T: DerOrd + TryClone + Drop> TryClone for SetOfVec<T> {
+impl<T: SetMember + TryClone + Drop> TryClone for SetOfVec<T> {
     fn try_clone(&self, alloc: Global) -> Result<SetOfVec<T>, Error> {
         Ok(SetOfVec {
             members: self.members.copy(alloc)?,
@@ -211,7 +210,7 @@ impl<T: DerOrd + TryClone + Drop> TryClone for SetOfVec<T> {
     }
 }
 
-impl<T: DerOrd + PartialEq> PartialEq for SetOfVec<T> {
+impl<T: SetMember + PartialEq> PartialEq for SetOfVec<T> {
     ghost use Rattle.std.specs.Cmp.Lexicographic.{pointwise, lists_per};
 
     ghost eq = { pointwise T.eq };
@@ -223,13 +222,13 @@ impl<T: DerOrd + PartialEq> PartialEq for SetOfVec<T> {
     }
 }
 
-impl<T: DerOrd + Eq> Eq for SetOfVec<T> {
+impl<T: SetMember + Eq> Eq for SetOfVec<T> {
     ghost use Rattle.std.specs.Cmp.Lexicographic.{lists_equiv};
 
     ghost laws = { lists_equiv T.Eq.laws };
 }
 
-impl<T: DerOrd + Hash> Hash for SetOfVec<T> {
+impl<T: SetMember + Hash> Hash for SetOfVec<T> {
     ghost use Rattle.std.specs.Hash as fed;
     ghost use Rattle.std.specs.Hash.{items_Alike};
 
@@ -242,7 +241,7 @@ impl<T: DerOrd + Hash> Hash for SetOfVec<T> {
     }
 }
 
-impl<T: DerOrd + fmt::Debug> fmt::Debug for SetOfVec<T> {
+impl<T: SetMember + fmt::Debug> fmt::Debug for SetOfVec<T> {
     fn fmt<W: fmt::Write>(&self, f: &mut fmt::Formatter<W>) -> fmt::Result {
         fmt::Debug::fmt(&self.as_slice(), f)
     }

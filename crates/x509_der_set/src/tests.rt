@@ -1,6 +1,6 @@
 //! Rows of sets.
 
-use crate::SetOfVec;
+use crate::{SetMember, SetOfVec};
 use std::cmp::Ordering;
 use std::hash::{DefaultHasher, Hash, Hasher};
 use std::test::*;
@@ -9,7 +9,7 @@ use x509_der_grammar::{Decode, Encode, Error, ErrorKind, TryClone};
 use x509_der_order::{DerOrd, ValueOrd};
 
 /// Reads the bytes and writes the set again.
-fn same<T: DerOrd + Decode + Drop>(rt: &HostRuntime, bytes: &[u8]) -> Result<bool, Fail> {
+fn same<T: SetMember + Decode + Drop>(rt: &HostRuntime, bytes: &[u8]) -> Result<bool, Fail> {
     let set: SetOfVec<T> = SetOfVec::from_der(rt.alloc(), bytes)?;
     Ok(set.to_der(rt.alloc())?.as_slice() == bytes)
 }
@@ -73,7 +73,7 @@ fn members_stand_in_the_order_of_their_encodings(rt: HostRuntime) -> Result<(), 
         assert!(rt; set.as_slice() == sorted);
         let made = SetOfVec::try_from_vec(Vec::from_slice(rt.alloc(), row)?)?;
         assert!(rt; made == set);
-        assert!(rt; made.into_vec().as_slice() == sorted);
+        assert!(rt; made.into_vec()?.as_slice() == sorted);
     }
     Ok(())
 }

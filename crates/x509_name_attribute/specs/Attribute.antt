@@ -4,7 +4,8 @@ use Rattle.std.specs.Bool.{Decides}
 use Rattle.std.specs.Cmp.{IsEquivalence}
 use Rattle.std.specs.Ordering.{eq_by_cmp}
 use Rattle.x509_der_element.specs.declared.error.ErrorKind.{ErrorKind}
-use Rattle.x509_der_grammar.specs.Form.{Form, IsForm, universal, spelling}
+use Rattle.x509_der_element.specs.declared.tag.Tag.TheVariants.{Sequence, Set}
+use Rattle.x509_der_grammar.specs.Form.{Form, IsForm, Contents, IsContents, universal, spelling}
 use Rattle.x509_der_grammar.specs.FormLaws.{universal_lawful}
 use Rattle.x509_der_grammar.specs.Writing.{plain, writes}
 use Rattle.x509_der_order.specs.Order.{HasEncoding, Order, IsOrder, IsDerOrder, der_order}
@@ -26,20 +27,23 @@ value_order = der_order any (writes plain) (by_bytes any)
 
 -- SET OF ANY, in that order
 abbrev pub value_set : Form (List Any)
-value_set = universal (set_of any value_order)
+value_set = universal Set (set_of any value_order)
 
 unfoldable pub attribute_fields : Part (List ℕ × List Any)
 attribute_fields = required object_identifier ⊗ required value_set
 
+abbrev pub attribute_contents : Contents Attribute
+attribute_contents = fields (λ a. (a.oid, a.values)) (λ (oid, values). record { oid = oid; values = values }) attribute_fields
+
 abbrev pub attribute : Form Attribute
-attribute = universal (fields (λ a. (a.oid, a.values)) (λ x. record { oid = x.0; values = x.1 }) attribute_fields)
+attribute = universal Sequence attribute_contents
 
 value_set_lawful : {R : ErrorKind → Type 0} → IsForm R value_set
-value_set_lawful = universal_lawful _ (set_lawful any value_order any_lawful)
+value_set_lawful = universal_lawful Set _ (set_lawful any value_order any_lawful)
 
-pub attribute_lawful : {R : ErrorKind → Type 0} → IsForm R attribute
+pub attribute_contents_lawful : {R : ErrorKind → Type 0} → IsContents R attribute_contents
 unfolding attribute_fields
-attribute_lawful = universal_lawful _ (fields_lawful _ _ attribute_fields (λ a. refl) (λ x. refl) (pair_lawful _ _ (required_lawful _ object_identifier_lawful) (required_lawful _ value_set_lawful) refl))
+attribute_contents_lawful = fields_lawful _ _ attribute_fields (λ a. refl) (λ x. refl) (pair_lawful _ _ (required_lawful _ object_identifier_lawful) (required_lawful _ value_set_lawful) refl)
 
 -- ---- the byte order
 
@@ -49,16 +53,20 @@ attribute_order = by_two (λ a. (a.oid, a.values)) object_identifier (by_bytes o
 
 pub attribute_ordered : IsOrder attribute (writes plain) attribute_order
 unfolding attribute_fields
-attribute_ordered = two_ordered (λ a. (a.oid, a.values)) (λ x. record { oid = x.0; values = x.1 }) object_identifier (by_bytes object_identifier) value_set (by_members value_order) (λ a. refl) (object_identifier_ordered (writes plain)) (set_ordered any plain (by_bytes any) (any_ordered (writes plain)))
+attribute_ordered = two_ordered (λ a. (a.oid, a.values)) (λ (oid, values). record { oid = oid; values = values }) object_identifier (by_bytes object_identifier) value_set (by_members value_order) (λ a. refl) (object_identifier_ordered (writes plain)) (set_ordered any plain (by_bytes any) (any_ordered (writes plain)))
 
 -- ---- equality
 
 attributes_lawful : IsDerOrder (HasEncoding attribute (writes plain)) (spelling attribute) (der_order attribute (writes plain) attribute_order)
 attributes_lawful = der_lawful attribute (writes plain) attribute_order attribute_ordered
 
--- whether the order of the encodings finds two equal
+-- the order of the encodings
+abbrev pub attribute_cmp : Order Attribute
+attribute_cmp = der_order attribute (writes plain) attribute_order
+
+-- whether the order finds two equal
 abbrev pub attribute_eq : Attribute → Attribute → Bool
-attribute_eq = eq_by_cmp (der_order attribute (writes plain) attribute_order)
+attribute_eq = eq_by_cmp attribute_cmp
 
 pub attribute_equivalence : IsEquivalence attribute_eq
 attribute_equivalence = order_equivalence attributes_lawful

@@ -4,7 +4,8 @@ use Rattle.std.specs.Bool.{Decides}
 use Rattle.std.specs.Cmp.{IsEquivalence, IsTotalOrder}
 use Rattle.std.specs.Ordering.{eq_by_cmp}
 use Rattle.x509_der_element.specs.declared.error.ErrorKind.{ErrorKind}
-use Rattle.x509_der_grammar.specs.Form.{Form, IsForm, universal, spelling}
+use Rattle.x509_der_element.specs.declared.tag.Tag.TheVariants.{Sequence}
+use Rattle.x509_der_grammar.specs.Form.{Form, IsForm, Contents, IsContents, universal, spelling}
 use Rattle.x509_der_grammar.specs.FormLaws.{universal_lawful}
 use Rattle.x509_der_grammar.specs.Writing.{plain, writes}
 use Rattle.x509_der_order.specs.Order.{HasEncoding, Order, IsOrder, IsDerOrder, der_order}
@@ -21,12 +22,15 @@ use Rattle.x509_name_attribute.specs.declared.type_and_value.AttributeTypeAndVal
 unfoldable pub type_and_value_fields : Part (List ℕ × Any)
 type_and_value_fields = required object_identifier ⊗ required any
 
-abbrev pub attribute_type_and_value : Form AttributeTypeAndValue
-attribute_type_and_value = universal (fields (λ a. (a.oid, a.value)) (λ x. record { oid = x.0; value = x.1 }) type_and_value_fields)
+abbrev pub type_and_value_contents : Contents AttributeTypeAndValue
+type_and_value_contents = fields (λ a. (a.oid, a.value)) (λ (oid, value). record { oid = oid; value = value }) type_and_value_fields
 
-pub type_and_value_lawful : {R : ErrorKind → Type 0} → IsForm R attribute_type_and_value
+abbrev pub attribute_type_and_value : Form AttributeTypeAndValue
+attribute_type_and_value = universal Sequence type_and_value_contents
+
+pub type_and_value_contents_lawful : {R : ErrorKind → Type 0} → IsContents R type_and_value_contents
 unfolding type_and_value_fields
-type_and_value_lawful = universal_lawful _ (fields_lawful _ _ type_and_value_fields (λ a. refl) (λ x. refl) (pair_lawful _ _ (required_lawful _ object_identifier_lawful) (required_lawful _ any_lawful) refl))
+type_and_value_contents_lawful = fields_lawful _ _ type_and_value_fields (λ a. refl) (λ x. refl) (pair_lawful _ _ (required_lawful _ object_identifier_lawful) (required_lawful _ any_lawful) refl)
 
 -- ---- the byte order
 
@@ -36,7 +40,7 @@ type_and_value_order = by_two (λ a. (a.oid, a.value)) object_identifier (by_byt
 
 pub type_and_value_ordered : IsOrder attribute_type_and_value (writes plain) type_and_value_order
 unfolding type_and_value_fields
-type_and_value_ordered = two_ordered (λ a. (a.oid, a.value)) (λ x. record { oid = x.0; value = x.1 }) object_identifier (by_bytes object_identifier) any (by_bytes any) (λ a. refl) (object_identifier_ordered (writes plain)) (any_ordered (writes plain))
+type_and_value_ordered = two_ordered (λ a. (a.oid, a.value)) (λ (oid, value). record { oid = oid; value = value }) object_identifier (by_bytes object_identifier) any (by_bytes any) (λ a. refl) (object_identifier_ordered (writes plain)) (any_ordered (writes plain))
 
 -- ---- equality
 

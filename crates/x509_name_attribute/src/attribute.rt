@@ -4,9 +4,9 @@ use crate::type_and_value::{AttributeType, AttributeValue};
 use std::alloc::Global;
 use std::cmp::Ordering;
 use x509_der_frames::{PutPart, end, field};
-use x509_der_grammar::{Decode, Encode, Error, FixedTag, Grammar, Room, Tag, TryClone, expect_tag};
+use x509_der_grammar::{Content, Error, Room, Tag, TryClone};
 use x509_der_order::{DerOrd, ValueOrd};
-use x509_der_set::SetOfVec;
+use x509_der_set::{SetMember, SetOfVec, SetOrd};
 
 /// The type of an attribute, with its values (RFC 2986 4.1). A set without values is read and written too.
 ///
@@ -36,55 +36,31 @@ impl TryClone for Attribute {
     }
 }
 
-impl Grammar for Attribute {
+#[tactic(auto, unfolding(crate::specs::Attribute::attribute_fields, x509_der_frames::specs::Frames::fields_reading, x509_der_frames::specs::Frames::fields_octets))]
+impl Content for Attribute {
+    ghost use Rattle.x509_der_element.specs.declared.tag.Tag.TheVariants.{Sequence};
     ghost use Rattle.x509_name_attribute.specs.Attribute as grammar;
 
-    ghost form = { grammar.attribute };
+    ghost contents = { grammar.attribute_contents };
 
-    fn identifier(&self) -> Tag {
-        Tag::Sequence
-    }
+    ghost IDENTIFIER = { Sequence };
 
-    fn is_start(octet: u8) -> bool {
-        octet == 0x30
-    }
+    const IDENTIFIER: Tag = Tag::Sequence;
 
-    ghost lawful = { grammar.attribute_lawful };
-}
-
-#[tactic(auto, unfolding(crate::specs::Attribute::attribute_fields, x509_der_frames::specs::Frames::fields_reading))]
-impl Decode for Attribute {
-    fn read(alloc: Global, tag: u8, content: &[u8]) -> Result<Attribute, Error> {
-        expect_tag(tag, Tag::Sequence)?;
-        let mut rest = content;
+    fn read_content(alloc: Global, octets: &[u8]) -> Result<Attribute, Error> {
+        let mut rest = octets;
         let oid = field::<AttributeType>(alloc, &mut rest)?;
         let values = field::<SetOfVec<AttributeValue>>(alloc, &mut rest)?;
         end(rest)?;
         Ok(Attribute { oid, values })
     }
-}
 
-#[tactic(auto, unfolding(crate::specs::Attribute::attribute_fields, x509_der_frames::specs::Frames::fields_octets))]
-impl Encode for Attribute {
-    ghost use Rattle.std.specs.Prelude.{refl};
-
-    fn put_content<R: Room>(&self, room: &mut R) -> Result<(), Error> {
+    fn write_content<R: Room>(&self, room: &mut R) -> Result<(), Error> {
         let parts = (&self.oid, &self.values);
         parts.put_text(room)
     }
 
-    ghost same_tag = { λ value. refl };
-}
-
-impl FixedTag for Attribute {
-    ghost use Rattle.std.specs.Prelude.{refl};
-    ghost use Rattle.x509_der_element.specs.declared.tag.Tag.TheVariants.{Sequence};
-
-    ghost TAG = { Sequence };
-
-    const TAG: Tag = Tag::Sequence;
-
-    ghost fixed = { λ value good. refl };
+    ghost contents_lawful = { grammar.attribute_contents_lawful };
 }
 
 impl ValueOrd for Attribute {
@@ -99,6 +75,18 @@ impl ValueOrd for Attribute {
     }
 
     ghost ordered = { grammar.attribute_ordered };
+}
+
+impl SetOrd for Attribute {
+    ghost use Rattle.x509_name_attribute.specs.Attribute as grammar;
+
+    ghost set_order = { grammar.attribute_cmp };
+}
+
+impl SetMember for Attribute {
+    ghost use Rattle.std.specs.Prelude.{refl};
+
+    ghost in_der_order = { refl };
 }
 
 /// By the encodings, as [`DerOrd`] compares them.

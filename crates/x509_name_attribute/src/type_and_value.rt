@@ -4,9 +4,10 @@ use std::alloc::Global;
 use std::cmp::Ordering;
 use std::hash::{Hash, Hasher};
 use x509_der_frames::{Any, PutPart, end, field};
-use x509_der_grammar::{Decode, Encode, Error, FixedTag, Grammar, Room, Tag, TryClone, expect_tag};
+use x509_der_grammar::{Content, Error, Room, Tag, TryClone};
 use x509_der_oid::ObjectIdentifier;
 use x509_der_order::{DerOrd, ValueOrd};
+use x509_der_set::{SetMember, SetOrd};
 
 /// The type of an attribute (RFC 5280 4.1.2.4).
 pub type AttributeType = ObjectIdentifier;
@@ -39,55 +40,31 @@ impl TryClone for AttributeTypeAndValue {
     }
 }
 
-impl Grammar for AttributeTypeAndValue {
+#[tactic(auto, unfolding(crate::specs::TypeAndValue::type_and_value_fields, x509_der_frames::specs::Frames::fields_reading, x509_der_frames::specs::Frames::fields_octets))]
+impl Content for AttributeTypeAndValue {
+    ghost use Rattle.x509_der_element.specs.declared.tag.Tag.TheVariants.{Sequence};
     ghost use Rattle.x509_name_attribute.specs.TypeAndValue as grammar;
 
-    ghost form = { grammar.attribute_type_and_value };
+    ghost contents = { grammar.type_and_value_contents };
 
-    fn identifier(&self) -> Tag {
-        Tag::Sequence
-    }
+    ghost IDENTIFIER = { Sequence };
 
-    fn is_start(octet: u8) -> bool {
-        octet == 0x30
-    }
+    const IDENTIFIER: Tag = Tag::Sequence;
 
-    ghost lawful = { grammar.type_and_value_lawful };
-}
-
-#[tactic(auto, unfolding(crate::specs::TypeAndValue::type_and_value_fields, x509_der_frames::specs::Frames::fields_reading))]
-impl Decode for AttributeTypeAndValue {
-    fn read(alloc: Global, tag: u8, content: &[u8]) -> Result<AttributeTypeAndValue, Error> {
-        expect_tag(tag, Tag::Sequence)?;
-        let mut rest = content;
+    fn read_content(alloc: Global, octets: &[u8]) -> Result<AttributeTypeAndValue, Error> {
+        let mut rest = octets;
         let oid = field::<AttributeType>(alloc, &mut rest)?;
         let value = field::<AttributeValue>(alloc, &mut rest)?;
         end(rest)?;
         Ok(AttributeTypeAndValue { oid, value })
     }
-}
 
-#[tactic(auto, unfolding(crate::specs::TypeAndValue::type_and_value_fields, x509_der_frames::specs::Frames::fields_octets))]
-impl Encode for AttributeTypeAndValue {
-    ghost use Rattle.std.specs.Prelude.{refl};
-
-    fn put_content<R: Room>(&self, room: &mut R) -> Result<(), Error> {
+    fn write_content<R: Room>(&self, room: &mut R) -> Result<(), Error> {
         let parts = (&self.oid, &self.value);
         parts.put_text(room)
     }
 
-    ghost same_tag = { λ value. refl };
-}
-
-impl FixedTag for AttributeTypeAndValue {
-    ghost use Rattle.std.specs.Prelude.{refl};
-    ghost use Rattle.x509_der_element.specs.declared.tag.Tag.TheVariants.{Sequence};
-
-    ghost TAG = { Sequence };
-
-    const TAG: Tag = Tag::Sequence;
-
-    ghost fixed = { λ value good. refl };
+    ghost contents_lawful = { grammar.type_and_value_contents_lawful };
 }
 
 impl ValueOrd for AttributeTypeAndValue {
@@ -102,6 +79,18 @@ impl ValueOrd for AttributeTypeAndValue {
     }
 
     ghost ordered = { grammar.type_and_value_ordered };
+}
+
+impl SetOrd for AttributeTypeAndValue {
+    ghost use Rattle.x509_name_attribute.specs.TypeAndValue as grammar;
+
+    ghost set_order = { grammar.type_and_value_cmp };
+}
+
+impl SetMember for AttributeTypeAndValue {
+    ghost use Rattle.std.specs.Prelude.{refl};
+
+    ghost in_der_order = { refl };
 }
 
 impl PartialEq for AttributeTypeAndValue {

@@ -1,59 +1,54 @@
 -- What names are made of (RFC 5280 4.1.2.4, appendix A.1). A set or a sequence without members is one too.
-use Rattle.std.specs.Prelude.{◌≡◌, Bool, List}
+use Rattle.std.specs.Prelude.{◌≡◌, Bool, List, refl}
 use Rattle.std.specs.Bool.{Decides}
 use Rattle.std.specs.Cmp.{IsEquivalence}
 use Rattle.std.specs.Cmp.Lexicographic.{pointwise, pointwise_decides, lists_equiv}
 use Rattle.x509_der_element.specs.declared.error.ErrorKind.{ErrorKind}
+use Rattle.x509_der_element.specs.declared.tag.Tag.TheVariants.{Sequence, Set}
 use Rattle.x509_der_grammar.specs.Form.{Form, IsForm, universal}
 use Rattle.x509_der_grammar.specs.FormLaws.{universal_lawful}
-use Rattle.x509_der_grammar.specs.Writing.{plain, writes}
-use Rattle.x509_der_order.specs.Order.{Order, IsOrder, der_order}
-use Rattle.x509_der_order.specs.Ordered.{by_members}
+use Rattle.x509_der_grammar.specs.Round.{same, rounded, rounded_lawful}
 use Rattle.x509_der_frames.specs.List.{list_of}
 use Rattle.x509_der_frames.specs.ListLaws.{list_lawful}
-use Rattle.x509_der_frames.specs.ListOrder.{list_ordered}
 use Rattle.x509_der_set.specs.Set.{set_of}
-use Rattle.x509_der_set.specs.SetLaws.{set_lawful, set_ordered}
-use Rattle.x509_name_attribute.specs.TypeAndValue.{attribute_type_and_value, type_and_value_lawful, type_and_value_order, type_and_value_ordered, type_and_value_cmp, type_and_value_eq, type_and_value_equivalence, type_and_value_decides}
+use Rattle.x509_der_set.specs.SetLaws.{set_lawful}
+use Rattle.x509_name_attribute.specs.TypeAndValue.{attribute_type_and_value, type_and_value_contents_lawful, type_and_value_cmp, type_and_value_eq, type_and_value_equivalence, type_and_value_decides}
 use Rattle.x509_name_attribute.specs.declared.type_and_value.AttributeTypeAndValue.{AttributeTypeAndValue}
+
+-- SET OF AttributeTypeAndValue
+abbrev pub attribute_set : Form (List AttributeTypeAndValue)
+attribute_set = universal Set (set_of attribute_type_and_value type_and_value_cmp)
 
 -- RelativeDistinguishedName: SET OF AttributeTypeAndValue
 abbrev pub relative_distinguished_name : Form (List AttributeTypeAndValue)
-relative_distinguished_name = universal (set_of attribute_type_and_value type_and_value_cmp)
+relative_distinguished_name = rounded same Set attribute_set
+
+-- SEQUENCE OF RelativeDistinguishedName
+abbrev pub rdn_list : Form (List (List AttributeTypeAndValue))
+rdn_list = universal Sequence (list_of relative_distinguished_name)
 
 -- RDNSequence: SEQUENCE OF RelativeDistinguishedName
 abbrev pub rdn_sequence : Form (List (List AttributeTypeAndValue))
-rdn_sequence = universal (list_of relative_distinguished_name)
+rdn_sequence = rounded same Sequence rdn_list
 
 -- Name: a choice of one, RDNSequence
 abbrev pub name : Form (List (List AttributeTypeAndValue))
-name = rdn_sequence
+name = rounded same Sequence rdn_sequence
+
+attribute_set_lawful : {R : ErrorKind → Type 0} → IsForm R attribute_set
+attribute_set_lawful = universal_lawful Set _ (set_lawful attribute_type_and_value type_and_value_cmp (universal_lawful Sequence _ type_and_value_contents_lawful))
 
 pub rdn_lawful : {R : ErrorKind → Type 0} → IsForm R relative_distinguished_name
-rdn_lawful = universal_lawful _ (set_lawful attribute_type_and_value type_and_value_cmp type_and_value_lawful)
+rdn_lawful = rounded_lawful same Set attribute_set (λ v. refl) attribute_set_lawful
+
+rdn_list_lawful : {R : ErrorKind → Type 0} → IsForm R rdn_list
+rdn_list_lawful = universal_lawful Sequence _ (list_lawful relative_distinguished_name rdn_lawful)
 
 pub rdn_sequence_lawful : {R : ErrorKind → Type 0} → IsForm R rdn_sequence
-rdn_sequence_lawful = universal_lawful _ (list_lawful relative_distinguished_name rdn_lawful)
+rdn_sequence_lawful = rounded_lawful same Sequence rdn_list (λ v. refl) rdn_list_lawful
 
--- ---- the byte order
-
--- by the first attributes that differ
-abbrev pub rdn_order : Order (List AttributeTypeAndValue)
-rdn_order = by_members type_and_value_cmp
-
--- the order of relative distinguished names by their encodings
-abbrev pub rdn_cmp : Order (List AttributeTypeAndValue)
-rdn_cmp = der_order relative_distinguished_name (writes plain) rdn_order
-
--- by the first relative distinguished names that differ
-abbrev pub rdn_sequence_order : Order (List (List AttributeTypeAndValue))
-rdn_sequence_order = by_members rdn_cmp
-
-pub rdn_ordered : IsOrder relative_distinguished_name (writes plain) rdn_order
-rdn_ordered = set_ordered attribute_type_and_value plain type_and_value_order type_and_value_ordered
-
-pub rdn_sequence_ordered : IsOrder rdn_sequence (writes plain) rdn_sequence_order
-rdn_sequence_ordered = list_ordered relative_distinguished_name plain rdn_order rdn_ordered
+pub name_lawful : {R : ErrorKind → Type 0} → IsForm R name
+name_lawful = rounded_lawful same Sequence rdn_sequence (λ v. refl) rdn_sequence_lawful
 
 -- ---- equality
 

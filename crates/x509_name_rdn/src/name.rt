@@ -10,12 +10,11 @@ use crate::attributes::AttributesOf;
 use crate::rdn::RelativeDistinguishedName;
 use crate::rdn_sequence::RdnSequence;
 use std::alloc::Global;
-use std::cmp::Ordering;
 use std::hash::{Hash, Hasher};
 use std::marker::Model;
 use std::slice;
-use x509_der_grammar::{Decode, Encode, Error, FixedTag, Grammar, Room, Tag, TryClone};
-use x509_der_order::ValueOrd;
+use x509_der_grammar::Newtype;
+use x509_der_order::NewtypeOrd;
 
 /// The name of an issuer or a subject (RFC 5280 4.1.2.4). Contracts see the list of its relative distinguished names.
 ///
@@ -90,6 +89,19 @@ impl AsRef<RdnSequence> for Name {
     }
 }
 
+impl AsMut<RdnSequence> for Name {
+    ghost use Rattle.std.specs.Borrow.{Lends, sem};
+    ghost use Rattle.x509_name_rdn.specs.contracts.name.Name.{the_row};
+    ghost use Rattle.x509_name_rdn.specs.contracts.rdn_sequence.RdnSequence as sequence;
+
+    fn as_mut(&mut self) -> &mut RdnSequence
+        ensures* writes_back { sem 𝓛 (Lends the_row sequence.the_row self.entry result (λ w. w)) }
+        ensures value { result.now ≡ self.old }
+    {
+        &mut self.0
+    }
+}
+
 impl From<Name> for RdnSequence {
     ghost from_gives = { λ name rdns. rdns ≡ name };
 
@@ -99,66 +111,23 @@ impl From<Name> for RdnSequence {
     }
 }
 
-impl TryClone for Name {
-    fn try_clone(&self, alloc: Global) -> Result<Name, Error> {
-        Ok(Name(self.0.try_clone(alloc)?))
+impl Newtype for Name {
+    ghost use Rattle.x509_der_grammar.specs.Round.{same};
+
+    type Inner = RdnSequence;
+
+    ghost round = { same };
+
+    fn inner(&self) -> &RdnSequence {
+        &self.0
+    }
+
+    fn from_inner(inner: RdnSequence) -> Name {
+        Name(inner)
     }
 }
 
-impl Grammar for Name {
-    ghost use Rattle.x509_name_rdn.specs.Names as grammar;
-
-    ghost form = { grammar.name };
-
-    fn identifier(&self) -> Tag {
-        Tag::Sequence
-    }
-
-    fn is_start(octet: u8) -> bool {
-        octet == 0x30
-    }
-
-    ghost lawful = { grammar.rdn_sequence_lawful };
-}
-
-impl Decode for Name {
-    fn read(alloc: Global, tag: u8, content: &[u8]) -> Result<Name, Error> {
-        Ok(Name(RdnSequence::read(alloc, tag, content)?))
-    }
-}
-
-impl Encode for Name {
-    ghost use Rattle.std.specs.Prelude.{refl};
-
-    fn put_content<R: Room>(&self, room: &mut R) -> Result<(), Error> {
-        self.0.put_content(room)
-    }
-
-    ghost same_tag = { λ value. refl };
-}
-
-impl FixedTag for Name {
-    ghost use Rattle.std.specs.Prelude.{refl};
-    ghost use Rattle.x509_der_element.specs.declared.tag.Tag.TheVariants.{Sequence};
-
-    ghost TAG = { Sequence };
-
-    const TAG: Tag = Tag::Sequence;
-
-    ghost fixed = { λ value good. refl };
-}
-
-impl ValueOrd for Name {
-    ghost use Rattle.x509_name_rdn.specs.Names as grammar;
-
-    ghost order = { grammar.rdn_sequence_order };
-
-    fn value_cmp(&self, other: &Name) -> Ordering {
-        self.0.value_cmp(&other.0)
-    }
-
-    ghost ordered = { grammar.rdn_sequence_ordered };
-}
+impl NewtypeOrd for Name {}
 
 impl PartialEq for Name {
     ghost use Rattle.std.specs.Cmp.{partial_equiv_from_equiv};

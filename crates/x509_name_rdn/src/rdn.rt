@@ -10,12 +10,11 @@ ghost use Rattle.x509_der_set.specs.Set.{AreDistinct};
 ghost use Rattle.x509_name_attribute.specs.TypeAndValue.{type_and_value_cmp};
 
 use std::alloc::Global;
-use std::cmp::Ordering;
 use std::hash::{Hash, Hasher};
 use std::marker::Model;
 use std::slice;
-use x509_der_grammar::{Decode, Encode, Error, FixedTag, Grammar, Room, Tag, TryClone};
-use x509_der_order::ValueOrd;
+use x509_der_grammar::{Error, Newtype};
+use x509_der_order::NewtypeOrd;
 use x509_der_set::SetOfVec;
 use x509_name_attribute::AttributeTypeAndValue;
 
@@ -126,67 +125,45 @@ impl AsRef<SetOfVec<AttributeTypeAndValue>> for RelativeDistinguishedName {
     }
 }
 
-impl TryClone for RelativeDistinguishedName {
-    fn try_clone(&self, alloc: Global) -> Result<RelativeDistinguishedName, Error> {
-        Ok(RelativeDistinguishedName(self.0.try_clone(alloc)?))
+impl AsMut<SetOfVec<AttributeTypeAndValue>> for RelativeDistinguishedName {
+    ghost use Rattle.std.specs.Borrow.{Lends, sem};
+    ghost use Rattle.x509_name_rdn.specs.contracts.rdn.RelativeDistinguishedName.{the_row};
+    ghost use Rattle.x509_name_rdn.specs.Rows.{attribute_set_row};
+
+    fn as_mut(&mut self) -> &mut SetOfVec<AttributeTypeAndValue>
+        ensures* writes_back { sem 𝓛 (Lends the_row attribute_set_row self.entry result (λ w. w)) }
+        ensures value { result.now ≡ self.old }
+    {
+        &mut self.0
     }
 }
 
-impl Grammar for RelativeDistinguishedName {
-    ghost use Rattle.x509_name_rdn.specs.Names as grammar;
+impl From<RelativeDistinguishedName> for SetOfVec<AttributeTypeAndValue> {
+    ghost from_gives = { λ rdn attributes. attributes ≡ rdn };
 
-    ghost form = { grammar.relative_distinguished_name };
-
-    fn identifier(&self) -> Tag {
-        Tag::Set
-    }
-
-    fn is_start(octet: u8) -> bool {
-        octet == 0x31
-    }
-
-    ghost lawful = { grammar.rdn_lawful };
-}
-
-impl Decode for RelativeDistinguishedName {
-    fn read(alloc: Global, tag: u8, content: &[u8]) -> Result<RelativeDistinguishedName, Error> {
-        let set = Decode::read(alloc, tag, content)?;
-        Ok(RelativeDistinguishedName(set))
+    fn from(rdn: RelativeDistinguishedName) -> SetOfVec<AttributeTypeAndValue> {
+        let RelativeDistinguishedName(attributes) = rdn;
+        attributes
     }
 }
 
-impl Encode for RelativeDistinguishedName {
-    ghost use Rattle.std.specs.Prelude.{refl};
+impl Newtype for RelativeDistinguishedName {
+    ghost use Rattle.x509_der_grammar.specs.Round.{same};
 
-    fn put_content<R: Room>(&self, room: &mut R) -> Result<(), Error> {
-        self.0.put_content(room)
+    type Inner = SetOfVec<AttributeTypeAndValue>;
+
+    ghost round = { same };
+
+    fn inner(&self) -> &SetOfVec<AttributeTypeAndValue> {
+        &self.0
     }
 
-    ghost same_tag = { λ value. refl };
-}
-
-impl FixedTag for RelativeDistinguishedName {
-    ghost use Rattle.std.specs.Prelude.{refl};
-    ghost use Rattle.x509_der_element.specs.declared.tag.Tag.TheVariants.{Set};
-
-    ghost TAG = { Set };
-
-    const TAG: Tag = Tag::Set;
-
-    ghost fixed = { λ value good. refl };
-}
-
-impl ValueOrd for RelativeDistinguishedName {
-    ghost use Rattle.x509_name_rdn.specs.Names as grammar;
-
-    ghost order = { grammar.rdn_order };
-
-    fn value_cmp(&self, other: &RelativeDistinguishedName) -> Ordering {
-        self.0.value_cmp(&other.0)
+    fn from_inner(inner: SetOfVec<AttributeTypeAndValue>) -> RelativeDistinguishedName {
+        RelativeDistinguishedName(inner)
     }
-
-    ghost ordered = { grammar.rdn_ordered };
 }
+
+impl NewtypeOrd for RelativeDistinguishedName {}
 
 impl PartialEq for RelativeDistinguishedName {
     ghost use Rattle.std.specs.Cmp.{partial_equiv_from_equiv};

@@ -8,13 +8,12 @@ ghost use Rattle.x509_name_attribute.specs.declared.type_and_value.AttributeType
 
 use crate::rdn::RelativeDistinguishedName;
 use std::alloc::Global;
-use std::cmp::Ordering;
 use std::hash::{Hash, Hasher};
 use std::marker::Model;
 use std::slice;
 use x509_der_frames::SequenceOf;
-use x509_der_grammar::{Decode, Encode, Error, FixedTag, Grammar, Room, Tag, TryClone};
-use x509_der_order::ValueOrd;
+use x509_der_grammar::{Error, Newtype};
+use x509_der_order::NewtypeOrd;
 
 /// Relative distinguished names, the most general first (RFC 5280 4.1.2.4). Contracts see their list. A sequence
 /// without members is read and written too.
@@ -103,66 +102,52 @@ impl From<Vec<RelativeDistinguishedName>> for RdnSequence {
     }
 }
 
-impl TryClone for RdnSequence {
-    fn try_clone(&self, alloc: Global) -> Result<RdnSequence, Error> {
-        Ok(RdnSequence(self.0.try_clone(alloc)?))
+impl From<RdnSequence> for Vec<RelativeDistinguishedName> {
+    ghost from_gives = { λ sequence rdns. rdns.items ≡ sequence };
+
+    fn from(sequence: RdnSequence) -> Vec<RelativeDistinguishedName> {
+        sequence.into_vec()
     }
 }
 
-impl Grammar for RdnSequence {
-    ghost use Rattle.x509_name_rdn.specs.Names as grammar;
-
-    ghost form = { grammar.rdn_sequence };
-
-    fn identifier(&self) -> Tag {
-        Tag::Sequence
-    }
-
-    fn is_start(octet: u8) -> bool {
-        octet == 0x30
-    }
-
-    ghost lawful = { grammar.rdn_sequence_lawful };
-}
-
-impl Decode for RdnSequence {
-    fn read(alloc: Global, tag: u8, content: &[u8]) -> Result<RdnSequence, Error> {
-        Ok(RdnSequence(Decode::read(alloc, tag, content)?))
+impl AsRef<SequenceOf<RelativeDistinguishedName>> for RdnSequence {
+    fn as_ref(&self) -> &SequenceOf<RelativeDistinguishedName>
+        ensures { result.now ≡ self.now }
+    {
+        &self.0
     }
 }
 
-impl Encode for RdnSequence {
-    ghost use Rattle.std.specs.Prelude.{refl};
+impl AsMut<SequenceOf<RelativeDistinguishedName>> for RdnSequence {
+    ghost use Rattle.std.specs.Borrow.{Lends, sem};
+    ghost use Rattle.x509_name_rdn.specs.contracts.rdn_sequence.RdnSequence.{the_row};
+    ghost use Rattle.x509_name_rdn.specs.Rows.{rdn_list_row};
 
-    fn put_content<R: Room>(&self, room: &mut R) -> Result<(), Error> {
-        self.0.put_content(room)
+    fn as_mut(&mut self) -> &mut SequenceOf<RelativeDistinguishedName>
+        ensures* writes_back { sem 𝓛 (Lends the_row rdn_list_row self.entry result (λ w. w)) }
+        ensures value { result.now ≡ self.old }
+    {
+        &mut self.0
+    }
+}
+
+impl Newtype for RdnSequence {
+    ghost use Rattle.x509_der_grammar.specs.Round.{same};
+
+    type Inner = SequenceOf<RelativeDistinguishedName>;
+
+    ghost round = { same };
+
+    fn inner(&self) -> &SequenceOf<RelativeDistinguishedName> {
+        &self.0
     }
 
-    ghost same_tag = { λ value. refl };
-}
-
-impl FixedTag for RdnSequence {
-    ghost use Rattle.std.specs.Prelude.{refl};
-    ghost use Rattle.x509_der_element.specs.declared.tag.Tag.TheVariants.{Sequence};
-
-    ghost TAG = { Sequence };
-
-    const TAG: Tag = Tag::Sequence;
-
-    ghost fixed = { λ value good. refl };
-}
-
-impl ValueOrd for RdnSequence {
-    ghost use Rattle.x509_name_rdn.specs.Names as grammar;
-
-    ghost order = { grammar.rdn_sequence_order };
-
-    fn value_cmp(&self, other: &RdnSequence) -> Ordering {
-        self.0.value_cmp(&other.0)
+    fn from_inner(inner: SequenceOf<RelativeDistinguishedName>) -> RdnSequence {
+        RdnSequence(inner)
     }
-
-    ghost ordered = { grammar.rdn_sequence_ordered };
 }
+
+impl NewtypeOrd for RdnSequence {}
 
 impl PartialEq for RdnSequence {
     ghost use Rattle.std.specs.Cmp.{partial_equiv_from_equiv};

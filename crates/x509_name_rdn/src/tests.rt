@@ -146,9 +146,12 @@ fn rdns(rt: HostRuntime) -> Result<(), Fail> {
 #[test]
 fn copies_of_an_rdn(rt: HostRuntime) -> Result<(), Fail> {
     let rdn = both(&rt)?;
-    let set: &SetOfVec<AttributeTypeAndValue> = rdn.as_ref();
-    let copy = RelativeDistinguishedName::from(set.try_clone(rt.alloc())?);
-    assert!(rt; copy == rdn && rdn.try_clone(rt.alloc())? == copy);
+    let mut copy = rdn.try_clone(rt.alloc())?;
+    assert!(rt; copy == rdn && copy.as_ref() == rdn.as_ref());
+    copy.as_mut().insert(attribute(&rt, "2.5.4.11", b"")?)?;
+    assert!(rt; copy.len() == 3 && copy != rdn);
+    let set: SetOfVec<AttributeTypeAndValue> = rdn.into();
+    assert!(rt; has_two(&RelativeDistinguishedName::from(set), &organization(&rt)?));
     Ok(())
 }
 
@@ -160,7 +163,11 @@ fn sequences(rt: HostRuntime) -> Result<(), Fail> {
     assert!(rt; rdns == copy && hash_of(&rdns) == hash_of(&copy));
     assert!(rt; rdns.len() == 1 && !rdns.is_empty());
     assert_eq!(rt; rdns.iter().count(), rdns.as_slice().len());
-    assert!(rt; RdnSequence::from(rdns.into_vec()) == copy);
+    assert!(rt; rdns.as_ref() == copy.as_ref());
+    rdns.as_mut().push(RelativeDistinguishedName::new(rt.alloc()))?;
+    assert!(rt; rdns.len() == 2);
+    let taken: Vec<RelativeDistinguishedName> = copy.into();
+    assert!(rt; RdnSequence::from(taken).len() == 1 && rdns.into_vec().len() == 2);
     Ok(())
 }
 
@@ -183,8 +190,10 @@ fn are_same(copy: &Name, name: &Name) -> bool {
 fn names(rt: HostRuntime) -> Result<(), Fail> {
     let name = Name::from_der(rt.alloc(), NAMES[1])?;
     assert!(rt; are_apart(&Name::new(rt.alloc()), &name));
-    let copy = Name::hazmat_from_rdn_sequence(RdnSequence::from(name.try_clone(rt.alloc())?));
+    let mut copy = Name::hazmat_from_rdn_sequence(RdnSequence::from(name.try_clone(rt.alloc())?));
     assert!(rt; are_same(&copy, &name));
+    copy.as_mut().push(both(&rt)?)?;
+    assert!(rt; copy.len() == 4);
     Ok(())
 }
 

@@ -25,10 +25,10 @@ abbrev pub moment : {P : Type 0} → Form (Moment P)
 moment = either moment_to moment_from validity object_identifier
 
 there : {P : Type 0} → (w : Validity P ⊎ List ℕ) → moment_to (moment_from w) ≡ w
-there = elim [ inl validity ↦ refl | inr name ↦ refl ]
+there = elim [ inl dates ↦ refl | inr name ↦ refl ]
 
 pub moment_lawful : {P : Type 0} {R : ErrorKind → Type 0} → IsForm R (moment {P = P})
-moment_lawful = either_lawful moment_to moment_from validity object_identifier (elim [ Between validity ↦ refl | Named name ↦ refl ]) there refl validity_lawful object_identifier_lawful
+moment_lawful = either_lawful moment_to moment_from validity object_identifier (elim [ Between dates ↦ refl | Named name ↦ refl ]) there refl validity_lawful object_identifier_lawful
 
 pub moment_same_tag : {P : Type 0} (writing : Writing (Validity P)) (m : Moment P) → (moment {P = P}).tag (writes (in_either moment_to moment_from writing plain) m).value ≡ (moment {P = P}).tag m
 moment_same_tag writing = either_same_tag moment_to moment_from writing plain there validity.tag object_identifier.tag (λ v. refl) (λ n. refl)

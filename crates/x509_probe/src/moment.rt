@@ -35,6 +35,10 @@ impl<P: Profile + 'static> Grammar for Moment<P> {
         Validity::<P>::is_start(octet) || ObjectIdentifier::is_start(octet)
     }
 
+    fn usual() -> Tag {
+        Tag::Sequence
+    }
+
     ghost lawful = { grammar.moment_lawful };
 }
 

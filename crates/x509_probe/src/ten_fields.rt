@@ -5,9 +5,8 @@ use crate::probe::Probe;
 use std::alloc::Global;
 use x509_der::{
     Content, Error, ObjectIdentifier, PutPart, Room, SequenceOf, Tag, default_explicit, end,
-    explicit, explicit_default, explicit_field,
-    explicit_optional, field, implicit, implicit_field, implicit_optional, optional,
-    optional_explicit, optional_field, optional_implicit,
+    explicit, explicit_default, explicit_field, explicit_optional, field, implicit, implicit_field,
+    implicit_optional, optional, optional_explicit, optional_field, optional_implicit,
 };
 use x509_prim_string::{BitString, OctetString};
 

@@ -1,13 +1,9 @@
 //! Decodes a line of hex text and encodes it again.
 #![tactic(auto)]
 
-mod reencode;
-#[cfg(test)]
-mod tests;
-
-use reencode::Types;
 use std::process::ExitCode;
 use x509_tool_run::{refuse_memory, run, words};
+use x509_tool_types::Types;
 
 fn main(rt: HostRuntime) -> ExitCode {
     let alloc = rt.alloc();

@@ -5,21 +5,21 @@ use Rattle.hex.specs.Hex.{decode_of, encode_upper}
 use Rattle.hex.specs.declared.error.FromHexError.{FromHexError}
 use Rattle.x509_der_element.specs.declared.error.ErrorKind.{ErrorKind}
 use Rattle.x509_der_element.specs.declared.error.ErrorKind.TheVariants.{Memory, Overlength, Malformed, Failed, SetDuplicate, Value}
-use Rattle.x509_tool_run.specs.declared.command.Kind.{Kind}
 use Rattle.x509_tool_run.specs.declared.command.ProfileName.{ProfileName}
 use Rattle.x509_tool_run.specs.declared.command.Command.{Command}
 use Rattle.x509_tool_run.specs.declared.command.Command.TheVariants.{Reencode}
 use Rattle.x509_tool_run.specs.declared.refusal.Refusal.{Refusal}
 use Rattle.x509_tool_run.specs.declared.refusal.Refusal.TheVariants.{Read, Because}
+use Rattle.x509_tool_run.specs.Command.{type_name}
 use Rattle.x509_tool_run.specs.Input.{Input, Whole, TooLong, Unreadable, Unkept}
 
 -- an answer: a text, or a refusal
 abbrev pub Answer : Type 0
 Answer = Result (List ℕ) Refusal
 
--- which answers re-encoding may give to bytes of a type, under a profile
+-- which answers re-encoding may give to bytes of the type with a name, under a profile
 abbrev pub Reencoding : Type 1
-Reencoding = Kind → ProfileName → List ℕ → Result (List ℕ) ErrorKind → Type 0
+Reencoding = List ℕ → ProfileName → List ℕ → Result (List ℕ) ErrorKind → Type 0
 
 -- the line of an input: all of it but one final line feed
 abbrev pub line_of : List ℕ → List ℕ
@@ -39,7 +39,7 @@ IsReencoded reencodes (Err e) answer = answer ≡ Err (Because Failed)
 
 -- the answer to a command with this line
 abbrev pub IsLineAnswer : Reencoding → Command → List ℕ → Answer → Type 0
-IsLineAnswer reencodes (Reencode kind profile) line answer = IsReencoded (reencodes kind profile) (decode_of line) answer
+IsLineAnswer reencodes (Reencode kind profile) line answer = IsReencoded (reencodes (type_name kind) profile) (decode_of line) answer
 
 -- the answer to a command with this input
 abbrev pub IsInputAnswer : Reencoding → Command → Input → Answer → Type 0

@@ -21,6 +21,17 @@ kind_of word =
     else if bytes_eq word (codes "validity") then Some Validity
     else None
 
+-- the name of a type in the table of types
+abbrev pub type_name : Kind → List ℕ
+type_name Any = codes "Any"
+type_name Integer = codes "Int"
+type_name Name = codes "Name"
+type_name Oid = codes "ObjectIdentifier"
+type_name Rdn = codes "RelativeDistinguishedName"
+type_name Serial = codes "SerialNumber"
+type_name Time = codes "Time"
+type_name Validity = codes "Validity"
+
 -- the profile that a word names
 abbrev pub profile_of : List ℕ → Option ProfileName
 profile_of word =

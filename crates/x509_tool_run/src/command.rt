@@ -1,7 +1,7 @@
 //! What the words after the program's name ask for.
 
 ghost use Rattle.std.specs.Prelude.{◌≡◌, map, string_bytes, ◌∷◌, []};
-ghost use Rattle.x509_tool_run.specs.Command.{kind_of, profile_of, command_of};
+ghost use Rattle.x509_tool_run.specs.Command.{kind_of, type_name, profile_of, command_of};
 
 /// A type whose encodings the program reads.
 #[derive(Clone, Copy, Debug, PartialEq, Eq)]
@@ -63,6 +63,22 @@ impl Kind {
             "time" => Some(Kind::Time),
             "validity" => Some(Kind::Validity),
             _ => None,
+        }
+    }
+
+    /// The name of the type in the table of types.
+    pub fn type_name(self) -> &'static str
+        ensures { result.now ≡ type_name self }
+    {
+        match self {
+            Kind::Any => "Any",
+            Kind::Integer => "Int",
+            Kind::Name => "Name",
+            Kind::Oid => "ObjectIdentifier",
+            Kind::Rdn => "RelativeDistinguishedName",
+            Kind::Serial => "SerialNumber",
+            Kind::Time => "Time",
+            Kind::Validity => "Validity",
         }
     }
 }

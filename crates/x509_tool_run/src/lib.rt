@@ -18,5 +18,5 @@ pub use codec::Codec;
 pub use command::{Command, Kind, ProfileName};
 pub use input::{INPUT_LIMIT, READ_LIMIT, ReadError, Source, read_input};
 pub use output::{Sink, WriteError, write_text};
-pub use program::{refuse_memory, run};
+pub use program::{bytes_of, refuse_memory, run};
 pub use refusal::Refusal;

@@ -31,7 +31,7 @@ fn line_of(input: &[u8]) -> &[u8]
 }
 
 /// The bytes that a line of hex text stands for.
-fn bytes_of(alloc: Global, line: &[u8]) -> Result<Vec<u8>, Refusal>
+pub fn bytes_of(alloc: Global, line: &[u8]) -> Result<Vec<u8>, Refusal>
     ensures { MatchResult result
         (λ bytes. decode_of line.now ≡ Ok bytes.items)
         (λ refusal. (refusal ≡ Because Memory)
@@ -54,7 +54,9 @@ fn answer<C: Codec>(alloc: Global, command: Command, line: &[u8]) -> Result<Stri
 {
     let bytes = bytes_of(alloc, line)?;
     let encoding = match command {
-        Command::Reencode(kind, profile) => C::reencode(alloc, kind, profile, bytes.as_slice())?,
+        Command::Reencode(kind, profile) => {
+            C::reencode(alloc, kind.type_name(), profile, bytes.as_slice())?
+        }
     };
     let mut text = hex::encode_upper(alloc, encoding.as_slice())?;
     text.push('\n')?;

@@ -3,7 +3,7 @@
 mod arguments;
 
 use crate::codec::Codec;
-use crate::command::{Kind, ProfileName};
+use crate::command::ProfileName;
 use crate::program::run;
 use std::alloc::{AllocError, Global};
 use std::io;
@@ -138,11 +138,11 @@ impl io::Write for FakeWriter {
 struct Reversing;
 
 impl Codec for Reversing {
-    ghost reencodes = { λ kind profile bytes encoding. Unit {0} };
+    ghost reencodes = { λ name profile bytes encoding. Unit {0} };
 
     fn reencode(
         alloc: Global,
-        _kind: Kind,
+        _name: &str,
         profile: ProfileName,
         bytes: &[u8],
     ) -> Result<Vec<u8>, Error> {

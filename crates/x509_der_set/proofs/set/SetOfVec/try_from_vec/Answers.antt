@@ -5,6 +5,7 @@ use Rattle.std.specs.Ordering.{is_lt}
 use Rattle.x509_der_grammar.specs.Writing.{writes}
 use Rattle.x509_der_order.specs.Order.{der_order}
 use Rattle.x509_der_order.specs.Ordered.{der_lawful}
+use Rattle.x509_der_set.proofs.SetOrders.{as_named}
 use Rattle.x509_der_set.proofs.RisingLists.{distinct_from_rising, rising_from_distinct}
 use Rattle.x509_der_set.specs.SetLaws.{sorted_from_rising, not_sorted}
 use Rattle.x509_der_set.proofs.set.SetOfVec.try_from_vec.Goals as goal
@@ -16,7 +17,7 @@ returns-then-not-is_rising-clause-err g c =
     (search rules, λ distinct. not_sorted _ c.sort_unstable_by.new.self.items (rw (← c.as_slice.ensures.value) (sym c.is_rising.ensures ∙ c.if-not-is_rising.true)) (rising_from_distinct lawful.total lawful.exact c.args.items.items c.sort_unstable_by.new.self.items c.sort_unstable_by.ensures.permutation sorted distinct))
 
 pub invariant_of-result : goal.invariant_of-result
-invariant_of-result g c = rw c.from_vec.ensures (sorted_from_rising _ c.sort_unstable_by.new.self.items (rw (← c.as_slice.ensures.value) (sym c.is_rising.ensures ∙ c.if-not-is_rising.false)))
+invariant_of-result g c = rw c.from_vec.ensures (as_named _ _ g.met.T.SetMember.in_der_order c.sort_unstable_by.new.self.items (sorted_from_rising _ c.sort_unstable_by.new.self.items (rw (← c.as_slice.ensures.value) (sym c.is_rising.ensures ∙ c.if-not-is_rising.false))))
 
 pub returns-clause-ok : goal.returns-clause-ok
 returns-clause-ok g c = rw c.from_vec.ensures (c.sort_unstable_by.ensures.permutation, sorted_from_rising _ c.sort_unstable_by.new.self.items (rw (← c.as_slice.ensures.value) (sym c.is_rising.ensures ∙ c.if-not-is_rising.false)))

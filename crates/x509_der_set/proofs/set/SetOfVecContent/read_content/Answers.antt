@@ -3,10 +3,11 @@ use Rattle.x509_der_set.specs.Set.{is_rising, set_reading}
 use Rattle.x509_der_grammar.specs.Writing.{writes}
 use Rattle.x509_der_order.specs.Order.{der_order}
 use Rattle.x509_der_set.specs.SetLaws.{sorted_from_rising}
+use Rattle.x509_der_set.proofs.SetOrders.{as_named}
 use Rattle.x509_der_set.proofs.set.SetOfVecContent.read_content.Goals as goal
 
 pub invariant_of-result : goal.invariant_of-result
-invariant_of-result g c = sorted_from_rising _ c.in_ok-members.members (rw (← c.as_slice.ensures) (sym c.is_rising.ensures ∙ c.if-not-is_rising.false))
+invariant_of-result g c = as_named _ _ g.met.T.SetMember.in_der_order c.in_ok-members.members (sorted_from_rising _ c.in_ok-members.members (rw (← c.as_slice.ensures) (sym c.is_rising.ensures ∙ c.if-not-is_rising.false)))
 
 pub returns-then-not-is_rising-clause-exact : goal.returns-then-not-is_rising-clause-exact
 unfolding set_reading

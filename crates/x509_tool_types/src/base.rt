@@ -1,0 +1,45 @@
+//! Times, validity, serial numbers and keys, and then names.
+
+use crate::name::Names;
+use crate::reencode::Reencode;
+use crate::table::Table;
+use std::alloc::Global;
+use std::marker::PhantomData;
+use x509_base_key::{AlgorithmIdentifier, SubjectPublicKeyInfo};
+use x509_base_serial::SerialNumber;
+use x509_base_time::{GeneralizedTime, UtcTime};
+use x509_base_validity::{Profile, Time, Validity};
+use x509_der_grammar::Error;
+
+/// Times, validity, serial numbers and keys, and then names.
+pub struct Base<P> {
+    profile: PhantomData<P>,
+}
+
+#[tactic(auto, using(crate::proofs::Rows::is_found, crate::proofs::Rows::is_passed))]
+impl<P: Profile> Table for Base<P> {
+    ghost use Rattle.std.specs.Prelude.{codes};
+    ghost use Rattle.x509_tool_types.specs.Table.{named, ◌otherwise◌};
+
+    ghost table = { named (codes "AlgorithmIdentifier") ⟦<AlgorithmIdentifier as Reencode>⟧.reencodes otherwise
+        named (codes "GeneralizedTime") ⟦<GeneralizedTime as Reencode>⟧.reencodes otherwise
+        named (codes "SerialNumber") ⟦<SerialNumber<P> as Reencode>⟧.reencodes otherwise
+        named (codes "SubjectPublicKeyInfo") ⟦<SubjectPublicKeyInfo as Reencode>⟧.reencodes otherwise
+        named (codes "Time") ⟦<Time as Reencode>⟧.reencodes otherwise
+        named (codes "UtcTime") ⟦<UtcTime as Reencode>⟧.reencodes otherwise
+        named (codes "Validity") ⟦<Validity<P> as Reencode>⟧.reencodes otherwise
+        ⟦<Names<P> as Table>⟧.table };
+
+    fn reencode(alloc: Global, name: &str, bytes: &[u8]) -> Result<Vec<u8>, Error> {
+        match name {
+            "AlgorithmIdentifier" => AlgorithmIdentifier::reencode_as(alloc, bytes),
+            "GeneralizedTime" => GeneralizedTime::reencode_as(alloc, bytes),
+            "SerialNumber" => SerialNumber::<P>::reencode_as(alloc, bytes),
+            "SubjectPublicKeyInfo" => SubjectPublicKeyInfo::reencode_as(alloc, bytes),
+            "Time" => Time::reencode_as(alloc, bytes),
+            "UtcTime" => UtcTime::reencode_as(alloc, bytes),
+            "Validity" => Validity::<P>::reencode_as(alloc, bytes),
+            _ => Names::<P>::reencode(alloc, name, bytes),
+        }
+    }
+}

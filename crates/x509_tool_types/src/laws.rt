@@ -1,0 +1,30 @@
+//! The names of the program's types stand in the table.
+
+ghost use Rattle.std.specs.Prelude.{ℕ, List, Result};
+ghost use Rattle.x509_der_element.specs.declared.error.ErrorKind.{ErrorKind};
+ghost use Rattle.x509_tool_run.specs.Command.{type_name};
+ghost use Rattle.x509_tool_run.specs.declared.command.Kind.TheVariants as kinds;
+ghost use Rattle.x509_tool_run.specs.declared.command.ProfileName.TheVariants as profiles;
+
+use crate::reencode::Reencode;
+use crate::table::Types;
+use x509_base_serial::SerialNumber;
+use x509_base_validity::{Raw, Rfc5280, Time, Validity};
+use x509_der_frames::Any;
+use x509_der_oid::ObjectIdentifier;
+use x509_name_rdn::{Name, RelativeDistinguishedName};
+use x509_prim_integer::Int;
+use x509_tool_run::Codec;
+
+/// What the program re-encodes is of the type that its word stands for.
+pub fn program_types()
+    ensures any { (bytes : List ℕ) (answer : Result (List ℕ) ErrorKind) → ⟦<Types as Codec>⟧.reencodes (type_name kinds.Any) profiles.Rfc5280 bytes answer → ⟦<Any as Reencode>⟧.reencodes bytes answer }
+    ensures integer { (bytes : List ℕ) (answer : Result (List ℕ) ErrorKind) → ⟦<Types as Codec>⟧.reencodes (type_name kinds.Integer) profiles.Rfc5280 bytes answer → ⟦<Int as Reencode>⟧.reencodes bytes answer }
+    ensures name { (bytes : List ℕ) (answer : Result (List ℕ) ErrorKind) → ⟦<Types as Codec>⟧.reencodes (type_name kinds.Name) profiles.Rfc5280 bytes answer → ⟦<Name as Reencode>⟧.reencodes bytes answer }
+    ensures oid { (bytes : List ℕ) (answer : Result (List ℕ) ErrorKind) → ⟦<Types as Codec>⟧.reencodes (type_name kinds.Oid) profiles.Rfc5280 bytes answer → ⟦<ObjectIdentifier as Reencode>⟧.reencodes bytes answer }
+    ensures rdn { (bytes : List ℕ) (answer : Result (List ℕ) ErrorKind) → ⟦<Types as Codec>⟧.reencodes (type_name kinds.Rdn) profiles.Rfc5280 bytes answer → ⟦<RelativeDistinguishedName as Reencode>⟧.reencodes bytes answer }
+    ensures serial { (bytes : List ℕ) (answer : Result (List ℕ) ErrorKind) → ⟦<Types as Codec>⟧.reencodes (type_name kinds.Serial) profiles.Rfc5280 bytes answer → ⟦<SerialNumber<Rfc5280> as Reencode>⟧.reencodes bytes answer }
+    ensures time { (bytes : List ℕ) (answer : Result (List ℕ) ErrorKind) → ⟦<Types as Codec>⟧.reencodes (type_name kinds.Time) profiles.Rfc5280 bytes answer → ⟦<Time as Reencode>⟧.reencodes bytes answer }
+    ensures validity { (bytes : List ℕ) (answer : Result (List ℕ) ErrorKind) → ⟦<Types as Codec>⟧.reencodes (type_name kinds.Validity) profiles.Rfc5280 bytes answer → ⟦<Validity<Rfc5280> as Reencode>⟧.reencodes bytes answer }
+    ensures raw { (bytes : List ℕ) (answer : Result (List ℕ) ErrorKind) → ⟦<Types as Codec>⟧.reencodes (type_name kinds.Validity) profiles.Raw bytes answer → ⟦<Validity<Raw> as Reencode>⟧.reencodes bytes answer }
+{}

@@ -1,0 +1,39 @@
+//! Attributes and names.
+
+use crate::reencode::Reencode;
+use crate::table::{Nothing, Table};
+use std::alloc::Global;
+use std::marker::PhantomData;
+use x509_base_validity::Profile;
+use x509_der_grammar::Error;
+use x509_name_attribute::{Attribute, AttributeTypeAndValue};
+use x509_name_rdn::{Name, RdnSequence, RelativeDistinguishedName};
+
+/// Attributes and names.
+pub struct Names<P> {
+    profile: PhantomData<P>,
+}
+
+#[tactic(auto, using(crate::proofs::Rows::is_found, crate::proofs::Rows::is_passed))]
+impl<P: Profile> Table for Names<P> {
+    ghost use Rattle.std.specs.Prelude.{codes};
+    ghost use Rattle.x509_tool_types.specs.Table.{named, ◌otherwise◌};
+
+    ghost table = { named (codes "Attribute") ⟦<Attribute as Reencode>⟧.reencodes otherwise
+        named (codes "AttributeTypeAndValue") ⟦<AttributeTypeAndValue as Reencode>⟧.reencodes otherwise
+        named (codes "Name") ⟦<Name as Reencode>⟧.reencodes otherwise
+        named (codes "RdnSequence") ⟦<RdnSequence as Reencode>⟧.reencodes otherwise
+        named (codes "RelativeDistinguishedName") ⟦<RelativeDistinguishedName as Reencode>⟧.reencodes otherwise
+        ⟦<Nothing as Table>⟧.table };
+
+    fn reencode(alloc: Global, name: &str, bytes: &[u8]) -> Result<Vec<u8>, Error> {
+        match name {
+            "Attribute" => Attribute::reencode_as(alloc, bytes),
+            "AttributeTypeAndValue" => AttributeTypeAndValue::reencode_as(alloc, bytes),
+            "Name" => Name::reencode_as(alloc, bytes),
+            "RdnSequence" => RdnSequence::reencode_as(alloc, bytes),
+            "RelativeDistinguishedName" => RelativeDistinguishedName::reencode_as(alloc, bytes),
+            _ => Nothing::reencode(alloc, name, bytes),
+        }
+    }
+}

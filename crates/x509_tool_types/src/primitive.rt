@@ -1,0 +1,67 @@
+//! The primitive types, and then those of certificates.
+
+use crate::base::Base;
+use crate::reencode::Reencode;
+use crate::table::Table;
+use std::alloc::Global;
+use std::marker::PhantomData;
+use x509_base_validity::Profile;
+use x509_der_frames::Any;
+use x509_der_grammar::Error;
+use x509_der_oid::ObjectIdentifier;
+use x509_prim_integer::{Int, Uint};
+use x509_prim_string::{BitString, OctetString};
+use x509_prim_text::{BmpString, Ia5String, PrintableString, TeletexString, Utf8String};
+
+/// The primitive types, and then those of certificates.
+pub struct Primitives<P> {
+    profile: PhantomData<P>,
+}
+
+#[tactic(auto, using(crate::proofs::Rows::is_found, crate::proofs::Rows::is_passed))]
+impl<P: Profile> Table for Primitives<P> {
+    ghost use Rattle.std.specs.Prelude.{codes};
+    ghost use Rattle.x509_tool_types.specs.Table.{named, ◌otherwise◌};
+
+    ghost table = { named (codes "Any") ⟦<Any as Reencode>⟧.reencodes otherwise
+        named (codes "BitString") ⟦<BitString as Reencode>⟧.reencodes otherwise
+        named (codes "BmpString") ⟦<BmpString as Reencode>⟧.reencodes otherwise
+        named (codes "Ia5String") ⟦<Ia5String as Reencode>⟧.reencodes otherwise
+        named (codes "Int") ⟦<Int as Reencode>⟧.reencodes otherwise
+        named (codes "ObjectIdentifier") ⟦<ObjectIdentifier as Reencode>⟧.reencodes otherwise
+        named (codes "OctetString") ⟦<OctetString as Reencode>⟧.reencodes otherwise
+        named (codes "PrintableString") ⟦<PrintableString as Reencode>⟧.reencodes otherwise
+        named (codes "TeletexString") ⟦<TeletexString as Reencode>⟧.reencodes otherwise
+        named (codes "Uint") ⟦<Uint as Reencode>⟧.reencodes otherwise
+        named (codes "Utf8String") ⟦<Utf8String as Reencode>⟧.reencodes otherwise
+        named (codes "bool") ⟦<bool as Reencode>⟧.reencodes otherwise
+        named (codes "u128") ⟦<u128 as Reencode>⟧.reencodes otherwise
+        named (codes "u16") ⟦<u16 as Reencode>⟧.reencodes otherwise
+        named (codes "u32") ⟦<u32 as Reencode>⟧.reencodes otherwise
+        named (codes "u64") ⟦<u64 as Reencode>⟧.reencodes otherwise
+        named (codes "u8") ⟦<u8 as Reencode>⟧.reencodes otherwise
+        ⟦<Base<P> as Table>⟧.table };
+
+    fn reencode(alloc: Global, name: &str, bytes: &[u8]) -> Result<Vec<u8>, Error> {
+        match name {
+            "Any" => Any::reencode_as(alloc, bytes),
+            "BitString" => BitString::reencode_as(alloc, bytes),
+            "BmpString" => BmpString::reencode_as(alloc, bytes),
+            "Ia5String" => Ia5String::reencode_as(alloc, bytes),
+            "Int" => Int::reencode_as(alloc, bytes),
+            "ObjectIdentifier" => ObjectIdentifier::reencode_as(alloc, bytes),
+            "OctetString" => OctetString::reencode_as(alloc, bytes),
+            "PrintableString" => PrintableString::reencode_as(alloc, bytes),
+            "TeletexString" => TeletexString::reencode_as(alloc, bytes),
+            "Uint" => Uint::reencode_as(alloc, bytes),
+            "Utf8String" => Utf8String::reencode_as(alloc, bytes),
+            "bool" => bool::reencode_as(alloc, bytes),
+            "u128" => u128::reencode_as(alloc, bytes),
+            "u16" => u16::reencode_as(alloc, bytes),
+            "u32" => u32::reencode_as(alloc, bytes),
+            "u64" => u64::reencode_as(alloc, bytes),
+            "u8" => u8::reencode_as(alloc, bytes),
+            _ => Base::<P>::reencode(alloc, name, bytes),
+        }
+    }
+}

@@ -1,0 +1,29 @@
+//! Decoding bytes and encoding the value again.
+
+use std::alloc::Global;
+use x509_der_grammar::{Decode, Encode, Error};
+
+/// A type whose bytes are decoded and encoded again.
+pub trait Reencode {
+    ghost use Rattle.std.specs.Prelude.{ℕ, List};
+    ghost use Rattle.x509_tool_types.specs.Table.{Answers, IsAmong};
+
+    /// What bytes may give, memory aside.
+    ghost reencodes: { List ℕ → Answers };
+
+    /// The encoding of the value that the bytes spell.
+    fn reencode_as(alloc: Global, bytes: &[u8]) -> Result<Vec<u8>, Error>
+        ensures { IsAmong (λ encoding. encoding.items) (reencodes bytes.now) result };
+}
+
+#[tactic(auto, unfolding(crate::specs::Table::IsAmong, crate::specs::Reencoding::Reencodes))]
+impl<T: Decode + Encode + Drop> Reencode for T {
+    ghost use Rattle.x509_tool_types.specs.Reencoding.{Reencodes};
+
+    ghost reencodes = { Reencodes T.form T.writing T.refuses };
+
+    fn reencode_as(alloc: Global, bytes: &[u8]) -> Result<Vec<u8>, Error> {
+        let value = T::from_der(alloc, bytes)?;
+        value.to_der(alloc)
+    }
+}
