@@ -50,16 +50,6 @@ pub(crate) fn all_malformed<T: Decode + Drop>(rt: &HostRuntime, rows: &[&[u8]]) 
     true
 }
 
-/// Whether the value that the one bytes spell is written as the others.
-pub(crate) fn becomes<T: Decode + Encode + Drop>(
-    rt: &HostRuntime,
-    bytes: &[u8],
-    written: &[u8],
-) -> Result<bool, Error> {
-    let value = T::from_der(rt.alloc(), bytes)?;
-    Ok(value.to_der(rt.alloc())?.as_slice() == written)
-}
-
 /// How the encodings and the contents of the values of two rows compare.
 pub(crate) fn compared<T: Decode + DerOrd + Drop>(
     rt: &HostRuntime,

@@ -4,8 +4,6 @@
 #[cfg(test)]
 mod calls;
 #[cfg(test)]
-mod dates;
-#[cfg(test)]
 mod elements;
 #[cfg(test)]
 mod fields;
