@@ -69,6 +69,12 @@ fn no_contents(rt: HostRuntime) {
         assert!(rt; is_malformed(content));
     }
     assert!(rt; !is_malformed(&[0x2A; 39]));
+    assert!(rt;
+        is_refused(
+            ObjectIdentifier::from_der(rt.alloc(), &[]),
+            ErrorKind::Malformed
+        )
+    );
 }
 
 #[test]
