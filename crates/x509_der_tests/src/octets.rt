@@ -1,5 +1,7 @@
 //! A type with one identifier, of its content alone: octets as an OCTET STRING (X.690 8.7).
 
+ghost use Rattle.std.specs.Prelude.{◌≡◌};
+
 use crate::calls::is_refused;
 use std::alloc::Global;
 use std::marker::Model;
