@@ -3,8 +3,6 @@
 
 mod algorithm_identifier;
 mod subject_public_key_info;
-#[cfg(test)]
-mod tests;
 
 pub use algorithm_identifier::AlgorithmIdentifier;
 pub use subject_public_key_info::SubjectPublicKeyInfo;

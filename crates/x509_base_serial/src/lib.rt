@@ -5,6 +5,3 @@ mod generate;
 mod serial_number;
 
 pub use serial_number::SerialNumber;
-
-#[cfg(test)]
-mod tests;

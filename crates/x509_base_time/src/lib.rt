@@ -6,8 +6,6 @@ mod date_time;
 mod digits;
 mod generalized_time;
 pub mod laws;
-#[cfg(test)]
-mod tests;
 mod utc_time;
 
 pub use date_time::DateTime;

@@ -3,8 +3,6 @@
 
 pub mod laws;
 mod profile;
-#[cfg(test)]
-mod tests;
 mod time;
 mod validity;
 

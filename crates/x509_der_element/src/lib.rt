@@ -8,8 +8,6 @@ mod header;
 pub mod laws;
 mod length;
 mod tag;
-#[cfg(test)]
-mod tests;
 
 pub use bytes::Bytes;
 pub use element::{AnyRef, Piece, check_content, split_element, split_usual, take_element};

@@ -12,8 +12,6 @@ pub mod laws;
 mod natural;
 mod newtype;
 mod room;
-#[cfg(test)]
-mod tests;
 
 pub use clone::TryClone;
 pub use content::Content;

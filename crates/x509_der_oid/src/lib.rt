@@ -7,8 +7,6 @@ mod content;
 mod identifier;
 pub mod laws;
 mod numbers;
-#[cfg(test)]
-mod tests;
 
 pub use associated::AssociatedOid;
 pub use identifier::ObjectIdentifier;

@@ -6,8 +6,6 @@ mod members;
 mod newtype;
 mod number;
 mod order;
-#[cfg(test)]
-mod tests;
 
 pub use members::cmp_members;
 pub use newtype::NewtypeOrd;

@@ -7,8 +7,6 @@ mod members;
 mod numbers;
 mod places;
 mod set;
-#[cfg(test)]
-mod tests;
 
 pub use member::{SetMember, SetOrd};
 pub use set::SetOfVec;

@@ -3,8 +3,6 @@
 
 mod attribute;
 pub mod laws;
-#[cfg(test)]
-mod tests;
 mod type_and_value;
 
 pub use attribute::{Attribute, Attributes};

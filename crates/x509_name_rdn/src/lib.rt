@@ -6,8 +6,6 @@ pub mod laws;
 mod name;
 mod rdn;
 mod rdn_sequence;
-#[cfg(test)]
-mod tests;
 
 pub use attributes::AttributesOf;
 pub use name::Name;

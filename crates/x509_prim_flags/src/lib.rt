@@ -9,6 +9,3 @@ pub mod laws;
 mod named_bits;
 
 pub use named_bits::{cmp_named_bits, put_named_bits, read_named_bits};
-
-#[cfg(test)]
-mod tests;

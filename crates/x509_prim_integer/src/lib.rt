@@ -9,6 +9,3 @@ mod uint;
 pub use content::strip_zeros;
 pub use int::Int;
 pub use uint::Uint;
-
-#[cfg(test)]
-mod tests;

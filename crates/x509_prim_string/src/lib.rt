@@ -7,6 +7,3 @@ mod octet_string;
 
 pub use bit_string::BitString;
 pub use octet_string::OctetString;
-
-#[cfg(test)]
-mod tests;

@@ -32,6 +32,3 @@ pub type Ia5StringRef<'a> = RestrictedStringRef<'a, Ia5>;
 
 /// A borrowed TeletexString.
 pub type TeletexStringRef<'a> = RestrictedStringRef<'a, Teletex>;
-
-#[cfg(test)]
-mod tests;

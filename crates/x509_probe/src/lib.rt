@@ -9,8 +9,6 @@ mod pair;
 mod probe;
 mod purposes;
 mod ten_fields;
-#[cfg(test)]
-mod tests;
 
 pub use dated::{Dated, Enclosing};
 pub use laws::{dates_are_written_once, rfc5280_dates_are_written_once};

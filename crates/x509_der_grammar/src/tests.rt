@@ -1,4 +1,0 @@
-//! Worked bytes, and each call once with ample memory.
-
-mod octets;
-mod rooms;

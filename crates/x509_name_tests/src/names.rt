@@ -1,0 +1,175 @@
+//! Relative distinguished names, their sequences, and names.
+
+use crate::calls::{hash_of, stays};
+use std::test::*;
+use x509_der_grammar::{Decode, Encode, Error, ErrorKind, FixedTag, Grammar, Tag, TryClone};
+use x509_der_oid::ObjectIdentifier;
+use x509_der_order::{DerOrd, ValueOrd};
+use x509_der_set::SetOfVec;
+use x509_name_attribute::{AttributeTypeAndValue, AttributeValue};
+use x509_name_rdn::{DistinguishedName, Name, RdnSequence, RelativeDistinguishedName, laws};
+
+/// The organization 123 and the common name JOHN SMITH, in this order since the first is shorter.
+const BOTH: &[u8] =
+    b"\x31\x1F\x30\x0A\x06\x03\x55\x04\x0A\x0C\x03123\x30\x11\x06\x03\x55\x04\x03\x0C\x0AJOHN SMITH";
+
+/// C=US, O=Test Certificates 2011, CN=Good CA, of the NIST test suite for certification paths.
+const NAME: &[u8] =
+    b"\x30\x40\x31\x0B\x30\x09\x06\x03\x55\x04\x06\x13\x02US\x31\x1F\x30\x1D\x06\x03\x55\x04\x0A\x13\x16Test Certificates 2011\x31\x10\x30\x0E\x06\x03\x55\x04\x03\x13\x07Good CA";
+
+#[test]
+fn rows(rt: HostRuntime) -> Result<(), Fail> {
+    assert!(rt; stays::<RelativeDistinguishedName>(&rt, BOTH)?);
+    assert!(rt; stays::<RdnSequence>(&rt, NAME)? && stays::<Name>(&rt, NAME)?);
+    Ok(())
+}
+
+fn attribute(rt: &HostRuntime, oid: &str, text: &[u8]) -> Result<AttributeTypeAndValue, Error> {
+    Ok(AttributeTypeAndValue {
+        oid: ObjectIdentifier::new(oid)?,
+        value: AttributeValue::new(rt.alloc(), Tag::Utf8String, text)?,
+    })
+}
+
+fn person(rt: &HostRuntime) -> Result<AttributeTypeAndValue, Error> {
+    attribute(rt, "2.5.4.3", b"JOHN SMITH")
+}
+
+fn organization(rt: &HostRuntime) -> Result<AttributeTypeAndValue, Error> {
+    attribute(rt, "2.5.4.10", b"123")
+}
+
+/// The set of the two, put in one after the other.
+fn inserted(
+    rt: &HostRuntime,
+    first: AttributeTypeAndValue,
+    second: AttributeTypeAndValue,
+) -> Result<RelativeDistinguishedName, Error> {
+    let mut rdn = RelativeDistinguishedName::new(rt.alloc());
+    rdn.insert(first)?;
+    rdn.insert(second)?;
+    Ok(rdn)
+}
+
+/// Whether the attribute is refused as one that is there.
+fn is_there(rdn: &mut RelativeDistinguishedName, attribute: AttributeTypeAndValue) -> bool {
+    match rdn.insert(attribute) {
+        Ok(()) => false,
+        Err(e) => e.kind() == ErrorKind::SetDuplicate,
+    }
+}
+
+#[test]
+fn inserts_in_either_order(rt: HostRuntime) -> Result<(), Fail> {
+    let up = inserted(&rt, person(&rt)?, organization(&rt)?)?;
+    let mut down = inserted(&rt, organization(&rt)?, person(&rt)?)?;
+    assert!(rt; up.to_der(rt.alloc())?.as_slice() == BOTH);
+    assert!(rt; down.to_der(rt.alloc())?.as_slice() == BOTH);
+    assert!(rt; up == down && hash_of(&up) == hash_of(&down));
+    assert!(rt; is_there(&mut down, person(&rt)?) && down == up);
+    Ok(())
+}
+
+/// The organization and the person, of a vector in the other order.
+fn both(rt: &HostRuntime) -> Result<RelativeDistinguishedName, Error> {
+    let mut attributes = Vec::new(rt.alloc());
+    attributes.push(person(rt)?)?;
+    attributes.push(organization(rt)?)?;
+    RelativeDistinguishedName::try_from_vec(attributes)
+}
+
+/// Whether there are two attributes, that one first.
+fn has_two(rdn: &RelativeDistinguishedName, first: &AttributeTypeAndValue) -> bool {
+    rdn.len() == 2
+        && !rdn.is_empty()
+        && rdn.as_slice().first() == Some(first)
+        && rdn.get(1).is_some()
+        && rdn.get(2).is_none()
+        && rdn.iter().count() == 2
+}
+
+#[test]
+fn rdns(rt: HostRuntime) -> Result<(), Fail> {
+    let rdn = both(&rt)?;
+    assert!(rt; has_two(&rdn, &organization(&rt)?));
+    Ok(())
+}
+
+#[test]
+fn copies_of_an_rdn(rt: HostRuntime) -> Result<(), Fail> {
+    let rdn = both(&rt)?;
+    let mut copy = rdn.try_clone(rt.alloc())?;
+    assert!(rt; copy == rdn && copy.as_ref() == rdn.as_ref());
+    copy.as_mut().insert(attribute(&rt, "2.5.4.11", b"")?)?;
+    assert!(rt; copy.len() == 3 && copy != rdn);
+    let set: SetOfVec<AttributeTypeAndValue> = rdn.into();
+    assert!(rt; has_two(&RelativeDistinguishedName::from(set), &organization(&rt)?));
+    Ok(())
+}
+
+#[test]
+fn sequences(rt: HostRuntime) -> Result<(), Fail> {
+    let mut rdns = RdnSequence::new(rt.alloc());
+    rdns.push(RelativeDistinguishedName::from_der(rt.alloc(), BOTH)?)?;
+    let copy: DistinguishedName = rdns.try_clone(rt.alloc())?;
+    assert!(rt; rdns == copy && hash_of(&rdns) == hash_of(&copy));
+    assert!(rt; rdns.len() == 1 && !rdns.is_empty());
+    assert_eq!(rt; rdns.iter().count(), rdns.as_slice().len());
+    assert!(rt; rdns.as_ref() == copy.as_ref());
+    rdns.as_mut()
+        .push(RelativeDistinguishedName::new(rt.alloc()))?;
+    assert!(rt; rdns.len() == 2);
+    let taken: Vec<RelativeDistinguishedName> = copy.into();
+    assert!(rt; RdnSequence::from(taken).len() == 1 && rdns.into_vec().len() == 2);
+    Ok(())
+}
+
+/// Whether the first is empty and the other has three sets, and the orders tell them apart.
+fn are_apart(none: &Name, name: &Name) -> bool {
+    none.is_empty()
+        && name.len() == 3
+        && name.iter_rdn().count() == 3
+        && name != none
+        && none.der_cmp(name).is_lt()
+        && name.value_cmp(none).is_gt()
+}
+
+/// Whether the names are the same, with their sequences and their hashes.
+fn are_same(copy: &Name, name: &Name) -> bool {
+    copy == name && copy.as_ref() == name.as_ref() && hash_of(copy) == hash_of(name)
+}
+
+#[test]
+fn names(rt: HostRuntime) -> Result<(), Fail> {
+    let name = Name::from_der(rt.alloc(), NAME)?;
+    assert!(rt; are_apart(&Name::new(rt.alloc()), &name));
+    let mut copy = Name::hazmat_from_rdn_sequence(RdnSequence::from(name.try_clone(rt.alloc())?));
+    assert!(rt; are_same(&copy, &name));
+    copy.as_mut().push(both(&rt)?)?;
+    assert!(rt; copy.len() == 4);
+    Ok(())
+}
+
+#[test]
+fn attributes_of_a_name(rt: HostRuntime) -> Result<(), Fail> {
+    let name = Name::from_der(rt.alloc(), NAME)?;
+    let mut values: Vec<&[u8]> = Vec::new(rt.alloc());
+    for attribute in name.iter() {
+        values.push(attribute.value.value())?;
+    }
+    assert_eq!(rt; values.len(), 3);
+    assert_eq!(rt; values[0], b"US".as_slice());
+    assert_eq!(rt; values[2], b"Good CA".as_slice());
+    Ok(())
+}
+
+#[test]
+fn identifiers(rt: HostRuntime) -> Result<(), Fail> {
+    assert!(rt; RelativeDistinguishedName::is_start(0x31) && Name::is_start(0x30));
+    assert!(rt; RdnSequence::is_start(0x30) && !RdnSequence::is_start(0x31));
+    assert_eq!(rt; RelativeDistinguishedName::TAG, Tag::Set);
+    assert_eq!(rt; RdnSequence::TAG, Tag::Sequence);
+    assert_eq!(rt; Name::TAG, Name::new(rt.alloc()).identifier());
+    laws::bytes_determine_the_name();
+    Ok(())
+}

@@ -1,0 +1,13 @@
+//! Tests of the primitive types.
+#![tactic(auto)]
+
+#[cfg(test)]
+mod calls;
+#[cfg(test)]
+mod flags;
+#[cfg(test)]
+mod integers;
+#[cfg(test)]
+mod strings;
+#[cfg(test)]
+mod texts;
