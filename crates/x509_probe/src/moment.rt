@@ -19,7 +19,7 @@ pub enum Moment<P: Profile = Rfc5280> {
 }
 
 #[tactic(auto, unfolding(x509_der_frames::specs::Choice::by_case))]
-impl<P: Profile + 'static> Grammar for Moment<P> {
+impl<P: Profile> Grammar for Moment<P> {
     ghost use Rattle.x509_probe.specs.Moment as grammar;
 
     ghost form = { grammar.moment };
