@@ -4,8 +4,8 @@
     tools/gate.py [FILE]
 
 In the top folder of a clean clone. What `rt ci` prints goes to FILE (gate.log, if left out) with the time of each line, and the
-table to standard output, also where the run is interrupted. The checker's processes are looked at every second, so a
-figure can lack the last second of each.
+table to standard output, also where the run is interrupted. The processes of its checker are looked at every second,
+so a figure can lack the last second of each.
 """
 import collections
 import os
@@ -17,27 +17,41 @@ import time
 TICK = os.sysconf("SC_CLK_TCK")
 
 
-def checks():
-    """Each process of the checker: what tells it from others, its crate, its part of the gate, its processor seconds."""
+def processes():
+    """The numbers of each process's `stat`, from its parent on."""
+    found = {}
     for process in filter(str.isdigit, os.listdir("/proc")):
+        try:
+            with open(f"/proc/{process}/stat", encoding="utf-8", errors="replace") as file:
+                found[process] = file.read().rsplit(")", 1)[1].split()[1:]
+        except OSError:
+            continue
+    return found
+
+
+def checks(gate):
+    """Each process of the gate's checker: what tells it from others, its crate, its part, its processor seconds."""
+    found = processes()
+    for process, numbers in found.items():
+        parent = process
+        while parent in found and parent != gate:
+            parent = found[parent][0]
         try:
             with open(f"/proc/{process}/cmdline", encoding="utf-8", errors="replace") as file:
                 words = file.read().split("\0")
-            if os.path.basename(words[0]) != "rattle" or "--crate-name" not in words:
-                continue
             folder = os.readlink(f"/proc/{process}/cwd")
-            with open(f"/proc/{process}/stat", encoding="utf-8", errors="replace") as file:
-                numbers = file.read().rsplit(")", 1)[1].split()
         except OSError:
+            continue
+        if parent != gate or os.path.basename(words[0]) != "rattle" or "--crate-name" not in words:
             continue
         part = "wrong bodies" if "rt-edit-" in folder else "tests" if "--test" in words else "proofs"
         crate = words[words.index("--crate-name") + 1]
-        yield (process, numbers[19]), crate, part, sum(map(int, numbers[11:15])) / TICK
+        yield (process, numbers[18]), crate, part, sum(map(int, numbers[10:14])) / TICK
 
 
-def watch(seen, is_over):
+def watch(gate, seen, is_over):
     while not is_over.wait(1):
-        for key, crate, part, seconds in checks():
+        for key, crate, part, seconds in checks(gate):
             seen[key] = crate, part, seconds
 
 
@@ -59,11 +73,11 @@ def table(seen):
 
 def main():
     seen, is_over, start = {}, threading.Event(), time.time()
-    watcher = threading.Thread(target=watch, args=(seen, is_over))
+    gate = subprocess.Popen(["rt", "ci"], stdout=subprocess.PIPE, stderr=subprocess.STDOUT, text=True)
+    watcher = threading.Thread(target=watch, args=(str(gate.pid), seen, is_over))
     watcher.start()
     try:
         with open(sys.argv[1] if len(sys.argv) > 1 else "gate.log", "w", encoding="utf-8") as log:
-            gate = subprocess.Popen(["rt", "ci"], stdout=subprocess.PIPE, stderr=subprocess.STDOUT, text=True)
             last = ""
             for line in gate.stdout:
                 last = line.rstrip("\n")

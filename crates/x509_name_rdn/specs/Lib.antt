@@ -1,3 +1,4 @@
 pub mod Names
 pub mod AttributesOf
 pub mod Rows
+pub mod NameText
