@@ -1,6 +1,6 @@
 #!/usr/bin/env python3
-"""Proves and builds a program, with no more than the crates that it stands on, side by side where they don't stand on
-each other. Prints a line for each crate on standard error, and what a crate printed only where it isn't proved.
+"""Proves and builds a program, with no more than the crates that it stands on, each on all processors. Prints a line for
+each crate on standard error, and what a crate printed only where it isn't proved.
 
 usage: tools/build_program.py NAME
 """
@@ -10,7 +10,7 @@ import sys
 import time
 
 TOP = os.path.dirname(os.path.dirname(os.path.realpath(__file__)))
-# what the check of a crate may take
+# what a job of a check may take
 KIB_FOR_A_CHECK = 3 << 20
 
 
@@ -37,7 +37,7 @@ def path_of(name, named):
 
 
 def jobs():
-    """Returns how many checks run at a time: one for each processor, where memory allows."""
+    """Returns how many jobs a check has: one for each processor, where memory allows."""
     processors = len(os.sched_getaffinity(0))
     with open("/proc/meminfo", encoding="ascii") as lines:
         for line in lines:
@@ -49,60 +49,56 @@ def jobs():
 class Told:
     """The crates that were told of."""
 
-    def __init__(self, program, path):
-        self.program, self.path, self.names = program, path, []
+    def __init__(self, program, count):
+        self.program, self.count, self.told = program, count, 0
         self.start = time.monotonic()
 
     def tell(self, name):
-        if name in self.names or name not in self.path:
-            return
-        self.names.append(name)
+        self.told += 1
         minutes, seconds = divmod(round(time.monotonic() - self.start), 60)
-        print(
-            f"{self.program}: {len(self.names)} of {len(self.path)} crates, {name}, {minutes}:{seconds:02}",
-            file=sys.stderr,
-            flush=True,
-        )
+        line = f"{self.program}: {self.told} of {self.count} crates, {name}, {minutes}:{seconds:02}"
+        print(line, file=sys.stderr, flush=True)
 
 
-def call(words, folder, told, is_done=None):
-    """Runs a command in a crate's folder and tells of the crates whose part of its output comes. Returns whether it
-    succeeded, by its status or else by the test that is given, and prints that output where it didn't."""
-    said = []
-    with subprocess.Popen(
+def call(words, folder, is_done=None):
+    """Runs a command in a crate's folder, and prints what it printed where it failed, by its status or else by the test
+    that is given. Returns whether it succeeded."""
+    run = subprocess.run(
         words,
         cwd=f"{TOP}/crates/{folder}",
         stdin=subprocess.DEVNULL,
         stdout=subprocess.PIPE,
         stderr=subprocess.STDOUT,
-        text=True,
-        errors="replace",
-    ) as run:
-        for line in run.stdout:
-            said.append(line)
-            if line.startswith("== "):
-                told.tell(line.split()[1])
+        check=False,
+    )
     succeeded = is_done() if is_done else run.returncode == 0
     if not succeeded:
-        sys.stderr.writelines(said)
+        sys.stderr.buffer.write(run.stdout)
     return succeeded
+
+
+def in_order(path, named):
+    """Returns the crates of the path, each behind those that it stands on."""
+    ordered = []
+    while len(ordered) < len(path):
+        ordered += sorted(it for it in path if it not in ordered and all(below in ordered for below in named[it]))
+    return ordered
 
 
 def main(program):
     named = crates_below()
     path = path_of(program, named)
-    told, count = Told(program, path), jobs()
-    # A crate that all others stand on has every processor to itself.
-    for crate in path:
-        if all(crate in path_of(it, named) for it in path):
-            if not call(["rt", "lib", "--jobs", str(count)], crate, told):
-                return 1
-            told.tell(crate)
-    if not call(["rt", "all", "check", "--jobs", str(count)], program, told):
-        return 1
+    told, count = Told(program, len(path)), jobs()
+    # Two runs of rt on one repository wait for each other, so each crate has every processor to itself.
+    for crate in in_order(path - {program}, named):
+        if not call(["rt", "lib", "--jobs", str(count)], crate):
+            return 1
+        told.tell(crate)
     # The build ends by a run over no input. Its status is no verdict; a program that is there is proved.
-    is_built = lambda: os.path.exists(f"{TOP}/crates/{program}/out/{program}")
-    return 0 if call(["rt", "run"], program, told, is_built) else 1
+    if not call(["rt", "run"], program, lambda: os.path.exists(f"{TOP}/crates/{program}/out/{program}")):
+        return 1
+    told.tell(program)
+    return 0
 
 
 if __name__ == "__main__":

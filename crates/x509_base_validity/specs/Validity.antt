@@ -20,7 +20,7 @@ validity_contents = fields (λ v. (v.not_before, v.not_after)) (λ (not_before, 
 
 pub validity_contents_lawful : {P : Type 0} {R : ErrorKind → Type 0} → IsContents R (validity_contents {P = P})
 unfolding validity_fields
-validity_contents_lawful = search (fields_lawful, part_rules, time_lawful) depth 20
+validity_contents_lawful = search (part_rules, time_lawful) depth 20
 
 abbrev pub validity : {P : Type 0} → Form (Validity P)
 validity = universal Sequence validity_contents

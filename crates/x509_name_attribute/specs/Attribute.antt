@@ -13,7 +13,7 @@ use Rattle.x509_der_order.specs.Ordered.{by_bytes, by_members, der_lawful}
 use Rattle.x509_der_oid.specs.ObjectIdentifierForm.{object_identifier, object_identifier_lawful, object_identifier_ordered}
 use Rattle.x509_der_frames.specs.Any.{any, any_lawful, any_ordered}
 use Rattle.x509_der_frames.specs.Frames.{Part, required, ◌⊗◌, fields}
-use Rattle.x509_der_frames.specs.FrameLaws.{required_lawful, pair_lawful, fields_lawful}
+use Rattle.x509_der_frames.specs.PartRules.{part_rules}
 use Rattle.x509_der_frames.specs.FieldsOrder.{by_two, two_ordered}
 use Rattle.x509_der_frames.specs.declared.any.Any.{Any}
 use Rattle.x509_der_set.specs.Set.{set_of}
@@ -43,7 +43,7 @@ value_set_lawful = universal_lawful Set _ (set_lawful any value_order any_lawful
 
 pub attribute_contents_lawful : {R : ErrorKind → Type 0} → IsContents R attribute_contents
 unfolding attribute_fields
-attribute_contents_lawful = fields_lawful _ _ attribute_fields (λ a. refl) (λ x. refl) (pair_lawful _ _ (required_lawful _ object_identifier_lawful) (required_lawful _ value_set_lawful) refl)
+attribute_contents_lawful = search (part_rules, object_identifier_lawful, value_set_lawful) depth 20
 
 -- ---- the byte order
 

@@ -12,7 +12,7 @@ use Rattle.x509_der_order.specs.Ordered.{by_bytes, der_lawful}
 use Rattle.x509_der_oid.specs.ObjectIdentifierForm.{object_identifier, object_identifier_lawful, object_identifier_ordered}
 use Rattle.x509_der_frames.specs.Any.{any, any_lawful, any_ordered}
 use Rattle.x509_der_frames.specs.Frames.{Part, required, ◌⊗◌, fields}
-use Rattle.x509_der_frames.specs.FrameLaws.{required_lawful, pair_lawful, fields_lawful}
+use Rattle.x509_der_frames.specs.PartRules.{part_rules}
 use Rattle.x509_der_frames.specs.FieldsOrder.{by_two, two_ordered}
 use Rattle.x509_der_frames.specs.declared.any.Any.{Any}
 use Rattle.x509_name_attribute.specs.Equality.{order_equivalence, order_decides}
@@ -29,7 +29,7 @@ attribute_type_and_value = universal Sequence type_and_value_contents
 
 pub type_and_value_contents_lawful : {R : ErrorKind → Type 0} → IsContents R type_and_value_contents
 unfolding type_and_value_fields
-type_and_value_contents_lawful = fields_lawful _ _ type_and_value_fields (λ a. refl) (λ x. refl) (pair_lawful _ _ (required_lawful _ object_identifier_lawful) (required_lawful _ any_lawful) refl)
+type_and_value_contents_lawful = search (part_rules, object_identifier_lawful, any_lawful) depth 20
 
 -- ---- the byte order
 

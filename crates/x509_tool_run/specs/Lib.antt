@@ -3,3 +3,4 @@ pub mod Command
 pub mod Input
 pub mod Answer
 pub mod Program
+pub mod Words

@@ -1,37 +1,63 @@
 //! The words after the program's name.
 
+ghost use Rattle.std.specs.Prelude.{◌≡◌, ℕ, List, Option, Some, None, IfOk, map, string_bytes};
+ghost use Rattle.std.specs.Option.{option_map};
+ghost use Rattle.x509_tool_run.specs.Words.{AreWords, word_of};
+
 use std::alloc::{AllocError, Global};
 use std::env::{Env, FillError};
 
-/// The arguments but the program's name. One that isn't UTF-8 counts as the empty word.
-pub fn words<E: Env>(alloc: Global, env: &E) -> Result<Vec<String>, AllocError> {
-    let mut words = Vec::new(alloc);
-    for place in 1..usize::MAX {
-        match argument(alloc, env, place)? {
-            Some(bytes) => {
-                let word = String::from_utf8(bytes).unwrap_or(String::new(alloc));
-                words.push(word)?;
-            }
-            None => break,
-        }
-    }
-    Ok(words)
+/// What gives the arguments of a program.
+pub trait Arguments {
+    /// What may be answered on the argument at a place: its bytes, or that there is none.
+    ghost gives: { Self → ℕ → Option (List ℕ) → Type 0 };
+
+    /// The bytes of the argument at a place, of which the first is the program's name.
+    fn argument(&self, alloc: Global, place: usize) -> Result<Option<Vec<u8>>, AllocError>
+        ensures { IfOk result (λ found. gives self.now place (option_map (λ bytes. bytes.items) found)) };
 }
 
-/// The bytes of an argument, in room that doubles until they fit.
-fn argument<E: Env>(alloc: Global, env: &E, place: usize) -> Result<Option<Vec<u8>>, AllocError> {
-    let mut room = Vec::new(alloc);
-    let mut size = 64usize;
-    for _ in 0..usize::BITS {
-        room.resize(size, 0u8)?;
-        match env.arg(place, room.as_mut_slice()) {
-            Ok(length) => {
-                room.truncate(length);
-                return Ok(Some(room));
+/// What std says of an argument leaves open what it is.
+impl<E: Env> Arguments for E {
+    ghost gives = { λ env place found. Unit {0} };
+
+    fn argument(&self, alloc: Global, place: usize) -> Result<Option<Vec<u8>>, AllocError> {
+        let mut room = Vec::new(alloc);
+        let mut size = 64usize;
+        for _ in 0..usize::BITS {
+            room.resize(size, 0u8)?;
+            match self.arg(place, room.as_mut_slice()) {
+                Ok(length) => {
+                    room.truncate(length);
+                    return Ok(Some(room));
+                }
+                Err(FillError::NotPresent) => return Ok(None),
+                Err(FillError::TooLong) => size = size.saturating_mul(2),
             }
-            Err(FillError::NotPresent) => return Ok(None),
-            Err(FillError::TooLong) => size = size.saturating_mul(2),
+        }
+        Err(AllocError)
+    }
+}
+
+/// The word of an argument, which is empty where it isn't UTF-8.
+fn word_of(alloc: Global, argument: Vec<u8>) -> String
+    ensures { string_bytes result ≡ word_of argument.items }
+{
+    String::from_utf8(argument).unwrap_or(String::new(alloc))
+}
+
+/// The arguments but the program's name, in their order. One that isn't UTF-8 counts as the empty word. Memory may be
+/// refused.
+pub fn words<A: Arguments>(alloc: Global, arguments: &A) -> Result<Vec<String>, AllocError>
+    ensures { IfOk result (λ words. AreWords (A.gives arguments.now) (map string_bytes words.items)) }
+{
+    let mut words = Vec::new(alloc);
+    for place in 1..usize::MAX {
+        match arguments.argument(alloc, place)? {
+            Some(argument) => words.push(word_of(alloc, argument))?,
+            None => return Ok(words),
         }
     }
+    // No memory holds as many.
     Err(AllocError)
 }

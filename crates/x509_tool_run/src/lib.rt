@@ -13,7 +13,7 @@ mod refusal;
 #[cfg(test)]
 mod tests;
 
-pub use arguments::words;
+pub use arguments::{Arguments, words};
 pub use codec::Codec;
 pub use command::{Command, Kind, ProfileName};
 pub use input::{INPUT_LIMIT, READ_LIMIT, ReadError, Source, read_input};
