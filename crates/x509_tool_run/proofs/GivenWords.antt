@@ -1,5 +1,5 @@
 -- Words of arguments one after the other.
-use Rattle.std.proofs.Common.{◌≡◌, ℕ, suc, List, [], ◌∷◌, ◌++◌, map, Option, Some, None, refl, sym, ap, ◌∙◌, subst, append_assoc, append-nil}
+use Rattle.std.proofs.Common.{◌≡◌, ℕ, ◌+◌, List, [], ◌∷◌, ◌++◌, map, Option, Some, None, refl, sym, subst, append_assoc, append-nil}
 use Rattle.std.proofs.lemmas.List.{map_push}
 use Rattle.x509_tool_run.specs.Words.{AreGiven, AreWords, word_of}
 
@@ -12,7 +12,7 @@ pub record WordsUpTo (gives : ℕ → Option (List ℕ) → Type 0) (place : ℕ
 pub no_words : {gives : ℕ → Option (List ℕ) → Type 0} → WordsUpTo gives 1 []
 no_words = record { arguments = []; given = λ rest is. is; words_of = refl }
 
-pub one_more : {gives : ℕ → Option (List ℕ) → Type 0} (place : ℕ) (words : List (List ℕ)) (argument word : List ℕ) → WordsUpTo gives place words → gives place (Some argument) → word ≡ word_of argument → WordsUpTo gives (suc place) (words ++ word ∷ [])
+pub one_more : {gives : ℕ → Option (List ℕ) → Type 0} (place : ℕ) (words : List (List ℕ)) (argument word : List ℕ) → WordsUpTo gives place words → gives place (Some argument) → word ≡ word_of argument → WordsUpTo gives (place + 1) (words ++ word ∷ [])
 one_more {gives} place words argument word h is said = record {
   arguments = h.arguments ++ argument ∷ [];
   given = λ rest after. subst (AreGiven gives 1) (sym (append_assoc h.arguments (argument ∷ []) rest)) (h.given (argument ∷ rest) (is, after));

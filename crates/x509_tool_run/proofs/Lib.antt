@@ -3,3 +3,4 @@ pub mod Inputs
 pub mod Writes
 pub mod AnswerLemmas
 pub mod Known
+mod GivenWords

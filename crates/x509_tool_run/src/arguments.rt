@@ -43,7 +43,10 @@ impl<E: Env> Arguments for E {
 fn word_of(alloc: Global, argument: Vec<u8>) -> String
     ensures { string_bytes result ≡ word_of argument.items }
 {
-    String::from_utf8(argument).unwrap_or(String::new(alloc))
+    match String::from_utf8(argument) {
+        Ok(word) => word,
+        Err(_) => String::new(alloc),
+    }
 }
 
 /// The arguments but the program's name, in their order. One that isn't UTF-8 counts as the empty word. Memory may be
