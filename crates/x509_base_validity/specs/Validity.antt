@@ -6,7 +6,6 @@ use Rattle.x509_der_grammar.specs.Form.{Form, IsForm, Contents, IsContents, univ
 use Rattle.x509_der_grammar.specs.FormLaws.{universal_lawful}
 use Rattle.x509_der_grammar.specs.Writing.{Written, first, respelled}
 use Rattle.x509_der_frames.specs.Frames.{Part, required, ◌⊗◌, fields}
-use Rattle.x509_der_frames.specs.FrameLaws.{fields_lawful}
 use Rattle.x509_der_frames.specs.PartRules.{part_rules}
 use Rattle.x509_base_validity.specs.Time.{time, time_lawful}
 use Rattle.x509_base_validity.specs.declared.time.Time.{Time}
@@ -18,12 +17,12 @@ validity_fields = required time ⊗ required time
 abbrev pub validity_contents : {P : Type 0} → Contents (Validity P)
 validity_contents = fields (λ v. (v.not_before, v.not_after)) (λ (not_before, not_after). record { not_before = not_before; not_after = not_after; profile = record {} }) validity_fields
 
+abbrev pub validity : {P : Type 0} → Form (Validity P)
+validity = universal Sequence validity_contents
+
 pub validity_contents_lawful : {P : Type 0} {R : ErrorKind → Type 0} → IsContents R (validity_contents {P = P})
 unfolding validity_fields
 validity_contents_lawful = search (part_rules, time_lawful) depth 20
-
-abbrev pub validity : {P : Type 0} → Form (Validity P)
-validity = universal Sequence validity_contents
 
 pub validity_lawful : {P : Type 0} {R : ErrorKind → Type 0} → IsForm R (validity {P = P})
 validity_lawful = universal_lawful Sequence validity_contents validity_contents_lawful
