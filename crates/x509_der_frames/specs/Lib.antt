@@ -9,5 +9,6 @@ pub mod ListWriting
 pub mod ListOrder
 pub mod FieldsOrder
 pub mod Choice
+pub mod Cases
 pub mod ChoiceWriting
 pub mod PartRules

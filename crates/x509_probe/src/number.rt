@@ -21,7 +21,7 @@ pub enum Number {
     Name(ObjectIdentifier),
 }
 
-#[tactic(auto, unfolding(x509_der_frames::specs::Choice::by_case))]
+#[tactic(auto, unfolding(x509_der_frames::specs::Cases::choice_tag))]
 impl Grammar for Number {
     ghost use Rattle.x509_probe.specs.Number as grammar;
 
@@ -42,7 +42,7 @@ impl Grammar for Number {
     ghost lawful = { grammar.number_lawful };
 }
 
-#[tactic(auto, unfolding(x509_der_frames::specs::Choice::either_reading))]
+#[tactic(auto, unfolding(x509_der_frames::specs::Cases::choice_reading))]
 impl Decode for Number {
     fn read(alloc: Global, tag: u8, content: &[u8]) -> Result<Number, Error> {
         if u32::is_start(tag) {
@@ -55,7 +55,7 @@ impl Decode for Number {
     }
 }
 
-#[tactic(auto, unfolding(x509_der_frames::specs::Choice::by_case))]
+#[tactic(auto, unfolding(x509_der_frames::specs::Cases::choice_content))]
 impl Encode for Number {
     ghost use Rattle.std.specs.Prelude.{refl};
 
