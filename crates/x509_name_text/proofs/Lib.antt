@@ -2,5 +2,6 @@ pub mod Cuts
 pub mod CutLoops
 pub mod FirstRefusals
 pub mod Printed
-pub mod WholeTexts
+pub mod PrintedText
 pub mod Unescaping
+pub mod WholeTexts
