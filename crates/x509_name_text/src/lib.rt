@@ -3,4 +3,4 @@
 
 mod keys;
 
-pub use keys::{KEYS, Key};
+pub use keys::{KEYS, Key, Row, TextType, key_named, key_of, tag_for};
