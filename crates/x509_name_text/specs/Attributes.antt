@@ -14,8 +14,7 @@ use Rattle.x509_der_oid.specs.ObjectIdentifier.{arcs_of, is_object_identifier}
 use Rattle.x509_der_frames.specs.declared.any.Any.{Any}
 use Rattle.x509_prim_text.specs.Alphabet.{is_printable, is_ia5}
 use Rattle.x509_name_text.specs.Escapes.{Unescapes, escaped}
-use Rattle.x509_name_text.specs.Keys.{key_of, KeySays, tag_for}
-use Rattle.x509_name_text.specs.declared.keys.Key.{Key}
+use Rattle.x509_name_text.specs.Keys.{Key, key_of, KeySays, tag_for}
 
 -- the octets of the value's element
 abbrev pub value_octets : Any → List ℕ
@@ -37,7 +36,7 @@ printed_key octets value = if is_text value.tag value.value then key_of octets e
 
 -- the name, and the content with escapes; or the dotted identifier, and the hex of the element behind a number sign
 abbrev pub text_by : Option Key → List ℕ → Any → List ℕ
-text_by (Some key) octets value = key.name.now ++ 61 ∷ escaped value.value
+text_by (Some key) octets value = key.name ++ 61 ∷ escaped value.value
 text_by None octets value = dotted (arcs_of octets) ++ 61 ∷ 35 ∷ encode_lower (value_octets value)
 
 unfoldable pub attribute_text : List ℕ → Any → List ℕ

@@ -8,6 +8,6 @@ mod parts;
 mod printing;
 
 pub use escapes::unescape;
-pub use keys::{KEYS, Key};
+pub use keys::{KEYS, Key, Row, TextType, key_named, key_of, tag_for};
 pub use parts::{Parts, count_parts};
 pub use printing::write_escaped;
