@@ -43,7 +43,7 @@ type_and_value_ordered = two_ordered (λ a. (a.oid, a.value)) (λ (oid, value). 
 
 -- ---- equality
 
-types_and_values_lawful : IsDerOrder (HasEncoding attribute_type_and_value (writes plain)) (spelling attribute_type_and_value) (der_order attribute_type_and_value (writes plain) type_and_value_order)
+pub types_and_values_lawful : IsDerOrder (HasEncoding attribute_type_and_value (writes plain)) (spelling attribute_type_and_value) (der_order attribute_type_and_value (writes plain) type_and_value_order)
 types_and_values_lawful = der_lawful attribute_type_and_value (writes plain) type_and_value_order type_and_value_ordered
 
 -- the order of the encodings
