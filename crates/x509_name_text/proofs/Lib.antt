@@ -4,3 +4,6 @@ pub mod FirstRefusals
 pub mod Printed
 pub mod WholeTexts
 pub mod Unescaping
+pub mod DottedTexts
+pub mod TableFacts
+pub mod AttributeReading
