@@ -1,6 +1,6 @@
 //! Elements that are not looked into.
 
-ghost use Rattle.std.specs.Prelude.{◌≡◌, ◌<◌, ◌≤◌, ◌↔◌, ◌⊎◌, [], length, false, IfOk, IfErr, IsErrAnd, IsOk, IsTrue};
+ghost use Rattle.std.specs.Prelude.{◌≡◌, ◌<◌, ◌≤◌, ◌↔◌, ◌⊎◌, [], length, false, IfOk, IfErr, IsErrAnd, IsTrue};
 ghost use Rattle.x509_der_element.specs.declared.error.ErrorKind.TheVariants as errors;
 ghost use Rattle.x509_der_element.specs.declared.tag.Tag.TheVariants.{Null};
 ghost use Rattle.x509_der_element.specs.Element.{element, is_identifier, limit};
@@ -44,9 +44,8 @@ impl Any {
     /// The element with the identifier and the content, which is not copied; `Overlength` exactly where it would be
     /// longer than `Length::MAX`.
     pub fn from_vec(tag: Tag, content: Vec<u8>) -> Result<Any, Error>
-        ensures ok { IfOk result (λ any. (any.tag ≡ tag) × (any.value ≡ content.items)) }
-        ensures overlength { limit < length (element (octet_of tag) content.items) → IsErrAnd result (λ e. e.kind ≡ errors.Overlength) }
-        ensures fits { length (element (octet_of tag) content.items) ≤ limit → IsOk result }
+        ensures ok { IfOk result (λ any. (any.tag ≡ tag) × (any.value ≡ content.items) × (length (element (octet_of tag) content.items) ≤ limit)) }
+        ensures err { IfErr result (λ e. (e.kind ≡ errors.Overlength) × (limit < length (element (octet_of tag) content.items))) }
     {
         check_content(content.as_slice())?;
         Ok(Any {

@@ -6,6 +6,7 @@ pub mod laws;
 mod name;
 mod rdn;
 mod rdn_sequence;
+mod text;
 
 pub use attributes::AttributesOf;
 pub use name::Name;

@@ -5,3 +5,6 @@ pub mod Printed
 pub mod PrintedText
 pub mod Unescaping
 pub mod WholeTexts
+pub mod DottedTexts
+pub mod TableFacts
+pub mod AttributeReading

@@ -55,20 +55,44 @@ ValueSays octets text bytes =
     ((digits : List ℕ) × (text ≡ 35 ∷ digits) × (decode_of digits ≡ Ok bytes))
     ⊎ ((content : List ℕ) × (begins_with_hash text ≡ false) × Unescapes text content × (bytes ≡ element (octet_of (tag_for octets)) content))
 
+-- the text is a key, the first equals sign and what stands behind it
+pub record IsCut (text key rest : List ℕ) : Type 0 where
+  pub joined : text ≡ key ++ 61 ∷ rest
+  pub first : Contains key 61 → ⊥
+
 -- a key, the first equals sign, and what says the value
 pub record AttributeSays (text octets bytes : List ℕ) : Type 0 where
   pub key : List ℕ
   pub rest : List ℕ
-  pub cut : text ≡ key ++ 61 ∷ rest
-  pub first : Contains key 61 → ⊥
+  pub cut : IsCut text key rest
   pub names : KeySays key octets
   pub says : ValueSays octets rest bytes
 
--- the text reads as the attribute: it says the element of its value, which is within the limit
+-- what stands behind the equals sign reads as the value: it says its element, which is within the limit
+abbrev pub ValueReads : List ℕ → List ℕ → Any → Type 0
+ValueReads octets text value = ValueSays octets text (value_octets value) × (length (value_octets value) ≤ limit)
+
+-- the text reads as the attribute, in the same way
 abbrev pub AttributeReads : List ℕ → List ℕ → Any → Type 0
 AttributeReads text octets value = AttributeSays text octets (value_octets value) × (length (value_octets value) ≤ limit)
 
 -- ---- what is refused
+
+-- hex digits say octets that are over the limit, or else no element
+abbrev pub HexRefused : List ℕ → ErrorKind → Type 0
+HexRefused digits kind =
+    ((kind ≡ Overlength) × (bytes : List ℕ) × (decode_of digits ≡ Ok bytes) × (limit < length bytes))
+    ⊎ ((kind ≡ Failed) × ((bytes : List ℕ) → decode_of digits ≡ Ok bytes → (length bytes ≤ limit) × ((value : Any) → bytes ≢ value_octets value)))
+
+-- what stands behind the equals sign says the octets of an element that are over the limit
+abbrev pub ValueSaysTooMuch : List ℕ → List ℕ → Type 0
+ValueSaysTooMuch octets text = (bytes : List ℕ) × ValueSays octets text bytes × (limit < length bytes)
+
+-- it does so, or else reads as no value
+abbrev pub ValueRefused : List ℕ → List ℕ → ErrorKind → Type 0
+ValueRefused octets text kind =
+    ((kind ≡ Overlength) × ValueSaysTooMuch octets text)
+    ⊎ ((kind ≡ Failed) × (ValueSaysTooMuch octets text → ⊥) × ((value : Any) → ValueReads octets text value → ⊥))
 
 -- the text says the octets of an element that are over the limit
 abbrev pub SaysTooMuch : List ℕ → Type 0

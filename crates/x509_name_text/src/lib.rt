@@ -1,12 +1,14 @@
 //! Attributes as text: the table of their names, escapes, and texts cut at separators.
 #![tactic(auto)]
 
+mod attributes;
 mod escapes;
 mod keys;
 pub mod laws;
 mod parts;
 mod printing;
 
+pub use attributes::read_attribute;
 pub use escapes::unescape;
 pub use keys::{KEYS, Key, Row, TextType, key_named, key_of, tag_for};
 pub use parts::{Parts, count_parts};
