@@ -1,5 +1,5 @@
 -- Parts that are read one after the other: what is read of them, and which refusal comes first.
-use Rattle.std.proofs.Common.{◌+◌, ◌<◌, ◌≡◌, ◌⊎◌, ℕ, List, [], ◌∷◌, ◌++◌, length, map, take, drop, get_or, refl, sym, ap, ◌∙◌, arith, inl, inr, subst, add-one, drop-cons, append_assoc, append-nil, ◌≤◌, length-append}
+use Rattle.std.proofs.Common.{◌+◌, ◌<◌, ◌≡◌, ℕ, List, [], ◌∷◌, ◌++◌, length, map, take, drop, get_or, refl, sym, ap, ◌∙◌, arith, inl, inr, subst, add-one, drop-cons, append_assoc, append-nil, ◌≤◌, length-append}
 use Rattle.std.specs.List.{AllByRecursion, AllZip}
 use Rattle.std.proofs.lemmas.List.{take_more, take_all, take-append-drop}
 use Rattle.x509_der_element.specs.declared.error.ErrorKind.{ErrorKind}
@@ -109,11 +109,6 @@ module _ {X Y : Type 0} (reads : X → Y → Type 0) (all left rest : List X) (v
   pub read_refused : (refused : X → ErrorKind → Type 0) (kind : ErrorKind) → refused part kind → FirstRefused reads refused all kind
   read_refused refused kind q =
       subst (λ (t : List X). FirstRefused reads refused t kind) opened (refused_behind reads refused so_far.done values part rest kind so_far.are q)
-
-  -- or is refused, where something else may be the reason
-  pub read_refused_or : (refused : X → ErrorKind → Type 0) (kind : ErrorKind) (other : Type 0) → other ⊎ refused part kind → other ⊎ FirstRefused reads refused all kind
-  read_refused_or refused kind other (inl q) = inl q
-  read_refused_or refused kind other (inr q) = inr (read_refused refused kind q)
 
 -- all parts read
 pub read_all : {X Y : Type 0} (reads : X → Y → Type 0) (all left : List X) (values : List Y) → ReadSoFar reads all left values → left ≡ [] → AllZip reads all values

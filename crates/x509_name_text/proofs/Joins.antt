@@ -1,6 +1,9 @@
 -- Parts written one after the other with a separator between, and what holds of each of them.
 use Rattle.std.proofs.Common.{◌+◌, ◌<◌, ◌≤◌, ◌≡◌, ◌≢◌, ℕ, List, [], ◌∷◌, ◌++◌, length, get_or, map, reverse, take, refl, sym, ap, ◌∙◌, arith, subst, append_assoc, length-append}
 use Rattle.std.specs.List.{AllByRecursion, join_with_byte}
+use Rattle.std.specs.Fmt.{HasWritten}
+use Rattle.std.specs.declared.fmt.Formatter.{Formatter}
+use Rattle.std.proofs.Output.{has_written_append, has_written_of_eq}
 use Rattle.std.proofs.lemmas.List.{take_more, take_all, map_push, length-map, length-take, reverse-append}
 
 -- ---- what holds of each
@@ -53,3 +56,16 @@ module _ {X : Type 0} (separator : ℕ) (text : X → List ℕ) (xs : List X) (i
 
 pub join_end : {X : Type 0} (separator : ℕ) (text : X → List ℕ) (xs : List X) (i : ℕ) → length xs ≤ i → join_with_byte separator (map text (take i xs)) ≡ join_with_byte separator (map text xs)
 join_end {X = X} separator text xs i ge = ap (λ (t : List X). join_with_byte separator (map text t)) (take_all i xs ge)
+
+-- the same of what a formatter has written
+module _ {W X : Type 0} (took : W → List ℕ → W → Type 0) (separator : ℕ) (text : X → List ℕ) (xs : List X) (i : ℕ) (past : X) (lt : i < length xs) (f g h : Formatter W) (so_far : HasWritten took f (join_with_byte separator (map text (take i xs))) g) where
+  pub written_first : i ≡ 0 → HasWritten took g (text (get_or xs i past)) h → HasWritten took f (join_with_byte separator (map text (take (i + 1) xs))) h
+  written_first is now =
+      has_written_of_eq took f _ _ h (join_first separator text xs i past lt is)
+      (has_written_append took f _ g _ h so_far now)
+
+  pub written_next : 0 < i → (between : Formatter W) → HasWritten took g (separator ∷ []) between → HasWritten took between (text (get_or xs i past)) h
+      → HasWritten took f (join_with_byte separator (map text (take (i + 1) xs))) h
+  written_next some between mark now =
+      has_written_of_eq took f _ _ h (join_next separator text xs i past lt some)
+      (has_written_append took f _ g _ h so_far (has_written_append took g _ between _ h mark now))

@@ -2,6 +2,7 @@ pub mod Cuts
 pub mod CutLoops
 pub mod FirstRefusals
 pub mod Joins
+pub mod PartsRead
 pub mod Printed
 pub mod PrintedText
 pub mod Unescaping
