@@ -2,8 +2,11 @@ pub mod Cuts
 pub mod CutLoops
 pub mod FirstRefusals
 pub mod Printed
-pub mod WholeTexts
+pub mod PrintedText
 pub mod Unescaping
+pub mod WholeTexts
 pub mod DottedTexts
 pub mod TableFacts
 pub mod AttributeReading
+pub mod HexTexts
+pub mod AttributeTexts
