@@ -1,21 +1,20 @@
 -- Attributes read: a text is cut in one place, and what the reader refuses is refused.
-use Rattle.std.proofs.Common.{◌≡◌, ◌≢◌, ◌⊎◌, ◌<◌, ◌≤◌, ℕ, suc, true, false, List, [], ◌∷◌, ◌++◌, length, Option, Some, None, Result, Ok, Err, refl, sym, ap, ◌∙◌, arith, inl, inr, subst}
+use Rattle.std.proofs.Common.{◌≡◌, ◌⊎◌, ◌<◌, ℕ, suc, true, false, List, [], ◌∷◌, ◌++◌, length, Some, None, Result, Ok, Err, refl, sym, ap, ◌∙◌, arith, inl, inr, subst}
 use Rattle.std.specs.Prelude.{Contains, IfErr}
 use Rattle.std.specs.Str.{IsUtf8}
 use Rattle.std.proofs.lemmas.List.Elements.{Contains-append_right}
-use Rattle.hex.specs.Hex.{decode_of}
 use Rattle.x509_der_element.specs.Element.{element, limit}
 use Rattle.x509_der_element.specs.Tag.{octet_of}
 use Rattle.x509_der_element.specs.declared.error.Error.{Error}
 use Rattle.x509_der_element.specs.declared.error.ErrorKind.{ErrorKind}
 use Rattle.x509_der_element.specs.declared.error.ErrorKind.TheVariants.{Failed, Memory, Overlength}
-use Rattle.x509_der_oid.specs.Arcs.{AreArcs, content_of, dotted}
+use Rattle.x509_der_oid.specs.Arcs.{content_of}
 use Rattle.x509_der_oid.specs.ArcLaws.{some_arcs, small_arcs}
 use Rattle.x509_der_oid.proofs.TextLaws.{dotted_injective}
 use Rattle.x509_der_frames.specs.declared.any.Any.{Any}
 use Rattle.x509_name_text.specs.Escapes.{Unescapes}
 use Rattle.x509_name_text.specs.Keys.{Key, KeySays, key_named, tag_for}
-use Rattle.x509_name_text.specs.Attributes.{IsCut, AttributeSays, AttributeReads, AttributeRefused, ValueSays, ValueReads, ValueRefused, ValueSaysTooMuch, SaysTooMuch, HexRefused, begins_with_hash, value_octets}
+use Rattle.x509_name_text.specs.Attributes.{IsCut, AttributeSays, AttributeReads, AttributeRefused, ValueSays, ValueReads, ValueRefused, ValueSaysTooMuch, SaysTooMuch, begins_with_hash, value_octets}
 use Rattle.x509_name_text.proofs.DottedTexts.{dotted_is_utf8}
 use Rattle.x509_name_text.proofs.TableFacts.{not_dotted}
 

@@ -10,3 +10,5 @@ pub mod WholeTexts
 pub mod DottedTexts
 pub mod TableFacts
 pub mod AttributeReading
+pub mod HexTexts
+pub mod AttributeTexts

@@ -1,6 +1,7 @@
 //! The text of an attribute, read and written (RFC 4514 sections 2.3, 2.4 and 3).
 
-ghost use Rattle.std.specs.Prelude.{◌≡◌, ◌<◌, ◌≤◌, ◌⊎◌, ◌∷◌, false, ℕ, List, length, Ok, Contains, IfOk, IfErr, MatchOption};
+ghost use Rattle.std.specs.Prelude.{◌≡◌, ◌<◌, ◌≤◌, ◌⊎◌, ◌∷◌, false, ℕ, List, length, Ok, Contains, true, IfOk, IfErr, IfSome, IfNone, MatchOption};
+ghost use Rattle.std.specs.Fmt.{WritesOnOk};
 ghost use Rattle.hex.specs.Hex.{decode_of};
 ghost use Rattle.x509_der_element.specs.Element.{limit};
 ghost use Rattle.x509_der_element.specs.declared.error.ErrorKind.TheVariants as errors;
@@ -9,13 +10,16 @@ ghost use Rattle.x509_name_text.specs.Attributes as attributes;
 ghost use Rattle.x509_name_text.specs.Keys.{KeySays};
 
 use crate::escapes::unescape;
-use crate::keys::{key_named, tag_for};
+use crate::hex_text::write_element;
+use crate::keys::{key_named, key_of, tag_for};
+use crate::printing::write_escaped;
 use hex::FromHexError;
 use std::alloc::Global;
-use std::str;
+use std::{fmt, str};
 use x509_der_frames::Any;
-use x509_der_grammar::{Decode, Error, ErrorKind};
+use x509_der_grammar::{Decode, Error, ErrorKind, Tag};
 use x509_der_oid::ObjectIdentifier;
+use x509_prim_text::{Ia5, Printable, Teletex, text_of, utf8_text};
 
 // The key, and what stands behind the first equals sign.
 fn cut_key(text: &[u8]) -> Option<(&[u8], &[u8])>
@@ -101,4 +105,44 @@ pub fn read_attribute(alloc: Global, text: &[u8]) -> Result<(ObjectIdentifier, A
     let oid = read_key(key)?;
     let value = read_value(alloc, &oid, rest)?;
     Ok((oid, value))
+}
+
+// The content as a text, where it is one of the type with its tag.
+#[tactic(auto, unfolding(crate::specs::Attributes::is_text))]
+fn printed_content(value: &Any) -> Option<&str>
+    ensures some { IfSome result (λ text. (text.now ≡ value.now.value) × (attributes.is_text value.now.tag value.now.value ≡ true)) }
+    ensures none { IfNone result (attributes.is_text value.now.tag value.now.value ≡ false) }
+{
+    let content = value.value();
+    match value.tag() {
+        Tag::PrintableString => text_of::<Printable>(content),
+        Tag::Utf8String => utf8_text(content),
+        Tag::Ia5String => text_of::<Ia5>(content),
+        Tag::TeletexString => text_of::<Teletex>(content),
+        _ => None,
+    }
+}
+
+/// Writes the text of an attribute: the name of its type and the content with escapes, where the type has a name and
+/// the content is a text; else the dotted identifier, and the hex of the value's element behind a number sign.
+///
+/// # Errors
+///
+/// The error of the writer, which may have taken a part of the text then.
+pub fn write_attribute<W: fmt::Write>(
+    f: &mut fmt::Formatter<W>,
+    oid: &ObjectIdentifier,
+    value: &Any,
+) -> fmt::Result
+    ensures { WritesOnOk W.write_str_gives f.old result (attributes.attribute_text oid.now value.now) f.new }
+{
+    if let Some(text) = printed_content(value) {
+        if let Some(key) = key_of(oid.as_bytes()) {
+            f.write_str(key.name)?;
+            f.write_str("=")?;
+            return write_escaped(f, text);
+        }
+    }
+    write!(f, "{oid}=#")?;
+    write_element(f, value)
 }

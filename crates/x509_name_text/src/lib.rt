@@ -3,12 +3,13 @@
 
 mod attributes;
 mod escapes;
+mod hex_text;
 mod keys;
 pub mod laws;
 mod parts;
 mod printing;
 
-pub use attributes::read_attribute;
+pub use attributes::{read_attribute, write_attribute};
 pub use escapes::unescape;
 pub use keys::{KEYS, Key, Row, TextType, key_named, key_of, tag_for};
 pub use parts::{Parts, count_parts};

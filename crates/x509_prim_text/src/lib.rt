@@ -12,8 +12,8 @@ mod utf8;
 pub use alphabet::{Alphabet, Ia5, Printable, Teletex};
 pub use bmp::BmpString;
 pub use restricted::RestrictedString;
-pub use restricted_ref::RestrictedStringRef;
-pub use utf8::{Utf8String, Utf8StringRef};
+pub use restricted_ref::{RestrictedStringRef, text_of};
+pub use utf8::{Utf8String, Utf8StringRef, utf8_text};
 
 /// PrintableString (X.680 41.4): letters, digits, space and `' ( ) + , - . / : = ?`.
 pub type PrintableString = RestrictedString<Printable>;

@@ -20,7 +20,7 @@ pub(crate) fn check_text<A: Alphabet>(octets: &[u8]) -> bool
 }
 
 /// The octets as a text, where each is a character of the type.
-pub(crate) fn text_of<A: Alphabet>(octets: &[u8]) -> Option<&str>
+pub fn text_of<A: Alphabet>(octets: &[u8]) -> Option<&str>
     ensures some { IfSome result (λ text. (text.now ≡ octets.now) × (list_all A.has_char octets.now ≡ true)) }
     ensures none { IfNone result (list_all A.has_char octets.now ≡ false) }
 {

@@ -71,7 +71,7 @@ impl From<String> for Utf8String {
 }
 
 /// The octets as a text, where they are UTF-8.
-fn utf8_text(octets: &[u8]) -> Option<&str>
+pub fn utf8_text(octets: &[u8]) -> Option<&str>
     ensures some { IfSome result (λ text. (text.now ≡ octets.now) × (is_utf8 octets.now ≡ true)) }
     ensures none { IfNone result (is_utf8 octets.now ≡ false) }
 {

@@ -1,4 +1,4 @@
-use Rattle.std.proofs.Common.{◌≡◌, ℕ, List, sym, ap, ◌∙◌, Some, Ok, refl}
+use Rattle.std.proofs.Common.{◌≡◌, ℕ, List, sym, ap, Ok}
 use Rattle.x509_der_oid.specs.ArcLaws.{content_of-arcs_of}
 use Rattle.x509_name_text.proofs.TableFacts.{identifier_of_key}
 use Rattle.x509_name_text.proofs.AttributeReading.{no_type}

@@ -1,4 +1,4 @@
-use Rattle.std.proofs.Common.{◌≡◌, ℕ, List, ap, ◌∙◌, ◌<◌, length, inr, subst}
+use Rattle.std.proofs.Common.{◌≡◌, ap, ◌∙◌, ◌<◌, length, inr, subst}
 use Rattle.std.proofs.lemmas.Result.{err_from_is_err_and}
 use Rattle.x509_der_element.specs.Element.{element, limit}
 use Rattle.x509_der_element.specs.Tag.{octet_of}
