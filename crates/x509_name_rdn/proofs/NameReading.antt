@@ -1,6 +1,5 @@
 -- What a reader of a name's text answers, from what was read of its parts.
 use Rattle.std.proofs.Common.{◌≡◌, ◌≢◌, ◌⊎◌, false, eqb, ℕ, List, [], ◌∷◌, length, inl, inr}
-use Rattle.std.specs.List.{AllZip}
 use Rattle.x509_der_element.specs.declared.error.ErrorKind.{ErrorKind}
 use Rattle.x509_der_element.specs.declared.error.ErrorKind.TheVariants.{Memory}
 use Rattle.x509_name_text.specs.Attributes.{AttributeRefused}

@@ -1,8 +1,8 @@
 -- Names read again from their text, and texts read as one name at most or are refused by one error.
 use Rattle.std.proofs.Common.{◌≡◌, ◌≢◌, ◌<◌, ◌⊎◌, ℕ, List, [], ◌∷◌, ◌++◌, length, map, reverse, refl, sym, ap, ◌∙◌, arith, inl, inr, subst}
 use Rattle.std.specs.List.{AllByRecursion, AllZip, join_with_byte}
-use Rattle.std.specs.List.Sorted.{IsStrictlySortedBy, IsPermutation}
-use Rattle.std.proofs.lemmas.List.{reverse-reverse, length-map, length-reverse}
+use Rattle.std.specs.List.Sorted.{IsPermutation}
+use Rattle.std.proofs.lemmas.List.{reverse-reverse}
 use Rattle.std.proofs.lemmas.Grind.{reverse_onto}
 use Rattle.std.proofs.lemmas.List.Sorted.{IsPermutation-refl, IsPermutation-sym, IsPermutation-trans}
 use Rattle.x509_der_element.specs.declared.error.ErrorKind.{ErrorKind}
@@ -10,7 +10,7 @@ use Rattle.x509_der_element.specs.declared.error.ErrorKind.TheVariants.{SetDupli
 use Rattle.x509_der_set.specs.Set.{AreDistinct}
 use Rattle.x509_der_set.proofs.OneSet.{one_set}
 use Rattle.x509_der_set.proofs.RisingLists.{distinct_from_rising}
-use Rattle.x509_name_attribute.specs.TypeAndValue.{type_and_value_cmp, types_and_values_lawful}
+use Rattle.x509_name_attribute.specs.TypeAndValue.{types_and_values_lawful}
 use Rattle.x509_name_attribute.specs.declared.type_and_value.AttributeTypeAndValue.{AttributeTypeAndValue}
 use Rattle.x509_name_text.specs.Attributes.{attribute_text, AttributeReads, AttributeRefused, ReadsBack}
 use Rattle.x509_name_text.specs.Parts.{Joined}
@@ -19,11 +19,11 @@ use Rattle.x509_name_text.proofs.Cuts.{one_cut}
 use Rattle.x509_name_text.proofs.FirstRefusals.{one_of_each, zip_map, zip_apart, refused_once}
 use Rattle.x509_name_text.proofs.WholeTexts.{Whole, Whole-join, join_whole}
 use Rattle.x509_name_rdn.specs.NameText.{rdn_text, name_text, OneReads, RdnReads, NameReads, RdnRefused, NameRefused, RdnReadsBack, NameReadsBack}
-
 -- TEMPORARY
 use Rattle.x509_der_frames.specs.declared.any.Any.{Any}
+
 module _ (attribute_again : (octets : List ℕ) (value : Any) → ReadsBack octets value → AttributeReads (attribute_text octets value) octets value) (attribute_some : (octets : List ℕ) (value : Any) → ReadsBack octets value → attribute_text octets value ≢ []) (attribute_whole_plus : (octets : List ℕ) (value : Any) → ReadsBack octets value → Whole 43 (attribute_text octets value)) (attribute_whole_comma : (octets : List ℕ) (value : Any) → ReadsBack octets value → Whole 44 (attribute_text octets value)) (one_attribute : (text octets others : List ℕ) (value other : Any) → AttributeReads text octets value → AttributeReads text others other → (octets ≡ others) × (value ≡ other)) (attribute_apart : (text octets : List ℕ) (value : Any) (kind : ErrorKind) → AttributeReads text octets value → AttributeRefused text kind → ⊥) (attribute_once : (text : List ℕ) (kind other : ErrorKind) → AttributeRefused text kind → AttributeRefused text other → kind ≡ other) where
--- BEGIN
+  -- BEGIN
 
   map_each : {X Y : Type 0} (P : X → Type 0) (Q : Y → Type 0) (f : X → Y) → ((x : X) → P x → Q (f x)) → (xs : List X) → AllByRecursion P xs → AllByRecursion Q (map f xs)
   map_each P Q f step [] h = tt

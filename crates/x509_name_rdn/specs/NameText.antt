@@ -47,7 +47,7 @@ pub record RdnRefused (text : List ℕ) (kind : ErrorKind) : Type 0 where
   pub parts : List (List ℕ)
   pub cut : Joined 43 parts text
   pub refused : FirstRefused OneReads AttributeRefused parts kind
-    ⊎ ((attributes : List AttributeTypeAndValue) × AllZip OneReads parts attributes × (AreDistinct attributes → ⊥) × (kind ≡ SetDuplicate))
+      ⊎ ((attributes : List AttributeTypeAndValue) × AllZip OneReads parts attributes × (AreDistinct attributes → ⊥) × (kind ≡ SetDuplicate))
 
 -- the leftmost part that doesn't read as a relative distinguished name is refused
 pub record NameRefused (text : List ℕ) (kind : ErrorKind) : Type 0 where

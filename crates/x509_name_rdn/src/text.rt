@@ -12,7 +12,7 @@ use std::alloc::Global;
 use std::fmt;
 use x509_der_grammar::Error;
 use x509_name_attribute::AttributeTypeAndValue;
-use x509_name_text::{Parts, count_parts, read_attribute};
+use x509_name_text::{Parts, count_parts, read_attribute, write_attribute};
 
 // The attribute that a part says.
 fn read_one(alloc: Global, part: &[u8]) -> Result<AttributeTypeAndValue, Error>
@@ -49,4 +49,38 @@ pub(crate) fn read_name(alloc: Global, text: &[u8]) -> Result<RdnSequence, Error
     }
     rdns.reverse();
     Ok(RdnSequence::from(rdns))
+}
+
+/// Writes the attributes, with a plus sign between each two.
+#[tactic(auto, unfolding(crate::specs::NameText::rdn_text))]
+pub(crate) fn write_rdn<W: fmt::Write>(
+    f: &mut fmt::Formatter<W>,
+    attributes: &[AttributeTypeAndValue],
+) -> fmt::Result
+    ensures { WritesOnOk W.write_str_gives f.old result (texts.rdn_text attributes.now) f.new }
+{
+    for (i, attribute) in attributes.iter().enumerate() {
+        if i > 0 {
+            f.write_str("+")?;
+        }
+        write_attribute(f, &attribute.oid, &attribute.value)?;
+    }
+    Ok(())
+}
+
+/// Writes the relative distinguished names from the last to the first, with a comma between each two.
+#[tactic(auto, unfolding(crate::specs::NameText::name_text))]
+pub(crate) fn write_name<W: fmt::Write>(
+    f: &mut fmt::Formatter<W>,
+    rdns: &[RelativeDistinguishedName],
+) -> fmt::Result
+    ensures { WritesOnOk W.write_str_gives f.old result (texts.name_text rdns.now) f.new }
+{
+    for i in 0..rdns.len() {
+        if i > 0 {
+            f.write_str(",")?;
+        }
+        write_rdn(f, rdns[rdns.len() - 1 - i].as_slice())?;
+    }
+    Ok(())
 }

@@ -57,15 +57,15 @@ module _ {X : Type 0} (separator : ℕ) (text : X → List ℕ) (xs : List X) (i
 pub join_end : {X : Type 0} (separator : ℕ) (text : X → List ℕ) (xs : List X) (i : ℕ) → length xs ≤ i → join_with_byte separator (map text (take i xs)) ≡ join_with_byte separator (map text xs)
 join_end {X = X} separator text xs i ge = ap (λ (t : List X). join_with_byte separator (map text t)) (take_all i xs ge)
 
--- the same of what a formatter has written
-module _ {W X : Type 0} (took : W → List ℕ → W → Type 0) (separator : ℕ) (text : X → List ℕ) (xs : List X) (i : ℕ) (past : X) (lt : i < length xs) (f g h : Formatter W) (so_far : HasWritten took f (join_with_byte separator (map text (take i xs))) g) where
-  pub written_first : i ≡ 0 → HasWritten took g (text (get_or xs i past)) h → HasWritten took f (join_with_byte separator (map text (take (i + 1) xs))) h
+-- the same of what a formatter has written; the value at the index is x
+module _ {W X : Type 0} (took : W → List ℕ → W → Type 0) (separator : ℕ) (text : X → List ℕ) (xs : List X) (i : ℕ) (x : X) (lt : i < length xs) (at : x ≡ get_or xs i x) (f g h : Formatter W) (so_far : HasWritten took f (join_with_byte separator (map text (take i xs))) g) where
+  pub written_first : i ≡ 0 → HasWritten took g (text x) h → HasWritten took f (join_with_byte separator (map text (take (i + 1) xs))) h
   written_first is now =
-      has_written_of_eq took f _ _ h (join_first separator text xs i past lt is)
-      (has_written_append took f _ g _ h so_far now)
+      has_written_of_eq took f _ _ h (join_first separator text xs i x lt is)
+      (has_written_append took f _ g _ h so_far (subst (λ y. HasWritten took g (text y) h) at now))
 
-  pub written_next : 0 < i → (between : Formatter W) → HasWritten took g (separator ∷ []) between → HasWritten took between (text (get_or xs i past)) h
+  pub written_next : 0 < i → (between : Formatter W) → HasWritten took g (separator ∷ []) between → HasWritten took between (text x) h
       → HasWritten took f (join_with_byte separator (map text (take (i + 1) xs))) h
   written_next some between mark now =
-      has_written_of_eq took f _ _ h (join_next separator text xs i past lt some)
-      (has_written_append took f _ g _ h so_far (has_written_append took g _ between _ h mark now))
+      has_written_of_eq took f _ _ h (join_next separator text xs i x lt some)
+      (has_written_append took f _ g _ h so_far (has_written_append took g _ between _ h mark (subst (λ y. HasWritten took between (text y) h) at now)))
