@@ -20,7 +20,7 @@ pub fn bytes_determine_the_directory_string()
 }
 
 /// `==` holds exactly of equal texts of one case, and of a borrowed or owned text exactly where the octets are equal.
-pub fn equality_is_exact<'a>()
+pub fn equal_directory_strings_are_one_value<'a>()
     ensures strings { (a b : DirectoryString) → (⟦<DirectoryString as PartialEq>⟧.eq a b ≡ true) ↔ (a ≡ b) }
     ensures texts { (a b : TextRef) → (⟦<TextRef<'a> as PartialEq>⟧.eq a b ≡ true) ↔ (octets_of a ≡ octets_of b) }
 {}

@@ -6,7 +6,7 @@ ghost use Rattle.std.specs.Cmp.Lexicographic.{nat_list_eq_equiv};
 ghost use Rattle.std.specs.List.{list_all};
 ghost use Rattle.x509_der_element.specs.declared.error.ErrorKind.TheVariants as errors;
 ghost use Rattle.x509_der_element.specs.Tag.{octet_of};
-ghost use Rattle.x509_prim_text.specs.Borrowed.{BorrowsText};
+ghost use Rattle.x509_prim_text.specs.Borrowed.{BorrowsText, BorrowsTextFrom};
 
 use crate::alphabet::Alphabet;
 use std::alloc::Global;
@@ -93,7 +93,7 @@ fn text_in<'a, A: Alphabet>(tag: Tag, octets: &'a [u8]) -> Result<RestrictedStri
 /// The text of an element; `Malformed` exactly where it has another identifier, or a character that is not one of the
 /// type's. It takes no memory.
 impl<'a, A: Alphabet> FromAny<'a> for RestrictedStringRef<'a, A> {
-    ghost from_any_gives = { λ any answer. BorrowsText (λ string. string.text.now) A.TAG (list_all A.has_char) any.tag any.value answer };
+    ghost from_any_gives = { BorrowsTextFrom (λ string. string.text.now) A.TAG (list_all A.has_char) };
 
     fn from_any(_alloc: Global, any: &'a Any) -> Result<RestrictedStringRef<'a, A>, Error> {
         text_in(any.tag(), any.value())

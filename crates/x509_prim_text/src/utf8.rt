@@ -9,7 +9,7 @@ ghost use Rattle.std.specs.Cmp.Rules.{hashing};
 ghost use Rattle.std.specs.Str.{is_utf8};
 ghost use Rattle.x509_der_element.specs.declared.error.ErrorKind.TheVariants as errors;
 ghost use Rattle.x509_der_element.specs.declared.tag.Tag.TheVariants as tags;
-ghost use Rattle.x509_prim_text.specs.Borrowed.{BorrowsText};
+ghost use Rattle.x509_prim_text.specs.Borrowed.{BorrowsText, BorrowsTextFrom};
 
 use crate::text::Text;
 use std::alloc::Global;
@@ -204,7 +204,7 @@ fn utf8_text_in<'a>(tag: Tag, octets: &'a [u8]) -> Result<Utf8StringRef<'a>, Err
 /// The text of an element; `Malformed` exactly where it has another identifier, or a content that is not UTF-8. It takes
 /// no memory.
 impl<'a> FromAny<'a> for Utf8StringRef<'a> {
-    ghost from_any_gives = { λ any answer. BorrowsText (λ string. string.text.now) tags.Utf8String is_utf8 any.tag any.value answer };
+    ghost from_any_gives = { BorrowsTextFrom (λ string. string.text.now) tags.Utf8String is_utf8 };
 
     fn from_any(_alloc: Global, any: &'a Any) -> Result<Utf8StringRef<'a>, Error> {
         utf8_text_in(any.tag(), any.value())
