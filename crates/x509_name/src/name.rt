@@ -1,5 +1,7 @@
 //! Names.
 
+pub use x509_name_directory::{DirectoryString, TextRef};
 pub use x509_name_rdn::{
-    AttributesOf, DistinguishedName, Name, RdnSequence, RelativeDistinguishedName,
+    DistinguishedName, Name, NameIter, RdnIter, RdnSequence, RdnSequenceIter,
+    RelativeDistinguishedName, attribute_types,
 };

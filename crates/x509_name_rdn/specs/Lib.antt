@@ -1,4 +1,5 @@
 pub mod Names
-pub mod AttributesOf
+pub mod Iterators
 pub mod Rows
+pub mod LookUp
 pub mod NameText

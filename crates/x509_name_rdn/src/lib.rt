@@ -1,14 +1,16 @@
 //! Names: relative distinguished names, sequences of them, and names.
 #![tactic(auto)]
 
-mod attributes;
+pub mod attribute_types;
+mod iterators;
 pub mod laws;
+mod look_up;
 mod name;
 mod rdn;
 mod rdn_sequence;
 mod text;
 
-pub use attributes::AttributesOf;
+pub use iterators::{NameIter, RdnIter, RdnSequenceIter};
 pub use name::Name;
 pub use rdn::RelativeDistinguishedName;
 pub use rdn_sequence::{DistinguishedName, RdnSequence};

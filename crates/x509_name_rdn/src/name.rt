@@ -1,19 +1,15 @@
 //! Names of issuers and subjects.
 
-ghost use Rattle.std.specs.Prelude.{◌≡◌, ◌<◌, ◌^◌, ◌↔◌, [], length, List, IsTrue};
-ghost use Rattle.std.specs.Iterator.Adapters.{IterYieldsInOrder, IterYieldsInReverse};
-ghost use Rattle.std.specs.Slice.Iter.{iter_rest};
-ghost use Rattle.x509_name_attribute.specs.declared.type_and_value.AttributeTypeAndValue.{AttributeTypeAndValue};
-ghost use Rattle.x509_name_rdn.specs.AttributesOf.{attributes_left, members_of};
+ghost use Rattle.std.specs.Prelude.{◌≡◌, ◌↔◌, [], length, IsTrue};
+ghost use Rattle.x509_name_rdn.specs.Iterators.{attributes_left, members_of, rdns_left};
 
-use crate::attributes::AttributesOf;
+use crate::iterators::{NameIter, RdnSequenceIter};
 use crate::rdn::RelativeDistinguishedName;
 use crate::rdn_sequence::RdnSequence;
 use std::alloc::Global;
 use std::cmp::Ordering;
 use std::hash::{Hash, Hasher};
 use std::marker::Model;
-use std::slice;
 use x509_der_grammar::{Content, Error, Room, Tag, TryClone};
 use x509_der_order::ValueOrd;
 
@@ -65,18 +61,15 @@ impl Name {
     }
 
     /// The attributes of the relative distinguished names, one after the other; `iter_rdn` tells which stand together.
-    pub fn iter(&self) -> AttributesOf<'_>
+    pub fn iter(&self) -> NameIter<'_>
         ensures { attributes_left result ≡ members_of self.now }
     {
-        AttributesOf::new(self.0.as_slice())
+        NameIter::new(self.0.as_slice())
     }
 
     /// The relative distinguished names.
-    pub fn iter_rdn(&self) -> slice::Iter<'_, RelativeDistinguishedName>
-        ensures rest { iter_rest result ≡ self.now }
-        ensures bound { length (iter_rest result) < 2 ^ 64 }
-        ensures runs { IterYieldsInOrder (List AttributeTypeAndValue) }
-        ensures runs_back { IterYieldsInReverse (List AttributeTypeAndValue) }
+    pub fn iter_rdn(&self) -> RdnSequenceIter<'_>
+        ensures { rdns_left result ≡ self.now }
     {
         self.0.iter()
     }

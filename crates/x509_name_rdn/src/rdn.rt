@@ -1,18 +1,17 @@
 //! Relative distinguished names.
 
-ghost use Rattle.std.specs.Prelude.{◌≡◌, ◌<◌, ◌^◌, ◌↔◌, ◌⊎◌, [], ◌∷◌, length, IsTrue, Contains, IfOk, IfErr, OnOk, OnErr, IsErrAnd, slice_get};
+ghost use Rattle.std.specs.Prelude.{◌≡◌, ◌↔◌, ◌⊎◌, [], ◌∷◌, length, IsTrue, Contains, IfOk, IfErr, OnOk, OnErr, IsErrAnd, slice_get};
 ghost use Rattle.std.specs.Option.{option_copied};
 ghost use Rattle.std.specs.List.Sorted.{IsStrictlySortedBy, IsPermutation};
-ghost use Rattle.std.specs.Iterator.Adapters.{IterYieldsInOrder, IterYieldsInReverse};
-ghost use Rattle.std.specs.Slice.Iter.{iter_rest};
 ghost use Rattle.x509_der_element.specs.declared.error.ErrorKind.TheVariants as errors;
 ghost use Rattle.x509_der_set.specs.Set.{AreDistinct};
 ghost use Rattle.x509_name_attribute.specs.TypeAndValue.{type_and_value_cmp};
+ghost use Rattle.x509_name_rdn.specs.Iterators.{rdn_left};
 
+use crate::iterators::RdnIter;
 use std::alloc::Global;
 use std::hash::{Hash, Hasher};
 use std::marker::Model;
-use std::slice;
 use x509_der_grammar::{Error, Newtype};
 use x509_der_order::NewtypeOrd;
 use x509_der_set::SetOfVec;
@@ -78,13 +77,10 @@ impl RelativeDistinguishedName {
     }
 
     /// The attributes, in their order.
-    pub fn iter(&self) -> slice::Iter<'_, AttributeTypeAndValue>
-        ensures rest { iter_rest result ≡ self.now }
-        ensures bound { length (iter_rest result) < 2 ^ 64 }
-        ensures runs { IterYieldsInOrder AttributeTypeAndValue }
-        ensures runs_back { IterYieldsInReverse AttributeTypeAndValue }
+    pub fn iter(&self) -> RdnIter<'_>
+        ensures { rdn_left result ≡ self.now }
     {
-        self.0.iter()
+        RdnIter::new(self.as_slice())
     }
 
     /// The attribute at that place, from 0 on.

@@ -1,16 +1,14 @@
 //! Sequences of relative distinguished names.
 
-ghost use Rattle.std.specs.Prelude.{◌≡◌, ◌<◌, ◌^◌, ◌↔◌, ◌++◌, [], ◌∷◌, length, List, IsTrue, IfErr, OnOk, OnErr};
-ghost use Rattle.std.specs.Iterator.Adapters.{IterYieldsInOrder, IterYieldsInReverse};
-ghost use Rattle.std.specs.Slice.Iter.{iter_rest};
+ghost use Rattle.std.specs.Prelude.{◌≡◌, ◌↔◌, ◌++◌, [], ◌∷◌, length, IsTrue, IfErr, OnOk, OnErr};
 ghost use Rattle.x509_der_element.specs.declared.error.ErrorKind.TheVariants.{Memory};
-ghost use Rattle.x509_name_attribute.specs.declared.type_and_value.AttributeTypeAndValue.{AttributeTypeAndValue};
+ghost use Rattle.x509_name_rdn.specs.Iterators.{rdns_left};
 
+use crate::iterators::RdnSequenceIter;
 use crate::rdn::RelativeDistinguishedName;
 use std::alloc::Global;
 use std::hash::{Hash, Hasher};
 use std::marker::Model;
-use std::slice;
 use x509_der_frames::SequenceOf;
 use x509_der_grammar::{Error, Newtype};
 use x509_der_order::NewtypeOrd;
@@ -62,13 +60,10 @@ impl RdnSequence {
     }
 
     /// The relative distinguished names.
-    pub fn iter(&self) -> slice::Iter<'_, RelativeDistinguishedName>
-        ensures rest { iter_rest result ≡ self.now }
-        ensures bound { length (iter_rest result) < 2 ^ 64 }
-        ensures runs { IterYieldsInOrder (List AttributeTypeAndValue) }
-        ensures runs_back { IterYieldsInReverse (List AttributeTypeAndValue) }
+    pub fn iter(&self) -> RdnSequenceIter<'_>
+        ensures { rdns_left result ≡ self.now }
     {
-        self.as_slice().iter()
+        RdnSequenceIter::new(self.as_slice())
     }
 
     /// How many relative distinguished names there are.

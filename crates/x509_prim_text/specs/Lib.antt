@@ -2,3 +2,4 @@ pub mod Place
 pub mod Text
 pub mod Alphabet
 pub mod Bmp
+pub mod Borrowed

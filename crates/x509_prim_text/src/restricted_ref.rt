@@ -6,11 +6,13 @@ ghost use Rattle.std.specs.Cmp.Lexicographic.{nat_list_eq_equiv};
 ghost use Rattle.std.specs.List.{list_all};
 ghost use Rattle.x509_der_element.specs.declared.error.ErrorKind.TheVariants as errors;
 ghost use Rattle.x509_der_element.specs.Tag.{octet_of};
+ghost use Rattle.x509_prim_text.specs.Borrowed.{BorrowsText, BorrowsTextFrom};
 
 use crate::alphabet::Alphabet;
 use std::alloc::Global;
 use std::marker::PhantomData;
-use x509_der_grammar::{AnyRef, Error, ErrorKind, TryClone};
+use x509_der_frames::{Any, FromAny};
+use x509_der_grammar::{AnyRef, Error, ErrorKind, Tag, TryClone};
 
 /// Whether each character is one of the type's.
 pub(crate) fn check_text<A: Alphabet>(octets: &[u8]) -> bool
@@ -61,16 +63,7 @@ impl<'a, A: Alphabet> RestrictedStringRef<'a, A> {
         ensures ok { IfOk result (λ string. (string.text.now ≡ any.entry.value.now) × (octet_of any.entry.tag ≡ octet_of A.TAG) × (list_all A.has_char any.entry.value.now ≡ true)) }
         ensures err { IfErr result (λ e. (e.kind ≡ errors.Malformed) × ((octet_of any.entry.tag ≢ octet_of A.TAG) ⊎ (list_all A.has_char any.entry.value.now ≡ false))) }
     {
-        if any.tag().octet() != A::TAG.octet() {
-            return Err(ErrorKind::Malformed.into());
-        }
-        let Some(text) = text_of::<A>(any.value()) else {
-            return Err(ErrorKind::Malformed.into());
-        };
-        Ok(RestrictedStringRef {
-            text,
-            alphabet: PhantomData,
-        })
+        text_in(any.tag(), any.value())
     }
 
     /// The text.
@@ -78,6 +71,32 @@ impl<'a, A: Alphabet> RestrictedStringRef<'a, A> {
         ensures { result.now ≡ self.entry.text.now }
     {
         self.text
+    }
+}
+
+/// The text in an element with this identifier and this content.
+fn text_in<'a, A: Alphabet>(tag: Tag, octets: &'a [u8]) -> Result<RestrictedStringRef<'a, A>, Error>
+    ensures { BorrowsText (λ string. string.text.now) A.TAG (list_all A.has_char) tag octets.now result }
+{
+    if tag.octet() != A::TAG.octet() {
+        return Err(ErrorKind::Malformed.into());
+    }
+    let Some(text) = text_of::<A>(octets) else {
+        return Err(ErrorKind::Malformed.into());
+    };
+    Ok(RestrictedStringRef {
+        text,
+        alphabet: PhantomData,
+    })
+}
+
+/// The text of an element; `Malformed` exactly where it has another identifier, or a character that is not one of the
+/// type's. It takes no memory.
+impl<'a, A: Alphabet> FromAny<'a> for RestrictedStringRef<'a, A> {
+    ghost from_any_gives = { BorrowsTextFrom (λ string. string.text.now) A.TAG (list_all A.has_char) };
+
+    fn from_any(_alloc: Global, any: &'a Any) -> Result<RestrictedStringRef<'a, A>, Error> {
+        text_in(any.tag(), any.value())
     }
 }
 

@@ -9,12 +9,14 @@ ghost use Rattle.std.specs.Cmp.Rules.{hashing};
 ghost use Rattle.std.specs.Str.{is_utf8};
 ghost use Rattle.x509_der_element.specs.declared.error.ErrorKind.TheVariants as errors;
 ghost use Rattle.x509_der_element.specs.declared.tag.Tag.TheVariants as tags;
+ghost use Rattle.x509_prim_text.specs.Borrowed.{BorrowsText, BorrowsTextFrom};
 
 use crate::text::Text;
 use std::alloc::Global;
 use std::fmt;
 use std::hash::{Hash, Hasher};
 use std::marker::Model;
+use x509_der_frames::{Any, FromAny};
 use x509_der_grammar::{AnyRef, Content, Error, ErrorKind, Room, Tag, TryClone};
 
 /// A UTF8String (X.680 41.16, X.690 8.23.10). Contracts see the UTF-8 octets of its characters.
@@ -175,13 +177,7 @@ impl<'a> Utf8StringRef<'a> {
         ensures ok { IfOk result (λ string. (string.text.now ≡ any.entry.value.now) × (any.entry.tag ≡ tags.Utf8String) × (is_utf8 any.entry.value.now ≡ true)) }
         ensures err { IfErr result (λ e. (e.kind ≡ errors.Malformed) × ((any.entry.tag ≢ tags.Utf8String) ⊎ (is_utf8 any.entry.value.now ≡ false))) }
     {
-        if any.tag() != Tag::Utf8String {
-            return Err(ErrorKind::Malformed.into());
-        }
-        let Some(text) = utf8_text(any.value()) else {
-            return Err(ErrorKind::Malformed.into());
-        };
-        Ok(Utf8StringRef { text })
+        utf8_text_in(any.tag(), any.value())
     }
 
     /// The text.
@@ -189,6 +185,29 @@ impl<'a> Utf8StringRef<'a> {
         ensures { result.now ≡ self.entry.text.now }
     {
         self.text
+    }
+}
+
+/// The text in an element with this identifier and this content.
+fn utf8_text_in<'a>(tag: Tag, octets: &'a [u8]) -> Result<Utf8StringRef<'a>, Error>
+    ensures { BorrowsText (λ string. string.text.now) tags.Utf8String is_utf8 tag octets.now result }
+{
+    if tag != Tag::Utf8String {
+        return Err(ErrorKind::Malformed.into());
+    }
+    let Some(text) = utf8_text(octets) else {
+        return Err(ErrorKind::Malformed.into());
+    };
+    Ok(Utf8StringRef { text })
+}
+
+/// The text of an element; `Malformed` exactly where it has another identifier, or a content that is not UTF-8. It takes
+/// no memory.
+impl<'a> FromAny<'a> for Utf8StringRef<'a> {
+    ghost from_any_gives = { BorrowsTextFrom (λ string. string.text.now) tags.Utf8String is_utf8 };
+
+    fn from_any(_alloc: Global, any: &'a Any) -> Result<Utf8StringRef<'a>, Error> {
+        utf8_text_in(any.tag(), any.value())
     }
 }
 

@@ -1,6 +1,6 @@
 use Rattle.std.proofs.Common.{◌≡◌, length}
-use Rattle.x509_name_rdn.specs.AttributesOf.{attributes_left}
-use Rattle.x509_name_rdn.proofs.attributes.AttributesOfIterator.next.Given as goal
+use Rattle.x509_name_rdn.specs.Iterators.{attributes_left}
+use Rattle.x509_name_rdn.proofs.iterators.NameIterIterator.next.Given as goal
 
 -- what is left is what was left
 abbrev pub invariant-loop-rdn : goal.invariant-loop-rdn

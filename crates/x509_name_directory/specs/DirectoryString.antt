@@ -1,0 +1,97 @@
+-- DirectoryString: PrintableString / TeletexString / UTF8String / BMPString (RFC 5280 4.1.2.4, appendix A.1)
+use Rattle.std.specs.Prelude.{◌≡◌, ℕ, Bool, true, false, List, [], ◌⊎◌, Result, IfOk, IfErr, encode_utf8_all, refl}
+use Rattle.std.specs.List.{list_all}
+use Rattle.std.specs.Str.{is_utf8}
+use Rattle.std.proofs.Common.{inl, inr}
+use Rattle.x509_der_element.specs.declared.error.Error.{Error}
+use Rattle.x509_der_element.specs.declared.error.ErrorKind.{ErrorKind}
+use Rattle.x509_der_element.specs.declared.error.ErrorKind.TheVariants.{Memory, Malformed}
+use Rattle.x509_der_element.specs.declared.tag.Tag.TheVariants as tags
+use Rattle.x509_der_element.specs.Element.{element}
+use Rattle.x509_der_element.specs.Tag.{octet_of}
+use Rattle.x509_der_grammar.specs.Form.{Form, IsForm, spelling}
+use Rattle.x509_der_grammar.specs.Tested.{tested, tested_lawful}
+use Rattle.x509_der_frames.specs.Choice.{either, either_lawful}
+use Rattle.x509_der_frames.specs.declared.any.Any.{Any}
+use Rattle.x509_prim_text.specs.Alphabet.{is_printable, is_ia5}
+use Rattle.x509_prim_text.specs.Bmp.{is_bmp, bmp_chars}
+use Rattle.x509_name_directory.specs.declared.directory_string.DirectoryString.{DirectoryString}
+use Rattle.x509_name_directory.specs.declared.directory_string.DirectoryString.TheVariants.{PrintableString, TeletexString, Utf8String, BmpString}
+
+-- ---- the grammar
+
+abbrev pub printable : Form (List ℕ)
+printable = tested tags.PrintableString (list_all is_printable)
+
+abbrev pub teletex : Form (List ℕ)
+teletex = tested tags.TeletexString (list_all is_ia5)
+
+abbrev pub utf8 : Form (List ℕ)
+utf8 = tested tags.Utf8String is_utf8
+
+abbrev pub bmp : Form (List ℕ)
+bmp = tested tags.BmpString is_bmp
+
+abbrev pub utf8_or_bmp : Form (List ℕ ⊎ List ℕ)
+utf8_or_bmp = either (λ v. v) (λ v. v) utf8 bmp
+
+abbrev pub teletex_or_later : Form (List ℕ ⊎ (List ℕ ⊎ List ℕ))
+teletex_or_later = either (λ v. v) (λ v. v) teletex utf8_or_bmp
+
+abbrev pub directory_to : DirectoryString → List ℕ ⊎ (List ℕ ⊎ (List ℕ ⊎ List ℕ))
+directory_to (PrintableString text) = inl text
+directory_to (TeletexString text) = inr (inl text)
+directory_to (Utf8String text) = inr (inr (inl text))
+directory_to (BmpString octets) = inr (inr (inr octets))
+
+abbrev pub directory_from : List ℕ ⊎ (List ℕ ⊎ (List ℕ ⊎ List ℕ)) → DirectoryString
+directory_from (inl text) = PrintableString text
+directory_from (inr (inl text)) = TeletexString text
+directory_from (inr (inr (inl text))) = Utf8String text
+directory_from (inr (inr (inr octets))) = BmpString octets
+
+abbrev pub directory_string : Form DirectoryString
+directory_string = either directory_to directory_from printable teletex_or_later
+
+pub directory_string_lawful : {R : ErrorKind → Type 0} → IsForm R directory_string
+directory_string_lawful = either_lawful directory_to directory_from printable teletex_or_later
+    (elim [ PrintableString text ↦ refl | TeletexString text ↦ refl | Utf8String text ↦ refl | BmpString octets ↦ refl ])
+    (elim [ inl text ↦ refl | inr (inl text) ↦ refl | inr (inr (inl text)) ↦ refl | inr (inr (inr octets)) ↦ refl ]) refl
+    (tested_lawful tags.PrintableString (list_all is_printable))
+    (either_lawful (λ v. v) (λ v. v) teletex utf8_or_bmp (λ v. refl) (λ v. refl) refl (tested_lawful tags.TeletexString (list_all is_ia5))
+    (either_lawful (λ v. v) (λ v. v) utf8 bmp (λ v. refl) (λ v. refl) refl (tested_lawful tags.Utf8String is_utf8) (tested_lawful tags.BmpString is_bmp)))
+
+-- ---- texts
+
+-- the text, in UTF-8
+abbrev pub text_of : DirectoryString → List ℕ
+text_of (PrintableString text) = text
+text_of (TeletexString text) = text
+text_of (Utf8String text) = text
+text_of (BmpString octets) = encode_utf8_all (bmp_chars octets)
+
+-- the content where it is UTF-8 as it stands, and nothing of a BMPString
+abbrev pub text_in_place : DirectoryString → List ℕ
+text_in_place (PrintableString text) = text
+text_in_place (TeletexString text) = text
+text_in_place (Utf8String text) = text
+text_in_place (BmpString octets) = []
+
+-- whether it is a BMPString
+abbrev pub is_bmp_string : DirectoryString → Bool
+is_bmp_string (PrintableString text) = false
+is_bmp_string (TeletexString text) = false
+is_bmp_string (Utf8String text) = false
+is_bmp_string (BmpString octets) = true
+
+-- ---- elements
+
+-- the element is that of the string
+abbrev pub IsElementOf : DirectoryString → Any → Type 0
+IsElementOf string any = directory_string.good string × (element (octet_of any.tag) any.value ≡ spelling directory_string string)
+
+-- The answer is the string whose element it is; where it is that of none, a refusal. Memory may be refused.
+pub record ReadsDirectoryString (any : Any) (answer : Result DirectoryString Error) : Type 0 where
+  pub found : IfOk answer (λ string. IsElementOf string any)
+  pub every : (string : DirectoryString) → IsElementOf string any → IfErr answer (λ e. e.kind ≡ Memory)
+  pub refused : IfErr answer (λ e. (e.kind ≡ Memory) ⊎ (e.kind ≡ Malformed))

@@ -1,0 +1,2 @@
+pub mod TextRef
+pub mod DirectoryString
