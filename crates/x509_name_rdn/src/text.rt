@@ -1,16 +1,21 @@
 //! The texts of relative distinguished names and of names, read and written (RFC 4514 sections 2.1, 2.2 and 3).
 
-ghost use Rattle.std.specs.Prelude.{◌≡◌, ◌⊎◌, IfOk, IfErr};
+ghost use Rattle.std.specs.Prelude.{◌≡◌, ◌<◌, ◌≤◌, ◌⊎◌, List, length, IfOk, IfErr};
 ghost use Rattle.std.specs.Fmt.{WritesOnOk};
 ghost use Rattle.x509_der_element.specs.declared.error.ErrorKind.TheVariants as errors;
+ghost use Rattle.x509_der_element.specs.Element.{limit};
+ghost use Rattle.x509_der_grammar.specs.Form.{spelling};
+ghost use Rattle.x509_name_attribute.specs.declared.type_and_value.AttributeTypeAndValue.{AttributeTypeAndValue};
+ghost use Rattle.x509_name_rdn.specs.Names.{rdn_sequence};
 ghost use Rattle.x509_name_rdn.specs.NameText as texts;
 ghost use Rattle.x509_name_text.specs.Attributes.{AttributeRefused};
 
+use crate::name::Name;
 use crate::rdn::RelativeDistinguishedName;
 use crate::rdn_sequence::RdnSequence;
 use std::alloc::Global;
 use std::fmt;
-use x509_der_grammar::Error;
+use x509_der_grammar::{Encode, Error};
 use x509_name_attribute::AttributeTypeAndValue;
 use x509_name_text::{Parts, count_parts, read_attribute, write_attribute};
 
@@ -83,4 +88,100 @@ pub(crate) fn write_name<W: fmt::Write>(
         write_rdn(f, rdns[rdns.len() - 1 - i].as_slice())?;
     }
     Ok(())
+}
+
+impl RelativeDistinguishedName {
+    /// The relative distinguished name of a text: attributes with plus signs between, in any order (RFC 4514 sections
+    /// 2.2 and 3).
+    ///
+    /// # Errors
+    ///
+    /// Those of [`AttributeTypeAndValue::from_str`] for the leftmost part that is refused; where all are read,
+    /// `SetDuplicate` exactly where two of the attributes are equal. Memory may be refused.
+    pub fn from_str(alloc: Global, text: &str) -> Result<RelativeDistinguishedName, Error>
+        ensures ok { IfOk result (λ rdn. texts.RdnReads text.now rdn) }
+        ensures err { IfErr result (λ e. (e.kind ≡ errors.Memory) ⊎ texts.RdnRefused text.now e.kind) }
+    {
+        read_rdn(alloc, text.as_bytes())
+    }
+}
+
+impl fmt::Display for RelativeDistinguishedName {
+    ghost use Rattle.std.specs.Prelude.{Some};
+    ghost use Rattle.x509_name_rdn.specs.NameText.{rdn_text};
+
+    ghost output = { λ rdn. Some (rdn_text rdn) };
+
+    fn fmt<W: fmt::Write>(&self, f: &mut fmt::Formatter<W>) -> fmt::Result {
+        write_rdn(f, self.as_slice())
+    }
+}
+
+impl RdnSequence {
+    /// The relative distinguished names of a text, which has the last of them first and commas between. The empty text
+    /// is that of none (RFC 4514 sections 2.1 and 3).
+    ///
+    /// # Errors
+    ///
+    /// Those of [`RelativeDistinguishedName::from_str`] for the leftmost part that is refused. Memory may be refused.
+    pub fn from_str(alloc: Global, text: &str) -> Result<RdnSequence, Error>
+        ensures ok { IfOk result (λ rdns. texts.NameReads text.now rdns) }
+        ensures err { IfErr result (λ e. (e.kind ≡ errors.Memory) ⊎ texts.NameRefused text.now e.kind) }
+    {
+        read_name(alloc, text.as_bytes())
+    }
+
+    /// The encoding of what a text says.
+    ///
+    /// # Errors
+    ///
+    /// Those of `from_str`; where the text is read, `Overlength` exactly where the encoding is longer than
+    /// [`Length::MAX`](x509_der_grammar::Length::MAX). Memory may be refused.
+    pub fn encode_from_string(alloc: Global, text: &str) -> Result<Vec<u8>, Error>
+        ensures ok { IfOk result (λ bytes. (rdns : List (List AttributeTypeAndValue)) × texts.NameReads text.now rdns
+            × (bytes.items ≡ spelling rdn_sequence rdns) × (length bytes.items ≤ limit)) }
+        ensures err { IfErr result (λ e. (e.kind ≡ errors.Memory) ⊎ (texts.NameRefused text.now e.kind
+            ⊎ ((e.kind ≡ errors.Overlength) × ((rdns : List (List AttributeTypeAndValue)) × texts.NameReads text.now rdns × (limit < length (spelling rdn_sequence rdns)))))) }
+    {
+        let rdns = RdnSequence::from_str(alloc, text)?;
+        rdns.to_der(alloc)
+    }
+}
+
+impl fmt::Display for RdnSequence {
+    ghost use Rattle.std.specs.Prelude.{Some};
+    ghost use Rattle.x509_name_rdn.specs.NameText.{name_text};
+
+    ghost output = { λ rdns. Some (name_text rdns) };
+
+    fn fmt<W: fmt::Write>(&self, f: &mut fmt::Formatter<W>) -> fmt::Result {
+        write_name(f, self.as_slice())
+    }
+}
+
+impl Name {
+    /// The name of a text, as [`RdnSequence::from_str`] reads it.
+    ///
+    /// # Errors
+    ///
+    /// Those of [`RdnSequence::from_str`].
+    pub fn from_str(alloc: Global, text: &str) -> Result<Name, Error>
+        ensures ok { IfOk result (λ name. texts.NameReads text.now name) }
+        ensures err { IfErr result (λ e. (e.kind ≡ errors.Memory) ⊎ texts.NameRefused text.now e.kind) }
+    {
+        let rdns = RdnSequence::from_str(alloc, text)?;
+        Ok(Name::hazmat_from_rdn_sequence(rdns))
+    }
+}
+
+impl fmt::Display for Name {
+    ghost use Rattle.std.specs.Prelude.{Some};
+    ghost use Rattle.x509_name_rdn.specs.NameText.{name_text};
+
+    ghost output = { λ name. Some (name_text name) };
+
+    fn fmt<W: fmt::Write>(&self, f: &mut fmt::Formatter<W>) -> fmt::Result {
+        let rdns: &RdnSequence = self.as_ref();
+        write_name(f, rdns.as_slice())
+    }
 }
