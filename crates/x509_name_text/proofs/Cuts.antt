@@ -1,7 +1,6 @@
 -- A text is cut into the one list of parts that it joins.
-use Rattle.std.proofs.Common.{eq-eqb, ◌%◌, ◌<◌, ◌≡◌, ◌≢◌, ℕ, suc, Bool, true, false, eqb, List, [], ◌∷◌, ◌++◌, length, Option, Some, refl, sym, ap, ◌∙◌, arith, inl, inr}
+use Rattle.std.proofs.Common.{eq-eqb, ◌%◌, ◌<◌, ◌≡◌, ℕ, suc, Bool, true, false, eqb, List, [], ◌∷◌, ◌++◌, length, Option, Some, refl, sym, ap, ◌∙◌, arith, inl, inr}
 use Rattle.std.specs.List.{AllByRecursion, join_with_byte, onto_first}
-use Rattle.std.proofs.lemmas.Bool.{ne_eqb}
 use Rattle.std.proofs.lemmas.Bool.Decides.{nat_tests, eqb_tells}
 use Rattle.x509_name_text.specs.Parts.{run_from, run_at_end, KeepsSeparators, EndsEven, AllButLast, Joined}
 use Rattle.x509_name_text.specs.Cutting.{passes, cut}

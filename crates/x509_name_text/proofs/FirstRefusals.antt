@@ -1,5 +1,5 @@
 -- Parts that are read one after the other: what is read of them, and which refusal comes first.
-use Rattle.std.proofs.Common.{◌+◌, ◌<◌, ◌≡◌, ◌⊎◌, ℕ, List, [], ◌∷◌, ◌++◌, length, map, take, drop, get_or, refl, sym, ap, ◌∙◌, arith, inl, inr, subst, add-one, drop-cons, append_assoc, append-nil, ◌≤◌}
+use Rattle.std.proofs.Common.{◌+◌, ◌<◌, ◌≡◌, ℕ, List, [], ◌∷◌, ◌++◌, length, map, take, drop, get_or, refl, sym, ap, ◌∙◌, arith, inl, inr, subst, add-one, drop-cons, append_assoc, append-nil, ◌≤◌, length-append}
 use Rattle.std.specs.List.{AllByRecursion, AllZip}
 use Rattle.std.proofs.lemmas.List.{take_more, take_all, take-append-drop}
 use Rattle.x509_der_element.specs.declared.error.ErrorKind.{ErrorKind}
@@ -82,17 +82,41 @@ module _ {X Y : Type 0} (reads : X → Y → Type 0) (parts : List X) (past : X)
 pub zip_end : {X Y : Type 0} (reads : X → Y → Type 0) (parts : List X) (ys : List Y) (i : ℕ) → length parts ≤ i → AllZip reads (take i parts) ys → AllZip reads parts ys
 zip_end {X = X} reads parts ys i ge so_far = subst (λ (t : List X). AllZip reads t ys) (take_all i parts ge) so_far
 
--- ---- a loop over an iterator that gives the parts: it has read done, and left are the parts left
+-- ---- a loop over an iterator that gives the parts
 
-module _ {X Y : Type 0} (reads : X → Y → Type 0) (all done left : List X) (ys : List Y) (part : X) (rest : List X) (parts_are : done ++ left ≡ all) (gives : left ≡ part ∷ rest) (so_far : AllZip reads done ys) where
-  pub done_more : (done ++ part ∷ []) ++ rest ≡ all
-  done_more = append_assoc done (part ∷ []) rest ∙ ap (λ (t : List X). done ++ t) (sym gives) ∙ parts_are
+-- the parts in front of those that are left read as the values
+pub record ReadSoFar {X Y : Type 0} (reads : X → Y → Type 0) (all left : List X) (values : List Y) : Type 0 where
+  pub done : List X
+  pub parts : done ++ left ≡ all
+  pub are : AllZip reads done values
 
-  pub next_refused : (refused : X → ErrorKind → Type 0) (kind : ErrorKind) → refused part kind → FirstRefused reads refused all kind
-  next_refused refused kind q =
-      subst (λ (t : List X). FirstRefused reads refused t kind) (ap (λ (t : List X). done ++ t) (sym gives) ∙ parts_are)
-      (refused_behind reads refused done ys part rest kind so_far q)
+pub read_none : {X Y : Type 0} (reads : X → Y → Type 0) (all left : List X) → left ≡ all → ReadSoFar reads all left []
+read_none reads all left none = record { done = []; parts = none; are = tt }
 
-pub done_all : {X Y : Type 0} (reads : X → Y → Type 0) (all done left : List X) (ys : List Y) → done ++ left ≡ all → left ≡ [] → AllZip reads done ys → AllZip reads all ys
-done_all {X = X} reads all done left ys parts_are none so_far =
-    subst (λ (t : List X). AllZip reads t ys) (sym (append-nil done) ∙ ap (λ (t : List X). done ++ t) (sym none) ∙ parts_are) so_far
+module _ {X Y : Type 0} (reads : X → Y → Type 0) (all left rest : List X) (values : List Y) (part : X) (so_far : ReadSoFar reads all left values) (gives : left ≡ part ∷ rest) where
+  opened : so_far.done ++ part ∷ rest ≡ all
+  opened = ap (λ (t : List X). so_far.done ++ t) (sym gives) ∙ so_far.parts
+
+  -- the next part reads
+  pub read_more : (value : Y) → reads part value → ReadSoFar reads all rest (values ++ value ∷ [])
+  read_more value q = record {
+    done = so_far.done ++ part ∷ [];
+    parts = append_assoc so_far.done (part ∷ []) rest ∙ opened;
+    are = zip_push reads so_far.done values part value so_far.are q;
+  }
+
+  -- or is refused
+  pub read_refused : (refused : X → ErrorKind → Type 0) (kind : ErrorKind) → refused part kind → FirstRefused reads refused all kind
+  read_refused refused kind q =
+      subst (λ (t : List X). FirstRefused reads refused t kind) opened (refused_behind reads refused so_far.done values part rest kind so_far.are q)
+
+-- all parts read
+pub read_all : {X Y : Type 0} (reads : X → Y → Type 0) (all left : List X) (values : List Y) → ReadSoFar reads all left values → left ≡ [] → AllZip reads all values
+read_all {X = X} reads all left values so_far none =
+    let parts : so_far.done ≡ all = sym (append-nil so_far.done) ∙ ap (λ (t : List X). so_far.done ++ t) (sym none) ∙ so_far.parts in
+    subst (λ (t : List X). AllZip reads t values) parts so_far.are
+
+-- as many values as parts are done
+pub read_count : {X Y : Type 0} (reads : X → Y → Type 0) (all left : List X) (values : List Y) → ReadSoFar reads all left values → length values + length left ≡ length all
+read_count reads all left values so_far =
+    omega (arith, zip_length reads so_far.done values so_far.are, length-append so_far.done left, ap length so_far.parts)

@@ -1,6 +1,8 @@
 pub mod Cuts
 pub mod CutLoops
 pub mod FirstRefusals
+pub mod Joins
+pub mod PartsRead
 pub mod Printed
 pub mod PrintedText
 pub mod Unescaping

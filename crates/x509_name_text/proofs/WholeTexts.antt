@@ -1,5 +1,5 @@
 -- Texts with no separator outside an escape and no escape left open, which stay whole when they are joined.
-use Rattle.std.proofs.Common.{◌<◌, ◌≡◌, ◌≢◌, ℕ, Bool, true, false, List, [], ◌∷◌, ◌++◌, length, Some, flat_map, refl, sym, ap, ◌∙◌, arith, inl, inr}
+use Rattle.std.proofs.Common.{◌<◌, ◌≡◌, ◌≢◌, ℕ, Bool, true, false, List, [], ◌∷◌, ◌++◌, length, Some, flat_map, refl, sym, ◌∙◌, arith}
 use Rattle.std.specs.List.{AllByRecursion, join_with_byte}
 use Rattle.std.proofs.lemmas.Bool.{ne_eqb}
 use Rattle.x509_name_text.specs.Escapes.{Item, Plain, Special, Pair, IsItem, item_text, is_hex, is_special, is_empty, is_always_escaped, item_of, further_items, escaped}

@@ -31,8 +31,8 @@ loop-i-preserved g c =
             boundary = IsCharBoundary-after_ascii text i c.utf8.text lt (escaped_ascii byte (nat_eq i 0) (nat_eq (i + 1) (length text)) is);
             writes = λ plain.
                 let now = c.loop-i.invariant.writes plain in
-                let run = (rw w.range.ensures.value at w.in_ok-write_str.ensures.writes) now.1.plain refl in
-                let escape = (rw value at w.in_ok-write_escape.ensures) run.plain refl in (
+                let run = (rw w.range.ensures.value at w.in_ok-write_str.ensures.writes) now.1.plain (refl {a = true}) in
+                let escape = (rw value at w.in_ok-write_escape.ensures) run.plain (refl {a = true}) in (
                   now.0 ++ (slice_range text start i ++ item_text (item_of true byte)),
                   has_written_append _ _ _ _ _ _ now.1 (has_written_append _ _ _ _ _ _ run escape),
                   printed_escape text now.0 _ start i lt now.2 (escaped_is byte _ is),
