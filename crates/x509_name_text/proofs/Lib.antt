@@ -12,3 +12,4 @@ pub mod TableFacts
 pub mod AttributeReading
 pub mod HexTexts
 pub mod AttributeTexts
+pub mod AttributeLaws
