@@ -1,12 +1,12 @@
 -- Texts of attributes: what is read is one, and what is printed reads back.
-use Rattle.std.proofs.Common.{◌≡◌, ◌≢◌, ◌⊎◌, ◌<◌, ◌≤◌, ◌+◌, ◌/◌, ◌%◌, ℕ, zero, suc, Bool, true, false, eqb, List, [], ◌∷◌, ◌++◌, length, get_or, Option, Some, None, Result, Ok, Err, refl, sym, ap, ◌∙◌, arith, inl, inr, subst}
-use Rattle.std.specs.Prelude.{Contains, slice_index}
+use Rattle.std.proofs.Common.{◌≡◌, ◌≢◌, ◌<◌, ◌≤◌, ℕ, zero, suc, true, false, List, [], ◌∷◌, ◌++◌, length, Option, Some, None, Result, Ok, refl, sym, ap, ◌∙◌, arith, inl, inr, subst}
+use Rattle.std.specs.Prelude.{Contains}
 use Rattle.std.specs.Char.{is_ascii_uppercase}
 use Rattle.std.specs.List.{AllByRecursion, list_all}
 use Rattle.std.proofs.lemmas.Bool.{and_parts, cases_Bool, cases_lt}
 use Rattle.std.proofs.lemmas.Bool.Decides.{nat_tests, eqb_tells}
 use Rattle.std.proofs.lemmas.List.{length-append}
-use Rattle.hex.specs.Hex.{IsBytes, decode_of, encode_lower, encode_with, lower_digits}
+use Rattle.hex.specs.Hex.{IsBytes, decode_of, encode_lower}
 use Rattle.hex.specs.declared.error.FromHexError.{FromHexError}
 use Rattle.hex.proofs.HexLemmas.{decode_of-encode_lower}
 use Rattle.x509_der_element.specs.Element.{element, length_octets, limit}
@@ -16,16 +16,16 @@ use Rattle.x509_der_element.specs.TagLaws.{tag_is_identifier, is_identifier-octe
 use Rattle.x509_der_element.specs.TagReading.{same_tag}
 use Rattle.x509_der_element.specs.declared.error.ErrorKind.{ErrorKind}
 use Rattle.x509_der_element.specs.declared.tag.Tag.{Tag}
-use Rattle.x509_der_oid.specs.Arcs.{AreArcs, content_of, dotted}
+use Rattle.x509_der_oid.specs.Arcs.{AreArcs, dotted}
 use Rattle.x509_der_oid.specs.ArcLaws.{content_of-arcs_of, small_arcs}
-use Rattle.x509_der_oid.specs.ObjectIdentifier.{arcs_of, is_object_identifier}
+use Rattle.x509_der_oid.specs.ObjectIdentifier.{arcs_of}
 use Rattle.x509_der_frames.specs.declared.any.Any.{Any}
-use Rattle.x509_name_text.specs.Escapes.{Unescapes, escaped, is_always_escaped}
-use Rattle.x509_name_text.specs.Keys.{Key, KeySays, key_named, key_of, tag_for}
-use Rattle.x509_name_text.specs.Attributes.{IsCut, AttributeSays, AttributeReads, AttributeRefused, ReadsBack, ValueSays, attribute_text, begins_with_hash, is_text, printed_key, value_octets}
+use Rattle.x509_name_text.specs.Escapes.{escaped}
+use Rattle.x509_name_text.specs.Keys.{Key, key_of, tag_for}
+use Rattle.x509_name_text.specs.Attributes.{AttributeSays, AttributeReads, AttributeRefused, ReadsBack, ValueSays, attribute_text, begins_with_hash, is_text, printed_key, value_octets}
 use Rattle.x509_name_text.proofs.AttributeReading.{no_hash, one_type, said_parts}
 use Rattle.x509_name_text.proofs.AttributeTexts.{named_text, unnamed_text, other_text}
-use Rattle.x509_name_text.proofs.DottedTexts.{AllByRecursion-append, AllByRecursion-weaker, IsDottedOctet, contains_none, dotted_octets}
+use Rattle.x509_name_text.proofs.DottedTexts.{IsDottedOctet, contains_none, dotted_octets}
 use Rattle.x509_name_text.proofs.Printed.{escaped_again, escaped_front}
 use Rattle.x509_name_text.proofs.TableFacts.{name_is_capitals, named_again, octets_of_key}
 use Rattle.x509_name_text.proofs.Unescaping.{one_reading}
@@ -131,7 +131,7 @@ plain_front (byte ∷ rest) none = elim (eqb_tells byte 35) [
   | inr not ↦ not.0
 ]
 
-capitals : (name : List ℕ) → list_all is_ascii_uppercase name ≡ true → AllByRecursion (λ char. is_ascii_uppercase char ≡ true) name
+pub capitals : (name : List ℕ) → list_all is_ascii_uppercase name ≡ true → AllByRecursion (λ char. is_ascii_uppercase char ≡ true) name
 capitals [] h = tt
 capitals (char ∷ name) h = let parts = and_parts (is_ascii_uppercase char) (list_all is_ascii_uppercase name) h in (parts.0, capitals name parts.1)
 

@@ -13,3 +13,4 @@ pub mod AttributeReading
 pub mod HexTexts
 pub mod AttributeTexts
 pub mod AttributeLaws
+pub mod WholeAttributes
