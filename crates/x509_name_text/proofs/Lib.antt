@@ -14,3 +14,4 @@ pub mod HexTexts
 pub mod AttributeTexts
 pub mod AttributeLaws
 pub mod WholeAttributes
+pub mod EncodedTexts

@@ -50,7 +50,7 @@ plain_hex (octet ∷ octets) = (plain_at lower_digits (octet / 16) plain_digits,
 plain_whole : (separator : ℕ) (text : List ℕ) → IsSeparator separator → AllByRecursion IsPlain text → Whole separator text
 plain_whole separator text s all = Whole-plain separator text
     (AllByRecursion-weaker IsPlain (λ (byte : ℕ). (byte ≢ separator) × (byte ≢ 92))
-      (λ (byte : ℕ) (plain : IsPlain byte). (apart byte separator plain s.always, apart byte 92 plain refl)) text all)
+    (λ (byte : ℕ) (plain : IsPlain byte). (apart byte separator plain s.always, apart byte 92 plain refl)) text all)
   where
     apart : (byte other : ℕ) → IsPlain byte → is_always_escaped other ≡ true → byte ≢ other
     apart byte other plain always e = absurd (let k = rw e at plain in cc)
@@ -67,8 +67,8 @@ module _ (octets : List ℕ) (value : Any) (separator : ℕ) (s : IsSeparator se
   whole_dotted is =
       plain_whole separator _ s
       (AllByRecursion-append IsPlain (dotted (arcs_of octets)) (61 ∷ 35 ∷ encode_lower (value_octets value))
-        (AllByRecursion-weaker IsDottedOctet IsPlain plain_dotted_octet (dotted (arcs_of octets)) (dotted_octets (arcs_of octets) (small_arcs (arcs_of octets) (content_of-arcs_of octets is).0)))
-        (refl, (refl, plain_hex (value_octets value))))
+      (AllByRecursion-weaker IsDottedOctet IsPlain plain_dotted_octet (dotted (arcs_of octets)) (dotted_octets (arcs_of octets) (small_arcs (arcs_of octets) (content_of-arcs_of octets is).0)))
+      (refl, (refl, plain_hex (value_octets value))))
 
   by_key : (found : Option Key) → key_of octets ≡ found → is_object_identifier octets ≡ true → is_text value.tag value.value ≡ true → Whole separator (attribute_text octets value)
   by_key (Some key) found type is = subst (Whole separator) (named_text octets value key is found) (whole_named key found)
