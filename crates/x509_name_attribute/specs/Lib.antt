@@ -1,3 +1,4 @@
 pub mod Equality
 pub mod TypeAndValue
 pub mod Attribute
+pub mod Text

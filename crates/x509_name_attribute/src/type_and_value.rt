@@ -1,13 +1,20 @@
 //! What one part of a name says: the type of an attribute, and its value.
 
+ghost use Rattle.std.specs.Prelude.{◌≡◌, ◌⊎◌, IfOk, IfErr};
+ghost use Rattle.x509_der_element.specs.declared.error.ErrorKind.TheVariants.{Memory};
+ghost use Rattle.x509_name_attribute.specs.Text as text_form;
+ghost use Rattle.x509_name_text.specs.Attributes.{AttributeRefused};
+
 use std::alloc::Global;
 use std::cmp::Ordering;
+use std::fmt;
 use std::hash::{Hash, Hasher};
 use x509_der_frames::{Any, PutPart, end, field};
-use x509_der_grammar::{Content, Error, Room, Tag, TryClone};
+use x509_der_grammar::{Content, Encode, Error, Room, Tag, TryClone};
 use x509_der_oid::ObjectIdentifier;
 use x509_der_order::{DerOrd, ValueOrd};
 use x509_der_set::{SetMember, SetOrd};
+use x509_name_text::{read_attribute, write_attribute};
 
 /// The type of an attribute (RFC 5280 4.1.2.4).
 pub type AttributeType = ObjectIdentifier;
@@ -29,6 +36,45 @@ pub struct AttributeTypeAndValue {
 
     /// The value.
     pub value: AttributeValue,
+}
+
+impl AttributeTypeAndValue {
+    /// The attribute that a text says, as `CN=Good CA` (RFC 4514 sections 2.3, 2.4 and 3).
+    ///
+    /// # Errors
+    ///
+    /// Those of [`read_attribute`].
+    pub fn from_str(alloc: Global, text: &str) -> Result<AttributeTypeAndValue, Error>
+        ensures ok { IfOk result (λ attribute. text_form.Reads text.now attribute) }
+        ensures err { IfErr result (λ e. (e.kind ≡ Memory) ⊎ AttributeRefused text.now e.kind) }
+    {
+        let (oid, value) = read_attribute(alloc, text.as_bytes())?;
+        Ok(AttributeTypeAndValue { oid, value })
+    }
+
+    /// The encoding of the attribute that a text says.
+    ///
+    /// # Errors
+    ///
+    /// Those of [`from_str`](AttributeTypeAndValue::from_str) and of `to_der`.
+    pub fn encode_from_string(alloc: Global, text: &str) -> Result<Vec<u8>, Error>
+        ensures ok { IfOk result (λ bytes. text_form.Encodes text.now bytes.items) }
+        ensures err { IfErr result (λ e. (e.kind ≡ Memory) ⊎ text_form.NotEncoded text.now e.kind) }
+    {
+        AttributeTypeAndValue::from_str(alloc, text)?.to_der(alloc)
+    }
+}
+
+/// The text of RFC 4514 sections 2.3 and 2.4, as [`write_attribute`] writes it.
+impl fmt::Display for AttributeTypeAndValue {
+    ghost use Rattle.std.specs.Prelude.{Some};
+    ghost use Rattle.x509_name_attribute.specs.Text.{text_of};
+
+    ghost output = { λ attribute. Some (text_of attribute) };
+
+    fn fmt<W: fmt::Write>(&self, f: &mut fmt::Formatter<W>) -> fmt::Result {
+        write_attribute(f, &self.oid, &self.value)
+    }
 }
 
 impl TryClone for AttributeTypeAndValue {

@@ -3,7 +3,6 @@ use Rattle.std.proofs.Common.{◌≡◌, ◌≢◌, ◌<◌, ◌⊎◌, ℕ, Lis
 use Rattle.std.specs.List.{AllByRecursion, AllZip, join_with_byte}
 use Rattle.std.specs.List.Sorted.{IsPermutation}
 use Rattle.std.proofs.lemmas.List.{reverse-reverse}
-use Rattle.std.proofs.lemmas.Grind.{reverse_onto}
 use Rattle.std.proofs.lemmas.List.Sorted.{IsPermutation-refl, IsPermutation-sym, IsPermutation-trans}
 use Rattle.x509_der_element.specs.declared.error.ErrorKind.{ErrorKind}
 use Rattle.x509_der_element.specs.declared.error.ErrorKind.TheVariants.{SetDuplicate}
@@ -18,149 +17,139 @@ use Rattle.x509_name_text.specs.Refusals.{FirstRefused}
 use Rattle.x509_name_text.proofs.Cuts.{one_cut}
 use Rattle.x509_name_text.proofs.FirstRefusals.{one_of_each, zip_map, zip_apart, refused_once}
 use Rattle.x509_name_text.proofs.WholeTexts.{Whole, Whole-join, join_whole}
+use Rattle.x509_name_text.proofs.AttributeLaws.{attribute_again, one_attribute, reads_apart, one_refusal}
+use Rattle.x509_name_text.proofs.Joins.{all_reverse, some_map, some_join}
+use Rattle.x509_name_text.proofs.WholeAttributes.{whole_attribute_plus, whole_attribute_comma, some_attribute}
 use Rattle.x509_name_rdn.specs.NameText.{rdn_text, name_text, OneReads, RdnReads, NameReads, RdnRefused, NameRefused, RdnReadsBack, NameReadsBack}
--- TEMPORARY
-use Rattle.x509_der_frames.specs.declared.any.Any.{Any}
 
-module _ (attribute_again : (octets : List ℕ) (value : Any) → ReadsBack octets value → AttributeReads (attribute_text octets value) octets value) (attribute_some : (octets : List ℕ) (value : Any) → ReadsBack octets value → attribute_text octets value ≢ []) (attribute_whole_plus : (octets : List ℕ) (value : Any) → ReadsBack octets value → Whole 43 (attribute_text octets value)) (attribute_whole_comma : (octets : List ℕ) (value : Any) → ReadsBack octets value → Whole 44 (attribute_text octets value)) (one_attribute : (text octets others : List ℕ) (value other : Any) → AttributeReads text octets value → AttributeReads text others other → (octets ≡ others) × (value ≡ other)) (attribute_apart : (text octets : List ℕ) (value : Any) (kind : ErrorKind) → AttributeReads text octets value → AttributeRefused text kind → ⊥) (attribute_once : (text : List ℕ) (kind other : ErrorKind) → AttributeRefused text kind → AttributeRefused text other → kind ≡ other) where
-  -- BEGIN
+-- ---- lists
 
-  map_each : {X Y : Type 0} (P : X → Type 0) (Q : Y → Type 0) (f : X → Y) → ((x : X) → P x → Q (f x)) → (xs : List X) → AllByRecursion P xs → AllByRecursion Q (map f xs)
-  map_each P Q f step [] h = tt
-  map_each P Q f step (x ∷ xs) h = (step x h.0, map_each P Q f step xs h.1)
+map_each : {X Y : Type 0} (P : X → Type 0) (Q : Y → Type 0) (f : X → Y) → ((x : X) → P x → Q (f x)) → (xs : List X) → AllByRecursion P xs → AllByRecursion Q (map f xs)
+map_each P Q f step [] h = tt
+map_each P Q f step (x ∷ xs) h = (step x h.0, map_each P Q f step xs h.1)
 
-  push_each : {X : Type 0} (P : X → Type 0) (xs : List X) (x : X) → AllByRecursion P xs → P x → AllByRecursion P (xs ++ x ∷ [])
-  push_each P [] x h k = (k, tt)
-  push_each P (y ∷ xs) x h k = (h.0, push_each P xs x h.1 k)
+nothing_short : (text : List ℕ) → 0 < length text → text ≢ []
+nothing_short [] some is = absurd (omega arith)
+nothing_short (byte ∷ text) some is = absurd cc
 
-  reverse_each : {X : Type 0} (P : X → Type 0) (xs : List X) → AllByRecursion P xs → AllByRecursion P (reverse xs)
-  reverse_each P [] h = tt
-  reverse_each P (x ∷ xs) h = subst (AllByRecursion P) (sym (reverse_onto xs x [])) (push_each P (reverse xs) x (reverse_each P xs h.1) h.0)
+-- ---- one relative distinguished name
 
-  -- a list with members isn't empty, joined or turned round
-  some_length : {X : Type 0} (xs : List X) → xs ≢ [] → 0 < length xs
-  some_length [] some = absurd (some refl)
-  some_length (x ∷ xs) some = omega arith
+abbrev text_of : AttributeTypeAndValue → List ℕ
+text_of a = attribute_text a.oid a.value
 
-  join_some : (separator : ℕ) (part : List ℕ) (parts : List (List ℕ)) → part ≢ [] → join_with_byte separator (part ∷ parts) ≢ []
-  join_some separator part [] some e = some e
-  join_some separator [] (next ∷ parts) some e = some refl
-  join_some separator (byte ∷ part) (next ∷ parts) some e = absurd cc
+abbrev BackOne : AttributeTypeAndValue → Type 0
+BackOne a = ReadsBack a.oid a.value
 
-  -- ---- one relative distinguished name
+one_again : (a : AttributeTypeAndValue) → BackOne a → OneReads (text_of a) a
+one_again a back = attribute_again a.oid a.value back
 
-  abbrev text_of : AttributeTypeAndValue → List ℕ
-  text_of a = attribute_text a.oid a.value
+pub rdn_again : (rdn : List AttributeTypeAndValue) → RdnReadsBack rdn → RdnReads (rdn_text rdn) rdn
+unfolding rdn_text
+rdn_again rdn back = record {
+  parts = map text_of rdn;
+  attributes = rdn;
+  cut = join_whole 43 (map text_of rdn) (some_map text_of rdn back.some) (map_each BackOne (Whole 43) text_of (λ a h. whole_attribute_plus a.oid a.value h) rdn back.each);
+  read = zip_map OneReads BackOne text_of one_again rdn back.each;
+  members = IsPermutation-refl rdn;
+  sorted = back.sorted;
+}
 
-  abbrev BackOne : AttributeTypeAndValue → Type 0
-  BackOne a = ReadsBack a.oid a.value
+rdn_whole : (rdn : List AttributeTypeAndValue) → RdnReadsBack rdn → Whole 44 (rdn_text rdn)
+unfolding rdn_text
+rdn_whole rdn back = Whole-join 44 43 (map text_of rdn) (λ e. omega arith) (λ e. omega arith) (map_each BackOne (Whole 44) text_of (λ a h. whole_attribute_comma a.oid a.value h) rdn back.each)
 
-  one_again : (a : AttributeTypeAndValue) → BackOne a → OneReads (text_of a) a
-  one_again a back = attribute_again a.oid a.value back
+rdn_some : (rdn : List AttributeTypeAndValue) → RdnReadsBack rdn → 0 < length (rdn_text rdn)
+unfolding rdn_text
+rdn_some [] back = absurd (back.some refl)
+rdn_some (a ∷ rdn) back = some_join 43 (text_of a) (map text_of rdn) (some_attribute a.oid a.value)
 
-  parts_some : (rdn : List AttributeTypeAndValue) → rdn ≢ [] → 0 < length (map text_of rdn)
-  parts_some [] some = absurd (some refl)
-  parts_some (a ∷ rdn) some = omega arith
+one_reads_one : (text : List ℕ) (a b : AttributeTypeAndValue) → OneReads text a → OneReads text b → a ≡ b
+one_reads_one text a b p q = let same = one_attribute text a.oid b.oid a.value b.value p q in λ i. record { oid = same.0 i; value = same.1 i }
 
-  pub rdn_again : (rdn : List AttributeTypeAndValue) → RdnReadsBack rdn → RdnReads (rdn_text rdn) rdn
-  unfolding rdn_text
-  rdn_again rdn back = record {
-    parts = map text_of rdn;
-    attributes = rdn;
-    cut = join_whole 43 (map text_of rdn) (parts_some rdn back.some) (map_each BackOne (Whole 43) text_of (λ a h. attribute_whole_plus a.oid a.value h) rdn back.each);
-    read = zip_map OneReads BackOne text_of one_again rdn back.each;
-    members = IsPermutation-refl rdn;
-    sorted = back.sorted;
-  }
+same_attributes : (text : List ℕ) (parts others : List (List ℕ)) (xs ys : List AttributeTypeAndValue) → Joined 43 parts text → Joined 43 others text → AllZip OneReads parts xs → AllZip OneReads others ys → xs ≡ ys
+same_attributes text parts others xs ys p q read again =
+    one_of_each OneReads one_reads_one parts xs ys read (subst (λ t. AllZip OneReads t ys) (one_cut 43 text others parts q p) again)
 
-  rdn_whole : (rdn : List AttributeTypeAndValue) → RdnReadsBack rdn → Whole 44 (rdn_text rdn)
-  unfolding rdn_text
-  rdn_whole rdn back = Whole-join 44 43 (map text_of rdn) (λ e. omega arith) (λ e. omega arith) (map_each BackOne (Whole 44) text_of (λ a h. attribute_whole_comma a.oid a.value h) rdn back.each)
+pub one_rdn : (text : List ℕ) (rdn other : List AttributeTypeAndValue) → RdnReads text rdn → RdnReads text other → rdn ≡ other
+one_rdn text rdn other p q =
+    let same = same_attributes text p.parts q.parts p.attributes q.attributes p.cut q.cut p.read q.read in
+    one_set types_and_values_lawful.total types_and_values_lawful.exact rdn other p.sorted q.sorted
+    (IsPermutation-trans rdn q.attributes other (subst (λ t. IsPermutation rdn t) same (IsPermutation-sym p.attributes rdn p.members)) q.members)
 
-  rdn_some : (rdn : List AttributeTypeAndValue) → RdnReadsBack rdn → rdn_text rdn ≢ []
-  unfolding rdn_text
-  rdn_some [] back = absurd (back.some refl)
-  rdn_some (a ∷ rdn) back = join_some 43 (text_of a) (map text_of rdn) (attribute_some a.oid a.value back.each.0)
+one_apart : (text : List ℕ) (a : AttributeTypeAndValue) (kind : ErrorKind) → OneReads text a → AttributeRefused text kind → ⊥
+one_apart text a kind p q = reads_apart text a.oid a.value kind p q
 
-  one_reads_one : (text : List ℕ) (a b : AttributeTypeAndValue) → OneReads text a → OneReads text b → a ≡ b
-  one_reads_one text a b p q = let same = one_attribute text a.oid b.oid a.value b.value p q in λ i. record { oid = same.0 i; value = same.1 i }
+-- what reads has distinct attributes
+read_distinct : (text : List ℕ) (rdn : List AttributeTypeAndValue) (p : RdnReads text rdn) → AreDistinct p.attributes
+read_distinct text rdn p = distinct_from_rising types_and_values_lawful.total p.attributes rdn p.members p.sorted
 
-  same_attributes : (text : List ℕ) (parts others : List (List ℕ)) (xs ys : List AttributeTypeAndValue) → Joined 43 parts text → Joined 43 others text → AllZip OneReads parts xs → AllZip OneReads others ys → xs ≡ ys
-  same_attributes text parts others xs ys p q read again =
-      one_of_each OneReads one_reads_one parts xs ys read (subst (λ t. AllZip OneReads t ys) (one_cut 43 text others parts q p) again)
+pub rdn_apart : (text : List ℕ) (rdn : List AttributeTypeAndValue) (kind : ErrorKind) → RdnReads text rdn → RdnRefused text kind → ⊥
+rdn_apart text rdn kind p q = go q.refused
+  where
+    go : FirstRefused OneReads AttributeRefused q.parts kind ⊎ ((attributes : List AttributeTypeAndValue) × AllZip OneReads q.parts attributes × (AreDistinct attributes → ⊥) × (kind ≡ SetDuplicate)) → ⊥
+    go (inl first) = zip_apart OneReads AttributeRefused one_apart p.parts p.attributes kind p.read (subst (λ t. FirstRefused OneReads AttributeRefused t kind) (one_cut 43 text q.parts p.parts q.cut p.cut) first)
+    go (inr (attributes, read, equal, is)) = equal (subst AreDistinct (same_attributes text p.parts q.parts p.attributes attributes p.cut q.cut p.read read) (read_distinct text rdn p))
 
-  pub one_rdn : (text : List ℕ) (rdn other : List AttributeTypeAndValue) → RdnReads text rdn → RdnReads text other → rdn ≡ other
-  one_rdn text rdn other p q =
-      let same = same_attributes text p.parts q.parts p.attributes q.attributes p.cut q.cut p.read q.read in
-      one_set types_and_values_lawful.total types_and_values_lawful.exact rdn other p.sorted q.sorted
-      (IsPermutation-trans rdn q.attributes other (subst (λ t. IsPermutation rdn t) same (IsPermutation-sym p.attributes rdn p.members)) q.members)
+pub rdn_once : (text : List ℕ) (kind other : ErrorKind) → RdnRefused text kind → RdnRefused text other → kind ≡ other
+rdn_once text kind other p q = go p.refused q.refused
+  where
+    moved : FirstRefused OneReads AttributeRefused q.parts other → FirstRefused OneReads AttributeRefused p.parts other
+    moved first = subst (λ t. FirstRefused OneReads AttributeRefused t other) (one_cut 43 text q.parts p.parts q.cut p.cut) first
 
-  one_apart : (text : List ℕ) (a : AttributeTypeAndValue) (kind : ErrorKind) → OneReads text a → AttributeRefused text kind → ⊥
-  one_apart text a kind p q = attribute_apart text a.oid a.value kind p q
+    moved_zip : (attributes : List AttributeTypeAndValue) → AllZip OneReads q.parts attributes → AllZip OneReads p.parts attributes
+    moved_zip attributes read = subst (λ t. AllZip OneReads t attributes) (one_cut 43 text q.parts p.parts q.cut p.cut) read
 
-  -- what reads has distinct attributes
-  read_distinct : (text : List ℕ) (rdn : List AttributeTypeAndValue) (p : RdnReads text rdn) → AreDistinct p.attributes
-  read_distinct text rdn p = distinct_from_rising types_and_values_lawful.total p.attributes rdn p.members p.sorted
+    go : FirstRefused OneReads AttributeRefused p.parts kind ⊎ ((attributes : List AttributeTypeAndValue) × AllZip OneReads p.parts attributes × (AreDistinct attributes → ⊥) × (kind ≡ SetDuplicate)) → FirstRefused OneReads AttributeRefused q.parts other ⊎ ((attributes : List AttributeTypeAndValue) × AllZip OneReads q.parts attributes × (AreDistinct attributes → ⊥) × (other ≡ SetDuplicate)) → kind ≡ other
+    go (inl first) (inl second) = refused_once OneReads AttributeRefused one_apart one_refusal p.parts kind other first (moved second)
+    go (inl first) (inr (attributes, read, equal, is)) = absurd (zip_apart OneReads AttributeRefused one_apart p.parts attributes kind (moved_zip attributes read) first)
+    go (inr (attributes, read, equal, is)) (inl second) = absurd (zip_apart OneReads AttributeRefused one_apart p.parts attributes other read (moved second))
+    go (inr (attributes, read, equal, is)) (inr (others, again, twice, same)) = is ∙ sym same
 
-  pub rdn_apart : (text : List ℕ) (rdn : List AttributeTypeAndValue) (kind : ErrorKind) → RdnReads text rdn → RdnRefused text kind → ⊥
-  rdn_apart text rdn kind p q = go q.refused
-    where
-      go : FirstRefused OneReads AttributeRefused q.parts kind ⊎ ((attributes : List AttributeTypeAndValue) × AllZip OneReads q.parts attributes × (AreDistinct attributes → ⊥) × (kind ≡ SetDuplicate)) → ⊥
-      go (inl first) = zip_apart OneReads AttributeRefused one_apart p.parts p.attributes kind p.read (subst (λ t. FirstRefused OneReads AttributeRefused t kind) (one_cut 43 text q.parts p.parts q.cut p.cut) first)
-      go (inr (attributes, read, equal, is)) = equal (subst AreDistinct (same_attributes text p.parts q.parts p.attributes attributes p.cut q.cut p.read read) (read_distinct text rdn p))
+-- ---- names
 
-  pub rdn_once : (text : List ℕ) (kind other : ErrorKind) → RdnRefused text kind → RdnRefused text other → kind ≡ other
-  rdn_once text kind other p q = go p.refused q.refused
-    where
-      moved : FirstRefused OneReads AttributeRefused q.parts other → FirstRefused OneReads AttributeRefused p.parts other
-      moved first = subst (λ t. FirstRefused OneReads AttributeRefused t other) (one_cut 43 text q.parts p.parts q.cut p.cut) first
+name_parts : (name : List (List AttributeTypeAndValue)) → NameReadsBack name → AllByRecursion RdnReadsBack (reverse name)
+name_parts name back = all_reverse RdnReadsBack name back
 
-      moved_zip : (attributes : List AttributeTypeAndValue) → AllZip OneReads q.parts attributes → AllZip OneReads p.parts attributes
-      moved_zip attributes read = subst (λ t. AllZip OneReads t attributes) (one_cut 43 text q.parts p.parts q.cut p.cut) read
+reads_some : (text : List ℕ) (parts : List (List ℕ)) (name : List (List AttributeTypeAndValue)) → text ≢ [] → Joined 44 parts text → AllZip RdnReads parts (reverse name) → NameReads text name
+reads_some [] parts name some cut read = absurd (some refl)
+reads_some (byte ∷ text) parts name some cut read = (parts, cut, read)
 
-      go : FirstRefused OneReads AttributeRefused p.parts kind ⊎ ((attributes : List AttributeTypeAndValue) × AllZip OneReads p.parts attributes × (AreDistinct attributes → ⊥) × (kind ≡ SetDuplicate)) → FirstRefused OneReads AttributeRefused q.parts other ⊎ ((attributes : List AttributeTypeAndValue) × AllZip OneReads q.parts attributes × (AreDistinct attributes → ⊥) × (other ≡ SetDuplicate)) → kind ≡ other
-      go (inl first) (inl second) = refused_once OneReads AttributeRefused one_apart attribute_once p.parts kind other first (moved second)
-      go (inl first) (inr (attributes, read, equal, is)) = absurd (zip_apart OneReads AttributeRefused one_apart p.parts attributes kind (moved_zip attributes read) first)
-      go (inr (attributes, read, equal, is)) (inl second) = absurd (zip_apart OneReads AttributeRefused one_apart p.parts attributes other read (moved second))
-      go (inr (attributes, read, equal, is)) (inr (others, again, twice, same)) = is ∙ sym same
+turned_again : (name : List (List AttributeTypeAndValue)) (turned : List (List AttributeTypeAndValue)) → reverse name ≡ turned → AllByRecursion RdnReadsBack turned → NameReads (join_with_byte 44 (map rdn_text turned)) name
+turned_again name [] is back = sym (reverse-reverse name) ∙ ap reverse is
+turned_again name (rdn ∷ rdns) is back =
+    let parts = map rdn_text (rdn ∷ rdns) in
+    reads_some (join_with_byte 44 parts) parts name (nothing_short (join_with_byte 44 parts) (some_join 44 (rdn_text rdn) (map rdn_text rdns) (rdn_some rdn back.0)))
+    (join_whole 44 parts (omega arith) (map_each RdnReadsBack (Whole 44) rdn_text rdn_whole (rdn ∷ rdns) back))
+    (subst (λ t. AllZip RdnReads parts t) (sym is) (zip_map RdnReads RdnReadsBack rdn_text rdn_again (rdn ∷ rdns) back))
 
-  -- ---- names
+pub name_again : (name : List (List AttributeTypeAndValue)) → NameReadsBack name → NameReads (name_text name) name
+unfolding name_text
+name_again name back = turned_again name (reverse name) refl (name_parts name back)
 
-  name_parts : (name : List (List AttributeTypeAndValue)) → NameReadsBack name → AllByRecursion RdnReadsBack (reverse name)
-  name_parts name back = reverse_each RdnReadsBack name back
+turned_back : (name other : List (List AttributeTypeAndValue)) → reverse name ≡ reverse other → name ≡ other
+turned_back name other same = sym (reverse-reverse name) ∙ ap reverse same ∙ reverse-reverse other
 
-  reads_some : (text : List ℕ) (parts : List (List ℕ)) (name : List (List AttributeTypeAndValue)) → text ≢ [] → Joined 44 parts text → AllZip RdnReads parts (reverse name) → NameReads text name
-  reads_some [] parts name some cut read = absurd (some refl)
-  reads_some (byte ∷ text) parts name some cut read = (parts, cut, read)
+pub one_name : (text : List ℕ) (name other : List (List AttributeTypeAndValue)) → NameReads text name → NameReads text other → name ≡ other
+one_name [] name other p q = p ∙ sym q
+one_name (byte ∷ text) name other p q =
+    turned_back name other (one_of_each RdnReads one_rdn p.0 (reverse name) (reverse other) p.2
+    (subst (λ t. AllZip RdnReads t (reverse other)) (one_cut 44 (byte ∷ text) q.0 p.0 q.1 p.1) q.2))
 
-  turned_again : (name : List (List AttributeTypeAndValue)) (turned : List (List AttributeTypeAndValue)) → reverse name ≡ turned → AllByRecursion RdnReadsBack turned → NameReads (join_with_byte 44 (map rdn_text turned)) name
-  turned_again name [] is back = sym (reverse-reverse name) ∙ ap reverse is
-  turned_again name (rdn ∷ rdns) is back =
-      let parts = map rdn_text (rdn ∷ rdns) in
-      reads_some (join_with_byte 44 parts) parts name (join_some 44 (rdn_text rdn) (map rdn_text rdns) (rdn_some rdn back.0))
-      (join_whole 44 parts (omega arith) (map_each RdnReadsBack (Whole 44) rdn_text rdn_whole (rdn ∷ rdns) back))
-      (subst (λ t. AllZip RdnReads parts t) (sym is) (zip_map RdnReads RdnReadsBack rdn_text rdn_again (rdn ∷ rdns) back))
+pub name_apart : (text : List ℕ) (name : List (List AttributeTypeAndValue)) (kind : ErrorKind) → NameReads text name → NameRefused text kind → ⊥
+name_apart [] name kind p q = q.some refl
+name_apart (byte ∷ text) name kind p q =
+    zip_apart RdnReads RdnRefused rdn_apart p.0 (reverse name) kind p.2
+    (subst (λ t. FirstRefused RdnReads RdnRefused t kind) (one_cut 44 (byte ∷ text) q.parts p.0 q.cut p.1) q.refused)
 
-  pub name_again : (name : List (List AttributeTypeAndValue)) → NameReadsBack name → NameReads (name_text name) name
-  unfolding name_text
-  name_again name back = turned_again name (reverse name) refl (name_parts name back)
+pub name_once : (text : List ℕ) (kind other : ErrorKind) → NameRefused text kind → NameRefused text other → kind ≡ other
+name_once text kind other p q =
+    refused_once RdnReads RdnRefused rdn_apart rdn_once p.parts kind other p.refused
+    (subst (λ t. FirstRefused RdnReads RdnRefused t other) (one_cut 44 text q.parts p.parts q.cut p.cut) q.refused)
 
-  turned_back : (name other : List (List AttributeTypeAndValue)) → reverse name ≡ reverse other → name ≡ other
-  turned_back name other same = sym (reverse-reverse name) ∙ ap reverse same ∙ reverse-reverse other
+-- ---- two that print alike
 
-  pub one_name : (text : List ℕ) (name other : List (List AttributeTypeAndValue)) → NameReads text name → NameReads text other → name ≡ other
-  one_name [] name other p q = p ∙ sym q
-  one_name (byte ∷ text) name other p q =
-      turned_back name other (one_of_each RdnReads one_rdn p.0 (reverse name) (reverse other) p.2
-      (subst (λ t. AllZip RdnReads t (reverse other)) (one_cut 44 (byte ∷ text) q.0 p.0 q.1 p.1) q.2))
+pub rdns_apart : (rdn other : List AttributeTypeAndValue) → RdnReadsBack rdn → RdnReadsBack other → rdn_text rdn ≡ rdn_text other → rdn ≡ other
+rdns_apart rdn other back again same = one_rdn (rdn_text rdn) rdn other (rdn_again rdn back) (subst (λ text. RdnReads text other) (sym same) (rdn_again other again))
 
-  pub name_apart : (text : List ℕ) (name : List (List AttributeTypeAndValue)) (kind : ErrorKind) → NameReads text name → NameRefused text kind → ⊥
-  name_apart [] name kind p q = q.some refl
-  name_apart (byte ∷ text) name kind p q =
-      zip_apart RdnReads RdnRefused rdn_apart p.0 (reverse name) kind p.2
-      (subst (λ t. FirstRefused RdnReads RdnRefused t kind) (one_cut 44 (byte ∷ text) q.parts p.0 q.cut p.1) q.refused)
-
-  pub name_once : (text : List ℕ) (kind other : ErrorKind) → NameRefused text kind → NameRefused text other → kind ≡ other
-  name_once text kind other p q =
-      refused_once RdnReads RdnRefused rdn_apart rdn_once p.parts kind other p.refused
-      (subst (λ t. FirstRefused RdnReads RdnRefused t other) (one_cut 44 text q.parts p.parts q.cut p.cut) q.refused)
+pub names_apart : (name other : List (List AttributeTypeAndValue)) → NameReadsBack name → NameReadsBack other → name_text name ≡ name_text other → name ≡ other
+names_apart name other back again same = one_name (name_text name) name other (name_again name back) (subst (λ text. NameReads text other) (sym same) (name_again other again))

@@ -5,7 +5,9 @@ ghost use Rattle.std.specs.List.Sorted.{IsStrictlySortedBy, IsPermutation};
 ghost use Rattle.x509_der_grammar.specs.Form.{Spells};
 ghost use Rattle.x509_name_attribute.specs.TypeAndValue.{type_and_value_cmp};
 ghost use Rattle.x509_name_attribute.specs.declared.type_and_value.AttributeTypeAndValue.{AttributeTypeAndValue};
+ghost use Rattle.x509_der_element.specs.declared.error.ErrorKind.{ErrorKind};
 ghost use Rattle.x509_name_rdn.specs.Names.{name};
+ghost use Rattle.x509_name_rdn.specs.NameText as texts;
 
 use crate::name::Name;
 use crate::rdn::RelativeDistinguishedName;
@@ -32,4 +34,35 @@ pub fn attributes_make_the_rdn()
 pub fn equal_names_are_one_value()
     ensures rdns { (a b : List AttributeTypeAndValue) → (⟦<RelativeDistinguishedName as PartialEq>⟧.eq a b ≡ true) ↔ (a ≡ b) }
     ensures names { (a b : List (List AttributeTypeAndValue)) → (⟦<Name as PartialEq>⟧.eq a b ≡ true) ↔ (a ≡ b) }
+{}
+
+/// What is printed of a name reads as that name: of each name without an empty relative distinguished name, whose attributes
+/// that are printed by name have the tag of their type. So does what is printed of one relative distinguished name.
+#[tactic(auto, using(crate::proofs::NameTexts::rdn_again, crate::proofs::NameTexts::name_again))]
+pub fn printed_names_read_back()
+    ensures rdns { (rdn : List AttributeTypeAndValue) → texts.RdnReadsBack rdn → texts.RdnReads (texts.rdn_text rdn) rdn }
+    ensures names { (name : List (List AttributeTypeAndValue)) → texts.NameReadsBack name → texts.NameReads (texts.name_text name) name }
+{}
+
+/// A text reads as at most one name, and as at most one relative distinguished name.
+#[tactic(auto, using(crate::proofs::NameTexts::one_rdn, crate::proofs::NameTexts::one_name))]
+pub fn a_text_reads_as_one_name()
+    ensures rdns { (text : List ℕ) (rdn other : List AttributeTypeAndValue) → texts.RdnReads text rdn → texts.RdnReads text other → rdn ≡ other }
+    ensures names { (text : List ℕ) (name other : List (List AttributeTypeAndValue)) → texts.NameReads text name → texts.NameReads text other → name ≡ other }
+{}
+
+/// No two names that read back print alike, and no two relative distinguished names.
+#[tactic(auto, using(crate::proofs::NameTexts::rdns_apart, crate::proofs::NameTexts::names_apart))]
+pub fn no_two_names_print_alike()
+    ensures rdns { (rdn other : List AttributeTypeAndValue) → texts.RdnReadsBack rdn → texts.RdnReadsBack other → texts.rdn_text rdn ≡ texts.rdn_text other → rdn ≡ other }
+    ensures names { (name other : List (List AttributeTypeAndValue)) → texts.NameReadsBack name → texts.NameReadsBack other → texts.name_text name ≡ texts.name_text other → name ≡ other }
+{}
+
+/// A text that reads is refused by nothing, and a text is refused in at most one way.
+#[tactic(auto, using(crate::proofs::NameTexts::rdn_apart, crate::proofs::NameTexts::rdn_once, crate::proofs::NameTexts::name_apart, crate::proofs::NameTexts::name_once))]
+pub fn a_text_is_refused_in_one_way()
+    ensures rdns { (text : List ℕ) (rdn : List AttributeTypeAndValue) (kind : ErrorKind) → texts.RdnReads text rdn → texts.RdnRefused text kind → ⊥ }
+    ensures rdns_once { (text : List ℕ) (kind other : ErrorKind) → texts.RdnRefused text kind → texts.RdnRefused text other → kind ≡ other }
+    ensures names { (text : List ℕ) (name : List (List AttributeTypeAndValue)) (kind : ErrorKind) → texts.NameReads text name → texts.NameRefused text kind → ⊥ }
+    ensures names_once { (text : List ℕ) (kind other : ErrorKind) → texts.NameRefused text kind → texts.NameRefused text other → kind ≡ other }
 {}

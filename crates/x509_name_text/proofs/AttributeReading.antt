@@ -80,7 +80,7 @@ no_type text octets none not_utf8 (inr is_dotted) = not_utf8 (subst IsUtf8 (sym 
 hash_first : (text digits : List ℕ) → text ≡ 35 ∷ digits → begins_with_hash text ≡ true
 hash_first text digits e = rw e refl
 
-no_hash : (text digits : List ℕ) → begins_with_hash text ≡ false → text ≡ 35 ∷ digits → ⊥
+pub no_hash : (text digits : List ℕ) → begins_with_hash text ≡ false → text ≡ 35 ∷ digits → ⊥
 no_hash text digits none e = absurd (let k = hash_first text digits e in cc)
 
 no_content : (octets text : List ℕ) (kind : ErrorKind) → begins_with_hash text ≡ false → kind ≡ Failed → ((bytes : List ℕ) → Unescapes text bytes → ⊥) → ValueRefused octets text kind

@@ -12,3 +12,6 @@ pub mod TableFacts
 pub mod AttributeReading
 pub mod HexTexts
 pub mod AttributeTexts
+pub mod AttributeLaws
+pub mod WholeAttributes
+pub mod EncodedTexts

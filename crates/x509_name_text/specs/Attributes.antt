@@ -2,7 +2,7 @@
 use Rattle.std.specs.Prelude.{◌≡◌, ◌≢◌, ◌<◌, ◌≤◌, ◌⊎◌, ℕ, Bool, true, false, nat_eq, length, List, [], ◌∷◌, ◌++◌, Option, Some, None, Ok, Contains, if◌then◌else◌}
 use Rattle.std.specs.List.{list_all}
 use Rattle.std.specs.Str.{is_utf8}
-use Rattle.hex.specs.Hex.{encode_lower, decode_of}
+use Rattle.hex.specs.Hex.{IsBytes, encode_lower, decode_of}
 use Rattle.x509_der_element.specs.Element.{element, limit}
 use Rattle.x509_der_element.specs.Tag.{octet_of}
 use Rattle.x509_der_element.specs.declared.error.ErrorKind.{ErrorKind}
@@ -106,9 +106,10 @@ AttributeRefused text kind =
 
 -- ---- what reads back
 
--- An attribute that reads back from its text: of a type that is an object identifier, with an element within the limit,
--- and with the type's tag where it is printed by name.
+-- An attribute that reads back from its text: of a type that is an object identifier, with a content of octets and an
+-- element within the limit, and with the type's tag where it is printed by name.
 pub record ReadsBack (octets : List ℕ) (value : Any) : Type 0 where
   pub type : is_object_identifier octets ≡ true
+  pub content : IsBytes value.value
   pub within : length (value_octets value) ≤ limit
   pub tagged : printed_key octets value ≢ None → value.tag ≡ tag_for octets

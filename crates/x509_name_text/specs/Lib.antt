@@ -5,3 +5,4 @@ pub mod Reading
 pub mod Keys
 pub mod Attributes
 pub mod Refusals
+pub mod Encodings
