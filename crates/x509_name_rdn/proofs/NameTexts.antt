@@ -1,5 +1,5 @@
 -- Names read again from their text, and texts read as one name at most or are refused by one error.
-use Rattle.std.proofs.Common.{◌≡◌, ◌≢◌, ◌<◌, ◌⊎◌, ℕ, List, [], ◌∷◌, ◌++◌, length, map, reverse, refl, sym, ap, ◌∙◌, arith, inl, inr, subst}
+use Rattle.std.proofs.Common.{◌≡◌, ◌≢◌, ◌<◌, ◌⊎◌, ℕ, List, [], ◌∷◌, length, map, reverse, refl, sym, ap, ◌∙◌, arith, inl, inr, subst}
 use Rattle.std.specs.List.{AllByRecursion, AllZip, join_with_byte}
 use Rattle.std.specs.List.Sorted.{IsPermutation}
 use Rattle.std.proofs.lemmas.List.{reverse-reverse}
@@ -11,7 +11,7 @@ use Rattle.x509_der_set.proofs.OneSet.{one_set}
 use Rattle.x509_der_set.proofs.RisingLists.{distinct_from_rising}
 use Rattle.x509_name_attribute.specs.TypeAndValue.{types_and_values_lawful}
 use Rattle.x509_name_attribute.specs.declared.type_and_value.AttributeTypeAndValue.{AttributeTypeAndValue}
-use Rattle.x509_name_text.specs.Attributes.{attribute_text, AttributeReads, AttributeRefused, ReadsBack}
+use Rattle.x509_name_text.specs.Attributes.{attribute_text, AttributeRefused, ReadsBack}
 use Rattle.x509_name_text.specs.Parts.{Joined}
 use Rattle.x509_name_text.specs.Refusals.{FirstRefused}
 use Rattle.x509_name_text.proofs.Cuts.{one_cut}

@@ -45,7 +45,6 @@ pub fn printed_names_read_back()
 {}
 
 /// A text reads as at most one name, and as at most one relative distinguished name.
-#[tactic(auto, using(crate::proofs::NameTexts::one_rdn, crate::proofs::NameTexts::one_name))]
 pub fn a_text_reads_as_one_name()
     ensures rdns { (text : List ℕ) (rdn other : List AttributeTypeAndValue) → texts.RdnReads text rdn → texts.RdnReads text other → rdn ≡ other }
     ensures names { (text : List ℕ) (name other : List (List AttributeTypeAndValue)) → texts.NameReads text name → texts.NameReads text other → name ≡ other }
@@ -59,7 +58,6 @@ pub fn no_two_names_print_alike()
 {}
 
 /// A text that reads is refused by nothing, and a text is refused in at most one way.
-#[tactic(auto, using(crate::proofs::NameTexts::rdn_apart, crate::proofs::NameTexts::rdn_once, crate::proofs::NameTexts::name_apart, crate::proofs::NameTexts::name_once))]
 pub fn a_text_is_refused_in_one_way()
     ensures rdns { (text : List ℕ) (rdn : List AttributeTypeAndValue) (kind : ErrorKind) → texts.RdnReads text rdn → texts.RdnRefused text kind → ⊥ }
     ensures rdns_once { (text : List ℕ) (kind other : ErrorKind) → texts.RdnRefused text kind → texts.RdnRefused text other → kind ≡ other }
