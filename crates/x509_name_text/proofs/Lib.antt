@@ -15,3 +15,4 @@ pub mod AttributeTexts
 pub mod AttributeLaws
 pub mod WholeAttributes
 pub mod EncodedTexts
+pub mod StandardFacts

@@ -33,6 +33,7 @@ impl TextType {
 
 /// A row of the table: the name that is printed, the name in full, the content octets of the object identifier, and the
 /// type of a value that is read from a text.
+// A tuple, since contracts can't name a constant of structs that borrow.
 pub type Row = (&'static str, &'static str, &'static [u8], TextType);
 
 /// The types of attribute that have a name. Both names are found without regard to ASCII case.
