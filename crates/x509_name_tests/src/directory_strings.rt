@@ -3,7 +3,7 @@
 use crate::calls::{is_refused, stays};
 use std::test::*;
 use x509_der_frames::Any;
-use x509_der_grammar::{Decode, Error, ErrorKind, Grammar, Tag, TryClone};
+use x509_der_grammar::{Decode, Error, ErrorKind, Grammar, Tag};
 use x509_name_directory::{DirectoryString, TextRef, laws};
 use x509_prim_text::{BmpString, PrintableString, TeletexString, Utf8String};
 
@@ -19,15 +19,16 @@ const STRINGS: [(&[u8], &str); 4] = [
 fn has_text(rt: &HostRuntime, bytes: &[u8], text: &str) -> Result<bool, Error> {
     let string = DirectoryString::from_der(rt.alloc(), bytes)?;
     let same = string.value(rt.alloc())?.as_str() == text;
-    let copy = string.try_clone(rt.alloc())?;
-    Ok(same && copy == string && copy.into_string(rt.alloc())?.as_str() == text)
+    Ok(
+        same && string.into_string(rt.alloc())?.as_str() == text
+            && stays::<DirectoryString>(rt, bytes)?,
+    )
 }
 
 #[test]
 fn rows(rt: HostRuntime) -> Result<(), Fail> {
     for (bytes, text) in STRINGS {
-        assert!(rt; stays::<DirectoryString>(&rt, bytes)?, "{text}");
-        assert!(rt; has_text(&rt, bytes, text)?, "{text}");
+        assert!(rt; has_text(&rt, bytes, text)?, "of {text}");
     }
     laws::bytes_determine_the_directory_string();
     Ok(())

@@ -4,10 +4,11 @@ use crate::calls::is_refused;
 use crate::names::NAME;
 use std::test::*;
 use x509_der_grammar::{Decode, Error, ErrorKind};
+use x509_name_attribute::AttributeTypeAndValue;
 use x509_name_directory::DirectoryString;
 use x509_name_rdn::attribute_types::{ORGANIZATION_NAME, ORGANIZATIONAL_UNIT_NAME};
 use x509_name_rdn::{Name, RelativeDistinguishedName};
-use x509_prim_text::{TeletexStringRef, Utf8StringRef};
+use x509_prim_text::{Ia5StringRef, TeletexStringRef, Utf8StringRef};
 
 /// ST=Ohio, L=Rome, OU=CA, OU=XY and the email address a@b.c.
 const PLACE: &[u8] =
@@ -35,8 +36,10 @@ fn names(rt: HostRuntime) -> Result<(), Fail> {
 
 /// Whether the country is US, and there is no email address.
 fn is_of_us(rt: &HostRuntime, name: &Name) -> Result<bool, Error> {
-    let country = name.country(rt.alloc())?.map(|text| text.as_str());
-    Ok(country == Some("US") && name.email_address(rt.alloc())?.is_none())
+    let Some(country) = name.country(rt.alloc())? else {
+        return Ok(false);
+    };
+    Ok(country.as_str() == "US" && name.email_address(rt.alloc())?.is_none())
 }
 
 #[test]
@@ -47,14 +50,21 @@ fn countries(rt: HostRuntime) -> Result<(), Fail> {
     Ok(())
 }
 
+/// Whether there is the address.
+fn is_address(found: Option<Ia5StringRef<'_>>, text: &str) -> bool {
+    match found {
+        Some(address) => address.as_str() == text,
+        None => false,
+    }
+}
+
 #[test]
 fn places(rt: HostRuntime) -> Result<(), Fail> {
     let name = Name::from_der(rt.alloc(), PLACE)?;
     assert!(rt; is_text(name.state_or_province(rt.alloc())?, "Ohio"));
     assert!(rt; is_text(name.locality(rt.alloc())?, "Rome"));
     assert!(rt; is_text(name.organization_unit(rt.alloc())?, "CA"));
-    let address = name.email_address(rt.alloc())?.map(|text| text.as_str());
-    assert!(rt; address == Some("a@b.c"));
+    assert!(rt; is_address(name.email_address(rt.alloc())?, "a@b.c"));
     Ok(())
 }
 
@@ -63,8 +73,10 @@ fn is_by_oid(rt: &HostRuntime, name: &Name) -> Result<bool, Error> {
     let unit = name.by_oid::<Utf8StringRef>(rt.alloc(), ORGANIZATIONAL_UNIT_NAME)?;
     let other = name.by_oid::<TeletexStringRef>(rt.alloc(), ORGANIZATIONAL_UNIT_NAME);
     let none = name.by_oid::<DirectoryString>(rt.alloc(), ORGANIZATION_NAME)?;
-    let is_first = unit.map(|text| text.as_str()) == Some("CA");
-    Ok(is_first && is_refused(other, ErrorKind::Malformed) && none.is_none())
+    let Some(unit) = unit else {
+        return Ok(false);
+    };
+    Ok(unit.as_str() == "CA" && is_refused(other, ErrorKind::Malformed) && none.is_none())
 }
 
 #[test]
@@ -73,14 +85,22 @@ fn by_oid(rt: HostRuntime) -> Result<(), Fail> {
     Ok(())
 }
 
+/// Whether there is an attribute with the value.
+fn is_value(attribute: Option<&AttributeTypeAndValue>, value: &[u8]) -> bool {
+    match attribute {
+        Some(attribute) => attribute.value.value() == value,
+        None => false,
+    }
+}
+
 /// Whether the relative distinguished name has the one attribute, from either end.
 fn has_one(rdn: Option<&RelativeDistinguishedName>, value: &[u8]) -> bool {
     let Some(rdn) = rdn else {
         return false;
     };
-    let first = rdn.iter().next().map(|a| a.value.value());
-    let last = rdn.iter().next_back().map(|a| a.value.value());
-    first == Some(value) && last == Some(value) && rdn.iter().len() == 1
+    is_value(rdn.iter().next(), value)
+        && is_value(rdn.iter().next_back(), value)
+        && rdn.iter().len() == 1
 }
 
 #[test]
@@ -91,7 +111,6 @@ fn iterators(rt: HostRuntime) -> Result<(), Fail> {
     assert!(rt; has_one(rdns.next_back(), b"Good CA"));
     assert!(rt; rdns.size_hint() == (1, Some(1)) && rdns.next_back().is_some());
     assert!(rt; rdns.next().is_none() && rdns.next_back().is_none());
-    let last = name.iter().last().map(|a| a.value.value());
-    assert!(rt; last == Some(b"Good CA".as_slice()));
+    assert!(rt; is_value(name.iter().last(), b"Good CA"));
     Ok(())
 }
