@@ -2,7 +2,7 @@
 
 use std::hash::{DefaultHasher, Hash, Hasher};
 use std::test::*;
-use x509_der_grammar::{Decode, Encode, Error, TryClone};
+use x509_der_grammar::{Decode, Encode, Error, ErrorKind, TryClone};
 
 /// Whether the bytes are read, and a copy that equals the value is written as they were.
 pub(crate) fn stays<T: Decode + Encode + TryClone + PartialEq + Drop>(
@@ -20,4 +20,12 @@ pub(crate) fn hash_of<T: Hash>(value: &T) -> u64 {
     let mut hasher = DefaultHasher::new();
     value.hash(&mut hasher);
     hasher.finish()
+}
+
+/// Whether a call was refused so.
+pub(crate) fn is_refused<T: Drop>(outcome: Result<T, Error>, kind: ErrorKind) -> bool {
+    match outcome {
+        Ok(_) => false,
+        Err(e) => e.kind() == kind,
+    }
 }

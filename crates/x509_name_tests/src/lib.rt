@@ -6,4 +6,8 @@ mod attributes;
 #[cfg(test)]
 mod calls;
 #[cfg(test)]
+mod directory_strings;
+#[cfg(test)]
+mod look_ups;
+#[cfg(test)]
 mod names;

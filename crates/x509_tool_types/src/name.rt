@@ -7,6 +7,7 @@ use std::marker::PhantomData;
 use x509_base_validity::Profile;
 use x509_der_grammar::Error;
 use x509_name_attribute::{Attribute, AttributeTypeAndValue};
+use x509_name_directory::DirectoryString;
 use x509_name_rdn::{Name, RdnSequence, RelativeDistinguishedName};
 
 /// Attributes and names.
@@ -24,6 +25,7 @@ impl<P: Profile> Table for Names<P> {
 
     ghost table = { named (codes "Attribute") ⟦<Attribute as Reencode>⟧.reencodes otherwise
         named (codes "AttributeTypeAndValue") ⟦<AttributeTypeAndValue as Reencode>⟧.reencodes otherwise
+        named (codes "DirectoryString") ⟦<DirectoryString as Reencode>⟧.reencodes otherwise
         named (codes "Name") ⟦<Name as Reencode>⟧.reencodes otherwise
         named (codes "RdnSequence") (Reencodes rdn_sequence plain (λ _. ⊥)) otherwise
         named (codes "RelativeDistinguishedName") (Reencodes relative_distinguished_name plain (λ _. ⊥)) otherwise
@@ -33,6 +35,7 @@ impl<P: Profile> Table for Names<P> {
         match name {
             "Attribute" => Attribute::reencode_as(alloc, bytes),
             "AttributeTypeAndValue" => AttributeTypeAndValue::reencode_as(alloc, bytes),
+            "DirectoryString" => DirectoryString::reencode_as(alloc, bytes),
             "Name" => Name::reencode_as(alloc, bytes),
             "RdnSequence" => RdnSequence::reencode_as(alloc, bytes),
             "RelativeDistinguishedName" => RelativeDistinguishedName::reencode_as(alloc, bytes),
