@@ -11,3 +11,5 @@ mod directory_strings;
 mod look_ups;
 #[cfg(test)]
 mod names;
+#[cfg(test)]
+mod texts;
