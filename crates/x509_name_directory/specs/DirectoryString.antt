@@ -11,7 +11,7 @@ use Rattle.x509_der_element.specs.Element.{element}
 use Rattle.x509_der_element.specs.Tag.{octet_of}
 use Rattle.x509_der_grammar.specs.Form.{Form, IsForm, spelling}
 use Rattle.x509_der_grammar.specs.Tested.{tested, tested_lawful}
-use Rattle.x509_der_frames.specs.Choice.{either, either_lawful}
+use Rattle.x509_der_frames.specs.Cases.{Cases, ◌∥◌, ◌holds◌, none, CaseOf, choice, choice_lawful}
 use Rattle.x509_der_frames.specs.declared.any.Any.{Any}
 use Rattle.x509_prim_text.specs.Alphabet.{is_printable, is_ia5}
 use Rattle.x509_prim_text.specs.Bmp.{is_bmp, bmp_chars}
@@ -32,34 +32,24 @@ utf8 = tested tags.Utf8String is_utf8
 abbrev pub bmp : Form (List ℕ)
 bmp = tested tags.BmpString is_bmp
 
-abbrev pub utf8_or_bmp : Form (List ℕ ⊎ List ℕ)
-utf8_or_bmp = either (λ v. v) (λ v. v) utf8 bmp
+abbrev pub directory_cases : Cases DirectoryString
+directory_cases = PrintableString holds printable ∥ TeletexString holds teletex ∥ Utf8String holds utf8 ∥ BmpString holds bmp ∥ none
 
-abbrev pub teletex_or_later : Form (List ℕ ⊎ (List ℕ ⊎ List ℕ))
-teletex_or_later = either (λ v. v) (λ v. v) teletex utf8_or_bmp
-
-abbrev pub directory_to : DirectoryString → List ℕ ⊎ (List ℕ ⊎ (List ℕ ⊎ List ℕ))
-directory_to (PrintableString text) = inl text
-directory_to (TeletexString text) = inr (inl text)
-directory_to (Utf8String text) = inr (inr (inl text))
-directory_to (BmpString octets) = inr (inr (inr octets))
-
-abbrev pub directory_from : List ℕ ⊎ (List ℕ ⊎ (List ℕ ⊎ List ℕ)) → DirectoryString
-directory_from (inl text) = PrintableString text
-directory_from (inr (inl text)) = TeletexString text
-directory_from (inr (inr (inl text))) = Utf8String text
-directory_from (inr (inr (inr octets))) = BmpString octets
+abbrev pub directory_case : (v : DirectoryString) → CaseOf directory_cases v
+directory_case (PrintableString text) = (0, (text, refl))
+directory_case (TeletexString text) = (1, (text, refl))
+directory_case (Utf8String text) = (2, (text, refl))
+directory_case (BmpString octets) = (3, (octets, refl))
 
 abbrev pub directory_string : Form DirectoryString
-directory_string = either directory_to directory_from printable teletex_or_later
+directory_string = choice directory_cases directory_case
 
 pub directory_string_lawful : {R : ErrorKind → Type 0} → IsForm R directory_string
-directory_string_lawful = either_lawful directory_to directory_from printable teletex_or_later
-    (elim [ PrintableString text ↦ refl | TeletexString text ↦ refl | Utf8String text ↦ refl | BmpString octets ↦ refl ])
-    (elim [ inl text ↦ refl | inr (inl text) ↦ refl | inr (inr (inl text)) ↦ refl | inr (inr (inr octets)) ↦ refl ]) refl
-    (tested_lawful tags.PrintableString (list_all is_printable))
-    (either_lawful (λ v. v) (λ v. v) teletex utf8_or_bmp (λ v. refl) (λ v. refl) refl (tested_lawful tags.TeletexString (list_all is_ia5))
-    (either_lawful (λ v. v) (λ v. v) utf8 bmp (λ v. refl) (λ v. refl) refl (tested_lawful tags.Utf8String is_utf8) (tested_lawful tags.BmpString is_bmp)))
+directory_string_lawful = choice_lawful directory_cases directory_case refl (
+    (tested_lawful tags.PrintableString (list_all is_printable), λ x. refl), (
+    (tested_lawful tags.TeletexString (list_all is_ia5), λ x. refl), (
+    (tested_lawful tags.Utf8String is_utf8, λ x. refl), (
+    (tested_lawful tags.BmpString is_bmp, λ x. refl), tt))))
 
 -- ---- texts
 

