@@ -1,6 +1,6 @@
 //! Elements that are not looked into.
 
-ghost use Rattle.std.specs.Prelude.{◌≡◌, ◌<◌, ◌≤◌, ◌↔◌, ◌⊎◌, [], length, false, IfOk, IfErr, IsErrAnd, IsTrue};
+ghost use Rattle.std.specs.Prelude.{◌≡◌, ◌≢◌, ◌<◌, ◌≤◌, ◌↔◌, ◌⊎◌, [], length, drop, false, IfOk, IfErr, IsErrAnd, IsTrue};
 ghost use Rattle.x509_der_element.specs.declared.error.ErrorKind.TheVariants as errors;
 ghost use Rattle.x509_der_element.specs.declared.tag.Tag.TheVariants.{Null};
 ghost use Rattle.x509_der_element.specs.Element.{element, is_identifier, limit};
@@ -9,13 +9,14 @@ ghost use Rattle.x509_der_grammar.specs.Form.{spelling};
 ghost use Rattle.x509_der_element.specs.Tag.{octet_of};
 ghost use Rattle.x509_der_element.specs.declared.error.ErrorKind.TheVariants.{Malformed};
 ghost use Rattle.x509_der_frames.specs.Any.{any_reading};
+ghost use Rattle.x509_der_frames.specs.declared.any.Any.{Any};
 ghost use Rattle.x509_der_grammar.specs.Writing.{writes, written_spelling, IsWritable, IsUnwritable};
 
 use std::alloc::Global;
 use std::cmp::Ordering;
 use x509_der_grammar::{
-    AnyRef, Bytes, Decode, Encode, Error, ErrorKind, Grammar, Growing, Room, Tag, TryClone,
-    check_content,
+    AnyRef, Bytes, Decode, Encode, Error, ErrorKind, Grammar, Growing, Length, Room, Tag, TryClone,
+    check_content, take_element,
 };
 use x509_der_order::ValueOrd;
 
@@ -24,6 +25,14 @@ use x509_der_order::ValueOrd;
 pub struct Any {
     tag: Tag,
     value: Bytes,
+}
+
+// Takes the first octets away. The others stay where they are in memory, or move within it.
+fn drop_front(octets: &mut Vec<u8>, count: usize)
+    requires { count ≤ length octets.old.items }
+    ensures { octets.new.items ≡ drop count octets.old.items }
+{
+    octets.drain(..count);
 }
 
 impl Any {
@@ -51,6 +60,29 @@ impl Any {
         Ok(Any {
             tag,
             value: Bytes::from(content),
+        })
+    }
+
+    /// The element that the octets are, whose content is not copied; `Overlength` exactly where they are more than
+    /// `Length::MAX`, and else `Malformed` exactly where they are no element (X.690 8.1, 10.1).
+    pub fn from_octets(mut octets: Vec<u8>) -> Result<Any, Error>
+        ensures ok { IfOk result (λ any. (octets.items ≡ element (octet_of any.tag) any.value) × (length octets.items ≤ limit)) }
+        ensures overlength { limit < length octets.items → IsErrAnd result (λ e. e.kind ≡ errors.Overlength) }
+        ensures malformed { length octets.items ≤ limit → IfErr result (λ e. (e.kind ≡ errors.Malformed) × ((any : Any) → octets.items ≢ element (octet_of any.tag) any.value)) }
+    {
+        if octets.len() > Length::MAX.as_u32() as usize {
+            return Err(ErrorKind::Overlength.into());
+        }
+        let (element, rest) = take_element(octets.as_slice())?;
+        if !rest.is_empty() {
+            return Err(ErrorKind::Malformed.into());
+        }
+        let tag = element.tag();
+        let header_len = octets.len() - element.value().len();
+        drop_front(&mut octets, header_len);
+        Ok(Any {
+            tag,
+            value: Bytes::from(octets),
         })
     }
 

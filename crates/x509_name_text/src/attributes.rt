@@ -17,7 +17,7 @@ use hex::FromHexError;
 use std::alloc::Global;
 use std::{fmt, str};
 use x509_der_frames::Any;
-use x509_der_grammar::{Decode, Error, ErrorKind, Tag};
+use x509_der_grammar::{Error, ErrorKind, Tag};
 use x509_der_oid::ObjectIdentifier;
 use x509_prim_text::{Ia5, Printable, Teletex, text_of, utf8_text};
 
@@ -58,7 +58,7 @@ fn read_element(alloc: Global, digits: &[u8]) -> Result<Any, Error>
         Err(FromHexError::OutOfMemory) => return Err(ErrorKind::Memory.into()),
         Err(_) => return Err(ErrorKind::Failed.into()),
     };
-    match Any::from_der(alloc, octets.as_slice()) {
+    match Any::from_octets(octets) {
         Err(e) if e.kind() == ErrorKind::Malformed => Err(ErrorKind::Failed.into()),
         read => read,
     }
