@@ -8,4 +8,5 @@ pub use Rattle.x509_prim_string.specs.BitStringLaws
 pub use Rattle.x509_prim_string.specs.OctetString
 pub use Rattle.x509_prim_text.specs.Alphabet
 pub use Rattle.x509_prim_text.specs.Bmp
+pub use Rattle.x509_prim_text.specs.Borrowed
 pub use Rattle.x509_prim_text.specs.Text
