@@ -3,7 +3,10 @@
 #![tactic(auto)]
 
 mod extension;
+mod identifiers;
+pub mod laws;
 mod to_extension;
 
 pub use extension::{Extension, Extensions};
 pub use to_extension::{Criticality, ToExtension};
+pub use x509_der_oid::ObjectIdentifier;
