@@ -1,2 +1,3 @@
 pub mod AlgorithmIdentifier
+pub mod KeyAlgorithms
 pub mod SubjectPublicKeyInfo

@@ -1,6 +1,9 @@
 //! Public keys with their algorithms.
 
+ghost use Rattle.std.specs.Prelude.{◌≡◌};
+
 use crate::algorithm_identifier::AlgorithmIdentifier;
+use crate::subject_public_key_info_ref::SubjectPublicKeyInfoRef;
 use std::alloc::Global;
 use x509_der_frames::{PutPart, end, field};
 use x509_der_grammar::{Content, Error, Room, Tag, TryClone};
@@ -20,6 +23,19 @@ pub struct SubjectPublicKeyInfo {
 
     /// The bits of the key, in the way of its algorithm; they aren't looked into here.
     pub subject_public_key: BitString,
+}
+
+impl SubjectPublicKeyInfo {
+    /// The algorithm and the key, borrowed.
+    pub fn owned_to_ref(&self) -> SubjectPublicKeyInfoRef<'_>
+        ensures algorithm { result.algorithm.now ≡ self.now.algorithm }
+        ensures key { result.subject_public_key.now ≡ self.now.subject_public_key }
+    {
+        SubjectPublicKeyInfoRef {
+            algorithm: &self.algorithm,
+            subject_public_key: &self.subject_public_key,
+        }
+    }
 }
 
 impl Drop for SubjectPublicKeyInfo {

@@ -4,7 +4,7 @@ use crate::calls::stays;
 use std::test::*;
 use x509_base_key::{AlgorithmIdentifier, SubjectPublicKeyInfo};
 use x509_der_frames::Any;
-use x509_der_grammar::{Decode, Encode, Error};
+use x509_der_grammar::{Decode, Encode, Error, TryClone};
 use x509_der_oid::ObjectIdentifier;
 
 /// Whether the values of the rows are equal exactly where the rows are.
@@ -109,5 +109,27 @@ fn a_key_of_ed25519(rt: HostRuntime) -> Result<(), Fail> {
 fn a_key_of_four_bits(rt: HostRuntime) -> Result<(), Fail> {
     let found = SubjectPublicKeyInfo::from_der(rt.alloc(), KEYS[2])?;
     assert!(rt; has_octets(&found, 4, &[0xF0], 1));
+    Ok(())
+}
+
+/// Whether the key is found to be of these algorithms, borrowed as it is.
+fn is_of(key: &SubjectPublicKeyInfo, rsa: bool, ecc: bool) -> bool {
+    let borrowed = key.owned_to_ref();
+    borrowed.is_rsa() == rsa
+        && borrowed.is_ecc() == ecc
+        && *borrowed.algorithm == key.algorithm
+        && *borrowed.subject_public_key == key.subject_public_key
+}
+
+#[test]
+fn kinds_of_keys(rt: HostRuntime) -> Result<(), Fail> {
+    let mut key = SubjectPublicKeyInfo::from_der(rt.alloc(), KEYS[3])?;
+    assert!(rt; is_of(&key, false, false));
+    key.algorithm.oid = ObjectIdentifier::new("1.2.840.113549.1.1.1")?;
+    assert!(rt; is_of(&key, true, false));
+    key.algorithm.oid = ObjectIdentifier::new("1.2.840.10045.2.1")?;
+    assert!(rt; is_of(&key, false, true));
+    let borrowed = key.owned_to_ref();
+    assert!(rt; borrowed.try_clone(rt.alloc())? == borrowed);
     Ok(())
 }

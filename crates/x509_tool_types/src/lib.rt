@@ -4,6 +4,7 @@
 #![tactic(auto)]
 
 mod base;
+mod extension;
 pub mod laws;
 mod name;
 mod primitive;

@@ -1,7 +1,8 @@
-//! Attributes and names.
+//! Attributes and names, and then extensions.
 
+use crate::extension::Payloads;
 use crate::reencode::Reencode;
-use crate::table::{Nothing, Table};
+use crate::table::Table;
 use std::alloc::Global;
 use std::marker::PhantomData;
 use x509_base_validity::Profile;
@@ -10,7 +11,7 @@ use x509_name_attribute::{Attribute, AttributeTypeAndValue};
 use x509_name_directory::DirectoryString;
 use x509_name_rdn::{Name, RdnSequence, RelativeDistinguishedName};
 
-/// Attributes and names.
+/// Attributes and names, and then extensions.
 pub struct Names<P> {
     profile: PhantomData<P>,
 }
@@ -29,7 +30,7 @@ impl<P: Profile> Table for Names<P> {
         named (codes "Name") ⟦<Name as Reencode>⟧.reencodes otherwise
         named (codes "RdnSequence") (Reencodes rdn_sequence plain (λ _. ⊥)) otherwise
         named (codes "RelativeDistinguishedName") (Reencodes relative_distinguished_name plain (λ _. ⊥)) otherwise
-        ⟦<Nothing as Table>⟧.table };
+        ⟦<Payloads<P> as Table>⟧.table };
 
     fn reencode(alloc: Global, name: &str, bytes: &[u8]) -> Result<Vec<u8>, Error> {
         match name {
@@ -39,7 +40,7 @@ impl<P: Profile> Table for Names<P> {
             "Name" => Name::reencode_as(alloc, bytes),
             "RdnSequence" => RdnSequence::reencode_as(alloc, bytes),
             "RelativeDistinguishedName" => RelativeDistinguishedName::reencode_as(alloc, bytes),
-            _ => Nothing::reencode(alloc, name, bytes),
+            _ => Payloads::<P>::reencode(alloc, name, bytes),
         }
     }
 }

@@ -1,0 +1,17 @@
+-- The content of 2.5.29.n.
+use Rattle.std.specs.Prelude.{◌≡◌, ◌<◌, ◌+◌, ◌/◌, ◌%◌, ℕ, List, [], ◌∷◌, ◌++◌, refl}
+use Rattle.std.proofs.Common.{arith}
+use Rattle.std.specs.Int.Digits.{digits_of}
+use Rattle.x509_der_oid.specs.Arcs.{content_of, subidentifier, high_octets}
+use Rattle.x509_ext_frame.specs.Identifiers.{id_ce}
+
+low_digits : (n : ℕ) → n < 128 → subidentifier n ≡ n ∷ []
+unfolding subidentifier
+low_digits n small =
+    let none : n / 128 ≡ 0 = omega arith in
+    let same : n % 128 ≡ n = omega arith in
+    rw (none, same) refl
+
+pub id_ce_content : (n : ℕ) → n < 128 → id_ce n ≡ content_of (2 ∷ 5 ∷ 29 ∷ n ∷ [])
+unfolding subidentifier
+id_ce_content n small = rw (low_digits n small) refl

@@ -1,0 +1,76 @@
+//! Extensions, whose payloads are not looked into.
+
+use std::alloc::Global;
+use x509_der_frames::{PutPart, SequenceOf, default_field, defaulted, end, field};
+use x509_der_grammar::{Content, Error, Room, Tag, TryClone};
+use x509_der_oid::ObjectIdentifier;
+use x509_prim_string::OctetString;
+
+/// An extension (RFC 5280 4.1 and 4.2).
+///
+/// ```text
+/// Extension ::= SEQUENCE {
+///     extnID     OBJECT IDENTIFIER,
+///     critical   BOOLEAN DEFAULT FALSE,
+///     extnValue  OCTET STRING }
+/// ```
+#[derive(Debug, Drop, PartialEq, Eq)]
+pub struct Extension {
+    /// What kind of extension it is.
+    pub extn_id: ObjectIdentifier,
+
+    /// Whether who does not know it, or can't handle what it says, has to refuse the whole (RFC 5280 4.2).
+    pub critical: bool,
+
+    /// The encoding of the payload. It isn't looked into here.
+    pub extn_value: OctetString,
+}
+
+/// Extensions in their order (RFC 5280 4.1.2.9). A sequence without members is read and written too.
+///
+/// ```text
+/// Extensions ::= SEQUENCE OF Extension
+/// ```
+pub type Extensions = SequenceOf<Extension>;
+
+impl TryClone for Extension {
+    fn try_clone(&self, alloc: Global) -> Result<Extension, Error> {
+        Ok(Extension {
+            extn_id: self.extn_id,
+            critical: self.critical,
+            extn_value: self.extn_value.try_clone(alloc)?,
+        })
+    }
+}
+
+#[tactic(auto, unfolding(crate::specs::Extension::extension_fields, x509_der_frames::specs::Frames::fields_reading, x509_der_frames::specs::Frames::fields_octets))]
+impl Content for Extension {
+    ghost use Rattle.x509_der_element.specs.declared.tag.Tag.TheVariants.{Sequence};
+    ghost use Rattle.x509_ext_frame.specs.Extension as grammar;
+
+    ghost contents = { grammar.extension_contents };
+
+    ghost IDENTIFIER = { Sequence };
+
+    const IDENTIFIER: Tag = Tag::Sequence;
+
+    fn read_content(alloc: Global, octets: &[u8]) -> Result<Extension, Error> {
+        let mut rest = octets;
+        let extn_id = field::<ObjectIdentifier>(alloc, &mut rest)?;
+        let critical = default_field::<bool>(alloc, &mut rest)?;
+        let extn_value = field::<OctetString>(alloc, &mut rest)?;
+        end(rest)?;
+        Ok(Extension {
+            extn_id,
+            critical,
+            extn_value,
+        })
+    }
+
+    fn write_content<R: Room>(&self, room: &mut R) -> Result<(), Error> {
+        let parts = (&self.extn_id, (defaulted(&self.critical), &self.extn_value));
+        parts.put_text(room)
+    }
+
+    ghost contents_lawful = { grammar.extension_contents_lawful };
+}

@@ -1,0 +1,11 @@
+//! What holds of all extensions. Each law is a function with an empty body, whose contract is the law.
+
+ghost use Rattle.std.specs.Prelude.{◌≡◌, ◌<◌, [], ◌∷◌, ℕ};
+ghost use Rattle.x509_der_oid.specs.Arcs.{content_of};
+ghost use Rattle.x509_ext_frame.specs.Identifiers.{id_ce};
+
+/// The octets that stand for 2.5.29.n are its content (X.690 8.19).
+#[tactic(auto, using(crate::proofs::ArcsOfExtensions::id_ce_content))]
+pub fn identifiers_of_extensions()
+    ensures { (n : ℕ) → n < 128 → id_ce n ≡ content_of (2 ∷ 5 ∷ 29 ∷ n ∷ []) }
+{}

@@ -1,0 +1,12 @@
+//! Extensions of certificates, of lists of revoked certificates and of requests, and how they are made of their
+//! payloads.
+#![tactic(auto)]
+
+mod extension;
+mod identifiers;
+pub mod laws;
+mod to_extension;
+
+pub use extension::{Extension, Extensions};
+pub use to_extension::{Criticality, ToExtension};
+pub use x509_der_oid::ObjectIdentifier;

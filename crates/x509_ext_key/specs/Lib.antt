@@ -1,0 +1,4 @@
+pub mod BasicConstraints
+pub mod KeyUsage
+pub mod PrivateKeyUsagePeriod
+pub mod Rows

@@ -1,0 +1,9 @@
+//! Tests of extensions and of what they hold.
+#![tactic(auto)]
+
+#[cfg(test)]
+mod calls;
+#[cfg(test)]
+mod extensions;
+#[cfg(test)]
+mod keys;

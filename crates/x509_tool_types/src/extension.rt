@@ -1,0 +1,45 @@
+//! Extensions and what they hold.
+
+use crate::reencode::Reencode;
+use crate::table::{Nothing, Table};
+use std::alloc::Global;
+use std::marker::PhantomData;
+use x509_base_validity::Profile;
+use x509_der_grammar::Error;
+use x509_ext_frame::{Extension, Extensions};
+use x509_ext_key::{
+    BasicConstraints, ExtendedKeyUsage, KeyUsage, PrivateKeyUsagePeriod, SubjectKeyIdentifier,
+};
+
+/// Extensions and what they hold.
+pub struct Payloads<P> {
+    profile: PhantomData<P>,
+}
+
+#[tactic(auto, using(crate::proofs::Rows::is_found, crate::proofs::Rows::is_passed))]
+impl<P: Profile> Table for Payloads<P> {
+    ghost use Rattle.std.specs.Prelude.{codes};
+    ghost use Rattle.x509_tool_types.specs.Table.{named, ◌otherwise◌};
+
+    ghost table = { named (codes "BasicConstraints") ⟦<BasicConstraints as Reencode>⟧.reencodes otherwise
+        named (codes "ExtendedKeyUsage") ⟦<ExtendedKeyUsage as Reencode>⟧.reencodes otherwise
+        named (codes "Extension") ⟦<Extension as Reencode>⟧.reencodes otherwise
+        named (codes "Extensions") ⟦<Extensions as Reencode>⟧.reencodes otherwise
+        named (codes "KeyUsage") ⟦<KeyUsage as Reencode>⟧.reencodes otherwise
+        named (codes "PrivateKeyUsagePeriod") ⟦<PrivateKeyUsagePeriod as Reencode>⟧.reencodes otherwise
+        named (codes "SubjectKeyIdentifier") ⟦<SubjectKeyIdentifier as Reencode>⟧.reencodes otherwise
+        ⟦<Nothing as Table>⟧.table };
+
+    fn reencode(alloc: Global, name: &str, bytes: &[u8]) -> Result<Vec<u8>, Error> {
+        match name {
+            "BasicConstraints" => BasicConstraints::reencode_as(alloc, bytes),
+            "ExtendedKeyUsage" => ExtendedKeyUsage::reencode_as(alloc, bytes),
+            "Extension" => Extension::reencode_as(alloc, bytes),
+            "Extensions" => Extensions::reencode_as(alloc, bytes),
+            "KeyUsage" => KeyUsage::reencode_as(alloc, bytes),
+            "PrivateKeyUsagePeriod" => PrivateKeyUsagePeriod::reencode_as(alloc, bytes),
+            "SubjectKeyIdentifier" => SubjectKeyIdentifier::reencode_as(alloc, bytes),
+            _ => Nothing::reencode(alloc, name, bytes),
+        }
+    }
+}
