@@ -1,20 +1,35 @@
 -- Answers to the line of an input that was read whole.
-use Rattle.std.proofs.Common.{◌≡◌, ℕ, List, Option, Result, Ok, Err, MatchResult, ◌⊎◌, inl, inr, ap, subst}
-use Rattle.x509_der_element.specs.declared.error.ErrorKind.TheVariants.{Memory}
+use Rattle.std.proofs.Common.{◌≡◌, ℕ, List, Option, Result, Ok, Err, MatchResult, ◌⊎◌, inl, inr, ap, refl, subst}
+use Rattle.std.specs.Str.{IsUtf8, is_utf8}
+use Rattle.std.proofs.lemmas.Bool.{cases_Bool}
+use Rattle.std.proofs.lemmas.Str.{is_utf8-from_IsUtf8, IsUtf8-from_is_utf8}
+use Rattle.x509_der_element.specs.declared.error.ErrorKind.TheVariants.{Memory, Failed}
 use Rattle.x509_tool_run.specs.declared.command.Command.{Command}
 use Rattle.x509_tool_run.specs.declared.refusal.Refusal.{Refusal}
 use Rattle.x509_tool_run.specs.declared.refusal.Refusal.TheVariants.{Because}
 use Rattle.x509_tool_run.specs.Input.{Whole, IsRead}
-use Rattle.x509_tool_run.specs.Answer.{Reencoding, IsLineAnswer, line_of}
+use Rattle.x509_tool_run.specs.Answer.{Answer, Codecs, IsFromText, IsLine, IsLineAnswer, line_of}
 use Rattle.x509_tool_run.specs.Program.{Answers}
 
 -- an answer to the line is one to the input
-pub answers_line : {R X : Type 0} (P : X → List ℕ → Type 0) (reencodes : Reencoding) (command : Command) (gives : R → Option (List ℕ) → R → Type 0) (from to : R) (bytes line : List ℕ) (result : Result X Refusal) → IsRead gives from (Whole bytes) to → line ≡ line_of bytes → MatchResult result (λ x. (text : List ℕ) × IsLineAnswer reencodes command line (Ok text) × P x text) (λ refusal. (refusal ≡ Because Memory) ⊎ IsLineAnswer reencodes command line (Err refusal)) → MatchResult result (λ x. (text : List ℕ) × Answers reencodes command gives from to (Ok text) × P x text) (λ refusal. Answers reencodes command gives from to (Err refusal))
-answers_line P reencodes command gives from to bytes line (Ok x) read is h =
-    let At : List ℕ → Type 0 = λ line. IsLineAnswer reencodes command line (Ok h.0) in
+pub answers_line : {R X : Type 0} (P : X → List ℕ → Type 0) (codecs : Codecs) (command : Command) (gives : R → Option (List ℕ) → R → Type 0) (from to : R) (bytes line : List ℕ) (result : Result X Refusal) → IsRead gives from (Whole bytes) to → line ≡ line_of bytes → MatchResult result (λ x. (text : List ℕ) × IsLineAnswer codecs command line (Ok text) × P x text) (λ refusal. (refusal ≡ Because Memory) ⊎ IsLineAnswer codecs command line (Err refusal)) → MatchResult result (λ x. (text : List ℕ) × Answers codecs command gives from to (Ok text) × P x text) (λ refusal. Answers codecs command gives from to (Err refusal))
+answers_line P codecs command gives from to bytes line (Ok x) read is h =
+    let At : List ℕ → Type 0 = λ line. IsLineAnswer codecs command line (Ok h.0) in
     (h.0, (Whole bytes, read, inl (subst At is h.1)), h.2)
-answers_line P reencodes command gives from to bytes line (Err refusal) read is (inl memory) =
+answers_line P codecs command gives from to bytes line (Err refusal) read is (inl memory) =
     (Whole bytes, read, inr (ap (λ (r : Refusal). Err r) memory))
-answers_line P reencodes command gives from to bytes line (Err refusal) read is (inr h) =
-    let At : List ℕ → Type 0 = λ line. IsLineAnswer reencodes command line (Err refusal) in
+answers_line P codecs command gives from to bytes line (Err refusal) read is (inr h) =
+    let At : List ℕ → Type 0 = λ line. IsLineAnswer codecs command line (Err refusal) in
     (Whole bytes, read, inl (subst At is h))
+
+-- a line that is UTF-8 is answered as the text that it is
+pub text_line : {X : Type 0} (view : X → List ℕ) (answers : List ℕ → Answer → Type 0) (line text : List ℕ) (result : Result X Refusal) → text ≡ line → IsUtf8 line → IsLine view (answers text) result → IsLine view (IsFromText answers (is_utf8 line) line) result
+text_line view answers line text result same is h = rw (is_utf8-from_IsUtf8 line is, ← same) h
+
+-- a line that isn't UTF-8 is refused
+pub no_text : (answers : List ℕ → Answer → Type 0) (line : List ℕ) → (IsUtf8 line → ⊥) → IsFromText answers (is_utf8 line) line (Err (Because Failed))
+no_text answers line bad =
+    elim (cases_Bool (is_utf8 line)) [
+      | inl is ↦ absurd (bad (IsUtf8-from_is_utf8 line is))
+      | inr not ↦ rw not refl
+    ]

@@ -6,7 +6,7 @@ use Rattle.x509_tool_run.specs.declared.command.Kind.TheVariants.{Any, Integer, 
 use Rattle.x509_tool_run.specs.declared.command.ProfileName.{ProfileName}
 use Rattle.x509_tool_run.specs.declared.command.ProfileName.TheVariants.{Rfc5280, Raw}
 use Rattle.x509_tool_run.specs.declared.command.Command.{Command}
-use Rattle.x509_tool_run.specs.declared.command.Command.TheVariants.{Reencode}
+use Rattle.x509_tool_run.specs.declared.command.Command.TheVariants as commands
 
 -- the type that a word names
 abbrev pub kind_of : List ℕ → Option Kind
@@ -41,12 +41,20 @@ profile_of word =
 
 -- a re-encoding, where both of its words are names
 abbrev pub reencoding_of : Option Kind → Option ProfileName → Option Command
-reencoding_of (Some kind) (Some profile) = Some (Reencode kind profile)
+reencoding_of (Some kind) (Some profile) = Some (commands.Reencode kind profile)
 reencoding_of (Some kind) None = None
 reencoding_of None profile = None
 
--- `reencode TYPE [rfc5280|raw]`, under rfc5280 where the last word is left out
+-- `name` or `encode-name`
+abbrev pub name_command_of : List ℕ → Option Command
+name_command_of word =
+    if bytes_eq word (codes "name") then Some commands.Name
+    else if bytes_eq word (codes "encode-name") then Some commands.EncodeName
+    else None
+
+-- `reencode TYPE [rfc5280|raw]`, under rfc5280 where the last word is left out; or a command over names
 abbrev pub command_of : List (List ℕ) → Option Command
+command_of (command ∷ []) = name_command_of command
 command_of (command ∷ kind ∷ []) =
     if bytes_eq command (codes "reencode") then reencoding_of (kind_of kind) (Some Rfc5280) else None
 command_of (command ∷ kind ∷ profile ∷ []) =

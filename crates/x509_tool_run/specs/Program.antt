@@ -2,7 +2,7 @@
 use Rattle.std.specs.Prelude.{◌≡◌, ◌≢◌, ℕ, List, [], ◌++◌, Option, Some, None, ◌⊎◌}
 use Rattle.x509_tool_run.specs.Transfer.{Moves}
 use Rattle.x509_tool_run.specs.Input.{Input, IsRead}
-use Rattle.x509_tool_run.specs.Answer.{Answer, Reencoding, IsAnswer, text_of, status_of, as_line}
+use Rattle.x509_tool_run.specs.Answer.{Answer, Codecs, IsAnswer, text_of, status_of, as_line}
 use Rattle.x509_tool_run.specs.declared.command.Command.{Command}
 
 -- writes lead from one state to another and take this text
@@ -21,12 +21,12 @@ Says takes old text status new ended =
     (IsWritten takes old (as_line text) new × (ended ≡ status)) ⊎ (IsCutOff takes old (as_line text) new × (ended ≡ 1))
 
 -- reads give an input, and this is an answer to a command with it
-abbrev pub Answers : {R : Type 0} → Reencoding → Command → (R → Option (List ℕ) → R → Type 0) → R → R → Answer → Type 0
-Answers reencodes command gives from to answer =
-    (input : Input) × IsRead gives from input to × IsAnswer reencodes command input answer
+abbrev pub Answers : {R : Type 0} → Codecs → Command → (R → Option (List ℕ) → R → Type 0) → R → R → Answer → Type 0
+Answers codecs command gives from to answer =
+    (input : Input) × IsRead gives from input to × IsAnswer codecs command input answer
 
 -- a run that obeys a command reads an input and says an answer to it
-abbrev pub Obeys : {R W : Type 0} → Reencoding → Command → (R → Option (List ℕ) → R → Type 0) → R → R → (W → Option (List ℕ) → W → Type 0) → W → W → ℕ → Type 0
-Obeys reencodes command gives from to takes old new ended =
-    (answer : Answer) × Answers reencodes command gives from to answer
+abbrev pub Obeys : {R W : Type 0} → Codecs → Command → (R → Option (List ℕ) → R → Type 0) → R → R → (W → Option (List ℕ) → W → Type 0) → W → W → ℕ → Type 0
+Obeys codecs command gives from to takes old new ended =
+    (answer : Answer) × Answers codecs command gives from to answer
     × Says takes old (text_of answer) (status_of answer) new ended

@@ -1,4 +1,4 @@
-//! Decoding bytes and encoding the value again.
+//! Decoding bytes and encoding the value again, and names as texts.
 
 ghost use Rattle.std.specs.Prelude.{◌≡◌, ◌⊎◌, ℕ, List, Result, Ok, Err, MatchResult};
 ghost use Rattle.x509_der_element.specs.declared.error.ErrorKind.{ErrorKind};
@@ -25,4 +25,28 @@ pub trait Codec {
         ensures { MatchResult result
             (λ encoding. reencodes name.now profile bytes.now (Ok encoding.items))
             (λ e. (e.kind ≡ Memory) ⊎ reencodes name.now profile bytes.now (Err e.kind)) };
+}
+
+/// The decoder of names to texts, and the encoder of names from texts.
+pub trait NameCodec {
+    ghost use Rattle.std.specs.Prelude.{string_bytes};
+    ghost use Rattle.x509_tool_run.specs.Answer.{Step};
+
+    /// What the bytes of a name may give, memory aside: the text of the name that they spell, or an error.
+    ghost prints_name: { Step };
+
+    /// What the text of a name may give, memory aside: the encoding of the name that it says, or an error.
+    ghost encodes_name: { Step };
+
+    /// Decodes the bytes as a name, and prints it.
+    fn print_name(alloc: Global, bytes: &[u8]) -> Result<String, Error>
+        ensures { MatchResult result
+            (λ text. prints_name bytes.now (Ok (string_bytes text)))
+            (λ e. (e.kind ≡ Memory) ⊎ prints_name bytes.now (Err e.kind)) };
+
+    /// Reads a text as a name, and encodes it.
+    fn encode_name(alloc: Global, text: &str) -> Result<Vec<u8>, Error>
+        ensures { MatchResult result
+            (λ encoding. encodes_name text.now (Ok encoding.items))
+            (λ e. (e.kind ≡ Memory) ⊎ encodes_name text.now (Err e.kind)) };
 }

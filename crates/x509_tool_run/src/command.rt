@@ -1,7 +1,7 @@
 //! What the words after the program's name ask for.
 
 ghost use Rattle.std.specs.Prelude.{◌≡◌, map, string_bytes, ◌∷◌, []};
-ghost use Rattle.x509_tool_run.specs.Command.{kind_of, type_name, profile_of, command_of};
+ghost use Rattle.x509_tool_run.specs.Command.{kind_of, type_name, profile_of, name_command_of, command_of};
 
 /// A type whose encodings the program reads.
 #[derive(Clone, Copy, Debug, PartialEq, Eq)]
@@ -46,6 +46,12 @@ pub enum ProfileName {
 pub enum Command {
     /// Decode the bytes of the line, and encode the value again.
     Reencode(Kind, ProfileName),
+
+    /// Print the name that the bytes of the line spell.
+    Name,
+
+    /// Encode the name that the line says.
+    EncodeName,
 }
 
 impl Kind {
@@ -102,10 +108,21 @@ impl Command {
         ensures { result ≡ command_of (map string_bytes words.now) }
     {
         match words {
+            [command] => Command::over_names(command.as_str()),
             [command, kind] => Command::reencode(command.as_str(), kind.as_str(), "rfc5280"),
             [command, kind, profile] => {
                 Command::reencode(command.as_str(), kind.as_str(), profile.as_str())
             }
+            _ => None,
+        }
+    }
+
+    fn over_names(word: &str) -> Option<Command>
+        ensures { result ≡ name_command_of word.now }
+    {
+        match word {
+            "name" => Some(Command::Name),
+            "encode-name" => Some(Command::EncodeName),
             _ => None,
         }
     }

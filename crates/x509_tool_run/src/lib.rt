@@ -1,5 +1,5 @@
-//! A program over lines of hex text: its words, its input, its answer and its status. What it makes of the bytes is a
-//! [`Codec`]'s.
+//! A program over lines of hex text and of names: its words, its input, its answer and its status. What it makes of the bytes is
+//! for a [`Codec`] and a [`NameCodec`] to say.
 #![tactic(auto)]
 
 mod arguments;
@@ -14,7 +14,7 @@ mod refusal;
 mod tests;
 
 pub use arguments::{Arguments, words};
-pub use codec::Codec;
+pub use codec::{Codec, NameCodec};
 pub use command::{Command, Kind, ProfileName};
 pub use input::{INPUT_LIMIT, READ_LIMIT, ReadError, Source, read_input};
 pub use output::{Sink, WriteError, write_text};

@@ -1,15 +1,16 @@
 //! A run of the program: a line in, a line out, and a status.
 
 ghost use Rattle.std.specs.Prelude.{◌≡◌, ◌⊎◌, ℕ, List, map, string_bytes, Ok, Err, None, MatchResult, IfSome, IsErr};
-ghost use Rattle.hex.specs.Hex.{decode_of};
+ghost use Rattle.std.specs.Str.{is_utf8};
+ghost use Rattle.hex.specs.Hex.{decode_of, encode_upper};
 ghost use Rattle.x509_der_element.specs.declared.error.ErrorKind.TheVariants.{Memory, Failed};
 ghost use Rattle.x509_tool_run.specs.declared.refusal.Refusal.TheVariants.{Because};
-ghost use Rattle.x509_tool_run.specs.Command.{command_of};
-ghost use Rattle.x509_tool_run.specs.Answer.{IsLineAnswer, as_line, line_of, text_of, usage};
+ghost use Rattle.x509_tool_run.specs.Command.{command_of, type_name};
+ghost use Rattle.x509_tool_run.specs.Answer.{IsFromHex, IsFromText, IsLine, IsLineAnswer, IsReencoded, IsShown, as_line, codecs_of, line_of, text_of, usage};
 ghost use Rattle.x509_tool_run.specs.Program.{Says, Answers, Obeys};
 
-use crate::codec::Codec;
-use crate::command::Command;
+use crate::codec::{Codec, NameCodec};
+use crate::command::{Command, Kind, ProfileName};
 use crate::input::{Source, read_input};
 use crate::output::{Sink, WriteError, write_text};
 use crate::refusal::Refusal;
@@ -44,23 +45,72 @@ pub fn bytes_of(alloc: Global, line: &[u8]) -> Result<Vec<u8>, Refusal>
     }
 }
 
-/// The answer to a command with a line, and a line feed.
-fn answer<C: Codec>(alloc: Global, command: Command, line: &[u8]) -> Result<String, Refusal>
+/// Bytes as upper-case hex text, and a line feed.
+fn hex_line(alloc: Global, bytes: &[u8]) -> Result<String, Refusal>
     ensures { MatchResult result
-        (λ text. (answer : List ℕ) × IsLineAnswer C.reencodes command line.now (Ok answer)
-        × (string_bytes text ≡ as_line answer))
-        (λ refusal. (refusal ≡ Because Memory)
-        ⊎ IsLineAnswer C.reencodes command line.now (Err refusal)) }
+        (λ line. string_bytes line ≡ as_line (encode_upper bytes.now))
+        (λ refusal. refusal ≡ Because Memory) }
+{
+    let mut line = hex::encode_upper(alloc, bytes)?;
+    line.push('\n')?;
+    Ok(line)
+}
+
+/// The re-encoding of the bytes that a line stands for, as a line.
+fn reencode_line<C: Codec>(
+    alloc: Global,
+    kind: Kind,
+    profile: ProfileName,
+    line: &[u8],
+) -> Result<String, Refusal>
+    ensures { IsLine string_bytes (IsReencoded (C.reencodes (type_name kind) profile) (decode_of line.now)) result }
 {
     let bytes = bytes_of(alloc, line)?;
-    let encoding = match command {
-        Command::Reencode(kind, profile) => {
-            C::reencode(alloc, kind.type_name(), profile, bytes.as_slice())?
-        }
-    };
-    let mut text = hex::encode_upper(alloc, encoding.as_slice())?;
+    let encoding = C::reencode(alloc, kind.type_name(), profile, bytes.as_slice())?;
+    hex_line(alloc, encoding.as_slice())
+}
+
+/// The text of the name whose bytes a line stands for, as a line.
+fn print_name_line<C: NameCodec>(alloc: Global, line: &[u8]) -> Result<String, Refusal>
+    ensures { IsLine string_bytes (IsFromHex (IsShown (λ text. text) C.prints_name) (decode_of line.now)) result }
+{
+    let bytes = bytes_of(alloc, line)?;
+    let mut text = C::print_name(alloc, bytes.as_slice())?;
     text.push('\n')?;
     Ok(text)
+}
+
+/// The encoding of the name that a text says, as a line.
+fn encode_text<C: NameCodec>(alloc: Global, text: &str) -> Result<String, Refusal>
+    ensures { IsLine string_bytes (IsShown encode_upper C.encodes_name text.now) result }
+{
+    let encoding = C::encode_name(alloc, text)?;
+    hex_line(alloc, encoding.as_slice())
+}
+
+/// The encoding of the name that a line says, as a line.
+fn encode_name_line<C: NameCodec>(alloc: Global, line: &[u8]) -> Result<String, Refusal>
+    ensures { IsLine string_bytes (IsFromText (IsShown encode_upper C.encodes_name) (is_utf8 line.now) line.now) result }
+{
+    let Ok(text) = str::from_utf8(line) else {
+        return Err(Refusal::Because(ErrorKind::Failed));
+    };
+    encode_text::<C>(alloc, text)
+}
+
+/// The answer to a command with a line, and a line feed.
+fn answer<C: Codec + NameCodec>(
+    alloc: Global,
+    command: Command,
+    line: &[u8],
+) -> Result<String, Refusal>
+    ensures { IsLine string_bytes (IsLineAnswer (codecs_of C.reencodes C.prints_name C.encodes_name) command line.now) result }
+{
+    match command {
+        Command::Reencode(kind, profile) => reencode_line::<C>(alloc, kind, profile, line),
+        Command::Name => print_name_line::<C>(alloc, line),
+        Command::EncodeName => encode_name_line::<C>(alloc, line),
+    }
 }
 
 /// Writes a line, and answers the status: 1 where it can't be written.
@@ -75,16 +125,16 @@ fn say<W: Sink>(writer: &mut W, line: &[u8], status: u8) -> u8
 }
 
 /// Reads the input and answers the command with it.
-fn read_and_answer<C: Codec, R: Source>(
+fn read_and_answer<C: Codec + NameCodec, R: Source>(
     alloc: Global,
     command: Command,
     reader: &mut R,
 ) -> Result<String, Refusal>
     ensures { MatchResult result
         (λ line. (text : List ℕ)
-        × Answers C.reencodes command R.gives reader.old reader.new (Ok text)
+        × Answers (codecs_of C.reencodes C.prints_name C.encodes_name) command R.gives reader.old reader.new (Ok text)
         × (string_bytes line ≡ as_line text))
-        (λ refusal. Answers C.reencodes command R.gives reader.old reader.new (Err refusal)) }
+        (λ refusal. Answers (codecs_of C.reencodes C.prints_name C.encodes_name) command R.gives reader.old reader.new (Err refusal)) }
 {
     let input = read_input(alloc, reader)?;
     answer::<C>(alloc, command, line_of(input.as_slice()))
@@ -99,7 +149,7 @@ pub fn refuse_memory<W: Sink>(writer: &mut W) -> u8
 
 /// Does what the words ask for with the input of the reader, by the decoders and encoders of `C`: writes one line to the
 /// writer, and answers the status.
-pub fn run<C: Codec, R: Source, W: Sink>(
+pub fn run<C: Codec + NameCodec, R: Source, W: Sink>(
     alloc: Global,
     words: &[String],
     reader: &mut R,
@@ -110,7 +160,7 @@ pub fn run<C: Codec, R: Source, W: Sink>(
     ensures usage { command_of (map string_bytes words.now) ≡ None
         → Says W.takes writer.old usage 2 writer.new result }
     ensures obeys { IfSome (command_of (map string_bytes words.now)) (λ command.
-        Obeys C.reencodes command
+        Obeys (codecs_of C.reencodes C.prints_name C.encodes_name) command
         R.gives reader.old reader.new W.takes writer.old writer.new result) }
 {
     let Some(command) = Command::from_words(words) else {

@@ -1,2 +1,3 @@
+pub mod Naming
 pub mod Reencoding
 pub mod Table

@@ -3,8 +3,9 @@
 use crate::primitive::Primitives;
 use std::alloc::Global;
 use x509_base_validity::{Raw, Rfc5280};
-use x509_der_grammar::{Error, ErrorKind};
-use x509_tool_run::{Codec, ProfileName};
+use x509_der_grammar::{Decode, Error, ErrorKind};
+use x509_name_rdn::{Name, RdnSequence};
+use x509_tool_run::{Codec, NameCodec, ProfileName};
 
 /// A part of the table: types by their names, under one profile. A name that stands in none is refused as `Failed`.
 pub trait Table {
@@ -51,5 +52,23 @@ impl Codec for Types {
             ProfileName::Rfc5280 => Primitives::<Rfc5280>::reencode(alloc, name, bytes),
             ProfileName::Raw => Primitives::<Raw>::reencode(alloc, name, bytes),
         }
+    }
+}
+
+#[tactic(auto, unfolding(crate::specs::Naming::PrintsName, crate::specs::Naming::EncodesName))]
+impl NameCodec for Types {
+    ghost use Rattle.x509_tool_types.specs.Naming.{PrintsName, EncodesName};
+
+    ghost prints_name = { PrintsName };
+
+    ghost encodes_name = { EncodesName };
+
+    fn print_name(alloc: Global, bytes: &[u8]) -> Result<String, Error> {
+        let name = Name::from_der(alloc, bytes)?;
+        Ok(name.to_string(alloc)?)
+    }
+
+    fn encode_name(alloc: Global, text: &str) -> Result<Vec<u8>, Error> {
+        RdnSequence::encode_from_string(alloc, text)
     }
 }
