@@ -58,15 +58,44 @@ def one_set(count):
     return element(0x31, b"".join(sorted(attributes(count))))
 
 
-def fastest(program, word, data):
+def plain_value(count):
+    return b"CN=" + b"a" * count
+
+
+def escaped_value(count):
+    return b"CN=" + b"\\\\" * (count // 2)
+
+
+def digits_value(count):
+    return b"CN=" + b"\\01" * (count // 3)
+
+
+def many_names(count):
+    return b",".join(b"CN=%d" % n for n in range(count // 10))
+
+
+def one_name(count):
+    return b"+".join(sorted((b"CN=%d" % n for n in range(count // 10)), key=lambda text: (len(text), text)))
+
+
+def fastest(program, words, data, answer):
     times = []
     for _ in range(3):
         start = time.perf_counter()
-        done = subprocess.run([program, "reencode", word], input=data, capture_output=True)
+        done = subprocess.run([program, *words], input=data, capture_output=True)
         times.append(time.perf_counter() - start)
-        if done.returncode != 0 or done.stdout != data + b"\n":
-            sys.exit(f"{word}: not the same bytes: {done.stdout[:60]!r}")
-    return min(times)
+        if done.returncode != 0 or (answer is not None and done.stdout != answer + b"\n"):
+            sys.exit(f"{words}: another answer: {done.stdout[:60]!r}")
+    return min(times), done.stdout[:-1]
+
+
+def row(counted, program, what, count, size, words, data, answer=None):
+    """Prints a row of the table, and returns the answer."""
+    seconds, answer = fastest(program, words, data, answer)
+    _, _, _, (made, most, _) = counted.run(words, data)
+    a_byte = seconds * 1e9 / size
+    print(f"| {what} | {count:,} | {size:,} | {seconds:.3f} | {a_byte:.0f} | {made:,} | {most / size:.1f} |")
+    return answer
 
 
 def main():
@@ -84,11 +113,20 @@ def main():
         for count in counts:
             encoding = make(count)
             data = encoding.hex().upper().encode()
-            seconds = fastest(program, word, data)
-            _, _, _, (made, most, _) = counted.run(["reencode", word], data)
-            a_byte = seconds * 1e9 / len(encoding)
-            print(f"| {what} | {count:,} | {len(encoding):,} | {seconds:.3f} | {a_byte:.0f} | {made:,} | {most / len(encoding):.1f} |")
+            row(counted, program, what, count, len(encoding), ["reencode", word], data, data)
             what = ""
+    # texts of about so many bytes, read and printed back; the bytes are those of the text
+    for what, make in [
+        ("one value, no escapes", plain_value),
+        ("one value of escaped backslashes", escaped_value),
+        ("one value of bytes by their digits", digits_value),
+        ("relative names of one attribute", many_names),
+        ("one relative name of many", one_name),
+    ]:
+        for count in COUNTS:
+            text = make(count)
+            encoding = row(counted, program, f"`encode-name`: {what}" if count == COUNTS[0] else "", count, len(text), ["encode-name"], text)
+            row(counted, program, "`name`, back", count, len(text), ["name"], encoding, text)
 
 
 if __name__ == "__main__":
