@@ -5,13 +5,14 @@ use Rattle.x509_der_element.specs.declared.error.ErrorKind.TheVariants.{Memory}
 use Rattle.x509_name_text.specs.Attributes.{AttributeRefused}
 use Rattle.x509_name_text.specs.Parts.{Joined}
 use Rattle.x509_name_text.specs.Refusals.{FirstRefused}
-use Rattle.x509_name_rdn.specs.NameText.{OneReads, RdnReads, RdnRefused, NameRefused}
+use Rattle.x509_name_attribute.specs.Text.{Reads}
+use Rattle.x509_name_rdn.specs.NameText.{RdnReads, RdnRefused, NameRefused}
 
 pub some_text : (text : List ℕ) → false ≡ eqb (length text) 0 → text ≢ []
 some_text [] e is = absurd cc
 some_text (byte ∷ text) e is = absurd cc
 
-pub rdn_refused : (text : List ℕ) (kind : ErrorKind) → (kind ≡ Memory) ⊎ ((parts : List (List ℕ)) × Joined 43 parts text × FirstRefused OneReads AttributeRefused parts kind) → (kind ≡ Memory) ⊎ RdnRefused text kind
+pub rdn_refused : (text : List ℕ) (kind : ErrorKind) → (kind ≡ Memory) ⊎ ((parts : List (List ℕ)) × Joined 43 parts text × FirstRefused Reads AttributeRefused parts kind) → (kind ≡ Memory) ⊎ RdnRefused text kind
 rdn_refused text kind (inl memory) = inl memory
 rdn_refused text kind (inr (parts, cut, first)) = inr (record { parts = parts; cut = cut; refused = inl first })
 

@@ -20,7 +20,8 @@ use Rattle.x509_name_text.proofs.WholeTexts.{Whole, Whole-join, join_whole}
 use Rattle.x509_name_text.proofs.AttributeLaws.{attribute_again, one_attribute, reads_apart, one_refusal}
 use Rattle.x509_name_text.proofs.Joins.{all_reverse, some_map, some_join}
 use Rattle.x509_name_text.proofs.WholeAttributes.{whole_attribute_plus, whole_attribute_comma, some_attribute}
-use Rattle.x509_name_rdn.specs.NameText.{rdn_text, name_text, OneReads, RdnReads, NameReads, RdnRefused, NameRefused, RdnReadsBack, NameReadsBack}
+use Rattle.x509_name_attribute.specs.Text.{Reads}
+use Rattle.x509_name_rdn.specs.NameText.{rdn_text, name_text, RdnReads, NameReads, RdnRefused, NameRefused, RdnReadsBack, NameReadsBack}
 
 -- ---- lists
 
@@ -40,7 +41,7 @@ text_of a = attribute_text a.oid a.value
 abbrev BackOne : AttributeTypeAndValue → Type 0
 BackOne a = ReadsBack a.oid a.value
 
-one_again : (a : AttributeTypeAndValue) → BackOne a → OneReads (text_of a) a
+one_again : (a : AttributeTypeAndValue) → BackOne a → Reads (text_of a) a
 one_again a back = attribute_again a.oid a.value back
 
 pub rdn_again : (rdn : List AttributeTypeAndValue) → RdnReadsBack rdn → RdnReads (rdn_text rdn) rdn
@@ -49,7 +50,7 @@ rdn_again rdn back = record {
   parts = map text_of rdn;
   attributes = rdn;
   cut = join_whole 43 (map text_of rdn) (some_map text_of rdn back.some) (map_each BackOne (Whole 43) text_of (λ a h. whole_attribute_plus a.oid a.value h) rdn back.each);
-  read = zip_map OneReads BackOne text_of one_again rdn back.each;
+  read = zip_map Reads BackOne text_of one_again rdn back.each;
   members = IsPermutation-refl rdn;
   sorted = back.sorted;
 }
@@ -63,12 +64,12 @@ unfolding rdn_text
 rdn_some [] back = absurd (back.some refl)
 rdn_some (a ∷ rdn) back = some_join 43 (text_of a) (map text_of rdn) (some_attribute a.oid a.value)
 
-one_reads_one : (text : List ℕ) (a b : AttributeTypeAndValue) → OneReads text a → OneReads text b → a ≡ b
+one_reads_one : (text : List ℕ) (a b : AttributeTypeAndValue) → Reads text a → Reads text b → a ≡ b
 one_reads_one text a b p q = let same = one_attribute text a.oid b.oid a.value b.value p q in λ i. record { oid = same.0 i; value = same.1 i }
 
-same_attributes : (text : List ℕ) (parts others : List (List ℕ)) (xs ys : List AttributeTypeAndValue) → Joined 43 parts text → Joined 43 others text → AllZip OneReads parts xs → AllZip OneReads others ys → xs ≡ ys
+same_attributes : (text : List ℕ) (parts others : List (List ℕ)) (xs ys : List AttributeTypeAndValue) → Joined 43 parts text → Joined 43 others text → AllZip Reads parts xs → AllZip Reads others ys → xs ≡ ys
 same_attributes text parts others xs ys p q read again =
-    one_of_each OneReads one_reads_one parts xs ys read (subst (λ t. AllZip OneReads t ys) (one_cut 43 text others parts q p) again)
+    one_of_each Reads one_reads_one parts xs ys read (subst (λ t. AllZip Reads t ys) (one_cut 43 text others parts q p) again)
 
 pub one_rdn : (text : List ℕ) (rdn other : List AttributeTypeAndValue) → RdnReads text rdn → RdnReads text other → rdn ≡ other
 one_rdn text rdn other p q =
@@ -76,7 +77,7 @@ one_rdn text rdn other p q =
     one_set types_and_values_lawful.total types_and_values_lawful.exact rdn other p.sorted q.sorted
     (IsPermutation-trans rdn q.attributes other (subst (λ t. IsPermutation rdn t) same (IsPermutation-sym p.attributes rdn p.members)) q.members)
 
-one_apart : (text : List ℕ) (a : AttributeTypeAndValue) (kind : ErrorKind) → OneReads text a → AttributeRefused text kind → ⊥
+one_apart : (text : List ℕ) (a : AttributeTypeAndValue) (kind : ErrorKind) → Reads text a → AttributeRefused text kind → ⊥
 one_apart text a kind p q = reads_apart text a.oid a.value kind p q
 
 -- what reads has distinct attributes
@@ -86,23 +87,23 @@ read_distinct text rdn p = distinct_from_rising types_and_values_lawful.total p.
 pub rdn_apart : (text : List ℕ) (rdn : List AttributeTypeAndValue) (kind : ErrorKind) → RdnReads text rdn → RdnRefused text kind → ⊥
 rdn_apart text rdn kind p q = go q.refused
   where
-    go : FirstRefused OneReads AttributeRefused q.parts kind ⊎ ((attributes : List AttributeTypeAndValue) × AllZip OneReads q.parts attributes × (AreDistinct attributes → ⊥) × (kind ≡ SetDuplicate)) → ⊥
-    go (inl first) = zip_apart OneReads AttributeRefused one_apart p.parts p.attributes kind p.read (subst (λ t. FirstRefused OneReads AttributeRefused t kind) (one_cut 43 text q.parts p.parts q.cut p.cut) first)
+    go : FirstRefused Reads AttributeRefused q.parts kind ⊎ ((attributes : List AttributeTypeAndValue) × AllZip Reads q.parts attributes × (AreDistinct attributes → ⊥) × (kind ≡ SetDuplicate)) → ⊥
+    go (inl first) = zip_apart Reads AttributeRefused one_apart p.parts p.attributes kind p.read (subst (λ t. FirstRefused Reads AttributeRefused t kind) (one_cut 43 text q.parts p.parts q.cut p.cut) first)
     go (inr (attributes, read, equal, is)) = equal (subst AreDistinct (same_attributes text p.parts q.parts p.attributes attributes p.cut q.cut p.read read) (read_distinct text rdn p))
 
 pub rdn_once : (text : List ℕ) (kind other : ErrorKind) → RdnRefused text kind → RdnRefused text other → kind ≡ other
 rdn_once text kind other p q = go p.refused q.refused
   where
-    moved : FirstRefused OneReads AttributeRefused q.parts other → FirstRefused OneReads AttributeRefused p.parts other
-    moved first = subst (λ t. FirstRefused OneReads AttributeRefused t other) (one_cut 43 text q.parts p.parts q.cut p.cut) first
+    moved : FirstRefused Reads AttributeRefused q.parts other → FirstRefused Reads AttributeRefused p.parts other
+    moved first = subst (λ t. FirstRefused Reads AttributeRefused t other) (one_cut 43 text q.parts p.parts q.cut p.cut) first
 
-    moved_zip : (attributes : List AttributeTypeAndValue) → AllZip OneReads q.parts attributes → AllZip OneReads p.parts attributes
-    moved_zip attributes read = subst (λ t. AllZip OneReads t attributes) (one_cut 43 text q.parts p.parts q.cut p.cut) read
+    moved_zip : (attributes : List AttributeTypeAndValue) → AllZip Reads q.parts attributes → AllZip Reads p.parts attributes
+    moved_zip attributes read = subst (λ t. AllZip Reads t attributes) (one_cut 43 text q.parts p.parts q.cut p.cut) read
 
-    go : FirstRefused OneReads AttributeRefused p.parts kind ⊎ ((attributes : List AttributeTypeAndValue) × AllZip OneReads p.parts attributes × (AreDistinct attributes → ⊥) × (kind ≡ SetDuplicate)) → FirstRefused OneReads AttributeRefused q.parts other ⊎ ((attributes : List AttributeTypeAndValue) × AllZip OneReads q.parts attributes × (AreDistinct attributes → ⊥) × (other ≡ SetDuplicate)) → kind ≡ other
-    go (inl first) (inl second) = refused_once OneReads AttributeRefused one_apart one_refusal p.parts kind other first (moved second)
-    go (inl first) (inr (attributes, read, equal, is)) = absurd (zip_apart OneReads AttributeRefused one_apart p.parts attributes kind (moved_zip attributes read) first)
-    go (inr (attributes, read, equal, is)) (inl second) = absurd (zip_apart OneReads AttributeRefused one_apart p.parts attributes other read (moved second))
+    go : FirstRefused Reads AttributeRefused p.parts kind ⊎ ((attributes : List AttributeTypeAndValue) × AllZip Reads p.parts attributes × (AreDistinct attributes → ⊥) × (kind ≡ SetDuplicate)) → FirstRefused Reads AttributeRefused q.parts other ⊎ ((attributes : List AttributeTypeAndValue) × AllZip Reads q.parts attributes × (AreDistinct attributes → ⊥) × (other ≡ SetDuplicate)) → kind ≡ other
+    go (inl first) (inl second) = refused_once Reads AttributeRefused one_apart one_refusal p.parts kind other first (moved second)
+    go (inl first) (inr (attributes, read, equal, is)) = absurd (zip_apart Reads AttributeRefused one_apart p.parts attributes kind (moved_zip attributes read) first)
+    go (inr (attributes, read, equal, is)) (inl second) = absurd (zip_apart Reads AttributeRefused one_apart p.parts attributes other read (moved second))
     go (inr (attributes, read, equal, is)) (inr (others, again, twice, same)) = is ∙ sym same
 
 -- ---- names

@@ -5,11 +5,14 @@ use Rattle.std.specs.List.Sorted.{IsStrictlySortedBy, IsPermutation}
 use Rattle.x509_der_element.specs.declared.error.ErrorKind.{ErrorKind}
 use Rattle.x509_der_element.specs.declared.error.ErrorKind.TheVariants.{SetDuplicate}
 use Rattle.x509_der_set.specs.Set.{AreDistinct}
+use Rattle.x509_name_attribute.specs.Text.{Reads}
 use Rattle.x509_name_attribute.specs.TypeAndValue.{type_and_value_cmp}
 use Rattle.x509_name_attribute.specs.declared.type_and_value.AttributeTypeAndValue.{AttributeTypeAndValue}
-use Rattle.x509_name_text.specs.Attributes.{attribute_text, AttributeReads, AttributeRefused, ReadsBack}
+use Rattle.x509_name_text.specs.Attributes.{attribute_text, AttributeRefused, ReadsBack}
+use Rattle.x509_name_text.specs.Encodings.{SaysEncoding, EncodingRefused}
 use Rattle.x509_name_text.specs.Parts.{Joined}
 use Rattle.x509_name_text.specs.Refusals.{FirstRefused}
+use Rattle.x509_name_rdn.specs.Names.{rdn_sequence}
 
 -- ---- what is printed
 
@@ -23,15 +26,12 @@ name_text name = join_with_byte 44 (map rdn_text (reverse name))
 
 -- ---- what is read
 
-abbrev pub OneReads : List ℕ → AttributeTypeAndValue → Type 0
-OneReads text a = AttributeReads text a.oid a.value
-
 -- parts at plus signs that read as attributes, whose set it is
 pub record RdnReads (text : List ℕ) (rdn : List AttributeTypeAndValue) : Type 0 where
   pub parts : List (List ℕ)
   pub attributes : List AttributeTypeAndValue
   pub cut : Joined 43 parts text
-  pub read : AllZip OneReads parts attributes
+  pub read : AllZip Reads parts attributes
   pub members : IsPermutation attributes rdn
   pub sorted : IsStrictlySortedBy type_and_value_cmp rdn
 
@@ -46,8 +46,8 @@ NameReads (byte ∷ text) name = (parts : List (List ℕ)) × Joined 44 parts (b
 pub record RdnRefused (text : List ℕ) (kind : ErrorKind) : Type 0 where
   pub parts : List (List ℕ)
   pub cut : Joined 43 parts text
-  pub refused : FirstRefused OneReads AttributeRefused parts kind
-      ⊎ ((attributes : List AttributeTypeAndValue) × AllZip OneReads parts attributes × (AreDistinct attributes → ⊥) × (kind ≡ SetDuplicate))
+  pub refused : FirstRefused Reads AttributeRefused parts kind
+      ⊎ ((attributes : List AttributeTypeAndValue) × AllZip Reads parts attributes × (AreDistinct attributes → ⊥) × (kind ≡ SetDuplicate))
 
 -- the leftmost part that doesn't read as a relative distinguished name is refused
 pub record NameRefused (text : List ℕ) (kind : ErrorKind) : Type 0 where
@@ -55,6 +55,15 @@ pub record NameRefused (text : List ℕ) (kind : ErrorKind) : Type 0 where
   pub parts : List (List ℕ)
   pub cut : Joined 44 parts text
   pub refused : FirstRefused RdnReads RdnRefused parts kind
+
+-- ---- what is encoded
+
+-- the bytes are the encoding of the name that the text reads as
+abbrev pub NameEncodes : List ℕ → List ℕ → Type 0
+NameEncodes text bytes = SaysEncoding rdn_sequence NameReads text bytes
+
+abbrev pub NameNotEncoded : List ℕ → ErrorKind → Type 0
+NameNotEncoded text kind = EncodingRefused rdn_sequence NameReads NameRefused text kind
 
 -- ---- what reads back
 

@@ -1,12 +1,9 @@
 //! The texts of relative distinguished names and of names, read and written (RFC 4514 sections 2.1, 2.2 and 3).
 
-ghost use Rattle.std.specs.Prelude.{◌≡◌, ◌<◌, ◌≤◌, ◌⊎◌, List, length, IfOk, IfErr};
+ghost use Rattle.std.specs.Prelude.{◌≡◌, ◌⊎◌, IfOk, IfErr};
 ghost use Rattle.std.specs.Fmt.{WritesOnOk};
 ghost use Rattle.x509_der_element.specs.declared.error.ErrorKind.TheVariants as errors;
-ghost use Rattle.x509_der_element.specs.Element.{limit};
-ghost use Rattle.x509_der_grammar.specs.Form.{spelling};
-ghost use Rattle.x509_name_attribute.specs.declared.type_and_value.AttributeTypeAndValue.{AttributeTypeAndValue};
-ghost use Rattle.x509_name_rdn.specs.Names.{rdn_sequence};
+ghost use Rattle.x509_name_attribute.specs.Text.{Reads};
 ghost use Rattle.x509_name_rdn.specs.NameText as texts;
 ghost use Rattle.x509_name_text.specs.Attributes.{AttributeRefused};
 
@@ -21,7 +18,7 @@ use x509_name_text::{Parts, count_parts, read_attribute, write_attribute};
 
 // The attribute that a part says.
 fn read_one(alloc: Global, part: &[u8]) -> Result<AttributeTypeAndValue, Error>
-    ensures ok { IfOk result (λ attribute. texts.OneReads part.now attribute) }
+    ensures ok { IfOk result (λ attribute. Reads part.now attribute) }
     ensures err { IfErr result (λ e. (e.kind ≡ errors.Memory) ⊎ AttributeRefused part.now e.kind) }
 {
     let (oid, value) = read_attribute(alloc, part)?;
@@ -138,10 +135,8 @@ impl RdnSequence {
     /// Those of `from_str`; where the text is read, `Overlength` exactly where the encoding is longer than
     /// [`Length::MAX`](x509_der_grammar::Length::MAX). Memory may be refused.
     pub fn encode_from_string(alloc: Global, text: &str) -> Result<Vec<u8>, Error>
-        ensures ok { IfOk result (λ bytes. (rdns : List (List AttributeTypeAndValue)) × texts.NameReads text.now rdns
-            × (bytes.items ≡ spelling rdn_sequence rdns) × (length bytes.items ≤ limit)) }
-        ensures err { IfErr result (λ e. (e.kind ≡ errors.Memory) ⊎ (texts.NameRefused text.now e.kind
-            ⊎ ((e.kind ≡ errors.Overlength) × ((rdns : List (List AttributeTypeAndValue)) × texts.NameReads text.now rdns × (limit < length (spelling rdn_sequence rdns)))))) }
+        ensures ok { IfOk result (λ bytes. texts.NameEncodes text.now bytes.items) }
+        ensures err { IfErr result (λ e. (e.kind ≡ errors.Memory) ⊎ texts.NameNotEncoded text.now e.kind) }
     {
         let rdns = RdnSequence::from_str(alloc, text)?;
         rdns.to_der(alloc)
