@@ -2,7 +2,7 @@
 
 mod arguments;
 
-use crate::codec::Codec;
+use crate::codec::{Codec, NameCodec};
 use crate::command::ProfileName;
 use crate::program::run;
 use std::alloc::{AllocError, Global};
@@ -164,6 +164,22 @@ impl Codec for Reversing {
     }
 }
 
+/// Prints reversed bytes as lower-case hex text, and encodes a text as its reversed bytes.
+impl NameCodec for Reversing {
+    ghost prints_name = { λ bytes text. Unit {0} };
+
+    ghost encodes_name = { λ text encoding. Unit {0} };
+
+    fn print_name(alloc: Global, bytes: &[u8]) -> Result<String, Error> {
+        let reversed = Reversing::reencode(alloc, "", ProfileName::Raw, bytes)?;
+        Ok(hex::encode(alloc, reversed.as_slice())?)
+    }
+
+    fn encode_name(alloc: Global, text: &str) -> Result<Vec<u8>, Error> {
+        Reversing::reencode(alloc, "", ProfileName::Raw, text.as_bytes())
+    }
+}
+
 /// The words of a command, which are parted by single spaces.
 fn words(alloc: Global, command: &str) -> Result<Vec<String>, AllocError> {
     let mut words = Vec::new(alloc);
@@ -239,6 +255,28 @@ fn refuses_a_line(rt: HostRuntime) -> Result<(), Fail> {
 }
 
 #[test]
+fn prints_and_encodes_names(rt: HostRuntime) -> Result<(), Fail> {
+    let alloc = rt.alloc();
+    for (command, input, want_status, want) in [
+        ("name", b"0aBC\n".as_slice(), 0, b"bc0a\n".as_slice()),
+        ("name", b"", 0, b"\n"),
+        ("name", b"0a\n\n", 1, b"refused: Failed\n"),
+        ("name", b"0aB", 1, b"refused: Failed\n"),
+        ("name", b"03", 1, b"refused: Malformed\n"),
+        ("encode-name", b"jkl\n", 0, b"6C6B6A\n"),
+        ("encode-name", b"\xC3\xA9\n\n", 0, b"0AA9C3\n"),
+        ("encode-name", b"", 0, b"\n"),
+        ("encode-name", b"jkl\xFF", 1, b"refused: Failed\n"),
+        ("encode-name", b"\x05", 1, b"refused: SetDuplicate\n"),
+    ] {
+        let (status, line) = answer(alloc, command, input)?;
+        assert_eq!(rt; status, want_status);
+        assert_eq!(rt; line.as_slice(), want);
+    }
+    Ok(())
+}
+
+#[test]
 fn takes_the_profile_of_the_words(rt: HostRuntime) -> Result<(), Fail> {
     let alloc = rt.alloc();
     for (command, want_status, want) in [
@@ -272,8 +310,11 @@ fn other_words_read_nothing(rt: HostRuntime) -> Result<(), Fail> {
         "reencode oid raw raw",
         "reencode oid rfc5280 ",
         "oid reencode",
-        "name",
-        "encode-name",
+        "Name",
+        "name ",
+        "name oid",
+        "encode_name",
+        "encode-name raw",
         "path 2030-01-01T00:00:00Z",
     ] {
         let words = words(alloc, command)?;
@@ -340,7 +381,7 @@ fn the_first_lapse_of_a_writer_ends_the_run(rt: HostRuntime) -> Result<(), Fail>
         for (command, status, line) in [
             ("reencode oid", 0, b"0708\n".as_slice()),
             ("reencode oid", 1, b"refused: Malformed\n".as_slice()),
-            ("name", 2, USAGE),
+            ("names", 2, USAGE),
         ] {
             let words = words(alloc, command)?;
             let input = if status == 1 {
