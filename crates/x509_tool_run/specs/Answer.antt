@@ -32,7 +32,7 @@ pub record Codecs : Type 1 where
   pub prints_name : Step
   pub encodes_name : Step
 
--- of three of them
+-- the codecs that may give these answers
 abbrev pub codecs_of : Reencoding → Step → Step → Codecs
 codecs_of reencodes prints_name encodes_name = record { reencodes = reencodes; prints_name = prints_name; encodes_name = encodes_name }
 
