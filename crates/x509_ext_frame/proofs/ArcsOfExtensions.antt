@@ -1,8 +1,7 @@
 -- The content of 2.5.29.n.
-use Rattle.std.specs.Prelude.{◌≡◌, ◌<◌, ◌+◌, ◌/◌, ◌%◌, ℕ, List, [], ◌∷◌, ◌++◌, refl}
+use Rattle.std.specs.Prelude.{◌≡◌, ◌<◌, ◌/◌, ◌%◌, ℕ, [], ◌∷◌, refl}
 use Rattle.std.proofs.Common.{arith}
-use Rattle.std.specs.Int.Digits.{digits_of}
-use Rattle.x509_der_oid.specs.Arcs.{content_of, subidentifier, high_octets}
+use Rattle.x509_der_oid.specs.Arcs.{content_of, subidentifier}
 use Rattle.x509_ext_frame.specs.Identifiers.{id_ce}
 
 low_digits : (n : ℕ) → n < 128 → subidentifier n ≡ n ∷ []

@@ -28,11 +28,7 @@ pub(crate) fn made<T: ToExtension>(rt: &HostRuntime, of: T) -> Result<Extension,
 }
 
 /// Whether that extension is written as these bytes.
-pub(crate) fn makes<T: ToExtension>(
-    rt: &HostRuntime,
-    of: T,
-    bytes: &[u8],
-) -> Result<bool, Error> {
+pub(crate) fn makes<T: ToExtension>(rt: &HostRuntime, of: T, bytes: &[u8]) -> Result<bool, Error> {
     let extension = made(rt, of)?;
     Ok(extension.to_der(rt.alloc())?.as_slice() == bytes)
 }
