@@ -46,10 +46,18 @@ directory_string = choice directory_cases directory_case
 
 pub directory_string_lawful : {R : ErrorKind → Type 0} → IsForm R directory_string
 directory_string_lawful = choice_lawful directory_cases directory_case refl (
-    (tested_lawful tags.PrintableString (list_all is_printable), λ x. refl), (
-    (tested_lawful tags.TeletexString (list_all is_ia5), λ x. refl), (
-    (tested_lawful tags.Utf8String is_utf8, λ x. refl), (
-    (tested_lawful tags.BmpString is_bmp, λ x. refl), tt))))
+  (tested_lawful tags.PrintableString (list_all is_printable), λ x. refl),
+  (
+    (tested_lawful tags.TeletexString (list_all is_ia5), λ x. refl),
+    (
+      (tested_lawful tags.Utf8String is_utf8, λ x. refl),
+      (
+        (tested_lawful tags.BmpString is_bmp, λ x. refl),
+        tt,
+      ),
+    ),
+  ),
+)
 
 -- ---- texts
 
