@@ -1,8 +1,16 @@
 pub use Rattle.x509_name_attribute.specs.Attribute
+pub use Rattle.x509_name_attribute.specs.Text
 pub use Rattle.x509_name_attribute.specs.TypeAndValue
 pub use Rattle.x509_name_directory.specs.DirectoryString
 pub use Rattle.x509_name_directory.specs.TextRef
 pub use Rattle.x509_name_rdn.specs.Iterators
 pub use Rattle.x509_name_rdn.specs.LookUp
 pub use Rattle.x509_name_rdn.specs.Names
+pub use Rattle.x509_name_rdn.specs.NameText
 pub use Rattle.x509_name_rdn.specs.Rows
+pub use Rattle.x509_name_text.specs.Attributes
+pub use Rattle.x509_name_text.specs.Encodings
+pub use Rattle.x509_name_text.specs.Escapes
+pub use Rattle.x509_name_text.specs.Keys
+pub use Rattle.x509_name_text.specs.Parts
+pub use Rattle.x509_name_text.specs.Refusals

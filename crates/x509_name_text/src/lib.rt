@@ -1,7 +1,6 @@
 //! Attributes as text: the table of their names, escapes, and texts cut at separators.
 #![tactic(auto)]
 
-pub mod attribute_laws;
 mod attributes;
 mod escapes;
 mod hex_text;

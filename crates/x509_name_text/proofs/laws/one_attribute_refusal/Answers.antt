@@ -1,5 +1,5 @@
 use Rattle.x509_name_text.proofs.AttributeLaws.{reads_apart, one_refusal}
-use Rattle.x509_name_text.proofs.attribute_laws.one_attribute_refusal.Goals as goal
+use Rattle.x509_name_text.proofs.laws.one_attribute_refusal.Goals as goal
 
 pub returns-clause-apart : goal.returns-clause-apart
 returns-clause-apart c = reads_apart
