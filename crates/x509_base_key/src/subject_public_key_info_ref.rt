@@ -24,6 +24,7 @@ pub struct SubjectPublicKeyInfoRef<'a> {
     pub subject_public_key: &'a BitString,
 }
 
+#[tactic(auto, unfolding(x509_der_oid::specs::Arcs::subidentifier))]
 impl SubjectPublicKeyInfoRef<'_> {
     /// Whether the algorithm is RSA: rsaEncryption, 1.2.840.113549.1.1.1 (RFC 3279 2.3.1).
     pub fn is_rsa(&self) -> bool
