@@ -54,6 +54,21 @@ fn texts_of_a_bmp_string(rt: HostRuntime) -> Result<(), Fail> {
     Ok(())
 }
 
+/// Whether a copy of the string's text is that text, owned or borrowed as it is.
+fn is_copied(rt: &HostRuntime, string: &DirectoryString) -> Result<bool, Error> {
+    let text = string.value(rt.alloc())?;
+    Ok(text.try_clone(rt.alloc())? == text)
+}
+
+#[test]
+fn copies_of_texts(rt: HostRuntime) -> Result<(), Fail> {
+    let owned = DirectoryString::from(BmpString::from_str(rt.alloc(), "ä")?);
+    assert!(rt; is_copied(&rt, &owned)?);
+    let borrowed = DirectoryString::from(Utf8String::new(rt.alloc(), "ä")?);
+    assert!(rt; is_copied(&rt, &borrowed)?);
+    Ok(())
+}
+
 #[test]
 fn conversions(rt: HostRuntime) -> Result<(), Fail> {
     let printable = DirectoryString::from(PrintableString::new(rt.alloc(), "US")?);
