@@ -3,7 +3,7 @@
 
 pub mod laws;
 
-pub use x509_base_key::{AlgorithmIdentifier, SubjectPublicKeyInfo};
+pub use x509_base_key::{AlgorithmIdentifier, SubjectPublicKeyInfo, SubjectPublicKeyInfoRef};
 pub use x509_base_serial::SerialNumber;
 pub use x509_base_time::{DateTime, GeneralizedTime, UtcTime};
 pub use x509_base_validity::{Profile, Raw, Rfc5280, Time, Validity};

@@ -8,7 +8,7 @@ use borrow.Rule.Slice.PartMut.{put_mid}
 use Rattle.x509_der_element.specs.declared.error.Error.{Error}
 use Rattle.x509_der_element.specs.declared.error.ErrorKind.TheVariants as errors
 use Rattle.x509_base_serial.specs.Serial.{number_content}
-use Rattle.x509_base_serial.proofs.Numbers.{length_content}
+use Rattle.x509_prim_integer.proofs.NumberTypes.{length_content}
 use Rattle.rand_core.specs.Stream.{Stream, fill_bytes}
 use Rattle.x509_base_serial.specs.Fills.{after_fills, fill_after, BeginWithZero, Draws, GivesZeros}
 

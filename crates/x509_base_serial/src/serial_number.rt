@@ -94,12 +94,11 @@ impl<P: Profile> SerialNumber<P> {
     }
 
     /// The serial number with that value. Memory may be refused, and nothing else.
-    #[tactic(auto, using(crate::proofs::Numbers::u64_content))]
     pub fn from_u64(alloc: Global, number: u64) -> Result<SerialNumber<P>, Error>
         ensures ok { IfOk result (λ serial. serial ≡ natural_octets number) }
         ensures err { IfErr result (λ e. e.kind ≡ errors.Memory) }
     {
-        let uint = Uint::new(alloc, &number.to_be_bytes())?;
+        let uint = Uint::from_u128(alloc, u128::from(number))?;
         Ok(SerialNumber::from_number(Int::from(uint)))
     }
 

@@ -10,9 +10,9 @@ pub mod laws;
 pub use x509_der_frames::{
     Any, FromAny, PutPart, Retagged, SequenceOf, Standard, Wrapped, clone_members,
     default_explicit, default_field, default_implicit, defaulted, end, explicit, explicit_default,
-    explicit_field, explicit_optional, field, implicit, implicit_default, implicit_field,
-    implicit_octet, implicit_optional, optional, optional_explicit, optional_field,
-    optional_implicit, put_members, read_further, read_members,
+    explicit_field, explicit_identifier, explicit_optional, field, implicit, implicit_default,
+    implicit_field, implicit_identifier, implicit_octet, implicit_optional, optional,
+    optional_explicit, optional_field, optional_implicit, put_members, read_further, read_members,
 };
 pub use x509_der_grammar::{
     AnyRef, Bytes, Content, Counting, Decode, Encode, Error, ErrorKind, Fixed, FixedTag, Grammar,

@@ -3,6 +3,7 @@
 
 mod any;
 mod default_values;
+mod identifiers;
 pub mod laws;
 mod list;
 mod part;
@@ -10,6 +11,7 @@ mod reading;
 mod standard;
 
 pub use any::{Any, FromAny};
+pub use identifiers::{explicit_identifier, implicit_identifier};
 pub use list::{SequenceOf, clone_members, put_members, read_further, read_members};
 pub use part::{
     PutPart, Retagged, Wrapped, defaulted, explicit, explicit_default, explicit_optional, implicit,

@@ -7,3 +7,7 @@ mod calls;
 mod extensions;
 #[cfg(test)]
 mod keys;
+#[cfg(test)]
+mod names;
+#[cfg(test)]
+mod parties;

@@ -1,38 +1,22 @@
 -- DirectoryString: PrintableString / TeletexString / UTF8String / BMPString (RFC 5280 4.1.2.4, appendix A.1)
 use Rattle.std.specs.Prelude.{◌≡◌, ℕ, Bool, true, false, List, [], ◌⊎◌, Result, IfOk, IfErr, encode_utf8_all, refl}
-use Rattle.std.specs.List.{list_all}
-use Rattle.std.specs.Str.{is_utf8}
 use Rattle.x509_der_element.specs.declared.error.Error.{Error}
 use Rattle.x509_der_element.specs.declared.error.ErrorKind.{ErrorKind}
 use Rattle.x509_der_element.specs.declared.error.ErrorKind.TheVariants.{Memory, Malformed}
-use Rattle.x509_der_element.specs.declared.tag.Tag.TheVariants as tags
 use Rattle.x509_der_element.specs.Element.{element}
 use Rattle.x509_der_element.specs.Tag.{octet_of}
 use Rattle.x509_der_grammar.specs.Form.{Form, IsForm, spelling}
-use Rattle.x509_der_grammar.specs.Tested.{tested, tested_lawful}
 use Rattle.x509_der_frames.specs.Cases.{Cases, ◌∥◌, ◌holds◌, none, CaseOf, choice, choice_lawful}
 use Rattle.x509_der_frames.specs.declared.any.Any.{Any}
-use Rattle.x509_prim_text.specs.Alphabet.{is_printable, is_ia5}
-use Rattle.x509_prim_text.specs.Bmp.{is_bmp, bmp_chars}
+use Rattle.x509_prim_text.specs.Bmp.{bmp_chars}
+use Rattle.x509_prim_text.specs.Texts.{printable_string, teletex_string, utf8_string, bmp_string, printable_string_lawful, teletex_string_lawful, utf8_string_lawful, bmp_string_lawful}
 use Rattle.x509_name_directory.specs.declared.directory_string.DirectoryString.{DirectoryString}
 use Rattle.x509_name_directory.specs.declared.directory_string.DirectoryString.TheVariants.{PrintableString, TeletexString, Utf8String, BmpString}
 
 -- ---- the grammar
 
-abbrev pub printable : Form (List ℕ)
-printable = tested tags.PrintableString (list_all is_printable)
-
-abbrev pub teletex : Form (List ℕ)
-teletex = tested tags.TeletexString (list_all is_ia5)
-
-abbrev pub utf8 : Form (List ℕ)
-utf8 = tested tags.Utf8String is_utf8
-
-abbrev pub bmp : Form (List ℕ)
-bmp = tested tags.BmpString is_bmp
-
 abbrev pub directory_cases : Cases DirectoryString
-directory_cases = PrintableString holds printable ∥ TeletexString holds teletex ∥ Utf8String holds utf8 ∥ BmpString holds bmp ∥ none
+directory_cases = PrintableString holds printable_string ∥ TeletexString holds teletex_string ∥ Utf8String holds utf8_string ∥ BmpString holds bmp_string ∥ none
 
 abbrev pub directory_case : (v : DirectoryString) → CaseOf directory_cases v
 directory_case (PrintableString text) = (0, (text, refl))
@@ -45,13 +29,13 @@ directory_string = choice directory_cases directory_case
 
 pub directory_string_lawful : {R : ErrorKind → Type 0} → IsForm R directory_string
 directory_string_lawful = choice_lawful directory_cases directory_case refl (
-  (tested_lawful tags.PrintableString (list_all is_printable), λ x. refl),
+  (printable_string_lawful, λ x. refl),
   (
-    (tested_lawful tags.TeletexString (list_all is_ia5), λ x. refl),
+    (teletex_string_lawful, λ x. refl),
     (
-      (tested_lawful tags.Utf8String is_utf8, λ x. refl),
+      (utf8_string_lawful, λ x. refl),
       (
-        (tested_lawful tags.BmpString is_bmp, λ x. refl),
+        (bmp_string_lawful, λ x. refl),
         tt,
       ),
     ),

@@ -3,6 +3,8 @@ pub use Rattle.x509_prim_flags.specs.NamedBitsLaws
 pub use Rattle.x509_prim_flags.specs.SetOrder
 pub use Rattle.x509_prim_integer.specs.Integer
 pub use Rattle.x509_prim_integer.specs.IntegerLaws
+pub use Rattle.x509_prim_named.specs.Names
+pub use Rattle.x509_prim_named.specs.NamesLaws
 pub use Rattle.x509_prim_string.specs.BitString
 pub use Rattle.x509_prim_string.specs.BitStringLaws
 pub use Rattle.x509_prim_string.specs.OctetString

@@ -1,2 +1,3 @@
 pub mod Naturals
+pub mod NumberTypes
 pub mod Numbers

@@ -7,6 +7,7 @@ ghost use Rattle.std.specs.Cmp.{partial_equiv_from_equiv};
 ghost use Rattle.std.specs.Cmp.Lexicographic.{nat_list_eq_equiv};
 ghost use Rattle.std.specs.Cmp.Rules.{hashing};
 ghost use Rattle.x509_der_element.specs.declared.error.ErrorKind.TheVariants as errors;
+ghost use Rattle.x509_der_grammar.specs.Natural.{natural_octets};
 ghost use Rattle.x509_prim_integer.specs.Integer.{is_unsigned, number, with_sign, without_zeros};
 
 use crate::content::{check_unsigned, is_signed, strip_zeros};
@@ -49,6 +50,14 @@ impl Uint {
         Ok(Uint {
             content: signed_content(alloc, strip_zeros(octets))?,
         })
+    }
+
+    /// The number of a number type. Memory may be refused, and nothing else.
+    pub fn from_u128(alloc: Global, number: u128) -> Result<Uint, Error>
+        ensures ok { IfOk result (λ uint. uint ≡ natural_octets number) }
+        ensures err { IfErr result (λ e. e.kind ≡ errors.Memory) }
+    {
+        Uint::new(alloc, &number.to_be_bytes())
     }
 
     /// The octets of the number, most significant first, without zeros in front; the number 0 has one octet.

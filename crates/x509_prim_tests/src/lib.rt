@@ -8,6 +8,8 @@ mod flags;
 #[cfg(test)]
 mod integers;
 #[cfg(test)]
+mod named;
+#[cfg(test)]
 mod strings;
 #[cfg(test)]
 mod texts;

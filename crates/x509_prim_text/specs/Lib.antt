@@ -3,3 +3,4 @@ pub mod Text
 pub mod Alphabet
 pub mod Bmp
 pub mod Borrowed
+pub mod Texts

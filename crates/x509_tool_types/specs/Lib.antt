@@ -1,3 +1,4 @@
 pub mod Naming
 pub mod Reencoding
 pub mod Table
+pub mod NameAnswers

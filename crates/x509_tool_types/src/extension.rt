@@ -1,7 +1,8 @@
-//! Extensions and what they hold.
+//! Extensions and what is said of keys, and then names of many kinds.
 
+use crate::general_name::GeneralNameTypes;
 use crate::reencode::Reencode;
-use crate::table::{Nothing, Table};
+use crate::table::Table;
 use std::alloc::Global;
 use std::marker::PhantomData;
 use x509_base_validity::Profile;
@@ -11,7 +12,7 @@ use x509_ext_key::{
     BasicConstraints, ExtendedKeyUsage, KeyUsage, PrivateKeyUsagePeriod, SubjectKeyIdentifier,
 };
 
-/// Extensions and what they hold.
+/// Extensions and what is said of keys, and then names of many kinds.
 pub struct Payloads<P> {
     profile: PhantomData<P>,
 }
@@ -28,7 +29,7 @@ impl<P: Profile> Table for Payloads<P> {
         named (codes "KeyUsage") ⟦<KeyUsage as Reencode>⟧.reencodes otherwise
         named (codes "PrivateKeyUsagePeriod") ⟦<PrivateKeyUsagePeriod as Reencode>⟧.reencodes otherwise
         named (codes "SubjectKeyIdentifier") ⟦<SubjectKeyIdentifier as Reencode>⟧.reencodes otherwise
-        ⟦<Nothing as Table>⟧.table };
+        ⟦<GeneralNameTypes<P> as Table>⟧.table };
 
     fn reencode(alloc: Global, name: &str, bytes: &[u8]) -> Result<Vec<u8>, Error> {
         match name {
@@ -39,7 +40,7 @@ impl<P: Profile> Table for Payloads<P> {
             "KeyUsage" => KeyUsage::reencode_as(alloc, bytes),
             "PrivateKeyUsagePeriod" => PrivateKeyUsagePeriod::reencode_as(alloc, bytes),
             "SubjectKeyIdentifier" => SubjectKeyIdentifier::reencode_as(alloc, bytes),
-            _ => Nothing::reencode(alloc, name, bytes),
+            _ => GeneralNameTypes::<P>::reencode(alloc, name, bytes),
         }
     }
 }

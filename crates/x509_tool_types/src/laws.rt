@@ -20,6 +20,7 @@ use x509_prim_integer::Int;
 use x509_tool_run::Codec;
 
 /// What the program re-encodes is of the type that its word stands for.
+#[tactic(auto, unfolding(crate::specs::NameAnswers::rdn_answers))]
 pub fn program_types()
     ensures any { (bytes : List ℕ) (answer : Result (List ℕ) ErrorKind) → ⟦<Types as Codec>⟧.reencodes (type_name kinds.Any) profiles.Rfc5280 bytes answer → ⟦<Any as Reencode>⟧.reencodes bytes answer }
     ensures integer { (bytes : List ℕ) (answer : Result (List ℕ) ErrorKind) → ⟦<Types as Codec>⟧.reencodes (type_name kinds.Integer) profiles.Rfc5280 bytes answer → ⟦<Int as Reencode>⟧.reencodes bytes answer }

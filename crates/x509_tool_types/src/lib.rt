@@ -4,12 +4,18 @@
 #![tactic(auto)]
 
 mod base;
+mod constraint;
 mod extension;
+mod general_name;
 pub mod laws;
 mod name;
+mod party;
+mod policy;
 mod primitive;
 mod reencode;
+mod revocation;
 mod table;
+mod timestamp;
 
 pub use reencode::Reencode;
 pub use table::{Table, Types};

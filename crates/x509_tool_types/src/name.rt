@@ -1,5 +1,8 @@
 //! Attributes and names, and then extensions.
 
+ghost use Rattle.x509_tool_types.specs.NameAnswers.{rdn_answers, rdn_sequence_answers};
+ghost use Rattle.x509_tool_types.specs.Table.{IsAmong};
+
 use crate::extension::Payloads;
 use crate::reencode::Reencode;
 use crate::table::Table;
@@ -19,17 +22,15 @@ pub struct Names<P> {
 #[tactic(auto, using(crate::proofs::Rows::is_found, crate::proofs::Rows::is_passed))]
 impl<P: Profile> Table for Names<P> {
     ghost use Rattle.std.specs.Prelude.{codes};
-    ghost use Rattle.x509_der_grammar.specs.Writing.{plain};
-    ghost use Rattle.x509_name_rdn.specs.Names.{rdn_sequence, relative_distinguished_name};
-    ghost use Rattle.x509_tool_types.specs.Reencoding.{Reencodes};
+    ghost use Rattle.x509_tool_types.specs.NameAnswers.{rdn_answers, rdn_sequence_answers};
     ghost use Rattle.x509_tool_types.specs.Table.{named, ◌otherwise◌};
 
     ghost table = { named (codes "Attribute") ⟦<Attribute as Reencode>⟧.reencodes otherwise
         named (codes "AttributeTypeAndValue") ⟦<AttributeTypeAndValue as Reencode>⟧.reencodes otherwise
         named (codes "DirectoryString") ⟦<DirectoryString as Reencode>⟧.reencodes otherwise
         named (codes "Name") ⟦<Name as Reencode>⟧.reencodes otherwise
-        named (codes "RdnSequence") (Reencodes rdn_sequence plain (λ _. ⊥)) otherwise
-        named (codes "RelativeDistinguishedName") (Reencodes relative_distinguished_name plain (λ _. ⊥)) otherwise
+        named (codes "RdnSequence") rdn_sequence_answers otherwise
+        named (codes "RelativeDistinguishedName") rdn_answers otherwise
         ⟦<Payloads<P> as Table>⟧.table };
 
     fn reencode(alloc: Global, name: &str, bytes: &[u8]) -> Result<Vec<u8>, Error> {
@@ -38,9 +39,24 @@ impl<P: Profile> Table for Names<P> {
             "AttributeTypeAndValue" => AttributeTypeAndValue::reencode_as(alloc, bytes),
             "DirectoryString" => DirectoryString::reencode_as(alloc, bytes),
             "Name" => Name::reencode_as(alloc, bytes),
-            "RdnSequence" => RdnSequence::reencode_as(alloc, bytes),
-            "RelativeDistinguishedName" => RelativeDistinguishedName::reencode_as(alloc, bytes),
+            "RdnSequence" => reencode_rdn_sequence(alloc, bytes),
+            "RelativeDistinguishedName" => reencode_rdn(alloc, bytes),
             _ => Payloads::<P>::reencode(alloc, name, bytes),
         }
     }
+}
+
+// A type round a newtype can't be named in a clause, so the two answers are stated by their forms.
+#[tactic(auto, unfolding(crate::specs::NameAnswers::rdn_sequence_answers))]
+fn reencode_rdn_sequence(alloc: Global, bytes: &[u8]) -> Result<Vec<u8>, Error>
+    ensures { IsAmong (λ encoding. encoding.items) (rdn_sequence_answers bytes.now) result }
+{
+    RdnSequence::reencode_as(alloc, bytes)
+}
+
+#[tactic(auto, unfolding(crate::specs::NameAnswers::rdn_answers))]
+fn reencode_rdn(alloc: Global, bytes: &[u8]) -> Result<Vec<u8>, Error>
+    ensures { IsAmong (λ encoding. encoding.items) (rdn_answers bytes.now) result }
+{
+    RelativeDistinguishedName::reencode_as(alloc, bytes)
 }

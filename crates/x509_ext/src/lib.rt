@@ -1,0 +1,7 @@
+//! Extensions (RFC 5280 4.2): how they stand in certificates, and what they hold.
+#![tactic(auto)]
+
+pub mod laws;
+pub mod pkix;
+
+pub use x509_ext_frame::{Criticality, Extension, Extensions, ToExtension};

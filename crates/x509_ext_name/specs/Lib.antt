@@ -1,0 +1,5 @@
+pub mod DistributionPointName
+pub mod EdiPartyName
+pub mod GeneralName
+pub mod HardwareModuleName
+pub mod OtherName

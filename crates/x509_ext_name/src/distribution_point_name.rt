@@ -1,0 +1,85 @@
+//! Names of the places at which lists of revoked certificates are found.
+
+use crate::general_name::GeneralNames;
+use std::alloc::Global;
+use x509_der_frames::implicit_identifier;
+use x509_der_grammar::{Content, Decode, Encode, Error, ErrorKind, Grammar, Room, Tag, TryClone};
+use x509_name_rdn::RelativeDistinguishedName;
+
+/// The name of a place at which a list of revoked certificates is found (RFC 5280 4.2.1.13).
+///
+/// ```text
+/// DistributionPointName ::= CHOICE {
+///     fullName                 [0] IMPLICIT GeneralNames,
+///     nameRelativeToCRLIssuer  [1] IMPLICIT RelativeDistinguishedName }
+/// ```
+#[derive(Debug, Drop, PartialEq, Eq)]
+pub enum DistributionPointName {
+    /// Names of the place.
+    FullName(GeneralNames),
+
+    /// What stands behind the name of the list's issuer.
+    NameRelativeToCRLIssuer(RelativeDistinguishedName),
+}
+
+impl TryClone for DistributionPointName {
+    fn try_clone(&self, alloc: Global) -> Result<DistributionPointName, Error> {
+        Ok(match self {
+            DistributionPointName::FullName(names) => {
+                DistributionPointName::FullName(names.try_clone(alloc)?)
+            }
+            DistributionPointName::NameRelativeToCRLIssuer(rdn) => {
+                DistributionPointName::NameRelativeToCRLIssuer(rdn.try_clone(alloc)?)
+            }
+        })
+    }
+}
+
+#[tactic(auto, unfolding(x509_der_frames::specs::Cases::choice_tag))]
+impl Grammar for DistributionPointName {
+    ghost use Rattle.x509_ext_name.specs.DistributionPointName as grammar;
+
+    ghost form = { grammar.distribution_point_name };
+
+    fn identifier(&self) -> Tag {
+        match self {
+            DistributionPointName::FullName(_) => implicit_identifier::<GeneralNames>(0),
+            DistributionPointName::NameRelativeToCRLIssuer(_) => {
+                implicit_identifier::<RelativeDistinguishedName>(1)
+            }
+        }
+    }
+
+    fn is_start(octet: u8) -> bool {
+        matches!(octet, 0xA0 | 0xA1)
+    }
+
+    ghost lawful = { grammar.distribution_point_name_lawful };
+}
+
+#[tactic(auto, unfolding(x509_der_frames::specs::Cases::choice_reading))]
+impl Decode for DistributionPointName {
+    fn read(alloc: Global, tag: u8, content: &[u8]) -> Result<DistributionPointName, Error> {
+        Ok(match tag {
+            0xA0 => DistributionPointName::FullName(GeneralNames::read_content(alloc, content)?),
+            0xA1 => DistributionPointName::NameRelativeToCRLIssuer(
+                RelativeDistinguishedName::read_content(alloc, content)?,
+            ),
+            _ => return Err(ErrorKind::Malformed.into()),
+        })
+    }
+}
+
+#[tactic(auto, unfolding(x509_der_frames::specs::Cases::choice_content))]
+impl Encode for DistributionPointName {
+    ghost use Rattle.std.specs.Prelude.{refl};
+
+    fn put_content<R: Room>(&self, room: &mut R) -> Result<(), Error> {
+        match self {
+            DistributionPointName::FullName(names) => names.put_content(room),
+            DistributionPointName::NameRelativeToCRLIssuer(rdn) => rdn.put_content(room),
+        }
+    }
+
+    ghost same_tag = { λ value. refl };
+}

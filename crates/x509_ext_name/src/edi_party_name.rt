@@ -1,0 +1,67 @@
+//! Names of electronic data interchange.
+
+use std::alloc::Global;
+use x509_der_frames::{
+    PutPart, end, explicit, explicit_field, explicit_optional, optional_explicit,
+};
+use x509_der_grammar::{Content, Error, Room, Tag, TryClone};
+use x509_name_directory::DirectoryString;
+
+/// A name of electronic data interchange (RFC 5280 4.2.1.6). Its tags are explicit, since what they are put on is a choice
+/// (X.680 31.2.7).
+///
+/// ```text
+/// EDIPartyName ::= SEQUENCE {
+///     nameAssigner  [0] DirectoryString OPTIONAL,
+///     partyName     [1] DirectoryString }
+/// ```
+#[derive(Debug, Drop, PartialEq, Eq)]
+pub struct EdiPartyName {
+    /// Who gave the name.
+    pub name_assigner: Option<DirectoryString>,
+
+    /// The name.
+    pub party_name: DirectoryString,
+}
+
+impl TryClone for EdiPartyName {
+    fn try_clone(&self, alloc: Global) -> Result<EdiPartyName, Error> {
+        Ok(EdiPartyName {
+            name_assigner: self.name_assigner.try_clone(alloc)?,
+            party_name: self.party_name.try_clone(alloc)?,
+        })
+    }
+}
+
+#[tactic(auto, unfolding(crate::specs::EdiPartyName::edi_party_name_fields, x509_der_frames::specs::Frames::fields_reading, x509_der_frames::specs::Frames::fields_octets))]
+impl Content for EdiPartyName {
+    ghost use Rattle.x509_der_element.specs.declared.tag.Tag.TheVariants.{Sequence};
+    ghost use Rattle.x509_ext_name.specs.EdiPartyName as grammar;
+
+    ghost contents = { grammar.edi_party_name_contents };
+
+    ghost IDENTIFIER = { Sequence };
+
+    const IDENTIFIER: Tag = Tag::Sequence;
+
+    fn read_content(alloc: Global, octets: &[u8]) -> Result<EdiPartyName, Error> {
+        let mut rest = octets;
+        let name_assigner = optional_explicit::<DirectoryString>(alloc, 0, &mut rest)?;
+        let party_name = explicit_field::<DirectoryString>(alloc, 1, &mut rest)?;
+        end(rest)?;
+        Ok(EdiPartyName {
+            name_assigner,
+            party_name,
+        })
+    }
+
+    fn write_content<R: Room>(&self, room: &mut R) -> Result<(), Error> {
+        let parts = (
+            explicit_optional(0, &self.name_assigner),
+            explicit(1, &self.party_name),
+        );
+        parts.put_text(room)
+    }
+
+    ghost contents_lawful = { grammar.edi_party_name_contents_lawful };
+}

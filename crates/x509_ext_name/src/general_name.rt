@@ -1,0 +1,195 @@
+//! Names of many kinds.
+
+ghost use Rattle.std.specs.Prelude.{◌≡◌, ◌<◌, length, IfOk, IfErr};
+ghost use Rattle.x509_der_element.specs.declared.error.ErrorKind.TheVariants.{Memory};
+ghost use Rattle.x509_ext_name.specs.GeneralName.{address_octets};
+ghost use Rattle.x509_ext_name.specs.declared.general_name.GeneralName.TheVariants as names;
+
+use crate::edi_party_name::EdiPartyName;
+use crate::other_name::OtherName;
+use std::alloc::Global;
+use x509_der_frames::{SequenceOf, explicit_identifier, implicit_identifier};
+use x509_der_grammar::{
+    Content, Decode, Encode, Error, ErrorKind, Grammar, Room, Tag, TryClone, read_whole,
+};
+use x509_der_oid::ObjectIdentifier;
+use x509_name_rdn::Name;
+use x509_prim_string::OctetString;
+use x509_prim_text::Ia5String;
+
+/// An address of the Internet protocol (RFC 791, RFC 4291), its octets in the order of the network.
+#[derive(Clone, Copy, Debug, PartialEq, Eq)]
+pub enum IpAddress {
+    /// Of version 4.
+    V4([u8; 4]),
+
+    /// Of version 6.
+    V6([u8; 16]),
+}
+
+/// A name of some kind (RFC 5280 4.2.1.6). There is no `x400Address`, whose identifier \[3\] is `Malformed`.
+///
+/// ```text
+/// GeneralName ::= CHOICE {
+///     otherName                  [0] IMPLICIT OtherName,
+///     rfc822Name                 [1] IMPLICIT IA5String,
+///     dNSName                    [2] IMPLICIT IA5String,
+///     directoryName              [4] EXPLICIT Name,
+///     ediPartyName               [5] IMPLICIT EDIPartyName,
+///     uniformResourceIdentifier  [6] IMPLICIT IA5String,
+///     iPAddress                  [7] IMPLICIT OCTET STRING,
+///     registeredID               [8] IMPLICIT OBJECT IDENTIFIER }
+/// ```
+#[derive(Debug, Drop, PartialEq, Eq)]
+pub enum GeneralName {
+    /// A name of a kind that an identifier tells.
+    OtherName(OtherName),
+
+    /// An address of electronic mail.
+    Rfc822Name(Ia5String),
+
+    /// A name of the domain name system.
+    DnsName(Ia5String),
+
+    /// A name as that of an issuer.
+    DirectoryName(Name),
+
+    /// A name of electronic data interchange.
+    EdiPartyName(EdiPartyName),
+
+    /// A uniform resource identifier.
+    UniformResourceIdentifier(Ia5String),
+
+    /// An address of the Internet protocol; in name constraints an address and a mask. How many octets there are isn't
+    /// looked at.
+    IpAddress(OctetString),
+
+    /// An identifier that was registered.
+    RegisteredId(ObjectIdentifier),
+}
+
+/// Names of many kinds in their order (RFC 5280 4.2.1.6). A sequence without members is read and written too.
+///
+/// ```text
+/// GeneralNames ::= SEQUENCE OF GeneralName
+/// ```
+pub type GeneralNames = SequenceOf<GeneralName>;
+
+impl GeneralName {
+    /// The name that is the address. Memory may be refused, and nothing else.
+    pub fn from_ip(alloc: Global, address: IpAddress) -> Result<GeneralName, Error>
+        ensures ok { IfOk result (λ name. name ≡ names.IpAddress (address_octets address)) }
+        ensures err { IfErr result (λ e. e.kind ≡ Memory) }
+    {
+        let octets = match address {
+            IpAddress::V4(octets) => address_string(alloc, &octets)?,
+            IpAddress::V6(octets) => address_string(alloc, &octets)?,
+        };
+        Ok(GeneralName::IpAddress(octets))
+    }
+}
+
+/// The octets of an address.
+fn address_string(alloc: Global, octets: &[u8]) -> Result<OctetString, Error>
+    requires { length octets.now < 128 }
+    ensures ok { IfOk result (λ string. string ≡ octets.now) }
+    ensures err { IfErr result (λ e. e.kind ≡ Memory) }
+{
+    OctetString::new(alloc, octets)
+}
+
+impl TryClone for IpAddress {
+    ghost use Rattle.std.specs.Prelude.{◌≡◌, Ok};
+
+    fn try_clone(&self, _alloc: Global) -> Result<IpAddress, Error>
+        ensures { result ≡ Ok self.now }
+    {
+        Ok(*self)
+    }
+}
+
+impl TryClone for GeneralName {
+    fn try_clone(&self, alloc: Global) -> Result<GeneralName, Error> {
+        Ok(match self {
+            GeneralName::OtherName(other) => GeneralName::OtherName(other.try_clone(alloc)?),
+            GeneralName::Rfc822Name(text) => GeneralName::Rfc822Name(text.try_clone(alloc)?),
+            GeneralName::DnsName(text) => GeneralName::DnsName(text.try_clone(alloc)?),
+            GeneralName::DirectoryName(name) => GeneralName::DirectoryName(name.try_clone(alloc)?),
+            GeneralName::EdiPartyName(party) => GeneralName::EdiPartyName(party.try_clone(alloc)?),
+            GeneralName::UniformResourceIdentifier(text) => {
+                GeneralName::UniformResourceIdentifier(text.try_clone(alloc)?)
+            }
+            GeneralName::IpAddress(octets) => GeneralName::IpAddress(octets.try_clone(alloc)?),
+            GeneralName::RegisteredId(identifier) => GeneralName::RegisteredId(*identifier),
+        })
+    }
+}
+
+#[tactic(auto, unfolding(x509_der_frames::specs::Cases::choice_tag))]
+impl Grammar for GeneralName {
+    ghost use Rattle.x509_ext_name.specs.GeneralName as grammar;
+
+    ghost form = { grammar.general_name };
+
+    fn identifier(&self) -> Tag {
+        match self {
+            GeneralName::OtherName(_) => implicit_identifier::<OtherName>(0),
+            GeneralName::Rfc822Name(_) => implicit_identifier::<Ia5String>(1),
+            GeneralName::DnsName(_) => implicit_identifier::<Ia5String>(2),
+            GeneralName::DirectoryName(_) => explicit_identifier(4),
+            GeneralName::EdiPartyName(_) => implicit_identifier::<EdiPartyName>(5),
+            GeneralName::UniformResourceIdentifier(_) => implicit_identifier::<Ia5String>(6),
+            GeneralName::IpAddress(_) => implicit_identifier::<OctetString>(7),
+            GeneralName::RegisteredId(_) => implicit_identifier::<ObjectIdentifier>(8),
+        }
+    }
+
+    fn is_start(octet: u8) -> bool {
+        matches!(octet, 0xA0 | 0x81 | 0x82 | 0xA4 | 0xA5 | 0x86 | 0x87 | 0x88)
+    }
+
+    fn usual() -> Tag {
+        implicit_identifier::<Ia5String>(2)
+    }
+
+    ghost lawful = { grammar.general_name_lawful };
+}
+
+#[tactic(auto, unfolding(x509_der_frames::specs::Cases::choice_reading))]
+impl Decode for GeneralName {
+    fn read(alloc: Global, tag: u8, content: &[u8]) -> Result<GeneralName, Error> {
+        Ok(match tag {
+            0xA0 => GeneralName::OtherName(OtherName::read_content(alloc, content)?),
+            0x81 => GeneralName::Rfc822Name(Ia5String::read_content(alloc, content)?),
+            0x82 => GeneralName::DnsName(Ia5String::read_content(alloc, content)?),
+            0xA4 => GeneralName::DirectoryName(read_whole(alloc, content)?),
+            0xA5 => GeneralName::EdiPartyName(EdiPartyName::read_content(alloc, content)?),
+            0x86 => {
+                GeneralName::UniformResourceIdentifier(Ia5String::read_content(alloc, content)?)
+            }
+            0x87 => GeneralName::IpAddress(OctetString::read_content(alloc, content)?),
+            0x88 => GeneralName::RegisteredId(ObjectIdentifier::read_content(alloc, content)?),
+            _ => return Err(ErrorKind::Malformed.into()),
+        })
+    }
+}
+
+#[tactic(auto, unfolding(x509_der_frames::specs::Cases::choice_content))]
+impl Encode for GeneralName {
+    ghost use Rattle.std.specs.Prelude.{refl};
+
+    fn put_content<R: Room>(&self, room: &mut R) -> Result<(), Error> {
+        match self {
+            GeneralName::OtherName(other) => other.put_content(room),
+            GeneralName::Rfc822Name(text) => text.put_content(room),
+            GeneralName::DnsName(text) => text.put_content(room),
+            GeneralName::DirectoryName(name) => name.put_element(room),
+            GeneralName::EdiPartyName(party) => party.put_content(room),
+            GeneralName::UniformResourceIdentifier(text) => text.put_content(room),
+            GeneralName::IpAddress(octets) => octets.put_content(room),
+            GeneralName::RegisteredId(identifier) => identifier.put_content(room),
+        }
+    }
+
+    ghost same_tag = { λ value. refl };
+}

@@ -1,0 +1,87 @@
+//! Names of hardware modules.
+
+ghost use Rattle.x509_ext_name.specs.HardwareModuleName.{ReadsHardwareModule};
+
+use crate::other_name::OtherName;
+use std::alloc::Global;
+use x509_der_frames::{PutPart, end, field};
+use x509_der_grammar::{Content, Error, Room, Tag, TryClone};
+use x509_der_oid::ObjectIdentifier;
+use x509_ext_frame::id_pkix;
+use x509_prim_string::OctetString;
+
+/// The kind of an [`OtherName`] that is a [`HardwareModuleName`], 1.3.6.1.5.5.7.8.4 (RFC 4108 5).
+pub const ID_ON_HARDWARE_MODULE_NAME: ObjectIdentifier = id_pkix!(8, 4);
+
+/// The name of a hardware module (RFC 4108 5).
+///
+/// ```text
+/// HardwareModuleName ::= SEQUENCE {
+///     hwType       OBJECT IDENTIFIER,
+///     hwSerialNum  OCTET STRING }
+/// ```
+#[derive(Debug, Drop, PartialEq, Eq)]
+pub struct HardwareModuleName {
+    /// The type of module.
+    pub hw_type: ObjectIdentifier,
+
+    /// The serial number among the modules of that type.
+    pub hw_serial_num: OctetString,
+}
+
+impl HardwareModuleName {
+    /// The name of a hardware module that stands in a name of another kind: `None` where the identifier tells another
+    /// kind, and `Malformed` exactly where it tells this one and the value is not the element of one. Memory may be
+    /// refused for one of this kind.
+    pub fn from_other_name(
+        alloc: Global,
+        other_name: &OtherName,
+    ) -> Result<Option<HardwareModuleName>, Error>
+        ensures { ReadsHardwareModule other_name.now result }
+    {
+        if other_name.type_id == ID_ON_HARDWARE_MODULE_NAME {
+            Ok(Some(other_name.value.decode_as::<HardwareModuleName>(alloc)?))
+        } else {
+            Ok(None)
+        }
+    }
+}
+
+impl TryClone for HardwareModuleName {
+    fn try_clone(&self, alloc: Global) -> Result<HardwareModuleName, Error> {
+        Ok(HardwareModuleName {
+            hw_type: self.hw_type,
+            hw_serial_num: self.hw_serial_num.try_clone(alloc)?,
+        })
+    }
+}
+
+#[tactic(auto, unfolding(crate::specs::HardwareModuleName::hardware_module_name_fields, x509_der_frames::specs::Frames::fields_reading, x509_der_frames::specs::Frames::fields_octets))]
+impl Content for HardwareModuleName {
+    ghost use Rattle.x509_der_element.specs.declared.tag.Tag.TheVariants.{Sequence};
+    ghost use Rattle.x509_ext_name.specs.HardwareModuleName as grammar;
+
+    ghost contents = { grammar.hardware_module_name_contents };
+
+    ghost IDENTIFIER = { Sequence };
+
+    const IDENTIFIER: Tag = Tag::Sequence;
+
+    fn read_content(alloc: Global, octets: &[u8]) -> Result<HardwareModuleName, Error> {
+        let mut rest = octets;
+        let hw_type = field::<ObjectIdentifier>(alloc, &mut rest)?;
+        let hw_serial_num = field::<OctetString>(alloc, &mut rest)?;
+        end(rest)?;
+        Ok(HardwareModuleName {
+            hw_type,
+            hw_serial_num,
+        })
+    }
+
+    fn write_content<R: Room>(&self, room: &mut R) -> Result<(), Error> {
+        let parts = (&self.hw_type, &self.hw_serial_num);
+        parts.put_text(room)
+    }
+
+    ghost contents_lawful = { grammar.hardware_module_name_contents_lawful };
+}

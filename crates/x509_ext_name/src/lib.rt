@@ -1,0 +1,14 @@
+//! Names of many kinds, and what stands in them.
+#![tactic(auto)]
+
+mod distribution_point_name;
+mod edi_party_name;
+mod general_name;
+mod hardware_module_name;
+mod other_name;
+
+pub use distribution_point_name::DistributionPointName;
+pub use edi_party_name::EdiPartyName;
+pub use general_name::{GeneralName, GeneralNames, IpAddress};
+pub use hardware_module_name::{HardwareModuleName, ID_ON_HARDWARE_MODULE_NAME};
+pub use other_name::OtherName;

@@ -1,0 +1,82 @@
+//! Names of a kind that an identifier tells.
+
+ghost use Rattle.std.specs.Prelude.{◌≡◌, ◌<◌, ◌⊎◌, length, IfOk, IfErr};
+ghost use Rattle.x509_der_element.specs.Element.{limit};
+ghost use Rattle.x509_der_element.specs.declared.error.ErrorKind.TheVariants.{Memory, Overlength};
+ghost use Rattle.x509_der_grammar.specs.Form.{spelling};
+ghost use Rattle.x509_ext_name.specs.HardwareModuleName.{IsModuleIn, hardware_module_name, id_on_hardware_module_name};
+
+use crate::hardware_module_name::{HardwareModuleName, ID_ON_HARDWARE_MODULE_NAME};
+use std::alloc::Global;
+use x509_der_frames::{Any, PutPart, end, explicit, explicit_field, field};
+use x509_der_grammar::{Content, Error, Room, Tag, TryClone};
+use x509_der_oid::ObjectIdentifier;
+
+/// A name of a kind that an identifier tells (RFC 5280 4.2.1.6).
+///
+/// ```text
+/// OtherName ::= SEQUENCE {
+///     type-id  OBJECT IDENTIFIER,
+///     value    [0] EXPLICIT ANY DEFINED BY type-id }
+/// ```
+#[derive(Debug, Drop, PartialEq, Eq)]
+pub struct OtherName {
+    /// The kind of name.
+    pub type_id: ObjectIdentifier,
+
+    /// The name.
+    pub value: Any,
+}
+
+impl OtherName {
+    /// The name of a hardware module (RFC 4108 5). `Overlength` exactly where its element would be longer than
+    /// [`Length::MAX`](x509_der_grammar::Length::MAX). Memory may be refused.
+    pub fn from_hardware_module(
+        alloc: Global,
+        hardware: &HardwareModuleName,
+    ) -> Result<OtherName, Error>
+        ensures ok { IfOk result (λ other. (other.type_id ≡ id_on_hardware_module_name) × IsModuleIn hardware.now other.value) }
+        ensures err { IfErr result (λ e. (e.kind ≡ Memory) ⊎ ((e.kind ≡ Overlength) × (limit < length (spelling hardware_module_name hardware.now)))) }
+    {
+        Ok(OtherName {
+            type_id: ID_ON_HARDWARE_MODULE_NAME,
+            value: Any::encode_from(alloc, hardware)?,
+        })
+    }
+}
+
+impl TryClone for OtherName {
+    fn try_clone(&self, alloc: Global) -> Result<OtherName, Error> {
+        Ok(OtherName {
+            type_id: self.type_id,
+            value: self.value.try_clone(alloc)?,
+        })
+    }
+}
+
+#[tactic(auto, unfolding(crate::specs::OtherName::other_name_fields, x509_der_frames::specs::Frames::fields_reading, x509_der_frames::specs::Frames::fields_octets))]
+impl Content for OtherName {
+    ghost use Rattle.x509_der_element.specs.declared.tag.Tag.TheVariants.{Sequence};
+    ghost use Rattle.x509_ext_name.specs.OtherName as grammar;
+
+    ghost contents = { grammar.other_name_contents };
+
+    ghost IDENTIFIER = { Sequence };
+
+    const IDENTIFIER: Tag = Tag::Sequence;
+
+    fn read_content(alloc: Global, octets: &[u8]) -> Result<OtherName, Error> {
+        let mut rest = octets;
+        let type_id = field::<ObjectIdentifier>(alloc, &mut rest)?;
+        let value = explicit_field::<Any>(alloc, 0, &mut rest)?;
+        end(rest)?;
+        Ok(OtherName { type_id, value })
+    }
+
+    fn write_content<R: Room>(&self, room: &mut R) -> Result<(), Error> {
+        let parts = (&self.type_id, explicit(0, &self.value));
+        parts.put_text(room)
+    }
+
+    ghost contents_lawful = { grammar.other_name_contents_lawful };
+}

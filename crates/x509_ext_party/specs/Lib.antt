@@ -1,0 +1,4 @@
+pub mod Access
+pub mod AlternativeNames
+pub mod AuthorityKeyIdentifier
+pub mod Rows

@@ -1,0 +1,2 @@
+pub mod GeneralSubtree
+pub mod NameConstraints

@@ -1,0 +1,3 @@
+pub mod DistributionPoint
+pub mod IssuingDistributionPoint
+pub mod Rows

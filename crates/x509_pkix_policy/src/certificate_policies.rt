@@ -1,0 +1,96 @@
+//! The policies of a certificate.
+
+use crate::policy_information::PolicyInformation;
+use x509_der_frames::SequenceOf;
+use x509_der_grammar::Newtype;
+use x509_der_oid::{AssociatedOid, ObjectIdentifier};
+use x509_ext_frame::{Criticality, Extension, id_ce};
+use x509_name_rdn::Name;
+
+/// The policies under which the certificate was issued and for which it may be used (RFC 5280 4.2.1.4). Its identifier is
+/// 2.5.29.32, and it isn't critical where the caller doesn't say so. A sequence without members is read and written too.
+///
+/// ```text
+/// CertificatePolicies ::= SEQUENCE OF PolicyInformation
+/// ```
+#[derive(Debug, Drop, PartialEq, Eq)]
+pub struct CertificatePolicies(pub SequenceOf<PolicyInformation>);
+
+impl AssociatedOid for CertificatePolicies {
+    ghost use Rattle.x509_ext_frame.specs.Identifiers.{id_ce};
+
+    ghost OID = { id_ce 32 };
+
+    const OID: ObjectIdentifier = id_ce!(32);
+}
+
+impl Criticality for CertificatePolicies {
+    ghost use Rattle.std.specs.Prelude.{false};
+
+    ghost is_critical = { λ policies subject extensions. false };
+
+    fn criticality(&self, _subject: &Name, _extensions: &[Extension]) -> bool {
+        false
+    }
+}
+
+impl Newtype for CertificatePolicies {
+    ghost use Rattle.std.specs.Prelude.{refl};
+
+    type Inner = SequenceOf<PolicyInformation>;
+
+    ghost round = { record { to = λ policies. policies.0; from = λ information. record { 0 = information }; back = λ policies. refl; there = λ information. refl } };
+
+    fn inner(&self) -> &SequenceOf<PolicyInformation> {
+        &self.0
+    }
+
+    fn from_inner(inner: SequenceOf<PolicyInformation>) -> CertificatePolicies {
+        CertificatePolicies(inner)
+    }
+}
+
+impl From<SequenceOf<PolicyInformation>> for CertificatePolicies {
+    ghost use Rattle.std.specs.Prelude.{◌≡◌};
+
+    ghost from_gives = { λ information policies. policies.0 ≡ information };
+
+    fn from(information: SequenceOf<PolicyInformation>) -> CertificatePolicies {
+        CertificatePolicies(information)
+    }
+}
+
+impl From<CertificatePolicies> for SequenceOf<PolicyInformation> {
+    ghost use Rattle.std.specs.Prelude.{◌≡◌};
+
+    ghost from_gives = { λ policies information. information ≡ policies.0 };
+
+    fn from(policies: CertificatePolicies) -> SequenceOf<PolicyInformation> {
+        let CertificatePolicies(information) = policies;
+        information
+    }
+}
+
+impl AsRef<SequenceOf<PolicyInformation>> for CertificatePolicies {
+    ghost use Rattle.std.specs.Prelude.{◌≡◌};
+
+    fn as_ref(&self) -> &SequenceOf<PolicyInformation>
+        ensures { result.now ≡ self.now.0 }
+    {
+        &self.0
+    }
+}
+
+impl AsMut<SequenceOf<PolicyInformation>> for CertificatePolicies {
+    ghost use Rattle.std.specs.Borrow.{Lends, sem};
+    ghost use Rattle.std.specs.Prelude.{◌≡◌};
+    ghost use Rattle.x509_pkix_policy.specs.Rows.{policy_list_row};
+    ghost use Rattle.x509_pkix_policy.specs.contracts.certificate_policies.CertificatePolicies.{the_row};
+
+    fn as_mut(&mut self) -> &mut SequenceOf<PolicyInformation>
+        ensures* writes_back { sem 𝓛 (Lends the_row policy_list_row self.entry result (λ w. record { 0 = w })) }
+        ensures value { result.now ≡ self.old.0 }
+    {
+        &mut self.0
+    }
+}

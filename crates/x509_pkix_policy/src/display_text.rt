@@ -1,0 +1,89 @@
+//! Texts for people to read.
+
+use std::alloc::Global;
+use x509_der_grammar::{Decode, Encode, Error, Grammar, Room, Tag, TryClone};
+use x509_prim_text::{Ia5String, Utf8String};
+
+/// Where the statement of an authority on its practices stands (RFC 5280 4.2.1.4).
+///
+/// ```text
+/// CPSuri ::= IA5String
+/// ```
+pub type CpsUri = Ia5String;
+
+/// A text for people to read (RFC 5280 4.2.1.4). Sizes have no bounds, and there is neither a VisibleString nor a
+/// BMPString.
+///
+/// ```text
+/// DisplayText ::= CHOICE {
+///     ia5String   IA5String,
+///     utf8String  UTF8String }
+/// ```
+#[derive(Debug, Drop, PartialEq, Eq)]
+pub enum DisplayText {
+    /// Characters up to 7F.
+    Ia5String(Ia5String),
+
+    /// Any characters.
+    Utf8String(Utf8String),
+}
+
+impl TryClone for DisplayText {
+    fn try_clone(&self, alloc: Global) -> Result<DisplayText, Error> {
+        match self {
+            DisplayText::Ia5String(string) => Ok(DisplayText::Ia5String(string.try_clone(alloc)?)),
+            DisplayText::Utf8String(string) => Ok(DisplayText::Utf8String(string.try_clone(
+                alloc,
+            )?)),
+        }
+    }
+}
+
+#[tactic(auto, unfolding(x509_der_frames::specs::Cases::choice_tag))]
+impl Grammar for DisplayText {
+    ghost use Rattle.x509_pkix_policy.specs.DisplayText as grammar;
+
+    ghost form = { grammar.display_text };
+
+    fn identifier(&self) -> Tag {
+        match self {
+            DisplayText::Ia5String(string) => string.identifier(),
+            DisplayText::Utf8String(string) => string.identifier(),
+        }
+    }
+
+    fn is_start(octet: u8) -> bool {
+        Ia5String::is_start(octet) || Utf8String::is_start(octet)
+    }
+
+    fn usual() -> Tag {
+        Tag::Utf8String
+    }
+
+    ghost lawful = { grammar.display_text_lawful };
+}
+
+#[tactic(auto, unfolding(x509_der_frames::specs::Cases::choice_reading))]
+impl Decode for DisplayText {
+    fn read(alloc: Global, tag: u8, content: &[u8]) -> Result<DisplayText, Error> {
+        if Ia5String::is_start(tag) {
+            Ok(DisplayText::Ia5String(Ia5String::read(alloc, tag, content)?))
+        } else {
+            Ok(DisplayText::Utf8String(Utf8String::read(alloc, tag, content)?))
+        }
+    }
+}
+
+#[tactic(auto, unfolding(x509_der_frames::specs::Cases::choice_content))]
+impl Encode for DisplayText {
+    ghost use Rattle.std.specs.Prelude.{refl};
+
+    fn put_content<R: Room>(&self, room: &mut R) -> Result<(), Error> {
+        match self {
+            DisplayText::Ia5String(string) => string.put_content(room),
+            DisplayText::Utf8String(string) => string.put_content(room),
+        }
+    }
+
+    ghost same_tag = { λ value. refl };
+}

@@ -1,0 +1,100 @@
+//! Where the policy that stands for all isn't taken any more.
+
+use x509_der_grammar::Newtype;
+use x509_der_oid::{AssociatedOid, ObjectIdentifier};
+use x509_der_order::NewtypeOrd;
+use x509_ext_frame::{Criticality, Extension, id_ce};
+use x509_name_rdn::Name;
+
+/// The identifier of [`InhibitAnyPolicy`], 2.5.29.54.
+pub const ID_CE_INHIBIT_ANY_POLICY: ObjectIdentifier = id_ce!(54);
+
+/// After how many further certificates of a path anyPolicy isn't taken for other policies any more (RFC 5280 4.2.1.14).
+/// Its identifier is 2.5.29.54, and it is critical.
+///
+/// ```text
+/// InhibitAnyPolicy ::= SkipCerts
+/// SkipCerts ::= INTEGER (0..4294967295)
+/// ```
+#[derive(Clone, Copy, Debug, Default, PartialEq, Eq)]
+pub struct InhibitAnyPolicy(pub u32);
+
+impl AssociatedOid for InhibitAnyPolicy {
+    ghost use Rattle.x509_ext_frame.specs.Identifiers.{id_ce};
+
+    ghost OID = { id_ce 54 };
+
+    const OID: ObjectIdentifier = ID_CE_INHIBIT_ANY_POLICY;
+}
+
+impl Criticality for InhibitAnyPolicy {
+    ghost use Rattle.std.specs.Prelude.{true};
+
+    ghost is_critical = { λ inhibit subject extensions. true };
+
+    fn criticality(&self, _subject: &Name, _extensions: &[Extension]) -> bool {
+        true
+    }
+}
+
+impl Newtype for InhibitAnyPolicy {
+    ghost use Rattle.std.specs.Prelude.{refl};
+
+    type Inner = u32;
+
+    ghost round = { record { to = λ inhibit. inhibit.0; from = λ certificates. record { 0 = certificates }; back = λ inhibit. refl; there = λ certificates. refl } };
+
+    fn inner(&self) -> &u32 {
+        &self.0
+    }
+
+    fn from_inner(inner: u32) -> InhibitAnyPolicy {
+        InhibitAnyPolicy(inner)
+    }
+}
+
+impl NewtypeOrd for InhibitAnyPolicy {}
+
+impl From<u32> for InhibitAnyPolicy {
+    ghost use Rattle.std.specs.Prelude.{◌≡◌};
+
+    ghost from_gives = { λ certificates inhibit. inhibit.0 ≡ certificates };
+
+    fn from(certificates: u32) -> InhibitAnyPolicy {
+        InhibitAnyPolicy(certificates)
+    }
+}
+
+impl From<InhibitAnyPolicy> for u32 {
+    ghost use Rattle.std.specs.Prelude.{◌≡◌};
+
+    ghost from_gives = { λ inhibit certificates. certificates ≡ inhibit.0 };
+
+    fn from(inhibit: InhibitAnyPolicy) -> u32 {
+        let InhibitAnyPolicy(certificates) = inhibit;
+        certificates
+    }
+}
+
+impl AsRef<u32> for InhibitAnyPolicy {
+    ghost use Rattle.std.specs.Prelude.{◌≡◌};
+
+    fn as_ref(&self) -> &u32
+        ensures { result.now ≡ self.now.0 }
+    {
+        &self.0
+    }
+}
+
+impl AsMut<u32> for InhibitAnyPolicy {
+    ghost use Rattle.std.specs.Borrow.{Lends, sem, u32};
+    ghost use Rattle.std.specs.Prelude.{◌≡◌};
+    ghost use Rattle.x509_pkix_policy.specs.contracts.inhibit_any_policy.InhibitAnyPolicy.{the_row};
+
+    fn as_mut(&mut self) -> &mut u32
+        ensures* writes_back { sem 𝓛 (Lends the_row u32 self.entry result (λ w. record { 0 = w })) }
+        ensures value { result.now ≡ self.old.0 }
+    {
+        &mut self.0
+    }
+}

@@ -1,0 +1,92 @@
+//! What is asked of policies further down.
+
+use std::alloc::Global;
+use x509_der_frames::{PutPart, end, implicit_optional, optional_implicit};
+use x509_der_grammar::{Content, Error, Room, Tag, TryClone};
+use x509_der_oid::{AssociatedOid, ObjectIdentifier};
+use x509_ext_frame::{Criticality, Extension, id_ce};
+use x509_name_rdn::Name;
+
+/// After how many further certificates of a path policies have to be acceptable, or mappings aren't followed any more
+/// (RFC 5280 4.2.1.11). Its identifier is 2.5.29.36, and it is critical.
+///
+/// ```text
+/// PolicyConstraints ::= SEQUENCE {
+///     requireExplicitPolicy  [0] IMPLICIT SkipCerts OPTIONAL,
+///     inhibitPolicyMapping   [1] IMPLICIT SkipCerts OPTIONAL }
+/// SkipCerts ::= INTEGER (0..4294967295)
+/// ```
+#[derive(Debug, Drop, PartialEq, Eq)]
+pub struct PolicyConstraints {
+    /// After how many certificates a policy has to be acceptable.
+    pub require_explicit_policy: Option<u32>,
+
+    /// After how many certificates mappings aren't followed.
+    pub inhibit_policy_mapping: Option<u32>,
+}
+
+impl AssociatedOid for PolicyConstraints {
+    ghost use Rattle.x509_ext_frame.specs.Identifiers.{id_ce};
+
+    ghost OID = { id_ce 36 };
+
+    const OID: ObjectIdentifier = id_ce!(36);
+}
+
+impl Criticality for PolicyConstraints {
+    ghost use Rattle.std.specs.Prelude.{true};
+
+    ghost is_critical = { λ constraints subject extensions. true };
+
+    fn criticality(&self, _subject: &Name, _extensions: &[Extension]) -> bool {
+        true
+    }
+}
+
+impl TryClone for PolicyConstraints {
+    ghost use Rattle.std.specs.Prelude.{◌≡◌, Ok};
+
+    fn try_clone(&self, _alloc: Global) -> Result<PolicyConstraints, Error>
+        ensures { result ≡ Ok self.now }
+    {
+        Ok(PolicyConstraints {
+            require_explicit_policy: self.require_explicit_policy,
+            inhibit_policy_mapping: self.inhibit_policy_mapping,
+        })
+    }
+}
+
+#[tactic(auto, unfolding(crate::specs::PolicyConstraints::policy_constraints_fields, x509_der_frames::specs::Frames::fields_reading, x509_der_frames::specs::Frames::fields_octets))]
+impl Content for PolicyConstraints {
+    ghost use Rattle.x509_der_element.specs.declared.tag.Tag.TheVariants.{Sequence};
+    ghost use Rattle.x509_pkix_policy.specs.PolicyConstraints as grammar;
+
+    ghost contents = { grammar.policy_constraints_contents };
+
+    ghost takes_memory = { ⊥ };
+
+    ghost IDENTIFIER = { Sequence };
+
+    const IDENTIFIER: Tag = Tag::Sequence;
+
+    fn read_content(alloc: Global, octets: &[u8]) -> Result<PolicyConstraints, Error> {
+        let mut rest = octets;
+        let require_explicit_policy = optional_implicit::<u32>(alloc, 0, &mut rest)?;
+        let inhibit_policy_mapping = optional_implicit::<u32>(alloc, 1, &mut rest)?;
+        end(rest)?;
+        Ok(PolicyConstraints {
+            require_explicit_policy,
+            inhibit_policy_mapping,
+        })
+    }
+
+    fn write_content<R: Room>(&self, room: &mut R) -> Result<(), Error> {
+        let parts = (
+            implicit_optional(0, &self.require_explicit_policy),
+            implicit_optional(1, &self.inhibit_policy_mapping),
+        );
+        parts.put_text(room)
+    }
+
+    ghost contents_lawful = { grammar.policy_constraints_contents_lawful };
+}

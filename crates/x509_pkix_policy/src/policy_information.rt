@@ -1,0 +1,119 @@
+//! Policies with what qualifies them.
+
+use std::alloc::Global;
+use x509_der_frames::{Any, PutPart, SequenceOf, end, field, optional, optional_field};
+use x509_der_grammar::{Content, Error, Room, Tag, TryClone};
+use x509_der_oid::ObjectIdentifier;
+
+/// A policy, and perhaps what qualifies it (RFC 5280 4.2.1.4).
+///
+/// ```text
+/// PolicyInformation ::= SEQUENCE {
+///     policyIdentifier  CertPolicyId,
+///     policyQualifiers  SEQUENCE OF PolicyQualifierInfo OPTIONAL }
+/// CertPolicyId ::= OBJECT IDENTIFIER
+/// ```
+#[derive(Debug, Drop, PartialEq, Eq)]
+pub struct PolicyInformation {
+    /// Which policy it is.
+    pub policy_identifier: ObjectIdentifier,
+
+    /// What qualifies it. A sequence without members is read and written too.
+    pub policy_qualifiers: Option<SequenceOf<PolicyQualifierInfo>>,
+}
+
+impl TryClone for PolicyInformation {
+    fn try_clone(&self, alloc: Global) -> Result<PolicyInformation, Error> {
+        Ok(PolicyInformation {
+            policy_identifier: self.policy_identifier,
+            policy_qualifiers: self.policy_qualifiers.try_clone(alloc)?,
+        })
+    }
+}
+
+#[tactic(auto, unfolding(crate::specs::PolicyInformation::policy_information_fields, x509_der_frames::specs::Frames::fields_reading, x509_der_frames::specs::Frames::fields_octets))]
+impl Content for PolicyInformation {
+    ghost use Rattle.x509_der_element.specs.declared.tag.Tag.TheVariants.{Sequence};
+    ghost use Rattle.x509_pkix_policy.specs.PolicyInformation as grammar;
+
+    ghost contents = { grammar.policy_information_contents };
+
+    ghost IDENTIFIER = { Sequence };
+
+    const IDENTIFIER: Tag = Tag::Sequence;
+
+    fn read_content(alloc: Global, octets: &[u8]) -> Result<PolicyInformation, Error> {
+        let mut rest = octets;
+        let policy_identifier = field::<ObjectIdentifier>(alloc, &mut rest)?;
+        let policy_qualifiers = optional_field::<SequenceOf<PolicyQualifierInfo>>(
+            alloc, &mut rest,
+        )?;
+        end(rest)?;
+        Ok(PolicyInformation {
+            policy_identifier,
+            policy_qualifiers,
+        })
+    }
+
+    fn write_content<R: Room>(&self, room: &mut R) -> Result<(), Error> {
+        let parts = (&self.policy_identifier, optional(&self.policy_qualifiers));
+        parts.put_text(room)
+    }
+
+    ghost contents_lawful = { grammar.policy_information_contents_lawful };
+}
+
+/// What qualifies a policy (RFC 5280 4.2.1.4), as a [`CpsUri`](crate::CpsUri) or a [`UserNotice`](crate::UserNotice).
+///
+/// ```text
+/// PolicyQualifierInfo ::= SEQUENCE {
+///     policyQualifierId  OBJECT IDENTIFIER,
+///     qualifier          ANY DEFINED BY policyQualifierId OPTIONAL }
+/// ```
+#[derive(Debug, Drop, PartialEq, Eq)]
+pub struct PolicyQualifierInfo {
+    /// What kind of qualifier it is.
+    pub policy_qualifier_id: ObjectIdentifier,
+
+    /// The qualifier: one element of any type, which may be left out. It isn't looked into here.
+    pub qualifier: Option<Any>,
+}
+
+impl TryClone for PolicyQualifierInfo {
+    fn try_clone(&self, alloc: Global) -> Result<PolicyQualifierInfo, Error> {
+        Ok(PolicyQualifierInfo {
+            policy_qualifier_id: self.policy_qualifier_id,
+            qualifier: self.qualifier.try_clone(alloc)?,
+        })
+    }
+}
+
+#[tactic(auto, unfolding(crate::specs::PolicyQualifierInfo::policy_qualifier_info_fields, x509_der_frames::specs::Frames::fields_reading, x509_der_frames::specs::Frames::fields_octets))]
+impl Content for PolicyQualifierInfo {
+    ghost use Rattle.x509_der_element.specs.declared.tag.Tag.TheVariants.{Sequence};
+    ghost use Rattle.x509_pkix_policy.specs.PolicyQualifierInfo as grammar;
+
+    ghost contents = { grammar.policy_qualifier_info_contents };
+
+    ghost IDENTIFIER = { Sequence };
+
+    const IDENTIFIER: Tag = Tag::Sequence;
+
+    fn read_content(alloc: Global, octets: &[u8]) -> Result<PolicyQualifierInfo, Error> {
+        let mut rest = octets;
+        let policy_qualifier_id = field::<ObjectIdentifier>(alloc, &mut rest)?;
+        let qualifier = optional_field::<Any>(alloc, &mut rest)?;
+        end(rest)?;
+        Ok(PolicyQualifierInfo {
+            policy_qualifier_id,
+            qualifier,
+        })
+    }
+
+    fn write_content<R: Room>(&self, room: &mut R) -> Result<(), Error> {
+        let parts = (&self.policy_qualifier_id, optional(&self.qualifier));
+        parts.put_text(room)
+    }
+
+    ghost contents_lawful = { grammar.policy_qualifier_info_contents_lawful };
+}

@@ -1,0 +1,158 @@
+//! Policies that stand for others.
+
+use std::alloc::Global;
+use x509_der_frames::{PutPart, SequenceOf, end, field};
+use x509_der_grammar::{Content, Error, Newtype, Room, Tag, TryClone};
+use x509_der_oid::{AssociatedOid, ObjectIdentifier};
+use x509_ext_frame::{Criticality, Extension, id_ce};
+use x509_name_rdn::Name;
+
+/// A policy of the issuer, and one of the subject that the issuer takes for it (RFC 5280 4.2.1.5).
+///
+/// ```text
+/// PolicyMapping ::= SEQUENCE {
+///     issuerDomainPolicy   CertPolicyId,
+///     subjectDomainPolicy  CertPolicyId }
+/// CertPolicyId ::= OBJECT IDENTIFIER
+/// ```
+#[derive(Debug, Drop, PartialEq, Eq)]
+pub struct PolicyMapping {
+    /// The policy of the issuer.
+    pub issuer_domain_policy: ObjectIdentifier,
+
+    /// The policy of the subject.
+    pub subject_domain_policy: ObjectIdentifier,
+}
+
+impl TryClone for PolicyMapping {
+    ghost use Rattle.std.specs.Prelude.{◌≡◌, Ok};
+
+    fn try_clone(&self, _alloc: Global) -> Result<PolicyMapping, Error>
+        ensures { result ≡ Ok self.now }
+    {
+        Ok(PolicyMapping {
+            issuer_domain_policy: self.issuer_domain_policy,
+            subject_domain_policy: self.subject_domain_policy,
+        })
+    }
+}
+
+#[tactic(auto, unfolding(crate::specs::PolicyMapping::policy_mapping_fields, x509_der_frames::specs::Frames::fields_reading, x509_der_frames::specs::Frames::fields_octets))]
+impl Content for PolicyMapping {
+    ghost use Rattle.x509_der_element.specs.declared.tag.Tag.TheVariants.{Sequence};
+    ghost use Rattle.x509_pkix_policy.specs.PolicyMapping as grammar;
+
+    ghost contents = { grammar.policy_mapping_contents };
+
+    ghost takes_memory = { ⊥ };
+
+    ghost IDENTIFIER = { Sequence };
+
+    const IDENTIFIER: Tag = Tag::Sequence;
+
+    fn read_content(alloc: Global, octets: &[u8]) -> Result<PolicyMapping, Error> {
+        let mut rest = octets;
+        let issuer_domain_policy = field::<ObjectIdentifier>(alloc, &mut rest)?;
+        let subject_domain_policy = field::<ObjectIdentifier>(alloc, &mut rest)?;
+        end(rest)?;
+        Ok(PolicyMapping {
+            issuer_domain_policy,
+            subject_domain_policy,
+        })
+    }
+
+    fn write_content<R: Room>(&self, room: &mut R) -> Result<(), Error> {
+        let parts = (&self.issuer_domain_policy, &self.subject_domain_policy);
+        parts.put_text(room)
+    }
+
+    ghost contents_lawful = { grammar.policy_mapping_contents_lawful };
+}
+
+/// Which policies of the subject stand for which of the issuer (RFC 5280 4.2.1.5). Its identifier is 2.5.29.33, and it is
+/// critical. A sequence without members is read and written too.
+///
+/// ```text
+/// PolicyMappings ::= SEQUENCE OF PolicyMapping
+/// ```
+#[derive(Debug, Drop, PartialEq, Eq)]
+pub struct PolicyMappings(pub SequenceOf<PolicyMapping>);
+
+impl AssociatedOid for PolicyMappings {
+    ghost use Rattle.x509_ext_frame.specs.Identifiers.{id_ce};
+
+    ghost OID = { id_ce 33 };
+
+    const OID: ObjectIdentifier = id_ce!(33);
+}
+
+impl Criticality for PolicyMappings {
+    ghost use Rattle.std.specs.Prelude.{true};
+
+    ghost is_critical = { λ mappings subject extensions. true };
+
+    fn criticality(&self, _subject: &Name, _extensions: &[Extension]) -> bool {
+        true
+    }
+}
+
+impl Newtype for PolicyMappings {
+    ghost use Rattle.std.specs.Prelude.{refl};
+
+    type Inner = SequenceOf<PolicyMapping>;
+
+    ghost round = { record { to = λ mappings. mappings.0; from = λ pairs. record { 0 = pairs }; back = λ mappings. refl; there = λ pairs. refl } };
+
+    fn inner(&self) -> &SequenceOf<PolicyMapping> {
+        &self.0
+    }
+
+    fn from_inner(inner: SequenceOf<PolicyMapping>) -> PolicyMappings {
+        PolicyMappings(inner)
+    }
+}
+
+impl From<SequenceOf<PolicyMapping>> for PolicyMappings {
+    ghost use Rattle.std.specs.Prelude.{◌≡◌};
+
+    ghost from_gives = { λ pairs mappings. mappings.0 ≡ pairs };
+
+    fn from(pairs: SequenceOf<PolicyMapping>) -> PolicyMappings {
+        PolicyMappings(pairs)
+    }
+}
+
+impl From<PolicyMappings> for SequenceOf<PolicyMapping> {
+    ghost use Rattle.std.specs.Prelude.{◌≡◌};
+
+    ghost from_gives = { λ mappings pairs. pairs ≡ mappings.0 };
+
+    fn from(mappings: PolicyMappings) -> SequenceOf<PolicyMapping> {
+        let PolicyMappings(pairs) = mappings;
+        pairs
+    }
+}
+
+impl AsRef<SequenceOf<PolicyMapping>> for PolicyMappings {
+    ghost use Rattle.std.specs.Prelude.{◌≡◌};
+
+    fn as_ref(&self) -> &SequenceOf<PolicyMapping>
+        ensures { result.now ≡ self.now.0 }
+    {
+        &self.0
+    }
+}
+
+impl AsMut<SequenceOf<PolicyMapping>> for PolicyMappings {
+    ghost use Rattle.std.specs.Borrow.{Lends, sem};
+    ghost use Rattle.std.specs.Prelude.{◌≡◌};
+    ghost use Rattle.x509_pkix_policy.specs.Rows.{mapping_list_row};
+    ghost use Rattle.x509_pkix_policy.specs.contracts.policy_mapping.PolicyMappings.{the_row};
+
+    fn as_mut(&mut self) -> &mut SequenceOf<PolicyMapping>
+        ensures* writes_back { sem 𝓛 (Lends the_row mapping_list_row self.entry result (λ w. record { 0 = w })) }
+        ensures value { result.now ≡ self.old.0 }
+    {
+        &mut self.0
+    }
+}

@@ -1,0 +1,117 @@
+//! Notices to people.
+
+use crate::display_text::DisplayText;
+use std::alloc::Global;
+use x509_der_frames::{PutPart, SequenceOf, end, field, optional, optional_field};
+use x509_der_grammar::{Content, Error, Room, Tag, TryClone};
+use x509_prim_integer::Uint;
+
+/// A notice to whoever relies on the certificate (RFC 5280 4.2.1.4).
+///
+/// ```text
+/// UserNotice ::= SEQUENCE {
+///     noticeRef     NoticeReference OPTIONAL,
+///     explicitText  DisplayText OPTIONAL }
+/// ```
+#[derive(Debug, Drop, PartialEq, Eq)]
+pub struct UserNotice {
+    /// Where its text stands.
+    pub notice_ref: Option<NoticeReference>,
+
+    /// Its text.
+    pub explicit_text: Option<DisplayText>,
+}
+
+impl TryClone for UserNotice {
+    fn try_clone(&self, alloc: Global) -> Result<UserNotice, Error> {
+        Ok(UserNotice {
+            notice_ref: self.notice_ref.try_clone(alloc)?,
+            explicit_text: self.explicit_text.try_clone(alloc)?,
+        })
+    }
+}
+
+#[tactic(auto, unfolding(crate::specs::UserNotice::user_notice_fields, x509_der_frames::specs::Frames::fields_reading, x509_der_frames::specs::Frames::fields_octets))]
+impl Content for UserNotice {
+    ghost use Rattle.x509_der_element.specs.declared.tag.Tag.TheVariants.{Sequence};
+    ghost use Rattle.x509_pkix_policy.specs.UserNotice as grammar;
+
+    ghost contents = { grammar.user_notice_contents };
+
+    ghost IDENTIFIER = { Sequence };
+
+    const IDENTIFIER: Tag = Tag::Sequence;
+
+    fn read_content(alloc: Global, octets: &[u8]) -> Result<UserNotice, Error> {
+        let mut rest = octets;
+        let notice_ref = optional_field::<NoticeReference>(alloc, &mut rest)?;
+        let explicit_text = optional_field::<DisplayText>(alloc, &mut rest)?;
+        end(rest)?;
+        Ok(UserNotice {
+            notice_ref,
+            explicit_text,
+        })
+    }
+
+    fn write_content<R: Room>(&self, room: &mut R) -> Result<(), Error> {
+        let parts = (optional(&self.notice_ref), optional(&self.explicit_text));
+        parts.put_text(room)
+    }
+
+    ghost contents_lawful = { grammar.user_notice_contents_lawful };
+}
+
+/// Texts of notices by their numbers (RFC 5280 4.2.1.4). The numbers may be left out.
+///
+/// ```text
+/// NoticeReference ::= SEQUENCE {
+///     organization   DisplayText,
+///     noticeNumbers  SEQUENCE OF INTEGER (0..MAX) OPTIONAL }
+/// ```
+#[derive(Debug, Drop, PartialEq, Eq)]
+pub struct NoticeReference {
+    /// Who has written the notices.
+    pub organization: DisplayText,
+
+    /// The numbers of the notices.
+    pub notice_numbers: Option<SequenceOf<Uint>>,
+}
+
+impl TryClone for NoticeReference {
+    fn try_clone(&self, alloc: Global) -> Result<NoticeReference, Error> {
+        Ok(NoticeReference {
+            organization: self.organization.try_clone(alloc)?,
+            notice_numbers: self.notice_numbers.try_clone(alloc)?,
+        })
+    }
+}
+
+#[tactic(auto, unfolding(crate::specs::NoticeReference::notice_reference_fields, x509_der_frames::specs::Frames::fields_reading, x509_der_frames::specs::Frames::fields_octets))]
+impl Content for NoticeReference {
+    ghost use Rattle.x509_der_element.specs.declared.tag.Tag.TheVariants.{Sequence};
+    ghost use Rattle.x509_pkix_policy.specs.NoticeReference as grammar;
+
+    ghost contents = { grammar.notice_reference_contents };
+
+    ghost IDENTIFIER = { Sequence };
+
+    const IDENTIFIER: Tag = Tag::Sequence;
+
+    fn read_content(alloc: Global, octets: &[u8]) -> Result<NoticeReference, Error> {
+        let mut rest = octets;
+        let organization = field::<DisplayText>(alloc, &mut rest)?;
+        let notice_numbers = optional_field::<SequenceOf<Uint>>(alloc, &mut rest)?;
+        end(rest)?;
+        Ok(NoticeReference {
+            organization,
+            notice_numbers,
+        })
+    }
+
+    fn write_content<R: Room>(&self, room: &mut R) -> Result<(), Error> {
+        let parts = (&self.organization, optional(&self.notice_numbers));
+        parts.put_text(room)
+    }
+
+    ghost contents_lawful = { grammar.notice_reference_contents_lawful };
+}

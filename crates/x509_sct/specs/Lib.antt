@@ -1,0 +1,4 @@
+pub mod DigitallySigned
+pub mod Timestamp
+pub mod TimestampList
+pub mod Identifier

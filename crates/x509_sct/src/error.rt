@@ -1,0 +1,35 @@
+//! Why a call on timestamps was refused.
+
+ghost use Rattle.std.specs.Prelude.{◌≡◌};
+ghost use Rattle.x509_sct.specs.declared.error.Error.TheVariants.{Der, Tls};
+
+use x509_der_grammar::Error as DerError;
+use x509_sct_tls::TlsError;
+
+/// Why a call on timestamps was refused.
+#[derive(Clone, Copy, Debug, PartialEq, Eq, thiserror::Error)]
+pub enum Error {
+    /// By the rules of DER.
+    #[error("{0}")]
+    Der(DerError),
+
+    /// By the form of TLS.
+    #[error("{0}")]
+    Tls(TlsError),
+}
+
+impl From<DerError> for Error {
+    ghost from_gives = { λ refusal e. e ≡ Der refusal };
+
+    fn from(refusal: DerError) -> Error {
+        Error::Der(refusal)
+    }
+}
+
+impl From<TlsError> for Error {
+    ghost from_gives = { λ refusal e. e ≡ Tls refusal };
+
+    fn from(refusal: TlsError) -> Error {
+        Error::Tls(refusal)
+    }
+}

@@ -1,0 +1,17 @@
+//! Signed certificate timestamps (RFC 6962 sections 3.2 and 3.3): the extension that holds them, their serialized form,
+//! and what they say.
+#![tactic(auto)]
+
+mod error;
+pub mod laws;
+mod list;
+mod serialized;
+mod signed;
+mod timestamp;
+
+pub use error::Error;
+pub use list::SignedCertificateTimestampList;
+pub use serialized::SerializedSct;
+pub use signed::{DigitallySigned, HashAlgorithm, SignatureAlgorithm, SignatureAndHashAlgorithm};
+pub use timestamp::{LogId, SignedCertificateTimestamp, Version};
+pub use x509_sct_tls::{Tls, TlsByteVecU16, TlsError};

@@ -1,0 +1,13 @@
+pub mod Outcome
+pub mod FieldReading
+pub mod Form
+pub mod Steps
+pub mod FormLaws
+pub mod Numbers
+pub mod Items
+pub mod ItemsLaws
+pub mod Lists
+pub mod Answers
+pub mod AnswerLaws
+pub mod ListLaws
+pub mod Uniqueness

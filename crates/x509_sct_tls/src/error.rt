@@ -1,0 +1,46 @@
+//! Why a call on TLS forms was refused.
+
+ghost use Rattle.std.specs.Prelude.{◌≡◌};
+ghost use Rattle.x509_sct_tls.specs.declared.error.TlsError.TheVariants.{Memory};
+
+use std::alloc::{AllocError, AllocFailed};
+
+/// Why a TLS form was refused.
+#[derive(Clone, Copy, Debug, PartialEq, Eq, thiserror::Error)]
+pub enum TlsError {
+    /// Not all bytes of a field are there.
+    #[error("EndOfStream")]
+    EndOfStream,
+
+    /// A byte that has no name, where one with a name is wanted.
+    #[error("UnknownValue({0})")]
+    UnknownValue(u8),
+
+    /// Bytes are left behind the value that was to be all of them.
+    #[error("TrailingData")]
+    TrailingData,
+
+    /// A vector would be longer than [`TlsByteVecU16::MAX_LEN`](crate::TlsByteVecU16::MAX_LEN).
+    #[error("InvalidVectorLength")]
+    InvalidVectorLength,
+
+    /// Memory was asked for and not given.
+    #[error("Memory")]
+    Memory,
+}
+
+impl From<AllocError> for TlsError {
+    ghost from_gives = { λ _ e. e ≡ Memory };
+
+    fn from(_e: AllocError) -> TlsError {
+        TlsError::Memory
+    }
+}
+
+impl<T: Drop> From<AllocFailed<T>> for TlsError {
+    ghost from_gives = { λ _ e. e ≡ Memory };
+
+    fn from(_e: AllocFailed<T>) -> TlsError {
+        TlsError::Memory
+    }
+}

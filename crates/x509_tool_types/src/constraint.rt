@@ -1,0 +1,44 @@
+//! Constraints on names, where lists of revoked certificates are found, and then policies.
+
+use crate::policy::Policies;
+use crate::reencode::Reencode;
+use crate::table::Table;
+use std::alloc::Global;
+use std::marker::PhantomData;
+use x509_base_validity::Profile;
+use x509_der_grammar::Error;
+use x509_pkix_constraints::{GeneralSubtree, NameConstraints};
+use x509_pkix_distribution::{
+    CrlDistributionPoints, DistributionPoint, FreshestCrl, IssuingDistributionPoint,
+};
+
+/// Constraints on names, where lists of revoked certificates are found, and then policies.
+pub struct Constraints<P> {
+    profile: PhantomData<P>,
+}
+
+#[tactic(auto, using(crate::proofs::Rows::is_found, crate::proofs::Rows::is_passed))]
+impl<P: Profile> Table for Constraints<P> {
+    ghost use Rattle.std.specs.Prelude.{codes};
+    ghost use Rattle.x509_tool_types.specs.Table.{named, ◌otherwise◌};
+
+    ghost table = { named (codes "CrlDistributionPoints") ⟦<CrlDistributionPoints as Reencode>⟧.reencodes otherwise
+        named (codes "DistributionPoint") ⟦<DistributionPoint as Reencode>⟧.reencodes otherwise
+        named (codes "FreshestCrl") ⟦<FreshestCrl as Reencode>⟧.reencodes otherwise
+        named (codes "GeneralSubtree") ⟦<GeneralSubtree as Reencode>⟧.reencodes otherwise
+        named (codes "IssuingDistributionPoint") ⟦<IssuingDistributionPoint as Reencode>⟧.reencodes otherwise
+        named (codes "NameConstraints") ⟦<NameConstraints as Reencode>⟧.reencodes otherwise
+        ⟦<Policies<P> as Table>⟧.table };
+
+    fn reencode(alloc: Global, name: &str, bytes: &[u8]) -> Result<Vec<u8>, Error> {
+        match name {
+            "CrlDistributionPoints" => CrlDistributionPoints::reencode_as(alloc, bytes),
+            "DistributionPoint" => DistributionPoint::reencode_as(alloc, bytes),
+            "FreshestCrl" => FreshestCrl::reencode_as(alloc, bytes),
+            "GeneralSubtree" => GeneralSubtree::reencode_as(alloc, bytes),
+            "IssuingDistributionPoint" => IssuingDistributionPoint::reencode_as(alloc, bytes),
+            "NameConstraints" => NameConstraints::reencode_as(alloc, bytes),
+            _ => Policies::<P>::reencode(alloc, name, bytes),
+        }
+    }
+}

@@ -1,0 +1,43 @@
+//! Names of many kinds, and then what is said of parties.
+
+use crate::party::Parties;
+use crate::reencode::Reencode;
+use crate::table::Table;
+use std::alloc::Global;
+use std::marker::PhantomData;
+use x509_base_validity::Profile;
+use x509_der_grammar::Error;
+use x509_ext_name::{
+    DistributionPointName, EdiPartyName, GeneralName, GeneralNames, HardwareModuleName, OtherName,
+};
+
+/// Names of many kinds, and then what is said of parties.
+pub struct GeneralNameTypes<P> {
+    profile: PhantomData<P>,
+}
+
+#[tactic(auto, using(crate::proofs::Rows::is_found, crate::proofs::Rows::is_passed))]
+impl<P: Profile> Table for GeneralNameTypes<P> {
+    ghost use Rattle.std.specs.Prelude.{codes};
+    ghost use Rattle.x509_tool_types.specs.Table.{named, ◌otherwise◌};
+
+    ghost table = { named (codes "DistributionPointName") ⟦<DistributionPointName as Reencode>⟧.reencodes otherwise
+        named (codes "EdiPartyName") ⟦<EdiPartyName as Reencode>⟧.reencodes otherwise
+        named (codes "GeneralName") ⟦<GeneralName as Reencode>⟧.reencodes otherwise
+        named (codes "GeneralNames") ⟦<GeneralNames as Reencode>⟧.reencodes otherwise
+        named (codes "HardwareModuleName") ⟦<HardwareModuleName as Reencode>⟧.reencodes otherwise
+        named (codes "OtherName") ⟦<OtherName as Reencode>⟧.reencodes otherwise
+        ⟦<Parties<P> as Table>⟧.table };
+
+    fn reencode(alloc: Global, name: &str, bytes: &[u8]) -> Result<Vec<u8>, Error> {
+        match name {
+            "DistributionPointName" => DistributionPointName::reencode_as(alloc, bytes),
+            "EdiPartyName" => EdiPartyName::reencode_as(alloc, bytes),
+            "GeneralName" => GeneralName::reencode_as(alloc, bytes),
+            "GeneralNames" => GeneralNames::reencode_as(alloc, bytes),
+            "HardwareModuleName" => HardwareModuleName::reencode_as(alloc, bytes),
+            "OtherName" => OtherName::reencode_as(alloc, bytes),
+            _ => Parties::<P>::reencode(alloc, name, bytes),
+        }
+    }
+}

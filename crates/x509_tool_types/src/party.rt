@@ -1,0 +1,46 @@
+//! What extensions say of the subject and of the issuer, and then lists of timestamps.
+
+use crate::reencode::Reencode;
+use crate::table::Table;
+use crate::timestamp::Timestamps;
+use std::alloc::Global;
+use std::marker::PhantomData;
+use x509_base_validity::Profile;
+use x509_der_grammar::Error;
+use x509_ext_party::{
+    AccessDescription, AuthorityInfoAccessSyntax, AuthorityKeyIdentifier, IssuerAltName,
+    SubjectAltName, SubjectDirectoryAttributes, SubjectInfoAccessSyntax,
+};
+
+/// What extensions say of the subject and of the issuer, and then lists of timestamps.
+pub struct Parties<P> {
+    profile: PhantomData<P>,
+}
+
+#[tactic(auto, using(crate::proofs::Rows::is_found, crate::proofs::Rows::is_passed))]
+impl<P: Profile> Table for Parties<P> {
+    ghost use Rattle.std.specs.Prelude.{codes};
+    ghost use Rattle.x509_tool_types.specs.Table.{named, ◌otherwise◌};
+
+    ghost table = { named (codes "AccessDescription") ⟦<AccessDescription as Reencode>⟧.reencodes otherwise
+        named (codes "AuthorityInfoAccessSyntax") ⟦<AuthorityInfoAccessSyntax as Reencode>⟧.reencodes otherwise
+        named (codes "AuthorityKeyIdentifier") ⟦<AuthorityKeyIdentifier as Reencode>⟧.reencodes otherwise
+        named (codes "IssuerAltName") ⟦<IssuerAltName as Reencode>⟧.reencodes otherwise
+        named (codes "SubjectAltName") ⟦<SubjectAltName as Reencode>⟧.reencodes otherwise
+        named (codes "SubjectDirectoryAttributes") ⟦<SubjectDirectoryAttributes as Reencode>⟧.reencodes otherwise
+        named (codes "SubjectInfoAccessSyntax") ⟦<SubjectInfoAccessSyntax as Reencode>⟧.reencodes otherwise
+        ⟦<Timestamps<P> as Table>⟧.table };
+
+    fn reencode(alloc: Global, name: &str, bytes: &[u8]) -> Result<Vec<u8>, Error> {
+        match name {
+            "AccessDescription" => AccessDescription::reencode_as(alloc, bytes),
+            "AuthorityInfoAccessSyntax" => AuthorityInfoAccessSyntax::reencode_as(alloc, bytes),
+            "AuthorityKeyIdentifier" => AuthorityKeyIdentifier::reencode_as(alloc, bytes),
+            "IssuerAltName" => IssuerAltName::reencode_as(alloc, bytes),
+            "SubjectAltName" => SubjectAltName::reencode_as(alloc, bytes),
+            "SubjectDirectoryAttributes" => SubjectDirectoryAttributes::reencode_as(alloc, bytes),
+            "SubjectInfoAccessSyntax" => SubjectInfoAccessSyntax::reencode_as(alloc, bytes),
+            _ => Timestamps::<P>::reencode(alloc, name, bytes),
+        }
+    }
+}

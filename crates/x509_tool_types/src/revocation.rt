@@ -1,0 +1,36 @@
+//! What lists of revoked certificates hold.
+
+use crate::reencode::Reencode;
+use crate::table::{Nothing, Table};
+use std::alloc::Global;
+use std::marker::PhantomData;
+use x509_base_validity::Profile;
+use x509_der_grammar::Error;
+use x509_pkix_crl::{BaseCrlNumber, CrlNumber, CrlReason, Reasons};
+
+/// What lists of revoked certificates hold.
+pub struct Revocation<P> {
+    profile: PhantomData<P>,
+}
+
+#[tactic(auto, using(crate::proofs::Rows::is_found, crate::proofs::Rows::is_passed))]
+impl<P: Profile> Table for Revocation<P> {
+    ghost use Rattle.std.specs.Prelude.{codes};
+    ghost use Rattle.x509_tool_types.specs.Table.{named, ◌otherwise◌};
+
+    ghost table = { named (codes "BaseCrlNumber") ⟦<BaseCrlNumber as Reencode>⟧.reencodes otherwise
+        named (codes "CrlNumber") ⟦<CrlNumber as Reencode>⟧.reencodes otherwise
+        named (codes "CrlReason") ⟦<CrlReason as Reencode>⟧.reencodes otherwise
+        named (codes "Reasons") ⟦<Reasons as Reencode>⟧.reencodes otherwise
+        ⟦<Nothing as Table>⟧.table };
+
+    fn reencode(alloc: Global, name: &str, bytes: &[u8]) -> Result<Vec<u8>, Error> {
+        match name {
+            "BaseCrlNumber" => BaseCrlNumber::reencode_as(alloc, bytes),
+            "CrlNumber" => CrlNumber::reencode_as(alloc, bytes),
+            "CrlReason" => CrlReason::reencode_as(alloc, bytes),
+            "Reasons" => Reasons::reencode_as(alloc, bytes),
+            _ => Nothing::reencode(alloc, name, bytes),
+        }
+    }
+}
