@@ -2,7 +2,7 @@
 use Rattle.std.specs.Prelude.{ℕ, List, [], ◌∷◌, Option, Some, None, codes, if◌then◌else◌}
 use Rattle.std.specs.Str.{bytes_eq}
 use Rattle.x509_tool_run.specs.declared.command.Kind.{Kind}
-use Rattle.x509_tool_run.specs.declared.command.Kind.TheVariants.{Any, Integer, Name, Oid, Rdn, Serial, Time, Validity}
+use Rattle.x509_tool_run.specs.declared.command.Kind.TheVariants.{Anchor, Any, Certificate, Crl, Extensions, GeneralNames, Integer, Name, Oid, Rdn, Request, Serial, Time, Validity}
 use Rattle.x509_tool_run.specs.declared.command.ProfileName.{ProfileName}
 use Rattle.x509_tool_run.specs.declared.command.ProfileName.TheVariants.{Rfc5280, Raw}
 use Rattle.x509_tool_run.specs.declared.command.Command.{Command}
@@ -11,11 +11,17 @@ use Rattle.x509_tool_run.specs.declared.command.Command.TheVariants as commands
 -- the type that a word names
 abbrev pub kind_of : List ℕ → Option Kind
 kind_of word =
-    if bytes_eq word (codes "any") then Some Any
+    if bytes_eq word (codes "anchor") then Some Anchor
+    else if bytes_eq word (codes "any") then Some Any
+    else if bytes_eq word (codes "certificate") then Some Certificate
+    else if bytes_eq word (codes "crl") then Some Crl
+    else if bytes_eq word (codes "extensions") then Some Extensions
+    else if bytes_eq word (codes "general-names") then Some GeneralNames
     else if bytes_eq word (codes "integer") then Some Integer
     else if bytes_eq word (codes "name") then Some Name
     else if bytes_eq word (codes "oid") then Some Oid
     else if bytes_eq word (codes "rdn") then Some Rdn
+    else if bytes_eq word (codes "request") then Some Request
     else if bytes_eq word (codes "serial") then Some Serial
     else if bytes_eq word (codes "time") then Some Time
     else if bytes_eq word (codes "validity") then Some Validity
@@ -23,11 +29,17 @@ kind_of word =
 
 -- the name of a type in the table of types
 abbrev pub type_name : Kind → List ℕ
+type_name Anchor = codes "TrustAnchorChoice"
 type_name Any = codes "Any"
+type_name Certificate = codes "Certificate"
+type_name Crl = codes "CertificateList"
+type_name Extensions = codes "Extensions"
+type_name GeneralNames = codes "GeneralNames"
 type_name Integer = codes "Int"
 type_name Name = codes "Name"
 type_name Oid = codes "ObjectIdentifier"
 type_name Rdn = codes "RelativeDistinguishedName"
+type_name Request = codes "CertReq"
 type_name Serial = codes "SerialNumber"
 type_name Time = codes "Time"
 type_name Validity = codes "Validity"

@@ -6,8 +6,23 @@ ghost use Rattle.x509_tool_run.specs.Command.{kind_of, type_name, profile_of, na
 /// A type whose encodings the program reads.
 #[derive(Clone, Copy, Debug, PartialEq, Eq)]
 pub enum Kind {
+    /// A trust anchor.
+    Anchor,
+
     /// An element that is not looked into.
     Any,
+
+    /// A certificate.
+    Certificate,
+
+    /// A list of revoked certificates.
+    Crl,
+
+    /// The extensions of a certificate, a list or a request.
+    Extensions,
+
+    /// Names of many kinds.
+    GeneralNames,
 
     /// A whole number.
     Integer,
@@ -20,6 +35,9 @@ pub enum Kind {
 
     /// A relative distinguished name.
     Rdn,
+
+    /// A request for a certificate.
+    Request,
 
     /// A serial number of a certificate.
     Serial,
@@ -60,11 +78,17 @@ impl Kind {
         ensures { result ≡ kind_of word.now }
     {
         match word {
+            "anchor" => Some(Kind::Anchor),
             "any" => Some(Kind::Any),
+            "certificate" => Some(Kind::Certificate),
+            "crl" => Some(Kind::Crl),
+            "extensions" => Some(Kind::Extensions),
+            "general-names" => Some(Kind::GeneralNames),
             "integer" => Some(Kind::Integer),
             "name" => Some(Kind::Name),
             "oid" => Some(Kind::Oid),
             "rdn" => Some(Kind::Rdn),
+            "request" => Some(Kind::Request),
             "serial" => Some(Kind::Serial),
             "time" => Some(Kind::Time),
             "validity" => Some(Kind::Validity),
@@ -77,11 +101,17 @@ impl Kind {
         ensures { result.now ≡ type_name self }
     {
         match self {
+            Kind::Anchor => "TrustAnchorChoice",
             Kind::Any => "Any",
+            Kind::Certificate => "Certificate",
+            Kind::Crl => "CertificateList",
+            Kind::Extensions => "Extensions",
+            Kind::GeneralNames => "GeneralNames",
             Kind::Integer => "Int",
             Kind::Name => "Name",
             Kind::Oid => "ObjectIdentifier",
             Kind::Rdn => "RelativeDistinguishedName",
+            Kind::Request => "CertReq",
             Kind::Serial => "SerialNumber",
             Kind::Time => "Time",
             Kind::Validity => "Validity",

@@ -1,4 +1,2 @@
 pub mod Naming
-pub mod Reencoding
-pub mod Table
 pub mod NameAnswers

@@ -2,8 +2,8 @@
 use Rattle.std.specs.Prelude.{ℕ, List}
 use Rattle.x509_der_grammar.specs.Writing.{plain}
 use Rattle.x509_name_rdn.specs.Names.{rdn_sequence, relative_distinguished_name}
-use Rattle.x509_tool_types.specs.Reencoding.{Reencodes}
-use Rattle.x509_tool_types.specs.Table.{Answers}
+use Rattle.x509_tool_table.specs.Reencoding.{Reencodes}
+use Rattle.x509_tool_table.specs.Table.{Answers}
 
 unfoldable pub rdn_sequence_answers : List ℕ → Answers
 rdn_sequence_answers = Reencodes rdn_sequence plain (λ _. ⊥)

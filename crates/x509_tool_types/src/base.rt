@@ -1,8 +1,6 @@
 //! Times, validity, serial numbers and keys, and then names.
 
 use crate::name::Names;
-use crate::reencode::Reencode;
-use crate::table::Table;
 use std::alloc::Global;
 use std::marker::PhantomData;
 use x509_base_key::{AlgorithmIdentifier, SubjectPublicKeyInfo};
@@ -10,16 +8,17 @@ use x509_base_serial::SerialNumber;
 use x509_base_time::{GeneralizedTime, UtcTime};
 use x509_base_validity::{Profile, Time, Validity};
 use x509_der_grammar::Error;
+use x509_tool_table::{Reencode, Table};
 
 /// Times, validity, serial numbers and keys, and then names.
 pub struct Base<P> {
     profile: PhantomData<P>,
 }
 
-#[tactic(auto, using(crate::proofs::Rows::is_found, crate::proofs::Rows::is_passed))]
+#[tactic(auto, using(x509_tool_table::proofs::Rows::is_found, x509_tool_table::proofs::Rows::is_passed))]
 impl<P: Profile> Table for Base<P> {
     ghost use Rattle.std.specs.Prelude.{codes};
-    ghost use Rattle.x509_tool_types.specs.Table.{named, ◌otherwise◌};
+    ghost use Rattle.x509_tool_table.specs.Table.{named, ◌otherwise◌};
 
     ghost table = { named (codes "AlgorithmIdentifier") ⟦<AlgorithmIdentifier as Reencode>⟧.reencodes otherwise
         named (codes "GeneralizedTime") ⟦<GeneralizedTime as Reencode>⟧.reencodes otherwise

@@ -1,8 +1,6 @@
 //! Constraints on names, where lists of revoked certificates are found, and then policies.
 
 use crate::policy::Policies;
-use crate::reencode::Reencode;
-use crate::table::Table;
 use std::alloc::Global;
 use std::marker::PhantomData;
 use x509_base_validity::Profile;
@@ -11,16 +9,17 @@ use x509_pkix_constraints::{GeneralSubtree, NameConstraints};
 use x509_pkix_distribution::{
     CrlDistributionPoints, DistributionPoint, FreshestCrl, IssuingDistributionPoint,
 };
+use x509_tool_table::{Reencode, Table};
 
 /// Constraints on names, where lists of revoked certificates are found, and then policies.
 pub struct Constraints<P> {
     profile: PhantomData<P>,
 }
 
-#[tactic(auto, using(crate::proofs::Rows::is_found, crate::proofs::Rows::is_passed))]
+#[tactic(auto, using(x509_tool_table::proofs::Rows::is_found, x509_tool_table::proofs::Rows::is_passed))]
 impl<P: Profile> Table for Constraints<P> {
     ghost use Rattle.std.specs.Prelude.{codes};
-    ghost use Rattle.x509_tool_types.specs.Table.{named, ◌otherwise◌};
+    ghost use Rattle.x509_tool_table.specs.Table.{named, ◌otherwise◌};
 
     ghost table = { named (codes "CrlDistributionPoints") ⟦<CrlDistributionPoints as Reencode>⟧.reencodes otherwise
         named (codes "DistributionPoint") ⟦<DistributionPoint as Reencode>⟧.reencodes otherwise

@@ -1,8 +1,6 @@
 //! Extensions and what is said of keys, and then names of many kinds.
 
 use crate::general_name::GeneralNameTypes;
-use crate::reencode::Reencode;
-use crate::table::Table;
 use std::alloc::Global;
 use std::marker::PhantomData;
 use x509_base_validity::Profile;
@@ -11,16 +9,17 @@ use x509_ext_frame::{Extension, Extensions};
 use x509_ext_key::{
     BasicConstraints, ExtendedKeyUsage, KeyUsage, PrivateKeyUsagePeriod, SubjectKeyIdentifier,
 };
+use x509_tool_table::{Reencode, Table};
 
 /// Extensions and what is said of keys, and then names of many kinds.
 pub struct Payloads<P> {
     profile: PhantomData<P>,
 }
 
-#[tactic(auto, using(crate::proofs::Rows::is_found, crate::proofs::Rows::is_passed))]
+#[tactic(auto, using(x509_tool_table::proofs::Rows::is_found, x509_tool_table::proofs::Rows::is_passed))]
 impl<P: Profile> Table for Payloads<P> {
     ghost use Rattle.std.specs.Prelude.{codes};
-    ghost use Rattle.x509_tool_types.specs.Table.{named, ◌otherwise◌};
+    ghost use Rattle.x509_tool_table.specs.Table.{named, ◌otherwise◌};
 
     ghost table = { named (codes "BasicConstraints") ⟦<BasicConstraints as Reencode>⟧.reencodes otherwise
         named (codes "ExtendedKeyUsage") ⟦<ExtendedKeyUsage as Reencode>⟧.reencodes otherwise

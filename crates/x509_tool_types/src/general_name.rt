@@ -1,8 +1,6 @@
 //! Names of many kinds, and then what is said of parties.
 
 use crate::party::Parties;
-use crate::reencode::Reencode;
-use crate::table::Table;
 use std::alloc::Global;
 use std::marker::PhantomData;
 use x509_base_validity::Profile;
@@ -10,16 +8,17 @@ use x509_der_grammar::Error;
 use x509_ext_name::{
     DistributionPointName, EdiPartyName, GeneralName, GeneralNames, HardwareModuleName, OtherName,
 };
+use x509_tool_table::{Reencode, Table};
 
 /// Names of many kinds, and then what is said of parties.
 pub struct GeneralNameTypes<P> {
     profile: PhantomData<P>,
 }
 
-#[tactic(auto, using(crate::proofs::Rows::is_found, crate::proofs::Rows::is_passed))]
+#[tactic(auto, using(x509_tool_table::proofs::Rows::is_found, x509_tool_table::proofs::Rows::is_passed))]
 impl<P: Profile> Table for GeneralNameTypes<P> {
     ghost use Rattle.std.specs.Prelude.{codes};
-    ghost use Rattle.x509_tool_types.specs.Table.{named, ◌otherwise◌};
+    ghost use Rattle.x509_tool_table.specs.Table.{named, ◌otherwise◌};
 
     ghost table = { named (codes "DistributionPointName") ⟦<DistributionPointName as Reencode>⟧.reencodes otherwise
         named (codes "EdiPartyName") ⟦<EdiPartyName as Reencode>⟧.reencodes otherwise

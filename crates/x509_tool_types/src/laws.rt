@@ -7,9 +7,8 @@ ghost use Rattle.x509_name_rdn.specs.Names.{relative_distinguished_name};
 ghost use Rattle.x509_tool_run.specs.Command.{type_name};
 ghost use Rattle.x509_tool_run.specs.declared.command.Kind.TheVariants as kinds;
 ghost use Rattle.x509_tool_run.specs.declared.command.ProfileName.TheVariants as profiles;
-ghost use Rattle.x509_tool_types.specs.Reencoding.{Reencodes};
+ghost use Rattle.x509_tool_table.specs.Reencoding.{Reencodes};
 
-use crate::reencode::Reencode;
 use crate::table::Types;
 use x509_base_serial::SerialNumber;
 use x509_base_validity::{Raw, Rfc5280, Time, Validity};
@@ -18,6 +17,7 @@ use x509_der_oid::ObjectIdentifier;
 use x509_name_rdn::Name;
 use x509_prim_integer::Int;
 use x509_tool_run::Codec;
+use x509_tool_table::Reencode;
 
 /// What the program re-encodes is of the type that its word stands for.
 #[tactic(auto, unfolding(crate::specs::NameAnswers::rdn_answers))]

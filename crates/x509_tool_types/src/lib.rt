@@ -12,10 +12,8 @@ mod name;
 mod party;
 mod policy;
 mod primitive;
-mod reencode;
 mod revocation;
 mod table;
 mod timestamp;
 
-pub use reencode::Reencode;
-pub use table::{Table, Types};
+pub use table::Types;

@@ -1,11 +1,9 @@
 //! Attributes and names, and then extensions.
 
 ghost use Rattle.x509_tool_types.specs.NameAnswers.{rdn_answers, rdn_sequence_answers};
-ghost use Rattle.x509_tool_types.specs.Table.{IsAmong};
+ghost use Rattle.x509_tool_table.specs.Table.{IsAmong};
 
 use crate::extension::Payloads;
-use crate::reencode::Reencode;
-use crate::table::Table;
 use std::alloc::Global;
 use std::marker::PhantomData;
 use x509_base_validity::Profile;
@@ -13,17 +11,18 @@ use x509_der_grammar::Error;
 use x509_name_attribute::{Attribute, AttributeTypeAndValue};
 use x509_name_directory::DirectoryString;
 use x509_name_rdn::{Name, RdnSequence, RelativeDistinguishedName};
+use x509_tool_table::{Reencode, Table};
 
 /// Attributes and names, and then extensions.
 pub struct Names<P> {
     profile: PhantomData<P>,
 }
 
-#[tactic(auto, using(crate::proofs::Rows::is_found, crate::proofs::Rows::is_passed))]
+#[tactic(auto, using(x509_tool_table::proofs::Rows::is_found, x509_tool_table::proofs::Rows::is_passed))]
 impl<P: Profile> Table for Names<P> {
     ghost use Rattle.std.specs.Prelude.{codes};
     ghost use Rattle.x509_tool_types.specs.NameAnswers.{rdn_answers, rdn_sequence_answers};
-    ghost use Rattle.x509_tool_types.specs.Table.{named, ◌otherwise◌};
+    ghost use Rattle.x509_tool_table.specs.Table.{named, ◌otherwise◌};
 
     ghost table = { named (codes "Attribute") ⟦<Attribute as Reencode>⟧.reencodes otherwise
         named (codes "AttributeTypeAndValue") ⟦<AttributeTypeAndValue as Reencode>⟧.reencodes otherwise

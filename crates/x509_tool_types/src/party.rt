@@ -1,7 +1,5 @@
 //! What extensions say of the subject and of the issuer, and then lists of timestamps.
 
-use crate::reencode::Reencode;
-use crate::table::Table;
 use crate::timestamp::Timestamps;
 use std::alloc::Global;
 use std::marker::PhantomData;
@@ -11,16 +9,17 @@ use x509_ext_party::{
     AccessDescription, AuthorityInfoAccessSyntax, AuthorityKeyIdentifier, IssuerAltName,
     SubjectAltName, SubjectDirectoryAttributes, SubjectInfoAccessSyntax,
 };
+use x509_tool_table::{Reencode, Table};
 
 /// What extensions say of the subject and of the issuer, and then lists of timestamps.
 pub struct Parties<P> {
     profile: PhantomData<P>,
 }
 
-#[tactic(auto, using(crate::proofs::Rows::is_found, crate::proofs::Rows::is_passed))]
+#[tactic(auto, using(x509_tool_table::proofs::Rows::is_found, x509_tool_table::proofs::Rows::is_passed))]
 impl<P: Profile> Table for Parties<P> {
     ghost use Rattle.std.specs.Prelude.{codes};
-    ghost use Rattle.x509_tool_types.specs.Table.{named, ◌otherwise◌};
+    ghost use Rattle.x509_tool_table.specs.Table.{named, ◌otherwise◌};
 
     ghost table = { named (codes "AccessDescription") ⟦<AccessDescription as Reencode>⟧.reencodes otherwise
         named (codes "AuthorityInfoAccessSyntax") ⟦<AuthorityInfoAccessSyntax as Reencode>⟧.reencodes otherwise

@@ -1,8 +1,6 @@
 //! Policies, and then what lists of revoked certificates hold.
 
-use crate::reencode::Reencode;
 use crate::revocation::Revocation;
-use crate::table::Table;
 use std::alloc::Global;
 use std::marker::PhantomData;
 use x509_base_validity::Profile;
@@ -11,16 +9,17 @@ use x509_pkix_policy::{
     CertificatePolicies, DisplayText, InhibitAnyPolicy, NoticeReference, PolicyConstraints,
     PolicyInformation, PolicyMapping, PolicyMappings, PolicyQualifierInfo, UserNotice,
 };
+use x509_tool_table::{Reencode, Table};
 
 /// Policies, and then what lists of revoked certificates hold.
 pub struct Policies<P> {
     profile: PhantomData<P>,
 }
 
-#[tactic(auto, using(crate::proofs::Rows::is_found, crate::proofs::Rows::is_passed))]
+#[tactic(auto, using(x509_tool_table::proofs::Rows::is_found, x509_tool_table::proofs::Rows::is_passed))]
 impl<P: Profile> Table for Policies<P> {
     ghost use Rattle.std.specs.Prelude.{codes};
-    ghost use Rattle.x509_tool_types.specs.Table.{named, ◌otherwise◌};
+    ghost use Rattle.x509_tool_table.specs.Table.{named, ◌otherwise◌};
 
     ghost table = { named (codes "CertificatePolicies") ⟦<CertificatePolicies as Reencode>⟧.reencodes otherwise
         named (codes "DisplayText") ⟦<DisplayText as Reencode>⟧.reencodes otherwise

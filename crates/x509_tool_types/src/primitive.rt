@@ -1,8 +1,6 @@
 //! The primitive types, and then those of certificates.
 
 use crate::base::Base;
-use crate::reencode::Reencode;
-use crate::table::Table;
 use std::alloc::Global;
 use std::marker::PhantomData;
 use x509_base_validity::Profile;
@@ -12,16 +10,17 @@ use x509_der_oid::ObjectIdentifier;
 use x509_prim_integer::{Int, Uint};
 use x509_prim_string::{BitString, OctetString};
 use x509_prim_text::{BmpString, Ia5String, PrintableString, TeletexString, Utf8String};
+use x509_tool_table::{Reencode, Table};
 
 /// The primitive types, and then those of certificates.
 pub struct Primitives<P> {
     profile: PhantomData<P>,
 }
 
-#[tactic(auto, using(crate::proofs::Rows::is_found, crate::proofs::Rows::is_passed))]
+#[tactic(auto, using(x509_tool_table::proofs::Rows::is_found, x509_tool_table::proofs::Rows::is_passed))]
 impl<P: Profile> Table for Primitives<P> {
     ghost use Rattle.std.specs.Prelude.{codes};
-    ghost use Rattle.x509_tool_types.specs.Table.{named, ◌otherwise◌};
+    ghost use Rattle.x509_tool_table.specs.Table.{named, ◌otherwise◌};
 
     ghost table = { named (codes "Any") ⟦<Any as Reencode>⟧.reencodes otherwise
         named (codes "BitString") ⟦<BitString as Reencode>⟧.reencodes otherwise
@@ -34,12 +33,6 @@ impl<P: Profile> Table for Primitives<P> {
         named (codes "TeletexString") ⟦<TeletexString as Reencode>⟧.reencodes otherwise
         named (codes "Uint") ⟦<Uint as Reencode>⟧.reencodes otherwise
         named (codes "Utf8String") ⟦<Utf8String as Reencode>⟧.reencodes otherwise
-        named (codes "bool") ⟦<bool as Reencode>⟧.reencodes otherwise
-        named (codes "u128") ⟦<u128 as Reencode>⟧.reencodes otherwise
-        named (codes "u16") ⟦<u16 as Reencode>⟧.reencodes otherwise
-        named (codes "u32") ⟦<u32 as Reencode>⟧.reencodes otherwise
-        named (codes "u64") ⟦<u64 as Reencode>⟧.reencodes otherwise
-        named (codes "u8") ⟦<u8 as Reencode>⟧.reencodes otherwise
         ⟦<Base<P> as Table>⟧.table };
 
     fn reencode(alloc: Global, name: &str, bytes: &[u8]) -> Result<Vec<u8>, Error> {
@@ -55,12 +48,6 @@ impl<P: Profile> Table for Primitives<P> {
             "TeletexString" => TeletexString::reencode_as(alloc, bytes),
             "Uint" => Uint::reencode_as(alloc, bytes),
             "Utf8String" => Utf8String::reencode_as(alloc, bytes),
-            "bool" => bool::reencode_as(alloc, bytes),
-            "u128" => u128::reencode_as(alloc, bytes),
-            "u16" => u16::reencode_as(alloc, bytes),
-            "u32" => u32::reencode_as(alloc, bytes),
-            "u64" => u64::reencode_as(alloc, bytes),
-            "u8" => u8::reencode_as(alloc, bytes),
             _ => Base::<P>::reencode(alloc, name, bytes),
         }
     }

@@ -1,28 +1,27 @@
 //! What lists of revoked certificates hold.
 
-use crate::reencode::Reencode;
-use crate::table::{Nothing, Table};
 use std::alloc::Global;
 use std::marker::PhantomData;
 use x509_base_validity::Profile;
 use x509_der_grammar::Error;
 use x509_pkix_crl::{BaseCrlNumber, CrlNumber, CrlReason, Reasons};
+use x509_tool_table::{Numbers, Reencode, Table};
 
 /// What lists of revoked certificates hold.
 pub struct Revocation<P> {
     profile: PhantomData<P>,
 }
 
-#[tactic(auto, using(crate::proofs::Rows::is_found, crate::proofs::Rows::is_passed))]
+#[tactic(auto, using(x509_tool_table::proofs::Rows::is_found, x509_tool_table::proofs::Rows::is_passed))]
 impl<P: Profile> Table for Revocation<P> {
     ghost use Rattle.std.specs.Prelude.{codes};
-    ghost use Rattle.x509_tool_types.specs.Table.{named, ◌otherwise◌};
+    ghost use Rattle.x509_tool_table.specs.Table.{named, ◌otherwise◌};
 
     ghost table = { named (codes "BaseCrlNumber") ⟦<BaseCrlNumber as Reencode>⟧.reencodes otherwise
         named (codes "CrlNumber") ⟦<CrlNumber as Reencode>⟧.reencodes otherwise
         named (codes "CrlReason") ⟦<CrlReason as Reencode>⟧.reencodes otherwise
         named (codes "Reasons") ⟦<Reasons as Reencode>⟧.reencodes otherwise
-        ⟦<Nothing as Table>⟧.table };
+        ⟦<Numbers as Table>⟧.table };
 
     fn reencode(alloc: Global, name: &str, bytes: &[u8]) -> Result<Vec<u8>, Error> {
         match name {
@@ -30,7 +29,7 @@ impl<P: Profile> Table for Revocation<P> {
             "CrlNumber" => CrlNumber::reencode_as(alloc, bytes),
             "CrlReason" => CrlReason::reencode_as(alloc, bytes),
             "Reasons" => Reasons::reencode_as(alloc, bytes),
-            _ => Nothing::reencode(alloc, name, bytes),
+            _ => Numbers::reencode(alloc, name, bytes),
         }
     }
 }

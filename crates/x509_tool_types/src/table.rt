@@ -1,46 +1,20 @@
-//! The table of types.
+//! The types of this library.
 
 use crate::primitive::Primitives;
 use std::alloc::Global;
 use x509_base_validity::{Raw, Rfc5280};
-use x509_der_grammar::{Decode, Error, ErrorKind};
+use x509_der_grammar::{Decode, Error};
 use x509_name_rdn::{Name, RdnSequence};
 use x509_tool_run::{Codec, NameCodec, ProfileName};
-
-/// A part of the table: types by their names, under one profile. A name that stands in none is refused as `Failed`.
-pub trait Table {
-    ghost use Rattle.x509_tool_types.specs.Table.{Table, IsAmong};
-
-    /// What the bytes of the type with a name may give.
-    ghost table: { Table };
-
-    /// Decodes the bytes as the type with that name, and encodes the value again.
-    fn reencode(alloc: Global, name: &str, bytes: &[u8]) -> Result<Vec<u8>, Error>
-        ensures { IsAmong (λ encoding. encoding.items) (table name.now bytes.now) result };
-}
-
-/// The end of the table.
-pub struct Nothing;
-
-#[tactic(auto, unfolding(crate::specs::Table::IsAmong))]
-impl Table for Nothing {
-    ghost use Rattle.x509_tool_types.specs.Table.{nothing};
-
-    ghost table = { nothing };
-
-    fn reencode(_alloc: Global, _name: &str, _bytes: &[u8]) -> Result<Vec<u8>, Error> {
-        Err(ErrorKind::Failed.into())
-    }
-}
+use x509_tool_table::ByProfile;
 
 /// The types of this library.
 pub struct Types;
 
-#[tactic(auto, unfolding(crate::specs::Table::IsAmong))]
-impl Codec for Types {
-    ghost use Rattle.x509_tool_types.specs.Table.{by_profile};
+type Tables = ByProfile<Primitives<Rfc5280>, Primitives<Raw>>;
 
-    ghost reencodes = { by_profile ⟦<Primitives<Rfc5280> as Table>⟧.table ⟦<Primitives<Raw> as Table>⟧.table };
+impl Codec for Types {
+    ghost reencodes = { ⟦<Tables as Codec>⟧.reencodes };
 
     fn reencode(
         alloc: Global,
@@ -48,10 +22,7 @@ impl Codec for Types {
         profile: ProfileName,
         bytes: &[u8],
     ) -> Result<Vec<u8>, Error> {
-        match profile {
-            ProfileName::Rfc5280 => Primitives::<Rfc5280>::reencode(alloc, name, bytes),
-            ProfileName::Raw => Primitives::<Raw>::reencode(alloc, name, bytes),
-        }
+        Tables::reencode(alloc, name, profile, bytes)
     }
 }
 

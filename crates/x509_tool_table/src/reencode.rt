@@ -6,7 +6,7 @@ use x509_der_grammar::{Decode, Encode, Error};
 /// A type whose bytes are decoded and encoded again.
 pub trait Reencode {
     ghost use Rattle.std.specs.Prelude.{ℕ, List};
-    ghost use Rattle.x509_tool_types.specs.Table.{Answers, IsAmong};
+    ghost use Rattle.x509_tool_table.specs.Table.{Answers, IsAmong};
 
     /// What bytes may give, memory aside.
     ghost reencodes: { List ℕ → Answers };
@@ -18,7 +18,7 @@ pub trait Reencode {
 
 #[tactic(auto, unfolding(crate::specs::Table::IsAmong, crate::specs::Reencoding::Reencodes))]
 impl<T: Decode + Encode + Drop> Reencode for T {
-    ghost use Rattle.x509_tool_types.specs.Reencoding.{Reencodes};
+    ghost use Rattle.x509_tool_table.specs.Reencoding.{Reencodes};
 
     ghost reencodes = { Reencodes T.form T.writing T.refuses };
 

@@ -3,7 +3,7 @@ use Rattle.std.proofs.Common.{◌≡◌, ◌≢◌, ℕ, List, true, false, Resu
 use Rattle.std.specs.Str.{bytes_eq}
 use Rattle.std.proofs.lemmas.Slice.Eq.{bytes_eq-Decides}
 use Rattle.x509_der_element.specs.declared.error.Error.{Error}
-use Rattle.x509_tool_types.specs.Table.{Answers, IsAmong, either_of}
+use Rattle.x509_tool_table.specs.Table.{Answers, IsAmong, either_of}
 
 same_name : (word name : List ℕ) → word ≡ name → bytes_eq word name ≡ true
 same_name word name same = (bytes_eq-Decides word name).1 same

@@ -1,0 +1,2 @@
+pub mod Reencoding
+pub mod Table
