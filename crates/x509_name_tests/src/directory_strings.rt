@@ -15,67 +15,82 @@ const STRINGS: [(&[u8], &str); 4] = [
     (b"\x1E\x04\x00\x41\x20\xAC", "A€"),
 ];
 
-/// Whether the bytes stay, and the string has the text, in each way.
+/// Whether the string of the bytes has the text.
 fn has_text(rt: &HostRuntime, bytes: &[u8], text: &str) -> Result<bool, Error> {
     let string = DirectoryString::from_der(rt.alloc(), bytes)?;
-    let same = string.value(rt.alloc())?.as_str() == text;
-    Ok(
-        same && string.into_string(rt.alloc())?.as_str() == text
-            && stays::<DirectoryString>(rt, bytes)?,
-    )
+    Ok(string.value(rt.alloc())?.as_str() == text)
+}
+
+/// Whether the string of the bytes becomes the text.
+fn becomes_text(rt: &HostRuntime, bytes: &[u8], text: &str) -> Result<bool, Error> {
+    let string = DirectoryString::from_der(rt.alloc(), bytes)?;
+    Ok(string.into_string(rt.alloc())?.as_str() == text)
 }
 
 #[test]
 fn rows(rt: HostRuntime) -> Result<(), Fail> {
     for (bytes, text) in STRINGS {
         assert!(rt; has_text(&rt, bytes, text)?, "of {text}");
+        assert!(rt; becomes_text(&rt, bytes, text)?, "of {text}");
+        assert!(rt; stays::<DirectoryString>(&rt, bytes)?, "of {text}");
     }
     laws::bytes_determine_the_directory_string();
     Ok(())
 }
 
-/// Whether the text of a BMPString is owned, and nothing of it stands as UTF-8.
-fn is_owned(rt: &HostRuntime, string: &DirectoryString) -> Result<bool, Error> {
-    let owned = match string.value(rt.alloc())? {
+/// Whether the text is owned.
+fn is_owned(text: &TextRef<'_>) -> bool {
+    match text {
         TextRef::Owned(_) => true,
         TextRef::Borrowed(_) => false,
-    };
-    Ok(owned && string.as_ref().is_empty())
+    }
+}
+
+/// Whether the string has the text, owned or not, as a copy of it has.
+fn is_copied(
+    rt: &HostRuntime,
+    string: &DirectoryString,
+    text: &TextRef<'_>,
+    owned: bool,
+) -> Result<bool, Error> {
+    let found = string.value(rt.alloc())?;
+    Ok(is_owned(&found) == owned && found == *text && found.try_clone(rt.alloc())? == *text)
 }
 
 #[test]
 fn texts_of_a_bmp_string(rt: HostRuntime) -> Result<(), Fail> {
     let letter = DirectoryString::from(BmpString::from_str(rt.alloc(), "ä")?);
-    assert!(rt; is_owned(&rt, &letter)?);
-    assert!(rt; letter.value(rt.alloc())? == TextRef::Borrowed("ä"));
-    let borrowed = DirectoryString::from(Utf8String::new(rt.alloc(), "ä")?);
-    assert!(rt; !is_owned(&rt, &borrowed)? && borrowed.as_ref() == "ä");
-    assert!(rt; letter != borrowed);
+    assert!(rt;
+        is_copied(&rt, &letter, &TextRef::Borrowed("ä"), true)? && letter.as_ref().is_empty()
+    );
     Ok(())
-}
-
-/// Whether a copy of the string's text is that text, owned or borrowed as it is.
-fn is_copied(rt: &HostRuntime, string: &DirectoryString) -> Result<bool, Error> {
-    let text = string.value(rt.alloc())?;
-    Ok(text.try_clone(rt.alloc())? == text)
 }
 
 #[test]
-fn copies_of_texts(rt: HostRuntime) -> Result<(), Fail> {
-    let owned = DirectoryString::from(BmpString::from_str(rt.alloc(), "ä")?);
-    assert!(rt; is_copied(&rt, &owned)?);
-    let borrowed = DirectoryString::from(Utf8String::new(rt.alloc(), "ä")?);
-    assert!(rt; is_copied(&rt, &borrowed)?);
+fn texts_of_a_utf8_string(rt: HostRuntime) -> Result<(), Fail> {
+    let letter = DirectoryString::from(Utf8String::new(rt.alloc(), "ä")?);
+    assert!(rt; is_copied(&rt, &letter, &TextRef::Borrowed("ä"), false)? && letter.as_ref() == "ä");
     Ok(())
+}
+
+/// Whether the string has the identifier, and the other is another.
+fn is_apart(string: &DirectoryString, tag: Tag, other: &DirectoryString) -> bool {
+    string.identifier() == tag && string != other
 }
 
 #[test]
 fn conversions(rt: HostRuntime) -> Result<(), Fail> {
     let printable = DirectoryString::from(PrintableString::new(rt.alloc(), "US")?);
     let teletex = DirectoryString::from(TeletexString::new(rt.alloc(), "US")?);
-    assert!(rt; printable.identifier() == Tag::PrintableString && printable != teletex);
+    assert!(rt; is_apart(&printable, Tag::PrintableString, &teletex));
+    Ok(())
+}
+
+#[test]
+fn strings_of_elements(rt: HostRuntime) -> Result<(), Fail> {
     let any = Any::new(rt.alloc(), Tag::TeletexString, b"US")?;
-    assert!(rt; DirectoryString::from_any(rt.alloc(), &any)? == teletex);
+    let string = DirectoryString::from_any(rt.alloc(), &any)?;
+    assert!(rt; string.identifier() == Tag::TeletexString && string.as_ref() == "US");
     Ok(())
 }
 

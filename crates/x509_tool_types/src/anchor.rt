@@ -1,0 +1,35 @@
+//! Trust anchors.
+
+use std::alloc::Global;
+use std::marker::PhantomData;
+use x509_base_validity::Profile;
+use x509_cert_anchor::{CertPathControls, CertPolicies, TrustAnchorChoice, TrustAnchorInfo};
+use x509_der_grammar::Error;
+use x509_tool_table::{Numbers, Reencode, Table};
+
+/// Trust anchors.
+pub struct Anchors<P> {
+    profile: PhantomData<P>,
+}
+
+#[tactic(auto, using(x509_tool_table::proofs::Rows::is_found, x509_tool_table::proofs::Rows::is_passed))]
+impl<P: Profile> Table for Anchors<P> {
+    ghost use Rattle.std.specs.Prelude.{codes};
+    ghost use Rattle.x509_tool_table.specs.Table.{named, ◌otherwise◌};
+
+    ghost table = { named (codes "CertPathControls") ⟦<CertPathControls<P> as Reencode>⟧.reencodes otherwise
+        named (codes "CertPolicies") ⟦<CertPolicies as Reencode>⟧.reencodes otherwise
+        named (codes "TrustAnchorChoice") ⟦<TrustAnchorChoice<P> as Reencode>⟧.reencodes otherwise
+        named (codes "TrustAnchorInfo") ⟦<TrustAnchorInfo<P> as Reencode>⟧.reencodes otherwise
+        ⟦<Numbers as Table>⟧.table };
+
+    fn reencode(alloc: Global, name: &str, bytes: &[u8]) -> Result<Vec<u8>, Error> {
+        match name {
+            "CertPathControls" => CertPathControls::<P>::reencode_as(alloc, bytes),
+            "CertPolicies" => CertPolicies::reencode_as(alloc, bytes),
+            "TrustAnchorChoice" => TrustAnchorChoice::<P>::reencode_as(alloc, bytes),
+            "TrustAnchorInfo" => TrustAnchorInfo::<P>::reencode_as(alloc, bytes),
+            _ => Numbers::reencode(alloc, name, bytes),
+        }
+    }
+}

@@ -1,0 +1,51 @@
+//! Certificates, lists of revoked certificates and requests, and then trust anchors.
+
+use crate::anchor::Anchors;
+use std::alloc::Global;
+use std::marker::PhantomData;
+use x509_base_validity::Profile;
+use x509_cert_certificate::{CertificateInner, TbsCertificateInner, Version};
+use x509_cert_crl::{CertificateList, RevokedCert, TbsCertList};
+use x509_cert_request::{CertReq, CertReqInfo, ExtensionReq};
+use x509_der_frames::SequenceOf;
+use x509_der_grammar::Error;
+use x509_tool_table::{Reencode, Table};
+
+/// Certificates, lists of revoked certificates and requests, and then trust anchors.
+pub struct Certificates<P> {
+    profile: PhantomData<P>,
+}
+
+#[tactic(auto, using(x509_tool_table::proofs::Rows::is_found, x509_tool_table::proofs::Rows::is_passed))]
+impl<P: Profile> Table for Certificates<P> {
+    ghost use Rattle.std.specs.Prelude.{codes};
+    ghost use Rattle.x509_tool_table.specs.Table.{named, ◌otherwise◌};
+
+    ghost table = { named (codes "CertReq") ⟦<CertReq as Reencode>⟧.reencodes otherwise
+        named (codes "CertReqInfo") ⟦<CertReqInfo as Reencode>⟧.reencodes otherwise
+        named (codes "Certificate") ⟦<CertificateInner<P> as Reencode>⟧.reencodes otherwise
+        named (codes "CertificateList") ⟦<CertificateList<P> as Reencode>⟧.reencodes otherwise
+        named (codes "ExtensionReq") ⟦<ExtensionReq as Reencode>⟧.reencodes otherwise
+        named (codes "PkiPath") ⟦<SequenceOf<CertificateInner<P>> as Reencode>⟧.reencodes otherwise
+        named (codes "RevokedCert") ⟦<RevokedCert<P> as Reencode>⟧.reencodes otherwise
+        named (codes "TbsCertList") ⟦<TbsCertList<P> as Reencode>⟧.reencodes otherwise
+        named (codes "TbsCertificate") ⟦<TbsCertificateInner<P> as Reencode>⟧.reencodes otherwise
+        named (codes "Version") ⟦<Version as Reencode>⟧.reencodes otherwise
+        ⟦<Anchors<P> as Table>⟧.table };
+
+    fn reencode(alloc: Global, name: &str, bytes: &[u8]) -> Result<Vec<u8>, Error> {
+        match name {
+            "CertReq" => CertReq::reencode_as(alloc, bytes),
+            "CertReqInfo" => CertReqInfo::reencode_as(alloc, bytes),
+            "Certificate" => CertificateInner::<P>::reencode_as(alloc, bytes),
+            "CertificateList" => CertificateList::<P>::reencode_as(alloc, bytes),
+            "ExtensionReq" => ExtensionReq::reencode_as(alloc, bytes),
+            "PkiPath" => SequenceOf::<CertificateInner<P>>::reencode_as(alloc, bytes),
+            "RevokedCert" => RevokedCert::<P>::reencode_as(alloc, bytes),
+            "TbsCertList" => TbsCertList::<P>::reencode_as(alloc, bytes),
+            "TbsCertificate" => TbsCertificateInner::<P>::reencode_as(alloc, bytes),
+            "Version" => Version::reencode_as(alloc, bytes),
+            _ => Anchors::<P>::reencode(alloc, name, bytes),
+        }
+    }
+}
