@@ -1,5 +1,5 @@
 -- Sets of one value.
-use Rattle.std.proofs.Common.{◌≡◌, ◌<◌, List, [], ◌∷◌, length, arith, ap, refl}
+use Rattle.std.proofs.Common.{◌≡◌, List, [], ◌∷◌, length, arith, ap, refl}
 use Rattle.std.proofs.lemmas.List.Sorted.{IsPermutation-keeps}
 use Rattle.std.specs.List.Sorted.{IsPermutation}
 

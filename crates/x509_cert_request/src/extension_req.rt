@@ -1,6 +1,8 @@
 //! The extensions that a request asks for.
 
 ghost use Rattle.std.specs.Prelude.{◌≡◌, []};
+ghost use Rattle.x509_cert_extension.specs.Filter.{extensions_left};
+ghost use Rattle.x509_cert_extension.specs.LookUp.{Finds, with_oid};
 ghost use Rattle.x509_cert_request.specs.Attributes.{MakesAttribute};
 ghost use Rattle.x509_cert_request.specs.Identifiers.{pkcs_9};
 ghost use Rattle.x509_der_grammar.specs.Writing.{plain, writes};
@@ -9,7 +11,8 @@ ghost use Rattle.x509_ext_frame.specs.Extension.{extensions};
 use crate::attributes::attribute_of;
 use crate::identifiers::pkcs_9;
 use std::alloc::Global;
-use x509_der_grammar::{Error, Newtype};
+use x509_cert_extension::{FilterExtensions, filter_extensions, get_extension};
+use x509_der_grammar::{Decode, Error, Newtype};
 use x509_der_oid::{AssociatedOid, ObjectIdentifier};
 use x509_ext_frame::Extensions;
 use x509_name_attribute::Attribute;
@@ -29,6 +32,29 @@ impl ExtensionReq {
         ensures { result.0 ≡ [] }
     {
         ExtensionReq(Extensions::new(alloc))
+    }
+
+    /// The extension with the identifier of the type: whether it is critical, and its value.
+    ///
+    /// `None` exactly where none has the identifier; `Failed` where two or more have it, whatever they hold; else refused as
+    /// [`Decode::from_der`] is on the octets of the one.
+    pub fn get_extension<T: AssociatedOid + Decode>(
+        &self,
+        alloc: Global,
+    ) -> Result<Option<(bool, T)>, Error>
+        ensures { Finds T.form T.refuses T.wants_memory (with_oid T.OID self.now.0) result }
+    {
+        get_extension(alloc, self.0.as_slice())
+    }
+
+    /// The extensions with the identifier of the type, in their order.
+    pub fn filter_extensions<T: AssociatedOid + Decode>(
+        &self,
+        alloc: Global,
+    ) -> FilterExtensions<'_, T>
+        ensures { extensions_left T.OID result ≡ with_oid T.OID self.now.0 }
+    {
+        filter_extensions(alloc, self.0.as_slice())
     }
 }
 

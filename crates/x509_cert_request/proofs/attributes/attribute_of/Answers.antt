@@ -1,5 +1,5 @@
 -- The set that one element was put into has that element alone.
-use Rattle.std.proofs.Common.{◌≡◌, [], ◌∷◌, ap}
+use Rattle.std.proofs.Common.{◌≡◌, List, [], ◌∷◌, ap}
 use Rattle.x509_cert_request.proofs.OneValue.{one_value}
 use Rattle.x509_cert_request.proofs.attributes.attribute_of.Goals as goal
 use Rattle.x509_der_frames.specs.declared.any.Any.{Any}
