@@ -1,10 +1,14 @@
 -- What holds of signed parts.
-use Rattle.std.proofs.Common.{◌≡◌, ℕ, ◌≤◌, List, ◌++◌, length, refl, sym, ap, ◌∙◌, arith, length-append}
+use Rattle.std.proofs.Common.{Err, ◌↔◌, None, ◌≡◌, ℕ, ◌≤◌, List, ◌++◌, length, refl, sym, ap, ◌∙◌, arith, length-append}
 use Rattle.x509_der_element.specs.Element.{element, length_octets, limit}
 use Rattle.x509_der_element.specs.FrontLaws.{elements, element_is}
+use Rattle.x509_der_element.specs.declared.error.ErrorKind.{ErrorKind}
+use Rattle.x509_der_element.specs.declared.error.ErrorKind.TheVariants.{Malformed}
 use Rattle.x509_der_element.specs.declared.tag.Tag.TheVariants.{Sequence}
-use Rattle.x509_der_grammar.specs.Form.{Form, Contents, Spells, spelling, universal}
-use Rattle.x509_der_frames.specs.Frames.{Part, required, ◌⊗◌, fields, fields_octets, fields_good}
+use Rattle.x509_der_grammar.specs.Form.{Form, IsForm, Contents, Spells, spelling, universal}
+use Rattle.x509_der_grammar.specs.SpellingLaws.{values}
+use Rattle.x509_der_grammar.specs.Writing.{Writing, writes, written_spelling, IsStable}
+use Rattle.x509_der_frames.specs.Frames.{Part, required, ◌⊗◌, fields_octets, fields_good}
 use Rattle.x509_cert_signed.specs.Signed.{IsSignedPart}
 
 -- bytes have one signed part at most
@@ -20,22 +24,34 @@ pub content_shorter : (tag : ℕ) (front behind : List ℕ) → length front ≤
 unfolding element
 content_shorter tag front behind = omega (arith, length-append front behind, length-append (length_octets (length (front ++ behind))) (front ++ behind))
 
--- Where the content of a SEQUENCE begins with the bytes of one, these are the signed part.
+-- Where the content of a SEQUENCE begins with the bytes of one, these are the signed part, and spell its value.
 pub front_is_signed : {X Y : Type 0} (whole : Form Y) (part : Form X) (value : Y) (first : X) (behind bytes : List ℕ)
-    → whole.tag value ≡ 0x30 → part.tag first ≡ 0x30 → whole.content value ≡ spelling part first ++ behind → Spells whole value bytes
-    → IsSignedPart bytes (spelling part first) × (length (spelling part first) ≤ limit)
-front_is_signed whole part value first behind bytes outside inside begins spells =
+    → whole.tag value ≡ 0x30 → part.tag first ≡ 0x30 → whole.content value ≡ spelling part first ++ behind → part.good first → Spells whole value bytes
+    → IsSignedPart bytes (spelling part first) × Spells part first (spelling part first)
+front_is_signed whole part value first behind bytes outside inside begins good spells =
     let signed = spelling part first in
     let is : bytes ≡ element 0x30 (signed ++ behind) = spells.1 ∙ rw (outside, begins) refl in
     let within : length signed ≤ limit = omega (arith, content_shorter 0x30 signed behind, ap length is, spells.2) in
-    (record { content = part.content first; behind = behind; part = rw inside refl; whole = is; within = spells.2 }, within)
+    (record { content = part.content first; behind = behind; part = rw inside refl; whole = is; within = spells.2 }, (good, refl, within))
 
--- The first field of a SEQUENCE, where that is a SEQUENCE itself: its bytes are the signed part, and spell it.
-pub first_field_is_signed : {X Y Z : Type 0} (to : Y → X × Z) (from : X × Z → Y) (first : Contents X) (rest : Part Z) (value : Y) (bytes : List ℕ)
-    → Spells (universal Sequence (fields to from (required (universal Sequence first) ⊗ rest))) value bytes
+-- The bytes are the SEQUENCE of a value's fields: what Spells says of fields to from part, whichever from is.
+abbrev pub SpellsFields : {X Y : Type 0} → (Y → X) → Part X → Y → List ℕ → Type 0
+SpellsFields to part value bytes = fields_good to part value × (bytes ≡ element 0x30 (fields_octets to part value)) × (length bytes ≤ limit)
+
+-- The first field, where that is a SEQUENCE itself: its bytes are the signed part, and spell it.
+pub first_field_is_signed : {X Y Z : Type 0} (to : Y → X × Z) (first : Contents X) (rest : Part Z) (value : Y) (bytes : List ℕ)
+    → SpellsFields to (required (universal Sequence first) ⊗ rest) value bytes
     → IsSignedPart bytes (spelling (universal Sequence first) (to value).0) × Spells (universal Sequence first) (to value).0 (spelling (universal Sequence first) (to value).0)
 unfolding fields_octets fields_good
-first_field_is_signed to from first rest value bytes spells =
-    let form = universal Sequence (fields to from (required (universal Sequence first) ⊗ rest)) in
-    let found = front_is_signed form (universal Sequence first) value (to value).0 (rest.text (to value).1) bytes refl refl refl spells in
-    (found.0, (spells.0.0, refl, found.1))
+first_field_is_signed {X} {Y} {Z} to first rest value bytes spells =
+    let part = required (universal Sequence first) ⊗ rest in
+    let whole : Form Y = universal Sequence (record { octets = fields_octets to part; good = fields_good to part; reading = λ octets. Err Malformed }) in
+    front_is_signed whole (universal Sequence first) value (to value).0 (rest.text (to value).1) bytes refl refl refl spells.0.0 spells
+
+-- What is written of a value is the bytes that spell it exactly where the value is written as it is.
+pub written_as_it_is : {X : Type 0} {R : ErrorKind → Type 0} (form : Form X) → IsForm R form → (writing : Writing X) → IsStable form.good writing → (value : X) (bytes : List ℕ)
+    → Spells form value bytes → (writes writing value).refusal ≡ None → (written_spelling form (writes writing value) ≡ bytes) ↔ ((writes writing value).value ≡ value)
+written_as_it_is form lawful writing stable value bytes spells free = (
+  (λ same. values form lawful (writes writing value).value value bytes (stable.kept value spells.0 free, sym same, spells.2) spells),
+  (λ same. ap (spelling form) same ∙ sym spells.1),
+)

@@ -1,0 +1,7 @@
+//! Tests of certificates, lists of revoked certificates, requests and trust anchors.
+#![tactic(auto)]
+
+#[cfg(test)]
+mod digests;
+#[cfg(test)]
+mod signed;
