@@ -4,4 +4,8 @@
 #[cfg(test)]
 mod digests;
 #[cfg(test)]
+mod lists;
+#[cfg(test)]
+mod requests;
+#[cfg(test)]
 mod signed;
