@@ -1,0 +1,3 @@
+pub mod RevokedCert
+pub mod CertificateList
+pub mod AnySerial

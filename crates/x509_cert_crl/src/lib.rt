@@ -1,0 +1,11 @@
+//! Lists of revoked certificates (RFC 5280 5.1). Their times are written as they are, under every profile.
+#![tactic(auto)]
+
+mod certificate_list;
+pub mod laws;
+mod revoked_cert;
+mod tbs_cert_list;
+
+pub use certificate_list::CertificateList;
+pub use revoked_cert::RevokedCert;
+pub use tbs_cert_list::TbsCertList;

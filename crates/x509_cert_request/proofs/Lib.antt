@@ -1,0 +1,2 @@
+pub mod ArcsOfAttributes
+pub mod OneValue

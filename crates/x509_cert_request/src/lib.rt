@@ -1,0 +1,13 @@
+//! Requests for certificates (PKCS #10; RFC 2986), and the attributes that they hold.
+#![tactic(auto)]
+
+pub mod attributes;
+mod cert_req;
+mod extension_req;
+mod identifiers;
+pub mod laws;
+mod version;
+
+pub use cert_req::{CertReq, CertReqInfo};
+pub use extension_req::{ExtensionReq, extension_req_attribute};
+pub use version::Version;

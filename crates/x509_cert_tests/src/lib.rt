@@ -1,0 +1,11 @@
+//! Tests of certificates, lists of revoked certificates, requests and trust anchors.
+#![tactic(auto)]
+
+#[cfg(test)]
+mod digests;
+#[cfg(test)]
+mod lists;
+#[cfg(test)]
+mod requests;
+#[cfg(test)]
+mod signed;
