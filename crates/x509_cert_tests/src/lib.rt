@@ -4,4 +4,6 @@
 #[cfg(test)]
 mod digests;
 #[cfg(test)]
+mod look_ups;
+#[cfg(test)]
 mod signed;
