@@ -6,6 +6,8 @@ mod digests;
 #[cfg(test)]
 mod lists;
 #[cfg(test)]
+mod look_ups;
+#[cfg(test)]
 mod requests;
 #[cfg(test)]
 mod signed;
