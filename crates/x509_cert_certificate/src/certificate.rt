@@ -1,13 +1,17 @@
 //! Certificates.
 
-ghost use Rattle.std.specs.Prelude.{◌≡◌};
+ghost use Rattle.std.specs.Prelude.{◌≡◌, ◌⊎◌, IfOk, IfErr};
+ghost use Rattle.x509_der_element.specs.declared.error.ErrorKind.TheVariants.{Memory};
+ghost use Rattle.x509_der_element.specs.Element.{limit};
+ghost use Rattle.x509_der_grammar.specs.Writing.{writes, written_spelling, IsWritable, IsUnwritable};
 
 use crate::tbs_certificate::TbsCertificateInner;
 use std::alloc::Global;
 use x509_base_key::AlgorithmIdentifier;
 use x509_base_validity::{Profile, Rfc5280};
+use x509_cert_digest::{CertDigest, hash};
 use x509_der_frames::{PutPart, SequenceOf, end, field};
-use x509_der_grammar::{Content, Encode, Error, Room, Tag, TryClone};
+use x509_der_grammar::{Content, Encode, Error, Grammar, Room, Tag, TryClone};
 use x509_prim_string::BitString;
 
 /// A certificate under the rules of RFC 5280.
@@ -71,6 +75,14 @@ impl<P: Profile> CertificateInner<P> {
         ensures { result.now ≡ self.now.signature }
     {
         &self.signature
+    }
+
+    /// The digest of the certificate as [`Encode::to_der`] writes it; refused as that is. Memory may be refused.
+    pub fn hash<D: CertDigest>(&self, alloc: Global) -> Result<Vec<u8>, Error>
+        ensures ok { IfOk result (λ digest. (digest.items ≡ D.digest_of (written_spelling ⟦<CertificateInner<P> as Grammar>⟧.form (writes ⟦<CertificateInner<P> as Encode>⟧.writing self.now))) × IsWritable ⟦<CertificateInner<P> as Grammar>⟧.form (writes ⟦<CertificateInner<P> as Encode>⟧.writing self.now) limit) }
+        ensures err { IfErr result (λ e. (e.kind ≡ Memory) ⊎ IsUnwritable ⟦<CertificateInner<P> as Grammar>⟧.form (writes ⟦<CertificateInner<P> as Encode>⟧.writing self.now) limit e.kind) }
+    {
+        hash::<D, CertificateInner<P>>(alloc, self)
     }
 }
 

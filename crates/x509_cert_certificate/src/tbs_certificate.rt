@@ -2,17 +2,21 @@
 
 ghost use Rattle.std.specs.Option.{option_copied};
 ghost use Rattle.std.specs.Prelude.{◌≡◌};
+ghost use Rattle.x509_cert_extension.specs.Filter.{extensions_left};
+ghost use Rattle.x509_cert_extension.specs.LookUp.{Finds, members, with_oid};
 
 use crate::version::Version;
 use std::alloc::Global;
 use x509_base_key::{AlgorithmIdentifier, SubjectPublicKeyInfo};
 use x509_base_serial::SerialNumber;
 use x509_base_validity::{Profile, Rfc5280, Validity};
+use x509_cert_extension::{FilterExtensions, filter_extensions, get_extension, members};
 use x509_der_frames::{
     PutPart, default_explicit, end, explicit_default, explicit_optional, field, implicit_optional,
     optional_explicit, optional_implicit,
 };
-use x509_der_grammar::{Content, Encode, Error, Room, Tag, TryClone};
+use x509_der_grammar::{Content, Decode, Encode, Error, Room, Tag, TryClone};
+use x509_der_oid::AssociatedOid;
 use x509_ext_frame::Extensions;
 use x509_name_rdn::Name;
 use x509_prim_string::BitString;
@@ -151,6 +155,32 @@ impl<P: Profile> TbsCertificateInner<P> {
         ensures { option_copied result ≡ self.now.extensions }
     {
         self.extensions.as_ref()
+    }
+
+    /// The extension with the identifier of the type: whether it is critical, and its value. An extension may appear once
+    /// at most (RFC 5280 4.2).
+    ///
+    /// `None` exactly where none has the identifier; `Failed` where two or more have it, whatever they hold; else refused
+    /// as [`Decode::from_der`] is on the octets of the one. Memory may be refused where reading the type wants it.
+    pub fn get_extension<T: AssociatedOid + Decode>(
+        &self,
+        alloc: Global,
+    ) -> Result<Option<(bool, T)>, Error>
+        ensures { Finds T.form T.refuses T.wants_memory (with_oid T.OID (members self.now.extensions)) result }
+    {
+        get_extension::<T>(alloc, members(&self.extensions))
+    }
+
+    /// The extensions with the identifier of the type, in their order: of each whether it is critical, and its value or
+    /// the refusal of [`Decode::from_der`] on its octets. [`TbsCertificateInner::get_extension`] wants that there is one
+    /// at most, as RFC 5280 4.2 does.
+    pub fn filter_extensions<T: AssociatedOid + Decode>(
+        &self,
+        alloc: Global,
+    ) -> FilterExtensions<'_, T>
+        ensures { extensions_left T.OID result ≡ with_oid T.OID (members self.now.extensions) }
+    {
+        filter_extensions::<T>(alloc, members(&self.extensions))
     }
 }
 
