@@ -1,1 +1,4 @@
 pub mod Version
+pub mod TbsCertificate
+pub mod Certificate
+pub mod Respelling
