@@ -1,0 +1,5 @@
+//! Extensions (RFC 5280 4.2): how they stand in certificates, and what they hold.
+
+pub mod pkix;
+
+pub use x509_ext_frame::{Criticality, Extension, Extensions, ToExtension};

@@ -1,0 +1,74 @@
+//! What extensions hold, by its identifiers and forms in RFC 5280 and RFC 6962.
+
+pub use x509_ext_key::{
+    BasicConstraints, ExtendedKeyUsage, ID_CE_SUBJECT_KEY_IDENTIFIER, KeyUsage, KeyUsages,
+    PrivateKeyUsagePeriod, SubjectKeyIdentifier,
+};
+pub use x509_ext_party::{
+    AccessDescription, AuthorityInfoAccessSyntax, AuthorityKeyIdentifier, ID_CE_ISSUER_ALT_NAME,
+    ID_CE_SUBJECT_ALT_NAME, ID_CE_SUBJECT_DIRECTORY_ATTRIBUTES, IssuerAltName, SubjectAltName,
+    SubjectDirectoryAttributes, SubjectInfoAccessSyntax,
+};
+pub use x509_pkix_constraints::NameConstraints;
+pub use x509_pkix_crl::{BaseCrlNumber, CrlNumber, CrlReason};
+pub use x509_pkix_distribution::{CrlDistributionPoints, FreshestCrl, IssuingDistributionPoint};
+pub use x509_pkix_policy::{
+    CertificatePolicies, ID_CE_INHIBIT_ANY_POLICY, InhibitAnyPolicy, PolicyConstraints,
+    PolicyMapping, PolicyMappings,
+};
+pub use x509_sct::{
+    Error, HashAlgorithm, SerializedSct, SignatureAlgorithm, SignatureAndHashAlgorithm,
+    SignedCertificateTimestamp, SignedCertificateTimestampList, Version,
+};
+
+/// Policies of certificates.
+pub mod certpolicy {
+    pub use x509_pkix_policy::{
+        CertificatePolicies, CpsUri, DisplayText, NoticeReference, PolicyInformation,
+        PolicyQualifierInfo, UserNotice,
+    };
+}
+
+/// What limits the certificates that may follow.
+pub mod constraints {
+    pub use x509_ext_key::BasicConstraints;
+    pub use x509_pkix_constraints::NameConstraints;
+    pub use x509_pkix_policy::PolicyConstraints;
+
+    /// Constraints on names.
+    pub mod name {
+        pub use x509_pkix_constraints::{GeneralSubtree, GeneralSubtrees, NameConstraints};
+    }
+}
+
+/// Lists of revoked certificates.
+pub mod crl {
+    pub use x509_pkix_crl::{BaseCrlNumber, CrlNumber, CrlReason};
+    pub use x509_pkix_distribution::{
+        CrlDistributionPoints, FreshestCrl, IssuingDistributionPoint,
+    };
+
+    /// Where these lists are found.
+    pub mod dp {
+        pub use x509_pkix_crl::{ReasonFlags, Reasons};
+        pub use x509_pkix_distribution::{DistributionPoint, IssuingDistributionPoint};
+    }
+}
+
+/// Names of many kinds.
+pub mod name {
+    pub use x509_ext_name::{
+        DistributionPointName, EdiPartyName, GeneralName, GeneralNames, HardwareModuleName,
+        ID_ON_HARDWARE_MODULE_NAME, IpAddress, OtherName,
+    };
+    pub use x509_name_directory::{DirectoryString, TextRef};
+}
+
+/// Signed certificate timestamps (RFC 6962).
+pub mod sct {
+    pub use x509_sct::{
+        DigitallySigned, Error, HashAlgorithm, LogId, SerializedSct, SignatureAlgorithm,
+        SignatureAndHashAlgorithm, SignedCertificateTimestamp, SignedCertificateTimestampList, Tls,
+        TlsByteVecU16, TlsError, Version,
+    };
+}

@@ -1,0 +1,4 @@
+//! Times and the validity of certificates (RFC 5280 4.1.2.5).
+
+pub use x509_base_time::DateTime;
+pub use x509_base_validity::{Time, Validity};
