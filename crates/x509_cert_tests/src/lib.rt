@@ -4,6 +4,8 @@
 #[cfg(test)]
 mod digests;
 #[cfg(test)]
+mod example;
+#[cfg(test)]
 mod lists;
 #[cfg(test)]
 mod look_ups;

@@ -12,8 +12,14 @@ ghost use Rattle.x509_tool_table.specs.Reencoding.{Reencodes};
 use crate::table::Types;
 use x509_base_serial::SerialNumber;
 use x509_base_validity::{Raw, Rfc5280, Time, Validity};
+use x509_cert_anchor::TrustAnchorChoice;
+use x509_cert_certificate::CertificateInner;
+use x509_cert_crl::CertificateList;
+use x509_cert_request::CertReq;
 use x509_der_frames::Any;
 use x509_der_oid::ObjectIdentifier;
+use x509_ext_frame::Extensions;
+use x509_ext_name::GeneralNames;
 use x509_name_rdn::Name;
 use x509_prim_integer::Int;
 use x509_tool_run::Codec;
@@ -22,11 +28,17 @@ use x509_tool_table::Reencode;
 /// What the program re-encodes is of the type that its word stands for.
 #[tactic(auto, unfolding(crate::specs::NameAnswers::rdn_answers))]
 pub fn program_types()
+    ensures anchor { (bytes : List ℕ) (answer : Result (List ℕ) ErrorKind) → ⟦<Types as Codec>⟧.reencodes (type_name kinds.Anchor) profiles.Rfc5280 bytes answer → ⟦<TrustAnchorChoice<Rfc5280> as Reencode>⟧.reencodes bytes answer }
     ensures any { (bytes : List ℕ) (answer : Result (List ℕ) ErrorKind) → ⟦<Types as Codec>⟧.reencodes (type_name kinds.Any) profiles.Rfc5280 bytes answer → ⟦<Any as Reencode>⟧.reencodes bytes answer }
+    ensures certificate { (bytes : List ℕ) (answer : Result (List ℕ) ErrorKind) → ⟦<Types as Codec>⟧.reencodes (type_name kinds.Certificate) profiles.Rfc5280 bytes answer → ⟦<CertificateInner<Rfc5280> as Reencode>⟧.reencodes bytes answer }
+    ensures crl { (bytes : List ℕ) (answer : Result (List ℕ) ErrorKind) → ⟦<Types as Codec>⟧.reencodes (type_name kinds.Crl) profiles.Rfc5280 bytes answer → ⟦<CertificateList<Rfc5280> as Reencode>⟧.reencodes bytes answer }
+    ensures extensions { (bytes : List ℕ) (answer : Result (List ℕ) ErrorKind) → ⟦<Types as Codec>⟧.reencodes (type_name kinds.Extensions) profiles.Rfc5280 bytes answer → ⟦<Extensions as Reencode>⟧.reencodes bytes answer }
+    ensures general_names { (bytes : List ℕ) (answer : Result (List ℕ) ErrorKind) → ⟦<Types as Codec>⟧.reencodes (type_name kinds.GeneralNames) profiles.Rfc5280 bytes answer → ⟦<GeneralNames as Reencode>⟧.reencodes bytes answer }
     ensures integer { (bytes : List ℕ) (answer : Result (List ℕ) ErrorKind) → ⟦<Types as Codec>⟧.reencodes (type_name kinds.Integer) profiles.Rfc5280 bytes answer → ⟦<Int as Reencode>⟧.reencodes bytes answer }
     ensures name { (bytes : List ℕ) (answer : Result (List ℕ) ErrorKind) → ⟦<Types as Codec>⟧.reencodes (type_name kinds.Name) profiles.Rfc5280 bytes answer → ⟦<Name as Reencode>⟧.reencodes bytes answer }
     ensures oid { (bytes : List ℕ) (answer : Result (List ℕ) ErrorKind) → ⟦<Types as Codec>⟧.reencodes (type_name kinds.Oid) profiles.Rfc5280 bytes answer → ⟦<ObjectIdentifier as Reencode>⟧.reencodes bytes answer }
     ensures rdn { (bytes : List ℕ) (answer : Result (List ℕ) ErrorKind) → ⟦<Types as Codec>⟧.reencodes (type_name kinds.Rdn) profiles.Rfc5280 bytes answer → Reencodes relative_distinguished_name plain (λ _. ⊥) bytes answer }
+    ensures request { (bytes : List ℕ) (answer : Result (List ℕ) ErrorKind) → ⟦<Types as Codec>⟧.reencodes (type_name kinds.Request) profiles.Rfc5280 bytes answer → ⟦<CertReq as Reencode>⟧.reencodes bytes answer }
     ensures serial { (bytes : List ℕ) (answer : Result (List ℕ) ErrorKind) → ⟦<Types as Codec>⟧.reencodes (type_name kinds.Serial) profiles.Rfc5280 bytes answer → ⟦<SerialNumber<Rfc5280> as Reencode>⟧.reencodes bytes answer }
     ensures time { (bytes : List ℕ) (answer : Result (List ℕ) ErrorKind) → ⟦<Types as Codec>⟧.reencodes (type_name kinds.Time) profiles.Rfc5280 bytes answer → ⟦<Time as Reencode>⟧.reencodes bytes answer }
     ensures validity { (bytes : List ℕ) (answer : Result (List ℕ) ErrorKind) → ⟦<Types as Codec>⟧.reencodes (type_name kinds.Validity) profiles.Rfc5280 bytes answer → ⟦<Validity<Rfc5280> as Reencode>⟧.reencodes bytes answer }

@@ -3,7 +3,9 @@
 //! A type joins by two lines in the file of its layer: one of the match, and one of the table above it.
 #![tactic(auto)]
 
+mod anchor;
 mod base;
+mod certificate;
 mod constraint;
 mod extension;
 mod general_name;

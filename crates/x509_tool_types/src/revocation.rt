@@ -1,13 +1,14 @@
-//! What lists of revoked certificates hold.
+//! What lists of revoked certificates hold, and then certificates.
 
+use crate::certificate::Certificates;
 use std::alloc::Global;
 use std::marker::PhantomData;
 use x509_base_validity::Profile;
 use x509_der_grammar::Error;
 use x509_pkix_crl::{BaseCrlNumber, CrlNumber, CrlReason, Reasons};
-use x509_tool_table::{Numbers, Reencode, Table};
+use x509_tool_table::{Reencode, Table};
 
-/// What lists of revoked certificates hold.
+/// What lists of revoked certificates hold, and then certificates.
 pub struct Revocation<P> {
     profile: PhantomData<P>,
 }
@@ -21,7 +22,7 @@ impl<P: Profile> Table for Revocation<P> {
         named (codes "CrlNumber") ⟦<CrlNumber as Reencode>⟧.reencodes otherwise
         named (codes "CrlReason") ⟦<CrlReason as Reencode>⟧.reencodes otherwise
         named (codes "Reasons") ⟦<Reasons as Reencode>⟧.reencodes otherwise
-        ⟦<Numbers as Table>⟧.table };
+        ⟦<Certificates<P> as Table>⟧.table };
 
     fn reencode(alloc: Global, name: &str, bytes: &[u8]) -> Result<Vec<u8>, Error> {
         match name {
@@ -29,7 +30,7 @@ impl<P: Profile> Table for Revocation<P> {
             "CrlNumber" => CrlNumber::reencode_as(alloc, bytes),
             "CrlReason" => CrlReason::reencode_as(alloc, bytes),
             "Reasons" => Reasons::reencode_as(alloc, bytes),
-            _ => Numbers::reencode(alloc, name, bytes),
+            _ => Certificates::<P>::reencode(alloc, name, bytes),
         }
     }
 }
