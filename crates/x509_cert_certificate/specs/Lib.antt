@@ -1,1 +1,3 @@
 pub mod Version
+pub mod TbsCertificate
+pub mod Certificate

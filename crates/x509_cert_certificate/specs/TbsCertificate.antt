@@ -1,0 +1,76 @@
+-- TbsCertificateInner: version: {0}Version=V1, serial_number: SerialNumber, signature: AlgorithmIdentifier, issuer: Name,
+-- validity: Validity, subject: Name, subject_public_key_info: SubjectPublicKeyInfo, issuer_unique_id: [1]BIT STRING?,
+-- subject_unique_id: [2]BIT STRING?, extensions: {3}Extensions? (RFC 5280 4.1.2)
+use Rattle.std.specs.Prelude.{ℕ, List, Option, Result, refl}
+use Rattle.x509_der_element.specs.declared.error.ErrorKind.{ErrorKind}
+use Rattle.x509_der_element.specs.declared.tag.Tag.TheVariants.{Integer, Sequence}
+use Rattle.x509_der_grammar.specs.Form.{Form, IsForm, Contents, IsContents, universal}
+use Rattle.x509_der_grammar.specs.FormLaws.{universal_lawful}
+use Rattle.x509_der_grammar.specs.StableLaws.{with_field_stable}
+use Rattle.x509_der_grammar.specs.Writing.{Writing, with_field, IsStable}
+use Rattle.x509_der_frames.specs.Frames.{implicit, explicit, Part, required, optional, defaulted, ◌⊗◌, fields, fields_good}
+use Rattle.x509_der_frames.specs.PartRules.{part_rules}
+use Rattle.x509_prim_string.specs.BitString.{BitParts, bit_string}
+use Rattle.x509_prim_string.specs.BitStringLaws.{bit_string_lawful}
+use Rattle.x509_base_validity.specs.Validity.{validity, validity_lawful}
+use Rattle.x509_base_validity.specs.declared.validity.Validity.{Validity}
+use Rattle.x509_base_serial.specs.Checked.{CheckRefuses}
+use Rattle.x509_base_serial.specs.Serial.{serial_number, serial_number_contents, serial_number_contents_lawful}
+use Rattle.x509_base_key.specs.AlgorithmIdentifier.{algorithm_identifier, algorithm_identifier_lawful}
+use Rattle.x509_base_key.specs.SubjectPublicKeyInfo.{subject_public_key_info, subject_public_key_info_lawful}
+use Rattle.x509_base_key.specs.declared.algorithm_identifier.AlgorithmIdentifier.{AlgorithmIdentifier}
+use Rattle.x509_base_key.specs.declared.subject_public_key_info.SubjectPublicKeyInfo.{SubjectPublicKeyInfo}
+use Rattle.x509_name_attribute.specs.declared.type_and_value.AttributeTypeAndValue.{AttributeTypeAndValue}
+use Rattle.x509_name_rdn.specs.Names.{name, rdn_sequence_lawful}
+use Rattle.x509_ext_frame.specs.Extension.{extensions, extensions_lawful}
+use Rattle.x509_ext_frame.specs.declared.extension.Extension.{Extension}
+use Rattle.x509_cert_certificate.specs.Version.{version, version_lawful, version_default, version_default_lawful}
+use Rattle.x509_cert_certificate.specs.declared.version.Version.{Version}
+use Rattle.x509_cert_certificate.specs.declared.tbs_certificate.TbsCertificateInner.{TbsCertificateInner}
+
+-- ---- the grammar
+
+serial_number_lawful : (check : List ℕ → Result Unit ErrorKind) → IsForm (CheckRefuses check) (serial_number check)
+serial_number_lawful check = universal_lawful Integer (serial_number_contents check) (serial_number_contents_lawful check)
+
+abbrev pub NameList : Type 0
+NameList = List (List AttributeTypeAndValue)
+
+abbrev pub Front : Type 0 → Type 0
+Front P = Version × (List ℕ × (AlgorithmIdentifier × (NameList × Validity P)))
+
+abbrev pub Behind : Type 0
+Behind = NameList × (SubjectPublicKeyInfo × (Option BitParts × (Option BitParts × Option (List Extension))))
+
+unfoldable pub tbs_certificate_fields : {P : Type 0} → (List ℕ → Result Unit ErrorKind) → Part (Front P × Behind)
+tbs_certificate_fields check =
+    (defaulted version_default (explicit 0 version) ⊗ (required (serial_number check) ⊗ (required algorithm_identifier ⊗ (required name ⊗ required validity))))
+    ⊗ (required name ⊗ (required subject_public_key_info ⊗ (optional (implicit 1 3 bit_string) ⊗ (optional (implicit 2 3 bit_string) ⊗ optional (explicit 3 extensions)))))
+
+-- the check is that of the profile on the content octets of the serial number
+abbrev pub tbs_certificate_contents : {P : Type 0} → (List ℕ → Result Unit ErrorKind) → Contents (TbsCertificateInner P)
+tbs_certificate_contents check = fields
+    (λ t. ((t.version, (t.serial_number, (t.signature, (t.issuer, t.validity)))), (t.subject, (t.subject_public_key_info, (t.issuer_unique_id, (t.subject_unique_id, t.extensions))))))
+    (λ ((version, (serial_number, (signature, (issuer, validity)))), (subject, (subject_public_key_info, (issuer_unique_id, (subject_unique_id, extensions))))). record { version = version; serial_number = serial_number; signature = signature; issuer = issuer; validity = validity; subject = subject; subject_public_key_info = subject_public_key_info; issuer_unique_id = issuer_unique_id; subject_unique_id = subject_unique_id; extensions = extensions })
+    (tbs_certificate_fields check)
+
+abbrev pub tbs_certificate : {P : Type 0} → (List ℕ → Result Unit ErrorKind) → Form (TbsCertificateInner P)
+tbs_certificate check = universal Sequence (tbs_certificate_contents check)
+
+pub tbs_certificate_contents_lawful : {P : Type 0} (check : List ℕ → Result Unit ErrorKind) → IsContents (CheckRefuses check) (tbs_certificate_contents {P = P} check)
+unfolding tbs_certificate_fields
+tbs_certificate_contents_lawful check = search (part_rules, version_lawful, version_default_lawful, serial_number_lawful, algorithm_identifier_lawful, rdn_sequence_lawful, validity_lawful, subject_public_key_info_lawful, bit_string_lawful, extensions_lawful) depth 20
+
+pub tbs_certificate_lawful : {P : Type 0} (check : List ℕ → Result Unit ErrorKind) → IsForm (CheckRefuses check) (tbs_certificate {P = P} check)
+tbs_certificate_lawful check = universal_lawful Sequence (tbs_certificate_contents check) (tbs_certificate_contents_lawful check)
+
+-- ---- what is written
+
+-- the validity as its profile spells it, the rest as it is
+abbrev pub tbs_certificate_writing : {P : Type 0} → Writing (Validity P) → Writing (TbsCertificateInner P)
+tbs_certificate_writing writing = with_field (λ t. t.validity) (λ t v. record t { validity = v }) writing
+
+pub tbs_certificate_stable : {P : Type 0} (check : List ℕ → Result Unit ErrorKind) (writing : Writing (Validity P)) → IsStable (validity {P = P}).good writing → IsStable (tbs_certificate {P = P} check).good (tbs_certificate_writing writing)
+unfolding tbs_certificate_fields fields_good
+tbs_certificate_stable check writing stable =
+    with_field_stable _ _ writing (λ t v. refl) (λ t u v. refl) (λ t g. g.0.1.1.1.1) (λ t v g h. ((g.0.0, (g.0.1.0, (g.0.1.1.0, (g.0.1.1.1.0, h)))), g.1)) stable

@@ -1,0 +1,135 @@
+//! Certificates.
+
+ghost use Rattle.std.specs.Prelude.{◌≡◌};
+
+use crate::tbs_certificate::TbsCertificateInner;
+use std::alloc::Global;
+use x509_base_key::AlgorithmIdentifier;
+use x509_base_validity::{Profile, Rfc5280};
+use x509_der_frames::{PutPart, SequenceOf, end, field};
+use x509_der_grammar::{Content, Encode, Error, Room, Tag, TryClone};
+use x509_prim_string::BitString;
+
+/// A certificate under the rules of RFC 5280.
+pub type Certificate = CertificateInner<Rfc5280>;
+
+/// Certificates of which each signed the key of the next, the topmost first (RFC 6066 10.1). That they do isn't looked at,
+/// and a sequence without members is read and written too.
+///
+/// ```text
+/// PkiPath ::= SEQUENCE OF Certificate
+/// ```
+pub type PkiPath = SequenceOf<Certificate>;
+
+/// A certificate: the part that is signed, and the signature (RFC 5280 4.1.1).
+///
+/// ```text
+/// Certificate ::= SEQUENCE {
+///     tbsCertificate      TBSCertificate,
+///     signatureAlgorithm  AlgorithmIdentifier,
+///     signatureValue      BIT STRING }
+/// ```
+#[derive(Debug, PartialEq, Eq)]
+pub struct CertificateInner<P: Profile = Rfc5280> {
+    tbs_certificate: TbsCertificateInner<P>,
+    signature_algorithm: AlgorithmIdentifier,
+    signature: BitString,
+}
+
+impl<P: Profile> CertificateInner<P> {
+    /// The certificate with these fields. It takes no memory.
+    pub fn from_parts(
+        tbs_certificate: TbsCertificateInner<P>,
+        signature_algorithm: AlgorithmIdentifier,
+        signature: BitString,
+    ) -> CertificateInner<P>
+        ensures { result ≡ record { tbs_certificate = tbs_certificate; signature_algorithm = signature_algorithm; signature = signature } }
+    {
+        CertificateInner {
+            tbs_certificate,
+            signature_algorithm,
+            signature,
+        }
+    }
+
+    /// The part that is signed (RFC 5280 4.1.1.1).
+    pub fn tbs_certificate(&self) -> &TbsCertificateInner<P>
+        ensures { result.now ≡ self.now.tbs_certificate }
+    {
+        &self.tbs_certificate
+    }
+
+    /// The algorithm of the signature (RFC 5280 4.1.1.2).
+    pub fn signature_algorithm(&self) -> &AlgorithmIdentifier
+        ensures { result.now ≡ self.now.signature_algorithm }
+    {
+        &self.signature_algorithm
+    }
+
+    /// The signature of the encoding of the signed part (RFC 5280 4.1.1.3). It isn't looked into here.
+    pub fn signature(&self) -> &BitString
+        ensures { result.now ≡ self.now.signature }
+    {
+        &self.signature
+    }
+}
+
+impl<P: Profile> Drop for CertificateInner<P> {
+    fn drop(self) {
+        let CertificateInner {
+            tbs_certificate: _,
+            signature_algorithm: _,
+            signature: _,
+        } = self;
+    }
+}
+
+impl<P: Profile> TryClone for CertificateInner<P> {
+    fn try_clone(&self, alloc: Global) -> Result<CertificateInner<P>, Error> {
+        Ok(CertificateInner {
+            tbs_certificate: self.tbs_certificate.try_clone(alloc)?,
+            signature_algorithm: self.signature_algorithm.try_clone(alloc)?,
+            signature: self.signature.try_clone(alloc)?,
+        })
+    }
+}
+
+#[tactic(auto, unfolding(crate::specs::Certificate::certificate_fields, x509_der_frames::specs::Frames::fields_reading, x509_der_frames::specs::Frames::fields_octets))]
+impl<P: Profile> Content for CertificateInner<P> {
+    ghost use Rattle.x509_base_serial.specs.Checked.{CheckRefuses};
+    ghost use Rattle.x509_der_element.specs.declared.tag.Tag.TheVariants.{Sequence};
+    ghost use Rattle.x509_cert_certificate.specs.Certificate as grammar;
+
+    ghost contents = { grammar.certificate_contents P.serial_check };
+
+    ghost refusals = { CheckRefuses P.serial_check };
+
+    ghost written_as = { grammar.certificate_writing ⟦<TbsCertificateInner<P> as Encode>⟧.writing };
+
+    ghost IDENTIFIER = { Sequence };
+
+    const IDENTIFIER: Tag = Tag::Sequence;
+
+    fn read_content(alloc: Global, octets: &[u8]) -> Result<CertificateInner<P>, Error> {
+        let mut rest = octets;
+        let tbs_certificate = field::<TbsCertificateInner<P>>(alloc, &mut rest)?;
+        let signature_algorithm = field::<AlgorithmIdentifier>(alloc, &mut rest)?;
+        let signature = field::<BitString>(alloc, &mut rest)?;
+        end(rest)?;
+        Ok(CertificateInner {
+            tbs_certificate,
+            signature_algorithm,
+            signature,
+        })
+    }
+
+    fn write_content<R: Room>(&self, room: &mut R) -> Result<(), Error> {
+        let parts = (
+            &self.tbs_certificate,
+            (&self.signature_algorithm, &self.signature),
+        );
+        parts.put_text(room)
+    }
+
+    ghost contents_lawful = { grammar.certificate_contents_lawful P.serial_check };
+}

@@ -1,0 +1,259 @@
+//! What is signed of a certificate.
+
+ghost use Rattle.std.specs.Option.{option_copied};
+ghost use Rattle.std.specs.Prelude.{◌≡◌};
+
+use crate::version::Version;
+use std::alloc::Global;
+use x509_base_key::{AlgorithmIdentifier, SubjectPublicKeyInfo};
+use x509_base_serial::SerialNumber;
+use x509_base_validity::{Profile, Rfc5280, Validity};
+use x509_der_frames::{
+    PutPart, default_explicit, end, explicit_default, explicit_optional, field, implicit_optional,
+    optional_explicit, optional_implicit,
+};
+use x509_der_grammar::{Content, Encode, Error, Room, Tag, TryClone};
+use x509_ext_frame::Extensions;
+use x509_name_rdn::Name;
+use x509_prim_string::BitString;
+
+/// The signed part of a certificate under the rules of RFC 5280.
+pub type TbsCertificate = TbsCertificateInner<Rfc5280>;
+
+/// The signed part of a certificate: whom it names, and which key is theirs (RFC 5280 4.1.2). The profile checks the serial
+/// number in reading, and spells the validity in writing. What the version says of the other fields isn't looked at.
+///
+/// ```text
+/// TBSCertificate ::= SEQUENCE {
+///     version               [0] EXPLICIT Version DEFAULT v1,
+///     serialNumber          CertificateSerialNumber,
+///     signature             AlgorithmIdentifier,
+///     issuer                Name,
+///     validity              Validity,
+///     subject               Name,
+///     subjectPublicKeyInfo  SubjectPublicKeyInfo,
+///     issuerUniqueID        [1] IMPLICIT UniqueIdentifier OPTIONAL,
+///     subjectUniqueID       [2] IMPLICIT UniqueIdentifier OPTIONAL,
+///     extensions            [3] EXPLICIT Extensions OPTIONAL }
+///
+/// UniqueIdentifier ::= BIT STRING
+/// ```
+#[derive(Debug, PartialEq, Eq)]
+pub struct TbsCertificateInner<P: Profile = Rfc5280> {
+    version: Version,
+    serial_number: SerialNumber<P>,
+    signature: AlgorithmIdentifier,
+    issuer: Name,
+    validity: Validity<P>,
+    subject: Name,
+    subject_public_key_info: SubjectPublicKeyInfo,
+    issuer_unique_id: Option<BitString>,
+    subject_unique_id: Option<BitString>,
+    extensions: Option<Extensions>,
+}
+
+impl<P: Profile> TbsCertificateInner<P> {
+    /// The part with these fields. It takes no memory.
+    pub fn from_parts(
+        version: Version,
+        serial_number: SerialNumber<P>,
+        signature: AlgorithmIdentifier,
+        issuer: Name,
+        validity: Validity<P>,
+        subject: Name,
+        subject_public_key_info: SubjectPublicKeyInfo,
+        issuer_unique_id: Option<BitString>,
+        subject_unique_id: Option<BitString>,
+        extensions: Option<Extensions>,
+    ) -> TbsCertificateInner<P>
+        ensures { result ≡ record { version = version; serial_number = serial_number; signature = signature; issuer = issuer; validity = validity; subject = subject; subject_public_key_info = subject_public_key_info; issuer_unique_id = issuer_unique_id; subject_unique_id = subject_unique_id; extensions = extensions } }
+    {
+        TbsCertificateInner {
+            version,
+            serial_number,
+            signature,
+            issuer,
+            validity,
+            subject,
+            subject_public_key_info,
+            issuer_unique_id,
+            subject_unique_id,
+            extensions,
+        }
+    }
+
+    /// The version.
+    pub fn version(&self) -> Version
+        ensures { result ≡ self.now.version }
+    {
+        self.version
+    }
+
+    /// The number that the issuer gave the certificate (RFC 5280 4.1.2.2).
+    pub fn serial_number(&self) -> &SerialNumber<P>
+        ensures { result.now ≡ self.now.serial_number }
+    {
+        &self.serial_number
+    }
+
+    /// The algorithm with which the certificate is signed. RFC 5280 4.1.2.3 wants it to be that of
+    /// [`CertificateInner::signature_algorithm`](crate::CertificateInner::signature_algorithm), which isn't looked at.
+    pub fn signature(&self) -> &AlgorithmIdentifier
+        ensures { result.now ≡ self.now.signature }
+    {
+        &self.signature
+    }
+
+    /// Who signed it (RFC 5280 4.1.2.4).
+    pub fn issuer(&self) -> &Name
+        ensures { result.now ≡ self.now.issuer }
+    {
+        &self.issuer
+    }
+
+    /// From when and until when it holds (RFC 5280 4.1.2.5).
+    pub fn validity(&self) -> &Validity<P>
+        ensures { result.now ≡ self.now.validity }
+    {
+        &self.validity
+    }
+
+    /// Whose key it is (RFC 5280 4.1.2.6).
+    pub fn subject(&self) -> &Name
+        ensures { result.now ≡ self.now.subject }
+    {
+        &self.subject
+    }
+
+    /// The key (RFC 5280 4.1.2.7).
+    pub fn subject_public_key_info(&self) -> &SubjectPublicKeyInfo
+        ensures { result.now ≡ self.now.subject_public_key_info }
+    {
+        &self.subject_public_key_info
+    }
+
+    /// What tells the issuer from others of its name (RFC 5280 4.1.2.8).
+    pub fn issuer_unique_id(&self) -> &Option<BitString>
+        ensures { result.now ≡ self.now.issuer_unique_id }
+    {
+        &self.issuer_unique_id
+    }
+
+    /// What tells the subject from others of its name (RFC 5280 4.1.2.8).
+    pub fn subject_unique_id(&self) -> &Option<BitString>
+        ensures { result.now ≡ self.now.subject_unique_id }
+    {
+        &self.subject_unique_id
+    }
+
+    /// The extensions (RFC 5280 4.1.2.9).
+    pub fn extensions(&self) -> Option<&Extensions>
+        ensures { option_copied result ≡ self.now.extensions }
+    {
+        self.extensions.as_ref()
+    }
+}
+
+impl<P: Profile> Drop for TbsCertificateInner<P> {
+    fn drop(self) {
+        let TbsCertificateInner {
+            version: _,
+            serial_number: _,
+            signature: _,
+            issuer: _,
+            validity: _,
+            subject: _,
+            subject_public_key_info: _,
+            issuer_unique_id: _,
+            subject_unique_id: _,
+            extensions: _,
+        } = self;
+    }
+}
+
+impl<P: Profile> TryClone for TbsCertificateInner<P> {
+    fn try_clone(&self, alloc: Global) -> Result<TbsCertificateInner<P>, Error> {
+        Ok(TbsCertificateInner {
+            version: self.version,
+            serial_number: self.serial_number.try_clone(alloc)?,
+            signature: self.signature.try_clone(alloc)?,
+            issuer: self.issuer.try_clone(alloc)?,
+            validity: self.validity,
+            subject: self.subject.try_clone(alloc)?,
+            subject_public_key_info: self.subject_public_key_info.try_clone(alloc)?,
+            issuer_unique_id: self.issuer_unique_id.try_clone(alloc)?,
+            subject_unique_id: self.subject_unique_id.try_clone(alloc)?,
+            extensions: self.extensions.try_clone(alloc)?,
+        })
+    }
+}
+
+#[tactic(auto, unfolding(crate::specs::TbsCertificate::tbs_certificate_fields, x509_der_frames::specs::Frames::fields_reading, x509_der_frames::specs::Frames::fields_octets))]
+impl<P: Profile> Content for TbsCertificateInner<P> {
+    ghost use Rattle.x509_base_serial.specs.Checked.{CheckRefuses};
+    ghost use Rattle.x509_der_element.specs.declared.tag.Tag.TheVariants.{Sequence};
+    ghost use Rattle.x509_cert_certificate.specs.TbsCertificate as grammar;
+
+    ghost contents = { grammar.tbs_certificate_contents P.serial_check };
+
+    ghost refusals = { CheckRefuses P.serial_check };
+
+    ghost written_as = { grammar.tbs_certificate_writing ⟦<Validity<P> as Encode>⟧.writing };
+
+    ghost IDENTIFIER = { Sequence };
+
+    const IDENTIFIER: Tag = Tag::Sequence;
+
+    fn read_content(alloc: Global, octets: &[u8]) -> Result<TbsCertificateInner<P>, Error> {
+        let mut rest = octets;
+        let version = default_explicit::<Version>(alloc, 0, &mut rest)?;
+        let serial_number = field::<SerialNumber<P>>(alloc, &mut rest)?;
+        let signature = field::<AlgorithmIdentifier>(alloc, &mut rest)?;
+        let issuer = field::<Name>(alloc, &mut rest)?;
+        let validity = field::<Validity<P>>(alloc, &mut rest)?;
+        let subject = field::<Name>(alloc, &mut rest)?;
+        let subject_public_key_info = field::<SubjectPublicKeyInfo>(alloc, &mut rest)?;
+        let issuer_unique_id = optional_implicit::<BitString>(alloc, 1, &mut rest)?;
+        let subject_unique_id = optional_implicit::<BitString>(alloc, 2, &mut rest)?;
+        let extensions = optional_explicit::<Extensions>(alloc, 3, &mut rest)?;
+        end(rest)?;
+        Ok(TbsCertificateInner {
+            version,
+            serial_number,
+            signature,
+            issuer,
+            validity,
+            subject,
+            subject_public_key_info,
+            issuer_unique_id,
+            subject_unique_id,
+            extensions,
+        })
+    }
+
+    fn write_content<R: Room>(&self, room: &mut R) -> Result<(), Error> {
+        let front = (
+            explicit_default(0, &self.version),
+            (
+                &self.serial_number,
+                (&self.signature, (&self.issuer, &self.validity)),
+            ),
+        );
+        let behind = (
+            &self.subject,
+            (
+                &self.subject_public_key_info,
+                (
+                    implicit_optional(1, &self.issuer_unique_id),
+                    (
+                        implicit_optional(2, &self.subject_unique_id),
+                        explicit_optional(3, &self.extensions),
+                    ),
+                ),
+            ),
+        );
+        (front, behind).put_text(room)
+    }
+
+    ghost contents_lawful = { grammar.tbs_certificate_contents_lawful P.serial_check };
+}

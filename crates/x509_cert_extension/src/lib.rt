@@ -1,0 +1,8 @@
+//! Look-ups among the extensions of certificates, of lists of revoked certificates and of requests.
+#![tactic(auto)]
+
+mod filter;
+mod look_up;
+
+pub use filter::{FilterExtensions, filter_extensions};
+pub use look_up::{get_extension, members};
