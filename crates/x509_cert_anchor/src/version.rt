@@ -5,8 +5,8 @@ use x509_der_frames::Standard;
 use x509_der_grammar::{Content, Error, Room, Tag, TryClone};
 use x509_prim_named::{NamedNumber, put_named_number, read_named_number};
 
-/// The version of what is said of a trust anchor (RFC 5914 2.1). There is one, which is left out in
-/// [`TrustAnchorInfo`](crate::TrustAnchorInfo), so that the 1 which RFC 5914 gives it in place of the 0 never shows there.
+/// The version of a [`TrustAnchorInfo`](crate::TrustAnchorInfo) (RFC 5914 2.1). There is one, and since it is the default it
+/// is never written there. Alone it is the INTEGER 0; RFC 5914 numbers it 1.
 ///
 /// ```text
 /// TrustAnchorInfoVersion ::= INTEGER { v1(0) }
@@ -17,6 +17,7 @@ pub enum Version {
     V1 = 0,
 }
 
+/// V1.
 impl Default for Version {
     ghost use Rattle.std.specs.Prelude.{◌≡◌};
     ghost use Rattle.x509_cert_anchor.specs.declared.version.Version.TheVariants.{V1};
@@ -70,7 +71,7 @@ impl Content for Version {
     ghost contents_lawful = { named_contents_lawful version_names };
 }
 
-/// Version 1.
+/// V1.
 impl Standard for Version {
     ghost use Rattle.x509_cert_anchor.specs.Version.{version_default, version_default_lawful};
 
@@ -81,7 +82,9 @@ impl Standard for Version {
     }
 
     fn is_standard(&self) -> bool {
-        *self == Version::V1
+        match self {
+            Version::V1 => true,
+        }
     }
 
     ghost default_lawful = { version_default_lawful };
