@@ -1,0 +1,126 @@
+//! What is asked of the paths from a trust anchor.
+
+use crate::cert_policies::CertPolicyFlags;
+use std::alloc::Global;
+use x509_base_validity::{Profile, Rfc5280};
+use x509_cert_certificate::CertificateInner;
+use x509_der_frames::{PutPart, end, field, implicit_optional, optional_implicit};
+use x509_der_grammar::{Content, Encode, Error, Room, Tag, TryClone};
+use x509_name_rdn::Name;
+use x509_pkix_constraints::NameConstraints;
+use x509_pkix_policy::CertificatePolicies;
+
+/// What is asked of the paths from a trust anchor (RFC 5914 2.5). That the certificate has the name and the key of the anchor,
+/// as RFC 5914 wants it, isn't looked at.
+///
+/// ```text
+/// CertPathControls ::= SEQUENCE {
+///     taName             Name,
+///     certificate        [0] IMPLICIT Certificate OPTIONAL,
+///     policySet          [1] IMPLICIT CertificatePolicies OPTIONAL,
+///     policyFlags        [2] IMPLICIT CertPolicyFlags OPTIONAL,
+///     nameConstr         [3] IMPLICIT NameConstraints OPTIONAL,
+///     pathLenConstraint  [4] IMPLICIT INTEGER (0..4294967295) OPTIONAL }
+/// ```
+#[derive(Debug, PartialEq, Eq)]
+pub struct CertPathControls<P: Profile = Rfc5280> {
+    /// The name of the anchor.
+    pub ta_name: Name,
+
+    /// A certificate of the anchor.
+    pub certificate: Option<CertificateInner<P>>,
+
+    /// The policies for which a path may be valid, any if left out.
+    pub policy_set: Option<CertificatePolicies>,
+
+    /// What is asked of policies, nothing if left out.
+    pub policy_flags: Option<CertPolicyFlags>,
+
+    /// The names that certificates of a path may have, any if left out.
+    pub name_constr: Option<NameConstraints>,
+
+    /// How many authorities may follow in a path, any number if left out.
+    pub path_len_constraint: Option<u32>,
+}
+
+impl<P: Profile> Drop for CertPathControls<P> {
+    fn drop(self) {
+        let CertPathControls {
+            ta_name: _,
+            certificate: _,
+            policy_set: _,
+            policy_flags: _,
+            name_constr: _,
+            path_len_constraint: _,
+        } = self;
+    }
+}
+
+impl<P: Profile> TryClone for CertPathControls<P> {
+    fn try_clone(&self, alloc: Global) -> Result<CertPathControls<P>, Error> {
+        Ok(CertPathControls {
+            ta_name: self.ta_name.try_clone(alloc)?,
+            certificate: self.certificate.try_clone(alloc)?,
+            policy_set: self.policy_set.try_clone(alloc)?,
+            policy_flags: self.policy_flags,
+            name_constr: self.name_constr.try_clone(alloc)?,
+            path_len_constraint: self.path_len_constraint,
+        })
+    }
+}
+
+#[tactic(auto, unfolding(crate::specs::CertPathControls::cert_path_controls_fields, x509_der_frames::specs::Frames::fields_reading, x509_der_frames::specs::Frames::fields_octets), using(x509_der_frames::specs::FrameWriting::text_in_option, x509_der_frames::specs::FrameWriting::refusal_in_option))]
+impl<P: Profile> Content for CertPathControls<P> {
+    ghost use Rattle.x509_base_serial.specs.Checked.{CheckRefuses};
+    ghost use Rattle.x509_cert_anchor.specs.CertPathControls as grammar;
+    ghost use Rattle.x509_der_element.specs.declared.tag.Tag.TheVariants.{Sequence};
+
+    ghost contents = { grammar.cert_path_controls_contents P.serial_check };
+
+    ghost refusals = { CheckRefuses P.serial_check };
+
+    ghost written_as = { grammar.controls_writing ⟦<CertificateInner<P> as Encode>⟧.writing };
+
+    ghost IDENTIFIER = { Sequence };
+
+    const IDENTIFIER: Tag = Tag::Sequence;
+
+    fn read_content(alloc: Global, octets: &[u8]) -> Result<CertPathControls<P>, Error> {
+        let mut rest = octets;
+        let ta_name = field::<Name>(alloc, &mut rest)?;
+        let certificate = optional_implicit::<CertificateInner<P>>(alloc, 0, &mut rest)?;
+        let policy_set = optional_implicit::<CertificatePolicies>(alloc, 1, &mut rest)?;
+        let policy_flags = optional_implicit::<CertPolicyFlags>(alloc, 2, &mut rest)?;
+        let name_constr = optional_implicit::<NameConstraints>(alloc, 3, &mut rest)?;
+        let path_len_constraint = optional_implicit::<u32>(alloc, 4, &mut rest)?;
+        end(rest)?;
+        Ok(CertPathControls {
+            ta_name,
+            certificate,
+            policy_set,
+            policy_flags,
+            name_constr,
+            path_len_constraint,
+        })
+    }
+
+    fn write_content<R: Room>(&self, room: &mut R) -> Result<(), Error> {
+        let front = (
+            &self.ta_name,
+            (
+                implicit_optional(0, &self.certificate),
+                implicit_optional(1, &self.policy_set),
+            ),
+        );
+        let behind = (
+            implicit_optional(2, &self.policy_flags),
+            (
+                implicit_optional(3, &self.name_constr),
+                implicit_optional(4, &self.path_len_constraint),
+            ),
+        );
+        (front, behind).put_text(room)
+    }
+
+    ghost contents_lawful = { grammar.cert_path_controls_contents_lawful P.serial_check };
+}

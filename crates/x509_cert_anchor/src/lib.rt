@@ -1,0 +1,15 @@
+//! Trust anchors, from which paths of certificates start (RFC 5914).
+#![tactic(auto)]
+
+mod cert_path_controls;
+mod cert_policies;
+pub mod laws;
+mod trust_anchor_choice;
+mod trust_anchor_info;
+mod version;
+
+pub use cert_path_controls::CertPathControls;
+pub use cert_policies::{CertPolicies, CertPolicyFlags};
+pub use trust_anchor_choice::TrustAnchorChoice;
+pub use trust_anchor_info::TrustAnchorInfo;
+pub use version::Version;

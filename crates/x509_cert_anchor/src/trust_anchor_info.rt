@@ -1,0 +1,134 @@
+//! What is said of a trust anchor.
+
+use crate::cert_path_controls::CertPathControls;
+use crate::version::Version;
+use std::alloc::Global;
+use x509_base_key::SubjectPublicKeyInfo;
+use x509_base_validity::{Profile, Rfc5280};
+use x509_der_frames::{
+    PutPart, default_field, defaulted, end, explicit_optional, field, implicit_optional, optional,
+    optional_explicit, optional_field, optional_implicit,
+};
+use x509_der_grammar::{Content, Encode, Error, Room, Tag, TryClone};
+use x509_ext_frame::Extensions;
+use x509_prim_string::OctetString;
+use x509_prim_text::Utf8String;
+
+/// What is said of a trust anchor (RFC 5914 2). How long the title is isn't looked at.
+///
+/// ```text
+/// TrustAnchorInfo ::= SEQUENCE {
+///     version         TrustAnchorInfoVersion DEFAULT v1,
+///     pubKey          SubjectPublicKeyInfo,
+///     keyId           OCTET STRING,
+///     taTitle         UTF8String OPTIONAL,
+///     certPath        CertPathControls OPTIONAL,
+///     exts            [1] EXPLICIT Extensions OPTIONAL,
+///     taTitleLangTag  [2] IMPLICIT UTF8String OPTIONAL }
+/// ```
+#[derive(Debug, PartialEq, Eq)]
+pub struct TrustAnchorInfo<P: Profile = Rfc5280> {
+    /// The version, which is never written, as there is one.
+    pub version: Version,
+
+    /// The key of the anchor.
+    pub pub_key: SubjectPublicKeyInfo,
+
+    /// The identifier of the key.
+    pub key_id: OctetString,
+
+    /// A title for people to read.
+    pub ta_title: Option<Utf8String>,
+
+    /// What is asked of the paths from the anchor.
+    pub cert_path: Option<CertPathControls<P>>,
+
+    /// What else is said.
+    pub extensions: Option<Extensions>,
+
+    /// The language of the title.
+    pub ta_title_lang_tag: Option<Utf8String>,
+}
+
+impl<P: Profile> Drop for TrustAnchorInfo<P> {
+    fn drop(self) {
+        let TrustAnchorInfo {
+            version: _,
+            pub_key: _,
+            key_id: _,
+            ta_title: _,
+            cert_path: _,
+            extensions: _,
+            ta_title_lang_tag: _,
+        } = self;
+    }
+}
+
+impl<P: Profile> TryClone for TrustAnchorInfo<P> {
+    fn try_clone(&self, alloc: Global) -> Result<TrustAnchorInfo<P>, Error> {
+        Ok(TrustAnchorInfo {
+            version: self.version,
+            pub_key: self.pub_key.try_clone(alloc)?,
+            key_id: self.key_id.try_clone(alloc)?,
+            ta_title: self.ta_title.try_clone(alloc)?,
+            cert_path: self.cert_path.try_clone(alloc)?,
+            extensions: self.extensions.try_clone(alloc)?,
+            ta_title_lang_tag: self.ta_title_lang_tag.try_clone(alloc)?,
+        })
+    }
+}
+
+#[tactic(auto, unfolding(crate::specs::TrustAnchorInfo::trust_anchor_info_fields, x509_der_frames::specs::Frames::fields_reading, x509_der_frames::specs::Frames::fields_octets), using(x509_der_frames::specs::FrameWriting::text_in_option, x509_der_frames::specs::FrameWriting::refusal_in_option))]
+impl<P: Profile> Content for TrustAnchorInfo<P> {
+    ghost use Rattle.x509_base_serial.specs.Checked.{CheckRefuses};
+    ghost use Rattle.x509_cert_anchor.specs.TrustAnchorInfo as grammar;
+    ghost use Rattle.x509_der_element.specs.declared.tag.Tag.TheVariants.{Sequence};
+
+    ghost contents = { grammar.trust_anchor_info_contents P.serial_check };
+
+    ghost refusals = { CheckRefuses P.serial_check };
+
+    ghost written_as = { grammar.info_writing ⟦<CertPathControls<P> as Encode>⟧.writing };
+
+    ghost IDENTIFIER = { Sequence };
+
+    const IDENTIFIER: Tag = Tag::Sequence;
+
+    fn read_content(alloc: Global, octets: &[u8]) -> Result<TrustAnchorInfo<P>, Error> {
+        let mut rest = octets;
+        let version = default_field::<Version>(alloc, &mut rest)?;
+        let pub_key = field::<SubjectPublicKeyInfo>(alloc, &mut rest)?;
+        let key_id = field::<OctetString>(alloc, &mut rest)?;
+        let ta_title = optional_field::<Utf8String>(alloc, &mut rest)?;
+        let cert_path = optional_field::<CertPathControls<P>>(alloc, &mut rest)?;
+        let extensions = optional_explicit::<Extensions>(alloc, 1, &mut rest)?;
+        let ta_title_lang_tag = optional_implicit::<Utf8String>(alloc, 2, &mut rest)?;
+        end(rest)?;
+        Ok(TrustAnchorInfo {
+            version,
+            pub_key,
+            key_id,
+            ta_title,
+            cert_path,
+            extensions,
+            ta_title_lang_tag,
+        })
+    }
+
+    fn write_content<R: Room>(&self, room: &mut R) -> Result<(), Error> {
+        let front = (
+            defaulted(&self.version),
+            (&self.pub_key, (&self.key_id, optional(&self.ta_title))),
+        );
+        let behind = (
+            optional(&self.cert_path),
+            (
+                explicit_optional(1, &self.extensions),
+                implicit_optional(2, &self.ta_title_lang_tag),
+            ),
+        );
+        (front, behind).put_text(room)
+    }
+
+    ghost contents_lawful = { grammar.trust_anchor_info_contents_lawful P.serial_check };
+}

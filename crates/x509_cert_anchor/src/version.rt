@@ -1,0 +1,101 @@
+//! The version of what is said of a trust anchor.
+
+use std::alloc::Global;
+use x509_der_frames::Standard;
+use x509_der_grammar::{Content, Error, Room, Tag, TryClone};
+use x509_prim_named::{NamedNumber, put_named_number, read_named_number};
+
+/// The version of a [`TrustAnchorInfo`](crate::TrustAnchorInfo) (RFC 5914 2.1). There is one, and since it is the default it
+/// is never written there. Alone it is the INTEGER 0; RFC 5914 numbers it 1.
+///
+/// ```text
+/// TrustAnchorInfoVersion ::= INTEGER { v1(0) }
+/// ```
+#[derive(Clone, Copy, Debug, PartialEq, Eq)]
+pub enum Version {
+    /// Version 1.
+    V1 = 0,
+}
+
+/// V1.
+impl Default for Version {
+    ghost use Rattle.std.specs.Prelude.{◌≡◌};
+    ghost use Rattle.x509_cert_anchor.specs.declared.version.Version.TheVariants.{V1};
+
+    ghost is_default = { λ version. version ≡ V1 };
+
+    fn default() -> Version {
+        Version::V1
+    }
+}
+
+impl NamedNumber for Version {
+    ghost use Rattle.x509_cert_anchor.specs.Version.{version_names};
+
+    ghost names = { version_names };
+
+    fn number(&self) -> u8 {
+        *self as u8
+    }
+
+    fn from_number(number: u8) -> Option<Version> {
+        match number {
+            0 => Some(Version::V1),
+            _ => None,
+        }
+    }
+}
+
+impl Content for Version {
+    ghost use Rattle.x509_cert_anchor.specs.Version.{version_names};
+    ghost use Rattle.x509_der_element.specs.declared.tag.Tag.TheVariants.{Integer};
+    ghost use Rattle.x509_prim_named.specs.Names.{named_contents};
+    ghost use Rattle.x509_prim_named.specs.NamesLaws.{named_contents_lawful};
+
+    ghost contents = { named_contents version_names };
+
+    ghost takes_memory = { ⊥ };
+
+    ghost IDENTIFIER = { Integer };
+
+    const IDENTIFIER: Tag = Tag::Integer;
+
+    fn read_content(_alloc: Global, octets: &[u8]) -> Result<Version, Error> {
+        read_named_number(octets)
+    }
+
+    fn write_content<R: Room>(&self, room: &mut R) -> Result<(), Error> {
+        put_named_number(self, room)
+    }
+
+    ghost contents_lawful = { named_contents_lawful version_names };
+}
+
+/// V1.
+impl Standard for Version {
+    ghost use Rattle.x509_cert_anchor.specs.Version.{version_default, version_default_lawful};
+
+    ghost default = { version_default };
+
+    fn standard() -> Version {
+        Version::V1
+    }
+
+    fn is_standard(&self) -> bool {
+        match self {
+            Version::V1 => true,
+        }
+    }
+
+    ghost default_lawful = { version_default_lawful };
+}
+
+impl TryClone for Version {
+    ghost use Rattle.std.specs.Prelude.{◌≡◌, Ok};
+
+    fn try_clone(&self, _alloc: Global) -> Result<Version, Error>
+        ensures { result ≡ Ok self.now }
+    {
+        Ok(*self)
+    }
+}
