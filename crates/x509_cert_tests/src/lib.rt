@@ -1,0 +1,9 @@
+//! Tests of certificates, lists of revoked certificates, requests and trust anchors.
+#![tactic(auto)]
+
+#[cfg(test)]
+mod digests;
+#[cfg(test)]
+mod look_ups;
+#[cfg(test)]
+mod signed;
