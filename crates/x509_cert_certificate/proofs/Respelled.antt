@@ -16,8 +16,6 @@ use Rattle.x509_base_validity.specs.declared.validity.Validity.{Validity}
 use Rattle.x509_cert_certificate.specs.TbsCertificate.{tbs_certificate, tbs_certificate_fields, tbs_certificate_lawful, tbs_certificate_writing, tbs_certificate_stable}
 use Rattle.x509_cert_certificate.specs.Certificate.{certificate, certificate_fields, certificate_lawful, certificate_writing, certificate_stable}
 use Rattle.x509_cert_certificate.specs.Respelling.{RespellsAlike, Stays, no_check, any_tbs_certificate, any_certificate, any_certificates}
-use Rattle.x509_cert_certificate.specs.declared.certificate.CertificateInner.{CertificateInner}
-use Rattle.x509_cert_certificate.specs.declared.tbs_certificate.TbsCertificateInner.{TbsCertificateInner}
 
 -- ---- any form
 
@@ -68,4 +66,4 @@ module _ {P : Type 0} (check : List ℕ → Result Unit ErrorKind) (writing : Wr
   unfolding fields_octets certificate_fields tbs_certificate_fields
   lists_alike =
       same_spelling (universal Sequence (list_of (certificate check))) any_certificates (universal_lawful Sequence (list_of any_certificate) (list_lawful any_certificate (certificate_lawful no_check))) (λ v. refl)
-          (members_writing (certificate_writing (tbs_certificate_writing writing))) (members_stable (certificate_writing (tbs_certificate_writing writing)) whole_stable)
+      (members_writing (certificate_writing (tbs_certificate_writing writing))) (members_stable (certificate_writing (tbs_certificate_writing writing)) whole_stable)
