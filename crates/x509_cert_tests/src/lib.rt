@@ -2,6 +2,8 @@
 #![tactic(auto)]
 
 #[cfg(test)]
+mod certificate;
+#[cfg(test)]
 mod digests;
 #[cfg(test)]
 mod example;
