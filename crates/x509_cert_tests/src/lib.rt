@@ -1,0 +1,5 @@
+//! Tests of certificates, lists of revoked certificates, requests and trust anchors.
+#![tactic(auto)]
+
+#[cfg(test)]
+mod anchor;
