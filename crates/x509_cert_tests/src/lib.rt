@@ -2,6 +2,8 @@
 #![tactic(auto)]
 
 #[cfg(test)]
+mod anchor;
+#[cfg(test)]
 mod certificate;
 #[cfg(test)]
 mod digests;
