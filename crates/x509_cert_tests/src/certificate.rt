@@ -4,10 +4,8 @@ use sha2::Sha256;
 use std::test::*;
 use x509_base_key::{AlgorithmIdentifier, SubjectPublicKeyInfo};
 use x509_base_serial::SerialNumber;
-use x509_base_validity::{Raw, Rfc5280, Validity};
-use x509_cert_certificate::{
-    Certificate, CertificateInner, PkiPath, TbsCertificate, TbsCertificateInner, Version,
-};
+use x509_base_validity::{Rfc5280, Validity};
+use x509_cert_certificate::{Certificate, TbsCertificate, Version};
 use x509_der_grammar::{Decode, Encode, Error, ErrorKind, TryClone};
 use x509_der_order::DerOrd;
 use x509_ext_frame::Extensions;
@@ -16,35 +14,24 @@ use x509_name_rdn::Name;
 use x509_prim_string::BitString;
 
 /// A certificate without a version and without names.
-const PLAIN: &[u8] = b"\x30\x46\x30\x3A\x02\x01\x01\x30\x05\x06\x03\x2A\x03\x04\x30\x00\x30\x1E\x17\x0D100101083000Z\x17\x0D301231083000Z\x30\x00\x30\x0A\x30\x05\x06\x03\x2A\x03\x04\x03\x01\x00\x30\x05\x06\x03\x2A\x03\x04\x03\x01\x00";
+const PLAIN: &[u8] =
+    b"\x30\x46\x30\x3A\x02\x01\x01\x30\x05\x06\x03\x2A\x03\x04\x30\x00\x30\x1E\x17\x0D100101083000Z\x17\x0D301231083000Z\x30\x00\x30\x0A\x30\x05\x06\x03\x2A\x03\x04\x03\x01\x00\x30\x05\x06\x03\x2A\x03\x04\x03\x01\x00";
 
 /// The same with its version written out.
-const VERSION_OF_PLAIN: &[u8] = b"\x30\x4B\x30\x3F\xA0\x03\x02\x01\x00\x02\x01\x01\x30\x05\x06\x03\x2A\x03\x04\x30\x00\x30\x1E\x17\x0D100101083000Z\x17\x0D301231083000Z\x30\x00\x30\x0A\x30\x05\x06\x03\x2A\x03\x04\x03\x01\x00\x30\x05\x06\x03\x2A\x03\x04\x03\x01\x00";
+const VERSION_OF_PLAIN: &[u8] =
+    b"\x30\x4B\x30\x3F\xA0\x03\x02\x01\x00\x02\x01\x01\x30\x05\x06\x03\x2A\x03\x04\x30\x00\x30\x1E\x17\x0D100101083000Z\x17\x0D301231083000Z\x30\x00\x30\x0A\x30\x05\x06\x03\x2A\x03\x04\x03\x01\x00\x30\x05\x06\x03\x2A\x03\x04\x03\x01\x00";
 
 /// The same with a later version.
-const SECOND: &[u8] = b"\x30\x4B\x30\x3F\xA0\x03\x02\x01\x01\x02\x01\x01\x30\x05\x06\x03\x2A\x03\x04\x30\x00\x30\x1E\x17\x0D100101083000Z\x17\x0D301231083000Z\x30\x00\x30\x0A\x30\x05\x06\x03\x2A\x03\x04\x03\x01\x00\x30\x05\x06\x03\x2A\x03\x04\x03\x01\x00";
+const SECOND: &[u8] =
+    b"\x30\x4B\x30\x3F\xA0\x03\x02\x01\x01\x02\x01\x01\x30\x05\x06\x03\x2A\x03\x04\x30\x00\x30\x1E\x17\x0D100101083000Z\x17\x0D301231083000Z\x30\x00\x30\x0A\x30\x05\x06\x03\x2A\x03\x04\x03\x01\x00\x30\x05\x06\x03\x2A\x03\x04\x03\x01\x00";
 
 /// A certificate with a date that is a GeneralizedTime through 2049.
-const LONG: &[u8] = b"\x30\x48\x30\x3C\x02\x01\x01\x30\x05\x06\x03\x2A\x03\x04\x30\x00\x30\x20\x18\x0F20020101120100Z\x17\x0D301231083000Z\x30\x00\x30\x0A\x30\x05\x06\x03\x2A\x03\x04\x03\x01\x00\x30\x05\x06\x03\x2A\x03\x04\x03\x01\x00";
-
-/// The same with that date as a UTCTime.
-const SHORT: &[u8] = b"\x30\x46\x30\x3A\x02\x01\x01\x30\x05\x06\x03\x2A\x03\x04\x30\x00\x30\x1E\x17\x0D020101120100Z\x17\x0D301231083000Z\x30\x00\x30\x0A\x30\x05\x06\x03\x2A\x03\x04\x03\x01\x00\x30\x05\x06\x03\x2A\x03\x04\x03\x01\x00";
+const LONG: &[u8] =
+    b"\x30\x48\x30\x3C\x02\x01\x01\x30\x05\x06\x03\x2A\x03\x04\x30\x00\x30\x20\x18\x0F20020101120100Z\x17\x0D301231083000Z\x30\x00\x30\x0A\x30\x05\x06\x03\x2A\x03\x04\x03\x01\x00\x30\x05\x06\x03\x2A\x03\x04\x03\x01\x00";
 
 /// A certificate with each field.
-const WHOLE: &[u8] = b"\x30\x81\x80\x30\x72\xA0\x03\x02\x01\x02\x02\x01\x2A\x30\x05\x06\x03\x2A\x03\x04\x30\x0D\x31\x0B\x30\x09\x06\x03\x55\x04\x06\x13\x02US\x30\x1E\x17\x0D100101083000Z\x17\x0D301231083000Z\x30\x0D\x31\x0B\x30\x09\x06\x03\x55\x04\x06\x13\x02DE\x30\x0A\x30\x05\x06\x03\x2A\x03\x05\x03\x01\x00\x81\x02\x07\x80\x82\x02\x06\x40\xA3\x0F\x30\x0D\x30\x0B\x06\x03\x55\x1D\x0F\x04\x04\x03\x02\x01\x06\x30\x05\x06\x03\x2A\x03\x06\x03\x03\x00\xAB\xCD";
-
-/// A serial number of 22 octets.
-const LONG_SERIAL: &[u8] = b"\x30\x5B\x30\x4F\x02\x16\x01\x02\x03\x04\x05\x06\x07\x08\x09\x0A\x0B\x0C\x0D\x0E\x0F\x10\x11\x12\x13\x14\x15\x16\x30\x05\x06\x03\x2A\x03\x04\x30\x00\x30\x1E\x17\x0D100101083000Z\x17\x0D301231083000Z\x30\x00\x30\x0A\x30\x05\x06\x03\x2A\x03\x04\x03\x01\x00\x30\x05\x06\x03\x2A\x03\x04\x03\x01\x00";
-
-/// Whether the value that the one bytes spell is written as the others.
-fn becomes<T: Decode + Encode + Drop>(
-    rt: &HostRuntime,
-    bytes: &[u8],
-    written: &[u8],
-) -> Result<bool, Error> {
-    let value = T::from_der(rt.alloc(), bytes)?;
-    spells(rt, &value, written)
-}
+const WHOLE: &[u8] =
+    b"\x30\x81\x80\x30\x72\xA0\x03\x02\x01\x02\x02\x01\x2A\x30\x05\x06\x03\x2A\x03\x04\x30\x0D\x31\x0B\x30\x09\x06\x03\x55\x04\x06\x13\x02US\x30\x1E\x17\x0D100101083000Z\x17\x0D301231083000Z\x30\x0D\x31\x0B\x30\x09\x06\x03\x55\x04\x06\x13\x02DE\x30\x0A\x30\x05\x06\x03\x2A\x03\x05\x03\x01\x00\x81\x02\x07\x80\x82\x02\x06\x40\xA3\x0F\x30\x0D\x30\x0B\x06\x03\x55\x1D\x0F\x04\x04\x03\x02\x01\x06\x30\x05\x06\x03\x2A\x03\x06\x03\x03\x00\xAB\xCD";
 
 /// Whether the value is written so.
 fn spells<T: Encode>(rt: &HostRuntime, value: &T, bytes: &[u8]) -> Result<bool, Error> {
@@ -77,64 +64,14 @@ fn versions(rt: HostRuntime) -> Result<(), Fail> {
     Ok(())
 }
 
-#[test]
-fn numbers_of_versions(rt: HostRuntime) -> Result<(), Fail> {
-    assert!(rt; becomes::<Version>(&rt, b"\x02\x01\x00", b"\x02\x01\x00")?);
-    assert!(rt; becomes::<Version>(&rt, b"\x02\x01\x02", b"\x02\x01\x02")?);
-    assert!(rt; is_malformed::<Version>(&rt, b"\x02\x01\x03"));
-    assert!(rt; is_malformed::<Version>(&rt, b"\x0A\x01\x00"));
-    Ok(())
-}
-
-#[test]
-fn the_same_bytes(rt: HostRuntime) -> Result<(), Fail> {
-    for bytes in [PLAIN, SECOND, SHORT, WHOLE] {
-        assert!(rt; becomes::<Certificate>(&rt, bytes, bytes)?);
-        assert!(rt; becomes::<CertificateInner<Raw>>(&rt, bytes, bytes)?);
-    }
-    Ok(())
-}
-
-#[test]
-fn respelled_dates(rt: HostRuntime) -> Result<(), Fail> {
-    assert!(rt; becomes::<Certificate>(&rt, LONG, SHORT)?);
-    assert!(rt; becomes::<CertificateInner<Raw>>(&rt, LONG, LONG)?);
-    assert!(rt; becomes::<TbsCertificate>(&rt, &LONG[2..64], &SHORT[2..62])?);
-    assert!(rt; becomes::<TbsCertificateInner<Raw>>(&rt, &LONG[2..64], &LONG[2..64])?);
-    Ok(())
-}
-
-#[test]
-fn serial_numbers_by_profile(rt: HostRuntime) -> Result<(), Fail> {
-    assert!(rt; is_malformed::<Certificate>(&rt, LONG_SERIAL));
-    assert!(rt; becomes::<CertificateInner<Raw>>(&rt, LONG_SERIAL, LONG_SERIAL)?);
-    Ok(())
-}
-
-/// A list of two certificates, the first with a long date, and how it is written.
-fn path_of(rt: &HostRuntime, first: &[u8], length: u8) -> Result<Vec<u8>, Error> {
-    let mut bytes = Vec::new(rt.alloc());
-    bytes.extend_from_slice(&[0x30, 0x81, length])?;
-    bytes.extend_from_slice(first)?;
-    bytes.extend_from_slice(PLAIN)?;
-    Ok(bytes)
-}
-
-#[test]
-fn paths(rt: HostRuntime) -> Result<(), Fail> {
-    let long = path_of(&rt, LONG, 146)?;
-    let short = path_of(&rt, SHORT, 144)?;
-    assert!(rt; becomes::<PkiPath>(&rt, long.as_slice(), short.as_slice())?);
-    assert!(rt; becomes::<PkiPath>(&rt, b"\x30\x00", b"\x30\x00")?);
-    Ok(())
-}
-
 /// Whether the front fields of a signed part are those of `WHOLE`.
 fn has_front(rt: &HostRuntime, part: &TbsCertificate) -> Result<bool, Error> {
-    Ok(part.serial_number().as_bytes() == [0x2A].as_slice()
-        && spells(rt, part.signature(), &WHOLE[13..20])?
-        && spells(rt, part.issuer(), &WHOLE[20..35])?
-        && spells(rt, part.validity(), &WHOLE[35..67])?)
+    Ok(
+        part.serial_number().as_bytes() == [0x2A].as_slice()
+            && spells(rt, part.signature(), &WHOLE[13..20])?
+            && spells(rt, part.issuer(), &WHOLE[20..35])?
+            && spells(rt, part.validity(), &WHOLE[35..67])?,
+    )
 }
 
 /// Whether the fields behind them are.
@@ -145,11 +82,13 @@ fn has_behind(rt: &HostRuntime, part: &TbsCertificate) -> Result<bool, Error> {
     let (Some(issuer), Some(subject)) = (part.issuer_unique_id(), part.subject_unique_id()) else {
         return Ok(false);
     };
-    Ok(spells(rt, part.subject(), &WHOLE[67..82])?
-        && spells(rt, part.subject_public_key_info(), &WHOLE[82..94])?
-        && issuer.raw_bytes() == [0x80].as_slice()
-        && subject.raw_bytes() == [0x40].as_slice()
-        && spells(rt, extensions, &WHOLE[104..119])?)
+    Ok(
+        spells(rt, part.subject(), &WHOLE[67..82])?
+            && spells(rt, part.subject_public_key_info(), &WHOLE[82..94])?
+            && issuer.raw_bytes() == [0x80].as_slice()
+            && subject.raw_bytes() == [0x40].as_slice()
+            && spells(rt, extensions, &WHOLE[104..119])?,
+    )
 }
 
 #[test]
@@ -232,6 +171,11 @@ fn look_ups(rt: HostRuntime) -> Result<(), Fail> {
     assert!(rt; usages.next().is_some());
     assert!(rt; usages.next().is_none());
     let plain = Certificate::from_der(rt.alloc(), PLAIN)?;
-    assert!(rt; plain.tbs_certificate().get_extension::<KeyUsage>(rt.alloc())?.is_none());
+    assert!(rt;
+        plain
+            .tbs_certificate()
+            .get_extension::<KeyUsage>(rt.alloc())?
+            .is_none()
+    );
     Ok(())
 }
