@@ -1,16 +1,11 @@
 -- Lists whose serial numbers may have any content octets.
-use Rattle.std.specs.Prelude.{ℕ, List, Result, Ok}
+use Rattle.x509_cert_certificate.specs.Respelling.{no_check}
 use Rattle.x509_cert_crl.specs.CertificateList.{certificate_list, tbs_cert_list}
 use Rattle.x509_cert_crl.specs.RevokedCert.{revoked_cert}
 use Rattle.x509_cert_crl.specs.declared.certificate_list.CertificateList.{CertificateList}
 use Rattle.x509_cert_crl.specs.declared.revoked_cert.RevokedCert.{RevokedCert}
 use Rattle.x509_cert_crl.specs.declared.tbs_cert_list.TbsCertList.{TbsCertList}
-use Rattle.x509_der_element.specs.declared.error.ErrorKind.{ErrorKind}
 use Rattle.x509_der_grammar.specs.Form.{Form}
-
--- no octets are refused
-abbrev pub no_check : List ℕ → Result Unit ErrorKind
-no_check content = Ok tt
 
 abbrev pub any_revoked_cert : {P : Type 0} → Form (RevokedCert P)
 any_revoked_cert = revoked_cert no_check
