@@ -1,8 +1,8 @@
 //! Strict DER (X.690): how values are read and written, and the types of ASN.1 that others are made of.
 
-pub use x509_der_element::{Error, ErrorKind, Header, Length, Tag, TagNumber, TryClone};
+pub use x509_der_element::{Error, ErrorKind, Header, Length, Tag, TagNumber};
 pub use x509_der_frames::FromAny;
-pub use x509_der_grammar::{Decode, Encode, FixedTag, Tagged};
+pub use x509_der_grammar::{Decode, Encode, FixedTag, Tagged, TryClone};
 pub use x509_der_oid::AssociatedOid;
 pub use x509_der_order::{DerOrd, ValueOrd};
 

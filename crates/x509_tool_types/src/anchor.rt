@@ -5,15 +5,15 @@ use std::marker::PhantomData;
 use x509_base_validity::Profile;
 use x509_cert_anchor::{CertPathControls, CertPolicies, TrustAnchorChoice, TrustAnchorInfo};
 use x509_der_grammar::Error;
-use x509_tool_table::{Numbers, Reencode, Table};
+use x509_tool_table::{Reencode, Table};
 
 /// Trust anchors.
-pub struct Anchors<P> {
-    profile: PhantomData<P>,
+pub struct Anchors<P, T> {
+    rest: PhantomData<(P, T)>,
 }
 
 #[tactic(auto, using(x509_tool_table::proofs::Rows::is_found, x509_tool_table::proofs::Rows::is_passed))]
-impl<P: Profile> Table for Anchors<P> {
+impl<P: Profile, T: Table> Table for Anchors<P, T> {
     ghost use Rattle.std.specs.Prelude.{codes};
     ghost use Rattle.x509_tool_table.specs.Table.{named, ◌otherwise◌};
 
@@ -21,7 +21,7 @@ impl<P: Profile> Table for Anchors<P> {
         named (codes "CertPolicies") ⟦<CertPolicies as Reencode>⟧.reencodes otherwise
         named (codes "TrustAnchorChoice") ⟦<TrustAnchorChoice<P> as Reencode>⟧.reencodes otherwise
         named (codes "TrustAnchorInfo") ⟦<TrustAnchorInfo<P> as Reencode>⟧.reencodes otherwise
-        ⟦<Numbers as Table>⟧.table };
+        T.table };
 
     fn reencode(alloc: Global, name: &str, bytes: &[u8]) -> Result<Vec<u8>, Error> {
         match name {
@@ -29,7 +29,7 @@ impl<P: Profile> Table for Anchors<P> {
             "CertPolicies" => CertPolicies::reencode_as(alloc, bytes),
             "TrustAnchorChoice" => TrustAnchorChoice::<P>::reencode_as(alloc, bytes),
             "TrustAnchorInfo" => TrustAnchorInfo::<P>::reencode_as(alloc, bytes),
-            _ => Numbers::reencode(alloc, name, bytes),
+            _ => T::reencode(alloc, name, bytes),
         }
     }
 }

@@ -1,6 +1,5 @@
-//! Times, validity, serial numbers and keys, and then names.
+//! Times, validity, serial numbers and keys, in front of another table.
 
-use crate::name::Names;
 use std::alloc::Global;
 use std::marker::PhantomData;
 use x509_base_key::{AlgorithmIdentifier, SubjectPublicKeyInfo};
@@ -10,13 +9,13 @@ use x509_base_validity::{Profile, Time, Validity};
 use x509_der_grammar::Error;
 use x509_tool_table::{Reencode, Table};
 
-/// Times, validity, serial numbers and keys, and then names.
-pub struct Base<P> {
-    profile: PhantomData<P>,
+/// Times, validity, serial numbers and keys, in front of another table.
+pub struct Base<P, T> {
+    rest: PhantomData<(P, T)>,
 }
 
 #[tactic(auto, using(x509_tool_table::proofs::Rows::is_found, x509_tool_table::proofs::Rows::is_passed))]
-impl<P: Profile> Table for Base<P> {
+impl<P: Profile, T: Table> Table for Base<P, T> {
     ghost use Rattle.std.specs.Prelude.{codes};
     ghost use Rattle.x509_tool_table.specs.Table.{named, ◌otherwise◌};
 
@@ -27,7 +26,7 @@ impl<P: Profile> Table for Base<P> {
         named (codes "Time") ⟦<Time as Reencode>⟧.reencodes otherwise
         named (codes "UtcTime") ⟦<UtcTime as Reencode>⟧.reencodes otherwise
         named (codes "Validity") ⟦<Validity<P> as Reencode>⟧.reencodes otherwise
-        ⟦<Names<P> as Table>⟧.table };
+        T.table };
 
     fn reencode(alloc: Global, name: &str, bytes: &[u8]) -> Result<Vec<u8>, Error> {
         match name {
@@ -38,7 +37,7 @@ impl<P: Profile> Table for Base<P> {
             "Time" => Time::reencode_as(alloc, bytes),
             "UtcTime" => UtcTime::reencode_as(alloc, bytes),
             "Validity" => Validity::<P>::reencode_as(alloc, bytes),
-            _ => Names::<P>::reencode(alloc, name, bytes),
+            _ => T::reencode(alloc, name, bytes),
         }
     }
 }

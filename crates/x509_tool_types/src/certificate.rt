@@ -1,6 +1,5 @@
-//! Certificates, lists of revoked certificates and requests, and then trust anchors.
+//! Certificates, lists of revoked certificates and requests, in front of another table.
 
-use crate::anchor::Anchors;
 use std::alloc::Global;
 use std::marker::PhantomData;
 use x509_base_validity::Profile;
@@ -11,13 +10,13 @@ use x509_der_frames::SequenceOf;
 use x509_der_grammar::Error;
 use x509_tool_table::{Reencode, Table};
 
-/// Certificates, lists of revoked certificates and requests, and then trust anchors.
-pub struct Certificates<P> {
-    profile: PhantomData<P>,
+/// Certificates, lists of revoked certificates and requests, in front of another table.
+pub struct Certificates<P, T> {
+    rest: PhantomData<(P, T)>,
 }
 
 #[tactic(auto, using(x509_tool_table::proofs::Rows::is_found, x509_tool_table::proofs::Rows::is_passed))]
-impl<P: Profile> Table for Certificates<P> {
+impl<P: Profile, T: Table> Table for Certificates<P, T> {
     ghost use Rattle.std.specs.Prelude.{codes};
     ghost use Rattle.x509_tool_table.specs.Table.{named, ◌otherwise◌};
 
@@ -31,7 +30,7 @@ impl<P: Profile> Table for Certificates<P> {
         named (codes "TbsCertList") ⟦<TbsCertList<P> as Reencode>⟧.reencodes otherwise
         named (codes "TbsCertificate") ⟦<TbsCertificateInner<P> as Reencode>⟧.reencodes otherwise
         named (codes "Version") ⟦<Version as Reencode>⟧.reencodes otherwise
-        ⟦<Anchors<P> as Table>⟧.table };
+        T.table };
 
     fn reencode(alloc: Global, name: &str, bytes: &[u8]) -> Result<Vec<u8>, Error> {
         match name {
@@ -45,7 +44,7 @@ impl<P: Profile> Table for Certificates<P> {
             "TbsCertList" => TbsCertList::<P>::reencode_as(alloc, bytes),
             "TbsCertificate" => TbsCertificateInner::<P>::reencode_as(alloc, bytes),
             "Version" => Version::reencode_as(alloc, bytes),
-            _ => Anchors::<P>::reencode(alloc, name, bytes),
+            _ => T::reencode(alloc, name, bytes),
         }
     }
 }

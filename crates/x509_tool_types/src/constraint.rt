@@ -1,9 +1,7 @@
-//! Constraints on names, where lists of revoked certificates are found, and then policies.
+//! Constraints on names, where lists of revoked certificates are found, in front of another table.
 
-use crate::policy::Policies;
 use std::alloc::Global;
 use std::marker::PhantomData;
-use x509_base_validity::Profile;
 use x509_der_grammar::Error;
 use x509_pkix_constraints::{GeneralSubtree, NameConstraints};
 use x509_pkix_distribution::{
@@ -11,13 +9,13 @@ use x509_pkix_distribution::{
 };
 use x509_tool_table::{Reencode, Table};
 
-/// Constraints on names, where lists of revoked certificates are found, and then policies.
-pub struct Constraints<P> {
-    profile: PhantomData<P>,
+/// Constraints on names, where lists of revoked certificates are found, in front of another table.
+pub struct Constraints<T> {
+    rest: PhantomData<T>,
 }
 
 #[tactic(auto, using(x509_tool_table::proofs::Rows::is_found, x509_tool_table::proofs::Rows::is_passed))]
-impl<P: Profile> Table for Constraints<P> {
+impl<T: Table> Table for Constraints<T> {
     ghost use Rattle.std.specs.Prelude.{codes};
     ghost use Rattle.x509_tool_table.specs.Table.{named, ◌otherwise◌};
 
@@ -27,7 +25,7 @@ impl<P: Profile> Table for Constraints<P> {
         named (codes "GeneralSubtree") ⟦<GeneralSubtree as Reencode>⟧.reencodes otherwise
         named (codes "IssuingDistributionPoint") ⟦<IssuingDistributionPoint as Reencode>⟧.reencodes otherwise
         named (codes "NameConstraints") ⟦<NameConstraints as Reencode>⟧.reencodes otherwise
-        ⟦<Policies<P> as Table>⟧.table };
+        T.table };
 
     fn reencode(alloc: Global, name: &str, bytes: &[u8]) -> Result<Vec<u8>, Error> {
         match name {
@@ -37,7 +35,7 @@ impl<P: Profile> Table for Constraints<P> {
             "GeneralSubtree" => GeneralSubtree::reencode_as(alloc, bytes),
             "IssuingDistributionPoint" => IssuingDistributionPoint::reencode_as(alloc, bytes),
             "NameConstraints" => NameConstraints::reencode_as(alloc, bytes),
-            _ => Policies::<P>::reencode(alloc, name, bytes),
+            _ => T::reencode(alloc, name, bytes),
         }
     }
 }

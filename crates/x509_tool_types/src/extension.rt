@@ -1,9 +1,7 @@
-//! Extensions and what is said of keys, and then names of many kinds.
+//! Extensions and what is said of keys, in front of another table.
 
-use crate::general_name::GeneralNameTypes;
 use std::alloc::Global;
 use std::marker::PhantomData;
-use x509_base_validity::Profile;
 use x509_der_grammar::Error;
 use x509_ext_frame::{Extension, Extensions};
 use x509_ext_key::{
@@ -11,13 +9,13 @@ use x509_ext_key::{
 };
 use x509_tool_table::{Reencode, Table};
 
-/// Extensions and what is said of keys, and then names of many kinds.
-pub struct Payloads<P> {
-    profile: PhantomData<P>,
+/// Extensions and what is said of keys, in front of another table.
+pub struct Payloads<T> {
+    rest: PhantomData<T>,
 }
 
 #[tactic(auto, using(x509_tool_table::proofs::Rows::is_found, x509_tool_table::proofs::Rows::is_passed))]
-impl<P: Profile> Table for Payloads<P> {
+impl<T: Table> Table for Payloads<T> {
     ghost use Rattle.std.specs.Prelude.{codes};
     ghost use Rattle.x509_tool_table.specs.Table.{named, ◌otherwise◌};
 
@@ -28,7 +26,7 @@ impl<P: Profile> Table for Payloads<P> {
         named (codes "KeyUsage") ⟦<KeyUsage as Reencode>⟧.reencodes otherwise
         named (codes "PrivateKeyUsagePeriod") ⟦<PrivateKeyUsagePeriod as Reencode>⟧.reencodes otherwise
         named (codes "SubjectKeyIdentifier") ⟦<SubjectKeyIdentifier as Reencode>⟧.reencodes otherwise
-        ⟦<GeneralNameTypes<P> as Table>⟧.table };
+        T.table };
 
     fn reencode(alloc: Global, name: &str, bytes: &[u8]) -> Result<Vec<u8>, Error> {
         match name {
@@ -39,7 +37,7 @@ impl<P: Profile> Table for Payloads<P> {
             "KeyUsage" => KeyUsage::reencode_as(alloc, bytes),
             "PrivateKeyUsagePeriod" => PrivateKeyUsagePeriod::reencode_as(alloc, bytes),
             "SubjectKeyIdentifier" => SubjectKeyIdentifier::reencode_as(alloc, bytes),
-            _ => GeneralNameTypes::<P>::reencode(alloc, name, bytes),
+            _ => T::reencode(alloc, name, bytes),
         }
     }
 }

@@ -1,22 +1,20 @@
-//! Names of many kinds, and then what is said of parties.
+//! Names of many kinds, in front of another table.
 
-use crate::party::Parties;
 use std::alloc::Global;
 use std::marker::PhantomData;
-use x509_base_validity::Profile;
 use x509_der_grammar::Error;
 use x509_ext_name::{
     DistributionPointName, EdiPartyName, GeneralName, GeneralNames, HardwareModuleName, OtherName,
 };
 use x509_tool_table::{Reencode, Table};
 
-/// Names of many kinds, and then what is said of parties.
-pub struct GeneralNameTypes<P> {
-    profile: PhantomData<P>,
+/// Names of many kinds, in front of another table.
+pub struct GeneralNameTypes<T> {
+    rest: PhantomData<T>,
 }
 
 #[tactic(auto, using(x509_tool_table::proofs::Rows::is_found, x509_tool_table::proofs::Rows::is_passed))]
-impl<P: Profile> Table for GeneralNameTypes<P> {
+impl<T: Table> Table for GeneralNameTypes<T> {
     ghost use Rattle.std.specs.Prelude.{codes};
     ghost use Rattle.x509_tool_table.specs.Table.{named, ◌otherwise◌};
 
@@ -26,7 +24,7 @@ impl<P: Profile> Table for GeneralNameTypes<P> {
         named (codes "GeneralNames") ⟦<GeneralNames as Reencode>⟧.reencodes otherwise
         named (codes "HardwareModuleName") ⟦<HardwareModuleName as Reencode>⟧.reencodes otherwise
         named (codes "OtherName") ⟦<OtherName as Reencode>⟧.reencodes otherwise
-        ⟦<Parties<P> as Table>⟧.table };
+        T.table };
 
     fn reencode(alloc: Global, name: &str, bytes: &[u8]) -> Result<Vec<u8>, Error> {
         match name {
@@ -36,7 +34,7 @@ impl<P: Profile> Table for GeneralNameTypes<P> {
             "GeneralNames" => GeneralNames::reencode_as(alloc, bytes),
             "HardwareModuleName" => HardwareModuleName::reencode_as(alloc, bytes),
             "OtherName" => OtherName::reencode_as(alloc, bytes),
-            _ => Parties::<P>::reencode(alloc, name, bytes),
+            _ => T::reencode(alloc, name, bytes),
         }
     }
 }

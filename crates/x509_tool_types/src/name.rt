@@ -1,25 +1,23 @@
-//! Attributes and names, and then extensions.
+//! Attributes and names, in front of another table.
 
 ghost use Rattle.x509_tool_types.specs.NameAnswers.{rdn_answers, rdn_sequence_answers};
 ghost use Rattle.x509_tool_table.specs.Table.{IsAmong};
 
-use crate::extension::Payloads;
 use std::alloc::Global;
 use std::marker::PhantomData;
-use x509_base_validity::Profile;
 use x509_der_grammar::Error;
 use x509_name_attribute::{Attribute, AttributeTypeAndValue};
 use x509_name_directory::DirectoryString;
 use x509_name_rdn::{Name, RdnSequence, RelativeDistinguishedName};
 use x509_tool_table::{Reencode, Table};
 
-/// Attributes and names, and then extensions.
-pub struct Names<P> {
-    profile: PhantomData<P>,
+/// Attributes and names, in front of another table.
+pub struct Names<T> {
+    rest: PhantomData<T>,
 }
 
 #[tactic(auto, using(x509_tool_table::proofs::Rows::is_found, x509_tool_table::proofs::Rows::is_passed))]
-impl<P: Profile> Table for Names<P> {
+impl<T: Table> Table for Names<T> {
     ghost use Rattle.std.specs.Prelude.{codes};
     ghost use Rattle.x509_tool_types.specs.NameAnswers.{rdn_answers, rdn_sequence_answers};
     ghost use Rattle.x509_tool_table.specs.Table.{named, ◌otherwise◌};
@@ -30,7 +28,7 @@ impl<P: Profile> Table for Names<P> {
         named (codes "Name") ⟦<Name as Reencode>⟧.reencodes otherwise
         named (codes "RdnSequence") rdn_sequence_answers otherwise
         named (codes "RelativeDistinguishedName") rdn_answers otherwise
-        ⟦<Payloads<P> as Table>⟧.table };
+        T.table };
 
     fn reencode(alloc: Global, name: &str, bytes: &[u8]) -> Result<Vec<u8>, Error> {
         match name {
@@ -40,7 +38,7 @@ impl<P: Profile> Table for Names<P> {
             "Name" => Name::reencode_as(alloc, bytes),
             "RdnSequence" => reencode_rdn_sequence(alloc, bytes),
             "RelativeDistinguishedName" => reencode_rdn(alloc, bytes),
-            _ => Payloads::<P>::reencode(alloc, name, bytes),
+            _ => T::reencode(alloc, name, bytes),
         }
     }
 }

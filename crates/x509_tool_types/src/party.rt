@@ -1,9 +1,7 @@
-//! What extensions say of the subject and of the issuer, and then lists of timestamps.
+//! What extensions say of the subject and of the issuer, in front of another table.
 
-use crate::timestamp::Timestamps;
 use std::alloc::Global;
 use std::marker::PhantomData;
-use x509_base_validity::Profile;
 use x509_der_grammar::Error;
 use x509_ext_party::{
     AccessDescription, AuthorityInfoAccessSyntax, AuthorityKeyIdentifier, IssuerAltName,
@@ -11,13 +9,13 @@ use x509_ext_party::{
 };
 use x509_tool_table::{Reencode, Table};
 
-/// What extensions say of the subject and of the issuer, and then lists of timestamps.
-pub struct Parties<P> {
-    profile: PhantomData<P>,
+/// What extensions say of the subject and of the issuer, in front of another table.
+pub struct Parties<T> {
+    rest: PhantomData<T>,
 }
 
 #[tactic(auto, using(x509_tool_table::proofs::Rows::is_found, x509_tool_table::proofs::Rows::is_passed))]
-impl<P: Profile> Table for Parties<P> {
+impl<T: Table> Table for Parties<T> {
     ghost use Rattle.std.specs.Prelude.{codes};
     ghost use Rattle.x509_tool_table.specs.Table.{named, ◌otherwise◌};
 
@@ -28,7 +26,7 @@ impl<P: Profile> Table for Parties<P> {
         named (codes "SubjectAltName") ⟦<SubjectAltName as Reencode>⟧.reencodes otherwise
         named (codes "SubjectDirectoryAttributes") ⟦<SubjectDirectoryAttributes as Reencode>⟧.reencodes otherwise
         named (codes "SubjectInfoAccessSyntax") ⟦<SubjectInfoAccessSyntax as Reencode>⟧.reencodes otherwise
-        ⟦<Timestamps<P> as Table>⟧.table };
+        T.table };
 
     fn reencode(alloc: Global, name: &str, bytes: &[u8]) -> Result<Vec<u8>, Error> {
         match name {
@@ -39,7 +37,7 @@ impl<P: Profile> Table for Parties<P> {
             "SubjectAltName" => SubjectAltName::reencode_as(alloc, bytes),
             "SubjectDirectoryAttributes" => SubjectDirectoryAttributes::reencode_as(alloc, bytes),
             "SubjectInfoAccessSyntax" => SubjectInfoAccessSyntax::reencode_as(alloc, bytes),
-            _ => Timestamps::<P>::reencode(alloc, name, bytes),
+            _ => T::reencode(alloc, name, bytes),
         }
     }
 }

@@ -1,9 +1,7 @@
-//! Policies, and then what lists of revoked certificates hold.
+//! Policies, in front of another table.
 
-use crate::revocation::Revocation;
 use std::alloc::Global;
 use std::marker::PhantomData;
-use x509_base_validity::Profile;
 use x509_der_grammar::Error;
 use x509_pkix_policy::{
     CertificatePolicies, DisplayText, InhibitAnyPolicy, NoticeReference, PolicyConstraints,
@@ -11,13 +9,13 @@ use x509_pkix_policy::{
 };
 use x509_tool_table::{Reencode, Table};
 
-/// Policies, and then what lists of revoked certificates hold.
-pub struct Policies<P> {
-    profile: PhantomData<P>,
+/// Policies, in front of another table.
+pub struct Policies<T> {
+    rest: PhantomData<T>,
 }
 
 #[tactic(auto, using(x509_tool_table::proofs::Rows::is_found, x509_tool_table::proofs::Rows::is_passed))]
-impl<P: Profile> Table for Policies<P> {
+impl<T: Table> Table for Policies<T> {
     ghost use Rattle.std.specs.Prelude.{codes};
     ghost use Rattle.x509_tool_table.specs.Table.{named, ◌otherwise◌};
 
@@ -31,7 +29,7 @@ impl<P: Profile> Table for Policies<P> {
         named (codes "PolicyMappings") ⟦<PolicyMappings as Reencode>⟧.reencodes otherwise
         named (codes "PolicyQualifierInfo") ⟦<PolicyQualifierInfo as Reencode>⟧.reencodes otherwise
         named (codes "UserNotice") ⟦<UserNotice as Reencode>⟧.reencodes otherwise
-        ⟦<Revocation<P> as Table>⟧.table };
+        T.table };
 
     fn reencode(alloc: Global, name: &str, bytes: &[u8]) -> Result<Vec<u8>, Error> {
         match name {
@@ -45,7 +43,7 @@ impl<P: Profile> Table for Policies<P> {
             "PolicyMappings" => PolicyMappings::reencode_as(alloc, bytes),
             "PolicyQualifierInfo" => PolicyQualifierInfo::reencode_as(alloc, bytes),
             "UserNotice" => UserNotice::reencode_as(alloc, bytes),
-            _ => Revocation::<P>::reencode(alloc, name, bytes),
+            _ => T::reencode(alloc, name, bytes),
         }
     }
 }

@@ -1,9 +1,7 @@
-//! The primitive types, and then those of certificates.
+//! The primitive types, in front of another table.
 
-use crate::base::Base;
 use std::alloc::Global;
 use std::marker::PhantomData;
-use x509_base_validity::Profile;
 use x509_der_frames::Any;
 use x509_der_grammar::Error;
 use x509_der_oid::ObjectIdentifier;
@@ -12,13 +10,13 @@ use x509_prim_string::{BitString, OctetString};
 use x509_prim_text::{BmpString, Ia5String, PrintableString, TeletexString, Utf8String};
 use x509_tool_table::{Reencode, Table};
 
-/// The primitive types, and then those of certificates.
-pub struct Primitives<P> {
-    profile: PhantomData<P>,
+/// The primitive types, in front of another table.
+pub struct Primitives<T> {
+    rest: PhantomData<T>,
 }
 
 #[tactic(auto, using(x509_tool_table::proofs::Rows::is_found, x509_tool_table::proofs::Rows::is_passed))]
-impl<P: Profile> Table for Primitives<P> {
+impl<T: Table> Table for Primitives<T> {
     ghost use Rattle.std.specs.Prelude.{codes};
     ghost use Rattle.x509_tool_table.specs.Table.{named, ◌otherwise◌};
 
@@ -33,7 +31,7 @@ impl<P: Profile> Table for Primitives<P> {
         named (codes "TeletexString") ⟦<TeletexString as Reencode>⟧.reencodes otherwise
         named (codes "Uint") ⟦<Uint as Reencode>⟧.reencodes otherwise
         named (codes "Utf8String") ⟦<Utf8String as Reencode>⟧.reencodes otherwise
-        ⟦<Base<P> as Table>⟧.table };
+        T.table };
 
     fn reencode(alloc: Global, name: &str, bytes: &[u8]) -> Result<Vec<u8>, Error> {
         match name {
@@ -48,7 +46,7 @@ impl<P: Profile> Table for Primitives<P> {
             "TeletexString" => TeletexString::reencode_as(alloc, bytes),
             "Uint" => Uint::reencode_as(alloc, bytes),
             "Utf8String" => Utf8String::reencode_as(alloc, bytes),
-            _ => Base::<P>::reencode(alloc, name, bytes),
+            _ => T::reencode(alloc, name, bytes),
         }
     }
 }

@@ -1,20 +1,18 @@
-//! What lists of revoked certificates hold, and then certificates.
+//! What lists of revoked certificates hold, in front of another table.
 
-use crate::certificate::Certificates;
 use std::alloc::Global;
 use std::marker::PhantomData;
-use x509_base_validity::Profile;
 use x509_der_grammar::Error;
 use x509_pkix_crl::{BaseCrlNumber, CrlNumber, CrlReason, Reasons};
 use x509_tool_table::{Reencode, Table};
 
-/// What lists of revoked certificates hold, and then certificates.
-pub struct Revocation<P> {
-    profile: PhantomData<P>,
+/// What lists of revoked certificates hold, in front of another table.
+pub struct Revocation<T> {
+    rest: PhantomData<T>,
 }
 
 #[tactic(auto, using(x509_tool_table::proofs::Rows::is_found, x509_tool_table::proofs::Rows::is_passed))]
-impl<P: Profile> Table for Revocation<P> {
+impl<T: Table> Table for Revocation<T> {
     ghost use Rattle.std.specs.Prelude.{codes};
     ghost use Rattle.x509_tool_table.specs.Table.{named, ◌otherwise◌};
 
@@ -22,7 +20,7 @@ impl<P: Profile> Table for Revocation<P> {
         named (codes "CrlNumber") ⟦<CrlNumber as Reencode>⟧.reencodes otherwise
         named (codes "CrlReason") ⟦<CrlReason as Reencode>⟧.reencodes otherwise
         named (codes "Reasons") ⟦<Reasons as Reencode>⟧.reencodes otherwise
-        ⟦<Certificates<P> as Table>⟧.table };
+        T.table };
 
     fn reencode(alloc: Global, name: &str, bytes: &[u8]) -> Result<Vec<u8>, Error> {
         match name {
@@ -30,7 +28,7 @@ impl<P: Profile> Table for Revocation<P> {
             "CrlNumber" => CrlNumber::reencode_as(alloc, bytes),
             "CrlReason" => CrlReason::reencode_as(alloc, bytes),
             "Reasons" => Reasons::reencode_as(alloc, bytes),
-            _ => Certificates::<P>::reencode(alloc, name, bytes),
+            _ => T::reencode(alloc, name, bytes),
         }
     }
 }

@@ -1,17 +1,34 @@
 //! The types of this library.
 
+use crate::anchor::Anchors;
+use crate::base::Base;
+use crate::certificate::Certificates;
+use crate::constraint::Constraints;
+use crate::extension::Payloads;
+use crate::general_name::GeneralNameTypes;
+use crate::name::Names;
+use crate::party::Parties;
+use crate::policy::Policies;
 use crate::primitive::Primitives;
+use crate::revocation::Revocation;
+use crate::timestamp::Timestamps;
 use std::alloc::Global;
 use x509_base_validity::{Raw, Rfc5280};
 use x509_der_grammar::{Decode, Error};
 use x509_name_rdn::{Name, RdnSequence};
 use x509_tool_run::{Codec, NameCodec, ProfileName};
-use x509_tool_table::ByProfile;
+use x509_tool_table::{ByProfile, Numbers};
 
 /// The types of this library.
 pub struct Types;
 
-type Tables = ByProfile<Primitives<Rfc5280>, Primitives<Raw>>;
+type Under<P> = Primitives<Base<P, Names<Payloads<GeneralNameTypes<Parties<Issued<P>>>>>>>;
+
+type Issued<P> = Timestamps<
+    Constraints<Policies<Revocation<Certificates<P, Anchors<P, Numbers>>>>>,
+>;
+
+type Tables = ByProfile<Under<Rfc5280>, Under<Raw>>;
 
 impl Codec for Types {
     ghost reencodes = { ⟦<Tables as Codec>⟧.reencodes };
