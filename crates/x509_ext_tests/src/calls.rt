@@ -1,5 +1,6 @@
 //! What the tests ask of each type.
 
+use x509_der_frames::SequenceOf;
 use x509_der_grammar::{Decode, Encode, Error, ErrorKind, TryClone};
 use x509_ext_frame::{Extension, ToExtension};
 use x509_name_rdn::Name;
@@ -12,6 +13,50 @@ pub(crate) fn stays<T: Decode + Encode + TryClone + PartialEq + Drop>(
     let value = T::from_der(rt.alloc(), bytes)?;
     let copy = value.try_clone(rt.alloc())?;
     Ok(copy == value && copy.to_der(rt.alloc())?.as_slice() == bytes)
+}
+
+/// Whether the value is written as these bytes.
+pub(crate) fn is_written<T: Encode + Drop>(
+    rt: &HostRuntime,
+    value: T,
+    bytes: &[u8],
+) -> Result<bool, Error> {
+    Ok(value.to_der(rt.alloc())?.as_slice() == bytes)
+}
+
+/// Whether the value holds what is given, and a copy equals it.
+pub(crate) fn holds<T, I>(rt: &HostRuntime, value: &T, inner: &I) -> Result<bool, Error>
+where
+    T: TryClone + PartialEq + AsRef<I> + Drop,
+    I: PartialEq,
+{
+    Ok(*value.as_ref() == *inner && value.try_clone(rt.alloc())? == *value)
+}
+
+/// What the value holds once it was given that, was taken out, put back and taken out again.
+pub(crate) fn replaced<T, I>(mut value: T, inner: I) -> I
+where
+    T: AsMut<I> + From<I> + Into<I> + Drop,
+    I: Drop,
+{
+    *value.as_mut() = inner;
+    T::from(value.into()).into()
+}
+
+/// Whether the bytes are a list of one, which can be emptied.
+pub(crate) fn is_list_of_one<T, I>(rt: &HostRuntime, bytes: &[u8]) -> Result<bool, Error>
+where
+    T: Decode
+        + AsRef<SequenceOf<I>>
+        + AsMut<SequenceOf<I>>
+        + From<SequenceOf<I>>
+        + Into<SequenceOf<I>>
+        + Drop,
+    I: Drop,
+{
+    let list = T::from_der(rt.alloc(), bytes)?;
+    let is_one = list.as_ref().len() == 1;
+    Ok(is_one && replaced(list, SequenceOf::new(rt.alloc())).is_empty())
 }
 
 /// Whether a call was refused so.

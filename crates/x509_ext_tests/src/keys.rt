@@ -1,6 +1,6 @@
 //! What is said of keys.
 
-use crate::calls::{is_refused, stays};
+use crate::calls::{holds, is_refused, replaced, stays};
 use bitflags::Flags;
 use std::test::*;
 use x509_base_key::SubjectPublicKeyInfo;
@@ -104,67 +104,76 @@ fn periods(rt: HostRuntime) -> Result<(), Fail> {
     Ok(())
 }
 
+/// The one purpose, put in by the reference.
+fn usage_of(rt: &HostRuntime, purpose: ObjectIdentifier) -> Result<ExtendedKeyUsage, Error> {
+    let mut usage = ExtendedKeyUsage(SequenceOf::new(rt.alloc()));
+    usage.as_mut().push(purpose)?;
+    Ok(usage)
+}
+
+/// Whether a copy of the usage equals it, and it has that purpose alone.
+fn is_usage_of(
+    rt: &HostRuntime,
+    usage: &ExtendedKeyUsage,
+    purpose: ObjectIdentifier,
+) -> Result<bool, Error> {
+    let is_alone = usage.as_ref().as_slice() == [purpose].as_slice();
+    Ok(is_alone && usage.try_clone(rt.alloc())? == *usage)
+}
+
 #[test]
 fn purposes(rt: HostRuntime) -> Result<(), Fail> {
     let signing = ObjectIdentifier::new("1.3.6.1.5.5.7.3.1")?;
-    let mut usage = ExtendedKeyUsage(SequenceOf::new(rt.alloc()));
-    usage.as_mut().push(signing)?;
-    assert!(rt; usage.as_ref().as_slice() == [signing].as_slice());
-    assert!(rt; usage.try_clone(rt.alloc())? == usage);
-    let taken: SequenceOf<ObjectIdentifier> = usage.into();
+    assert!(rt; is_usage_of(&rt, &usage_of(&rt, signing)?, signing)?);
+    let taken: SequenceOf<ObjectIdentifier> = usage_of(&rt, signing)?.into();
     assert!(rt; ExtendedKeyUsage::from(taken).0.len() == 1);
     Ok(())
 }
 
-/// The identifier of a key with these bits.
-fn identifier_of(rt: &HostRuntime, key: &[u8]) -> Result<SubjectKeyIdentifier, Error> {
+/// Whether the key with these bits has that identifier.
+fn is_identified(rt: &HostRuntime, key: &[u8], wanted: &[u8]) -> Result<bool, Error> {
     let key = SubjectPublicKeyInfo::from_der(rt.alloc(), key)?;
-    SubjectKeyIdentifier::from_key(rt.alloc(), key.owned_to_ref())
+    let found = SubjectKeyIdentifier::from_key(rt.alloc(), key.owned_to_ref())?;
+    Ok(found.0.as_bytes() == wanted)
 }
 
 /// FIPS 180-4's example of three octets, and the digest of none.
 #[test]
 fn identifiers_of_keys(rt: HostRuntime) -> Result<(), Fail> {
-    let three = identifier_of(
-        &rt,
-        &[
-            0x30, 0x0D, 0x30, 0x05, 0x06, 0x03, 0x2A, 0x03, 0x04, 0x03, 0x04, 0x00, 0x61, 0x62,
-            0x63,
-        ],
-    )?;
-    assert!(rt;
-        three.0.as_bytes()
-            == [
-                0xA9, 0x99, 0x3E, 0x36, 0x47, 0x06, 0x81, 0x6A, 0xBA, 0x3E, 0x25, 0x71, 0x78, 0x50,
-                0xC2, 0x6C, 0x9C, 0xD0, 0xD8, 0x9D
-            ]
-            .as_slice()
-    );
-    let none = identifier_of(
-        &rt,
-        &[
-            0x30, 0x0A, 0x30, 0x05, 0x06, 0x03, 0x2A, 0x03, 0x04, 0x03, 0x01, 0x00,
-        ],
-    )?;
-    assert!(rt;
-        none.0.as_bytes()
-            == [
-                0xDA, 0x39, 0xA3, 0xEE, 0x5E, 0x6B, 0x4B, 0x0D, 0x32, 0x55, 0xBF, 0xEF, 0x95, 0x60,
-                0x18, 0x90, 0xAF, 0xD8, 0x07, 0x09
-            ]
-            .as_slice()
-    );
+    let three = [
+        0x30, 0x0D, 0x30, 0x05, 0x06, 0x03, 0x2A, 0x03, 0x04, 0x03, 0x04, 0x00, 0x61, 0x62, 0x63,
+    ];
+    let of_three = [
+        0xA9, 0x99, 0x3E, 0x36, 0x47, 0x06, 0x81, 0x6A, 0xBA, 0x3E, 0x25, 0x71, 0x78, 0x50, 0xC2,
+        0x6C, 0x9C, 0xD0, 0xD8, 0x9D,
+    ];
+    assert!(rt; is_identified(&rt, &three, &of_three)?);
+    let none = [
+        0x30, 0x0A, 0x30, 0x05, 0x06, 0x03, 0x2A, 0x03, 0x04, 0x03, 0x01, 0x00,
+    ];
+    let of_none = [
+        0xDA, 0x39, 0xA3, 0xEE, 0x5E, 0x6B, 0x4B, 0x0D, 0x32, 0x55, 0xBF, 0xEF, 0x95, 0x60, 0x18,
+        0x90, 0xAF, 0xD8, 0x07, 0x09,
+    ];
+    assert!(rt; is_identified(&rt, &none, &of_none)?);
     Ok(())
+}
+
+/// The identifier of two octets.
+fn identifier(rt: &HostRuntime) -> Result<SubjectKeyIdentifier, Error> {
+    Ok(SubjectKeyIdentifier::from(OctetString::new(rt.alloc(), &[1, 2])?))
 }
 
 #[test]
 fn identifiers_within(rt: HostRuntime) -> Result<(), Fail> {
-    let octets = OctetString::new(rt.alloc(), &[1, 2])?;
-    let mut identifier = SubjectKeyIdentifier::from(octets);
-    assert!(rt; identifier.try_clone(rt.alloc())? == identifier);
-    *identifier.as_mut() = OctetString::new(rt.alloc(), &[3])?;
-    assert!(rt; identifier.as_ref().as_bytes() == [3].as_slice());
-    let taken: OctetString = identifier.into();
-    assert!(rt; taken.as_bytes() == [3].as_slice());
+    let two = OctetString::new(rt.alloc(), &[1, 2])?;
+    assert!(rt; holds(&rt, &identifier(&rt)?, &two)?);
+    Ok(())
+}
+
+#[test]
+fn identifiers_replaced(rt: HostRuntime) -> Result<(), Fail> {
+    let three = OctetString::new(rt.alloc(), &[3])?;
+    assert!(rt; replaced(identifier(&rt)?, three).as_bytes() == [3].as_slice());
     Ok(())
 }

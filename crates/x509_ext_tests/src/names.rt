@@ -1,14 +1,15 @@
 //! Names of many kinds.
 
-use crate::calls::{is_refused, stays};
+use crate::calls::{is_refused, is_written, stays};
 use std::test::*;
-use x509_der_grammar::{Decode, Encode, Error, ErrorKind};
+use x509_der_grammar::{Decode, Error, ErrorKind};
 use x509_der_oid::ObjectIdentifier;
 use x509_ext_name::{
     DistributionPointName, EdiPartyName, GeneralName, GeneralNames, HardwareModuleName,
     ID_ON_HARDWARE_MODULE_NAME, IpAddress, OtherName,
 };
 use x509_name_directory::DirectoryString;
+use x509_name_rdn::Name;
 use x509_prim_string::OctetString;
 use x509_prim_text::Utf8String;
 
@@ -73,8 +74,7 @@ fn no_names(rt: HostRuntime) {
 
 /// Whether the name of the address is written as these bytes.
 fn address_is(rt: &HostRuntime, address: IpAddress, bytes: &[u8]) -> Result<bool, Error> {
-    let name = GeneralName::from_ip(rt.alloc(), address)?;
-    Ok(name.to_der(rt.alloc())?.as_slice() == bytes)
+    is_written(rt, GeneralName::from_ip(rt.alloc(), address)?, bytes)
 }
 
 #[test]
@@ -97,11 +97,24 @@ const BAVARIA: &[u8] = &[
     0x69, 0x73, 0x74, 0x61, 0x61, 0x74, 0x20, 0x42, 0x61, 0x79, 0x65, 0x72, 0x6E,
 ];
 
+/// The name, where it is that of a directory.
+fn directory_name(name: &GeneralName) -> Option<&Name> {
+    match name {
+        GeneralName::DirectoryName(name) => Some(name),
+        _ => None,
+    }
+}
+
+/// Whether the name is printed so.
+fn prints(rt: &HostRuntime, name: &Name, text: &str) -> Result<bool, Error> {
+    Ok(name.to_string(rt.alloc())?.as_str() == text)
+}
+
 /// Whether the name is that of a directory, with this text.
 fn is_directory_name(rt: &HostRuntime, name: &GeneralName, text: &str) -> Result<bool, Error> {
-    match name {
-        GeneralName::DirectoryName(name) => Ok(name.to_string(rt.alloc())?.as_str() == text),
-        _ => Ok(false),
+    match directory_name(name) {
+        Some(name) => prints(rt, name, text),
+        None => Ok(false),
     }
 }
 
@@ -119,12 +132,21 @@ const USER: &[u8] = &[
     0x6D, 0x69, 0x6C,
 ];
 
+/// Whether the name's value is this text.
+fn has_value(rt: &HostRuntime, name: &OtherName, text: &str) -> Result<bool, Error> {
+    let found: Utf8String = name.value.decode_as(rt.alloc())?;
+    Ok(found.as_str() == text)
+}
+
+/// Whether the name is that of no module.
+fn is_of_no_module(rt: &HostRuntime, name: &OtherName) -> Result<bool, Error> {
+    Ok(HardwareModuleName::from_other_name(rt.alloc(), name)?.is_none())
+}
+
 #[test]
 fn a_name_of_another_kind(rt: HostRuntime) -> Result<(), Fail> {
     let user = OtherName::from_der(rt.alloc(), USER)?;
-    let text: Utf8String = user.value.decode_as(rt.alloc())?;
-    assert!(rt; text.as_str() == "Upn_214950130@mil");
-    assert!(rt; HardwareModuleName::from_other_name(rt.alloc(), &user)?.is_none());
+    assert!(rt; has_value(&rt, &user, "Upn_214950130@mil")? && is_of_no_module(&rt, &user)?);
     Ok(())
 }
 
@@ -147,15 +169,12 @@ fn is_found_again(rt: &HostRuntime) -> Result<bool, Error> {
 fn a_hardware_module(rt: HostRuntime) -> Result<(), Fail> {
     assert!(rt; ID_ON_HARDWARE_MODULE_NAME == ObjectIdentifier::new("1.3.6.1.5.5.7.8.4")?);
     assert!(rt; is_found_again(&rt)?);
+    let bytes = [
+        0x30, 0x16, 0x06, 0x08, 0x2B, 0x06, 0x01, 0x05, 0x05, 0x07, 0x08, 0x04, 0xA0, 0x0A, 0x30,
+        0x08, 0x06, 0x03, 0x2A, 0x03, 0x04, 0x04, 0x01, 0xAA,
+    ];
     let made = OtherName::from_hardware_module(rt.alloc(), &hardware(&rt)?)?;
-    assert!(rt;
-        made.to_der(rt.alloc())?.as_slice()
-            == [
-                0x30, 0x16, 0x06, 0x08, 0x2B, 0x06, 0x01, 0x05, 0x05, 0x07, 0x08, 0x04, 0xA0, 0x0A,
-                0x30, 0x08, 0x06, 0x03, 0x2A, 0x03, 0x04, 0x04, 0x01, 0xAA
-            ]
-            .as_slice()
-    );
+    assert!(rt; is_written(&rt, made, &bytes)?);
     Ok(())
 }
 
@@ -190,11 +209,19 @@ fn a_party(rt: HostRuntime) -> Result<(), Fail> {
     Ok(())
 }
 
+/// The text, where the string is a UTF8String.
+fn utf8_text(string: &DirectoryString) -> Option<&Utf8String> {
+    match string {
+        DirectoryString::Utf8String(found) => Some(found),
+        _ => None,
+    }
+}
+
 /// Whether the string is a UTF8String of this text.
 fn is_text(string: &DirectoryString, text: &str) -> bool {
-    match string {
-        DirectoryString::Utf8String(found) => found.as_str() == text,
-        _ => false,
+    match utf8_text(string) {
+        Some(found) => found.as_str() == text,
+        None => false,
     }
 }
 

@@ -1,10 +1,9 @@
 //! What is said of the subject and of the issuer.
 
-use crate::calls::{is_refused, made, stays};
+use crate::calls::{holds, is_list_of_one, is_refused, is_written, made, replaced, stays};
 use std::test::*;
 use x509_base_key::SubjectPublicKeyInfo;
-use x509_der_frames::SequenceOf;
-use x509_der_grammar::{Decode, Encode, Error, ErrorKind, TryClone};
+use x509_der_grammar::{Decode, Error, ErrorKind, TryClone};
 use x509_der_oid::{AssociatedOid, ObjectIdentifier};
 use x509_ext_frame::ToExtension;
 use x509_ext_name::{GeneralName, GeneralNames, IpAddress};
@@ -16,12 +15,19 @@ use x509_ext_party::{
 use x509_name_attribute::Attribute;
 use x509_name_rdn::Name;
 
-/// Whether the extension that is made of the names is critical under that subject.
+/// Whether the extension that is made under the subject is critical.
+fn is_critical_under<T: ToExtension>(
+    rt: &HostRuntime,
+    of: T,
+    subject: &Name,
+) -> Result<bool, Error> {
+    Ok(of.to_extension(rt.alloc(), subject, &[])?.critical)
+}
+
+/// Whether the extension that is made of no names is critical under the subject of that text.
 fn is_critical(rt: &HostRuntime, subject: &str) -> Result<bool, Error> {
-    let names = SubjectAltName::new(rt.alloc());
     let subject = Name::from_str(rt.alloc(), subject)?;
-    let extension = (&names).to_extension(rt.alloc(), &subject, &[])?;
-    Ok(extension.critical)
+    is_critical_under(rt, &SubjectAltName::new(rt.alloc()), &subject)
 }
 
 #[test]
@@ -75,23 +81,28 @@ fn address(rt: &HostRuntime) -> Result<GeneralNames, Error> {
     Ok(names)
 }
 
-#[test]
-fn names_within(rt: HostRuntime) -> Result<(), Fail> {
-    let mut names = SubjectAltName::from(address(&rt)?);
-    assert!(rt; names.try_clone(rt.alloc())? == names && *names.as_ref() == address(&rt)?);
-    *names.as_mut() = GeneralNames::new(rt.alloc());
-    let taken: GeneralNames = names.into();
-    assert!(rt; taken.is_empty());
-    Ok(())
+/// Whether names made of an address hold it.
+fn hold_an_address<T>(rt: &HostRuntime) -> Result<bool, Error>
+where
+    T: TryClone + PartialEq + AsRef<GeneralNames> + From<GeneralNames> + Drop,
+{
+    let names = T::from(address(rt)?);
+    holds(rt, &names, &address(rt)?)
+}
+
+/// Whether names made of an address can be emptied.
+fn are_emptied<T>(rt: &HostRuntime) -> Result<bool, Error>
+where
+    T: AsMut<GeneralNames> + From<GeneralNames> + Into<GeneralNames> + Drop,
+{
+    let names = T::from(address(rt)?);
+    Ok(replaced(names, GeneralNames::new(rt.alloc())).is_empty())
 }
 
 #[test]
-fn names_of_an_issuer_within(rt: HostRuntime) -> Result<(), Fail> {
-    let mut names = IssuerAltName::from(address(&rt)?);
-    assert!(rt; names.try_clone(rt.alloc())? == names && *names.as_ref() == address(&rt)?);
-    *names.as_mut() = GeneralNames::new(rt.alloc());
-    let taken: GeneralNames = names.into();
-    assert!(rt; taken.is_empty());
+fn names_within(rt: HostRuntime) -> Result<(), Fail> {
+    assert!(rt; hold_an_address::<SubjectAltName>(&rt)? && are_emptied::<SubjectAltName>(&rt)?);
+    assert!(rt; hold_an_address::<IssuerAltName>(&rt)? && are_emptied::<IssuerAltName>(&rt)?);
     Ok(())
 }
 
@@ -101,11 +112,7 @@ fn attributes_within(rt: HostRuntime) -> Result<(), Fail> {
         0x30, 0x09, 0x30, 0x07, 0x06, 0x03, 0x55, 0x04, 0x06, 0x31, 0x00,
     ];
     assert!(rt; stays::<SubjectDirectoryAttributes>(&rt, &bytes)?);
-    let mut attributes = SubjectDirectoryAttributes::from_der(rt.alloc(), &bytes)?;
-    assert!(rt; attributes.as_ref().len() == 1);
-    *attributes.as_mut() = SequenceOf::new(rt.alloc());
-    let taken: SequenceOf<Attribute> = attributes.into();
-    assert!(rt; SubjectDirectoryAttributes::from(taken).0.is_empty());
+    assert!(rt; is_list_of_one::<SubjectDirectoryAttributes, Attribute>(&rt, &bytes)?);
     Ok(())
 }
 
@@ -118,22 +125,9 @@ const ACCESS: &[u8] = &[
 #[test]
 fn accesses(rt: HostRuntime) -> Result<(), Fail> {
     assert!(rt; stays::<AuthorityInfoAccessSyntax>(&rt, ACCESS)?);
-    let mut access = AuthorityInfoAccessSyntax::from_der(rt.alloc(), ACCESS)?;
-    assert!(rt; access.as_ref().len() == 1);
-    *access.as_mut() = SequenceOf::new(rt.alloc());
-    let taken: SequenceOf<AccessDescription> = access.into();
-    assert!(rt; AuthorityInfoAccessSyntax::from(taken).0.is_empty());
-    Ok(())
-}
-
-#[test]
-fn accesses_of_a_subject(rt: HostRuntime) -> Result<(), Fail> {
+    assert!(rt; is_list_of_one::<AuthorityInfoAccessSyntax, AccessDescription>(&rt, ACCESS)?);
     assert!(rt; stays::<SubjectInfoAccessSyntax>(&rt, ACCESS)?);
-    let mut access = SubjectInfoAccessSyntax::from_der(rt.alloc(), ACCESS)?;
-    assert!(rt; access.as_ref().len() == 1);
-    *access.as_mut() = SequenceOf::new(rt.alloc());
-    let taken: SequenceOf<AccessDescription> = access.into();
-    assert!(rt; SubjectInfoAccessSyntax::from(taken).0.is_empty());
+    assert!(rt; is_list_of_one::<SubjectInfoAccessSyntax, AccessDescription>(&rt, ACCESS)?);
     Ok(())
 }
 
@@ -148,14 +142,11 @@ fn the_key_of_an_issuer(rt: HostRuntime) -> Result<(), Fail> {
         ],
     )?;
     let identifier = AuthorityKeyIdentifier::from_key(rt.alloc(), key.owned_to_ref())?;
-    assert!(rt;
-        identifier.to_der(rt.alloc())?.as_slice()
-            == [
-                0x30, 0x16, 0x80, 0x14, 0xA9, 0x99, 0x3E, 0x36, 0x47, 0x06, 0x81, 0x6A, 0xBA, 0x3E,
-                0x25, 0x71, 0x78, 0x50, 0xC2, 0x6C, 0x9C, 0xD0, 0xD8, 0x9D
-            ]
-            .as_slice()
-    );
+    let bytes = [
+        0x30, 0x16, 0x80, 0x14, 0xA9, 0x99, 0x3E, 0x36, 0x47, 0x06, 0x81, 0x6A, 0xBA, 0x3E, 0x25,
+        0x71, 0x78, 0x50, 0xC2, 0x6C, 0x9C, 0xD0, 0xD8, 0x9D,
+    ];
+    assert!(rt; is_written(&rt, identifier, &bytes)?);
     Ok(())
 }
 

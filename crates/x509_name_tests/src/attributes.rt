@@ -1,12 +1,12 @@
 //! Attributes: a type with a value, and a type with a set of values.
 
 use crate::calls::{hash_of, stays};
+use crate::names::organization;
 use std::cmp::Ordering;
 use std::test::*;
-use x509_der_grammar::{Decode, Encode, Error, FixedTag, Grammar, Tag};
-use x509_der_oid::ObjectIdentifier;
+use x509_der_grammar::{Decode, Encode, FixedTag, Grammar};
 use x509_der_order::{DerOrd, ValueOrd};
-use x509_name_attribute::{Attribute, AttributeTypeAndValue, AttributeValue, Attributes};
+use x509_name_attribute::{Attribute, AttributeTypeAndValue, Attributes};
 
 /// The common name JOHN SMITH, and the organization 123.
 const PAIRS: [&[u8]; 2] = [
@@ -26,14 +26,6 @@ fn rows(rt: HostRuntime) -> Result<(), Fail> {
     assert!(rt; stays::<AttributeTypeAndValue>(&rt, PAIRS[0])?);
     assert!(rt; stays::<Attribute>(&rt, ATTRIBUTES[0])?);
     Ok(())
-}
-
-/// The organization 123.
-fn organization(rt: &HostRuntime) -> Result<AttributeTypeAndValue, Error> {
-    Ok(AttributeTypeAndValue {
-        oid: ObjectIdentifier::new("2.5.4.10")?,
-        value: AttributeValue::new(rt.alloc(), Tag::Utf8String, b"123")?,
-    })
 }
 
 /// Whether the one stands before the other by its encoding, and after it by its content.

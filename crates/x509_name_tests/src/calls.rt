@@ -1,6 +1,6 @@
 //! What the tests ask of each type.
 
-use std::hash::{DefaultHasher, Hash, Hasher};
+use std::hash::{BuildHasher, BuildHasherDefault, DefaultHasher, Hash};
 use std::test::*;
 use x509_der_grammar::{Decode, Encode, Error, ErrorKind, TryClone};
 
@@ -17,9 +17,7 @@ pub(crate) fn stays<T: Decode + Encode + TryClone + PartialEq + Drop>(
 
 /// What the hasher gives of the value.
 pub(crate) fn hash_of<T: Hash>(value: &T) -> u64 {
-    let mut hasher = DefaultHasher::new();
-    value.hash(&mut hasher);
-    hasher.finish()
+    BuildHasherDefault::<DefaultHasher>::new().hash_one(value)
 }
 
 /// Whether a call was refused so.

@@ -8,7 +8,7 @@ use x509_name_attribute::AttributeTypeAndValue;
 use x509_name_directory::DirectoryString;
 use x509_name_rdn::attribute_types::{ORGANIZATION_NAME, ORGANIZATIONAL_UNIT_NAME};
 use x509_name_rdn::{Name, RelativeDistinguishedName};
-use x509_prim_text::{Ia5StringRef, TeletexStringRef, Utf8StringRef};
+use x509_prim_text::{Ia5StringRef, PrintableStringRef, TeletexStringRef, Utf8StringRef};
 
 /// ST=Ohio, L=Rome, OU=CA, OU=XY and the email address a@b.c.
 const PLACE: &[u8] =
@@ -25,21 +25,33 @@ fn is_text(found: Option<DirectoryString>, text: &str) -> bool {
     }
 }
 
+/// Whether the name has the common name and the organization, and no state.
+fn is_named(rt: &HostRuntime, name: &Name, common: &str, of: &str) -> Result<bool, Error> {
+    Ok(
+        is_text(name.common_name(rt.alloc())?, common)
+            && is_text(name.organization(rt.alloc())?, of)
+            && name.state_or_province(rt.alloc())?.is_none(),
+    )
+}
+
 #[test]
 fn names(rt: HostRuntime) -> Result<(), Fail> {
     let name = Name::from_der(rt.alloc(), NAME)?;
-    assert!(rt; is_text(name.common_name(rt.alloc())?, "Good CA"));
-    assert!(rt; is_text(name.organization(rt.alloc())?, "Test Certificates 2011"));
-    assert!(rt; name.state_or_province(rt.alloc())?.is_none());
+    assert!(rt; is_named(&rt, &name, "Good CA", "Test Certificates 2011")?);
     Ok(())
+}
+
+/// Whether there is the country.
+fn is_country(found: Option<PrintableStringRef<'_>>, text: &str) -> bool {
+    match found {
+        Some(country) => country.as_str() == text,
+        None => false,
+    }
 }
 
 /// Whether the country is US, and there is no email address.
 fn is_of_us(rt: &HostRuntime, name: &Name) -> Result<bool, Error> {
-    let Some(country) = name.country(rt.alloc())? else {
-        return Ok(false);
-    };
-    Ok(country.as_str() == "US" && name.email_address(rt.alloc())?.is_none())
+    Ok(is_country(name.country(rt.alloc())?, "US") && name.email_address(rt.alloc())?.is_none())
 }
 
 #[test]
@@ -58,35 +70,66 @@ fn is_address(found: Option<Ia5StringRef<'_>>, text: &str) -> bool {
     }
 }
 
+/// Whether the name has the state and the locality.
+fn is_in(rt: &HostRuntime, name: &Name, state: &str, locality: &str) -> Result<bool, Error> {
+    Ok(
+        is_text(name.state_or_province(rt.alloc())?, state)
+            && is_text(name.locality(rt.alloc())?, locality),
+    )
+}
+
+/// Whether the name has the unit and the address.
+fn is_of(rt: &HostRuntime, name: &Name, unit: &str, address: &str) -> Result<bool, Error> {
+    Ok(
+        is_text(name.organization_unit(rt.alloc())?, unit)
+            && is_address(name.email_address(rt.alloc())?, address),
+    )
+}
+
 #[test]
 fn places(rt: HostRuntime) -> Result<(), Fail> {
     let name = Name::from_der(rt.alloc(), PLACE)?;
-    assert!(rt; is_text(name.state_or_province(rt.alloc())?, "Ohio"));
-    assert!(rt; is_text(name.locality(rt.alloc())?, "Rome"));
-    assert!(rt; is_text(name.organization_unit(rt.alloc())?, "CA"));
-    assert!(rt; is_address(name.email_address(rt.alloc())?, "a@b.c"));
+    assert!(rt; is_in(&rt, &name, "Ohio", "Rome")? && is_of(&rt, &name, "CA", "a@b.c")?);
     Ok(())
 }
 
-/// Whether the first unit is CA as UTF8String, and no TeletexString.
-fn is_by_oid(rt: &HostRuntime, name: &Name) -> Result<bool, Error> {
-    let unit = name.by_oid::<Utf8StringRef>(rt.alloc(), ORGANIZATIONAL_UNIT_NAME)?;
-    let other = name.by_oid::<TeletexStringRef>(rt.alloc(), ORGANIZATIONAL_UNIT_NAME);
-    let none = name.by_oid::<DirectoryString>(rt.alloc(), ORGANIZATION_NAME)?;
-    let Some(unit) = unit else {
-        return Ok(false);
-    };
-    Ok(unit.as_str() == "CA" && is_refused(other, ErrorKind::Malformed) && none.is_none())
+/// Whether there is the unit.
+fn is_unit(found: Option<Utf8StringRef<'_>>, text: &str) -> bool {
+    match found {
+        Some(unit) => unit.as_str() == text,
+        None => false,
+    }
+}
+
+/// Whether the first unit is that one, as UTF8String.
+fn has_unit(rt: &HostRuntime, name: &Name, unit: &str) -> Result<bool, Error> {
+    let found = name.by_oid::<Utf8StringRef>(rt.alloc(), ORGANIZATIONAL_UNIT_NAME)?;
+    Ok(is_unit(found, unit))
+}
+
+/// Whether the first unit is no TeletexString.
+fn is_no_teletex(rt: &HostRuntime, name: &Name) -> bool {
+    let unit = name.by_oid::<TeletexStringRef>(rt.alloc(), ORGANIZATIONAL_UNIT_NAME);
+    is_refused(unit, ErrorKind::Malformed)
+}
+
+/// Whether there is no organization.
+fn is_of_none(rt: &HostRuntime, name: &Name) -> Result<bool, Error> {
+    let found = name.by_oid::<DirectoryString>(rt.alloc(), ORGANIZATION_NAME)?;
+    Ok(found.is_none())
 }
 
 #[test]
 fn by_oid(rt: HostRuntime) -> Result<(), Fail> {
-    assert!(rt; is_by_oid(&rt, &Name::from_der(rt.alloc(), PLACE)?)?);
+    let name = Name::from_der(rt.alloc(), PLACE)?;
+    assert!(rt;
+        has_unit(&rt, &name, "CA")? && is_no_teletex(&rt, &name) && is_of_none(&rt, &name)?
+    );
     Ok(())
 }
 
 /// Whether there is an attribute with the value.
-fn is_value(attribute: Option<&AttributeTypeAndValue>, value: &[u8]) -> bool {
+pub(crate) fn is_value(attribute: Option<&AttributeTypeAndValue>, value: &[u8]) -> bool {
     match attribute {
         Some(attribute) => attribute.value.value() == value,
         None => false,
@@ -103,14 +146,21 @@ fn has_one(rdn: Option<&RelativeDistinguishedName>, value: &[u8]) -> bool {
         && rdn.iter().len() == 1
 }
 
+/// Whether there are three, the first and the last with these values, from either end.
+fn has_ends(name: &Name, first: &[u8], last: &[u8]) -> bool {
+    let mut rdns = name.iter_rdn();
+    rdns.len() == 3
+        && has_one(rdns.next(), first)
+        && has_one(rdns.next_back(), last)
+        && rdns.size_hint() == (1, Some(1))
+        && rdns.next_back().is_some()
+        && rdns.next().is_none()
+        && rdns.next_back().is_none()
+}
+
 #[test]
 fn iterators(rt: HostRuntime) -> Result<(), Fail> {
     let name = Name::from_der(rt.alloc(), NAME)?;
-    let mut rdns = name.iter_rdn();
-    assert!(rt; rdns.len() == 3 && has_one(rdns.next(), b"US"));
-    assert!(rt; has_one(rdns.next_back(), b"Good CA"));
-    assert!(rt; rdns.size_hint() == (1, Some(1)) && rdns.next_back().is_some());
-    assert!(rt; rdns.next().is_none() && rdns.next_back().is_none());
-    assert!(rt; is_value(name.iter().last(), b"Good CA"));
+    assert!(rt; has_ends(&name, b"US", b"Good CA") && is_value(name.iter().last(), b"Good CA"));
     Ok(())
 }

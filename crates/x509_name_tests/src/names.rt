@@ -1,6 +1,7 @@
 //! Relative distinguished names, their sequences, and names.
 
-use crate::calls::{hash_of, stays};
+use crate::calls::{hash_of, is_refused, stays};
+use crate::look_ups::is_value;
 use std::test::*;
 use x509_der_grammar::{Decode, Encode, Error, ErrorKind, FixedTag, Grammar, Tag, TryClone};
 use x509_der_oid::ObjectIdentifier;
@@ -20,7 +21,16 @@ pub(crate) const NAME: &[u8] =
 #[test]
 fn rows(rt: HostRuntime) -> Result<(), Fail> {
     assert!(rt; stays::<RelativeDistinguishedName>(&rt, BOTH)?);
-    assert!(rt; stays::<RdnSequence>(&rt, NAME)? && stays::<Name>(&rt, NAME)?);
+    assert!(rt; stays::<Name>(&rt, NAME)?);
+    laws::bytes_determine_the_name();
+    Ok(())
+}
+
+#[test]
+fn rows_of_sequences(rt: HostRuntime) -> Result<(), Fail> {
+    assert!(rt; stays::<RdnSequence>(&rt, NAME)?);
+    assert!(rt; RdnSequence::TAG == Tag::Sequence);
+    assert!(rt; RdnSequence::is_start(0x30) && !RdnSequence::is_start(0x31));
     Ok(())
 }
 
@@ -35,7 +45,8 @@ fn person(rt: &HostRuntime) -> Result<AttributeTypeAndValue, Error> {
     attribute(rt, "2.5.4.3", b"JOHN SMITH")
 }
 
-fn organization(rt: &HostRuntime) -> Result<AttributeTypeAndValue, Error> {
+/// The organization 123.
+pub(crate) fn organization(rt: &HostRuntime) -> Result<AttributeTypeAndValue, Error> {
     attribute(rt, "2.5.4.10", b"123")
 }
 
@@ -51,22 +62,24 @@ fn inserted(
     Ok(rdn)
 }
 
-/// Whether the attribute is refused as one that is there.
-fn is_there(rdn: &mut RelativeDistinguishedName, attribute: AttributeTypeAndValue) -> bool {
-    match rdn.insert(attribute) {
-        Ok(()) => false,
-        Err(e) => e.kind() == ErrorKind::SetDuplicate,
-    }
+/// Whether the attribute is refused as one that is there, and the set after that.
+fn put_again(
+    mut rdn: RelativeDistinguishedName,
+    attribute: AttributeTypeAndValue,
+) -> (bool, RelativeDistinguishedName) {
+    let is_there = is_refused(rdn.insert(attribute), ErrorKind::SetDuplicate);
+    (is_there, rdn)
 }
 
 #[test]
 fn inserts_in_either_order(rt: HostRuntime) -> Result<(), Fail> {
     let up = inserted(&rt, person(&rt)?, organization(&rt)?)?;
-    let mut down = inserted(&rt, organization(&rt)?, person(&rt)?)?;
+    let down = inserted(&rt, organization(&rt)?, person(&rt)?)?;
     assert!(rt; up.to_der(rt.alloc())?.as_slice() == BOTH);
     assert!(rt; down.to_der(rt.alloc())?.as_slice() == BOTH);
     assert!(rt; up == down && hash_of(&up) == hash_of(&down));
-    assert!(rt; is_there(&mut down, person(&rt)?) && down == up);
+    let (is_there, same) = put_again(down, person(&rt)?);
+    assert!(rt; is_there && same == up);
     Ok(())
 }
 
@@ -79,13 +92,26 @@ fn both(rt: &HostRuntime) -> Result<RelativeDistinguishedName, Error> {
 }
 
 /// Whether there are two attributes, that one first.
+fn are_two(attributes: &[AttributeTypeAndValue], first: &AttributeTypeAndValue) -> bool {
+    match attributes {
+        [found, _] => found == first,
+        _ => false,
+    }
+}
+
+/// Whether two are counted, in each way.
+fn counts_two(rdn: &RelativeDistinguishedName) -> bool {
+    rdn.len() == 2 && !rdn.is_empty() && rdn.iter().count() == 2
+}
+
+/// Whether there is a second, and no third.
+fn ends_at_two(rdn: &RelativeDistinguishedName) -> bool {
+    rdn.get(1).is_some() && rdn.get(2).is_none()
+}
+
+/// Whether there are two attributes, that one first, in each way.
 fn has_two(rdn: &RelativeDistinguishedName, first: &AttributeTypeAndValue) -> bool {
-    rdn.len() == 2
-        && !rdn.is_empty()
-        && rdn.as_slice().first() == Some(first)
-        && rdn.get(1).is_some()
-        && rdn.get(2).is_none()
-        && rdn.iter().count() == 2
+    are_two(rdn.as_slice(), first) && counts_two(rdn) && ends_at_two(rdn)
 }
 
 #[test]
@@ -107,20 +133,49 @@ fn copies_of_an_rdn(rt: HostRuntime) -> Result<(), Fail> {
     Ok(())
 }
 
-#[test]
-fn sequences(rt: HostRuntime) -> Result<(), Fail> {
+/// The sequence of the one set.
+fn sequence(rt: &HostRuntime) -> Result<RdnSequence, Error> {
     let mut rdns = RdnSequence::new(rt.alloc());
     rdns.push(RelativeDistinguishedName::from_der(rt.alloc(), BOTH)?)?;
+    Ok(rdns)
+}
+
+/// Whether the sequences are the same, with what they hold and their hashes.
+fn are_same_sequences(copy: &DistinguishedName, rdns: &RdnSequence) -> bool {
+    rdns == copy && rdns.as_ref() == copy.as_ref() && hash_of(rdns) == hash_of(copy)
+}
+
+/// Whether there is one set.
+fn is_one(rdns: &RdnSequence) -> bool {
+    rdns.len() == 1 && !rdns.is_empty() && rdns.iter().count() == rdns.as_slice().len()
+}
+
+#[test]
+fn sequences(rt: HostRuntime) -> Result<(), Fail> {
+    let rdns = sequence(&rt)?;
     let copy: DistinguishedName = rdns.try_clone(rt.alloc())?;
-    assert!(rt; rdns == copy && hash_of(&rdns) == hash_of(&copy));
-    assert!(rt; rdns.len() == 1 && !rdns.is_empty());
-    assert_eq!(rt; rdns.iter().count(), rdns.as_slice().len());
-    assert!(rt; rdns.as_ref() == copy.as_ref());
+    assert!(rt; is_one(&rdns) && are_same_sequences(&copy, &rdns));
+    Ok(())
+}
+
+/// The sequence with an empty set behind.
+fn longer(rt: &HostRuntime, mut rdns: RdnSequence) -> Result<RdnSequence, Error> {
     rdns.as_mut()
         .push(RelativeDistinguishedName::new(rt.alloc()))?;
-    assert!(rt; rdns.len() == 2);
-    let taken: Vec<RelativeDistinguishedName> = copy.into();
-    assert!(rt; RdnSequence::from(taken).len() == 1 && rdns.into_vec().len() == 2);
+    Ok(rdns)
+}
+
+/// How many sets there are once they were taken out and put back, and how many are taken out.
+fn taken(rdns: RdnSequence) -> (usize, usize) {
+    let sets: Vec<RelativeDistinguishedName> = rdns.into();
+    let rdns = RdnSequence::from(sets);
+    (rdns.len(), rdns.into_vec().len())
+}
+
+#[test]
+fn longer_sequences(rt: HostRuntime) -> Result<(), Fail> {
+    assert!(rt; taken(sequence(&rt)?) == (1, 1));
+    assert!(rt; taken(longer(&rt, sequence(&rt)?)?) == (2, 2));
     Ok(())
 }
 
@@ -139,37 +194,47 @@ fn are_same(copy: &Name, name: &Name) -> bool {
     copy == name && copy.as_ref() == name.as_ref() && hash_of(copy) == hash_of(name)
 }
 
+/// The name of a copy of the name's sequence.
+fn copied(rt: &HostRuntime, name: &Name) -> Result<Name, Error> {
+    let rdns = RdnSequence::from(name.try_clone(rt.alloc())?);
+    Ok(Name::hazmat_from_rdn_sequence(rdns))
+}
+
 #[test]
 fn names(rt: HostRuntime) -> Result<(), Fail> {
     let name = Name::from_der(rt.alloc(), NAME)?;
     assert!(rt; are_apart(&Name::new(rt.alloc()), &name));
-    let mut copy = Name::hazmat_from_rdn_sequence(RdnSequence::from(name.try_clone(rt.alloc())?));
-    assert!(rt; are_same(&copy, &name));
-    copy.as_mut().push(both(&rt)?)?;
-    assert!(rt; copy.len() == 4);
+    assert!(rt; are_same(&copied(&rt, &name)?, &name));
     Ok(())
+}
+
+#[test]
+fn longer_names(rt: HostRuntime) -> Result<(), Fail> {
+    let mut name = Name::from_der(rt.alloc(), NAME)?;
+    name.as_mut().push(both(&rt)?)?;
+    assert!(rt; name.len() == 4);
+    Ok(())
+}
+
+/// Whether there are three attributes, the first and the last with these values.
+fn has_three(name: &Name, first: &[u8], last: &[u8]) -> bool {
+    let mut attributes = name.iter();
+    is_value(attributes.next(), first)
+        && attributes.next().is_some()
+        && is_value(attributes.next(), last)
+        && attributes.next().is_none()
 }
 
 #[test]
 fn attributes_of_a_name(rt: HostRuntime) -> Result<(), Fail> {
     let name = Name::from_der(rt.alloc(), NAME)?;
-    let mut values: Vec<&[u8]> = Vec::new(rt.alloc());
-    for attribute in name.iter() {
-        values.push(attribute.value.value())?;
-    }
-    assert_eq!(rt; values.len(), 3);
-    assert_eq!(rt; values[0], b"US".as_slice());
-    assert_eq!(rt; values[2], b"Good CA".as_slice());
+    assert!(rt; has_three(&name, b"US", b"Good CA"));
     Ok(())
 }
 
 #[test]
-fn identifiers(rt: HostRuntime) -> Result<(), Fail> {
+fn identifiers(rt: HostRuntime) {
+    assert!(rt; RelativeDistinguishedName::TAG == Tag::Set);
+    assert!(rt; Name::TAG == Name::new(rt.alloc()).identifier());
     assert!(rt; RelativeDistinguishedName::is_start(0x31) && Name::is_start(0x30));
-    assert!(rt; RdnSequence::is_start(0x30) && !RdnSequence::is_start(0x31));
-    assert_eq!(rt; RelativeDistinguishedName::TAG, Tag::Set);
-    assert_eq!(rt; RdnSequence::TAG, Tag::Sequence);
-    assert_eq!(rt; Name::TAG, Name::new(rt.alloc()).identifier());
-    laws::bytes_determine_the_name();
-    Ok(())
 }

@@ -189,19 +189,28 @@ fn words(alloc: Global, command: &str) -> Result<Vec<String>, AllocError> {
     Ok(words)
 }
 
-/// The status and the line of a run over an input.
-fn answer(alloc: Global, command: &str, input: &[u8]) -> Result<(u8, Vec<u8>), AllocError> {
-    let mut writer = FakeWriter::new(alloc);
+/// The status of a run over the reader and the writer.
+fn status_of<R: io::Read>(
+    alloc: Global,
+    command: &str,
+    reader: &mut R,
+    writer: &mut FakeWriter,
+) -> Result<u8, AllocError> {
     let words = words(alloc, command)?;
-    let mut reader = FakeReader::new(input);
-    let status = run::<Reversing, FakeReader, FakeWriter>(
-        alloc,
-        words.as_slice(),
-        &mut reader,
-        &mut writer,
-    );
-    let FakeWriter { taken, .. } = writer;
-    Ok((status, taken))
+    Ok(run::<Reversing, R, FakeWriter>(alloc, words.as_slice(), reader, writer))
+}
+
+/// Whether a run over the reader ends with the status and writes the line.
+fn answers<R: io::Read>(
+    alloc: Global,
+    command: &str,
+    reader: &mut R,
+    status: u8,
+    line: &[u8],
+) -> Result<bool, AllocError> {
+    let mut writer = FakeWriter::new(alloc);
+    let ended = status_of(alloc, command, reader, &mut writer)?;
+    Ok(ended == status && writer.taken.as_slice() == line)
 }
 
 const USAGE: &[u8] =
@@ -209,55 +218,44 @@ const USAGE: &[u8] =
 
 #[test]
 fn re_encodes_a_line(rt: HostRuntime) -> Result<(), Fail> {
-    let alloc = rt.alloc();
-    for (input, want) in [
+    for (input, line) in [
         (b"0abcDEf0".as_slice(), b"F0DEBC0A\n".as_slice()),
-        (b"0abcDEf0\n".as_slice(), b"F0DEBC0A\n".as_slice()),
-        (b"".as_slice(), b"\n".as_slice()),
-        (b"\n".as_slice(), b"\n".as_slice()),
+        (b"0abcDEf0\n", b"F0DEBC0A\n"),
+        (b"", b"\n"),
+        (b"\n", b"\n"),
     ] {
-        let (status, line) = answer(alloc, "reencode oid", input)?;
-        assert_eq!(rt; status, 0);
-        assert_eq!(rt; line.as_slice(), want);
+        let mut reader = FakeReader::new(input);
+        assert!(rt; answers(rt.alloc(), "reencode oid", &mut reader, 0, line)?);
     }
     Ok(())
 }
 
 #[test]
 fn refuses_a_line(rt: HostRuntime) -> Result<(), Fail> {
-    let alloc = rt.alloc();
-    for (input, want) in [
+    for (input, line) in [
         (b"060355040".as_slice(), b"refused: Failed\n".as_slice()),
-        (
-            b"0603550406\n\n".as_slice(),
-            b"refused: Failed\n".as_slice(),
-        ),
-        (
-            b"0603550406\r\n".as_slice(),
-            b"refused: Failed\n".as_slice(),
-        ),
-        (b" 0603550406".as_slice(), b"refused: Failed\n".as_slice()),
-        (b"\n\n".as_slice(), b"refused: Failed\n".as_slice()),
-        (b"0G".as_slice(), b"refused: Failed\n".as_slice()),
-        (b"\xFF\xFE".as_slice(), b"refused: Failed\n".as_slice()),
-        (b"01".as_slice(), b"refused: Memory\n".as_slice()),
-        (b"02".as_slice(), b"refused: Overlength\n".as_slice()),
-        (b"03".as_slice(), b"refused: Malformed\n".as_slice()),
-        (b"04".as_slice(), b"refused: Failed\n".as_slice()),
-        (b"05".as_slice(), b"refused: SetDuplicate\n".as_slice()),
-        (b"06".as_slice(), b"refused: Value\n".as_slice()),
+        (b"0603550406\n\n", b"refused: Failed\n"),
+        (b"0603550406\r\n", b"refused: Failed\n"),
+        (b" 0603550406", b"refused: Failed\n"),
+        (b"\n\n", b"refused: Failed\n"),
+        (b"0G", b"refused: Failed\n"),
+        (b"\xFF\xFE", b"refused: Failed\n"),
+        (b"01", b"refused: Memory\n"),
+        (b"02", b"refused: Overlength\n"),
+        (b"03", b"refused: Malformed\n"),
+        (b"04", b"refused: Failed\n"),
+        (b"05", b"refused: SetDuplicate\n"),
+        (b"06", b"refused: Value\n"),
     ] {
-        let (status, line) = answer(alloc, "reencode oid", input)?;
-        assert_eq!(rt; status, 1);
-        assert_eq!(rt; line.as_slice(), want);
+        let mut reader = FakeReader::new(input);
+        assert!(rt; answers(rt.alloc(), "reencode oid", &mut reader, 1, line)?);
     }
     Ok(())
 }
 
 #[test]
 fn prints_and_encodes_names(rt: HostRuntime) -> Result<(), Fail> {
-    let alloc = rt.alloc();
-    for (command, input, want_status, want) in [
+    for (command, input, status, line) in [
         ("name", b"0aBC\n".as_slice(), 0, b"bc0a\n".as_slice()),
         ("name", b"", 0, b"\n"),
         ("name", b"0a\n\n", 1, b"refused: Failed\n"),
@@ -269,30 +267,31 @@ fn prints_and_encodes_names(rt: HostRuntime) -> Result<(), Fail> {
         ("encode-name", b"jkl\xFF", 1, b"refused: Failed\n"),
         ("encode-name", b"\x05", 1, b"refused: SetDuplicate\n"),
     ] {
-        let (status, line) = answer(alloc, command, input)?;
-        assert_eq!(rt; status, want_status);
-        assert_eq!(rt; line.as_slice(), want);
+        let mut reader = FakeReader::new(input);
+        assert!(rt; answers(rt.alloc(), command, &mut reader, status, line)?);
     }
     Ok(())
 }
 
 #[test]
 fn takes_the_profile_of_the_words(rt: HostRuntime) -> Result<(), Fail> {
-    let alloc = rt.alloc();
-    for (command, want_status, want) in [
+    for (command, status, line) in [
         ("reencode oid", 1, b"refused: Malformed\n".as_slice()),
-        (
-            "reencode oid rfc5280",
-            1,
-            b"refused: Malformed\n".as_slice(),
-        ),
-        ("reencode oid raw", 0, b"0907\n".as_slice()),
+        ("reencode oid rfc5280", 1, b"refused: Malformed\n"),
+        ("reencode oid raw", 0, b"0907\n"),
     ] {
-        let (status, line) = answer(alloc, command, b"0709")?;
-        assert_eq!(rt; status, want_status);
-        assert_eq!(rt; line.as_slice(), want);
+        let mut reader = FakeReader::new(b"0709");
+        assert!(rt; answers(rt.alloc(), command, &mut reader, status, line)?);
     }
     Ok(())
+}
+
+/// Whether a run with the words reads nothing and says how the program is used.
+fn reads_nothing(alloc: Global, words: &[String]) -> bool {
+    let mut reader = FakeReader::failing(b"0603550406", 1, 1, io::ErrorKind::Other);
+    let mut writer = FakeWriter::new(alloc);
+    let status = run::<Reversing, FakeReader, FakeWriter>(alloc, words, &mut reader, &mut writer);
+    status == 2 && reader.reads == 0 && writer.taken.as_slice() == USAGE
 }
 
 #[test]
@@ -317,101 +316,97 @@ fn other_words_read_nothing(rt: HostRuntime) -> Result<(), Fail> {
         "encode-name raw",
         "path 2030-01-01T00:00:00Z",
     ] {
-        let words = words(alloc, command)?;
-        let mut reader = FakeReader::failing(b"0603550406", 1, 1, io::ErrorKind::Other);
-        let mut writer = FakeWriter::new(alloc);
-        let status = run::<Reversing, _, _>(alloc, words.as_slice(), &mut reader, &mut writer);
-        assert_eq!(rt; status, 2, "{command:?}");
-        assert_eq!(rt; reader.reads, 0);
-        assert_eq!(rt; writer.taken.as_slice(), USAGE);
+        assert!(rt;
+            reads_nothing(alloc, words(alloc, command)?.as_slice()),
+            "{command:?}"
+        );
     }
-    let mut reader = FakeReader::new(b"");
-    let mut writer = FakeWriter::new(alloc);
-    assert_eq!(rt;
-        run::<Reversing, _, _>(alloc, &[], &mut reader, &mut writer),
-        2
-    );
-    assert_eq!(rt; reader.reads, 0);
-    assert_eq!(rt; writer.taken.as_slice(), USAGE);
+    assert!(rt; reads_nothing(alloc, &[]));
     Ok(())
 }
 
 #[test]
 fn the_first_failing_read_ends_the_reading(rt: HostRuntime) -> Result<(), Fail> {
     let alloc = rt.alloc();
-    let words = words(alloc, "reencode oid")?;
     for kind in [io::ErrorKind::Other, io::ErrorKind::Interrupted] {
         // ten reads of a byte, and one that finds the end
         for failing in 1..12 {
             let mut reader = FakeReader::failing(b"0603550406", 1, failing, kind);
-            let mut writer = FakeWriter::new(alloc);
-            let status = run::<Reversing, FakeReader, FakeWriter>(
-                alloc,
-                words.as_slice(),
-                &mut reader,
-                &mut writer,
-            );
-            assert_eq!(rt; status, 1);
-            assert_eq!(rt; writer.taken.as_slice(), b"refused: Read\n".as_slice());
-            assert_eq!(rt; reader.reads, failing);
+            assert!(rt; answers(alloc, "reencode oid", &mut reader, 1, b"refused: Read\n")?);
+            assert!(rt; reader.reads == failing);
         }
     }
     let mut reader = FakeReader::failing(b"0803550406", 1, 12, io::ErrorKind::Other);
-    let mut writer = FakeWriter::new(alloc);
-    let status = run::<Reversing, FakeReader, FakeWriter>(
-        alloc,
-        words.as_slice(),
-        &mut reader,
-        &mut writer,
-    );
-    assert_eq!(rt; status, 0);
-    assert_eq!(rt; writer.taken.as_slice(), b"0604550308\n".as_slice());
-    assert_eq!(rt; reader.reads, 11);
+    assert!(rt; answers(alloc, "reencode oid", &mut reader, 0, b"0604550308\n")?);
+    assert!(rt; reader.reads == 11);
     Ok(())
+}
+
+/// A command with its input, and the status and the line that it ends with where the writer takes all.
+struct Row {
+    command: &'static str,
+    input: &'static [u8],
+    status: u8,
+    line: &'static [u8],
+}
+
+const ROWS: [Row; 3] = [
+    Row {
+        command: "reencode oid",
+        input: b"0807",
+        status: 0,
+        line: b"0708\n",
+    },
+    Row {
+        command: "reencode oid",
+        input: b"03",
+        status: 1,
+        line: b"refused: Malformed\n",
+    },
+    Row {
+        command: "names",
+        input: b"0807",
+        status: 2,
+        line: USAGE,
+    },
+];
+
+/// Whether a run of the row over the writer ends with the status, after so many writes that took that text.
+fn ends_with(
+    alloc: Global,
+    row: &Row,
+    mut writer: FakeWriter,
+    status: u8,
+    text: &[u8],
+    writes: usize,
+) -> Result<bool, AllocError> {
+    let mut reader = FakeReader::new(row.input);
+    let ended = status_of(alloc, row.command, &mut reader, &mut writer)?;
+    Ok(ended == status && writer.taken.as_slice() == text && writer.writes == writes)
+}
+
+/// Whether a run of the row ends at whichever write lapses, and takes the line where none does.
+fn ends_at_lapses(alloc: Global, row: &Row, lapse: Lapse) -> Result<bool, AllocError> {
+    let len = row.line.len();
+    for taken in 0..len {
+        let writer = FakeWriter::lapsing(alloc, 1, taken + 1, lapse);
+        if !ends_with(alloc, row, writer, 1, &row.line[..taken], taken + 1)? {
+            return Ok(false);
+        }
+    }
+    let writer = FakeWriter::lapsing(alloc, 1, len + 1, lapse);
+    ends_with(alloc, row, writer, row.status, row.line, len)
 }
 
 #[test]
 fn the_first_lapse_of_a_writer_ends_the_run(rt: HostRuntime) -> Result<(), Fail> {
-    let alloc = rt.alloc();
     for lapse in [
         Lapse::Fails(io::ErrorKind::Other),
         Lapse::Fails(io::ErrorKind::Interrupted),
         Lapse::TakesNothing,
     ] {
-        for (command, status, line) in [
-            ("reencode oid", 0, b"0708\n".as_slice()),
-            ("reencode oid", 1, b"refused: Malformed\n".as_slice()),
-            ("names", 2, USAGE),
-        ] {
-            let words = words(alloc, command)?;
-            let input = if status == 1 {
-                b"03".as_slice()
-            } else {
-                b"0807".as_slice()
-            };
-            for lapsing in 1..line.len() + 1 {
-                let mut reader = FakeReader::new(input);
-                let mut writer = FakeWriter::lapsing(alloc, 1, lapsing, lapse);
-                let ended = run::<Reversing, FakeReader, FakeWriter>(
-                    alloc,
-                    words.as_slice(),
-                    &mut reader,
-                    &mut writer,
-                );
-                assert_eq!(rt; ended, 1);
-                assert_eq!(rt; writer.writes, lapsing);
-                assert_eq!(rt; writer.taken.as_slice(), &line[..lapsing - 1]);
-            }
-            let mut reader = FakeReader::new(input);
-            let mut writer = FakeWriter::lapsing(alloc, 1, line.len() + 1, lapse);
-            let ended = run::<Reversing, FakeReader, FakeWriter>(
-                alloc,
-                words.as_slice(),
-                &mut reader,
-                &mut writer,
-            );
-            assert_eq!(rt; ended, status);
-            assert_eq!(rt; writer.taken.as_slice(), line);
+        for row in &ROWS {
+            assert!(rt; ends_at_lapses(rt.alloc(), row, lapse)?);
         }
     }
     Ok(())
@@ -419,54 +414,40 @@ fn the_first_lapse_of_a_writer_ends_the_run(rt: HostRuntime) -> Result<(), Fail>
 
 #[test]
 fn an_input_that_never_ends_is_too_long(rt: HostRuntime) -> Result<(), Fail> {
-    let alloc = rt.alloc();
-    let words = words(alloc, "reencode oid")?;
     for (at_a_time, most) in [(1, 16_777_217), (4096, 4097)] {
         let mut reader = Endless {
             at_a_time,
             reads: 0,
         };
-        let mut writer = FakeWriter::new(alloc);
-        let status = run::<Reversing, _, _>(alloc, words.as_slice(), &mut reader, &mut writer);
-        assert_eq!(rt; status, 1);
-        assert_eq!(rt;
-            writer.taken.as_slice(),
-            b"refused: Overlength\n".as_slice()
-        );
-        assert_eq!(rt; reader.reads, most);
+        let line = b"refused: Overlength\n";
+        assert!(rt; answers(rt.alloc(), "reencode oid", &mut reader, 1, line)?);
+        assert!(rt; reader.reads == most);
     }
     Ok(())
 }
 
+/// Whether a run over the input ends with the status, and the line has that length.
+fn has_length(alloc: Global, input: &[u8], status: u8, len: usize) -> Result<bool, AllocError> {
+    let mut reader = FakeReader::new(input);
+    let mut writer = FakeWriter::new(alloc);
+    let ended = status_of(alloc, "reencode oid", &mut reader, &mut writer)?;
+    Ok(ended == status && writer.taken.len() == len)
+}
+
 #[test]
 fn an_input_may_be_as_long_as_the_limit(rt: HostRuntime) -> Result<(), Fail> {
-    let alloc = rt.alloc();
-    let words = words(alloc, "reencode oid")?;
-    let mut input = vec![in alloc; b'8'; 16_777_216]?;
-    let mut reader = FakeReader::new(input.as_slice());
-    let mut writer = FakeWriter::new(alloc);
-    let status = run::<Reversing, FakeReader, FakeWriter>(
-        alloc,
-        words.as_slice(),
-        &mut reader,
-        &mut writer,
-    );
-    assert_eq!(rt; status, 0);
-    assert_eq!(rt; writer.taken.len(), 16_777_217);
-    // the final line feed counts
+    let input = vec![in rt.alloc(); b'8'; 16_777_216]?;
+    assert!(rt; has_length(rt.alloc(), input.as_slice(), 0, 16_777_217)?);
+    Ok(())
+}
+
+/// The final line feed counts.
+#[test]
+fn an_input_may_not_be_longer_than_the_limit(rt: HostRuntime) -> Result<(), Fail> {
+    let mut input = vec![in rt.alloc(); b'8'; 16_777_216]?;
     input.push(b'\n')?;
     let mut reader = FakeReader::new(input.as_slice());
-    let mut writer = FakeWriter::new(alloc);
-    let status = run::<Reversing, FakeReader, FakeWriter>(
-        alloc,
-        words.as_slice(),
-        &mut reader,
-        &mut writer,
-    );
-    assert_eq!(rt; status, 1);
-    assert_eq!(rt;
-        writer.taken.as_slice(),
-        b"refused: Overlength\n".as_slice()
-    );
+    let line = b"refused: Overlength\n";
+    assert!(rt; answers(rt.alloc(), "reencode oid", &mut reader, 1, line)?);
     Ok(())
 }
