@@ -3,6 +3,6 @@
 
 pub use x509_base_time::laws::date_times_are_in_order_of_time;
 pub use x509_base_validity::laws::{
-    dates_are_written_once, equality_is_exact, raw_dates_stay, rfc5280_dates,
-    rfc5280_dates_are_written_once,
+    dates_are_written_once, equality_is_exact, raw_dates_are_written_once, raw_dates_stay,
+    rfc5280_dates, rfc5280_dates_are_written_once,
 };

@@ -4,7 +4,8 @@ use Rattle.std.specs.Fmt.{digit_glyph}
 use Rattle.std.specs.List.{join_with_byte}
 use Rattle.x509_der_element.specs.declared.error.ErrorKind.{ErrorKind}
 use Rattle.x509_der_element.specs.declared.tag.Tag.TheVariants as tags
-use Rattle.x509_der_grammar.specs.Form.{Form, Contents, IsContents, universal}
+use Rattle.x509_der_grammar.specs.Form.{Form, IsForm, Contents, IsContents, universal}
+use Rattle.x509_der_grammar.specs.FormLaws.{universal_lawful}
 use Rattle.x509_prim_integer.specs.Integer.{integer_contents, with_sign, without_zeros}
 use Rattle.x509_prim_integer.specs.IntegerLaws.{integer_contents_lawful}
 use Rattle.x509_base_serial.specs.Checked.{checked, CheckRefuses, checked_lawful}
@@ -20,6 +21,9 @@ serial_number_contents_lawful check = checked_lawful check integer_contents inte
 
 abbrev pub serial_number : (List ℕ → Result Unit ErrorKind) → Form (List ℕ)
 serial_number check = universal tags.Integer (serial_number_contents check)
+
+pub serial_number_lawful : (check : List ℕ → Result Unit ErrorKind) → IsForm (CheckRefuses check) (serial_number check)
+serial_number_lawful check = universal_lawful tags.Integer (serial_number_contents check) (serial_number_contents_lawful check)
 
 -- ---- numbers
 

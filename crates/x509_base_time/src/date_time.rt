@@ -56,6 +56,7 @@ impl DateTime {
     ///
     /// `Value` where the calendar or a clock has no such date-time, or the year is not from 1970 to
     /// 9999.
+    #[inline(always)]
     pub fn new(
         year: u16,
         month: u8,
@@ -229,6 +230,7 @@ impl DateTime {
 
 /// The date-time of a year whose month, day, hour, minutes and seconds stand from a place on, as two
 /// digits each.
+#[inline(always)]
 pub(crate) fn from_month(year: u16, bytes: &[u8], place: usize) -> Result<DateTime, Error>
     requires { place + 9 < length bytes.now }
     ensures succeeds { IsOk result ↔ IsDateTime (time_from_month year bytes.now place) }

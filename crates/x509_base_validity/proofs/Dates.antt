@@ -50,6 +50,12 @@ rfc5280_once t u g e =
     let kept = rfc5280_kept t g in
     subst (λ (v : Time). time.good v × (spelled v ≡ Ok v)) same (kept.0, ap (λ (v : Time). Ok v) kept.1)
 
+abbrev as_it_is : Time → Result Time ErrorKind
+as_it_is t = Ok t
+
+pub raw_once : (t u : Time) → time.good t → as_it_is t ≡ Ok u → time.good u × (as_it_is u ≡ Ok u)
+raw_once t u g e = (subst time.good (ok_is t u e) g, refl)
+
 -- 9999-12-31T23:59:59Z
 pub last_second : unix_seconds last_date_time ≡ 253_402_300_799
 unfolding unix_seconds days_of_years days_of_months

@@ -36,6 +36,11 @@ pub fn rfc5280_dates_are_written_once()
     ensures { IsStable validity.good ⟦<Validity<Rfc5280> as Encode>⟧.writing }
 {}
 
+/// So it is under [`Raw`], which spells each date as it is.
+pub fn raw_dates_are_written_once()
+    ensures { IsStable validity.good ⟦<Validity<Raw> as Encode>⟧.writing }
+{}
+
 /// `==` holds exactly of equal values: a time in the one spelling is not the same in the other.
 pub fn equality_is_exact<P: Profile>()
     ensures times { (a b : Time) → (⟦<Time as PartialEq>⟧.eq a b ≡ true) ↔ (a ≡ b) }

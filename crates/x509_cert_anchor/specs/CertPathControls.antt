@@ -7,41 +7,23 @@ use Rattle.x509_cert_certificate.specs.declared.certificate.CertificateInner.{Ce
 use Rattle.x509_der_element.specs.declared.error.ErrorKind.{ErrorKind}
 use Rattle.x509_der_element.specs.declared.tag.Tag.TheVariants.{Sequence}
 use Rattle.x509_der_frames.specs.Frames.{Part, required, optional, implicit, ◌⊗◌, fields, fields_good}
-use Rattle.x509_der_frames.specs.List.{list_of}
-use Rattle.x509_der_frames.specs.ListLaws.{list_lawful}
 use Rattle.x509_der_frames.specs.PartRules.{part_rules}
 use Rattle.x509_der_grammar.specs.Form.{Form, IsForm, Contents, IsContents, universal}
 use Rattle.x509_der_grammar.specs.FormLaws.{universal_lawful}
 use Rattle.x509_der_grammar.specs.Natural.{natural}
-use Rattle.x509_der_grammar.specs.Round.{Round, rounded, rounded_lawful}
 use Rattle.x509_der_grammar.specs.StableLaws.{in_option_stable}
 use Rattle.x509_der_grammar.specs.Writing.{Writing, in_option, IsStable}
 use Rattle.x509_name_attribute.specs.declared.type_and_value.AttributeTypeAndValue.{AttributeTypeAndValue}
 use Rattle.x509_name_rdn.specs.Names.{name, rdn_sequence_lawful}
 use Rattle.x509_pkix_constraints.specs.NameConstraints.{name_constraints, name_constraints_lawful}
 use Rattle.x509_pkix_constraints.specs.declared.name_constraints.NameConstraints.{NameConstraints}
-use Rattle.x509_pkix_policy.specs.PolicyInformation.{policy_information, policy_information_lawful}
+use Rattle.x509_pkix_policy.specs.CertificatePolicies.{certificate_policies, certificate_policies_lawful}
 use Rattle.x509_pkix_policy.specs.declared.certificate_policies.CertificatePolicies.{CertificatePolicies}
-use Rattle.x509_pkix_policy.specs.declared.policy_information.PolicyInformation.{PolicyInformation}
 use Rattle.x509_prim_flags.specs.NamedBits.{flag_writing}
 use Rattle.x509_cert_anchor.specs.CertPolicies.{cert_policies, cert_policies_lawful, cert_policies_set, cert_policies_names, cert_policies_stable}
 use Rattle.x509_cert_anchor.specs.TwoFields.{with_two_fields, with_two_fields_stable}
 use Rattle.x509_cert_anchor.specs.declared.cert_path_controls.CertPathControls.{CertPathControls}
 use Rattle.x509_cert_anchor.specs.declared.cert_policies.CertPolicies.{CertPolicies}
-
--- ---- policies
-
-abbrev policies_round : Round CertificatePolicies (List PolicyInformation)
-policies_round = record { to = λ policies. policies.0; from = λ information. record { 0 = information }; back = λ policies. refl; there = λ information. refl }
-
-abbrev policies : Form (List PolicyInformation)
-policies = universal Sequence (list_of policy_information)
-
-abbrev pub certificate_policies : Form CertificatePolicies
-certificate_policies = rounded policies_round Sequence policies
-
-certificate_policies_lawful : {R : ErrorKind → Type 0} → IsForm R certificate_policies
-certificate_policies_lawful = rounded_lawful policies_round Sequence policies (λ v. refl) (universal_lawful Sequence _ (list_lawful policy_information policy_information_lawful))
 
 -- ---- the grammar
 

@@ -4,3 +4,4 @@ pub mod TwoFields
 pub mod CertPathControls
 pub mod TrustAnchorInfo
 pub mod TrustAnchorChoice
+pub mod Respelling

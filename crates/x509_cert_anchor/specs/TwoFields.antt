@@ -1,5 +1,5 @@
 -- What is written of a struct two fields of which are written by functions of their own.
-use Rattle.std.specs.Prelude.{◌≡◌, refl}
+use Rattle.std.specs.Prelude.{◌≡◌, None, refl}
 use Rattle.x509_der_grammar.specs.StableLaws.{first_none}
 use Rattle.x509_der_grammar.specs.Writing.{Writing, respelling, writes, first, IsStable}
 
@@ -30,3 +30,9 @@ with_two_fields_stable get_earlier get_later put earlier later got_earlier got_l
       let z = (writes later (get_later x)).value in
       rw (got_earlier x y z, got_later x y z, earlier_stable.again (get_earlier x) (earlier_field x g) each.1, later_stable.again (get_later x) (later_field x g) each.0, last x y y z z) refl;
 }
+
+-- where each of the two fields is written as it is, so is the struct
+pub with_two_fields_stays : {X Y Z : Type 0} (get_earlier : X → Y) (get_later : X → Z) (put : X → Y → Z → X) (earlier : Writing Y) (later : Writing Z) (x : X)
+    → writes earlier (get_earlier x) ≡ record { value = get_earlier x; refusal = None } → writes later (get_later x) ≡ record { value = get_later x; refusal = None }
+    → put x (get_earlier x) (get_later x) ≡ x → writes (with_two_fields get_earlier get_later put earlier later) x ≡ record { value = x; refusal = None }
+with_two_fields_stays get_earlier get_later put earlier later x earlier_stays later_stays same = rw (earlier_stays, later_stays, same) refl

@@ -1,12 +1,11 @@
 -- What is written of certificates, of their signed parts and of lists of certificates.
-use Rattle.std.proofs.Common.{◌≡◌, ℕ, List, [], ◌∷◌, None, Result, Ok, refl, sym, ◌∙◌}
+use Rattle.std.proofs.Common.{◌≡◌, ℕ, List, [], ◌∷◌, None, Result, Ok, refl}
 use Rattle.x509_der_element.specs.declared.error.ErrorKind.{ErrorKind}
 use Rattle.x509_der_element.specs.declared.tag.Tag.TheVariants.{Sequence}
-use Rattle.x509_der_element.specs.OutcomeLaws.{ok_is}
-use Rattle.x509_der_grammar.specs.Form.{Form, IsForm, spelling, universal}
+use Rattle.x509_der_grammar.specs.Form.{universal}
 use Rattle.x509_der_grammar.specs.FormLaws.{universal_lawful}
-use Rattle.x509_der_grammar.specs.SpellingLaws.{read_value}
-use Rattle.x509_der_grammar.specs.Writing.{Written, Writing, plain, respelling, writes, IsStable}
+use Rattle.x509_der_grammar.specs.StableLaws.{spelled_alike}
+use Rattle.x509_der_grammar.specs.Writing.{Written, Writing, plain, respelling, IsStable, RespellsAlike}
 use Rattle.x509_der_frames.specs.Frames.{fields_octets}
 use Rattle.x509_der_frames.specs.List.{list_of, members_value, members_refusal, members_writing}
 use Rattle.x509_der_frames.specs.ListLaws.{list_lawful}
@@ -15,21 +14,7 @@ use Rattle.x509_base_validity.specs.Validity.{validity, respelled_validity}
 use Rattle.x509_base_validity.specs.declared.validity.Validity.{Validity}
 use Rattle.x509_cert_certificate.specs.TbsCertificate.{tbs_certificate, tbs_certificate_fields, tbs_certificate_lawful, tbs_certificate_writing, tbs_certificate_stable}
 use Rattle.x509_cert_certificate.specs.Certificate.{certificate, certificate_fields, certificate_lawful, certificate_writing, certificate_stable}
-use Rattle.x509_cert_certificate.specs.Respelling.{RespellsAlike, Stays, no_check, any_tbs_certificate, any_certificate, any_certificates}
-
--- ---- any form
-
--- no two values have one spelling
-one_spelled : {X : Type 0} {R : ErrorKind → Type 0} (f : Form X) → IsForm R f → (v w : X) → f.good v → f.good w → spelling f v ≡ spelling f w → v ≡ w
-one_spelled f h v w g k e = ok_is v w (sym (h.complete v g) ∙ read_value f h (f.tag v) (f.content v) w k e)
-
-pub respells_alike : {X : Type 0} {R : ErrorKind → Type 0} (f : Form X) → IsForm R f → (writing : Writing X) → IsStable f.good writing → RespellsAlike f f.good writing
-respells_alike f h writing stable v w g k free clear e = one_spelled f h _ _ (stable.kept v g free) (stable.kept w k clear) e
-
--- the same of a form that spells each value so
-same_spelling : {X : Type 0} {R : ErrorKind → Type 0} (f g : Form X) → IsForm R g → ((v : X) → spelling f v ≡ spelling g v) → (writing : Writing X) → IsStable g.good writing → RespellsAlike f g.good writing
-same_spelling f g h same writing stable v w a b free clear e =
-    respells_alike g h writing stable v w a b free clear (sym (same (writes writing v).value) ∙ e ∙ same (writes writing w).value)
+use Rattle.x509_cert_certificate.specs.Respelling.{Stays, no_check, any_tbs_certificate, any_certificate, any_certificates}
 
 -- ---- members that stay as they are
 
@@ -52,7 +37,7 @@ module _ {P : Type 0} (check : List ℕ → Result Unit ErrorKind) (writing : Wr
   pub tbs_certificates_alike : RespellsAlike (tbs_certificate check) (any_tbs_certificate {P = P}).good (tbs_certificate_writing writing)
   unfolding fields_octets tbs_certificate_fields
   tbs_certificates_alike =
-      same_spelling (tbs_certificate check) any_tbs_certificate (tbs_certificate_lawful no_check) (λ v. refl) (tbs_certificate_writing writing) (tbs_certificate_stable no_check writing stable)
+      spelled_alike (tbs_certificate check) any_tbs_certificate (tbs_certificate_lawful no_check) (λ v. refl) (tbs_certificate_writing writing) (tbs_certificate_stable no_check writing stable)
 
   whole_stable : IsStable (any_certificate {P = P}).good (certificate_writing (tbs_certificate_writing writing))
   whole_stable = certificate_stable no_check (tbs_certificate_writing writing) (tbs_certificate_stable no_check writing stable)
@@ -60,10 +45,10 @@ module _ {P : Type 0} (check : List ℕ → Result Unit ErrorKind) (writing : Wr
   pub certificates_alike : RespellsAlike (certificate check) (any_certificate {P = P}).good (certificate_writing (tbs_certificate_writing writing))
   unfolding fields_octets certificate_fields tbs_certificate_fields
   certificates_alike =
-      same_spelling (certificate check) any_certificate (certificate_lawful no_check) (λ v. refl) (certificate_writing (tbs_certificate_writing writing)) whole_stable
+      spelled_alike (certificate check) any_certificate (certificate_lawful no_check) (λ v. refl) (certificate_writing (tbs_certificate_writing writing)) whole_stable
 
   pub lists_alike : RespellsAlike (universal Sequence (list_of (certificate check))) (any_certificates {P = P}).good (members_writing (certificate_writing (tbs_certificate_writing writing)))
   unfolding fields_octets certificate_fields tbs_certificate_fields
   lists_alike =
-      same_spelling (universal Sequence (list_of (certificate check))) any_certificates (universal_lawful Sequence (list_of any_certificate) (list_lawful any_certificate (certificate_lawful no_check))) (λ v. refl)
+      spelled_alike (universal Sequence (list_of (certificate check))) any_certificates (universal_lawful Sequence (list_of any_certificate) (list_lawful any_certificate (certificate_lawful no_check))) (λ v. refl)
       (members_writing (certificate_writing (tbs_certificate_writing writing))) (members_stable (certificate_writing (tbs_certificate_writing writing)) whole_stable)

@@ -3,7 +3,7 @@ use Rattle.std.specs.Prelude.{◌≡◌, ℕ, List, None, Result, Ok}
 use Rattle.x509_der_element.specs.declared.error.ErrorKind.{ErrorKind}
 use Rattle.x509_der_element.specs.declared.tag.Tag.TheVariants.{Sequence}
 use Rattle.x509_der_grammar.specs.Form.{Form, universal}
-use Rattle.x509_der_grammar.specs.Writing.{Writing, writes, written_spelling}
+use Rattle.x509_der_grammar.specs.Writing.{Writing, writes}
 use Rattle.x509_der_frames.specs.List.{list_of}
 use Rattle.x509_base_validity.specs.Profiles.{rfc5280_time}
 use Rattle.x509_base_validity.specs.declared.validity.Validity.{Validity}
@@ -11,12 +11,6 @@ use Rattle.x509_cert_certificate.specs.TbsCertificate.{tbs_certificate}
 use Rattle.x509_cert_certificate.specs.Certificate.{certificate}
 use Rattle.x509_cert_certificate.specs.declared.certificate.CertificateInner.{CertificateInner}
 use Rattle.x509_cert_certificate.specs.declared.tbs_certificate.TbsCertificateInner.{TbsCertificateInner}
-
--- of two good values that are written, and written alike, the same value is spelled
-abbrev pub RespellsAlike : {X : Type 0} → Form X → (X → Type 0) → Writing X → Type 0
-RespellsAlike {X} form good writing =
-    (v w : X) → good v → good w → (writes writing v).refusal ≡ None → (writes writing w).refusal ≡ None
-    → written_spelling form (writes writing v) ≡ written_spelling form (writes writing w) → (writes writing v).value ≡ (writes writing w).value
 
 -- each value is written, and as it is
 abbrev pub Stays : {X : Type 0} → Writing X → Type 0

@@ -3,7 +3,7 @@
 -- subject_unique_id: [2]BIT STRING?, extensions: {3}Extensions? (RFC 5280 4.1.2)
 use Rattle.std.specs.Prelude.{ℕ, List, Option, Result, refl}
 use Rattle.x509_der_element.specs.declared.error.ErrorKind.{ErrorKind}
-use Rattle.x509_der_element.specs.declared.tag.Tag.TheVariants.{Integer, Sequence}
+use Rattle.x509_der_element.specs.declared.tag.Tag.TheVariants.{Sequence}
 use Rattle.x509_der_grammar.specs.Form.{Form, IsForm, Contents, IsContents, universal}
 use Rattle.x509_der_grammar.specs.FormLaws.{universal_lawful}
 use Rattle.x509_der_grammar.specs.StableLaws.{with_field_stable}
@@ -15,7 +15,7 @@ use Rattle.x509_prim_string.specs.BitStringLaws.{bit_string_lawful}
 use Rattle.x509_base_validity.specs.Validity.{validity, validity_lawful}
 use Rattle.x509_base_validity.specs.declared.validity.Validity.{Validity}
 use Rattle.x509_base_serial.specs.Checked.{CheckRefuses}
-use Rattle.x509_base_serial.specs.Serial.{serial_number, serial_number_contents, serial_number_contents_lawful}
+use Rattle.x509_base_serial.specs.Serial.{serial_number, serial_number_lawful}
 use Rattle.x509_base_key.specs.AlgorithmIdentifier.{algorithm_identifier, algorithm_identifier_lawful}
 use Rattle.x509_base_key.specs.SubjectPublicKeyInfo.{subject_public_key_info, subject_public_key_info_lawful}
 use Rattle.x509_base_key.specs.declared.algorithm_identifier.AlgorithmIdentifier.{AlgorithmIdentifier}
@@ -29,9 +29,6 @@ use Rattle.x509_cert_certificate.specs.declared.version.Version.{Version}
 use Rattle.x509_cert_certificate.specs.declared.tbs_certificate.TbsCertificateInner.{TbsCertificateInner}
 
 -- ---- the grammar
-
-serial_number_lawful : (check : List ℕ → Result Unit ErrorKind) → IsForm (CheckRefuses check) (serial_number check)
-serial_number_lawful check = universal_lawful Integer (serial_number_contents check) (serial_number_contents_lawful check)
 
 abbrev pub NameList : Type 0
 NameList = List (List AttributeTypeAndValue)

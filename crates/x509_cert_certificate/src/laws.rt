@@ -1,20 +1,19 @@
 //! What is written of certificates, of their signed parts and of lists of certificates, and what the signed bytes spell.
 //! Each law is a function with an empty body, or one that cites others, whose contract is the law.
 //!
-//! That no two values share a spelling, that no value has two, and that decoding what was written and writing it again
-//! gives the same bytes, stands in [`x509_der_grammar::laws`] for every type: the last wants what
-//! [`dates_are_written_once`] says.
+//! That no two values share a spelling, and no value has two, stands in [`x509_der_grammar::laws`] for every type. So does
+//! what follows from what [`dates_are_written_once`] says: that decoding what was written and writing it again gives the same
+//! bytes, and that what was written reads as the value that is spelled.
 
 ghost use Rattle.std.specs.Prelude.{◌≡◌, ◌↔◌, List, ℕ};
 ghost use Rattle.x509_base_validity.specs.Validity.{validity};
 ghost use Rattle.x509_base_validity.specs.declared.profile.Raw as raw;
 ghost use Rattle.x509_base_validity.specs.declared.profile.Rfc5280 as rfc5280;
-ghost use Rattle.x509_cert_certificate.specs.Respelling.{HasRfc5280Dates, RespellsAlike, Stays, any_certificate, any_certificates, any_tbs_certificate};
+ghost use Rattle.x509_cert_certificate.specs.Respelling.{HasRfc5280Dates, Stays, any_certificate, any_certificates, any_tbs_certificate};
 ghost use Rattle.x509_cert_certificate.specs.declared.certificate.CertificateInner as whole;
 ghost use Rattle.x509_cert_signed.specs.Signed.{IsSignedPart};
-ghost use Rattle.x509_der_element.specs.Element.{limit};
 ghost use Rattle.x509_der_grammar.specs.Form.{Spells, spelling};
-ghost use Rattle.x509_der_grammar.specs.Writing.{IsStable, IsWritable, writes, written_spelling};
+ghost use Rattle.x509_der_grammar.specs.Writing.{IsStable, RespellsAlike, writes, written_spelling};
 
 use crate::certificate::CertificateInner;
 use crate::tbs_certificate::TbsCertificateInner;
@@ -40,6 +39,16 @@ pub fn rfc5280_dates_are_written_once()
     dates_are_written_once::<Rfc5280>();
 }
 
+/// So it does under [`Raw`].
+pub fn raw_dates_are_written_once()
+    ensures signed { IsStable ⟦<TbsCertificateInner<Raw> as Grammar>⟧.form.good ⟦<TbsCertificateInner<Raw> as Encode>⟧.writing }
+    ensures whole { IsStable ⟦<CertificateInner<Raw> as Grammar>⟧.form.good ⟦<CertificateInner<Raw> as Encode>⟧.writing }
+    ensures listed { IsStable ⟦<SequenceOf<CertificateInner<Raw>> as Grammar>⟧.form.good ⟦<SequenceOf<CertificateInner<Raw>> as Encode>⟧.writing }
+{
+    x509_base_validity::laws::raw_dates_are_written_once();
+    dates_are_written_once::<Raw>();
+}
+
 /// Under [`Raw`] what is written is what is spelled.
 pub fn raw_certificates_stay()
     ensures signed { Stays ⟦<TbsCertificateInner<Raw> as Encode>⟧.writing }
@@ -47,23 +56,12 @@ pub fn raw_certificates_stay()
     ensures listed { Stays ⟦<SequenceOf<CertificateInner<Raw>> as Encode>⟧.writing }
 {}
 
-/// Where what is written of a type's values is written as it is, of two values that are written alike the same value is
-/// spelled.
-pub fn what_is_written_alike_is_respelled_alike<T: Encode>()
-    ensures { IsStable T.form.good T.writing → RespellsAlike T.form T.form.good T.writing }
-{}
-
-/// The same of certificates, also of those whose serial numbers the profile refuses in reading.
+/// Where what is written of a validity is written as it is, of two certificates that are written alike the same value is
+/// spelled, also of those whose serial numbers the profile refuses in reading.
 pub fn certificates_written_alike_are_respelled_alike<P: Profile>()
     ensures signed { IsStable validity.good ⟦<Validity<P> as Encode>⟧.writing → RespellsAlike ⟦<TbsCertificateInner<P> as Grammar>⟧.form any_tbs_certificate.good ⟦<TbsCertificateInner<P> as Encode>⟧.writing }
     ensures whole { IsStable validity.good ⟦<Validity<P> as Encode>⟧.writing → RespellsAlike ⟦<CertificateInner<P> as Grammar>⟧.form any_certificate.good ⟦<CertificateInner<P> as Encode>⟧.writing }
     ensures listed { IsStable validity.good ⟦<Validity<P> as Encode>⟧.writing → RespellsAlike ⟦<SequenceOf<CertificateInner<P>> as Grammar>⟧.form any_certificates.good ⟦<SequenceOf<CertificateInner<P>> as Encode>⟧.writing }
-{}
-
-/// Where what is written of a type's values is written as it is, the bytes that are written of a value are read as the
-/// value that is spelled.
-pub fn what_was_written_reads_as_respelled<T: Encode>()
-    ensures { IsStable T.form.good T.writing → (v : T) → T.form.good v → IsWritable T.form (writes T.writing v) limit → Spells T.form (writes T.writing v).value (written_spelling T.form (writes T.writing v)) }
 {}
 
 /// Where bytes spell a certificate, they have signed bytes, which [`signed_slice`](x509_cert_signed::signed_slice) lends,

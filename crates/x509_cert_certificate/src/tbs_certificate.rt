@@ -86,6 +86,40 @@ impl<P: Profile> TbsCertificateInner<P> {
         }
     }
 
+    /// The part with that version and these extensions in place of its own. It takes no memory.
+    pub fn with_extensions(
+        self,
+        version: Version,
+        extensions: Option<Extensions>,
+    ) -> TbsCertificateInner<P>
+        ensures { result ≡ record self { version = version; extensions = extensions } }
+    {
+        let TbsCertificateInner {
+            version: _,
+            serial_number,
+            signature,
+            issuer,
+            validity,
+            subject,
+            subject_public_key_info,
+            issuer_unique_id,
+            subject_unique_id,
+            extensions: _,
+        } = self;
+        TbsCertificateInner {
+            version,
+            serial_number,
+            signature,
+            issuer,
+            validity,
+            subject,
+            subject_public_key_info,
+            issuer_unique_id,
+            subject_unique_id,
+            extensions,
+        }
+    }
+
     /// The version.
     pub fn version(&self) -> Version
         ensures { result ≡ self.now.version }
@@ -234,6 +268,7 @@ impl<P: Profile> Content for TbsCertificateInner<P> {
 
     const IDENTIFIER: Tag = Tag::Sequence;
 
+    #[inline(never)]
     fn read_content(alloc: Global, octets: &[u8]) -> Result<TbsCertificateInner<P>, Error> {
         let mut rest = octets;
         let version = default_explicit::<Version>(alloc, 0, &mut rest)?;

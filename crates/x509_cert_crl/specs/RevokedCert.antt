@@ -1,12 +1,12 @@
 -- RevokedCert: serial_number: SerialNumber, revocation_date: Time, crl_entry_extensions: Extensions? (RFC 5280 5.1)
 use Rattle.std.specs.Prelude.{ℕ, List, Option, Result}
 use Rattle.x509_base_serial.specs.Checked.{CheckRefuses}
-use Rattle.x509_base_serial.specs.Serial.{serial_number, serial_number_contents, serial_number_contents_lawful}
+use Rattle.x509_base_serial.specs.Serial.{serial_number, serial_number_lawful}
 use Rattle.x509_base_validity.specs.Time.{time, time_lawful}
 use Rattle.x509_base_validity.specs.declared.time.Time.{Time}
 use Rattle.x509_cert_crl.specs.declared.revoked_cert.RevokedCert.{RevokedCert}
 use Rattle.x509_der_element.specs.declared.error.ErrorKind.{ErrorKind}
-use Rattle.x509_der_element.specs.declared.tag.Tag.TheVariants.{Integer, Sequence}
+use Rattle.x509_der_element.specs.declared.tag.Tag.TheVariants.{Sequence}
 use Rattle.x509_der_frames.specs.Frames.{Part, required, optional, ◌⊗◌, fields}
 use Rattle.x509_der_frames.specs.PartRules.{part_rules}
 use Rattle.x509_der_grammar.specs.Form.{Form, IsForm, Contents, IsContents, universal}
@@ -22,9 +22,6 @@ revoked_cert_contents check = fields (λ r. (r.serial_number, (r.revocation_date
 
 abbrev pub revoked_cert : {P : Type 0} → (List ℕ → Result Unit ErrorKind) → Form (RevokedCert P)
 revoked_cert check = universal Sequence (revoked_cert_contents check)
-
-serial_number_lawful : (check : List ℕ → Result Unit ErrorKind) → IsForm (CheckRefuses check) (serial_number check)
-serial_number_lawful check = universal_lawful Integer (serial_number_contents check) (serial_number_contents_lawful check)
 
 pub revoked_cert_contents_lawful : {P : Type 0} (check : List ℕ → Result Unit ErrorKind) → IsContents (CheckRefuses check) (revoked_cert_contents {P = P} check)
 unfolding revoked_cert_fields

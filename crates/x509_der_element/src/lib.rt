@@ -14,4 +14,4 @@ pub use element::{AnyRef, Piece, check_content, split_element, split_usual, take
 pub use error::{Error, ErrorKind};
 pub use header::Header;
 pub use length::Length;
-pub use tag::{Tag, TagNumber};
+pub use tag::{Tag, TagNumber, check_identifier};

@@ -238,8 +238,8 @@ impl Tag {
 
 /// Whether an element may begin with the octet.
 #[tactic(auto, unfolding(crate::specs::Element::is_identifier, crate::specs::Element::is_universal))]
-#[inline(never)]
-pub(crate) fn check_identifier(octet: u8) -> bool
+#[inline(always)]
+pub fn check_identifier(octet: u8) -> bool
     ensures { result ≡ is_identifier octet }
 {
     match octet {

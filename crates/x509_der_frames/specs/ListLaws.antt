@@ -137,7 +137,7 @@ ends_refused errors.Value read front bytes total h lt so_far = ends read front b
 
 -- ---- none, one, and one in front of others
 
-no_front : {X : Type 0} (read : Result (List X) ErrorKind) → with_front [] read ≡ read
+pub no_front : {X : Type 0} (read : Result (List X) ErrorKind) → with_front [] read ≡ read
 no_front (Ok xs) = refl
 no_front (Err e) = refl
 

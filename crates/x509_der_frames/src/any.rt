@@ -16,7 +16,7 @@ use std::alloc::Global;
 use std::cmp::Ordering;
 use x509_der_grammar::{
     AnyRef, Bytes, Decode, Encode, Error, ErrorKind, Grammar, Growing, Length, Room, Tag, TryClone,
-    check_content, take_element,
+    check_content, check_identifier, take_element,
 };
 use x509_der_order::ValueOrd;
 
@@ -146,7 +146,7 @@ impl Grammar for Any {
 
     #[tactic(auto, using(crate::specs::Any::is_in_identifiers))]
     fn is_start(octet: u8) -> bool {
-        Tag::from_octet(octet).is_ok()
+        check_identifier(octet)
     }
 
     ghost lawful = { any_lawful };

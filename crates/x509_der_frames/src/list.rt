@@ -152,15 +152,21 @@ pub fn clone_members<T: TryClone + Drop>(alloc: Global, members: &[T]) -> Result
 /// to be none cost little.
 const FORESEEN: usize = 1024;
 
-/// How many elements stand at the front of the bytes, up to [`FORESEEN`].
+/// For how many members at the front of the bytes a list takes memory, up to [`FORESEEN`]: the identifiers of elements
+/// with short lengths aren't looked at.
 fn count_elements(bytes: &[u8]) -> usize
     ensures { result ≤ 1024 }
 {
     let mut rest = bytes;
     for count in 0..FORESEEN {
-        match split_element(rest) {
-            Ok(piece) => rest = piece.rest,
-            Err(_) => return count,
+        match rest {
+            [_, len, after @ ..] if *len < 128 && *len as usize <= after.len() => {
+                rest = &after[*len as usize..];
+            }
+            _ => match split_element(rest) {
+                Ok(piece) => rest = piece.rest,
+                Err(_) => return count,
+            },
         }
     }
     FORESEEN
@@ -168,18 +174,16 @@ fn count_elements(bytes: &[u8]) -> usize
 
 /// The values whose elements the bytes are, one after the other; `Malformed`, or the refusal of the type, where they
 /// are not. Memory may be refused.
+#[inline(always)]
 pub fn read_members<T: Decode + Drop>(alloc: Global, bytes: &[u8]) -> Result<Vec<T>, Error>
     ensures exact { GivesBy (λ v. v.items) result (list_reading T.form.reading bytes.now) }
 {
-    if bytes.is_empty() {
-        return Ok(Vec::new(alloc));
-    }
-    let mut rest = bytes;
-    let first = field::<T>(alloc, &mut rest)?;
-    read_further(alloc, first, rest)
+    let items = Vec::with_capacity(alloc, count_elements(bytes))?;
+    read_behind(alloc, items, bytes)
 }
 
 /// The first value, and behind it those that [`read_members`] answers.
+#[inline(never)]
 pub fn read_further<T: Decode + Drop>(
     alloc: Global,
     first: T,
@@ -189,6 +193,18 @@ pub fn read_further<T: Decode + Drop>(
 {
     let mut items = Vec::with_capacity(alloc, 1 + count_elements(bytes))?;
     items.push(first)?;
+    read_behind(alloc, items, bytes)
+}
+
+/// The items, and behind them the values that [`read_members`] answers.
+#[inline(always)]
+fn read_behind<T: Decode + Drop>(
+    alloc: Global,
+    mut items: Vec<T>,
+    bytes: &[u8],
+) -> Result<Vec<T>, Error>
+    ensures exact { GivesBy (λ v. v.items) result (with_front items.items (list_reading T.form.reading bytes.now)) }
+{
     let mut rest = bytes;
     while !rest.is_empty() {
         let item = field::<T>(alloc, &mut rest)?;

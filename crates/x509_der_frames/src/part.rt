@@ -36,6 +36,7 @@ impl<A: PutPart, B: PutPart> PutPart for (A, B) {
 
     ghost refusal = { λ p. first (B.refusal p.1) (A.refusal p.0) };
 
+    #[inline(always)]
     fn put_text<R: Room>(&self, room: &mut R) -> Result<(), Error> {
         self.1.put_text(room)?;
         self.0.put_text(room)
@@ -43,6 +44,7 @@ impl<A: PutPart, B: PutPart> PutPart for (A, B) {
 }
 
 /// Puts the part as the content of an element. The content stands before its header is put.
+#[inline(always)]
 fn put_in_element<P: PutPart, R: Room>(part: &P, tag: u8, room: &mut R) -> Result<(), Error>
     ensures { Puts R.kind (element tag (P.text part.now)) (P.refusal part.now) result room.old room.new }
 {
@@ -63,6 +65,7 @@ impl<T: Encode> PutPart for Contents<'_, T> {
 
     ghost refusal = { λ v. (writes T.writing v.0.now).refusal };
 
+    #[inline(always)]
     fn put_text<R: Room>(&self, room: &mut R) -> Result<(), Error> {
         self.0.put_content(room)
     }
@@ -77,6 +80,7 @@ impl<T: Encode> PutPart for &T {
 
     ghost refusal = { λ v. (writes T.writing v.now).refusal };
 
+    #[inline(always)]
     fn put_text<R: Room>(&self, room: &mut R) -> Result<(), Error> {
         self.put_element(room)
     }
@@ -109,6 +113,7 @@ impl<T: Encode> PutPart for Retagged<'_, T> {
 
     ghost refusal = { λ p. (writes T.writing p.value.now).refusal };
 
+    #[inline(always)]
     fn put_text<R: Room>(&self, room: &mut R) -> Result<(), Error> {
         put_in_element(&Contents(self.value), self.tag, room)
     }
@@ -142,6 +147,7 @@ impl<T: Encode> PutPart for Wrapped<'_, T> {
 
     ghost refusal = { λ p. (writes T.writing p.value.now).refusal };
 
+    #[inline(always)]
     fn put_text<R: Room>(&self, room: &mut R) -> Result<(), Error> {
         put_in_element(&self.value, self.tag, room)
     }
@@ -157,6 +163,7 @@ impl<P: PutPart> PutPart for Option<P> {
     ghost refusal = { optional_refusal P.refusal };
 
     #[tactic(auto, using(x509_der_grammar::specs::WritingLaws::puts_nothing))]
+    #[inline(always)]
     fn put_text<R: Room>(&self, room: &mut R) -> Result<(), Error> {
         match self {
             None => Ok(()),

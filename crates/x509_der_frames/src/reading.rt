@@ -15,6 +15,7 @@ use x509_der_grammar::{
 };
 
 /// The end of a sequence; `Malformed` where bytes are left.
+#[inline(always)]
 pub fn end(rest: &[u8]) -> Result<(), Error>
     ensures exact { Gives result (end_at rest.now) }
     ensures err { IfErr result (λ e. e.kind ≡ Malformed) }
@@ -27,6 +28,7 @@ pub fn end(rest: &[u8]) -> Result<(), Error>
 }
 
 /// The identifier octet under [n] of a type with a tag of its own (X.690 8.14.3).
+#[inline(always)]
 pub fn implicit_octet<T: FixedTag>(n: u8) -> u8
     requires { n < 31 }
     ensures { result ≡ implicit_tag n (octet_of T.TAG) }
@@ -40,19 +42,23 @@ pub fn implicit_octet<T: FixedTag>(n: u8) -> u8
 
 /// x: a field that is there.
 #[tactic(auto, unfolding(crate::specs::Frames::field_at))]
+#[inline(always)]
 pub fn field<T: Decode>(alloc: Global, rest: &mut &[u8]) -> Result<T, Error>
     ensures exact { GivesBefore result rest.new.now ((required T.form).reading rest.old.now) }
     ensures unchanged { OnErr result (rest.new.now ≡ rest.old.now) }
     ensures memory { IfErr result (λ e. e.kind ≡ Memory → T.wants_memory) }
 {
     let piece = split_usual(*rest, T::usual())?;
-    let value = T::read(alloc, piece.tag, piece.content)?;
-    *rest = piece.rest;
-    Ok(value)
+    let result = T::read(alloc, piece.tag, piece.content);
+    if result.is_ok() {
+        *rest = piece.rest;
+    }
+    result
 }
 
 /// {n}x: a field in an element of its own, with the identifier octet A0 + n (X.690 8.14.2).
 #[tactic(auto, unfolding(crate::specs::Frames::field_at))]
+#[inline(always)]
 pub fn explicit_field<T: Decode>(alloc: Global, n: u8, rest: &mut &[u8]) -> Result<T, Error>
     requires { n < 31 }
     ensures exact { GivesBefore result rest.new.now ((required (explicit n T.form)).reading rest.old.now) }
@@ -63,13 +69,16 @@ pub fn explicit_field<T: Decode>(alloc: Global, n: u8, rest: &mut &[u8]) -> Resu
     if piece.tag != 0xA0 + n {
         return Err(ErrorKind::Malformed.into());
     }
-    let value = read_whole::<T>(alloc, piece.content)?;
-    *rest = piece.rest;
-    Ok(value)
+    let result = read_whole::<T>(alloc, piece.content);
+    if result.is_ok() {
+        *rest = piece.rest;
+    }
+    result
 }
 
 /// [n]x: a field under the identifier octet 80 + n, or A0 + n where its content is elements (X.690 8.14.3).
 #[tactic(auto, unfolding(crate::specs::Frames::field_at))]
+#[inline(always)]
 pub fn implicit_field<T: Decode + FixedTag>(
     alloc: Global,
     n: u8,
@@ -84,13 +93,16 @@ pub fn implicit_field<T: Decode + FixedTag>(
     if piece.tag != implicit_octet::<T>(n) {
         return Err(ErrorKind::Malformed.into());
     }
-    let value = T::read(alloc, T::TAG.octet(), piece.content)?;
-    *rest = piece.rest;
-    Ok(value)
+    let result = T::read(alloc, T::TAG.octet(), piece.content);
+    if result.is_ok() {
+        *rest = piece.rest;
+    }
+    result
 }
 
 /// x?: a field that may be left out; it is there where the next identifier octet may begin one (X.690 8.9.3).
 #[tactic(auto, unfolding(crate::specs::Frames::optional_at))]
+#[inline(always)]
 pub fn optional_field<T: Decode>(alloc: Global, rest: &mut &[u8]) -> Result<Option<T>, Error>
     ensures exact { GivesBefore result rest.new.now ((optional T.form).reading rest.old.now) }
     ensures unchanged { OnErr result (rest.new.now ≡ rest.old.now) }
@@ -104,6 +116,7 @@ pub fn optional_field<T: Decode>(alloc: Global, rest: &mut &[u8]) -> Result<Opti
 
 /// {n}x?: the same in an element of its own.
 #[tactic(auto, unfolding(crate::specs::Frames::optional_at))]
+#[inline(always)]
 pub fn optional_explicit<T: Decode>(
     alloc: Global,
     n: u8,
@@ -122,6 +135,7 @@ pub fn optional_explicit<T: Decode>(
 
 /// [n]x?: the same under a tag in place of its own.
 #[tactic(auto, unfolding(crate::specs::Frames::optional_at))]
+#[inline(always)]
 pub fn optional_implicit<T: Decode + FixedTag>(
     alloc: Global,
     n: u8,
@@ -143,6 +157,7 @@ pub fn optional_implicit<T: Decode + FixedTag>(
 /// x=d: a field that is left out exactly where it has its default, which is `Malformed` where it is written
 /// (X.690 11.5).
 #[tactic(auto, unfolding(crate::specs::Frames::default_at))]
+#[inline(always)]
 pub fn default_field<T: Decode + Standard>(alloc: Global, rest: &mut &[u8]) -> Result<T, Error>
     ensures exact { GivesBefore result rest.new.now ((defaulted T.default T.form).reading rest.old.now) }
     ensures unchanged { OnErr result (rest.new.now ≡ rest.old.now) }
@@ -165,6 +180,7 @@ pub fn default_field<T: Decode + Standard>(alloc: Global, rest: &mut &[u8]) -> R
 
 /// {n}x=d: the same in an element of its own.
 #[tactic(auto, unfolding(crate::specs::Frames::default_at))]
+#[inline(always)]
 pub fn default_explicit<T: Decode + Standard>(
     alloc: Global,
     n: u8,
@@ -192,6 +208,7 @@ pub fn default_explicit<T: Decode + Standard>(
 
 /// [n]x=d: the same under a tag in place of its own.
 #[tactic(auto, unfolding(crate::specs::Frames::default_at))]
+#[inline(always)]
 pub fn default_implicit<T: Decode + FixedTag + Standard>(
     alloc: Global,
     n: u8,

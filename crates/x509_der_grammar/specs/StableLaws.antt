@@ -1,7 +1,11 @@
--- What is written once more is as it was, where it is so of the one field that is respelled.
+-- What is written once more is as it was, where it is so of the one field that is respelled; and where it is so, values
+-- that are written alike are respelled alike.
 use Rattle.std.specs.Prelude.{◌≡◌, Option, Some, None, IfSome, refl}
+use Rattle.std.proofs.Common.{sym, ◌∙◌}
 use Rattle.x509_der_element.specs.declared.error.ErrorKind.{ErrorKind}
-use Rattle.x509_der_grammar.specs.Writing.{Writing, plain, respelling, writes, with_field, in_option, first, IsStable}
+use Rattle.x509_der_grammar.specs.Form.{Form, IsForm, spelling}
+use Rattle.x509_der_grammar.specs.SpellingLaws.{one_spelled}
+use Rattle.x509_der_grammar.specs.Writing.{Writing, plain, respelling, writes, with_field, in_option, first, IsStable, RespellsAlike}
 
 -- where neither of two is refused
 pub first_none : (p q : Option ErrorKind) → first p q ≡ None → (p ≡ None) × (q ≡ None)
@@ -39,3 +43,10 @@ again_in_option good (respelling by) stable (Some x) g free = rw (stable.again x
 -- a value that may be left out
 pub in_option_stable : {X : Type 0} {good : X → Type 0} (writing : Writing X) → IsStable good writing → IsStable (λ (value : Option X). IfSome value good) (in_option writing)
 in_option_stable {X} {good} writing stable = record { kept = kept_in_option good writing stable; again = again_in_option good writing stable }
+
+-- ---- values that are written alike
+
+-- of a form that spells each value as a lawful one does, and may call fewer of them good
+pub spelled_alike : {X : Type 0} {R : ErrorKind → Type 0} (f g : Form X) → IsForm R g → ((v : X) → spelling f v ≡ spelling g v) → (writing : Writing X) → IsStable g.good writing → RespellsAlike f g.good writing
+spelled_alike f g h same writing stable v w a b free clear e =
+    one_spelled g h _ _ (stable.kept v a free) (stable.kept w b clear) (sym (same (writes writing v).value) ∙ e ∙ same (writes writing w).value)

@@ -90,3 +90,9 @@ IsUnwritable form written most e = (written.refusal ≡ Some e) ⊎ ((e ≡ Over
 pub record IsStable {X : Type 0} (good : X → Type 0) (writing : Writing X) : Type 0 where
   pub kept : (value : X) → good value → (writes writing value).refusal ≡ None → good (writes writing value).value
   pub again : (value : X) → good value → (writes writing value).refusal ≡ None → writes writing (writes writing value).value ≡ record { value = (writes writing value).value; refusal = None }
+
+-- Of two good values that are written, and written alike, the same value is spelled.
+abbrev pub RespellsAlike : {X : Type 0} → Form X → (X → Type 0) → Writing X → Type 0
+RespellsAlike {X} form good writing =
+    (v w : X) → good v → good w → (writes writing v).refusal ≡ None → (writes writing w).refusal ≡ None
+    → written_spelling form (writes writing v) ≡ written_spelling form (writes writing w) → (writes writing v).value ≡ (writes writing w).value

@@ -82,6 +82,7 @@ impl<T: Content> FixedTag for T {
 impl<T: Content> Decode for T {
     ghost wants_memory = { T.takes_memory };
 
+    #[inline(always)]
     fn read(alloc: Global, tag: u8, content: &[u8]) -> Result<T, Error> {
         expect_tag(tag, T::IDENTIFIER)?;
         T::read_content(alloc, content)

@@ -49,6 +49,7 @@ pub trait Decode: Grammar {
 
 /// The value of one element with nothing after it.
 #[tactic(auto, unfolding(crate::specs::Form::whole_reading))]
+#[inline(always)]
 pub fn read_whole<T: Decode>(alloc: Global, bytes: &[u8]) -> Result<T, Error>
     ensures exact { Gives result (whole_reading T.form.reading bytes.now) }
     ensures memory { IfErr result (λ e. e.kind ≡ Memory → T.wants_memory) }
@@ -61,6 +62,7 @@ pub fn read_whole<T: Decode>(alloc: Global, bytes: &[u8]) -> Result<T, Error>
 }
 
 /// `Malformed` where the identifier octet is not that of the tag which is wanted.
+#[inline(always)]
 pub fn expect_tag(tag: u8, wanted: Tag) -> Result<(), Error>
     ensures exact { Gives result (tag_at tag (octet_of wanted)) }
     ensures err { IfErr result (λ e. e.kind ≡ Malformed) }

@@ -29,6 +29,7 @@ pub trait Encode: Grammar {
     ghost same_tag: { (value : Self) → Self.form.tag (writes writing value).value ≡ Self.form.tag value };
 
     /// Puts the element in front of what stands. Its content stands before its header is put.
+    #[inline(always)]
     final fn put_element<R: Room>(&self, room: &mut R) -> Result<(), Error>
         ensures { Puts R.kind (spelling Self.form (writes writing self.now).value) (writes writing self.now).refusal result room.old room.new }
     {
@@ -104,14 +105,27 @@ pub trait Encode: Grammar {
 
 /// Puts an identifier octet and the length of what follows.
 #[tactic(auto, unfolding(x509_der_element::specs::Element::length_octets))]
+#[inline(always)]
 pub fn put_header<R: Room>(tag: u8, len: u32, room: &mut R) -> Result<(), Error>
     requires { len ≤ limit }
     ensures { Puts R.kind (header tag len) None result room.old room.new }
 {
-    let [a, b, c, d] = len.to_be_bytes();
     if len < 128 {
-        room.put(&[tag, d])
-    } else if len < 256 {
+        return room.put(&[tag, len as u8]);
+    }
+    put_long_header(tag, len, room)
+}
+
+/// The same where the length takes more than one octet (X.690 8.1.3.5).
+#[tactic(auto, unfolding(x509_der_element::specs::Element::length_octets))]
+#[inline(never)]
+fn put_long_header<R: Room>(tag: u8, len: u32, room: &mut R) -> Result<(), Error>
+    requires long { 128 ≤ len }
+    requires within { len ≤ limit }
+    ensures { Puts R.kind (header tag len) None result room.old room.new }
+{
+    let [a, b, c, d] = len.to_be_bytes();
+    if len < 256 {
         room.put(&[tag, 0x81, d])
     } else if len < 65_536 {
         room.put(&[tag, 0x82, c, d])

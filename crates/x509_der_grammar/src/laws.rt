@@ -2,8 +2,9 @@
 //! whose contract is the law.
 
 ghost use Rattle.std.specs.Prelude.{◌≡◌, ◌++◌, List, ℕ, None};
+ghost use Rattle.x509_der_element.specs.Element.{limit};
 ghost use Rattle.x509_der_grammar.specs.Form.{spelling, Spells};
-ghost use Rattle.x509_der_grammar.specs.Writing.{IsStable, writes, written_spelling};
+ghost use Rattle.x509_der_grammar.specs.Writing.{IsStable, IsWritable, RespellsAlike, writes, written_spelling};
 
 use crate::encode::Encode;
 use crate::grammar::Grammar;
@@ -26,4 +27,16 @@ pub fn one_value<T: Grammar>()
 /// Decoding what was written and writing it again gives the same bytes, where what is written is written as it is.
 pub fn writing_again_gives_the_same<T: Encode>()
     ensures { IsStable T.form.good T.writing → (v w : T) → T.form.good v → (writes T.writing v).refusal ≡ None → Spells T.form w (written_spelling T.form (writes T.writing v)) → ((writes T.writing w).refusal ≡ None) × (written_spelling T.form (writes T.writing w) ≡ written_spelling T.form (writes T.writing v)) }
+{}
+
+/// Where what is written of a type's values is written as it is, of two values that are written alike the same value is
+/// spelled.
+pub fn what_is_written_alike_is_respelled_alike<T: Encode>()
+    ensures { IsStable T.form.good T.writing → RespellsAlike T.form T.form.good T.writing }
+{}
+
+/// Where what is written of a type's values is written as it is, the bytes that are written of a value are read as the
+/// value that is spelled.
+pub fn what_was_written_reads_as_respelled<T: Encode>()
+    ensures { IsStable T.form.good T.writing → (v : T) → T.form.good v → IsWritable T.form (writes T.writing v) limit → Spells T.form (writes T.writing v).value (written_spelling T.form (writes T.writing v)) }
 {}

@@ -23,5 +23,5 @@ pub use newtype::Newtype;
 pub use room::{Counting, Fixed, Growing, Room};
 pub use x509_der_element::{
     AnyRef, Bytes, Error, ErrorKind, Header, Length, Piece, Tag, TagNumber, check_content,
-    split_element, split_usual, take_element,
+    check_identifier, split_element, split_usual, take_element,
 };

@@ -61,6 +61,7 @@ where
 
     const IDENTIFIER: Tag = T::Inner::TAG;
 
+    #[inline(always)]
     fn read_content(alloc: Global, octets: &[u8]) -> Result<T, Error> {
         Ok(T::from_inner(T::Inner::read(alloc, T::Inner::TAG.octet(), octets)?))
     }

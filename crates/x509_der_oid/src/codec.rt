@@ -21,6 +21,7 @@ impl Content for ObjectIdentifier {
 
     const IDENTIFIER: Tag = Tag::ObjectIdentifier;
 
+    #[inline(always)]
     fn read_content(_alloc: Global, octets: &[u8]) -> Result<ObjectIdentifier, Error> {
         ObjectIdentifier::from_bytes(octets)
     }

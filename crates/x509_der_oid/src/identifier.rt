@@ -1,6 +1,6 @@
 //! The value of an OBJECT IDENTIFIER.
 
-ghost use Rattle.std.specs.Prelude.{◌≡◌, ◌*◌, ◌≤◌, ℕ, List, true, IfOk, IfErr, Ok, Err, if◌then◌else◌};
+ghost use Rattle.std.specs.Prelude.{◌≡◌, ◌*◌, ◌≤◌, ℕ, List, true, IfOk, IfErr, IfSome, OnSome, Ok, Err, if◌then◌else◌};
 ghost use Rattle.x509_der_element.specs.Outcome.{Gives};
 ghost use Rattle.x509_der_element.specs.declared.error.ErrorKind.TheVariants.{Failed, Malformed};
 ghost use Rattle.x509_der_oid.specs.Arcs.{AreArcs, content_of, dotted};
@@ -48,6 +48,7 @@ impl Model for ObjectIdentifier {
 const HIGH_END: u32 = 33_554_432;
 
 // Whether the octets are the content of an object identifier.
+#[inline(never)]
 fn is_content(octets: &[u8]) -> bool
     ensures { result ≡ is_object_identifier octets.now }
 {
@@ -82,7 +83,26 @@ fn first_arc(subidentifier: u32) -> u32
 }
 
 impl ObjectIdentifier {
+    // The object identifier that has this content, where it is three subidentifiers of one octet each, as most are.
     #[inline(always)]
+    fn of_three(content: &[u8]) -> Option<ObjectIdentifier>
+        ensures content { OnSome result (is_object_identifier content.now ≡ true) }
+        ensures value { IfSome result (λ found. found ≡ content.now) }
+    {
+        match content {
+            [a, b, c] if *a < 128 && *b < 128 && *c < 128 => Some(ObjectIdentifier {
+                len: 3,
+                octets: [
+                    *a, *b, *c, 0, 0, 0, 0, 0, 0, 0, 0, 0, 0, 0, 0, 0, 0, 0, 0, 0, 0, 0, 0, 0, 0,
+                    0, 0, 0, 0, 0, 0, 0, 0, 0, 0, 0, 0, 0, 0,
+                ],
+            }),
+            _ => None,
+        }
+    }
+
+    // The object identifier that has this content.
+    #[inline(never)]
     fn from_checked(content: &[u8]) -> ObjectIdentifier
         requires { is_object_identifier content.now ≡ true }
         ensures { result ≡ content.now }
@@ -140,6 +160,9 @@ impl ObjectIdentifier {
         ensures exact { Gives result
             (if is_object_identifier content.now then Ok content.now else Err Malformed) }
     {
+        if let Some(found) = ObjectIdentifier::of_three(content) {
+            return Ok(found);
+        }
         if is_content(content) {
             Ok(ObjectIdentifier::from_checked(content))
         } else {

@@ -136,6 +136,7 @@ impl<T> Members<T> {
 impl<T: Decode + Drop> Members<T> {
     /// The values whose elements the bytes are, one after the other; `Malformed`, or the refusal of the type, where
     /// they are not. Memory may be refused.
+    #[inline(always)]
     pub(crate) fn read(alloc: Global, bytes: &[u8]) -> Result<Members<T>, Error>
         ensures exact { Gives result (list_reading T.form.reading bytes.now) }
     {

@@ -171,6 +171,7 @@ impl<T: Decode + SetMember + Drop> Content for SetOfVec<T> {
     const IDENTIFIER: Tag = Tag::Set;
 
     #[tactic(auto, unfolding(crate::specs::Set::set_reading))]
+    #[inline(always)]
     fn read_content(alloc: Global, octets: &[u8]) -> Result<SetOfVec<T>, Error> {
         let members = Members::<T>::read(alloc, octets)?;
         if !is_rising(members.as_slice()) {

@@ -54,6 +54,7 @@ impl Content for Extension {
 
     const IDENTIFIER: Tag = Tag::Sequence;
 
+    #[inline(always)]
     fn read_content(alloc: Global, octets: &[u8]) -> Result<Extension, Error> {
         let mut rest = octets;
         let extn_id = field::<ObjectIdentifier>(alloc, &mut rest)?;

@@ -13,7 +13,7 @@ use x509_prim_string::OctetString;
 /// A payload that says whether its extension is critical, where the caller does not (RFC 5280 4.2).
 pub trait Criticality {
     ghost use Rattle.std.specs.Prelude.{◌≡◌, Bool, List};
-    ghost use Rattle.x509_name_attribute.specs.declared.type_and_value.AttributeTypeAndValue.{AttributeTypeAndValue};
+    ghost use Rattle.x509_name_rdn.specs.AttributeTypeAndValue.{AttributeTypeAndValue};
     ghost use Rattle.x509_ext_frame.specs.declared.extension.Extension.{Extension};
 
     /// Whether it is, under that subject and behind those extensions.
@@ -28,7 +28,7 @@ pub trait Criticality {
 pub trait ToExtension: Sized {
     ghost use Rattle.std.specs.Prelude.{List, Result};
     ghost use Rattle.x509_der_element.specs.declared.error.Error.{Error};
-    ghost use Rattle.x509_name_attribute.specs.declared.type_and_value.AttributeTypeAndValue.{AttributeTypeAndValue};
+    ghost use Rattle.x509_name_rdn.specs.AttributeTypeAndValue.{AttributeTypeAndValue};
     ghost use Rattle.x509_ext_frame.specs.declared.extension.Extension.{Extension};
 
     /// What the call answers, under that subject and behind those extensions.

@@ -97,6 +97,7 @@ impl Content for AttributeTypeAndValue {
 
     const IDENTIFIER: Tag = Tag::Sequence;
 
+    #[inline(always)]
     fn read_content(alloc: Global, octets: &[u8]) -> Result<AttributeTypeAndValue, Error> {
         let mut rest = octets;
         let oid = field::<AttributeType>(alloc, &mut rest)?;

@@ -3,6 +3,7 @@ pub mod NoticeReference
 pub mod UserNotice
 pub mod PolicyQualifierInfo
 pub mod PolicyInformation
+pub mod CertificatePolicies
 pub mod PolicyMapping
 pub mod PolicyConstraints
 pub mod Rows

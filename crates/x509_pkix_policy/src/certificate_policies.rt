@@ -35,11 +35,11 @@ impl Criticality for CertificatePolicies {
 }
 
 impl Newtype for CertificatePolicies {
-    ghost use Rattle.std.specs.Prelude.{refl};
+    ghost use Rattle.x509_pkix_policy.specs.CertificatePolicies.{policies_round};
 
     type Inner = SequenceOf<PolicyInformation>;
 
-    ghost round = { record { to = λ policies. policies.0; from = λ information. record { 0 = information }; back = λ policies. refl; there = λ information. refl } };
+    ghost round = { policies_round };
 
     fn inner(&self) -> &SequenceOf<PolicyInformation> {
         &self.0

@@ -6,7 +6,7 @@ use Rattle.x509_sct_tls.specs.declared.error.TlsError.{TlsError}
 use Rattle.x509_sct_tls.specs.declared.error.TlsError.TheVariants.{EndOfStream, UnknownValue, TrailingData, InvalidVectorLength, Memory}
 use Rattle.x509_sct_tls.specs.Outcome.{IsRefusal, GivesBy}
 use Rattle.x509_sct_tls.specs.FieldReading.{whole_or, whole_at}
-use Rattle.x509_sct_tls.specs.Form.{Form, AreOctets, Spells, Begins, IsForm, IsWholeFault}
+use Rattle.x509_sct_tls.specs.Form.{Form, AreOctets, Spells, IsForm, IsWholeFault}
 use Rattle.x509_sct_tls.specs.Steps.{ok_is, err_is, not_refused, bind_ok, bind_err}
 use Rattle.x509_sct_tls.specs.Answers.{Answers}
 
@@ -37,16 +37,6 @@ answered view IsValue IsFault wants reading (Err e) is gives memory = record {
   value = λ y h. elim (refusal e reading gives) [ inl m ↦ (m, memory m) | inr d ↦ not_refused y e (sym (is.complete y h) ∙ d) ];
   fault = elim (refusal e reading gives) [ inl m ↦ inl (m, memory m) | inr d ↦ inr (e, is.faulty e d, refl) ];
   first = λ f h. elim (refusal e reading gives) [ inl m ↦ inl (m, memory m) | inr d ↦ inr (err_is reading e f d (is.first f h)) ];
-}
-
--- ---- a value in front
-
-pub front_reading : {X : Type 0} (form : Form X) → IsForm form → (input : List ℕ) → AreOctets input → IsReading (λ x. Begins form x.0 x.1 input) (form.fault input) (form.reading input)
-front_reading form h input o = record {
-  sound = λ y e. h.sound input y.0 y.1 o e;
-  complete = λ y b. ap form.reading b.1 ∙ h.complete y.0 y.1 b.0;
-  faulty = λ e r. h.faulty input e o r;
-  first = λ e f. h.first input e f;
 }
 
 -- ---- a value and nothing more

@@ -1,7 +1,8 @@
 //! Room in a vector that grows at its front.
 
-ghost use Rattle.std.specs.Prelude.{◌≡◌, ◌+◌, ◌<◌, ◌≤◌, [], length, drop, IfErr, OnOk, OnErr};
-ghost use Rattle.x509_der_element.specs.declared.error.ErrorKind.TheVariants.{Memory};
+ghost use Rattle.std.specs.Prelude.{◌≡◌, ◌+◌, ◌<◌, ◌≤◌, ◌⊎◌, [], length, drop, IfOk, IfErr, OnOk, OnErr};
+ghost use Rattle.x509_der_element.specs.Element.{limit};
+ghost use Rattle.x509_der_element.specs.declared.error.ErrorKind.TheVariants.{Memory, Overlength};
 
 use crate::room::Room;
 use std::alloc::Global;
@@ -9,7 +10,7 @@ use std::marker::Model;
 use x509_der_element::{Error, ErrorKind, Length};
 
 /// Room for the headers that mostly follow.
-const SPARE: usize = 64;
+const SPARE: usize = 512;
 
 /// A vector that is filled from its end, and grows at its front. Contracts see the bytes that stand.
 #[derive(Drop)]
@@ -19,29 +20,40 @@ pub struct Growing {
 }
 
 impl Model for Growing {
-    ghost use Rattle.std.specs.Prelude.{List, ℕ, ◌≤◌, ◌+◌, length, drop};
+    ghost use Rattle.std.specs.Prelude.{List, ℕ, ◌≤◌, length, drop};
     ghost use Rattle.x509_der_element.specs.Element.{limit};
 
     ghost Value = { List ℕ };
 
     ghost view = { λ room. drop room.start room.items.items };
 
-    ghost invariant = { λ room. (room.start ≤ length room.items.items) × (length room.items.items ≤ limit + room.start) };
+    ghost invariant = { λ room. (room.start ≤ length room.items.items) × (length room.items.items ≤ limit) };
 }
 
-/// Moves what stands from `start` on to the end of more room.
-fn grow(items: &mut Vec<u8>, start: usize, more: usize) -> Result<(), Error>
+/// Moves what stands from `start` on to the end of a room in which so many bytes more have their place. Answers where it
+/// stands there.
+#[inline(never)]
+fn make_room(items: &mut Vec<u8>, start: usize, more: usize) -> Result<usize, Error>
     requires start { start ≤ length items.old.items }
-    requires more { length items.old.items + more < 4294967296 }
-    ensures moved { OnOk result (drop (start + more) items.new.items ≡ drop start items.old.items) }
-    ensures len { OnOk result (length items.new.items ≡ length items.old.items + more) }
-    ensures err { IfErr result (λ e. e.kind ≡ Memory) }
+    requires within { length items.old.items ≤ limit }
+    ensures moved { IfOk result (λ place. drop place items.new.items ≡ drop start items.old.items) }
+    ensures room { IfOk result (λ place. (more ≤ place) × (place ≤ length items.new.items)) }
+    ensures len { OnOk result (length items.new.items ≤ limit) }
+    ensures err { IfErr result (λ e. (e.kind ≡ Memory) ⊎ ((e.kind ≡ Overlength) × (limit < more + length (drop start items.old.items)))) }
     ensures unchanged { OnErr result (items.new.items ≡ items.old.items) }
 {
-    let len = items.len();
-    items.resize(len + more, 0)?;
-    items.as_mut_slice().copy_within(start..len, start + more);
-    Ok(())
+    let len = items.len() - start;
+    if more > Length::MAX.as_u32() as usize - len {
+        return Err(ErrorKind::Overlength.into());
+    }
+    // Twice what is needed and some headers, so that what stands is moved seldom.
+    let total = (2 * (len + more) + SPARE).min(Length::MAX.as_u32() as usize);
+    let place = total - len;
+    let mut wider = Vec::with_capacity(*items.allocator(), total)?;
+    wider.resize(place, 0)?;
+    wider.extend_from_slice(&items.as_slice()[start..])?;
+    *items = wider;
+    Ok(place)
 }
 
 impl Growing {
@@ -76,16 +88,10 @@ impl Room for Growing {
         self.items.len() - self.start
     }
 
+    #[inline(always)]
     fn put(&mut self, bytes: &[u8]) -> Result<(), Error> {
-        let len = self.items.len() - self.start;
-        if bytes.len() > Length::MAX.as_u32() as usize - len {
-            return Err(ErrorKind::Overlength.into());
-        }
         if bytes.len() > self.start {
-            // Twice what is needed and some headers, so that what stands is moved seldom.
-            let more = bytes.len() + len + SPARE;
-            grow(&mut self.items, self.start, more)?;
-            self.start += more;
+            self.start = make_room(&mut self.items, self.start, bytes.len())?;
         }
         let start = self.start - bytes.len();
         self.items.as_mut_slice()[start..self.start].copy_from_slice(bytes);

@@ -1,21 +1,8 @@
-use Rattle.std.proofs.Common.{◌≡◌, ◌<◌, length, arith}
-use Rattle.std.proofs.lemmas.Bool.Decides.{nat_tests}
-use Rattle.std.proofs.lemmas.Result.{err_from_is_err_and}
-use Rattle.x509_der_frames.specs.ListLaws.{none_read, first_read, first_refused}
+use Rattle.x509_der_frames.specs.ListLaws.{no_front}
+use Rattle.x509_der_frames.specs.List.{list_reading}
 use Rattle.x509_der_frames.proofs.list.read_members.Goals as goal
-
-pub returns-then-is_empty : goal.returns-then-is_empty
-returns-then-is_empty g c =
-    let none : length c.args.bytes.now ≡ 0 = grind (arith, nat_tests) in
-    record { exact = rw c.new.ensures.items (none_read g.T.Grammar.form.reading c.args.bytes.now none) }
-
-pub returns-in_err-first : goal.returns-in_err-first
-returns-in_err-first g c =
-    let p = err_from_is_err_and c.from_residual.result c.from_residual.ensures.1 in
-    let some : 0 < length c.args.bytes.now = grind (arith, nat_tests) in
-    record { exact = rw (p.1, p.2) (first_refused g.T.Grammar.form.reading c.args.bytes.now c.in_err-first.field-0.0.kind c.in_err-first.ensures.exact some) }
 
 pub returns : goal.returns
 returns g c =
-    let read = first_read g.T.Grammar.form.reading c.args.bytes.now c.field.new.rest.now c.in_ok-first.first c.in_ok-first.ensures.exact in
-    record { exact = rw read at c.read_further.ensures.exact }
+    let same = no_front (list_reading g.T.Grammar.form.reading c.args.bytes.now) in
+    record { exact = rw same at rw c.in_ok-items.ensures.items at c.read_behind.ensures.exact }
