@@ -1,0 +1,2 @@
+mod DomainFacts
+mod ModuleFacts

@@ -1,0 +1,5 @@
+pub mod Making
+pub mod Usages
+pub mod Domain
+pub mod Modules
+pub mod Profiles

@@ -1,0 +1,138 @@
+//! Lists of extensions that are made of their payloads.
+
+ghost use Rattle.std.specs.Prelude.{◌≡◌, Bool, List, true, false};
+ghost use Rattle.x509_build_profile.specs.Making as makings;
+ghost use Rattle.x509_build_profile.specs.Making.{Appends, Pushes};
+ghost use Rattle.x509_der_grammar.specs.Writing.{writes};
+
+use std::alloc::Global;
+use x509_base_key::SubjectPublicKeyInfoRef;
+use x509_build_error::Result;
+use x509_der_frames::SequenceOf;
+use x509_der_grammar::{Encode, Error as DerError};
+use x509_der_oid::{AssociatedOid, ObjectIdentifier};
+use x509_ext_frame::{Criticality, Extension, ToExtension, id_pkix};
+use x509_ext_key::{BasicConstraints, ExtendedKeyUsage, KeyUsage, KeyUsages, SubjectKeyIdentifier};
+use x509_ext_party::{AuthorityKeyIdentifier, SubjectAltName};
+use x509_name_rdn::Name;
+
+/// The purpose of a server in TLS, id-kp-serverAuth, 1.3.6.1.5.5.7.3.1 (RFC 5280 4.2.1.12).
+const SERVER_AUTH: ObjectIdentifier = id_pkix!(3, 1);
+
+/// The purpose of a client in TLS, id-kp-clientAuth, 1.3.6.1.5.5.7.3.2 (RFC 5280 4.2.1.12).
+const CLIENT_AUTH: ObjectIdentifier = id_pkix!(3, 2);
+
+/// Puts the extension of a payload behind those that stand, as critical as the payload says (RFC 5280 4.2).
+fn push<T: AssociatedOid + Criticality + Encode>(
+    alloc: Global,
+    extensions: &mut Vec<Extension>,
+    subject: &Name,
+    payload: &T,
+) -> std::result::Result<(), DerError>
+    ensures { Pushes T.OID (T.is_critical payload.now subject.now extensions.old.items) T.form (writes T.writing payload.now) result extensions.old.items extensions.new.items }
+{
+    let extension = payload.to_extension(alloc, subject, extensions.as_slice())?;
+    extensions.push(extension)?;
+    Ok(())
+}
+
+/// Puts an AuthorityKeyIdentifier of that key alone.
+pub(crate) fn push_authority_key(
+    alloc: Global,
+    extensions: &mut Vec<Extension>,
+    subject: &Name,
+    key: SubjectPublicKeyInfoRef<'_>,
+) -> Result<()>
+    ensures { Appends (makings.authority_key key.entry.subject_public_key.now) result extensions.old.items extensions.new.items }
+{
+    let identifier = AuthorityKeyIdentifier::from_key(alloc, key)?;
+    push(alloc, extensions, subject, &identifier)?;
+    Ok(())
+}
+
+/// Puts a SubjectKeyIdentifier of that key.
+pub(crate) fn push_subject_key(
+    alloc: Global,
+    extensions: &mut Vec<Extension>,
+    subject: &Name,
+    key: SubjectPublicKeyInfoRef<'_>,
+) -> Result<()>
+    ensures { Appends (makings.subject_key key.entry.subject_public_key.now) result extensions.old.items extensions.new.items }
+{
+    let identifier = SubjectKeyIdentifier::from_key(alloc, key)?;
+    push(alloc, extensions, subject, &identifier)?;
+    Ok(())
+}
+
+/// Puts BasicConstraints.
+pub(crate) fn push_constraints(
+    alloc: Global,
+    extensions: &mut Vec<Extension>,
+    subject: &Name,
+    ca: bool,
+    path_len_constraint: Option<u8>,
+) -> Result<()>
+    ensures { Appends (makings.constraints ca path_len_constraint) result extensions.old.items extensions.new.items }
+{
+    let constraints = BasicConstraints {
+        ca,
+        path_len_constraint,
+    };
+    push(alloc, extensions, subject, &constraints)?;
+    Ok(())
+}
+
+/// Puts a KeyUsage of these uses.
+pub(crate) fn push_key_usage(
+    alloc: Global,
+    extensions: &mut Vec<Extension>,
+    subject: &Name,
+    usages: KeyUsages,
+) -> Result<()>
+    ensures { Appends (makings.key_usage usages.0) result extensions.old.items extensions.new.items }
+{
+    push(alloc, extensions, subject, &KeyUsage(usages))?;
+    Ok(())
+}
+
+/// The purposes of a server, and where asked for of a client.
+fn purposes(
+    alloc: Global,
+    client_auth: bool,
+) -> std::result::Result<SequenceOf<ObjectIdentifier>, DerError>
+    ensures { makings.GivesPurposes client_auth result }
+{
+    let mut purposes = SequenceOf::new(alloc);
+    purposes.push(SERVER_AUTH)?;
+    if client_auth {
+        purposes.push(CLIENT_AUTH)?;
+    }
+    Ok(purposes)
+}
+
+/// Puts an ExtendedKeyUsage for servers, and where asked for for clients.
+pub(crate) fn push_purposes(
+    alloc: Global,
+    extensions: &mut Vec<Extension>,
+    subject: &Name,
+    client_auth: bool,
+) -> Result<()>
+    ensures { Appends (makings.extended_key_usage client_auth) result extensions.old.items extensions.new.items }
+{
+    let usage = ExtendedKeyUsage(purposes(alloc, client_auth)?);
+    push(alloc, extensions, subject, &usage)?;
+    Ok(())
+}
+
+/// Puts a SubjectAltName.
+pub(crate) fn push_alternative_names(
+    alloc: Global,
+    extensions: &mut Vec<Extension>,
+    subject: &Name,
+    names: &SubjectAltName,
+) -> Result<()>
+    ensures { Appends (makings.alternative_names subject.now names.now.0) result extensions.old.items extensions.new.items }
+{
+    push(alloc, extensions, subject, names)?;
+    Ok(())
+}
