@@ -1,0 +1,38 @@
+//! What a certificate says.
+
+ghost use Rattle.std.specs.Prelude.{◌≡◌};
+ghost use Rattle.x509_c_certificate.specs.Extensions.{LooksUpExtension};
+ghost use Rattle.x509_c_certificate.specs.View.{IsView};
+ghost use Rattle.x509_c_status.specs.Calls.{Reads};
+ghost use Rattle.x509_c_status.specs.Status.{Tells};
+
+use std::alloc::Global;
+use x509_base_validity::Rfc5280;
+use x509_c_certificate::{CertificateView, ExtensionView, certificate_extension, certificate_view};
+use x509_cert_certificate::CertificateInner;
+use x509_der_grammar::Grammar;
+
+/// Reads a certificate under the rules of RFC 5280, and fills in what it says and where its parts stand.
+#[unsafe(no_mangle)]
+pub extern "C" fn x509_certificate_view(
+    alloc: Global,
+    input: &[u8],
+    view: &mut CertificateView,
+) -> i32
+    ensures { Tells (λ status. Reads ⟦<CertificateInner<Rfc5280> as Grammar>⟧.form ⟦<CertificateInner<Rfc5280> as Grammar>⟧.refuses input.now (λ certificate. IsView input.now certificate.tbs_certificate view.new) (view.new ≡ view.old) status) result }
+{
+    certificate_view(alloc, input, view).code()
+}
+
+/// Reads a certificate under the rules of RFC 5280, and fills in its extension with the identifier of these content octets.
+#[unsafe(no_mangle)]
+pub extern "C" fn x509_certificate_extension(
+    alloc: Global,
+    input: &[u8],
+    oid: &[u8],
+    found: &mut ExtensionView,
+) -> i32
+    ensures { Tells (λ status. LooksUpExtension ⟦<CertificateInner<Rfc5280> as Grammar>⟧.form ⟦<CertificateInner<Rfc5280> as Grammar>⟧.refuses input.now oid.now found.old found.new status) result }
+{
+    certificate_extension(alloc, input, oid, found).code()
+}

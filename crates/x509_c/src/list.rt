@@ -1,0 +1,38 @@
+//! What a list of revoked certificates says.
+
+ghost use Rattle.std.specs.Prelude.{◌≡◌, length};
+ghost use Rattle.x509_c_crl.specs.Entries.{entries};
+ghost use Rattle.x509_c_crl.specs.Revoked.{LooksUp};
+ghost use Rattle.x509_c_status.specs.Calls.{Reads};
+ghost use Rattle.x509_c_status.specs.Status.{Tells};
+ghost use Rattle.x509_cert_extension.specs.LookUp.{Finds, members, with_oid};
+
+use std::alloc::Global;
+use x509_base_serial::SerialNumber;
+use x509_base_validity::Rfc5280;
+use x509_c_crl::{Revocation, crl_lookup, crl_walk};
+use x509_cert_crl::CertificateList;
+use x509_der_grammar::{Decode, Grammar};
+use x509_der_oid::AssociatedOid;
+use x509_pkix_crl::CrlReason;
+
+/// Reads a list of revoked certificates under the rules of RFC 5280, and says how many entries it has.
+#[unsafe(no_mangle)]
+pub extern "C" fn x509_crl_walk(alloc: Global, input: &[u8], count: &mut usize) -> i32
+    ensures { Tells (λ status. Reads ⟦<CertificateList<Rfc5280> as Grammar>⟧.form ⟦<CertificateList<Rfc5280> as Grammar>⟧.refuses input.now (λ list. count.new ≡ length (entries list.tbs_cert_list.revoked_certificates)) (count.new ≡ count.old) status) result }
+{
+    crl_walk(alloc, input, count).code()
+}
+
+/// Reads a list of revoked certificates and a serial number, and fills in what the first entry with the number says.
+#[unsafe(no_mangle)]
+pub extern "C" fn x509_crl_lookup(
+    alloc: Global,
+    input: &[u8],
+    serial_number: &[u8],
+    revocation: &mut Revocation,
+) -> i32
+    ensures { Tells (λ status. LooksUp ⟦<CertificateList<Rfc5280> as Grammar>⟧.form ⟦<CertificateList<Rfc5280> as Grammar>⟧.refuses ⟦<SerialNumber<Rfc5280> as Grammar>⟧.form ⟦<SerialNumber<Rfc5280> as Grammar>⟧.refuses (λ e found. Finds ⟦<CrlReason as Grammar>⟧.form ⟦<CrlReason as Grammar>⟧.refuses ⟦<CrlReason as Decode>⟧.wants_memory (with_oid ⟦<CrlReason as AssociatedOid>⟧.OID (members e.crl_entry_extensions)) found) input.now serial_number.now revocation.old revocation.new status) result }
+{
+    crl_lookup(alloc, input, serial_number, revocation).code()
+}

@@ -1,0 +1,106 @@
+//! Values that are read, or read and written, as a whole.
+
+ghost use Rattle.std.specs.Str.{is_utf8};
+ghost use Rattle.x509_c_named.specs.Named.{IsNamedAnswer, IsTextAnswer, profile_of};
+ghost use Rattle.x509_c_place.specs.SignedPlace.{IsSignedAt};
+ghost use Rattle.x509_c_status.specs.Calls.{Checks};
+ghost use Rattle.x509_c_status.specs.Status.{Fills, Tells};
+ghost use Rattle.x509_tool_table.specs.Reencoding.{Reencodes};
+
+use std::alloc::Global;
+use x509_base_validity::Rfc5280;
+use x509_c_named::{name_from_text, name_text, reencode_named};
+use x509_c_place::{Span, signed_place};
+use x509_c_status::{check, reencode};
+use x509_cert_certificate::CertificateInner;
+use x509_cert_crl::CertificateList;
+use x509_cert_request::CertReq;
+use x509_der_grammar::{Encode, Grammar};
+use x509_tool_run::{Codec, NameCodec};
+use x509_tool_types::Types;
+
+/// Reads a value of the type with that name under the profile with that number, and writes it at the front of the room.
+#[unsafe(no_mangle)]
+pub extern "C" fn x509_reencode(
+    alloc: Global,
+    name: &[u8],
+    profile: u32,
+    input: &[u8],
+    room: &mut [u8],
+    written: &mut usize,
+) -> i32
+    ensures { Tells (λ status. Fills (IsNamedAnswer ⟦<Types as Codec>⟧.reencodes name.now (profile_of profile) input.now) room.old room.new written.old written.new status) result }
+{
+    reencode_named::<Types>(alloc, name, profile, input, room, written).code()
+}
+
+/// Reads a certificate under the rules of RFC 5280, and lets it go again.
+#[unsafe(no_mangle)]
+pub extern "C" fn x509_certificate_check(alloc: Global, input: &[u8]) -> i32
+    ensures { Tells (λ status. Checks ⟦<CertificateInner<Rfc5280> as Grammar>⟧.form ⟦<CertificateInner<Rfc5280> as Grammar>⟧.refuses input.now status) result }
+{
+    check::<CertificateInner<Rfc5280>>(alloc, input).code()
+}
+
+/// Reads a certificate under the rules of RFC 5280, and writes it at the front of the room.
+#[unsafe(no_mangle)]
+pub extern "C" fn x509_certificate_reencode(
+    alloc: Global,
+    input: &[u8],
+    room: &mut [u8],
+    written: &mut usize,
+) -> i32
+    ensures { Tells (λ status. Fills (Reencodes ⟦<CertificateInner<Rfc5280> as Grammar>⟧.form ⟦<CertificateInner<Rfc5280> as Encode>⟧.writing ⟦<CertificateInner<Rfc5280> as Grammar>⟧.refuses input.now) room.old room.new written.old written.new status) result }
+{
+    reencode::<CertificateInner<Rfc5280>>(alloc, input, room, written).code()
+}
+
+/// Reads a list of revoked certificates under the rules of RFC 5280, and lets it go again.
+#[unsafe(no_mangle)]
+pub extern "C" fn x509_crl_check(alloc: Global, input: &[u8]) -> i32
+    ensures { Tells (λ status. Checks ⟦<CertificateList<Rfc5280> as Grammar>⟧.form ⟦<CertificateList<Rfc5280> as Grammar>⟧.refuses input.now status) result }
+{
+    check::<CertificateList<Rfc5280>>(alloc, input).code()
+}
+
+/// Reads a request for a certificate, and lets it go again.
+#[unsafe(no_mangle)]
+pub extern "C" fn x509_request_check(alloc: Global, input: &[u8]) -> i32
+    ensures { Tells (λ status. Checks ⟦<CertReq as Grammar>⟧.form ⟦<CertReq as Grammar>⟧.refuses input.now status) result }
+{
+    check::<CertReq>(alloc, input).code()
+}
+
+/// Reads a name, and puts its text in UTF-8 at the front of the room.
+#[unsafe(no_mangle)]
+pub extern "C" fn x509_name_text(
+    alloc: Global,
+    input: &[u8],
+    room: &mut [u8],
+    written: &mut usize,
+) -> i32
+    ensures { Tells (λ status. Fills (⟦<Types as NameCodec>⟧.prints_name input.now) room.old room.new written.old written.new status) result }
+{
+    name_text::<Types>(alloc, input, room, written).code()
+}
+
+/// Reads the text of a name, and puts the name's encoding at the front of the room.
+#[unsafe(no_mangle)]
+pub extern "C" fn x509_name_from_text(
+    alloc: Global,
+    text: &[u8],
+    room: &mut [u8],
+    written: &mut usize,
+) -> i32
+    ensures { Tells (λ status. Fills (IsTextAnswer ⟦<Types as NameCodec>⟧.encodes_name (is_utf8 text.now) text.now) room.old room.new written.old written.new status) result }
+{
+    name_from_text::<Types>(alloc, text, room, written).code()
+}
+
+/// Where the part stands that a signature is over.
+#[unsafe(no_mangle)]
+pub extern "C" fn x509_signed_slice(input: &[u8], span: &mut Span) -> i32
+    ensures { Tells (λ status. IsSignedAt input.now span.old span.new status) result }
+{
+    signed_place(input, span).code()
+}

@@ -1,0 +1,10 @@
+//! What a certificate says, and where its parts stand in the bytes.
+#![tactic(auto)]
+
+mod extension;
+mod view;
+mod whole;
+
+pub use extension::{ExtensionView, certificate_extension};
+pub use view::CertificateView;
+pub use whole::certificate_view;

@@ -1,0 +1,7 @@
+-- The entries of a list of revoked certificates.
+use Rattle.std.specs.Prelude.{List, [], Option, Some, None}
+
+-- the members, none where the list of them is left out
+abbrev pub entries : {X : Type 0} → Option (List X) → List X
+entries None = []
+entries (Some members) = members

@@ -1,0 +1,8 @@
+//! What a list of revoked certificates says.
+#![tactic(auto)]
+
+mod list;
+mod lookup;
+
+pub use list::{crl_walk, entries};
+pub use lookup::{Revocation, crl_lookup};

@@ -1,0 +1,109 @@
+//! What a list says of a certificate.
+
+ghost use Rattle.std.specs.Prelude.{◌≡◌, ◌∷◌, [], MatchOption};
+ghost use Rattle.x509_c_crl.specs.Entries.{entries};
+ghost use Rattle.x509_c_crl.specs.Revoked.{LooksUp, Revokes, Tells, reason_number, with_serial};
+ghost use Rattle.x509_cert_extension.specs.LookUp.{Finds, members, with_oid};
+
+use crate::list::entries;
+use std::alloc::Global;
+use x509_base_serial::SerialNumber;
+use x509_base_validity::Rfc5280;
+use x509_c_status::{Status, read};
+use x509_cert_crl::{CertificateList, RevokedCert};
+use x509_der_grammar::{Decode, Error, Grammar};
+use x509_der_oid::AssociatedOid;
+use x509_pkix_crl::CrlReason;
+
+/// When a certificate was revoked, and why.
+#[derive(Clone, Copy, Debug, PartialEq, Eq)]
+#[repr(C)]
+pub struct Revocation {
+    /// When it was revoked, in seconds since 1970-01-01T00:00:00Z.
+    pub date: u64,
+
+    /// The number of the reason (RFC 5280 5.3.1); -1 where the entry gives none.
+    pub reason: i32,
+}
+
+/// The first entry with the serial number, and those behind it.
+fn split_first_with<'a>(
+    entries: &'a [RevokedCert<Rfc5280>],
+    serial_number: &SerialNumber<Rfc5280>,
+) -> Option<(&'a RevokedCert<Rfc5280>, &'a [RevokedCert<Rfc5280>])>
+    ensures { MatchOption result (with_serial serial_number.now entries.now ≡ []) (λ found. with_serial serial_number.now entries.now ≡ found.0.now ∷ with_serial serial_number.now found.1.now) }
+{
+    let mut rest = entries;
+    while let Some((first, others)) = rest.split_first() {
+        if first.serial_number == *serial_number {
+            return Some((first, others));
+        }
+        rest = others;
+    }
+    None
+}
+
+/// The number of a reason, -1 for none.
+fn number_of(reason: Option<(bool, CrlReason)>) -> i32
+    ensures { result ≡ reason_number reason }
+{
+    match reason {
+        None => -1,
+        Some((_, reason)) => reason as i32,
+    }
+}
+
+/// What an entry says.
+fn revocation_of(alloc: Global, entry: &RevokedCert<Rfc5280>) -> Result<Revocation, Error>
+    ensures { Revokes (λ e found. Finds ⟦<CrlReason as Grammar>⟧.form ⟦<CrlReason as Grammar>⟧.refuses ⟦<CrlReason as Decode>⟧.wants_memory (with_oid ⟦<CrlReason as AssociatedOid>⟧.OID (members e.crl_entry_extensions)) found) entry.now result }
+{
+    let reason = entry.get_extension::<CrlReason>(alloc)?;
+    Ok(Revocation {
+        date: entry.revocation_date.to_unix_duration().as_secs(),
+        reason: number_of(reason),
+    })
+}
+
+/// Fills in what the first entry with the number says.
+#[tactic(auto, unfolding(crate::specs::Revoked::Tells))]
+fn ask(
+    alloc: Global,
+    entries: &[RevokedCert<Rfc5280>],
+    serial_number: &SerialNumber<Rfc5280>,
+    revocation: &mut Revocation,
+) -> Status
+    ensures { Tells (λ e found. Finds ⟦<CrlReason as Grammar>⟧.form ⟦<CrlReason as Grammar>⟧.refuses ⟦<CrlReason as Decode>⟧.wants_memory (with_oid ⟦<CrlReason as AssociatedOid>⟧.OID (members e.crl_entry_extensions)) found) entries.now serial_number.now revocation.old revocation.new result }
+{
+    let Some((entry, _)) = split_first_with(entries, serial_number) else {
+        return Status::Absent;
+    };
+    match revocation_of(alloc, entry) {
+        Ok(found) => {
+            *revocation = found;
+            Status::Done
+        }
+        Err(e) => e.into(),
+    }
+}
+
+/// Reads a list of revoked certificates and a serial number, both under the rules of RFC 5280, and fills in what the first entry with the
+/// number says.
+#[tactic(auto, unfolding(crate::specs::Revoked::LooksUp))]
+pub fn crl_lookup(
+    alloc: Global,
+    input: &[u8],
+    serial_number: &[u8],
+    revocation: &mut Revocation,
+) -> Status
+    ensures { LooksUp ⟦<CertificateList<Rfc5280> as Grammar>⟧.form ⟦<CertificateList<Rfc5280> as Grammar>⟧.refuses ⟦<SerialNumber<Rfc5280> as Grammar>⟧.form ⟦<SerialNumber<Rfc5280> as Grammar>⟧.refuses (λ e found. Finds ⟦<CrlReason as Grammar>⟧.form ⟦<CrlReason as Grammar>⟧.refuses ⟦<CrlReason as Decode>⟧.wants_memory (with_oid ⟦<CrlReason as AssociatedOid>⟧.OID (members e.crl_entry_extensions)) found) input.now serial_number.now revocation.old revocation.new result }
+{
+    let list = match read::<CertificateList<Rfc5280>>(alloc, input) {
+        Ok(list) => list,
+        Err(e) => return Status::Refused(e),
+    };
+    let serial_number = match read::<SerialNumber<Rfc5280>>(alloc, serial_number) {
+        Ok(serial_number) => serial_number,
+        Err(e) => return Status::Refused(e),
+    };
+    ask(alloc, entries(&list), &serial_number, revocation)
+}

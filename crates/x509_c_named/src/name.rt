@@ -1,0 +1,46 @@
+//! Names as texts.
+
+ghost use Rattle.std.specs.Str.{is_utf8};
+ghost use Rattle.x509_c_named.specs.Named.{IsTextAnswer};
+ghost use Rattle.x509_c_status.specs.Status.{Fills};
+
+use crate::text::text_of;
+use std::alloc::Global;
+use x509_c_status::{Status, fill};
+use x509_der_element::ErrorKind;
+use x509_tool_run::NameCodec;
+
+/// Reads a name, and puts its text in UTF-8 at the front of the room.
+#[tactic(auto, unfolding(x509_c_status::specs::Status::Fills))]
+pub fn name_text<C: NameCodec>(
+    alloc: Global,
+    input: &[u8],
+    room: &mut [u8],
+    written: &mut usize,
+) -> Status
+    ensures { Fills (C.prints_name input.now) room.old room.new written.old written.new result }
+{
+    match C::print_name(alloc, input) {
+        Ok(text) => fill(text.as_str().as_bytes(), room, written),
+        Err(e) => e.into(),
+    }
+}
+
+/// Reads the text of a name, and puts the name's encoding at the front of the room. `Failed` where the text isn't UTF-8.
+#[tactic(auto, unfolding(x509_c_status::specs::Status::Fills))]
+pub fn name_from_text<C: NameCodec>(
+    alloc: Global,
+    text: &[u8],
+    room: &mut [u8],
+    written: &mut usize,
+) -> Status
+    ensures { Fills (IsTextAnswer C.encodes_name (is_utf8 text.now) text.now) room.old room.new written.old written.new result }
+{
+    let Some(text) = text_of(text) else {
+        return Status::Refused(ErrorKind::Failed);
+    };
+    match C::encode_name(alloc, text) {
+        Ok(bytes) => fill(bytes.as_slice(), room, written),
+        Err(e) => e.into(),
+    }
+}

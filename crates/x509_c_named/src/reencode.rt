@@ -1,0 +1,47 @@
+//! Reading and writing a value of the type with a name.
+
+ghost use Rattle.std.specs.Prelude.{◌≡◌};
+ghost use Rattle.x509_c_named.specs.Named.{IsNamedAnswer, profile_of};
+ghost use Rattle.x509_c_status.specs.Status.{Fills};
+
+use crate::text::text_of;
+use std::alloc::Global;
+use x509_c_status::{Status, fill};
+use x509_der_element::ErrorKind;
+use x509_tool_run::{Codec, ProfileName};
+
+/// The profile with a number: 0 is RFC 5280, 1 is none.
+fn profile_of(number: u32) -> Option<ProfileName>
+    ensures { result ≡ profile_of number }
+{
+    match number {
+        0 => Some(ProfileName::Rfc5280),
+        1 => Some(ProfileName::Raw),
+        _ => None,
+    }
+}
+
+/// Reads a value of the type with that name under the profile with that number, and writes it at the front of the room. `Failed` where there is
+/// no such type or profile.
+#[tactic(auto, unfolding(x509_c_status::specs::Status::Fills))]
+pub fn reencode_named<C: Codec>(
+    alloc: Global,
+    name: &[u8],
+    profile: u32,
+    input: &[u8],
+    room: &mut [u8],
+    written: &mut usize,
+) -> Status
+    ensures { Fills (IsNamedAnswer C.reencodes name.now (profile_of profile) input.now) room.old room.new written.old written.new result }
+{
+    let Some(profile) = profile_of(profile) else {
+        return Status::Refused(ErrorKind::Failed);
+    };
+    let Some(name) = text_of(name) else {
+        return Status::Refused(ErrorKind::Failed);
+    };
+    match C::reencode(alloc, name, profile, input) {
+        Ok(bytes) => fill(bytes.as_slice(), room, written),
+        Err(e) => e.into(),
+    }
+}

@@ -1,0 +1,16 @@
+-- What a call leaves that says where the signed part stands.
+use Rattle.std.specs.Prelude.{◌≡◌, ℕ, List}
+use Rattle.x509_c_place.specs.Place.{IsAt}
+use Rattle.x509_c_place.specs.declared.span.Span.{Span}
+use Rattle.x509_c_status.specs.declared.status.Status.{Status}
+use Rattle.x509_c_status.specs.declared.status.Status.TheVariants.{Done, NoRoom, Absent, Repeated, Refused}
+use Rattle.x509_cert_signed.specs.Signed.{IsSignedPart}
+use Rattle.x509_der_element.specs.declared.error.ErrorKind.TheVariants.{Malformed}
+
+-- Done: the signed part stands there. Refused: there is none, and the span is as it was.
+unfoldable pub IsSignedAt : List ℕ → Span → Span → Status → Type 0
+IsSignedAt bytes was is Done = (signed : List ℕ) × IsSignedPart bytes signed × IsAt signed bytes is
+IsSignedAt bytes was is (Refused e) = (e ≡ Malformed) × ((signed : List ℕ) → IsSignedPart bytes signed → ⊥) × (is ≡ was)
+IsSignedAt bytes was is NoRoom = ⊥
+IsSignedAt bytes was is Absent = ⊥
+IsSignedAt bytes was is Repeated = ⊥

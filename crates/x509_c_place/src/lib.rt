@@ -1,0 +1,10 @@
+//! Places of parts in the bytes that were read.
+#![tactic(auto)]
+
+mod signed;
+mod span;
+mod walk;
+
+pub use signed::{signed_place, signed_span};
+pub use span::Span;
+pub use walk::{enter, step};

@@ -1,0 +1,39 @@
+//! Where the signed part stands.
+
+ghost use Rattle.std.specs.Prelude.{List, ℕ, MatchOption};
+ghost use Rattle.x509_c_place.specs.Place.{IsAt};
+ghost use Rattle.x509_c_place.specs.SignedPlace.{IsSignedAt};
+ghost use Rattle.x509_cert_signed.specs.Signed.{IsSignedPart};
+
+use crate::span::Span;
+use crate::walk::{enter, step};
+use x509_c_status::Status;
+use x509_cert_signed::signed_slice;
+use x509_der_element::ErrorKind;
+
+/// Where the part stands that a signature is over (RFC 5280 4.1.1.3, 5.1.1.3, RFC 2986 4.2).
+pub fn signed_span(input: &[u8]) -> Option<Span>
+    ensures { MatchOption result ((signed : List ℕ) → IsSignedPart input.now signed → ⊥) (λ span. (signed : List ℕ) × IsSignedPart input.now signed × IsAt signed input.now span) }
+{
+    let Some(_signed) = signed_slice(input) else {
+        return None;
+    };
+    let mut at = 0;
+    enter(input, &mut at);
+    Some(step(input, &mut at, true))
+}
+
+/// The same as a call that fills in the span: `Malformed` where there is no such part, and the span stays as it was then. It takes no
+/// memory.
+#[tactic(auto, unfolding(crate::specs::SignedPlace::IsSignedAt))]
+pub fn signed_place(input: &[u8], span: &mut Span) -> Status
+    ensures { IsSignedAt input.now span.old span.new result }
+{
+    match signed_span(input) {
+        Some(found) => {
+            *span = found;
+            Status::Done
+        }
+        None => Status::Refused(ErrorKind::Malformed),
+    }
+}

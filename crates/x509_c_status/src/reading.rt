@@ -1,0 +1,31 @@
+//! Reading a value.
+
+ghost use Rattle.std.specs.Prelude.{◌≡◌, ◌⊎◌, MatchResult};
+ghost use Rattle.x509_c_status.specs.Calls.{Checks, IsRefused};
+ghost use Rattle.x509_der_element.specs.declared.error.ErrorKind.TheVariants.{Memory};
+ghost use Rattle.x509_der_grammar.specs.Form.{Spells};
+
+use crate::status::Status;
+use std::alloc::Global;
+use x509_der_grammar::{Decode, ErrorKind};
+
+/// Reads a value from the bytes, and lets it go again: done exactly where the bytes spell one. Memory may be refused.
+#[tactic(auto, unfolding(crate::specs::Calls::Reads))]
+pub fn check<T: Decode + Drop>(alloc: Global, input: &[u8]) -> Status
+    ensures { Checks T.form T.refuses input.now result }
+{
+    match T::from_der(alloc, input) {
+        Ok(_) => Status::Done,
+        Err(e) => e.into(),
+    }
+}
+
+/// Reads a value from the bytes; else says why there is none.
+pub fn read<T: Decode>(alloc: Global, input: &[u8]) -> Result<T, ErrorKind>
+    ensures { MatchResult result (λ value. Spells T.form value input.now) (λ e. (e ≡ Memory) ⊎ IsRefused T.form T.refuses input.now e) }
+{
+    match T::from_der(alloc, input) {
+        Ok(value) => Ok(value),
+        Err(e) => Err(e.kind()),
+    }
+}

@@ -1,0 +1,21 @@
+//! Handing over bytes.
+
+ghost use Rattle.std.specs.Prelude.{◌≡◌, Ok};
+ghost use Rattle.x509_c_status.specs.Status.{Fills};
+ghost use Rattle.x509_c_status.specs.declared.status.Status.TheVariants as statuses;
+
+use crate::status::Status;
+
+/// Puts the bytes at the front of the room, and says how many they are. Where the room is too small, it stays as it was.
+#[tactic(auto, unfolding(crate::specs::Status::Fills))]
+pub fn fill(bytes: &[u8], room: &mut [u8], written: &mut usize) -> Status
+    ensures left { Fills (λ answer. answer ≡ Ok bytes.now) room.old room.new written.old written.new result }
+    ensures unchanged { result ≡ statuses.NoRoom → room.new ≡ room.old }
+{
+    *written = bytes.len();
+    if bytes.len() > room.len() {
+        return Status::NoRoom;
+    }
+    room[..bytes.len()].copy_from_slice(bytes);
+    Status::Done
+}

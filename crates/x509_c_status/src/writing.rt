@@ -1,0 +1,48 @@
+//! Reading a value and writing it again.
+
+ghost use Rattle.x509_c_status.specs.Calls.{Encodes};
+ghost use Rattle.x509_c_status.specs.Status.{Fills};
+ghost use Rattle.x509_der_grammar.specs.Writing.{writes};
+ghost use Rattle.x509_tool_table.specs.Reencoding.{Reencodes};
+
+use crate::status::Status;
+use std::alloc::Global;
+use x509_der_grammar::{Decode, Encode};
+
+/// Writes the value at the front of the room, and says how many bytes it has. It takes no memory. Where the room is too
+/// small, or the value can't be written, the room may hold a part of them.
+#[tactic(auto, unfolding(crate::specs::Calls::Encodes, crate::specs::Status::Fills))]
+pub fn write<T: Encode>(value: &T, room: &mut [u8], written: &mut usize) -> Status
+    ensures { Fills (Encodes T.form (writes T.writing value.now)) room.old room.new written.old written.new result }
+{
+    match value.encode_into(&mut *room) {
+        Ok(before) => {
+            *written = room.len() - before;
+            room.copy_within(before.., 0);
+            Status::Done
+        }
+        Err(_) => match value.encoded_len() {
+            Ok(len) => {
+                *written = len.as_u32() as usize;
+                Status::NoRoom
+            }
+            Err(e) => e.into(),
+        },
+    }
+}
+
+/// Reads a value from the bytes, and writes it at the front of the room. Memory may be refused.
+#[tactic(auto, unfolding(crate::specs::Calls::Encodes, crate::specs::Status::Fills, x509_tool_table::specs::Reencoding::Reencodes))]
+pub fn reencode<T: Decode + Encode + Drop>(
+    alloc: Global,
+    input: &[u8],
+    room: &mut [u8],
+    written: &mut usize,
+) -> Status
+    ensures { Fills (Reencodes T.form T.writing T.refuses input.now) room.old room.new written.old written.new result }
+{
+    match T::from_der(alloc, input) {
+        Ok(value) => write(&value, room, written),
+        Err(e) => e.into(),
+    }
+}

@@ -1,0 +1,192 @@
+/* Asks each call of x509.h for an answer that is known, and for its refusals: no bytes, one byte, too little room.
+ *
+ * usage: calls CERTIFICATE LIST */
+#include <stdio.h>
+#include <stdlib.h>
+#include <string.h>
+#include "x509.h"
+
+static int failures = 0;
+
+static void want(const char *what, int is_so)
+{
+    if (!is_so) {
+        printf("wrong: %s\n", what);
+        failures++;
+    }
+}
+
+#define WANT(condition) want(#condition, condition)
+
+static uint8_t certificate[65536], list[65536], room[65536];
+/* no bytes, and no room */
+static uint8_t nothing[1];
+static size_t certificate_len, list_len, written;
+
+static size_t read_file(const char *path, uint8_t *bytes)
+{
+    FILE *file = fopen(path, "rb");
+    size_t len = file == NULL ? 0 : fread(bytes, 1, 65536, file);
+    if (file != NULL)
+        fclose(file);
+    return len;
+}
+
+/* The DER of the name CN=a, by hand. */
+static const uint8_t NAME[] = {0x30, 0x0c, 0x31, 0x0a, 0x30, 0x08, 0x06, 0x03, 0x55, 0x04, 0x03, 0x0c, 0x01, 0x61};
+
+static void whole_values(void)
+{
+    const uint8_t one = 0x30;
+    WANT(x509_certificate_check(certificate, certificate_len) == X509_OK);
+    WANT(x509_certificate_check(nothing, 0) == X509_MALFORMED);
+    WANT(x509_certificate_check(&one, 1) == X509_MALFORMED);
+    WANT(x509_certificate_check(certificate, certificate_len - 1) == X509_MALFORMED);
+    WANT(x509_certificate_check(list, list_len) == X509_MALFORMED);
+    WANT(x509_crl_check(list, list_len) == X509_OK);
+    WANT(x509_crl_check(nothing, 0) == X509_MALFORMED);
+    WANT(x509_crl_check(&one, 1) == X509_MALFORMED);
+    WANT(x509_request_check(nothing, 0) == X509_MALFORMED);
+    WANT(x509_request_check(&one, 1) == X509_MALFORMED);
+    WANT(x509_request_check(certificate, certificate_len) == X509_MALFORMED);
+
+    WANT(x509_certificate_reencode(certificate, certificate_len, room, sizeof room, &written) == X509_OK);
+    WANT(written == certificate_len && memcmp(room, certificate, written) == 0);
+    written = 77;
+    WANT(x509_certificate_reencode(certificate, certificate_len, room, certificate_len - 1, &written) == X509_ROOM);
+    WANT(written == certificate_len);
+    written = 77;
+    WANT(x509_certificate_reencode(nothing, 0, room, sizeof room, &written) == X509_MALFORMED && written == 77);
+    WANT(x509_certificate_reencode(&one, 1, nothing, 0, &written) == X509_MALFORMED && written == 77);
+}
+
+static void types_by_name(void)
+{
+    const uint8_t oid[] = {0x06, 0x03, 0x55, 0x04, 0x06};
+    const uint8_t *const name = (const uint8_t *)"ObjectIdentifier";
+    WANT(x509_reencode(name, 16, X509_RFC5280, oid, 5, room, 5, &written) == X509_OK && written == 5);
+    WANT(memcmp(room, oid, 5) == 0);
+    WANT(x509_reencode(name, 16, X509_RAW, oid, 5, room, 4, &written) == X509_ROOM && written == 5);
+    WANT(x509_reencode(name, 16, 2, oid, 5, room, 5, &written) == X509_FAILED);
+    WANT(x509_reencode(name, 15, X509_RAW, oid, 5, room, 5, &written) == X509_FAILED);
+    WANT(x509_reencode((const uint8_t *)"\xff", 1, X509_RAW, oid, 5, room, 5, &written) == X509_FAILED);
+    WANT(x509_reencode(nothing, 0, X509_RAW, oid, 5, room, 5, &written) == X509_FAILED);
+    WANT(x509_reencode(name, 16, X509_RAW, nothing, 0, room, 5, &written) == X509_MALFORMED);
+    /* 2001-02-03T04:05:06Z as GeneralizedTime in both dates: 5280 wants UTCTime. */
+    const uint8_t dates[] = "\x30\x22\x18\x0f" "20010203040506Z" "\x18\x0f" "20010203040506Z";
+    const uint8_t spelled[] = "\x30\x1e\x17\x0d" "010203040506Z" "\x17\x0d" "010203040506Z";
+    const uint8_t *const validity = (const uint8_t *)"Validity";
+    WANT(x509_reencode(validity, 8, X509_RFC5280, dates, 36, room, 36, &written) == X509_OK && written == 32);
+    WANT(memcmp(room, spelled, 32) == 0);
+    WANT(x509_reencode(validity, 8, X509_RAW, dates, 36, room, 36, &written) == X509_OK && written == 36);
+    WANT(memcmp(room, dates, 36) == 0);
+}
+
+static void names(void)
+{
+    WANT(x509_name_text(NAME, sizeof NAME, room, sizeof room, &written) == X509_OK && written == 4);
+    WANT(memcmp(room, "CN=a", 4) == 0);
+    WANT(x509_name_text(NAME, sizeof NAME, room, 3, &written) == X509_ROOM && written == 4);
+    WANT(x509_name_text(NAME, sizeof NAME, nothing, 0, &written) == X509_ROOM && written == 4);
+    WANT(x509_name_text(nothing, 0, room, sizeof room, &written) == X509_MALFORMED);
+    WANT(x509_name_text(NAME, 1, room, sizeof room, &written) == X509_MALFORMED);
+    WANT(x509_name_from_text((const uint8_t *)"CN=a", 4, room, sizeof room, &written) == X509_OK && written == sizeof NAME);
+    WANT(memcmp(room, NAME, sizeof NAME) == 0);
+    WANT(x509_name_from_text((const uint8_t *)"CN=a", 4, room, sizeof NAME - 1, &written) == X509_ROOM && written == sizeof NAME);
+    WANT(x509_name_from_text((const uint8_t *)"CN", 2, room, sizeof room, &written) == X509_FAILED);
+    WANT(x509_name_from_text((const uint8_t *)"CN=\xff", 4, room, sizeof room, &written) == X509_FAILED);
+    WANT(x509_name_from_text((const uint8_t *)"CN=a+CN=a", 9, room, sizeof room, &written) == X509_SET_DUPLICATE);
+    WANT(x509_name_from_text(nothing, 0, room, sizeof room, &written) == X509_OK && written == 2);
+}
+
+static void signed_parts(void)
+{
+    x509_span part = {7, 7};
+    WANT(x509_signed_slice(nothing, 0, &part) == X509_MALFORMED && part.place == 7 && part.len == 7);
+    WANT(x509_signed_slice(NAME, 1, &part) == X509_MALFORMED);
+    WANT(x509_signed_slice(NAME, sizeof NAME, &part) == X509_MALFORMED);
+    /* SEQUENCE { SEQUENCE {}, NULL } */
+    WANT(x509_signed_slice((const uint8_t *)"\x30\x04\x30\x00\x05\x00", 6, &part) == X509_OK && part.place == 2 && part.len == 2);
+    /* Certificates and lists of 128 to 65,535 octets begin with 30 81 LL or 30 82 LL LL. */
+    size_t header = certificate[1] == 0x82 ? 4 : 3;
+    WANT(x509_signed_slice(certificate, certificate_len, &part) == X509_OK && part.place == header);
+    WANT(certificate[part.place + part.len] == 0x30); /* the algorithm stands behind it */
+    header = list[1] == 0x82 ? 4 : 3;
+    WANT(x509_signed_slice(list, list_len, &part) == X509_OK && part.place == header);
+}
+
+static int holds(x509_span span, const char *bytes, size_t len)
+{
+    return span.len == len && memcmp(certificate + span.place, bytes, len) == 0;
+}
+
+/* The values are those of examples/data/make.py. */
+static void certificates(void)
+{
+    x509_certificate view;
+    memset(&view, 7, sizeof view);
+    const x509_certificate before = view;
+    WANT(x509_certificate_view(nothing, 0, &view) == X509_MALFORMED && memcmp(&view, &before, sizeof view) == 0);
+    WANT(x509_certificate_view(certificate, 1, &view) == X509_MALFORMED);
+    WANT(x509_certificate_view(certificate, certificate_len, &view) == X509_OK);
+    WANT(view.version == 3);
+    WANT(holds(view.serial_number, "\x02\x08\x12\x34\x56\x78\x90\xab\xcd\xef", 10));
+    WANT(view.not_before == 1767323045 && view.not_after == 2695968550);
+    WANT(view.issuer.len == view.subject.len && view.issuer.place < view.subject.place);
+    WANT(memcmp(certificate + view.issuer.place, certificate + view.subject.place, view.subject.len) == 0);
+    WANT(x509_name_text(certificate + view.subject.place, view.subject.len, room, sizeof room, &written) == X509_OK);
+    WANT(view.subject_public_key_info.len == 91); /* a key of P-256 (RFC 5480) */
+    WANT(x509_reencode((const uint8_t *)"SubjectPublicKeyInfo", 20, X509_RAW, certificate + view.subject_public_key_info.place, 91, room, 91, &written) == X509_OK);
+    WANT(x509_reencode((const uint8_t *)"Extensions", 10, X509_RAW, certificate + view.extensions.place, view.extensions.len, room, sizeof room, &written) == X509_OK);
+
+    x509_extension found = {7, {7, 7}};
+    const uint8_t *const key_usage = (const uint8_t *)"\x55\x1d\x0f";
+    WANT(x509_certificate_extension(nothing, 0, key_usage, 3, &found) == X509_MALFORMED && found.critical == 7);
+    WANT(x509_certificate_extension(certificate, certificate_len, nothing, 0, &found) == X509_ABSENT && found.value.len == 7);
+    WANT(x509_certificate_extension(certificate, certificate_len, (const uint8_t *)"\x55\x1d\x13", 3, &found) == X509_ABSENT);
+    WANT(x509_certificate_extension(certificate, certificate_len, key_usage, 3, &found) == X509_OK && found.critical == 1);
+    WANT(holds(found.value, "\x03\x02\x05\xa0", 4));
+    WANT(x509_certificate_extension(certificate, certificate_len, (const uint8_t *)"\x55\x1d\x11", 3, &found) == X509_OK);
+    WANT(found.critical == 0 && certificate[found.value.place] == 0x30);
+    /* With the identifier of the one in place of the other's, there are two. */
+    for (size_t at = view.extensions.place; at + 3 < certificate_len; at++)
+        if (memcmp(certificate + at, "\x55\x1d\x11", 3) == 0)
+            certificate[at + 2] = 0x0f;
+    found.critical = 7;
+    WANT(x509_certificate_extension(certificate, certificate_len, key_usage, 3, &found) == X509_REPEATED && found.critical == 7);
+}
+
+static void lists(void)
+{
+    size_t entries = 77;
+    WANT(x509_crl_walk(nothing, 0, &entries) == X509_MALFORMED && entries == 77);
+    WANT(x509_crl_walk(list, 1, &entries) == X509_MALFORMED && entries == 77);
+    WANT(x509_crl_walk(list, list_len, &entries) == X509_OK && entries == 3);
+
+    x509_revocation revocation = {7, 7};
+    const uint8_t *const number = (const uint8_t *)"\x02\x08\x12\x34\x56\x78\x90\xab\xcd\xef";
+    WANT(x509_crl_lookup(nothing, 0, number, 10, &revocation) == X509_MALFORMED && revocation.date == 7);
+    WANT(x509_crl_lookup(list, list_len, nothing, 0, &revocation) == X509_MALFORMED);
+    WANT(x509_crl_lookup(list, list_len, number, 9, &revocation) == X509_MALFORMED);
+    WANT(x509_crl_lookup(list, list_len, (const uint8_t *)"\x02\x01\x02", 3, &revocation) == X509_ABSENT && revocation.reason == 7);
+    WANT(x509_crl_lookup(list, list_len, number, 10, &revocation) == X509_OK);
+    WANT(revocation.date == 1768903200 && revocation.reason == 1);
+    WANT(x509_crl_lookup(list, list_len, (const uint8_t *)"\x02\x01\x03", 3, &revocation) == X509_OK && revocation.reason == -1);
+}
+
+int main(int argc, char **argv)
+{
+    if (argc != 3)
+        return 2;
+    certificate_len = read_file(argv[1], certificate);
+    list_len = read_file(argv[2], list);
+    whole_values();
+    types_by_name();
+    names();
+    signed_parts();
+    certificates();
+    lists();
+    if (failures == 0)
+        printf("all calls answer as they should\n");
+    return failures != 0;
+}
