@@ -2,7 +2,7 @@
 
 ghost use Rattle.std.specs.Duration.{as_nanos};
 ghost use Rattle.std.specs.Iterator.{Drains, IsFinite};
-ghost use Rattle.std.specs.Prelude.{◌≡◌, ◌⊎◌, ◌<◌, ◌++◌, List, Some, None, IfOk, IfErr, OnOk};
+ghost use Rattle.std.specs.Prelude.{◌≡◌, ◌⊎◌, ◌<◌, ◌≤◌, ◌++◌, List, Some, None, IfOk, IfErr, OnOk};
 ghost use Rattle.x509_base_time.specs.CivilTime.{last_date_time, unix_seconds, whole_seconds};
 ghost use Rattle.x509_base_validity.specs.Time.{IsTimeAt};
 ghost use Rattle.x509_base_validity.specs.declared.time.Time.{Time};
@@ -55,6 +55,7 @@ impl<P: Profile> CrlBuilder<P> {
     ) -> Result<CrlBuilder<P>>
         ensures ok { IfOk result (λ builder. (time : Time) × IsTimeAt (whole_seconds now) time × Starts (Finds ⟦<SubjectKeyIdentifier as Grammar>⟧.form ⟦<SubjectKeyIdentifier as Decode>⟧.refuses ⟦<SubjectKeyIdentifier as Decode>⟧.wants_memory (with_oid (id_ce 14) (look_up.members issuer.now.tbs_certificate.extensions))) issuer.now.tbs_certificate crl_number.0 time builder) }
         ensures err { IfErr result (λ e. ((refusal : Error) × (e ≡ Asn1 refusal) × (refusal.kind ≡ Value) × (unix_seconds last_date_time < whole_seconds now)) ⊎ (LacksMemory e ⊎ RefusesStart (Finds ⟦<SubjectKeyIdentifier as Grammar>⟧.form ⟦<SubjectKeyIdentifier as Decode>⟧.refuses ⟦<SubjectKeyIdentifier as Decode>⟧.wants_memory (with_oid (id_ce 14) (look_up.members issuer.now.tbs_certificate.extensions))) issuer.now.tbs_certificate crl_number.0 e)) }
+        ensures late { IfErr result (λ e. ((refusal : Error) × (e ≡ Asn1 refusal) × (refusal.kind ≡ Value)) ⊎ (whole_seconds now ≤ unix_seconds last_date_time)) }
     {
         let this_update = Time::from(DateTime::from_unix_duration(now)?);
         CrlBuilder::new_with_this_update(alloc, issuer, crl_number, this_update)

@@ -3,9 +3,7 @@
 use std::alloc::Global;
 use x509_base_key::SubjectPublicKeyInfoRef;
 use x509_build_error::Result;
-use x509_cert_certificate::TbsCertificate;
-use x509_ext_frame::Extension;
-use x509_name_rdn::Name;
+use x509_cert_certificate::{Extension, Name, TbsCertificate};
 
 /// What the certificates of one kind hold: whom they name, who signs them, and which extensions they have.
 ///
@@ -17,7 +15,7 @@ pub trait BuilderProfile: Drop {
     ghost use Rattle.x509_base_validity.specs.declared.profile.Rfc5280.{Rfc5280};
     ghost use Rattle.x509_build_signer.specs.Answer.{Answer, Gives, key_lent};
     ghost use Rattle.x509_cert_certificate.specs.declared.tbs_certificate.TbsCertificateInner.{TbsCertificateInner};
-    ghost use Rattle.x509_ext_frame.specs.declared.extension.Extension.{Extension};
+    ghost use Rattle.x509_cert_certificate.specs.extension.Extension.{Extension};
     ghost use Rattle.x509_name_attribute.specs.declared.type_and_value.AttributeTypeAndValue.{AttributeTypeAndValue};
 
     /// Who signs a certificate of that subject.

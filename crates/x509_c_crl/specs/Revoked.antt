@@ -57,8 +57,9 @@ Tells finds list number was is (Refused e) = (found : FirstEntry number list) ×
 Tells finds list number was is NoRoom = ⊥
 Tells finds list number was is Repeated = ⊥
 
--- What a call leaves that asks bytes for bytes: what the list says of the number that are spelled; or one of them is refused.
+-- What a call leaves that asks bytes for bytes: what the list says of the number that are spelled; or the list is
+-- refused; or, where there is a list, the number is.
 unfoldable pub LooksUp : {P : Type 0} → Form (CertificateList P) → (ErrorKind → Type 0) → Form (List ℕ) → (ErrorKind → Type 0) → Finding P → List ℕ → List ℕ → Revocation → Revocation → Status → Type 0
-LooksUp list_form list_refuses serial_form serial_refuses finds list_bytes serial_bytes was is status =
+LooksUp {P} list_form list_refuses serial_form serial_refuses finds list_bytes serial_bytes was is status =
     ((asked : Asked list_form serial_form list_bytes serial_bytes) × Tells finds (entries asked.list.tbs_cert_list.revoked_certificates) asked.number was is status)
-    ⊎ ((e : ErrorKind) × (status ≡ Refused e) × (is ≡ was) × ((e ≡ Memory) ⊎ (IsRefused list_form list_refuses list_bytes e ⊎ IsRefused serial_form serial_refuses serial_bytes e)))
+    ⊎ ((e : ErrorKind) × (status ≡ Refused e) × (is ≡ was) × ((e ≡ Memory) ⊎ (IsRefused list_form list_refuses list_bytes e ⊎ (((list : CertificateList P) × Spells list_form list list_bytes) × IsRefused serial_form serial_refuses serial_bytes e))))

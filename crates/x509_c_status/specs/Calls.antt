@@ -5,14 +5,16 @@ use Rattle.x509_c_status.specs.declared.status.Status.TheVariants.{Done, NoRoom,
 use Rattle.x509_der_element.specs.declared.error.ErrorKind.{ErrorKind}
 use Rattle.x509_der_element.specs.declared.error.ErrorKind.TheVariants.{Memory, Overlength, Malformed}
 use Rattle.x509_der_element.specs.Element.{limit}
-use Rattle.x509_der_grammar.specs.Form.{Form, Spells}
+use Rattle.x509_der_element.specs.Outcome.{IsRefusal}
+use Rattle.x509_der_grammar.specs.Form.{Form, Spells, whole_reading}
 use Rattle.x509_der_grammar.specs.Writing.{Written, IsWritable, IsUnwritable, written_spelling}
 
--- Why bytes are refused: they are too long; or they spell no value, as Malformed or as a refusal of the type's own.
+-- Why bytes are refused: they are too long; or they spell no value, as Malformed or as a refusal of the type's own, and which of them is said by
+-- reading.
 abbrev pub IsRefused : {X : Type 0} → Form X → (ErrorKind → Type 0) → List ℕ → ErrorKind → Type 0
 IsRefused {X} form refuses bytes e =
     ((limit < length bytes) × (e ≡ Overlength))
-    ⊎ ((length bytes ≤ limit) × ((e ≡ Malformed) ⊎ refuses e) × ((value : X) → Spells form value bytes → ⊥))
+    ⊎ ((length bytes ≤ limit) × ((e ≡ Malformed) ⊎ refuses e) × ((value : X) → Spells form value bytes → ⊥) × IsRefusal e (whole_reading form.reading bytes))
 
 -- What a call answers that reads a value: the bytes spell one of which this holds, or they are refused, and then what the call was to
 -- fill in is unchanged; memory may always be refused.

@@ -1,6 +1,6 @@
 //! Handing over bytes.
 
-ghost use Rattle.std.specs.Prelude.{◌≡◌, Ok};
+ghost use Rattle.std.specs.Prelude.{◌≡◌, ◌⊎◌, Ok};
 ghost use Rattle.x509_c_status.specs.Status.{Fills};
 ghost use Rattle.x509_c_status.specs.declared.status.Status.TheVariants as statuses;
 
@@ -11,6 +11,7 @@ use crate::status::Status;
 pub fn fill(bytes: &[u8], room: &mut [u8], written: &mut usize) -> Status
     ensures left { Fills (λ answer. answer ≡ Ok bytes.now) room.old room.new written.old written.new result }
     ensures unchanged { result ≡ statuses.NoRoom → room.new ≡ room.old }
+    ensures accepted { (result ≡ statuses.Done) ⊎ (result ≡ statuses.NoRoom) }
 {
     *written = bytes.len();
     if bytes.len() > room.len() {

@@ -1,8 +1,12 @@
 //! Reading a value and writing it again.
 
+ghost use Rattle.std.specs.Prelude.{◌≡◌};
 ghost use Rattle.x509_c_status.specs.Calls.{Encodes};
 ghost use Rattle.x509_c_status.specs.Status.{Fills};
-ghost use Rattle.x509_der_grammar.specs.Writing.{writes};
+ghost use Rattle.x509_c_status.specs.declared.status.Status.TheVariants as statuses;
+ghost use Rattle.x509_der_element.specs.Element.{limit};
+ghost use Rattle.x509_der_element.specs.declared.error.ErrorKind.{ErrorKind};
+ghost use Rattle.x509_der_grammar.specs.Writing.{IsUnwritable, writes};
 ghost use Rattle.x509_tool_table.specs.Reencoding.{Reencodes};
 
 use crate::status::Status;
@@ -13,7 +17,8 @@ use x509_der_grammar::{Decode, Encode};
 /// small, or the value can't be written, the room may hold a part of them.
 #[tactic(auto, unfolding(crate::specs::Calls::Encodes, crate::specs::Status::Fills))]
 pub fn write<T: Encode>(value: &T, room: &mut [u8], written: &mut usize) -> Status
-    ensures { Fills (Encodes T.form (writes T.writing value.now)) room.old room.new written.old written.new result }
+    ensures filled { Fills (Encodes T.form (writes T.writing value.now)) room.old room.new written.old written.new result }
+    ensures refused { (e : ErrorKind) → result ≡ statuses.Refused e → IsUnwritable T.form (writes T.writing value.now) limit e }
 {
     match value.encode_into(&mut *room) {
         Ok(before) => {

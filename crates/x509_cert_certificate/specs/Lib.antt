@@ -2,3 +2,8 @@ pub mod Version
 pub mod TbsCertificate
 pub mod Certificate
 pub mod Respelling
+pub use Rattle.x509_cert_extension.specs.Names
+pub use Rattle.x509_cert_extension.specs.Extension
+pub use Rattle.x509_cert_extension.specs.extension
+pub use Rattle.x509_cert_extension.specs.Filter
+pub use Rattle.x509_cert_extension.specs.LookUp

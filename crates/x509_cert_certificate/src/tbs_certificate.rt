@@ -10,15 +10,15 @@ use std::alloc::Global;
 use x509_base_key::{AlgorithmIdentifier, SubjectPublicKeyInfo};
 use x509_base_serial::SerialNumber;
 use x509_base_validity::{Profile, Rfc5280, Validity};
-use x509_cert_extension::{FilterExtensions, filter_extensions, get_extension, members};
+use x509_cert_extension::{
+    Extensions, FilterExtensions, Name, filter_extensions, get_extension, members,
+};
 use x509_der_frames::{
     PutPart, default_explicit, end, explicit_default, explicit_optional, field, implicit_optional,
     optional_explicit, optional_implicit,
 };
 use x509_der_grammar::{Content, Decode, Encode, Error, Room, Tag, TryClone};
 use x509_der_oid::AssociatedOid;
-use x509_ext_frame::Extensions;
-use x509_name_rdn::Name;
 use x509_prim_string::BitString;
 
 /// The signed part of a certificate under the rules of RFC 5280.

@@ -20,10 +20,10 @@ use Rattle.x509_der_frames.specs.List.{list_of}
 use Rattle.x509_der_frames.specs.PartRules.{part_rules}
 use Rattle.x509_der_grammar.specs.Form.{Form, IsForm, Contents, IsContents, universal}
 use Rattle.x509_der_grammar.specs.FormLaws.{universal_lawful}
-use Rattle.x509_ext_frame.specs.Extension.{extensions, extensions_lawful}
-use Rattle.x509_ext_frame.specs.declared.extension.Extension.{Extension}
+use Rattle.x509_cert_certificate.specs.Extension.{extensions, extensions_lawful}
+use Rattle.x509_cert_certificate.specs.extension.Extension.{Extension}
 use Rattle.x509_name_attribute.specs.declared.type_and_value.AttributeTypeAndValue.{AttributeTypeAndValue}
-use Rattle.x509_name_rdn.specs.Names.{name, rdn_sequence_lawful}
+use Rattle.x509_cert_certificate.specs.Names.{name, rdn_sequence_lawful}
 use Rattle.x509_prim_string.specs.BitString.{BitParts, bit_string}
 use Rattle.x509_prim_string.specs.BitStringLaws.{bit_string_lawful}
 

@@ -11,8 +11,8 @@ use Rattle.x509_der_frames.specs.Frames.{Part, required, optional, ◌⊗◌, fi
 use Rattle.x509_der_frames.specs.PartRules.{part_rules}
 use Rattle.x509_der_grammar.specs.Form.{Form, IsForm, Contents, IsContents, universal}
 use Rattle.x509_der_grammar.specs.FormLaws.{universal_lawful}
-use Rattle.x509_ext_frame.specs.Extension.{extensions, extensions_lawful}
-use Rattle.x509_ext_frame.specs.declared.extension.Extension.{Extension}
+use Rattle.x509_cert_certificate.specs.Extension.{extensions, extensions_lawful}
+use Rattle.x509_cert_certificate.specs.extension.Extension.{Extension}
 
 unfoldable pub revoked_cert_fields : (List ℕ → Result Unit ErrorKind) → Part (List ℕ × (Time × Option (List Extension)))
 revoked_cert_fields check = required (serial_number check) ⊗ (required time ⊗ optional extensions)

@@ -1,17 +1,18 @@
 //! An entry of a list of revoked certificates.
 
 ghost use Rattle.std.specs.Prelude.{◌≡◌};
-ghost use Rattle.x509_cert_extension.specs.Filter.{extensions_left};
-ghost use Rattle.x509_cert_extension.specs.LookUp.{Finds, members, with_oid};
+ghost use Rattle.x509_cert_certificate.specs.Filter.{extensions_left};
+ghost use Rattle.x509_cert_certificate.specs.LookUp.{Finds, members, with_oid};
 
 use std::alloc::Global;
 use x509_base_serial::SerialNumber;
 use x509_base_validity::{Profile, Rfc5280, Time};
-use x509_cert_extension::{FilterExtensions, filter_extensions, get_extension, members};
+use x509_cert_certificate::{
+    Extensions, FilterExtensions, filter_extensions, get_extension, members,
+};
 use x509_der_frames::{PutPart, end, field, optional, optional_field};
 use x509_der_grammar::{Content, Decode, Error, Room, Tag, TryClone};
 use x509_der_oid::AssociatedOid;
-use x509_ext_frame::Extensions;
 
 /// A certificate that was revoked: an entry of a list (RFC 5280 5.1.2.6). Reading asks the profile whether the serial number
 /// may stand. The date is written as it is.

@@ -1,22 +1,21 @@
 //! The part of a list of revoked certificates that is signed.
 
 ghost use Rattle.std.specs.Prelude.{◌≡◌};
-ghost use Rattle.x509_cert_extension.specs.Filter.{extensions_left};
-ghost use Rattle.x509_cert_extension.specs.LookUp.{Finds, members, with_oid};
+ghost use Rattle.x509_cert_certificate.specs.Filter.{extensions_left};
+ghost use Rattle.x509_cert_certificate.specs.LookUp.{Finds, members, with_oid};
 
 use crate::revoked_cert::RevokedCert;
 use std::alloc::Global;
 use x509_base_key::AlgorithmIdentifier;
 use x509_base_validity::{Profile, Rfc5280, Time};
-use x509_cert_certificate::Version;
-use x509_cert_extension::{FilterExtensions, filter_extensions, get_extension, members};
+use x509_cert_certificate::{
+    Extensions, FilterExtensions, Name, Version, filter_extensions, get_extension, members,
+};
 use x509_der_frames::{
     PutPart, SequenceOf, end, explicit_optional, field, optional, optional_explicit, optional_field,
 };
 use x509_der_grammar::{Content, Decode, Error, Room, Tag, TryClone};
 use x509_der_oid::AssociatedOid;
-use x509_ext_frame::Extensions;
-use x509_name_rdn::Name;
 
 /// The part of a list of revoked certificates that is signed (RFC 5280 5.1.2). The version is always there. Times are
 /// written as they are. That the version is v2, and that a list of entries is left out where there are none, as RFC 5280

@@ -6,3 +6,4 @@ mod look_up;
 
 pub use filter::{FilterExtensions, filter_extensions};
 pub use look_up::{get_extension, members};
+pub use x509_ext_frame::{Extension, Extensions, Name};

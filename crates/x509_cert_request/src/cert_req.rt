@@ -10,10 +10,10 @@ ghost use Rattle.x509_der_grammar.specs.Form.{Spells};
 use crate::version::Version;
 use std::alloc::Global;
 use x509_base_key::{AlgorithmIdentifier, SubjectPublicKeyInfo};
+use x509_cert_extension::Name;
 use x509_der_frames::{PutPart, end, field, implicit, implicit_field};
 use x509_der_grammar::{Content, Decode, Error, Room, Tag, TryClone};
 use x509_name_attribute::Attributes;
-use x509_name_rdn::Name;
 use x509_prim_string::BitString;
 
 /// What is asked for, and by whom: the part of a request that is signed (RFC 2986 4.1).

@@ -1,11 +1,11 @@
 -- A content that is put on its own.
 use Rattle.std.proofs.Common.{◌≡◌, ◌⊎◌, ℕ, ◌+◌, ◌<◌, List, [], length, Option, Some, Err, inl, inr, arith, length-append}
-use Rattle.x509_der_element.specs.declared.error.Error.{Error}
-use Rattle.x509_der_element.specs.declared.error.ErrorKind.{ErrorKind}
-use Rattle.x509_der_element.specs.declared.error.ErrorKind.TheVariants as errors
-use Rattle.x509_der_element.specs.Element.{element, length_octets, limit}
-use Rattle.x509_der_grammar.specs.GrowingRoom.{growing}
-use Rattle.x509_der_grammar.specs.Writing.{Puts}
+use Rattle.x509_der_order.specs.error.Error.{Error}
+use Rattle.x509_der_order.specs.error.ErrorKind.{ErrorKind}
+use Rattle.x509_der_order.specs.error.ErrorKind.TheVariants as errors
+use Rattle.x509_der_order.specs.Element.{element, length_octets, limit}
+use Rattle.x509_der_order.specs.GrowingRoom.{growing}
+use Rattle.x509_der_order.specs.Writing.{Puts}
 
 longer : (t : ℕ) (c : List ℕ) → limit < length c → limit < length (element t c)
 unfolding element

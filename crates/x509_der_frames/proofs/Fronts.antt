@@ -1,10 +1,10 @@
 -- The header in front of the content of an element that is all there is.
 use Rattle.std.proofs.Common.{◌≡◌, ◌≢◌, ◌-◌, ◌<◌, ◌≤◌, ℕ, List, [], ◌∷◌, ◌++◌, length, drop, refl, sym, ap, ◌∙◌, arith, append-nil, length-append}
 use Rattle.std.proofs.lemmas.List.{drop_at}
-use Rattle.x509_der_element.specs.Element.{element, length_octets, limit}
-use Rattle.x509_der_element.specs.FrontLaws.{elements}
-use Rattle.x509_der_element.specs.Tag.{octet_of}
-use Rattle.x509_der_element.specs.declared.tag.Tag.{Tag}
+use Rattle.x509_der_order.specs.Element.{element, length_octets, limit}
+use Rattle.x509_der_order.specs.FrontLaws.{elements}
+use Rattle.x509_der_order.specs.Tag.{octet_of}
+use Rattle.x509_der_order.specs.tag.Tag.{Tag}
 use Rattle.x509_der_frames.specs.declared.any.Any.{Any}
 
 pub content_within : (bytes : List ℕ) (tag : ℕ) (content rest : List ℕ) → bytes ≡ element tag content ++ rest → length content ≤ length bytes

@@ -2,16 +2,16 @@
 use Rattle.std.specs.Prelude.{◌≡◌, ◌<◌, ℕ, zero, suc, List, [], ◌∷◌, Result, Ok, Err, if◌then◌else◌, refl}
 use Rattle.std.proofs.Common.{sym, ap, ◌∙◌, inl, inr, false}
 use Rattle.std.proofs.lemmas.Bool.{agree_below_at}
-use Rattle.x509_der_element.specs.declared.error.ErrorKind.{ErrorKind}
-use Rattle.x509_der_element.specs.declared.error.ErrorKind.TheVariants.{Malformed}
-use Rattle.x509_der_element.specs.Element.{is_identifier, is_universal}
-use Rattle.x509_der_grammar.specs.Form.{Form, IsForm, is_in}
-use Rattle.x509_der_element.specs.OutcomeLaws.{ok_is, test_ok, test_err}
-use Rattle.x509_der_element.specs.Tag.{octet_of}
-use Rattle.x509_der_element.specs.TagLaws.{tag_is_identifier, is_identifier-octet}
-use Rattle.x509_der_element.specs.TagReading.{tag_at, tag_at-octet_of, octet_of-tag_at, same_tag}
-use Rattle.x509_der_element.specs.declared.tag.Tag.{Tag}
-use Rattle.x509_der_grammar.specs.Writing.{Written}
+use Rattle.x509_der_order.specs.error.ErrorKind.{ErrorKind}
+use Rattle.x509_der_order.specs.error.ErrorKind.TheVariants.{Malformed}
+use Rattle.x509_der_order.specs.Element.{is_identifier, is_universal}
+use Rattle.x509_der_order.specs.Form.{Form, IsForm, is_in}
+use Rattle.x509_der_order.specs.OutcomeLaws.{ok_is, test_ok, test_err}
+use Rattle.x509_der_order.specs.Tag.{octet_of}
+use Rattle.x509_der_order.specs.TagLaws.{tag_is_identifier, is_identifier-octet}
+use Rattle.x509_der_order.specs.TagReading.{tag_at, tag_at-octet_of, octet_of-tag_at, same_tag}
+use Rattle.x509_der_order.specs.tag.Tag.{Tag}
+use Rattle.x509_der_order.specs.Writing.{Written}
 use Rattle.x509_der_order.specs.Order.{IsOrder}
 use Rattle.x509_der_order.specs.Ordered.{by_bytes, by_bytes_lawful}
 use Rattle.x509_der_frames.specs.declared.any.Any.{Any}

@@ -2,12 +2,12 @@
 use Rattle.std.specs.Prelude.{◌≡◌, ℕ, zero, suc, Bool, true, ◌&&◌, ◌⊎◌, List, [], ◌++◌, Result, Ok, Err, if◌then◌else◌, refl}
 use Rattle.std.proofs.Common.{sym, subst, inl, inr}
 use Rattle.std.proofs.lemmas.Bool.{cases_Bool, and_parts}
-use Rattle.x509_der_element.specs.declared.error.ErrorKind.{ErrorKind}
-use Rattle.x509_der_element.specs.declared.error.ErrorKind.TheVariants.{Malformed}
-use Rattle.x509_der_element.specs.Outcome.{◌>>=◌}
-use Rattle.x509_der_element.specs.OutcomeLaws.{ok_is, bind_ok, bind_err}
-use Rattle.x509_der_element.specs.Element.{is_identifier}
-use Rattle.x509_der_grammar.specs.Form.{Form, IsForm, is_in}
+use Rattle.x509_der_order.specs.error.ErrorKind.{ErrorKind}
+use Rattle.x509_der_order.specs.error.ErrorKind.TheVariants.{Malformed}
+use Rattle.x509_der_order.specs.Outcome.{◌>>=◌}
+use Rattle.x509_der_order.specs.OutcomeLaws.{ok_is, bind_ok, bind_err}
+use Rattle.x509_der_order.specs.Element.{is_identifier}
+use Rattle.x509_der_order.specs.Form.{Form, IsForm, is_in}
 use Rattle.x509_der_frames.specs.Frames.{are_apart}
 use Rattle.x509_der_frames.specs.FrameLaws.{apart_at, in_left, in_right}
 

@@ -1,7 +1,7 @@
 -- What is written of a choice: what is written of the value in its case, in that case.
 use Rattle.std.specs.Prelude.{◌≡◌, ℕ, ◌⊎◌, None, refl}
 use Rattle.std.proofs.Common.{inl, inr}
-use Rattle.x509_der_grammar.specs.Writing.{Written, Writing, respelling, writes, IsStable}
+use Rattle.x509_der_order.specs.Writing.{Written, Writing, respelling, writes, IsStable}
 use Rattle.x509_der_frames.specs.Choice.{Case, pick, by_case, either_good}
 
 abbrev pub written_either : {X Y E : Type 0} → (X ⊎ Y → E) → (X → Written X) → (Y → Written Y) → X ⊎ Y → Written E

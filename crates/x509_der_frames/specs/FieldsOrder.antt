@@ -1,10 +1,10 @@
 -- The byte order of a sequence of two required fields.
 use Rattle.std.specs.Prelude.{◌≡◌, refl}
 use Rattle.std.proofs.Common.{ap, sym, ◌∙◌}
-use Rattle.x509_der_element.specs.declared.tag.Tag.TheVariants.{Sequence}
-use Rattle.x509_der_element.specs.Element.{limit}
-use Rattle.x509_der_grammar.specs.Form.{Form, universal, spelling}
-use Rattle.x509_der_grammar.specs.Writing.{plain, writes}
+use Rattle.x509_der_order.specs.tag.Tag.TheVariants.{Sequence}
+use Rattle.x509_der_order.specs.Element.{limit}
+use Rattle.x509_der_order.specs.Form.{Form, universal, spelling}
+use Rattle.x509_der_order.specs.Writing.{plain, writes}
 use Rattle.x509_der_order.specs.Order.{Order, IsOrder, der_order}
 use Rattle.x509_der_order.specs.OrderLaws.{part_length}
 use Rattle.x509_der_order.specs.Ordered.{der_lawful, by_fields, by_fields_lawful}

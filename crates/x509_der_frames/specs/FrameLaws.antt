@@ -4,15 +4,15 @@ use Rattle.std.specs.Prelude.{IfSome}
 use Rattle.std.proofs.lemmas.Bool.{cases_Bool, eqb-true, ltb-true, and_parts, or_parts, or_left, or_right, not-true, true≢false}
 use Rattle.std.proofs.lemmas.Bool.Decides.{nat_tests}
 use Rattle.std.proofs.lemmas.List.{append-nil}
-use Rattle.x509_der_element.specs.declared.error.ErrorKind.{ErrorKind}
-use Rattle.x509_der_element.specs.declared.error.ErrorKind.TheVariants.{Malformed}
-use Rattle.x509_der_element.specs.Outcome.{◌>>=◌}
-use Rattle.x509_der_element.specs.OutcomeLaws.{ok_is, bind_ok, bind_err, guard_ok}
-use Rattle.x509_der_element.specs.Element.{element, is_identifier, is_universal}
-use Rattle.x509_der_element.specs.ElementReading.{piece_at}
-use Rattle.x509_der_element.specs.ElementLaws.{piece_at-sound, piece_at-element, piece_at-refused}
-use Rattle.x509_der_grammar.specs.Form.{is_in, Form, spelling, IsForm, IsContents, HasTag, contents_of}
-use Rattle.x509_der_grammar.specs.FormLaws.{under_lawful, contents_of_lawful, whole_sound, whole_complete, whole_refused}
+use Rattle.x509_der_order.specs.error.ErrorKind.{ErrorKind}
+use Rattle.x509_der_order.specs.error.ErrorKind.TheVariants.{Malformed}
+use Rattle.x509_der_order.specs.Outcome.{◌>>=◌}
+use Rattle.x509_der_order.specs.OutcomeLaws.{ok_is, bind_ok, bind_err, guard_ok}
+use Rattle.x509_der_order.specs.Element.{element, is_identifier, is_universal}
+use Rattle.x509_der_order.specs.ElementReading.{piece_at}
+use Rattle.x509_der_order.specs.ElementLaws.{piece_at-sound, piece_at-element, piece_at-refused}
+use Rattle.x509_der_order.specs.Form.{is_in, Form, spelling, IsForm, IsContents, HasTag, contents_of}
+use Rattle.x509_der_order.specs.FormLaws.{under_lawful, contents_of_lawful, whole_sound, whole_complete, whole_refused}
 use Rattle.x509_der_frames.specs.Frames.{explicit_contents, explicit, implicit_tag, implicit, Part, IsPart, BeginsIn, nothing, begins, IsClearOf, are_apart, field_at, required, optional_text, optional_at, optional, Default, IsDefault, default_of, default_at, defaulted, default_text, ◌⊗◌, end_at, fields, fields_octets, fields_good, fields_reading}
 
 -- ---- tags

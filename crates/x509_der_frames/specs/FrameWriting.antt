@@ -1,7 +1,8 @@
 -- Where a part that may be left out can't be written.
-use Rattle.std.specs.Prelude.{◌≡◌, ℕ, List, Option, Some, None, if◌then◌else◌, refl}
-use Rattle.x509_der_element.specs.declared.error.ErrorKind.{ErrorKind}
-use Rattle.x509_der_grammar.specs.Writing.{Writing, plain, respelling, writes, in_option}
+use Rattle.std.specs.Prelude.{◌≡◌, ℕ, List, [], Option, Some, None, Result, Ok, if◌then◌else◌, refl}
+use Rattle.x509_der_order.specs.error.ErrorKind.{ErrorKind}
+use Rattle.x509_der_order.specs.Writing.{Writing, Kind, IsKind, Puts, plain, respelling, writes, in_option}
+use Rattle.x509_der_order.specs.WritingLaws.{puts_nothing}
 use Rattle.x509_der_frames.specs.Frames.{Default, optional_text}
 
 abbrev pub optional_refusal : {X : Type 0} → (X → Option ErrorKind) → Option X → Option ErrorKind
@@ -10,6 +11,10 @@ optional_refusal refusal (Some value) = refusal value
 
 abbrev pub default_refusal : {X : Type 0} → Default X → (X → Option ErrorKind) → X → Option ErrorKind
 default_refusal default refusal value = if default.is_standard value then None else refusal value
+
+--- a part that is left out puts nothing
+pub puts_left_out : {R : Type 0} (k : Kind R) → IsKind k → (x : R) → Puts k [] None (Ok tt) x x
+puts_left_out k h x = puts_nothing k h x
 
 -- ---- a part that may be left out, where it is written otherwise than it is
 

@@ -1,10 +1,10 @@
 -- What stands in an element of elements: tags around and in place of a type's own, the fields of a sequence.
 use Rattle.std.specs.Prelude.{◌≡◌, ℕ, ◌+◌, ◌%◌, Bool, true, false, ◌&&◌, not, nat_lt, ◌⊎◌, List, [], ◌∷◌, ◌++◌, Option, Some, None, Result, Ok, Err, if◌then◌else◌, IfSome}
-use Rattle.x509_der_element.specs.declared.error.ErrorKind.{ErrorKind}
-use Rattle.x509_der_element.specs.declared.error.ErrorKind.TheVariants.{Malformed}
-use Rattle.x509_der_element.specs.Outcome.{◌>>=◌}
-use Rattle.x509_der_element.specs.ElementReading.{piece_at}
-use Rattle.x509_der_grammar.specs.Form.{is_in, is_empty, Form, spelling, Contents, contents_of, under, whole_reading}
+use Rattle.x509_der_order.specs.error.ErrorKind.{ErrorKind}
+use Rattle.x509_der_order.specs.error.ErrorKind.TheVariants.{Malformed}
+use Rattle.x509_der_order.specs.Outcome.{◌>>=◌}
+use Rattle.x509_der_order.specs.ElementReading.{piece_at}
+use Rattle.x509_der_order.specs.Form.{is_in, is_empty, Form, spelling, Contents, contents_of, under, whole_reading}
 
 -- ---- tags of the context-specific class
 

@@ -12,3 +12,8 @@ pub mod Choice
 pub mod Cases
 pub mod ChoiceWriting
 pub mod PartRules
+pub use Rattle.x509_der_order.specs.Form
+pub use Rattle.x509_der_order.specs.Tested
+pub use Rattle.x509_der_order.specs.Tag
+pub use Rattle.x509_der_order.specs.error
+pub use Rattle.x509_der_order.specs.tag

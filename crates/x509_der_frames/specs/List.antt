@@ -1,10 +1,10 @@
 -- SEQUENCE OF: the elements of the members, one after the other (X.690 8.10).
 use Rattle.std.specs.Prelude.{ℕ, zero, suc, List, [], ◌∷◌, ◌++◌, length, Option, None, Result, Ok, Err}
-use Rattle.x509_der_element.specs.declared.error.ErrorKind.{ErrorKind}
-use Rattle.x509_der_element.specs.declared.error.ErrorKind.TheVariants.{Malformed}
-use Rattle.x509_der_element.specs.Outcome.{◌>>=◌}
-use Rattle.x509_der_grammar.specs.Form.{Form, Contents, spelling}
-use Rattle.x509_der_grammar.specs.Writing.{Written, Writing, plain, respelling, first}
+use Rattle.x509_der_order.specs.error.ErrorKind.{ErrorKind}
+use Rattle.x509_der_order.specs.error.ErrorKind.TheVariants.{Malformed}
+use Rattle.x509_der_order.specs.Outcome.{◌>>=◌}
+use Rattle.x509_der_order.specs.Form.{Form, Contents, spelling}
+use Rattle.x509_der_order.specs.Writing.{Written, Writing, plain, respelling, first}
 use Rattle.x509_der_frames.specs.Frames.{field_at}
 
 unfoldable pub joined : {X : Type 0} → (X → List ℕ) → List X → List ℕ

@@ -1,15 +1,15 @@
 -- Members one after the other are read as they are spelled.
 use Rattle.std.proofs.Common.{◌≡◌, ℕ, zero, suc, ◌<◌, ◌≤◌, ◌⊎◌, List, [], ◌∷◌, ◌++◌, length, Result, Ok, Err, refl, sym, ap, subst, ◌∙◌, append_assoc, arith, inl, inr, length-append}
 use Rattle.std.proofs.lemmas.List.{append-nil}
-use Rattle.x509_der_element.specs.declared.error.ErrorKind.{ErrorKind}
-use Rattle.x509_der_element.specs.declared.error.ErrorKind.TheVariants.{Malformed}
-use Rattle.x509_der_element.specs.declared.error.ErrorKind.TheVariants as errors
-use Rattle.x509_der_element.specs.Outcome.{◌>>=◌, IsRefusal}
-use Rattle.x509_der_element.specs.OutcomeLaws.{ok_is, bind_ok, bind_err}
-use Rattle.x509_der_element.specs.Element.{element}
-use Rattle.x509_der_element.specs.ElementReading.{piece_at}
-use Rattle.x509_der_element.specs.ElementLaws.{piece_at-sound}
-use Rattle.x509_der_grammar.specs.Form.{Form, IsForm, IsContents, spelling}
+use Rattle.x509_der_order.specs.error.ErrorKind.{ErrorKind}
+use Rattle.x509_der_order.specs.error.ErrorKind.TheVariants.{Malformed}
+use Rattle.x509_der_order.specs.error.ErrorKind.TheVariants as errors
+use Rattle.x509_der_order.specs.Outcome.{◌>>=◌, IsRefusal}
+use Rattle.x509_der_order.specs.OutcomeLaws.{ok_is, bind_ok, bind_err}
+use Rattle.x509_der_order.specs.Element.{element}
+use Rattle.x509_der_order.specs.ElementReading.{piece_at}
+use Rattle.x509_der_order.specs.ElementLaws.{piece_at-sound}
+use Rattle.x509_der_order.specs.Form.{Form, IsForm, IsContents, spelling}
 use Rattle.x509_der_frames.specs.Frames.{field_at}
 use Rattle.x509_der_frames.specs.FrameLaws.{field_sound, field_complete, field_refused}
 use Rattle.x509_der_frames.specs.List.{joined, all_good, members_at, list_reading, list_of, with_front}

@@ -2,11 +2,11 @@
 use Rattle.std.specs.Prelude.{◌≡◌, ℕ, ◌≤◌, List, [], ◌∷◌, length, Option, Some, None, refl}
 use Rattle.std.specs.List.{AllByRecursion}
 use Rattle.std.proofs.Common.{ap, arith, length-append}
-use Rattle.x509_der_element.specs.declared.error.ErrorKind.{ErrorKind}
-use Rattle.x509_der_element.specs.declared.tag.Tag.TheVariants.{Sequence}
-use Rattle.x509_der_element.specs.Element.{element, limit}
-use Rattle.x509_der_grammar.specs.Form.{Form, universal, spelling}
-use Rattle.x509_der_grammar.specs.Writing.{Written, Writing, plain, respelling, writes, first}
+use Rattle.x509_der_order.specs.error.ErrorKind.{ErrorKind}
+use Rattle.x509_der_order.specs.tag.Tag.TheVariants.{Sequence}
+use Rattle.x509_der_order.specs.Element.{element, limit}
+use Rattle.x509_der_order.specs.Form.{Form, universal, spelling}
+use Rattle.x509_der_order.specs.Writing.{Written, Writing, plain, respelling, writes, first}
 use Rattle.x509_der_order.specs.Order.{HasEncoding, Order, IsOrder, der_order}
 use Rattle.x509_der_order.specs.OrderLaws.{content_length}
 use Rattle.x509_der_order.specs.Ordered.{der_lawful, by_members, by_members_lawful}

@@ -3,11 +3,11 @@ use Rattle.std.specs.Prelude.{◌≡◌, ℕ, zero, suc, ◌+◌, ◌-◌, ◌�
 use Rattle.std.proofs.Common.{add-one, arith, length-drop}
 use Rattle.std.proofs.lemmas.List.{nil_from_length}
 use Rattle.std.proofs.Math.Seq.{drop-cons}
-use Rattle.x509_der_element.specs.declared.error.Error.{Error}
-use Rattle.x509_der_grammar.specs.Form.{Form, spelling}
-use Rattle.x509_der_grammar.specs.Writing.{Written, Writing, plain, respelling, writes, Kind, IsKind, Puts, first, IsStable}
-use Rattle.x509_der_grammar.specs.StableLaws.{first_none, plain_stable}
-use Rattle.x509_der_grammar.specs.WritingLaws.{puts_after, puts_not, puts_nothing}
+use Rattle.x509_der_order.specs.error.Error.{Error}
+use Rattle.x509_der_order.specs.Form.{Form, spelling}
+use Rattle.x509_der_order.specs.Writing.{Written, Writing, plain, respelling, writes, Kind, IsKind, Puts, first, IsStable}
+use Rattle.x509_der_order.specs.StableLaws.{first_none, plain_stable}
+use Rattle.x509_der_order.specs.WritingLaws.{puts_after, puts_not, puts_nothing}
 use Rattle.x509_der_frames.specs.List.{members_writing, joined, all_good, members_value, members_refusal, members_text}
 
 module _ {X : Type 0} (f : Form X) (w : X → Written X) where

@@ -1,8 +1,8 @@
 -- The laws of the frames as one set of rules: the law of a type's fields is found by search over these and the laws of
 -- the types of its fields.
-use Rattle.x509_der_grammar.specs.FormLaws.{universal_lawful}
-use Rattle.x509_der_grammar.specs.Boolean.{boolean_lawful}
-use Rattle.x509_der_grammar.specs.NaturalLaws.{u8_lawful, u32_lawful}
+use Rattle.x509_der_order.specs.FormLaws.{universal_lawful}
+use Rattle.x509_der_order.specs.Boolean.{boolean_lawful}
+use Rattle.x509_der_order.specs.NaturalLaws.{u8_lawful, u32_lawful}
 use Rattle.x509_der_frames.specs.FrameLaws.{implicit_lawful, explicit_lawful, required_lawful, optional_lawful, defaulted_lawful, pair_lawful, fields_lawful}
 use Rattle.x509_der_frames.specs.DefaultValues.{boolean_default_lawful, zero_default_lawful}
 use Rattle.x509_der_frames.specs.ListLaws.{list_lawful}

@@ -1,24 +1,23 @@
 //! Elements that are not looked into.
 
 ghost use Rattle.std.specs.Prelude.{◌≡◌, ◌≢◌, ◌<◌, ◌≤◌, ◌↔◌, ◌⊎◌, [], length, drop, false, IfOk, IfErr, IsErrAnd, IsTrue};
-ghost use Rattle.x509_der_element.specs.declared.error.ErrorKind.TheVariants as errors;
-ghost use Rattle.x509_der_element.specs.declared.tag.Tag.TheVariants.{Null};
-ghost use Rattle.x509_der_element.specs.Element.{element, is_identifier, limit};
-ghost use Rattle.x509_der_element.specs.Outcome.{Gives};
-ghost use Rattle.x509_der_grammar.specs.Form.{spelling};
-ghost use Rattle.x509_der_element.specs.Tag.{octet_of};
-ghost use Rattle.x509_der_element.specs.declared.error.ErrorKind.TheVariants.{Malformed};
+ghost use Rattle.x509_der_order.specs.error.ErrorKind.TheVariants as errors;
+ghost use Rattle.x509_der_order.specs.tag.Tag.TheVariants.{Null};
+ghost use Rattle.x509_der_order.specs.Element.{element, is_identifier, limit};
+ghost use Rattle.x509_der_order.specs.Outcome.{Gives};
+ghost use Rattle.x509_der_order.specs.Form.{spelling};
+ghost use Rattle.x509_der_order.specs.Tag.{octet_of};
+ghost use Rattle.x509_der_order.specs.error.ErrorKind.TheVariants.{Malformed};
 ghost use Rattle.x509_der_frames.specs.Any.{any_reading};
 ghost use Rattle.x509_der_frames.specs.declared.any.Any.{Any};
-ghost use Rattle.x509_der_grammar.specs.Writing.{writes, written_spelling, IsWritable, IsUnwritable};
+ghost use Rattle.x509_der_order.specs.Writing.{writes, written_spelling, IsWritable, IsUnwritable};
 
 use std::alloc::Global;
 use std::cmp::Ordering;
-use x509_der_grammar::{
+use x509_der_order::{
     AnyRef, Bytes, Decode, Encode, Error, ErrorKind, Grammar, Growing, Length, Room, Tag, TryClone,
-    check_content, check_identifier, take_element,
+    ValueOrd, check_content, check_identifier, take_element,
 };
-use x509_der_order::ValueOrd;
 
 /// An element whose content is not looked into: its identifier and its content octets (X.690 8.1).
 #[derive(Debug, Drop, PartialEq, Eq, Hash)]
@@ -179,7 +178,7 @@ impl Encode for Any {
 /// `value_cmp` leaves the identifiers out.
 impl ValueOrd for Any {
     ghost use Rattle.x509_der_frames.specs.Any.{any, any_ordered};
-    ghost use Rattle.x509_der_grammar.specs.Writing.{plain, writes};
+    ghost use Rattle.x509_der_order.specs.Writing.{plain, writes};
     ghost use Rattle.x509_der_order.specs.Ordered.{by_bytes};
 
     ghost order = { by_bytes any };
@@ -202,7 +201,7 @@ impl TryClone for Any {
 
 /// A value that borrows from an element.
 pub trait FromAny<'a>: Sized {
-    ghost use Rattle.x509_der_element.specs.declared.error.Error.{Error};
+    ghost use Rattle.x509_der_order.specs.error.Error.{Error};
     ghost use Rattle.std.specs.Prelude.{Result};
     ghost use Rattle.x509_der_frames.specs.declared.any.Any.{Any};
 

@@ -1,10 +1,10 @@
 //! Identifiers of the context-specific class.
 
 ghost use Rattle.std.specs.Prelude.{◌≡◌, ◌<◌, ◌+◌};
-ghost use Rattle.x509_der_element.specs.Tag.{constructed_bit, octet_of};
+ghost use Rattle.x509_der_order.specs.Tag.{constructed_bit, octet_of};
 ghost use Rattle.x509_der_frames.specs.Frames.{implicit_tag};
 
-use x509_der_grammar::{FixedTag, Tag, TagNumber};
+use x509_der_order::{FixedTag, Tag, TagNumber};
 
 /// The identifier under [n] of a type with a tag of its own (X.690 8.14.3).
 pub fn implicit_identifier<T: FixedTag>(n: u8) -> Tag

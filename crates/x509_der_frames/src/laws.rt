@@ -2,9 +2,9 @@
 
 ghost use Rattle.std.specs.Prelude.{◌≡◌, ◌++◌, List, ℕ, Option, IfSome};
 ghost use Rattle.x509_der_frames.specs.Frames.{optional_text, IsClearOf};
-ghost use Rattle.x509_der_grammar.specs.Form.{spelling};
+ghost use Rattle.x509_der_order.specs.Form.{spelling};
 
-use x509_der_grammar::Grammar;
+use x509_der_order::Grammar;
 
 /// The next identifier octet decides whether an optional field is there (X.690 8.9.3): where what follows doesn't begin
 /// as the field may, bytes are those of one value of the field, or of none, and of one rest.

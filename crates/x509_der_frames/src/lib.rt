@@ -22,3 +22,4 @@ pub use reading::{
     implicit_octet, optional_explicit, optional_field, optional_implicit,
 };
 pub use standard::Standard;
+pub use x509_der_order::{AnyRef, Bytes, Content, Error, ErrorKind, Grammar, Room, Tag, TryClone};

@@ -1,9 +1,9 @@
 //! SEQUENCE OF (X.690 8.10).
 
 ghost use Rattle.std.specs.Prelude.{◌≡◌, ◌≤◌, ◌↔◌, ◌++◌, [], ◌∷◌, length, IsTrue, IfOk, IfErr, OnOk, OnErr};
-ghost use Rattle.x509_der_element.specs.declared.error.ErrorKind.TheVariants.{Memory};
-ghost use Rattle.x509_der_element.specs.Outcome.{GivesBy};
-ghost use Rattle.x509_der_grammar.specs.Writing.{Puts, writes};
+ghost use Rattle.x509_der_order.specs.error.ErrorKind.TheVariants.{Memory};
+ghost use Rattle.x509_der_order.specs.Outcome.{GivesBy};
+ghost use Rattle.x509_der_order.specs.Writing.{Puts, writes};
 ghost use Rattle.x509_der_frames.specs.List.{list_reading, with_front, members_text, members_refusal};
 
 use crate::reading::field;
@@ -12,8 +12,9 @@ use std::cmp::Ordering;
 use std::fmt;
 use std::hash::{Hash, Hasher};
 use std::marker::Model;
-use x509_der_grammar::{Content, Decode, Encode, Error, Room, Tag, TryClone, split_element};
-use x509_der_order::{ValueOrd, cmp_members};
+use x509_der_order::{
+    Content, Decode, Encode, Error, Room, Tag, TryClone, ValueOrd, cmp_members, split_element,
+};
 
 /// Values one after the other, which contracts see as a list (X.690 8.10). It is made from a vector and gives it
 /// back without a copy.
@@ -227,7 +228,7 @@ pub fn put_members<T: Encode, R: Room>(items: &[T], room: &mut R) -> Result<(), 
 }
 
 impl<T: Decode + Encode + Drop> Content for SequenceOf<T> {
-    ghost use Rattle.x509_der_element.specs.declared.tag.Tag.TheVariants.{Sequence};
+    ghost use Rattle.x509_der_order.specs.tag.Tag.TheVariants.{Sequence};
     ghost use Rattle.x509_der_frames.specs.List.{list_of, members_writing};
     ghost use Rattle.x509_der_frames.specs.ListLaws.{list_lawful};
 
@@ -257,7 +258,7 @@ impl<T: Decode + Encode + Drop> Content for SequenceOf<T> {
 
 impl<T: Decode + ValueOrd + Drop> ValueOrd for SequenceOf<T> {
     ghost use Rattle.x509_der_frames.specs.ListOrder.{list_ordered};
-    ghost use Rattle.x509_der_grammar.specs.Writing.{writes};
+    ghost use Rattle.x509_der_order.specs.Writing.{writes};
     ghost use Rattle.x509_der_order.specs.Order.{der_order};
     ghost use Rattle.x509_der_order.specs.Ordered.{by_members};
 

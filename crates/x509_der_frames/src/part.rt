@@ -1,22 +1,22 @@
 //! Writing what stands in a sequence. A pair of parts is the first and then the second.
 
 ghost use Rattle.std.specs.Prelude.{◌≡◌, ◌+◌, ◌<◌};
-ghost use Rattle.x509_der_element.specs.Element.{element};
-ghost use Rattle.x509_der_grammar.specs.Form.{spelling};
-ghost use Rattle.x509_der_element.specs.Tag.{octet_of};
-ghost use Rattle.x509_der_grammar.specs.Writing.{Puts, writes};
+ghost use Rattle.x509_der_order.specs.Element.{element};
+ghost use Rattle.x509_der_order.specs.Form.{spelling};
+ghost use Rattle.x509_der_order.specs.Tag.{octet_of};
+ghost use Rattle.x509_der_order.specs.Writing.{Puts, writes};
 ghost use Rattle.x509_der_frames.specs.Frames.{implicit_tag, optional_text, default_text};
 ghost use Rattle.x509_der_frames.specs.FrameWriting.{optional_refusal, default_refusal};
 
 use crate::reading::implicit_octet;
 use crate::standard::Standard;
-use x509_der_grammar::{Encode, Error, FixedTag, Room, put_header};
+use x509_der_order::{Encode, Error, FixedTag, Room, put_header};
 
 /// What stands in a sequence, as it is written.
 pub trait PutPart {
     ghost use Rattle.std.specs.Prelude.{List, ℕ, Option};
-    ghost use Rattle.x509_der_element.specs.declared.error.ErrorKind.{ErrorKind};
-    ghost use Rattle.x509_der_grammar.specs.Writing.{Puts};
+    ghost use Rattle.x509_der_order.specs.error.ErrorKind.{ErrorKind};
+    ghost use Rattle.x509_der_order.specs.Writing.{Puts};
 
     ghost text: { Self → List ℕ };
 
@@ -30,7 +30,7 @@ pub trait PutPart {
 /// One part and another behind it.
 impl<A: PutPart, B: PutPart> PutPart for (A, B) {
     ghost use Rattle.std.specs.Prelude.{◌++◌};
-    ghost use Rattle.x509_der_grammar.specs.Writing.{first};
+    ghost use Rattle.x509_der_order.specs.Writing.{first};
 
     ghost text = { λ p. A.text p.0 ++ B.text p.1 };
 
@@ -59,7 +59,7 @@ fn put_in_element<P: PutPart, R: Room>(part: &P, tag: u8, room: &mut R) -> Resul
 struct Contents<'a, T>(&'a T);
 
 impl<T: Encode> PutPart for Contents<'_, T> {
-    ghost use Rattle.x509_der_grammar.specs.Writing.{writes};
+    ghost use Rattle.x509_der_order.specs.Writing.{writes};
 
     ghost text = { λ v. T.form.content (writes T.writing v.0.now).value };
 
@@ -73,8 +73,8 @@ impl<T: Encode> PutPart for Contents<'_, T> {
 
 /// x
 impl<T: Encode> PutPart for &T {
-    ghost use Rattle.x509_der_grammar.specs.Form.{spelling};
-    ghost use Rattle.x509_der_grammar.specs.Writing.{writes};
+    ghost use Rattle.x509_der_order.specs.Form.{spelling};
+    ghost use Rattle.x509_der_order.specs.Writing.{writes};
 
     ghost text = { λ v. spelling T.form (writes T.writing v.now).value };
 
@@ -106,8 +106,8 @@ pub fn implicit<T: Encode + FixedTag>(n: u8, value: &T) -> Retagged<'_, T>
 }
 
 impl<T: Encode> PutPart for Retagged<'_, T> {
-    ghost use Rattle.x509_der_element.specs.Element.{element};
-    ghost use Rattle.x509_der_grammar.specs.Writing.{writes};
+    ghost use Rattle.x509_der_order.specs.Element.{element};
+    ghost use Rattle.x509_der_order.specs.Writing.{writes};
 
     ghost text = { λ p. element p.tag (T.form.content (writes T.writing p.value.now).value) };
 
@@ -139,9 +139,9 @@ pub fn explicit<T: Encode>(n: u8, value: &T) -> Wrapped<'_, T>
 }
 
 impl<T: Encode> PutPart for Wrapped<'_, T> {
-    ghost use Rattle.x509_der_element.specs.Element.{element};
-    ghost use Rattle.x509_der_grammar.specs.Form.{spelling};
-    ghost use Rattle.x509_der_grammar.specs.Writing.{writes};
+    ghost use Rattle.x509_der_order.specs.Element.{element};
+    ghost use Rattle.x509_der_order.specs.Form.{spelling};
+    ghost use Rattle.x509_der_order.specs.Writing.{writes};
 
     ghost text = { λ p. element p.tag (spelling T.form (writes T.writing p.value.now).value) };
 
@@ -162,7 +162,7 @@ impl<P: PutPart> PutPart for Option<P> {
 
     ghost refusal = { optional_refusal P.refusal };
 
-    #[tactic(auto, using(x509_der_grammar::specs::WritingLaws::puts_nothing))]
+    #[tactic(auto, using(crate::specs::FrameWriting::puts_left_out))]
     #[inline(always)]
     fn put_text<R: Room>(&self, room: &mut R) -> Result<(), Error> {
         match self {

@@ -3,16 +3,14 @@
 //! Where a reader is refused, `rest` is as it was.
 
 ghost use Rattle.std.specs.Prelude.{◌≡◌, ◌<◌, IfErr, OnErr};
-ghost use Rattle.x509_der_element.specs.declared.error.ErrorKind.TheVariants.{Malformed, Memory};
-ghost use Rattle.x509_der_element.specs.Outcome.{Gives, GivesBefore};
-ghost use Rattle.x509_der_element.specs.Tag.{octet_of};
+ghost use Rattle.x509_der_order.specs.error.ErrorKind.TheVariants.{Malformed, Memory};
+ghost use Rattle.x509_der_order.specs.Outcome.{Gives, GivesBefore};
+ghost use Rattle.x509_der_order.specs.Tag.{octet_of};
 ghost use Rattle.x509_der_frames.specs.Frames.{optional, defaulted, explicit, implicit, implicit_tag, required, end_at};
 
 use crate::standard::Standard;
 use std::alloc::Global;
-use x509_der_grammar::{
-    Decode, Error, ErrorKind, FixedTag, read_whole, split_element, split_usual,
-};
+use x509_der_order::{Decode, Error, ErrorKind, FixedTag, read_whole, split_element, split_usual};
 
 /// The end of a sequence; `Malformed` where bytes are left.
 #[inline(always)]

@@ -12,3 +12,14 @@ pub mod SpellingLaws
 pub mod StableLaws
 pub mod Round
 pub mod Tested
+pub use Rattle.x509_der_element.specs.Element
+pub use Rattle.x509_der_element.specs.Tag
+pub use Rattle.x509_der_element.specs.declared.error
+pub use Rattle.x509_der_element.specs.declared.tag
+pub use Rattle.x509_der_element.specs.ElementLaws
+pub use Rattle.x509_der_element.specs.ElementReading
+pub use Rattle.x509_der_element.specs.FrontLaws
+pub use Rattle.x509_der_element.specs.Outcome
+pub use Rattle.x509_der_element.specs.OutcomeLaws
+pub use Rattle.x509_der_element.specs.TagLaws
+pub use Rattle.x509_der_element.specs.TagReading

@@ -5,12 +5,11 @@ ghost use Rattle.std.specs.Prelude.{◌≡◌, Ok};
 use crate::identifier::ObjectIdentifier;
 use std::alloc::Global;
 use std::cmp::Ordering;
-use x509_der_grammar::{Content, Error, Room, Tag, TryClone};
-use x509_der_order::ValueOrd;
+use x509_der_order::{Content, Error, Room, Tag, TryClone, ValueOrd};
 
 #[tactic(auto, unfolding(crate::specs::ObjectIdentifierForm::object_identifier_reading))]
 impl Content for ObjectIdentifier {
-    ghost use Rattle.x509_der_element.specs.declared.tag.Tag.TheVariants as tags;
+    ghost use Rattle.x509_der_order.specs.tag.Tag.TheVariants as tags;
     ghost use Rattle.x509_der_oid.specs.ObjectIdentifierForm as grammar;
 
     ghost contents = { grammar.object_identifier_contents };
@@ -34,7 +33,7 @@ impl Content for ObjectIdentifier {
 }
 
 impl ValueOrd for ObjectIdentifier {
-    ghost use Rattle.x509_der_grammar.specs.Writing.{plain, writes};
+    ghost use Rattle.x509_der_order.specs.Writing.{plain, writes};
     ghost use Rattle.x509_der_oid.specs.ObjectIdentifierForm as grammar;
     ghost use Rattle.x509_der_order.specs.Ordered.{by_bytes};
 

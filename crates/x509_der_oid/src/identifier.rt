@@ -1,8 +1,8 @@
 //! The value of an OBJECT IDENTIFIER.
 
 ghost use Rattle.std.specs.Prelude.{◌≡◌, ◌*◌, ◌≤◌, ℕ, List, true, IfOk, IfErr, IfSome, OnSome, Ok, Err, if◌then◌else◌};
-ghost use Rattle.x509_der_element.specs.Outcome.{Gives};
-ghost use Rattle.x509_der_element.specs.declared.error.ErrorKind.TheVariants.{Failed, Malformed};
+ghost use Rattle.x509_der_order.specs.Outcome.{Gives};
+ghost use Rattle.x509_der_order.specs.error.ErrorKind.TheVariants.{Failed, Malformed};
 ghost use Rattle.x509_der_oid.specs.Arcs.{AreArcs, content_of, dotted};
 ghost use Rattle.x509_der_oid.specs.ObjectIdentifier.{arcs_of, first_arc, is_object_identifier};
 
@@ -11,7 +11,7 @@ use crate::numbers::Numbers;
 use std::fmt;
 use std::hash::{Hash, Hasher};
 use std::marker::Model;
-use x509_der_grammar::{Error, ErrorKind};
+use x509_der_order::{Error, ErrorKind};
 
 /// An object identifier, as its content octets (X.690 8.19).
 ///

@@ -5,8 +5,8 @@ use Rattle.std.specs.declared.cmp.Ordering.{Ordering}
 use Rattle.std.specs.declared.cmp.Ordering.TheVariants.{Equal}
 use Rattle.std.specs.Cmp.{IsTotalOrder}
 use Rattle.std.specs.Cmp.Lexicographic.{slice_cmp}
-use Rattle.x509_der_element.specs.declared.error.ErrorKind.{ErrorKind}
-use Rattle.x509_der_element.specs.Element.{element, limit}
+use Rattle.x509_der_grammar.specs.error.ErrorKind.{ErrorKind}
+use Rattle.x509_der_grammar.specs.Element.{element, limit}
 use Rattle.x509_der_grammar.specs.Form.{Form, spelling}
 use Rattle.x509_der_grammar.specs.Writing.{Written, plain, writes}
 

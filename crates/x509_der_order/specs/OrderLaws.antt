@@ -7,7 +7,7 @@ use Rattle.std.proofs.Common.{cond, true, false, append-nil, refl, sym, ap, ◌�
 use Rattle.std.proofs.lemmas.Cmp.{ranked, by_ranked}
 use Rattle.std.proofs.lemmas.Bool.{ltb-true}
 use Rattle.std.proofs.lemmas.Bool.Decides.{nat_tests}
-use Rattle.x509_der_element.specs.Element.{length_octets, element}
+use Rattle.x509_der_grammar.specs.Element.{length_octets, element}
 use Rattle.x509_der_order.specs.Order.{bytes_cmp, IsElement}
 
 pub then_assoc : (a b c : Ordering) → ordering_then (ordering_then a b) c ≡ ordering_then a (ordering_then b c)

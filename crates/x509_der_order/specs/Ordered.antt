@@ -11,8 +11,8 @@ use Rattle.std.proofs.lemmas.Bool.{le-leb}
 use Rattle.std.proofs.lemmas.Bool.Decides.{nat_tests}
 use Rattle.std.proofs.lemmas.Cmp.{tied_itself, nat_cmp_total, nat_list_cmp_total, lists_total, on_total, then_total}
 use Rattle.std.proofs.lemmas.Map.Lookups.{exact_unsigned, exact_bytes}
-use Rattle.x509_der_element.specs.declared.error.ErrorKind.{ErrorKind}
-use Rattle.x509_der_element.specs.Element.{limit}
+use Rattle.x509_der_grammar.specs.error.ErrorKind.{ErrorKind}
+use Rattle.x509_der_grammar.specs.Element.{limit}
 use Rattle.x509_der_grammar.specs.Form.{Form, spelling}
 use Rattle.x509_der_grammar.specs.Writing.{Written, plain, writes}
 use Rattle.x509_der_order.specs.Order.{bytes_cmp, HasEncoding, Order, IsOrder, counted_or, counted, der_order, IsDerOrder}

@@ -2,8 +2,8 @@
 use Rattle.std.specs.Ordering.{on}
 use Rattle.std.proofs.Common.{sym, ◌∙◌, ap}
 use Rattle.std.proofs.lemmas.Cmp.{on_total}
-use Rattle.x509_der_element.specs.declared.tag.Tag.{Tag}
-use Rattle.x509_der_element.specs.Tag.{octet_of}
+use Rattle.x509_der_grammar.specs.tag.Tag.{Tag}
+use Rattle.x509_der_grammar.specs.Tag.{octet_of}
 use Rattle.x509_der_grammar.specs.Form.{Form, HasTag}
 use Rattle.x509_der_grammar.specs.Round.{Round, rounded, round_writing, round_within, round_refusal}
 use Rattle.x509_der_grammar.specs.Writing.{Writing, writes}

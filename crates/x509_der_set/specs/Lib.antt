@@ -2,3 +2,15 @@ pub mod Set
 pub mod SetLaws
 pub mod Members
 pub mod MemberOrder
+pub use Rattle.x509_der_frames.specs.Any
+pub use Rattle.x509_der_frames.specs.FieldsOrder
+pub use Rattle.x509_der_frames.specs.Frames
+pub use Rattle.x509_der_frames.specs.PartRules
+pub use Rattle.x509_der_frames.specs.declared.any
+pub use Rattle.x509_der_frames.specs.List
+pub use Rattle.x509_der_frames.specs.ListLaws
+pub use Rattle.x509_der_frames.specs.ListOrder
+pub use Rattle.x509_der_frames.specs.contracts.list
+pub use Rattle.x509_der_order.specs.Order
+pub use Rattle.x509_der_order.specs.Ordered
+pub use Rattle.x509_der_order.specs.RoundOrder

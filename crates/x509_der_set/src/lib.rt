@@ -10,3 +10,5 @@ mod set;
 
 pub use member::{SetMember, SetOrd};
 pub use set::SetOfVec;
+pub use x509_der_frames::{Any, FromAny, PutPart, SequenceOf, end, field};
+pub use x509_der_order::{DerOrd, NewtypeOrd, ValueOrd};

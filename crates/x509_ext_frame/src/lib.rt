@@ -9,4 +9,4 @@ mod to_extension;
 
 pub use extension::{Extension, Extensions};
 pub use to_extension::{Criticality, ToExtension};
-pub use x509_der_oid::ObjectIdentifier;
+pub use x509_name_rdn::{Name, ObjectIdentifier, RelativeDistinguishedName};

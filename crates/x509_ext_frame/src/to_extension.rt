@@ -6,8 +6,7 @@ ghost use Rattle.x509_ext_frame.specs.ToExtension.{Makes};
 use crate::extension::Extension;
 use std::alloc::Global;
 use x509_der_grammar::{Encode, Error};
-use x509_der_oid::{AssociatedOid, ObjectIdentifier};
-use x509_name_rdn::Name;
+use x509_name_rdn::{AssociatedOid, Name, ObjectIdentifier};
 use x509_prim_string::OctetString;
 
 /// A payload that says whether its extension is critical, where the caller does not (RFC 5280 4.2).

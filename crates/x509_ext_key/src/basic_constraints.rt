@@ -4,8 +4,7 @@ use std::alloc::Global;
 use x509_der_frames::{PutPart, default_field, defaulted, end, optional, optional_field};
 use x509_der_grammar::{Content, Error, Room, Tag, TryClone};
 use x509_der_oid::{AssociatedOid, ObjectIdentifier};
-use x509_ext_frame::{Criticality, Extension, id_ce};
-use x509_name_rdn::Name;
+use x509_ext_frame::{Criticality, Extension, Name, id_ce};
 
 /// Whether a certificate is that of an authority, and how many more authorities may stand below it (RFC 5280 4.2.1.9).
 /// Its identifier is 2.5.29.19, and it is critical.

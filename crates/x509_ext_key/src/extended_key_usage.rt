@@ -4,8 +4,7 @@ use x509_der_frames::SequenceOf;
 use x509_der_grammar::Newtype;
 use x509_der_oid::{AssociatedOid, ObjectIdentifier};
 use x509_der_order::NewtypeOrd;
-use x509_ext_frame::{Criticality, Extension, id_ce};
-use x509_name_rdn::Name;
+use x509_ext_frame::{Criticality, Extension, Name, id_ce};
 
 /// For what purposes the key may be used (RFC 5280 4.2.1.12). Its identifier is 2.5.29.37, and it isn't critical where
 /// the caller doesn't say so. A sequence without members is read and written too.

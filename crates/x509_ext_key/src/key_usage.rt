@@ -9,8 +9,7 @@ use std::cmp::Ordering;
 use x509_der_grammar::{Content, Error, Newtype, Room, Tag, TryClone};
 use x509_der_oid::{AssociatedOid, ObjectIdentifier};
 use x509_der_order::{NewtypeOrd, ValueOrd};
-use x509_ext_frame::{Criticality, Extension, id_ce};
-use x509_name_rdn::Name;
+use x509_ext_frame::{Criticality, Extension, Name, id_ce};
 use x509_prim_flags::{cmp_named_bits, put_named_bits, read_named_bits};
 
 /// A set of uses of a key, of which bit n stands for the named bit n (RFC 5280 4.2.1.3). A bit from 9 on has no name: it

@@ -5,8 +5,7 @@ use x509_base_time::GeneralizedTime;
 use x509_der_frames::{PutPart, end, implicit_optional, optional_implicit};
 use x509_der_grammar::{Content, Error, Room, Tag, TryClone};
 use x509_der_oid::{AssociatedOid, ObjectIdentifier};
-use x509_ext_frame::{Criticality, Extension, id_ce};
-use x509_name_rdn::Name;
+use x509_ext_frame::{Criticality, Extension, Name, id_ce};
 
 /// From when and until when the private key may sign, where that differs from when its certificate holds (X.509
 /// 9.2.2.5). Its times are written as they are, under any profile. Its identifier is 2.5.29.16 (RFC 5280 appendix A.2),

@@ -10,8 +10,7 @@ use x509_base_key::SubjectPublicKeyInfoRef;
 use x509_der_grammar::{Error, Newtype};
 use x509_der_oid::{AssociatedOid, ObjectIdentifier};
 use x509_der_order::NewtypeOrd;
-use x509_ext_frame::{Criticality, Extension, id_ce};
-use x509_name_rdn::Name;
+use x509_ext_frame::{Criticality, Extension, Name, id_ce};
 use x509_prim_string::OctetString;
 
 /// The identifier of [`SubjectKeyIdentifier`], 2.5.29.14.

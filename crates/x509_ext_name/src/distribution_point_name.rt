@@ -4,7 +4,7 @@ use crate::general_name::GeneralNames;
 use std::alloc::Global;
 use x509_der_frames::implicit_identifier;
 use x509_der_grammar::{Content, Decode, Encode, Error, ErrorKind, Grammar, Room, Tag, TryClone};
-use x509_name_rdn::RelativeDistinguishedName;
+use x509_ext_frame::RelativeDistinguishedName;
 
 /// The name of a place at which a list of revoked certificates is found (RFC 5280 4.2.1.13).
 ///

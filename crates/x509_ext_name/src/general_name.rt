@@ -13,7 +13,7 @@ use x509_der_grammar::{
     Content, Decode, Encode, Error, ErrorKind, Grammar, Room, Tag, TryClone, read_whole,
 };
 use x509_der_oid::ObjectIdentifier;
-use x509_name_rdn::Name;
+use x509_ext_frame::Name;
 use x509_prim_string::OctetString;
 use x509_prim_text::Ia5String;
 

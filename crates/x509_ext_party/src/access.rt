@@ -7,8 +7,7 @@ use x509_der_frames::{PutPart, SequenceOf, end, field};
 use x509_der_grammar::{Content, Error, Newtype, Room, Tag, TryClone};
 use x509_der_oid::{AssociatedOid, ObjectIdentifier};
 use x509_ext_frame::{Criticality, Extension, id_pkix};
-use x509_ext_name::GeneralName;
-use x509_name_rdn::Name;
+use x509_ext_name::{GeneralName, Name};
 
 /// By which means something is found out, and where (RFC 5280 4.2.2.1).
 ///

@@ -7,8 +7,7 @@ use x509_der_frames::SequenceOf;
 use x509_der_grammar::Newtype;
 use x509_der_oid::{AssociatedOid, ObjectIdentifier};
 use x509_ext_frame::{Criticality, Extension, id_ce};
-use x509_ext_name::GeneralNames;
-use x509_name_rdn::Name;
+use x509_ext_name::{GeneralNames, Name};
 
 /// The identifier of [`SubjectAltName`], 2.5.29.17.
 pub const ID_CE_SUBJECT_ALT_NAME: ObjectIdentifier = id_ce!(17);

@@ -12,8 +12,7 @@ use x509_der_grammar::{Content, Error, Room, Tag, TryClone};
 use x509_der_oid::{AssociatedOid, ObjectIdentifier};
 use x509_ext_frame::{Criticality, Extension, id_ce};
 use x509_ext_key::key_identifier;
-use x509_ext_name::GeneralNames;
-use x509_name_rdn::Name;
+use x509_ext_name::{GeneralNames, Name};
 use x509_prim_string::OctetString;
 
 /// By what the key that signed a certificate is told from others (RFC 5280 4.2.1.1). Its identifier is 2.5.29.35, and it

@@ -7,8 +7,8 @@ use x509_der_frames::SequenceOf;
 use x509_der_grammar::Newtype;
 use x509_der_oid::{AssociatedOid, ObjectIdentifier};
 use x509_ext_frame::{Criticality, Extension, id_ce};
+use x509_ext_name::Name;
 use x509_name_attribute::Attribute;
-use x509_name_rdn::Name;
 
 /// The identifier of [`SubjectDirectoryAttributes`], 2.5.29.9.
 pub const ID_CE_SUBJECT_DIRECTORY_ATTRIBUTES: ObjectIdentifier = id_ce!(9);

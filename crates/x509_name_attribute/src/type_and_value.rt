@@ -11,10 +11,8 @@ use std::fmt;
 use std::hash::{Hash, Hasher};
 use x509_der_frames::{Any, PutPart, end, field};
 use x509_der_grammar::{Content, Encode, Error, Room, Tag, TryClone};
-use x509_der_oid::ObjectIdentifier;
-use x509_der_order::{DerOrd, ValueOrd};
-use x509_der_set::{SetMember, SetOrd};
-use x509_name_text::{read_attribute, write_attribute};
+use x509_der_set::{DerOrd, SetMember, SetOrd, ValueOrd};
+use x509_name_text::{ObjectIdentifier, read_attribute, write_attribute};
 
 /// The type of an attribute (RFC 5280 4.1.2.4).
 pub type AttributeType = ObjectIdentifier;

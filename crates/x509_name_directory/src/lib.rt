@@ -7,3 +7,4 @@ mod text_ref;
 
 pub use directory_string::DirectoryString;
 pub use text_ref::TextRef;
+pub use x509_prim_text::{Ia5StringRef, PrintableStringRef};

@@ -4,3 +4,6 @@ pub mod Rows
 pub mod LookUp
 pub mod NameText
 pub use Rattle.x509_name_attribute.specs.declared.type_and_value.AttributeTypeAndValue
+pub use Rattle.x509_name_attribute.specs.declared.type_and_value
+pub use Rattle.x509_der_oid.specs.Arcs
+pub use Rattle.x509_der_oid.specs.ObjectIdentifierForm

@@ -2,7 +2,7 @@
 use Rattle.std.specs.Prelude.{◌≡◌, ℕ, List, [], ◌∷◌, Option, Some, None, Result, Ok, Err, bytes_eq, if◌then◌else◌}
 use Rattle.x509_der_element.specs.declared.error.Error.{Error}
 use Rattle.x509_der_oid.specs.Arcs.{content_of}
-use Rattle.x509_der_frames.specs.declared.any.Any.{Any}
+use Rattle.x509_der_set.specs.any.Any.{Any}
 use Rattle.x509_name_attribute.specs.declared.type_and_value.AttributeTypeAndValue.{AttributeTypeAndValue}
 use Rattle.x509_name_directory.specs.DirectoryString.{ReadsDirectoryString}
 use Rattle.x509_name_directory.specs.declared.directory_string.DirectoryString.{DirectoryString}

@@ -9,12 +9,12 @@ use Rattle.x509_der_grammar.specs.Form.{Form, Contents, IsForm, IsContents, univ
 use Rattle.x509_der_grammar.specs.FormLaws.{universal_lawful}
 use Rattle.x509_der_grammar.specs.Round.{same, round_contents, round_lawful}
 use Rattle.x509_der_grammar.specs.Writing.{plain, writes}
-use Rattle.x509_der_order.specs.Order.{Order, IsOrder, der_order}
-use Rattle.x509_der_order.specs.Ordered.{by_members}
-use Rattle.x509_der_order.specs.RoundOrder.{round_ordered}
-use Rattle.x509_der_frames.specs.List.{list_of}
-use Rattle.x509_der_frames.specs.ListLaws.{list_lawful}
-use Rattle.x509_der_frames.specs.ListOrder.{list_ordered}
+use Rattle.x509_der_set.specs.Order.{Order, IsOrder, der_order}
+use Rattle.x509_der_set.specs.Ordered.{by_members}
+use Rattle.x509_der_set.specs.RoundOrder.{round_ordered}
+use Rattle.x509_der_set.specs.List.{list_of}
+use Rattle.x509_der_set.specs.ListLaws.{list_lawful}
+use Rattle.x509_der_set.specs.ListOrder.{list_ordered}
 use Rattle.x509_der_set.specs.Set.{set_of}
 use Rattle.x509_der_set.specs.SetLaws.{set_lawful, set_ordered}
 use Rattle.x509_name_attribute.specs.TypeAndValue.{attribute_type_and_value, type_and_value_contents_lawful, type_and_value_order, type_and_value_ordered, type_and_value_cmp, type_and_value_eq, type_and_value_equivalence, type_and_value_decides}

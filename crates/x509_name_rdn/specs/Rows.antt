@@ -1,6 +1,6 @@
 -- What the types of names keep, as the logic holds it, for the clauses on what a `&mut` lends.
 use denote.RattleType.{RattleType}
-use Rattle.x509_der_frames.specs.contracts.list.SequenceOf as sequence
+use Rattle.x509_der_set.specs.list.SequenceOf as sequence
 use Rattle.x509_der_set.specs.contracts.set.SetOfVec as set
 use Rattle.x509_name_attribute.specs.contracts.type_and_value.AttributeTypeAndValue as attribute
 use Rattle.x509_name_attribute.specs.contracts.type_and_value.AttributeTypeAndValueSetOrd.TheImpl.{ghosts}

@@ -14,3 +14,4 @@ pub use iterators::{NameIter, RdnIter, RdnSequenceIter};
 pub use name::Name;
 pub use rdn::RelativeDistinguishedName;
 pub use rdn_sequence::{DistinguishedName, RdnSequence};
+pub use x509_der_oid::{AssociatedOid, ObjectIdentifier};

@@ -7,8 +7,8 @@ ghost use Rattle.x509_der_element.specs.declared.tag.Tag.TheVariants as tags;
 ghost use Rattle.x509_name_rdn.specs.Iterators.{members_of};
 ghost use Rattle.x509_name_rdn.specs.LookUp as types;
 ghost use Rattle.x509_name_rdn.specs.LookUp.{LooksUp, LooksUpString, first_of_type};
-ghost use Rattle.x509_prim_text.specs.Alphabet.{is_ia5, is_printable};
-ghost use Rattle.x509_prim_text.specs.Borrowed.{BorrowsTextFrom};
+ghost use Rattle.x509_name_directory.specs.Alphabet.{is_ia5, is_printable};
+ghost use Rattle.x509_name_directory.specs.Borrowed.{BorrowsTextFrom};
 
 use crate::attribute_types::{
     COMMON_NAME, COUNTRY_NAME, EMAIL_ADDRESS, LOCALITY_NAME, ORGANIZATION_NAME,
@@ -16,11 +16,10 @@ use crate::attribute_types::{
 };
 use crate::name::Name;
 use std::alloc::Global;
-use x509_der_frames::{Any, FromAny};
 use x509_der_grammar::Error;
 use x509_der_oid::ObjectIdentifier;
-use x509_name_directory::DirectoryString;
-use x509_prim_text::{Ia5StringRef, PrintableStringRef};
+use x509_der_set::{Any, FromAny};
+use x509_name_directory::{DirectoryString, Ia5StringRef, PrintableStringRef};
 
 impl Name {
     /// The value of the first attribute of the type, in the order of the encoding.

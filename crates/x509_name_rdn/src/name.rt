@@ -11,7 +11,7 @@ use std::cmp::Ordering;
 use std::hash::{Hash, Hasher};
 use std::marker::Model;
 use x509_der_grammar::{Content, Error, Room, Tag, TryClone};
-use x509_der_order::ValueOrd;
+use x509_der_set::ValueOrd;
 
 /// The name of an issuer or a subject (RFC 5280 4.1.2.4). Contracts see the list of its relative distinguished names.
 ///

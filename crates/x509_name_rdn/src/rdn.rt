@@ -13,8 +13,7 @@ use std::alloc::Global;
 use std::hash::{Hash, Hasher};
 use std::marker::Model;
 use x509_der_grammar::{Error, Newtype};
-use x509_der_order::NewtypeOrd;
-use x509_der_set::SetOfVec;
+use x509_der_set::{NewtypeOrd, SetOfVec};
 use x509_name_attribute::AttributeTypeAndValue;
 
 /// One step of a name: a set of attributes (RFC 5280 4.1.2.4). Contracts see their list, in the byte order of their

@@ -9,9 +9,8 @@ use crate::rdn::RelativeDistinguishedName;
 use std::alloc::Global;
 use std::hash::{Hash, Hasher};
 use std::marker::Model;
-use x509_der_frames::SequenceOf;
 use x509_der_grammar::{Error, Newtype};
-use x509_der_order::NewtypeOrd;
+use x509_der_set::{NewtypeOrd, SequenceOf};
 
 /// Relative distinguished names, the most general first (RFC 5280 4.1.2.4). Contracts see their list. A sequence
 /// without members is read and written too.

@@ -19,7 +19,7 @@ use Rattle.x509_der_element.specs.declared.tag.Tag.{Tag}
 use Rattle.x509_der_oid.specs.Arcs.{AreArcs, dotted}
 use Rattle.x509_der_oid.specs.ArcLaws.{content_of-arcs_of, small_arcs}
 use Rattle.x509_der_oid.specs.ObjectIdentifier.{arcs_of}
-use Rattle.x509_der_frames.specs.declared.any.Any.{Any}
+use Rattle.x509_prim_text.specs.any.Any.{Any}
 use Rattle.x509_name_text.specs.Escapes.{escaped}
 use Rattle.x509_name_text.specs.Keys.{Key, key_of, tag_for}
 use Rattle.x509_name_text.specs.Attributes.{AttributeSays, AttributeReads, AttributeRefused, ReadsBack, ValueSays, attribute_text, begins_with_hash, is_text, printed_key, value_octets}

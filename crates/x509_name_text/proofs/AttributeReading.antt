@@ -11,7 +11,7 @@ use Rattle.x509_der_element.specs.declared.error.ErrorKind.TheVariants.{Failed, 
 use Rattle.x509_der_oid.specs.Arcs.{content_of}
 use Rattle.x509_der_oid.specs.ArcLaws.{some_arcs, small_arcs}
 use Rattle.x509_der_oid.proofs.TextLaws.{dotted_injective}
-use Rattle.x509_der_frames.specs.declared.any.Any.{Any}
+use Rattle.x509_prim_text.specs.any.Any.{Any}
 use Rattle.x509_name_text.specs.Escapes.{Unescapes}
 use Rattle.x509_name_text.specs.Keys.{Key, KeySays, key_named, tag_for}
 use Rattle.x509_name_text.specs.Attributes.{IsCut, AttributeSays, AttributeReads, AttributeRefused, ValueSays, ValueReads, ValueRefused, ValueSaysTooMuch, SaysTooMuch, begins_with_hash, value_octets}

@@ -3,7 +3,7 @@ use Rattle.std.proofs.Common.{◌≡◌, ◌++◌, ◌∷◌, ℕ, Bool, true, f
 use Rattle.hex.specs.Hex.{encode_lower}
 use Rattle.x509_der_oid.specs.Arcs.{dotted}
 use Rattle.x509_der_oid.specs.ObjectIdentifier.{arcs_of}
-use Rattle.x509_der_frames.specs.declared.any.Any.{Any}
+use Rattle.x509_prim_text.specs.any.Any.{Any}
 use Rattle.x509_name_text.specs.Escapes.{escaped}
 use Rattle.x509_name_text.specs.Keys.{Key, key_of}
 use Rattle.x509_name_text.specs.Attributes.{attribute_text, is_text, value_octets}

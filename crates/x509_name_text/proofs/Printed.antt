@@ -28,7 +28,7 @@ control_small byte h = grind (arith, nat_tests)
 always_backslash : (byte : ℕ) → is_always_escaped byte ≡ false → byte ≢ 92
 always_backslash byte h = λ e. absurd (let k = rw e at h in cc)
 
-or_tells : (a b : Bool) → (a || b) ≡ true → (a ≡ true) ⊎ (b ≡ true)
+pub or_tells : (a b : Bool) → (a || b) ≡ true → (a ≡ true) ⊎ (b ≡ true)
 or_tells true b h = inl refl
 or_tells false b h = inr h
 

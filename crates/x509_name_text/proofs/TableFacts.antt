@@ -10,6 +10,7 @@ use Rattle.x509_der_oid.specs.Arcs.{AreArcs, dotted}
 use Rattle.x509_der_oid.specs.ObjectIdentifier.{is_object_identifier}
 use Rattle.x509_name_text.specs.Keys.{Key, keys, key_named, key_of, first_where, is_named, has_octets}
 use Rattle.x509_name_text.proofs.DottedTexts.{IsDottedOctet, first_dotted}
+use Rattle.x509_name_text.proofs.Printed.{or_tells}
 
 -- ---- what is found
 
@@ -89,10 +90,6 @@ unfolding begins_with_letter
 letter_apart octet rest h letter = absurd (grind (arith, nat_tests))
 
 -- ---- a row that is found by a name
-
-or_tells : (a b : Bool) → (a || b) ≡ true → (a ≡ true) ⊎ (b ≡ true)
-or_tells true b h = inl refl
-or_tells false b h = inr h
 
 module _ (text : List ℕ) (key : Key) (found : key_named text ≡ Some key) where
   found_by_name : first_where (is_named text) keys ≡ Some key

@@ -10,7 +10,7 @@ use Rattle.hex.specs.Hex.{encode_lower, encode_with, lower_digits}
 use Rattle.x509_der_oid.specs.Arcs.{dotted}
 use Rattle.x509_der_oid.specs.ArcLaws.{content_of-arcs_of, small_arcs}
 use Rattle.x509_der_oid.specs.ObjectIdentifier.{arcs_of, is_object_identifier}
-use Rattle.x509_der_frames.specs.declared.any.Any.{Any}
+use Rattle.x509_prim_text.specs.any.Any.{Any}
 use Rattle.x509_name_text.specs.Escapes.{escaped, is_always_escaped}
 use Rattle.x509_name_text.specs.Keys.{Key, key_of}
 use Rattle.x509_name_text.specs.Attributes.{ReadsBack, attribute_text, is_text, value_octets}

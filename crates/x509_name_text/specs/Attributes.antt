@@ -11,7 +11,7 @@ use Rattle.x509_der_element.specs.declared.tag.Tag.{Tag}
 use Rattle.x509_der_element.specs.declared.tag.Tag.TheVariants.{PrintableString, Utf8String, Ia5String, TeletexString}
 use Rattle.x509_der_oid.specs.Arcs.{dotted}
 use Rattle.x509_der_oid.specs.ObjectIdentifier.{arcs_of, is_object_identifier}
-use Rattle.x509_der_frames.specs.declared.any.Any.{Any}
+use Rattle.x509_prim_text.specs.any.Any.{Any}
 use Rattle.x509_prim_text.specs.Alphabet.{is_printable, is_ia5}
 use Rattle.x509_name_text.specs.Escapes.{Unescapes, escaped}
 use Rattle.x509_name_text.specs.Keys.{Key, key_of, KeySays, tag_for}

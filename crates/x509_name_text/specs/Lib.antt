@@ -6,3 +6,5 @@ pub mod Keys
 pub mod Attributes
 pub mod Refusals
 pub mod Encodings
+pub use Rattle.x509_der_oid.specs.ObjectIdentifierForm
+pub use Rattle.x509_der_oid.specs.Arcs

@@ -5,7 +5,7 @@ ghost use Rattle.std.specs.Fmt.{WritesOnOk};
 ghost use Rattle.hex.specs.Hex.{decode_of};
 ghost use Rattle.x509_der_element.specs.Element.{limit};
 ghost use Rattle.x509_der_element.specs.declared.error.ErrorKind.TheVariants as errors;
-ghost use Rattle.x509_der_frames.specs.declared.any.Any.{Any};
+ghost use Rattle.x509_prim_text.specs.any.Any.{Any};
 ghost use Rattle.x509_name_text.specs.Attributes as attributes;
 ghost use Rattle.x509_name_text.specs.Keys.{KeySays};
 
@@ -16,10 +16,9 @@ use crate::printing::write_escaped;
 use hex::FromHexError;
 use std::alloc::Global;
 use std::{fmt, str};
-use x509_der_frames::Any;
 use x509_der_grammar::{Error, ErrorKind, Tag};
 use x509_der_oid::ObjectIdentifier;
-use x509_prim_text::{Ia5, Printable, Teletex, text_of, utf8_text};
+use x509_prim_text::{Any, Ia5, Printable, Teletex, text_of, utf8_text};
 
 // The key, and what stands behind the first equals sign.
 fn cut_key(text: &[u8]) -> Option<(&[u8], &[u8])>

@@ -7,7 +7,7 @@ ghost use Rattle.x509_der_element.specs.Element.{header};
 ghost use Rattle.x509_name_text.specs.Attributes.{value_octets};
 
 use std::{fmt, str};
-use x509_der_frames::Any;
+use x509_prim_text::Any;
 
 // How many octets are written at once.
 const CHUNK: usize = 64;

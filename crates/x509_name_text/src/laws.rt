@@ -3,7 +3,7 @@
 
 ghost use Rattle.std.specs.Prelude.{◌≡◌, ◌≢◌, ◌∷◌, ℕ, List};
 ghost use Rattle.x509_der_element.specs.declared.error.ErrorKind.{ErrorKind};
-ghost use Rattle.x509_der_frames.specs.declared.any.Any.{Any};
+ghost use Rattle.x509_prim_text.specs.any.Any.{Any};
 ghost use Rattle.x509_name_text.specs.Attributes.{AttributeReads, AttributeRefused, ReadsBack, attribute_text};
 ghost use Rattle.x509_name_text.specs.Escapes.{Unescapes, escaped};
 ghost use Rattle.x509_name_text.specs.Parts.{Joined};

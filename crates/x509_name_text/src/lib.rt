@@ -14,3 +14,4 @@ pub use escapes::unescape;
 pub use keys::{KEYS, Key, Row, TextType, key_named, key_of, tag_for};
 pub use parts::{Parts, count_parts};
 pub use printing::write_escaped;
+pub use x509_der_oid::{AssociatedOid, ObjectIdentifier};

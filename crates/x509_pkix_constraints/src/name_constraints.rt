@@ -5,8 +5,7 @@ use std::alloc::Global;
 use x509_der_frames::{PutPart, end, implicit_optional, optional_implicit};
 use x509_der_grammar::{Content, Error, Room, Tag, TryClone};
 use x509_der_oid::{AssociatedOid, ObjectIdentifier};
-use x509_ext_frame::{Criticality, Extension, id_ce};
-use x509_name_rdn::Name;
+use x509_ext_frame::{Criticality, Extension, Name, id_ce};
 
 /// What names the subjects of the certificates below an authority may have (RFC 5280 4.2.1.10). Its identifier is
 /// 2.5.29.30, and it is critical.

@@ -8,8 +8,7 @@ use std::alloc::Global;
 use x509_der_grammar::{Error, Newtype};
 use x509_der_oid::{AssociatedOid, ObjectIdentifier};
 use x509_der_order::NewtypeOrd;
-use x509_ext_frame::{Criticality, Extension, id_ce};
-use x509_name_rdn::Name;
+use x509_ext_frame::{Criticality, Extension, Name, id_ce};
 use x509_prim_integer::Uint;
 
 /// The number of a list, which rises from each list of an authority to its next (RFC 5280 5.2.3). Its identifier is

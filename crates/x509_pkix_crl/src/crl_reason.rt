@@ -3,8 +3,7 @@
 use std::alloc::Global;
 use x509_der_grammar::{Content, Error, Room, Tag, TryClone};
 use x509_der_oid::{AssociatedOid, ObjectIdentifier};
-use x509_ext_frame::{Criticality, Extension, id_ce};
-use x509_name_rdn::Name;
+use x509_ext_frame::{Criticality, Extension, Name, id_ce};
 use x509_prim_named::{NamedNumber, put_named_number, read_named_number};
 
 /// Why a certificate was revoked (RFC 5280 5.3.1). Its identifier is 2.5.29.21, and it isn't critical. Reasons are

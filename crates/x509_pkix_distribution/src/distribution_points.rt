@@ -7,8 +7,7 @@ use std::alloc::Global;
 use x509_der_frames::SequenceOf;
 use x509_der_grammar::Newtype;
 use x509_der_oid::{AssociatedOid, ObjectIdentifier};
-use x509_ext_frame::{Criticality, Extension, id_ce};
-use x509_name_rdn::Name;
+use x509_ext_frame::{Criticality, Extension, Name, id_ce};
 
 /// Where the lists are found that would revoke a certificate (RFC 5280 4.2.1.13). Its identifier is 2.5.29.31, and it isn't
 /// critical. A sequence without members is read and written too.

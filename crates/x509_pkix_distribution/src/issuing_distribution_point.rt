@@ -7,9 +7,8 @@ use x509_der_frames::{
 };
 use x509_der_grammar::{Content, Encode, Error, Room, Tag, TryClone};
 use x509_der_oid::{AssociatedOid, ObjectIdentifier};
-use x509_ext_frame::{Criticality, Extension, id_ce};
+use x509_ext_frame::{Criticality, Extension, Name, id_ce};
 use x509_ext_name::DistributionPointName;
-use x509_name_rdn::Name;
 use x509_pkix_crl::ReasonFlags;
 
 /// Where a list of revoked certificates is found, and of what certificates it speaks (RFC 5280 5.2.5). Its identifier is

@@ -4,8 +4,7 @@ use crate::policy_information::PolicyInformation;
 use x509_der_frames::SequenceOf;
 use x509_der_grammar::Newtype;
 use x509_der_oid::{AssociatedOid, ObjectIdentifier};
-use x509_ext_frame::{Criticality, Extension, id_ce};
-use x509_name_rdn::Name;
+use x509_ext_frame::{Criticality, Extension, Name, id_ce};
 
 /// The policies under which the certificate was issued and for which it may be used (RFC 5280 4.2.1.4). Its identifier is
 /// 2.5.29.32, and it isn't critical where the caller doesn't say so. A sequence without members is read and written too.

@@ -3,8 +3,7 @@
 use x509_der_grammar::Newtype;
 use x509_der_oid::{AssociatedOid, ObjectIdentifier};
 use x509_der_order::NewtypeOrd;
-use x509_ext_frame::{Criticality, Extension, id_ce};
-use x509_name_rdn::Name;
+use x509_ext_frame::{Criticality, Extension, Name, id_ce};
 
 /// The identifier of [`InhibitAnyPolicy`], 2.5.29.54.
 pub const ID_CE_INHIBIT_ANY_POLICY: ObjectIdentifier = id_ce!(54);

@@ -3,8 +3,8 @@ use Rattle.std.proofs.Common.{◌≡◌, ℕ, true, List, [], ◌∷◌, Ok, Err
 use Rattle.x509_der_element.specs.declared.error.ErrorKind.{ErrorKind}
 use Rattle.x509_der_element.specs.declared.error.ErrorKind.TheVariants.{Malformed}
 use Rattle.x509_der_element.specs.declared.tag.Tag.TheVariants as tags
-use Rattle.x509_der_grammar.specs.Form.{IsForm, IsContents}
-use Rattle.x509_der_grammar.specs.FormLaws.{universal_lawful}
+use Rattle.x509_der_order.specs.Form.{IsForm, IsContents}
+use Rattle.x509_der_order.specs.FormLaws.{universal_lawful}
 use Rattle.x509_der_element.specs.OutcomeLaws.{ok_is, test_ok, test_err}
 use Rattle.x509_prim_string.specs.BitString.{BitParts, parts_of, is_padded, bit_string_reading, bit_string_contents, bit_string}
 

@@ -2,8 +2,8 @@
 use Rattle.std.specs.Prelude.{ℕ, List, Ok, refl}
 use Rattle.x509_der_element.specs.declared.error.ErrorKind.{ErrorKind}
 use Rattle.x509_der_element.specs.declared.tag.Tag.TheVariants as tags
-use Rattle.x509_der_grammar.specs.Form.{Form, IsForm, Contents, IsContents, universal}
-use Rattle.x509_der_grammar.specs.FormLaws.{universal_lawful}
+use Rattle.x509_der_order.specs.Form.{Form, IsForm, Contents, IsContents, universal}
+use Rattle.x509_der_order.specs.FormLaws.{universal_lawful}
 use Rattle.x509_der_element.specs.OutcomeLaws.{ok_is}
 
 -- a value is the list of its octets

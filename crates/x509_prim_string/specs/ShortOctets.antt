@@ -5,7 +5,7 @@ use Rattle.x509_der_element.specs.declared.error.Error.{Error}
 use Rattle.x509_der_element.specs.declared.error.ErrorKind.TheVariants.{Memory, Overlength}
 use Rattle.x509_der_element.specs.ContentLaws.{content_fits}
 use Rattle.x509_der_element.specs.Element.{limit}
-use Rattle.x509_der_grammar.specs.Form.{spelling}
+use Rattle.x509_der_order.specs.Form.{spelling}
 use Rattle.x509_prim_string.specs.OctetString.{octet_string}
 
 pub short_octets_are_held : (octets : List ℕ) (result : Result (List ℕ) Error) → length octets < 128

@@ -8,8 +8,7 @@ use std::alloc::Global;
 use std::cmp::Ordering;
 use std::fmt;
 use std::marker::Model;
-use x509_der_grammar::{Bytes, Content, Error, ErrorKind, Room, Tag, TryClone};
-use x509_der_order::ValueOrd;
+use x509_der_order::{Bytes, Content, Error, ErrorKind, Room, Tag, TryClone, ValueOrd};
 
 /// A list of bits (X.690 8.6). Contracts see the octets in which they stand, bit 8 of the first octet first, and
 /// how many bits of the last octet are unused; those are zero (X.690 11.2.1).
@@ -135,7 +134,7 @@ impl Content for BitString {
 }
 
 impl ValueOrd for BitString {
-    ghost use Rattle.x509_der_grammar.specs.Writing.{plain, writes};
+    ghost use Rattle.x509_der_order.specs.Writing.{plain, writes};
     ghost use Rattle.x509_der_order.specs.Ordered.{by_bytes, by_bytes_lawful};
     ghost use Rattle.x509_prim_string.specs.BitString.{bit_string};
     ghost use Rattle.x509_prim_string.specs.BitStringLaws.{one_bit_string};

@@ -8,7 +8,7 @@ ghost use Rattle.std.specs.Cmp.Lexicographic.{nat_list_eq_equiv};
 ghost use Rattle.std.specs.Cmp.Rules.{hashing};
 ghost use Rattle.x509_der_element.specs.declared.error.ErrorKind.TheVariants as errors;
 ghost use Rattle.x509_der_element.specs.Element.{limit};
-ghost use Rattle.x509_der_grammar.specs.Form.{spelling};
+ghost use Rattle.x509_der_order.specs.Form.{spelling};
 ghost use Rattle.x509_prim_string.specs.OctetString.{octet_string};
 
 use std::alloc::Global;
@@ -16,8 +16,7 @@ use std::cmp::Ordering;
 use std::fmt;
 use std::hash::{Hash, Hasher};
 use std::marker::Model;
-use x509_der_grammar::{Bytes, Content, Error, Room, Tag, TryClone, check_content};
-use x509_der_order::ValueOrd;
+use x509_der_order::{Bytes, Content, Error, Room, Tag, TryClone, ValueOrd, check_content};
 
 /// Any octets (X.690 8.7). Contracts see their list.
 #[derive(Drop)]
@@ -35,7 +34,7 @@ impl Model for OctetString {
 
 impl OctetString {
     /// A copy of the octets; `Overlength` exactly where their element would be longer than
-    /// [`Length::MAX`](x509_der_grammar::Length::MAX). Memory may be refused.
+    /// [`Length::MAX`](x509_der_order::Length::MAX). Memory may be refused.
     pub fn new(alloc: Global, octets: &[u8]) -> Result<OctetString, Error>
         ensures ok { IfOk result (λ string. (string ≡ octets.now) × (length (spelling octet_string octets.now) ≤ limit)) }
         ensures err { IfErr result (λ e. ((e.kind ≡ errors.Memory) × (length (spelling octet_string octets.now) ≤ limit)) ⊎ ((e.kind ≡ errors.Overlength) × (limit < length (spelling octet_string octets.now)))) }
@@ -100,7 +99,7 @@ impl Content for OctetString {
 
 impl ValueOrd for OctetString {
     ghost use Rattle.x509_prim_string.specs.OctetString.{octet_string};
-    ghost use Rattle.x509_der_grammar.specs.Writing.{plain, writes};
+    ghost use Rattle.x509_der_order.specs.Writing.{plain, writes};
     ghost use Rattle.x509_der_order.specs.Ordered.{by_bytes, by_bytes_lawful};
 
     ghost order = { by_bytes octet_string };

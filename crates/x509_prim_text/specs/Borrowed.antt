@@ -1,9 +1,9 @@
 -- Texts that are borrowed from an element.
 use Rattle.std.specs.Prelude.{◌≡◌, ◌≢◌, ◌⊎◌, ℕ, Bool, true, false, List, Result, MatchResult}
-use Rattle.x509_der_element.specs.declared.error.Error.{Error}
-use Rattle.x509_der_element.specs.declared.error.ErrorKind.TheVariants.{Malformed}
-use Rattle.x509_der_element.specs.Tag.{octet_of}
-use Rattle.x509_der_element.specs.declared.tag.Tag.{Tag}
+use Rattle.x509_der_frames.specs.error.Error.{Error}
+use Rattle.x509_der_frames.specs.error.ErrorKind.TheVariants.{Malformed}
+use Rattle.x509_der_frames.specs.Tag.{octet_of}
+use Rattle.x509_der_frames.specs.tag.Tag.{Tag}
 use Rattle.x509_der_frames.specs.declared.any.Any.{Any}
 
 -- The answer on an element, by its identifier and its content: the content as a text, exactly where the identifier is the

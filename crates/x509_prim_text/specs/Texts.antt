@@ -2,8 +2,8 @@
 use Rattle.std.specs.Prelude.{ℕ, List}
 use Rattle.std.specs.List.{list_all}
 use Rattle.std.specs.Str.{is_utf8}
-use Rattle.x509_der_element.specs.declared.error.ErrorKind.{ErrorKind}
-use Rattle.x509_der_element.specs.declared.tag.Tag.TheVariants as tags
+use Rattle.x509_der_frames.specs.error.ErrorKind.{ErrorKind}
+use Rattle.x509_der_frames.specs.tag.Tag.TheVariants as tags
 use Rattle.x509_der_grammar.specs.Form.{Form, IsForm}
 use Rattle.x509_der_grammar.specs.Tested.{tested, tested_lawful}
 use Rattle.x509_prim_text.specs.Alphabet.{is_printable, is_ia5}

@@ -5,7 +5,7 @@ use x509_der_grammar::Tag;
 /// The characters of a restricted character string type, each of which is one octet below 80.
 pub trait Alphabet {
     ghost use Rattle.std.specs.Prelude.{◌≡◌, ◌<◌, ℕ, Bool, true};
-    ghost use Rattle.x509_der_element.specs.declared.tag.Tag.{Tag};
+    ghost use Rattle.x509_der_frames.specs.tag.Tag.{Tag};
 
     ghost TAG: { Tag };
 
@@ -27,7 +27,7 @@ pub struct Printable;
 
 #[tactic(auto, unfolding(crate::specs::Alphabet::is_printable))]
 impl Alphabet for Printable {
-    ghost use Rattle.x509_der_element.specs.declared.tag.Tag.TheVariants as tags;
+    ghost use Rattle.x509_der_frames.specs.tag.Tag.TheVariants as tags;
     ghost use Rattle.x509_prim_text.specs.Alphabet.{is_printable, printable_ascii};
 
     ghost TAG = { tags.PrintableString };
@@ -66,7 +66,7 @@ pub struct Ia5;
 
 #[tactic(auto, unfolding(crate::specs::Alphabet::is_ia5))]
 impl Alphabet for Ia5 {
-    ghost use Rattle.x509_der_element.specs.declared.tag.Tag.TheVariants as tags;
+    ghost use Rattle.x509_der_frames.specs.tag.Tag.TheVariants as tags;
     ghost use Rattle.x509_prim_text.specs.Alphabet.{is_ia5, ia5_ascii};
 
     ghost TAG = { tags.Ia5String };
@@ -88,7 +88,7 @@ pub struct Teletex;
 
 #[tactic(auto, unfolding(crate::specs::Alphabet::is_ia5))]
 impl Alphabet for Teletex {
-    ghost use Rattle.x509_der_element.specs.declared.tag.Tag.TheVariants as tags;
+    ghost use Rattle.x509_der_frames.specs.tag.Tag.TheVariants as tags;
     ghost use Rattle.x509_prim_text.specs.Alphabet.{is_ia5, ia5_ascii};
 
     ghost TAG = { tags.TeletexString };

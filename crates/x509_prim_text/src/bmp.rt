@@ -8,7 +8,7 @@ ghost use Rattle.std.specs.Cmp.Lexicographic.{nat_list_eq_equiv};
 ghost use Rattle.std.specs.Cmp.Rules.{hashing};
 ghost use Rattle.std.specs.List.{list_all};
 ghost use Rattle.std.specs.Str.{chars};
-ghost use Rattle.x509_der_element.specs.declared.error.ErrorKind.TheVariants as errors;
+ghost use Rattle.x509_der_frames.specs.error.ErrorKind.TheVariants as errors;
 ghost use Rattle.x509_prim_text.specs.Bmp as plane;
 
 use std::alloc::Global;
@@ -133,7 +133,7 @@ impl BmpString {
 
 #[tactic(auto, unfolding(x509_der_grammar::specs::Tested::tested_reading))]
 impl Content for BmpString {
-    ghost use Rattle.x509_der_element.specs.declared.tag.Tag.TheVariants as tags;
+    ghost use Rattle.x509_der_frames.specs.tag.Tag.TheVariants as tags;
     ghost use Rattle.x509_der_grammar.specs.Tested.{tested_contents, tested_contents_lawful};
     ghost use Rattle.x509_prim_text.specs.Bmp.{is_bmp};
 

@@ -32,3 +32,5 @@ pub type Ia5StringRef<'a> = RestrictedStringRef<'a, Ia5>;
 
 /// A borrowed TeletexString.
 pub type TeletexStringRef<'a> = RestrictedStringRef<'a, Teletex>;
+
+pub use x509_der_frames::Any;

@@ -7,7 +7,7 @@ ghost use Rattle.std.specs.Cmp.{partial_equiv_from_equiv};
 ghost use Rattle.std.specs.Cmp.Lexicographic.{nat_list_eq_equiv};
 ghost use Rattle.std.specs.Cmp.Rules.{hashing};
 ghost use Rattle.std.specs.List.{list_all};
-ghost use Rattle.x509_der_element.specs.declared.error.ErrorKind.TheVariants as errors;
+ghost use Rattle.x509_der_frames.specs.error.ErrorKind.TheVariants as errors;
 
 use crate::alphabet::Alphabet;
 use crate::restricted_ref::{check_text, text_of};

@@ -4,8 +4,8 @@ ghost use Rattle.std.specs.Prelude.{◌≡◌, ◌≢◌, ◌⊎◌, true, false
 ghost use Rattle.std.specs.Cmp.{on_equiv, on_per, partial_equiv_from_equiv};
 ghost use Rattle.std.specs.Cmp.Lexicographic.{nat_list_eq_equiv};
 ghost use Rattle.std.specs.List.{list_all};
-ghost use Rattle.x509_der_element.specs.declared.error.ErrorKind.TheVariants as errors;
-ghost use Rattle.x509_der_element.specs.Tag.{octet_of};
+ghost use Rattle.x509_der_frames.specs.error.ErrorKind.TheVariants as errors;
+ghost use Rattle.x509_der_frames.specs.Tag.{octet_of};
 ghost use Rattle.x509_prim_text.specs.Borrowed.{BorrowsText, BorrowsTextFrom};
 
 use crate::alphabet::Alphabet;

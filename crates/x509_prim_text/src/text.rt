@@ -1,7 +1,7 @@
 //! Texts that a value owns.
 
 ghost use Rattle.std.specs.Prelude.{◌≡◌, ◌<◌, length, string_bytes, IfOk, IfErr};
-ghost use Rattle.x509_der_element.specs.declared.error.ErrorKind.TheVariants.{Memory};
+ghost use Rattle.x509_der_frames.specs.error.ErrorKind.TheVariants.{Memory};
 
 use arrayvec::ArrayString;
 use std::alloc::Global;

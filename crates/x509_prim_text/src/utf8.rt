@@ -7,8 +7,8 @@ ghost use Rattle.std.specs.Cmp.{on_equiv, on_per, partial_equiv_from_equiv};
 ghost use Rattle.std.specs.Cmp.Lexicographic.{nat_list_eq_equiv};
 ghost use Rattle.std.specs.Cmp.Rules.{hashing};
 ghost use Rattle.std.specs.Str.{is_utf8};
-ghost use Rattle.x509_der_element.specs.declared.error.ErrorKind.TheVariants as errors;
-ghost use Rattle.x509_der_element.specs.declared.tag.Tag.TheVariants as tags;
+ghost use Rattle.x509_der_frames.specs.error.ErrorKind.TheVariants as errors;
+ghost use Rattle.x509_der_frames.specs.tag.Tag.TheVariants as tags;
 ghost use Rattle.x509_prim_text.specs.Borrowed.{BorrowsText, BorrowsTextFrom};
 
 use crate::text::Text;

@@ -15,8 +15,7 @@ use std::alloc::Global;
 use x509_der_grammar::Newtype;
 use x509_der_oid::{AssociatedOid, ObjectIdentifier};
 use x509_der_order::NewtypeOrd;
-use x509_ext_frame::{Criticality, Extension};
-use x509_name_rdn::Name;
+use x509_ext_frame::{Criticality, Extension, Name};
 use x509_prim_string::OctetString;
 use x509_sct_tls::{read_list, serialize_list};
 

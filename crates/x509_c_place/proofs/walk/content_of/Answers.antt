@@ -19,5 +19,8 @@ returns-in-Ok-clause-ordered c = ordered _ _ c.requires _ _ _ (found c)
 pub returns-in-Ok-clause-stands : goal.returns-in-Ok-clause-stands
 returns-in-Ok-clause-stands c = λ tag content more is e. stands _ _ c.requires _ _ _ (found c) tag content more e
 
+pub returns-in-Ok-clause-nothing : goal.returns-in-Ok-clause-nothing
+returns-in-Ok-clause-nothing c = λ nothing. absurd (nothing _ _ _ (piece_at-sound _ _ c.in-Ok.ensures.exact).1 (found c))
+
 pub returns-in-Err-clause-stands : goal.returns-in-Err-clause-stands
 returns-in-Err-clause-stands c = λ tag content more is e. none_stands _ (rw c.in-Err.ensures.err at c.in-Err.ensures.exact) tag content more is (c.split_at.ensures.back ∙ e)

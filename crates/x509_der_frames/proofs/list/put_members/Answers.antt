@@ -1,7 +1,7 @@
 use Rattle.std.proofs.Common.{◌-◌, arith, Err, Ok}
 use Rattle.std.proofs.lemmas.Result.{err_from_is_err_and}
 use Rattle.x509_der_frames.specs.ListWriting.{puts_end, puts_member, puts_no_members}
-use Rattle.x509_der_grammar.specs.Writing.{writes}
+use Rattle.x509_der_order.specs.Writing.{writes}
 use Rattle.x509_der_frames.proofs.list.put_members.Goals as goal
 
 pub loop-i-init : goal.loop-i-init

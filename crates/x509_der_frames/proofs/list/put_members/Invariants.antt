@@ -1,6 +1,6 @@
 use Rattle.std.proofs.Common.{◌≤◌, drop, length, Ok}
 use Rattle.x509_der_frames.specs.List.{members_text, members_refusal}
-use Rattle.x509_der_grammar.specs.Writing.{writes, Puts}
+use Rattle.x509_der_order.specs.Writing.{writes, Puts}
 use Rattle.x509_der_frames.proofs.list.put_members.Given as goal
 
 -- the members from i on stand

@@ -1,5 +1,5 @@
 use Rattle.std.proofs.lemmas.Result.{err_from_is_err_and}
-use Rattle.x509_der_grammar.specs.WritingLaws.{puts_element, puts_no_element}
+use Rattle.x509_der_order.specs.WritingLaws.{puts_element, puts_no_element}
 use Rattle.x509_der_frames.proofs.part.put_in_element.Goals as goal
 
 pub returns-in_err-put_text : goal.returns-in_err-put_text

@@ -1,5 +1,5 @@
-use Rattle.x509_der_element.specs.OutcomeLaws.{gives_only, gives_value}
-use Rattle.x509_der_grammar.specs.SpellingLaws.{read_value}
+use Rattle.x509_der_order.specs.OutcomeLaws.{gives_only, gives_value}
+use Rattle.x509_der_order.specs.SpellingLaws.{read_value}
 use Rattle.x509_der_frames.proofs.any.Any.decode_as.Goals as goal
 
 pub returns-clause-only : goal.returns-clause-only

@@ -1,8 +1,8 @@
 use Rattle.std.proofs.Common.{◌≡◌, ◌∙◌, ◌-◌, ℕ, List, length, drop, ap, sym, eq-eqb, arith}
 use Rattle.std.proofs.lemmas.Result.{err_from_is_err_and}
 use Rattle.std.proofs.lemmas.Bool.{eqb-true}
-use Rattle.x509_der_element.specs.Element.{element}
-use Rattle.x509_der_element.specs.Tag.{octet_of}
+use Rattle.x509_der_order.specs.Element.{element}
+use Rattle.x509_der_order.specs.Tag.{octet_of}
 use Rattle.x509_der_frames.proofs.Fronts.{content_within, nothing_behind, without_header, something_behind, no_front}
 use Rattle.x509_der_frames.proofs.any.Any.from_octets.Goals as goal
 
