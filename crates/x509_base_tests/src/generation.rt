@@ -62,3 +62,21 @@ fn generated_with_prefix(rt: HostRuntime) {
     assert!(rt; has_prefix(&rt, &[0xFF; 11], content));
     assert!(rt; has_prefix(&rt, &[0], &[1; 8]) && has_prefix(&rt, &[], &[1; 8]));
 }
+
+/// Whether a source that gives zeros at first gives the number of a prefix and of ones, after so many fills.
+fn gives_ones_behind(rt: &HostRuntime, prefix: &[u8], zeros: u32, fills: u32) -> bool {
+    let mut source = Source { fills: 0, zeros };
+    let serial = SerialNumber::generate_with_prefix(rt.alloc(), prefix, 8, &mut source);
+    has_content(serial, &[1; 9]) && source.fills == fills
+}
+
+#[test]
+fn zeros_behind_a_prefix(rt: HostRuntime) {
+    assert!(rt; gives_ones_behind(&rt, &[1], 63, 64));
+    let mut zeros = Source {
+        fills: 0,
+        zeros: 64,
+    };
+    let refused = SerialNumber::<Raw>::generate_with_prefix(rt.alloc(), &[1], 8, &mut zeros);
+    assert!(rt; is_refused(refused, ErrorKind::Failed) && zeros.fills == 64);
+}

@@ -6,6 +6,7 @@ use std::test::*;
 use x509_build_error::Result;
 use x509_build_profile::cabf::Root;
 use x509_build_profile::cabf::tls::{CertificateType, Subordinate, Subscriber, Tls12Options};
+use x509_build_profile::devid::DevId;
 use x509_build_signer::{Builder, BuilderProfile};
 use x509_cert_certificate::Certificate;
 use x509_cert_signed::signed_slice;
@@ -79,6 +80,16 @@ fn a_server(rt: HostRuntime) -> std::result::Result<(), Fail> {
         enable_data_encipherment: false,
     };
     let bytes = built(&rt, server)?;
+    assert!(rt; is_signed(&rt, &bytes, SUBORDINATE, SERVER)?);
+    Ok(())
+}
+
+#[test]
+fn a_device(rt: HostRuntime) -> std::result::Result<(), Fail> {
+    let alloc = rt.alloc();
+    let issuer = Name::from_str(alloc, SUBORDINATE)?;
+    let subject = Name::from_str(alloc, SERVER)?;
+    let bytes = built(&rt, DevId::new(alloc, issuer, subject, None)?)?;
     assert!(rt; is_signed(&rt, &bytes, SUBORDINATE, SERVER)?);
     Ok(())
 }

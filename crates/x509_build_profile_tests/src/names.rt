@@ -6,6 +6,7 @@ use x509_build_error::{Error, Result};
 use x509_build_profile::cabf::tls::CertificateType;
 use x509_build_profile::cabf::{Root, check_names_encoding};
 use x509_build_signer::BuilderProfile;
+use x509_der_grammar::{Decode, TryClone};
 use x509_ext_name::GeneralNames;
 use x509_name_rdn::Name;
 
@@ -83,5 +84,26 @@ fn domain_validated(rt: HostRuntime) -> std::result::Result<(), Fail> {
     let kept = Name::from_str(alloc, "CN=a,C=US")?;
     let expected = CertificateType::domain_validated(alloc, kept, GeneralNames::new(alloc))?;
     assert!(rt; kind == expected);
+    Ok(())
+}
+
+/// Whether a copy of the kind is the kind.
+fn is_copied(rt: &HostRuntime, kind: CertificateType) -> Result<bool> {
+    Ok(kind.try_clone(rt.alloc())? == kind)
+}
+
+/// The kind of a domain with the name `a`.
+fn validated(rt: &HostRuntime) -> Result<CertificateType> {
+    let alloc = rt.alloc();
+    let names = GeneralNames::from_der(alloc, b"\x30\x03\x82\x01\x61")?;
+    CertificateType::domain_validated(alloc, Name::from_str(alloc, "CN=a")?, names)
+}
+
+#[test]
+fn copies_of_kinds(rt: HostRuntime) -> std::result::Result<(), Fail> {
+    assert!(rt; is_copied(&rt, validated(&rt)?)?);
+    assert!(rt; is_copied(&rt, CertificateType::IndividualValidated)?);
+    assert!(rt; is_copied(&rt, CertificateType::OrganizationValidated)?);
+    assert!(rt; is_copied(&rt, CertificateType::ExtendedValidation)?);
     Ok(())
 }

@@ -36,6 +36,29 @@ pub(crate) fn is_signing_refused<T: Drop>(answer: Result<T>) -> bool {
     }
 }
 
+/// Those of two parts that are to come: the one where the call did its work, the other where memory was refused.
+pub(crate) fn after<'a, T: Drop>(
+    answer: Result<T>,
+    done: &'a [u8],
+    before: &'a [u8],
+) -> Result<&'a [u8]> {
+    if lacks_memory(&answer) {
+        return Ok(before);
+    }
+    let _done = answer?;
+    Ok(done)
+}
+
+/// Whether memory was asked for and not given.
+fn lacks_memory<T>(answer: &Result<T>) -> bool {
+    match answer {
+        Err(Error::Asn1(e)) => e.kind() == ErrorKind::Memory,
+        Err(Error::PublicKey(e)) => *e == KeyError::Memory,
+        Err(Error::Signature(e)) => *e == SignError::Memory,
+        _ => false,
+    }
+}
+
 /// Whether a value was refused for that.
 pub(crate) fn is_asn1<T: Drop>(answer: Result<T>, kind: ErrorKind) -> bool {
     match answer {

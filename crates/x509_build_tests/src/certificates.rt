@@ -1,9 +1,10 @@
 //! Certificates that are built.
 
-use crate::calls::{is_asn1, is_bytes, is_key_refused, is_signing_refused, is_written};
+use crate::calls::{after, is_asn1, is_bytes, is_key_refused, is_signing_refused, is_written};
 use crate::profiles::{Nameless, Picky, Plain};
 use crate::signers::{ABC, ABD, Hesitant, Refused};
 use crate::source::Zeros;
+use bitflags::Flags;
 use std::test::*;
 use x509_base_key::SubjectPublicKeyInfo;
 use x509_base_serial::SerialNumber;
@@ -13,7 +14,9 @@ use x509_build_error::{Error, Result};
 use x509_build_signer::{Builder, BuilderProfile};
 use x509_cert_certificate::Version;
 use x509_der_grammar::{Decode, ErrorKind};
+use x509_der_oid::ObjectIdentifier;
 use x509_ext_frame::Extension;
+use x509_pkix_crl::Reasons;
 use x509_prim_string::BitString;
 
 /// The part of nobody, for an empty key, of version 1.
@@ -119,6 +122,40 @@ fn added_extensions(rt: HostRuntime) -> std::result::Result<(), Fail> {
     builder.add_extension(alloc, Extension::from_der(alloc, EXTENSION)?)?;
     assert!(rt; is_bytes(builder.finalize(alloc, &ABC), ADDED));
     assert!(rt; is_bytes(builder.finalize(alloc, &ABC), ADDED));
+    Ok(())
+}
+
+/// The payload has a bit without a name.
+#[test]
+fn an_extension_that_is_refused(rt: HostRuntime) -> std::result::Result<(), Fail> {
+    let alloc = rt.alloc();
+    let mut builder = builder(&rt, Picky)?;
+    builder.add_extension(alloc, Extension::from_der(alloc, EXTENSION)?)?;
+    let identifier = ObjectIdentifier::new("1.2.3.5")?;
+    let unnamed = Reasons::from_bits_retain(512);
+    let refused = builder.add_extension(alloc, (identifier, false, &unnamed));
+    assert!(rt; is_asn1(refused, ErrorKind::Value));
+    assert!(rt; is_bytes(builder.finalize(alloc, &ABC), ADDED));
+    Ok(())
+}
+
+#[test]
+fn refused_memory_adds_no_extension(rt: HostRuntime) -> std::result::Result<(), Fail> {
+    let alloc = rt.alloc();
+    let mut builder = builder(&rt, Picky)?;
+    let added = builder.add_extension(alloc, Extension::from_der(alloc, EXTENSION)?);
+    let wanted = after(added, ADDED, PICKED)?;
+    assert!(rt; builder.finalize(alloc, &ABC)?.as_slice() == wanted);
+    Ok(())
+}
+
+#[test]
+fn refused_memory_leaves_the_part(rt: HostRuntime) -> std::result::Result<(), Fail> {
+    let alloc = rt.alloc();
+    let no_bits = BitString::from_bytes(alloc, &[])?;
+    let mut builder = builder(&rt, Picky)?;
+    let wanted = after(builder.finalize(alloc, &ABC), PICKED_UNSIGNED, AS_MADE)?;
+    assert!(rt; is_written(&rt, builder.assemble(alloc, no_bits, &ABC), wanted)?);
     Ok(())
 }
 

@@ -18,6 +18,10 @@ fn what_was_refused_below(rt: HostRuntime) -> Result<(), Fail> {
     assert!(rt; prints(&rt, &key, "public key error: Refused")?);
     let signature = Error::Signature(SignError::Memory);
     assert!(rt; prints(&rt, &signature, "signature error: Memory")?);
+    let no_key = Error::PublicKey(KeyError::Memory);
+    assert!(rt; prints(&rt, &no_key, "public key error: Memory")?);
+    let unsigned = Error::Signature(SignError::Refused);
+    assert!(rt; prints(&rt, &unsigned, "signature error: Refused")?);
     Ok(())
 }
 

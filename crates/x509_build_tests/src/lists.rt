@@ -1,6 +1,6 @@
 //! Lists of revoked certificates that are built.
 
-use crate::calls::{is_asn1, is_bytes, is_key_refused, is_signing_refused, is_written};
+use crate::calls::{after, is_asn1, is_bytes, is_key_refused, is_signing_refused, is_written};
 use crate::signers::{ABC, Hesitant, Refused};
 use crate::source::Zeros;
 use std::test::*;
@@ -253,6 +253,14 @@ fn what_is_given_later(rt: HostRuntime) -> std::result::Result<(), Fail> {
     };
     assert!(rt; is_key_refused(later.finalize(alloc, &key)));
     assert!(rt; is_current(&rt, later, LIST_UNSIGNED)?);
+    Ok(())
+}
+
+#[test]
+fn refused_memory_leaves_the_part(rt: HostRuntime) -> std::result::Result<(), Fail> {
+    let mut builder = builder(&rt)?;
+    let wanted = after(builder.finalize(rt.alloc(), &ABC), LIST_UNSIGNED, AS_MADE)?;
+    assert!(rt; is_current(&rt, builder, wanted)?);
     Ok(())
 }
 

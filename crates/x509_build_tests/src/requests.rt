@@ -1,8 +1,9 @@
 //! Requests that are built.
 
-use crate::calls::{is_asn1, is_bytes, is_key_refused, is_signing_refused, is_written};
+use crate::calls::{after, is_asn1, is_bytes, is_key_refused, is_signing_refused, is_written};
 use crate::signers::{ABC, Hesitant, Refused};
 use crate::source::Zeros;
+use bitflags::Flags;
 use std::test::*;
 use x509_build_error::Result;
 use x509_build_request::RequestBuilder;
@@ -13,6 +14,7 @@ use x509_der_oid::{AssociatedOid, ObjectIdentifier};
 use x509_ext_frame::Extension;
 use x509_name_directory::DirectoryString;
 use x509_name_rdn::Name;
+use x509_pkix_crl::Reasons;
 use x509_prim_string::BitString;
 use x509_prim_text::Utf8String;
 
@@ -187,6 +189,46 @@ fn an_extension_that_is_asked_for(rt: HostRuntime) -> std::result::Result<(), Fa
     Ok(())
 }
 
+/// The payload has a bit without a name.
+#[test]
+fn an_extension_that_is_refused(rt: HostRuntime) -> std::result::Result<(), Fail> {
+    let alloc = rt.alloc();
+    let mut builder = builder(&rt)?;
+    builder.add_extension(alloc, Extension::from_der(alloc, EXTENSION)?)?;
+    let identifier = ObjectIdentifier::new("2.5.29.14")?;
+    let unnamed = Reasons::from_bits_retain(512);
+    let refused = builder.add_extension(alloc, (identifier, false, &unnamed));
+    assert!(rt; is_asn1(refused, ErrorKind::Value));
+    assert!(rt; is_bytes(builder.finalize(alloc, &ABC), ASKING));
+    Ok(())
+}
+
+#[test]
+fn refused_memory_asks_for_no_extension(rt: HostRuntime) -> std::result::Result<(), Fail> {
+    let alloc = rt.alloc();
+    let mut builder = builder(&rt)?;
+    let added = builder.add_extension(alloc, Extension::from_der(alloc, EXTENSION)?);
+    let wanted = after(added, ASKING, PLAIN)?;
+    assert!(rt; builder.finalize(alloc, &ABC)?.as_slice() == wanted);
+    Ok(())
+}
+
+#[test]
+fn refused_memory_adds_no_attribute(rt: HostRuntime) -> std::result::Result<(), Fail> {
+    let mut builder = builder(&rt)?;
+    let wanted = after(add_password(&rt, &mut builder), PASSWORD, PLAIN)?;
+    assert!(rt; builder.finalize(rt.alloc(), &ABC)?.as_slice() == wanted);
+    Ok(())
+}
+
+#[test]
+fn refused_memory_leaves_the_part(rt: HostRuntime) -> std::result::Result<(), Fail> {
+    let mut builder = builder(&rt)?;
+    let wanted = after(builder.finalize(rt.alloc(), &ABC), PLAIN_UNSIGNED, AS_MADE)?;
+    assert!(rt; is_current(&rt, builder, wanted)?);
+    Ok(())
+}
+
 #[test]
 fn what_is_added_later(rt: HostRuntime) -> std::result::Result<(), Fail> {
     let mut builder = builder(&rt)?;
@@ -212,6 +254,17 @@ fn a_signer_that_may_refuse_and_does_not(rt: HostRuntime) -> std::result::Result
     assert!(rt; is_written(&rt, built, PLAIN_SIGNED)?);
     let with_rng = with_password(&rt)?.build_with_rng(rt.alloc(), &signer, &mut Zeros);
     assert!(rt; is_written(&rt, with_rng, PASSWORD_SIGNED)?);
+    Ok(())
+}
+
+/// The part of a request names no signature algorithm (RFC 2986 4.1), so the signer isn't asked for it.
+#[test]
+fn a_part_without_the_algorithm(rt: HostRuntime) -> std::result::Result<(), Fail> {
+    let signer = Hesitant {
+        refuses: Refused::Algorithm,
+    };
+    let mut builder = builder(&rt)?;
+    assert!(rt; is_bytes(builder.finalize(rt.alloc(), &signer), PLAIN));
     Ok(())
 }
 

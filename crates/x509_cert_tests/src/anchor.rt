@@ -2,7 +2,7 @@
 
 use bitflags::Flags;
 use std::test::*;
-use x509_base_validity::Rfc5280;
+use x509_base_validity::{Raw, Rfc5280};
 use x509_cert_anchor::{CertPathControls, CertPolicies, TrustAnchorChoice, Version};
 use x509_der_grammar::{Decode, Encode, Error, ErrorKind, TryClone};
 use x509_name_rdn::Name;
@@ -38,6 +38,14 @@ const FULL: &[u8] = &[
     0x82, 0x02, 0x65, 0x6E,
 ];
 
+/// A key with its identifier, and a certificate in the path controls, a date of which is a GeneralizedTime through 2049.
+const CONTROLS: &[u8] =
+    b"\xA2\x5F\x30\x5D\x30\x0A\x30\x05\x06\x03\x2A\x03\x04\x03\x01\x00\x04\x01\x01\x30\x4C\x30\x00\xA0\x48\x30\x3C\x02\x01\x01\x30\x05\x06\x03\x2A\x03\x04\x30\x00\x30\x20\x18\x0F20020101120100Z\x17\x0D301231083000Z\x30\x00\x30\x0A\x30\x05\x06\x03\x2A\x03\x04\x03\x01\x00\x30\x05\x06\x03\x2A\x03\x04\x03\x01\x00";
+
+/// The same with that date as UTCTime.
+const SHORT_CONTROLS: &[u8] =
+    b"\xA2\x5D\x30\x5B\x30\x0A\x30\x05\x06\x03\x2A\x03\x04\x03\x01\x00\x04\x01\x01\x30\x4A\x30\x00\xA0\x46\x30\x3A\x02\x01\x01\x30\x05\x06\x03\x2A\x03\x04\x30\x00\x30\x1E\x17\x0D020101120100Z\x17\x0D301231083000Z\x30\x00\x30\x0A\x30\x05\x06\x03\x2A\x03\x04\x03\x01\x00\x30\x05\x06\x03\x2A\x03\x04\x03\x01\x00";
+
 /// Whether the anchor is read, and a copy that equals it is written as the others.
 fn becomes<T: Decode + Encode + TryClone + PartialEq + Drop>(
     rt: &HostRuntime,
@@ -55,6 +63,13 @@ fn anchors(rt: HostRuntime) -> Result<(), Fail> {
     assert!(rt; becomes::<TrustAnchorChoice>(&rt, WHOLE, WHOLE)?);
     assert!(rt; becomes::<TrustAnchorChoice>(&rt, SIGNED, SIGNED)?);
     assert!(rt; becomes::<TrustAnchorChoice>(&rt, FULL, FULL)?);
+    Ok(())
+}
+
+#[test]
+fn a_certificate_in_controls(rt: HostRuntime) -> Result<(), Fail> {
+    assert!(rt; becomes::<TrustAnchorChoice>(&rt, CONTROLS, SHORT_CONTROLS)?);
+    assert!(rt; becomes::<TrustAnchorChoice<Raw>>(&rt, CONTROLS, CONTROLS)?);
     Ok(())
 }
 

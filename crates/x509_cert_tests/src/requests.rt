@@ -103,6 +103,15 @@ fn versions(rt: HostRuntime) -> Result<(), Fail> {
     Ok(())
 }
 
+/// A password is written as its text is.
+#[test]
+fn a_password(rt: HostRuntime) -> Result<(), Fail> {
+    let text = Utf8String::new(rt.alloc(), "pw")?;
+    let password = ChallengePassword(DirectoryString::Utf8String(text));
+    assert!(rt; is_written(&rt, Ok(password), &[0x0C, 0x02, 0x70, 0x77])?);
+    Ok(())
+}
+
 #[test]
 fn a_password_as_an_attribute(rt: HostRuntime) -> Result<(), Fail> {
     let text = Utf8String::new(rt.alloc(), "pw")?;

@@ -107,6 +107,32 @@ fn lists_that_are_made(rt: HostRuntime) -> Result<(), Fail> {
     Ok(())
 }
 
+/// The numbers from 0 on.
+const COUNTED: [u8; 20] = [
+    0, 1, 2, 3, 4, 5, 6, 7, 8, 9, 10, 11, 12, 13, 14, 15, 16, 17, 18, 19,
+];
+
+/// Whether the first numbers, which the list has, are one more once the next is put in, or as many where it is refused.
+fn counts_on(list: &mut SequenceOf<u8>) -> bool {
+    let before = list.len();
+    let Some(next) = COUNTED.get(before) else {
+        return false;
+    };
+    let wanted = match list.push(*next) {
+        Ok(()) => before.saturating_add(1),
+        Err(_) => before,
+    };
+    list.len() == wanted && COUNTED.starts_with(list.as_slice())
+}
+
+#[test]
+fn refused_memory_leaves_the_list(rt: HostRuntime) {
+    let mut list: SequenceOf<u8> = SequenceOf::new(rt.alloc());
+    for _ in 0..20 {
+        assert!(rt; counts_on(&mut list));
+    }
+}
+
 #[test]
 fn elements_in_order(rt: HostRuntime) -> Result<(), Fail> {
     let (less, more) = (Ordering::Less, Ordering::Greater);

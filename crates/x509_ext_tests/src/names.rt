@@ -178,6 +178,14 @@ fn a_hardware_module(rt: HostRuntime) -> Result<(), Fail> {
     Ok(())
 }
 
+/// The type 1.2.3.4 with the serial number AA (RFC 4108 5).
+#[test]
+fn a_module_alone(rt: HostRuntime) -> Result<(), Fail> {
+    let bytes = [0x30, 0x08, 0x06, 0x03, 0x2A, 0x03, 0x04, 0x04, 0x01, 0xAA];
+    assert!(rt; stays::<HardwareModuleName>(&rt, &bytes)?);
+    Ok(())
+}
+
 /// A NULL where the name of a module is to stand.
 #[test]
 fn no_hardware_module(rt: HostRuntime) -> Result<(), Fail> {

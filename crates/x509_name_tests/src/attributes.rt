@@ -1,10 +1,10 @@
 //! Attributes: a type with a value, and a type with a set of values.
 
-use crate::calls::{hash_of, stays};
+use crate::calls::{hash_of, is_refused, stays};
 use crate::names::organization;
 use std::cmp::Ordering;
 use std::test::*;
-use x509_der_grammar::{Decode, Encode, FixedTag, Grammar};
+use x509_der_grammar::{Decode, Encode, Error, ErrorKind, FixedTag, Grammar};
 use x509_der_order::{DerOrd, ValueOrd};
 use x509_name_attribute::{Attribute, AttributeTypeAndValue, Attributes};
 
@@ -76,5 +76,24 @@ fn attributes(rt: HostRuntime) -> Result<(), Fail> {
     both.insert(full)?;
     both.insert(bare)?;
     assert!(rt; both.encoded_len()?.as_u32() == 40);
+    Ok(())
+}
+
+/// The set of the attribute without a value and of the password, in this order since the first is shorter.
+const SET: &[u8] =
+    b"\x31\x26\x30\x0D\x06\x09\x2A\x86\x48\x86\xF7\x0D\x01\x09\x07\x31\x00\x30\x15\x06\x09\x2A\x86\x48\x86\xF7\x0D\x01\x09\x07\x31\x08\x0C\x06secret";
+
+/// Whether the attribute of these bytes is refused as one that is there.
+fn is_there(rt: &HostRuntime, set: &mut Attributes, bytes: &[u8]) -> Result<bool, Error> {
+    let attribute = Attribute::from_der(rt.alloc(), bytes)?;
+    Ok(is_refused(set.insert(attribute), ErrorKind::SetDuplicate))
+}
+
+#[test]
+fn an_attribute_again(rt: HostRuntime) -> Result<(), Fail> {
+    let mut set = Attributes::from_der(rt.alloc(), SET)?;
+    assert!(rt; is_there(&rt, &mut set, ATTRIBUTES[1])?);
+    assert!(rt; is_there(&rt, &mut set, ATTRIBUTES[0])?);
+    assert!(rt; set.to_der(rt.alloc())?.as_slice() == SET);
     Ok(())
 }

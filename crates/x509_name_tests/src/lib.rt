@@ -13,3 +13,5 @@ mod look_ups;
 mod names;
 #[cfg(test)]
 mod texts;
+#[cfg(test)]
+mod types;

@@ -160,6 +160,26 @@ fn longer(rt: &HostRuntime, mut rdns: RdnSequence) -> Result<RdnSequence, Error>
     Ok(rdns)
 }
 
+/// Whether one more empty set is written behind the others, or memory was refused and they are as they were.
+fn is_longer_or_refused(rt: &HostRuntime, rdns: &mut RdnSequence) -> Result<bool, Error> {
+    let before = rdns.len();
+    let wanted = match rdns.push(RelativeDistinguishedName::new(rt.alloc())) {
+        Ok(()) => before.saturating_add(1),
+        Err(_) => before,
+    };
+    let value_len = rdns.value_len()?.as_u32() as usize;
+    Ok(rdns.len() == wanted && value_len == wanted.saturating_mul(2))
+}
+
+#[test]
+fn refused_memory_leaves_the_sequence(rt: HostRuntime) -> Result<(), Fail> {
+    let mut rdns = RdnSequence::new(rt.alloc());
+    for _ in 0..10 {
+        assert!(rt; is_longer_or_refused(&rt, &mut rdns)?);
+    }
+    Ok(())
+}
+
 /// How many sets there are once they were taken out and put back, and how many are taken out.
 fn taken(rdns: RdnSequence) -> (usize, usize) {
     let sets: Vec<RelativeDistinguishedName> = rdns.into();

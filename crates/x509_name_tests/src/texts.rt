@@ -15,7 +15,7 @@ struct Row {
 }
 
 /// Texts and their names; the second is of RFC 4514 section 4, with a comma in a value behind three backslashes.
-const ROWS: [Row; 5] = [
+const ROWS: [Row; 8] = [
     Row {
         text: "CN=foo,SN=bar,C=baz+L=bat",
         encoding: b"\x30\x36\x31\x18\x30\x0A\x06\x03\x55\x04\x06\x13\x03baz\x30\x0A\x06\x03\x55\x04\x07\x0C\x03bat\x31\x0C\x30\x0A\x06\x03\x55\x04\x04\x0C\x03bar\x31\x0C\x30\x0A\x06\x03\x55\x04\x03\x0C\x03foo",
@@ -36,15 +36,39 @@ const ROWS: [Row; 5] = [
         text: "1.3.6.1.4.1.1466.0=#04024869",
         encoding: b"\x30\x12\x31\x10\x30\x0E\x06\x08\x2B\x06\x01\x04\x01\x8B\x3A\x00\x04\x02Hi",
     },
+    Row {
+        text: "CN=\\#x",
+        encoding: b"\x30\x0D\x31\x0B\x30\x09\x06\x03\x55\x04\x03\x0C\x02#x",
+    },
+    Row {
+        text: "CN=a\\0ab",
+        encoding: b"\x30\x0E\x31\x0C\x30\x0A\x06\x03\x55\x04\x03\x0C\x03a\x0Ab",
+    },
+    // an asterisk is in no PrintableString, so the element is printed
+    Row {
+        text: "2.5.4.6=#13012a",
+        encoding: b"\x30\x0C\x31\x0A\x30\x08\x06\x03\x55\x04\x06\x13\x01*",
+    },
 ];
 
+/// Texts of the name that `CN=foo` is of: names of types are read in either case, in short and in full, and digits in either case.
+const OTHER_SPELLINGS: [&str; 5] = [
+    "cn=foo",
+    "commonName=foo",
+    "COMMONNAME=foo",
+    "2.5.4.3=fo\\6F",
+    "Cn=#0C03666F6f",
+];
+
+const FOO: &[u8] = b"\x30\x0E\x31\x0C\x30\x0A\x06\x03\x55\x04\x03\x0C\x03foo";
+
 /// Whether the value prints the text.
-fn prints<T: Display>(rt: &HostRuntime, value: &T, text: &str) -> Result<bool, Error> {
+pub fn prints<T: Display>(rt: &HostRuntime, value: &T, text: &str) -> Result<bool, Error> {
     Ok(format!(in rt.alloc(); "{value}")?.as_str() == text)
 }
 
 /// Whether the text is read as a name, which prints it.
-fn prints_back(rt: &HostRuntime, text: &str) -> Result<bool, Error> {
+pub fn prints_back(rt: &HostRuntime, text: &str) -> Result<bool, Error> {
     let name = Name::from_str(rt.alloc(), text)?;
     prints(rt, &name, text)
 }
@@ -58,6 +82,14 @@ fn encodes(rt: &HostRuntime, text: &str, encoding: &[u8]) -> Result<bool, Error>
 fn rows(rt: HostRuntime) -> Result<(), Fail> {
     for row in &ROWS {
         assert!(rt; prints_back(&rt, row.text)? && encodes(&rt, row.text, row.encoding)?);
+    }
+    Ok(())
+}
+
+#[test]
+fn other_spellings(rt: HostRuntime) -> Result<(), Fail> {
+    for text in &OTHER_SPELLINGS {
+        assert!(rt; encodes(&rt, *text, FOO)?);
     }
     Ok(())
 }

@@ -21,6 +21,7 @@ fn signatures(rt: HostRuntime) -> Result<(), Fail> {
 #[test]
 fn names(rt: HostRuntime) -> Result<(), Fail> {
     assert!(rt; stays::<HashAlgorithm>(&rt, &[4])? && stays::<SignatureAlgorithm>(&rt, &[3])?);
+    assert!(rt; stays::<Version>(&rt, &[0])?);
     assert!(rt; is_refused::<HashAlgorithm>(&rt, &[7], TlsError::UnknownValue(7)));
     assert!(rt; is_refused::<HashAlgorithm>(&rt, &[], TlsError::EndOfStream));
     assert!(rt; is_refused::<Version>(&rt, &[1], TlsError::UnknownValue(1)));

@@ -1,8 +1,8 @@
 //! Lists of timestamps.
 
-use crate::calls::{first_of, is_written_as, list_of, parsed_again, refusal_of};
+use crate::calls::{first_of, is_written_as, list_of, parsed_again, refusal_of, stays};
 use std::test::*;
-use x509_der_grammar::{Decode, Encode};
+use x509_der_grammar::{Decode, Encode, TryClone};
 use x509_ext_frame::ToExtension;
 use x509_name_rdn::Name;
 use x509_prim_string::OctetString;
@@ -84,6 +84,7 @@ fn no_timestamps(rt: HostRuntime) -> Result<(), Fail> {
 
 #[test]
 fn one_timestamp(rt: HostRuntime) -> Result<(), Fail> {
+    assert!(rt; stays::<SignedCertificateTimestamp>(&rt, &ONE[6..])?);
     assert!(rt; is_written_as(&rt, &list_with(&rt, 0)?, &ONE)?);
     let found = first_of(&rt, &ONE)?;
     assert!(rt; found == timestamp(&rt, 0)?);
@@ -141,6 +142,7 @@ fn extension(rt: HostRuntime) -> Result<(), Fail> {
 fn octets_within(rt: HostRuntime) -> Result<(), Fail> {
     let mut list = list_of(&rt, &[0, 0])?;
     assert!(rt; list.as_ref().as_bytes() == [0, 0].as_slice());
+    assert!(rt; list.try_clone(rt.alloc())? == list);
     *list.as_mut() = OctetString::new(rt.alloc(), &[7])?;
     let taken: OctetString = list.into();
     assert!(rt; taken.as_bytes() == [7].as_slice());
