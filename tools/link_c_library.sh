@@ -12,7 +12,7 @@ heap=$(dirname "$(dirname "$(readlink -f "$(command -v rt)")")")/c/liblibc_c.a
 
 if [ ! -e "$library" ] ||
     [ -n "$(find "$top/crates" "$top/crates.txt" -name out -prune -o -name must-fail -prune -o -type f -newer "$library" -print -quit)" ]; then
-    (cd "$top/crates/x509_c" && rt lib) >&2
+    "$top/tools/build_c_library.py" >&2
 fi
 cp "$library" "$heap" "$folder/"
 "${CC:-cc}" -shared -o "$folder/libx509.so" -Wl,--whole-archive "$library" -Wl,--no-whole-archive "$heap"

@@ -1,39 +1,81 @@
-/* Refuses each allocation of each call of x509.h in turn: the call answers X509_MEMORY then, or what it answers with all memory, and what it is to fill in
- * stays as it was when it is refused. Link with -Wl,--wrap=malloc,--wrap=realloc.
+/* Refuses each allocation of each call of x509.h that takes memory in turn, alone and with all behind it: the call answers X509_MEMORY then, or what it
+ * answers with all memory, what it is to fill in stays as it was when it is refused, and no block of memory stays behind.
  *
- * usage: refuse_memory CERTIFICATE LIST */
+ * With ROWS and ANSWERS, crates/x509_rows/stdin and stdout, it does so with x509_reencode over each row; with all memory the row has to give its answer.
+ * Of a row that asks for more than 400 allocations 400 are refused, spread evenly. What was counted goes to standard error.
+ *
+ * Link with -Wl,--wrap=malloc,--wrap=realloc,--wrap=free.
+ *
+ * usage: refuse_memory CERTIFICATE LIST REQUEST [ROWS ANSWERS] */
+#include <limits.h>
 #include <stdio.h>
 #include <stdlib.h>
 #include <string.h>
 #include "x509.h"
 
-/* how many allocations are still given; all where it is below 0 */
-static long given = -1;
+/* how many allocations were asked for in this call, and how many blocks stand */
+static long asked = 0, standing = 0;
+/* the first allocation that is refused, counted from 0, and the first behind it that is given again */
+static long refused_from = LONG_MAX, refused_to = LONG_MAX;
 
 void *__real_malloc(size_t size);
 void *__real_realloc(void *block, size_t size);
+void __real_free(void *block);
 
 static int is_given(void)
 {
-    if (given == 0)
-        return 0;
-    if (given > 0)
-        given--;
-    return 1;
+    const long at = asked++;
+    return at < refused_from || at >= refused_to;
 }
 
 void *__wrap_malloc(size_t size)
 {
-    return is_given() ? __real_malloc(size) : NULL;
+    void *block = is_given() ? __real_malloc(size) : NULL;
+    standing += block != NULL;
+    return block;
 }
 
 void *__wrap_realloc(void *block, size_t size)
 {
-    return is_given() ? __real_realloc(block, size) : NULL;
+    void *other = is_given() ? __real_realloc(block, size) : NULL;
+    standing += block == NULL && other != NULL;
+    return other;
 }
 
-static uint8_t certificate[65536], list[65536], room[65536];
-static size_t certificate_len, list_len;
+void __wrap_free(void *block)
+{
+    standing -= block != NULL;
+    __real_free(block);
+}
+
+/* From here on the allocations from the one to the other are refused. */
+static void refuse(long from, long to)
+{
+    asked = 0;
+    refused_from = from;
+    refused_to = to;
+}
+
+static void give_all(void)
+{
+    refuse(LONG_MAX, LONG_MAX);
+}
+
+static int failures = 0;
+
+/* what is wrong, in the call or the line of that number; the first ones are printed */
+static void wrong(const char *what, long number)
+{
+    if (failures++ < 20)
+        printf("wrong: %s %ld\n", what, number);
+}
+
+/* ---- each call */
+
+enum { CALLS = 11 };
+
+static uint8_t certificate[65536], list[65536], request[65536], room[65536];
+static size_t certificate_len, list_len, request_len;
 static x509_certificate view;
 static x509_extension extension;
 static x509_revocation revocation;
@@ -60,52 +102,211 @@ static x509_status call(int number)
         return x509_reencode((const uint8_t *)"Certificate", 11, X509_RAW, certificate, certificate_len, room, sizeof room, &count);
     case 8:
         return x509_name_from_text((const uint8_t *)"CN=a+OU=b,O=c", 13, room, sizeof room, &count);
-    default:
+    case 9:
         return x509_name_text((const uint8_t *)"\x30\x0c\x31\x0a\x30\x08\x06\x03\x55\x04\x03\x0c\x01\x61", 14, room, sizeof room, &count);
+    default:
+        return x509_request_check(request, request_len);
     }
 }
 
-/* whether a call was refused one allocation after the other, and changed nothing then */
-static int holds(int number)
+/* whether a call that was refused these allocations ended with X509_MEMORY, changed nothing and left nothing, or did what it is for */
+static int holds(int number, long from, long to)
 {
-    for (long allocations = 0; allocations < 100000; allocations++) {
-        const x509_certificate old_view = view;
-        const x509_extension old_extension = extension;
-        const x509_revocation old_revocation = revocation;
-        const size_t old_count = count;
-        given = allocations;
-        x509_status status = call(number);
-        given = -1;
-        if (status == X509_OK)
-            return allocations > 0;
-        if (status != X509_MEMORY || memcmp(&view, &old_view, sizeof view) != 0 || memcmp(&extension, &old_extension, sizeof extension) != 0 ||
-            memcmp(&revocation, &old_revocation, sizeof revocation) != 0 || count != old_count)
-            return 0;
-    }
-    return 0;
+    const x509_certificate old_view = view;
+    const x509_extension old_extension = extension;
+    const x509_revocation old_revocation = revocation;
+    const size_t old_count = count;
+    const long old_standing = standing;
+    refuse(from, to);
+    const x509_status status = call(number);
+    const int was_refused = asked > from;
+    give_all();
+    if (standing != old_standing)
+        return 0;
+    if (status == X509_OK)
+        return !was_refused || to != LONG_MAX;
+    return was_refused && status == X509_MEMORY && memcmp(&view, &old_view, sizeof view) == 0 &&
+           memcmp(&extension, &old_extension, sizeof extension) == 0 && memcmp(&revocation, &old_revocation, sizeof revocation) == 0 &&
+           count == old_count;
 }
 
-static size_t read_file(const char *path, uint8_t *bytes)
+static void refuse_call(int number)
+{
+    give_all();
+    if (call(number) != X509_OK || asked == 0)
+        wrong("call with all memory, or none taken:", number);
+    const long allocations = asked;
+    for (long at = 0; at <= allocations; at++)
+        if (!holds(number, at, LONG_MAX) || !holds(number, at, at + 1)) {
+            wrong("call", number);
+            return;
+        }
+}
+
+/* ---- each row */
+
+enum { MOST_PLACES = 400, UNTOUCHED = 77 };
+
+typedef struct {
+    const uint8_t *at;
+    size_t len;
+} bytes;
+
+typedef struct {
+    bytes name, value;
+    uint32_t profile;
+} row;
+
+/* how many rows there were, how often one was asked for with too little memory, how many of these ended with X509_MEMORY; the most allocations
+ * of a row, and how many rows had more than are tried */
+static long rows = 0, runs = 0, ends = 0, most = 0, shortened = 0;
+
+/* The bytes before the next such byte, which is passed over with them; `*is_there` says whether there was one. */
+static bytes take_until(bytes *rest, uint8_t byte, int *is_there)
+{
+    const uint8_t *end = rest->len == 0 ? NULL : memchr(rest->at, byte, rest->len);
+    const bytes front = {rest->at, end == NULL ? rest->len : (size_t)(end - rest->at)};
+    const size_t passed = front.len + (end != NULL);
+    *is_there = end != NULL;
+    *rest = (bytes){rest->at + passed, rest->len - passed};
+    return front;
+}
+
+static int is_text(bytes it, const char *text)
+{
+    return it.len == strlen(text) && memcmp(it.at, text, it.len) == 0;
+}
+
+static int digit(uint8_t c)
+{
+    return c >= '0' && c <= '9' ? c - '0' : c >= 'A' && c <= 'F' ? c - 'A' + 10 : c >= 'a' && c <= 'f' ? c - 'a' + 10 : -1;
+}
+
+/* Whether a line is a name, a profile and hex digits, with one space between each two; the value is put into the room. */
+static int read_row(bytes line, row *read, uint8_t *value)
+{
+    int first, second;
+    read->name = take_until(&line, ' ', &first);
+    const bytes profile = take_until(&line, ' ', &second);
+    read->profile = is_text(profile, "raw") ? X509_RAW : X509_RFC5280;
+    if (!first || !second || line.len % 2 != 0 || (!is_text(profile, "raw") && !is_text(profile, "rfc5280")))
+        return 0;
+    for (size_t i = 0; i < line.len; i += 2) {
+        if (digit(line.at[i]) < 0 || digit(line.at[i + 1]) < 0)
+            return 0;
+        value[i / 2] = (uint8_t)(digit(line.at[i]) * 16 + digit(line.at[i + 1]));
+    }
+    read->value = (bytes){value, line.len / 2};
+    return 1;
+}
+
+/* Whether the answer says that the row gave these bytes, or was refused so and left `written` as it was. */
+static int says(bytes answer, x509_status status, const uint8_t *out, size_t written)
+{
+    static const char *const refusals[] = {"", "Overlength", "Malformed", "Failed", "SetDuplicate", "Value"};
+    char text[40];
+    if (status != X509_OK) {
+        snprintf(text, sizeof text, "refused: %s", status >= 1 && status <= 5 ? refusals[status] : "?");
+        return written == UNTOUCHED && is_text(answer, text);
+    }
+    if (answer.len != 2 * written)
+        return 0;
+    for (size_t i = 0; i < answer.len; i++)
+        if (answer.at[i] != "0123456789ABCDEF"[i % 2 == 0 ? out[i / 2] / 16 : out[i / 2] % 16])
+            return 0;
+    return 1;
+}
+
+/* Whether a row gives its answer, or X509_MEMORY where one of these allocations was refused; and leaves no block behind. */
+static int row_holds(const row *it, bytes answer, uint8_t *out, size_t out_len, long from, long to)
+{
+    const long old_standing = standing;
+    size_t written = UNTOUCHED;
+    refuse(from, to);
+    const x509_status status = x509_reencode(it->name.at, it->name.len, it->profile, it->value.at, it->value.len, out, out_len, &written);
+    const int is_refused = status == X509_MEMORY && asked > from && written == UNTOUCHED;
+    runs += from != LONG_MAX;
+    ends += is_refused;
+    return standing == old_standing && (is_refused || says(answer, status, out, written));
+}
+
+static void refuse_row(const row *it, bytes answer, uint8_t *out, size_t out_len, long line)
+{
+    rows++;
+    if (!row_holds(it, answer, out, out_len, LONG_MAX, LONG_MAX))
+        wrong("row with all memory, line", line);
+    const long allocations = asked, places = allocations < MOST_PLACES ? allocations : MOST_PLACES;
+    most = allocations > most ? allocations : most;
+    shortened += places < allocations;
+    for (long place = 0; place < places; place++) {
+        const long at = place * allocations / places;
+        if (!row_holds(it, answer, out, out_len, at, at + 1) || !row_holds(it, answer, out, out_len, at, LONG_MAX)) {
+            wrong("row with an allocation refused, line", line);
+            break;
+        }
+    }
+    give_all();
+}
+
+/* All lines, one behind the other; what stands behind the last line feed is one too, unless it is empty. */
+static void refuse_rows(bytes input, bytes answers)
+{
+    const size_t room_len = input.len + 1;
+    uint8_t *value = malloc(room_len), *out = malloc(room_len);
+    row read;
+    int more;
+    long line = 0;
+    if (value == NULL || out == NULL)
+        exit(2);
+    while (input.len > 0) {
+        const bytes text = take_until(&input, '\n', &more), answer = take_until(&answers, '\n', &more);
+        line++;
+        if (read_row(text, &read, value))
+            refuse_row(&read, answer, out, room_len, line);
+        else if (!is_text(answer, "refused: Failed"))
+            wrong("no row, and another answer, line", line);
+    }
+    if (answers.len != 0 || ends == 0)
+        wrong("more answers than lines, or none for want of memory; lines:", line);
+    free(value);
+    free(out);
+    fprintf(stderr, "%ld lines, %ld rows, %ld runs with too little memory, of which %ld ended with X509_MEMORY; ", line, rows, runs, ends);
+    fprintf(stderr, "the most allocations of a row are %ld, and %ld rows have more than %d\n", most, shortened, MOST_PLACES);
+}
+
+/* ---- files */
+
+static size_t read_file(const char *path, uint8_t *into, size_t most_len)
 {
     FILE *file = fopen(path, "rb");
-    size_t len = file == NULL ? 0 : fread(bytes, 1, 65536, file);
+    size_t len = file == NULL ? 0 : fread(into, 1, most_len, file);
     if (file != NULL)
         fclose(file);
     return len;
 }
 
+static bytes whole_file(const char *path)
+{
+    enum { MOST = 1 << 26 };
+    uint8_t *into = malloc(MOST);
+    return (bytes){into, into == NULL ? 0 : read_file(path, into, MOST)};
+}
+
 int main(int argc, char **argv)
 {
-    int failures = 0;
-    if (argc != 3)
+    if (argc != 4 && argc != 6)
         return 2;
-    certificate_len = read_file(argv[1], certificate);
-    list_len = read_file(argv[2], list);
-    for (int number = 0; number < 10; number++)
-        if (!holds(number)) {
-            printf("wrong: call %d\n", number);
-            failures++;
-        }
+    certificate_len = read_file(argv[1], certificate, sizeof certificate);
+    list_len = read_file(argv[2], list, sizeof list);
+    request_len = read_file(argv[3], request, sizeof request);
+    for (int number = 0; number < CALLS; number++)
+        refuse_call(number);
+    if (argc == 6) {
+        const bytes input = whole_file(argv[4]), answers = whole_file(argv[5]);
+        refuse_rows(input, answers);
+        free((void *)input.at);
+        free((void *)answers.at);
+    }
     if (failures == 0)
         printf("all calls answer as they should\n");
     return failures != 0;

@@ -6,6 +6,8 @@ top=$(cd "$(dirname "${BASH_SOURCE[0]}")/.." && pwd)
 folder=$(mktemp -d)
 trap 'rm -rf "$folder"' EXIT
 data=$top/examples/data
+files=("$data/certificate.der" "$data/list.der" "$data/request.der")
+rows=("$top/crates/x509_rows/stdin" "$top/crates/x509_rows/stdout")
 failed=0
 
 has() {
@@ -53,15 +55,15 @@ for name in show calls; do
         "$folder/libx509_c.a" "$folder/liblibc_c.a" -o "$folder/$name"
 done
 show "C" "$folder/show"
-"${CC:-cc}" -std=c11 -Wall -Wextra -Werror -O1 -g -I "$top/include" "$top/tools/refuse_memory.c" -Wl,--wrap=malloc,--wrap=realloc \
+"${CC:-cc}" -std=c11 -Wall -Wextra -Werror -O1 -g -I "$top/include" "$top/tools/refuse_memory.c" -Wl,--wrap=malloc,--wrap=realloc,--wrap=free \
     "$folder/libx509_c.a" "$folder/liblibc_c.a" -o "$folder/refuse_memory"
-wants "C, each allocation refused" 0 "$folder/calls.txt" "$folder/refuse_memory" "$data/certificate.der" "$data/list.der"
-wants "C, each call" 0 "$folder/calls.txt" "$folder/calls" "$data/certificate.der" "$data/list.der"
+wants "C, each allocation refused, also of each row" 0 "$folder/calls.txt" "$folder/refuse_memory" "${files[@]}" "${rows[@]}"
+wants "C, each call" 0 "$folder/calls.txt" "$folder/calls" "${files[@]}"
 if has valgrind "runs that look for leaks and bad reads"; then
     watched=(valgrind -q --error-exitcode=9 --leak-check=full)
     show "C under valgrind" "${watched[@]}" "$folder/show"
-    wants "C under valgrind, each call" 0 "$folder/calls.txt" "${watched[@]}" "$folder/calls" "$data/certificate.der" "$data/list.der"
-    wants "C under valgrind, each allocation refused" 0 "$folder/calls.txt" "${watched[@]}" "$folder/refuse_memory" "$data/certificate.der" "$data/list.der"
+    wants "C under valgrind, each call" 0 "$folder/calls.txt" "${watched[@]}" "$folder/calls" "${files[@]}"
+    wants "C under valgrind, each allocation refused" 0 "$folder/calls.txt" "${watched[@]}" "$folder/refuse_memory" "${files[@]}"
 fi
 
 if has cargo "the caller in Rust"; then
@@ -69,7 +71,9 @@ if has cargo "the caller in Rust"; then
     show "Rust" "$folder/target/debug/show"
 fi
 
-if has python3 "the caller in Python"; then
+if has python3 "the caller in Python, and wide and deep values"; then
     show "Python" python3 "$top/examples/python/show.py" "$folder/libx509.so"
+    python3 -B "$top/tools/hostile_sizes.py" --rows "$folder"
+    wants "C, each allocation refused of wide and deep values" 0 "$folder/calls.txt" "$folder/refuse_memory" "${files[@]}" "$folder/rows" "$folder/answers"
 fi
 exit "$failed"

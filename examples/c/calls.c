@@ -1,6 +1,6 @@
 /* Asks each call of x509.h for an answer that is known, and for its refusals: no bytes, one byte, too little room.
  *
- * usage: calls CERTIFICATE LIST */
+ * usage: calls CERTIFICATE LIST REQUEST */
 #include <stdio.h>
 #include <stdlib.h>
 #include <string.h>
@@ -18,10 +18,10 @@ static void want(const char *what, int is_so)
 
 #define WANT(condition) want(#condition, condition)
 
-static uint8_t certificate[65536], list[65536], room[65536];
+static uint8_t certificate[65536], list[65536], request[65536], room[65536];
 /* no bytes, and no room */
 static uint8_t nothing[1];
-static size_t certificate_len, list_len, written;
+static size_t certificate_len, list_len, request_len, written;
 
 static size_t read_file(const char *path, uint8_t *bytes)
 {
@@ -43,9 +43,12 @@ static void whole_values(void)
     WANT(x509_certificate_check(&one, 1) == X509_MALFORMED);
     WANT(x509_certificate_check(certificate, certificate_len - 1) == X509_MALFORMED);
     WANT(x509_certificate_check(list, list_len) == X509_MALFORMED);
+    WANT(x509_certificate_check(request, request_len) == X509_MALFORMED);
     WANT(x509_crl_check(list, list_len) == X509_OK);
     WANT(x509_crl_check(nothing, 0) == X509_MALFORMED);
     WANT(x509_crl_check(&one, 1) == X509_MALFORMED);
+    WANT(x509_request_check(request, request_len) == X509_OK);
+    WANT(x509_request_check(request, request_len - 1) == X509_MALFORMED);
     WANT(x509_request_check(nothing, 0) == X509_MALFORMED);
     WANT(x509_request_check(&one, 1) == X509_MALFORMED);
     WANT(x509_request_check(certificate, certificate_len) == X509_MALFORMED);
@@ -107,12 +110,16 @@ static void signed_parts(void)
     WANT(x509_signed_slice(NAME, sizeof NAME, &part) == X509_MALFORMED);
     /* SEQUENCE { SEQUENCE {}, NULL } */
     WANT(x509_signed_slice((const uint8_t *)"\x30\x04\x30\x00\x05\x00", 6, &part) == X509_OK && part.place == 2 && part.len == 2);
-    /* Certificates and lists of 128 to 65,535 octets begin with 30 81 LL or 30 82 LL LL. */
+    /* Certificates, lists and requests of 128 to 65,535 octets begin with 30 81 LL or 30 82 LL LL. */
     size_t header = certificate[1] == 0x82 ? 4 : 3;
     WANT(x509_signed_slice(certificate, certificate_len, &part) == X509_OK && part.place == header);
     WANT(certificate[part.place + part.len] == 0x30); /* the algorithm stands behind it */
     header = list[1] == 0x82 ? 4 : 3;
     WANT(x509_signed_slice(list, list_len, &part) == X509_OK && part.place == header);
+    header = request[1] == 0x82 ? 4 : 3;
+    WANT(x509_signed_slice(request, request_len, &part) == X509_OK && part.place == header);
+    WANT(x509_reencode((const uint8_t *)"CertReqInfo", 11, X509_RAW, request + header, part.len, room, sizeof room, &written) == X509_OK);
+    WANT(written == part.len && memcmp(room, request + header, written) == 0);
 }
 
 static int holds(x509_span span, const char *bytes, size_t len)
@@ -176,10 +183,11 @@ static void lists(void)
 
 int main(int argc, char **argv)
 {
-    if (argc != 3)
+    if (argc != 4)
         return 2;
     certificate_len = read_file(argv[1], certificate);
     list_len = read_file(argv[2], list);
+    request_len = read_file(argv[3], request);
     whole_values();
     types_by_name();
     names();

@@ -1,5 +1,5 @@
 #!/usr/bin/env python3
-"""Makes the certificate and the list of the examples, and what the examples print of them, by Python's `cryptography`."""
+"""Makes the certificate, the list and the request of the examples, and what the examples print of them, by Python's `cryptography`."""
 import datetime
 import ipaddress
 import pathlib
@@ -7,7 +7,7 @@ import pathlib
 from cryptography import x509
 from cryptography.hazmat.primitives import hashes, serialization
 from cryptography.hazmat.primitives.asymmetric import ec
-from cryptography.x509.oid import ExtensionOID, NameOID
+from cryptography.x509.oid import AttributeOID, ExtensionOID, NameOID
 
 HERE = pathlib.Path(__file__).parent
 UTC = datetime.timezone.utc
@@ -22,14 +22,18 @@ USAGES = [
 ]
 
 
-def make(key):
-    name = x509.Name(
+def make_name():
+    return x509.Name(
         [
             x509.NameAttribute(NameOID.COUNTRY_NAME, "DE"),
             x509.NameAttribute(NameOID.ORGANIZATION_NAME, "Beispiel, Söhne & Co"),
             x509.NameAttribute(NameOID.COMMON_NAME, "www.example.org"),
         ]
     )
+
+
+def make(key):
+    name = make_name()
     names = [
         x509.DNSName("www.example.org"),
         x509.DNSName("example.org"),
@@ -67,6 +71,19 @@ def make_list(key, certificate):
     return builder.sign(key, hashes.SHA256())
 
 
+def make_request(key):
+    """A request that asks for an extension, and gives a password (RFC 2985 5.4.1)."""
+    request = (
+        x509.CertificateSigningRequestBuilder()
+        .subject_name(make_name())
+        .add_extension(x509.SubjectAlternativeName([x509.DNSName("www.example.org")]), critical=False)
+        .add_attribute(AttributeOID.CHALLENGE_PASSWORD, b"password")
+        .sign(key, hashes.SHA256())
+    )
+    assert request.is_signature_valid
+    return request
+
+
 def general_name(name):
     if isinstance(name, x509.DNSName):
         return "DNS:" + name.value
@@ -99,6 +116,7 @@ def main():
     certificate = make(key)
     (HERE / "certificate.der").write_bytes(certificate.public_bytes(serialization.Encoding.DER))
     (HERE / "list.der").write_bytes(make_list(key, certificate).public_bytes(serialization.Encoding.DER))
+    (HERE / "request.der").write_bytes(make_request(key).public_bytes(serialization.Encoding.DER))
     (HERE / "expected.txt").write_text(expected(certificate), encoding="utf-8")
 
 
