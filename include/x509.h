@@ -61,9 +61,9 @@ typedef struct {
  * A call that writes puts the bytes at the front of `out[0..room)`, and says in `*written` how many they are. It may change all of the room.
  * On a status other than X509_OK and X509_ROOM, `*written` is as it was. */
 
-/* Reads a value of the type with that name, as "Certificate" or "Name" (the names of the Rust crate x509-cert; `name_len` bytes, no zero at the
- * end), under a profile, and writes it again. X509_FAILED where there is no such type or profile. What was read is written as the same bytes, but
- * for dates that RFC 5280 spells otherwise, under that profile. */
+/* Reads a value of the type with that name, as "Certificate" or "Name" (the names are those of the table in crates/x509_tool_types/src;
+ * `name_len` bytes, no zero at the end), under a profile, and writes it again. X509_FAILED where there is no such type or profile. What was read
+ * is written as the same bytes, but for dates that RFC 5280 spells otherwise, under that profile. */
 x509_status x509_reencode(const uint8_t *name, size_t name_len, uint32_t profile, const uint8_t *in, size_t len,
                           uint8_t *out, size_t room, size_t *written);
 

@@ -1,9 +1,17 @@
 //! Serial numbers, times, profiles, validity and keys of certificates.
 #![tactic(auto)]
 
+mod algorithm_identifier;
+mod generate;
 pub mod laws;
+mod serial_number;
+mod subject_public_key_info;
+mod subject_public_key_info_ref;
 
-pub use x509_base_key::{AlgorithmIdentifier, SubjectPublicKeyInfo, SubjectPublicKeyInfoRef};
-pub use x509_base_serial::SerialNumber;
-pub use x509_base_time::{DateTime, GeneralizedTime, UtcTime};
-pub use x509_base_validity::{Profile, Raw, Rfc5280, Time, Validity};
+pub use algorithm_identifier::AlgorithmIdentifier;
+pub use serial_number::SerialNumber;
+pub use subject_public_key_info::SubjectPublicKeyInfo;
+pub use subject_public_key_info_ref::SubjectPublicKeyInfoRef;
+pub use x509_base_time::{
+    DateTime, GeneralizedTime, Profile, Raw, Rfc5280, Time, UtcTime, Validity,
+};

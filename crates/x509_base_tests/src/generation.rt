@@ -3,8 +3,8 @@
 use crate::calls::is_refused;
 use crate::serials::has_content;
 use crate::source::Source;
-use x509_base_serial::SerialNumber;
-use x509_base_validity::Raw;
+use x509_base::SerialNumber;
+use x509_base_time::Raw;
 use x509_der_grammar::ErrorKind;
 
 /// Whether a source that gives zeros at first gives the number of ones, after so many fills.

@@ -2,10 +2,10 @@
 
 use crate::calls::stays;
 use std::test::*;
-use x509_base_key::{AlgorithmIdentifier, SubjectPublicKeyInfo};
+use x509_base::{AlgorithmIdentifier, SubjectPublicKeyInfo};
+use x509_der::ObjectIdentifier;
 use x509_der_frames::Any;
 use x509_der_grammar::{Decode, Encode, Error, TryClone};
-use x509_der_oid::ObjectIdentifier;
 
 /// Whether the values of the rows are equal exactly where the rows are.
 fn all_differ<T: Decode + PartialEq + Drop>(

@@ -1,8 +1,7 @@
 //! Profiles, and those of this library.
 
 use crate::calls::is_refused;
-use x509_base_time::GeneralizedTime;
-use x509_base_validity::{Profile, Raw, Rfc5280, Time};
+use x509_base_time::{GeneralizedTime, Profile, Raw, Rfc5280, Time};
 use x509_der_grammar::{Error, ErrorKind};
 
 /// A profile that spells each date as GeneralizedTime.
@@ -11,8 +10,8 @@ pub(crate) struct FourDigits;
 
 impl Profile for FourDigits {
     ghost use Rattle.std.specs.Prelude.{Ok};
-    ghost use Rattle.x509_base_validity.specs.Time.{date_time_of};
-    ghost use Rattle.x509_base_validity.specs.declared.time.Time.TheVariants.{GeneralTime};
+    ghost use Rattle.x509_base_time.specs.Time.{date_time_of};
+    ghost use Rattle.x509_base_time.specs.declared.time.Time.TheVariants.{GeneralTime};
 
     ghost serial_check = { λ content. Ok tt };
 
@@ -55,7 +54,7 @@ pub(crate) struct NotNegative;
 impl Profile for NotNegative {
     ghost use Rattle.std.specs.Prelude.{Ok, Err, if◌then◌else◌};
     ghost use Rattle.x509_der_element.specs.declared.error.ErrorKind.TheVariants.{Failed};
-    ghost use Rattle.x509_prim_integer.specs.Integer.{is_negative};
+    ghost use Rattle.x509_prim.specs.Integer.{is_negative};
 
     ghost serial_check = { λ content. if is_negative content then Err Failed else Ok tt };
 

@@ -5,11 +5,11 @@ use crate::profiles::{NoNumbers, NotNegative};
 use std::cmp::Ordering;
 use std::fmt::Debug;
 use std::test::Fail;
-use x509_base_serial::SerialNumber;
-use x509_base_validity::{Profile, Raw, Rfc5280};
+use x509_base::SerialNumber;
+use x509_base_time::{Profile, Raw, Rfc5280};
 use x509_der_grammar::{Decode, Encode, Error, ErrorKind, FixedTag, Tag, TryClone};
 use x509_der_order::ValueOrd;
-use x509_prim_integer::Int;
+use x509_prim::Int;
 
 /// Whether the bytes are refused so.
 fn refuses<P: Profile>(rt: &HostRuntime, bytes: &[u8], kind: ErrorKind) -> bool {

@@ -5,8 +5,7 @@ use crate::profiles::{FourDigits, NoDates};
 use std::str::FromStr;
 use std::test::Fail;
 use std::time::Duration;
-use x509_base_time::{DateTime, GeneralizedTime, UtcTime};
-use x509_base_validity::{Profile, Raw, Rfc5280, Time, Validity};
+use x509_base_time::{DateTime, GeneralizedTime, Profile, Raw, Rfc5280, Time, UtcTime, Validity};
 use x509_der_grammar::{Decode, Encode, Error, ErrorKind, TryClone};
 
 const TO_2030: &[u8] = b"\x30\x1E\x17\x0D100101083000Z\x17\x0D301231083000Z";

@@ -1,3 +1,5 @@
+pub mod Dates
+pub mod Equality
 pub mod CalendarLemmas
 pub mod MomentLemmas
 pub mod DigitLemmas

@@ -1,3 +1,7 @@
+pub mod Time
+pub mod Profiles
+pub mod Validity
+pub mod TimeOrder
 pub mod CivilTime
 pub mod Moment
 pub mod TimeText

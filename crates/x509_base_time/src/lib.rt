@@ -1,4 +1,4 @@
-//! Calendar times of certificates: seconds since 1970, texts and contents.
+//! Calendar times of certificates, as seconds since 1970, texts and contents; and the profiles and the validity of certificates.
 #![tactic(auto)]
 
 mod codec;
@@ -6,9 +6,15 @@ mod date_time;
 mod digits;
 mod generalized_time;
 pub mod laws;
+mod profile;
+mod time;
 mod utc_time;
+mod validity;
 
 pub use date_time::DateTime;
 pub use generalized_time::GeneralizedTime;
 pub use laws::date_times_are_in_order_of_time;
+pub use profile::{Profile, Raw, Rfc5280};
+pub use time::Time;
 pub use utc_time::UtcTime;
+pub use validity::Validity;

@@ -2,14 +2,16 @@
 //! module `builder` of the Rust crate `x509-cert` has.
 //!
 //! A builder is made of what is to stand in its part; [`Builder::build`] has a [`Signer`] sign the encoding of that part. What is
-//! promised stands at these traits; what each builder makes, in the definitions of the crates that this one re-exports.
+//! promised stands at these traits; what each builder makes, in the definitions beside its struct.
 #![tactic(auto)]
 
+mod certificate_builder;
+mod crl_builder;
+mod extensions;
 pub mod laws;
 pub mod profile;
 pub mod request;
 
-pub use x509_build_certificate::CertificateBuilder;
-pub use x509_build_crl::CrlBuilder;
-pub use x509_build_error::{Error, KeyError, Result, SignError};
-pub use x509_build_signer::{Builder, BuilderProfile, Signer};
+pub use certificate_builder::CertificateBuilder;
+pub use crl_builder::CrlBuilder;
+pub use x509_build_profile::{Builder, BuilderProfile, Error, KeyError, Result, SignError, Signer};

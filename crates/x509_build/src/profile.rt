@@ -1,6 +1,6 @@
 //! What certificates of some kinds hold.
 
-pub use x509_build_signer::BuilderProfile;
+pub use x509_build_profile::BuilderProfile;
 
 /// Profiles of the CA/Browser Forum (Baseline Requirements for TLS Server Certificates), and what it asks of names.
 pub mod cabf {

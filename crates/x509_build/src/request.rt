@@ -1,3 +1,5 @@
 //! Requests for certificates (RFC 2986) that are built.
 
-pub use x509_build_request::RequestBuilder;
+mod request_builder;
+
+pub use request_builder::RequestBuilder;

@@ -13,7 +13,7 @@ use Rattle.std.proofs.lemmas.Map.Keys.{Less-from_sorted}
 use Rattle.x509_build_profile.specs.Domain.{domain_attributes, domain_name, is_domain_type, is_nil}
 use Rattle.x509_der_element.specs.declared.error.Error.{Error}
 use Rattle.x509_der_element.specs.declared.error.ErrorKind.TheVariants.{Memory, SetDuplicate}
-use Rattle.x509_der_set.specs.Set.{AreDistinct}
+use Rattle.x509_der.specs.Set.{AreDistinct}
 use Rattle.x509_name_attribute.specs.TypeAndValue.{type_and_value_cmp, type_and_value_total}
 use Rattle.x509_name_attribute.specs.declared.type_and_value.AttributeTypeAndValue.{AttributeTypeAndValue}
 

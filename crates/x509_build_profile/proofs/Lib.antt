@@ -1,2 +1,3 @@
+mod OrderFacts
 mod DomainFacts
 mod ModuleFacts

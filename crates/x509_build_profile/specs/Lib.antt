@@ -1,3 +1,8 @@
+pub mod Order
+pub mod CaNaming
+pub mod Answer
+pub mod Refusals
+pub mod Parts
 pub mod Making
 pub mod Usages
 pub mod Domain

@@ -1,10 +1,10 @@
 -- Lists of extensions that are made of their payloads (RFC 5280 4.2).
 use Rattle.std.specs.Prelude.{◌≡◌, ◌<◌, ◌≤◌, ◌⊎◌, ℕ, Bool, true, false, List, [], ◌∷◌, ◌++◌, Option, Some, None, Result, Ok, Err, if◌then◌else◌}
 use Rattle.sha1.specs.Sha1.{sha1}
-use Rattle.x509_build_error.specs.declared.error.Error.{Error}
-use Rattle.x509_build_error.specs.declared.error.Error.TheVariants.{Asn1}
-use Rattle.x509_build_signer.specs.Answer.{Answer, IsRefused}
-use Rattle.x509_build_signer.specs.Refusals.{LacksMemory}
+use Rattle.x509_build_profile.specs.declared.error.Error.{Error}
+use Rattle.x509_build_profile.specs.declared.error.Error.TheVariants.{Asn1}
+use Rattle.x509_build_profile.specs.Answer.{Answer, IsRefused}
+use Rattle.x509_build_profile.specs.Refusals.{LacksMemory}
 use Rattle.x509_der_element.specs.Element.{limit}
 use Rattle.x509_der_element.specs.declared.error.Error as der
 use Rattle.x509_der_element.specs.declared.error.ErrorKind.TheVariants.{Memory, Overlength}
@@ -12,24 +12,24 @@ use Rattle.x509_der_element.specs.declared.tag.Tag.TheVariants.{BitString, Seque
 use Rattle.x509_der_frames.specs.List.{list_of}
 use Rattle.x509_der_grammar.specs.Form.{Form, universal}
 use Rattle.x509_der_grammar.specs.Writing.{Written, plain, writes, written_spelling, IsWritable, IsUnwritable}
-use Rattle.x509_der_oid.specs.ObjectIdentifierForm.{object_identifier}
+use Rattle.x509_der.specs.ObjectIdentifierForm.{object_identifier}
 use Rattle.x509_ext_frame.specs.Identifiers.{id_ce, id_pkix}
 use Rattle.x509_ext_frame.specs.ToExtension.{extension_of, held_length}
 use Rattle.x509_ext_frame.specs.declared.extension.Extension.{Extension}
-use Rattle.x509_ext_key.specs.BasicConstraints.{basic_constraints}
-use Rattle.x509_ext_key.specs.KeyUsage.{key_usage_names}
+use Rattle.x509_ext.specs.BasicConstraints.{basic_constraints}
+use Rattle.x509_ext.specs.KeyUsage.{key_usage_names}
 use Rattle.x509_ext_name.specs.GeneralName.{general_names}
 use Rattle.x509_ext_name.specs.declared.general_name.GeneralName.{GeneralName}
-use Rattle.x509_ext_party.specs.AlternativeNames.{is_empty_name}
-use Rattle.x509_ext_party.specs.AuthorityKeyIdentifier.{authority_key_identifier}
+use Rattle.x509_ext.specs.AlternativeNames.{is_empty_name}
+use Rattle.x509_ext.specs.AuthorityKeyIdentifier.{authority_key_identifier}
 use Rattle.x509_name_attribute.specs.declared.type_and_value.AttributeTypeAndValue.{AttributeTypeAndValue}
-use Rattle.x509_prim_flags.specs.NamedBits.{named_contents, named_written}
-use Rattle.x509_prim_string.specs.BitString.{BitParts}
-use Rattle.x509_prim_string.specs.OctetString.{octet_string}
+use Rattle.x509_prim.specs.NamedBits.{named_contents, named_written}
+use Rattle.x509_prim.specs.BitString.{BitParts}
+use Rattle.x509_prim.specs.OctetString.{octet_string}
 
--- no extension can be made of the payload: it can't be written, or the OCTET STRING that is to hold it is too long
+-- no extension can be made of the payload: it can't be written, or it can and the OCTET STRING that is to hold it is too long
 abbrev pub CantMake : {X : Type 0} → Form X → Written X → Error → Type 0
-CantMake form payload (Asn1 e) = IsUnwritable form payload limit e.kind ⊎ ((e.kind ≡ Overlength) × (limit < held_length (written_spelling form payload)))
+CantMake form payload (Asn1 e) = IsUnwritable form payload limit e.kind ⊎ (IsWritable form payload limit × (e.kind ≡ Overlength) × (limit < held_length (written_spelling form payload)))
 CantMake form payload _ = ⊥
 
 -- the extension of a payload, under that identifier and critical or not
@@ -53,7 +53,7 @@ abbrev pub Pushes : {X : Type 0} → List ℕ → Bool → Form X → Written X 
 Pushes oid critical form payload (Ok done) old new =
     (new ≡ old ++ extension_of oid critical form payload ∷ []) × IsWritable form payload limit × (held_length (written_spelling form payload) ≤ limit)
 Pushes oid critical form payload (Err e) old new =
-    (e.kind ≡ Memory) ⊎ (IsUnwritable form payload limit e.kind ⊎ ((e.kind ≡ Overlength) × (limit < held_length (written_spelling form payload))))
+    (e.kind ≡ Memory) ⊎ (IsUnwritable form payload limit e.kind ⊎ (IsWritable form payload limit × (e.kind ≡ Overlength) × (limit < held_length (written_spelling form payload))))
 
 abbrev pub Appends : Answer Extension → Result Unit Error → List Extension → List Extension → Type 0
 Appends extension (Ok done) old new = (new ≡ old ++ extension.value ∷ []) × (IsRefused extension → ⊥)

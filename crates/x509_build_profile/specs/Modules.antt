@@ -1,14 +1,14 @@
 -- Names of hardware modules among names of many kinds (RFC 4108 5).
 use Rattle.std.specs.Prelude.{◌≡◌, ◌<◌, ◌⊎◌, ℕ, List, [], ◌∷◌, length, Option, Some, None, Result, Ok, Err, IsOk, bytes_eq, if◌then◌else◌}
-use Rattle.x509_build_error.specs.declared.error.Error.{Error}
-use Rattle.x509_build_error.specs.declared.error.Error.TheVariants.{Asn1}
+use Rattle.x509_build_profile.specs.declared.error.Error.{Error}
+use Rattle.x509_build_profile.specs.declared.error.Error.TheVariants.{Asn1}
 use Rattle.x509_build_profile.specs.declared.devid.TpmVersion.{TpmVersion}
 use Rattle.x509_build_profile.specs.declared.devid.TpmVersion.TheVariants.{Tpm12, Tpm20, Other}
 use Rattle.x509_der_element.specs.Element.{limit}
 use Rattle.x509_der_element.specs.declared.error.ErrorKind.{ErrorKind}
 use Rattle.x509_der_element.specs.declared.error.ErrorKind.TheVariants.{Memory, Malformed, Failed, Overlength}
 use Rattle.x509_der_grammar.specs.Form.{spelling}
-use Rattle.x509_der_oid.specs.Arcs.{content_of}
+use Rattle.x509_der.specs.Arcs.{content_of}
 use Rattle.x509_ext_name.specs.HardwareModuleName.{IsModuleIn, hardware_module_name, id_on_hardware_module_name}
 use Rattle.x509_ext_name.specs.declared.general_name.GeneralName.{GeneralName}
 use Rattle.x509_ext_name.specs.declared.general_name.GeneralName.TheVariants.{OtherName}

@@ -1,9 +1,9 @@
 -- The lists of the profiles, each an answer in terms of the profile's fields, the two keys and the subject.
 use Rattle.std.specs.Prelude.{◌≡◌, ℕ, Bool, true, false, List, [], ◌∷◌, Option, Some, None, bytes_eq, ◌&&◌}
-use Rattle.x509_base_key.specs.KeyAlgorithms.{ec_public_key, rsa_encryption}
-use Rattle.x509_base_key.specs.declared.algorithm_identifier.AlgorithmIdentifier.{AlgorithmIdentifier}
-use Rattle.x509_base_key.specs.declared.subject_public_key_info.SubjectPublicKeyInfo.{SubjectPublicKeyInfo}
-use Rattle.x509_build_error.specs.declared.error.Error.TheVariants.{UnsupportedKind}
+use Rattle.x509_base.specs.KeyAlgorithms.{ec_public_key, rsa_encryption}
+use Rattle.x509_base.specs.declared.algorithm_identifier.AlgorithmIdentifier.{AlgorithmIdentifier}
+use Rattle.x509_base.specs.declared.subject_public_key_info.SubjectPublicKeyInfo.{SubjectPublicKeyInfo}
+use Rattle.x509_build_profile.specs.declared.error.Error.TheVariants.{UnsupportedKind}
 use Rattle.x509_build_profile.specs.Making.{◌▸◌, no_extensions, authority_key, subject_key, constraints, key_usage, extended_key_usage, alternative_names}
 use Rattle.x509_build_profile.specs.Usages.{ca_usages, subscriber_usages, digital_signature}
 use Rattle.x509_build_profile.specs.declared.cabf.Root.{Root}
@@ -12,9 +12,9 @@ use Rattle.x509_build_profile.specs.declared.cabf.tls.CertificateType.TheVariant
 use Rattle.x509_build_profile.specs.declared.cabf.tls.Subordinate.{Subordinate}
 use Rattle.x509_build_profile.specs.declared.cabf.tls.Subscriber.{Subscriber}
 use Rattle.x509_build_profile.specs.declared.devid.DevId.{DevId}
-use Rattle.x509_build_signer.specs.Answer.{Answer}
+use Rattle.x509_build_profile.specs.Answer.{Answer}
 use Rattle.x509_ext_frame.specs.declared.extension.Extension.{Extension}
-use Rattle.x509_ext_party.specs.declared.alternative_names.SubjectAltName.{SubjectAltName}
+use Rattle.x509_ext.specs.declared.pkix.alternative_names.SubjectAltName.{SubjectAltName}
 use Rattle.x509_name_attribute.specs.declared.type_and_value.AttributeTypeAndValue.{AttributeTypeAndValue}
 
 -- what is answered and never refused

@@ -3,19 +3,18 @@
 pub mod tls;
 
 ghost use Rattle.std.specs.Prelude.{◌≡◌, IfOk};
-ghost use Rattle.x509_build_naming.specs.CaNaming.{IsCaName};
+ghost use Rattle.x509_build_profile.specs.CaNaming.{IsCaName};
 
 use crate::lists::{push_authority_key, push_constraints, push_key_usage, push_subject_key};
 use crate::usages::ca_usages;
+use crate::{BuilderProfile, Result};
+pub use crate::{ca_certificate_naming, check_names_encoding};
 use std::alloc::Global;
-use x509_base_key::SubjectPublicKeyInfoRef;
-use x509_build_error::Result;
-pub use x509_build_naming::{ca_certificate_naming, check_names_encoding};
-use x509_build_signer::BuilderProfile;
+use x509_base::SubjectPublicKeyInfoRef;
 use x509_cert_certificate::TbsCertificate;
 use x509_der_grammar::TryClone;
 use x509_ext_frame::Extension;
-use x509_name_rdn::Name;
+use x509_name::name::Name;
 
 /// The profile of a root certification authority (Baseline Requirements 7.1.2.1). Its certificates have their subject as
 /// issuer.

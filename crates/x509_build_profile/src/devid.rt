@@ -8,26 +8,24 @@ ghost use Rattle.x509_ext_name.specs.declared.general_name.GeneralName.TheVarian
 ghost use Rattle.x509_ext_name.specs.declared.other_name.OtherName as others;
 
 use crate::lists::{push_alternative_names, push_authority_key, push_key_usage};
+use crate::{BuilderProfile, Result};
 use std::alloc::Global;
-use x509_base_key::SubjectPublicKeyInfoRef;
-use x509_build_error::Result;
-use x509_build_signer::BuilderProfile;
+use x509_base::SubjectPublicKeyInfoRef;
 use x509_cert_certificate::TbsCertificate;
+use x509_der::ObjectIdentifier;
 use x509_der_frames::SequenceOf;
 use x509_der_grammar::{Error as DerError, ErrorKind, TryClone};
-use x509_der_oid::ObjectIdentifier;
+use x509_ext::pkix::{KeyUsages, SubjectAltName};
 use x509_ext_frame::Extension;
-use x509_ext_key::KeyUsages;
 use x509_ext_name::{
     GeneralName, GeneralNames, HardwareModuleName, ID_ON_HARDWARE_MODULE_NAME, OtherName,
 };
-use x509_ext_party::SubjectAltName;
-use x509_name_rdn::Name;
-use x509_prim_string::OctetString;
+use x509_name::name::Name;
+use x509_prim::OctetString;
 
 /// Types of trusted platform modules (Trusted Computing Group).
 pub mod tcgtpm {
-    use x509_der_oid::ObjectIdentifier;
+    use x509_der::ObjectIdentifier;
 
     /// A module of version 1.2: tcg-sv-tpm12, 2.23.133.1.0.
     pub const TCG_SV_TPM_12: ObjectIdentifier = ObjectIdentifier {
@@ -63,7 +61,7 @@ pub enum TpmVersion {
 
 impl TpmVersion {
     /// The version as a type of module.
-    #[tactic(auto, unfolding(crate::specs::Modules::tpm_12, crate::specs::Modules::tpm_20, x509_der_oid::specs::Arcs::subidentifier))]
+    #[tactic(auto, unfolding(crate::specs::Modules::tpm_12, crate::specs::Modules::tpm_20, x509_der::specs::Arcs::subidentifier))]
     pub fn to_oid(&self) -> ObjectIdentifier
         ensures { result ≡ modules.type_of_module self.now }
     {

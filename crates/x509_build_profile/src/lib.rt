@@ -1,7 +1,25 @@
-//! What certificates of some kinds hold: profiles for builders.
+//! What builders stand on: why they refuse, what signs, what each builder does, what one asks of a profile, and profiles with
+//! what certificates of some kinds hold.
 #![tactic(auto)]
 
+mod attribute_types;
+mod builder;
+mod ca_naming;
 pub mod cabf;
 pub mod devid;
+mod encoding;
+mod error;
+pub mod laws;
 mod lists;
+mod null_algorithm;
+mod profile;
+mod signer;
 mod usages;
+
+pub use builder::Builder;
+pub use ca_naming::ca_certificate_naming;
+pub use encoding::check_names_encoding;
+pub use error::{Error, KeyError, Result, SignError};
+pub use null_algorithm::no_algorithm;
+pub use profile::BuilderProfile;
+pub use signer::Signer;

@@ -5,16 +5,18 @@ ghost use Rattle.x509_build_profile.specs.Making as makings;
 ghost use Rattle.x509_build_profile.specs.Making.{Appends, Pushes};
 ghost use Rattle.x509_der_grammar.specs.Writing.{writes};
 
+use crate::Result;
 use std::alloc::Global;
-use x509_base_key::SubjectPublicKeyInfoRef;
-use x509_build_error::Result;
+use x509_base::SubjectPublicKeyInfoRef;
+use x509_der::{AssociatedOid, ObjectIdentifier};
 use x509_der_frames::SequenceOf;
 use x509_der_grammar::{Encode, Error as DerError};
-use x509_der_oid::{AssociatedOid, ObjectIdentifier};
+use x509_ext::pkix::{
+    AuthorityKeyIdentifier, BasicConstraints, ExtendedKeyUsage, KeyUsage, KeyUsages,
+    SubjectAltName, SubjectKeyIdentifier,
+};
 use x509_ext_frame::{Criticality, Extension, ToExtension, id_pkix};
-use x509_ext_key::{BasicConstraints, ExtendedKeyUsage, KeyUsage, KeyUsages, SubjectKeyIdentifier};
-use x509_ext_party::{AuthorityKeyIdentifier, SubjectAltName};
-use x509_name_rdn::Name;
+use x509_name::name::Name;
 
 /// The purpose of a server in TLS, id-kp-serverAuth, 1.3.6.1.5.5.7.3.1 (RFC 5280 4.2.1.12).
 const SERVER_AUTH: ObjectIdentifier = id_pkix!(3, 1);

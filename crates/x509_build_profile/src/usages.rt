@@ -4,7 +4,7 @@ ghost use Rattle.std.specs.Prelude.{◌≡◌};
 ghost use Rattle.x509_build_profile.specs.Usages as sets;
 
 use bitflags::Flags;
-use x509_ext_key::KeyUsages;
+use x509_ext::pkix::KeyUsages;
 
 /// These uses, and a further one where it is wanted.
 fn with_usage(usages: KeyUsages, further: KeyUsages, wanted: bool) -> KeyUsages

@@ -1,11 +1,9 @@
 //! What tests ask of answers.
 
-use x509_base_key::SubjectPublicKeyInfo;
-use x509_base_serial::SerialNumber;
-use x509_base_validity::Validity;
-use x509_build_certificate::CertificateBuilder;
-use x509_build_error::{Error, Result};
-use x509_build_signer::BuilderProfile;
+use x509_base::{SerialNumber, SubjectPublicKeyInfo};
+use x509_base_time::Validity;
+use x509_build::CertificateBuilder;
+use x509_build_profile::{BuilderProfile, Error, Result};
 use x509_cert_certificate::TbsCertificate;
 use x509_der_grammar::{Decode, Encode, ErrorKind};
 use x509_ext_frame::Extension;

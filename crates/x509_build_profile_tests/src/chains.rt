@@ -3,16 +3,15 @@
 use crate::calls::builder;
 use crate::signers::ABC;
 use std::test::*;
-use x509_build_error::Result;
 use x509_build_profile::cabf::Root;
 use x509_build_profile::cabf::tls::{CertificateType, Subordinate, Subscriber, Tls12Options};
 use x509_build_profile::devid::DevId;
-use x509_build_signer::{Builder, BuilderProfile};
+use x509_build_profile::{Builder, BuilderProfile, Result};
 use x509_cert_certificate::Certificate;
 use x509_cert_signed::signed_slice;
 use x509_der_grammar::{Decode, Encode};
 use x509_ext_name::GeneralNames;
-use x509_name_rdn::Name;
+use x509_name::name::Name;
 
 /// The encoding of the certificate that the signer makes of the profile.
 fn built<P: BuilderProfile>(rt: &HostRuntime, profile: P) -> Result<Vec<u8>> {
@@ -106,7 +105,7 @@ fn a_kind_that_is_not_supported(rt: HostRuntime) {
     assert!(rt;
         matches!(
             &builder(&rt, server),
-            Err(x509_build_error::Error::UnsupportedKind)
+            Err(x509_build_profile::Error::UnsupportedKind)
         )
     );
 }

@@ -2,13 +2,13 @@
 
 use crate::calls::{is_asn1, puts_in};
 use std::test::*;
-use x509_build_error::Result;
+use x509_build_profile::Result;
 use x509_build_profile::devid::{DevId, TpmVersion};
+use x509_der::ObjectIdentifier;
 use x509_der_grammar::{Decode, Encode, ErrorKind};
-use x509_der_oid::ObjectIdentifier;
 use x509_ext_name::GeneralNames;
-use x509_name_rdn::Name;
-use x509_prim_string::OctetString;
+use x509_name::name::Name;
+use x509_prim::OctetString;
 
 /// A key of the octet 01.
 const KEY: &[u8] = b"\x30\x11\x30\x0B\x06\x09\x2A\x86\x48\x86\xF7\x0D\x01\x01\x01\x03\x02\x00\x01";

@@ -2,11 +2,10 @@
 
 use crate::calls::puts_in;
 use std::test::*;
-use x509_build_error::{Error, Result};
 use x509_build_profile::cabf::tls::{CertificateType, Subordinate, Subscriber, Tls12Options};
-use x509_build_signer::BuilderProfile;
+use x509_build_profile::{BuilderProfile, Error, Result};
 use x509_ext_name::GeneralNames;
-use x509_name_rdn::Name;
+use x509_name::name::Name;
 
 /// A key of RSA and one of elliptic curves, of one octet each.
 const RSA: &[u8] = b"\x30\x11\x30\x0B\x06\x09\x2A\x86\x48\x86\xF7\x0D\x01\x01\x01\x03\x02\x00\x01";

@@ -2,13 +2,12 @@
 
 use crate::calls::is_invalid;
 use std::test::*;
-use x509_build_error::{Error, Result};
 use x509_build_profile::cabf::tls::CertificateType;
 use x509_build_profile::cabf::{Root, check_names_encoding};
-use x509_build_signer::BuilderProfile;
+use x509_build_profile::{BuilderProfile, Error, Result};
 use x509_der_grammar::{Decode, TryClone};
 use x509_ext_name::GeneralNames;
-use x509_name_rdn::Name;
+use x509_name::name::Name;
 
 /// The content octets of commonName, countryName, organizationalUnitName and domainComponent.
 const CN: &[u8] = b"\x55\x04\x03";

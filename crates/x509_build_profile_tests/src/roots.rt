@@ -3,11 +3,10 @@
 use crate::calls::{ROOT, builder};
 use crate::signers::ABC;
 use std::test::*;
-use x509_build_error::{Error, KeyError, Result, SignError};
 use x509_build_profile::cabf::Root;
-use x509_build_signer::Builder;
+use x509_build_profile::{Builder, Error, KeyError, Result, SignError};
 use x509_der_grammar::{Encode, ErrorKind};
-use x509_name_rdn::Name;
+use x509_name::name::Name;
 
 /// The root's certificate, signed with the part.
 const CERTIFICATE: &[u8] =

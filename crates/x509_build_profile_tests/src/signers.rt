@@ -2,11 +2,10 @@
 
 use rand_core::CryptoRng;
 use std::alloc::Global;
-use x509_base_key::{AlgorithmIdentifier, SubjectPublicKeyInfo};
-use x509_build_error::{KeyError, SignError};
-use x509_build_signer::Signer;
-use x509_der_oid::ObjectIdentifier;
-use x509_prim_string::BitString;
+use x509_base::{AlgorithmIdentifier, SubjectPublicKeyInfo};
+use x509_build_profile::{KeyError, SignError, Signer};
+use x509_der::ObjectIdentifier;
+use x509_prim::BitString;
 
 /// 1.2.3.4.
 const ECHO: ObjectIdentifier = ObjectIdentifier {
@@ -28,7 +27,7 @@ pub(crate) const ABC: Echo = Echo { last: b'c' };
 
 impl Signer for Echo {
     ghost use Rattle.std.specs.Prelude.{◌≡◌, [], ◌∷◌, None};
-    ghost use Rattle.x509_prim_string.specs.BitString.{parts_of};
+    ghost use Rattle.x509_prim.specs.BitString.{parts_of};
 
     ghost algorithm_of = { λ signer. record { oid = 0x2A ∷ 3 ∷ 4 ∷ []; parameters = None } };
 

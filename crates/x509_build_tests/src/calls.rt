@@ -1,6 +1,6 @@
 //! What tests ask of answers.
 
-use x509_build_error::{Error, KeyError, Result, SignError};
+use x509_build_profile::{Error, KeyError, Result, SignError};
 use x509_der_grammar::{Encode, ErrorKind};
 
 /// Whether a value was built that is written as these bytes.

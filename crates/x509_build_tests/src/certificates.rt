@@ -6,18 +6,16 @@ use crate::signers::{ABC, ABD, Hesitant, Refused};
 use crate::source::Zeros;
 use bitflags::Flags;
 use std::test::*;
-use x509_base_key::SubjectPublicKeyInfo;
-use x509_base_serial::SerialNumber;
-use x509_base_validity::{Time, Validity};
-use x509_build_certificate::CertificateBuilder;
-use x509_build_error::{Error, Result};
-use x509_build_signer::{Builder, BuilderProfile};
+use x509_base::{SerialNumber, SubjectPublicKeyInfo};
+use x509_base_time::{Time, Validity};
+use x509_build::CertificateBuilder;
+use x509_build_profile::{Builder, BuilderProfile, Error, Result};
 use x509_cert_certificate::Version;
+use x509_der::ObjectIdentifier;
 use x509_der_grammar::{Decode, ErrorKind};
-use x509_der_oid::ObjectIdentifier;
 use x509_ext_frame::Extension;
-use x509_pkix_crl::Reasons;
-use x509_prim_string::BitString;
+use x509_pkix::Reasons;
+use x509_prim::BitString;
 
 /// The part of nobody, for an empty key, of version 1.
 const PLAIN: &[u8] =

@@ -1,9 +1,9 @@
 //! The texts of errors.
 
 use std::test::*;
-use x509_build_error::{Error, KeyError, SignError};
+use x509_build_profile::{Error, KeyError, SignError};
+use x509_der::ObjectIdentifier;
 use x509_der_grammar::ErrorKind;
-use x509_der_oid::ObjectIdentifier;
 
 /// Whether the error prints as this text.
 fn prints(rt: &HostRuntime, error: &Error, text: &str) -> Result<bool, Fail> {

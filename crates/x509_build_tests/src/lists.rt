@@ -5,16 +5,15 @@ use crate::signers::{ABC, Hesitant, Refused};
 use crate::source::Zeros;
 use std::test::*;
 use std::time::Duration;
-use x509_base_validity::{Raw, Time};
-use x509_build_crl::CrlBuilder;
-use x509_build_error::Result;
-use x509_build_signer::Builder;
+use x509_base_time::{Raw, Time};
+use x509_build::CrlBuilder;
+use x509_build_profile::{Builder, Result};
+use x509_cert::crl::RevokedCert;
 use x509_cert_certificate::Certificate;
-use x509_cert_crl::RevokedCert;
 use x509_der_frames::SequenceOf;
 use x509_der_grammar::{Decode, ErrorKind};
-use x509_pkix_crl::CrlNumber;
-use x509_prim_string::BitString;
+use x509_pkix::CrlNumber;
+use x509_prim::BitString;
 
 /// The certificate of nobody, for an empty key.
 const ISSUER: &[u8] = &[

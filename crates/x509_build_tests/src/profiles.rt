@@ -4,15 +4,14 @@ ghost use Rattle.std.specs.Prelude.{◌≡◌, [], ◌∷◌, false, IfOk, IfErr
 ghost use Rattle.x509_der_element.specs.declared.error.ErrorKind.TheVariants.{Memory};
 
 use std::alloc::Global;
-use x509_base_key::SubjectPublicKeyInfoRef;
-use x509_build_error::{Error, Result};
-use x509_build_signer::BuilderProfile;
+use x509_base::SubjectPublicKeyInfoRef;
+use x509_build_profile::{BuilderProfile, Error, Result};
 use x509_cert_certificate::TbsCertificate;
+use x509_der::ObjectIdentifier;
 use x509_der_grammar::ErrorKind;
-use x509_der_oid::ObjectIdentifier;
 use x509_ext_frame::Extension;
-use x509_name_rdn::Name;
-use x509_prim_string::OctetString;
+use x509_name::name::Name;
+use x509_prim::OctetString;
 
 /// Nobody signs for nobody, without extensions.
 #[derive(Drop)]
@@ -61,7 +60,7 @@ pub(crate) struct Picky;
 
 impl BuilderProfile for Picky {
     ghost use Rattle.std.specs.Prelude.{◌≡◌, [], ◌∷◌, false};
-    ghost use Rattle.x509_build_error.specs.declared.error.Error.TheVariants.{Asn1};
+    ghost use Rattle.x509_build_profile.specs.declared.error.Error.TheVariants.{Asn1};
     ghost use Rattle.x509_der_element.specs.declared.error.ErrorKind.TheVariants.{Failed};
 
     ghost issuer_of = { λ profile subject. record { value = []; refuses = λ e. ⊥ } };
@@ -119,7 +118,7 @@ pub(crate) struct Nameless {
 
 impl BuilderProfile for Nameless {
     ghost use Rattle.std.specs.Prelude.{◌≡◌, [], false};
-    ghost use Rattle.x509_build_error.specs.declared.error.Error.TheVariants.{MissingAttributes, UnsupportedKind};
+    ghost use Rattle.x509_build_profile.specs.declared.error.Error.TheVariants.{MissingAttributes, UnsupportedKind};
 
     ghost issuer_of = { λ profile subject. record { value = []; refuses = λ e. e ≡ MissingAttributes } };
 

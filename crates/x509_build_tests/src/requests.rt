@@ -5,17 +5,16 @@ use crate::signers::{ABC, Hesitant, Refused};
 use crate::source::Zeros;
 use bitflags::Flags;
 use std::test::*;
-use x509_build_error::Result;
-use x509_build_request::RequestBuilder;
-use x509_build_signer::Builder;
-use x509_cert_request::attributes::{AsAttribute, ChallengePassword};
+use x509_build::request::RequestBuilder;
+use x509_build_profile::{Builder, Result};
+use x509_cert::request::attributes::{AsAttribute, ChallengePassword};
+use x509_der::{AssociatedOid, ObjectIdentifier};
 use x509_der_grammar::{Decode, ErrorKind, Newtype};
-use x509_der_oid::{AssociatedOid, ObjectIdentifier};
 use x509_ext_frame::Extension;
-use x509_name_directory::DirectoryString;
-use x509_name_rdn::Name;
-use x509_pkix_crl::Reasons;
-use x509_prim_string::BitString;
+use x509_name::name::Name;
+use x509_name_attribute::DirectoryString;
+use x509_pkix::Reasons;
+use x509_prim::BitString;
 use x509_prim_text::Utf8String;
 
 /// The part of nobody, for the key `abc`, that asks for no extensions.
@@ -137,7 +136,7 @@ fn the_same_attribute_twice(rt: HostRuntime) -> std::result::Result<(), Fail> {
 struct Asked(Name);
 
 impl AssociatedOid for Asked {
-    ghost use Rattle.x509_cert_request.specs.Identifiers.{pkcs_9};
+    ghost use Rattle.x509_cert.specs.Identifiers.{pkcs_9};
 
     ghost OID = { pkcs_9 14 };
 

@@ -7,7 +7,7 @@ ghost use Rattle.x509_c_status.specs.Calls.{Reads};
 ghost use Rattle.x509_c_status.specs.Status.{Tells};
 
 use std::alloc::Global;
-use x509_base_validity::Rfc5280;
+use x509_base_time::Rfc5280;
 use x509_c_certificate::{CertificateView, ExtensionView, certificate_extension, certificate_view};
 use x509_cert_certificate::CertificateInner;
 use x509_der_grammar::Grammar;
@@ -19,7 +19,7 @@ pub extern "C" fn x509_certificate_view(
     input: &[u8],
     view: &mut CertificateView,
 ) -> i32
-    ensures { Tells (λ status. Reads ⟦<CertificateInner<Rfc5280> as Grammar>⟧.form ⟦<CertificateInner<Rfc5280> as Grammar>⟧.refuses input.now (λ certificate. IsView input.now certificate.tbs_certificate view.new) (view.new ≡ view.old) status) result }
+    ensures { Tells (λ status. Reads ⟦<CertificateInner<Rfc5280> as Grammar>⟧.form ⟦<CertificateInner<Rfc5280> as Grammar>⟧.refuses input.now (λ certificate. IsView input.now certificate view.new) (view.new ≡ view.old) status) result }
 {
     certificate_view(alloc, input, view).code()
 }

@@ -8,13 +8,13 @@ ghost use Rattle.x509_c_status.specs.Status.{Tells};
 ghost use Rattle.x509_cert_extension.specs.LookUp.{Finds, members, with_oid};
 
 use std::alloc::Global;
-use x509_base_serial::SerialNumber;
-use x509_base_validity::Rfc5280;
+use x509_base::SerialNumber;
+use x509_base_time::Rfc5280;
 use x509_c_crl::{Revocation, crl_lookup, crl_walk};
-use x509_cert_crl::CertificateList;
+use x509_cert::crl::CertificateList;
+use x509_der::AssociatedOid;
 use x509_der_grammar::{Decode, Grammar};
-use x509_der_oid::AssociatedOid;
-use x509_pkix_crl::CrlReason;
+use x509_pkix::CrlReason;
 
 /// Reads a list of revoked certificates under the rules of RFC 5280, and says how many entries it has.
 #[unsafe(no_mangle)]

@@ -8,13 +8,13 @@ ghost use Rattle.x509_c_status.specs.Status.{Fills, Tells};
 ghost use Rattle.x509_tool_table.specs.Reencoding.{Reencodes};
 
 use std::alloc::Global;
-use x509_base_validity::Rfc5280;
+use x509_base_time::Rfc5280;
 use x509_c_named::{name_from_text, name_text, reencode_named};
 use x509_c_place::{Span, signed_place};
 use x509_c_status::{check, reencode};
+use x509_cert::crl::CertificateList;
+use x509_cert::request::CertReq;
 use x509_cert_certificate::CertificateInner;
-use x509_cert_crl::CertificateList;
-use x509_cert_request::CertReq;
 use x509_der_grammar::{Encode, Grammar};
 use x509_tool_run::{Codec, NameCodec};
 use x509_tool_types::Types;

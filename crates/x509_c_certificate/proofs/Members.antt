@@ -1,5 +1,5 @@
 -- Where the extensions of a certificate stand.
-use Rattle.std.proofs.Common.{◌≡◌, ℕ, Bool, true, false, List, [], ◌∷◌, ◌++◌, length, take, drop, Option, Some, None, filter, bytes_eq, refl, sym, ap, ◌∙◌, append_assoc, take-append-drop}
+use Rattle.std.proofs.Common.{◌≡◌, ℕ, Bool, true, false, List, [], ◌∷◌, ◌++◌, drop, Option, Some, None, bytes_eq, refl, sym, ap, ◌∙◌, append_assoc}
 use Rattle.x509_c_certificate.specs.Extensions.{FindsExtension}
 use Rattle.x509_c_certificate.specs.View.{IsOptionAt}
 use Rattle.x509_c_certificate.specs.declared.extension.ExtensionView.{ExtensionView}
@@ -13,7 +13,7 @@ use Rattle.x509_der_frames.specs.Frames.{default_text, fields_octets}
 use Rattle.x509_der_frames.specs.List.{joined}
 use Rattle.x509_der_grammar.specs.Boolean.{boolean}
 use Rattle.x509_der_grammar.specs.Form.{spelling}
-use Rattle.x509_der_oid.specs.ObjectIdentifierForm.{object_identifier}
+use Rattle.x509_der.specs.ObjectIdentifierForm.{object_identifier}
 use Rattle.x509_ext_frame.specs.Extension.{extension, extensions, extension_fields}
 use Rattle.x509_ext_frame.specs.declared.extension.Extension.{Extension}
 
@@ -58,13 +58,19 @@ first_stands rest others first here more is e = e ∙ rw is (append_assoc (spell
 pub passed : (oid : List ℕ) (rest others all : List Extension) (first : Extension) → rest ≡ first ∷ others → bytes_eq first.extn_id oid ≡ false → with_oid oid rest ≡ with_oid oid all → with_oid oid others ≡ with_oid oid all
 passed oid rest others all first is other same = rw other at (rw is at same)
 
+-- the list in front of the first of the rest and behind it
+pub split_first : (all before rest others : List Extension) (first : Extension) → rest ≡ first ∷ others → all ≡ before ++ rest → all ≡ before ++ first ∷ others
+split_first all before rest others first is e = e ∙ ap (λ x. before ++ x) is
+
+pub one_further : (all before rest others : List Extension) (first : Extension) → rest ≡ first ∷ others → all ≡ before ++ rest → all ≡ (before ++ first ∷ []) ++ others
+one_further all before rest others first is e = split_first all before rest others first is e ∙ sym (append_assoc before (first ∷ []) others)
+
 -- ---- where they begin
 
-pub absent : (bytes oid : List ℕ) (o : Option (List Extension)) (view : ExtensionView) → None ≡ o → FindsExtension bytes (with_oid oid (members o)) view view Absent
+pub absent : (bytes behind oid : List ℕ) (o : Option (List Extension)) (view : ExtensionView) → None ≡ o → FindsExtension bytes (members o) behind (with_oid oid (members o)) view view Absent
 unfolding FindsExtension
-absent bytes oid o view none = rw (sym none) (refl, refl)
+absent bytes behind oid o view none = rw (sym none) (refl, refl)
 
-pub some_stand : (o : Option (List Extension)) (xs : List Extension) (bytes : List ℕ) (span : Span) → Some xs ≡ o → IsOptionAt extensions o bytes span → drop span.place bytes ≡ element 48 (joined (spelling extension) xs) ++ drop span.len (drop span.place bytes)
-some_stand o xs bytes span some stands =
-    let here : IsAt (spelling extensions xs) bytes span = rw (sym some) at stands in
-    sym (take-append-drop span.len (drop span.place bytes)) ∙ ap (λ text. text ++ drop span.len (drop span.place bytes)) here.0
+pub some_stand : (o : Option (List Extension)) (xs : List Extension) (behind bytes : List ℕ) (span : Span) → Some xs ≡ o → IsOptionAt extensions o behind bytes span → drop span.place bytes ≡ element 48 (joined (spelling extension) xs) ++ behind
+some_stand o xs behind bytes span some stands =
+    let here : IsAt (spelling extensions xs) behind bytes span = rw (sym some) at stands in here.0

@@ -1,11 +1,11 @@
 -- Where the parts of a certificate stand in the bytes that spell it.
-use Rattle.std.proofs.Common.{◌≡◌, ℕ, Bool, true, false, not, List, [], ◌∷◌, ◌++◌, length, drop, Option, Some, None, is_some, Result, refl, sym, ap, ◌∙◌, append_assoc, Bor}
+use Rattle.std.proofs.Common.{◌≡◌, ℕ, Bool, true, false, not, List, [], ◌++◌, drop, Option, Some, None, is_some, Result, refl, sym, ap, ◌∙◌, append_assoc, Bor}
 use Rattle.std.proofs.lemmas.List.{append-nil}
 use Rattle.std.specs.Option.{option_copied}
-use Rattle.x509_base_key.specs.AlgorithmIdentifier.{algorithm_identifier}
-use Rattle.x509_base_key.specs.SubjectPublicKeyInfo.{subject_public_key_info}
-use Rattle.x509_base_serial.specs.Serial.{serial_number}
-use Rattle.x509_base_validity.specs.Validity.{validity}
+use Rattle.x509_base.specs.AlgorithmIdentifier.{algorithm_identifier}
+use Rattle.x509_base.specs.SubjectPublicKeyInfo.{subject_public_key_info}
+use Rattle.x509_base.specs.Serial.{serial_number}
+use Rattle.x509_base_time.specs.Validity.{validity}
 use Rattle.x509_c_certificate.specs.View.{IsOptionAt}
 use Rattle.x509_c_place.specs.Place.{IsAt, IsField}
 use Rattle.x509_c_place.specs.declared.span.Span.{Span}
@@ -18,11 +18,11 @@ use Rattle.x509_cert_certificate.specs.declared.version.Version.TheVariants.{V1,
 use Rattle.x509_der_element.specs.Element.{element, is_identifier, is_universal}
 use Rattle.x509_der_element.specs.declared.error.ErrorKind.{ErrorKind}
 use Rattle.x509_der_frames.specs.Frames.{explicit, implicit, optional_text, default_text, fields_octets}
-use Rattle.x509_der_grammar.specs.Form.{Form, Spells, spelling}
+use Rattle.x509_der_grammar.specs.Form.{Spells, spelling}
 use Rattle.x509_ext_frame.specs.Extension.{extensions}
 use Rattle.x509_ext_frame.specs.declared.extension.Extension.{Extension}
-use Rattle.x509_name_rdn.specs.Names.{name}
-use Rattle.x509_prim_string.specs.BitString.{BitParts, bit_string}
+use Rattle.x509_name.specs.Names.{name}
+use Rattle.x509_prim.specs.BitString.{BitParts, bit_string}
 
 -- ---- identifiers
 
@@ -71,8 +71,8 @@ same_presence (Some x) o e = ap is_some e
 
 -- the extensions in their tag
 pub extensions_at : (o : Option (List Extension)) (bytes more : List ℕ) (place : ℕ) (span : Span) (is_there : Bool) → is_there ≡ is_some o → drop place bytes ≡ optional_text (spelling (explicit 3 extensions)) o ++ more
-    → (is_there ≡ true → (t u : ℕ) (content behind : List ℕ) → is_identifier t ≡ true → is_identifier u ≡ true → drop place bytes ≡ element t (element u content) ++ behind → IsAt (element u content) bytes span)
-    → (is_there ≡ false → span ≡ record { place = 0; len = 0 }) → IsOptionAt extensions o bytes span
+    → (is_there ≡ true → (t u : ℕ) (content behind : List ℕ) → is_identifier t ≡ true → is_identifier u ≡ true → drop place bytes ≡ element t (element u content) ++ behind → IsAt (element u content) behind bytes span)
+    → (is_there ≡ false → span ≡ record { place = 0; len = 0 }) → IsOptionAt extensions o more bytes span
 extensions_at None bytes more place span is_there is stands there absent = absent is
 extensions_at (Some xs) bytes more place span is_there is stands there absent = there is 163 48 (extensions.content xs) more is_wrapped is_sequence stands
 
@@ -104,8 +104,8 @@ module _ {P : Type 0} (check : List ℕ → Result Unit ErrorKind) (value : Cert
   pub outside : drop 0 bytes ≡ element 48 (element 48 part_text ++ behind_part) ++ []
   outside = whole ∙ sym (append-nil (element 48 (element 48 part_text ++ behind_part)))
 
-  pub inside : (element 48 part_text ++ behind_part) ++ [] ≡ element 48 part_text ++ (behind_part ++ [])
-  inside = append_assoc (element 48 part_text) behind_part []
+  pub inside : (element 48 part_text ++ behind_part) ++ [] ≡ element 48 part_text ++ behind_part
+  inside = append-nil (element 48 part_text ++ behind_part)
 
   -- the fields, one after the other
   pub laid_out : (more : List ℕ) → part_text ++ more ≡ version_text ++ (spelling (serial_number check) value.tbs_certificate.serial_number ++ (spelling algorithm_identifier value.tbs_certificate.signature ++ (spelling name value.tbs_certificate.issuer ++ (spelling validity value.tbs_certificate.validity ++ (spelling name value.tbs_certificate.subject ++ (spelling subject_public_key_info value.tbs_certificate.subject_public_key_info ++ (optional_text (spelling (implicit 1 3 bit_string)) value.tbs_certificate.issuer_unique_id ++ (optional_text (spelling (implicit 2 3 bit_string)) value.tbs_certificate.subject_unique_id ++ (extensions_text ++ more)))))))))

@@ -1,34 +1,38 @@
 -- The extension of a certificate with an identifier, and where its value stands (RFC 5280 4.2).
-use Rattle.std.specs.Prelude.{◌≡◌, ◌⊎◌, ℕ, Bool, true, false, List, [], ◌∷◌}
+use Rattle.std.specs.Prelude.{◌≡◌, ◌⊎◌, ℕ, Bool, true, false, List, [], ◌∷◌, ◌++◌}
 use Rattle.x509_c_certificate.specs.declared.extension.ExtensionView.{ExtensionView}
+use Rattle.x509_c_certificate.specs.View.{behind_part}
 use Rattle.x509_c_place.specs.Place.{IsAt}
-use Rattle.x509_c_status.specs.Calls.{IsRefused}
+use Rattle.x509_tool_table.specs.Reencoding.{IsRefused}
 use Rattle.x509_c_status.specs.declared.status.Status.{Status}
 use Rattle.x509_c_status.specs.declared.status.Status.TheVariants.{Done, Absent, Repeated, Refused}
 use Rattle.x509_cert_certificate.specs.declared.certificate.CertificateInner.{CertificateInner}
 use Rattle.x509_cert_extension.specs.LookUp.{members, with_oid}
 use Rattle.x509_der_element.specs.declared.error.ErrorKind.{ErrorKind}
 use Rattle.x509_der_element.specs.declared.error.ErrorKind.TheVariants.{Memory}
-use Rattle.x509_der_grammar.specs.Form.{Form, Spells}
+use Rattle.x509_der_frames.specs.List.{joined}
+use Rattle.x509_der_grammar.specs.Form.{Form, Spells, spelling}
+use Rattle.x509_ext_frame.specs.Extension as grammar
 use Rattle.x509_ext_frame.specs.declared.extension.Extension.{Extension}
 
 abbrev pub flag : Bool → ℕ
 flag true = 1
 flag false = 0
 
--- the view says whether the extension is critical, and where its octets stand
-abbrev pub IsExtensionAt : List ℕ → Extension → ExtensionView → Type 0
-IsExtensionAt bytes extension view = (view.critical ≡ flag extension.critical) × IsAt extension.extn_value bytes view.value
+-- the view says whether the extension is critical, and where its octets stand, with those others behind them
+abbrev pub IsExtensionAt : List ℕ → Extension → List ℕ → ExtensionView → Type 0
+IsExtensionAt bytes extension behind view = (view.critical ≡ flag extension.critical) × IsAt extension.extn_value behind bytes view.value
 
--- What a call leaves that asks for an extension, where these have the identifier: Absent for none, Done for one, Repeated for two or more. What isn't
--- filled in stays as it was.
-unfoldable pub FindsExtension : List ℕ → List Extension → ExtensionView → ExtensionView → Status → Type 0
-FindsExtension bytes [] was is status = (status ≡ Absent) × (is ≡ was)
-FindsExtension bytes (extension ∷ []) was is status = (status ≡ Done) × IsExtensionAt bytes extension is
-FindsExtension bytes (first ∷ second ∷ others) was is status = (status ≡ Repeated) × (is ≡ was)
+-- What a call leaves that asks for one of these extensions, behind which those octets stand, where the last list has those with the identifier: Absent for
+-- none, Done for one, Repeated for two or more. What isn't filled in stays as it was.
+unfoldable pub FindsExtension : List ℕ → List Extension → List ℕ → List Extension → ExtensionView → ExtensionView → Status → Type 0
+FindsExtension bytes all behind [] was is status = (status ≡ Absent) × (is ≡ was)
+FindsExtension bytes all behind (extension ∷ []) was is status =
+    (status ≡ Done) × (before : List Extension) × (after : List Extension) × (all ≡ before ++ extension ∷ after) × IsExtensionAt bytes extension (joined (spelling grammar.extension) after ++ behind) is
+FindsExtension bytes all behind (first ∷ second ∷ others) was is status = (status ≡ Repeated) × (is ≡ was)
 
 -- the same of the certificate that the bytes spell; or they are refused
 unfoldable pub LooksUpExtension : {P : Type 0} → Form (CertificateInner P) → (ErrorKind → Type 0) → List ℕ → List ℕ → ExtensionView → ExtensionView → Status → Type 0
 LooksUpExtension {P} form refuses bytes oid was is status =
-    ((certificate : CertificateInner P) × Spells form certificate bytes × FindsExtension bytes (with_oid oid (members certificate.tbs_certificate.extensions)) was is status)
+    ((certificate : CertificateInner P) × Spells form certificate bytes × FindsExtension bytes (members certificate.tbs_certificate.extensions) (behind_part certificate) (with_oid oid (members certificate.tbs_certificate.extensions)) was is status)
     ⊎ ((e : ErrorKind) × (status ≡ Refused e) × (is ≡ was) × ((e ≡ Memory) ⊎ IsRefused form refuses bytes e))

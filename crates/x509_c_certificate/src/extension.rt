@@ -6,10 +6,11 @@ ghost use Rattle.x509_cert_extension.specs.LookUp.{with_oid};
 ghost use Rattle.x509_der_frames.specs.List.{joined};
 ghost use Rattle.x509_der_grammar.specs.Form.{spelling};
 ghost use Rattle.x509_ext_frame.specs.Extension as grammar;
+ghost use Rattle.x509_ext_frame.specs.declared.extension.Extension.{Extension};
 
 use crate::view::view_of;
 use std::alloc::Global;
-use x509_base_validity::Rfc5280;
+use x509_base_time::Rfc5280;
 use x509_c_place::{Span, enter, step};
 use x509_c_status::{Status, read};
 use x509_cert_certificate::CertificateInner;
@@ -44,7 +45,8 @@ fn find<'a>(
     requires { place ≤ length input.now }
     ensures found { MatchOption result (with_oid oid.now extensions.now ≡ []) (λ f. with_oid oid.now extensions.now ≡ f.1.now ∷ with_oid oid.now f.2.now) }
     ensures within { IfSome result (λ f. f.0 ≤ length input.now) }
-    ensures stands { IfSome result (λ f. (more : List ℕ) → drop place input.now ≡ joined (spelling grammar.extension) extensions.now ++ more → (behind : List ℕ) × (drop f.0 input.now ≡ spelling grammar.extension f.1.now ++ behind)) }
+    ensures split { IfSome result (λ f. (before : List Extension) × (extensions.now ≡ before ++ f.1.now ∷ f.2.now)) }
+    ensures stands { IfSome result (λ f. (more : List ℕ) → drop place input.now ≡ joined (spelling grammar.extension) extensions.now ++ more → drop f.0 input.now ≡ spelling grammar.extension f.1.now ++ (joined (spelling grammar.extension) f.2.now ++ more)) }
 {
     let mut at = place;
     let mut rest = extensions;
@@ -61,7 +63,7 @@ fn find<'a>(
 /// The extension whose bytes begin at the place.
 fn view_at(input: &[u8], place: usize, extension: &Extension) -> ExtensionView
     requires { place ≤ length input.now }
-    ensures { (behind : List ℕ) → drop place input.now ≡ spelling grammar.extension extension.now ++ behind → IsExtensionAt input.now extension.now result }
+    ensures { (behind : List ℕ) → drop place input.now ≡ spelling grammar.extension extension.now ++ behind → IsExtensionAt input.now extension.now behind result }
 {
     let mut at = place;
     enter(input, &mut at);
@@ -83,7 +85,7 @@ fn pick(
     found: &mut ExtensionView,
 ) -> Status
     requires { place ≤ length input.now }
-    ensures { (more : List ℕ) → drop place input.now ≡ joined (spelling grammar.extension) extensions.now ++ more → FindsExtension input.now (with_oid oid.now extensions.now) found.old found.new result }
+    ensures { (more : List ℕ) → drop place input.now ≡ joined (spelling grammar.extension) extensions.now ++ more → FindsExtension input.now extensions.now more (with_oid oid.now extensions.now) found.old found.new result }
 {
     let Some((at, extension, others)) = find(input, place, extensions, oid) else {
         return Status::Absent;

@@ -2,14 +2,14 @@
 
 ghost use Rattle.std.specs.Prelude.{◌≡◌, ◌≤◌, ◌/◌, ◌*◌, ◌++◌, not, true, false, is_some, drop, length, List, ℕ};
 ghost use Rattle.x509_base_time.specs.CivilTime.{unix_seconds};
-ghost use Rattle.x509_base_validity.specs.Time.{date_time_of};
+ghost use Rattle.x509_base_time.specs.Time.{date_time_of};
 ghost use Rattle.x509_c_certificate.specs.View.{IsView, version_of};
 ghost use Rattle.x509_c_place.specs.Place.{IsAt};
 ghost use Rattle.x509_cert_certificate.specs.Version.{is_first};
 ghost use Rattle.x509_der_element.specs.Element.{element, is_identifier};
 ghost use Rattle.x509_der_grammar.specs.Form.{Spells};
 
-use x509_base_validity::{Rfc5280, Time};
+use x509_base_time::{Rfc5280, Time};
 use x509_c_place::{Span, enter, step};
 use x509_cert_certificate::{CertificateInner, Version};
 use x509_der_grammar::Grammar;
@@ -75,7 +75,7 @@ pub fn seconds(time: &Time) -> u64
 /// Where an element stands that stands alone in another; both numbers are 0 where it is left out.
 fn wrapped(input: &[u8], place: usize, is_there: bool) -> Span
     requires { place ≤ length input.now }
-    ensures there { is_there ≡ true → (t u : ℕ) (content more : List ℕ) → is_identifier t ≡ true → is_identifier u ≡ true → drop place input.now ≡ element t (element u content) ++ more → IsAt (element u content) input.now result }
+    ensures there { is_there ≡ true → (t u : ℕ) (content more : List ℕ) → is_identifier t ≡ true → is_identifier u ≡ true → drop place input.now ≡ element t (element u content) ++ more → IsAt (element u content) more input.now result }
     ensures absent { is_there ≡ false → result ≡ record { place = 0; len = 0 } }
 {
     if !is_there {
@@ -87,7 +87,7 @@ fn wrapped(input: &[u8], place: usize, is_there: bool) -> Span
 
 /// What the certificate says, and where its parts stand in the bytes that spell it.
 pub(crate) fn view_of(input: &[u8], certificate: &CertificateInner<Rfc5280>) -> CertificateView
-    ensures { Spells ⟦<CertificateInner<Rfc5280> as Grammar>⟧.form certificate.now input.now → IsView input.now certificate.now.tbs_certificate result }
+    ensures { Spells ⟦<CertificateInner<Rfc5280> as Grammar>⟧.form certificate.now input.now → IsView input.now certificate.now result }
 {
     let part = certificate.tbs_certificate();
     let mut at = 0;

@@ -6,7 +6,7 @@ ghost use Rattle.x509_c_status.specs.Calls.{Reads};
 
 use crate::view::{CertificateView, view_of};
 use std::alloc::Global;
-use x509_base_validity::Rfc5280;
+use x509_base_time::Rfc5280;
 use x509_c_status::Status;
 use x509_cert_certificate::CertificateInner;
 use x509_der_grammar::{Decode, Grammar};
@@ -14,7 +14,7 @@ use x509_der_grammar::{Decode, Grammar};
 /// Reads a certificate under the rules of RFC 5280, and fills in the view; where it is refused, the view stays as it was.
 #[tactic(auto, unfolding(x509_c_status::specs::Calls::Reads))]
 pub fn certificate_view(alloc: Global, input: &[u8], view: &mut CertificateView) -> Status
-    ensures { Reads ⟦<CertificateInner<Rfc5280> as Grammar>⟧.form ⟦<CertificateInner<Rfc5280> as Grammar>⟧.refuses input.now (λ certificate. IsView input.now certificate.tbs_certificate view.new) (view.new ≡ view.old) result }
+    ensures { Reads ⟦<CertificateInner<Rfc5280> as Grammar>⟧.form ⟦<CertificateInner<Rfc5280> as Grammar>⟧.refuses input.now (λ certificate. IsView input.now certificate view.new) (view.new ≡ view.old) result }
 {
     match CertificateInner::<Rfc5280>::from_der(alloc, input) {
         Ok(certificate) => {

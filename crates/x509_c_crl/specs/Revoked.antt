@@ -1,20 +1,20 @@
 -- What a list of revoked certificates says of one (RFC 5280 5.3).
 use Rattle.std.specs.Prelude.{◌≡◌, ◌⊎◌, ℕ, ℤ, pos, negsuc, Bool, List, [], ◌∷◌, filter, bytes_eq, Option, Some, None, Result, Ok, Err}
 use Rattle.x509_base_time.specs.CivilTime.{unix_seconds}
-use Rattle.x509_base_validity.specs.Time.{date_time_of}
+use Rattle.x509_base_time.specs.Time.{date_time_of}
 use Rattle.x509_c_crl.specs.Entries.{entries}
 use Rattle.x509_c_crl.specs.declared.lookup.Revocation.{Revocation}
-use Rattle.x509_c_status.specs.Calls.{IsRefused}
+use Rattle.x509_tool_table.specs.Reencoding.{IsRefused}
 use Rattle.x509_c_status.specs.declared.status.Status.{Status}
 use Rattle.x509_c_status.specs.declared.status.Status.TheVariants.{Done, NoRoom, Absent, Repeated, Refused}
-use Rattle.x509_cert_crl.specs.declared.certificate_list.CertificateList.{CertificateList}
-use Rattle.x509_cert_crl.specs.declared.revoked_cert.RevokedCert.{RevokedCert}
+use Rattle.x509_cert.specs.declared.crl.certificate_list.CertificateList.{CertificateList}
+use Rattle.x509_cert.specs.declared.crl.revoked_cert.RevokedCert.{RevokedCert}
 use Rattle.x509_der_element.specs.declared.error.Error.{Error}
 use Rattle.x509_der_element.specs.declared.error.ErrorKind.{ErrorKind}
 use Rattle.x509_der_element.specs.declared.error.ErrorKind.TheVariants.{Memory}
 use Rattle.x509_der_grammar.specs.Form.{Form, Spells}
-use Rattle.x509_pkix_crl.specs.CrlReason.{crl_reason_number}
-use Rattle.x509_pkix_crl.specs.declared.crl_reason.CrlReason.{CrlReason}
+use Rattle.x509_pkix.specs.CrlReason.{crl_reason_number}
+use Rattle.x509_pkix.specs.declared.crl_reason.CrlReason.{CrlReason}
 
 -- the entries with this serial number, in their order
 abbrev pub with_serial : {P : Type 0} → List ℕ → List (RevokedCert P) → List (RevokedCert P)

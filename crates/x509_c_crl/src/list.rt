@@ -5,9 +5,9 @@ ghost use Rattle.x509_c_crl.specs.Entries.{entries};
 ghost use Rattle.x509_c_status.specs.Calls.{Reads};
 
 use std::alloc::Global;
-use x509_base_validity::Rfc5280;
+use x509_base_time::Rfc5280;
 use x509_c_status::Status;
-use x509_cert_crl::{CertificateList, RevokedCert};
+use x509_cert::crl::{CertificateList, RevokedCert};
 use x509_der_grammar::{Decode, Grammar};
 
 /// The entries of the list, none where they are left out.

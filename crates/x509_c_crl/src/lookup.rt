@@ -7,13 +7,13 @@ ghost use Rattle.x509_cert_extension.specs.LookUp.{Finds, members, with_oid};
 
 use crate::list::entries;
 use std::alloc::Global;
-use x509_base_serial::SerialNumber;
-use x509_base_validity::Rfc5280;
+use x509_base::SerialNumber;
+use x509_base_time::Rfc5280;
 use x509_c_status::{Status, read};
-use x509_cert_crl::{CertificateList, RevokedCert};
+use x509_cert::crl::{CertificateList, RevokedCert};
+use x509_der::AssociatedOid;
 use x509_der_grammar::{Decode, Error, Grammar};
-use x509_der_oid::AssociatedOid;
-use x509_pkix_crl::CrlReason;
+use x509_pkix::CrlReason;
 
 /// When a certificate was revoked, and why.
 #[derive(Clone, Copy, Debug, PartialEq, Eq)]

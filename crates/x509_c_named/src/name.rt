@@ -1,8 +1,11 @@
 //! Names as texts.
 
+ghost use Rattle.std.specs.Prelude.{◌≡◌, false};
 ghost use Rattle.std.specs.Str.{is_utf8};
 ghost use Rattle.x509_c_named.specs.Named.{IsTextAnswer};
 ghost use Rattle.x509_c_status.specs.Status.{Fills};
+ghost use Rattle.x509_c_status.specs.declared.status.Status.TheVariants.{Refused};
+ghost use Rattle.x509_der_element.specs.declared.error.ErrorKind.TheVariants.{Failed};
 
 use crate::text::text_of;
 use std::alloc::Global;
@@ -34,7 +37,8 @@ pub fn name_from_text<C: NameCodec>(
     room: &mut [u8],
     written: &mut usize,
 ) -> Status
-    ensures { Fills (IsTextAnswer C.encodes_name (is_utf8 text.now) text.now) room.old room.new written.old written.new result }
+    ensures filled { Fills (IsTextAnswer C.encodes_name (is_utf8 text.now) text.now) room.old room.new written.old written.new result }
+    ensures text { is_utf8 text.now ≡ false → result ≡ Refused Failed }
 {
     let Some(text) = text_of(text) else {
         return Status::Refused(ErrorKind::Failed);

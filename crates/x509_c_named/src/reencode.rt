@@ -1,8 +1,11 @@
 //! Reading and writing a value of the type with a name.
 
-ghost use Rattle.std.specs.Prelude.{◌≡◌};
+ghost use Rattle.std.specs.Prelude.{◌≡◌, false, None};
+ghost use Rattle.std.specs.Str.{is_utf8};
 ghost use Rattle.x509_c_named.specs.Named.{IsNamedAnswer, profile_of};
 ghost use Rattle.x509_c_status.specs.Status.{Fills};
+ghost use Rattle.x509_c_status.specs.declared.status.Status.TheVariants.{Refused};
+ghost use Rattle.x509_der_element.specs.declared.error.ErrorKind.TheVariants.{Failed};
 
 use crate::text::text_of;
 use std::alloc::Global;
@@ -32,7 +35,9 @@ pub fn reencode_named<C: Codec>(
     room: &mut [u8],
     written: &mut usize,
 ) -> Status
-    ensures { Fills (IsNamedAnswer C.reencodes name.now (profile_of profile) input.now) room.old room.new written.old written.new result }
+    ensures filled { Fills (IsNamedAnswer C.reencodes name.now (profile_of profile) input.now) room.old room.new written.old written.new result }
+    ensures profile { profile_of profile ≡ None → result ≡ Refused Failed }
+    ensures name { is_utf8 name.now ≡ false → result ≡ Refused Failed }
 {
     let Some(profile) = profile_of(profile) else {
         return Status::Refused(ErrorKind::Failed);

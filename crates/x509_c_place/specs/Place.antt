@@ -1,11 +1,11 @@
 -- Where parts stand in bytes.
-use Rattle.std.specs.Prelude.{◌≡◌, ℕ, ◌+◌, ◌≤◌, Bool, true, false, List, [], length, take, drop}
+use Rattle.std.specs.Prelude.{◌≡◌, ℕ, ◌≤◌, Bool, true, false, List, [], ◌++◌, length, drop}
 use Rattle.x509_der_element.specs.Element.{element, is_identifier}
 use Rattle.x509_c_place.specs.declared.span.Span.{Span}
 
--- these octets stand in the bytes at this place
-abbrev pub IsAt : List ℕ → List ℕ → Span → Type 0
-IsAt text bytes span = (take span.len (drop span.place bytes) ≡ text) × (span.len ≡ length text) × (span.place + span.len ≤ length bytes)
+-- these octets stand in the bytes at this place, and behind them stand those others and nothing else
+abbrev pub IsAt : List ℕ → List ℕ → List ℕ → Span → Type 0
+IsAt text behind bytes span = (drop span.place bytes ≡ text ++ behind) × (span.len ≡ length text) × (span.place ≤ length bytes)
 
 -- a field that is there is an element, and one that is left out is no octets
 abbrev pub IsField : Bool → List ℕ → Type 0

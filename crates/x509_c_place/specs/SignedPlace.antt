@@ -7,9 +7,9 @@ use Rattle.x509_c_status.specs.declared.status.Status.TheVariants.{Done, NoRoom,
 use Rattle.x509_cert_signed.specs.Signed.{IsSignedPart}
 use Rattle.x509_der_element.specs.declared.error.ErrorKind.TheVariants.{Malformed}
 
--- Done: the signed part stands there. Refused: there is none, and the span is as it was.
+-- Done: the signed part stands there, and behind it what follows it in the whole. Refused: there is none, and the span is as it was.
 unfoldable pub IsSignedAt : List ℕ → Span → Span → Status → Type 0
-IsSignedAt bytes was is Done = (signed : List ℕ) × IsSignedPart bytes signed × IsAt signed bytes is
+IsSignedAt bytes was is Done = (signed : List ℕ) × (part : IsSignedPart bytes signed) × IsAt signed part.behind bytes is
 IsSignedAt bytes was is (Refused e) = (e ≡ Malformed) × ((signed : List ℕ) → IsSignedPart bytes signed → ⊥) × (is ≡ was)
 IsSignedAt bytes was is NoRoom = ⊥
 IsSignedAt bytes was is Absent = ⊥

@@ -30,7 +30,7 @@ fn content_of(input: &[u8], place: usize) -> (usize, usize)
 pub fn step(input: &[u8], at: &mut usize, is_there: bool) -> Span
     requires { at.old ≤ length input.now }
     ensures within { at.new ≤ length input.now }
-    ensures stands { (text more : List ℕ) → IsField is_there text → drop at.old input.now ≡ text ++ more → IsAt text input.now result × (drop at.new input.now ≡ more) }
+    ensures stands { (text more : List ℕ) → IsField is_there text → drop at.old input.now ≡ text ++ more → IsAt text more input.now result × (drop at.new input.now ≡ more) }
 {
     let place = *at;
     if is_there {
@@ -46,7 +46,7 @@ pub fn step(input: &[u8], at: &mut usize, is_there: bool) -> Span
 pub fn enter(input: &[u8], at: &mut usize) -> Span
     requires { at.old ≤ length input.now }
     ensures within { at.new ≤ length input.now }
-    ensures stands { (tag : ℕ) (content more : List ℕ) → is_identifier tag ≡ true → drop at.old input.now ≡ element tag content ++ more → IsAt content input.now result × (drop at.new input.now ≡ content ++ more) }
+    ensures stands { (tag : ℕ) (content more : List ℕ) → is_identifier tag ≡ true → drop at.old input.now ≡ element tag content ++ more → IsAt content more input.now result × (drop at.new input.now ≡ content ++ more) }
 {
     let (begin, end) = content_of(input, *at);
     *at = begin;

@@ -1,20 +1,13 @@
 -- What calls from C answer that read a value, or write one.
-use Rattle.std.specs.Prelude.{◌≡◌, ◌<◌, ◌≤◌, ◌⊎◌, ℕ, List, length, Result, Ok, Err}
+use Rattle.std.specs.Prelude.{◌≡◌, ◌⊎◌, ℕ, List, Result, Ok, Err}
 use Rattle.x509_c_status.specs.declared.status.Status.{Status}
 use Rattle.x509_c_status.specs.declared.status.Status.TheVariants.{Done, NoRoom, Absent, Repeated, Refused}
 use Rattle.x509_der_element.specs.declared.error.ErrorKind.{ErrorKind}
-use Rattle.x509_der_element.specs.declared.error.ErrorKind.TheVariants.{Memory, Overlength, Malformed}
+use Rattle.x509_der_element.specs.declared.error.ErrorKind.TheVariants.{Memory}
 use Rattle.x509_der_element.specs.Element.{limit}
-use Rattle.x509_der_element.specs.Outcome.{IsRefusal}
-use Rattle.x509_der_grammar.specs.Form.{Form, Spells, whole_reading}
+use Rattle.x509_der_grammar.specs.Form.{Form, Spells}
+use Rattle.x509_tool_table.specs.Reencoding.{IsRefused}
 use Rattle.x509_der_grammar.specs.Writing.{Written, IsWritable, IsUnwritable, written_spelling}
-
--- Why bytes are refused: they are too long; or they spell no value, as Malformed or as a refusal of the type's own, and which of them is said by
--- reading.
-abbrev pub IsRefused : {X : Type 0} → Form X → (ErrorKind → Type 0) → List ℕ → ErrorKind → Type 0
-IsRefused {X} form refuses bytes e =
-    ((limit < length bytes) × (e ≡ Overlength))
-    ⊎ ((length bytes ≤ limit) × ((e ≡ Malformed) ⊎ refuses e) × ((value : X) → Spells form value bytes → ⊥) × IsRefusal e (whole_reading form.reading bytes))
 
 -- What a call answers that reads a value: the bytes spell one of which this holds, or they are refused, and then what the call was to
 -- fill in is unchanged; memory may always be refused.

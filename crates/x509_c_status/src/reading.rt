@@ -1,8 +1,9 @@
 //! Reading a value.
 
 ghost use Rattle.std.specs.Prelude.{◌≡◌, ◌⊎◌, MatchResult};
-ghost use Rattle.x509_c_status.specs.Calls.{Checks, IsRefused};
+ghost use Rattle.x509_c_status.specs.Calls.{Checks};
 ghost use Rattle.x509_der_element.specs.declared.error.ErrorKind.TheVariants.{Memory};
+ghost use Rattle.x509_tool_table.specs.Reencoding.{IsRefused};
 ghost use Rattle.x509_der_grammar.specs.Form.{Spells};
 
 use crate::status::Status;

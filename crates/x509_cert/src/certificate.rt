@@ -1,6 +1,6 @@
 //! Certificates (RFC 5280 4.1), the profiles under which they are read and written, and what is made of their bytes.
 
-pub use x509_base_validity::{Profile, Raw, Rfc5280};
+pub use x509_base_time::{Profile, Raw, Rfc5280};
 pub use x509_cert_certificate::{
     Certificate, CertificateInner, PkiPath, TbsCertificate, TbsCertificateInner, Version,
 };

@@ -1,3 +1,9 @@
-//! Lists of revoked certificates (RFC 5280 5.1).
+//! Lists of revoked certificates (RFC 5280 5.1). Their times are written as they are, under every profile.
 
-pub use x509_cert_crl::{CertificateList, RevokedCert, TbsCertList};
+mod certificate_list;
+mod revoked_cert;
+mod tbs_cert_list;
+
+pub use certificate_list::CertificateList;
+pub use revoked_cert::RevokedCert;
+pub use tbs_cert_list::TbsCertList;

@@ -1,20 +1,90 @@
 //! What holds of all values, of certificates, of lists, of requests and of signed bytes. Each law is a function whose contract is the
 //! law. Those of trust anchors stand in [`anchor`].
 
+ghost use Rattle.std.specs.Prelude.{◌≡◌, List, ℕ, None, ◌<◌, [], ◌∷◌};
+ghost use Rattle.x509_cert.specs.AnySerial.{any_certificate_list, any_revoked_cert, any_tbs_cert_list};
+ghost use Rattle.x509_cert.specs.CertReq.{cert_req, cert_req_info};
+ghost use Rattle.x509_cert.specs.CertificateList.{certificate_list, tbs_cert_list};
+ghost use Rattle.x509_cert.specs.ChallengePassword.{challenge_password};
+ghost use Rattle.x509_cert.specs.Identifiers.{pkcs_9};
+ghost use Rattle.x509_cert.specs.RevokedCert.{revoked_cert};
+ghost use Rattle.x509_cert.specs.declared.crl.certificate_list.CertificateList.{CertificateList};
+ghost use Rattle.x509_cert.specs.declared.crl.revoked_cert.RevokedCert.{RevokedCert};
+ghost use Rattle.x509_cert.specs.declared.crl.tbs_cert_list.TbsCertList.{TbsCertList};
+ghost use Rattle.x509_cert.specs.declared.request.attributes.ChallengePassword.{ChallengePassword};
+ghost use Rattle.x509_cert.specs.declared.request.cert_req.CertReq.{CertReq};
+ghost use Rattle.x509_cert.specs.declared.request.cert_req.CertReqInfo.{CertReqInfo};
+ghost use Rattle.x509_cert.specs.declared.request.extension_req.ExtensionReq.{ExtensionReq};
+ghost use Rattle.x509_cert_signed.specs.Signed.{IsSignedPart};
+ghost use Rattle.x509_der.specs.Arcs.{content_of};
+ghost use Rattle.x509_der_grammar.specs.Form.{Spells, spelling};
+ghost use Rattle.x509_der_grammar.specs.Writing.{writes, written_spelling};
+ghost use Rattle.x509_name_attribute.specs.DirectoryString.{directory_string};
+
+use crate::crl::{CertificateList, RevokedCert, TbsCertList};
+use crate::request::{CertReq, CertReqInfo, ExtensionReq};
+use x509_base_time::Profile;
 pub use x509_cert_certificate::laws::{
     certificates_written_alike_are_respelled_alike, dates_are_written_once, raw_certificates_stay,
     raw_dates_are_written_once, raw_signed_bytes_are_written_again, rfc5280_dates_are_written_once,
     rfc5280_signed_bytes_are_written_again, signed_bytes_spell_the_signed_part,
 };
-pub use x509_cert_crl::laws::{lists_have_a_signed_part, lists_stay, lists_written_alike_are_one};
-pub use x509_cert_request::laws::{requests_have_a_signed_part, requests_stay};
 pub use x509_cert_signed::laws::{
     one_signed_part, signed_bytes_are_written_again, what_stands_in_front_is_signed,
 };
+use x509_der_grammar::Encode;
 pub use x509_der_grammar::laws::{
     no_spelling_begins_another, one_spelling, one_value, what_is_written_alike_is_respelled_alike,
     what_was_written_reads_as_respelled, writing_again_gives_the_same,
 };
+
+/// Under every profile lists are written as they are, with their times: what is written is what they are read from.
+pub fn lists_stay<P: Profile>()
+    ensures entry { (entry : RevokedCert P) → writes ⟦<RevokedCert<P> as Encode>⟧.writing entry ≡ record { value = entry; refusal = None } }
+    ensures signed { (signed : TbsCertList P) → writes ⟦<TbsCertList<P> as Encode>⟧.writing signed ≡ record { value = signed; refusal = None } }
+    ensures list { (list : CertificateList P) → writes ⟦<CertificateList<P> as Encode>⟧.writing list ≡ record { value = list; refusal = None } }
+{}
+
+/// Two values that are written alike are one, also where the profile refuses their serial numbers in reading.
+pub fn lists_written_alike_are_one<P: Profile>()
+    ensures entry { (v w : RevokedCert P) → any_revoked_cert.good v → any_revoked_cert.good w → written_spelling (revoked_cert P.serial_check) (writes ⟦<RevokedCert<P> as Encode>⟧.writing v) ≡ written_spelling (revoked_cert P.serial_check) (writes ⟦<RevokedCert<P> as Encode>⟧.writing w) → v ≡ w }
+    ensures signed { (v w : TbsCertList P) → any_tbs_cert_list.good v → any_tbs_cert_list.good w → written_spelling (tbs_cert_list P.serial_check) (writes ⟦<TbsCertList<P> as Encode>⟧.writing v) ≡ written_spelling (tbs_cert_list P.serial_check) (writes ⟦<TbsCertList<P> as Encode>⟧.writing w) → v ≡ w }
+    ensures list { (v w : CertificateList P) → any_certificate_list.good v → any_certificate_list.good w → written_spelling (certificate_list P.serial_check) (writes ⟦<CertificateList<P> as Encode>⟧.writing v) ≡ written_spelling (certificate_list P.serial_check) (writes ⟦<CertificateList<P> as Encode>⟧.writing w) → v ≡ w }
+{}
+
+/// Bytes that spell a list have a signed part, which [`signed_slice`](x509_cert_signed::signed_slice) answers: it spells what
+/// is signed, and under every profile writing that gives it again.
+pub fn lists_have_a_signed_part<P: Profile>()
+    ensures signed { (list : CertificateList P) (bytes : List ℕ) → Spells (certificate_list P.serial_check) list bytes → IsSignedPart bytes (spelling (tbs_cert_list P.serial_check) list.tbs_cert_list) }
+    ensures spelled { (list : CertificateList P) (bytes : List ℕ) → Spells (certificate_list P.serial_check) list bytes → Spells (tbs_cert_list P.serial_check) list.tbs_cert_list (spelling (tbs_cert_list P.serial_check) list.tbs_cert_list) }
+    ensures written { (signed : TbsCertList P) → written_spelling (tbs_cert_list P.serial_check) (writes ⟦<TbsCertList<P> as Encode>⟧.writing signed) ≡ spelling (tbs_cert_list P.serial_check) signed }
+{}
+
+/// The octets that stand for 1.2.840.113549.1.9.n are its content (X.690 8.19).
+#[tactic(auto, using(crate::proofs::ArcsOfAttributes::pkcs_9_content))]
+pub fn identifiers_of_attributes()
+    ensures { (n : ℕ) → n < 128 → pkcs_9 n ≡ content_of (1 ∷ 2 ∷ 840 ∷ 113549 ∷ 1 ∷ 9 ∷ n ∷ []) }
+{}
+
+/// Requests are written as they are: what is written is what they are read from.
+pub fn requests_stay()
+    ensures info { (info : CertReqInfo) → writes ⟦<CertReqInfo as Encode>⟧.writing info ≡ record { value = info; refusal = None } }
+    ensures request { (request : CertReq) → writes ⟦<CertReq as Encode>⟧.writing request ≡ record { value = request; refusal = None } }
+    ensures extensions { (req : ExtensionReq) → writes ⟦<ExtensionReq as Encode>⟧.writing req ≡ record { value = req; refusal = None } }
+{}
+
+/// Bytes that spell a request have a signed part, which [`signed_slice`](x509_cert_signed::signed_slice) answers: it spells
+/// what is signed, and writing that gives it again.
+pub fn requests_have_a_signed_part()
+    ensures signed { (request : CertReq) (bytes : List ℕ) → Spells cert_req request bytes → IsSignedPart bytes (spelling cert_req_info request.info) }
+    ensures spelled { (request : CertReq) (bytes : List ℕ) → Spells cert_req request bytes → Spells cert_req_info request.info (spelling cert_req_info request.info) }
+    ensures written { (info : CertReqInfo) → written_spelling cert_req_info (writes ⟦<CertReqInfo as Encode>⟧.writing info) ≡ spelling cert_req_info info }
+{}
+
+/// A password is written as its text is.
+pub fn passwords_are_texts()
+    ensures { (password : ChallengePassword) → spelling challenge_password password ≡ spelling directory_string password.0 }
+{}
 
 /// What holds of trust anchors.
 pub mod anchor {

@@ -2,7 +2,7 @@
 //! paths that the Rust crate `x509-cert` has.
 //!
 //! Bytes are read by `from_der` of [`der::Decode`] and written by `to_der` of [`der::Encode`]. What is promised of them stands at
-//! these traits; what the bytes are, in the definitions of the crates that this one re-exports.
+//! these traits; what the bytes are, in the definitions of this crate and of those that it re-exports.
 #![tactic(auto)]
 
 pub mod anchor;
@@ -18,6 +18,6 @@ pub mod serial_number;
 pub mod spki;
 pub mod time;
 
-pub use x509_base_key::{AlgorithmIdentifier, SubjectPublicKeyInfo};
+pub use x509_base::{AlgorithmIdentifier, SubjectPublicKeyInfo};
 pub use x509_cert_certificate::{Certificate, PkiPath, TbsCertificate, Version};
 pub use x509_cert_signed::signed_slice;

@@ -1,8 +1,11 @@
-//! Requests for certificates (RFC 2986).
+//! Requests for certificates (PKCS #10; RFC 2986), and the attributes that they hold.
 
-pub use x509_cert_request::{CertReq, CertReqInfo, ExtensionReq, Version, extension_req_attribute};
+pub mod attributes;
+mod cert_req;
+mod extension_req;
+mod identifiers;
+mod version;
 
-/// The attributes of a request.
-pub mod attributes {
-    pub use x509_cert_request::attributes::{AsAttribute, ChallengePassword};
-}
+pub use cert_req::{CertReq, CertReqInfo};
+pub use extension_req::{ExtensionReq, extension_req_attribute};
+pub use version::Version;

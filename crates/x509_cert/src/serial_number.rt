@@ -1,3 +1,3 @@
 //! Serial numbers of certificates (RFC 5280 4.1.2.2).
 
-pub use x509_base_serial::SerialNumber;
+pub use x509_base::SerialNumber;

@@ -1,4 +1,3 @@
 //! Times and the validity of certificates (RFC 5280 4.1.2.5).
 
-pub use x509_base_time::DateTime;
-pub use x509_base_validity::{Time, Validity};
+pub use x509_base_time::{DateTime, Time, Validity};

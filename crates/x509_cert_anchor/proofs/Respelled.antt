@@ -1,7 +1,7 @@
 -- What is written of trust anchors that are written alike.
 use Rattle.std.proofs.Common.{◌≡◌, ℕ, List, Result, refl}
-use Rattle.x509_base_validity.specs.Validity.{validity}
-use Rattle.x509_base_validity.specs.declared.validity.Validity.{Validity}
+use Rattle.x509_base_time.specs.Validity.{validity}
+use Rattle.x509_base_time.specs.declared.validity.Validity.{Validity}
 use Rattle.x509_cert_anchor.specs.CertPathControls.{cert_path_controls, cert_path_controls_fields, cert_path_controls_lawful, cert_path_controls_stable, controls_writing}
 use Rattle.x509_cert_anchor.specs.Respelling.{any_cert_path_controls, any_trust_anchor_choice, any_trust_anchor_info}
 use Rattle.x509_cert_anchor.specs.TrustAnchorChoice.{trust_anchor_choice, trust_anchor_choice_lawful, trust_anchor_choice_stable, written_anchor}

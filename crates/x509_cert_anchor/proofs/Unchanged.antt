@@ -1,8 +1,8 @@
 -- What is written of trust anchors where each date stays as it is.
 use Rattle.std.proofs.Common.{◌≡◌, ℕ, List, Option, Some, None, Result, Ok, refl, ap}
 use Rattle.std.specs.Prelude.{IfSome}
-use Rattle.x509_base_validity.specs.Validity.{respelled_validity}
-use Rattle.x509_base_validity.specs.declared.validity.Validity.{Validity}
+use Rattle.x509_base_time.specs.Validity.{respelled_validity}
+use Rattle.x509_base_time.specs.declared.validity.Validity.{Validity}
 use Rattle.x509_cert_anchor.specs.CertPathControls.{cert_path_controls, cert_path_controls_fields, controls_writing}
 use Rattle.x509_cert_anchor.specs.CertPolicies.{cert_policies, cert_policies_names, cert_policies_set}
 use Rattle.x509_cert_anchor.specs.Respelling.{GoodStay}
@@ -21,7 +21,7 @@ use Rattle.x509_der_element.specs.declared.error.ErrorKind.{ErrorKind}
 use Rattle.x509_der_frames.specs.Cases.{choice_good}
 use Rattle.x509_der_frames.specs.Frames.{fields_good}
 use Rattle.x509_der_grammar.specs.Writing.{Writing, Written, plain, respelling, writes, with_field, in_option}
-use Rattle.x509_prim_flags.specs.NamedBits.{flag_writing}
+use Rattle.x509_prim.specs.NamedBits.{flag_writing}
 
 -- ---- parts
 

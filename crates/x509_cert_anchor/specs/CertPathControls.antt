@@ -1,7 +1,7 @@
 -- CertPathControls: ta_name: Name, certificate: [0]CertificateInner?, policy_set: [1]CertificatePolicies?,
 -- policy_flags: [2]CertPolicies?, name_constr: [3]NameConstraints?, path_len_constraint: [4]u32? (RFC 5914 2.5)
 use Rattle.std.specs.Prelude.{ℕ, ◌^◌, List, Option, Result, refl}
-use Rattle.x509_base_serial.specs.Checked.{CheckRefuses}
+use Rattle.x509_base.specs.Checked.{CheckRefuses}
 use Rattle.x509_cert_certificate.specs.Certificate.{certificate, certificate_lawful}
 use Rattle.x509_cert_certificate.specs.declared.certificate.CertificateInner.{CertificateInner}
 use Rattle.x509_der_element.specs.declared.error.ErrorKind.{ErrorKind}
@@ -14,12 +14,12 @@ use Rattle.x509_der_grammar.specs.Natural.{natural}
 use Rattle.x509_der_grammar.specs.StableLaws.{in_option_stable}
 use Rattle.x509_der_grammar.specs.Writing.{Writing, in_option, IsStable}
 use Rattle.x509_name_attribute.specs.declared.type_and_value.AttributeTypeAndValue.{AttributeTypeAndValue}
-use Rattle.x509_name_rdn.specs.Names.{name, rdn_sequence_lawful}
-use Rattle.x509_pkix_constraints.specs.NameConstraints.{name_constraints, name_constraints_lawful}
-use Rattle.x509_pkix_constraints.specs.declared.name_constraints.NameConstraints.{NameConstraints}
+use Rattle.x509_name.specs.Names.{name, rdn_sequence_lawful}
+use Rattle.x509_pkix.specs.NameConstraints.{name_constraints, name_constraints_lawful}
+use Rattle.x509_pkix.specs.declared.name_constraints.NameConstraints.{NameConstraints}
 use Rattle.x509_pkix_policy.specs.CertificatePolicies.{certificate_policies, certificate_policies_lawful}
 use Rattle.x509_pkix_policy.specs.declared.certificate_policies.CertificatePolicies.{CertificatePolicies}
-use Rattle.x509_prim_flags.specs.NamedBits.{flag_writing}
+use Rattle.x509_prim.specs.NamedBits.{flag_writing}
 use Rattle.x509_cert_anchor.specs.CertPolicies.{cert_policies, cert_policies_lawful, cert_policies_set, cert_policies_names, cert_policies_stable}
 use Rattle.x509_cert_anchor.specs.TwoFields.{with_two_fields, with_two_fields_stable}
 use Rattle.x509_cert_anchor.specs.declared.cert_path_controls.CertPathControls.{CertPathControls}

@@ -4,8 +4,8 @@ use Rattle.x509_der_element.specs.declared.error.ErrorKind.{ErrorKind}
 use Rattle.x509_der_grammar.specs.Form.{Form, IsForm}
 use Rattle.x509_der_grammar.specs.Round.{Round, round_stable}
 use Rattle.x509_der_grammar.specs.Writing.{respelling, IsStable}
-use Rattle.x509_prim_flags.specs.NamedBits.{named_contents, named_written, flag_bits, flag_writing}
-use Rattle.x509_prim_flags.specs.NamedBitsLaws.{flag_bits_lawful}
+use Rattle.x509_prim.specs.NamedBits.{named_contents, named_written, flag_bits, flag_writing}
+use Rattle.x509_prim.specs.NamedBitsLaws.{flag_bits_lawful}
 use Rattle.x509_cert_anchor.specs.declared.cert_policies.CertPolicies.{CertPolicies}
 
 -- the named bits 0 to 2, each as the set of it alone

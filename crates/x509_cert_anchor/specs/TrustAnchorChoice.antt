@@ -1,7 +1,7 @@
 -- TrustAnchorChoice: CertificateInner (Certificate) / {1}TbsCertificateInner (TbsCertificate) / {2}TrustAnchorInfo (TaInfo)
 -- (RFC 5914 3)
 use Rattle.std.specs.Prelude.{◌≡◌, ℕ, List, None, Result, refl}
-use Rattle.x509_base_serial.specs.Checked.{CheckRefuses}
+use Rattle.x509_base.specs.Checked.{CheckRefuses}
 use Rattle.x509_cert_certificate.specs.Certificate.{certificate, certificate_lawful}
 use Rattle.x509_cert_certificate.specs.TbsCertificate.{tbs_certificate, tbs_certificate_lawful}
 use Rattle.x509_cert_certificate.specs.declared.certificate.CertificateInner.{CertificateInner}

@@ -1,9 +1,9 @@
 -- TrustAnchorInfo: version: Version=V1, pub_key: SubjectPublicKeyInfo, key_id: OCTET STRING, ta_title: UTF8String?,
 -- cert_path: CertPathControls?, extensions: {1}list Extension?, ta_title_lang_tag: [2]UTF8String? (RFC 5914 2)
 use Rattle.std.specs.Prelude.{ℕ, List, Option, Result, refl}
-use Rattle.x509_base_key.specs.SubjectPublicKeyInfo.{subject_public_key_info, subject_public_key_info_lawful}
-use Rattle.x509_base_key.specs.declared.subject_public_key_info.SubjectPublicKeyInfo.{SubjectPublicKeyInfo}
-use Rattle.x509_base_serial.specs.Checked.{CheckRefuses}
+use Rattle.x509_base.specs.SubjectPublicKeyInfo.{subject_public_key_info, subject_public_key_info_lawful}
+use Rattle.x509_base.specs.declared.subject_public_key_info.SubjectPublicKeyInfo.{SubjectPublicKeyInfo}
+use Rattle.x509_base.specs.Checked.{CheckRefuses}
 use Rattle.x509_der_element.specs.declared.error.ErrorKind.{ErrorKind}
 use Rattle.x509_der_element.specs.declared.tag.Tag.TheVariants.{Sequence}
 use Rattle.x509_der_frames.specs.Frames.{Part, required, optional, defaulted, implicit, explicit, ◌⊗◌, fields, fields_good}
@@ -14,7 +14,7 @@ use Rattle.x509_der_grammar.specs.StableLaws.{with_field_stable, in_option_stabl
 use Rattle.x509_der_grammar.specs.Writing.{Writing, with_field, in_option, IsStable}
 use Rattle.x509_ext_frame.specs.Extension.{extensions, extensions_lawful}
 use Rattle.x509_ext_frame.specs.declared.extension.Extension.{Extension}
-use Rattle.x509_prim_string.specs.OctetString.{octet_string, octet_string_lawful}
+use Rattle.x509_prim.specs.OctetString.{octet_string, octet_string_lawful}
 use Rattle.x509_prim_text.specs.Texts.{utf8_string, utf8_string_lawful}
 use Rattle.x509_cert_anchor.specs.CertPathControls.{cert_path_controls, cert_path_controls_lawful}
 use Rattle.x509_cert_anchor.specs.Version.{version, version_lawful, version_default, version_default_lawful}

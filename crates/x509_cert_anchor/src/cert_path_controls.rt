@@ -2,12 +2,12 @@
 
 use crate::cert_policies::CertPolicyFlags;
 use std::alloc::Global;
-use x509_base_validity::{Profile, Rfc5280};
+use x509_base_time::{Profile, Rfc5280};
 use x509_cert_certificate::CertificateInner;
 use x509_der_frames::{PutPart, end, field, implicit_optional, optional_implicit};
 use x509_der_grammar::{Content, Encode, Error, Room, Tag, TryClone};
-use x509_name_rdn::Name;
-use x509_pkix_constraints::NameConstraints;
+use x509_name::name::Name;
+use x509_pkix::NameConstraints;
 use x509_pkix_policy::CertificatePolicies;
 
 /// What is asked of the paths from a trust anchor (RFC 5914 2.5). That the certificate has the name and the key of the anchor,
@@ -71,7 +71,7 @@ impl<P: Profile> TryClone for CertPathControls<P> {
 
 #[tactic(auto, unfolding(crate::specs::CertPathControls::cert_path_controls_fields, x509_der_frames::specs::Frames::fields_reading, x509_der_frames::specs::Frames::fields_octets), using(x509_der_frames::specs::FrameWriting::text_in_option, x509_der_frames::specs::FrameWriting::refusal_in_option))]
 impl<P: Profile> Content for CertPathControls<P> {
-    ghost use Rattle.x509_base_serial.specs.Checked.{CheckRefuses};
+    ghost use Rattle.x509_base.specs.Checked.{CheckRefuses};
     ghost use Rattle.x509_cert_anchor.specs.CertPathControls as grammar;
     ghost use Rattle.x509_der_element.specs.declared.tag.Tag.TheVariants.{Sequence};
 

@@ -5,7 +5,7 @@ use std::alloc::Global;
 use std::cmp::Ordering;
 use x509_der_grammar::{Content, Error, Room, Tag, TryClone};
 use x509_der_order::ValueOrd;
-use x509_prim_flags::{cmp_named_bits, put_named_bits, read_named_bits};
+use x509_prim::{cmp_named_bits, put_named_bits, read_named_bits};
 
 /// What is asked of policies on the paths from a trust anchor, of which bit n stands for the named bit n (RFC 5914 2.5). A
 /// bit from 3 on has no name: it is refused in reading as `Malformed`, and in writing as `Value`.
@@ -60,12 +60,12 @@ impl Flags for CertPolicies {
     }
 }
 
-#[tactic(auto, using(x509_prim_flags::specs::NamedBitsLaws::flag_is_read))]
+#[tactic(auto, using(x509_prim::specs::NamedBitsLaws::flag_is_read))]
 impl Content for CertPolicies {
     ghost use Rattle.x509_cert_anchor.specs.CertPolicies.{cert_policies_names, cert_policies_set};
     ghost use Rattle.x509_der_element.specs.declared.tag.Tag.TheVariants.{BitString};
-    ghost use Rattle.x509_prim_flags.specs.NamedBits.{flag_contents, flag_writing};
-    ghost use Rattle.x509_prim_flags.specs.NamedBitsLaws.{flag_contents_lawful};
+    ghost use Rattle.x509_prim.specs.NamedBits.{flag_contents, flag_writing};
+    ghost use Rattle.x509_prim.specs.NamedBitsLaws.{flag_contents_lawful};
 
     ghost contents = { flag_contents cert_policies_set cert_policies_names };
 
@@ -91,8 +91,8 @@ impl Content for CertPolicies {
 impl ValueOrd for CertPolicies {
     ghost use Rattle.x509_cert_anchor.specs.CertPolicies.{cert_policies_names, cert_policies_set};
     ghost use Rattle.x509_der_grammar.specs.Writing.{writes};
-    ghost use Rattle.x509_prim_flags.specs.NamedBits.{flag_writing};
-    ghost use Rattle.x509_prim_flags.specs.SetOrder.{flag_order, flag_ordered};
+    ghost use Rattle.x509_prim.specs.NamedBits.{flag_writing};
+    ghost use Rattle.x509_prim.specs.SetOrder.{flag_order, flag_ordered};
 
     ghost order = { flag_order cert_policies_set cert_policies_names };
 

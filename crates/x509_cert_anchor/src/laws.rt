@@ -1,7 +1,7 @@
 //! What is written of trust anchors. Each law is a function with an empty body, or one that cites others, whose contract is
 //! the law.
 
-ghost use Rattle.x509_base_validity.specs.Validity.{validity};
+ghost use Rattle.x509_base_time.specs.Validity.{validity};
 ghost use Rattle.x509_cert_anchor.specs.CertPathControls.{cert_path_controls};
 ghost use Rattle.x509_cert_anchor.specs.Respelling.{GoodStay, any_cert_path_controls, any_trust_anchor_choice, any_trust_anchor_info};
 ghost use Rattle.x509_cert_anchor.specs.TrustAnchorChoice.{trust_anchor_choice};
@@ -11,7 +11,7 @@ ghost use Rattle.x509_der_grammar.specs.Writing.{IsStable, RespellsAlike};
 use crate::cert_path_controls::CertPathControls;
 use crate::trust_anchor_choice::TrustAnchorChoice;
 use crate::trust_anchor_info::TrustAnchorInfo;
-use x509_base_validity::{Profile, Raw, Rfc5280, Validity};
+use x509_base_time::{Profile, Raw, Rfc5280, Validity};
 use x509_der_grammar::Encode;
 
 /// Where what is written of a validity is written as it is, so is what is written of a trust anchor that holds one, at
@@ -28,7 +28,7 @@ pub fn rfc5280_dates_are_written_once()
     ensures info { IsStable (trust_anchor_info ⟦<Rfc5280 as Profile>⟧.serial_check).good ⟦<TrustAnchorInfo<Rfc5280> as Encode>⟧.writing }
     ensures anchor { IsStable (trust_anchor_choice ⟦<Rfc5280 as Profile>⟧.serial_check).good ⟦<TrustAnchorChoice<Rfc5280> as Encode>⟧.writing }
 {
-    x509_base_validity::laws::rfc5280_dates_are_written_once();
+    x509_base_time::laws::rfc5280_dates_are_written_once();
     dates_are_written_once::<Rfc5280>();
 }
 
@@ -38,7 +38,7 @@ pub fn raw_dates_are_written_once()
     ensures info { IsStable (trust_anchor_info ⟦<Raw as Profile>⟧.serial_check).good ⟦<TrustAnchorInfo<Raw> as Encode>⟧.writing }
     ensures anchor { IsStable (trust_anchor_choice ⟦<Raw as Profile>⟧.serial_check).good ⟦<TrustAnchorChoice<Raw> as Encode>⟧.writing }
 {
-    x509_base_validity::laws::raw_dates_are_written_once();
+    x509_base_time::laws::raw_dates_are_written_once();
     dates_are_written_once::<Raw>();
 }
 

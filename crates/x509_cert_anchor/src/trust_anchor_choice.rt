@@ -2,7 +2,7 @@
 
 use crate::trust_anchor_info::TrustAnchorInfo;
 use std::alloc::Global;
-use x509_base_validity::{Profile, Rfc5280};
+use x509_base_time::{Profile, Rfc5280};
 use x509_cert_certificate::{CertificateInner, TbsCertificateInner};
 use x509_der_frames::explicit_identifier;
 use x509_der_grammar::{
@@ -55,7 +55,7 @@ impl<P: Profile> TryClone for TrustAnchorChoice<P> {
 
 #[tactic(auto, unfolding(x509_der_frames::specs::Cases::choice_tag))]
 impl<P: Profile> Grammar for TrustAnchorChoice<P> {
-    ghost use Rattle.x509_base_serial.specs.Checked.{CheckRefuses};
+    ghost use Rattle.x509_base.specs.Checked.{CheckRefuses};
     ghost use Rattle.x509_cert_anchor.specs.TrustAnchorChoice as grammar;
 
     ghost form = { grammar.trust_anchor_choice P.serial_check };

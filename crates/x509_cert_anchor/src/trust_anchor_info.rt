@@ -3,15 +3,15 @@
 use crate::cert_path_controls::CertPathControls;
 use crate::version::Version;
 use std::alloc::Global;
-use x509_base_key::SubjectPublicKeyInfo;
-use x509_base_validity::{Profile, Rfc5280};
+use x509_base::SubjectPublicKeyInfo;
+use x509_base_time::{Profile, Rfc5280};
 use x509_der_frames::{
     PutPart, default_field, defaulted, end, explicit_optional, field, implicit_optional, optional,
     optional_explicit, optional_field, optional_implicit,
 };
 use x509_der_grammar::{Content, Encode, Error, Room, Tag, TryClone};
 use x509_ext_frame::Extensions;
-use x509_prim_string::OctetString;
+use x509_prim::OctetString;
 use x509_prim_text::Utf8String;
 
 /// What is said of a trust anchor (RFC 5914 2). How long the title is isn't looked at.
@@ -80,7 +80,7 @@ impl<P: Profile> TryClone for TrustAnchorInfo<P> {
 
 #[tactic(auto, unfolding(crate::specs::TrustAnchorInfo::trust_anchor_info_fields, x509_der_frames::specs::Frames::fields_reading, x509_der_frames::specs::Frames::fields_octets), using(x509_der_frames::specs::FrameWriting::text_in_option, x509_der_frames::specs::FrameWriting::refusal_in_option))]
 impl<P: Profile> Content for TrustAnchorInfo<P> {
-    ghost use Rattle.x509_base_serial.specs.Checked.{CheckRefuses};
+    ghost use Rattle.x509_base.specs.Checked.{CheckRefuses};
     ghost use Rattle.x509_cert_anchor.specs.TrustAnchorInfo as grammar;
     ghost use Rattle.x509_der_element.specs.declared.tag.Tag.TheVariants.{Sequence};
 

@@ -3,7 +3,7 @@
 use std::alloc::Global;
 use x509_der_frames::Standard;
 use x509_der_grammar::{Content, Error, Room, Tag, TryClone};
-use x509_prim_named::{NamedNumber, put_named_number, read_named_number};
+use x509_prim::{NamedNumber, put_named_number, read_named_number};
 
 /// The version of a [`TrustAnchorInfo`](crate::TrustAnchorInfo) (RFC 5914 2.1). There is one, and since it is the default it
 /// is never written there. Alone it is the INTEGER 0; RFC 5914 numbers it 1.
@@ -49,8 +49,8 @@ impl NamedNumber for Version {
 impl Content for Version {
     ghost use Rattle.x509_cert_anchor.specs.Version.{version_names};
     ghost use Rattle.x509_der_element.specs.declared.tag.Tag.TheVariants.{Integer};
-    ghost use Rattle.x509_prim_named.specs.Names.{named_contents};
-    ghost use Rattle.x509_prim_named.specs.NamesLaws.{named_contents_lawful};
+    ghost use Rattle.x509_prim.specs.Names.{named_contents};
+    ghost use Rattle.x509_prim.specs.NamesLaws.{named_contents_lawful};
 
     ghost contents = { named_contents version_names };
 

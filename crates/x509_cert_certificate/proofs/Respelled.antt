@@ -10,8 +10,8 @@ use Rattle.x509_der_frames.specs.Frames.{fields_octets}
 use Rattle.x509_der_frames.specs.List.{list_of, members_value, members_refusal, members_writing}
 use Rattle.x509_der_frames.specs.ListLaws.{list_lawful}
 use Rattle.x509_der_frames.specs.ListWriting.{members_stable}
-use Rattle.x509_base_validity.specs.Validity.{validity, respelled_validity}
-use Rattle.x509_base_validity.specs.declared.validity.Validity.{Validity}
+use Rattle.x509_base_time.specs.Validity.{validity, respelled_validity}
+use Rattle.x509_base_time.specs.declared.validity.Validity.{Validity}
 use Rattle.x509_cert_certificate.specs.TbsCertificate.{tbs_certificate, tbs_certificate_fields, tbs_certificate_lawful, tbs_certificate_writing, tbs_certificate_stable}
 use Rattle.x509_cert_certificate.specs.Certificate.{certificate, certificate_fields, certificate_lawful, certificate_writing, certificate_stable}
 use Rattle.x509_cert_certificate.specs.Respelling.{Stays, no_check, any_tbs_certificate, any_certificate, any_certificates}

@@ -6,11 +6,11 @@ use Rattle.x509_der_grammar.specs.Writing.{Writing, respelling, writes, written_
 use Rattle.x509_cert_signed.specs.Signed.{IsSignedPart}
 use Rattle.x509_cert_signed.specs.SignedLaws.{one_part, first_field_is_signed, written_as_it_is}
 use Rattle.x509_der_frames.specs.Frames.{required, ◌⊗◌}
-use Rattle.x509_prim_string.specs.BitString.{bit_string}
-use Rattle.x509_base_validity.specs.Profiles.{rfc5280_time}
-use Rattle.x509_base_validity.specs.Validity.{validity, respelled_validity}
-use Rattle.x509_base_validity.specs.declared.validity.Validity.{Validity}
-use Rattle.x509_base_key.specs.AlgorithmIdentifier.{algorithm_identifier}
+use Rattle.x509_prim.specs.BitString.{bit_string}
+use Rattle.x509_base_time.specs.Profiles.{rfc5280_time}
+use Rattle.x509_base_time.specs.Validity.{validity, respelled_validity}
+use Rattle.x509_base_time.specs.declared.validity.Validity.{Validity}
+use Rattle.x509_base.specs.AlgorithmIdentifier.{algorithm_identifier}
 use Rattle.x509_cert_certificate.specs.TbsCertificate.{tbs_certificate, tbs_certificate_contents, tbs_certificate_lawful, tbs_certificate_writing, tbs_certificate_stable}
 use Rattle.x509_cert_certificate.specs.Certificate.{certificate, certificate_fields}
 use Rattle.x509_cert_certificate.specs.Respelling.{HasRfc5280Dates}

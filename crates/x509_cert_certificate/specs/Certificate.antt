@@ -9,11 +9,11 @@ use Rattle.x509_der_grammar.specs.StableLaws.{with_field_stable}
 use Rattle.x509_der_grammar.specs.Writing.{Writing, with_field, IsStable}
 use Rattle.x509_der_frames.specs.Frames.{Part, required, ◌⊗◌, fields, fields_good}
 use Rattle.x509_der_frames.specs.PartRules.{part_rules}
-use Rattle.x509_prim_string.specs.BitString.{BitParts, bit_string}
-use Rattle.x509_prim_string.specs.BitStringLaws.{bit_string_lawful}
-use Rattle.x509_base_serial.specs.Checked.{CheckRefuses}
-use Rattle.x509_base_key.specs.AlgorithmIdentifier.{algorithm_identifier, algorithm_identifier_lawful}
-use Rattle.x509_base_key.specs.declared.algorithm_identifier.AlgorithmIdentifier.{AlgorithmIdentifier}
+use Rattle.x509_prim.specs.BitString.{BitParts, bit_string}
+use Rattle.x509_prim.specs.BitStringLaws.{bit_string_lawful}
+use Rattle.x509_base.specs.Checked.{CheckRefuses}
+use Rattle.x509_base.specs.AlgorithmIdentifier.{algorithm_identifier, algorithm_identifier_lawful}
+use Rattle.x509_base.specs.declared.algorithm_identifier.AlgorithmIdentifier.{AlgorithmIdentifier}
 use Rattle.x509_cert_certificate.specs.TbsCertificate.{tbs_certificate, tbs_certificate_lawful}
 use Rattle.x509_cert_certificate.specs.declared.certificate.CertificateInner.{CertificateInner}
 use Rattle.x509_cert_certificate.specs.declared.tbs_certificate.TbsCertificateInner.{TbsCertificateInner}

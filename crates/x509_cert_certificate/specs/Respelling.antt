@@ -5,8 +5,8 @@ use Rattle.x509_der_element.specs.declared.tag.Tag.TheVariants.{Sequence}
 use Rattle.x509_der_grammar.specs.Form.{Form, universal}
 use Rattle.x509_der_grammar.specs.Writing.{Writing, writes}
 use Rattle.x509_der_frames.specs.List.{list_of}
-use Rattle.x509_base_validity.specs.Profiles.{rfc5280_time}
-use Rattle.x509_base_validity.specs.declared.validity.Validity.{Validity}
+use Rattle.x509_base_time.specs.Profiles.{rfc5280_time}
+use Rattle.x509_base_time.specs.declared.validity.Validity.{Validity}
 use Rattle.x509_cert_certificate.specs.TbsCertificate.{tbs_certificate}
 use Rattle.x509_cert_certificate.specs.Certificate.{certificate}
 use Rattle.x509_cert_certificate.specs.declared.certificate.CertificateInner.{CertificateInner}

@@ -10,16 +10,16 @@ use Rattle.x509_der_grammar.specs.StableLaws.{with_field_stable}
 use Rattle.x509_der_grammar.specs.Writing.{Writing, with_field, IsStable}
 use Rattle.x509_der_frames.specs.Frames.{implicit, explicit, Part, required, optional, defaulted, ◌⊗◌, fields, fields_good}
 use Rattle.x509_der_frames.specs.PartRules.{part_rules}
-use Rattle.x509_prim_string.specs.BitString.{BitParts, bit_string}
-use Rattle.x509_prim_string.specs.BitStringLaws.{bit_string_lawful}
-use Rattle.x509_base_validity.specs.Validity.{validity, validity_lawful}
-use Rattle.x509_base_validity.specs.declared.validity.Validity.{Validity}
-use Rattle.x509_base_serial.specs.Checked.{CheckRefuses}
-use Rattle.x509_base_serial.specs.Serial.{serial_number, serial_number_lawful}
-use Rattle.x509_base_key.specs.AlgorithmIdentifier.{algorithm_identifier, algorithm_identifier_lawful}
-use Rattle.x509_base_key.specs.SubjectPublicKeyInfo.{subject_public_key_info, subject_public_key_info_lawful}
-use Rattle.x509_base_key.specs.declared.algorithm_identifier.AlgorithmIdentifier.{AlgorithmIdentifier}
-use Rattle.x509_base_key.specs.declared.subject_public_key_info.SubjectPublicKeyInfo.{SubjectPublicKeyInfo}
+use Rattle.x509_prim.specs.BitString.{BitParts, bit_string}
+use Rattle.x509_prim.specs.BitStringLaws.{bit_string_lawful}
+use Rattle.x509_base_time.specs.Validity.{validity, validity_lawful}
+use Rattle.x509_base_time.specs.declared.validity.Validity.{Validity}
+use Rattle.x509_base.specs.Checked.{CheckRefuses}
+use Rattle.x509_base.specs.Serial.{serial_number, serial_number_lawful}
+use Rattle.x509_base.specs.AlgorithmIdentifier.{algorithm_identifier, algorithm_identifier_lawful}
+use Rattle.x509_base.specs.SubjectPublicKeyInfo.{subject_public_key_info, subject_public_key_info_lawful}
+use Rattle.x509_base.specs.declared.algorithm_identifier.AlgorithmIdentifier.{AlgorithmIdentifier}
+use Rattle.x509_base.specs.declared.subject_public_key_info.SubjectPublicKeyInfo.{SubjectPublicKeyInfo}
 use Rattle.x509_cert_extension.specs.type_and_value.AttributeTypeAndValue.{AttributeTypeAndValue}
 use Rattle.x509_cert_extension.specs.Names.{name, rdn_sequence_lawful}
 use Rattle.x509_cert_extension.specs.Extension.{extensions, extensions_lawful}

@@ -4,8 +4,8 @@ use Rattle.x509_der_element.specs.declared.error.ErrorKind.{ErrorKind}
 use Rattle.x509_der_element.specs.declared.tag.Tag.TheVariants.{Integer}
 use Rattle.x509_der_grammar.specs.Form.{Form, IsForm}
 use Rattle.x509_der_frames.specs.Frames.{Default, IsDefault}
-use Rattle.x509_prim_named.specs.Names.{with_number, Names, named_form}
-use Rattle.x509_prim_named.specs.NamesLaws.{named_lawful}
+use Rattle.x509_prim.specs.Names.{with_number, Names, named_form}
+use Rattle.x509_prim.specs.NamesLaws.{named_lawful}
 use Rattle.x509_cert_certificate.specs.declared.version.Version.{Version}
 use Rattle.x509_cert_certificate.specs.declared.version.Version.TheVariants.{V1, V2, V3}
 

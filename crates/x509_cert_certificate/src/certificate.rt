@@ -7,12 +7,12 @@ ghost use Rattle.x509_der_grammar.specs.Writing.{writes, written_spelling, IsWri
 
 use crate::tbs_certificate::TbsCertificateInner;
 use std::alloc::Global;
-use x509_base_key::AlgorithmIdentifier;
-use x509_base_validity::{Profile, Rfc5280};
+use x509_base::AlgorithmIdentifier;
+use x509_base_time::{Profile, Rfc5280};
 use x509_cert_digest::{CertDigest, hash};
 use x509_der_frames::{PutPart, SequenceOf, end, field};
 use x509_der_grammar::{Content, Encode, Error, Grammar, Room, Tag, TryClone};
-use x509_prim_string::BitString;
+use x509_prim::BitString;
 
 /// A certificate under the rules of RFC 5280.
 pub type Certificate = CertificateInner<Rfc5280>;
@@ -108,7 +108,7 @@ impl<P: Profile> TryClone for CertificateInner<P> {
 
 #[tactic(auto, unfolding(crate::specs::Certificate::certificate_fields, x509_der_frames::specs::Frames::fields_reading, x509_der_frames::specs::Frames::fields_octets))]
 impl<P: Profile> Content for CertificateInner<P> {
-    ghost use Rattle.x509_base_serial.specs.Checked.{CheckRefuses};
+    ghost use Rattle.x509_base.specs.Checked.{CheckRefuses};
     ghost use Rattle.x509_der_element.specs.declared.tag.Tag.TheVariants.{Sequence};
     ghost use Rattle.x509_cert_certificate.specs.Certificate as grammar;
 

@@ -6,9 +6,9 @@
 //! bytes, and that what was written reads as the value that is spelled.
 
 ghost use Rattle.std.specs.Prelude.{◌≡◌, ◌↔◌, List, ℕ};
-ghost use Rattle.x509_base_validity.specs.Validity.{validity};
-ghost use Rattle.x509_base_validity.specs.declared.profile.Raw as raw;
-ghost use Rattle.x509_base_validity.specs.declared.profile.Rfc5280 as rfc5280;
+ghost use Rattle.x509_base_time.specs.Validity.{validity};
+ghost use Rattle.x509_base_time.specs.declared.profile.Raw as raw;
+ghost use Rattle.x509_base_time.specs.declared.profile.Rfc5280 as rfc5280;
 ghost use Rattle.x509_cert_certificate.specs.Respelling.{HasRfc5280Dates, Stays, any_certificate, any_certificates, any_tbs_certificate};
 ghost use Rattle.x509_cert_certificate.specs.declared.certificate.CertificateInner as whole;
 ghost use Rattle.x509_cert_signed.specs.Signed.{IsSignedPart};
@@ -17,7 +17,7 @@ ghost use Rattle.x509_der_grammar.specs.Writing.{IsStable, RespellsAlike, writes
 
 use crate::certificate::CertificateInner;
 use crate::tbs_certificate::TbsCertificateInner;
-use x509_base_validity::{Profile, Raw, Rfc5280, Validity};
+use x509_base_time::{Profile, Raw, Rfc5280, Validity};
 use x509_der_frames::SequenceOf;
 use x509_der_grammar::{Encode, Grammar};
 
@@ -35,7 +35,7 @@ pub fn rfc5280_dates_are_written_once()
     ensures whole { IsStable ⟦<CertificateInner<Rfc5280> as Grammar>⟧.form.good ⟦<CertificateInner<Rfc5280> as Encode>⟧.writing }
     ensures listed { IsStable ⟦<SequenceOf<CertificateInner<Rfc5280>> as Grammar>⟧.form.good ⟦<SequenceOf<CertificateInner<Rfc5280>> as Encode>⟧.writing }
 {
-    x509_base_validity::laws::rfc5280_dates_are_written_once();
+    x509_base_time::laws::rfc5280_dates_are_written_once();
     dates_are_written_once::<Rfc5280>();
 }
 
@@ -45,7 +45,7 @@ pub fn raw_dates_are_written_once()
     ensures whole { IsStable ⟦<CertificateInner<Raw> as Grammar>⟧.form.good ⟦<CertificateInner<Raw> as Encode>⟧.writing }
     ensures listed { IsStable ⟦<SequenceOf<CertificateInner<Raw>> as Grammar>⟧.form.good ⟦<SequenceOf<CertificateInner<Raw>> as Encode>⟧.writing }
 {
-    x509_base_validity::laws::raw_dates_are_written_once();
+    x509_base_time::laws::raw_dates_are_written_once();
     dates_are_written_once::<Raw>();
 }
 
@@ -80,5 +80,5 @@ pub fn raw_signed_bytes_are_written_again()
 pub fn rfc5280_signed_bytes_are_written_again()
     ensures { (v : whole.CertificateInner rfc5280.Rfc5280) (bytes signed : List ℕ) → Spells ⟦<CertificateInner<Rfc5280> as Grammar>⟧.form v bytes → IsSignedPart bytes signed → (written_spelling ⟦<TbsCertificateInner<Rfc5280> as Grammar>⟧.form (writes ⟦<TbsCertificateInner<Rfc5280> as Encode>⟧.writing v.tbs_certificate) ≡ signed) ↔ HasRfc5280Dates v.tbs_certificate.validity }
 {
-    x509_base_validity::laws::rfc5280_dates_are_written_once();
+    x509_base_time::laws::rfc5280_dates_are_written_once();
 }

@@ -7,19 +7,18 @@ ghost use Rattle.x509_cert_extension.specs.LookUp.{Finds, members, with_oid};
 
 use crate::version::Version;
 use std::alloc::Global;
-use x509_base_key::{AlgorithmIdentifier, SubjectPublicKeyInfo};
-use x509_base_serial::SerialNumber;
-use x509_base_validity::{Profile, Rfc5280, Validity};
+use x509_base::{AlgorithmIdentifier, SerialNumber, SubjectPublicKeyInfo};
+use x509_base_time::{Profile, Rfc5280, Validity};
 use x509_cert_extension::{
     Extensions, FilterExtensions, Name, filter_extensions, get_extension, members,
 };
+use x509_der::AssociatedOid;
 use x509_der_frames::{
     PutPart, default_explicit, end, explicit_default, explicit_optional, field, implicit_optional,
     optional_explicit, optional_implicit,
 };
 use x509_der_grammar::{Content, Decode, Encode, Error, Room, Tag, TryClone};
-use x509_der_oid::AssociatedOid;
-use x509_prim_string::BitString;
+use x509_prim::BitString;
 
 /// The signed part of a certificate under the rules of RFC 5280.
 pub type TbsCertificate = TbsCertificateInner<Rfc5280>;
@@ -254,7 +253,7 @@ impl<P: Profile> TryClone for TbsCertificateInner<P> {
 
 #[tactic(auto, unfolding(crate::specs::TbsCertificate::tbs_certificate_fields, x509_der_frames::specs::Frames::fields_reading, x509_der_frames::specs::Frames::fields_octets))]
 impl<P: Profile> Content for TbsCertificateInner<P> {
-    ghost use Rattle.x509_base_serial.specs.Checked.{CheckRefuses};
+    ghost use Rattle.x509_base.specs.Checked.{CheckRefuses};
     ghost use Rattle.x509_der_element.specs.declared.tag.Tag.TheVariants.{Sequence};
     ghost use Rattle.x509_cert_certificate.specs.TbsCertificate as grammar;
 

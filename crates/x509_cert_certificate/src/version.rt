@@ -5,7 +5,7 @@ use std::cmp::Ordering;
 use x509_der_frames::Standard;
 use x509_der_grammar::{Content, Error, Room, Tag, TryClone};
 use x509_der_order::ValueOrd;
-use x509_prim_named::{NamedNumber, cmp_named_numbers, put_named_number, read_named_number};
+use x509_prim::{NamedNumber, cmp_named_numbers, put_named_number, read_named_number};
 
 /// The version of a certificate (RFC 5280 4.1.2.1). It is V1 where it is left out. That a certificate has no fields which
 /// came with a later version isn't looked at.
@@ -59,8 +59,8 @@ impl NamedNumber for Version {
 impl Content for Version {
     ghost use Rattle.x509_der_element.specs.declared.tag.Tag.TheVariants.{Integer};
     ghost use Rattle.x509_cert_certificate.specs.Version.{version_names};
-    ghost use Rattle.x509_prim_named.specs.Names.{named_contents};
-    ghost use Rattle.x509_prim_named.specs.NamesLaws.{named_contents_lawful};
+    ghost use Rattle.x509_prim.specs.Names.{named_contents};
+    ghost use Rattle.x509_prim.specs.NamesLaws.{named_contents_lawful};
 
     ghost contents = { named_contents version_names };
 
@@ -85,7 +85,7 @@ impl ValueOrd for Version {
     ghost use Rattle.x509_der_element.specs.declared.tag.Tag.TheVariants.{Integer};
     ghost use Rattle.x509_cert_certificate.specs.Version.{version_names};
     ghost use Rattle.x509_der_grammar.specs.Writing.{plain, writes};
-    ghost use Rattle.x509_prim_named.specs.NamesLaws.{named_order, named_ordered};
+    ghost use Rattle.x509_prim.specs.NamesLaws.{named_order, named_ordered};
 
     ghost order = { named_order Integer version_names };
 

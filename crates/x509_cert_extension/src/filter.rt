@@ -8,8 +8,8 @@ ghost use Rattle.x509_cert_extension.specs.LookUp.{with_oid};
 use crate::look_up::{decode, split_first_with};
 use std::alloc::Global;
 use std::marker::PhantomData;
+use x509_der::AssociatedOid;
 use x509_der_grammar::{Decode, Error};
-use x509_der_oid::AssociatedOid;
 use x509_ext_frame::Extension;
 
 /// Gives the extensions of a type, in their order: of each whether it is critical, and its value, or the refusal of

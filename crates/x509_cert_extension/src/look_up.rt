@@ -4,8 +4,8 @@ ghost use Rattle.std.specs.Prelude.{◌≡◌, [], ◌∷◌, MatchOption};
 ghost use Rattle.x509_cert_extension.specs.LookUp.{Decodes, DecodesPayload, Finds, members, with_oid};
 
 use std::alloc::Global;
+use x509_der::{AssociatedOid, ObjectIdentifier};
 use x509_der_grammar::{Decode, Error, ErrorKind};
-use x509_der_oid::{AssociatedOid, ObjectIdentifier};
 use x509_ext_frame::{Extension, Extensions};
 
 /// The extensions, none where the list is left out.

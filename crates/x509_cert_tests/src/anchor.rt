@@ -2,10 +2,10 @@
 
 use bitflags::Flags;
 use std::test::*;
-use x509_base_validity::{Raw, Rfc5280};
+use x509_base_time::{Raw, Rfc5280};
 use x509_cert_anchor::{CertPathControls, CertPolicies, TrustAnchorChoice, Version};
 use x509_der_grammar::{Decode, Encode, Error, ErrorKind, TryClone};
-use x509_name_rdn::Name;
+use x509_name::name::Name;
 
 /// A key and its identifier.
 const INFO: &[u8] = &[

@@ -2,16 +2,15 @@
 
 use sha2::Sha256;
 use std::test::*;
-use x509_base_key::{AlgorithmIdentifier, SubjectPublicKeyInfo};
-use x509_base_serial::SerialNumber;
-use x509_base_validity::{Rfc5280, Validity};
+use x509_base::{AlgorithmIdentifier, SerialNumber, SubjectPublicKeyInfo};
+use x509_base_time::{Rfc5280, Validity};
 use x509_cert_certificate::{Certificate, TbsCertificate, Version};
 use x509_der_grammar::{Decode, Encode, Error, ErrorKind, TryClone};
 use x509_der_order::DerOrd;
+use x509_ext::pkix::KeyUsage;
 use x509_ext_frame::Extensions;
-use x509_ext_key::KeyUsage;
-use x509_name_rdn::Name;
-use x509_prim_string::BitString;
+use x509_name::name::Name;
+use x509_prim::BitString;
 
 /// A certificate without a version and without names.
 const PLAIN: &[u8] =

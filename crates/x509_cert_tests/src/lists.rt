@@ -2,9 +2,9 @@
 
 use crate::requests::{first_is_key, is_key, is_malformed, stays};
 use std::test::*;
-use x509_base_validity::Raw;
+use x509_base_time::Raw;
+use x509_cert::crl::{CertificateList, RevokedCert};
 use x509_cert_certificate::Version;
-use x509_cert_crl::{CertificateList, RevokedCert};
 use x509_der_grammar::{Decode, Error};
 
 /// A list of nobody, without entries, whose one date is a GeneralizedTime before 2050.

@@ -3,9 +3,8 @@
 use std::test::*;
 use x509_cert_extension::{filter_extensions, get_extension, members};
 use x509_der_grammar::{Decode, Error, ErrorKind};
+use x509_ext::pkix::{KeyUsage, KeyUsages, SubjectAltName};
 use x509_ext_frame::Extensions;
-use x509_ext_key::{KeyUsage, KeyUsages};
-use x509_ext_party::SubjectAltName;
 
 /// A critical key usage, which is that of signatures, and a name of the subject.
 const TWO_KINDS: &[u8] = &[

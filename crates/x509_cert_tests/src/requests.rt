@@ -1,13 +1,13 @@
 //! Requests, and the attributes that they hold.
 
 use std::test::*;
+use x509_cert::request::attributes::{AsAttribute, ChallengePassword};
+use x509_cert::request::{CertReq, ExtensionReq, Version, extension_req_attribute};
 use x509_cert_extension::FilterExtensions;
-use x509_cert_request::attributes::{AsAttribute, ChallengePassword};
-use x509_cert_request::{CertReq, ExtensionReq, Version, extension_req_attribute};
 use x509_der_grammar::{Decode, Encode, Error, ErrorKind, TryClone};
+use x509_ext::pkix::SubjectKeyIdentifier;
 use x509_ext_frame::Extensions;
-use x509_ext_key::SubjectKeyIdentifier;
-use x509_name_directory::DirectoryString;
+use x509_name_attribute::DirectoryString;
 use x509_prim_text::Utf8String;
 
 /// Whether the bytes are read, and a copy that equals the value is written as they were.

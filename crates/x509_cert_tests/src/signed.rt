@@ -1,7 +1,7 @@
 //! The signed bytes of what is signed.
 
 use std::test::*;
-use x509_base_key::{AlgorithmIdentifier, SubjectPublicKeyInfo};
+use x509_base::{AlgorithmIdentifier, SubjectPublicKeyInfo};
 use x509_cert_signed::{laws, signed_slice};
 
 /// A certificate of version V1, without extensions.

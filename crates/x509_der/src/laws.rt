@@ -1,14 +1,55 @@
 //! What holds of all elements, spellings, tags, fields, object identifiers, byte orders and sets. Each law is a function
 //! with an empty body, whose contract is the law.
 
+ghost use Rattle.std.specs.List.Sorted.{IsStrictlySortedBy, IsPermutation};
+ghost use Rattle.std.specs.List.{All};
+ghost use Rattle.std.specs.Prelude.{◌≡◌, List, map, ◌↔◌, ℕ, true};
+ghost use Rattle.x509_der.specs.Arcs.{AreArcs, content_of, dotted};
+ghost use Rattle.x509_der.specs.ObjectIdentifier.{arcs_of, is_object_identifier};
+ghost use Rattle.x509_der_grammar.specs.Form.{spelling};
+ghost use Rattle.x509_der_grammar.specs.Writing.{writes};
+ghost use Rattle.x509_der_order.specs.Order.{HasEncoding, bytes_cmp, der_order};
+
 pub use x509_der_element::laws::{no_element_begins_another, one_tag};
 pub use x509_der_frames::laws::the_next_octet_decides_an_optional_field;
 pub use x509_der_grammar::laws::{
     no_spelling_begins_another, one_spelling, one_value, what_is_written_alike_is_respelled_alike,
     what_was_written_reads_as_respelled, writing_again_gives_the_same,
 };
-pub use x509_der_oid::laws::{arcs_of_contents, one_content, one_text, tested_contents};
+use x509_der_order::DerOrd;
 pub use x509_der_order::laws::{
     contents_in_order, encodings_in_order, equal_values_alone_are_equal, orders_are_total,
 };
-pub use x509_der_set::laws::{encodings_rise, members_make_the_set};
+
+/// Content octets are those of one list of arcs.
+pub fn one_content()
+    ensures { (xs ys : List ℕ) → AreArcs xs → AreArcs ys → content_of xs ≡ content_of ys → xs ≡ ys }
+{}
+
+/// A dotted text is that of one list of arcs.
+pub fn one_text()
+    ensures { (xs ys : List ℕ) → AreArcs xs → AreArcs ys → dotted xs ≡ dotted ys → xs ≡ ys }
+{}
+
+/// The test of content octets passes exactly what is the content of arcs.
+pub fn tested_contents()
+    ensures { (content : List ℕ) → (is_object_identifier content ≡ true)
+        ↔ ((arcs : List ℕ) × AreArcs arcs × (content ≡ content_of arcs)) }
+{}
+
+/// The arcs of a content are the arcs that have it.
+pub fn arcs_of_contents()
+    ensures content { (content : List ℕ) → is_object_identifier content ≡ true
+        → AreArcs (arcs_of content) × (content_of (arcs_of content) ≡ content) }
+    ensures arcs { (arcs : List ℕ) → AreArcs arcs → arcs_of (content_of arcs) ≡ arcs }
+{}
+
+/// Sets of the same members are equal, in whatever order the members were put in.
+pub fn members_make_the_set<T: DerOrd>()
+    ensures { (a b : List T) → IsStrictlySortedBy (der_order T.form (writes T.writing) T.order) a → IsStrictlySortedBy (der_order T.form (writes T.writing) T.order) b → IsPermutation a b → a ≡ b }
+{}
+
+/// A set of members with encodings is a DER SET OF: each of its members' encodings is below the next (X.690 11.6).
+pub fn encodings_rise<T: DerOrd>()
+    ensures { (members : List T) → IsStrictlySortedBy (der_order T.form (writes T.writing) T.order) members → All (HasEncoding T.form (writes T.writing)) members → IsStrictlySortedBy bytes_cmp (map (spelling T.form) members) }
+{}

@@ -1,12 +1,25 @@
 //! Strict DER (X.690): values that are read from the bytes of their one spelling and written as them.
 //!
-//! The parts stand in crates of their own: the grammar with its two traits and the elements, the frames that sequences,
-//! lists and choices are made of, the byte orders, the sets that stand in them, the object identifiers, and UTF8String
-//! beside the other texts.
+//! Object identifiers and sets stand here. The other parts stand in crates of their own: the grammar with its two traits and the
+//! elements, the frames that sequences, lists and choices are made of, the byte orders, and UTF8String beside the other texts.
 #![tactic(auto)]
 
+mod associated;
+mod codec;
+mod content;
+mod identifier;
 pub mod laws;
+mod member;
+mod members;
+mod number_members;
+mod numbers;
+mod places;
+mod set;
 
+pub use associated::AssociatedOid;
+pub use identifier::ObjectIdentifier;
+pub use member::{SetMember, SetOrd};
+pub use set::SetOfVec;
 pub use x509_der_frames::{
     Any, FromAny, PutPart, Retagged, SequenceOf, Standard, Wrapped, clone_members,
     default_explicit, default_field, default_implicit, defaulted, end, explicit, explicit_default,
@@ -20,7 +33,5 @@ pub use x509_der_grammar::{
     expect_tag, put_header, put_natural, read_natural, read_whole, split_element, split_usual,
     take_element,
 };
-pub use x509_der_oid::{AssociatedOid, ObjectIdentifier};
 pub use x509_der_order::{DerOrd, NewtypeOrd, ValueOrd, cmp_members, cmp_naturals};
-pub use x509_der_set::{SetMember, SetOfVec, SetOrd};
 pub use x509_prim_text::Utf8String;

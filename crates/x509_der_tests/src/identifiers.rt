@@ -3,8 +3,8 @@
 use crate::calls::{hash_of, is_refused};
 use std::cmp::Ordering;
 use std::test::*;
+use x509_der::{AssociatedOid, ObjectIdentifier};
 use x509_der_grammar::{Decode, Encode, ErrorKind, TryClone};
-use x509_der_oid::{AssociatedOid, ObjectIdentifier};
 use x509_der_order::{DerOrd, ValueOrd};
 
 const ID_CE_KEY_USAGE: ObjectIdentifier = ObjectIdentifier {

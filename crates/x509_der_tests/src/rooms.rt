@@ -3,10 +3,10 @@
 use crate::calls::is_refused;
 use crate::octets::Octets;
 use std::test::*;
+use x509_der::ObjectIdentifier;
 use x509_der_grammar::{
     Counting, Decode, Encode, Error, ErrorKind, Fixed, Growing, Room, put_header,
 };
-use x509_der_oid::ObjectIdentifier;
 
 /// Whether five octets are written at the end of a room, and no other octet of it is.
 fn stands_last<T: Encode>(value: &T, spelling: &[u8; 5]) -> Result<bool, Error> {

@@ -3,10 +3,10 @@
 use crate::calls::{all_malformed, all_stay, hash_of, is_refused, shows, stays};
 use std::cmp::Ordering;
 use std::test::*;
+use x509_der::SetOfVec;
 use x509_der_frames::Any;
 use x509_der_grammar::{Error, ErrorKind, TryClone};
 use x509_der_order::{DerOrd, ValueOrd};
-use x509_der_set::SetOfVec;
 
 #[test]
 fn sets_are_read_as_they_are_written(rt: HostRuntime) -> Result<(), Fail> {

@@ -1,4 +1,14 @@
 //! What holds of all extensions. Each law is a function with an empty body, whose contract is the law.
 
+ghost use Rattle.std.specs.Prelude.{◌≡◌, ℕ};
+ghost use Rattle.x509_ext.specs.KeyUsage.{has_bit};
+ghost use Rattle.x509_ext.specs.declared.pkix.key_usage.KeyUsage.{KeyUsage};
+ghost use Rattle.x509_prim.specs.BitString.{is_one};
+
 pub use x509_ext_frame::laws::{identifiers_of_extensions, identifiers_of_pkix};
-pub use x509_ext_key::laws::named_bits_are_ones;
+
+/// A named bit is there where it is a one in the bit string (X.680 22.7).
+#[tactic(auto, using(crate::proofs::Bits::named_bit))]
+pub fn named_bits_are_ones()
+    ensures { (usage : KeyUsage) (n : ℕ) → has_bit usage n ≡ is_one usage.0.0 n }
+{}

@@ -1,7 +1,7 @@
 -- The contents of 2.5.29.n and of 1.3.6.1.5.5.7.a.n.
 use Rattle.std.specs.Prelude.{◌≡◌, ◌<◌, ◌/◌, ◌%◌, ℕ, [], ◌∷◌, refl}
 use Rattle.std.proofs.Common.{arith}
-use Rattle.x509_name_rdn.specs.Arcs.{content_of, subidentifier}
+use Rattle.x509_name.specs.Arcs.{content_of, subidentifier}
 use Rattle.x509_ext_frame.specs.Identifiers.{id_ce, id_pkix}
 
 low_digits : (n : ℕ) → n < 128 → subidentifier n ≡ n ∷ []

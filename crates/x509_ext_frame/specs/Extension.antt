@@ -11,8 +11,8 @@ use Rattle.x509_der_frames.specs.DefaultValues.{boolean_default}
 use Rattle.x509_der_frames.specs.List.{list_of}
 use Rattle.x509_der_frames.specs.ListLaws.{list_lawful}
 use Rattle.x509_der_frames.specs.PartRules.{part_rules}
-use Rattle.x509_name_rdn.specs.ObjectIdentifierForm.{object_identifier, object_identifier_lawful}
-use Rattle.x509_prim_string.specs.OctetString.{octet_string, octet_string_lawful}
+use Rattle.x509_name.specs.ObjectIdentifierForm.{object_identifier, object_identifier_lawful}
+use Rattle.x509_prim.specs.OctetString.{octet_string, octet_string_lawful}
 use Rattle.x509_ext_frame.specs.declared.extension.Extension.{Extension}
 
 unfoldable pub extension_fields : Part (List ℕ × (Bool × List ℕ))

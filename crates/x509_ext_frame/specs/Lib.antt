@@ -1,5 +1,5 @@
 pub mod Extension
 pub mod Identifiers
 pub mod ToExtension
-pub use Rattle.x509_name_rdn.specs.Names
-pub use Rattle.x509_name_rdn.specs.type_and_value
+pub use Rattle.x509_name.specs.Names
+pub use Rattle.x509_name.specs.type_and_value

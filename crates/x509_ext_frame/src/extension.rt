@@ -3,8 +3,8 @@
 use std::alloc::Global;
 use x509_der_frames::{PutPart, SequenceOf, default_field, defaulted, end, field};
 use x509_der_grammar::{Content, Error, Room, Tag, TryClone};
-use x509_name_rdn::ObjectIdentifier;
-use x509_prim_string::OctetString;
+use x509_name::name::ObjectIdentifier;
+use x509_prim::OctetString;
 
 /// An extension (RFC 5280 4.1 and 4.2).
 ///

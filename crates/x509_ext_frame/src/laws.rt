@@ -1,7 +1,7 @@
 //! What holds of all extensions. Each law is a function with an empty body, whose contract is the law.
 
 ghost use Rattle.std.specs.Prelude.{◌≡◌, ◌<◌, [], ◌∷◌, ℕ};
-ghost use Rattle.x509_name_rdn.specs.Arcs.{content_of};
+ghost use Rattle.x509_name.specs.Arcs.{content_of};
 ghost use Rattle.x509_ext_frame.specs.Identifiers.{id_ce, id_pkix};
 
 /// The octets that stand for 2.5.29.n are its content (X.690 8.19).

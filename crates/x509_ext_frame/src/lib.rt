@@ -9,4 +9,4 @@ mod to_extension;
 
 pub use extension::{Extension, Extensions};
 pub use to_extension::{Criticality, ToExtension};
-pub use x509_name_rdn::{Name, ObjectIdentifier, RelativeDistinguishedName};
+pub use x509_name::name::{Name, ObjectIdentifier, RelativeDistinguishedName};

@@ -6,13 +6,13 @@ ghost use Rattle.x509_ext_frame.specs.ToExtension.{Makes};
 use crate::extension::Extension;
 use std::alloc::Global;
 use x509_der_grammar::{Encode, Error};
-use x509_name_rdn::{AssociatedOid, Name, ObjectIdentifier};
-use x509_prim_string::OctetString;
+use x509_name::name::{AssociatedOid, Name, ObjectIdentifier};
+use x509_prim::OctetString;
 
 /// A payload that says whether its extension is critical, where the caller does not (RFC 5280 4.2).
 pub trait Criticality {
     ghost use Rattle.std.specs.Prelude.{◌≡◌, Bool, List};
-    ghost use Rattle.x509_name_rdn.specs.AttributeTypeAndValue.{AttributeTypeAndValue};
+    ghost use Rattle.x509_name.specs.AttributeTypeAndValue.{AttributeTypeAndValue};
     ghost use Rattle.x509_ext_frame.specs.declared.extension.Extension.{Extension};
 
     /// Whether it is, under that subject and behind those extensions.
@@ -27,7 +27,7 @@ pub trait Criticality {
 pub trait ToExtension: Sized {
     ghost use Rattle.std.specs.Prelude.{List, Result};
     ghost use Rattle.x509_der_element.specs.declared.error.Error.{Error};
-    ghost use Rattle.x509_name_rdn.specs.AttributeTypeAndValue.{AttributeTypeAndValue};
+    ghost use Rattle.x509_name.specs.AttributeTypeAndValue.{AttributeTypeAndValue};
     ghost use Rattle.x509_ext_frame.specs.declared.extension.Extension.{Extension};
 
     /// What the call answers, under that subject and behind those extensions.

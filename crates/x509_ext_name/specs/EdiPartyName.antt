@@ -6,8 +6,8 @@ use Rattle.x509_der_grammar.specs.Form.{Form, IsForm, Contents, IsContents, univ
 use Rattle.x509_der_grammar.specs.FormLaws.{universal_lawful}
 use Rattle.x509_der_frames.specs.Frames.{Part, required, optional, explicit, ◌⊗◌, fields}
 use Rattle.x509_der_frames.specs.PartRules.{part_rules}
-use Rattle.x509_name_directory.specs.DirectoryString.{directory_string, directory_string_lawful}
-use Rattle.x509_name_directory.specs.declared.directory_string.DirectoryString.{DirectoryString}
+use Rattle.x509_name_attribute.specs.DirectoryString.{directory_string, directory_string_lawful}
+use Rattle.x509_name_attribute.specs.declared.directory_string.DirectoryString.{DirectoryString}
 use Rattle.x509_ext_name.specs.declared.edi_party_name.EdiPartyName.{EdiPartyName}
 
 unfoldable pub edi_party_name_fields : Part (Option DirectoryString × DirectoryString)

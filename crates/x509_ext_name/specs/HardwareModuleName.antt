@@ -6,13 +6,12 @@ use Rattle.x509_der_element.specs.declared.error.Error.{Error}
 use Rattle.x509_der_element.specs.declared.error.ErrorKind.{ErrorKind}
 use Rattle.x509_der_element.specs.declared.error.ErrorKind.TheVariants.{Memory, Malformed}
 use Rattle.x509_der_element.specs.declared.tag.Tag.TheVariants.{Sequence}
-use Rattle.x509_der_grammar.specs.Form.{Form, IsForm, Contents, IsContents, universal, spelling}
-use Rattle.x509_der_grammar.specs.FormLaws.{universal_lawful}
+use Rattle.x509_der_grammar.specs.Form.{Form, Contents, IsContents, universal, spelling}
 use Rattle.x509_der_frames.specs.Frames.{Part, required, ◌⊗◌, fields}
 use Rattle.x509_der_frames.specs.PartRules.{part_rules}
 use Rattle.x509_der_frames.specs.declared.any.Any.{Any}
-use Rattle.x509_der_oid.specs.ObjectIdentifierForm.{object_identifier, object_identifier_lawful}
-use Rattle.x509_prim_string.specs.OctetString.{octet_string, octet_string_lawful}
+use Rattle.x509_der.specs.ObjectIdentifierForm.{object_identifier, object_identifier_lawful}
+use Rattle.x509_prim.specs.OctetString.{octet_string, octet_string_lawful}
 use Rattle.x509_ext_frame.specs.Identifiers.{id_pkix}
 use Rattle.x509_ext_name.specs.declared.hardware_module_name.HardwareModuleName.{HardwareModuleName}
 use Rattle.x509_ext_name.specs.declared.other_name.OtherName.{OtherName}
@@ -29,9 +28,6 @@ hardware_module_name = universal Sequence hardware_module_name_contents
 pub hardware_module_name_contents_lawful : {R : ErrorKind → Type 0} → IsContents R hardware_module_name_contents
 unfolding hardware_module_name_fields
 hardware_module_name_contents_lawful = search (part_rules, object_identifier_lawful, octet_string_lawful) depth 20
-
-pub hardware_module_name_lawful : {R : ErrorKind → Type 0} → IsForm R hardware_module_name
-hardware_module_name_lawful = universal_lawful Sequence hardware_module_name_contents hardware_module_name_contents_lawful
 
 -- ---- as names of another kind
 

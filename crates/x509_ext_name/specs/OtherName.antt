@@ -8,7 +8,7 @@ use Rattle.x509_der_frames.specs.Any.{any, any_lawful}
 use Rattle.x509_der_frames.specs.Frames.{Part, required, explicit, ◌⊗◌, fields}
 use Rattle.x509_der_frames.specs.PartRules.{part_rules}
 use Rattle.x509_der_frames.specs.declared.any.Any.{Any}
-use Rattle.x509_der_oid.specs.ObjectIdentifierForm.{object_identifier, object_identifier_lawful}
+use Rattle.x509_der.specs.ObjectIdentifierForm.{object_identifier, object_identifier_lawful}
 use Rattle.x509_ext_name.specs.declared.other_name.OtherName.{OtherName}
 
 unfoldable pub other_name_fields : Part (List ℕ × Any)

@@ -5,7 +5,7 @@ use x509_der_frames::{
     PutPart, end, explicit, explicit_field, explicit_optional, optional_explicit,
 };
 use x509_der_grammar::{Content, Error, Room, Tag, TryClone};
-use x509_name_directory::DirectoryString;
+use x509_name_attribute::DirectoryString;
 
 /// A name of electronic data interchange (RFC 5280 4.2.1.6). Its tags are explicit, since what they are put on is a choice
 /// (X.680 31.2.7).

@@ -8,13 +8,13 @@ ghost use Rattle.x509_ext_name.specs.declared.general_name.GeneralName.TheVarian
 use crate::edi_party_name::EdiPartyName;
 use crate::other_name::OtherName;
 use std::alloc::Global;
+use x509_der::ObjectIdentifier;
 use x509_der_frames::{SequenceOf, explicit_identifier, implicit_identifier};
 use x509_der_grammar::{
     Content, Decode, Encode, Error, ErrorKind, Grammar, Room, Tag, TryClone, read_whole,
 };
-use x509_der_oid::ObjectIdentifier;
 use x509_ext_frame::Name;
-use x509_prim_string::OctetString;
+use x509_prim::OctetString;
 use x509_prim_text::Ia5String;
 
 /// An address of the Internet protocol (RFC 791, RFC 4291), its octets in the order of the network.

@@ -4,11 +4,11 @@ ghost use Rattle.x509_ext_name.specs.HardwareModuleName.{ReadsHardwareModule};
 
 use crate::other_name::OtherName;
 use std::alloc::Global;
+use x509_der::ObjectIdentifier;
 use x509_der_frames::{PutPart, end, field};
 use x509_der_grammar::{Content, Error, Room, Tag, TryClone};
-use x509_der_oid::ObjectIdentifier;
 use x509_ext_frame::id_pkix;
-use x509_prim_string::OctetString;
+use x509_prim::OctetString;
 
 /// The kind of an [`OtherName`] that is a [`HardwareModuleName`], 1.3.6.1.5.5.7.8.4 (RFC 4108 5).
 pub const ID_ON_HARDWARE_MODULE_NAME: ObjectIdentifier = id_pkix!(8, 4);

@@ -8,9 +8,9 @@ ghost use Rattle.x509_ext_name.specs.HardwareModuleName.{IsModuleIn, hardware_mo
 
 use crate::hardware_module_name::{HardwareModuleName, ID_ON_HARDWARE_MODULE_NAME};
 use std::alloc::Global;
+use x509_der::ObjectIdentifier;
 use x509_der_frames::{Any, PutPart, end, explicit, explicit_field, field};
 use x509_der_grammar::{Content, Error, Room, Tag, TryClone};
-use x509_der_oid::ObjectIdentifier;
 
 /// A name of a kind that an identifier tells (RFC 5280 4.2.1.6).
 ///

@@ -3,7 +3,7 @@
 use x509_der_frames::SequenceOf;
 use x509_der_grammar::{Decode, Encode, Error, ErrorKind, TryClone};
 use x509_ext_frame::{Extension, ToExtension};
-use x509_name_rdn::Name;
+use x509_name::name::Name;
 
 /// Whether the bytes are read, and a copy that equals the value is written as they were.
 pub(crate) fn stays<T: Decode + Encode + TryClone + PartialEq + Drop>(

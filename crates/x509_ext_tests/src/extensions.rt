@@ -3,14 +3,14 @@
 use crate::calls::{is_refused, made, makes, stays};
 use bitflags::Flags;
 use std::test::*;
+use x509_der::{AssociatedOid, ObjectIdentifier};
 use x509_der_grammar::{Decode, Encode, Error, ErrorKind};
-use x509_der_oid::{AssociatedOid, ObjectIdentifier};
-use x509_ext_frame::{Criticality, Extension, Extensions};
-use x509_ext_key::{
+use x509_ext::pkix::{
     BasicConstraints, ExtendedKeyUsage, ID_CE_SUBJECT_KEY_IDENTIFIER, KeyUsage, KeyUsages,
     PrivateKeyUsagePeriod, SubjectKeyIdentifier,
 };
-use x509_prim_string::OctetString;
+use x509_ext_frame::{Criticality, Extension, Extensions};
+use x509_prim::OctetString;
 
 /// An extension that isn't critical, and one that is.
 const PLAIN: &[u8] = &[

@@ -3,16 +3,16 @@
 use crate::calls::{holds, is_refused, replaced, stays};
 use bitflags::Flags;
 use std::test::*;
-use x509_base_key::SubjectPublicKeyInfo;
+use x509_base::SubjectPublicKeyInfo;
 use x509_base_time::GeneralizedTime;
+use x509_der::ObjectIdentifier;
 use x509_der_frames::SequenceOf;
 use x509_der_grammar::{Decode, Error, ErrorKind, TryClone};
-use x509_der_oid::ObjectIdentifier;
-use x509_ext_key::{
+use x509_ext::pkix::{
     BasicConstraints, ExtendedKeyUsage, KeyUsage, KeyUsages, PrivateKeyUsagePeriod,
     SubjectKeyIdentifier,
 };
-use x509_prim_string::OctetString;
+use x509_prim::OctetString;
 
 #[test]
 fn constraints(rt: HostRuntime) -> Result<(), Fail> {

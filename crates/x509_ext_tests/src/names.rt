@@ -2,15 +2,15 @@
 
 use crate::calls::{is_refused, is_written, stays};
 use std::test::*;
+use x509_der::ObjectIdentifier;
 use x509_der_grammar::{Decode, Error, ErrorKind};
-use x509_der_oid::ObjectIdentifier;
 use x509_ext_name::{
     DistributionPointName, EdiPartyName, GeneralName, GeneralNames, HardwareModuleName,
     ID_ON_HARDWARE_MODULE_NAME, IpAddress, OtherName,
 };
-use x509_name_directory::DirectoryString;
-use x509_name_rdn::Name;
-use x509_prim_string::OctetString;
+use x509_name::name::Name;
+use x509_name_attribute::DirectoryString;
+use x509_prim::OctetString;
 use x509_prim_text::Utf8String;
 
 /// A name of each kind, in the order of their tags; each is a case of its own.

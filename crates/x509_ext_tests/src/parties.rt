@@ -2,18 +2,18 @@
 
 use crate::calls::{holds, is_list_of_one, is_refused, is_written, made, replaced, stays};
 use std::test::*;
-use x509_base_key::SubjectPublicKeyInfo;
+use x509_base::SubjectPublicKeyInfo;
+use x509_der::{AssociatedOid, ObjectIdentifier};
 use x509_der_grammar::{Decode, Error, ErrorKind, TryClone};
-use x509_der_oid::{AssociatedOid, ObjectIdentifier};
-use x509_ext_frame::ToExtension;
-use x509_ext_name::{GeneralName, GeneralNames, IpAddress};
-use x509_ext_party::{
+use x509_ext::pkix::{
     AccessDescription, AuthorityInfoAccessSyntax, AuthorityKeyIdentifier, ID_CE_ISSUER_ALT_NAME,
     ID_CE_SUBJECT_ALT_NAME, ID_CE_SUBJECT_DIRECTORY_ATTRIBUTES, IssuerAltName, SubjectAltName,
     SubjectDirectoryAttributes, SubjectInfoAccessSyntax,
 };
+use x509_ext_frame::ToExtension;
+use x509_ext_name::{GeneralName, GeneralNames, IpAddress};
+use x509_name::name::Name;
 use x509_name_attribute::Attribute;
-use x509_name_rdn::Name;
 
 /// Whether the extension that is made under the subject is critical.
 fn is_critical_under<T: ToExtension>(

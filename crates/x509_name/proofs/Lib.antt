@@ -1,0 +1,3 @@
+pub mod NameTexts
+pub mod NameReading
+pub mod NameWriting

@@ -1,15 +1,70 @@
 //! What holds of all attributes, names and their texts. Each law is a function whose contract is the law.
 
-pub use x509_name_attribute::laws::equality_is_exact;
-pub use x509_name_directory::laws::{
-    bytes_determine_the_directory_string, equal_directory_strings_are_one_value,
-};
-pub use x509_name_rdn::laws::{
-    a_text_is_refused_in_one_way, a_text_reads_as_one_name, attributes_make_the_rdn,
-    bytes_determine_the_name, equal_names_are_one_value, no_two_names_print_alike,
-    printed_names_read_back,
-};
-pub use x509_name_text::laws::{
-    attribute_again, one_attribute, one_attribute_refusal, one_attribute_text, one_cut,
+ghost use Rattle.std.specs.List.Sorted.{IsStrictlySortedBy, IsPermutation};
+ghost use Rattle.std.specs.Prelude.{◌≡◌, ◌↔◌, List, ℕ, true};
+ghost use Rattle.x509_der_element.specs.declared.error.ErrorKind.{ErrorKind};
+ghost use Rattle.x509_der_grammar.specs.Form.{Spells};
+ghost use Rattle.x509_name.specs.NameText as texts;
+ghost use Rattle.x509_name.specs.Names.{name};
+ghost use Rattle.x509_name_attribute.specs.TypeAndValue.{type_and_value_cmp};
+ghost use Rattle.x509_name_attribute.specs.declared.type_and_value.AttributeTypeAndValue.{AttributeTypeAndValue};
+
+use crate::name::{Name, RelativeDistinguishedName};
+use x509_der::laws::members_make_the_set;
+use x509_der_grammar::laws::one_value;
+use x509_name_attribute::AttributeTypeAndValue;
+pub use x509_name_attribute::laws::{
+    attribute_again, bytes_determine_the_directory_string, equal_directory_strings_are_one_value,
+    equality_is_exact, one_attribute, one_attribute_refusal, one_attribute_text, one_cut,
     one_reading, read_again,
 };
+
+/// The bytes of a name determine it.
+pub fn bytes_determine_the_name()
+    ensures { (v w : List (List AttributeTypeAndValue)) (b : List ℕ) → Spells name v b → Spells name w b → v ≡ w }
+{
+    one_value::<Name>();
+}
+
+/// Relative distinguished names of the same attributes are equal, in whatever order these were put in.
+pub fn attributes_make_the_rdn()
+    ensures { (a b : List AttributeTypeAndValue) → IsStrictlySortedBy type_and_value_cmp a → IsStrictlySortedBy type_and_value_cmp b → IsPermutation a b → a ≡ b }
+{
+    members_make_the_set::<AttributeTypeAndValue>();
+}
+
+/// `==` holds exactly where contracts see one list.
+#[tactic(auto, using(crate::specs::Names::rdn_decides, crate::specs::Names::rdn_sequence_decides))]
+pub fn equal_names_are_one_value()
+    ensures rdns { (a b : List AttributeTypeAndValue) → (⟦<RelativeDistinguishedName as PartialEq>⟧.eq a b ≡ true) ↔ (a ≡ b) }
+    ensures names { (a b : List (List AttributeTypeAndValue)) → (⟦<Name as PartialEq>⟧.eq a b ≡ true) ↔ (a ≡ b) }
+{}
+
+/// What is printed of a name reads as that name: of each name without an empty relative distinguished name, whose attributes
+/// that are printed by name have the tag of their type. So does what is printed of one relative distinguished name.
+#[tactic(auto, using(crate::proofs::NameTexts::rdn_again, crate::proofs::NameTexts::name_again))]
+pub fn printed_names_read_back()
+    ensures rdns { (rdn : List AttributeTypeAndValue) → texts.RdnReadsBack rdn → texts.RdnReads (texts.rdn_text rdn) rdn }
+    ensures names { (name : List (List AttributeTypeAndValue)) → texts.NameReadsBack name → texts.NameReads (texts.name_text name) name }
+{}
+
+/// A text reads as at most one name, and as at most one relative distinguished name.
+pub fn a_text_reads_as_one_name()
+    ensures rdns { (text : List ℕ) (rdn other : List AttributeTypeAndValue) → texts.RdnReads text rdn → texts.RdnReads text other → rdn ≡ other }
+    ensures names { (text : List ℕ) (name other : List (List AttributeTypeAndValue)) → texts.NameReads text name → texts.NameReads text other → name ≡ other }
+{}
+
+/// No two names that read back print alike, and no two relative distinguished names.
+#[tactic(auto, using(crate::proofs::NameTexts::rdns_apart, crate::proofs::NameTexts::names_apart))]
+pub fn no_two_names_print_alike()
+    ensures rdns { (rdn other : List AttributeTypeAndValue) → texts.RdnReadsBack rdn → texts.RdnReadsBack other → texts.rdn_text rdn ≡ texts.rdn_text other → rdn ≡ other }
+    ensures names { (name other : List (List AttributeTypeAndValue)) → texts.NameReadsBack name → texts.NameReadsBack other → texts.name_text name ≡ texts.name_text other → name ≡ other }
+{}
+
+/// A text that reads is refused by nothing, and a text is refused in at most one way.
+pub fn a_text_is_refused_in_one_way()
+    ensures rdns { (text : List ℕ) (rdn : List AttributeTypeAndValue) (kind : ErrorKind) → texts.RdnReads text rdn → texts.RdnRefused text kind → ⊥ }
+    ensures rdns_once { (text : List ℕ) (kind other : ErrorKind) → texts.RdnRefused text kind → texts.RdnRefused text other → kind ≡ other }
+    ensures names { (text : List ℕ) (name : List (List AttributeTypeAndValue)) (kind : ErrorKind) → texts.NameReads text name → texts.NameRefused text kind → ⊥ }
+    ensures names_once { (text : List ℕ) (kind other : ErrorKind) → texts.NameRefused text kind → texts.NameRefused text other → kind ≡ other }
+{}

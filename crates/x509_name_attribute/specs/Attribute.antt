@@ -8,16 +8,16 @@ use Rattle.x509_der_element.specs.declared.tag.Tag.TheVariants.{Sequence, Set}
 use Rattle.x509_der_grammar.specs.Form.{Form, IsForm, Contents, IsContents, universal, spelling}
 use Rattle.x509_der_grammar.specs.FormLaws.{universal_lawful}
 use Rattle.x509_der_grammar.specs.Writing.{plain, writes}
-use Rattle.x509_der_set.specs.Order.{HasEncoding, Order, IsOrder, IsDerOrder, der_order}
-use Rattle.x509_der_set.specs.Ordered.{by_bytes, by_members, der_lawful}
-use Rattle.x509_name_text.specs.ObjectIdentifierForm.{object_identifier, object_identifier_lawful, object_identifier_ordered}
+use Rattle.x509_der.specs.Order.{HasEncoding, Order, IsOrder, IsDerOrder, der_order}
+use Rattle.x509_der.specs.Ordered.{by_bytes, by_members, der_lawful}
+use Rattle.x509_name_attribute.specs.ObjectIdentifierForm.{object_identifier, object_identifier_lawful, object_identifier_ordered}
 use Rattle.x509_der_frames.specs.Any.{any, any_lawful, any_ordered}
 use Rattle.x509_der_frames.specs.Frames.{Part, required, ◌⊗◌, fields}
 use Rattle.x509_der_frames.specs.PartRules.{part_rules}
 use Rattle.x509_der_frames.specs.FieldsOrder.{by_two, two_ordered}
 use Rattle.x509_der_frames.specs.declared.any.Any.{Any}
-use Rattle.x509_der_set.specs.Set.{set_of}
-use Rattle.x509_der_set.specs.SetLaws.{set_lawful, set_ordered}
+use Rattle.x509_der.specs.Set.{set_of}
+use Rattle.x509_der.specs.SetLaws.{set_lawful, set_ordered}
 use Rattle.x509_name_attribute.specs.Equality.{order_equivalence, order_decides}
 use Rattle.x509_name_attribute.specs.declared.attribute.Attribute.{Attribute}
 

@@ -1,8 +1,8 @@
 -- The text of an AttributeTypeAndValue (RFC 4514 sections 2.3, 2.4 and 3).
 use Rattle.std.specs.Prelude.{ℕ, List}
 use Rattle.x509_der_element.specs.declared.error.ErrorKind.{ErrorKind}
-use Rattle.x509_name_text.specs.Attributes.{AttributeReads, AttributeRefused, attribute_text}
-use Rattle.x509_name_text.specs.Encodings.{SaysEncoding, EncodingRefused}
+use Rattle.x509_name_attribute.specs.Attributes.{AttributeReads, AttributeRefused, attribute_text}
+use Rattle.x509_name_attribute.specs.Encodings.{SaysEncoding, EncodingRefused}
 use Rattle.x509_name_attribute.specs.TypeAndValue.{attribute_type_and_value}
 use Rattle.x509_name_attribute.specs.declared.type_and_value.AttributeTypeAndValue.{AttributeTypeAndValue}
 

@@ -7,9 +7,9 @@ use Rattle.x509_der_element.specs.declared.error.ErrorKind.{ErrorKind}
 use Rattle.x509_der_element.specs.declared.tag.Tag.TheVariants.{Sequence}
 use Rattle.x509_der_grammar.specs.Form.{Form, Contents, IsContents, universal, spelling}
 use Rattle.x509_der_grammar.specs.Writing.{plain, writes}
-use Rattle.x509_der_set.specs.Order.{HasEncoding, Order, IsOrder, IsDerOrder, der_order}
-use Rattle.x509_der_set.specs.Ordered.{by_bytes, der_lawful}
-use Rattle.x509_name_text.specs.ObjectIdentifierForm.{object_identifier, object_identifier_lawful, object_identifier_ordered}
+use Rattle.x509_der.specs.Order.{HasEncoding, Order, IsOrder, IsDerOrder, der_order}
+use Rattle.x509_der.specs.Ordered.{by_bytes, der_lawful}
+use Rattle.x509_name_attribute.specs.ObjectIdentifierForm.{object_identifier, object_identifier_lawful, object_identifier_ordered}
 use Rattle.x509_der_frames.specs.Any.{any, any_lawful, any_ordered}
 use Rattle.x509_der_frames.specs.Frames.{Part, required, ◌⊗◌, fields}
 use Rattle.x509_der_frames.specs.PartRules.{part_rules}

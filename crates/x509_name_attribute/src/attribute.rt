@@ -3,9 +3,9 @@
 use crate::type_and_value::{AttributeType, AttributeValue};
 use std::alloc::Global;
 use std::cmp::Ordering;
+use x509_der::{DerOrd, SetMember, SetOfVec, SetOrd, ValueOrd};
 use x509_der_frames::{PutPart, end, field};
 use x509_der_grammar::{Content, Error, Room, Tag, TryClone};
-use x509_der_set::{DerOrd, SetMember, SetOfVec, SetOrd, ValueOrd};
 
 /// The type of an attribute, with its values (RFC 2986 4.1). A set without values is read and written too.
 ///

@@ -3,16 +3,16 @@
 ghost use Rattle.std.specs.Prelude.{◌≡◌, ◌⊎◌, IfOk, IfErr};
 ghost use Rattle.x509_der_element.specs.declared.error.ErrorKind.TheVariants.{Memory};
 ghost use Rattle.x509_name_attribute.specs.Text as text_form;
-ghost use Rattle.x509_name_text.specs.Attributes.{AttributeRefused};
+ghost use Rattle.x509_name_attribute.specs.Attributes.{AttributeRefused};
 
+use crate::{ObjectIdentifier, read_attribute, write_attribute};
 use std::alloc::Global;
 use std::cmp::Ordering;
 use std::fmt;
 use std::hash::{Hash, Hasher};
+use x509_der::{DerOrd, SetMember, SetOrd, ValueOrd};
 use x509_der_frames::{Any, PutPart, end, field};
 use x509_der_grammar::{Content, Encode, Error, Room, Tag, TryClone};
-use x509_der_set::{DerOrd, SetMember, SetOrd, ValueOrd};
-use x509_name_text::{ObjectIdentifier, read_attribute, write_attribute};
 
 /// The type of an attribute (RFC 5280 4.1.2.4).
 pub type AttributeType = ObjectIdentifier;

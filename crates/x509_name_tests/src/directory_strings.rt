@@ -4,7 +4,7 @@ use crate::calls::{is_refused, stays};
 use std::test::*;
 use x509_der_frames::Any;
 use x509_der_grammar::{Decode, Error, ErrorKind, Grammar, Tag};
-use x509_name_directory::{DirectoryString, TextRef, laws};
+use x509_name_attribute::{DirectoryString, TextRef, laws};
 use x509_prim_text::{BmpString, PrintableString, TeletexString, Utf8String};
 
 /// Each case, with its text.

@@ -4,10 +4,9 @@ use crate::calls::is_refused;
 use crate::names::NAME;
 use std::test::*;
 use x509_der_grammar::{Decode, Error, ErrorKind};
-use x509_name_attribute::AttributeTypeAndValue;
-use x509_name_directory::DirectoryString;
-use x509_name_rdn::attribute_types::{ORGANIZATION_NAME, ORGANIZATIONAL_UNIT_NAME};
-use x509_name_rdn::{Name, RelativeDistinguishedName};
+use x509_name::name::attribute_types::{ORGANIZATION_NAME, ORGANIZATIONAL_UNIT_NAME};
+use x509_name::name::{Name, RelativeDistinguishedName};
+use x509_name_attribute::{AttributeTypeAndValue, DirectoryString};
 use x509_prim_text::{Ia5StringRef, PrintableStringRef, TeletexStringRef, Utf8StringRef};
 
 /// ST=Ohio, L=Rome, OU=CA, OU=XY and the email address a@b.c.

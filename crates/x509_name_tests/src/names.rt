@@ -3,12 +3,12 @@
 use crate::calls::{hash_of, is_refused, stays};
 use crate::look_ups::is_value;
 use std::test::*;
+use x509_der::{ObjectIdentifier, SetOfVec};
 use x509_der_grammar::{Decode, Encode, Error, ErrorKind, FixedTag, Grammar, Tag, TryClone};
-use x509_der_oid::ObjectIdentifier;
 use x509_der_order::{DerOrd, ValueOrd};
-use x509_der_set::SetOfVec;
+use x509_name::laws;
+use x509_name::name::{DistinguishedName, Name, RdnSequence, RelativeDistinguishedName};
 use x509_name_attribute::{AttributeTypeAndValue, AttributeValue};
-use x509_name_rdn::{DistinguishedName, Name, RdnSequence, RelativeDistinguishedName, laws};
 
 /// The organization 123 and the common name JOHN SMITH, in this order since the first is shorter.
 const BOTH: &[u8] =

@@ -5,8 +5,8 @@ use crate::calls::is_refused;
 use std::fmt::Display;
 use std::test::*;
 use x509_der_grammar::{Error, ErrorKind};
+use x509_name::name::{Name, RdnSequence, RelativeDistinguishedName};
 use x509_name_attribute::AttributeTypeAndValue;
-use x509_name_rdn::{Name, RdnSequence, RelativeDistinguishedName};
 
 /// A text that prints back, and the encoding of its name.
 struct Row {

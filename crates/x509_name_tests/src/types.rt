@@ -3,8 +3,8 @@
 
 use crate::texts::{prints, prints_back};
 use std::test::*;
+use x509_der::ObjectIdentifier;
 use x509_der_grammar::{Error, Tag};
-use x509_der_oid::ObjectIdentifier;
 use x509_name_attribute::AttributeTypeAndValue;
 
 /// Of each type with a name: a text with the name that is printed, one with the name in full, the identifier, and the tag of a value
@@ -85,9 +85,9 @@ fn is_of(rt: &HostRuntime, text: &str, oid: &str, tag: Tag, printed: &str) -> Re
 
 #[test]
 fn names_of_types(rt: HostRuntime) -> Result<(), Fail> {
-    for (printed, in_full, oid, tag) in TYPES {
-        assert!(rt; is_of(&rt, printed, oid, tag, printed)?);
-        assert!(rt; is_of(&rt, in_full, oid, tag, printed)?);
+    for (printed, in_full, oid, tag) in &TYPES {
+        assert!(rt; is_of(&rt, printed, oid, *tag, printed)?);
+        assert!(rt; is_of(&rt, in_full, oid, *tag, printed)?);
     }
     Ok(())
 }

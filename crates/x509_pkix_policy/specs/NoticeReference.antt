@@ -7,8 +7,8 @@ use Rattle.x509_der_grammar.specs.FormLaws.{universal_lawful}
 use Rattle.x509_der_frames.specs.Frames.{Part, required, optional, ◌⊗◌, fields}
 use Rattle.x509_der_frames.specs.List.{list_of}
 use Rattle.x509_der_frames.specs.PartRules.{part_rules}
-use Rattle.x509_prim_integer.specs.Integer.{unsigned_integer}
-use Rattle.x509_prim_integer.specs.IntegerLaws.{unsigned_integer_lawful}
+use Rattle.x509_prim.specs.Integer.{unsigned_integer}
+use Rattle.x509_prim.specs.IntegerLaws.{unsigned_integer_lawful}
 use Rattle.x509_pkix_policy.specs.DisplayText.{display_text, display_text_lawful}
 use Rattle.x509_pkix_policy.specs.declared.display_text.DisplayText.{DisplayText}
 use Rattle.x509_pkix_policy.specs.declared.user_notice.NoticeReference.{NoticeReference}

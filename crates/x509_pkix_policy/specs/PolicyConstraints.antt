@@ -1,9 +1,7 @@
 -- PolicyConstraints: require_explicit_policy: [0]u32?, inhibit_policy_mapping: [1]u32? (RFC 5280 4.2.1.11)
 use Rattle.std.specs.Prelude.{ℕ, ◌^◌, Option}
 use Rattle.x509_der_element.specs.declared.error.ErrorKind.{ErrorKind}
-use Rattle.x509_der_element.specs.declared.tag.Tag.TheVariants.{Sequence}
-use Rattle.x509_der_grammar.specs.Form.{Form, IsForm, Contents, IsContents, universal}
-use Rattle.x509_der_grammar.specs.FormLaws.{universal_lawful}
+use Rattle.x509_der_grammar.specs.Form.{Contents, IsContents}
 use Rattle.x509_der_grammar.specs.Natural.{natural}
 use Rattle.x509_der_frames.specs.Frames.{Part, implicit, optional, ◌⊗◌, fields}
 use Rattle.x509_der_frames.specs.PartRules.{part_rules}
@@ -15,12 +13,6 @@ policy_constraints_fields = optional (implicit 0 2 (natural (2 ^ 32))) ⊗ optio
 abbrev pub policy_constraints_contents : Contents PolicyConstraints
 policy_constraints_contents = fields (λ c. (c.require_explicit_policy, c.inhibit_policy_mapping)) (λ (require_explicit_policy, inhibit_policy_mapping). record { require_explicit_policy = require_explicit_policy; inhibit_policy_mapping = inhibit_policy_mapping }) policy_constraints_fields
 
-abbrev pub policy_constraints : Form PolicyConstraints
-policy_constraints = universal Sequence policy_constraints_contents
-
 pub policy_constraints_contents_lawful : {R : ErrorKind → Type 0} → IsContents R policy_constraints_contents
 unfolding policy_constraints_fields
 policy_constraints_contents_lawful = search (part_rules) depth 20
-
-pub policy_constraints_lawful : {R : ErrorKind → Type 0} → IsForm R policy_constraints
-policy_constraints_lawful = universal_lawful Sequence policy_constraints_contents policy_constraints_contents_lawful

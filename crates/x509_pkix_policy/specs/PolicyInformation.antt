@@ -7,7 +7,7 @@ use Rattle.x509_der_grammar.specs.FormLaws.{universal_lawful}
 use Rattle.x509_der_frames.specs.Frames.{Part, required, optional, ◌⊗◌, fields}
 use Rattle.x509_der_frames.specs.List.{list_of}
 use Rattle.x509_der_frames.specs.PartRules.{part_rules}
-use Rattle.x509_der_oid.specs.ObjectIdentifierForm.{object_identifier, object_identifier_lawful}
+use Rattle.x509_der.specs.ObjectIdentifierForm.{object_identifier, object_identifier_lawful}
 use Rattle.x509_pkix_policy.specs.PolicyQualifierInfo.{policy_qualifier_info, policy_qualifier_info_lawful}
 use Rattle.x509_pkix_policy.specs.declared.policy_information.PolicyQualifierInfo.{PolicyQualifierInfo}
 use Rattle.x509_pkix_policy.specs.declared.policy_information.PolicyInformation.{PolicyInformation}

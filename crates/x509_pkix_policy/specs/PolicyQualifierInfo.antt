@@ -8,7 +8,7 @@ use Rattle.x509_der_frames.specs.Any.{any, any_lawful}
 use Rattle.x509_der_frames.specs.declared.any.Any.{Any}
 use Rattle.x509_der_frames.specs.Frames.{Part, required, optional, ◌⊗◌, fields}
 use Rattle.x509_der_frames.specs.PartRules.{part_rules}
-use Rattle.x509_der_oid.specs.ObjectIdentifierForm.{object_identifier, object_identifier_lawful}
+use Rattle.x509_der.specs.ObjectIdentifierForm.{object_identifier, object_identifier_lawful}
 use Rattle.x509_pkix_policy.specs.declared.policy_information.PolicyQualifierInfo.{PolicyQualifierInfo}
 
 unfoldable pub policy_qualifier_info_fields : Part (List ℕ × Option Any)

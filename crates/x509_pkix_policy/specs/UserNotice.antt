@@ -1,9 +1,7 @@
 -- UserNotice: notice_ref: NoticeReference?, explicit_text: DisplayText? (RFC 5280 4.2.1.4)
 use Rattle.std.specs.Prelude.{Option}
 use Rattle.x509_der_element.specs.declared.error.ErrorKind.{ErrorKind}
-use Rattle.x509_der_element.specs.declared.tag.Tag.TheVariants.{Sequence}
-use Rattle.x509_der_grammar.specs.Form.{Form, IsForm, Contents, IsContents, universal}
-use Rattle.x509_der_grammar.specs.FormLaws.{universal_lawful}
+use Rattle.x509_der_grammar.specs.Form.{Contents, IsContents}
 use Rattle.x509_der_frames.specs.Frames.{Part, optional, ◌⊗◌, fields}
 use Rattle.x509_der_frames.specs.PartRules.{part_rules}
 use Rattle.x509_pkix_policy.specs.DisplayText.{display_text, display_text_lawful}
@@ -18,12 +16,6 @@ user_notice_fields = optional notice_reference ⊗ optional display_text
 abbrev pub user_notice_contents : Contents UserNotice
 user_notice_contents = fields (λ n. (n.notice_ref, n.explicit_text)) (λ (notice_ref, explicit_text). record { notice_ref = notice_ref; explicit_text = explicit_text }) user_notice_fields
 
-abbrev pub user_notice : Form UserNotice
-user_notice = universal Sequence user_notice_contents
-
 pub user_notice_contents_lawful : {R : ErrorKind → Type 0} → IsContents R user_notice_contents
 unfolding user_notice_fields
 user_notice_contents_lawful = search (part_rules, notice_reference_lawful, display_text_lawful) depth 20
-
-pub user_notice_lawful : {R : ErrorKind → Type 0} → IsForm R user_notice
-user_notice_lawful = universal_lawful Sequence user_notice_contents user_notice_contents_lawful

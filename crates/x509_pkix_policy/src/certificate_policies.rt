@@ -1,9 +1,9 @@
 //! The policies of a certificate.
 
 use crate::policy_information::PolicyInformation;
+use x509_der::{AssociatedOid, ObjectIdentifier};
 use x509_der_frames::SequenceOf;
 use x509_der_grammar::Newtype;
-use x509_der_oid::{AssociatedOid, ObjectIdentifier};
 use x509_ext_frame::{Criticality, Extension, Name, id_ce};
 
 /// The policies under which the certificate was issued and for which it may be used (RFC 5280 4.2.1.4). Its identifier is

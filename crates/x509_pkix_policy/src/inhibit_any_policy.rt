@@ -1,7 +1,7 @@
 //! Where the policy that stands for all isn't taken any more.
 
+use x509_der::{AssociatedOid, ObjectIdentifier};
 use x509_der_grammar::Newtype;
-use x509_der_oid::{AssociatedOid, ObjectIdentifier};
 use x509_der_order::NewtypeOrd;
 use x509_ext_frame::{Criticality, Extension, Name, id_ce};
 

@@ -1,9 +1,9 @@
 //! What is asked of policies further down.
 
 use std::alloc::Global;
+use x509_der::{AssociatedOid, ObjectIdentifier};
 use x509_der_frames::{PutPart, end, implicit_optional, optional_implicit};
 use x509_der_grammar::{Content, Error, Room, Tag, TryClone};
-use x509_der_oid::{AssociatedOid, ObjectIdentifier};
 use x509_ext_frame::{Criticality, Extension, Name, id_ce};
 
 /// After how many further certificates of a path policies have to be acceptable, or mappings aren't followed any more

@@ -1,9 +1,9 @@
 //! Policies with what qualifies them.
 
 use std::alloc::Global;
+use x509_der::ObjectIdentifier;
 use x509_der_frames::{Any, PutPart, SequenceOf, end, field, optional, optional_field};
 use x509_der_grammar::{Content, Error, Room, Tag, TryClone};
-use x509_der_oid::ObjectIdentifier;
 
 /// A policy, and perhaps what qualifies it (RFC 5280 4.2.1.4).
 ///

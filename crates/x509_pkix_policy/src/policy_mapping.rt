@@ -1,9 +1,9 @@
 //! Policies that stand for others.
 
 use std::alloc::Global;
+use x509_der::{AssociatedOid, ObjectIdentifier};
 use x509_der_frames::{PutPart, SequenceOf, end, field};
 use x509_der_grammar::{Content, Error, Newtype, Room, Tag, TryClone};
-use x509_der_oid::{AssociatedOid, ObjectIdentifier};
 use x509_ext_frame::{Criticality, Extension, Name, id_ce};
 
 /// A policy of the issuer, and one of the subject that the issuer takes for it (RFC 5280 4.2.1.5).

@@ -4,7 +4,7 @@ use crate::display_text::DisplayText;
 use std::alloc::Global;
 use x509_der_frames::{PutPart, SequenceOf, end, field, optional, optional_field};
 use x509_der_grammar::{Content, Error, Room, Tag, TryClone};
-use x509_prim_integer::Uint;
+use x509_prim::Uint;
 
 /// A notice to whoever relies on the certificate (RFC 5280 4.2.1.4).
 ///

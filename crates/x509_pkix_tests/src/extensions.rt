@@ -1,13 +1,14 @@
 //! The identifiers and the criticality of the extensions.
 
 use std::test::*;
+use x509_der::{AssociatedOid, ObjectIdentifier};
 use x509_der_grammar::{Decode, Encode, Error};
-use x509_der_oid::{AssociatedOid, ObjectIdentifier};
 use x509_ext_frame::{Criticality, ToExtension};
-use x509_name_rdn::Name;
-use x509_pkix_constraints::NameConstraints;
-use x509_pkix_crl::{BaseCrlNumber, CrlNumber, CrlReason};
-use x509_pkix_distribution::{CrlDistributionPoints, FreshestCrl, IssuingDistributionPoint};
+use x509_name::name::Name;
+use x509_pkix::{
+    BaseCrlNumber, CrlDistributionPoints, CrlNumber, CrlReason, FreshestCrl,
+    IssuingDistributionPoint, NameConstraints,
+};
 use x509_pkix_policy::{
     CertificatePolicies, ID_CE_INHIBIT_ANY_POLICY, InhibitAnyPolicy, PolicyConstraints,
     PolicyMappings,

@@ -4,10 +4,9 @@ use crate::calls::{is_malformed, is_round, stays};
 use std::test::*;
 use x509_der_frames::SequenceOf;
 use x509_der_grammar::Decode;
-use x509_pkix_constraints::{GeneralSubtree, NameConstraints};
-use x509_pkix_crl::Reasons;
-use x509_pkix_distribution::{
-    CrlDistributionPoints, DistributionPoint, FreshestCrl, IssuingDistributionPoint,
+use x509_pkix::{
+    CrlDistributionPoints, DistributionPoint, FreshestCrl, GeneralSubtree,
+    IssuingDistributionPoint, NameConstraints, Reasons,
 };
 
 /// A tree below a domain; then with an end, and with a beginning that is written out.

@@ -2,14 +2,14 @@
 
 use crate::calls::{is_malformed, is_round, stays};
 use std::test::*;
+use x509_der::ObjectIdentifier;
 use x509_der_frames::SequenceOf;
 use x509_der_grammar::{Decode, Error};
-use x509_der_oid::ObjectIdentifier;
 use x509_pkix_policy::{
     CertificatePolicies, CpsUri, DisplayText, InhibitAnyPolicy, PolicyConstraints,
     PolicyInformation, PolicyMapping, PolicyMappings, UserNotice,
 };
-use x509_prim_integer::Uint;
+use x509_prim::Uint;
 
 /// The notice of number 1 of the organization `O`.
 const NOTICE: &[u8] = &[

@@ -6,8 +6,8 @@ use std::cmp::Ordering;
 use std::test::*;
 use x509_der_grammar::{Decode, Encode, Error, ErrorKind};
 use x509_der_order::DerOrd;
-use x509_pkix_crl::{BaseCrlNumber, CrlNumber, CrlReason, ReasonFlags, Reasons};
-use x509_prim_integer::Uint;
+use x509_pkix::{BaseCrlNumber, CrlNumber, CrlReason, ReasonFlags, Reasons};
+use x509_prim::Uint;
 
 #[test]
 fn numbers(rt: HostRuntime) -> Result<(), Fail> {

@@ -9,7 +9,7 @@ use std::cmp::Ordering;
 use std::test::*;
 use x509_der_grammar::{Content, Decode, Encode, Error, ErrorKind, Room, Tag};
 use x509_der_order::{DerOrd, ValueOrd};
-use x509_prim_flags::{cmp_named_bits, put_named_bits, read_named_bits};
+use x509_prim::{cmp_named_bits, put_named_bits, read_named_bits};
 
 /// Three named bits.
 #[derive(Clone, Copy, PartialEq, Eq, Debug)]
@@ -59,11 +59,11 @@ impl NamedSet for Trio {
     ghost round = { record { to = λ trio. trio.0; from = λ set. record { 0 = set }; back = λ trio. refl; there = λ set. refl } };
 }
 
-#[tactic(auto, using(x509_prim_flags::specs::NamedBitsLaws::flag_is_read))]
+#[tactic(auto, using(x509_prim::specs::NamedBitsLaws::flag_is_read))]
 impl Content for Trio {
     ghost use Rattle.x509_der_element.specs.declared.tag.Tag.TheVariants.{BitString};
-    ghost use Rattle.x509_prim_flags.specs.NamedBits.{flag_contents, flag_writing};
-    ghost use Rattle.x509_prim_flags.specs.NamedBitsLaws.{flag_contents_lawful};
+    ghost use Rattle.x509_prim.specs.NamedBits.{flag_contents, flag_writing};
+    ghost use Rattle.x509_prim.specs.NamedBitsLaws.{flag_contents_lawful};
 
     ghost contents = { flag_contents ⟦<Trio as NamedSet>⟧.round ⟦<Trio as Flags>⟧.table };
 
@@ -88,8 +88,8 @@ impl Content for Trio {
 
 impl ValueOrd for Trio {
     ghost use Rattle.x509_der_grammar.specs.Writing.{writes};
-    ghost use Rattle.x509_prim_flags.specs.NamedBits.{flag_writing};
-    ghost use Rattle.x509_prim_flags.specs.SetOrder.{flag_order, flag_ordered};
+    ghost use Rattle.x509_prim.specs.NamedBits.{flag_writing};
+    ghost use Rattle.x509_prim.specs.SetOrder.{flag_order, flag_ordered};
 
     ghost order = { flag_order ⟦<Trio as NamedSet>⟧.round ⟦<Trio as Flags>⟧.table };
 

@@ -4,7 +4,7 @@ use crate::calls::{compared, is_refused, shows, stays};
 use std::cmp::Ordering;
 use std::test::*;
 use x509_der_grammar::{Error, ErrorKind};
-use x509_prim_integer::{Int, Uint};
+use x509_prim::{Int, Uint};
 
 /// Whether the octets are the content of a number, which shows them so.
 fn is_int(rt: &HostRuntime, octets: &[u8], text: &str) -> Result<bool, Fail> {

@@ -6,7 +6,7 @@ use std::cmp::Ordering;
 use std::test::*;
 use x509_der_grammar::{Content, Decode, Encode, Error, ErrorKind, Room, Tag};
 use x509_der_order::ValueOrd;
-use x509_prim_named::{NamedNumber, cmp_named_numbers, put_named_number, read_named_number};
+use x509_prim::{NamedNumber, cmp_named_numbers, put_named_number, read_named_number};
 
 /// Two numbers with names.
 #[derive(Clone, Copy, PartialEq, Eq, Debug)]
@@ -30,7 +30,7 @@ impl Numbered for Level {
 
 impl NamedNumber for Level {
     ghost use Rattle.std.specs.Prelude.{◌≡◌, [], ◌∷◌, Some, refl};
-    ghost use Rattle.x509_prim_named.specs.Names.{with_number};
+    ghost use Rattle.x509_prim.specs.Names.{with_number};
     ghost use Rattle.x509_prim_tests.specs.declared.named.Level.TheVariants.{Low, High};
 
     ghost names = { record {
@@ -55,8 +55,8 @@ impl NamedNumber for Level {
 
 impl Content for Level {
     ghost use Rattle.x509_der_element.specs.declared.tag.Tag.TheVariants.{Enumerated};
-    ghost use Rattle.x509_prim_named.specs.Names.{named_contents};
-    ghost use Rattle.x509_prim_named.specs.NamesLaws.{named_contents_lawful};
+    ghost use Rattle.x509_prim.specs.Names.{named_contents};
+    ghost use Rattle.x509_prim.specs.NamesLaws.{named_contents_lawful};
 
     ghost contents = { named_contents ⟦<Level as NamedNumber>⟧.names };
 
@@ -80,7 +80,7 @@ impl Content for Level {
 impl ValueOrd for Level {
     ghost use Rattle.x509_der_element.specs.declared.tag.Tag.TheVariants.{Enumerated};
     ghost use Rattle.x509_der_grammar.specs.Writing.{plain, writes};
-    ghost use Rattle.x509_prim_named.specs.NamesLaws.{named_order, named_ordered};
+    ghost use Rattle.x509_prim.specs.NamesLaws.{named_order, named_ordered};
 
     ghost order = { named_order Enumerated ⟦<Level as NamedNumber>⟧.names };
 

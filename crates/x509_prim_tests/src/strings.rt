@@ -4,7 +4,7 @@ use crate::calls::{compared, is_refused, shows, stays};
 use std::cmp::Ordering;
 use std::test::*;
 use x509_der_grammar::{Encode, Error, ErrorKind};
-use x509_prim_string::{BitString, OctetString};
+use x509_prim::{BitString, OctetString};
 
 /// Whether a string that was made has these bits.
 fn has_bits(string: &BitString, octets: &[u8], unused: u8) -> bool {

@@ -11,10 +11,10 @@ use Rattle.x509_der_grammar.specs.Writing.{Writing, with_field, in_option, IsSta
 use Rattle.x509_der_frames.specs.Frames.{implicit, Part, required, optional, defaulted, ◌⊗◌, fields, fields_good}
 use Rattle.x509_der_frames.specs.DefaultValues.{boolean_default}
 use Rattle.x509_der_frames.specs.PartRules.{part_rules}
-use Rattle.x509_der_oid.specs.ObjectIdentifierForm.{object_identifier, object_identifier_lawful}
-use Rattle.x509_prim_string.specs.OctetString.{octet_string, octet_string_lawful}
-use Rattle.x509_base_validity.specs.Validity.{validity, validity_lawful}
-use Rattle.x509_base_validity.specs.declared.validity.Validity.{Validity}
+use Rattle.x509_der.specs.ObjectIdentifierForm.{object_identifier, object_identifier_lawful}
+use Rattle.x509_prim.specs.OctetString.{octet_string, octet_string_lawful}
+use Rattle.x509_base_time.specs.Validity.{validity, validity_lawful}
+use Rattle.x509_base_time.specs.declared.validity.Validity.{Validity}
 use Rattle.x509_probe.specs.declared.dated.Dated.{Dated}
 use Rattle.x509_probe.specs.declared.dated.Enclosing.{Enclosing}
 

@@ -7,9 +7,9 @@ use Rattle.x509_der_grammar.specs.StableLaws.{plain_stable}
 use Rattle.x509_der_grammar.specs.Writing.{Writing, plain, writes, IsStable}
 use Rattle.x509_der_frames.specs.Choice.{either, either_lawful}
 use Rattle.x509_der_frames.specs.ChoiceWriting.{in_either, either_same_tag, either_stable}
-use Rattle.x509_der_oid.specs.ObjectIdentifierForm.{object_identifier, object_identifier_lawful}
-use Rattle.x509_base_validity.specs.Validity.{validity, validity_lawful}
-use Rattle.x509_base_validity.specs.declared.validity.Validity.{Validity}
+use Rattle.x509_der.specs.ObjectIdentifierForm.{object_identifier, object_identifier_lawful}
+use Rattle.x509_base_time.specs.Validity.{validity, validity_lawful}
+use Rattle.x509_base_time.specs.declared.validity.Validity.{Validity}
 use Rattle.x509_probe.specs.declared.moment.Moment.{Moment}
 use Rattle.x509_probe.specs.declared.moment.Moment.TheVariants.{Between, Named}
 

@@ -5,8 +5,8 @@ use Rattle.x509_der_grammar.specs.Form.{Form, IsForm}
 use Rattle.x509_der_grammar.specs.Natural.{natural}
 use Rattle.x509_der_grammar.specs.NaturalLaws.{u32_lawful}
 use Rattle.x509_der_frames.specs.Cases.{Cases, ◌∥◌, ◌holds◌, none, CaseOf, choice, choice_lawful}
-use Rattle.x509_der_oid.specs.ObjectIdentifierForm.{object_identifier, object_identifier_lawful}
-use Rattle.x509_prim_string.specs.OctetString.{octet_string, octet_string_lawful}
+use Rattle.x509_der.specs.ObjectIdentifierForm.{object_identifier, object_identifier_lawful}
+use Rattle.x509_prim.specs.OctetString.{octet_string, octet_string_lawful}
 use Rattle.x509_probe.specs.declared.number.Number.{Number}
 use Rattle.x509_probe.specs.declared.number.Number.TheVariants.{Value, Octets, Name}
 

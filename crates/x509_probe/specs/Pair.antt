@@ -11,7 +11,7 @@ use Rattle.x509_der_frames.specs.FieldsOrder.{by_two, two_ordered}
 use Rattle.x509_der_frames.specs.PartRules.{part_rules}
 use Rattle.x509_der_frames.specs.Any.{any, any_lawful, any_ordered}
 use Rattle.x509_der_frames.specs.declared.any.Any.{Any}
-use Rattle.x509_der_oid.specs.ObjectIdentifierForm.{object_identifier, object_identifier_lawful}
+use Rattle.x509_der.specs.ObjectIdentifierForm.{object_identifier, object_identifier_lawful}
 use Rattle.x509_probe.specs.declared.pair.Pair.{Pair}
 
 unfoldable pub pair_fields : Part (List ℕ × Any)

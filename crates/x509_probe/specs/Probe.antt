@@ -9,8 +9,8 @@ use Rattle.x509_der_grammar.specs.Natural.{natural}
 use Rattle.x509_der_frames.specs.Frames.{implicit, explicit, Part, required, optional, defaulted, ◌⊗◌, fields}
 use Rattle.x509_der_frames.specs.DefaultValues.{zero_default, boolean_default}
 use Rattle.x509_der_frames.specs.PartRules.{part_rules}
-use Rattle.x509_der_oid.specs.ObjectIdentifierForm.{object_identifier, object_identifier_lawful}
-use Rattle.x509_prim_string.specs.OctetString.{octet_string, octet_string_lawful}
+use Rattle.x509_der.specs.ObjectIdentifierForm.{object_identifier, object_identifier_lawful}
+use Rattle.x509_prim.specs.OctetString.{octet_string, octet_string_lawful}
 use Rattle.x509_probe.specs.declared.probe.Probe.{Probe}
 
 unfoldable pub probe_fields : Part (ℕ × (Option (List ℕ) × (Bool × List ℕ)))

@@ -9,10 +9,10 @@ use Rattle.x509_der_frames.specs.Frames.{implicit, explicit, Part, required, opt
 use Rattle.x509_der_frames.specs.PartRules.{part_rules}
 use Rattle.x509_der_frames.specs.DefaultValues.{zero_default}
 use Rattle.x509_der_frames.specs.List.{list_of}
-use Rattle.x509_der_oid.specs.ObjectIdentifierForm.{object_identifier, object_identifier_lawful}
-use Rattle.x509_prim_string.specs.BitString.{BitParts, bit_string}
-use Rattle.x509_prim_string.specs.BitStringLaws.{bit_string_lawful}
-use Rattle.x509_prim_string.specs.OctetString.{octet_string, octet_string_lawful}
+use Rattle.x509_der.specs.ObjectIdentifierForm.{object_identifier, object_identifier_lawful}
+use Rattle.x509_prim.specs.BitString.{BitParts, bit_string}
+use Rattle.x509_prim.specs.BitStringLaws.{bit_string_lawful}
+use Rattle.x509_prim.specs.OctetString.{octet_string, octet_string_lawful}
 use Rattle.x509_probe.specs.Number.{number, number_lawful}
 use Rattle.x509_probe.specs.Probe.{probe, probe_lawful}
 use Rattle.x509_probe.specs.declared.number.Number.{Number}

@@ -6,7 +6,7 @@ use x509_der::{
     Content, Encode, Error, ObjectIdentifier, PutPart, Room, Tag, default_field, defaulted, end,
     field, implicit_optional, optional_implicit,
 };
-use x509_prim_string::OctetString;
+use x509_prim::OctetString;
 
 /// A sequence one field of which a profile respells.
 ///

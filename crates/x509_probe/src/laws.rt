@@ -1,7 +1,7 @@
 //! What is written of the types with dates. Each law is a function with an empty body, or one that cites others, whose
 //! contract is the law.
 
-ghost use Rattle.x509_base_validity.specs.Validity.{validity};
+ghost use Rattle.x509_base_time.specs.Validity.{validity};
 ghost use Rattle.x509_der_frames.specs.List.{all_good};
 ghost use Rattle.x509_der_grammar.specs.Writing.{IsStable};
 ghost use Rattle.x509_probe.specs.Dated.{dated, enclosing};
@@ -27,6 +27,6 @@ pub fn rfc5280_dates_are_written_once()
     ensures chosen { IsStable moment.good ⟦<Moment<Rfc5280> as Encode>⟧.writing }
     ensures listed { IsStable (all_good dated.good) ⟦<SequenceOf<Dated<Rfc5280>> as Encode>⟧.writing }
 {
-    x509_base_validity::laws::rfc5280_dates_are_written_once();
+    x509_base_time::laws::rfc5280_dates_are_written_once();
     dates_are_written_once::<Rfc5280>();
 }

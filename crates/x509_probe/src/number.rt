@@ -2,7 +2,7 @@
 
 use std::alloc::Global;
 use x509_der::{Decode, Encode, Error, Grammar, ObjectIdentifier, Room, Tag};
-use x509_prim_string::OctetString;
+use x509_prim::OctetString;
 
 /// A number, or what stands for one.
 ///

@@ -5,7 +5,7 @@ use x509_der::{
     Content, Error, ObjectIdentifier, PutPart, Room, Tag, default_explicit, default_field,
     defaulted, end, explicit_default, field, implicit_optional, optional_implicit,
 };
-use x509_prim_string::OctetString;
+use x509_prim::OctetString;
 
 /// A field of each kind.
 ///

@@ -8,7 +8,7 @@ use x509_der::{
     explicit, explicit_default, explicit_field, explicit_optional, field, implicit, implicit_field,
     implicit_optional, optional, optional_explicit, optional_field, optional_implicit,
 };
-use x509_prim_string::{BitString, OctetString};
+use x509_prim::{BitString, OctetString};
 
 /// Ten fields, of the kinds that a certificate has.
 ///

@@ -12,11 +12,11 @@ ghost use Rattle.x509_sct_tls.specs.Numbers.{uint16};
 use crate::error::Error;
 use crate::serialized::SerializedSct;
 use std::alloc::Global;
+use x509_der::{AssociatedOid, ObjectIdentifier};
 use x509_der_grammar::Newtype;
-use x509_der_oid::{AssociatedOid, ObjectIdentifier};
 use x509_der_order::NewtypeOrd;
 use x509_ext_frame::{Criticality, Extension, Name};
-use x509_prim_string::OctetString;
+use x509_prim::OctetString;
 use x509_sct_tls::{read_list, serialize_list};
 
 // 1.3.6.1.4.1.11129.2.4.2 (RFC 6962 section 3.3)
@@ -129,7 +129,7 @@ impl AsRef<OctetString> for SignedCertificateTimestampList {
 impl AsMut<OctetString> for SignedCertificateTimestampList {
     ghost use Rattle.std.specs.Borrow.{Lends, sem};
     ghost use Rattle.x509_sct.specs.contracts.list.SignedCertificateTimestampList.{the_row};
-    ghost use Rattle.x509_prim_string.specs.contracts.octet_string.OctetString as octet_string;
+    ghost use Rattle.x509_prim.specs.contracts.octet_string.OctetString as octet_string;
 
     fn as_mut(&mut self) -> &mut OctetString
         ensures* writes_back { sem 𝓛 (Lends the_row octet_string.the_row self.entry result (λ w. record { 0 = w })) }

@@ -2,7 +2,7 @@
 
 use std::test::*;
 use x509_der_grammar::{Decode, Encode, Error as DerError};
-use x509_prim_string::OctetString;
+use x509_prim::OctetString;
 use x509_sct::{
     Error, SerializedSct, SignedCertificateTimestamp, SignedCertificateTimestampList, Tls, TlsError,
 };

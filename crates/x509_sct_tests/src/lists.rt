@@ -4,8 +4,8 @@ use crate::calls::{first_of, is_written_as, list_of, parsed_again, refusal_of, s
 use std::test::*;
 use x509_der_grammar::{Decode, Encode, TryClone};
 use x509_ext_frame::ToExtension;
-use x509_name_rdn::Name;
-use x509_prim_string::OctetString;
+use x509_name::name::Name;
+use x509_prim::OctetString;
 use x509_sct::{
     DigitallySigned, Error, HashAlgorithm, LogId, SerializedSct, SignatureAlgorithm,
     SignatureAndHashAlgorithm, SignedCertificateTimestamp, SignedCertificateTimestampList,

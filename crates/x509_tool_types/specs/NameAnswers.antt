@@ -1,7 +1,7 @@
 -- What the bytes of two types of names may give.
 use Rattle.std.specs.Prelude.{ℕ, List}
 use Rattle.x509_der_grammar.specs.Writing.{plain}
-use Rattle.x509_name_rdn.specs.Names.{rdn_sequence, relative_distinguished_name}
+use Rattle.x509_name.specs.Names.{rdn_sequence, relative_distinguished_name}
 use Rattle.x509_tool_table.specs.Reencoding.{Reencodes}
 use Rattle.x509_tool_table.specs.Table.{Answers}
 

@@ -5,8 +5,8 @@ use Rattle.x509_der_element.specs.declared.error.ErrorKind.TheVariants.{Overleng
 use Rattle.x509_der_element.specs.Element.{limit}
 use Rattle.x509_der_grammar.specs.Form.{Spells, spelling}
 use Rattle.x509_name_attribute.specs.declared.type_and_value.AttributeTypeAndValue.{AttributeTypeAndValue}
-use Rattle.x509_name_rdn.specs.Names.{name, rdn_sequence}
-use Rattle.x509_name_rdn.specs.NameText.{name_text, NameReads, NameRefused}
+use Rattle.x509_name.specs.Names.{name, rdn_sequence}
+use Rattle.x509_name.specs.NameText.{name_text, NameReads, NameRefused}
 
 -- The text of the name that the bytes spell. An error comes where they are too long, or where they spell none.
 unfoldable pub PrintsName : List ℕ → Result (List ℕ) ErrorKind → Type 0

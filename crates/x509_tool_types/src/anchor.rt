@@ -2,7 +2,7 @@
 
 use std::alloc::Global;
 use std::marker::PhantomData;
-use x509_base_validity::Profile;
+use x509_base_time::Profile;
 use x509_cert_anchor::{CertPathControls, CertPolicies, TrustAnchorChoice, TrustAnchorInfo};
 use x509_der_grammar::Error;
 use x509_tool_table::{Reencode, Table};

@@ -2,10 +2,8 @@
 
 use std::alloc::Global;
 use std::marker::PhantomData;
-use x509_base_key::{AlgorithmIdentifier, SubjectPublicKeyInfo};
-use x509_base_serial::SerialNumber;
-use x509_base_time::{GeneralizedTime, UtcTime};
-use x509_base_validity::{Profile, Time, Validity};
+use x509_base::{AlgorithmIdentifier, SerialNumber, SubjectPublicKeyInfo};
+use x509_base_time::{GeneralizedTime, Profile, Time, UtcTime, Validity};
 use x509_der_grammar::Error;
 use x509_tool_table::{Reencode, Table};
 

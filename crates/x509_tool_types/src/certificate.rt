@@ -2,10 +2,10 @@
 
 use std::alloc::Global;
 use std::marker::PhantomData;
-use x509_base_validity::Profile;
+use x509_base_time::Profile;
+use x509_cert::crl::{CertificateList, RevokedCert, TbsCertList};
+use x509_cert::request::{CertReq, CertReqInfo, ExtensionReq};
 use x509_cert_certificate::{CertificateInner, TbsCertificateInner, Version};
-use x509_cert_crl::{CertificateList, RevokedCert, TbsCertList};
-use x509_cert_request::{CertReq, CertReqInfo, ExtensionReq};
 use x509_der_frames::SequenceOf;
 use x509_der_grammar::Error;
 use x509_tool_table::{Reencode, Table};

@@ -3,9 +3,9 @@
 use std::alloc::Global;
 use std::marker::PhantomData;
 use x509_der_grammar::Error;
-use x509_pkix_constraints::{GeneralSubtree, NameConstraints};
-use x509_pkix_distribution::{
-    CrlDistributionPoints, DistributionPoint, FreshestCrl, IssuingDistributionPoint,
+use x509_pkix::{
+    CrlDistributionPoints, DistributionPoint, FreshestCrl, GeneralSubtree,
+    IssuingDistributionPoint, NameConstraints,
 };
 use x509_tool_table::{Reencode, Table};
 

@@ -3,10 +3,10 @@
 use std::alloc::Global;
 use std::marker::PhantomData;
 use x509_der_grammar::Error;
-use x509_ext_frame::{Extension, Extensions};
-use x509_ext_key::{
+use x509_ext::pkix::{
     BasicConstraints, ExtendedKeyUsage, KeyUsage, PrivateKeyUsagePeriod, SubjectKeyIdentifier,
 };
+use x509_ext_frame::{Extension, Extensions};
 use x509_tool_table::{Reencode, Table};
 
 /// Extensions and what is said of keys, in front of another table.

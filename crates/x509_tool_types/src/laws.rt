@@ -3,25 +3,25 @@
 ghost use Rattle.std.specs.Prelude.{ℕ, List, Result};
 ghost use Rattle.x509_der_element.specs.declared.error.ErrorKind.{ErrorKind};
 ghost use Rattle.x509_der_grammar.specs.Writing.{plain};
-ghost use Rattle.x509_name_rdn.specs.Names.{relative_distinguished_name};
+ghost use Rattle.x509_name.specs.Names.{relative_distinguished_name};
 ghost use Rattle.x509_tool_run.specs.Command.{type_name};
 ghost use Rattle.x509_tool_run.specs.declared.command.Kind.TheVariants as kinds;
 ghost use Rattle.x509_tool_run.specs.declared.command.ProfileName.TheVariants as profiles;
 ghost use Rattle.x509_tool_table.specs.Reencoding.{Reencodes};
 
 use crate::table::Types;
-use x509_base_serial::SerialNumber;
-use x509_base_validity::{Raw, Rfc5280, Time, Validity};
+use x509_base::SerialNumber;
+use x509_base_time::{Raw, Rfc5280, Time, Validity};
+use x509_cert::crl::CertificateList;
+use x509_cert::request::CertReq;
 use x509_cert_anchor::TrustAnchorChoice;
 use x509_cert_certificate::CertificateInner;
-use x509_cert_crl::CertificateList;
-use x509_cert_request::CertReq;
+use x509_der::ObjectIdentifier;
 use x509_der_frames::Any;
-use x509_der_oid::ObjectIdentifier;
 use x509_ext_frame::Extensions;
 use x509_ext_name::GeneralNames;
-use x509_name_rdn::Name;
-use x509_prim_integer::Int;
+use x509_name::name::Name;
+use x509_prim::Int;
 use x509_tool_run::Codec;
 use x509_tool_table::Reencode;
 

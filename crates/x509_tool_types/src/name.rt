@@ -6,9 +6,8 @@ ghost use Rattle.x509_tool_table.specs.Table.{IsAmong};
 use std::alloc::Global;
 use std::marker::PhantomData;
 use x509_der_grammar::Error;
-use x509_name_attribute::{Attribute, AttributeTypeAndValue};
-use x509_name_directory::DirectoryString;
-use x509_name_rdn::{Name, RdnSequence, RelativeDistinguishedName};
+use x509_name::name::{Name, RdnSequence, RelativeDistinguishedName};
+use x509_name_attribute::{Attribute, AttributeTypeAndValue, DirectoryString};
 use x509_tool_table::{Reencode, Table};
 
 /// Attributes and names, in front of another table.

@@ -3,7 +3,7 @@
 use std::alloc::Global;
 use std::marker::PhantomData;
 use x509_der_grammar::Error;
-use x509_ext_party::{
+use x509_ext::pkix::{
     AccessDescription, AuthorityInfoAccessSyntax, AuthorityKeyIdentifier, IssuerAltName,
     SubjectAltName, SubjectDirectoryAttributes, SubjectInfoAccessSyntax,
 };

@@ -2,11 +2,10 @@
 
 use std::alloc::Global;
 use std::marker::PhantomData;
+use x509_der::ObjectIdentifier;
 use x509_der_frames::Any;
 use x509_der_grammar::Error;
-use x509_der_oid::ObjectIdentifier;
-use x509_prim_integer::{Int, Uint};
-use x509_prim_string::{BitString, OctetString};
+use x509_prim::{BitString, Int, OctetString, Uint};
 use x509_prim_text::{BmpString, Ia5String, PrintableString, TeletexString, Utf8String};
 use x509_tool_table::{Reencode, Table};
 

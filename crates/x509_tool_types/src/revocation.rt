@@ -3,7 +3,7 @@
 use std::alloc::Global;
 use std::marker::PhantomData;
 use x509_der_grammar::Error;
-use x509_pkix_crl::{BaseCrlNumber, CrlNumber, CrlReason, Reasons};
+use x509_pkix::{BaseCrlNumber, CrlNumber, CrlReason, Reasons};
 use x509_tool_table::{Reencode, Table};
 
 /// What lists of revoked certificates hold, in front of another table.

@@ -13,9 +13,9 @@ use crate::primitive::Primitives;
 use crate::revocation::Revocation;
 use crate::timestamp::Timestamps;
 use std::alloc::Global;
-use x509_base_validity::{Raw, Rfc5280};
+use x509_base_time::{Raw, Rfc5280};
 use x509_der_grammar::{Decode, Error};
-use x509_name_rdn::{Name, RdnSequence};
+use x509_name::name::{Name, RdnSequence};
 use x509_tool_run::{Codec, NameCodec, ProfileName};
 use x509_tool_table::{ByProfile, Numbers};
 

@@ -4,26 +4,25 @@ ghost use Rattle.std.specs.Prelude.{◌≡◌, IfOk, IfErr};
 ghost use Rattle.x509_build_profile.specs.Domain.{domain_attributes, domain_name, is_domain_type};
 ghost use Rattle.x509_build_profile.specs.Profiles.{usages_for};
 ghost use Rattle.x509_build_profile.specs.declared.cabf.tls.CertificateType.TheVariants as types;
-ghost use Rattle.x509_build_signer.specs.Refusals.{LacksMemory};
+ghost use Rattle.x509_build_profile.specs.Refusals.{LacksMemory};
 ghost use Rattle.x509_der_element.specs.declared.error.ErrorKind.TheVariants.{Memory};
 
 use crate::lists::{
     push_authority_key, push_constraints, push_key_usage, push_purposes, push_subject_key,
 };
 use crate::usages::{ca_usages, subscriber_usages};
+use crate::{BuilderProfile, Error, Result};
 use std::alloc::Global;
-use x509_base_key::SubjectPublicKeyInfoRef;
-use x509_build_error::{Error, Result};
-use x509_build_signer::BuilderProfile;
+use x509_base::SubjectPublicKeyInfoRef;
 use x509_cert_certificate::TbsCertificate;
+use x509_der::ObjectIdentifier;
 use x509_der_grammar::{Error as DerError, TryClone};
-use x509_der_oid::ObjectIdentifier;
+use x509_ext::pkix::KeyUsages;
 use x509_ext_frame::Extension;
-use x509_ext_key::KeyUsages;
 use x509_ext_name::GeneralNames;
-use x509_name_rdn::attribute_types::{COMMON_NAME, COUNTRY_NAME};
-use x509_name_rdn::laws::attributes_make_the_rdn;
-use x509_name_rdn::{Name, RdnSequence, RelativeDistinguishedName};
+use x509_name::laws::attributes_make_the_rdn;
+use x509_name::name::attribute_types::{COMMON_NAME, COUNTRY_NAME};
+use x509_name::name::{Name, RdnSequence, RelativeDistinguishedName};
 
 /// The profile of a subordinate certification authority for TLS (Baseline Requirements 7.1.2.6).
 ///
@@ -114,7 +113,7 @@ pub struct DomainValidated {
     names: GeneralNames,
 }
 
-#[tactic(auto, unfolding(crate::specs::Domain::is_domain_type, x509_der_oid::specs::Arcs::subidentifier))]
+#[tactic(auto, unfolding(crate::specs::Domain::is_domain_type, x509_der::specs::Arcs::subidentifier))]
 fn is_domain_type(oid: ObjectIdentifier) -> bool
     ensures { result ≡ is_domain_type oid }
 {

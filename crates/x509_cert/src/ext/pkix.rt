@@ -1,17 +1,16 @@
 //! What extensions hold, by its identifiers and forms in RFC 5280 and RFC 6962.
 
-pub use x509_ext_key::{
-    BasicConstraints, ExtendedKeyUsage, ID_CE_SUBJECT_KEY_IDENTIFIER, KeyUsage, KeyUsages,
-    PrivateKeyUsagePeriod, SubjectKeyIdentifier,
+pub use x509_ext::pkix::{
+    AccessDescription, AuthorityInfoAccessSyntax, AuthorityKeyIdentifier, BasicConstraints,
+    ExtendedKeyUsage, ID_CE_ISSUER_ALT_NAME, ID_CE_SUBJECT_ALT_NAME,
+    ID_CE_SUBJECT_DIRECTORY_ATTRIBUTES, ID_CE_SUBJECT_KEY_IDENTIFIER, IssuerAltName, KeyUsage,
+    KeyUsages, PrivateKeyUsagePeriod, SubjectAltName, SubjectDirectoryAttributes,
+    SubjectInfoAccessSyntax, SubjectKeyIdentifier,
 };
-pub use x509_ext_party::{
-    AccessDescription, AuthorityInfoAccessSyntax, AuthorityKeyIdentifier, ID_CE_ISSUER_ALT_NAME,
-    ID_CE_SUBJECT_ALT_NAME, ID_CE_SUBJECT_DIRECTORY_ATTRIBUTES, IssuerAltName, SubjectAltName,
-    SubjectDirectoryAttributes, SubjectInfoAccessSyntax,
+pub use x509_pkix::{
+    BaseCrlNumber, CrlDistributionPoints, CrlNumber, CrlReason, FreshestCrl,
+    IssuingDistributionPoint, NameConstraints,
 };
-pub use x509_pkix_constraints::NameConstraints;
-pub use x509_pkix_crl::{BaseCrlNumber, CrlNumber, CrlReason};
-pub use x509_pkix_distribution::{CrlDistributionPoints, FreshestCrl, IssuingDistributionPoint};
 pub use x509_pkix_policy::{
     CertificatePolicies, ID_CE_INHIBIT_ANY_POLICY, InhibitAnyPolicy, PolicyConstraints,
     PolicyMapping, PolicyMappings,
@@ -31,27 +30,26 @@ pub mod certpolicy {
 
 /// What limits the certificates that may follow.
 pub mod constraints {
-    pub use x509_ext_key::BasicConstraints;
-    pub use x509_pkix_constraints::NameConstraints;
+    pub use x509_ext::pkix::BasicConstraints;
+    pub use x509_pkix::NameConstraints;
     pub use x509_pkix_policy::PolicyConstraints;
 
     /// Constraints on names.
     pub mod name {
-        pub use x509_pkix_constraints::{GeneralSubtree, GeneralSubtrees, NameConstraints};
+        pub use x509_pkix::{GeneralSubtree, GeneralSubtrees, NameConstraints};
     }
 }
 
 /// Lists of revoked certificates.
 pub mod crl {
-    pub use x509_pkix_crl::{BaseCrlNumber, CrlNumber, CrlReason};
-    pub use x509_pkix_distribution::{
-        CrlDistributionPoints, FreshestCrl, IssuingDistributionPoint,
+    pub use x509_pkix::{
+        BaseCrlNumber, CrlDistributionPoints, CrlNumber, CrlReason, FreshestCrl,
+        IssuingDistributionPoint,
     };
 
     /// Where these lists are found.
     pub mod dp {
-        pub use x509_pkix_crl::{ReasonFlags, Reasons};
-        pub use x509_pkix_distribution::{DistributionPoint, IssuingDistributionPoint};
+        pub use x509_pkix::{DistributionPoint, IssuingDistributionPoint, ReasonFlags, Reasons};
     }
 }
 
@@ -61,7 +59,7 @@ pub mod name {
         DistributionPointName, EdiPartyName, GeneralName, GeneralNames, HardwareModuleName,
         ID_ON_HARDWARE_MODULE_NAME, IpAddress, OtherName,
     };
-    pub use x509_name_directory::{DirectoryString, TextRef};
+    pub use x509_name_attribute::{DirectoryString, TextRef};
 }
 
 /// Signed certificate timestamps (RFC 6962).

@@ -1,8 +1,8 @@
-use Rattle.std.proofs.Common.{◌≡◌, ◌++◌, [], not, is_some, refl, ◌∙◌, ap}
+use Rattle.std.proofs.Common.{not, is_some, refl, ◌∙◌, ap}
 use Rattle.x509_cert_certificate.specs.Version.{is_first}
-use Rattle.x509_base_key.specs.AlgorithmIdentifier.{algorithm_identifier}
-use Rattle.x509_base_validity.specs.Validity.{validity}
-use Rattle.x509_c_certificate.proofs.Parts.{is_sequence, is_integer, version_field, issuer_field, subject_field, same_presence, extensions_at, part_text, behind_part, outside, inside, laid_out}
+use Rattle.x509_base.specs.AlgorithmIdentifier.{algorithm_identifier}
+use Rattle.x509_base_time.specs.Validity.{validity}
+use Rattle.x509_c_certificate.proofs.Parts.{is_sequence, is_integer, version_field, issuer_field, subject_field, same_presence, extensions_at, behind_part, outside, inside, laid_out}
 use Rattle.x509_c_certificate.proofs.view.view_of.Goals as goal
 
 pub returns : goal.returns
@@ -30,7 +30,7 @@ returns c = λ spells.
       issuer = issuer.0;
       subject = subject.0;
       subject_public_key_info = key.0;
-      extensions = extensions_at part.extensions _ (behind_part _ value _ spells ++ []) _ _ _ present subject_id.1 c.wrapped.ensures.there c.wrapped.ensures.absent;
+      extensions = extensions_at part.extensions _ (behind_part _ value _ spells) _ _ _ present subject_id.1 c.wrapped.ensures.there c.wrapped.ensures.absent;
       not_before = rw (c.seconds.ensures, c.validity.ensures, c.tbs_certificate-part.ensures) refl;
       not_after = rw (c.seconds-2.ensures, c.validity-2.ensures, c.tbs_certificate-part.ensures) refl;
     }

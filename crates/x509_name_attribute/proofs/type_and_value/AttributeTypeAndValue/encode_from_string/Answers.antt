@@ -1,5 +1,5 @@
-use Rattle.x509_name_text.specs.Attributes.{AttributeRefused}
-use Rattle.x509_name_text.proofs.EncodedTexts.{encoded, not_encoded}
+use Rattle.x509_name_attribute.specs.Attributes.{AttributeRefused}
+use Rattle.x509_name_attribute.proofs.EncodedTexts.{encoded, not_encoded}
 use Rattle.x509_name_attribute.specs.Text.{Reads}
 use Rattle.x509_name_attribute.specs.TypeAndValue.{attribute_type_and_value}
 use Rattle.x509_name_attribute.proofs.type_and_value.AttributeTypeAndValue.encode_from_string.Goals as goal

@@ -1,7 +1,7 @@
 use Rattle.std.proofs.Common.{◌≡◌, ◌⊎◌, ℕ, List, subst}
 use Rattle.std.proofs.lemmas.Result.{err_from_is_err_and}
 use Rattle.x509_der_element.specs.declared.error.ErrorKind.TheVariants.{Memory}
-use Rattle.x509_name_text.specs.Attributes.{AttributeRefused}
+use Rattle.x509_name_attribute.specs.Attributes.{AttributeRefused}
 use Rattle.x509_name_attribute.proofs.type_and_value.AttributeTypeAndValue.from_str.Goals as goal
 
 pub returns-in_err-oid-clause-err : goal.returns-in_err-oid-clause-err

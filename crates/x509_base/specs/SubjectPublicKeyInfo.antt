@@ -1,0 +1,29 @@
+-- SubjectPublicKeyInfo: algorithm: AlgorithmIdentifier, subject_public_key: BIT STRING (RFC 5280 4.1.2.7)
+use Rattle.x509_der_element.specs.declared.error.ErrorKind.{ErrorKind}
+use Rattle.x509_der_element.specs.declared.tag.Tag.TheVariants.{Sequence}
+use Rattle.x509_der_grammar.specs.Form.{Form, IsForm, Contents, IsContents, universal}
+use Rattle.x509_der_grammar.specs.FormLaws.{universal_lawful}
+use Rattle.x509_der_frames.specs.Frames.{Part, required, ◌⊗◌, fields}
+use Rattle.x509_der_frames.specs.PartRules.{part_rules}
+use Rattle.x509_prim.specs.BitString.{BitParts, bit_string}
+use Rattle.x509_prim.specs.BitStringLaws.{bit_string_lawful}
+use Rattle.x509_base.specs.AlgorithmIdentifier.{algorithm_identifier, algorithm_identifier_lawful}
+use Rattle.x509_base.specs.declared.algorithm_identifier.AlgorithmIdentifier.{AlgorithmIdentifier}
+use Rattle.x509_base.specs.declared.subject_public_key_info.SubjectPublicKeyInfo.{SubjectPublicKeyInfo}
+
+unfoldable pub subject_public_key_info_fields : Part (AlgorithmIdentifier × BitParts)
+subject_public_key_info_fields = required algorithm_identifier ⊗ required bit_string
+
+abbrev pub subject_public_key_info_contents : Contents SubjectPublicKeyInfo
+subject_public_key_info_contents =
+    fields (λ s. (s.algorithm, s.subject_public_key)) (λ (algorithm, subject_public_key). record { algorithm = algorithm; subject_public_key = subject_public_key }) subject_public_key_info_fields
+
+abbrev pub subject_public_key_info : Form SubjectPublicKeyInfo
+subject_public_key_info = universal Sequence subject_public_key_info_contents
+
+pub subject_public_key_info_contents_lawful : {R : ErrorKind → Type 0} → IsContents R subject_public_key_info_contents
+unfolding subject_public_key_info_fields
+subject_public_key_info_contents_lawful = search (part_rules, algorithm_identifier_lawful, bit_string_lawful) depth 20
+
+pub subject_public_key_info_lawful : {R : ErrorKind → Type 0} → IsForm R subject_public_key_info
+subject_public_key_info_lawful = universal_lawful Sequence subject_public_key_info_contents subject_public_key_info_contents_lawful

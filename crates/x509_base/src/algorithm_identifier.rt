@@ -1,0 +1,68 @@
+//! Algorithms with their parameters.
+
+use std::alloc::Global;
+use x509_der::ObjectIdentifier;
+use x509_der_frames::{Any, PutPart, end, field, optional, optional_field};
+use x509_der_grammar::{Content, Error, Room, Tag, TryClone};
+
+/// An algorithm, by its name, and the parameters with which it is used (RFC 5280 4.1.1.2).
+///
+/// ```text
+/// AlgorithmIdentifier ::= SEQUENCE {
+///     algorithm   OBJECT IDENTIFIER,
+///     parameters  ANY DEFINED BY algorithm OPTIONAL }
+/// ```
+#[derive(Debug, PartialEq, Eq)]
+pub struct AlgorithmIdentifier {
+    /// The name of the algorithm.
+    pub oid: ObjectIdentifier,
+
+    /// The parameters: one element of any type. What it has to be, or whether it is left out, is for the algorithm to
+    /// say; it isn't looked into here.
+    pub parameters: Option<Any>,
+}
+
+impl Drop for AlgorithmIdentifier {
+    fn drop(self) {
+        let AlgorithmIdentifier {
+            oid: _,
+            parameters: _,
+        } = self;
+    }
+}
+
+#[tactic(auto, unfolding(crate::specs::AlgorithmIdentifier::algorithm_identifier_fields, x509_der_frames::specs::Frames::fields_reading, x509_der_frames::specs::Frames::fields_octets))]
+impl Content for AlgorithmIdentifier {
+    ghost use Rattle.x509_der_element.specs.declared.tag.Tag.TheVariants.{Sequence};
+    ghost use Rattle.x509_base.specs.AlgorithmIdentifier as grammar;
+
+    ghost contents = { grammar.algorithm_identifier_contents };
+
+    ghost IDENTIFIER = { Sequence };
+
+    const IDENTIFIER: Tag = Tag::Sequence;
+
+    fn read_content(alloc: Global, octets: &[u8]) -> Result<AlgorithmIdentifier, Error> {
+        let mut rest = octets;
+        let oid = field::<ObjectIdentifier>(alloc, &mut rest)?;
+        let parameters = optional_field::<Any>(alloc, &mut rest)?;
+        end(rest)?;
+        Ok(AlgorithmIdentifier { oid, parameters })
+    }
+
+    fn write_content<R: Room>(&self, room: &mut R) -> Result<(), Error> {
+        let parts = (&self.oid, optional(&self.parameters));
+        parts.put_text(room)
+    }
+
+    ghost contents_lawful = { grammar.algorithm_identifier_contents_lawful };
+}
+
+impl TryClone for AlgorithmIdentifier {
+    fn try_clone(&self, alloc: Global) -> Result<AlgorithmIdentifier, Error> {
+        Ok(AlgorithmIdentifier {
+            oid: self.oid,
+            parameters: self.parameters.try_clone(alloc)?,
+        })
+    }
+}

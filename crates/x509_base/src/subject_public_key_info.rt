@@ -1,0 +1,87 @@
+//! Public keys with their algorithms.
+
+ghost use Rattle.std.specs.Prelude.{◌≡◌};
+
+use crate::algorithm_identifier::AlgorithmIdentifier;
+use crate::subject_public_key_info_ref::SubjectPublicKeyInfoRef;
+use std::alloc::Global;
+use x509_der_frames::{PutPart, end, field};
+use x509_der_grammar::{Content, Error, Room, Tag, TryClone};
+use x509_prim::BitString;
+
+/// A public key, and the algorithm with which it is used (RFC 5280 4.1.2.7).
+///
+/// ```text
+/// SubjectPublicKeyInfo ::= SEQUENCE {
+///     algorithm         AlgorithmIdentifier,
+///     subjectPublicKey  BIT STRING }
+/// ```
+#[derive(Debug, PartialEq, Eq)]
+pub struct SubjectPublicKeyInfo {
+    /// The algorithm of the key.
+    pub algorithm: AlgorithmIdentifier,
+
+    /// The bits of the key, in the way of its algorithm; they aren't looked into here.
+    pub subject_public_key: BitString,
+}
+
+impl SubjectPublicKeyInfo {
+    /// The algorithm and the key, borrowed.
+    pub fn owned_to_ref(&self) -> SubjectPublicKeyInfoRef<'_>
+        ensures algorithm { result.algorithm.now ≡ self.now.algorithm }
+        ensures key { result.subject_public_key.now ≡ self.now.subject_public_key }
+    {
+        SubjectPublicKeyInfoRef {
+            algorithm: &self.algorithm,
+            subject_public_key: &self.subject_public_key,
+        }
+    }
+}
+
+impl Drop for SubjectPublicKeyInfo {
+    fn drop(self) {
+        let SubjectPublicKeyInfo {
+            algorithm: _,
+            subject_public_key: _,
+        } = self;
+    }
+}
+
+#[tactic(auto, unfolding(crate::specs::SubjectPublicKeyInfo::subject_public_key_info_fields, x509_der_frames::specs::Frames::fields_reading, x509_der_frames::specs::Frames::fields_octets))]
+impl Content for SubjectPublicKeyInfo {
+    ghost use Rattle.x509_der_element.specs.declared.tag.Tag.TheVariants.{Sequence};
+    ghost use Rattle.x509_base.specs.SubjectPublicKeyInfo as grammar;
+
+    ghost contents = { grammar.subject_public_key_info_contents };
+
+    ghost IDENTIFIER = { Sequence };
+
+    const IDENTIFIER: Tag = Tag::Sequence;
+
+    fn read_content(alloc: Global, octets: &[u8]) -> Result<SubjectPublicKeyInfo, Error> {
+        let mut rest = octets;
+        let algorithm = field::<AlgorithmIdentifier>(alloc, &mut rest)?;
+        let subject_public_key = field::<BitString>(alloc, &mut rest)?;
+        end(rest)?;
+        Ok(SubjectPublicKeyInfo {
+            algorithm,
+            subject_public_key,
+        })
+    }
+
+    fn write_content<R: Room>(&self, room: &mut R) -> Result<(), Error> {
+        let parts = (&self.algorithm, &self.subject_public_key);
+        parts.put_text(room)
+    }
+
+    ghost contents_lawful = { grammar.subject_public_key_info_contents_lawful };
+}
+
+impl TryClone for SubjectPublicKeyInfo {
+    fn try_clone(&self, alloc: Global) -> Result<SubjectPublicKeyInfo, Error> {
+        Ok(SubjectPublicKeyInfo {
+            algorithm: self.algorithm.try_clone(alloc)?,
+            subject_public_key: self.subject_public_key.try_clone(alloc)?,
+        })
+    }
+}

@@ -1,3 +1,0 @@
-pub mod AlgorithmIdentifier
-pub mod KeyAlgorithms
-pub mod SubjectPublicKeyInfo

@@ -1,4 +1,0 @@
-pub mod Checked
-pub mod Serial
-pub mod Fills
-pub mod SerialOrder

@@ -1,4 +1,0 @@
-pub mod Time
-pub mod Profiles
-pub mod Validity
-pub mod TimeOrder

@@ -1,0 +1,3 @@
+pub mod RequestParts
+pub mod ListParts
+pub mod CertificateParts

@@ -1,0 +1,224 @@
+//! What makes certificates of a profile.
+
+ghost use Rattle.std.specs.Prelude.{◌≡◌, ◌⊎◌, [], ◌∷◌, ◌++◌, Ok, Err, IfOk, IfErr, OnOk, OnErr};
+ghost use Rattle.x509_build.specs.CertificateParts.{bare_part, new_builder, next_part, part_with};
+ghost use Rattle.x509_build_profile.specs.declared.error.Error.TheVariants.{Asn1};
+ghost use Rattle.x509_build_profile.specs.Answer.{Gives};
+ghost use Rattle.x509_build_profile.specs.Refusals.{LacksMemory};
+ghost use Rattle.x509_der_element.specs.declared.error.Error.{Error};
+ghost use Rattle.x509_der_element.specs.declared.error.ErrorKind.TheVariants.{Memory};
+ghost use Rattle.x509_ext_frame.specs.declared.extension.Extension.{Extension};
+
+use std::alloc::Global;
+use x509_base::{AlgorithmIdentifier, SerialNumber, SubjectPublicKeyInfo};
+use x509_base_time::{Profile, Rfc5280, Validity};
+use x509_build_profile::{Builder, BuilderProfile, Result, Signer, no_algorithm};
+use x509_cert_certificate::{Certificate, TbsCertificate, Version};
+use x509_der_grammar::{Encode, Error, TryClone};
+use x509_ext_frame::{Extension, Extensions, ToExtension};
+use x509_prim::BitString;
+
+/// What makes a certificate of what is handed in and of what a profile puts in (RFC 5280 4.1).
+///
+/// The profile says whom the certificate names and who signs it. A part without extensions is of version 1, else of version 3;
+/// it has no unique identifiers (RFC 5280 4.1.2.8).
+#[derive(Drop)]
+pub struct CertificateBuilder<P> {
+    profile: P,
+    tbs: TbsCertificate,
+    extensions: Extensions,
+}
+
+impl<P: BuilderProfile> CertificateBuilder<P> {
+    /// A builder of the certificate of that key. The dates are spelled as RFC 5280 4.1.2.5 wants them. Until
+    /// [`finalize`](Builder::finalize) the part is of version 3, with the algorithm 0.0.0 and no extensions.
+    ///
+    /// # Errors
+    ///
+    /// What the profile answers for the subject, and else for the issuer. Memory may be refused.
+    pub fn new(
+        alloc: Global,
+        profile: P,
+        serial_number: SerialNumber,
+        validity: Validity,
+        subject_public_key_info: SubjectPublicKeyInfo,
+    ) -> Result<CertificateBuilder<P>>
+        ensures { Gives (λ builder. builder) (new_builder (P.subject_of profile) (P.issuer_of profile) profile serial_number validity subject_public_key_info) result }
+    {
+        let subject = profile.get_subject(alloc)?;
+        let issuer = profile.get_issuer(alloc, &subject)?;
+        let mut spelled = validity;
+        spelled.not_before = Rfc5280::time_encoding(validity.not_before)?;
+        spelled.not_after = Rfc5280::time_encoding(validity.not_after)?;
+        let tbs = TbsCertificate::from_parts(
+            Version::V3,
+            serial_number,
+            no_algorithm(),
+            issuer,
+            spelled,
+            subject,
+            subject_public_key_info,
+            None,
+            None,
+            None,
+        );
+        Ok(CertificateBuilder {
+            profile,
+            tbs,
+            extensions: Extensions::new(alloc),
+        })
+    }
+
+    /// Adds an extension behind those that were added before, made for the subject and behind those. The profile's extensions
+    /// come behind all that are added.
+    ///
+    /// # Errors
+    ///
+    /// `Asn1` of what [`ToExtension::to_extension`] answers. Memory may be refused. A builder that refuses stays as it was, and
+    /// the extension is dropped.
+    pub fn add_extension<E: ToExtension>(&mut self, alloc: Global, extension: E) -> Result<()>
+        ensures ok { OnOk result ((made : Extension) × E.makes extension self.old.tbs.subject self.old.extensions (Ok made) × (self.new ≡ record self.old { extensions = self.old.extensions ++ made ∷ [] })) }
+        ensures err { IfErr result (λ e. LacksMemory e ⊎ ((refusal : Error) × (e ≡ Asn1 refusal) × E.makes extension self.old.tbs.subject self.old.extensions (Err refusal))) }
+        ensures unchanged { OnErr result (self.new ≡ self.old) }
+    {
+        let made = extension.to_extension(alloc, self.tbs.subject(), self.extensions.as_slice())?;
+        self.extensions.push(made)?;
+        Ok(())
+    }
+
+    /// The part that the profile is asked with: it has the signer's algorithm, and no extensions.
+    fn bare_part(
+        &self,
+        alloc: Global,
+        algorithm: AlgorithmIdentifier,
+    ) -> std::result::Result<TbsCertificate, Error>
+        ensures ok { IfOk result (λ part. part ≡ bare_part self.now.tbs algorithm) }
+        ensures err { IfErr result (λ e. e.kind ≡ Memory) }
+    {
+        let tbs = &self.tbs;
+        Ok(TbsCertificate::from_parts(
+            Version::V3,
+            tbs.serial_number().try_clone(alloc)?,
+            algorithm,
+            tbs.issuer().try_clone(alloc)?,
+            *tbs.validity(),
+            tbs.subject().try_clone(alloc)?,
+            tbs.subject_public_key_info().try_clone(alloc)?,
+            None,
+            None,
+            None,
+        ))
+    }
+
+    /// What the profile puts in, for the key of that part and for the signer's.
+    fn of_profile(
+        &self,
+        alloc: Global,
+        bare: &TbsCertificate,
+        issuer_key: &SubjectPublicKeyInfo,
+    ) -> Result<Vec<Extension>>
+        ensures { Gives (λ extensions. extensions.items) (P.extensions_of self.now.profile bare.now.subject_public_key_info issuer_key.now bare.now) result }
+    {
+        self.profile.build_extensions(
+            alloc,
+            bare.subject_public_key_info().owned_to_ref(),
+            issuer_key.owned_to_ref(),
+            bare,
+        )
+    }
+
+    /// The part for a signer of that algorithm and that key.
+    fn next_part(
+        &self,
+        alloc: Global,
+        algorithm: AlgorithmIdentifier,
+        issuer_key: &SubjectPublicKeyInfo,
+    ) -> Result<TbsCertificate>
+        ensures { Gives (λ part. part) (next_part (P.extensions_of self.now.profile) self.now.tbs self.now.extensions algorithm issuer_key.now) result }
+    {
+        let bare = self.bare_part(alloc, algorithm)?;
+        let of_profile = self.of_profile(alloc, &bare, issuer_key)?;
+        let extensions = joined(alloc, &self.extensions, of_profile)?;
+        Ok(part_with(bare, extensions))
+    }
+}
+
+/// Copies of the extensions, and behind them the others.
+fn joined(
+    alloc: Global,
+    added: &Extensions,
+    others: Vec<Extension>,
+) -> std::result::Result<Vec<Extension>, Error>
+    ensures ok { IfOk result (λ extensions. extensions.items ≡ added.now ++ others.items) }
+    ensures err { IfErr result (λ e. e.kind ≡ Memory) }
+{
+    let mut extensions = added.try_clone(alloc)?.into_vec();
+    let mut behind = others;
+    extensions.append(&mut behind)?;
+    Ok(extensions)
+}
+
+/// The part with these extensions; without any it is of version 1 (RFC 5280 4.1.2.1).
+fn part_with(part: TbsCertificate, extensions: Vec<Extension>) -> TbsCertificate
+    ensures { result ≡ part_with part extensions.items }
+{
+    if extensions.is_empty() {
+        part.with_extensions(Version::V1, None)
+    } else {
+        part.with_extensions(Version::V3, Some(Extensions::from(extensions)))
+    }
+}
+
+impl<P: BuilderProfile> Builder for CertificateBuilder<P> {
+    ghost use Rattle.std.specs.Prelude.{◌≡◌, IfOk, IfErr};
+    ghost use Rattle.x509_build.specs.CertificateParts as parts;
+    ghost use Rattle.x509_build_profile.specs.Refusals.{LacksMemory};
+
+    type Output = Certificate;
+
+    type Signed = TbsCertificate;
+
+    ghost current = { λ builder. builder.tbs };
+
+    ghost next = { λ builder algorithm key. parts.next_part (P.extensions_of builder.profile) builder.tbs builder.extensions algorithm key };
+
+    ghost keeps = { λ old new. (new.profile ≡ old.profile) × (new.extensions ≡ old.extensions) };
+
+    ghost asks_algorithm = { Unit {0} };
+
+    ghost asks_key = { Unit {0} };
+
+    ghost whole = { λ part algorithm bits. record { tbs_certificate = part; signature_algorithm = part.signature; signature = bits } };
+
+    fn finalize<S: Signer>(&mut self, alloc: Global, signer: &S) -> Result<Vec<u8>> {
+        let algorithm = signer.algorithm(alloc)?;
+        let key = signer.public_key(alloc)?;
+        let part = self.next_part(alloc, algorithm, &key)?;
+        let bytes = part.to_der(alloc)?;
+        self.tbs = part;
+        Ok(bytes)
+    }
+
+    /// The certificate of the current part, under the algorithm of that part. The signer isn't asked.
+    ///
+    /// # Errors
+    ///
+    /// Memory may be refused.
+    fn assemble<S: Signer>(
+        self,
+        alloc: Global,
+        signature: BitString,
+        _signer: &S,
+    ) -> Result<Certificate>
+        ensures ok { IfOk result (λ certificate. certificate ≡ record { tbs_certificate = self.tbs; signature_algorithm = self.tbs.signature; signature = signature }) }
+        ensures err { IfErr result LacksMemory }
+    {
+        let CertificateBuilder {
+            profile: _,
+            tbs,
+            extensions: _,
+        } = self;
+        let algorithm = tbs.signature().try_clone(alloc)?;
+        Ok(Certificate::from_parts(tbs, algorithm, signature))
+    }
+}

@@ -1,0 +1,225 @@
+//! What makes lists of revoked certificates.
+
+ghost use Rattle.std.specs.Duration.{as_nanos};
+ghost use Rattle.std.specs.Iterator.{Drains, IsFinite};
+ghost use Rattle.std.specs.Prelude.{◌≡◌, ◌⊎◌, ◌<◌, ◌≤◌, ◌++◌, List, Some, None, IfOk, IfErr, OnOk};
+ghost use Rattle.x509_base_time.specs.CivilTime.{last_date_time, unix_seconds, whole_seconds};
+ghost use Rattle.x509_base_time.specs.Time.{IsTimeAt};
+ghost use Rattle.x509_base_time.specs.declared.time.Time.{Time};
+ghost use Rattle.x509_build.specs.ListParts.{RefusesStart, Starts, members};
+ghost use Rattle.x509_build_profile.specs.declared.error.Error.TheVariants.{Asn1};
+ghost use Rattle.x509_build_profile.specs.Refusals.{LacksMemory};
+ghost use Rattle.x509_cert.specs.declared.crl.revoked_cert.RevokedCert.{RevokedCert};
+ghost use Rattle.x509_cert_extension.specs.LookUp as look_up;
+ghost use Rattle.x509_cert_extension.specs.LookUp.{Finds, with_oid};
+ghost use Rattle.x509_der_element.specs.declared.error.Error.{Error};
+ghost use Rattle.x509_der_element.specs.declared.error.ErrorKind.TheVariants.{Memory, Value};
+ghost use Rattle.x509_ext_frame.specs.Identifiers.{id_ce};
+
+use crate::extensions::{issuer_key, list_extensions};
+use std::alloc::Global;
+use std::time::Duration;
+use x509_base_time::{DateTime, Profile, Rfc5280, Time};
+use x509_build_profile::{Builder, Result, Signer, no_algorithm};
+use x509_cert::crl::{CertificateList, RevokedCert, TbsCertList};
+use x509_cert_certificate::{Certificate, Version};
+use x509_der_frames::SequenceOf;
+use x509_der_grammar::{Decode, Encode, Error, Grammar, TryClone};
+use x509_ext::pkix::SubjectKeyIdentifier;
+use x509_pkix::CrlNumber;
+use x509_prim::BitString;
+
+/// What makes a list of revoked certificates (RFC 5280 5.1).
+///
+/// The part that is signed is of version 2, names the subject of the issuer's certificate as issuer, and has two extensions: the
+/// number of the list, and the identifier of the issuer's key.
+pub struct CrlBuilder<P: Profile = Rfc5280> {
+    tbs: TbsCertList<P>,
+    finalized: Option<TbsCertList<P>>,
+}
+
+impl<P: Profile> CrlBuilder<P> {
+    /// A builder of the list of that number, issued now: that long after 1970-01-01T00:00:00Z, of which a fraction of a second is
+    /// dropped. The date is a UTCTime through 2049. Otherwise as [`new_with_this_update`](CrlBuilder::new_with_this_update).
+    ///
+    /// # Errors
+    ///
+    /// `Asn1` of `Value` where `now` is after 9999-12-31T23:59:59Z; else those of `new_with_this_update`.
+    pub fn new(
+        alloc: Global,
+        issuer: &Certificate,
+        crl_number: CrlNumber,
+        now: Duration,
+    ) -> Result<CrlBuilder<P>>
+        ensures ok { IfOk result (λ builder. (time : Time) × IsTimeAt (whole_seconds now) time × Starts (Finds ⟦<SubjectKeyIdentifier as Grammar>⟧.form ⟦<SubjectKeyIdentifier as Decode>⟧.refuses ⟦<SubjectKeyIdentifier as Decode>⟧.wants_memory (with_oid (id_ce 14) (look_up.members issuer.now.tbs_certificate.extensions))) issuer.now.tbs_certificate crl_number.0 time builder) }
+        ensures err { IfErr result (λ e. ((refusal : Error) × (e ≡ Asn1 refusal) × (refusal.kind ≡ Value) × (unix_seconds last_date_time < whole_seconds now)) ⊎ (LacksMemory e ⊎ RefusesStart (Finds ⟦<SubjectKeyIdentifier as Grammar>⟧.form ⟦<SubjectKeyIdentifier as Decode>⟧.refuses ⟦<SubjectKeyIdentifier as Decode>⟧.wants_memory (with_oid (id_ce 14) (look_up.members issuer.now.tbs_certificate.extensions))) issuer.now.tbs_certificate crl_number.0 e)) }
+        ensures late { IfErr result (λ e. ((refusal : Error) × (e ≡ Asn1 refusal) × (refusal.kind ≡ Value)) ⊎ (whole_seconds now ≤ unix_seconds last_date_time)) }
+    {
+        let this_update = Time::from(DateTime::from_unix_duration(now)?);
+        CrlBuilder::new_with_this_update(alloc, issuer, crl_number, this_update)
+    }
+
+    /// A builder of the list of that number, issued at that moment by the subject of the certificate. Until
+    /// [`finalize`](Builder::finalize) the part has the algorithm 0.0.0. The key of the certificate is told by its subject key
+    /// identifier, and where it has none by the SHA-1 digest of the key (RFC 5280 4.2.1.2, method 1).
+    ///
+    /// # Errors
+    ///
+    /// `Asn1` of what [`get_extension`](x509_cert_certificate::TbsCertificateInner::get_extension) answers for that identifier, or of
+    /// what can't be written of the number or of the identifier. Memory may be refused.
+    pub fn new_with_this_update(
+        alloc: Global,
+        issuer: &Certificate,
+        crl_number: CrlNumber,
+        this_update: Time,
+    ) -> Result<CrlBuilder<P>>
+        ensures ok { IfOk result (λ builder. Starts (Finds ⟦<SubjectKeyIdentifier as Grammar>⟧.form ⟦<SubjectKeyIdentifier as Decode>⟧.refuses ⟦<SubjectKeyIdentifier as Decode>⟧.wants_memory (with_oid (id_ce 14) (look_up.members issuer.now.tbs_certificate.extensions))) issuer.now.tbs_certificate crl_number.0 this_update builder) }
+        ensures err { IfErr result (λ e. LacksMemory e ⊎ RefusesStart (Finds ⟦<SubjectKeyIdentifier as Grammar>⟧.form ⟦<SubjectKeyIdentifier as Decode>⟧.refuses ⟦<SubjectKeyIdentifier as Decode>⟧.wants_memory (with_oid (id_ce 14) (look_up.members issuer.now.tbs_certificate.extensions))) issuer.now.tbs_certificate crl_number.0 e) }
+    {
+        let name = issuer.tbs_certificate().subject().try_clone(alloc)?;
+        let identifier = issuer_key(alloc, issuer)?;
+        let extensions = list_extensions(alloc, &name, crl_number, identifier)?;
+        let tbs = TbsCertList {
+            version: Version::V2,
+            signature: no_algorithm(),
+            issuer: name,
+            this_update,
+            next_update: None,
+            revoked_certificates: None,
+            crl_extensions: Some(extensions),
+        };
+        Ok(CrlBuilder {
+            tbs,
+            finalized: None,
+        })
+    }
+
+    /// The builder, with that moment by which the next list will be issued, or with none. It is in the part of the next
+    /// [`finalize`](Builder::finalize).
+    pub fn with_next_update(self, next_update: Option<Time>) -> CrlBuilder<P>
+        ensures { result ≡ record self { tbs = record self.tbs { next_update = next_update } } }
+    {
+        let mut builder = self;
+        builder.tbs.next_update = next_update;
+        builder
+    }
+
+    /// The builder, with the certificates behind those that it has. Where it has none, and none are given, it has the list
+    /// without members. They are in the part of the next [`finalize`](Builder::finalize).
+    ///
+    /// # Errors
+    ///
+    /// Memory may be refused, and nothing else; then the builder is dropped.
+    pub fn with_certificates<I: Iterator<Item = RevokedCert<P>> + Drop>(
+        self,
+        alloc: Global,
+        revoked: I,
+    ) -> Result<CrlBuilder<P>>
+        requires can { I.can_next revoked }
+        requires ends { IsFinite (I.remaining revoked) }
+        ensures ok { IfOk result (λ builder. (added : List (RevokedCert P)) × Drains I.next_gives revoked added × (builder ≡ record self { tbs = record self.tbs { revoked_certificates = Some (members self.tbs.revoked_certificates ++ added) } })) }
+        ensures err { IfErr result LacksMemory }
+    {
+        let mut builder = self;
+        let mut certificates = match builder.tbs.revoked_certificates.take() {
+            Some(certificates) => certificates,
+            None => SequenceOf::new(alloc),
+        };
+        append(&mut certificates, revoked)?;
+        builder.tbs.revoked_certificates = Some(certificates);
+        Ok(builder)
+    }
+}
+
+/// Puts the items behind the others.
+fn append<T: Drop, I: Iterator<Item = T> + Drop>(
+    list: &mut SequenceOf<T>,
+    items: I,
+) -> std::result::Result<(), Error>
+    requires can { I.can_next items }
+    requires ends { IsFinite (I.remaining items) }
+    ensures ok { OnOk result ((added : List T) × Drains I.next_gives items added × (list.new ≡ list.old ++ added)) }
+    ensures err { IfErr result (λ e. e.kind ≡ Memory) }
+{
+    for item in items {
+        list.push(item)?;
+    }
+    Ok(())
+}
+
+impl<P: Profile> Drop for CrlBuilder<P> {
+    fn drop(self) {
+        let CrlBuilder {
+            tbs: _,
+            finalized: _,
+        } = self;
+    }
+}
+
+impl<P: Profile> Builder for CrlBuilder<P> {
+    ghost use Rattle.std.specs.Prelude.{◌≡◌, IfOk, IfErr};
+    ghost use Rattle.x509_build.specs.ListParts as parts;
+    ghost use Rattle.x509_build_profile.specs.Refusals.{LacksMemory};
+
+    type Output = CertificateList<P>;
+
+    type Signed = TbsCertList<P>;
+
+    ghost current = { λ builder. parts.current_part builder.finalized builder.tbs };
+
+    ghost next = { λ builder algorithm key. parts.next_part builder.tbs algorithm };
+
+    ghost keeps = { λ old new. new.tbs ≡ old.tbs };
+
+    ghost asks_algorithm = { Unit {0} };
+
+    ghost asks_key = { ⊥ };
+
+    ghost whole = { λ part algorithm bits. record { tbs_cert_list = part; signature_algorithm = part.signature; signature = bits } };
+
+    fn finalize<S: Signer>(&mut self, alloc: Global, signer: &S) -> Result<Vec<u8>> {
+        let algorithm = signer.algorithm(alloc)?;
+        let mut part = self.tbs.try_clone(alloc)?;
+        part.signature = algorithm;
+        let bytes = part.to_der(alloc)?;
+        self.finalized = Some(part);
+        Ok(bytes)
+    }
+
+    /// The list of the current part, under the algorithm of that part. The signer isn't asked.
+    ///
+    /// # Errors
+    ///
+    /// Memory may be refused.
+    fn assemble<S: Signer>(
+        self,
+        alloc: Global,
+        signature: BitString,
+        _signer: &S,
+    ) -> Result<CertificateList<P>>
+        ensures ok { IfOk result (λ list. list ≡ record { tbs_cert_list = parts.current_part self.finalized self.tbs; signature_algorithm = (parts.current_part self.finalized self.tbs).signature; signature = signature }) }
+        ensures err { IfErr result LacksMemory }
+    {
+        let CrlBuilder { tbs, finalized } = self;
+        let tbs_cert_list = match finalized {
+            Some(part) => part,
+            None => at_first(tbs),
+        };
+        let signature_algorithm = tbs_cert_list.signature.try_clone(alloc)?;
+        Ok(CertificateList {
+            tbs_cert_list,
+            signature_algorithm,
+            signature,
+        })
+    }
+}
+
+/// The part without what was given later than at first.
+fn at_first<P: Profile>(part: TbsCertList<P>) -> TbsCertList<P>
+    ensures { result ≡ record part { next_update = None; revoked_certificates = None } }
+{
+    let mut first = part;
+    first.next_update = None;
+    first.revoked_certificates = None;
+    first
+}

@@ -1,0 +1,48 @@
+//! The extensions of a list.
+
+ghost use Rattle.std.specs.Prelude.{◌≡◌, ◌⊎◌, Ok, Err, IfOk, IfErr};
+ghost use Rattle.x509_build.specs.ListParts.{IdentifiesKey, MakesExtensions, key_octets};
+ghost use Rattle.x509_cert_extension.specs.LookUp.{Finds, members, with_oid};
+ghost use Rattle.x509_der_element.specs.declared.error.ErrorKind.TheVariants.{Memory};
+ghost use Rattle.x509_ext_frame.specs.Identifiers.{id_ce};
+
+use std::alloc::Global;
+use x509_cert_certificate::Certificate;
+use x509_der_grammar::{Decode, Error, Grammar};
+use x509_ext::pkix::{AuthorityKeyIdentifier, SubjectKeyIdentifier, key_identifier};
+use x509_ext_frame::{Extensions, ToExtension};
+use x509_name::name::Name;
+use x509_pkix::CrlNumber;
+use x509_prim::OctetString;
+
+/// By what the key of a certificate is told: what its extension says, and where it has none, the SHA-1 digest of the key.
+pub(crate) fn issuer_key(alloc: Global, issuer: &Certificate) -> Result<OctetString, Error>
+    ensures ok { IfOk result (λ identifier. IdentifiesKey (Finds ⟦<SubjectKeyIdentifier as Grammar>⟧.form ⟦<SubjectKeyIdentifier as Decode>⟧.refuses ⟦<SubjectKeyIdentifier as Decode>⟧.wants_memory (with_oid (id_ce 14) (members issuer.now.tbs_certificate.extensions))) (key_octets issuer.now.tbs_certificate) identifier) }
+    ensures err { IfErr result (λ e. (e.kind ≡ Memory) ⊎ Finds ⟦<SubjectKeyIdentifier as Grammar>⟧.form ⟦<SubjectKeyIdentifier as Decode>⟧.refuses ⟦<SubjectKeyIdentifier as Decode>⟧.wants_memory (with_oid (id_ce 14) (members issuer.now.tbs_certificate.extensions)) (Err e)) }
+{
+    let part = issuer.tbs_certificate();
+    match part.get_extension::<SubjectKeyIdentifier>(alloc)? {
+        Some((_, identifier)) => Ok(OctetString::from(identifier)),
+        None => key_identifier(alloc, part.subject_public_key_info().owned_to_ref()),
+    }
+}
+
+/// The extensions of a list of that number, which the key of that identifier signs.
+pub(crate) fn list_extensions(
+    alloc: Global,
+    issuer: &Name,
+    number: CrlNumber,
+    identifier: OctetString,
+) -> Result<Extensions, Error>
+    ensures { MakesExtensions number.0 identifier result }
+{
+    let mut extensions = Extensions::new(alloc);
+    extensions.push((&number).to_extension(alloc, issuer, extensions.as_slice())?)?;
+    let issuer_key = AuthorityKeyIdentifier {
+        key_identifier: Some(identifier),
+        authority_cert_issuer: None,
+        authority_cert_serial_number: None,
+    };
+    extensions.push((&issuer_key).to_extension(alloc, issuer, extensions.as_slice())?)?;
+    Ok(extensions)
+}

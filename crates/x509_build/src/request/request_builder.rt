@@ -1,0 +1,171 @@
+//! What makes requests for certificates.
+
+ghost use Rattle.std.specs.BTreeSet.{insert_key};
+ghost use Rattle.std.specs.Prelude.{◌≡◌, ◌⊎◌, [], ◌∷◌, ◌++◌, Contains, Ok, Err, IfOk, IfErr, OnOk, OnErr};
+ghost use Rattle.x509_build_profile.specs.declared.error.Error.TheVariants.{Asn1};
+ghost use Rattle.x509_build.specs.RequestParts.{first_part, next_part};
+ghost use Rattle.x509_build_profile.specs.Answer.{Gives};
+ghost use Rattle.x509_build_profile.specs.Refusals.{LacksMemory};
+ghost use Rattle.x509_cert.specs.Attributes.{MakesAttribute};
+ghost use Rattle.x509_der_element.specs.declared.error.Error.{Error};
+ghost use Rattle.x509_der_element.specs.declared.error.ErrorKind.TheVariants.{Memory, SetDuplicate};
+ghost use Rattle.x509_der_grammar.specs.Writing.{writes};
+ghost use Rattle.x509_ext_frame.specs.declared.extension.Extension.{Extension};
+ghost use Rattle.x509_name_attribute.specs.Attribute.{attribute_cmp};
+ghost use Rattle.x509_name_attribute.specs.declared.attribute.Attribute.{Attribute};
+
+use std::alloc::Global;
+use x509_base::SubjectPublicKeyInfo;
+use x509_build_profile::{Builder, Result, Signer, no_algorithm};
+use x509_cert::request::attributes::AsAttribute;
+use x509_cert::request::{CertReq, CertReqInfo, ExtensionReq, Version, extension_req_attribute};
+use x509_der_grammar::{Encode, Error, TryClone};
+use x509_ext_frame::ToExtension;
+use x509_name::name::Name;
+use x509_name_attribute::{Attribute, Attributes};
+use x509_prim::BitString;
+
+/// What makes a request for a certificate (RFC 2986 4).
+///
+/// The part that is signed holds the signer's key, the attributes that were added, and one more, which asks for the extensions
+/// that were added (RFC 2985 5.4.2). That stands there where none were added too.
+#[derive(Drop)]
+pub struct RequestBuilder {
+    info: CertReqInfo,
+    attributes: Attributes,
+    extension_req: ExtensionReq,
+}
+
+impl RequestBuilder {
+    /// A builder of a request of that subject. Until [`finalize`](Builder::finalize) the part has no attributes, and a key with
+    /// the algorithm 0.0.0 and no bits.
+    ///
+    /// # Errors
+    ///
+    /// Memory may be refused, and nothing else.
+    pub fn new(alloc: Global, subject: Name) -> Result<RequestBuilder>
+        ensures ok { IfOk result (λ builder. builder ≡ record { info = first_part subject; attributes = []; extension_req = record { 0 = [] } }) }
+        ensures err { IfErr result LacksMemory }
+    {
+        let public_key = SubjectPublicKeyInfo {
+            algorithm: no_algorithm(),
+            subject_public_key: BitString::from_bytes(alloc, &[])?,
+        };
+        let info = CertReqInfo {
+            version: Version::V1,
+            subject,
+            public_key,
+            attributes: Attributes::new(alloc),
+        };
+        Ok(RequestBuilder {
+            info,
+            attributes: Attributes::new(alloc),
+            extension_req: ExtensionReq::new(alloc),
+        })
+    }
+
+    /// Adds an extension behind those that were added before, made for the subject and behind those.
+    ///
+    /// # Errors
+    ///
+    /// `Asn1` of what [`ToExtension::to_extension`] answers. Memory may be refused. A builder that refuses stays as it was, and
+    /// the extension is dropped.
+    pub fn add_extension<E: ToExtension>(&mut self, alloc: Global, extension: E) -> Result<()>
+        ensures ok { OnOk result ((made : Extension) × E.makes extension self.old.info.subject self.old.extension_req.0 (Ok made) × (self.new ≡ record self.old { extension_req = record { 0 = self.old.extension_req.0 ++ made ∷ [] } })) }
+        ensures err { IfErr result (λ e. LacksMemory e ⊎ ((refusal : Error) × (e ≡ Asn1 refusal) × E.makes extension self.old.info.subject self.old.extension_req.0 (Err refusal))) }
+        ensures unchanged { OnErr result (self.new ≡ self.old) }
+    {
+        let added = &mut self.extension_req.0;
+        let made = extension.to_extension(alloc, &self.info.subject, added.as_slice())?;
+        added.push(made)?;
+        Ok(())
+    }
+
+    /// Adds an attribute.
+    ///
+    /// # Errors
+    ///
+    /// `Asn1` of what [`AsAttribute::to_attribute`] answers, and else `Asn1` of `SetDuplicate` exactly where an equal attribute
+    /// was added before. Memory may be refused. A builder that refuses stays as it was.
+    pub fn add_attribute<A: AsAttribute>(&mut self, alloc: Global, attribute: &A) -> Result<()>
+        ensures ok { OnOk result ((made : Attribute) × MakesAttribute A.OID A.form (writes A.writing attribute.now) (Ok made) × (¬ Contains self.old.attributes made) × (self.new ≡ record self.old { attributes = insert_key attribute_cmp self.old.attributes made })) }
+        ensures err { IfErr result (λ e. LacksMemory e ⊎ ((refusal : Error) × (e ≡ Asn1 refusal) × (MakesAttribute A.OID A.form (writes A.writing attribute.now) (Err refusal) ⊎ ((made : Attribute) × MakesAttribute A.OID A.form (writes A.writing attribute.now) (Ok made) × (refusal.kind ≡ SetDuplicate) × Contains self.old.attributes made)))) }
+        ensures unchanged { OnErr result (self.new ≡ self.old) }
+    {
+        let made = attribute.to_attribute(alloc)?;
+        add(&mut self.attributes, made)?;
+        Ok(())
+    }
+
+    /// The part for a signer of that key.
+    fn next_part(&self, alloc: Global, public_key: SubjectPublicKeyInfo) -> Result<CertReqInfo>
+        ensures { Gives (λ part. part) (next_part self.now.info.subject self.now.attributes self.now.extension_req.0 public_key) result }
+    {
+        let asked = extension_req_attribute(alloc, self.extension_req.try_clone(alloc)?)?;
+        let mut attributes = self.attributes.try_clone(alloc)?;
+        add(&mut attributes, asked)?;
+        Ok(CertReqInfo {
+            version: Version::V1,
+            subject: self.info.subject.try_clone(alloc)?,
+            public_key,
+            attributes,
+        })
+    }
+}
+
+/// Puts the attribute in its place among the others. Where it is refused they are as they were.
+fn add(attributes: &mut Attributes, attribute: Attribute) -> std::result::Result<(), Error>
+    ensures ok { OnOk result ((¬ Contains attributes.old attribute) × (attributes.new ≡ insert_key attribute_cmp attributes.old attribute)) }
+    ensures err { IfErr result (λ e. (e.kind ≡ Memory) ⊎ ((e.kind ≡ SetDuplicate) × Contains attributes.old attribute)) }
+    ensures unchanged { OnErr result (attributes.new ≡ attributes.old) }
+{
+    let _in_order = attributes.as_slice();
+    attributes.insert(attribute)
+}
+
+impl Builder for RequestBuilder {
+    ghost use Rattle.std.specs.Prelude.{◌≡◌};
+    ghost use Rattle.x509_build.specs.RequestParts as parts;
+
+    type Output = CertReq;
+
+    type Signed = CertReqInfo;
+
+    ghost current = { λ builder. builder.info };
+
+    ghost next = { λ builder algorithm key. parts.next_part builder.info.subject builder.attributes builder.extension_req.0 key };
+
+    ghost keeps = { λ old new. (new.attributes ≡ old.attributes) × (new.extension_req ≡ old.extension_req) };
+
+    ghost asks_algorithm = { ⊥ };
+
+    ghost asks_key = { Unit {0} };
+
+    ghost whole = { λ part algorithm bits. record { info = part; algorithm = algorithm; signature = bits } };
+
+    fn finalize<S: Signer>(&mut self, alloc: Global, signer: &S) -> Result<Vec<u8>> {
+        let public_key = signer.public_key(alloc)?;
+        let part = self.next_part(alloc, public_key)?;
+        let bytes = part.to_der(alloc)?;
+        self.info = part;
+        Ok(bytes)
+    }
+
+    fn assemble<S: Signer>(
+        self,
+        alloc: Global,
+        signature: BitString,
+        signer: &S,
+    ) -> Result<CertReq> {
+        let RequestBuilder {
+            info,
+            attributes: _,
+            extension_req: _,
+        } = self;
+        Ok(CertReq {
+            info,
+            algorithm: signer.algorithm(alloc)?,
+            signature,
+        })
+    }
+}

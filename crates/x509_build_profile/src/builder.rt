@@ -1,0 +1,110 @@
+//! What each builder does.
+
+use crate::Result;
+use crate::signer::Signer;
+use rand_core::CryptoRng;
+use std::alloc::Global;
+use x509_der_grammar::Encode;
+use x509_prim::BitString;
+
+/// What is made of a part that gets signed: a certificate, a list of revoked certificates, or a request.
+///
+/// [`finalize`](Builder::finalize) computes the part for a signer and answers the bytes that are to be signed;
+/// [`assemble`](Builder::assemble) puts the part and a signature together. [`build`](Builder::build) is both, with a signature
+/// of the signer between them.
+pub trait Builder: Sized + Drop {
+    ghost use Rattle.std.specs.Prelude.{◌≡◌, ◌⊎◌, ℕ, List, IfOk, IfErr, OnOk, OnErr};
+    ghost use Rattle.x509_base.specs.declared.algorithm_identifier.AlgorithmIdentifier.{AlgorithmIdentifier};
+    ghost use Rattle.x509_base.specs.declared.subject_public_key_info.SubjectPublicKeyInfo.{SubjectPublicKeyInfo};
+    ghost use Rattle.x509_prim.specs.BitString.{BitParts};
+    ghost use Rattle.x509_build_profile.specs.Answer.{Answer, IsSame};
+    ghost use Rattle.x509_build_profile.specs.Parts.{Encodes, PartRefuses};
+    ghost use Rattle.x509_build_profile.specs.Refusals.{LacksMemory, ByKey, BySigning};
+
+    /// What is built.
+    type Output;
+
+    /// The part of it that is signed.
+    type Signed: Encode;
+
+    /// The part as it stands: that of the last `finalize`, before any the part as the builder was made with.
+    ghost current: { Self → Self.Signed };
+
+    /// The part that `finalize` makes for a signer of that algorithm and that key.
+    ghost next: { Self → AlgorithmIdentifier → SubjectPublicKeyInfo → Answer Self.Signed };
+
+    /// What a builder has after a `finalize` of what it had before, beside the current part: what was handed in stays.
+    ghost keeps: { Self → Self → Type 0 };
+
+    /// Whether `finalize` asks the signer for its algorithm.
+    ghost asks_algorithm: { Type 0 };
+
+    /// Whether it asks for the key.
+    ghost asks_key: { Type 0 };
+
+    /// What is put together of a part, the algorithm of the signer and the bits of the signature.
+    ghost whole: { Self.Signed → AlgorithmIdentifier → BitParts → Self.Output };
+
+    /// Computes the part anew from what was handed in and from the signer's algorithm and key, and answers its encoding: the
+    /// bytes that are to be signed. A further call with the same signer gives the same bytes.
+    ///
+    /// # Errors
+    ///
+    /// `PublicKey` of what the signer answers for its algorithm or its key, where that is asked for; what a profile answers;
+    /// `Asn1` where the part can't be made or encoded. Memory may be refused. A builder that refuses stays as it was.
+    fn finalize<S: Signer>(&mut self, alloc: Global, signer: &S) -> Result<Vec<u8>>
+        ensures ok { IfOk result (λ bytes. Encodes Self.Signed.form Self.Signed.writing (next self.old (S.algorithm_of signer.now) (S.key_of signer.now)) bytes.items) }
+        ensures part { OnOk result (current self.new ≡ (next self.old (S.algorithm_of signer.now) (S.key_of signer.now)).value) }
+        ensures again { OnOk result ((algorithm : AlgorithmIdentifier) (key : SubjectPublicKeyInfo) → IsSame (next self.new algorithm key) (next self.old algorithm key)) }
+        ensures kept { OnOk result (keeps self.old self.new) }
+        ensures err { IfErr result (λ e. ((asks_algorithm × ByKey (S.may_refuse_algorithm signer.now) e) ⊎ (asks_key × ByKey (S.may_refuse_key signer.now) e)) ⊎ PartRefuses Self.Signed.form Self.Signed.writing (next self.old (S.algorithm_of signer.now) (S.key_of signer.now)) e) }
+        ensures unchanged { OnErr result (self.new ≡ self.old) };
+
+    /// Puts the part of the last `finalize` and the signature together; before any `finalize` it is the part as the builder was
+    /// made with. That the signature is one of that part isn't looked at.
+    ///
+    /// # Errors
+    ///
+    /// `PublicKey` of what the signer answers for its algorithm, where that is asked for. Memory may be refused.
+    fn assemble<S: Signer>(
+        self,
+        alloc: Global,
+        signature: BitString,
+        signer: &S,
+    ) -> Result<Self::Output>
+        ensures ok { IfOk result (λ output. output ≡ whole (current self) (S.algorithm_of signer.now) signature) }
+        ensures err { IfErr result (λ e. ByKey (S.may_refuse_algorithm signer.now) e ⊎ LacksMemory e) };
+
+    /// Computes the part for the signer, signs its encoding, and puts both together.
+    ///
+    /// # Errors
+    ///
+    /// Those of `finalize` and of `assemble`, and `Signature` of what the signer answers for the encoding.
+    final fn build<S: Signer>(mut self, alloc: Global, signer: &S) -> Result<Self::Output>
+        ensures ok { IfOk result (λ output. (message : List ℕ) × (bits : BitParts) × Encodes Self.Signed.form Self.Signed.writing (next self (S.algorithm_of signer.now) (S.key_of signer.now)) message × S.signs signer.now message bits × (output ≡ whole (next self (S.algorithm_of signer.now) (S.key_of signer.now)).value (S.algorithm_of signer.now) bits)) }
+        ensures err { IfErr result (λ e. (ByKey (S.may_refuse_algorithm signer.now) e ⊎ (asks_key × ByKey (S.may_refuse_key signer.now) e)) ⊎ (PartRefuses Self.Signed.form Self.Signed.writing (next self (S.algorithm_of signer.now) (S.key_of signer.now)) e ⊎ ((message : List ℕ) × Encodes Self.Signed.form Self.Signed.writing (next self (S.algorithm_of signer.now) (S.key_of signer.now)) message × BySigning (S.may_refuse_message signer.now message) e))) }
+    {
+        let message = self.finalize(alloc, signer)?;
+        let signature = signer.try_sign(alloc, message.as_slice())?;
+        self.assemble(alloc, signature, signer)
+    }
+
+    /// As `build`, with a signature for which the signer may take random bytes.
+    ///
+    /// # Errors
+    ///
+    /// Those of `build`.
+    final fn build_with_rng<S: Signer, R: CryptoRng>(
+        mut self,
+        alloc: Global,
+        signer: &S,
+        rng: &mut R,
+    ) -> Result<Self::Output>
+        ensures ok { IfOk result (λ output. (message : List ℕ) × (bits : BitParts) × Encodes Self.Signed.form Self.Signed.writing (next self (S.algorithm_of signer.now) (S.key_of signer.now)) message × S.signs_with_rng signer.now message bits × (output ≡ whole (next self (S.algorithm_of signer.now) (S.key_of signer.now)).value (S.algorithm_of signer.now) bits)) }
+        ensures err { IfErr result (λ e. (ByKey (S.may_refuse_algorithm signer.now) e ⊎ (asks_key × ByKey (S.may_refuse_key signer.now) e)) ⊎ (PartRefuses Self.Signed.form Self.Signed.writing (next self (S.algorithm_of signer.now) (S.key_of signer.now)) e ⊎ ((message : List ℕ) × Encodes Self.Signed.form Self.Signed.writing (next self (S.algorithm_of signer.now) (S.key_of signer.now)) message × BySigning (S.may_refuse_message signer.now message) e))) }
+    {
+        let message = self.finalize(alloc, signer)?;
+        let signature = signer.try_sign_with_rng(alloc, rng, message.as_slice())?;
+        self.assemble(alloc, signature, signer)
+    }
+}

@@ -1,0 +1,65 @@
+-- CertReqInfo: version: Version, subject: Name, public_key: SubjectPublicKeyInfo, attributes: [0]set Attribute (RFC 2986 4.1)
+-- CertReq: info: CertReqInfo, algorithm: AlgorithmIdentifier, signature: BIT STRING (RFC 2986 4.2)
+use Rattle.std.specs.Prelude.{List}
+use Rattle.x509_base.specs.AlgorithmIdentifier.{algorithm_identifier, algorithm_identifier_lawful}
+use Rattle.x509_base.specs.SubjectPublicKeyInfo.{subject_public_key_info, subject_public_key_info_lawful}
+use Rattle.x509_base.specs.declared.algorithm_identifier.AlgorithmIdentifier.{AlgorithmIdentifier}
+use Rattle.x509_base.specs.declared.subject_public_key_info.SubjectPublicKeyInfo.{SubjectPublicKeyInfo}
+use Rattle.x509_cert.specs.Version.{version, version_lawful}
+use Rattle.x509_cert.specs.declared.request.cert_req.CertReq.{CertReq}
+use Rattle.x509_cert.specs.declared.request.cert_req.CertReqInfo.{CertReqInfo}
+use Rattle.x509_cert.specs.declared.request.version.Version.{Version}
+use Rattle.x509_der_element.specs.declared.error.ErrorKind.{ErrorKind}
+use Rattle.x509_der_element.specs.declared.tag.Tag.TheVariants.{Sequence, Set}
+use Rattle.x509_der_frames.specs.Frames.{implicit, Part, required, ◌⊗◌, fields}
+use Rattle.x509_der_frames.specs.PartRules.{part_rules}
+use Rattle.x509_der_grammar.specs.Form.{Form, IsForm, Contents, IsContents, universal}
+use Rattle.x509_der_grammar.specs.FormLaws.{universal_lawful}
+use Rattle.x509_der.specs.Set.{set_of}
+use Rattle.x509_der.specs.SetLaws.{set_lawful}
+use Rattle.x509_name_attribute.specs.Attribute.{attribute, attribute_cmp, attribute_contents, attribute_contents_lawful}
+use Rattle.x509_name_attribute.specs.declared.attribute.Attribute.{Attribute}
+use Rattle.x509_name_attribute.specs.declared.type_and_value.AttributeTypeAndValue.{AttributeTypeAndValue}
+use Rattle.x509_cert_extension.specs.Names.{name, rdn_sequence_lawful}
+use Rattle.x509_prim.specs.BitString.{BitParts, bit_string}
+use Rattle.x509_prim.specs.BitStringLaws.{bit_string_lawful}
+
+-- ---- what is signed
+
+-- SET OF Attribute, in the order of their encodings
+abbrev pub attributes : Form (List Attribute)
+attributes = universal Set (set_of attribute attribute_cmp)
+
+attributes_lawful : {R : ErrorKind → Type 0} → IsForm R attributes
+attributes_lawful = universal_lawful Set _ (set_lawful attribute attribute_cmp (universal_lawful Sequence attribute_contents attribute_contents_lawful))
+
+unfoldable pub cert_req_info_fields : Part (Version × (List (List AttributeTypeAndValue) × (SubjectPublicKeyInfo × List Attribute)))
+cert_req_info_fields = required version ⊗ (required name ⊗ (required subject_public_key_info ⊗ required (implicit 0 49 attributes)))
+
+abbrev pub cert_req_info_contents : Contents CertReqInfo
+cert_req_info_contents = fields (λ i. (i.version, (i.subject, (i.public_key, i.attributes)))) (λ (version, (subject, (public_key, attributes))). record { version = version; subject = subject; public_key = public_key; attributes = attributes }) cert_req_info_fields
+
+abbrev pub cert_req_info : Form CertReqInfo
+cert_req_info = universal Sequence cert_req_info_contents
+
+pub cert_req_info_contents_lawful : {R : ErrorKind → Type 0} → IsContents R cert_req_info_contents
+unfolding cert_req_info_fields
+cert_req_info_contents_lawful = search (part_rules, version_lawful, rdn_sequence_lawful, subject_public_key_info_lawful, attributes_lawful) depth 20
+
+pub cert_req_info_lawful : {R : ErrorKind → Type 0} → IsForm R cert_req_info
+cert_req_info_lawful = universal_lawful Sequence cert_req_info_contents cert_req_info_contents_lawful
+
+-- ---- the request
+
+unfoldable pub cert_req_fields : Part (CertReqInfo × (AlgorithmIdentifier × BitParts))
+cert_req_fields = required cert_req_info ⊗ (required algorithm_identifier ⊗ required bit_string)
+
+abbrev pub cert_req_contents : Contents CertReq
+cert_req_contents = fields (λ r. (r.info, (r.algorithm, r.signature))) (λ (info, (algorithm, signature)). record { info = info; algorithm = algorithm; signature = signature }) cert_req_fields
+
+abbrev pub cert_req : Form CertReq
+cert_req = universal Sequence cert_req_contents
+
+pub cert_req_contents_lawful : {R : ErrorKind → Type 0} → IsContents R cert_req_contents
+unfolding cert_req_fields
+cert_req_contents_lawful = search (part_rules, cert_req_info_lawful, algorithm_identifier_lawful, bit_string_lawful) depth 20

@@ -1,0 +1,75 @@
+-- TbsCertList: version: Version, signature: AlgorithmIdentifier, issuer: Name, this_update: Time, next_update: Time?,
+-- revoked_certificates: (list RevokedCert)?, crl_extensions: {0}Extensions? (RFC 5280 5.1)
+-- CertificateList: tbs_cert_list: TbsCertList, signature_algorithm: AlgorithmIdentifier, signature: BIT STRING (RFC 5280 5.1)
+use Rattle.std.specs.Prelude.{ℕ, List, Option, Result}
+use Rattle.x509_base.specs.AlgorithmIdentifier.{algorithm_identifier, algorithm_identifier_lawful}
+use Rattle.x509_base.specs.declared.algorithm_identifier.AlgorithmIdentifier.{AlgorithmIdentifier}
+use Rattle.x509_base.specs.Checked.{CheckRefuses}
+use Rattle.x509_base_time.specs.Time.{time, time_lawful}
+use Rattle.x509_base_time.specs.declared.time.Time.{Time}
+use Rattle.x509_cert_certificate.specs.Version.{version, version_lawful}
+use Rattle.x509_cert_certificate.specs.declared.version.Version.{Version}
+use Rattle.x509_cert.specs.RevokedCert.{revoked_cert, revoked_cert_lawful}
+use Rattle.x509_cert.specs.declared.crl.certificate_list.CertificateList.{CertificateList}
+use Rattle.x509_cert.specs.declared.crl.revoked_cert.RevokedCert.{RevokedCert}
+use Rattle.x509_cert.specs.declared.crl.tbs_cert_list.TbsCertList.{TbsCertList}
+use Rattle.x509_der_element.specs.declared.error.ErrorKind.{ErrorKind}
+use Rattle.x509_der_element.specs.declared.tag.Tag.TheVariants.{Sequence}
+use Rattle.x509_der_frames.specs.Frames.{explicit, Part, required, optional, ◌⊗◌, fields}
+use Rattle.x509_der_frames.specs.List.{list_of}
+use Rattle.x509_der_frames.specs.PartRules.{part_rules}
+use Rattle.x509_der_grammar.specs.Form.{Form, IsForm, Contents, IsContents, universal}
+use Rattle.x509_der_grammar.specs.FormLaws.{universal_lawful}
+use Rattle.x509_cert_certificate.specs.Extension.{extensions, extensions_lawful}
+use Rattle.x509_cert_certificate.specs.extension.Extension.{Extension}
+use Rattle.x509_name_attribute.specs.declared.type_and_value.AttributeTypeAndValue.{AttributeTypeAndValue}
+use Rattle.x509_cert_certificate.specs.Names.{name, rdn_sequence_lawful}
+use Rattle.x509_prim.specs.BitString.{BitParts, bit_string}
+use Rattle.x509_prim.specs.BitStringLaws.{bit_string_lawful}
+
+-- ---- what is signed
+
+abbrev pub Front : Type 0
+Front = Version × (AlgorithmIdentifier × (List (List AttributeTypeAndValue) × Time))
+
+abbrev pub Behind : Type 0 → Type 0
+Behind P = Option Time × (Option (List (RevokedCert P)) × Option (List Extension))
+
+unfoldable pub tbs_cert_list_fields : {P : Type 0} → (List ℕ → Result Unit ErrorKind) → Part (Front × Behind P)
+tbs_cert_list_fields check =
+    (required version ⊗ (required algorithm_identifier ⊗ (required name ⊗ required time)))
+    ⊗ (optional time ⊗ (optional (universal Sequence (list_of (revoked_cert check))) ⊗ optional (explicit 0 extensions)))
+
+abbrev pub tbs_cert_list_contents : {P : Type 0} → (List ℕ → Result Unit ErrorKind) → Contents (TbsCertList P)
+tbs_cert_list_contents check = fields
+    (λ l. ((l.version, (l.signature, (l.issuer, l.this_update))), (l.next_update, (l.revoked_certificates, l.crl_extensions))))
+    (λ ((version, (signature, (issuer, this_update))), (next_update, (revoked_certificates, crl_extensions))). record { version = version; signature = signature; issuer = issuer; this_update = this_update; next_update = next_update; revoked_certificates = revoked_certificates; crl_extensions = crl_extensions })
+    (tbs_cert_list_fields check)
+
+abbrev pub tbs_cert_list : {P : Type 0} → (List ℕ → Result Unit ErrorKind) → Form (TbsCertList P)
+tbs_cert_list check = universal Sequence (tbs_cert_list_contents check)
+
+pub tbs_cert_list_contents_lawful : {P : Type 0} (check : List ℕ → Result Unit ErrorKind) → IsContents (CheckRefuses check) (tbs_cert_list_contents {P = P} check)
+unfolding tbs_cert_list_fields
+tbs_cert_list_contents_lawful check = search (part_rules, version_lawful, algorithm_identifier_lawful, rdn_sequence_lawful, time_lawful, revoked_cert_lawful, extensions_lawful) depth 20
+
+pub tbs_cert_list_lawful : {P : Type 0} (check : List ℕ → Result Unit ErrorKind) → IsForm (CheckRefuses check) (tbs_cert_list {P = P} check)
+tbs_cert_list_lawful check = universal_lawful Sequence (tbs_cert_list_contents check) (tbs_cert_list_contents_lawful check)
+
+-- ---- the list
+
+unfoldable pub certificate_list_fields : {P : Type 0} → (List ℕ → Result Unit ErrorKind) → Part (TbsCertList P × (AlgorithmIdentifier × BitParts))
+certificate_list_fields check = required (tbs_cert_list check) ⊗ (required algorithm_identifier ⊗ required bit_string)
+
+abbrev pub certificate_list_contents : {P : Type 0} → (List ℕ → Result Unit ErrorKind) → Contents (CertificateList P)
+certificate_list_contents check = fields (λ c. (c.tbs_cert_list, (c.signature_algorithm, c.signature))) (λ (tbs_cert_list, (signature_algorithm, signature)). record { tbs_cert_list = tbs_cert_list; signature_algorithm = signature_algorithm; signature = signature }) (certificate_list_fields check)
+
+abbrev pub certificate_list : {P : Type 0} → (List ℕ → Result Unit ErrorKind) → Form (CertificateList P)
+certificate_list check = universal Sequence (certificate_list_contents check)
+
+pub certificate_list_contents_lawful : {P : Type 0} (check : List ℕ → Result Unit ErrorKind) → IsContents (CheckRefuses check) (certificate_list_contents {P = P} check)
+unfolding certificate_list_fields
+certificate_list_contents_lawful check = search (part_rules, tbs_cert_list_lawful, algorithm_identifier_lawful, bit_string_lawful) depth 20
+
+pub certificate_list_lawful : {P : Type 0} (check : List ℕ → Result Unit ErrorKind) → IsForm (CheckRefuses check) (certificate_list {P = P} check)
+certificate_list_lawful check = universal_lawful Sequence (certificate_list_contents check) (certificate_list_contents_lawful check)

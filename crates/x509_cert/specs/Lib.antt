@@ -1,0 +1,9 @@
+pub mod RevokedCert
+pub mod CertificateList
+pub mod AnySerial
+pub mod Version
+pub mod CertReq
+pub mod Identifiers
+pub mod Attributes
+pub mod ChallengePassword
+pub mod Rows

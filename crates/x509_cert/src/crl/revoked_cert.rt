@@ -1,0 +1,119 @@
+//! An entry of a list of revoked certificates.
+
+ghost use Rattle.std.specs.Prelude.{◌≡◌};
+ghost use Rattle.x509_cert_certificate.specs.Filter.{extensions_left};
+ghost use Rattle.x509_cert_certificate.specs.LookUp.{Finds, members, with_oid};
+
+use std::alloc::Global;
+use x509_base::SerialNumber;
+use x509_base_time::{Profile, Rfc5280, Time};
+use x509_cert_certificate::{
+    Extensions, FilterExtensions, filter_extensions, get_extension, members,
+};
+use x509_der::AssociatedOid;
+use x509_der_frames::{PutPart, end, field, optional, optional_field};
+use x509_der_grammar::{Content, Decode, Error, Room, Tag, TryClone};
+
+/// A certificate that was revoked: an entry of a list (RFC 5280 5.1.2.6). Reading asks the profile whether the serial number
+/// may stand. The date is written as it is.
+///
+/// ```text
+/// RevokedCert ::= SEQUENCE {
+///     userCertificate     CertificateSerialNumber,
+///     revocationDate      Time,
+///     crlEntryExtensions  Extensions OPTIONAL }
+/// ```
+#[derive(Debug, PartialEq, Eq)]
+pub struct RevokedCert<P: Profile = Rfc5280> {
+    /// The number that the issuer gave the certificate.
+    pub serial_number: SerialNumber<P>,
+
+    /// When it was revoked.
+    pub revocation_date: Time,
+
+    /// What more is said, as why it was revoked.
+    pub crl_entry_extensions: Option<Extensions>,
+}
+
+impl<P: Profile> RevokedCert<P> {
+    /// The extension of the entry with the identifier of the type: whether it is critical, and its value.
+    ///
+    /// `None` exactly where none has the identifier; `Failed` where two or more have it, whatever they hold; else refused as
+    /// [`Decode::from_der`] is on the octets of the one.
+    pub fn get_extension<T: AssociatedOid + Decode>(
+        &self,
+        alloc: Global,
+    ) -> Result<Option<(bool, T)>, Error>
+        ensures { Finds T.form T.refuses T.wants_memory (with_oid T.OID (members self.now.crl_entry_extensions)) result }
+    {
+        get_extension(alloc, members(&self.crl_entry_extensions))
+    }
+
+    /// The extensions of the entry with the identifier of the type, in their order.
+    pub fn filter_extensions<T: AssociatedOid + Decode>(
+        &self,
+        alloc: Global,
+    ) -> FilterExtensions<'_, T>
+        ensures { extensions_left T.OID result ≡ with_oid T.OID (members self.now.crl_entry_extensions) }
+    {
+        filter_extensions(alloc, members(&self.crl_entry_extensions))
+    }
+}
+
+impl<P: Profile> Drop for RevokedCert<P> {
+    fn drop(self) {
+        let RevokedCert {
+            serial_number: _,
+            revocation_date: _,
+            crl_entry_extensions: _,
+        } = self;
+    }
+}
+
+impl<P: Profile> TryClone for RevokedCert<P> {
+    fn try_clone(&self, alloc: Global) -> Result<RevokedCert<P>, Error> {
+        Ok(RevokedCert {
+            serial_number: self.serial_number.try_clone(alloc)?,
+            revocation_date: self.revocation_date,
+            crl_entry_extensions: self.crl_entry_extensions.try_clone(alloc)?,
+        })
+    }
+}
+
+#[tactic(auto, unfolding(crate::specs::RevokedCert::revoked_cert_fields, x509_der_frames::specs::Frames::fields_reading, x509_der_frames::specs::Frames::fields_octets))]
+impl<P: Profile> Content for RevokedCert<P> {
+    ghost use Rattle.x509_base.specs.Checked.{CheckRefuses};
+    ghost use Rattle.x509_cert.specs.RevokedCert as grammar;
+    ghost use Rattle.x509_der_element.specs.declared.tag.Tag.TheVariants.{Sequence};
+
+    ghost contents = { grammar.revoked_cert_contents P.serial_check };
+
+    ghost refusals = { CheckRefuses P.serial_check };
+
+    ghost IDENTIFIER = { Sequence };
+
+    const IDENTIFIER: Tag = Tag::Sequence;
+
+    fn read_content(alloc: Global, octets: &[u8]) -> Result<RevokedCert<P>, Error> {
+        let mut rest = octets;
+        let serial_number = field::<SerialNumber<P>>(alloc, &mut rest)?;
+        let revocation_date = field::<Time>(alloc, &mut rest)?;
+        let crl_entry_extensions = optional_field::<Extensions>(alloc, &mut rest)?;
+        end(rest)?;
+        Ok(RevokedCert {
+            serial_number,
+            revocation_date,
+            crl_entry_extensions,
+        })
+    }
+
+    fn write_content<R: Room>(&self, room: &mut R) -> Result<(), Error> {
+        let parts = (
+            &self.serial_number,
+            (&self.revocation_date, optional(&self.crl_entry_extensions)),
+        );
+        parts.put_text(room)
+    }
+
+    ghost contents_lawful = { grammar.revoked_cert_contents_lawful P.serial_check };
+}

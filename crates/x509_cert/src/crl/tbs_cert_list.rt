@@ -1,0 +1,162 @@
+//! The part of a list of revoked certificates that is signed.
+
+ghost use Rattle.std.specs.Prelude.{◌≡◌};
+ghost use Rattle.x509_cert_certificate.specs.Filter.{extensions_left};
+ghost use Rattle.x509_cert_certificate.specs.LookUp.{Finds, members, with_oid};
+
+use crate::crl::revoked_cert::RevokedCert;
+use std::alloc::Global;
+use x509_base::AlgorithmIdentifier;
+use x509_base_time::{Profile, Rfc5280, Time};
+use x509_cert_certificate::{
+    Extensions, FilterExtensions, Name, Version, filter_extensions, get_extension, members,
+};
+use x509_der::AssociatedOid;
+use x509_der_frames::{
+    PutPart, SequenceOf, end, explicit_optional, field, optional, optional_explicit, optional_field,
+};
+use x509_der_grammar::{Content, Decode, Error, Room, Tag, TryClone};
+
+/// The part of a list of revoked certificates that is signed (RFC 5280 5.1.2). The version is always there. Times are
+/// written as they are. That the version is v2, and that a list of entries is left out where there are none, as RFC 5280
+/// wants it, isn't looked at.
+///
+/// ```text
+/// TBSCertList ::= SEQUENCE {
+///     version              Version,
+///     signature            AlgorithmIdentifier,
+///     issuer               Name,
+///     thisUpdate           Time,
+///     nextUpdate           Time OPTIONAL,
+///     revokedCertificates  SEQUENCE OF RevokedCert OPTIONAL,
+///     crlExtensions        [0] EXPLICIT Extensions OPTIONAL }
+/// ```
+#[derive(Debug, PartialEq, Eq)]
+pub struct TbsCertList<P: Profile = Rfc5280> {
+    /// The version of the list.
+    pub version: Version,
+
+    /// The algorithm of the signature, as the whole has it once more.
+    pub signature: AlgorithmIdentifier,
+
+    /// Who signed the list.
+    pub issuer: Name,
+
+    /// When the list was issued.
+    pub this_update: Time,
+
+    /// By when the next list will be issued.
+    pub next_update: Option<Time>,
+
+    /// The certificates that were revoked.
+    pub revoked_certificates: Option<SequenceOf<RevokedCert<P>>>,
+
+    /// What more is said, as the number of the list.
+    pub crl_extensions: Option<Extensions>,
+}
+
+impl<P: Profile> TbsCertList<P> {
+    /// The extension of the list with the identifier of the type: whether it is critical, and its value.
+    ///
+    /// `None` exactly where none has the identifier; `Failed` where two or more have it, whatever they hold; else refused as
+    /// [`Decode::from_der`] is on the octets of the one.
+    pub fn get_extension<T: AssociatedOid + Decode>(
+        &self,
+        alloc: Global,
+    ) -> Result<Option<(bool, T)>, Error>
+        ensures { Finds T.form T.refuses T.wants_memory (with_oid T.OID (members self.now.crl_extensions)) result }
+    {
+        get_extension(alloc, members(&self.crl_extensions))
+    }
+
+    /// The extensions of the list with the identifier of the type, in their order.
+    pub fn filter_extensions<T: AssociatedOid + Decode>(
+        &self,
+        alloc: Global,
+    ) -> FilterExtensions<'_, T>
+        ensures { extensions_left T.OID result ≡ with_oid T.OID (members self.now.crl_extensions) }
+    {
+        filter_extensions(alloc, members(&self.crl_extensions))
+    }
+}
+
+impl<P: Profile> Drop for TbsCertList<P> {
+    fn drop(self) {
+        let TbsCertList {
+            version: _,
+            signature: _,
+            issuer: _,
+            this_update: _,
+            next_update: _,
+            revoked_certificates: _,
+            crl_extensions: _,
+        } = self;
+    }
+}
+
+impl<P: Profile> TryClone for TbsCertList<P> {
+    fn try_clone(&self, alloc: Global) -> Result<TbsCertList<P>, Error> {
+        Ok(TbsCertList {
+            version: self.version,
+            signature: self.signature.try_clone(alloc)?,
+            issuer: self.issuer.try_clone(alloc)?,
+            this_update: self.this_update,
+            next_update: self.next_update,
+            revoked_certificates: self.revoked_certificates.try_clone(alloc)?,
+            crl_extensions: self.crl_extensions.try_clone(alloc)?,
+        })
+    }
+}
+
+#[tactic(auto, unfolding(crate::specs::CertificateList::tbs_cert_list_fields, x509_der_frames::specs::Frames::fields_reading, x509_der_frames::specs::Frames::fields_octets))]
+impl<P: Profile> Content for TbsCertList<P> {
+    ghost use Rattle.x509_base.specs.Checked.{CheckRefuses};
+    ghost use Rattle.x509_cert.specs.CertificateList as grammar;
+    ghost use Rattle.x509_der_element.specs.declared.tag.Tag.TheVariants.{Sequence};
+
+    ghost contents = { grammar.tbs_cert_list_contents P.serial_check };
+
+    ghost refusals = { CheckRefuses P.serial_check };
+
+    ghost IDENTIFIER = { Sequence };
+
+    const IDENTIFIER: Tag = Tag::Sequence;
+
+    fn read_content(alloc: Global, octets: &[u8]) -> Result<TbsCertList<P>, Error> {
+        let mut rest = octets;
+        let version = field::<Version>(alloc, &mut rest)?;
+        let signature = field::<AlgorithmIdentifier>(alloc, &mut rest)?;
+        let issuer = field::<Name>(alloc, &mut rest)?;
+        let this_update = field::<Time>(alloc, &mut rest)?;
+        let next_update = optional_field::<Time>(alloc, &mut rest)?;
+        let revoked_certificates = optional_field::<SequenceOf<RevokedCert<P>>>(alloc, &mut rest)?;
+        let crl_extensions = optional_explicit::<Extensions>(alloc, 0, &mut rest)?;
+        end(rest)?;
+        Ok(TbsCertList {
+            version,
+            signature,
+            issuer,
+            this_update,
+            next_update,
+            revoked_certificates,
+            crl_extensions,
+        })
+    }
+
+    fn write_content<R: Room>(&self, room: &mut R) -> Result<(), Error> {
+        let front = (
+            &self.version,
+            (&self.signature, (&self.issuer, &self.this_update)),
+        );
+        let behind = (
+            optional(&self.next_update),
+            (
+                optional(&self.revoked_certificates),
+                explicit_optional(0, &self.crl_extensions),
+            ),
+        );
+        (front, behind).put_text(room)
+    }
+
+    ghost contents_lawful = { grammar.tbs_cert_list_contents_lawful P.serial_check };
+}

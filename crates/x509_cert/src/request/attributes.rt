@@ -1,0 +1,89 @@
+//! What requests have as attributes, and how attributes are made of it.
+
+ghost use Rattle.x509_cert.specs.Attributes.{MakesAttribute};
+ghost use Rattle.x509_der_grammar.specs.Writing.{writes};
+
+use crate::request::identifiers::pkcs_9;
+use std::alloc::Global;
+use x509_der::{AssociatedOid, ObjectIdentifier, SetOfVec};
+use x509_der_frames::Any;
+use x509_der_grammar::{Encode, Error, Grammar, Room, Tag, Tagged};
+use x509_name_attribute::{Attribute, DirectoryString};
+
+/// A value that an attribute of a request may have. The type of the attribute is the identifier of the value's type.
+pub trait AsAttribute: AssociatedOid + Tagged + Encode {
+    ghost use Rattle.x509_cert.specs.Attributes.{MakesAttribute};
+    ghost use Rattle.x509_der_grammar.specs.Writing.{writes};
+
+    /// The attribute whose one value is the encoding of the value.
+    ///
+    /// Memory aside it is refused exactly as [`Encode::to_der`] is.
+    fn to_attribute(&self, alloc: Global) -> Result<Attribute, Error>
+        ensures { MakesAttribute Self.OID Self.form (writes Self.writing self.now) result }
+    {
+        attribute_of(alloc, Self::OID, self)
+    }
+}
+
+/// The attribute of that type whose one value is the encoding of the value.
+pub(crate) fn attribute_of<T: Encode>(
+    alloc: Global,
+    oid: ObjectIdentifier,
+    value: &T,
+) -> Result<Attribute, Error>
+    ensures { MakesAttribute oid T.form (writes T.writing value.now) result }
+{
+    let element = Any::encode_from(alloc, value)?;
+    let mut values = SetOfVec::new(alloc);
+    values.insert(element)?;
+    Ok(Attribute { oid, values })
+}
+
+/// A password by which the subject may ask later that the certificate be revoked (RFC 2985 5.4.1). It is encoded as its
+/// text is, and isn't read. Its identifier is 1.2.840.113549.1.9.7.
+///
+/// ```text
+/// ChallengePassword ::= DirectoryString
+/// ```
+#[derive(Drop)]
+pub struct ChallengePassword(pub DirectoryString);
+
+impl AssociatedOid for ChallengePassword {
+    ghost use Rattle.x509_cert.specs.Identifiers.{pkcs_9};
+
+    ghost OID = { pkcs_9 7 };
+
+    const OID: ObjectIdentifier = pkcs_9!(7);
+}
+
+impl Grammar for ChallengePassword {
+    ghost use Rattle.x509_cert.specs.ChallengePassword as grammar;
+
+    ghost form = { grammar.challenge_password };
+
+    fn identifier(&self) -> Tag {
+        self.0.identifier()
+    }
+
+    fn is_start(octet: u8) -> bool {
+        DirectoryString::is_start(octet)
+    }
+
+    fn usual() -> Tag {
+        DirectoryString::usual()
+    }
+
+    ghost lawful = { grammar.challenge_password_lawful };
+}
+
+impl Encode for ChallengePassword {
+    ghost use Rattle.std.specs.Prelude.{refl};
+
+    fn put_content<R: Room>(&self, room: &mut R) -> Result<(), Error> {
+        self.0.put_content(room)
+    }
+
+    ghost same_tag = { λ value. refl };
+}
+
+impl AsAttribute for ChallengePassword {}

@@ -1,0 +1,171 @@
+//! Requests for certificates.
+
+ghost use Rattle.std.specs.Prelude.{◌≡◌, ◌<◌, ◌≤◌, ◌⊎◌, length, IfOk, IfErr, IsErrAnd};
+ghost use Rattle.x509_cert.specs.CertReq.{cert_req};
+ghost use Rattle.x509_cert.specs.declared.request.cert_req.CertReq.{CertReq};
+ghost use Rattle.x509_der_element.specs.Element.{limit};
+ghost use Rattle.x509_der_element.specs.declared.error.ErrorKind.TheVariants as errors;
+ghost use Rattle.x509_der_grammar.specs.Form.{Spells};
+
+use crate::request::version::Version;
+use std::alloc::Global;
+use x509_base::{AlgorithmIdentifier, SubjectPublicKeyInfo};
+use x509_cert_extension::Name;
+use x509_der_frames::{PutPart, end, field, implicit, implicit_field};
+use x509_der_grammar::{Content, Decode, Error, Room, Tag, TryClone};
+use x509_name_attribute::Attributes;
+use x509_prim::BitString;
+
+/// What is asked for, and by whom: the part of a request that is signed (RFC 2986 4.1).
+///
+/// ```text
+/// CertificationRequestInfo ::= SEQUENCE {
+///     version        INTEGER { v1(0) },
+///     subject        Name,
+///     subjectPKInfo  SubjectPublicKeyInfo,
+///     attributes     [0] IMPLICIT Attributes }
+/// ```
+#[derive(Debug, Drop, PartialEq, Eq)]
+pub struct CertReqInfo {
+    /// The version of the request.
+    pub version: Version,
+
+    /// Who asks.
+    pub subject: Name,
+
+    /// The key that is to be certified.
+    pub public_key: SubjectPublicKeyInfo,
+
+    /// What more is said or asked, as the extensions of the certificate. The set is written where it is empty too.
+    pub attributes: Attributes,
+}
+
+impl TryClone for CertReqInfo {
+    fn try_clone(&self, alloc: Global) -> Result<CertReqInfo, Error> {
+        Ok(CertReqInfo {
+            version: self.version,
+            subject: self.subject.try_clone(alloc)?,
+            public_key: self.public_key.try_clone(alloc)?,
+            attributes: self.attributes.try_clone(alloc)?,
+        })
+    }
+}
+
+#[tactic(auto, unfolding(crate::specs::CertReq::cert_req_info_fields, x509_der_frames::specs::Frames::fields_reading, x509_der_frames::specs::Frames::fields_octets))]
+impl Content for CertReqInfo {
+    ghost use Rattle.x509_cert.specs.CertReq as grammar;
+    ghost use Rattle.x509_der_element.specs.declared.tag.Tag.TheVariants.{Sequence};
+
+    ghost contents = { grammar.cert_req_info_contents };
+
+    ghost IDENTIFIER = { Sequence };
+
+    const IDENTIFIER: Tag = Tag::Sequence;
+
+    fn read_content(alloc: Global, octets: &[u8]) -> Result<CertReqInfo, Error> {
+        let mut rest = octets;
+        let version = field::<Version>(alloc, &mut rest)?;
+        let subject = field::<Name>(alloc, &mut rest)?;
+        let public_key = field::<SubjectPublicKeyInfo>(alloc, &mut rest)?;
+        let attributes = implicit_field::<Attributes>(alloc, 0, &mut rest)?;
+        end(rest)?;
+        Ok(CertReqInfo {
+            version,
+            subject,
+            public_key,
+            attributes,
+        })
+    }
+
+    fn write_content<R: Room>(&self, room: &mut R) -> Result<(), Error> {
+        let parts = (
+            &self.version,
+            (
+                &self.subject,
+                (&self.public_key, implicit(0, &self.attributes)),
+            ),
+        );
+        parts.put_text(room)
+    }
+
+    ghost contents_lawful = { grammar.cert_req_info_contents_lawful };
+}
+
+/// A request for a certificate, signed with the key that is to be certified (RFC 2986 4.2). That the signature fits isn't
+/// looked at.
+///
+/// ```text
+/// CertificationRequest ::= SEQUENCE {
+///     certificationRequestInfo  CertificationRequestInfo,
+///     signatureAlgorithm        AlgorithmIdentifier,
+///     signature                 BIT STRING }
+/// ```
+#[derive(Debug, Drop, PartialEq, Eq)]
+pub struct CertReq {
+    /// What is asked for: the part that is signed.
+    pub info: CertReqInfo,
+
+    /// The algorithm of the signature.
+    pub algorithm: AlgorithmIdentifier,
+
+    /// The signature.
+    pub signature: BitString,
+}
+
+impl CertReq {
+    /// The request that the bytes spell, as [`Decode::from_der`] answers it.
+    ///
+    /// `Overlength` exactly where they are more than [`Length::MAX`](x509_der_grammar::Length::MAX); within that `Malformed`
+    /// exactly where they spell no request. Memory may be refused.
+    pub fn try_from_bytes(alloc: Global, bytes: &[u8]) -> Result<CertReq, Error>
+        ensures found { IfOk result (λ request. Spells cert_req request bytes.now) }
+        ensures value { (request : CertReq) → Spells cert_req request bytes.now → IfOk result (λ found. found ≡ request) }
+        ensures only { (request : CertReq) → Spells cert_req request bytes.now → IfErr result (λ e. e.kind ≡ errors.Memory) }
+        ensures overlength { limit < length bytes.now → IsErrAnd result (λ e. e.kind ≡ errors.Overlength) }
+        ensures refused { length bytes.now ≤ limit → IfErr result (λ e. (e.kind ≡ errors.Memory) ⊎ (e.kind ≡ errors.Malformed)) }
+    {
+        CertReq::from_der(alloc, bytes)
+    }
+}
+
+impl TryClone for CertReq {
+    fn try_clone(&self, alloc: Global) -> Result<CertReq, Error> {
+        Ok(CertReq {
+            info: self.info.try_clone(alloc)?,
+            algorithm: self.algorithm.try_clone(alloc)?,
+            signature: self.signature.try_clone(alloc)?,
+        })
+    }
+}
+
+#[tactic(auto, unfolding(crate::specs::CertReq::cert_req_fields, x509_der_frames::specs::Frames::fields_reading, x509_der_frames::specs::Frames::fields_octets))]
+impl Content for CertReq {
+    ghost use Rattle.x509_cert.specs.CertReq as grammar;
+    ghost use Rattle.x509_der_element.specs.declared.tag.Tag.TheVariants.{Sequence};
+
+    ghost contents = { grammar.cert_req_contents };
+
+    ghost IDENTIFIER = { Sequence };
+
+    const IDENTIFIER: Tag = Tag::Sequence;
+
+    fn read_content(alloc: Global, octets: &[u8]) -> Result<CertReq, Error> {
+        let mut rest = octets;
+        let info = field::<CertReqInfo>(alloc, &mut rest)?;
+        let algorithm = field::<AlgorithmIdentifier>(alloc, &mut rest)?;
+        let signature = field::<BitString>(alloc, &mut rest)?;
+        end(rest)?;
+        Ok(CertReq {
+            info,
+            algorithm,
+            signature,
+        })
+    }
+
+    fn write_content<R: Room>(&self, room: &mut R) -> Result<(), Error> {
+        let parts = (&self.info, (&self.algorithm, &self.signature));
+        parts.put_text(room)
+    }
+
+    ghost contents_lawful = { grammar.cert_req_contents_lawful };
+}

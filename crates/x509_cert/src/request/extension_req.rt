@@ -1,0 +1,129 @@
+//! The extensions that a request asks for.
+
+ghost use Rattle.std.specs.Prelude.{◌≡◌, []};
+ghost use Rattle.x509_cert_extension.specs.Filter.{extensions_left};
+ghost use Rattle.x509_cert_extension.specs.LookUp.{Finds, with_oid};
+ghost use Rattle.x509_cert.specs.Attributes.{MakesAttribute};
+ghost use Rattle.x509_cert.specs.Identifiers.{pkcs_9};
+ghost use Rattle.x509_der_grammar.specs.Writing.{plain, writes};
+ghost use Rattle.x509_ext_frame.specs.Extension.{extensions};
+
+use crate::request::attributes::attribute_of;
+use crate::request::identifiers::pkcs_9;
+use std::alloc::Global;
+use x509_cert_extension::{FilterExtensions, filter_extensions, get_extension};
+use x509_der::{AssociatedOid, ObjectIdentifier};
+use x509_der_grammar::{Decode, Error, Newtype};
+use x509_ext_frame::Extensions;
+use x509_name_attribute::Attribute;
+
+/// The extensions that a request asks for, as the value of an attribute (RFC 2985 5.4.2, RFC 5272 3.1). Its identifier is
+/// 1.2.840.113549.1.9.14. A sequence without members is read and written too.
+///
+/// ```text
+/// ExtensionReq ::= SEQUENCE OF Extension
+/// ```
+#[derive(Debug, Drop, PartialEq, Eq)]
+pub struct ExtensionReq(pub Extensions);
+
+impl ExtensionReq {
+    /// No extensions. It takes no memory.
+    pub fn new(alloc: Global) -> ExtensionReq
+        ensures { result.0 ≡ [] }
+    {
+        ExtensionReq(Extensions::new(alloc))
+    }
+
+    /// The extension with the identifier of the type: whether it is critical, and its value.
+    ///
+    /// `None` exactly where none has the identifier; `Failed` where two or more have it, whatever they hold; else refused as
+    /// [`Decode::from_der`] is on the octets of the one.
+    pub fn get_extension<T: AssociatedOid + Decode>(
+        &self,
+        alloc: Global,
+    ) -> Result<Option<(bool, T)>, Error>
+        ensures { Finds T.form T.refuses T.wants_memory (with_oid T.OID self.now.0) result }
+    {
+        get_extension(alloc, self.0.as_slice())
+    }
+
+    /// The extensions with the identifier of the type, in their order.
+    pub fn filter_extensions<T: AssociatedOid + Decode>(
+        &self,
+        alloc: Global,
+    ) -> FilterExtensions<'_, T>
+        ensures { extensions_left T.OID result ≡ with_oid T.OID self.now.0 }
+    {
+        filter_extensions(alloc, self.0.as_slice())
+    }
+}
+
+/// The attribute whose one value is the encoding of the extensions (RFC 2985 5.4.2).
+///
+/// It is `Overlength` exactly where that encoding is longer than [`Length::MAX`](x509_der_grammar::Length::MAX). Memory may
+/// be refused.
+pub fn extension_req_attribute(alloc: Global, req: ExtensionReq) -> Result<Attribute, Error>
+    ensures { MakesAttribute (pkcs_9 14) extensions (writes plain req.0) result }
+{
+    attribute_of(alloc, ExtensionReq::OID, &req)
+}
+
+impl AssociatedOid for ExtensionReq {
+    ghost OID = { pkcs_9 14 };
+
+    const OID: ObjectIdentifier = pkcs_9!(14);
+}
+
+impl Newtype for ExtensionReq {
+    ghost use Rattle.std.specs.Prelude.{refl};
+
+    type Inner = Extensions;
+
+    ghost round = { record { to = λ req. req.0; from = λ extensions. record { 0 = extensions }; back = λ req. refl; there = λ extensions. refl } };
+
+    fn inner(&self) -> &Extensions {
+        &self.0
+    }
+
+    fn from_inner(inner: Extensions) -> ExtensionReq {
+        ExtensionReq(inner)
+    }
+}
+
+impl From<Extensions> for ExtensionReq {
+    ghost from_gives = { λ extensions req. req.0 ≡ extensions };
+
+    fn from(extensions: Extensions) -> ExtensionReq {
+        ExtensionReq(extensions)
+    }
+}
+
+impl From<ExtensionReq> for Extensions {
+    ghost from_gives = { λ req extensions. extensions ≡ req.0 };
+
+    fn from(req: ExtensionReq) -> Extensions {
+        let ExtensionReq(extensions) = req;
+        extensions
+    }
+}
+
+impl AsRef<Extensions> for ExtensionReq {
+    fn as_ref(&self) -> &Extensions
+        ensures { result.now ≡ self.now.0 }
+    {
+        &self.0
+    }
+}
+
+impl AsMut<Extensions> for ExtensionReq {
+    ghost use Rattle.std.specs.Borrow.{Lends, sem};
+    ghost use Rattle.x509_cert.specs.Rows.{extensions_row};
+    ghost use Rattle.x509_cert.specs.contracts.request.extension_req.ExtensionReq.{the_row};
+
+    fn as_mut(&mut self) -> &mut Extensions
+        ensures* writes_back { sem 𝓛 (Lends the_row extensions_row self.entry result (λ w. record { 0 = w })) }
+        ensures value { result.now ≡ self.old.0 }
+    {
+        &mut self.0
+    }
+}

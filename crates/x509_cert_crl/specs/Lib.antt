@@ -1,3 +1,0 @@
-pub mod RevokedCert
-pub mod CertificateList
-pub mod AnySerial

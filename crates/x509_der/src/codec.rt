@@ -1,0 +1,55 @@
+//! OBJECT IDENTIFIER, read and written (X.690 8.19).
+
+ghost use Rattle.std.specs.Prelude.{◌≡◌, Ok};
+
+use crate::identifier::ObjectIdentifier;
+use std::alloc::Global;
+use std::cmp::Ordering;
+use x509_der_order::{Content, Error, Room, Tag, TryClone, ValueOrd};
+
+#[tactic(auto, unfolding(crate::specs::ObjectIdentifierForm::object_identifier_reading))]
+impl Content for ObjectIdentifier {
+    ghost use Rattle.x509_der_order.specs.tag.Tag.TheVariants as tags;
+    ghost use Rattle.x509_der.specs.ObjectIdentifierForm as grammar;
+
+    ghost contents = { grammar.object_identifier_contents };
+
+    ghost takes_memory = { ⊥ };
+
+    ghost IDENTIFIER = { tags.ObjectIdentifier };
+
+    const IDENTIFIER: Tag = Tag::ObjectIdentifier;
+
+    #[inline(always)]
+    fn read_content(_alloc: Global, octets: &[u8]) -> Result<ObjectIdentifier, Error> {
+        ObjectIdentifier::from_bytes(octets)
+    }
+
+    fn write_content<R: Room>(&self, room: &mut R) -> Result<(), Error> {
+        room.put(self.as_bytes())
+    }
+
+    ghost contents_lawful = { grammar.object_identifier_contents_lawful };
+}
+
+impl ValueOrd for ObjectIdentifier {
+    ghost use Rattle.x509_der_order.specs.Writing.{plain, writes};
+    ghost use Rattle.x509_der.specs.ObjectIdentifierForm as grammar;
+    ghost use Rattle.x509_der_order.specs.Ordered.{by_bytes};
+
+    ghost order = { by_bytes grammar.object_identifier };
+
+    fn value_cmp(&self, other: &ObjectIdentifier) -> Ordering {
+        self.as_bytes().cmp(other.as_bytes())
+    }
+
+    ghost ordered = { grammar.object_identifier_ordered (writes plain) };
+}
+
+impl TryClone for ObjectIdentifier {
+    fn try_clone(&self, _alloc: Global) -> Result<ObjectIdentifier, Error>
+        ensures { result ≡ Ok self.now }
+    {
+        Ok(*self)
+    }
+}

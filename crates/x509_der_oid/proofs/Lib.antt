@@ -1,4 +1,0 @@
-pub mod Steps
-pub mod TextLaws
-pub mod Numerals
-pub mod StandardFacts

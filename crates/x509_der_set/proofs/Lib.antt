@@ -1,3 +1,0 @@
-pub mod RisingLists
-pub mod OneSet
-mod SetOrders

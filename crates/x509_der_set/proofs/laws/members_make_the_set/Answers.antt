@@ -1,9 +1,0 @@
-use Rattle.x509_der_grammar.specs.Writing.{writes}
-use Rattle.x509_der_order.specs.Ordered.{der_lawful}
-use Rattle.x509_der_set.proofs.OneSet.{one_set}
-use Rattle.x509_der_set.proofs.laws.members_make_the_set.Goals as goal
-
-pub returns : goal.returns
-returns g c a b s t p =
-    let lawful = der_lawful g.T.Grammar.form (writes g.T.Encode.writing) g.T.ValueOrd.order g.met.T.ValueOrd.ordered in
-    one_set lawful.total lawful.exact a b s t p

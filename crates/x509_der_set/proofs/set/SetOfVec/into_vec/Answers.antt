@@ -1,5 +1,0 @@
-use Rattle.x509_der_set.proofs.SetOrders.{as_encoded}
-use Rattle.x509_der_set.proofs.set.SetOfVec.into_vec.Goals as goal
-
-pub returns-clause-sorted : goal.returns-clause-sorted
-returns-clause-sorted g c = as_encoded _ _ g.met.T.SetMember.in_der_order _ (rw (← c.self.view_is) c.self.invariant)

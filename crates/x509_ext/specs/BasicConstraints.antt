@@ -1,0 +1,24 @@
+-- BasicConstraints: ca: BOOLEAN=FALSE, path_len_constraint: u8? (RFC 5280 4.2.1.9)
+use Rattle.std.specs.Prelude.{ℕ, ◌^◌, Bool, Option}
+use Rattle.x509_der_element.specs.declared.error.ErrorKind.{ErrorKind}
+use Rattle.x509_der_element.specs.declared.tag.Tag.TheVariants.{Sequence}
+use Rattle.x509_der_grammar.specs.Form.{Form, Contents, IsContents, universal}
+use Rattle.x509_der_grammar.specs.Boolean.{boolean}
+use Rattle.x509_der_grammar.specs.Natural.{natural}
+use Rattle.x509_der_frames.specs.Frames.{Part, optional, defaulted, ◌⊗◌, fields}
+use Rattle.x509_der_frames.specs.DefaultValues.{boolean_default}
+use Rattle.x509_der_frames.specs.PartRules.{part_rules}
+use Rattle.x509_ext.specs.declared.pkix.basic_constraints.BasicConstraints.{BasicConstraints}
+
+unfoldable pub basic_constraints_fields : Part (Bool × Option ℕ)
+basic_constraints_fields = defaulted boolean_default boolean ⊗ optional (natural (2 ^ 8))
+
+abbrev pub basic_constraints_contents : Contents BasicConstraints
+basic_constraints_contents = fields (λ b. (b.ca, b.path_len_constraint)) (λ (ca, path_len_constraint). record { ca = ca; path_len_constraint = path_len_constraint }) basic_constraints_fields
+
+abbrev pub basic_constraints : Form BasicConstraints
+basic_constraints = universal Sequence basic_constraints_contents
+
+pub basic_constraints_contents_lawful : {R : ErrorKind → Type 0} → IsContents R basic_constraints_contents
+unfolding basic_constraints_fields
+basic_constraints_contents_lawful = search (part_rules) depth 20

@@ -1,0 +1,20 @@
+-- PrivateKeyUsagePeriod: not_before: [0]GeneralizedTime?, not_after: [1]GeneralizedTime? (X.509 9.2.2.5; its identifier:
+-- RFC 5280 appendix A.2). No profile respells its times.
+use Rattle.std.specs.Prelude.{Option}
+use Rattle.x509_base_time.specs.CivilTime.{CivilTime}
+use Rattle.x509_base_time.specs.TimeForms.{generalized_time, generalized_time_lawful}
+use Rattle.x509_der_element.specs.declared.error.ErrorKind.{ErrorKind}
+use Rattle.x509_der_grammar.specs.Form.{Contents, IsContents}
+use Rattle.x509_der_frames.specs.Frames.{Part, implicit, optional, ◌⊗◌, fields}
+use Rattle.x509_der_frames.specs.PartRules.{part_rules}
+use Rattle.x509_ext.specs.declared.pkix.private_key_usage_period.PrivateKeyUsagePeriod.{PrivateKeyUsagePeriod}
+
+unfoldable pub private_key_usage_period_fields : Part (Option CivilTime × Option CivilTime)
+private_key_usage_period_fields = optional (implicit 0 24 generalized_time) ⊗ optional (implicit 1 24 generalized_time)
+
+abbrev pub private_key_usage_period_contents : Contents PrivateKeyUsagePeriod
+private_key_usage_period_contents = fields (λ p. (p.not_before, p.not_after)) (λ (not_before, not_after). record { not_before = not_before; not_after = not_after }) private_key_usage_period_fields
+
+pub private_key_usage_period_contents_lawful : {R : ErrorKind → Type 0} → IsContents R private_key_usage_period_contents
+unfolding private_key_usage_period_fields
+private_key_usage_period_contents_lawful = search (part_rules, generalized_time_lawful) depth 20

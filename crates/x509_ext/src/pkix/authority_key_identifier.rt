@@ -1,0 +1,133 @@
+//! By what the key of an issuer is told.
+
+ghost use Rattle.sha1.specs.Sha1.{sha1};
+ghost use Rattle.std.specs.Prelude.{◌≡◌, Some, None, IfOk, IfErr};
+ghost use Rattle.x509_der_element.specs.declared.error.ErrorKind.TheVariants.{Memory};
+
+use crate::pkix::key_identifier;
+use std::alloc::Global;
+use x509_base::{SerialNumber, SubjectPublicKeyInfoRef};
+use x509_der::{AssociatedOid, ObjectIdentifier};
+use x509_der_frames::{PutPart, end, implicit_optional, optional_implicit};
+use x509_der_grammar::{Content, Error, Room, Tag, TryClone};
+use x509_ext_frame::{Criticality, Extension, id_ce};
+use x509_ext_name::{GeneralNames, Name};
+use x509_prim::OctetString;
+
+/// By what the key that signed a certificate is told from others (RFC 5280 4.2.1.1). Its identifier is 2.5.29.35, and it
+/// isn't critical.
+///
+/// ```text
+/// AuthorityKeyIdentifier ::= SEQUENCE {
+///     keyIdentifier              [0] IMPLICIT OCTET STRING OPTIONAL,
+///     authorityCertIssuer        [1] IMPLICIT GeneralNames OPTIONAL,
+///     authorityCertSerialNumber  [2] IMPLICIT CertificateSerialNumber OPTIONAL }
+/// ```
+#[derive(Debug, Drop, PartialEq, Eq)]
+pub struct AuthorityKeyIdentifier {
+    /// The identifier of the key.
+    pub key_identifier: Option<OctetString>,
+
+    /// The issuer of a certificate of that key.
+    pub authority_cert_issuer: Option<GeneralNames>,
+
+    /// The serial number of that certificate.
+    pub authority_cert_serial_number: Option<SerialNumber>,
+}
+
+impl AuthorityKeyIdentifier {
+    /// The identifier of a key alone: the SHA-1 digest of the octets in which its bits stand (RFC 5280 4.2.1.2, method 1).
+    /// Memory may be refused, and nothing else.
+    pub fn from_key(
+        alloc: Global,
+        key: SubjectPublicKeyInfoRef<'_>,
+    ) -> Result<AuthorityKeyIdentifier, Error>
+        ensures ok { IfOk result (λ identifier. identifier ≡ record { key_identifier = Some (sha1 key.entry.subject_public_key.now.octets); authority_cert_issuer = None; authority_cert_serial_number = None }) }
+        ensures err { IfErr result (λ e. e.kind ≡ Memory) }
+    {
+        Ok(AuthorityKeyIdentifier {
+            key_identifier: Some(key_identifier(alloc, key)?),
+            authority_cert_issuer: None,
+            authority_cert_serial_number: None,
+        })
+    }
+}
+
+/// All are left out.
+impl Default for AuthorityKeyIdentifier {
+    ghost is_default = { λ identifier. identifier ≡ record { key_identifier = None; authority_cert_issuer = None; authority_cert_serial_number = None } };
+
+    fn default() -> AuthorityKeyIdentifier {
+        AuthorityKeyIdentifier {
+            key_identifier: None,
+            authority_cert_issuer: None,
+            authority_cert_serial_number: None,
+        }
+    }
+}
+
+impl AssociatedOid for AuthorityKeyIdentifier {
+    ghost use Rattle.x509_ext_frame.specs.Identifiers.{id_ce};
+
+    ghost OID = { id_ce 35 };
+
+    const OID: ObjectIdentifier = id_ce!(35);
+}
+
+impl Criticality for AuthorityKeyIdentifier {
+    ghost use Rattle.std.specs.Prelude.{false};
+
+    ghost is_critical = { λ identifier subject extensions. false };
+
+    fn criticality(&self, _subject: &Name, _extensions: &[Extension]) -> bool {
+        false
+    }
+}
+
+impl TryClone for AuthorityKeyIdentifier {
+    fn try_clone(&self, alloc: Global) -> Result<AuthorityKeyIdentifier, Error> {
+        Ok(AuthorityKeyIdentifier {
+            key_identifier: self.key_identifier.try_clone(alloc)?,
+            authority_cert_issuer: self.authority_cert_issuer.try_clone(alloc)?,
+            authority_cert_serial_number: self.authority_cert_serial_number.try_clone(alloc)?,
+        })
+    }
+}
+
+#[tactic(auto, unfolding(crate::specs::AuthorityKeyIdentifier::authority_key_identifier_fields, x509_der_frames::specs::Frames::fields_reading, x509_der_frames::specs::Frames::fields_octets))]
+impl Content for AuthorityKeyIdentifier {
+    ghost use Rattle.x509_der_element.specs.declared.tag.Tag.TheVariants.{Sequence};
+    ghost use Rattle.x509_ext.specs.AuthorityKeyIdentifier as grammar;
+
+    ghost contents = { grammar.authority_key_identifier_contents };
+
+    ghost IDENTIFIER = { Sequence };
+
+    const IDENTIFIER: Tag = Tag::Sequence;
+
+    fn read_content(alloc: Global, octets: &[u8]) -> Result<AuthorityKeyIdentifier, Error> {
+        let mut rest = octets;
+        let key_identifier = optional_implicit::<OctetString>(alloc, 0, &mut rest)?;
+        let authority_cert_issuer = optional_implicit::<GeneralNames>(alloc, 1, &mut rest)?;
+        let authority_cert_serial_number = optional_implicit::<SerialNumber>(alloc, 2, &mut rest)?;
+        end(rest)?;
+        Ok(AuthorityKeyIdentifier {
+            key_identifier,
+            authority_cert_issuer,
+            authority_cert_serial_number,
+        })
+    }
+
+    fn write_content<R: Room>(&self, room: &mut R) -> Result<(), Error> {
+        let parts = (
+            implicit_optional(0, &self.key_identifier),
+            (
+                implicit_optional(1, &self.authority_cert_issuer),
+                implicit_optional(2, &self.authority_cert_serial_number),
+            ),
+        );
+        parts.put_text(room)
+    }
+
+    ghost contents_lawful = { grammar.authority_key_identifier_contents_lawful };
+}

@@ -1,0 +1,98 @@
+//! For what purposes a key may be used.
+
+use x509_der::{AssociatedOid, ObjectIdentifier};
+use x509_der_frames::SequenceOf;
+use x509_der_grammar::Newtype;
+use x509_der_order::NewtypeOrd;
+use x509_ext_frame::{Criticality, Extension, Name, id_ce};
+
+/// For what purposes the key may be used (RFC 5280 4.2.1.12). Its identifier is 2.5.29.37, and it isn't critical where
+/// the caller doesn't say so. A sequence without members is read and written too.
+///
+/// ```text
+/// ExtKeyUsageSyntax ::= SEQUENCE OF KeyPurposeId
+/// KeyPurposeId ::= OBJECT IDENTIFIER
+/// ```
+#[derive(Debug, Drop, PartialEq, Eq)]
+pub struct ExtendedKeyUsage(pub SequenceOf<ObjectIdentifier>);
+
+impl AssociatedOid for ExtendedKeyUsage {
+    ghost use Rattle.x509_ext_frame.specs.Identifiers.{id_ce};
+
+    ghost OID = { id_ce 37 };
+
+    const OID: ObjectIdentifier = id_ce!(37);
+}
+
+impl Criticality for ExtendedKeyUsage {
+    ghost use Rattle.std.specs.Prelude.{false};
+
+    ghost is_critical = { λ usage subject extensions. false };
+
+    fn criticality(&self, _subject: &Name, _extensions: &[Extension]) -> bool {
+        false
+    }
+}
+
+impl Newtype for ExtendedKeyUsage {
+    ghost use Rattle.std.specs.Prelude.{refl};
+
+    type Inner = SequenceOf<ObjectIdentifier>;
+
+    ghost round = { record { to = λ usage. usage.0; from = λ purposes. record { 0 = purposes }; back = λ usage. refl; there = λ purposes. refl } };
+
+    fn inner(&self) -> &SequenceOf<ObjectIdentifier> {
+        &self.0
+    }
+
+    fn from_inner(inner: SequenceOf<ObjectIdentifier>) -> ExtendedKeyUsage {
+        ExtendedKeyUsage(inner)
+    }
+}
+
+impl NewtypeOrd for ExtendedKeyUsage {}
+
+impl From<SequenceOf<ObjectIdentifier>> for ExtendedKeyUsage {
+    ghost use Rattle.std.specs.Prelude.{◌≡◌};
+
+    ghost from_gives = { λ purposes usage. usage.0 ≡ purposes };
+
+    fn from(purposes: SequenceOf<ObjectIdentifier>) -> ExtendedKeyUsage {
+        ExtendedKeyUsage(purposes)
+    }
+}
+
+impl From<ExtendedKeyUsage> for SequenceOf<ObjectIdentifier> {
+    ghost use Rattle.std.specs.Prelude.{◌≡◌};
+
+    ghost from_gives = { λ usage purposes. purposes ≡ usage.0 };
+
+    fn from(usage: ExtendedKeyUsage) -> SequenceOf<ObjectIdentifier> {
+        let ExtendedKeyUsage(purposes) = usage;
+        purposes
+    }
+}
+
+impl AsRef<SequenceOf<ObjectIdentifier>> for ExtendedKeyUsage {
+    ghost use Rattle.std.specs.Prelude.{◌≡◌};
+
+    fn as_ref(&self) -> &SequenceOf<ObjectIdentifier>
+        ensures { result.now ≡ self.now.0 }
+    {
+        &self.0
+    }
+}
+
+impl AsMut<SequenceOf<ObjectIdentifier>> for ExtendedKeyUsage {
+    ghost use Rattle.std.specs.Borrow.{Lends, sem};
+    ghost use Rattle.std.specs.Prelude.{◌≡◌};
+    ghost use Rattle.x509_ext.specs.Rows.{identifier_list_row};
+    ghost use Rattle.x509_ext.specs.contracts.pkix.extended_key_usage.ExtendedKeyUsage.{the_row};
+
+    fn as_mut(&mut self) -> &mut SequenceOf<ObjectIdentifier>
+        ensures* writes_back { sem 𝓛 (Lends the_row identifier_list_row self.entry result (λ w. record { 0 = w })) }
+        ensures value { result.now ≡ self.old.0 }
+    {
+        &mut self.0
+    }
+}

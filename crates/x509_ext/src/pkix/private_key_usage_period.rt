@@ -1,0 +1,92 @@
+//! When a private key may be used.
+
+use std::alloc::Global;
+use x509_base_time::GeneralizedTime;
+use x509_der::{AssociatedOid, ObjectIdentifier};
+use x509_der_frames::{PutPart, end, implicit_optional, optional_implicit};
+use x509_der_grammar::{Content, Error, Room, Tag, TryClone};
+use x509_ext_frame::{Criticality, Extension, Name, id_ce};
+
+/// From when and until when the private key may sign, where that differs from when its certificate holds (X.509
+/// 9.2.2.5). Its times are written as they are, under any profile. Its identifier is 2.5.29.16 (RFC 5280 appendix A.2),
+/// and it isn't critical.
+///
+/// ```text
+/// PrivateKeyUsagePeriod ::= SEQUENCE {
+///     notBefore  [0] IMPLICIT GeneralizedTime OPTIONAL,
+///     notAfter   [1] IMPLICIT GeneralizedTime OPTIONAL }
+/// ```
+#[derive(Debug, Drop, PartialEq, Eq)]
+pub struct PrivateKeyUsagePeriod {
+    /// The first moment.
+    pub not_before: Option<GeneralizedTime>,
+
+    /// The last moment.
+    pub not_after: Option<GeneralizedTime>,
+}
+
+impl AssociatedOid for PrivateKeyUsagePeriod {
+    ghost use Rattle.x509_ext_frame.specs.Identifiers.{id_ce};
+
+    ghost OID = { id_ce 16 };
+
+    const OID: ObjectIdentifier = id_ce!(16);
+}
+
+impl Criticality for PrivateKeyUsagePeriod {
+    ghost use Rattle.std.specs.Prelude.{false};
+
+    ghost is_critical = { λ period subject extensions. false };
+
+    fn criticality(&self, _subject: &Name, _extensions: &[Extension]) -> bool {
+        false
+    }
+}
+
+impl TryClone for PrivateKeyUsagePeriod {
+    ghost use Rattle.std.specs.Prelude.{◌≡◌, Ok};
+
+    fn try_clone(&self, _alloc: Global) -> Result<PrivateKeyUsagePeriod, Error>
+        ensures { result ≡ Ok self.now }
+    {
+        Ok(PrivateKeyUsagePeriod {
+            not_before: self.not_before,
+            not_after: self.not_after,
+        })
+    }
+}
+
+#[tactic(auto, unfolding(crate::specs::PrivateKeyUsagePeriod::private_key_usage_period_fields, x509_der_frames::specs::Frames::fields_reading, x509_der_frames::specs::Frames::fields_octets))]
+impl Content for PrivateKeyUsagePeriod {
+    ghost use Rattle.x509_der_element.specs.declared.tag.Tag.TheVariants.{Sequence};
+    ghost use Rattle.x509_ext.specs.PrivateKeyUsagePeriod as grammar;
+
+    ghost contents = { grammar.private_key_usage_period_contents };
+
+    ghost takes_memory = { ⊥ };
+
+    ghost IDENTIFIER = { Sequence };
+
+    const IDENTIFIER: Tag = Tag::Sequence;
+
+    fn read_content(alloc: Global, octets: &[u8]) -> Result<PrivateKeyUsagePeriod, Error> {
+        let mut rest = octets;
+        let not_before = optional_implicit::<GeneralizedTime>(alloc, 0, &mut rest)?;
+        let not_after = optional_implicit::<GeneralizedTime>(alloc, 1, &mut rest)?;
+        end(rest)?;
+        Ok(PrivateKeyUsagePeriod {
+            not_before,
+            not_after,
+        })
+    }
+
+    fn write_content<R: Room>(&self, room: &mut R) -> Result<(), Error> {
+        let parts = (
+            implicit_optional(0, &self.not_before),
+            implicit_optional(1, &self.not_after),
+        );
+        parts.put_text(room)
+    }
+
+    ghost contents_lawful = { grammar.private_key_usage_period_contents_lawful };
+}

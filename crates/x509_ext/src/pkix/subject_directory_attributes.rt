@@ -1,0 +1,104 @@
+//! Attributes of the subject.
+
+ghost use Rattle.std.specs.Prelude.{◌≡◌, []};
+
+use std::alloc::Global;
+use x509_der::{AssociatedOid, ObjectIdentifier};
+use x509_der_frames::SequenceOf;
+use x509_der_grammar::Newtype;
+use x509_ext_frame::{Criticality, Extension, id_ce};
+use x509_ext_name::Name;
+use x509_name_attribute::Attribute;
+
+/// The identifier of [`SubjectDirectoryAttributes`], 2.5.29.9.
+pub const ID_CE_SUBJECT_DIRECTORY_ATTRIBUTES: ObjectIdentifier = id_ce!(9);
+
+/// Attributes of the subject, as its nationality (RFC 5280 4.2.1.8). Its identifier is 2.5.29.9, and it isn't critical. A
+/// sequence without members is read and written too.
+///
+/// ```text
+/// SubjectDirectoryAttributes ::= SEQUENCE OF Attribute
+/// ```
+#[derive(Debug, Drop, PartialEq, Eq)]
+pub struct SubjectDirectoryAttributes(pub SequenceOf<Attribute>);
+
+impl SubjectDirectoryAttributes {
+    /// No attributes. It takes no memory.
+    pub fn new(alloc: Global) -> SubjectDirectoryAttributes
+        ensures { result.0 ≡ [] }
+    {
+        SubjectDirectoryAttributes(SequenceOf::new(alloc))
+    }
+}
+
+impl AssociatedOid for SubjectDirectoryAttributes {
+    ghost use Rattle.x509_ext_frame.specs.Identifiers.{id_ce};
+
+    ghost OID = { id_ce 9 };
+
+    const OID: ObjectIdentifier = ID_CE_SUBJECT_DIRECTORY_ATTRIBUTES;
+}
+
+impl Criticality for SubjectDirectoryAttributes {
+    ghost use Rattle.std.specs.Prelude.{false};
+
+    ghost is_critical = { λ subject_attributes subject extensions. false };
+
+    fn criticality(&self, _subject: &Name, _extensions: &[Extension]) -> bool {
+        false
+    }
+}
+
+impl Newtype for SubjectDirectoryAttributes {
+    ghost use Rattle.std.specs.Prelude.{refl};
+
+    type Inner = SequenceOf<Attribute>;
+
+    ghost round = { record { to = λ subject_attributes. subject_attributes.0; from = λ attributes. record { 0 = attributes }; back = λ subject_attributes. refl; there = λ attributes. refl } };
+
+    fn inner(&self) -> &SequenceOf<Attribute> {
+        &self.0
+    }
+
+    fn from_inner(inner: SequenceOf<Attribute>) -> SubjectDirectoryAttributes {
+        SubjectDirectoryAttributes(inner)
+    }
+}
+
+impl From<SequenceOf<Attribute>> for SubjectDirectoryAttributes {
+    ghost from_gives = { λ attributes subject_attributes. subject_attributes.0 ≡ attributes };
+
+    fn from(attributes: SequenceOf<Attribute>) -> SubjectDirectoryAttributes {
+        SubjectDirectoryAttributes(attributes)
+    }
+}
+
+impl From<SubjectDirectoryAttributes> for SequenceOf<Attribute> {
+    ghost from_gives = { λ subject_attributes attributes. attributes ≡ subject_attributes.0 };
+
+    fn from(subject_attributes: SubjectDirectoryAttributes) -> SequenceOf<Attribute> {
+        let SubjectDirectoryAttributes(attributes) = subject_attributes;
+        attributes
+    }
+}
+
+impl AsRef<SequenceOf<Attribute>> for SubjectDirectoryAttributes {
+    fn as_ref(&self) -> &SequenceOf<Attribute>
+        ensures { result.now ≡ self.now.0 }
+    {
+        &self.0
+    }
+}
+
+impl AsMut<SequenceOf<Attribute>> for SubjectDirectoryAttributes {
+    ghost use Rattle.std.specs.Borrow.{Lends, sem};
+    ghost use Rattle.x509_ext.specs.PartyRows.{attribute_list_row};
+    ghost use Rattle.x509_ext.specs.contracts.pkix.subject_directory_attributes.SubjectDirectoryAttributes.{the_row};
+
+    fn as_mut(&mut self) -> &mut SequenceOf<Attribute>
+        ensures* writes_back { sem 𝓛 (Lends the_row attribute_list_row self.entry result (λ w. record { 0 = w })) }
+        ensures value { result.now ≡ self.old.0 }
+    {
+        &mut self.0
+    }
+}

@@ -1,0 +1,124 @@
+//! Identifiers of keys.
+
+ghost use Rattle.sha1.specs.Sha1.{sha1};
+ghost use Rattle.std.specs.Prelude.{◌≡◌, IfOk, IfErr};
+ghost use Rattle.x509_der_element.specs.declared.error.ErrorKind.TheVariants.{Memory};
+
+use sha1::Sha1;
+use std::alloc::Global;
+use x509_base::SubjectPublicKeyInfoRef;
+use x509_der::{AssociatedOid, ObjectIdentifier};
+use x509_der_grammar::{Error, Newtype};
+use x509_der_order::NewtypeOrd;
+use x509_ext_frame::{Criticality, Extension, Name, id_ce};
+use x509_prim::OctetString;
+
+/// The identifier of [`SubjectKeyIdentifier`], 2.5.29.14.
+pub const ID_CE_SUBJECT_KEY_IDENTIFIER: ObjectIdentifier = id_ce!(14);
+
+/// By what the key of a certificate is told from others (RFC 5280 4.2.1.2). Its identifier is 2.5.29.14, and it isn't
+/// critical.
+///
+/// ```text
+/// SubjectKeyIdentifier ::= OCTET STRING
+/// ```
+#[derive(Debug, Drop, PartialEq, Eq)]
+pub struct SubjectKeyIdentifier(pub OctetString);
+
+/// The SHA-1 digest of the octets in which the bits of the key stand (RFC 5280 4.2.1.2, method 1). Memory may be
+/// refused, and nothing else.
+pub fn key_identifier(alloc: Global, key: SubjectPublicKeyInfoRef<'_>) -> Result<OctetString, Error>
+    ensures ok { IfOk result (λ identifier. identifier ≡ sha1 key.entry.subject_public_key.now.octets) }
+    ensures err { IfErr result (λ e. e.kind ≡ Memory) }
+{
+    let digest = Sha1::digest(key.subject_public_key.raw_bytes());
+    OctetString::new(alloc, &digest)
+}
+
+impl SubjectKeyIdentifier {
+    /// The identifier of a key: the SHA-1 digest of the octets in which its bits stand (RFC 5280 4.2.1.2, method 1).
+    /// Memory may be refused, and nothing else.
+    pub fn from_key(
+        alloc: Global,
+        key: SubjectPublicKeyInfoRef<'_>,
+    ) -> Result<SubjectKeyIdentifier, Error>
+        ensures ok { IfOk result (λ identifier. identifier.0 ≡ sha1 key.entry.subject_public_key.now.octets) }
+        ensures err { IfErr result (λ e. e.kind ≡ Memory) }
+    {
+        Ok(SubjectKeyIdentifier(key_identifier(alloc, key)?))
+    }
+}
+
+impl AssociatedOid for SubjectKeyIdentifier {
+    ghost use Rattle.x509_ext_frame.specs.Identifiers.{id_ce};
+
+    ghost OID = { id_ce 14 };
+
+    const OID: ObjectIdentifier = ID_CE_SUBJECT_KEY_IDENTIFIER;
+}
+
+impl Criticality for SubjectKeyIdentifier {
+    ghost use Rattle.std.specs.Prelude.{false};
+
+    ghost is_critical = { λ identifier subject extensions. false };
+
+    fn criticality(&self, _subject: &Name, _extensions: &[Extension]) -> bool {
+        false
+    }
+}
+
+impl Newtype for SubjectKeyIdentifier {
+    ghost use Rattle.std.specs.Prelude.{refl};
+
+    type Inner = OctetString;
+
+    ghost round = { record { to = λ identifier. identifier.0; from = λ octets. record { 0 = octets }; back = λ identifier. refl; there = λ octets. refl } };
+
+    fn inner(&self) -> &OctetString {
+        &self.0
+    }
+
+    fn from_inner(inner: OctetString) -> SubjectKeyIdentifier {
+        SubjectKeyIdentifier(inner)
+    }
+}
+
+impl NewtypeOrd for SubjectKeyIdentifier {}
+
+impl From<OctetString> for SubjectKeyIdentifier {
+    ghost from_gives = { λ octets identifier. identifier.0 ≡ octets };
+
+    fn from(octets: OctetString) -> SubjectKeyIdentifier {
+        SubjectKeyIdentifier(octets)
+    }
+}
+
+impl From<SubjectKeyIdentifier> for OctetString {
+    ghost from_gives = { λ identifier octets. octets ≡ identifier.0 };
+
+    fn from(identifier: SubjectKeyIdentifier) -> OctetString {
+        let SubjectKeyIdentifier(octets) = identifier;
+        octets
+    }
+}
+
+impl AsRef<OctetString> for SubjectKeyIdentifier {
+    fn as_ref(&self) -> &OctetString
+        ensures { result.now ≡ self.now.0 }
+    {
+        &self.0
+    }
+}
+
+impl AsMut<OctetString> for SubjectKeyIdentifier {
+    ghost use Rattle.std.specs.Borrow.{Lends, sem};
+    ghost use Rattle.x509_ext.specs.contracts.pkix.subject_key_identifier.SubjectKeyIdentifier.{the_row};
+    ghost use Rattle.x509_prim.specs.contracts.octet_string.OctetString as octet_string;
+
+    fn as_mut(&mut self) -> &mut OctetString
+        ensures* writes_back { sem 𝓛 (Lends the_row octet_string.the_row self.entry result (λ w. record { 0 = w })) }
+        ensures value { result.now ≡ self.old.0 }
+    {
+        &mut self.0
+    }
+}

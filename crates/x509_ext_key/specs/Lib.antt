@@ -1,4 +1,0 @@
-pub mod BasicConstraints
-pub mod KeyUsage
-pub mod PrivateKeyUsagePeriod
-pub mod Rows

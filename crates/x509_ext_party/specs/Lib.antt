@@ -1,4 +1,0 @@
-pub mod Access
-pub mod AlternativeNames
-pub mod AuthorityKeyIdentifier
-pub mod Rows

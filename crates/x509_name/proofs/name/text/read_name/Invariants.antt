@@ -1,0 +1,8 @@
+use Rattle.std.proofs.Common.{false}
+use Rattle.x509_name_attribute.specs.Cutting.{cut, parts_left}
+use Rattle.x509_name_attribute.proofs.FirstRefusals.{ReadSoFar}
+use Rattle.x509_name.specs.NameText.{RdnReads}
+use Rattle.x509_name.proofs.name.text.read_name.Given as goal
+
+abbrev pub invariant-loop-part : goal.invariant-loop-part
+invariant-loop-part l = ReadSoFar RdnReads (cut 44 l.fn.text false) (parts_left l.part-iterator) l.rdns.items

@@ -1,0 +1,90 @@
+-- What names are made of (RFC 5280 4.1.2.4, appendix A.1). A set or a sequence without members is one too.
+use Rattle.std.specs.Prelude.{◌≡◌, Bool, List, refl}
+use Rattle.std.specs.Bool.{Decides}
+use Rattle.std.specs.Cmp.{IsEquivalence}
+use Rattle.std.specs.Cmp.Lexicographic.{pointwise, pointwise_decides, lists_equiv}
+use Rattle.x509_der_element.specs.declared.error.ErrorKind.{ErrorKind}
+use Rattle.x509_der_element.specs.declared.tag.Tag.TheVariants.{Sequence, Set}
+use Rattle.x509_der_grammar.specs.Form.{Form, Contents, IsForm, IsContents, universal}
+use Rattle.x509_der_grammar.specs.FormLaws.{universal_lawful}
+use Rattle.x509_der_grammar.specs.Round.{same, round_contents, round_lawful}
+use Rattle.x509_der_grammar.specs.Writing.{plain, writes}
+use Rattle.x509_der.specs.Order.{Order, IsOrder, der_order}
+use Rattle.x509_der.specs.Ordered.{by_members}
+use Rattle.x509_der.specs.RoundOrder.{round_ordered}
+use Rattle.x509_der.specs.List.{list_of}
+use Rattle.x509_der.specs.ListLaws.{list_lawful}
+use Rattle.x509_der.specs.ListOrder.{list_ordered}
+use Rattle.x509_der.specs.Set.{set_of}
+use Rattle.x509_der.specs.SetLaws.{set_lawful, set_ordered}
+use Rattle.x509_name_attribute.specs.TypeAndValue.{attribute_type_and_value, type_and_value_contents_lawful, type_and_value_order, type_and_value_ordered, type_and_value_cmp, type_and_value_eq, type_and_value_equivalence, type_and_value_decides}
+use Rattle.x509_name_attribute.specs.declared.type_and_value.AttributeTypeAndValue.{AttributeTypeAndValue}
+
+-- RelativeDistinguishedName: SET OF AttributeTypeAndValue
+abbrev pub attribute_set : Contents (List AttributeTypeAndValue)
+attribute_set = set_of attribute_type_and_value type_and_value_cmp
+
+abbrev pub relative_distinguished_name : Form (List AttributeTypeAndValue)
+relative_distinguished_name = universal Set (round_contents same attribute_set)
+
+-- RDNSequence: SEQUENCE OF RelativeDistinguishedName
+abbrev pub rdn_list : Contents (List (List AttributeTypeAndValue))
+rdn_list = list_of relative_distinguished_name
+
+abbrev pub rdn_sequence_contents : Contents (List (List AttributeTypeAndValue))
+rdn_sequence_contents = round_contents same rdn_list
+
+abbrev pub rdn_sequence : Form (List (List AttributeTypeAndValue))
+rdn_sequence = universal Sequence rdn_sequence_contents
+
+-- Name: a choice of one, RDNSequence
+abbrev pub name : Form (List (List AttributeTypeAndValue))
+name = rdn_sequence
+
+attribute_set_lawful : {R : ErrorKind → Type 0} → IsContents R attribute_set
+attribute_set_lawful = set_lawful attribute_type_and_value type_and_value_cmp (universal_lawful Sequence _ type_and_value_contents_lawful)
+
+pub rdn_lawful : {R : ErrorKind → Type 0} → IsForm R relative_distinguished_name
+rdn_lawful = universal_lawful Set _ (round_lawful same attribute_set attribute_set_lawful)
+
+pub rdn_sequence_contents_lawful : {R : ErrorKind → Type 0} → IsContents R rdn_sequence_contents
+rdn_sequence_contents_lawful = round_lawful same rdn_list (list_lawful relative_distinguished_name rdn_lawful)
+
+pub rdn_sequence_lawful : {R : ErrorKind → Type 0} → IsForm R rdn_sequence
+rdn_sequence_lawful = universal_lawful Sequence _ rdn_sequence_contents_lawful
+
+-- ---- the byte order
+
+-- by the first attributes that differ
+abbrev pub rdn_order : Order (List AttributeTypeAndValue)
+rdn_order = by_members type_and_value_cmp
+
+-- by the first relative distinguished names that differ
+abbrev pub rdn_sequence_order : Order (List (List AttributeTypeAndValue))
+rdn_sequence_order = by_members (der_order relative_distinguished_name (writes plain) rdn_order)
+
+rdn_ordered : IsOrder relative_distinguished_name (writes plain) rdn_order
+rdn_ordered = round_ordered same Set (universal Set attribute_set) (λ v. refl) plain rdn_order (set_ordered attribute_type_and_value plain type_and_value_order type_and_value_ordered)
+
+pub rdn_sequence_ordered : IsOrder rdn_sequence (writes plain) rdn_sequence_order
+rdn_sequence_ordered = round_ordered same Sequence (universal Sequence rdn_list) (λ v. refl) plain rdn_sequence_order (list_ordered relative_distinguished_name plain rdn_order rdn_ordered)
+
+-- ---- equality
+
+abbrev pub rdn_eq : List AttributeTypeAndValue → List AttributeTypeAndValue → Bool
+rdn_eq = pointwise type_and_value_eq
+
+abbrev pub rdn_sequence_eq : List (List AttributeTypeAndValue) → List (List AttributeTypeAndValue) → Bool
+rdn_sequence_eq = pointwise rdn_eq
+
+pub rdn_equivalence : IsEquivalence rdn_eq
+rdn_equivalence = lists_equiv type_and_value_equivalence
+
+pub rdn_sequence_equivalence : IsEquivalence rdn_sequence_eq
+rdn_sequence_equivalence = lists_equiv rdn_equivalence
+
+pub rdn_decides : (x y : List AttributeTypeAndValue) → Decides (rdn_eq x y) (x ≡ y)
+rdn_decides = pointwise_decides type_and_value_decides
+
+pub rdn_sequence_decides : (x y : List (List AttributeTypeAndValue)) → Decides (rdn_sequence_eq x y) (x ≡ y)
+rdn_sequence_decides = pointwise_decides rdn_decides

@@ -1,0 +1,177 @@
+//! Names of issuers and subjects.
+
+ghost use Rattle.std.specs.Prelude.{◌≡◌, ◌↔◌, [], length, IsTrue};
+ghost use Rattle.x509_name.specs.Iterators.{attributes_left, members_of, rdns_left};
+
+use crate::name::iterators::{NameIter, RdnSequenceIter};
+use crate::name::rdn::RelativeDistinguishedName;
+use crate::name::rdn_sequence::RdnSequence;
+use std::alloc::Global;
+use std::cmp::Ordering;
+use std::hash::{Hash, Hasher};
+use std::marker::Model;
+use x509_der::ValueOrd;
+use x509_der_grammar::{Content, Error, Room, Tag, TryClone};
+
+/// The name of an issuer or a subject (RFC 5280 4.1.2.4). Contracts see the list of its relative distinguished names.
+///
+/// ```text
+/// Name ::= CHOICE { rdnSequence  RDNSequence }
+/// ```
+#[derive(Debug, Drop)]
+pub struct Name(RdnSequence);
+
+impl Model for Name {
+    ghost use Rattle.std.specs.Prelude.{List};
+    ghost use Rattle.x509_name_attribute.specs.declared.type_and_value.AttributeTypeAndValue.{AttributeTypeAndValue};
+
+    ghost Value = { List (List AttributeTypeAndValue) };
+
+    ghost view = { λ name. name.0 };
+}
+
+impl Name {
+    /// The empty name. It takes no memory.
+    pub fn new(alloc: Global) -> Name
+        ensures { result ≡ [] }
+    {
+        Name(RdnSequence::new(alloc))
+    }
+
+    /// The name of these relative distinguished names. That they keep the rules of RFC 5280 4.1.2.4 for the types and
+    /// the texts of attributes is the caller's to see to.
+    pub fn hazmat_from_rdn_sequence(rdns: RdnSequence) -> Name
+        ensures { result ≡ rdns }
+    {
+        Name(rdns)
+    }
+
+    /// How many relative distinguished names there are.
+    pub fn len(&self) -> usize
+        ensures { result ≡ length self.now }
+    {
+        self.0.len()
+    }
+
+    /// Whether there are none.
+    pub fn is_empty(&self) -> bool
+        ensures { IsTrue result ↔ (self.now ≡ []) }
+    {
+        self.0.is_empty()
+    }
+
+    /// The attributes of the relative distinguished names, one after the other; `iter_rdn` tells which stand together.
+    pub fn iter(&self) -> NameIter<'_>
+        ensures { attributes_left result ≡ members_of self.now }
+    {
+        NameIter::new(self.0.as_slice())
+    }
+
+    /// The relative distinguished names.
+    pub fn iter_rdn(&self) -> RdnSequenceIter<'_>
+        ensures { rdns_left result ≡ self.now }
+    {
+        self.0.iter()
+    }
+}
+
+impl AsRef<RdnSequence> for Name {
+    fn as_ref(&self) -> &RdnSequence
+        ensures { result.now ≡ self.now }
+    {
+        &self.0
+    }
+}
+
+impl AsMut<RdnSequence> for Name {
+    ghost use Rattle.std.specs.Borrow.{Lends, sem};
+    ghost use Rattle.x509_name.specs.contracts.name.name.Name.{the_row};
+    ghost use Rattle.x509_name.specs.contracts.name.rdn_sequence.RdnSequence as sequence;
+
+    fn as_mut(&mut self) -> &mut RdnSequence
+        ensures* writes_back { sem 𝓛 (Lends the_row sequence.the_row self.entry result (λ w. w)) }
+        ensures value { result.now ≡ self.old }
+    {
+        &mut self.0
+    }
+}
+
+impl From<Name> for RdnSequence {
+    ghost from_gives = { λ name rdns. rdns ≡ name };
+
+    fn from(name: Name) -> RdnSequence {
+        let Name(rdns) = name;
+        rdns
+    }
+}
+
+impl TryClone for Name {
+    fn try_clone(&self, alloc: Global) -> Result<Name, Error> {
+        Ok(Name(self.0.try_clone(alloc)?))
+    }
+}
+
+impl Content for Name {
+    ghost use Rattle.x509_der_element.specs.declared.tag.Tag.TheVariants.{Sequence};
+    ghost use Rattle.x509_name.specs.Names as grammar;
+
+    ghost contents = { grammar.rdn_sequence_contents };
+
+    ghost IDENTIFIER = { Sequence };
+
+    const IDENTIFIER: Tag = Tag::Sequence;
+
+    fn read_content(alloc: Global, octets: &[u8]) -> Result<Name, Error> {
+        Ok(Name(RdnSequence::read_content(alloc, octets)?))
+    }
+
+    fn write_content<R: Room>(&self, room: &mut R) -> Result<(), Error> {
+        self.0.write_content(room)
+    }
+
+    ghost contents_lawful = { grammar.rdn_sequence_contents_lawful };
+}
+
+impl ValueOrd for Name {
+    ghost use Rattle.x509_name.specs.Names as grammar;
+
+    ghost order = { grammar.rdn_sequence_order };
+
+    fn value_cmp(&self, other: &Name) -> Ordering {
+        self.0.value_cmp(&other.0)
+    }
+
+    ghost ordered = { grammar.rdn_sequence_ordered };
+}
+
+impl PartialEq for Name {
+    ghost use Rattle.std.specs.Cmp.{partial_equiv_from_equiv};
+    ghost use Rattle.x509_name.specs.Names as grammar;
+
+    ghost eq = { grammar.rdn_sequence_eq };
+
+    ghost laws = { partial_equiv_from_equiv grammar.rdn_sequence_equivalence };
+
+    fn eq(&self, other: &Name) -> bool {
+        self.0 == other.0
+    }
+}
+
+impl Eq for Name {
+    ghost use Rattle.x509_name.specs.Names as grammar;
+
+    ghost laws = { grammar.rdn_sequence_equivalence };
+}
+
+impl Hash for Name {
+    ghost use Rattle.std.specs.Hash as fed;
+    ghost use Rattle.x509_name.specs.Names as grammar;
+
+    ghost hash_input = { ⟦<RdnSequence as Hash>⟧.hash_input };
+
+    ghost respects_eq = { (fed.same_Alike ⟦<RdnSequence as Hash>⟧.hash_input grammar.rdn_sequence_decides).fed };
+
+    fn hash<H: Hasher>(&self, state: &mut H) {
+        self.0.hash(state);
+    }
+}

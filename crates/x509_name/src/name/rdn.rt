@@ -1,0 +1,193 @@
+//! Relative distinguished names.
+
+ghost use Rattle.std.specs.Prelude.{◌≡◌, ◌↔◌, ◌⊎◌, [], ◌∷◌, length, IsTrue, Contains, IfOk, IfErr, OnOk, OnErr, IsErrAnd, slice_get};
+ghost use Rattle.std.specs.Option.{option_copied};
+ghost use Rattle.std.specs.List.Sorted.{IsStrictlySortedBy, IsPermutation};
+ghost use Rattle.x509_der_element.specs.declared.error.ErrorKind.TheVariants as errors;
+ghost use Rattle.x509_der.specs.Set.{AreDistinct};
+ghost use Rattle.x509_name_attribute.specs.TypeAndValue.{type_and_value_cmp};
+ghost use Rattle.x509_name.specs.Iterators.{rdn_left};
+
+use crate::name::iterators::RdnIter;
+use std::alloc::Global;
+use std::hash::{Hash, Hasher};
+use std::marker::Model;
+use x509_der::{NewtypeOrd, SetOfVec};
+use x509_der_grammar::{Error, Newtype};
+use x509_name_attribute::AttributeTypeAndValue;
+
+/// One step of a name: a set of attributes (RFC 5280 4.1.2.4). Contracts see their list, in the byte order of their
+/// encodings. A set without attributes is read and written too.
+///
+/// ```text
+/// RelativeDistinguishedName ::= SET OF AttributeTypeAndValue
+/// ```
+#[derive(Debug, Drop)]
+pub struct RelativeDistinguishedName(SetOfVec<AttributeTypeAndValue>);
+
+impl Model for RelativeDistinguishedName {
+    ghost use Rattle.std.specs.Prelude.{List};
+    ghost use Rattle.x509_name_attribute.specs.declared.type_and_value.AttributeTypeAndValue.{AttributeTypeAndValue};
+
+    ghost Value = { List AttributeTypeAndValue };
+
+    ghost view = { λ rdn. rdn.0 };
+}
+
+impl RelativeDistinguishedName {
+    /// No attributes. It takes no memory.
+    pub fn new(alloc: Global) -> RelativeDistinguishedName
+        ensures { result ≡ [] }
+    {
+        RelativeDistinguishedName(SetOfVec::new(alloc))
+    }
+
+    /// The set of the attributes, in O(n log n) comparisons and without memory; `SetDuplicate` exactly where two of
+    /// them are equal.
+    pub fn try_from_vec(
+        attributes: Vec<AttributeTypeAndValue>,
+    ) -> Result<RelativeDistinguishedName, Error>
+        ensures ok { IfOk result (λ rdn. IsPermutation attributes.items rdn × IsStrictlySortedBy type_and_value_cmp rdn) }
+        ensures distinct { OnOk result (AreDistinct attributes.items) }
+        ensures err { IfErr result (λ e. (e.kind ≡ errors.SetDuplicate) × (¬ AreDistinct attributes.items)) }
+    {
+        let set = SetOfVec::try_from_vec(attributes)?;
+        Ok(RelativeDistinguishedName(set))
+    }
+
+    /// Puts the attribute in its place; `SetDuplicate` exactly where an equal one is there, and memory may be refused.
+    /// Where it is refused the name is as it was, and the attribute is dropped.
+    pub fn insert(&mut self, attribute: AttributeTypeAndValue) -> Result<(), Error>
+        ensures put { OnOk result (IsPermutation (attribute ∷ self.old) self.new) }
+        ensures sorted { IsStrictlySortedBy type_and_value_cmp self.new }
+        ensures duplicate { Contains self.old attribute → IsErrAnd result (λ e. e.kind ≡ errors.SetDuplicate) }
+        ensures err { IfErr result (λ e. (e.kind ≡ errors.Memory) ⊎ ((e.kind ≡ errors.SetDuplicate) × Contains self.old attribute)) }
+        ensures unchanged { OnErr result (self.new ≡ self.old) }
+    {
+        self.0.insert(attribute)
+    }
+
+    /// The attributes, in their order.
+    pub fn as_slice(&self) -> &[AttributeTypeAndValue]
+        ensures members { result.now ≡ self.now }
+        ensures sorted { IsStrictlySortedBy type_and_value_cmp self.now }
+    {
+        self.0.as_slice()
+    }
+
+    /// The attributes, in their order.
+    pub fn iter(&self) -> RdnIter<'_>
+        ensures { rdn_left result ≡ self.now }
+    {
+        RdnIter::new(self.as_slice())
+    }
+
+    /// The attribute at that place, from 0 on.
+    pub fn get(&self, index: usize) -> Option<&AttributeTypeAndValue>
+        ensures { option_copied result ≡ slice_get self.now index }
+    {
+        self.0.get(index)
+    }
+
+    /// How many attributes there are.
+    pub fn len(&self) -> usize
+        ensures { result ≡ length self.now }
+    {
+        self.0.len()
+    }
+
+    /// Whether there are none.
+    pub fn is_empty(&self) -> bool
+        ensures { IsTrue result ↔ (self.now ≡ []) }
+    {
+        self.0.is_empty()
+    }
+}
+
+impl From<SetOfVec<AttributeTypeAndValue>> for RelativeDistinguishedName {
+    ghost from_gives = { λ attributes rdn. rdn ≡ attributes };
+
+    fn from(attributes: SetOfVec<AttributeTypeAndValue>) -> RelativeDistinguishedName {
+        RelativeDistinguishedName(attributes)
+    }
+}
+
+impl AsRef<SetOfVec<AttributeTypeAndValue>> for RelativeDistinguishedName {
+    fn as_ref(&self) -> &SetOfVec<AttributeTypeAndValue>
+        ensures { result.now ≡ self.now }
+    {
+        &self.0
+    }
+}
+
+impl AsMut<SetOfVec<AttributeTypeAndValue>> for RelativeDistinguishedName {
+    ghost use Rattle.std.specs.Borrow.{Lends, sem};
+    ghost use Rattle.x509_name.specs.contracts.name.rdn.RelativeDistinguishedName.{the_row};
+    ghost use Rattle.x509_name.specs.Rows.{attribute_set_row};
+
+    fn as_mut(&mut self) -> &mut SetOfVec<AttributeTypeAndValue>
+        ensures* writes_back { sem 𝓛 (Lends the_row attribute_set_row self.entry result (λ w. w)) }
+        ensures value { result.now ≡ self.old }
+    {
+        &mut self.0
+    }
+}
+
+impl From<RelativeDistinguishedName> for SetOfVec<AttributeTypeAndValue> {
+    ghost from_gives = { λ rdn attributes. attributes ≡ rdn };
+
+    fn from(rdn: RelativeDistinguishedName) -> SetOfVec<AttributeTypeAndValue> {
+        let RelativeDistinguishedName(attributes) = rdn;
+        attributes
+    }
+}
+
+impl Newtype for RelativeDistinguishedName {
+    ghost use Rattle.x509_der_grammar.specs.Round.{same};
+
+    type Inner = SetOfVec<AttributeTypeAndValue>;
+
+    ghost round = { same };
+
+    fn inner(&self) -> &SetOfVec<AttributeTypeAndValue> {
+        &self.0
+    }
+
+    fn from_inner(inner: SetOfVec<AttributeTypeAndValue>) -> RelativeDistinguishedName {
+        RelativeDistinguishedName(inner)
+    }
+}
+
+impl NewtypeOrd for RelativeDistinguishedName {}
+
+impl PartialEq for RelativeDistinguishedName {
+    ghost use Rattle.std.specs.Cmp.{partial_equiv_from_equiv};
+    ghost use Rattle.x509_name.specs.Names as grammar;
+
+    ghost eq = { grammar.rdn_eq };
+
+    ghost laws = { partial_equiv_from_equiv grammar.rdn_equivalence };
+
+    fn eq(&self, other: &RelativeDistinguishedName) -> bool {
+        self.0 == other.0
+    }
+}
+
+impl Eq for RelativeDistinguishedName {
+    ghost use Rattle.x509_name.specs.Names as grammar;
+
+    ghost laws = { grammar.rdn_equivalence };
+}
+
+impl Hash for RelativeDistinguishedName {
+    ghost use Rattle.std.specs.Hash as fed;
+    ghost use Rattle.x509_name.specs.Names as grammar;
+
+    ghost hash_input = { fed.slice ⟦<AttributeTypeAndValue as Hash>⟧.hash_input };
+
+    ghost respects_eq = { (fed.same_Alike (fed.slice ⟦<AttributeTypeAndValue as Hash>⟧.hash_input) grammar.rdn_decides).fed };
+
+    fn hash<H: Hasher>(&self, state: &mut H) {
+        self.0.hash(state);
+    }
+}

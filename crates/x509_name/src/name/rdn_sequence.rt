@@ -1,0 +1,176 @@
+//! Sequences of relative distinguished names.
+
+ghost use Rattle.std.specs.Prelude.{◌≡◌, ◌↔◌, ◌++◌, [], ◌∷◌, length, IsTrue, IfErr, OnOk, OnErr};
+ghost use Rattle.x509_der_element.specs.declared.error.ErrorKind.TheVariants.{Memory};
+ghost use Rattle.x509_name.specs.Iterators.{rdns_left};
+
+use crate::name::iterators::RdnSequenceIter;
+use crate::name::rdn::RelativeDistinguishedName;
+use std::alloc::Global;
+use std::hash::{Hash, Hasher};
+use std::marker::Model;
+use x509_der::{NewtypeOrd, SequenceOf};
+use x509_der_grammar::{Error, Newtype};
+
+/// Relative distinguished names, the most general first (RFC 5280 4.1.2.4). Contracts see their list. A sequence
+/// without members is read and written too.
+///
+/// ```text
+/// RDNSequence ::= SEQUENCE OF RelativeDistinguishedName
+/// ```
+#[derive(Debug, Drop)]
+pub struct RdnSequence(SequenceOf<RelativeDistinguishedName>);
+
+/// The same by another name (RFC 5280 appendix A.1).
+pub type DistinguishedName = RdnSequence;
+
+impl Model for RdnSequence {
+    ghost use Rattle.std.specs.Prelude.{List};
+    ghost use Rattle.x509_name_attribute.specs.declared.type_and_value.AttributeTypeAndValue.{AttributeTypeAndValue};
+
+    ghost Value = { List (List AttributeTypeAndValue) };
+
+    ghost view = { λ sequence. sequence.0 };
+}
+
+impl RdnSequence {
+    /// No relative distinguished names. It takes no memory.
+    pub fn new(alloc: Global) -> RdnSequence
+        ensures { result ≡ [] }
+    {
+        RdnSequence(SequenceOf::new(alloc))
+    }
+
+    /// Puts the relative distinguished name behind the others. Where memory is refused the sequence is as it was, and
+    /// the one that was to be put is dropped.
+    pub fn push(&mut self, rdn: RelativeDistinguishedName) -> Result<(), Error>
+        ensures ok { OnOk result (self.new ≡ self.old ++ rdn ∷ []) }
+        ensures err { IfErr result (λ e. e.kind ≡ Memory) }
+        ensures unchanged { OnErr result (self.new ≡ self.old) }
+    {
+        self.0.push(rdn)
+    }
+
+    /// The relative distinguished names.
+    pub fn as_slice(&self) -> &[RelativeDistinguishedName]
+        ensures { result.now ≡ self.now }
+    {
+        self.0.as_slice()
+    }
+
+    /// The relative distinguished names.
+    pub fn iter(&self) -> RdnSequenceIter<'_>
+        ensures { rdns_left result ≡ self.now }
+    {
+        RdnSequenceIter::new(self.as_slice())
+    }
+
+    /// How many relative distinguished names there are.
+    pub fn len(&self) -> usize
+        ensures { result ≡ length self.now }
+    {
+        self.0.len()
+    }
+
+    /// Whether there are none.
+    pub fn is_empty(&self) -> bool
+        ensures { IsTrue result ↔ (self.now ≡ []) }
+    {
+        self.0.is_empty()
+    }
+
+    /// The vector of the relative distinguished names, without a copy.
+    pub fn into_vec(self) -> Vec<RelativeDistinguishedName>
+        ensures { result.items ≡ self }
+    {
+        let RdnSequence(rdns) = self;
+        rdns.into_vec()
+    }
+}
+
+impl From<Vec<RelativeDistinguishedName>> for RdnSequence {
+    ghost from_gives = { λ rdns sequence. sequence ≡ rdns.items };
+
+    fn from(rdns: Vec<RelativeDistinguishedName>) -> RdnSequence {
+        RdnSequence(SequenceOf::from(rdns))
+    }
+}
+
+impl From<RdnSequence> for Vec<RelativeDistinguishedName> {
+    ghost from_gives = { λ sequence rdns. rdns.items ≡ sequence };
+
+    fn from(sequence: RdnSequence) -> Vec<RelativeDistinguishedName> {
+        sequence.into_vec()
+    }
+}
+
+impl AsRef<SequenceOf<RelativeDistinguishedName>> for RdnSequence {
+    fn as_ref(&self) -> &SequenceOf<RelativeDistinguishedName>
+        ensures { result.now ≡ self.now }
+    {
+        &self.0
+    }
+}
+
+impl AsMut<SequenceOf<RelativeDistinguishedName>> for RdnSequence {
+    ghost use Rattle.std.specs.Borrow.{Lends, sem};
+    ghost use Rattle.x509_name.specs.contracts.name.rdn_sequence.RdnSequence.{the_row};
+    ghost use Rattle.x509_name.specs.Rows.{rdn_list_row};
+
+    fn as_mut(&mut self) -> &mut SequenceOf<RelativeDistinguishedName>
+        ensures* writes_back { sem 𝓛 (Lends the_row rdn_list_row self.entry result (λ w. w)) }
+        ensures value { result.now ≡ self.old }
+    {
+        &mut self.0
+    }
+}
+
+impl Newtype for RdnSequence {
+    ghost use Rattle.x509_der_grammar.specs.Round.{same};
+
+    type Inner = SequenceOf<RelativeDistinguishedName>;
+
+    ghost round = { same };
+
+    fn inner(&self) -> &SequenceOf<RelativeDistinguishedName> {
+        &self.0
+    }
+
+    fn from_inner(inner: SequenceOf<RelativeDistinguishedName>) -> RdnSequence {
+        RdnSequence(inner)
+    }
+}
+
+impl NewtypeOrd for RdnSequence {}
+
+impl PartialEq for RdnSequence {
+    ghost use Rattle.std.specs.Cmp.{partial_equiv_from_equiv};
+    ghost use Rattle.x509_name.specs.Names as grammar;
+
+    ghost eq = { grammar.rdn_sequence_eq };
+
+    ghost laws = { partial_equiv_from_equiv grammar.rdn_sequence_equivalence };
+
+    fn eq(&self, other: &RdnSequence) -> bool {
+        self.0 == other.0
+    }
+}
+
+impl Eq for RdnSequence {
+    ghost use Rattle.x509_name.specs.Names as grammar;
+
+    ghost laws = { grammar.rdn_sequence_equivalence };
+}
+
+impl Hash for RdnSequence {
+    ghost use Rattle.std.specs.Hash as fed;
+    ghost use Rattle.x509_name.specs.Names as grammar;
+
+    ghost hash_input = { fed.slice ⟦<RelativeDistinguishedName as Hash>⟧.hash_input };
+
+    ghost respects_eq = { (fed.same_Alike (fed.slice ⟦<RelativeDistinguishedName as Hash>⟧.hash_input) grammar.rdn_sequence_decides).fed };
+
+    fn hash<H: Hasher>(&self, state: &mut H) {
+        self.0.hash(state);
+    }
+}

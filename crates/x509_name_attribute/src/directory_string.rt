@@ -1,0 +1,195 @@
+//! DirectoryString.
+
+ghost use Rattle.std.specs.Prelude.{◌≡◌, true, string_bytes, IfOk, IfErr};
+ghost use Rattle.x509_der_element.specs.declared.error.ErrorKind.TheVariants.{Memory};
+ghost use Rattle.x509_name_attribute.specs.DirectoryString.{ReadsDirectoryString, is_bmp_string, text_in_place, text_of};
+ghost use Rattle.x509_name_attribute.specs.TextRef.{is_owned, octets_of};
+ghost use Rattle.x509_name_attribute.specs.declared.directory_string.DirectoryString.TheVariants as strings;
+
+use crate::text_ref::TextRef;
+use std::alloc::Global;
+use x509_der_frames::{Any, FromAny};
+use x509_der_grammar::{Decode, Encode, Error, Grammar, Room, Tag, TryClone};
+use x509_prim_text::{BmpString, PrintableString, TeletexString, Utf8String};
+
+/// A text of a name (RFC 5280 4.1.2.4). Sizes have no bounds, and there is no UniversalString.
+///
+/// ```text
+/// DirectoryString ::= CHOICE {
+///     printableString  PrintableString,
+///     teletexString    TeletexString,
+///     utf8String       UTF8String,
+///     bmpString        BMPString }
+/// ```
+#[derive(Debug, Drop, PartialEq, Eq)]
+pub enum DirectoryString {
+    /// Letters, digits, space and eleven marks.
+    PrintableString(PrintableString),
+
+    /// Characters up to 7F.
+    TeletexString(TeletexString),
+
+    /// Any characters.
+    Utf8String(Utf8String),
+
+    /// Characters of the basic multilingual plane, in two octets each.
+    BmpString(BmpString),
+}
+
+impl DirectoryString {
+    /// The text; owned for a BMPString, for which memory may be refused, and else borrowed.
+    pub fn value(&self, alloc: Global) -> Result<TextRef<'_>, Error>
+        ensures ok { IfOk result (λ text. (octets_of text ≡ text_of self.now) × (is_owned text ≡ is_bmp_string self.now)) }
+        ensures err { IfErr result (λ e. (e.kind ≡ Memory) × (is_bmp_string self.now ≡ true)) }
+    {
+        match self {
+            DirectoryString::PrintableString(string) => Ok(TextRef::Borrowed(string.as_str())),
+            DirectoryString::TeletexString(string) => Ok(TextRef::Borrowed(string.as_str())),
+            DirectoryString::Utf8String(string) => Ok(TextRef::Borrowed(string.as_str())),
+            DirectoryString::BmpString(string) => Ok(TextRef::Owned(string.to_text(alloc)?)),
+        }
+    }
+
+    /// The text where it stands as UTF-8; empty for a BMPString, whose text [`value`](DirectoryString::value) has.
+    pub fn as_ref(&self) -> &str
+        ensures { result.now ≡ text_in_place self.now }
+    {
+        match self {
+            DirectoryString::PrintableString(string) => string.as_str(),
+            DirectoryString::TeletexString(string) => string.as_str(),
+            DirectoryString::Utf8String(string) => string.as_str(),
+            DirectoryString::BmpString(_) => "",
+        }
+    }
+
+    /// The text as a string. Memory may be refused.
+    pub fn into_string(self, alloc: Global) -> Result<String, Error>
+        ensures ok { IfOk result (λ text. string_bytes text ≡ text_of self) }
+        ensures err { IfErr result (λ e. e.kind ≡ Memory) }
+    {
+        match self {
+            DirectoryString::PrintableString(string) => string.into_string(alloc),
+            DirectoryString::TeletexString(string) => string.into_string(alloc),
+            DirectoryString::Utf8String(string) => string.into_string(alloc),
+            DirectoryString::BmpString(string) => string.to_text(alloc),
+        }
+    }
+
+    /// The string whose element it is; `Malformed` exactly where it is that of none. Memory may be refused.
+    pub fn from_any(alloc: Global, any: &Any) -> Result<DirectoryString, Error>
+        ensures { ReadsDirectoryString any.now result }
+    {
+        any.decode_as(alloc)
+    }
+}
+
+impl FromAny<'_> for DirectoryString {
+    ghost from_any_gives = { ReadsDirectoryString };
+
+    fn from_any(alloc: Global, any: &Any) -> Result<DirectoryString, Error> {
+        any.decode_as(alloc)
+    }
+}
+
+impl From<PrintableString> for DirectoryString {
+    ghost from_gives = { λ text string. string ≡ strings.PrintableString text };
+
+    fn from(string: PrintableString) -> DirectoryString {
+        DirectoryString::PrintableString(string)
+    }
+}
+
+impl From<TeletexString> for DirectoryString {
+    ghost from_gives = { λ text string. string ≡ strings.TeletexString text };
+
+    fn from(string: TeletexString) -> DirectoryString {
+        DirectoryString::TeletexString(string)
+    }
+}
+
+impl From<Utf8String> for DirectoryString {
+    ghost from_gives = { λ text string. string ≡ strings.Utf8String text };
+
+    fn from(string: Utf8String) -> DirectoryString {
+        DirectoryString::Utf8String(string)
+    }
+}
+
+impl From<BmpString> for DirectoryString {
+    ghost from_gives = { λ octets string. string ≡ strings.BmpString octets };
+
+    fn from(string: BmpString) -> DirectoryString {
+        DirectoryString::BmpString(string)
+    }
+}
+
+impl TryClone for DirectoryString {
+    fn try_clone(&self, alloc: Global) -> Result<DirectoryString, Error> {
+        match self {
+            DirectoryString::PrintableString(string) => Ok(string.try_clone(alloc)?.into()),
+            DirectoryString::TeletexString(string) => Ok(string.try_clone(alloc)?.into()),
+            DirectoryString::Utf8String(string) => Ok(string.try_clone(alloc)?.into()),
+            DirectoryString::BmpString(string) => Ok(string.try_clone(alloc)?.into()),
+        }
+    }
+}
+
+#[tactic(auto, unfolding(x509_der_frames::specs::Cases::choice_tag))]
+impl Grammar for DirectoryString {
+    ghost use Rattle.x509_name_attribute.specs.DirectoryString as grammar;
+
+    ghost form = { grammar.directory_string };
+
+    fn identifier(&self) -> Tag {
+        match self {
+            DirectoryString::PrintableString(string) => string.identifier(),
+            DirectoryString::TeletexString(string) => string.identifier(),
+            DirectoryString::Utf8String(string) => string.identifier(),
+            DirectoryString::BmpString(string) => string.identifier(),
+        }
+    }
+
+    fn is_start(octet: u8) -> bool {
+        PrintableString::is_start(octet)
+            || TeletexString::is_start(octet)
+            || Utf8String::is_start(octet)
+            || BmpString::is_start(octet)
+    }
+
+    fn usual() -> Tag {
+        Tag::Utf8String
+    }
+
+    ghost lawful = { grammar.directory_string_lawful };
+}
+
+#[tactic(auto, unfolding(x509_der_frames::specs::Cases::choice_reading))]
+impl Decode for DirectoryString {
+    fn read(alloc: Global, tag: u8, content: &[u8]) -> Result<DirectoryString, Error> {
+        if PrintableString::is_start(tag) {
+            Ok(PrintableString::read(alloc, tag, content)?.into())
+        } else if TeletexString::is_start(tag) {
+            Ok(TeletexString::read(alloc, tag, content)?.into())
+        } else if Utf8String::is_start(tag) {
+            Ok(Utf8String::read(alloc, tag, content)?.into())
+        } else {
+            Ok(BmpString::read(alloc, tag, content)?.into())
+        }
+    }
+}
+
+#[tactic(auto, unfolding(x509_der_frames::specs::Cases::choice_content))]
+impl Encode for DirectoryString {
+    ghost use Rattle.std.specs.Prelude.{refl};
+
+    fn put_content<R: Room>(&self, room: &mut R) -> Result<(), Error> {
+        match self {
+            DirectoryString::PrintableString(string) => string.put_content(room),
+            DirectoryString::TeletexString(string) => string.put_content(room),
+            DirectoryString::Utf8String(string) => string.put_content(room),
+            DirectoryString::BmpString(string) => string.put_content(room),
+        }
+    }
+
+    ghost same_tag = { λ value. refl };
+}

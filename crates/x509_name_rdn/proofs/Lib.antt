@@ -1,3 +1,0 @@
-pub mod NameTexts
-pub mod NameReading
-pub mod NameWriting

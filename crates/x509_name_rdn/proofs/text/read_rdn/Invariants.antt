@@ -1,8 +1,0 @@
-use Rattle.std.proofs.Common.{false}
-use Rattle.x509_name_text.specs.Cutting.{cut, parts_left}
-use Rattle.x509_name_text.proofs.FirstRefusals.{ReadSoFar}
-use Rattle.x509_name_attribute.specs.Text.{Reads}
-use Rattle.x509_name_rdn.proofs.text.read_rdn.Given as goal
-
-abbrev pub invariant-loop-part : goal.invariant-loop-part
-invariant-loop-part l = ReadSoFar Reads (cut 43 l.fn.text false) (parts_left l.part-iterator) l.attributes.items

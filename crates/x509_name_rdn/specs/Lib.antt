@@ -1,9 +1,0 @@
-pub mod Names
-pub mod Iterators
-pub mod Rows
-pub mod LookUp
-pub mod NameText
-pub use Rattle.x509_name_attribute.specs.declared.type_and_value.AttributeTypeAndValue
-pub use Rattle.x509_name_attribute.specs.declared.type_and_value
-pub use Rattle.x509_der_oid.specs.Arcs
-pub use Rattle.x509_der_oid.specs.ObjectIdentifierForm

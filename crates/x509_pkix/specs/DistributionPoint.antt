@@ -1,0 +1,24 @@
+-- DistributionPoint: distribution_point: {0}DistributionPointName?, reasons: [1]Reasons?, crl_issuer: [2]list GeneralName?
+-- (RFC 5280 4.2.1.13)
+use Rattle.std.specs.Prelude.{List, Option}
+use Rattle.x509_der_element.specs.declared.error.ErrorKind.{ErrorKind}
+use Rattle.x509_der_grammar.specs.Form.{Contents, IsContents}
+use Rattle.x509_der_frames.specs.Frames.{Part, optional, implicit, explicit, ◌⊗◌, fields}
+use Rattle.x509_der_frames.specs.PartRules.{part_rules}
+use Rattle.x509_ext_name.specs.DistributionPointName.{distribution_point_name, distribution_point_name_lawful}
+use Rattle.x509_ext_name.specs.GeneralName.{general_names, general_names_lawful}
+use Rattle.x509_ext_name.specs.declared.distribution_point_name.DistributionPointName.{DistributionPointName}
+use Rattle.x509_ext_name.specs.declared.general_name.GeneralName.{GeneralName}
+use Rattle.x509_pkix.specs.Reasons.{reasons, reasons_lawful}
+use Rattle.x509_pkix.specs.declared.reasons.Reasons.{Reasons}
+use Rattle.x509_pkix.specs.declared.distribution_point.DistributionPoint.{DistributionPoint}
+
+unfoldable pub distribution_point_fields : Part (Option DistributionPointName × (Option Reasons × Option (List GeneralName)))
+distribution_point_fields = optional (explicit 0 distribution_point_name) ⊗ (optional (implicit 1 3 reasons) ⊗ optional (implicit 2 48 general_names))
+
+abbrev pub distribution_point_contents : Contents DistributionPoint
+distribution_point_contents = fields (λ d. (d.distribution_point, (d.reasons, d.crl_issuer))) (λ (distribution_point, (reasons, crl_issuer)). record { distribution_point = distribution_point; reasons = reasons; crl_issuer = crl_issuer }) distribution_point_fields
+
+pub distribution_point_contents_lawful : {R : ErrorKind → Type 0} → IsContents R distribution_point_contents
+unfolding distribution_point_fields
+distribution_point_contents_lawful = search (part_rules, distribution_point_name_lawful, reasons_lawful, general_names_lawful) depth 20

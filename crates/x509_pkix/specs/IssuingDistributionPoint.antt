@@ -1,0 +1,34 @@
+-- IssuingDistributionPoint: distribution_point: {0}DistributionPointName?, only_contains_user_certs: [1]BOOLEAN=FALSE,
+-- only_contains_ca_certs: [2]BOOLEAN=FALSE, only_some_reasons: [3]Reasons?, indirect_crl: [4]BOOLEAN=FALSE,
+-- only_contains_attribute_certs: [5]BOOLEAN=FALSE (RFC 5280 5.2.5)
+use Rattle.std.specs.Prelude.{ℕ, Bool, Option}
+use Rattle.x509_der_element.specs.declared.error.ErrorKind.{ErrorKind}
+use Rattle.x509_der_grammar.specs.Boolean.{boolean}
+use Rattle.x509_der_grammar.specs.Form.{Contents, IsContents}
+use Rattle.x509_der_frames.specs.DefaultValues.{boolean_default}
+use Rattle.x509_der_frames.specs.Frames.{Part, optional, defaulted, implicit, explicit, ◌⊗◌, fields}
+use Rattle.x509_der_frames.specs.PartRules.{part_rules}
+use Rattle.x509_ext_name.specs.DistributionPointName.{distribution_point_name, distribution_point_name_lawful}
+use Rattle.x509_ext_name.specs.declared.distribution_point_name.DistributionPointName.{DistributionPointName}
+use Rattle.x509_pkix.specs.Reasons.{reasons, reasons_lawful}
+use Rattle.x509_pkix.specs.declared.reasons.Reasons.{Reasons}
+use Rattle.x509_pkix.specs.declared.issuing_distribution_point.IssuingDistributionPoint.{IssuingDistributionPoint}
+
+-- [n]BOOLEAN=FALSE
+abbrev said_or_not : ℕ → Part Bool
+said_or_not n = defaulted boolean_default (implicit n 1 boolean)
+
+unfoldable pub issuing_distribution_point_fields : Part ((Option DistributionPointName × (Bool × Bool)) × (Option Reasons × (Bool × Bool)))
+issuing_distribution_point_fields =
+    (optional (explicit 0 distribution_point_name) ⊗ (said_or_not 1 ⊗ said_or_not 2))
+    ⊗ (optional (implicit 3 3 reasons) ⊗ (said_or_not 4 ⊗ said_or_not 5))
+
+abbrev pub issuing_distribution_point_contents : Contents IssuingDistributionPoint
+issuing_distribution_point_contents = fields
+    (λ i. ((i.distribution_point, (i.only_contains_user_certs, i.only_contains_ca_certs)), (i.only_some_reasons, (i.indirect_crl, i.only_contains_attribute_certs))))
+    (λ ((distribution_point, (only_contains_user_certs, only_contains_ca_certs)), (only_some_reasons, (indirect_crl, only_contains_attribute_certs))). record { distribution_point = distribution_point; only_contains_user_certs = only_contains_user_certs; only_contains_ca_certs = only_contains_ca_certs; only_some_reasons = only_some_reasons; indirect_crl = indirect_crl; only_contains_attribute_certs = only_contains_attribute_certs })
+    issuing_distribution_point_fields
+
+pub issuing_distribution_point_contents_lawful : {R : ErrorKind → Type 0} → IsContents R issuing_distribution_point_contents
+unfolding issuing_distribution_point_fields
+issuing_distribution_point_contents_lawful = search (part_rules, distribution_point_name_lawful, reasons_lawful) depth 20

@@ -1,0 +1,135 @@
+//! Why a certificate was revoked.
+
+use std::alloc::Global;
+use x509_der::{AssociatedOid, ObjectIdentifier};
+use x509_der_grammar::{Content, Error, Room, Tag, TryClone};
+use x509_ext_frame::{Criticality, Extension, Name, id_ce};
+use x509_prim::{NamedNumber, put_named_number, read_named_number};
+
+/// Why a certificate was revoked (RFC 5280 5.3.1). Its identifier is 2.5.29.21, and it isn't critical. Reasons are
+/// ordered by their numbers.
+///
+/// ```text
+/// CRLReason ::= ENUMERATED {
+///     unspecified           (0),
+///     keyCompromise         (1),
+///     cACompromise          (2),
+///     affiliationChanged    (3),
+///     superseded            (4),
+///     cessationOfOperation  (5),
+///     certificateHold       (6),
+///     removeFromCRL         (8),
+///     privilegeWithdrawn    (9),
+///     aACompromise         (10) }
+/// ```
+#[derive(Clone, Copy, Debug, PartialEq, Eq, PartialOrd, Ord)]
+pub enum CrlReason {
+    /// No reason is given.
+    Unspecified = 0,
+
+    /// The key isn't secret any more, or may not be.
+    KeyCompromise = 1,
+
+    /// The key of the authority isn't secret any more, or may not be.
+    CaCompromise = 2,
+
+    /// What is said of the subject has changed.
+    AffiliationChanged = 3,
+
+    /// Another certificate has taken its place.
+    Superseded = 4,
+
+    /// It isn't wanted any more.
+    CessationOfOperation = 5,
+
+    /// It is on hold.
+    CertificateHold = 6,
+
+    /// In a list of changes: it isn't on hold any more, or has ended.
+    RemoveFromCRL = 8,
+
+    /// A privilege that it grants has been withdrawn.
+    PrivilegeWithdrawn = 9,
+
+    /// The key of the authority that grants its attributes isn't secret any more, or may not be.
+    AaCompromise = 10,
+}
+
+impl NamedNumber for CrlReason {
+    ghost use Rattle.x509_pkix.specs.CrlReason.{crl_reason_names};
+
+    ghost names = { crl_reason_names };
+
+    fn number(&self) -> u8 {
+        *self as u8
+    }
+
+    fn from_number(number: u8) -> Option<CrlReason> {
+        match number {
+            0 => Some(CrlReason::Unspecified),
+            1 => Some(CrlReason::KeyCompromise),
+            2 => Some(CrlReason::CaCompromise),
+            3 => Some(CrlReason::AffiliationChanged),
+            4 => Some(CrlReason::Superseded),
+            5 => Some(CrlReason::CessationOfOperation),
+            6 => Some(CrlReason::CertificateHold),
+            8 => Some(CrlReason::RemoveFromCRL),
+            9 => Some(CrlReason::PrivilegeWithdrawn),
+            10 => Some(CrlReason::AaCompromise),
+            _ => None,
+        }
+    }
+}
+
+impl Content for CrlReason {
+    ghost use Rattle.x509_der_element.specs.declared.tag.Tag.TheVariants.{Enumerated};
+    ghost use Rattle.x509_pkix.specs.CrlReason.{crl_reason_names};
+    ghost use Rattle.x509_prim.specs.Names.{named_contents};
+    ghost use Rattle.x509_prim.specs.NamesLaws.{named_contents_lawful};
+
+    ghost contents = { named_contents crl_reason_names };
+
+    ghost takes_memory = { ⊥ };
+
+    ghost IDENTIFIER = { Enumerated };
+
+    const IDENTIFIER: Tag = Tag::Enumerated;
+
+    fn read_content(_alloc: Global, octets: &[u8]) -> Result<CrlReason, Error> {
+        read_named_number(octets)
+    }
+
+    fn write_content<R: Room>(&self, room: &mut R) -> Result<(), Error> {
+        put_named_number(self, room)
+    }
+
+    ghost contents_lawful = { named_contents_lawful crl_reason_names };
+}
+
+impl AssociatedOid for CrlReason {
+    ghost use Rattle.x509_ext_frame.specs.Identifiers.{id_ce};
+
+    ghost OID = { id_ce 21 };
+
+    const OID: ObjectIdentifier = id_ce!(21);
+}
+
+impl Criticality for CrlReason {
+    ghost use Rattle.std.specs.Prelude.{false};
+
+    ghost is_critical = { λ reason subject extensions. false };
+
+    fn criticality(&self, _subject: &Name, _extensions: &[Extension]) -> bool {
+        false
+    }
+}
+
+impl TryClone for CrlReason {
+    ghost use Rattle.std.specs.Prelude.{◌≡◌, Ok};
+
+    fn try_clone(&self, _alloc: Global) -> Result<CrlReason, Error>
+        ensures { result ≡ Ok self.now }
+    {
+        Ok(*self)
+    }
+}

@@ -1,0 +1,81 @@
+//! Where a list of revoked certificates is found.
+
+use crate::ReasonFlags;
+use std::alloc::Global;
+use x509_der_frames::{
+    PutPart, end, explicit_optional, implicit_optional, optional_explicit, optional_implicit,
+};
+use x509_der_grammar::{Content, Encode, Error, Room, Tag, TryClone};
+use x509_ext_name::{DistributionPointName, GeneralNames};
+
+/// Where a list of revoked certificates is found (RFC 5280 4.2.1.13). That a place or an issuer is there, as RFC 5280
+/// wants it, isn't looked at.
+///
+/// ```text
+/// DistributionPoint ::= SEQUENCE {
+///     distributionPoint  [0] EXPLICIT DistributionPointName OPTIONAL,
+///     reasons            [1] IMPLICIT ReasonFlags OPTIONAL,
+///     cRLIssuer          [2] IMPLICIT GeneralNames OPTIONAL }
+/// ```
+#[derive(Debug, Drop, PartialEq, Eq)]
+pub struct DistributionPoint {
+    /// The place.
+    pub distribution_point: Option<DistributionPointName>,
+
+    /// The reasons that the list has, all if left out.
+    pub reasons: Option<ReasonFlags>,
+
+    /// The issuer of the list, that of the certificate if left out.
+    pub crl_issuer: Option<GeneralNames>,
+}
+
+impl TryClone for DistributionPoint {
+    fn try_clone(&self, alloc: Global) -> Result<DistributionPoint, Error> {
+        Ok(DistributionPoint {
+            distribution_point: self.distribution_point.try_clone(alloc)?,
+            reasons: self.reasons,
+            crl_issuer: self.crl_issuer.try_clone(alloc)?,
+        })
+    }
+}
+
+#[tactic(auto, unfolding(crate::specs::DistributionPoint::distribution_point_fields, x509_der_frames::specs::Frames::fields_reading, x509_der_frames::specs::Frames::fields_octets), using(x509_der_frames::specs::FrameWriting::text_in_option, x509_der_frames::specs::FrameWriting::refusal_in_option))]
+impl Content for DistributionPoint {
+    ghost use Rattle.x509_der_element.specs.declared.tag.Tag.TheVariants.{Sequence};
+    ghost use Rattle.x509_der_grammar.specs.Writing.{with_field, in_option};
+    ghost use Rattle.x509_pkix.specs.DistributionPoint as grammar;
+
+    ghost contents = { grammar.distribution_point_contents };
+
+    ghost written_as = { with_field (λ d. d.reasons) (λ d r. record d { reasons = r }) (in_option ⟦<ReasonFlags as Encode>⟧.writing) };
+
+    ghost IDENTIFIER = { Sequence };
+
+    const IDENTIFIER: Tag = Tag::Sequence;
+
+    fn read_content(alloc: Global, octets: &[u8]) -> Result<DistributionPoint, Error> {
+        let mut rest = octets;
+        let distribution_point = optional_explicit::<DistributionPointName>(alloc, 0, &mut rest)?;
+        let reasons = optional_implicit::<ReasonFlags>(alloc, 1, &mut rest)?;
+        let crl_issuer = optional_implicit::<GeneralNames>(alloc, 2, &mut rest)?;
+        end(rest)?;
+        Ok(DistributionPoint {
+            distribution_point,
+            reasons,
+            crl_issuer,
+        })
+    }
+
+    fn write_content<R: Room>(&self, room: &mut R) -> Result<(), Error> {
+        let parts = (
+            explicit_optional(0, &self.distribution_point),
+            (
+                implicit_optional(1, &self.reasons),
+                implicit_optional(2, &self.crl_issuer),
+            ),
+        );
+        parts.put_text(room)
+    }
+
+    ghost contents_lawful = { grammar.distribution_point_contents_lawful };
+}

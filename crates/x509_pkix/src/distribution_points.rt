@@ -1,0 +1,190 @@
+//! Where lists of revoked certificates are found.
+
+ghost use Rattle.std.specs.Prelude.{◌≡◌, []};
+
+use crate::distribution_point::DistributionPoint;
+use std::alloc::Global;
+use x509_der::{AssociatedOid, ObjectIdentifier};
+use x509_der_frames::SequenceOf;
+use x509_der_grammar::Newtype;
+use x509_ext_frame::{Criticality, Extension, Name, id_ce};
+
+/// Where the lists are found that would revoke a certificate (RFC 5280 4.2.1.13). Its identifier is 2.5.29.31, and it isn't
+/// critical. A sequence without members is read and written too.
+///
+/// ```text
+/// CRLDistributionPoints ::= SEQUENCE OF DistributionPoint
+/// ```
+#[derive(Debug, Drop, PartialEq, Eq)]
+pub struct CrlDistributionPoints(pub SequenceOf<DistributionPoint>);
+
+impl CrlDistributionPoints {
+    /// No points. It takes no memory.
+    pub fn new(alloc: Global) -> CrlDistributionPoints
+        ensures { result.0 ≡ [] }
+    {
+        CrlDistributionPoints(SequenceOf::new(alloc))
+    }
+}
+
+impl AssociatedOid for CrlDistributionPoints {
+    ghost use Rattle.x509_ext_frame.specs.Identifiers.{id_ce};
+
+    ghost OID = { id_ce 31 };
+
+    const OID: ObjectIdentifier = id_ce!(31);
+}
+
+impl Criticality for CrlDistributionPoints {
+    ghost use Rattle.std.specs.Prelude.{false};
+
+    ghost is_critical = { λ places subject extensions. false };
+
+    fn criticality(&self, _subject: &Name, _extensions: &[Extension]) -> bool {
+        false
+    }
+}
+
+impl Newtype for CrlDistributionPoints {
+    ghost use Rattle.std.specs.Prelude.{refl};
+
+    type Inner = SequenceOf<DistributionPoint>;
+
+    ghost round = { record { to = λ places. places.0; from = λ points. record { 0 = points }; back = λ places. refl; there = λ points. refl } };
+
+    fn inner(&self) -> &SequenceOf<DistributionPoint> {
+        &self.0
+    }
+
+    fn from_inner(inner: SequenceOf<DistributionPoint>) -> CrlDistributionPoints {
+        CrlDistributionPoints(inner)
+    }
+}
+
+impl From<SequenceOf<DistributionPoint>> for CrlDistributionPoints {
+    ghost from_gives = { λ points places. places.0 ≡ points };
+
+    fn from(points: SequenceOf<DistributionPoint>) -> CrlDistributionPoints {
+        CrlDistributionPoints(points)
+    }
+}
+
+impl From<CrlDistributionPoints> for SequenceOf<DistributionPoint> {
+    ghost from_gives = { λ places points. points ≡ places.0 };
+
+    fn from(places: CrlDistributionPoints) -> SequenceOf<DistributionPoint> {
+        let CrlDistributionPoints(points) = places;
+        points
+    }
+}
+
+impl AsRef<SequenceOf<DistributionPoint>> for CrlDistributionPoints {
+    fn as_ref(&self) -> &SequenceOf<DistributionPoint>
+        ensures { result.now ≡ self.now.0 }
+    {
+        &self.0
+    }
+}
+
+impl AsMut<SequenceOf<DistributionPoint>> for CrlDistributionPoints {
+    ghost use Rattle.std.specs.Borrow.{Lends, sem};
+    ghost use Rattle.x509_pkix.specs.Rows.{point_list_row};
+    ghost use Rattle.x509_pkix.specs.contracts.distribution_points.CrlDistributionPoints.{the_row};
+
+    fn as_mut(&mut self) -> &mut SequenceOf<DistributionPoint>
+        ensures* writes_back { sem 𝓛 (Lends the_row point_list_row self.entry result (λ w. record { 0 = w })) }
+        ensures value { result.now ≡ self.old.0 }
+    {
+        &mut self.0
+    }
+}
+
+/// Where the lists are found that tell what changed since the last one (RFC 5280 4.2.1.15, 5.2.6). Its identifier is
+/// 2.5.29.46, and it isn't critical. A sequence without members is read and written too.
+///
+/// ```text
+/// FreshestCRL ::= CRLDistributionPoints
+/// ```
+#[derive(Debug, Drop, PartialEq, Eq)]
+pub struct FreshestCrl(pub SequenceOf<DistributionPoint>);
+
+impl FreshestCrl {
+    /// No points. It takes no memory.
+    pub fn new(alloc: Global) -> FreshestCrl
+        ensures { result.0 ≡ [] }
+    {
+        FreshestCrl(SequenceOf::new(alloc))
+    }
+}
+
+impl AssociatedOid for FreshestCrl {
+    ghost use Rattle.x509_ext_frame.specs.Identifiers.{id_ce};
+
+    ghost OID = { id_ce 46 };
+
+    const OID: ObjectIdentifier = id_ce!(46);
+}
+
+impl Criticality for FreshestCrl {
+    ghost use Rattle.std.specs.Prelude.{false};
+
+    ghost is_critical = { λ places subject extensions. false };
+
+    fn criticality(&self, _subject: &Name, _extensions: &[Extension]) -> bool {
+        false
+    }
+}
+
+impl Newtype for FreshestCrl {
+    ghost use Rattle.std.specs.Prelude.{refl};
+
+    type Inner = SequenceOf<DistributionPoint>;
+
+    ghost round = { record { to = λ places. places.0; from = λ points. record { 0 = points }; back = λ places. refl; there = λ points. refl } };
+
+    fn inner(&self) -> &SequenceOf<DistributionPoint> {
+        &self.0
+    }
+
+    fn from_inner(inner: SequenceOf<DistributionPoint>) -> FreshestCrl {
+        FreshestCrl(inner)
+    }
+}
+
+impl From<SequenceOf<DistributionPoint>> for FreshestCrl {
+    ghost from_gives = { λ points places. places.0 ≡ points };
+
+    fn from(points: SequenceOf<DistributionPoint>) -> FreshestCrl {
+        FreshestCrl(points)
+    }
+}
+
+impl From<FreshestCrl> for SequenceOf<DistributionPoint> {
+    ghost from_gives = { λ places points. points ≡ places.0 };
+
+    fn from(places: FreshestCrl) -> SequenceOf<DistributionPoint> {
+        let FreshestCrl(points) = places;
+        points
+    }
+}
+
+impl AsRef<SequenceOf<DistributionPoint>> for FreshestCrl {
+    fn as_ref(&self) -> &SequenceOf<DistributionPoint>
+        ensures { result.now ≡ self.now.0 }
+    {
+        &self.0
+    }
+}
+
+impl AsMut<SequenceOf<DistributionPoint>> for FreshestCrl {
+    ghost use Rattle.std.specs.Borrow.{Lends, sem};
+    ghost use Rattle.x509_pkix.specs.Rows.{point_list_row};
+    ghost use Rattle.x509_pkix.specs.contracts.distribution_points.FreshestCrl.{the_row};
+
+    fn as_mut(&mut self) -> &mut SequenceOf<DistributionPoint>
+        ensures* writes_back { sem 𝓛 (Lends the_row point_list_row self.entry result (λ w. record { 0 = w })) }
+        ensures value { result.now ≡ self.old.0 }
+    {
+        &mut self.0
+    }
+}

@@ -1,0 +1,85 @@
+//! Trees of names.
+
+use std::alloc::Global;
+use x509_der_frames::{
+    PutPart, SequenceOf, default_implicit, end, field, implicit_default, implicit_optional,
+    optional_implicit,
+};
+use x509_der_grammar::{Content, Error, Room, Tag, TryClone};
+use x509_ext_name::GeneralName;
+
+/// A name with those below it (RFC 5280 4.2.1.10). That the distances are 0 and left out, as RFC 5280 wants them, isn't
+/// looked at.
+///
+/// ```text
+/// GeneralSubtree ::= SEQUENCE {
+///     base     GeneralName,
+///     minimum  [0] IMPLICIT INTEGER (0..4294967295) DEFAULT 0,
+///     maximum  [1] IMPLICIT INTEGER (0..4294967295) OPTIONAL }
+/// ```
+#[derive(Debug, Drop, PartialEq, Eq)]
+pub struct GeneralSubtree {
+    /// The name.
+    pub base: GeneralName,
+
+    /// How far below the name the tree begins.
+    pub minimum: u32,
+
+    /// How far below the name the tree ends; it has no end if left out.
+    pub maximum: Option<u32>,
+}
+
+/// Trees of names in their order (RFC 5280 4.2.1.10). A sequence without members is read and written too.
+///
+/// ```text
+/// GeneralSubtrees ::= SEQUENCE OF GeneralSubtree
+/// ```
+pub type GeneralSubtrees = SequenceOf<GeneralSubtree>;
+
+impl TryClone for GeneralSubtree {
+    fn try_clone(&self, alloc: Global) -> Result<GeneralSubtree, Error> {
+        Ok(GeneralSubtree {
+            base: self.base.try_clone(alloc)?,
+            minimum: self.minimum,
+            maximum: self.maximum,
+        })
+    }
+}
+
+#[tactic(auto, unfolding(crate::specs::GeneralSubtree::general_subtree_fields, x509_der_frames::specs::Frames::fields_reading, x509_der_frames::specs::Frames::fields_octets))]
+impl Content for GeneralSubtree {
+    ghost use Rattle.x509_der_element.specs.declared.tag.Tag.TheVariants.{Sequence};
+    ghost use Rattle.x509_pkix.specs.GeneralSubtree as grammar;
+
+    ghost contents = { grammar.general_subtree_contents };
+
+    ghost IDENTIFIER = { Sequence };
+
+    const IDENTIFIER: Tag = Tag::Sequence;
+
+    fn read_content(alloc: Global, octets: &[u8]) -> Result<GeneralSubtree, Error> {
+        let mut rest = octets;
+        let base = field::<GeneralName>(alloc, &mut rest)?;
+        let minimum = default_implicit::<u32>(alloc, 0, &mut rest)?;
+        let maximum = optional_implicit::<u32>(alloc, 1, &mut rest)?;
+        end(rest)?;
+        Ok(GeneralSubtree {
+            base,
+            minimum,
+            maximum,
+        })
+    }
+
+    fn write_content<R: Room>(&self, room: &mut R) -> Result<(), Error> {
+        let parts = (
+            &self.base,
+            (
+                implicit_default(0, &self.minimum),
+                implicit_optional(1, &self.maximum),
+            ),
+        );
+        parts.put_text(room)
+    }
+
+    ghost contents_lawful = { grammar.general_subtree_contents_lawful };
+}

@@ -1,0 +1,131 @@
+//! Of what certificates a list of revoked ones speaks.
+
+use crate::ReasonFlags;
+use std::alloc::Global;
+use x509_der::{AssociatedOid, ObjectIdentifier};
+use x509_der_frames::{
+    PutPart, default_implicit, end, explicit_optional, implicit_default, implicit_optional,
+    optional_explicit, optional_implicit,
+};
+use x509_der_grammar::{Content, Encode, Error, Room, Tag, TryClone};
+use x509_ext_frame::{Criticality, Extension, Name, id_ce};
+use x509_ext_name::DistributionPointName;
+
+/// Where a list of revoked certificates is found, and of what certificates it speaks (RFC 5280 5.2.5). Its identifier is
+/// 2.5.29.28, and it is critical. That at most one of the three kinds of certificates is said, as RFC 5280 wants it, isn't
+/// looked at.
+///
+/// ```text
+/// IssuingDistributionPoint ::= SEQUENCE {
+///     distributionPoint           [0] EXPLICIT DistributionPointName OPTIONAL,
+///     onlyContainsUserCerts       [1] IMPLICIT BOOLEAN DEFAULT FALSE,
+///     onlyContainsCACerts         [2] IMPLICIT BOOLEAN DEFAULT FALSE,
+///     onlySomeReasons             [3] IMPLICIT ReasonFlags OPTIONAL,
+///     indirectCRL                 [4] IMPLICIT BOOLEAN DEFAULT FALSE,
+///     onlyContainsAttributeCerts  [5] IMPLICIT BOOLEAN DEFAULT FALSE }
+/// ```
+#[derive(Debug, Drop, PartialEq, Eq)]
+pub struct IssuingDistributionPoint {
+    /// The place.
+    pub distribution_point: Option<DistributionPointName>,
+
+    /// Whether it speaks of certificates of end entities alone.
+    pub only_contains_user_certs: bool,
+
+    /// Whether it speaks of certificates of authorities alone.
+    pub only_contains_ca_certs: bool,
+
+    /// The reasons that it has, all if left out.
+    pub only_some_reasons: Option<ReasonFlags>,
+
+    /// Whether it speaks of certificates of other issuers too.
+    pub indirect_crl: bool,
+
+    /// Whether it speaks of attribute certificates alone.
+    pub only_contains_attribute_certs: bool,
+}
+
+impl AssociatedOid for IssuingDistributionPoint {
+    ghost use Rattle.x509_ext_frame.specs.Identifiers.{id_ce};
+
+    ghost OID = { id_ce 28 };
+
+    const OID: ObjectIdentifier = id_ce!(28);
+}
+
+impl Criticality for IssuingDistributionPoint {
+    ghost use Rattle.std.specs.Prelude.{true};
+
+    ghost is_critical = { λ point subject extensions. true };
+
+    fn criticality(&self, _subject: &Name, _extensions: &[Extension]) -> bool {
+        true
+    }
+}
+
+impl TryClone for IssuingDistributionPoint {
+    fn try_clone(&self, alloc: Global) -> Result<IssuingDistributionPoint, Error> {
+        Ok(IssuingDistributionPoint {
+            distribution_point: self.distribution_point.try_clone(alloc)?,
+            only_contains_user_certs: self.only_contains_user_certs,
+            only_contains_ca_certs: self.only_contains_ca_certs,
+            only_some_reasons: self.only_some_reasons,
+            indirect_crl: self.indirect_crl,
+            only_contains_attribute_certs: self.only_contains_attribute_certs,
+        })
+    }
+}
+
+#[tactic(auto, unfolding(crate::specs::IssuingDistributionPoint::issuing_distribution_point_fields, x509_der_frames::specs::Frames::fields_reading, x509_der_frames::specs::Frames::fields_octets), using(x509_der_frames::specs::FrameWriting::text_in_option, x509_der_frames::specs::FrameWriting::refusal_in_option, crate::proofs::Refusals::no_refusal))]
+impl Content for IssuingDistributionPoint {
+    ghost use Rattle.x509_der_element.specs.declared.tag.Tag.TheVariants.{Sequence};
+    ghost use Rattle.x509_der_grammar.specs.Writing.{with_field, in_option};
+    ghost use Rattle.x509_pkix.specs.IssuingDistributionPoint as grammar;
+
+    ghost contents = { grammar.issuing_distribution_point_contents };
+
+    ghost written_as = { with_field (λ i. i.only_some_reasons) (λ i r. record i { only_some_reasons = r }) (in_option ⟦<ReasonFlags as Encode>⟧.writing) };
+
+    ghost IDENTIFIER = { Sequence };
+
+    const IDENTIFIER: Tag = Tag::Sequence;
+
+    fn read_content(alloc: Global, octets: &[u8]) -> Result<IssuingDistributionPoint, Error> {
+        let mut rest = octets;
+        let distribution_point = optional_explicit::<DistributionPointName>(alloc, 0, &mut rest)?;
+        let only_contains_user_certs = default_implicit::<bool>(alloc, 1, &mut rest)?;
+        let only_contains_ca_certs = default_implicit::<bool>(alloc, 2, &mut rest)?;
+        let only_some_reasons = optional_implicit::<ReasonFlags>(alloc, 3, &mut rest)?;
+        let indirect_crl = default_implicit::<bool>(alloc, 4, &mut rest)?;
+        let only_contains_attribute_certs = default_implicit::<bool>(alloc, 5, &mut rest)?;
+        end(rest)?;
+        Ok(IssuingDistributionPoint {
+            distribution_point,
+            only_contains_user_certs,
+            only_contains_ca_certs,
+            only_some_reasons,
+            indirect_crl,
+            only_contains_attribute_certs,
+        })
+    }
+
+    fn write_content<R: Room>(&self, room: &mut R) -> Result<(), Error> {
+        let front = (
+            explicit_optional(0, &self.distribution_point),
+            (
+                implicit_default(1, &self.only_contains_user_certs),
+                implicit_default(2, &self.only_contains_ca_certs),
+            ),
+        );
+        let behind = (
+            implicit_optional(3, &self.only_some_reasons),
+            (
+                implicit_default(4, &self.indirect_crl),
+                implicit_default(5, &self.only_contains_attribute_certs),
+            ),
+        );
+        (front, behind).put_text(room)
+    }
+
+    ghost contents_lawful = { grammar.issuing_distribution_point_contents_lawful };
+}

@@ -1,0 +1,85 @@
+//! What names may stand below an authority.
+
+use crate::general_subtree::GeneralSubtrees;
+use std::alloc::Global;
+use x509_der::{AssociatedOid, ObjectIdentifier};
+use x509_der_frames::{PutPart, end, implicit_optional, optional_implicit};
+use x509_der_grammar::{Content, Error, Room, Tag, TryClone};
+use x509_ext_frame::{Criticality, Extension, Name, id_ce};
+
+/// What names the subjects of the certificates below an authority may have (RFC 5280 4.2.1.10). Its identifier is
+/// 2.5.29.30, and it is critical.
+///
+/// ```text
+/// NameConstraints ::= SEQUENCE {
+///     permittedSubtrees  [0] IMPLICIT GeneralSubtrees OPTIONAL,
+///     excludedSubtrees   [1] IMPLICIT GeneralSubtrees OPTIONAL }
+/// ```
+#[derive(Debug, Drop, PartialEq, Eq)]
+pub struct NameConstraints {
+    /// The trees in one of which a name has to be.
+    pub permitted_subtrees: Option<GeneralSubtrees>,
+
+    /// The trees in none of which a name may be.
+    pub excluded_subtrees: Option<GeneralSubtrees>,
+}
+
+impl AssociatedOid for NameConstraints {
+    ghost use Rattle.x509_ext_frame.specs.Identifiers.{id_ce};
+
+    ghost OID = { id_ce 30 };
+
+    const OID: ObjectIdentifier = id_ce!(30);
+}
+
+impl Criticality for NameConstraints {
+    ghost use Rattle.std.specs.Prelude.{true};
+
+    ghost is_critical = { λ constraints subject extensions. true };
+
+    fn criticality(&self, _subject: &Name, _extensions: &[Extension]) -> bool {
+        true
+    }
+}
+
+impl TryClone for NameConstraints {
+    fn try_clone(&self, alloc: Global) -> Result<NameConstraints, Error> {
+        Ok(NameConstraints {
+            permitted_subtrees: self.permitted_subtrees.try_clone(alloc)?,
+            excluded_subtrees: self.excluded_subtrees.try_clone(alloc)?,
+        })
+    }
+}
+
+#[tactic(auto, unfolding(crate::specs::NameConstraints::name_constraints_fields, x509_der_frames::specs::Frames::fields_reading, x509_der_frames::specs::Frames::fields_octets))]
+impl Content for NameConstraints {
+    ghost use Rattle.x509_der_element.specs.declared.tag.Tag.TheVariants.{Sequence};
+    ghost use Rattle.x509_pkix.specs.NameConstraints as grammar;
+
+    ghost contents = { grammar.name_constraints_contents };
+
+    ghost IDENTIFIER = { Sequence };
+
+    const IDENTIFIER: Tag = Tag::Sequence;
+
+    fn read_content(alloc: Global, octets: &[u8]) -> Result<NameConstraints, Error> {
+        let mut rest = octets;
+        let permitted_subtrees = optional_implicit::<GeneralSubtrees>(alloc, 0, &mut rest)?;
+        let excluded_subtrees = optional_implicit::<GeneralSubtrees>(alloc, 1, &mut rest)?;
+        end(rest)?;
+        Ok(NameConstraints {
+            permitted_subtrees,
+            excluded_subtrees,
+        })
+    }
+
+    fn write_content<R: Room>(&self, room: &mut R) -> Result<(), Error> {
+        let parts = (
+            implicit_optional(0, &self.permitted_subtrees),
+            implicit_optional(1, &self.excluded_subtrees),
+        );
+        parts.put_text(room)
+    }
+
+    ghost contents_lawful = { grammar.name_constraints_contents_lawful };
+}

@@ -1,2 +1,0 @@
-pub mod GeneralSubtree
-pub mod NameConstraints

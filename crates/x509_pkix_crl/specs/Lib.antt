@@ -1,2 +1,0 @@
-pub mod CrlReason
-pub mod Reasons

@@ -1,3 +1,0 @@
-pub mod DistributionPoint
-pub mod IssuingDistributionPoint
-pub mod Rows

@@ -1,0 +1,178 @@
+//! INTEGER that is not negative.
+
+ghost use Rattle.std.specs.Prelude.{◌≡◌, ◌<◌, ◌⊎◌, true, [], length, bytes_eq, IfOk, IfErr};
+ghost use Rattle.std.proofs.Common.{rules};
+ghost use Rattle.std.specs.Hash as fed;
+ghost use Rattle.std.specs.Cmp.{partial_equiv_from_equiv};
+ghost use Rattle.std.specs.Cmp.Lexicographic.{nat_list_eq_equiv};
+ghost use Rattle.std.specs.Cmp.Rules.{hashing};
+ghost use Rattle.x509_der_element.specs.declared.error.ErrorKind.TheVariants as errors;
+ghost use Rattle.x509_der_grammar.specs.Natural.{natural_octets};
+ghost use Rattle.x509_prim.specs.Integer.{is_unsigned, number, with_sign, without_zeros};
+
+use crate::content::{check_unsigned, is_signed, strip_zeros};
+use std::alloc::Global;
+use std::cmp::Ordering;
+use std::fmt;
+use std::hash::{Hash, Hasher};
+use std::marker::Model;
+use x509_der_grammar::{Bytes, Content, Error, ErrorKind, Room, Tag, TryClone};
+use x509_der_order::ValueOrd;
+
+/// A whole number of any size that is not negative (X.690 8.3). Contracts see its content octets.
+#[derive(Drop)]
+pub struct Uint {
+    content: Bytes,
+}
+
+impl Model for Uint {
+    ghost use Rattle.std.specs.Prelude.{List, ℕ, ◌≡◌, true};
+    ghost use Rattle.x509_prim.specs.Integer.{is_unsigned};
+
+    ghost Value = { List ℕ };
+
+    ghost view = { λ uint. uint.content };
+
+    ghost invariant = { λ uint. is_unsigned uint.content ≡ true };
+}
+
+impl Uint {
+    /// The number of the octets, most significant first, which may begin with zeros; `Value` exactly where there are
+    /// no octets. Memory may be refused.
+    pub fn new(alloc: Global, octets: &[u8]) -> Result<Uint, Error>
+        ensures ok { IfOk result (λ uint. uint ≡ with_sign (without_zeros octets.now)) }
+        ensures number { IfOk result (λ uint. number uint ≡ number octets.now) }
+        ensures err { IfErr result (λ e. ((e.kind ≡ errors.Memory) × (0 < length octets.now)) ⊎ ((e.kind ≡ errors.Value) × (octets.now ≡ []))) }
+    {
+        if octets.is_empty() {
+            return Err(ErrorKind::Value.into());
+        }
+        Ok(Uint {
+            content: signed_content(alloc, strip_zeros(octets))?,
+        })
+    }
+
+    /// The number of a number type. Memory may be refused, and nothing else.
+    pub fn from_u128(alloc: Global, number: u128) -> Result<Uint, Error>
+        ensures ok { IfOk result (λ uint. uint ≡ natural_octets number) }
+        ensures err { IfErr result (λ e. e.kind ≡ errors.Memory) }
+    {
+        Uint::new(alloc, &number.to_be_bytes())
+    }
+
+    /// The octets of the number, most significant first, without zeros in front; the number 0 has one octet.
+    pub fn as_bytes(&self) -> &[u8]
+        ensures octets { result.now ≡ without_zeros self.now }
+        ensures number { number result.now ≡ number self.now }
+        ensures some { 0 < length result.now }
+    {
+        strip_zeros(self.content.as_slice())
+    }
+
+    /// The content octets, without a copy.
+    pub(crate) fn into_content(self) -> Bytes
+        ensures content { result ≡ self }
+        ensures unsigned { is_unsigned self ≡ true }
+    {
+        let Uint { content } = self;
+        content
+    }
+}
+
+/// The octets, with a zero in front where bit 8 of the first is 1.
+fn signed_content(alloc: Global, octets: &[u8]) -> Result<Bytes, Error>
+    ensures ok { IfOk result (λ content. content ≡ with_sign octets.now) }
+    ensures err { IfErr result (λ e. e.kind ≡ errors.Memory) }
+{
+    if !is_signed(octets) {
+        return Bytes::from_slice(alloc, octets);
+    }
+    let mut content = Vec::from_slice(alloc, &[0x00])?;
+    content.extend_from_slice(octets)?;
+    Ok(Bytes::from(content))
+}
+
+#[tactic(auto, unfolding(x509_der_grammar::specs::Tested::tested_reading))]
+impl Content for Uint {
+    ghost use Rattle.x509_der_element.specs.declared.tag.Tag.TheVariants as tags;
+    ghost use Rattle.x509_prim.specs.Integer.{unsigned_integer_contents};
+    ghost use Rattle.x509_prim.specs.IntegerLaws.{unsigned_integer_contents_lawful};
+
+    ghost contents = { unsigned_integer_contents };
+
+    ghost IDENTIFIER = { tags.Integer };
+
+    const IDENTIFIER: Tag = Tag::Integer;
+
+    fn read_content(alloc: Global, octets: &[u8]) -> Result<Uint, Error> {
+        if !check_unsigned(octets) {
+            return Err(ErrorKind::Malformed.into());
+        }
+        Ok(Uint {
+            content: Bytes::from_slice(alloc, octets)?,
+        })
+    }
+
+    fn write_content<R: Room>(&self, room: &mut R) -> Result<(), Error> {
+        room.put(self.content.as_slice())
+    }
+
+    ghost contents_lawful = { unsigned_integer_contents_lawful };
+}
+
+impl ValueOrd for Uint {
+    ghost use Rattle.x509_prim.specs.Integer.{unsigned_integer};
+    ghost use Rattle.x509_der_grammar.specs.Writing.{plain, writes};
+    ghost use Rattle.x509_der_order.specs.Ordered.{by_bytes, by_bytes_lawful};
+
+    ghost order = { by_bytes unsigned_integer };
+
+    fn value_cmp(&self, other: &Uint) -> Ordering {
+        self.content.as_slice().cmp(other.content.as_slice())
+    }
+
+    ghost ordered = { by_bytes_lawful unsigned_integer (writes plain) (λ x y p q. q) };
+}
+
+impl TryClone for Uint {
+    fn try_clone(&self, alloc: Global) -> Result<Uint, Error> {
+        Ok(Uint {
+            content: self.content.try_clone(alloc)?,
+        })
+    }
+}
+
+impl PartialEq for Uint {
+    ghost eq = { bytes_eq };
+
+    ghost laws = { partial_equiv_from_equiv nat_list_eq_equiv };
+
+    fn eq(&self, other: &Uint) -> bool {
+        self.content.as_slice() == other.content.as_slice()
+    }
+}
+
+impl Eq for Uint {
+    ghost laws = { nat_list_eq_equiv };
+}
+
+impl Hash for Uint {
+    ghost hash_input = { fed.slice fed.u8 };
+
+    ghost respects_eq = { Prim.search (hashing, rules) };
+
+    fn hash<H: Hasher>(&self, state: &mut H) {
+        self.content.as_slice().hash(state);
+    }
+}
+
+impl fmt::Debug for Uint {
+    ghost use Rattle.std.specs.Prelude.{Some};
+    ghost use Rattle.std.specs.Fmt.{debug_list, decimal};
+
+    ghost debug_output = { debug_list (λ octet. Some (decimal octet)) };
+
+    fn fmt<W: fmt::Write>(&self, f: &mut fmt::Formatter<W>) -> fmt::Result {
+        fmt::Debug::fmt(&self.content.as_slice(), f)
+    }
+}

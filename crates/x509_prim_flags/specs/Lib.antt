@@ -1,4 +1,0 @@
-pub mod NamedBits
-pub mod NamedBitsLaws
-pub mod SetBits
-pub mod SetOrder

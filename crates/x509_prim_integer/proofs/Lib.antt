@@ -1,3 +1,0 @@
-pub mod Naturals
-pub mod NumberTypes
-pub mod Numbers

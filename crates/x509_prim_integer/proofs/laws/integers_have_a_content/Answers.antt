@@ -1,5 +1,0 @@
-use Rattle.x509_prim_integer.proofs.Numbers.{integer_content}
-use Rattle.x509_prim_integer.proofs.laws.integers_have_a_content.Goals as goal
-
-pub returns : goal.returns
-returns c = integer_content

@@ -1,5 +1,0 @@
-use Rattle.x509_prim_integer.proofs.Numbers.{one_integer}
-use Rattle.x509_prim_integer.proofs.laws.integers_have_one_content.Goals as goal
-
-pub returns : goal.returns
-returns c = one_integer

@@ -1,2 +1,0 @@
-pub mod LastOctets
-pub mod Bits

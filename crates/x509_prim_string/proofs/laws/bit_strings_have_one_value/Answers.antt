@@ -1,5 +1,0 @@
-use Rattle.x509_prim_string.proofs.Bits.{one_bits}
-use Rattle.x509_prim_string.proofs.laws.bit_strings_have_one_value.Goals as goal
-
-pub returns : goal.returns
-returns c = λ bits others parts. one_bits parts bits others

@@ -1,5 +1,0 @@
-use Rattle.x509_prim_string.proofs.Bits.{packed}
-use Rattle.x509_prim_string.proofs.laws.bits_have_a_content.Goals as goal
-
-pub returns : goal.returns
-returns c = λ bits. let p = packed bits in (p.parts, (p.octets, p.bits_stand))

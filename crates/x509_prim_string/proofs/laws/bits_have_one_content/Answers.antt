@@ -1,5 +1,0 @@
-use Rattle.x509_prim_string.proofs.Bits.{one_parts}
-use Rattle.x509_prim_string.proofs.laws.bits_have_one_content.Goals as goal
-
-pub returns : goal.returns
-returns c = one_parts

@@ -1,5 +1,0 @@
-use Rattle.x509_prim_string.proofs.Bits.{padded_bits, bits_padded}
-use Rattle.x509_prim_string.proofs.laws.padded_contents_are_bits.Goals as goal
-
-pub returns : goal.returns
-returns c = record { bits = padded_bits; padded = bits_padded }
