@@ -10,6 +10,8 @@ mod errors;
 #[cfg(test)]
 mod lists;
 #[cfg(test)]
+mod paths;
+#[cfg(test)]
 mod profiles;
 #[cfg(test)]
 mod requests;

@@ -1,5 +1,5 @@
-//! Steps over elements that stand one behind the other, or one in the other. The bytes are known to be well-formed: each step says
-//! where an element stands if one stands there, and says nothing else.
+//! Steps over elements that stand one behind the other, or one in the other. Each says where an element stands; where none stands at the
+//! place, it stays there and answers no octets.
 
 ghost use Rattle.std.specs.Prelude.{◌≡◌, ◌≤◌, ◌+◌, ◌++◌, true, drop, length, List, ℕ};
 ghost use Rattle.x509_c_place.specs.Place.{IsAt, IsField};
@@ -31,6 +31,7 @@ pub fn step(input: &[u8], at: &mut usize, is_there: bool) -> Span
     requires { at.old ≤ length input.now }
     ensures within { at.new ≤ length input.now }
     ensures stands { (text more : List ℕ) → IsField is_there text → drop at.old input.now ≡ text ++ more → IsAt text more input.now result × (drop at.new input.now ≡ more) }
+    ensures nothing { ((text more : List ℕ) → IsField is_there text → drop at.old input.now ≡ text ++ more → ⊥) → (at.new ≡ at.old) × (result ≡ record { place = at.old; len = 0 }) }
 {
     let place = *at;
     if is_there {
@@ -47,6 +48,7 @@ pub fn enter(input: &[u8], at: &mut usize) -> Span
     requires { at.old ≤ length input.now }
     ensures within { at.new ≤ length input.now }
     ensures stands { (tag : ℕ) (content more : List ℕ) → is_identifier tag ≡ true → drop at.old input.now ≡ element tag content ++ more → IsAt content more input.now result × (drop at.new input.now ≡ content ++ more) }
+    ensures nothing { ((tag : ℕ) (content more : List ℕ) → is_identifier tag ≡ true → drop at.old input.now ≡ element tag content ++ more → ⊥) → (at.new ≡ at.old) × (result ≡ record { place = at.old; len = 0 }) }
 {
     let (begin, end) = content_of(input, *at);
     *at = begin;

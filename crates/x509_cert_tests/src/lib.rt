@@ -14,6 +14,8 @@ mod lists;
 #[cfg(test)]
 mod look_ups;
 #[cfg(test)]
+mod paths;
+#[cfg(test)]
 mod programs;
 #[cfg(test)]
 mod requests;

@@ -1,0 +1,567 @@
+//! The paths of the library. Each function but the tests compiles only where its paths name the types that it answers, or the traits
+//! that the function which it calls wants.
+
+use std::test::*;
+use x509_base_time::{DateTime, GeneralizedTime, Raw, Rfc5280, Time, UtcTime, Validity};
+use x509_cert::ext::pkix;
+use x509_cert::{anchor, attr, certificate, crl, der, ext, name, request};
+use x509_cert_certificate::{CertificateInner, TbsCertificateInner};
+use x509_der::{ObjectIdentifier, SetOfVec};
+use x509_der_frames::{Any, SequenceOf};
+use x509_prim::{BitString, Int, OctetString, Uint};
+use x509_prim_text::{BmpString, Ia5String, PrintableString, TeletexString, Utf8String};
+
+/// Certificates, from the root.
+fn root(
+    it: &(
+        x509_cert::Certificate,
+        x509_cert::PkiPath,
+        x509_cert::TbsCertificate,
+        x509_cert::Version,
+        x509_cert::AlgorithmIdentifier,
+        x509_cert::SubjectPublicKeyInfo,
+    ),
+) -> &(
+    CertificateInner<Rfc5280>,
+    SequenceOf<CertificateInner<Rfc5280>>,
+    TbsCertificateInner<Rfc5280>,
+    x509_cert_certificate::Version,
+    x509_base::AlgorithmIdentifier,
+    x509_base::SubjectPublicKeyInfo,
+) {
+    it
+}
+
+/// Certificates, and the profiles.
+fn certificates(
+    it: &(
+        certificate::Certificate,
+        certificate::CertificateInner,
+        certificate::PkiPath,
+        certificate::TbsCertificate,
+        certificate::TbsCertificateInner,
+        certificate::Version,
+        certificate::Rfc5280,
+        certificate::Raw,
+    ),
+) -> &(
+    CertificateInner<Rfc5280>,
+    CertificateInner<Rfc5280>,
+    SequenceOf<CertificateInner<Rfc5280>>,
+    TbsCertificateInner<Rfc5280>,
+    TbsCertificateInner<Rfc5280>,
+    x509_cert_certificate::Version,
+    Rfc5280,
+    Raw,
+) {
+    it
+}
+
+/// Trust anchors.
+fn anchors(
+    it: &(
+        anchor::CertPathControls,
+        anchor::CertPolicies,
+        anchor::CertPolicyFlags,
+        anchor::TrustAnchorChoice,
+        anchor::TrustAnchorInfo,
+        anchor::CertificateInner,
+    ),
+) -> &(
+    x509_cert_anchor::CertPathControls<Rfc5280>,
+    x509_cert_anchor::CertPolicies,
+    x509_cert_anchor::CertPolicies,
+    x509_cert_anchor::TrustAnchorChoice<Rfc5280>,
+    x509_cert_anchor::TrustAnchorInfo<Rfc5280>,
+    CertificateInner<Rfc5280>,
+) {
+    it
+}
+
+/// The version of what is said of an anchor, which is another type than that of certificates.
+fn version_of_an_anchor(info: &anchor::TrustAnchorInfo) -> &anchor::Version {
+    &info.version
+}
+
+/// Attributes.
+fn attributes(
+    it: &(
+        attr::Attribute,
+        attr::AttributeType,
+        attr::AttributeTypeAndValue,
+        attr::AttributeValue,
+        attr::Attributes,
+    ),
+) -> &(
+    x509_name_attribute::Attribute,
+    ObjectIdentifier,
+    x509_name_attribute::AttributeTypeAndValue,
+    Any,
+    SetOfVec<x509_name_attribute::Attribute>,
+) {
+    it
+}
+
+/// Lists of revoked certificates.
+fn lists(
+    it: &(crl::CertificateList, crl::RevokedCert, crl::TbsCertList),
+) -> &(
+    crl::CertificateList<Rfc5280>,
+    crl::RevokedCert<Rfc5280>,
+    crl::TbsCertList<Rfc5280>,
+) {
+    it
+}
+
+/// What reading and writing answer and take.
+fn ders(
+    it: &(
+        der::Error,
+        der::ErrorKind,
+        der::Header,
+        der::Length,
+        der::Tag,
+        der::TagNumber,
+    ),
+) -> &(
+    x509_der_element::Error,
+    x509_der_element::ErrorKind,
+    x509_der_element::Header,
+    x509_der_element::Length,
+    x509_der_element::Tag,
+    x509_der_element::TagNumber,
+) {
+    it
+}
+
+/// Types of ASN.1.
+fn types_of_asn1(
+    it: &(
+        der::asn1::Any,
+        der::asn1::BitString,
+        der::asn1::GeneralizedTime,
+        der::asn1::Int,
+        der::asn1::ObjectIdentifier,
+        der::asn1::OctetString,
+        der::asn1::SequenceOf<u8>,
+        der::asn1::SetOfVec<u8>,
+        der::asn1::Uint,
+        der::asn1::UtcTime,
+    ),
+) -> &(
+    Any,
+    BitString,
+    GeneralizedTime,
+    Int,
+    ObjectIdentifier,
+    OctetString,
+    SequenceOf<u8>,
+    SetOfVec<u8>,
+    Uint,
+    UtcTime,
+) {
+    it
+}
+
+/// Strings of ASN.1.
+fn strings_of_asn1(
+    it: &(
+        der::asn1::BmpString,
+        der::asn1::Ia5String,
+        der::asn1::PrintableString,
+        der::asn1::TeletexString,
+        der::asn1::Utf8String,
+    ),
+) -> &(
+    BmpString,
+    Ia5String,
+    PrintableString,
+    TeletexString,
+    Utf8String,
+) {
+    it
+}
+
+/// How extensions stand in certificates.
+fn extensions(
+    it: &(ext::Extension, ext::Extensions),
+) -> &(
+    x509_ext_frame::Extension,
+    SequenceOf<x509_ext_frame::Extension>,
+) {
+    it
+}
+
+/// Extensions that tell whose key it is, and what for.
+fn extensions_of_keys(
+    it: &(
+        pkix::AuthorityKeyIdentifier,
+        pkix::BasicConstraints,
+        pkix::constraints::BasicConstraints,
+        pkix::ExtendedKeyUsage,
+        pkix::KeyUsage,
+        pkix::KeyUsages,
+        pkix::PrivateKeyUsagePeriod,
+        pkix::SubjectKeyIdentifier,
+    ),
+) -> &(
+    x509_ext::pkix::AuthorityKeyIdentifier,
+    x509_ext::pkix::BasicConstraints,
+    x509_ext::pkix::BasicConstraints,
+    x509_ext::pkix::ExtendedKeyUsage,
+    x509_ext::pkix::KeyUsage,
+    x509_ext::pkix::KeyUsages,
+    x509_ext::pkix::PrivateKeyUsagePeriod,
+    x509_ext::pkix::SubjectKeyIdentifier,
+) {
+    it
+}
+
+/// Extensions of subjects and issuers.
+fn extensions_of_parties(
+    it: &(
+        pkix::AccessDescription,
+        pkix::AuthorityInfoAccessSyntax,
+        pkix::IssuerAltName,
+        pkix::SubjectAltName,
+        pkix::SubjectDirectoryAttributes,
+        pkix::SubjectInfoAccessSyntax,
+    ),
+) -> &(
+    x509_ext::pkix::AccessDescription,
+    x509_ext::pkix::AuthorityInfoAccessSyntax,
+    x509_ext::pkix::IssuerAltName,
+    x509_ext::pkix::SubjectAltName,
+    x509_ext::pkix::SubjectDirectoryAttributes,
+    x509_ext::pkix::SubjectInfoAccessSyntax,
+) {
+    it
+}
+
+/// Extensions about policies.
+fn policies(
+    it: &(
+        pkix::CertificatePolicies,
+        pkix::InhibitAnyPolicy,
+        pkix::PolicyConstraints,
+        pkix::constraints::PolicyConstraints,
+        pkix::PolicyMapping,
+        pkix::PolicyMappings,
+    ),
+) -> &(
+    x509_pkix_policy::CertificatePolicies,
+    x509_pkix_policy::InhibitAnyPolicy,
+    x509_pkix_policy::PolicyConstraints,
+    x509_pkix_policy::PolicyConstraints,
+    x509_pkix_policy::PolicyMapping,
+    x509_pkix_policy::PolicyMappings,
+) {
+    it
+}
+
+/// What policies hold.
+fn parts_of_policies(
+    it: &(
+        pkix::certpolicy::CertificatePolicies,
+        pkix::certpolicy::CpsUri,
+        pkix::certpolicy::DisplayText,
+        pkix::certpolicy::NoticeReference,
+        pkix::certpolicy::PolicyInformation,
+        pkix::certpolicy::PolicyQualifierInfo,
+        pkix::certpolicy::UserNotice,
+    ),
+) -> &(
+    x509_pkix_policy::CertificatePolicies,
+    x509_pkix_policy::CpsUri,
+    x509_pkix_policy::DisplayText,
+    x509_pkix_policy::NoticeReference,
+    x509_pkix_policy::PolicyInformation,
+    x509_pkix_policy::PolicyQualifierInfo,
+    x509_pkix_policy::UserNotice,
+) {
+    it
+}
+
+/// Constraints on names.
+fn constraints_on_names(
+    it: &(
+        pkix::NameConstraints,
+        pkix::constraints::NameConstraints,
+        pkix::constraints::name::NameConstraints,
+        pkix::constraints::name::GeneralSubtree,
+        pkix::constraints::name::GeneralSubtrees,
+    ),
+) -> &(
+    x509_pkix::NameConstraints,
+    x509_pkix::NameConstraints,
+    x509_pkix::NameConstraints,
+    x509_pkix::GeneralSubtree,
+    SequenceOf<x509_pkix::GeneralSubtree>,
+) {
+    it
+}
+
+/// Extensions of lists.
+fn extensions_of_lists(
+    it: &(
+        pkix::BaseCrlNumber,
+        pkix::CrlDistributionPoints,
+        pkix::CrlNumber,
+        pkix::CrlReason,
+        pkix::FreshestCrl,
+        pkix::IssuingDistributionPoint,
+    ),
+) -> &(
+    x509_pkix::BaseCrlNumber,
+    x509_pkix::CrlDistributionPoints,
+    x509_pkix::CrlNumber,
+    x509_pkix::CrlReason,
+    x509_pkix::FreshestCrl,
+    x509_pkix::IssuingDistributionPoint,
+) {
+    it
+}
+
+/// The same by their module.
+fn module_of_lists(
+    it: &(
+        pkix::crl::BaseCrlNumber,
+        pkix::crl::CrlDistributionPoints,
+        pkix::crl::CrlNumber,
+        pkix::crl::CrlReason,
+        pkix::crl::FreshestCrl,
+        pkix::crl::IssuingDistributionPoint,
+    ),
+) -> &(
+    pkix::BaseCrlNumber,
+    pkix::CrlDistributionPoints,
+    pkix::CrlNumber,
+    pkix::CrlReason,
+    pkix::FreshestCrl,
+    pkix::IssuingDistributionPoint,
+) {
+    it
+}
+
+/// Where lists are found.
+fn points(
+    it: &(
+        pkix::crl::dp::DistributionPoint,
+        pkix::crl::dp::IssuingDistributionPoint,
+        pkix::crl::dp::ReasonFlags,
+        pkix::crl::dp::Reasons,
+    ),
+) -> &(
+    x509_pkix::DistributionPoint,
+    x509_pkix::IssuingDistributionPoint,
+    x509_pkix::ReasonFlags,
+    x509_pkix::Reasons,
+) {
+    it
+}
+
+/// Names of many kinds.
+fn general_names(
+    it: &(
+        pkix::name::DirectoryString,
+        pkix::name::DistributionPointName,
+        pkix::name::EdiPartyName,
+        pkix::name::GeneralName,
+        pkix::name::GeneralNames,
+        pkix::name::HardwareModuleName,
+        pkix::name::IpAddress,
+        pkix::name::OtherName,
+    ),
+) -> &(
+    x509_name_attribute::DirectoryString,
+    x509_ext_name::DistributionPointName,
+    x509_ext_name::EdiPartyName,
+    x509_ext_name::GeneralName,
+    SequenceOf<x509_ext_name::GeneralName>,
+    x509_ext_name::HardwareModuleName,
+    x509_ext_name::IpAddress,
+    x509_ext_name::OtherName,
+) {
+    it
+}
+
+/// Signed certificate timestamps.
+fn timestamps(
+    it: &(
+        pkix::Error,
+        pkix::HashAlgorithm,
+        pkix::SerializedSct,
+        pkix::SignatureAlgorithm,
+        pkix::SignatureAndHashAlgorithm,
+        pkix::SignedCertificateTimestamp,
+        pkix::SignedCertificateTimestampList,
+        pkix::Version,
+    ),
+) -> &(
+    x509_sct::Error,
+    x509_sct::HashAlgorithm,
+    x509_sct::SerializedSct,
+    x509_sct::SignatureAlgorithm,
+    x509_sct::SignatureAndHashAlgorithm,
+    x509_sct::SignedCertificateTimestamp,
+    x509_sct::SignedCertificateTimestampList,
+    x509_sct::Version,
+) {
+    it
+}
+
+/// The same by their module, and what they hold.
+fn module_of_timestamps(
+    it: &(
+        pkix::sct::DigitallySigned,
+        pkix::sct::Error,
+        pkix::sct::HashAlgorithm,
+        pkix::sct::LogId,
+        pkix::sct::SerializedSct,
+        pkix::sct::SignatureAlgorithm,
+        pkix::sct::SignatureAndHashAlgorithm,
+        pkix::sct::SignedCertificateTimestamp,
+        pkix::sct::SignedCertificateTimestampList,
+        pkix::sct::TlsByteVecU16,
+        pkix::sct::TlsError,
+        pkix::sct::Version,
+    ),
+) -> &(
+    x509_sct::DigitallySigned,
+    pkix::Error,
+    pkix::HashAlgorithm,
+    x509_sct::LogId,
+    pkix::SerializedSct,
+    pkix::SignatureAlgorithm,
+    pkix::SignatureAndHashAlgorithm,
+    pkix::SignedCertificateTimestamp,
+    pkix::SignedCertificateTimestampList,
+    x509_sct::TlsByteVecU16,
+    x509_sct::TlsError,
+    pkix::Version,
+) {
+    it
+}
+
+/// Names.
+fn names(
+    it: &(
+        name::DistinguishedName,
+        name::Name,
+        name::RdnSequence,
+        name::RelativeDistinguishedName,
+    ),
+) -> &(
+    x509_name::name::RdnSequence,
+    x509_name::name::Name,
+    x509_name::name::RdnSequence,
+    x509_name::name::RelativeDistinguishedName,
+) {
+    it
+}
+
+/// The parts of a request, and what it asks for.
+fn parts_of_requests<'a>(
+    request: &'a request::CertReq,
+    extensions: &'a request::ExtensionReq,
+) -> (
+    &'a request::CertReqInfo,
+    &'a request::Version,
+    &'a ext::Extensions,
+) {
+    (&request.info, &request.info.version, &extensions.0)
+}
+
+/// What stands in certificates.
+fn parts_of_certificates(
+    it: &(
+        x509_cert::serial_number::SerialNumber,
+        x509_cert::spki::AlgorithmIdentifier,
+        x509_cert::spki::ObjectIdentifier,
+        x509_cert::spki::SubjectPublicKeyInfo,
+        x509_cert::time::DateTime,
+        x509_cert::time::Time,
+        x509_cert::time::Validity,
+    ),
+) -> &(
+    x509_base::SerialNumber<Rfc5280>,
+    x509_base::AlgorithmIdentifier,
+    ObjectIdentifier,
+    x509_base::SubjectPublicKeyInfo,
+    DateTime,
+    Time,
+    Validity<Rfc5280>,
+) {
+    it
+}
+
+/// Wants the traits of reading and writing.
+fn wants_der<'a, T>()
+where
+    T: x509_der::AssociatedOid
+        + x509_der_frames::FromAny<'a>
+        + x509_der_grammar::Decode
+        + x509_der_grammar::Encode
+        + x509_der_grammar::FixedTag
+        + x509_der_grammar::TryClone
+        + x509_der_order::DerOrd
+        + x509_der_order::ValueOrd,
+{}
+
+/// The traits of reading and writing.
+fn traits_of_der<'a, T>()
+where
+    T: der::AssociatedOid
+        + der::FromAny<'a>
+        + der::Decode
+        + der::Encode
+        + der::FixedTag
+        + der::TryClone
+        + der::DerOrd
+        + der::ValueOrd,
+{
+    wants_der::<'a, T>();
+}
+
+/// Wants the traits of extensions, of profiles and of digests.
+fn wants_traits<T, P, D>()
+where
+    T: x509_ext_frame::Criticality + x509_ext_frame::ToExtension,
+    P: x509_base_time::Profile,
+    D: x509_cert_digest::CertDigest,
+{}
+
+/// The traits of extensions, of profiles and of digests.
+fn traits<T, P, D>()
+where
+    T: ext::Criticality + ext::ToExtension,
+    P: certificate::Profile,
+    D: certificate::CertDigest,
+{
+    wants_traits::<T, P, D>();
+}
+
+/// The identifiers that stand alone (RFC 5280 4.2.1, RFC 4108 5).
+#[test]
+fn identifiers(rt: HostRuntime) -> Result<(), Fail> {
+    for (oid, text) in [
+        (pkix::ID_CE_ISSUER_ALT_NAME, "2.5.29.18"),
+        (pkix::ID_CE_SUBJECT_ALT_NAME, "2.5.29.17"),
+        (pkix::ID_CE_SUBJECT_DIRECTORY_ATTRIBUTES, "2.5.29.9"),
+        (pkix::ID_CE_SUBJECT_KEY_IDENTIFIER, "2.5.29.14"),
+        (pkix::ID_CE_INHIBIT_ANY_POLICY, "2.5.29.54"),
+        (pkix::name::ID_ON_HARDWARE_MODULE_NAME, "1.3.6.1.5.5.7.8.4"),
+    ] {
+        assert!(rt; oid == ObjectIdentifier::new(text)?, "at {text}");
+    }
+    Ok(())
+}
+
+/// The numbers that stand for versions and reasons, where a caller asks for them.
+#[test]
+fn numbers(rt: HostRuntime) {
+    assert!(rt; x509_cert::Version::V1 as u8 == 0 && x509_cert::Version::V3 as u8 == 2);
+    assert!(rt; request::Version::V1 as u8 == 0 && anchor::Version::V1 as u8 == 0);
+    assert!(rt; pkix::CrlReason::Unspecified as u8 == 0);
+    assert!(rt; pkix::CrlReason::AaCompromise as u8 == 10);
+}
