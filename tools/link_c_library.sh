@@ -11,7 +11,7 @@ library=$top/crates/x509_c/out/libx509_c.a
 heap=$(dirname "$(dirname "$(readlink -f "$(command -v rt)")")")/c/liblibc_c.a
 
 if [ ! -e "$library" ] ||
-    [ -n "$(find "$top/crates" "$top/crates.txt" -name out -prune -o -name must-fail -prune -o -type f -newer "$library" -print -quit)" ]; then
+    [ -n "$(find "$top/crates" "$top/crates.txt" -name out -prune -o -name must-fail -prune -o -name wrong-bodies -prune -o -type f -newer "$library" -print -quit)" ]; then
     "$top/tools/build_c_library.py" >&2
 fi
 cp "$library" "$heap" "$folder/"
