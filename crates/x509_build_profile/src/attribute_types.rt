@@ -36,7 +36,7 @@ pub const STREET_ADDRESS: ObjectIdentifier = ObjectIdentifier {
     ],
 };
 
-/// postalCode, 2.5.4.17 (RFC 4519 2.23).
+/// postalCode, 2.5.4.17 (RFC 4519 2.24).
 pub const POSTAL_CODE: ObjectIdentifier = ObjectIdentifier {
     len: 3,
     octets: [

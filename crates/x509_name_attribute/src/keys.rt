@@ -1,4 +1,4 @@
-//! The table of attribute names (RFC 4514 section 3, RFC 4519 section 2, RFC 2985 section 3.5, RFC 5280 4.1.2.4).
+//! The table of attribute names (RFC 4514 section 3, RFC 4519 section 2, RFC 2985 5.2.1, RFC 5280 4.1.2.4).
 
 ghost use Rattle.std.specs.Prelude.{◌≡◌, map, Some};
 ghost use Rattle.x509_name_attribute.specs.Keys as keys;

@@ -17,7 +17,7 @@ use std::hash::{Hash, Hasher};
 use std::marker::Model;
 use x509_der_grammar::{Bytes, Content, Error, ErrorKind, Room, Tag, TryClone};
 
-/// A BMPString (X.680 41.15, X.690 8.23.9): characters of the basic multilingual plane. Contracts see their octets,
+/// A BMPString (X.680 41.15, X.690 8.23.8): characters of the basic multilingual plane. Contracts see their octets,
 /// two for each character.
 #[derive(Drop)]
 pub struct BmpString {
