@@ -1,0 +1,81 @@
+//! Texts, owned and borrowed.
+
+use crate::calls::{is_refused, makes, prints, shows, stays};
+use std::test::*;
+use x509_der_grammar::{AnyRef, Error, ErrorKind, Tag, TryClone};
+use x509_prim_text::{
+    BmpString, Ia5StringRef, PrintableString, PrintableStringRef, TeletexStringRef, Utf8String,
+    Utf8StringRef,
+};
+
+#[test]
+fn copies(rt: HostRuntime) -> Result<(), Fail> {
+    assert!(rt; stays::<PrintableString>(&rt, &[0x13, 0x02, 0x55, 0x53])?);
+    assert!(rt; stays::<Utf8String>(&rt, &[0x0C, 0x02, 0xC3, 0xA4])?);
+    assert!(rt; stays::<BmpString>(&rt, &[0x1E, 0x04, 0x00, 0x41, 0x20, 0xAC])?);
+    Ok(())
+}
+
+/// Whether the text is that of a PrintableString, printed and shown, and given back.
+fn is_printable(rt: &HostRuntime, text: &str, quoted: &str) -> Result<bool, Fail> {
+    let string = PrintableString::new(rt.alloc(), text)?;
+    let same = prints(rt, &string, text)? && shows(rt, &string, quoted)?;
+    Ok(same && string.into_string(rt.alloc())?.as_str() == text)
+}
+
+/// The same of a UTF8String.
+fn is_utf8(rt: &HostRuntime, text: &str, quoted: &str) -> Result<bool, Fail> {
+    let string = Utf8String::new(rt.alloc(), text)?;
+    let same = prints(rt, &string, text)? && shows(rt, &string, quoted)?;
+    Ok(same && string.into_string(rt.alloc())?.as_str() == text)
+}
+
+#[test]
+fn printed(rt: HostRuntime) -> Result<(), Fail> {
+    assert!(rt; is_printable(&rt, "AZaz09 '()+,-./:=?", "\"AZaz09 '()+,-./:=?\"")?);
+    assert!(rt;
+        is_printable(
+            &rt,
+            "more than twenty four letters",
+            "\"more than twenty four letters\""
+        )?
+    );
+    assert!(rt; is_utf8(&rt, "ä", "\"ä\"")?);
+    assert!(rt;
+        is_utf8(
+            &rt,
+            "ä and more than 24 octets",
+            "\"ä and more than 24 octets\""
+        )?
+    );
+    Ok(())
+}
+
+/// Whether the octets are those of the text.
+fn is_bmp(rt: &HostRuntime, text: &str, octets: &[u8]) -> Result<bool, Error> {
+    let string = BmpString::from_str(rt.alloc(), text)?;
+    Ok(string.as_bytes() == octets && string.to_text(rt.alloc())?.as_str() == text)
+}
+
+#[test]
+fn bmp_strings(rt: HostRuntime) -> Result<(), Fail> {
+    assert!(rt; is_bmp(&rt, "A€", &[0x00, 0x41, 0x20, 0xAC])?);
+    assert!(rt; makes(&rt, BmpString::from_str(rt.alloc(), "€"), "[32, 172]")?);
+    Ok(())
+}
+
+#[test]
+fn borrowed_texts(rt: HostRuntime) -> Result<(), Fail> {
+    let country = AnyRef::new(Tag::PrintableString, b"US")?;
+    let printable = PrintableStringRef::from_any(country)?;
+    assert!(rt; printable.try_clone(rt.alloc())? == PrintableStringRef::new("US")?);
+    assert!(rt; is_refused(PrintableStringRef::new("U*"), ErrorKind::Value));
+    assert!(rt; is_refused(Ia5StringRef::from_any(country), ErrorKind::Malformed));
+    let utf8 = Utf8StringRef::from_any(AnyRef::new(Tag::Utf8String, b"\xC3\xA4")?)?;
+    assert!(rt; utf8.try_clone(rt.alloc())? == Utf8StringRef::new("ä")?);
+    let any = AnyRef::new(Tag::Ia5String, b"@")?;
+    assert_eq!(rt; Ia5StringRef::from_any(any)?.as_str(), "@");
+    let any = AnyRef::new(Tag::TeletexString, b"@")?;
+    assert_eq!(rt; TeletexStringRef::from_any(any)?.as_str(), "@");
+    Ok(())
+}
