@@ -2,7 +2,7 @@
 
 use crate::calls::becomes;
 use std::test::*;
-use x509_probe::{Enclosing, Moment, TenFields};
+use x509_probe::{Enclosing, Moment, Pair, Purposes, TenFields};
 
 /// No optional field, then each of them.
 const TEN_FIELDS: [&[u8]; 2] = [
@@ -21,6 +21,15 @@ fn ten_fields(rt: HostRuntime) -> Result<(), Fail> {
     for bytes in TEN_FIELDS {
         assert!(rt; becomes::<TenFields>(&rt, bytes, bytes)?);
     }
+    Ok(())
+}
+
+#[test]
+fn others(rt: HostRuntime) -> Result<(), Fail> {
+    let pair = [0x30, 6, 6, 1, 0x2A, 2, 1, 3];
+    assert!(rt; becomes::<Pair>(&rt, &pair, &pair)?);
+    let purposes = [0x30, 7, 6, 1, 0x2A, 6, 2, 0x2A, 3];
+    assert!(rt; becomes::<Purposes>(&rt, &purposes, &purposes)?);
     Ok(())
 }
 

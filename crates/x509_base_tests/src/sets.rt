@@ -1,9 +1,9 @@
 //! Sets.
 
 use crate::calls::{makes, stays};
+use std::cmp::Ordering;
 use std::test::*;
-use x509_der::SetOfVec;
-use x509_der_grammar::Error;
+use x509_der::{DerOrd, Error, ErrorKind, SetOfVec, ValueOrd, cmp_members};
 
 /// The set of all numbers below 300, put in out of order.
 fn many(rt: &HostRuntime) -> Result<SetOfVec<u32>, Error> {
@@ -25,6 +25,34 @@ fn many_members(rt: HostRuntime) -> Result<(), Fail> {
     assert!(rt; is_made_again(many(&rt)?)?);
     assert!(rt; stays::<SetOfVec<u32>>(&rt, &[0x31, 7, 2, 1, 0x7F, 2, 2, 0, 0x80])?);
     Ok(())
+}
+
+/// Whether the number, less than all members, is the first then, or memory was refused and the set is as it was.
+fn is_first_or_refused(set: &mut SetOfVec<u32>, number: u32) -> bool {
+    let before = set.len();
+    let first = set.get(0).copied();
+    match set.insert(number) {
+        Ok(()) => set.len() > before && set.get(0) == Some(&number),
+        Err(e) => {
+            e.kind() == ErrorKind::Memory && set.len() == before && set.get(0).copied() == first
+        }
+    }
+}
+
+#[test]
+fn refused_memory_leaves_the_set(rt: HostRuntime) {
+    let mut set: SetOfVec<u32> = SetOfVec::new(rt.alloc());
+    for count in 0..40 {
+        assert!(rt; is_first_or_refused(&mut set, 40 - count));
+    }
+}
+
+/// By their encodings a shorter number comes first, and by their contents it may not.
+#[test]
+fn numbers_in_order(rt: HostRuntime) {
+    assert!(rt; 127_u32.der_cmp(&128) == Ordering::Less);
+    assert!(rt; 127_u32.value_cmp(&128) == Ordering::Greater);
+    assert!(rt; cmp_members(&[1_u32, 128], &[1, 2, 3]) == Ordering::Greater);
 }
 
 #[test]

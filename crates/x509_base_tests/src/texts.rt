@@ -4,8 +4,8 @@ use crate::calls::{is_refused, makes, prints, shows, stays};
 use std::test::*;
 use x509_der_grammar::{AnyRef, Error, ErrorKind, Tag, TryClone};
 use x509_prim_text::{
-    BmpString, Ia5StringRef, PrintableString, PrintableStringRef, TeletexStringRef, Utf8String,
-    Utf8StringRef,
+    Alphabet, BmpString, Ia5StringRef, PrintableString, PrintableStringRef, RestrictedStringRef,
+    TeletexStringRef, Utf8String, Utf8StringRef,
 };
 
 #[test]
@@ -64,18 +64,43 @@ fn bmp_strings(rt: HostRuntime) -> Result<(), Fail> {
     Ok(())
 }
 
+/// Whether that is a borrowed text, and its copy, of these characters.
+fn is_borrowed<A: Alphabet>(
+    rt: &HostRuntime,
+    read: Result<RestrictedStringRef<'_, A>, Error>,
+    text: &str,
+) -> bool {
+    let Ok(found) = read else {
+        return false;
+    };
+    match found.try_clone(rt.alloc()) {
+        Ok(copy) => copy == found && copy.as_str() == text,
+        Err(_) => false,
+    }
+}
+
+/// The same of a UTF8String.
+fn is_borrowed_utf8(rt: &HostRuntime, read: Result<Utf8StringRef<'_>, Error>, text: &str) -> bool {
+    let Ok(found) = read else {
+        return false;
+    };
+    match found.try_clone(rt.alloc()) {
+        Ok(copy) => copy == found && copy.as_str() == text,
+        Err(_) => false,
+    }
+}
+
 #[test]
 fn borrowed_texts(rt: HostRuntime) -> Result<(), Fail> {
-    let country = AnyRef::new(Tag::PrintableString, b"US")?;
-    let printable = PrintableStringRef::from_any(country)?;
-    assert!(rt; printable.try_clone(rt.alloc())? == PrintableStringRef::new("US")?);
+    let any = AnyRef::new(Tag::PrintableString, b"US")?;
+    assert!(rt; is_borrowed(&rt, PrintableStringRef::from_any(any), "US"));
+    assert!(rt; is_refused(Ia5StringRef::from_any(any), ErrorKind::Malformed));
     assert!(rt; is_refused(PrintableStringRef::new("U*"), ErrorKind::Value));
-    assert!(rt; is_refused(Ia5StringRef::from_any(country), ErrorKind::Malformed));
-    let utf8 = Utf8StringRef::from_any(AnyRef::new(Tag::Utf8String, b"\xC3\xA4")?)?;
-    assert!(rt; utf8.try_clone(rt.alloc())? == Utf8StringRef::new("ä")?);
     let any = AnyRef::new(Tag::Ia5String, b"@")?;
-    assert_eq!(rt; Ia5StringRef::from_any(any)?.as_str(), "@");
+    assert!(rt; is_borrowed(&rt, Ia5StringRef::from_any(any), "@"));
     let any = AnyRef::new(Tag::TeletexString, b"@")?;
-    assert_eq!(rt; TeletexStringRef::from_any(any)?.as_str(), "@");
+    assert!(rt; is_borrowed(&rt, TeletexStringRef::from_any(any), "@"));
+    let any = AnyRef::new(Tag::Utf8String, b"\xC3\xA4")?;
+    assert!(rt; is_borrowed_utf8(&rt, Utf8StringRef::from_any(any), "ä"));
     Ok(())
 }
