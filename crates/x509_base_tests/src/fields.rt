@@ -4,22 +4,19 @@ use crate::calls::{makes, stays};
 use std::test::*;
 use x509_der::{Any, Error, SequenceOf, Tag};
 
-/// Whether the element is that of the octets.
-fn is_element(rt: &HostRuntime, any: &Any, octets: &[u8]) -> Result<bool, Error> {
-    Ok(Any::from_octets(Vec::from_slice(rt.alloc(), octets)?)? == *any)
-}
-
-/// Whether the number is read out of the element, and is put into it.
-fn holds(rt: &HostRuntime, any: &Any, number: u8) -> Result<bool, Error> {
+/// Whether that is an element out of which the number is read, and into which it is put.
+fn holds(rt: &HostRuntime, made: Result<Any, Error>, number: u8) -> Result<bool, Error> {
+    let any = made?;
     let read = any.decode_as::<u8>(rt.alloc())?;
-    Ok(read == number && Any::encode_from(rt.alloc(), &number)? == *any)
+    Ok(read == number && Any::encode_from(rt.alloc(), &number)? == any)
 }
 
 #[test]
 fn elements_of_values(rt: HostRuntime) -> Result<(), Fail> {
     assert!(rt; stays::<Any>(&rt, &[2, 1, 5])?);
-    let any = Any::new(rt.alloc(), Tag::Integer, &[5])?;
-    assert!(rt; is_element(&rt, &any, &[2, 1, 5])? && holds(&rt, &any, 5)? && !any.is_null());
+    assert!(rt; holds(&rt, Any::new(rt.alloc(), Tag::Integer, &[5]), 5)?);
+    let octets = Vec::from_slice(rt.alloc(), &[2, 1, 5])?;
+    assert!(rt; holds(&rt, Any::from_octets(octets), 5)?);
     Ok(())
 }
 
