@@ -1,6 +1,6 @@
 //! What the tests ask of each type.
 
-use std::fmt::Display;
+use std::fmt::{Debug, Display};
 use std::test::Fail;
 use x509_der_grammar::{Decode, Encode, Error, ErrorKind, TryClone};
 
@@ -11,8 +11,7 @@ pub(crate) fn stays<T: Decode + Encode + TryClone + PartialEq + Drop>(
 ) -> Result<bool, Error> {
     let value = T::from_der(rt.alloc(), bytes)?;
     let copy = value.try_clone(rt.alloc())?;
-    let len = value.encoded_len()?.as_u32() as usize;
-    Ok(copy == value && copy.to_der(rt.alloc())?.as_slice() == bytes && len == bytes.len())
+    Ok(copy == value && copy.to_der(rt.alloc())?.as_slice() == bytes)
 }
 
 /// Whether the value that the one bytes spell is written as the others.
@@ -31,6 +30,20 @@ pub(crate) fn is_refused<T: Drop>(outcome: Result<T, Error>, kind: ErrorKind) ->
         Ok(_) => false,
         Err(e) => e.kind() == kind,
     }
+}
+
+/// Whether `Debug` shows the value so.
+pub(crate) fn shows<T: Debug>(rt: &HostRuntime, value: &T, text: &str) -> Result<bool, Fail> {
+    Ok(format!(in rt.alloc(); "{value:?}")?.as_str() == text)
+}
+
+/// Whether a value was made, which `Debug` shows so.
+pub(crate) fn makes<T: Debug + Drop>(
+    rt: &HostRuntime,
+    made: Result<T, Error>,
+    text: &str,
+) -> Result<bool, Fail> {
+    shows(rt, &made?, text)
 }
 
 /// Whether the value is printed so.

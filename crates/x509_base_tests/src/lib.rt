@@ -1,19 +1,29 @@
-//! Tests of times, profiles, validity, serial numbers and keys.
+//! Tests of elements and fields, object identifiers and sets, integers, strings and texts, times, serial numbers and keys.
 #![tactic(auto)]
 
 #[cfg(test)]
 mod calls;
 #[cfg(test)]
-mod generation;
+mod elements;
+#[cfg(test)]
+mod fields;
+#[cfg(test)]
+mod identifiers;
 #[cfg(test)]
 mod keys;
+#[cfg(test)]
+mod probes;
 #[cfg(test)]
 mod profiles;
 #[cfg(test)]
 mod serials;
 #[cfg(test)]
+mod sets;
+#[cfg(test)]
 mod source;
 #[cfg(test)]
-mod times;
+mod strings;
 #[cfg(test)]
-mod validities;
+mod texts;
+#[cfg(test)]
+mod times;

@@ -1,0 +1,36 @@
+//! Elements of any kind, and lists.
+
+use crate::calls::{makes, stays};
+use std::test::*;
+use x509_der::{Any, Error, SequenceOf, Tag};
+
+/// Whether that is an element out of which the number is read, and into which it is put.
+fn holds(rt: &HostRuntime, made: Result<Any, Error>, number: u8) -> Result<bool, Error> {
+    let any = made?;
+    let read = any.decode_as::<u8>(rt.alloc())?;
+    Ok(read == number && Any::encode_from(rt.alloc(), &number)? == any)
+}
+
+#[test]
+fn elements_of_values(rt: HostRuntime) -> Result<(), Fail> {
+    assert!(rt; stays::<Any>(&rt, &[2, 1, 5])?);
+    assert!(rt; holds(&rt, Any::new(rt.alloc(), Tag::Integer, &[5]), 5)?);
+    let octets = Vec::from_slice(rt.alloc(), &[2, 1, 5])?;
+    assert!(rt; holds(&rt, Any::from_octets(octets), 5)?);
+    Ok(())
+}
+
+/// The list of 7 and 5, put in one after the other.
+fn seven_and_five(rt: &HostRuntime) -> Result<SequenceOf<u8>, Error> {
+    let mut numbers = SequenceOf::new(rt.alloc());
+    numbers.push(7u8)?;
+    numbers.push(5)?;
+    Ok(numbers)
+}
+
+#[test]
+fn lists(rt: HostRuntime) -> Result<(), Fail> {
+    assert!(rt; makes(&rt, seven_and_five(&rt), "[7, 5]")?);
+    assert!(rt; stays::<SequenceOf<u8>>(&rt, &[0x30, 6, 2, 1, 7, 2, 1, 5])?);
+    Ok(())
+}

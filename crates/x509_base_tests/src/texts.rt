@@ -1,0 +1,116 @@
+//! Texts, owned and borrowed.
+
+use crate::calls::{is_refused, makes, prints, shows, stays};
+use std::test::*;
+use x509_der_grammar::{AnyRef, Error, ErrorKind, Tag, TryClone};
+use x509_prim_text::{
+    Alphabet, BmpString, Ia5StringRef, PrintableString, PrintableStringRef, RestrictedStringRef,
+    TeletexStringRef, Utf8String, Utf8StringRef,
+};
+
+#[test]
+fn copies(rt: HostRuntime) -> Result<(), Fail> {
+    assert!(rt; stays::<PrintableString>(&rt, &[0x13, 0x02, 0x55, 0x53])?);
+    assert!(rt; stays::<Utf8String>(&rt, &[0x0C, 0x02, 0xC3, 0xA4])?);
+    assert!(rt; stays::<BmpString>(&rt, &[0x1E, 0x04, 0x00, 0x41, 0x20, 0xAC])?);
+    Ok(())
+}
+
+/// Whether the text is that of a PrintableString, printed and shown, and given back.
+fn is_printable(rt: &HostRuntime, text: &str, quoted: &str) -> Result<bool, Fail> {
+    let string = PrintableString::new(rt.alloc(), text)?;
+    let same = prints(rt, &string, text)? && shows(rt, &string, quoted)?;
+    Ok(same && string.into_string(rt.alloc())?.as_str() == text)
+}
+
+/// The same of a UTF8String.
+fn is_utf8(rt: &HostRuntime, text: &str, quoted: &str) -> Result<bool, Fail> {
+    let string = Utf8String::new(rt.alloc(), text)?;
+    let same = prints(rt, &string, text)? && shows(rt, &string, quoted)?;
+    Ok(same && string.into_string(rt.alloc())?.as_str() == text)
+}
+
+#[test]
+fn printed(rt: HostRuntime) -> Result<(), Fail> {
+    assert!(rt; is_printable(&rt, "AZaz09 '()+,-./:=?", "\"AZaz09 '()+,-./:=?\"")?);
+    assert!(rt;
+        is_printable(
+            &rt,
+            "more than twenty four letters",
+            "\"more than twenty four letters\""
+        )?
+    );
+    assert!(rt; is_utf8(&rt, "ä", "\"ä\"")?);
+    assert!(rt;
+        is_utf8(
+            &rt,
+            "ä and more than 24 octets",
+            "\"ä and more than 24 octets\""
+        )?
+    );
+    Ok(())
+}
+
+/// Whether the octets are those of the text.
+fn is_bmp(rt: &HostRuntime, text: &str, octets: &[u8]) -> Result<bool, Error> {
+    let string = BmpString::from_str(rt.alloc(), text)?;
+    Ok(string.as_bytes() == octets && string.to_text(rt.alloc())?.as_str() == text)
+}
+
+#[test]
+fn bmp_strings(rt: HostRuntime) -> Result<(), Fail> {
+    assert!(rt; is_bmp(&rt, "A€", &[0x00, 0x41, 0x20, 0xAC])?);
+    assert!(rt; makes(&rt, BmpString::from_str(rt.alloc(), "€"), "[32, 172]")?);
+    Ok(())
+}
+
+/// Whether that is a borrowed text, and its copy, of these characters.
+fn is_borrowed<A: Alphabet>(
+    rt: &HostRuntime,
+    read: Result<RestrictedStringRef<'_, A>, Error>,
+    text: &str,
+) -> bool {
+    let Ok(found) = read else {
+        return false;
+    };
+    match found.try_clone(rt.alloc()) {
+        Ok(copy) => copy == found && copy.as_str() == text,
+        Err(_) => false,
+    }
+}
+
+/// The same of a UTF8String.
+fn is_borrowed_utf8(rt: &HostRuntime, read: Result<Utf8StringRef<'_>, Error>, text: &str) -> bool {
+    let Ok(found) = read else {
+        return false;
+    };
+    match found.try_clone(rt.alloc()) {
+        Ok(copy) => copy == found && copy.as_str() == text,
+        Err(_) => false,
+    }
+}
+
+#[test]
+fn borrowed_texts(rt: HostRuntime) -> Result<(), Fail> {
+    let any = AnyRef::new(Tag::PrintableString, b"US")?;
+    assert!(rt; is_borrowed(&rt, PrintableStringRef::from_any(any), "US"));
+    assert!(rt; is_refused(Ia5StringRef::from_any(any), ErrorKind::Malformed));
+    assert!(rt; is_refused(PrintableStringRef::new("U*"), ErrorKind::Value));
+    Ok(())
+}
+
+#[test]
+fn borrowed_texts_of_other_alphabets(rt: HostRuntime) -> Result<(), Fail> {
+    let any = AnyRef::new(Tag::Ia5String, b"@")?;
+    assert!(rt; is_borrowed(&rt, Ia5StringRef::from_any(any), "@"));
+    let any = AnyRef::new(Tag::TeletexString, b"@")?;
+    assert!(rt; is_borrowed(&rt, TeletexStringRef::from_any(any), "@"));
+    Ok(())
+}
+
+#[test]
+fn borrowed_utf8(rt: HostRuntime) -> Result<(), Fail> {
+    let any = AnyRef::new(Tag::Utf8String, b"\xC3\xA4")?;
+    assert!(rt; is_borrowed_utf8(&rt, Utf8StringRef::from_any(any), "ä"));
+    Ok(())
+}
