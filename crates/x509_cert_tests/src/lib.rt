@@ -1,23 +1,21 @@
-//! Tests of certificates, lists of revoked certificates, requests and trust anchors.
+//! Tests of certificates, lists of revoked certificates, requests and trust anchors, and of runs of the program over them.
 #![tactic(auto)]
 
 #[cfg(test)]
-mod anchor;
-#[cfg(test)]
 mod certificate;
+#[cfg(test)]
+mod copies;
 #[cfg(test)]
 mod digests;
 #[cfg(test)]
 mod example;
 #[cfg(test)]
-mod lists;
+mod fakes;
 #[cfg(test)]
 mod look_ups;
 #[cfg(test)]
 mod paths;
 #[cfg(test)]
-mod programs;
+mod program;
 #[cfg(test)]
 mod requests;
-#[cfg(test)]
-mod signed;

@@ -1,6 +1,7 @@
 //! The paths of the library. Each function but the tests compiles only where its paths name the types that it answers, or the traits
 //! that the function which it calls wants.
 
+use bitflags::Flags;
 use std::test::*;
 use x509_base_time::{DateTime, GeneralizedTime, Raw, Rfc5280, Time, UtcTime, Validity};
 use x509_cert::ext::pkix;
@@ -557,11 +558,14 @@ fn identifiers(rt: HostRuntime) -> Result<(), Fail> {
     Ok(())
 }
 
-/// The numbers that stand for versions and reasons, where a caller asks for them.
+/// The numbers that stand for versions and reasons, where a caller asks for them, and the bits of flags (RFC 5914 2.5).
 #[test]
 fn numbers(rt: HostRuntime) {
     assert!(rt; x509_cert::Version::V1 as u8 == 0 && x509_cert::Version::V3 as u8 == 2);
     assert!(rt; request::Version::V1 as u8 == 0 && anchor::Version::V1 as u8 == 0);
     assert!(rt; pkix::CrlReason::Unspecified as u8 == 0);
     assert!(rt; pkix::CrlReason::AaCompromise as u8 == 10);
+    assert!(rt; anchor::CertPolicies::INHIBIT_POLICY_MAPPING.bits() == 1);
+    assert!(rt; anchor::CertPolicies::REQUIRE_EXPLICIT_POLICY.bits() == 2);
+    assert!(rt; anchor::CertPolicies::INHIBIT_ANY_POLICY.bits() == 4);
 }

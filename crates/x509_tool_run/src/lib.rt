@@ -10,8 +10,6 @@ pub mod laws;
 mod output;
 mod program;
 mod refusal;
-#[cfg(test)]
-mod tests;
 
 pub use arguments::{Arguments, words};
 pub use codec::{Codec, NameCodec};

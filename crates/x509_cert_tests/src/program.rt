@@ -1,0 +1,218 @@
+//! Runs of the program over readers and writers that may fail, and its words.
+
+use crate::fakes::{FakeEnv, FakeReader, FakeWriter, Lapse};
+use std::alloc::{AllocError, Global};
+use std::io;
+use std::test::*;
+use x509_der_element::ErrorKind;
+use x509_tool_run::{Refusal, run, words};
+use x509_tool_types::Types;
+
+/// The program's arguments, what is read and what goes wrong, and the status and the text that the run ends with.
+type Run = (
+    &'static [&'static [u8]],
+    &'static [u8],
+    Lapse,
+    u8,
+    &'static [u8],
+);
+
+/// Whether the run ends so.
+fn ends(alloc: Global, case: &Run) -> Result<bool, AllocError> {
+    let (arguments, bytes, lapse, status, text) = *case;
+    let words = words(alloc, &FakeEnv { arguments })?;
+    let mut reader = FakeReader {
+        bytes,
+        reads: 0,
+        lapse,
+    };
+    let mut writer = FakeWriter {
+        taken: Vec::new(alloc),
+        writes: 0,
+        lapse,
+    };
+    let ended = run::<Types, FakeReader, FakeWriter>(
+        alloc,
+        words.as_slice(),
+        &mut reader,
+        &mut writer,
+    );
+    Ok(ended == status && writer.taken.as_slice() == text)
+}
+
+/// The place of the first of these runs that ends otherwise.
+fn first_wrong(alloc: Global, runs: &[Run]) -> Result<Option<usize>, AllocError> {
+    for (place, case) in runs.iter().enumerate() {
+        if !ends(alloc, case)? {
+            return Ok(Some(place));
+        }
+    }
+    Ok(None)
+}
+
+const USAGE: &[u8] =
+    b"usage: x509_tool reencode TYPE [rfc5280|raw] | name | encode-name | path MOMENT\n";
+
+/// A validity from 2002 on, once as RFC 5280 doesn't spell it (4.1.2.5) and once as it does.
+const LONG: &[u8] = b"3020180F32303032303130313132303130305A170D3330313233313038333030305A\n";
+
+const SHORT: &[u8] = b"301E170D3032303130313132303130305A170D3330313233313038333030305A\n";
+
+/// The organization B and behind it the common name A, as UTF8Strings, and the text of that name (RFC 4514 2.1).
+const BYTES: &[u8] = b"3018310A3008060355040A0C0142310A300806035504030C0141\n";
+
+const TEXT: &[u8] = b"CN=A,O=B\n";
+
+const OID: &[&[u8]] = &[b"x509_tool", b"reencode", b"oid"];
+
+const VALIDITY: &[&[u8]] = &[b"x509_tool", b"reencode", b"validity"];
+
+const RAW: &[&[u8]] = &[b"x509_tool", b"reencode", b"validity", b"raw"];
+
+const NAME: &[&[u8]] = &[b"x509_tool", b"name"];
+
+const ENCODE_NAME: &[&[u8]] = &[b"x509_tool", b"encode-name"];
+
+const OTHER_WORDS: &[&[u8]] = &[b"x509_tool", b"encode-name", b"raw"];
+
+const NO_WORDS: &[&[u8]] = &[b"x509_tool"];
+
+const COMMANDS: &[Run] = &[
+    (OID, b"060355040a", Lapse::Never, 0, b"060355040A\n"),
+    (VALIDITY, LONG, Lapse::Never, 0, SHORT),
+    (RAW, LONG, Lapse::Never, 0, LONG),
+    (OID, b"", Lapse::Never, 1, b"refused: Malformed\n"),
+    (
+        OID,
+        b"0603550406\r\n",
+        Lapse::Never,
+        1,
+        b"refused: Failed\n",
+    ),
+    (NAME, BYTES, Lapse::Never, 0, TEXT),
+    (NAME, b"3000\n\n", Lapse::Never, 1, b"refused: Failed\n"),
+    (ENCODE_NAME, TEXT, Lapse::Never, 0, BYTES),
+    (
+        ENCODE_NAME,
+        b"CN=A+CN=A",
+        Lapse::Never,
+        1,
+        b"refused: SetDuplicate\n",
+    ),
+    (
+        ENCODE_NAME,
+        b"CN=\xFF",
+        Lapse::Never,
+        1,
+        b"refused: Failed\n",
+    ),
+    (OTHER_WORDS, TEXT, Lapse::Never, 2, USAGE),
+    (NO_WORDS, b"", Lapse::Never, 2, USAGE),
+];
+
+#[test]
+fn commands(rt: HostRuntime) -> Result<(), Fail> {
+    assert_eq!(rt; first_wrong(rt.alloc(), COMMANDS)?, None);
+    Ok(())
+}
+
+/// What a refusal is called, where no run above says it.
+#[test]
+fn refusals(rt: HostRuntime) {
+    for (refusal, line) in [
+        (ErrorKind::Memory, b"refused: Memory\n".as_slice()),
+        (ErrorKind::Overlength, b"refused: Overlength\n"),
+        (ErrorKind::Value, b"refused: Value\n"),
+    ] {
+        assert!(rt; Refusal::Because(refusal).line() == line);
+    }
+}
+
+/// The kinds of a failure, of which the latter is tried again elsewhere.
+const OTHER: io::ErrorKind = io::ErrorKind::Other;
+
+const INTERRUPTED: io::ErrorKind = io::ErrorKind::Interrupted;
+
+/// Ten bytes, and reads that fail at the first of them, in their midst and at their end.
+const READS: &[Run] = &[
+    (
+        OID,
+        b"0603550406",
+        Lapse::Read(1, OTHER),
+        1,
+        b"refused: Read\n",
+    ),
+    (
+        OID,
+        b"0603550406",
+        Lapse::Read(6, INTERRUPTED),
+        1,
+        b"refused: Read\n",
+    ),
+    (
+        OID,
+        b"0603550406",
+        Lapse::Read(11, OTHER),
+        1,
+        b"refused: Read\n",
+    ),
+];
+
+/// The first read that fails ends the reading.
+#[test]
+fn a_failing_reader(rt: HostRuntime) -> Result<(), Fail> {
+    assert_eq!(rt; first_wrong(rt.alloc(), READS)?, None);
+    Ok(())
+}
+
+const WRITES: &[Run] = &[
+    (OID, b"0603550406", Lapse::Write(1, Some(OTHER)), 1, b""),
+    (
+        OID,
+        b"0603550406",
+        Lapse::Write(5, Some(INTERRUPTED)),
+        1,
+        b"0603",
+    ),
+    (OID, b"0603550406", Lapse::Write(11, None), 1, b"0603550406"),
+    (OID, b"03", Lapse::Write(9, None), 1, b"refused:"),
+    (
+        OTHER_WORDS,
+        b"03",
+        Lapse::Write(6, Some(OTHER)),
+        1,
+        b"usage",
+    ),
+];
+
+/// The first write that fails or takes nothing ends the run.
+#[test]
+fn a_failing_writer(rt: HostRuntime) -> Result<(), Fail> {
+    assert_eq!(rt; first_wrong(rt.alloc(), WRITES)?, None);
+    Ok(())
+}
+
+/// An argument that wants more room than the first, and one that just fits.
+const LONG_WORD: &[u8] = &[b'x'; 200];
+
+const JUST: &[u8] = &[b'y'; 64];
+
+/// Whether the words are these, the last of them empty.
+fn are_words(words: &[String]) -> bool {
+    match words {
+        [long, just, last] => {
+            long.as_bytes() == LONG_WORD && just.as_bytes() == JUST && last.is_empty()
+        }
+        _ => false,
+    }
+}
+
+/// The program's name is left out, and what isn't UTF-8 is the empty word.
+#[test]
+fn words_of_any_length(rt: HostRuntime) -> Result<(), Fail> {
+    let env = FakeEnv {
+        arguments: &[b"program", LONG_WORD, JUST, b"\xFF"],
+    };
+    assert!(rt; are_words(words(rt.alloc(), &env)?.as_slice()));
+    Ok(())
+}
