@@ -1,8 +1,7 @@
 //! Names from text and to text. What a text is read as, what is printed, and each refusal, are clauses; these are rows
 //! of RFC 4514 and of texts that other readers take for others.
 
-use crate::calls::is_refused;
-use std::fmt::Display;
+use crate::calls::{is_refused, prints};
 use std::test::*;
 use x509_der_grammar::{Error, ErrorKind};
 use x509_name::name::{Name, RdnSequence, RelativeDistinguishedName};
@@ -62,11 +61,6 @@ const OTHER_SPELLINGS: [&str; 5] = [
 
 const FOO: &[u8] = b"\x30\x0E\x31\x0C\x30\x0A\x06\x03\x55\x04\x03\x0C\x03foo";
 
-/// Whether the value prints the text.
-pub fn prints<T: Display>(rt: &HostRuntime, value: &T, text: &str) -> Result<bool, Error> {
-    Ok(format!(in rt.alloc(); "{value}")?.as_str() == text)
-}
-
 /// Whether the text is read as a name, which prints it.
 pub fn prints_back(rt: &HostRuntime, text: &str) -> Result<bool, Error> {
     let name = Name::from_str(rt.alloc(), text)?;
@@ -99,12 +93,6 @@ const NET: &str = "DC=net";
 
 const NET_ENCODING: &[u8] = b"\x30\x11\x06\x0A\x09\x92\x26\x89\x93\xF2\x2C\x64\x01\x19\x16\x03net";
 
-/// Whether the sequence of the text prints it.
-fn is_sequence(rt: &HostRuntime) -> Result<bool, Error> {
-    let rdns = RdnSequence::from_str(rt.alloc(), NET)?;
-    prints(rt, &rdns, NET)
-}
-
 /// Whether the relative distinguished name of the text prints it.
 fn is_rdn(rt: &HostRuntime) -> Result<bool, Error> {
     let rdn = RelativeDistinguishedName::from_str(rt.alloc(), NET)?;
@@ -124,8 +112,7 @@ fn is_encoded(rt: &HostRuntime) -> Result<bool, Error> {
 
 #[test]
 fn parts_of_names(rt: HostRuntime) -> Result<(), Fail> {
-    assert!(rt; is_sequence(&rt)? && is_rdn(&rt)?);
-    assert!(rt; is_attribute(&rt)? && is_encoded(&rt)?);
+    assert!(rt; is_rdn(&rt)? && is_attribute(&rt)? && is_encoded(&rt)?);
     Ok(())
 }
 

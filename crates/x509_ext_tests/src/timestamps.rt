@@ -1,0 +1,256 @@
+//! Signed certificate timestamps, and lists of them.
+
+use crate::calls::{is_made, is_written, prints};
+use std::test::*;
+use x509_der_grammar::{Decode, Error as DerError, ErrorKind};
+use x509_prim::OctetString;
+use x509_sct::{
+    DigitallySigned, Error, HashAlgorithm, LogId, SerializedSct, SignatureAlgorithm,
+    SignatureAndHashAlgorithm, SignedCertificateTimestamp, SignedCertificateTimestampList, Tls,
+    TlsByteVecU16, TlsError, Version,
+};
+use x509_sct_tls::NamedByte;
+
+/// A list of one timestamp: the log of 32 octets 2A, 1,683,095,206,506 milliseconds, no extensions, and the signature
+/// of the octets 0, 1 and 2 with SHA-256 and ECDSA.
+const ONE: [u8; 56] = [
+    0x04, 0x36, 0x00, 0x34, 0x00, 0x32, 0x00, 0x2A, 0x2A, 0x2A, 0x2A, 0x2A, 0x2A, 0x2A, 0x2A, 0x2A,
+    0x2A, 0x2A, 0x2A, 0x2A, 0x2A, 0x2A, 0x2A, 0x2A, 0x2A, 0x2A, 0x2A, 0x2A, 0x2A, 0x2A, 0x2A, 0x2A,
+    0x2A, 0x2A, 0x2A, 0x2A, 0x2A, 0x2A, 0x2A, 0x00, 0x00, 0x01, 0x87, 0xE0, 0x4A, 0xBA, 0x6A, 0x00,
+    0x00, 0x04, 0x03, 0x00, 0x03, 0x00, 0x01, 0x02,
+];
+
+/// A list of two timestamps, of 1,683,095,206,506 and 1,683,095,206,564 milliseconds, with signatures of 72 and 70 octets
+/// with SHA-256 and ECDSA.
+const TWO: [u8; 245] = [
+    0x04, 0x81, 0xF2, 0x00, 0xF0, 0x00, 0x77, 0x00, 0x7A, 0x32, 0x8C, 0x54, 0xD8, 0xB7, 0x2D, 0xB6,
+    0x20, 0xEA, 0x38, 0xE0, 0x52, 0x1E, 0xE9, 0x84, 0x16, 0x70, 0x32, 0x13, 0x85, 0x4D, 0x3B, 0xD2,
+    0x2B, 0xC1, 0x3A, 0x57, 0xA3, 0x52, 0xEB, 0x52, 0x00, 0x00, 0x01, 0x87, 0xE0, 0x4A, 0xBA, 0x6A,
+    0x00, 0x00, 0x04, 0x03, 0x00, 0x48, 0x30, 0x46, 0x02, 0x21, 0x00, 0xAA, 0x52, 0x51, 0xA2, 0x9D,
+    0xEA, 0x0E, 0xBD, 0xA7, 0x0D, 0xF7, 0xD3, 0x61, 0x70, 0xF8, 0xAC, 0x95, 0x7D, 0x3A, 0x12, 0xEE,
+    0x3C, 0x96, 0x9D, 0x7C, 0xF5, 0xBC, 0x8A, 0x66, 0xD4, 0xF4, 0xBB, 0x02, 0x21, 0x00, 0xD1, 0x4F,
+    0x1F, 0x3F, 0xD0, 0x4F, 0xF0, 0xE9, 0xC1, 0xBB, 0x1C, 0x21, 0xBE, 0x5F, 0x82, 0x42, 0xB7, 0xDE,
+    0xBB, 0x2A, 0x16, 0x53, 0x00, 0x77, 0xE2, 0xF6, 0x13, 0xC5, 0x2F, 0xED, 0xC6, 0x95, 0x00, 0x75,
+    0x00, 0xAD, 0xF7, 0xBE, 0xFA, 0x7C, 0xFF, 0x10, 0xC8, 0x8B, 0x9D, 0x3D, 0x9C, 0x1E, 0x3E, 0x18,
+    0x6A, 0xB4, 0x67, 0x29, 0x5D, 0xCF, 0xB1, 0x0C, 0x24, 0xCA, 0x85, 0x86, 0x34, 0xEB, 0xDC, 0x82,
+    0x8A, 0x00, 0x00, 0x01, 0x87, 0xE0, 0x4A, 0xBA, 0xA4, 0x00, 0x00, 0x04, 0x03, 0x00, 0x46, 0x30,
+    0x44, 0x02, 0x20, 0x1D, 0x6E, 0x90, 0x25, 0x9D, 0xE3, 0xAA, 0x46, 0x43, 0x10, 0x44, 0xC3, 0xD4,
+    0xA8, 0xF6, 0x25, 0x5E, 0x45, 0xD2, 0x88, 0x2A, 0x71, 0xD9, 0xE6, 0x22, 0x98, 0xFD, 0x74, 0x0D,
+    0xAE, 0xE8, 0xBF, 0x02, 0x20, 0x10, 0x19, 0xC8, 0xDF, 0x3B, 0xB0, 0x28, 0x91, 0x4C, 0x55, 0xF2,
+    0x85, 0x82, 0xD4, 0x3D, 0xD8, 0x53, 0xEE, 0x73, 0x82, 0x52, 0xF0, 0xC4, 0xA2, 0xF9, 0x36, 0xC7,
+    0x78, 0xAF, 0x48, 0xDF, 0x0E,
+];
+
+/// The signature in [`ONE`].
+fn signed(rt: &HostRuntime) -> Result<DigitallySigned, TlsError> {
+    let algorithm = SignatureAndHashAlgorithm {
+        hash: HashAlgorithm::Sha256,
+        signature: SignatureAlgorithm::Ecdsa,
+    };
+    let signature = TlsByteVecU16::from_slice(rt.alloc(), &[0, 1, 2])?;
+    Ok(DigitallySigned {
+        algorithm,
+        signature,
+    })
+}
+
+/// The timestamp in [`ONE`], with that many octets of extensions.
+fn timestamp(rt: &HostRuntime, extensions: usize) -> Result<SignedCertificateTimestamp, TlsError> {
+    let extensions = TlsByteVecU16::new(vec![in rt.alloc(); 0; extensions]?)?;
+    Ok(SignedCertificateTimestamp {
+        version: Version::V1,
+        log_id: LogId { key_id: [0x2A; 32] },
+        timestamp: 1_683_095_206_506,
+        extensions,
+        signature: signed(rt)?,
+    })
+}
+
+/// The list of one timestamp with that many octets of extensions.
+fn list_with(rt: &HostRuntime, extensions: usize) -> Result<SignedCertificateTimestampList, Error> {
+    let serialized = SerializedSct::new(rt.alloc(), timestamp(rt, extensions)?)?;
+    SignedCertificateTimestampList::new(rt.alloc(), &[serialized])
+}
+
+/// Whether the list of the one timestamp is written so.
+fn is_one(rt: &HostRuntime) -> Result<bool, Error> {
+    Ok(is_written(rt, &list_with(rt, 0)?, &ONE)?)
+}
+
+/// The first timestamp of the list that is written so.
+fn first_of(rt: &HostRuntime, bytes: &[u8]) -> Result<SignedCertificateTimestamp, Error> {
+    let list = SignedCertificateTimestampList::from_der(rt.alloc(), bytes)?;
+    let items = list.parse_timestamps(rt.alloc())?;
+    match items.first() {
+        Some(item) => item.parse_timestamp(rt.alloc()),
+        None => Err(Error::Tls(TlsError::EndOfStream)),
+    }
+}
+
+/// Whether the first timestamp of the list is that of [`ONE`], at that time.
+fn is_first(rt: &HostRuntime, bytes: &[u8], time: &str) -> Result<bool, Error> {
+    let found = first_of(rt, bytes)?;
+    let is_it = found == timestamp(rt, 0)?;
+    Ok(is_it && prints(rt, &found.timestamp()?, time)?)
+}
+
+#[test]
+fn one_timestamp(rt: HostRuntime) -> Result<(), Fail> {
+    assert!(rt; is_one(&rt)? && is_first(&rt, &ONE, "2023-05-03T06:26:46Z")?);
+    Ok(())
+}
+
+/// The timestamp, parsed and serialized again.
+fn serialized_again(rt: &HostRuntime, item: &SerializedSct) -> Result<SerializedSct, Error> {
+    let timestamp = item.parse_timestamp(rt.alloc())?;
+    Ok(SerializedSct::new(rt.alloc(), timestamp)?)
+}
+
+/// The timestamps of the list, parsed and serialized again.
+fn parsed_again(
+    rt: &HostRuntime,
+    list: &SignedCertificateTimestampList,
+) -> Result<Vec<SerializedSct>, Error> {
+    let mut again = Vec::new(rt.alloc());
+    for item in &list.parse_timestamps(rt.alloc())? {
+        again
+            .push(serialized_again(rt, item)?)
+            .map_err(TlsError::from)?;
+    }
+    Ok(again)
+}
+
+/// Whether the list of the same timestamps is written so.
+fn is_again(rt: &HostRuntime, bytes: &[u8]) -> Result<bool, Error> {
+    let list = SignedCertificateTimestampList::from_der(rt.alloc(), bytes)?;
+    let again = parsed_again(rt, &list)?;
+    let made = SignedCertificateTimestampList::new(rt.alloc(), again.as_slice())?;
+    Ok(is_written(rt, &made, bytes)?)
+}
+
+#[test]
+fn two_timestamps(rt: HostRuntime) -> Result<(), Fail> {
+    assert!(rt; is_again(&rt, &TWO)?);
+    Ok(())
+}
+
+/// Whether the bytes, with that one put at that place, are refused as a timestamp by that fault.
+fn is_spoilt(rt: &HostRuntime, place: usize, byte: u8, fault: TlsError) -> bool {
+    let mut bytes = ONE;
+    if let Some(at) = bytes.get_mut(place) {
+        *at = byte;
+    }
+    match SignedCertificateTimestamp::tls_deserialize_bytes(rt.alloc(), &bytes[6..]) {
+        Ok(_) => false,
+        Err(e) => e == fault,
+    }
+}
+
+/// A version, a hash and a signature without a name, and a signature that is longer than what is there.
+#[test]
+fn spoilt_timestamps(rt: HostRuntime) {
+    for (place, byte, fault) in [
+        (6, 1, TlsError::UnknownValue(1)),
+        (49, 7, TlsError::UnknownValue(7)),
+        (50, 9, TlsError::UnknownValue(9)),
+        (52, 4, TlsError::EndOfStream),
+    ] {
+        assert!(rt; is_spoilt(&rt, place, byte, fault), "at {place}");
+    }
+}
+
+/// Why the timestamps of the list that has these octets can't be had.
+fn refusal_of(rt: &HostRuntime, octets: &[u8]) -> Result<Option<Error>, DerError> {
+    let list = SignedCertificateTimestampList::from(OctetString::new(rt.alloc(), octets)?);
+    Ok(list.parse_timestamps(rt.alloc()).err())
+}
+
+/// Why a list of a timestamp with that many octets of extensions can't be had.
+fn refusal_with(rt: &HostRuntime, extensions: usize) -> Option<Error> {
+    list_with(rt, extensions).err()
+}
+
+/// Lists that are cut off, that go on, or would be too long, and a timestamp of no version.
+#[test]
+fn refusals(rt: HostRuntime) -> Result<(), Fail> {
+    assert!(rt; refusal_of(&rt, &[0, 1, 0])? == Some(Error::Tls(TlsError::EndOfStream)));
+    assert!(rt; refusal_of(&rt, &[0, 0, 0])? == Some(Error::Tls(TlsError::TrailingData)));
+    let one = [0x04, 0x05, 0x00, 0x03, 0x00, 0x01, 0x41];
+    assert!(rt; first_of(&rt, &one).err() == Some(Error::Tls(TlsError::UnknownValue(65))));
+    for extensions in [65_535, 65_484] {
+        let found = refusal_with(&rt, extensions);
+        assert!(rt;
+            found == Some(Error::Tls(TlsError::InvalidVectorLength)),
+            "at {extensions}"
+        );
+    }
+    Ok(())
+}
+
+/// The bytes of the hash algorithms, in the order of their names.
+fn hashes() -> [u8; 8] {
+    [
+        HashAlgorithm::None.byte(),
+        HashAlgorithm::Md5.byte(),
+        HashAlgorithm::Sha1.byte(),
+        HashAlgorithm::Sha224.byte(),
+        HashAlgorithm::Sha256.byte(),
+        HashAlgorithm::Sha384.byte(),
+        HashAlgorithm::Sha512.byte(),
+        HashAlgorithm::Intrinsic.byte(),
+    ]
+}
+
+/// Those of the signature algorithms.
+fn signatures() -> [u8; 6] {
+    [
+        SignatureAlgorithm::Anonymous.byte(),
+        SignatureAlgorithm::Rsa.byte(),
+        SignatureAlgorithm::Dsa.byte(),
+        SignatureAlgorithm::Ecdsa.byte(),
+        SignatureAlgorithm::Ed25519.byte(),
+        SignatureAlgorithm::Ed448.byte(),
+    ]
+}
+
+/// RFC 5246 section 7.4.1.4.1, RFC 8422 section 5.1.3.
+#[test]
+fn algorithms(rt: HostRuntime) {
+    assert!(rt; hashes() == [0, 1, 2, 3, 4, 5, 6, 8]);
+    assert!(rt; signatures() == [0, 1, 2, 3, 7, 8]);
+}
+
+/// Whether the list of no timestamps makes the extension that is written so.
+fn is_extension(rt: &HostRuntime, bytes: &[u8]) -> Result<bool, Error> {
+    let list = SignedCertificateTimestampList::new(rt.alloc(), &[])?;
+    Ok(is_made(rt, &list, bytes)?)
+}
+
+/// The identifier, no word on its criticality, and the list within an OCTET STRING (RFC 6962 section 3.3).
+#[test]
+fn extension(rt: HostRuntime) -> Result<(), Fail> {
+    let bytes = [
+        0x30, 0x12, 0x06, 0x0A, 0x2B, 0x06, 0x01, 0x04, 0x01, 0xD6, 0x79, 0x02, 0x04, 0x02, 0x04,
+        0x04, 0x04, 0x02, 0x00, 0x00,
+    ];
+    assert!(rt; is_extension(&rt, &bytes)?);
+    Ok(())
+}
+
+/// Whether the octets of a vector are printed so.
+fn vector_prints(rt: &HostRuntime, octets: &[u8], text: &str) -> Result<bool, TlsError> {
+    let vector = TlsByteVecU16::from_slice(rt.alloc(), octets)?;
+    Ok(format!(in rt.alloc(); "{vector:?}")?.as_str() == text)
+}
+
+#[test]
+fn printed(rt: HostRuntime) -> Result<(), Fail> {
+    for (error, text) in [
+        (Error::from(TlsError::UnknownValue(7)), "UnknownValue(7)"),
+        (Error::from(DerError::from(ErrorKind::Value)), "Value"),
+    ] {
+        assert!(rt; prints(&rt, &error, text)?);
+    }
+    assert!(rt; vector_prints(&rt, &[1, 2], "[1, 2]")?);
+    Ok(())
+}

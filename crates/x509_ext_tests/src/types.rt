@@ -1,0 +1,99 @@
+//! The table of the names of types, and long values as text: another table would still be proved, and so would a `Display`
+//! that ends long texts with an error.
+
+use crate::calls::prints;
+use crate::texts::prints_back;
+use std::test::*;
+use x509_der::ObjectIdentifier;
+use x509_der_grammar::{Error, Tag};
+use x509_name_attribute::AttributeTypeAndValue;
+
+/// The types whose values are read as UTF8String from a text without a number sign: of each a text with the name that is
+/// printed, one with the name in full, and the identifier (RFC 4519 section 2, RFC 5280 appendix A.1, X.520).
+const OF_UTF8_STRINGS: [&str; 17] = [
+    "CN=a commonName=a 2.5.4.3",
+    "SN=a surname=a 2.5.4.4",
+    "L=a localityName=a 2.5.4.7",
+    "ST=a stateOrProvinceName=a 2.5.4.8",
+    "STREET=a streetAddress=a 2.5.4.9",
+    "O=a organizationName=a 2.5.4.10",
+    "OU=a organizationalUnitName=a 2.5.4.11",
+    "TITLE=a title=a 2.5.4.12",
+    "DESCRIPTION=a description=a 2.5.4.13",
+    "POSTALCODE=a postalCode=a 2.5.4.17",
+    "NAME=a name=a 2.5.4.41",
+    "GIVENNAME=a givenName=a 2.5.4.42",
+    "INITIALS=a initials=a 2.5.4.43",
+    "GENERATIONQUALIFIER=a generationQualifier=a 2.5.4.44",
+    "DNQUALIFIER=a dnQualifier=a 2.5.4.46",
+    "PSEUDONYM=a pseudonym=a 2.5.4.65",
+    "UID=a userId=a 0.9.2342.19200300.100.1.1",
+];
+
+/// Those whose values are read as PrintableString.
+const OF_PRINTABLE_STRINGS: [&str; 2] = [
+    "SERIALNUMBER=a serialNumber=a 2.5.4.5",
+    "C=a countryName=a 2.5.4.6",
+];
+
+/// Those whose values are read as IA5String (RFC 4519 section 2.4, RFC 2985 section 5.2.1).
+const OF_IA5_STRINGS: [&str; 2] = [
+    "DC=a domainComponent=a 0.9.2342.19200300.100.1.25",
+    "EMAILADDRESS=a emailAddress=a 1.2.840.113549.1.9.1",
+];
+
+/// Whether the attribute of the text has the type and the tag, and prints so.
+fn is_of(rt: &HostRuntime, text: &str, oid: &str, tag: Tag, printed: &str) -> Result<bool, Error> {
+    let attribute = AttributeTypeAndValue::from_str(rt.alloc(), text)?;
+    Ok(
+        attribute.value.tag() == tag
+            && attribute.oid == ObjectIdentifier::new(oid)?
+            && prints(rt, &attribute, printed)?,
+    )
+}
+
+/// Whether both texts of the row are read as attributes of the type and with the tag, and the first is printed.
+fn is_type(rt: &HostRuntime, row: &str, tag: Tag) -> Result<bool, Error> {
+    let mut words = row.split(' ');
+    match (words.next(), words.next(), words.next()) {
+        (Some(printed), Some(in_full), Some(oid)) => Ok(
+            is_of(rt, printed, oid, tag, printed)? && is_of(rt, in_full, oid, tag, printed)?,
+        ),
+        _ => Ok(false),
+    }
+}
+
+#[test]
+fn names_of_types(rt: HostRuntime) -> Result<(), Fail> {
+    for row in &OF_UTF8_STRINGS {
+        assert!(rt; is_type(&rt, row, Tag::Utf8String)?, "of {row}");
+    }
+    for row in &OF_PRINTABLE_STRINGS {
+        assert!(rt; is_type(&rt, row, Tag::PrintableString)?, "of {row}");
+    }
+    for row in &OF_IA5_STRINGS {
+        assert!(rt; is_type(&rt, row, Tag::Ia5String)?, "of {row}");
+    }
+    Ok(())
+}
+
+/// An attribute without a name: the digits of the header of its value, and the digits of so many octets.
+fn digits(rt: &HostRuntime, header: &str, count: usize) -> Result<String, Error> {
+    let mut text = format!(in rt.alloc(); "1.2.3=#{header}")?;
+    for _ in 0..count {
+        text.push_str("ab")?;
+    }
+    Ok(text)
+}
+
+/// Whether the name of this text prints it.
+fn prints_digits(rt: &HostRuntime, header: &str, count: usize) -> Result<bool, Error> {
+    prints_back(rt, digits(rt, header, count)?.as_str())
+}
+
+#[test]
+fn long_values(rt: HostRuntime) -> Result<(), Fail> {
+    assert!(rt; prints_digits(&rt, "0441", 65)? && prints_digits(&rt, "048180", 128)?);
+    assert!(rt; prints_digits(&rt, "04820100", 256)? && prints_digits(&rt, "0483010000", 65_536)?);
+    Ok(())
+}
