@@ -6,7 +6,7 @@ use crate::source::Zeros;
 use crate::{certificates, lists, requests};
 use std::test::*;
 use x509_build_profile::{Builder, Error, KeyError, Result, SignError};
-use x509_der_grammar::{Encode, ErrorKind};
+use x509_der_grammar::Encode;
 use x509_prim::BitString;
 
 /// The encoding of what the builder makes with the signer `abc` that refuses that.
@@ -76,17 +76,7 @@ fn before_any_finalize(rt: HostRuntime) -> std::result::Result<(), Fail> {
     Ok(())
 }
 
-/// Whether memory was asked for and not given.
-fn lacks_memory(error: &Error) -> bool {
-    match error {
-        Error::Asn1(e) => e.kind() == ErrorKind::Memory,
-        Error::PublicKey(e) => *e == KeyError::Memory,
-        Error::Signature(e) => *e == SignError::Memory,
-        _ => false,
-    }
-}
-
-/// Whether, once the builder was asked for its part, the current one is `done`, or where memory was refused the one `before`.
+/// Whether, once the builder was asked for its part, the current one is `done`, or where that was refused the one `before`.
 fn leaves<T: Encode + Drop, B: Builder<Output = T>>(
     rt: &HostRuntime,
     builder: B,
@@ -96,12 +86,7 @@ fn leaves<T: Encode + Drop, B: Builder<Output = T>>(
     let mut asked = builder;
     let wanted = match asked.finalize(rt.alloc(), &ABC) {
         Ok(_) => done,
-        Err(e) => {
-            if !lacks_memory(&e) {
-                return Err(e);
-            }
-            before
-        }
+        Err(_) => before,
     };
     Ok(current(rt, asked)?.as_slice() == wanted)
 }
@@ -109,10 +94,19 @@ fn leaves<T: Encode + Drop, B: Builder<Output = T>>(
 // Run where each allocation is refused in turn, too.
 #[test]
 fn refused_memory_leaves_the_part(rt: HostRuntime) -> std::result::Result<(), Fail> {
-    use crate::{certificates as c, lists as l, requests as r};
-    assert!(rt; leaves(&rt, certificates::picky(&rt)?, c::UNSIGNED, c::AS_MADE)?);
-    assert!(rt; leaves(&rt, requests::builder(&rt)?, r::UNSIGNED, r::AS_MADE)?);
-    assert!(rt; leaves(&rt, lists::builder(&rt)?, l::UNSIGNED, l::AS_MADE)?);
+    let certificate = certificates::picky(&rt)?;
+    assert!(rt;
+        leaves(
+            &rt,
+            certificate,
+            certificates::UNSIGNED,
+            certificates::AS_MADE
+        )?
+    );
+    let request = requests::builder(&rt)?;
+    assert!(rt; leaves(&rt, request, requests::UNSIGNED, requests::AS_MADE)?);
+    let list = lists::builder(&rt)?;
+    assert!(rt; leaves(&rt, list, lists::UNSIGNED, lists::AS_MADE)?);
     Ok(())
 }
 

@@ -57,8 +57,16 @@ const FULL: &[u8] =
 const NAMED: &[u8] =
     b"\x30\x39\x02\x01\x01\x30\x05\x06\x03\x2A\x03\x04\x30\x00\x17\x0D100101083000Z\xA0\x1C\x30\x1A\x30\x0A\x06\x03\x55\x1D\x14\x04\x03\x02\x01\x2A\x30\x0C\x06\x03\x55\x1D\x23\x04\x05\x30\x03\x80\x01\xAA";
 
-/// 2010-01-01T08:30:00Z, in seconds since 1970-01-01T00:00:00Z.
+/// 2010-01-01T08:30:00Z, in seconds since 1970-01-01T00:00:00Z, and as the date in a list says it.
 const NOW: u64 = 1_262_334_600;
+
+const NOW_DATE: &[u8] = b"\x17\x0D100101083000Z";
+
+/// What stands in [`FULL`]: the date of the next list, and the certificates.
+const NEXT_DATE: &[u8] = b"\x17\x0D110101083000Z";
+
+const CERTIFICATES: &[u8] =
+    b"\x30\x3C\x30\x12\x02\x01\x01\x17\x0D100101083000Z\x30\x12\x02\x01\x02\x17\x0D100101083000Z\x30\x12\x02\x01\x03\x17\x0D100101083000Z";
 
 /// The part of the list of number 42 that the issuer signs shortly after [`NOW`].
 fn part(rt: &HostRuntime, issuer: &[u8]) -> Result<Vec<u8>> {
@@ -82,12 +90,12 @@ fn the_keys_of_issuers(rt: HostRuntime) {
     }
 }
 
-/// A builder of the list of number 42 at [`NOW`], as the date in a list says it.
+/// A builder of the list of number 42 at [`NOW_DATE`].
 pub(crate) fn builder(rt: &HostRuntime) -> Result<CrlBuilder> {
     let alloc = rt.alloc();
     let certificate = Certificate::from_der(alloc, ISSUER)?;
     let number = CrlNumber::from_u8(alloc, 42)?;
-    let this_update = Time::from_der(alloc, &LIST[14..29])?;
+    let this_update = Time::from_der(alloc, NOW_DATE)?;
     CrlBuilder::new_with_this_update(alloc, &certificate, number, this_update)
 }
 
@@ -100,8 +108,8 @@ pub(crate) fn with_none(rt: &HostRuntime) -> Result<CrlBuilder> {
 /// The builder with the certificates and the moment of [`FULL`].
 fn full(rt: &HostRuntime) -> Result<CrlBuilder> {
     let alloc = rt.alloc();
-    let next_update = Time::from_der(alloc, &FULL[30..45])?;
-    let certificates = SequenceOf::from_der(alloc, &FULL[45..107])?.into_vec();
+    let next_update = Time::from_der(alloc, NEXT_DATE)?;
+    let certificates = SequenceOf::from_der(alloc, CERTIFICATES)?.into_vec();
     let builder = with_none(rt)?.with_certificates(alloc, certificates.into_iter())?;
     Ok(builder.with_next_update(Some(next_update)))
 }
