@@ -56,7 +56,10 @@ fn with_names(rt: HostRuntime) {
         (NO_MODULE, NAMED, "ASN.1 error: Failed"),
         (NO_NAME, NAMED, "ASN.1 error: Malformed"),
     ] {
-        assert!(rt; is_answer(&rt, device(&rt, names), wanted, text), "{text}");
+        assert!(rt;
+            is_answer(&rt, device(&rt, names), wanted, text),
+            "assertion failed at {text}"
+        );
     }
 }
 

@@ -86,7 +86,10 @@ fn the_keys_of_issuers(rt: HostRuntime) {
         (TWICE_NAMED_ISSUER, NAMED, "ASN.1 error: Failed"),
         (BADLY_NAMED_ISSUER, NAMED, "ASN.1 error: Malformed"),
     ] {
-        assert!(rt; is_answer(&rt, part(&rt, issuer), wanted, text), "{text}");
+        assert!(rt;
+            is_answer(&rt, part(&rt, issuer), wanted, text),
+            "assertion failed at {text}"
+        );
     }
 }
 

@@ -46,7 +46,7 @@ fn orders(rt: HostRuntime) {
     ] {
         assert!(rt;
             is_refused(&rt, check(&rt, name, multiple_allowed), text),
-            "at {name}"
+            "assertion failed at {name}"
         );
     }
 }
@@ -66,6 +66,9 @@ fn of_roots(rt: HostRuntime) {
         ("CN=R,O=T,C=US,DC=x", NO_DC),
         ("C=US,CN=R,O=T", NO_C),
     ] {
-        assert!(rt; is_refused(&rt, check_root(&rt, name), text), "at {name}");
+        assert!(rt;
+            is_refused(&rt, check_root(&rt, name), text),
+            "assertion failed at {name}"
+        );
     }
 }
