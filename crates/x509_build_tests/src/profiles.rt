@@ -1,4 +1,4 @@
-//! Profiles whose answers are known.
+//! A profile whose answers are known.
 
 ghost use Rattle.std.specs.Prelude.{◌≡◌, [], ◌∷◌, false, IfOk, IfErr};
 ghost use Rattle.x509_der_element.specs.declared.error.ErrorKind.TheVariants.{Memory};
@@ -13,40 +13,8 @@ use x509_ext_frame::Extension;
 use x509_name::name::Name;
 use x509_prim::OctetString;
 
-/// Nobody signs for nobody, without extensions.
-#[derive(Drop)]
-pub(crate) struct Plain;
-
-impl BuilderProfile for Plain {
-    ghost use Rattle.std.specs.Prelude.{[]};
-
-    ghost issuer_of = { λ profile subject. record { value = []; refuses = λ e. ⊥ } };
-
-    ghost subject_of = { λ profile. record { value = []; refuses = λ e. ⊥ } };
-
-    ghost extensions_of = { λ profile key issuer part. record { value = []; refuses = λ e. ⊥ } };
-
-    fn get_issuer(&self, alloc: Global, _subject: &Name) -> Result<Name> {
-        Ok(Name::new(alloc))
-    }
-
-    fn get_subject(&self, alloc: Global) -> Result<Name> {
-        Ok(Name::new(alloc))
-    }
-
-    fn build_extensions(
-        &self,
-        alloc: Global,
-        _spk: SubjectPublicKeyInfoRef<'_>,
-        _issuer_spk: SubjectPublicKeyInfoRef<'_>,
-        _tbs: &TbsCertificate,
-    ) -> Result<Vec<Extension>> {
-        Ok(Vec::new(alloc))
-    }
-}
-
 /// 1.2.3.6.
-const PICKY: ObjectIdentifier = ObjectIdentifier {
+const PUT_IN: ObjectIdentifier = ObjectIdentifier {
     len: 3,
     octets: [
         0x2A, 3, 6, 0, 0, 0, 0, 0, 0, 0, 0, 0, 0, 0, 0, 0, 0, 0, 0, 0, 0, 0, 0, 0, 0, 0, 0, 0, 0,
@@ -54,23 +22,31 @@ const PICKY: ObjectIdentifier = ObjectIdentifier {
     ],
 };
 
-/// Puts in one extension, 1.2.3.6 with the octet AA, and refuses the issuer key `abd` as failed.
+/// Nobody signs for nobody. It puts in one extension or none, 1.2.3.6 with the octet AA. It refuses the issuer key `abd` as
+/// failed, and where it has no issuer, that one as a missing attribute.
 #[derive(Drop)]
-pub(crate) struct Picky;
+pub(crate) struct Picky {
+    pub(crate) has_issuer: bool,
+    pub(crate) puts_in: bool,
+}
 
 impl BuilderProfile for Picky {
-    ghost use Rattle.std.specs.Prelude.{◌≡◌, [], ◌∷◌, false};
-    ghost use Rattle.x509_build_profile.specs.declared.error.Error.TheVariants.{Asn1};
+    ghost use Rattle.std.specs.Prelude.{◌≡◌, [], ◌∷◌, false, if◌then◌else◌};
+    ghost use Rattle.x509_build_profile.specs.declared.error.Error.TheVariants.{Asn1, MissingAttributes};
     ghost use Rattle.x509_der_element.specs.declared.error.ErrorKind.TheVariants.{Failed};
 
-    ghost issuer_of = { λ profile subject. record { value = []; refuses = λ e. ⊥ } };
+    ghost issuer_of = { λ profile subject. record { value = []; refuses = λ e. (profile.has_issuer ≡ false) × (e ≡ MissingAttributes) } };
 
     ghost subject_of = { λ profile. record { value = []; refuses = λ e. ⊥ } };
 
-    ghost extensions_of = { λ profile key issuer part. record { value = record { extn_id = 0x2A ∷ 3 ∷ 6 ∷ []; critical = false; extn_value = 0xAA ∷ [] } ∷ []; refuses = λ e. (issuer.subject_public_key.octets ≡ 97 ∷ 98 ∷ 100 ∷ []) × (e ≡ Asn1 (record { kind = Failed })) } };
+    ghost extensions_of = { λ profile key issuer part. record { value = if profile.puts_in then (record { extn_id = 0x2A ∷ 3 ∷ 6 ∷ []; critical = false; extn_value = 0xAA ∷ [] } ∷ []) else []; refuses = λ e. (issuer.subject_public_key.octets ≡ 97 ∷ 98 ∷ 100 ∷ []) × (e ≡ Asn1 (record { kind = Failed })) } };
 
     fn get_issuer(&self, alloc: Global, _subject: &Name) -> Result<Name> {
-        Ok(Name::new(alloc))
+        if self.has_issuer {
+            Ok(Name::new(alloc))
+        } else {
+            Err(Error::MissingAttributes)
+        }
     }
 
     fn get_subject(&self, alloc: Global) -> Result<Name> {
@@ -87,6 +63,9 @@ impl BuilderProfile for Picky {
         if issuer_spk.subject_public_key.raw_bytes() == [b'a', b'b', b'd'].as_slice() {
             return Err(Error::Asn1(ErrorKind::Failed.into()));
         }
+        if !self.puts_in {
+            return Ok(Vec::new(alloc));
+        }
         Ok(one_extension(alloc)?)
     }
 }
@@ -101,50 +80,11 @@ fn one_extension(alloc: Global) -> std::result::Result<Vec<Extension>, x509_der_
         return Err(ErrorKind::Memory.into());
     };
     let extension = Extension {
-        extn_id: PICKY,
+        extn_id: PUT_IN,
         critical: false,
         extn_value,
     };
     let mut extensions = Vec::new(alloc);
     extensions.push(extension)?;
     Ok(extensions)
-}
-
-/// Refuses its subject, or else its issuer.
-#[derive(Drop)]
-pub(crate) struct Nameless {
-    pub(crate) has_subject: bool,
-}
-
-impl BuilderProfile for Nameless {
-    ghost use Rattle.std.specs.Prelude.{◌≡◌, [], false};
-    ghost use Rattle.x509_build_profile.specs.declared.error.Error.TheVariants.{MissingAttributes, UnsupportedKind};
-
-    ghost issuer_of = { λ profile subject. record { value = []; refuses = λ e. e ≡ MissingAttributes } };
-
-    ghost subject_of = { λ profile. record { value = []; refuses = λ e. (profile.has_subject ≡ false) × (e ≡ UnsupportedKind) } };
-
-    ghost extensions_of = { λ profile key issuer part. record { value = []; refuses = λ e. ⊥ } };
-
-    fn get_issuer(&self, _alloc: Global, _subject: &Name) -> Result<Name> {
-        Err(Error::MissingAttributes)
-    }
-
-    fn get_subject(&self, alloc: Global) -> Result<Name> {
-        if self.has_subject {
-            Ok(Name::new(alloc))
-        } else {
-            Err(Error::UnsupportedKind)
-        }
-    }
-
-    fn build_extensions(
-        &self,
-        alloc: Global,
-        _spk: SubjectPublicKeyInfoRef<'_>,
-        _issuer_spk: SubjectPublicKeyInfoRef<'_>,
-        _tbs: &TbsCertificate,
-    ) -> Result<Vec<Extension>> {
-        Ok(Vec::new(alloc))
-    }
 }

@@ -1,96 +1,50 @@
 //! Requests that are built.
 
-use crate::calls::{after, is_asn1, is_bytes, is_key_refused, is_signing_refused, is_written};
-use crate::signers::{ABC, Hesitant, Refused};
-use crate::source::Zeros;
+use crate::calls::{is_answer, is_refused};
+use crate::signers::{ABC, ECHO, Echo, Refused};
 use bitflags::Flags;
 use std::test::*;
 use x509_build::request::RequestBuilder;
 use x509_build_profile::{Builder, Result};
 use x509_cert::request::attributes::{AsAttribute, ChallengePassword};
 use x509_der::{AssociatedOid, ObjectIdentifier};
-use x509_der_grammar::{Decode, ErrorKind, Newtype};
+use x509_der_grammar::{Decode, Newtype};
 use x509_ext_frame::Extension;
 use x509_name::name::Name;
 use x509_name_attribute::DirectoryString;
 use x509_pkix::Reasons;
-use x509_prim::BitString;
 use x509_prim_text::Utf8String;
 
-/// The part of nobody, for the key `abc`, that asks for no extensions.
-const PLAIN: &[u8] = &[
-    0x30, 0x27, 0x02, 0x01, 0x00, 0x30, 0x00, 0x30, 0x0D, 0x30, 0x05, 0x06, 0x03, 0x2A, 0x03, 0x04,
-    0x03, 0x04, 0x00, 0x61, 0x62, 0x63, 0xA0, 0x11, 0x30, 0x0F, 0x06, 0x09, 0x2A, 0x86, 0x48, 0x86,
-    0xF7, 0x0D, 0x01, 0x09, 0x0E, 0x31, 0x02, 0x30, 0x00,
-];
+/// The request of nobody, for the key `abc`, that asks for no extensions, signed with its part.
+pub(crate) const SIGNED: &[u8] =
+    b"\x30\x5C\x30\x27\x02\x01\x00\x30\x00\x30\x0D\x30\x05\x06\x03\x2A\x03\x04\x03\x04\x00\x61\x62\x63\xA0\x11\x30\x0F\x06\x09\x2A\x86\x48\x86\xF7\x0D\x01\x09\x0E\x31\x02\x30\x00\x30\x05\x06\x03\x2A\x03\x04\x03\x2A\x00\x30\x27\x02\x01\x00\x30\x00\x30\x0D\x30\x05\x06\x03\x2A\x03\x04\x03\x04\x00\x61\x62\x63\xA0\x11\x30\x0F\x06\x09\x2A\x86\x48\x86\xF7\x0D\x01\x09\x0E\x31\x02\x30\x00";
 
-/// Its request, signed with the part.
-const PLAIN_SIGNED: &[u8] = &[
-    0x30, 0x5C, 0x30, 0x27, 0x02, 0x01, 0x00, 0x30, 0x00, 0x30, 0x0D, 0x30, 0x05, 0x06, 0x03, 0x2A,
-    0x03, 0x04, 0x03, 0x04, 0x00, 0x61, 0x62, 0x63, 0xA0, 0x11, 0x30, 0x0F, 0x06, 0x09, 0x2A, 0x86,
-    0x48, 0x86, 0xF7, 0x0D, 0x01, 0x09, 0x0E, 0x31, 0x02, 0x30, 0x00, 0x30, 0x05, 0x06, 0x03, 0x2A,
-    0x03, 0x04, 0x03, 0x2A, 0x00, 0x30, 0x27, 0x02, 0x01, 0x00, 0x30, 0x00, 0x30, 0x0D, 0x30, 0x05,
-    0x06, 0x03, 0x2A, 0x03, 0x04, 0x03, 0x04, 0x00, 0x61, 0x62, 0x63, 0xA0, 0x11, 0x30, 0x0F, 0x06,
-    0x09, 0x2A, 0x86, 0x48, 0x86, 0xF7, 0x0D, 0x01, 0x09, 0x0E, 0x31, 0x02, 0x30, 0x00,
-];
-
-/// Its request with no bits.
-const PLAIN_UNSIGNED: &[u8] = &[
-    0x30, 0x33, 0x30, 0x27, 0x02, 0x01, 0x00, 0x30, 0x00, 0x30, 0x0D, 0x30, 0x05, 0x06, 0x03, 0x2A,
-    0x03, 0x04, 0x03, 0x04, 0x00, 0x61, 0x62, 0x63, 0xA0, 0x11, 0x30, 0x0F, 0x06, 0x09, 0x2A, 0x86,
-    0x48, 0x86, 0xF7, 0x0D, 0x01, 0x09, 0x0E, 0x31, 0x02, 0x30, 0x00, 0x30, 0x05, 0x06, 0x03, 0x2A,
-    0x03, 0x04, 0x03, 0x01, 0x00,
-];
-
-/// The part with the password `pw` too.
-const PASSWORD: &[u8] = &[
-    0x30, 0x3A, 0x02, 0x01, 0x00, 0x30, 0x00, 0x30, 0x0D, 0x30, 0x05, 0x06, 0x03, 0x2A, 0x03, 0x04,
-    0x03, 0x04, 0x00, 0x61, 0x62, 0x63, 0xA0, 0x24, 0x30, 0x0F, 0x06, 0x09, 0x2A, 0x86, 0x48, 0x86,
-    0xF7, 0x0D, 0x01, 0x09, 0x0E, 0x31, 0x02, 0x30, 0x00, 0x30, 0x11, 0x06, 0x09, 0x2A, 0x86, 0x48,
-    0x86, 0xF7, 0x0D, 0x01, 0x09, 0x07, 0x31, 0x04, 0x0C, 0x02, 0x70, 0x77,
-];
-
-/// Its request, signed with the part.
-const PASSWORD_SIGNED: &[u8] = &[
-    0x30, 0x81, 0x82, 0x30, 0x3A, 0x02, 0x01, 0x00, 0x30, 0x00, 0x30, 0x0D, 0x30, 0x05, 0x06, 0x03,
-    0x2A, 0x03, 0x04, 0x03, 0x04, 0x00, 0x61, 0x62, 0x63, 0xA0, 0x24, 0x30, 0x0F, 0x06, 0x09, 0x2A,
-    0x86, 0x48, 0x86, 0xF7, 0x0D, 0x01, 0x09, 0x0E, 0x31, 0x02, 0x30, 0x00, 0x30, 0x11, 0x06, 0x09,
-    0x2A, 0x86, 0x48, 0x86, 0xF7, 0x0D, 0x01, 0x09, 0x07, 0x31, 0x04, 0x0C, 0x02, 0x70, 0x77, 0x30,
-    0x05, 0x06, 0x03, 0x2A, 0x03, 0x04, 0x03, 0x3D, 0x00, 0x30, 0x3A, 0x02, 0x01, 0x00, 0x30, 0x00,
-    0x30, 0x0D, 0x30, 0x05, 0x06, 0x03, 0x2A, 0x03, 0x04, 0x03, 0x04, 0x00, 0x61, 0x62, 0x63, 0xA0,
-    0x24, 0x30, 0x0F, 0x06, 0x09, 0x2A, 0x86, 0x48, 0x86, 0xF7, 0x0D, 0x01, 0x09, 0x0E, 0x31, 0x02,
-    0x30, 0x00, 0x30, 0x11, 0x06, 0x09, 0x2A, 0x86, 0x48, 0x86, 0xF7, 0x0D, 0x01, 0x09, 0x07, 0x31,
-    0x04, 0x0C, 0x02, 0x70, 0x77,
-];
-
-/// The plain part, which asks for the extension 2.5.29.14 with one octet.
-const ASKING: &[u8] = &[
-    0x30, 0x33, 0x02, 0x01, 0x00, 0x30, 0x00, 0x30, 0x0D, 0x30, 0x05, 0x06, 0x03, 0x2A, 0x03, 0x04,
-    0x03, 0x04, 0x00, 0x61, 0x62, 0x63, 0xA0, 0x1D, 0x30, 0x1B, 0x06, 0x09, 0x2A, 0x86, 0x48, 0x86,
-    0xF7, 0x0D, 0x01, 0x09, 0x0E, 0x31, 0x0E, 0x30, 0x0C, 0x30, 0x0A, 0x06, 0x03, 0x55, 0x1D, 0x0E,
-    0x04, 0x03, 0x04, 0x01, 0xAA,
-];
+/// The same with no bits.
+pub(crate) const UNSIGNED: &[u8] =
+    b"\x30\x33\x30\x27\x02\x01\x00\x30\x00\x30\x0D\x30\x05\x06\x03\x2A\x03\x04\x03\x04\x00\x61\x62\x63\xA0\x11\x30\x0F\x06\x09\x2A\x86\x48\x86\xF7\x0D\x01\x09\x0E\x31\x02\x30\x00\x30\x05\x06\x03\x2A\x03\x04\x03\x01\x00";
 
 /// A request of the part as a builder is made with it, and no bits.
-const AS_MADE: &[u8] = &[
-    0x30, 0x1E, 0x30, 0x12, 0x02, 0x01, 0x00, 0x30, 0x00, 0x30, 0x09, 0x30, 0x04, 0x06, 0x02, 0x00,
-    0x00, 0x03, 0x01, 0x00, 0xA0, 0x00, 0x30, 0x05, 0x06, 0x03, 0x2A, 0x03, 0x04, 0x03, 0x01, 0x00,
-];
+pub(crate) const AS_MADE: &[u8] =
+    b"\x30\x1E\x30\x12\x02\x01\x00\x30\x00\x30\x09\x30\x04\x06\x02\x00\x00\x03\x01\x00\xA0\x00\x30\x05\x06\x03\x2A\x03\x04\x03\x01\x00";
+
+/// The part with the password `pw`, which asks for the extension 2.5.29.14 with one octet.
+const FULL: &[u8] =
+    b"\x30\x46\x02\x01\x00\x30\x00\x30\x0D\x30\x05\x06\x03\x2A\x03\x04\x03\x04\x00\x61\x62\x63\xA0\x30\x30\x11\x06\x09\x2A\x86\x48\x86\xF7\x0D\x01\x09\x07\x31\x04\x0C\x02\x70\x77\x30\x1B\x06\x09\x2A\x86\x48\x86\xF7\x0D\x01\x09\x0E\x31\x0E\x30\x0C\x30\x0A\x06\x03\x55\x1D\x0E\x04\x03\x04\x01\xAA";
 
 /// The extension that is asked for.
-const EXTENSION: &[u8] = &[
-    0x30, 0x0A, 0x06, 0x03, 0x55, 0x1D, 0x0E, 0x04, 0x03, 0x04, 0x01, 0xAA,
-];
+const EXTENSION: &[u8] = b"\x30\x0A\x06\x03\x55\x1D\x0E\x04\x03\x04\x01\xAA";
 
 /// A builder of a request of nobody.
-fn builder(rt: &HostRuntime) -> Result<RequestBuilder> {
+pub(crate) fn builder(rt: &HostRuntime) -> Result<RequestBuilder> {
     RequestBuilder::new(rt.alloc(), Name::new(rt.alloc()))
 }
 
-/// The same, with the password `pw`.
-fn with_password(rt: &HostRuntime) -> Result<RequestBuilder> {
+/// The same, with the password and the extension.
+pub(crate) fn full(rt: &HostRuntime) -> Result<RequestBuilder> {
     let mut builder = builder(rt)?;
     add_password(rt, &mut builder)?;
+    let extension = Extension::from_der(rt.alloc(), EXTENSION)?;
+    builder.add_extension(rt.alloc(), extension)?;
     Ok(builder)
 }
 
@@ -101,33 +55,25 @@ fn add_password(rt: &HostRuntime, builder: &mut RequestBuilder) -> Result<()> {
     builder.add_attribute(rt.alloc(), &password)
 }
 
-/// Whether these bytes are written of the request of the current part without a signature.
-fn is_current(rt: &HostRuntime, builder: RequestBuilder, bytes: &[u8]) -> Result<bool> {
-    let no_bits = BitString::from_bytes(rt.alloc(), &[])?;
-    is_written(rt, builder.assemble(rt.alloc(), no_bits, &ABC), bytes)
+/// Adds an extension that can't be made: its payload has a bit without a name.
+fn add_unnamed(rt: &HostRuntime, builder: &mut RequestBuilder) -> Result<()> {
+    builder.add_extension(rt.alloc(), (ECHO, false, &Reasons::from_bits_retain(512)))
 }
 
+/// The part of a request names no signature algorithm (RFC 2986 4.1), so the signer isn't asked for it.
 #[test]
-fn a_plain_request(rt: HostRuntime) -> std::result::Result<(), Fail> {
-    let built = builder(&rt)?.build(rt.alloc(), &ABC);
-    assert!(rt; is_written(&rt, built, PLAIN_SIGNED)?);
-    let with_rng = builder(&rt)?.build_with_rng(rt.alloc(), &ABC, &mut Zeros);
-    assert!(rt; is_written(&rt, with_rng, PLAIN_SIGNED)?);
-    Ok(())
-}
-
-#[test]
-fn a_request_with_a_password(rt: HostRuntime) -> std::result::Result<(), Fail> {
-    let built = with_password(&rt)?.build(rt.alloc(), &ABC);
-    assert!(rt; is_written(&rt, built, PASSWORD_SIGNED)?);
-    Ok(())
-}
-
-#[test]
-fn the_same_attribute_twice(rt: HostRuntime) -> std::result::Result<(), Fail> {
-    let mut builder = with_password(&rt)?;
-    assert!(rt; is_asn1(add_password(&rt, &mut builder), ErrorKind::SetDuplicate));
-    assert!(rt; is_bytes(builder.finalize(rt.alloc(), &ABC), PASSWORD));
+fn what_is_asked_for(rt: HostRuntime) -> std::result::Result<(), Fail> {
+    let mut builder = full(&rt)?;
+    let again = add_password(&rt, &mut builder);
+    assert!(rt; is_refused(&rt, again, "ASN.1 error: SetDuplicate"));
+    let unnamed = add_unnamed(&rt, &mut builder);
+    assert!(rt; is_refused(&rt, unnamed, "ASN.1 error: Value"));
+    let signer = Echo {
+        refuses: Refused::Algorithm,
+        last: b'c',
+    };
+    let part = builder.finalize(rt.alloc(), &signer);
+    assert!(rt; is_answer(&rt, part, FULL, ""));
     Ok(())
 }
 
@@ -169,118 +115,10 @@ impl AsAttribute for Asked {}
 
 #[test]
 fn an_attribute_that_asks_for_the_same(rt: HostRuntime) -> std::result::Result<(), Fail> {
-    let alloc = rt.alloc();
     let mut builder = builder(&rt)?;
-    builder.add_attribute(alloc, &Asked(Name::new(alloc)))?;
-    assert!(rt; is_asn1(builder.finalize(alloc, &ABC), ErrorKind::SetDuplicate));
-    assert!(rt; is_asn1(builder.finalize(alloc, &ABC), ErrorKind::SetDuplicate));
-    assert!(rt; is_current(&rt, builder, AS_MADE)?);
-    Ok(())
-}
-
-#[test]
-fn an_extension_that_is_asked_for(rt: HostRuntime) -> std::result::Result<(), Fail> {
-    let alloc = rt.alloc();
-    let mut builder = builder(&rt)?;
-    builder.add_extension(alloc, Extension::from_der(alloc, EXTENSION)?)?;
-    assert!(rt; is_bytes(builder.finalize(alloc, &ABC), ASKING));
-    assert!(rt; is_bytes(builder.finalize(alloc, &ABC), ASKING));
-    Ok(())
-}
-
-/// The payload has a bit without a name.
-#[test]
-fn an_extension_that_is_refused(rt: HostRuntime) -> std::result::Result<(), Fail> {
-    let alloc = rt.alloc();
-    let mut builder = builder(&rt)?;
-    builder.add_extension(alloc, Extension::from_der(alloc, EXTENSION)?)?;
-    let identifier = ObjectIdentifier::new("2.5.29.14")?;
-    let unnamed = Reasons::from_bits_retain(512);
-    let refused = builder.add_extension(alloc, (identifier, false, &unnamed));
-    assert!(rt; is_asn1(refused, ErrorKind::Value));
-    assert!(rt; is_bytes(builder.finalize(alloc, &ABC), ASKING));
-    Ok(())
-}
-
-#[test]
-fn refused_memory_asks_for_no_extension(rt: HostRuntime) -> std::result::Result<(), Fail> {
-    let alloc = rt.alloc();
-    let mut builder = builder(&rt)?;
-    let added = builder.add_extension(alloc, Extension::from_der(alloc, EXTENSION)?);
-    let wanted = after(added, ASKING, PLAIN)?;
-    assert!(rt; builder.finalize(alloc, &ABC)?.as_slice() == wanted);
-    Ok(())
-}
-
-#[test]
-fn refused_memory_adds_no_attribute(rt: HostRuntime) -> std::result::Result<(), Fail> {
-    let mut builder = builder(&rt)?;
-    let wanted = after(add_password(&rt, &mut builder), PASSWORD, PLAIN)?;
-    assert!(rt; builder.finalize(rt.alloc(), &ABC)?.as_slice() == wanted);
-    Ok(())
-}
-
-#[test]
-fn refused_memory_leaves_the_part(rt: HostRuntime) -> std::result::Result<(), Fail> {
-    let mut builder = builder(&rt)?;
-    let wanted = after(builder.finalize(rt.alloc(), &ABC), PLAIN_UNSIGNED, AS_MADE)?;
-    assert!(rt; is_current(&rt, builder, wanted)?);
-    Ok(())
-}
-
-#[test]
-fn what_is_added_later(rt: HostRuntime) -> std::result::Result<(), Fail> {
-    let mut builder = builder(&rt)?;
-    assert!(rt; is_bytes(builder.finalize(rt.alloc(), &ABC), PLAIN));
-    assert!(rt; is_bytes(builder.finalize(rt.alloc(), &ABC), PLAIN));
-    add_password(&rt, &mut builder)?;
-    assert!(rt; is_current(&rt, builder, PLAIN_UNSIGNED)?);
-    Ok(())
-}
-
-#[test]
-fn before_any_finalize(rt: HostRuntime) -> std::result::Result<(), Fail> {
-    assert!(rt; is_current(&rt, with_password(&rt)?, AS_MADE)?);
-    Ok(())
-}
-
-#[test]
-fn a_signer_that_may_refuse_and_does_not(rt: HostRuntime) -> std::result::Result<(), Fail> {
-    let signer = Hesitant {
-        refuses: Refused::Nothing,
-    };
-    let built = builder(&rt)?.build(rt.alloc(), &signer);
-    assert!(rt; is_written(&rt, built, PLAIN_SIGNED)?);
-    let with_rng = with_password(&rt)?.build_with_rng(rt.alloc(), &signer, &mut Zeros);
-    assert!(rt; is_written(&rt, with_rng, PASSWORD_SIGNED)?);
-    Ok(())
-}
-
-/// The part of a request names no signature algorithm (RFC 2986 4.1), so the signer isn't asked for it.
-#[test]
-fn a_part_without_the_algorithm(rt: HostRuntime) -> std::result::Result<(), Fail> {
-    let signer = Hesitant {
-        refuses: Refused::Algorithm,
-    };
-    let mut builder = builder(&rt)?;
-    assert!(rt; is_bytes(builder.finalize(rt.alloc(), &signer), PLAIN));
-    Ok(())
-}
-
-#[test]
-fn signers_that_refuse(rt: HostRuntime) -> std::result::Result<(), Fail> {
-    let alloc = rt.alloc();
-    let algorithm = Hesitant {
-        refuses: Refused::Algorithm,
-    };
-    assert!(rt; is_key_refused(builder(&rt)?.build(alloc, &algorithm)));
-    let key = Hesitant {
-        refuses: Refused::Key,
-    };
-    assert!(rt; is_key_refused(builder(&rt)?.finalize(alloc, &key)));
-    let message = Hesitant {
-        refuses: Refused::Message,
-    };
-    assert!(rt; is_signing_refused(builder(&rt)?.build(alloc, &message)));
+    let asked = Asked(Name::new(rt.alloc()));
+    assert!(rt; is_refused(&rt, builder.add_attribute(rt.alloc(), &asked), ""));
+    let part = builder.finalize(rt.alloc(), &ABC);
+    assert!(rt; is_answer(&rt, part, &[], "ASN.1 error: SetDuplicate"));
     Ok(())
 }

@@ -1,0 +1,119 @@
+//! What is asked of each builder.
+
+use crate::calls::{is_answer, prints};
+use crate::signers::{ABC, Echo, Refused};
+use crate::source::Zeros;
+use crate::{certificates, lists, requests};
+use std::test::*;
+use x509_build_profile::{Builder, Error, KeyError, Result, SignError};
+use x509_der_grammar::Encode;
+use x509_prim::BitString;
+
+/// The encoding of what the builder makes with the signer `abc` that refuses that.
+fn built<T: Encode + Drop, B: Builder<Output = T>>(
+    rt: &HostRuntime,
+    builder: Result<B>,
+    refuses: Refused,
+    with_rng: bool,
+) -> Result<Vec<u8>> {
+    let signer = Echo {
+        refuses,
+        last: b'c',
+    };
+    let made = if with_rng {
+        builder?.build_with_rng(rt.alloc(), &signer, &mut Zeros)
+    } else {
+        builder?.build(rt.alloc(), &signer)
+    };
+    Ok(made?.to_der(rt.alloc())?)
+}
+
+/// The encoding of the current part without a signature.
+fn current<T: Encode + Drop, B: Builder<Output = T>>(
+    rt: &HostRuntime,
+    builder: B,
+) -> Result<Vec<u8>> {
+    let no_bits = BitString::from_bytes(rt.alloc(), &[])?;
+    Ok(
+        builder
+            .assemble(rt.alloc(), no_bits, &ABC)?
+            .to_der(rt.alloc())?,
+    )
+}
+
+const NO_KEY: &str = "public key error: Refused";
+
+const UNSIGNED: &str = "signature error: Refused";
+
+/// A list doesn't hold the signer's key, so the signer isn't asked for that.
+#[test]
+fn with_each_signer(rt: HostRuntime) {
+    for (refuses, with_rng, text, of_list) in [
+        (Refused::Nothing, false, "", ""),
+        (Refused::Nothing, true, "", ""),
+        (Refused::Algorithm, false, NO_KEY, NO_KEY),
+        (Refused::Key, false, NO_KEY, ""),
+        (Refused::Message, false, UNSIGNED, UNSIGNED),
+        (Refused::Message, true, UNSIGNED, UNSIGNED),
+    ] {
+        let certificate = built(&rt, certificates::plain(&rt), refuses, with_rng);
+        assert!(rt; is_answer(&rt, certificate, certificates::SIGNED, text));
+        let request = built(&rt, requests::builder(&rt), refuses, with_rng);
+        assert!(rt; is_answer(&rt, request, requests::SIGNED, text));
+        let list = built(&rt, lists::builder(&rt), refuses, with_rng);
+        assert!(rt; is_answer(&rt, list, lists::SIGNED, of_list));
+    }
+}
+
+#[test]
+fn before_any_finalize(rt: HostRuntime) -> std::result::Result<(), Fail> {
+    let certificate = current(&rt, certificates::picky(&rt)?);
+    assert!(rt; is_answer(&rt, certificate, certificates::AS_MADE, ""));
+    let request = current(&rt, requests::full(&rt)?);
+    assert!(rt; is_answer(&rt, request, requests::AS_MADE, ""));
+    let list = current(&rt, lists::with_none(&rt)?);
+    assert!(rt; is_answer(&rt, list, lists::AS_MADE, ""));
+    Ok(())
+}
+
+/// Whether, once the builder was asked for its part, the current one is `done`, or where that was refused the one `before`.
+fn leaves<T: Encode + Drop, B: Builder<Output = T>>(
+    rt: &HostRuntime,
+    builder: B,
+    done: &[u8],
+    before: &[u8],
+) -> Result<bool> {
+    let mut asked = builder;
+    let wanted = match asked.finalize(rt.alloc(), &ABC) {
+        Ok(_) => done,
+        Err(_) => before,
+    };
+    Ok(current(rt, asked)?.as_slice() == wanted)
+}
+
+// Run where each allocation is refused in turn, too.
+#[test]
+fn refused_memory_leaves_the_part(rt: HostRuntime) -> std::result::Result<(), Fail> {
+    let certificate = certificates::picky(&rt)?;
+    assert!(rt;
+        leaves(
+            &rt,
+            certificate,
+            certificates::UNSIGNED,
+            certificates::AS_MADE
+        )?
+    );
+    let request = requests::builder(&rt)?;
+    assert!(rt; leaves(&rt, request, requests::UNSIGNED, requests::AS_MADE)?);
+    let list = lists::builder(&rt)?;
+    assert!(rt; leaves(&rt, list, lists::UNSIGNED, lists::AS_MADE)?);
+    Ok(())
+}
+
+#[test]
+fn errors_of_signers(rt: HostRuntime) {
+    let key = Error::PublicKey(KeyError::Memory);
+    assert!(rt; prints(&rt, &key, "public key error: Memory"));
+    let signature = Error::Signature(SignError::Memory);
+    assert!(rt; prints(&rt, &signature, "signature error: Memory"));
+}
