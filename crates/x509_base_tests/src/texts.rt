@@ -20,14 +20,14 @@ fn copies(rt: HostRuntime) -> Result<(), Fail> {
 fn is_printable(rt: &HostRuntime, text: &str, quoted: &str) -> Result<bool, Fail> {
     let string = PrintableString::new(rt.alloc(), text)?;
     let same = prints(rt, &string, text)? && shows(rt, &string, quoted)?;
-    Ok(same && string.into_string(rt.alloc())?.as_str() == text)
+    Ok(same && string.into_string()?.as_str() == text)
 }
 
 /// The same of a UTF8String.
 fn is_utf8(rt: &HostRuntime, text: &str, quoted: &str) -> Result<bool, Fail> {
     let string = Utf8String::new(rt.alloc(), text)?;
     let same = prints(rt, &string, text)? && shows(rt, &string, quoted)?;
-    Ok(same && string.into_string(rt.alloc())?.as_str() == text)
+    Ok(same && string.into_string()?.as_str() == text)
 }
 
 #[test]

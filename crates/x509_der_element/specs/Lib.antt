@@ -8,3 +8,4 @@ pub mod Tag
 pub mod TagLaws
 pub mod TagReading
 pub mod ContentLaws
+pub mod Place

@@ -9,24 +9,43 @@ ghost use Rattle.std.specs.Cmp.Rules.{hashing};
 ghost use Rattle.x509_der_element.specs.declared.error.ErrorKind.TheVariants.{Memory};
 
 use crate::error::Error;
-use smallvec::SmallVec;
 use std::alloc::Global;
 use std::fmt;
 use std::hash::{Hash, Hasher};
 use std::marker::Model;
 
+/// How many octets lie inside a value.
+const ROOM: usize = 24;
+
 /// Octets, which contracts see as a list. Up to 24 lie inside the value and take no memory.
 #[derive(Drop)]
 pub struct Bytes {
-    items: SmallVec<u8, 24>,
+    place: Place,
+}
+
+/// Where the octets lie.
+#[derive(Drop)]
+enum Place {
+    /// Inside the value: the first `len` of these.
+    Inside {
+        alloc: Global,
+        len: u8,
+        octets: [u8; ROOM],
+    },
+
+    /// In memory of their own.
+    Apart(Vec<u8>),
 }
 
 impl Model for Bytes {
     ghost use Rattle.std.specs.Prelude.{List, ℕ};
+    ghost use Rattle.x509_der_element.specs.Place.{octets_at, IsSound};
 
     ghost Value = { List ℕ };
 
-    ghost view = { λ bytes. bytes.items.items };
+    ghost view = { λ bytes. octets_at bytes.place };
+
+    ghost invariant = { λ bytes. IsSound bytes.place };
 }
 
 impl Bytes {
@@ -35,8 +54,19 @@ impl Bytes {
         ensures ok { IfOk result (λ bytes. bytes ≡ octets.now) }
         ensures err { IfErr result (λ e. (e.kind ≡ Memory) × (24 < length octets.now)) }
     {
+        let len = octets.len();
+        if len > ROOM {
+            return Ok(Bytes::from(Vec::from_slice(alloc, octets)?));
+        }
+        let mut inside = [0; ROOM];
+        let (front, _) = inside.split_at_mut(len);
+        front.copy_from_slice(octets);
         Ok(Bytes {
-            items: SmallVec::from_slice(alloc, octets)?,
+            place: Place::Inside {
+                alloc,
+                len: len as u8,
+                octets: inside,
+            },
         })
     }
 
@@ -44,7 +74,10 @@ impl Bytes {
     pub fn as_slice(&self) -> &[u8]
         ensures { result.now ≡ self.now }
     {
-        self.items.as_slice()
+        match &self.place {
+            Place::Inside { len, octets, .. } => &octets[..*len as usize],
+            Place::Apart(octets) => octets.as_slice(),
+        }
     }
 
     /// The vector of the octets. Those inside the value are copied, for which memory may be refused.
@@ -52,8 +85,13 @@ impl Bytes {
         ensures ok { IfOk result (λ octets. octets.items ≡ self) }
         ensures err { IfErr result (λ e. e.kind ≡ Memory) }
     {
-        let Bytes { items } = self;
-        Ok(items.into_vec()?)
+        let Bytes { place } = self;
+        match place {
+            Place::Inside { alloc, len, octets } => {
+                Ok(Vec::from_slice(alloc, &octets[..len as usize])?)
+            }
+            Place::Apart(octets) => Ok(octets),
+        }
     }
 }
 
@@ -62,7 +100,7 @@ impl From<Vec<u8>> for Bytes {
 
     fn from(items: Vec<u8>) -> Bytes {
         Bytes {
-            items: SmallVec::from_vec(items),
+            place: Place::Apart(items),
         }
     }
 }

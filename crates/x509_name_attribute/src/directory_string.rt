@@ -68,9 +68,9 @@ impl DirectoryString {
         ensures err { IfErr result (λ e. e.kind ≡ Memory) }
     {
         match self {
-            DirectoryString::PrintableString(string) => string.into_string(alloc),
-            DirectoryString::TeletexString(string) => string.into_string(alloc),
-            DirectoryString::Utf8String(string) => string.into_string(alloc),
+            DirectoryString::PrintableString(string) => string.into_string(),
+            DirectoryString::TeletexString(string) => string.into_string(),
+            DirectoryString::Utf8String(string) => string.into_string(),
             DirectoryString::BmpString(string) => string.to_text(alloc),
         }
     }

@@ -1,4 +1,3 @@
-pub mod Place
 pub mod Text
 pub mod Alphabet
 pub mod Bmp

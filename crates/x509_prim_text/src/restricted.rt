@@ -61,12 +61,12 @@ impl<A: Alphabet> RestrictedString<A> {
     }
 
     /// The text as a string. Up to 24 octets are copied, for which memory may be refused.
-    pub fn into_string(self, alloc: Global) -> Result<String, Error>
+    pub fn into_string(self) -> Result<String, Error>
         ensures ok { IfOk result (λ text. string_bytes text ≡ self) }
         ensures err { IfErr result (λ e. e.kind ≡ errors.Memory) }
     {
         let RestrictedString { text, alphabet: _ } = self;
-        text.into_string(alloc)
+        text.into_string()
     }
 }
 

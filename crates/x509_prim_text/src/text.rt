@@ -3,34 +3,24 @@
 ghost use Rattle.std.specs.Prelude.{◌≡◌, ◌<◌, length, string_bytes, IfOk, IfErr};
 ghost use Rattle.x509_der_frames.specs.error.ErrorKind.TheVariants.{Memory};
 
-use arrayvec::ArrayString;
 use std::alloc::Global;
 use std::marker::Model;
-use x509_der_grammar::Error;
+use x509_der_grammar::{Bytes, Error};
 
 /// A text, which contracts see as its octets. Up to 24 octets lie inside the value and take no memory.
 #[derive(Drop)]
 pub(crate) struct Text {
-    place: Place,
-}
-
-/// Where the octets lie.
-#[derive(Drop)]
-enum Place {
-    /// Inside the value.
-    Inside(ArrayString<24>),
-
-    /// In memory of their own.
-    Apart(String),
+    octets: Bytes,
 }
 
 impl Model for Text {
-    ghost use Rattle.std.specs.Prelude.{List, ℕ};
-    ghost use Rattle.x509_prim_text.specs.Place.{octets_at};
+    ghost use Rattle.std.specs.Prelude.{IsUtf8, List, ℕ};
 
     ghost Value = { List ℕ };
 
-    ghost view = { λ text. octets_at text.place };
+    ghost view = { λ text. text.octets };
+
+    ghost invariant = { λ text. IsUtf8 text.octets };
 }
 
 impl Text {
@@ -39,15 +29,8 @@ impl Text {
         ensures ok { IfOk result (λ copy. copy ≡ text.now) }
         ensures err { IfErr result (λ e. (e.kind ≡ Memory) × (24 < length text.now)) }
     {
-        if text.len() > 24 {
-            return Ok(Text {
-                place: Place::Apart(String::from_str(alloc, text)?),
-            });
-        }
-        let mut inside = ArrayString::new();
-        inside.push_str(text);
         Ok(Text {
-            place: Place::Inside(inside),
+            octets: Bytes::from_slice(alloc, text.as_bytes())?,
         })
     }
 
@@ -55,22 +38,18 @@ impl Text {
     pub(crate) fn as_str(&self) -> &str
         ensures { result.now ≡ self.now }
     {
-        match &self.place {
-            Place::Inside(text) => text.as_str(),
-            Place::Apart(text) => text.as_str(),
-        }
+        // The octets are those of a text, so nothing is looked at once more.
+        unsafe { str::from_utf8_unchecked(self.octets.as_slice()) }
     }
 
     /// The text as a string. What lies inside the value is copied, for which memory may be refused.
-    pub(crate) fn into_string(self, alloc: Global) -> Result<String, Error>
+    pub(crate) fn into_string(self) -> Result<String, Error>
         ensures ok { IfOk result (λ text. string_bytes text ≡ self) }
         ensures err { IfErr result (λ e. e.kind ≡ Memory) }
     {
-        let Text { place } = self;
-        match place {
-            Place::Inside(text) => Ok(String::from_str(alloc, text.as_str())?),
-            Place::Apart(text) => Ok(text),
-        }
+        let Text { octets } = self;
+        let octets = octets.into_vec()?;
+        Ok(unsafe { String::from_utf8_unchecked(octets) })
     }
 }
 
@@ -79,7 +58,7 @@ impl From<String> for Text {
 
     fn from(text: String) -> Text {
         Text {
-            place: Place::Apart(text),
+            octets: Bytes::from(text.into_bytes()),
         }
     }
 }

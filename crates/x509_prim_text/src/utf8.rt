@@ -53,12 +53,12 @@ impl Utf8String {
     }
 
     /// The text as a string. Up to 24 octets are copied, for which memory may be refused.
-    pub fn into_string(self, alloc: Global) -> Result<String, Error>
+    pub fn into_string(self) -> Result<String, Error>
         ensures ok { IfOk result (λ text. string_bytes text ≡ self) }
         ensures err { IfErr result (λ e. e.kind ≡ errors.Memory) }
     {
         let Utf8String { text } = self;
-        text.into_string(alloc)
+        text.into_string()
     }
 }
 
