@@ -22,9 +22,14 @@ enum Kept<T> {
 
 /// Values one after the other, which contracts see as a list. One alone, as most sets have, lies inside and takes no
 /// memory.
-#[derive(Drop)]
 pub(crate) struct Members<T> {
     kept: Kept<T>,
+}
+
+impl<T: Drop> Drop for Members<T> {
+    fn drop(self) {
+        let Members { kept: _ } = self;
+    }
 }
 
 impl<T> Model for Members<T> {

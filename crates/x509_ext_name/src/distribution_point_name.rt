@@ -13,13 +13,22 @@ use x509_ext_frame::RelativeDistinguishedName;
 ///     fullName                 [0] IMPLICIT GeneralNames,
 ///     nameRelativeToCRLIssuer  [1] IMPLICIT RelativeDistinguishedName }
 /// ```
-#[derive(Debug, Drop, PartialEq, Eq)]
+#[derive(Debug, PartialEq, Eq)]
 pub enum DistributionPointName {
     /// Names of the place.
     FullName(GeneralNames),
 
     /// What stands behind the name of the list's issuer.
     NameRelativeToCRLIssuer(RelativeDistinguishedName),
+}
+
+impl Drop for DistributionPointName {
+    fn drop(self) {
+        match self {
+            DistributionPointName::FullName(_) => {}
+            DistributionPointName::NameRelativeToCRLIssuer(_) => {}
+        }
+    }
 }
 
 impl TryClone for DistributionPointName {

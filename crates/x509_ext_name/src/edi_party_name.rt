@@ -15,13 +15,22 @@ use x509_name_attribute::DirectoryString;
 ///     nameAssigner  [0] DirectoryString OPTIONAL,
 ///     partyName     [1] DirectoryString }
 /// ```
-#[derive(Debug, Drop, PartialEq, Eq)]
+#[derive(Debug, PartialEq, Eq)]
 pub struct EdiPartyName {
     /// Who gave the name.
     pub name_assigner: Option<DirectoryString>,
 
     /// The name.
     pub party_name: DirectoryString,
+}
+
+impl Drop for EdiPartyName {
+    fn drop(self) {
+        let EdiPartyName {
+            name_assigner: _,
+            party_name: _,
+        } = self;
+    }
 }
 
 impl TryClone for EdiPartyName {

@@ -40,7 +40,7 @@ pub enum IpAddress {
 ///     iPAddress                  [7] IMPLICIT OCTET STRING,
 ///     registeredID               [8] IMPLICIT OBJECT IDENTIFIER }
 /// ```
-#[derive(Debug, Drop, PartialEq, Eq)]
+#[derive(Debug, PartialEq, Eq)]
 pub enum GeneralName {
     /// A name of a kind that an identifier tells.
     OtherName(OtherName),
@@ -66,6 +66,21 @@ pub enum GeneralName {
 
     /// An identifier that was registered.
     RegisteredId(ObjectIdentifier),
+}
+
+impl Drop for GeneralName {
+    fn drop(self) {
+        match self {
+            GeneralName::OtherName(_) => {}
+            GeneralName::Rfc822Name(_) => {}
+            GeneralName::DnsName(_) => {}
+            GeneralName::DirectoryName(_) => {}
+            GeneralName::EdiPartyName(_) => {}
+            GeneralName::UniformResourceIdentifier(_) => {}
+            GeneralName::IpAddress(_) => {}
+            GeneralName::RegisteredId(_) => {}
+        }
+    }
 }
 
 /// Names of many kinds in their order (RFC 5280 4.2.1.6). A sequence without members is read and written too.

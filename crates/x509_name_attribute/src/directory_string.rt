@@ -21,7 +21,7 @@ use x509_prim_text::{BmpString, PrintableString, TeletexString, Utf8String};
 ///     utf8String       UTF8String,
 ///     bmpString        BMPString }
 /// ```
-#[derive(Debug, Drop, PartialEq, Eq)]
+#[derive(Debug, PartialEq, Eq)]
 pub enum DirectoryString {
     /// Letters, digits, space and eleven marks.
     PrintableString(PrintableString),
@@ -34,6 +34,17 @@ pub enum DirectoryString {
 
     /// Characters of the basic multilingual plane, in two octets each.
     BmpString(BmpString),
+}
+
+impl Drop for DirectoryString {
+    fn drop(self) {
+        match self {
+            DirectoryString::PrintableString(_) => {}
+            DirectoryString::TeletexString(_) => {}
+            DirectoryString::Utf8String(_) => {}
+            DirectoryString::BmpString(_) => {}
+        }
+    }
 }
 
 impl DirectoryString {

@@ -17,7 +17,7 @@ use x509_ext_name::{DistributionPointName, GeneralNames};
 ///     reasons            [1] IMPLICIT ReasonFlags OPTIONAL,
 ///     cRLIssuer          [2] IMPLICIT GeneralNames OPTIONAL }
 /// ```
-#[derive(Debug, Drop, PartialEq, Eq)]
+#[derive(Debug, PartialEq, Eq)]
 pub struct DistributionPoint {
     /// The place.
     pub distribution_point: Option<DistributionPointName>,
@@ -27,6 +27,16 @@ pub struct DistributionPoint {
 
     /// The issuer of the list, that of the certificate if left out.
     pub crl_issuer: Option<GeneralNames>,
+}
+
+impl Drop for DistributionPoint {
+    fn drop(self) {
+        let DistributionPoint {
+            distribution_point: _,
+            reasons: _,
+            crl_issuer: _,
+        } = self;
+    }
 }
 
 impl TryClone for DistributionPoint {

@@ -24,7 +24,7 @@ use x509_ext_name::DistributionPointName;
 ///     indirectCRL                 [4] IMPLICIT BOOLEAN DEFAULT FALSE,
 ///     onlyContainsAttributeCerts  [5] IMPLICIT BOOLEAN DEFAULT FALSE }
 /// ```
-#[derive(Debug, Drop, PartialEq, Eq)]
+#[derive(Debug, PartialEq, Eq)]
 pub struct IssuingDistributionPoint {
     /// The place.
     pub distribution_point: Option<DistributionPointName>,
@@ -43,6 +43,19 @@ pub struct IssuingDistributionPoint {
 
     /// Whether it speaks of attribute certificates alone.
     pub only_contains_attribute_certs: bool,
+}
+
+impl Drop for IssuingDistributionPoint {
+    fn drop(self) {
+        let IssuingDistributionPoint {
+            distribution_point: _,
+            only_contains_user_certs: _,
+            only_contains_ca_certs: _,
+            only_some_reasons: _,
+            indirect_crl: _,
+            only_contains_attribute_certs: _,
+        } = self;
+    }
 }
 
 impl AssociatedOid for IssuingDistributionPoint {

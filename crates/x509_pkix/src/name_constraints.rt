@@ -15,13 +15,22 @@ use x509_ext_frame::{Criticality, Extension, Name, id_ce};
 ///     permittedSubtrees  [0] IMPLICIT GeneralSubtrees OPTIONAL,
 ///     excludedSubtrees   [1] IMPLICIT GeneralSubtrees OPTIONAL }
 /// ```
-#[derive(Debug, Drop, PartialEq, Eq)]
+#[derive(Debug, PartialEq, Eq)]
 pub struct NameConstraints {
     /// The trees in one of which a name has to be.
     pub permitted_subtrees: Option<GeneralSubtrees>,
 
     /// The trees in none of which a name may be.
     pub excluded_subtrees: Option<GeneralSubtrees>,
+}
+
+impl Drop for NameConstraints {
+    fn drop(self) {
+        let NameConstraints {
+            permitted_subtrees: _,
+            excluded_subtrees: _,
+        } = self;
+    }
 }
 
 impl AssociatedOid for NameConstraints {

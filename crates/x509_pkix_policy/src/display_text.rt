@@ -19,13 +19,22 @@ pub type CpsUri = Ia5String;
 ///     ia5String   IA5String,
 ///     utf8String  UTF8String }
 /// ```
-#[derive(Debug, Drop, PartialEq, Eq)]
+#[derive(Debug, PartialEq, Eq)]
 pub enum DisplayText {
     /// Characters up to 7F.
     Ia5String(Ia5String),
 
     /// Any characters.
     Utf8String(Utf8String),
+}
+
+impl Drop for DisplayText {
+    fn drop(self) {
+        match self {
+            DisplayText::Ia5String(_) => {}
+            DisplayText::Utf8String(_) => {}
+        }
+    }
 }
 
 impl TryClone for DisplayText {

@@ -13,13 +13,22 @@ use x509_der_grammar::{Content, Error, Room, Tag, TryClone};
 ///     policyQualifiers  SEQUENCE OF PolicyQualifierInfo OPTIONAL }
 /// CertPolicyId ::= OBJECT IDENTIFIER
 /// ```
-#[derive(Debug, Drop, PartialEq, Eq)]
+#[derive(Debug, PartialEq, Eq)]
 pub struct PolicyInformation {
     /// Which policy it is.
     pub policy_identifier: ObjectIdentifier,
 
     /// What qualifies it. A sequence without members is read and written too.
     pub policy_qualifiers: Option<SequenceOf<PolicyQualifierInfo>>,
+}
+
+impl Drop for PolicyInformation {
+    fn drop(self) {
+        let PolicyInformation {
+            policy_identifier: _,
+            policy_qualifiers: _,
+        } = self;
+    }
 }
 
 impl TryClone for PolicyInformation {
@@ -70,13 +79,22 @@ impl Content for PolicyInformation {
 ///     policyQualifierId  OBJECT IDENTIFIER,
 ///     qualifier          ANY DEFINED BY policyQualifierId OPTIONAL }
 /// ```
-#[derive(Debug, Drop, PartialEq, Eq)]
+#[derive(Debug, PartialEq, Eq)]
 pub struct PolicyQualifierInfo {
     /// What kind of qualifier it is.
     pub policy_qualifier_id: ObjectIdentifier,
 
     /// The qualifier: one element of any type, which may be left out. It isn't looked into here.
     pub qualifier: Option<Any>,
+}
+
+impl Drop for PolicyQualifierInfo {
+    fn drop(self) {
+        let PolicyQualifierInfo {
+            policy_qualifier_id: _,
+            qualifier: _,
+        } = self;
+    }
 }
 
 impl TryClone for PolicyQualifierInfo {

@@ -13,13 +13,22 @@ use x509_prim::Uint;
 ///     noticeRef     NoticeReference OPTIONAL,
 ///     explicitText  DisplayText OPTIONAL }
 /// ```
-#[derive(Debug, Drop, PartialEq, Eq)]
+#[derive(Debug, PartialEq, Eq)]
 pub struct UserNotice {
     /// Where its text stands.
     pub notice_ref: Option<NoticeReference>,
 
     /// Its text.
     pub explicit_text: Option<DisplayText>,
+}
+
+impl Drop for UserNotice {
+    fn drop(self) {
+        let UserNotice {
+            notice_ref: _,
+            explicit_text: _,
+        } = self;
+    }
 }
 
 impl TryClone for UserNotice {
@@ -68,13 +77,22 @@ impl Content for UserNotice {
 ///     organization   DisplayText,
 ///     noticeNumbers  SEQUENCE OF INTEGER (0..MAX) OPTIONAL }
 /// ```
-#[derive(Debug, Drop, PartialEq, Eq)]
+#[derive(Debug, PartialEq, Eq)]
 pub struct NoticeReference {
     /// Who has written the notices.
     pub organization: DisplayText,
 
     /// The numbers of the notices.
     pub notice_numbers: Option<SequenceOf<Uint>>,
+}
+
+impl Drop for NoticeReference {
+    fn drop(self) {
+        let NoticeReference {
+            organization: _,
+            notice_numbers: _,
+        } = self;
+    }
 }
 
 impl TryClone for NoticeReference {

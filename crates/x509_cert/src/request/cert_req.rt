@@ -25,7 +25,7 @@ use x509_prim::BitString;
 ///     subjectPKInfo  SubjectPublicKeyInfo,
 ///     attributes     [0] IMPLICIT Attributes }
 /// ```
-#[derive(Debug, Drop, PartialEq, Eq)]
+#[derive(Debug, PartialEq, Eq)]
 pub struct CertReqInfo {
     /// The version of the request.
     pub version: Version,
@@ -38,6 +38,17 @@ pub struct CertReqInfo {
 
     /// What more is said or asked, as the extensions of the certificate. The set is written where it is empty too.
     pub attributes: Attributes,
+}
+
+impl Drop for CertReqInfo {
+    fn drop(self) {
+        let CertReqInfo {
+            version: _,
+            subject: _,
+            public_key: _,
+            attributes: _,
+        } = self;
+    }
 }
 
 impl TryClone for CertReqInfo {
@@ -100,7 +111,7 @@ impl Content for CertReqInfo {
 ///     signatureAlgorithm        AlgorithmIdentifier,
 ///     signature                 BIT STRING }
 /// ```
-#[derive(Debug, Drop, PartialEq, Eq)]
+#[derive(Debug, PartialEq, Eq)]
 pub struct CertReq {
     /// What is asked for: the part that is signed.
     pub info: CertReqInfo,
@@ -110,6 +121,16 @@ pub struct CertReq {
 
     /// The signature.
     pub signature: BitString,
+}
+
+impl Drop for CertReq {
+    fn drop(self) {
+        let CertReq {
+            info: _,
+            algorithm: _,
+            signature: _,
+        } = self;
+    }
 }
 
 impl CertReq {

@@ -23,7 +23,7 @@ use x509_prim::OctetString;
 ///     authorityCertIssuer        [1] IMPLICIT GeneralNames OPTIONAL,
 ///     authorityCertSerialNumber  [2] IMPLICIT CertificateSerialNumber OPTIONAL }
 /// ```
-#[derive(Debug, Drop, PartialEq, Eq)]
+#[derive(Debug, PartialEq, Eq)]
 pub struct AuthorityKeyIdentifier {
     /// The identifier of the key.
     pub key_identifier: Option<OctetString>,
@@ -33,6 +33,16 @@ pub struct AuthorityKeyIdentifier {
 
     /// The serial number of that certificate.
     pub authority_cert_serial_number: Option<SerialNumber>,
+}
+
+impl Drop for AuthorityKeyIdentifier {
+    fn drop(self) {
+        let AuthorityKeyIdentifier {
+            key_identifier: _,
+            authority_cert_issuer: _,
+            authority_cert_serial_number: _,
+        } = self;
+    }
 }
 
 impl AuthorityKeyIdentifier {
