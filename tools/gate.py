@@ -29,20 +29,30 @@ def processes():
     return found
 
 
+def words_of(process):
+    """The command line of a process of the checker; of another none."""
+    try:
+        with open(f"/proc/{process}/cmdline", encoding="utf-8", errors="replace") as file:
+            words = file.read().split("\0")
+    except OSError:
+        return []
+    return words if os.path.basename(words[0]) == "rattle" and "--crate-name" in words else []
+
+
 def checks(gate):
-    """Each process of the gate's checker: what tells it from others, its crate, its part, its processor seconds."""
+    """Each check of the gate: what tells it from others, its crate, its part, its processor seconds. The copies that a check makes of itself
+    are in its own figure once they have ended, so they have none."""
     found = processes()
     for process, numbers in found.items():
         parent = process
         while parent in found and parent != gate:
             parent = found[parent][0]
+        words = words_of(process)
+        if parent != gate or not words or words_of(numbers[0]):
+            continue
         try:
-            with open(f"/proc/{process}/cmdline", encoding="utf-8", errors="replace") as file:
-                words = file.read().split("\0")
             folder = os.readlink(f"/proc/{process}/cwd")
         except OSError:
-            continue
-        if parent != gate or os.path.basename(words[0]) != "rattle" or "--crate-name" not in words:
             continue
         part = "wrong bodies" if "rt-edit-" in folder else "tests" if "--test" in words else "proofs"
         crate = words[words.index("--crate-name") + 1]
