@@ -1,12 +1,14 @@
 #!/usr/bin/env python3
-"""Proves and builds a program, with no more than the crates that it stands on, each on all processors. Prints a line for
-each crate on standard error, and what a crate printed only where it isn't proved.
+"""Proves and builds a program, with no more than the crates that it stands on, two at a time where neither stands on the other. Prints a
+line for each crate on standard error, and what a crate printed only where it isn't proved.
 
 usage: tools/build_program.py NAME
 """
 import os
+import shutil
 import subprocess
 import sys
+import threading
 import time
 
 TOP = os.path.dirname(os.path.dirname(os.path.realpath(__file__)))
@@ -37,13 +39,15 @@ def path_of(name, named):
 
 
 def jobs():
-    """Returns how many jobs a check has: one for each processor, where memory allows."""
+    """Returns how many jobs a check has, one for each processor, and how many one beside it has, where memory allows."""
     processors = len(os.sched_getaffinity(0))
     with open("/proc/meminfo", encoding="ascii") as lines:
         for line in lines:
             if line.startswith("MemAvailable:"):
-                return max(1, min(processors, int(line.split()[1]) // KIB_FOR_A_CHECK))
-    return 1
+                room = int(line.split()[1]) // KIB_FOR_A_CHECK
+                first = max(1, min(processors, room))
+                return first, min(processors - 1, room - first)
+    return 1, 0
 
 
 class Told:
@@ -52,20 +56,56 @@ class Told:
     def __init__(self, program, count):
         self.program, self.count, self.told = program, count, 0
         self.start = time.monotonic()
+        self.turn = threading.Lock()
 
     def tell(self, name):
-        self.told += 1
-        minutes, seconds = divmod(round(time.monotonic() - self.start), 60)
-        line = f"{self.program}: {self.told} of {self.count} crates, {name}, {minutes}:{seconds:02}"
-        print(line, file=sys.stderr, flush=True)
+        with self.turn:
+            self.told += 1
+            minutes, seconds = divmod(round(time.monotonic() - self.start), 60)
+            line = f"{self.program}: {self.told} of {self.count} crates, {name}, {minutes}:{seconds:02}"
+            print(line, file=sys.stderr, flush=True)
+
+
+class Crates:
+    """The crates of a path: which are still to be taken, which are built, and whether one failed."""
+
+    def __init__(self, path, named):
+        self.todo, self.done, self.failed = set(path), set(), False
+        self.below = {it: set(named[it]) for it in path}
+        self.above = {it: [other for other in path if it in named[other]] for it in path}
+        self.turn = threading.Condition()
+
+    def way_up(self, crate):
+        """Returns how many crates stand on each other from this one on, itself among them."""
+        return 1 + max(map(self.way_up, self.above[crate]), default=0)
+
+    def take(self):
+        """Returns the crate with the longest way up of those whose crates below are built, once there is one; None where none is
+        left, or one failed."""
+        with self.turn:
+            while self.todo and not self.failed:
+                ready = sorted(it for it in self.todo if self.below[it] <= self.done)
+                if ready:
+                    crate = max(ready, key=self.way_up)
+                    self.todo.remove(crate)
+                    return crate
+                self.turn.wait()
+        return None
+
+    def is_over(self, crate, succeeded):
+        with self.turn:
+            self.failed |= not succeeded
+            if succeeded:
+                self.done.add(crate)
+            self.turn.notify_all()
 
 
 def call(words, folder, is_done=None):
-    """Runs a command in a crate's folder, and prints what it printed where it failed, by its status or else by the test
-    that is given. Returns whether it succeeded."""
+    """Runs a command in a folder, and prints what it printed where it failed, by its status or else by the test that is given.
+    Returns whether it succeeded."""
     run = subprocess.run(
         words,
-        cwd=f"{TOP}/crates/{folder}",
+        cwd=folder,
         stdin=subprocess.DEVNULL,
         stdout=subprocess.PIPE,
         stderr=subprocess.STDOUT,
@@ -77,26 +117,48 @@ def call(words, folder, is_done=None):
     return succeeded
 
 
-def in_order(path, named):
-    """Returns the crates of the path, each behind those that it stands on."""
-    ordered = []
-    while len(ordered) < len(path):
-        ordered += sorted(it for it in path if it not in ordered and all(below in ordered for below in named[it]))
-    return ordered
+def build(crates, top, count, told):
+    """Builds one crate after the other, as long as there are some, in one copy of the repository."""
+    while crate := crates.take():
+        succeeded = False
+        try:
+            succeeded = call(["rt", "lib", "--jobs", str(count)], f"{top}/crates/{crate}")
+            if succeeded:
+                told.tell(crate)
+        finally:
+            crates.is_over(crate, succeeded)
+
+
+def copy(to):
+    """Copies the sources. Two runs of rt in one repository wait for each other; in two copies each takes the libraries that the other
+    has built."""
+    shutil.rmtree(to, ignore_errors=True)
+    shutil.copytree(f"{TOP}/crates", f"{to}/crates", ignore=shutil.ignore_patterns("out", "must-fail", "wrong-bodies"))
+    for file in ("crates.txt", "HANDLES"):
+        shutil.copy(f"{TOP}/{file}", to)
 
 
 def main(program):
     named = crates_below()
     path = path_of(program, named)
-    told, count = Told(program, len(path)), jobs()
-    # Two runs of rt on one repository wait for each other, so each crate has every processor to itself.
-    for crate in in_order(path - {program}, named):
-        if not call(["rt", "lib", "--jobs", str(count)], crate):
+    told, crates = Told(program, len(path)), Crates(path - {program}, named)
+    first, second = jobs()
+    folder = f"{TOP}/crates/{program}/out"
+    beside = threading.Thread(target=build, args=(crates, f"{folder}/beside", second, told))
+    try:
+        if second > 0:
+            copy(f"{folder}/beside")
+            beside.start()
+        build(crates, TOP, first, told)
+        if second > 0:
+            beside.join()
+        if crates.failed:
             return 1
-        told.tell(crate)
-    # The build ends by a run over no input. Its status is no verdict; a program that is there is proved.
-    if not call(["rt", "run"], program, lambda: os.path.exists(f"{TOP}/crates/{program}/out/{program}")):
-        return 1
+        # The build ends by a run over no input. Its status is no verdict; a program that is there is proved.
+        if not call(["rt", "run"], f"{TOP}/crates/{program}", lambda: os.path.exists(f"{folder}/{program}")):
+            return 1
+    finally:
+        shutil.rmtree(f"{folder}/beside", ignore_errors=True)
     told.tell(program)
     return 0
 
