@@ -42,6 +42,7 @@ impl Content for AlgorithmIdentifier {
 
     const IDENTIFIER: Tag = Tag::Sequence;
 
+    #[inline(always)]
     fn read_content(alloc: Global, octets: &[u8]) -> Result<AlgorithmIdentifier, Error> {
         let mut rest = octets;
         let oid = field::<ObjectIdentifier>(alloc, &mut rest)?;

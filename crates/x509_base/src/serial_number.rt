@@ -161,6 +161,7 @@ impl<P: Profile> Content for SerialNumber<P> {
 
     const IDENTIFIER: Tag = Tag::Integer;
 
+    #[inline(always)]
     fn read_content(alloc: Global, octets: &[u8]) -> Result<SerialNumber<P>, Error> {
         let number = Int::read_content(alloc, octets)?;
         P::check_serial_number(octets)?;

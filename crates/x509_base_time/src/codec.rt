@@ -20,6 +20,7 @@ impl Content for UtcTime {
 
     const IDENTIFIER: Tag = Tag::UtcTime;
 
+    #[inline(always)]
     fn read_content(_alloc: Global, octets: &[u8]) -> Result<UtcTime, Error> {
         UtcTime::from_content(octets)
     }

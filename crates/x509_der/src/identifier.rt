@@ -102,7 +102,7 @@ impl ObjectIdentifier {
     }
 
     // The object identifier that has this content.
-    #[inline(never)]
+    #[inline(always)]
     fn from_checked(content: &[u8]) -> ObjectIdentifier
         requires { is_object_identifier content.now ≡ true }
         ensures { result ≡ content.now }

@@ -24,8 +24,8 @@ element tag content = tag ∷ (length_octets (length content) ++ content)
 abbrev pub limit : ℕ
 limit = 268435455
 
--- The identifier octets of the universal class that begin an element here: the types of X.680 8.4 up to number 30
--- that certificates are made of, SEQUENCE and SET constructed and all others primitive.
+-- The identifier octets of the universal class that begin an element here: of the types of X.680 8.4 all up to number 30 but the
+-- object descriptor, external, embedded and unrestricted character values and TIME; SEQUENCE and SET constructed, all others primitive.
 unfoldable pub is_universal : ℕ → Bool
 is_universal tag =
     (nat_le 1 tag && nat_le tag 6)

@@ -47,6 +47,7 @@ fn read_length(bytes: &[u8]) -> Result<(usize, &[u8]), Error>
 }
 
 /// The element at the front, of any length; `Malformed` where none stands there.
+#[inline(always)]
 pub fn split_element(bytes: &[u8]) -> Result<Piece<'_>, Error>
     ensures exact { GivesBy (λ x. record { tag = x.tag; content = x.content.now; rest = x.rest.now }) result (piece_at bytes.now) }
     ensures err { IfErr result (λ e. e.kind ≡ errors.Malformed) }

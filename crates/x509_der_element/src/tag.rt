@@ -172,6 +172,7 @@ impl Tag {
 
     /// The tag with the identifier octet; `Malformed` where there is none.
     #[tactic(auto, using(crate::proofs::Octets::octet_refused, crate::specs::TagReading::same_tag), unfolding(crate::specs::Element::is_identifier, crate::specs::Element::is_universal))]
+    #[inline(always)]
     pub fn from_octet(octet: u8) -> Result<Tag, Error>
         ensures ok { IfOk result (λ tag. octet_of tag ≡ octet) }
         ensures err { IfErr result (λ e. (e.kind ≡ errors.Malformed) × ((tag : Tag) → octet_of tag ≢ octet)) }

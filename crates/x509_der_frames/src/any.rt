@@ -153,6 +153,7 @@ impl Grammar for Any {
 
 #[tactic(auto, using(crate::specs::Any::any_found, crate::specs::Any::any_not_found, crate::specs::Any::begins_an_element))]
 impl Decode for Any {
+    #[inline(always)]
     fn read(alloc: Global, tag: u8, content: &[u8]) -> Result<Any, Error>
         ensures exact { Gives result (any_reading tag content.now) }
         ensures malformed { is_identifier tag ≡ false → IfErr result (λ e. e.kind ≡ Malformed) }

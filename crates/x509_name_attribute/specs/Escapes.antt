@@ -9,7 +9,8 @@ use Rattle.std.specs.Fmt.{digit_glyph}
 abbrev pub backslash : ℕ
 backslash = 92
 
--- the characters that a backslash escapes: special, ESC, space, number sign and equals sign
+-- the characters that a backslash escapes: itself and those that RFC 4514 section 3 calls special, which are its escaped ones, the
+-- space, the number sign and the equals sign
 abbrev pub is_special : ℕ → Bool
 is_special char = list_any (λ special. nat_eq char special) (codes " \"#=\\+,;<>")
 

@@ -84,6 +84,7 @@ impl Content for OctetString {
 
     const IDENTIFIER: Tag = Tag::OctetString;
 
+    #[inline(always)]
     fn read_content(alloc: Global, octets: &[u8]) -> Result<OctetString, Error> {
         Ok(OctetString {
             bytes: Bytes::from_slice(alloc, octets)?,

@@ -1,4 +1,4 @@
--- BMPString: the characters in two octets each, the high octet first (X.680 41.15, X.690 8.23.9).
+-- BMPString: the characters in two octets each, the high octet first (X.680 41.15, X.690 8.23.8).
 use Rattle.std.specs.Prelude.{ℕ, ◌+◌, ◌*◌, ◌/◌, ◌%◌, Bool, true, false, ◌&&◌, ◌||◌, nat_lt, nat_le, List, [], ◌∷◌}
 use Rattle.std.specs.List.{flat_map}
 

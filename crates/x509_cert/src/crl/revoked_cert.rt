@@ -94,6 +94,7 @@ impl<P: Profile> Content for RevokedCert<P> {
 
     const IDENTIFIER: Tag = Tag::Sequence;
 
+    #[inline(always)]
     fn read_content(alloc: Global, octets: &[u8]) -> Result<RevokedCert<P>, Error> {
         let mut rest = octets;
         let serial_number = field::<SerialNumber<P>>(alloc, &mut rest)?;
