@@ -10,6 +10,7 @@ import subprocess
 import sys
 import threading
 import time
+from concurrent.futures import ThreadPoolExecutor
 
 TOP = os.path.dirname(os.path.dirname(os.path.realpath(__file__)))
 # what a job of a check may take
@@ -93,6 +94,7 @@ class Crates:
         return None
 
     def is_over(self, crate, succeeded):
+        """Notes that a crate is built, or that it failed, after which none is taken."""
         with self.turn:
             self.failed |= not succeeded
             if succeeded:
@@ -144,14 +146,14 @@ def main(program):
     told, crates = Told(program, len(path)), Crates(path - {program}, named)
     first, second = jobs()
     folder = f"{TOP}/crates/{program}/out"
-    beside = threading.Thread(target=build, args=(crates, f"{folder}/beside", second, told))
+    lanes = [(TOP, first)]
     try:
         if second > 0:
             copy(f"{folder}/beside")
-            beside.start()
-        build(crates, TOP, first, told)
-        if second > 0:
-            beside.join()
+            lanes.append((f"{folder}/beside", second))
+        with ThreadPoolExecutor(len(lanes)) as pool:
+            for lane in [pool.submit(build, crates, top, count, told) for top, count in lanes]:
+                lane.result()
         if crates.failed:
             return 1
         # The build ends by a run over no input. Its status is no verdict; a program that is there is proved.
