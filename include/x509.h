@@ -3,14 +3,16 @@
  * What each call answers is proved of the Rattle functions of the same names (crates/x509_c), over the definitions of the grammar; see
  * README.md. This header repeats it in words.
  *
- * Memory. Bytes go in as a pointer and a length, which are lent for the call and aren't changed. No pointer may be NULL, also where its
- * length is 0. What a call fills in is the caller's. A call keeps nothing, and frees what it takes from malloc; so calls may run at the same
- * time in several threads, each on its own output. Rooms and results of one call must not overlap its input.
+ * Memory. Bytes go in as a pointer and a length, which are lent for the call and aren't changed. Where the length is 0, the pointer may be
+ * NULL; so may the pointer to a room of 0, and that to a list of 0 lengths. No other pointer may be NULL. What a call fills in is the caller's. A
+ * call keeps nothing, and frees what it takes from malloc; so calls may run at the same time in several threads, each on its own output. Rooms
+ * and results of one call must not overlap its input.
  *
- * Status. Each call answers one of the numbers below. Where it isn't X509_OK, what the call fills in is as it was, except where a call says
- * otherwise.
+ * Status. Each call answers one of the numbers below, and no other than those that it lists. Where it isn't X509_OK, what the call fills in is as
+ * it was; rooms, `*written` after X509_ROOM, and `*fault` after X509_FAULT, aside.
  *
- * Places are offsets from the first byte of the input, and lengths are numbers of bytes. Times are seconds since 1970-01-01T00:00:00Z.
+ * Places are offsets from the first byte of the input, and lengths are numbers of bytes. Times are seconds since 1970-01-01T00:00:00Z. Dates
+ * are those from 1970 to 9999: bytes of a type here with an earlier one, which UTCTime has from 1950 on (RFC 5280 4.1.2.5.1), are X509_MALFORMED.
  *
  * Link with libx509_c.a and liblibc_c.a of the toolchain. */
 #ifndef X509_H
@@ -27,15 +29,15 @@ typedef int x509_status;
 
 /* The call did what it is for. */
 #define X509_OK 0
-/* Memory was asked for and not given. It may be answered by each call that takes memory, in place of any other answer. */
+/* Memory was asked for and not given. It may be answered by each call that lists it, in place of any other answer. */
 #define X509_MEMORY (-1)
-/* The room is too small; `*written` is the length that is wanted, and what the room holds is of no meaning. */
+/* The room is too small; `*written` is the length that is wanted. */
 #define X509_ROOM (-2)
 /* An input or an encoding is longer than 268,435,455 bytes. */
 #define X509_OVERLENGTH 1
 /* The bytes are not those of such a value. */
 #define X509_MALFORMED 2
-/* A text is not of its form; there is no such type or profile; an extension of an entry is there twice. */
+/* A text is not of its form; there is no such type or profile; an extension of an entry is there twice; lengths don't add up. */
 #define X509_FAILED 3
 /* A relative distinguished name says one attribute twice. */
 #define X509_SET_DUPLICATE 4
@@ -45,6 +47,8 @@ typedef int x509_status;
 #define X509_ABSENT 6
 /* An extension that was asked for is there more than once. */
 #define X509_REPEATED 7
+/* A certificate of a path has a fault. */
+#define X509_FAULT 8
 
 /* Profiles: the rules of RFC 5280, or none beyond the grammar. */
 #define X509_RFC5280 0
@@ -58,51 +62,62 @@ typedef struct {
 
 /* ---- whole values
  *
- * A call that writes puts the bytes at the front of `out[0..room)`, and says in `*written` how many they are. It may change all of the room.
- * On a status other than X509_OK and X509_ROOM, `*written` is as it was. */
+ * A call that writes puts the bytes at the front of `out[0..room)`, and says in `*written` how many they are. It may change all of the room: what
+ * stands behind the bytes is of no meaning, and so is the whole room after a status other than X509_OK. With a room of 0 the answer is X509_ROOM
+ * and the length that is wanted; X509_OK and 0 where there are no bytes to write, as of the text of a name without parts. On a status other than
+ * X509_OK and X509_ROOM, `*written` is as it was. */
 
 /* Reads a value of the type with that name, as "Certificate" or "Name" (the names are those of the table in crates/x509_tool_types/src;
  * `name_len` bytes, no zero at the end), under a profile, and writes it again. X509_FAILED where there is no such type or profile. What was read
- * is written as the same bytes, but for dates that RFC 5280 spells otherwise, under that profile. */
+ * is written as the same bytes, but for dates of a validity that RFC 5280 spells otherwise, under that profile: a GeneralizedTime before 2050 is
+ * written as UTCTime, so a signature over the bytes doesn't hold of what is written.
+ * Answers X509_OK, X509_ROOM, X509_MEMORY, X509_OVERLENGTH, X509_MALFORMED, X509_FAILED. */
 x509_status x509_reencode(const uint8_t *name, size_t name_len, uint32_t profile, const uint8_t *in, size_t len,
                           uint8_t *out, size_t room, size_t *written);
 
-/* X509_OK exactly where the bytes are one certificate, list of revoked certificates or request, with nothing after it (X509_MEMORY aside). The
+/* X509_OK exactly where the bytes are one certificate, CRL or request, with nothing after it (X509_MEMORY aside). The
  * value is built and let go again. Certificates and lists are read under the rules of RFC 5280: a serial number has at most 21 content
- * octets. Signatures, dates and trust aren't looked at. */
+ * octets. Dates are from 1970 on, as said above. Whether a date is past, signatures, trust, and the payloads of extensions aren't looked at.
+ * Answers X509_OK, X509_MEMORY, X509_OVERLENGTH, X509_MALFORMED. */
 x509_status x509_certificate_check(const uint8_t *in, size_t len);
 x509_status x509_crl_check(const uint8_t *in, size_t len);
 x509_status x509_request_check(const uint8_t *in, size_t len);
 
-/* Reads a certificate under RFC 5280, and writes it again. */
+/* Reads a certificate under RFC 5280, and writes it again, as x509_reencode does of "Certificate" under X509_RFC5280: a date of the validity that is a
+ * GeneralizedTime before 2050 is written as UTCTime, so the signed bytes are others then. Under X509_RAW that call writes the same bytes.
+ * Answers X509_OK, X509_ROOM, X509_MEMORY, X509_OVERLENGTH, X509_MALFORMED. */
 x509_status x509_certificate_reencode(const uint8_t *in, size_t len, uint8_t *out, size_t room, size_t *written);
 
-/* Reads the DER of a name, and writes its text (RFC 4514, UTF-8, no zero at the end). */
+/* Reads the DER of a name, and writes its text (RFC 4514, UTF-8, no zero at the end). The octets 00 to 1F and 7F of values are
+ * escaped, as \1b; the control characters U+0080 to U+009F stand as they are.
+ * Answers X509_OK, X509_ROOM, X509_MEMORY, X509_OVERLENGTH, X509_MALFORMED. */
 x509_status x509_name_text(const uint8_t *in, size_t len, uint8_t *out, size_t room, size_t *written);
 
 /* Reads the text of a name (UTF-8), and writes its DER. X509_FAILED where it is no such text, X509_SET_DUPLICATE where an attribute is said
- * twice in one relative name. */
+ * twice in one relative name, X509_OVERLENGTH where what it says is too long. No bytes are the text of the name without parts.
+ * Answers X509_OK, X509_ROOM, X509_MEMORY, X509_OVERLENGTH, X509_FAILED, X509_SET_DUPLICATE. */
 x509_status x509_name_from_text(const uint8_t *text, size_t len, uint8_t *out, size_t room, size_t *written);
 
-/* Where the part stands that a signature is over: the first element of the outer SEQUENCE, if it is a SEQUENCE; else X509_MALFORMED. Neither is looked
- * into any further. It takes no memory. */
+/* Where the part stands that a signature is over: the first element of the outer SEQUENCE, if it is a SEQUENCE. Neither is looked into any further.
+ * X509_MALFORMED else, and also where bytes stand behind the outer SEQUENCE, or where there are more than 268,435,455 bytes. It takes no memory.
+ * Answers X509_OK, X509_MALFORMED. */
 x509_status x509_signed_slice(const uint8_t *in, size_t len, x509_span *part);
 
 /* ---- certificates */
 
-/* Each span but that of extensions is a whole element, with its identifier and length octets. */
+/* Each span is a whole element, with its identifier and length octets. */
 typedef struct {
     uint32_t version;                  /* 1, 2 or 3 */
     x509_span serial_number;           /* an INTEGER */
     x509_span issuer;                  /* a Name */
     x509_span subject;                 /* a Name */
     x509_span subject_public_key_info; /* the key and its algorithm */
-    x509_span extensions;              /* a SEQUENCE of extensions, without the tag [3]; 0 and 0 where they are left out */
+    x509_span extensions;              /* the SEQUENCE of extensions, from its 30 on, within the tag [3]; 0 and 0 where they are left out */
     uint64_t not_before;
     uint64_t not_after;
 } x509_certificate;
 
-/* Reads a certificate under RFC 5280, and says what it holds and where. Refused as x509_certificate_check is. */
+/* Reads a certificate under RFC 5280, and says what it holds and where. Answers as x509_certificate_check. */
 x509_status x509_certificate_view(const uint8_t *in, size_t len, x509_certificate *view);
 
 typedef struct {
@@ -111,12 +126,70 @@ typedef struct {
 } x509_extension;
 
 /* Reads a certificate under RFC 5280, and finds its extension with an identifier, given by its content octets, as "\x55\x1d\x0f" for 2.5.29.15.
- * X509_ABSENT where there is none, X509_REPEATED where there are two or more. Else refused as x509_certificate_check is. */
+ * X509_ABSENT where there is none, X509_REPEATED where there are two or more. Else refused as x509_certificate_check is.
+ * Answers X509_OK, X509_MEMORY, X509_OVERLENGTH, X509_MALFORMED, X509_ABSENT, X509_REPEATED. */
 x509_status x509_certificate_extension(const uint8_t *in, size_t len, const uint8_t *oid, size_t oid_len, x509_extension *found);
 
-/* ---- lists of revoked certificates */
+/* ---- paths */
 
-/* Reads a list under RFC 5280, and says how many entries it has. Refused as x509_crl_check is. */
+/* What is to be verified of a certificate: that these bits are a signature of the signed part, by that algorithm, for the key of the certificate
+ * above. */
+typedef struct {
+    x509_span signed_part; /* what is signed: a whole TBSCertificate */
+    x509_span algorithm;   /* a whole AlgorithmIdentifier */
+    x509_span bits;        /* the octets of the signature's bits: what its BIT STRING holds behind the first octet */
+    uint32_t unused_bits;  /* how many bits of the last of these octets are unused, 0 to 7 */
+} x509_signature;
+
+/* Reads a certificate under RFC 5280, and says what is to be verified of it. Answers as x509_certificate_check. */
+x509_status x509_certificate_signature(const uint8_t *in, size_t len, x509_signature *signature);
+
+/* What is wrong with a certificate of a path. Of several faults of one certificate the one with the lowest number is told. */
+
+/* The bytes are those of no certificate. */
+#define X509_PATH_DECODE 1
+/* The algorithm in the signed part isn't the one outside it (RFC 5280 4.1.1.2). */
+#define X509_PATH_ALGORITHM 2
+/* The issuer isn't the subject of the certificate above, byte for byte. */
+#define X509_PATH_ISSUER 3
+/* The moment is before the first or after the last second of the validity. */
+#define X509_PATH_MOMENT 4
+/* The signature isn't accepted. x509_path_check never answers it: it is for the caller, who verifies signatures. */
+#define X509_PATH_SIGNATURE 5
+/* An extension identifier is there twice. */
+#define X509_PATH_REPEATED 6
+/* A critical extension is none of BasicConstraints, KeyUsage, ExtendedKeyUsage and SubjectAltName, or one of these that can't be read. */
+#define X509_PATH_CRITICAL 7
+/* Asked of all but the last: there is no BasicConstraints that can be read and says cA. */
+#define X509_PATH_NOT_CA 8
+/* Asked of all but the last: there is a KeyUsage without keyCertSign, or one that can't be read. */
+#define X509_PATH_KEY_USAGE 9
+/* Asked of all but the last: more certificates that aren't self-issued follow one above than its path length allows. */
+#define X509_PATH_PATH_LEN 10
+
+typedef struct {
+    size_t place;    /* the number of the certificate in the path, from 0 */
+    uint32_t reason; /* one of X509_PATH_DECODE to X509_PATH_PATH_LEN */
+} x509_path_fault;
+
+/* Checks a path of `count` certificates, topmost first, at a moment, under the subject and the key of the anchor's certificate, of which nothing
+ * else is looked at: all of RFC 5280 6.1 that this library has, BUT NOT THE SIGNATURES. These the caller verifies: of each certificate what
+ * x509_certificate_signature says, with the key (`subject_public_key_info` of x509_certificate_view) of the certificate above it, and with the
+ * anchor's for the first. Without that X509_OK gives no security. Policies, name constraints and revocation aren't looked at.
+ *
+ * The certificates stand one after the other in path[0..path_len), and lens[i] is the length of the i-th.
+ *
+ * X509_FAILED where the lengths don't add up to `path_len`, X509_VALUE where the moment is after 9999-12-31T23:59:59Z, and X509_OVERLENGTH or
+ * X509_MALFORMED where the anchor's certificate is refused so; where several of these are bad, any of their refusals may come. Else X509_ABSENT
+ * where `count` is 0. Else X509_FAULT where there is a fault: `*fault` is the lowest place that has a fault other than a signature's, and the first
+ * of its faults there. Else X509_OK: there is no fault but perhaps of signatures.
+ * Answers X509_OK, X509_MEMORY, X509_OVERLENGTH, X509_MALFORMED, X509_FAILED, X509_VALUE, X509_ABSENT, X509_FAULT. */
+x509_status x509_path_check(const uint8_t *anchor, size_t anchor_len, const uint8_t *path, size_t path_len, const size_t *lens, size_t count,
+                            uint64_t moment, x509_path_fault *fault);
+
+/* ---- CRLs */
+
+/* Reads a CRL of v1 or v2 under RFC 5280, and says how many entries it has. Answers as x509_crl_check. */
 x509_status x509_crl_walk(const uint8_t *in, size_t len, size_t *entries);
 
 typedef struct {
@@ -126,7 +199,8 @@ typedef struct {
 
 /* Reads a list and a serial number (the DER of an INTEGER, as the view of a certificate has it), and says what the first entry with that number
  * says. X509_ABSENT where there is none. The issuer isn't compared. Else refused as the list is, or as the serial number is, or where the entry's
- * reason is: X509_MALFORMED, or X509_FAILED where it is there twice. */
+ * reason is: X509_MALFORMED, or X509_FAILED where it is there twice.
+ * Answers X509_OK, X509_MEMORY, X509_OVERLENGTH, X509_MALFORMED, X509_FAILED, X509_ABSENT. */
 x509_status x509_crl_lookup(const uint8_t *in, size_t len, const uint8_t *serial_number, size_t serial_number_len,
                             x509_revocation *revocation);
 

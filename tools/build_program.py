@@ -119,21 +119,31 @@ def call(words, folder, is_done=None):
     return succeeded
 
 
-def build(crates, top, count, told):
+def share(crate, top, copies):
+    """Links a library that was built in one copy of the repository into the others, which would build it once more else. What tells whether a
+    library is that of its sources doesn't depend on where the copy lies."""
+    for other in copies:
+        if other != top:
+            folder = f"{other}/crates/{crate}/out/rlib"
+            shutil.rmtree(folder, ignore_errors=True)
+            shutil.copytree(f"{top}/crates/{crate}/out/rlib", folder, copy_function=os.link)
+
+
+def build(crates, top, copies, count, told):
     """Builds one crate after the other, as long as there are some, in one copy of the repository."""
     while crate := crates.take():
         succeeded = False
         try:
             succeeded = call(["rt", "lib", "--jobs", str(count)], f"{top}/crates/{crate}")
             if succeeded:
+                share(crate, top, copies)
                 told.tell(crate)
         finally:
             crates.is_over(crate, succeeded)
 
 
 def copy(to):
-    """Copies the sources. Two runs of rt in one repository wait for each other; in two copies each takes the libraries that the other
-    has built."""
+    """Copies the sources. Two runs of rt in one repository wait for each other, and in two copies they don't."""
     shutil.rmtree(to, ignore_errors=True)
     shutil.copytree(f"{TOP}/crates", f"{to}/crates", ignore=shutil.ignore_patterns("out", "must-fail", "wrong-bodies"))
     for file in ("crates.txt", "HANDLES"):
@@ -149,10 +159,14 @@ def main(program):
     lanes = [(TOP, first)]
     try:
         if second > 0:
-            copy(f"{folder}/beside")
-            lanes.append((f"{folder}/beside", second))
+            beside = f"{folder}/beside"
+            copy(beside)
+            for crate in filter(lambda crate: os.path.isdir(f"{TOP}/crates/{crate}/out/rlib"), path):
+                share(crate, TOP, [beside])
+            lanes.append((beside, second))
         with ThreadPoolExecutor(len(lanes)) as pool:
-            for lane in [pool.submit(build, crates, top, count, told) for top, count in lanes]:
+            copies = [top for top, _ in lanes]
+            for lane in [pool.submit(build, crates, top, copies, count, told) for top, count in lanes]:
                 lane.result()
         if crates.failed:
             return 1

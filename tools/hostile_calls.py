@@ -11,7 +11,7 @@ import time
 # how often as long a byte the largest may take; and the nanoseconds a byte below which that shows caches and copying alone
 GROWTH, COPYING = 3, 2
 RFC5280, RAW = 0, 1
-OK, ROOM, OVERLENGTH, MALFORMED, FAILED, SET_DUPLICATE, ABSENT, REPEATED = 0, -2, 1, 2, 3, 4, 6, 7
+OK, ROOM, OVERLENGTH, MALFORMED, FAILED, SET_DUPLICATE, ABSENT, REPEATED, FAULT = 0, -2, 1, 2, 3, 4, 6, 7, 8
 # what a call left that fills in nothing, and what it shouldn't have left
 KEPT, CHANGED = "the output as it was", "another output"
 
@@ -49,6 +49,15 @@ class Library:
         status = self.call(name, *(part for data in inputs for part in lent(data)), out)
         if status == OK:
             return status, struct.unpack_from(form, out)
+        return status, KEPT if out.raw == before else CHANGED
+
+    def path(self, anchor, data, lens, moment):
+        before = b"M" * 16
+        out = ctypes.create_string_buffer(before, 16)
+        ends = (ctypes.c_size_t * len(lens))(*lens)
+        status = self.call("x509_path_check", *lent(anchor), *lent(data), ends, ctypes.c_size_t(len(lens)), ctypes.c_uint64(moment), out)
+        if status == FAULT:
+            return status, struct.unpack_from("QI", out)
         return status, KEPT if out.raw == before else CHANGED
 
 

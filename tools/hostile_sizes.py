@@ -28,7 +28,7 @@ import random
 import resource
 import sys
 import threading
-from hostile_calls import ABSENT, FAILED, KEPT, MALFORMED, OK, OVERLENGTH, RAW, REPEATED, RFC5280, ROOM, SET_DUPLICATE
+from hostile_calls import ABSENT, FAILED, FAULT, KEPT, MALFORMED, OK, OVERLENGTH, RAW, REPEATED, RFC5280, ROOM, SET_DUPLICATE
 from hostile_calls import Library, Trial, checks, in_child, keep_memory, looks, reencodes, writes
 from hostile_inputs import ALGORITHM, BITS, COMMON_NAME, COUNTS, DEEP, LEVELS, LISTS, NULL, ONE, REASON, SECONDS, SETS, STRINGS
 from hostile_inputs import attribute, certificate, common_name, crl, element, entry, extension, integer, nested, relative_name, request
@@ -219,6 +219,18 @@ def other_calls():
     yield "x509_request_check", lambda size: request(rising(valued, size)), checks, lambda size, data: (OK, KEPT)
 
 
+def path_calls():
+    """The same of paths: of one certificate with many extensions, and of many certificates of authorities."""
+    anchor = certificate()
+    above = certificate(extensions=[sequence(b"\x06\x03\x55\x1d\x13", element(4, sequence(b"\x01\x01\xff")))])
+    one = lambda name: lambda library, data: library.path(anchor, data, [len(data)], SECONDS)
+    each = lambda name: lambda library, data: library.path(anchor, data, [len(above)] * (len(data) // len(above)), SECONDS)
+    twice = lambda size: certificate(extensions=rising(extension, size) + [extension(size // 2)])
+    yield "x509_path_check, extensions", lambda size: certificate(extensions=rising(extension, size)), one, lambda size, data: (OK, KEPT)
+    yield "x509_path_check, one of them twice", twice, one, lambda size, data: (FAULT, (0, 6))
+    yield "x509_path_check, certificates", lambda size: above * size, each, lambda size, data: (OK, KEPT)
+
+
 def write_rows(folder):
     values = [(kind, around(rising(member, ROWS)), True) for _, kind, member, around in LISTS + SETS]
     values += [(kind, around(rising(member, ROWS) + [NULL]), False) for _, kind, member, around in LISTS + SETS]
@@ -258,7 +270,7 @@ def main():
     try_strings(trial)
     try_names(trial)
     try_orders(trial)
-    for name, make, call, wanted in [*certificate_calls(), *other_calls()]:
+    for name, make, call, wanted in [*certificate_calls(), *other_calls(), *path_calls()]:
         name, comma, how = name.partition(",")
         trial.grow(f"`{name}`{comma}{how}", COUNTS, make, call(name), wanted)
     return trial.end()

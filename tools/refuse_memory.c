@@ -72,13 +72,15 @@ static void wrong(const char *what, long number)
 
 /* ---- each call */
 
-enum { CALLS = 11 };
+enum { CALLS = 13 };
 
 static uint8_t certificate[65536], list[65536], request[65536], room[65536];
 static size_t certificate_len, list_len, request_len;
 static x509_certificate view;
 static x509_extension extension;
 static x509_revocation revocation;
+static x509_signature signature;
+static x509_path_fault fault;
 static size_t count;
 
 static x509_status call(int number)
@@ -104,8 +106,13 @@ static x509_status call(int number)
         return x509_name_from_text((const uint8_t *)"CN=a+OU=b,O=c", 13, room, sizeof room, &count);
     case 9:
         return x509_name_text((const uint8_t *)"\x30\x0c\x31\x0a\x30\x08\x06\x03\x55\x04\x03\x0c\x01\x61", 14, room, sizeof room, &count);
-    default:
+    case 10:
         return x509_request_check(request, request_len);
+    case 11:
+        return x509_certificate_signature(certificate, certificate_len, &signature);
+    default:
+        /* in the first second of the validity */
+        return x509_path_check(certificate, certificate_len, certificate, certificate_len, &certificate_len, 1, 1767323045, &fault);
     }
 }
 
@@ -115,6 +122,8 @@ static int holds(int number, long from, long to)
     const x509_certificate old_view = view;
     const x509_extension old_extension = extension;
     const x509_revocation old_revocation = revocation;
+    const x509_signature old_signature = signature;
+    const x509_path_fault old_fault = fault;
     const size_t old_count = count;
     const long old_standing = standing;
     refuse(from, to);
@@ -127,7 +136,7 @@ static int holds(int number, long from, long to)
         return !was_refused || to != LONG_MAX;
     return was_refused && status == X509_MEMORY && memcmp(&view, &old_view, sizeof view) == 0 &&
            memcmp(&extension, &old_extension, sizeof extension) == 0 && memcmp(&revocation, &old_revocation, sizeof revocation) == 0 &&
-           count == old_count;
+           memcmp(&signature, &old_signature, sizeof signature) == 0 && memcmp(&fault, &old_fault, sizeof fault) == 0 && count == old_count;
 }
 
 static void refuse_call(int number)
@@ -267,7 +276,7 @@ static void refuse_rows(bytes input, bytes answers)
             wrong("no row, and another answer, line", line);
     }
     if (answers.len != 0 || ends == 0)
-        wrong("more answers than lines, or none for want of memory; lines:", line);
+        wrong("more answers than lines, or none when out of memory; lines:", line);
     free(value);
     free(out);
     fprintf(stderr, "%ld lines, %ld rows, %ld runs with too little memory, of which %ld ended with X509_MEMORY; ", line, rows, runs, ends);

@@ -163,6 +163,90 @@ static void certificates(void)
     WANT(x509_certificate_extension(certificate, certificate_len, key_usage, 3, &found) == X509_REPEATED && found.critical == 7);
 }
 
+/* What is to be verified of the certificate, which is signed by ECDSA with SHA-256 (RFC 5758 3.2). */
+static void signatures(void)
+{
+    x509_signature signature = {{7, 7}, {7, 7}, {7, 7}, 7};
+    WANT(x509_certificate_signature(nothing, 0, &signature) == X509_MALFORMED && signature.signed_part.place == 7 && signature.unused_bits == 7);
+    WANT(x509_certificate_signature(certificate, 1, &signature) == X509_MALFORMED && signature.algorithm.len == 7 && signature.bits.len == 7);
+    WANT(x509_certificate_signature(certificate, certificate_len - 1, &signature) == X509_MALFORMED);
+    WANT(x509_certificate_signature(list, list_len, &signature) == X509_MALFORMED);
+    WANT(x509_certificate_signature(certificate, certificate_len, &signature) == X509_OK);
+    x509_span part;
+    WANT(x509_signed_slice(certificate, certificate_len, &part) == X509_OK);
+    WANT(signature.signed_part.place == part.place && signature.signed_part.len == part.len);
+    WANT(signature.algorithm.place == part.place + part.len);
+    WANT(holds(signature.algorithm, "\x30\x0a\x06\x08\x2a\x86\x48\xce\x3d\x04\x03\x02", 12));
+    /* The bits stand at the end, behind 03, the length and the number of unused bits. */
+    const size_t place = signature.algorithm.place + 12 + 3;
+    WANT(signature.bits.place == place && signature.bits.len == certificate_len - place && signature.unused_bits == 0);
+    memcpy(room, certificate, certificate_len);
+    room[certificate_len - 1] &= 0xf8;
+    room[place - 1] = 3;
+    WANT(x509_certificate_signature(room, certificate_len, &signature) == X509_OK && signature.unused_bits == 3);
+    WANT(signature.bits.place == place && signature.bits.len == certificate_len - place);
+}
+
+/* Whether the first certificate of a path has that fault, under the certificate of the examples and in its first second. */
+static int has_fault(const uint8_t *path, size_t len, size_t count, uint32_t reason)
+{
+    const size_t lens[] = {len, len};
+    x509_path_fault fault = {7, 7};
+    const x509_status status = x509_path_check(certificate, certificate_len, path, count * len, lens, count, 1767323045, &fault);
+    return status == X509_FAULT && fault.place == 0 && fault.reason == reason;
+}
+
+/* Copies of the certificate, with something wrong. It is its own issuer's, and no authority's. */
+static void faults(void)
+{
+    WANT(has_fault(certificate, certificate_len - 1, 1, X509_PATH_DECODE));
+    WANT(has_fault(list, list_len, 1, X509_PATH_DECODE));
+    memcpy(room, certificate, certificate_len);
+    memcpy(room + certificate_len, certificate, certificate_len);
+    WANT(has_fault(room, certificate_len, 2, X509_PATH_NOT_CA));
+    x509_certificate view;
+    WANT(x509_certificate_view(certificate, certificate_len, &view) == X509_OK);
+    room[view.issuer.place + view.issuer.len - 1] ^= 1;
+    WANT(has_fault(room, certificate_len, 1, X509_PATH_ISSUER));
+    room[view.issuer.place - 1] ^= 1; /* the end of the algorithm's identifier */
+    WANT(has_fault(room, certificate_len, 1, X509_PATH_ALGORITHM));
+    memcpy(room, certificate, certificate_len);
+    const uint8_t *const key_usage = (const uint8_t *)"\x55\x1d\x0f";
+    for (size_t at = view.extensions.place; at + 3 < certificate_len; at++)
+        if (memcmp(room + at, key_usage, 3) == 0)
+            room[at + 2] = 0x21; /* 2.5.29.33, a critical extension that isn't looked into */
+    WANT(has_fault(room, certificate_len, 1, X509_PATH_CRITICAL));
+    for (size_t at = view.extensions.place; at + 3 < certificate_len; at++)
+        if (memcmp(room + at, "\x55\x1d\x11", 3) == 0)
+            room[at + 2] = 0x21;
+    WANT(has_fault(room, certificate_len, 1, X509_PATH_REPEATED));
+}
+
+static void paths(void)
+{
+    x509_path_fault fault = {7, 7};
+    const size_t one[] = {certificate_len}, less[] = {certificate_len - 1}, around[] = {SIZE_MAX, certificate_len + 1};
+    const uint8_t *const path = certificate;
+    const size_t len = certificate_len;
+    WANT(x509_path_check(certificate, len, path, len, one, 1, 1767323045, &fault) == X509_OK && fault.place == 7 && fault.reason == 7);
+    WANT(x509_path_check(certificate, len, path, len, one, 1, 2695968550, &fault) == X509_OK);
+    WANT(x509_path_check(certificate, len, nothing, 0, one, 0, 1767323045, &fault) == X509_ABSENT);
+    WANT(x509_path_check(certificate, len, path, len, less, 1, 1767323045, &fault) == X509_FAILED);
+    WANT(x509_path_check(certificate, len, path, len - 1, one, 1, 1767323045, &fault) == X509_FAILED);
+    WANT(x509_path_check(certificate, len, path, len, around, 2, 1767323045, &fault) == X509_FAILED);
+    WANT(x509_path_check(certificate, len, path, len, one, 1, 253402300800, &fault) == X509_VALUE);
+    WANT(x509_path_check(certificate, len, path, len, one, 1, UINT64_MAX, &fault) == X509_VALUE);
+    WANT(x509_path_check(nothing, 0, path, len, one, 1, 1767323045, &fault) == X509_MALFORMED);
+    WANT(x509_path_check(certificate, 1, path, len, one, 1, 1767323045, &fault) == X509_MALFORMED);
+    WANT(x509_path_check(list, list_len, path, len, one, 1, 1767323045, &fault) == X509_MALFORMED);
+    WANT(fault.place == 7 && fault.reason == 7);
+    WANT(x509_path_check(certificate, len, path, len, one, 1, 1767323044, &fault) == X509_FAULT && fault.place == 0 && fault.reason == X509_PATH_MOMENT);
+    fault = (x509_path_fault){7, 7};
+    WANT(x509_path_check(certificate, len, path, len, one, 1, 2695968551, &fault) == X509_FAULT && fault.place == 0 && fault.reason == X509_PATH_MOMENT);
+    fault = (x509_path_fault){7, 7};
+    WANT(x509_path_check(certificate, len, path, len, one, 1, 253402300799, &fault) == X509_FAULT && fault.place == 0 && fault.reason == X509_PATH_MOMENT);
+}
+
 static void lists(void)
 {
     size_t entries = 77;
@@ -192,6 +276,9 @@ int main(int argc, char **argv)
     types_by_name();
     names();
     signed_parts();
+    signatures();
+    faults();
+    paths();
     certificates();
     lists();
     if (failures == 0)

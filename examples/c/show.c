@@ -3,6 +3,7 @@
 #include <stdlib.h>
 #include <string.h>
 #include <time.h>
+#include "payload.h"
 #include "x509.h"
 
 static int refuse(const char *what, x509_status status)
@@ -22,25 +23,26 @@ static uint8_t *read_file(const char *path, size_t *len)
             fclose(file);
         return NULL;
     }
-    uint8_t *bytes = malloc((size_t)size + 1);
+    uint8_t *bytes = malloc(size == 0 ? 1 : (size_t)size);
     *len = bytes == NULL ? 0 : fread(bytes, 1, (size_t)size, file);
     fclose(file);
     return bytes;
 }
 
-static int print_subject(const uint8_t *name, size_t len)
+/* Prints UTF-8, with each octet of a control character (U+0000 to U+001F, U+007F to U+009F) as RFC 4514 escapes it: a backslash and two hex digits. */
+static void print_utf8(const char *what, const uint8_t *text, size_t len)
 {
-    size_t written = 0;
-    uint8_t none;
-    x509_status status = x509_name_text(name, len, &none, 0, &written); /* says how much room is wanted */
-    uint8_t *text = malloc(written + 1);
-    if (text == NULL)
-        return refuse("subject", X509_MEMORY);
-    status = x509_name_text(name, len, text, written, &written);
-    if (status == X509_OK)
-        printf("subject: %.*s\n", (int)written, text);
-    free(text);
-    return status == X509_OK ? 0 : refuse("subject", status);
+    printf("%s: ", what);
+    for (size_t at = 0; at < len; at++) {
+        const int is_long = text[at] == 0xc2 && at + 1 < len && text[at + 1] < 0xa0;
+        if (is_long)
+            printf("\\%02x", text[at++]);
+        if (is_long || text[at] < 0x20 || text[at] == 0x7f)
+            printf("\\%02x", text[at]);
+        else
+            putchar(text[at]);
+    }
+    putchar('\n');
 }
 
 static void print_date(const char *what, uint64_t seconds)
@@ -51,37 +53,39 @@ static void print_date(const char *what, uint64_t seconds)
     printf("%s: %s\n", what, text);
 }
 
-/* The payload is one BIT STRING (RFC 5280 4.2.1.3). */
-static void print_key_usage(const uint8_t *payload, size_t len)
+static x509_status print_subject_and_dates(const uint8_t *bytes, size_t len)
 {
-    static const char *const names[] = {"digitalSignature", "nonRepudiation", "keyEncipherment", "dataEncipherment", "keyAgreement",
-                                        "keyCertSign", "cRLSign", "encipherOnly", "decipherOnly"};
-    for (size_t bit = 0; bit < 9 && 3 + bit / 8 < len; bit++)
-        if (payload[3 + bit / 8] & (0x80 >> bit % 8))
-            printf(" %s", names[bit]);
-    printf("\n");
-}
-
-/* The payload is a SEQUENCE of names; those of this example have fewer than 128 octets (RFC 5280 4.2.1.6). */
-static void print_names(const uint8_t *payload, size_t len)
-{
-    size_t at = len > 1 && payload[1] >= 0x80 ? 2 + (payload[1] & 0x7f) : 2;
-    while (at + 2 <= len) {
-        size_t count = payload[at + 1];
-        const uint8_t *name = payload + at + 2;
-        if (payload[at] == 0x82)
-            printf(" DNS:%.*s", (int)count, name);
-        else if (payload[at] == 0x81)
-            printf(" email:%.*s", (int)count, name);
-        else if (payload[at] == 0x87 && count == 4)
-            printf(" IP:%u.%u.%u.%u", name[0], name[1], name[2], name[3]);
-        at += 2 + count;
+    x509_certificate view;
+    x509_status status = x509_certificate_view(bytes, len, &view);
+    if (status != X509_OK)
+        return status;
+    const uint8_t *name = bytes + view.subject.place;
+    size_t written = 0;
+    status = x509_name_text(name, view.subject.len, NULL, 0, &written); /* no room: says how much is wanted */
+    if (status != X509_OK && status != X509_ROOM)
+        return status;
+    uint8_t *text = malloc(written + 1);
+    if (text == NULL)
+        return X509_MEMORY;
+    status = x509_name_text(name, view.subject.len, text, written, &written);
+    if (status == X509_OK) {
+        print_utf8("subject", text, written);
+        print_date("not before", view.not_before);
+        print_date("not after", view.not_after);
     }
-    printf("\n");
+    free(text);
+    return status;
 }
 
-static int print_extension(const char *what, const uint8_t *bytes, size_t len, const char *oid,
-                           void (*print)(const uint8_t *, size_t))
+/* X509_OK where the bytes are a value of the type with that name. Each value has some bytes, so that there is too little room for them. */
+static x509_status check(const char *type, octets payload)
+{
+    size_t written = 0;
+    x509_status status = x509_reencode((const uint8_t *)type, strlen(type), X509_RAW, payload.bytes, payload.len, NULL, 0, &written);
+    return status == X509_ROOM ? X509_OK : status;
+}
+
+static int print_extension(const char *what, const uint8_t *bytes, size_t len, const char *oid, const char *type, void (*print)(octets))
 {
     x509_extension found;
     x509_status status = x509_certificate_extension(bytes, len, (const uint8_t *)oid, 3, &found);
@@ -91,23 +95,30 @@ static int print_extension(const char *what, const uint8_t *bytes, size_t len, c
     }
     if (status != X509_OK)
         return refuse(what, status);
+    const octets payload = {bytes + found.value.place, found.value.len};
+    status = check(type, payload);
+    if (status != X509_OK)
+        return refuse(what, status);
     printf("%s:%s", what, found.critical ? " critical," : "");
-    print(bytes + found.value.place, found.value.len);
+    print(payload);
+    putchar('\n');
     return 0;
 }
 
+/* Under X509_RAW what was read is written as the same bytes. Under X509_RFC5280 its dates may be spelled otherwise. */
 static int write_again(const uint8_t *bytes, size_t len)
 {
+    const uint8_t *const type = (const uint8_t *)"Certificate";
     size_t written = 0;
-    uint8_t *copy = malloc(len + 1);
+    uint8_t *copy = malloc(len);
     if (copy == NULL)
         return refuse("written again", X509_MEMORY);
-    x509_status small = x509_certificate_reencode(bytes, len, copy, len - 1, &written);
+    x509_status small = x509_reencode(type, 11, X509_RAW, bytes, len, copy, len - 1, &written);
     if (small != X509_ROOM || written != len) {
         free(copy);
         return refuse("too little room", small);
     }
-    x509_status status = x509_certificate_reencode(bytes, len, copy, len, &written);
+    x509_status status = x509_reencode(type, 11, X509_RAW, bytes, len, copy, len, &written);
     int same = status == X509_OK && written == len && memcmp(copy, bytes, len) == 0;
     free(copy);
     if (status != X509_OK)
@@ -124,15 +135,11 @@ int main(int argc, char **argv)
         fprintf(stderr, "usage: show FILE\n");
         return 2;
     }
-    x509_certificate view;
-    x509_status status = x509_certificate_view(bytes, len, &view);
+    x509_status status = print_subject_and_dates(bytes, len);
     int failed = status != X509_OK ? refuse("certificate", status) : 0;
     if (!failed) {
-        failed |= print_subject(bytes + view.subject.place, view.subject.len);
-        print_date("not before", view.not_before);
-        print_date("not after", view.not_after);
-        failed |= print_extension("key usage", bytes, len, "\x55\x1d\x0f", print_key_usage);
-        failed |= print_extension("alternative names", bytes, len, "\x55\x1d\x11", print_names);
+        failed |= print_extension("key usage", bytes, len, "\x55\x1d\x0f", "KeyUsage", print_key_usage);
+        failed |= print_extension("alternative names", bytes, len, "\x55\x1d\x11", "SubjectAltName", print_names);
         failed |= write_again(bytes, len);
     }
     free(bytes);

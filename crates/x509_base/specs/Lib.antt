@@ -5,6 +5,7 @@ pub mod SerialOrder
 pub mod AlgorithmIdentifier
 pub mod KeyAlgorithms
 pub mod SubjectPublicKeyInfo
+pub mod Equality
 pub use Rattle.x509_base_time.specs.CivilTime
 pub use Rattle.x509_base_time.specs.TimeText
 pub use Rattle.x509_base_time.specs.TimeReading

@@ -1,7 +1,32 @@
-//! What holds of times, and of what is written of dates. Each law is a function with an empty body, whose contract is the
-//! law.
+//! What holds of times, what is written of dates, and which serial numbers, algorithms and keys are equal. Each law is
+//! a function with an empty body, whose contract is the law.
 
+ghost use Rattle.std.specs.Prelude.{◌≡◌, ◌↔◌, List, ℕ, true};
+ghost use Rattle.x509_base.specs.declared.algorithm_identifier.AlgorithmIdentifier.{AlgorithmIdentifier};
+ghost use Rattle.x509_base.specs.declared.subject_public_key_info.SubjectPublicKeyInfo.{SubjectPublicKeyInfo};
+ghost use Rattle.x509_base.specs.declared.subject_public_key_info_ref.SubjectPublicKeyInfoRef.{SubjectPublicKeyInfoRef};
+
+use crate::algorithm_identifier::AlgorithmIdentifier;
+use crate::serial_number::SerialNumber;
+use crate::subject_public_key_info::SubjectPublicKeyInfo;
+use crate::subject_public_key_info_ref::SubjectPublicKeyInfoRef;
+use x509_base_time::Profile;
 pub use x509_base_time::laws::{
     date_times_are_in_order_of_time, dates_are_written_once, equality_is_exact,
     raw_dates_are_written_once, raw_dates_stay, rfc5280_dates, rfc5280_dates_are_written_once,
 };
+
+/// `==` of serial numbers holds exactly of equal contents.
+#[tactic(auto, using(x509_der_element::specs::Exact::exact_octets))]
+pub fn equality_of_serial_numbers_is_exact<P: Profile>()
+    ensures { (a b : List ℕ) → (⟦<SerialNumber<P> as PartialEq>⟧.eq a b ≡ true) ↔ (a ≡ b) }
+{}
+
+/// `==` of algorithms and of public keys holds exactly of equal values, and of borrowed keys exactly where algorithm and
+/// bits are equal.
+#[tactic(auto, using(crate::specs::Equality::exact_algorithm_identifier, crate::specs::Equality::exact_subject_public_key_info, crate::specs::Equality::key_refs_decide))]
+pub fn equality_of_keys_is_exact<'a>()
+    ensures algorithms { (a b : AlgorithmIdentifier) → (⟦<AlgorithmIdentifier as PartialEq>⟧.eq a b ≡ true) ↔ (a ≡ b) }
+    ensures keys { (a b : SubjectPublicKeyInfo) → (⟦<SubjectPublicKeyInfo as PartialEq>⟧.eq a b ≡ true) ↔ (a ≡ b) }
+    ensures key_refs { (a b : SubjectPublicKeyInfoRef) → (⟦<SubjectPublicKeyInfoRef<'a> as PartialEq>⟧.eq a b ≡ true) ↔ ((a.algorithm.now ≡ b.algorithm.now) × (a.subject_public_key.now ≡ b.subject_public_key.now)) }
+{}

@@ -2,10 +2,12 @@
 
 use crate::calls::{is_refused, makes, prints, shows, stays};
 use std::test::*;
+use x509_der::{Any, FromAny};
 use x509_der_grammar::{AnyRef, Error, ErrorKind, Tag, TryClone};
 use x509_prim_text::{
-    Alphabet, BmpString, Ia5StringRef, PrintableString, PrintableStringRef, RestrictedStringRef,
-    TeletexStringRef, Utf8String, Utf8StringRef,
+    Alphabet, BmpString, Ia5StringRef, PrintableString, PrintableStringRef, RestrictedString,
+    RestrictedStringRef, TeletexStringRef, Utf8String, Utf8StringRef, Visible, VisibleString,
+    VisibleStringRef,
 };
 
 #[test]
@@ -112,5 +114,49 @@ fn borrowed_texts_of_other_alphabets(rt: HostRuntime) -> Result<(), Fail> {
 fn borrowed_utf8(rt: HostRuntime) -> Result<(), Fail> {
     let any = AnyRef::new(Tag::Utf8String, b"\xC3\xA4")?;
     assert!(rt; is_borrowed_utf8(&rt, Utf8StringRef::from_any(any), "ä"));
+    Ok(())
+}
+
+/// Whether the text is that of a VisibleString, printed and shown, and copied.
+fn is_visible(rt: &HostRuntime, text: &str, quoted: &str) -> Result<bool, Fail> {
+    let string = VisibleString::new(rt.alloc(), text)?;
+    let same = prints(rt, &string, text)? && shows(rt, &string, quoted)?;
+    Ok(same && string.try_clone(rt.alloc())? == string)
+}
+
+#[test]
+fn visible_strings(rt: HostRuntime) -> Result<(), Fail> {
+    assert!(rt;
+        is_visible(
+            &rt,
+            "A ~ and more than 24 octets",
+            "\"A ~ and more than 24 octets\""
+        )?
+    );
+    assert!(rt; is_refused(VisibleStringRef::new("A\n"), ErrorKind::Value));
+    let any = AnyRef::new(Tag::VisibleString, b"~")?;
+    assert!(rt; is_borrowed(&rt, VisibleStringRef::from_any(any), "~"));
+    Ok(())
+}
+
+/// Whether the text of the element is its content.
+fn is_copied<A: Alphabet>(rt: &HostRuntime, tag: Tag, content: &[u8]) -> Result<bool, Error> {
+    let any = Any::new(rt.alloc(), tag, content)?;
+    let text = RestrictedString::<A>::from_any(rt.alloc(), &any)?;
+    Ok(text.as_str().as_bytes() == content)
+}
+
+/// Whether the texts of the two elements are their contents.
+fn are_copied(rt: &HostRuntime, utf8: &[u8], bmp: &[u8]) -> Result<bool, Error> {
+    let any = Any::new(rt.alloc(), Tag::Utf8String, utf8)?;
+    let same = Utf8String::from_any(rt.alloc(), &any)?.as_str().as_bytes() == utf8;
+    let any = Any::new(rt.alloc(), Tag::BmpString, bmp)?;
+    Ok(same && BmpString::from_any(rt.alloc(), &any)?.as_bytes() == bmp)
+}
+
+#[test]
+fn texts_out_of_elements(rt: HostRuntime) -> Result<(), Fail> {
+    assert!(rt; is_copied::<Visible>(&rt, Tag::VisibleString, b"more than twenty four letters")?);
+    assert!(rt; are_copied(&rt, "ä".as_bytes(), &[0x20, 0xAC])?);
     Ok(())
 }

@@ -1,5 +1,4 @@
 pub mod Dates
-pub mod Equality
 pub mod CalendarLemmas
 pub mod MomentLemmas
 pub mod DigitLemmas

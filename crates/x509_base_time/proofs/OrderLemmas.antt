@@ -1,14 +1,15 @@
 -- What comes first by year, month, day, hour, minutes and seconds has fewer seconds since 1970.
-use Rattle.std.proofs.Common.{◌≡◌, ℕ, ◌+◌, ◌*◌, ◌<◌, inl, inr, refl, sym, ap, arith, pos}
+use Rattle.std.proofs.Common.{◌≡◌, ◌↔◌, ℕ, ◌+◌, ◌*◌, ◌<◌, ◌≤◌, inl, inr, refl, sym, ap, arith, pos}
 use Rattle.std.specs.Cmp.{nat_cmp_is}
 use Rattle.std.specs.Ordering.{nat_cmp, ordering_then}
 use Rattle.std.specs.declared.cmp.Ordering.{Ordering}
 use Rattle.std.specs.declared.cmp.Ordering.TheVariants.{Less, Equal, Greater}
-use Rattle.std.proofs.lemmas.Bool.{cases_order}
+use Rattle.std.proofs.lemmas.Bool.{cases_lt, cases_order}
 use Rattle.jiff_core.specs.declared.civil.date.Date.{Date}
 use Rattle.jiff_core.proofs.SignedLemmas.{signed_arith}
 use Rattle.jiff_core.proofs.DateLemmas.{IsEarlier, epoch_day-lt}
-use Rattle.x509_base_time.specs.CivilTime.{CivilTime, IsDateTime, days_since_1970, unix_seconds}
+use Rattle.x509_base_time.specs.CivilTime.{CivilTime, IsDateTime, days_since_1970, last_utc_time, unix_seconds}
+use Rattle.x509_base_time.proofs.CalendarLemmas.{days_in_month_bound}
 use Rattle.x509_base_time.proofs.MomentLemmas.{plain_of, epoch_day-shown}
 
 -- the order of two date-times by year, then month, day, hour, minutes and seconds
@@ -46,6 +47,41 @@ unix_seconds-time c d days lt = omega arith
 unix_seconds-same : (c d : CivilTime) → days_since_1970 c ≡ days_since_1970 d → c.hour ≡ d.hour → c.minutes ≡ d.minutes → c.seconds ≡ d.seconds → unix_seconds c ≡ unix_seconds d
 unfolding unix_seconds
 unix_seconds-same c d days hour minutes seconds = omega arith
+
+-- ---- the last date-time of a UTCTime
+
+last_is_date_time : IsDateTime last_utc_time
+last_is_date_time = ((omega arith, omega arith), (omega arith, omega arith), (omega arith, omega arith), omega arith, omega arith, omega arith)
+
+-- on its day
+on_last_day : (c : CivilTime) → IsDateTime c → days_since_1970 c ≡ days_since_1970 last_utc_time → unix_seconds c ≤ unix_seconds last_utc_time
+unfolding unix_seconds
+on_last_day c h days = omega arith
+
+before_last : (c : CivilTime) (h : IsDateTime c) → IsEarlier (date_of c h) (date_of last_utc_time last_is_date_time) → unix_seconds c ≤ unix_seconds last_utc_time
+before_last c h e = let less = earlier_day c last_utc_time h last_is_date_time e in omega arith
+
+until_last : (c : CivilTime) → IsDateTime c → c.year ≤ 2049 → unix_seconds c ≤ unix_seconds last_utc_time
+until_last c h low = elim (cases_lt c.year 2049) [
+  | inl lt ↦ before_last c h (inl (omega (arith, signed_arith)))
+  | inr ge ↦ (let year : c.year ≡ 2049 = omega arith in elim (cases_lt c.month 12) [
+    | inl lt ↦ before_last c h (inr (ap pos year, inl lt))
+    | inr ge ↦ (let month : c.month ≡ 12 = omega (arith, h.1) in elim (cases_lt c.day 31) [
+      | inl lt ↦ before_last c h (inr (ap pos year, inr (month, lt)))
+      | inr ge ↦ (let day : c.day ≡ 31 = omega (arith, h.2.1, days_in_month_bound c.year c.month) in on_last_day c h (same_days c last_utc_time year month day))
+    ])
+  ])
+]
+
+-- the years through 2049 are those up to its seconds
+pub through_2049 : (c : CivilTime) → IsDateTime c → (c.year ≤ 2049) ↔ (unix_seconds c ≤ unix_seconds last_utc_time)
+through_2049 c h = (
+  until_last c h,
+  λ near. elim (cases_lt 2049 c.year) [
+    | inl later ↦ absurd (let more = earlier_day last_utc_time c last_is_date_time h (inl (omega (arith, signed_arith))) in omega arith)
+    | inr until ↦ until
+  ],
+)
 
 -- to compare two parts and then the rest is to compare the wholes
 then_agrees : (x y m n : ℕ) (rest : Ordering) → (x < y → m < n) → (y < x → n < m) → (x ≡ y → rest ≡ nat_cmp m n) → ordering_then (nat_cmp x y) rest ≡ nat_cmp m n

@@ -1,7 +1,7 @@
 -- Known values, so that a wrong rule in the specs does not check.
 use Rattle.std.proofs.Common.{◌≡◌, [], ◌∷◌, map, true, false, Ok, Err, refl, codes}
 use Rattle.x509_der_element.specs.declared.error.ErrorKind.TheVariants.{Malformed}
-use Rattle.x509_base_time.specs.CivilTime.{civil_time, last_date_time, is_leap_year, days_in_month, days_of_years, days_of_months, unix_seconds}
+use Rattle.x509_base_time.specs.CivilTime.{civil_time, last_date_time, last_utc_time, is_leap_year, days_in_month, days_of_years, days_of_months, unix_seconds}
 use Rattle.x509_base_time.specs.TimeText.{date_time_text, generalized_time_octets, utc_time_octets}
 use Rattle.x509_base_time.specs.TimeReading.{generalized_time_reading, utc_time_reading}
 
@@ -20,6 +20,10 @@ long_count = refl
 pub unix_seconds-last : unix_seconds last_date_time ≡ 253_402_300_799
 unfolding unix_seconds days_of_years days_of_months
 unix_seconds-last = refl
+
+pub unix_seconds-last_utc_time : unix_seconds last_utc_time ≡ 2_524_607_999
+unfolding unix_seconds days_of_years days_of_months
+unix_seconds-last_utc_time = refl
 
 pub known_seconds : (unix_seconds (civil_time 1970 1 1 0 0 0) ≡ 0) × (unix_seconds (civil_time 2002 1 1 12 1 0) ≡ 1_009_886_460)
     × (unix_seconds (civil_time 2030 12 31 8 30 0) ≡ 1_924_936_200)

@@ -41,6 +41,10 @@ IsDateTime c =
 abbrev pub last_date_time : CivilTime
 last_date_time = civil_time 9999 12 31 23 59 59
 
+-- 2049-12-31T23:59:59Z, the last that a UTCTime spells (RFC 5280 4.1.2.5.1)
+abbrev pub last_utc_time : CivilTime
+last_utc_time = civil_time 2049 12 31 23 59 59
+
 -- the days of the first n years from 1970 on
 unfoldable pub days_of_years : ℕ → ℕ
 days_of_years zero = 0

@@ -1,6 +1,7 @@
 pub mod Time
 pub mod Profiles
 pub mod Validity
+pub mod Equality
 pub mod TimeOrder
 pub mod CivilTime
 pub mod Moment

@@ -153,6 +153,13 @@ impl DateTime {
         Duration::from_secs(since.as_secs() as u64)
     }
 
+    // The seconds since 1970-01-01T00:00:00Z.
+    pub(crate) fn unix_seconds(&self) -> u64
+        ensures { result ≡ unix_seconds self.now }
+    {
+        self.unix_duration().as_secs()
+    }
+
     // The characters of the text, `YYYY-MM-DDTHH:MM:SSZ`.
     #[tactic(auto, unfolding(crate::specs::TimeText::date_time_text))]
     fn text(&self) -> [u8; 20]

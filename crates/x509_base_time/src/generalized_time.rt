@@ -1,12 +1,12 @@
 //! GeneralizedTime.
 
-ghost use Rattle.std.specs.Prelude.{◌≡◌, ◌*◌, Some};
+ghost use Rattle.std.specs.Prelude.{◌≡◌, ◌↔◌, ◌≤◌, ◌*◌, Some, Ok, IsOk, IfOk, IfErr};
 ghost use Rattle.std.specs.Duration.{as_nanos};
-ghost use Rattle.x509_base_time.specs.CivilTime.{CivilTime, IsDateTime, unix_seconds};
+ghost use Rattle.x509_base_time.specs.CivilTime.{CivilTime, IsDateTime, last_date_time, unix_seconds, whole_seconds};
 ghost use Rattle.x509_base_time.specs.TimeText.{date_time_text, generalized_time_octets};
 ghost use Rattle.x509_base_time.specs.TimeReading.{Reads, generalized_time_reading};
 ghost use Rattle.x509_der_element.specs.Outcome.{Answers};
-ghost use Rattle.x509_der_element.specs.declared.error.ErrorKind.TheVariants.{Malformed};
+ghost use Rattle.x509_der_element.specs.declared.error.ErrorKind.TheVariants.{Malformed, Value};
 
 use crate::date_time::{DateTime, from_month};
 use crate::digits::{long_number_at, ones, tens};
@@ -40,6 +40,20 @@ impl GeneralizedTime {
         ensures { result ≡ date_time }
     {
         GeneralizedTime { date_time }
+    }
+
+    /// The date-time that long after 1970-01-01T00:00:00Z. A fraction of a second is dropped.
+    ///
+    /// # Errors
+    ///
+    /// `Value` after [`GeneralizedTime::INFINITY`].
+    pub fn from_unix_duration(duration: Duration) -> Result<GeneralizedTime, Error>
+        ensures succeeds { IsOk result ↔ (whole_seconds duration ≤ unix_seconds last_date_time) }
+        ensures found { IfOk result (λ t. IsDateTime t × (unix_seconds t ≡ whole_seconds duration)) }
+        ensures every { (c : CivilTime) → IsDateTime c → unix_seconds c ≡ whole_seconds duration → result ≡ Ok c }
+        ensures refused { IfErr result (λ e. e.kind ≡ Value) }
+    {
+        Ok(GeneralizedTime::from_date_time(DateTime::from_unix_duration(duration)?))
     }
 
     /// The date-time.

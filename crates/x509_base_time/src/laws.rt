@@ -57,7 +57,11 @@ pub fn raw_dates_are_written_once()
 {}
 
 /// `==` holds exactly of equal values: a time in the one spelling is not the same in the other.
+#[tactic(auto, using(crate::specs::Equality::exact_date_time, crate::specs::Equality::exact_time, crate::specs::Equality::exact_validity))]
 pub fn equality_is_exact<P: Profile>()
+    ensures date_times { (a b : CivilTime) → (⟦<DateTime as PartialEq>⟧.eq a b ≡ true) ↔ (a ≡ b) }
+    ensures utc_times { (a b : CivilTime) → (⟦<UtcTime as PartialEq>⟧.eq a b ≡ true) ↔ (a ≡ b) }
+    ensures generalized_times { (a b : CivilTime) → (⟦<GeneralizedTime as PartialEq>⟧.eq a b ≡ true) ↔ (a ≡ b) }
     ensures times { (a b : Time) → (⟦<Time as PartialEq>⟧.eq a b ≡ true) ↔ (a ≡ b) }
     ensures validities { (a b : Validity P) → (⟦<Validity<P> as PartialEq>⟧.eq a b ≡ true) ↔ (a ≡ b) }
 {}

@@ -2,6 +2,7 @@
 
 ghost use Rattle.std.specs.Prelude.{◌≡◌, ◌*◌, Some, Ok};
 ghost use Rattle.std.specs.Duration.{as_nanos};
+ghost use Rattle.std.specs.Ordering.{nat_cmp};
 ghost use Rattle.x509_base_time.specs.CivilTime.{unix_seconds};
 ghost use Rattle.x509_base_time.specs.TimeText.{date_time_text};
 ghost use Rattle.x509_base_time.specs.Time.{date_time_of, time_at, ReadsTime};
@@ -51,6 +52,16 @@ impl Time {
             Time::UtcTime(time) => time.to_date_time(),
             Time::GeneralTime(time) => time.to_date_time(),
         }
+    }
+
+    /// The order of the two moments, however each is spelled. Two times of one moment in two spellings are `Equal` here,
+    /// but not the same value by `==`, so `Time` has no `Ord`.
+    pub fn cmp_moments(&self, other: &Time) -> Ordering
+        ensures { result ≡ nat_cmp (unix_seconds (date_time_of self.now)) (unix_seconds (date_time_of other.now)) }
+    {
+        let this = self.to_date_time().unix_seconds();
+        let that = other.to_date_time().unix_seconds();
+        this.cmp(&that)
     }
 }
 

@@ -1,8 +1,8 @@
 //! UTCTime.
 
-ghost use Rattle.std.specs.Prelude.{◌≡◌, ◌↔◌, ◌≤◌, ◌*◌, Some, IsOk, IfOk, IfErr};
+ghost use Rattle.std.specs.Prelude.{◌≡◌, ◌↔◌, ◌≤◌, ◌*◌, Some, Ok, IsOk, IfOk, IfErr};
 ghost use Rattle.std.specs.Duration.{as_nanos};
-ghost use Rattle.x509_base_time.specs.CivilTime.{CivilTime, unix_seconds};
+ghost use Rattle.x509_base_time.specs.CivilTime.{CivilTime, last_utc_time, unix_seconds, whole_seconds};
 ghost use Rattle.x509_base_time.specs.TimeText.{date_time_text, utc_time_octets};
 ghost use Rattle.x509_base_time.specs.TimeReading.{IsUtcTime, Reads, utc_time_reading};
 ghost use Rattle.x509_base_time.specs.TimeReading as reading;
@@ -51,6 +51,20 @@ impl UtcTime {
             return Err(ErrorKind::Value.into());
         }
         Ok(UtcTime { date_time })
+    }
+
+    /// The date-time that long after 1970-01-01T00:00:00Z. A fraction of a second is dropped.
+    ///
+    /// # Errors
+    ///
+    /// `Value` after the year 2049.
+    pub fn from_unix_duration(duration: Duration) -> Result<UtcTime, Error>
+        ensures succeeds { IsOk result ↔ (whole_seconds duration ≤ unix_seconds last_utc_time) }
+        ensures found { IfOk result (λ t. IsUtcTime t × (unix_seconds t ≡ whole_seconds duration)) }
+        ensures every { (c : CivilTime) → IsUtcTime c → unix_seconds c ≡ whole_seconds duration → result ≡ Ok c }
+        ensures refused { IfErr result (λ e. e.kind ≡ Value) }
+    {
+        UtcTime::from_date_time(DateTime::from_unix_duration(duration)?)
     }
 
     /// The date-time.

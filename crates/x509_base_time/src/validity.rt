@@ -1,9 +1,9 @@
 //! From when and until when a certificate holds.
 
-ghost use Rattle.std.specs.Prelude.{◌≡◌, ◌↔◌, ◌+◌, ◌/◌, ◌≤◌, IsOk, IfOk, IfErr, Ok};
+ghost use Rattle.std.specs.Prelude.{IsTrue, ◌≡◌, ◌↔◌, ◌+◌, ◌/◌, ◌≤◌, IsOk, IfOk, IfErr, Ok};
 ghost use Rattle.std.specs.Duration.{as_nanos};
 ghost use Rattle.x509_base_time.specs.CivilTime.{last_date_time, unix_seconds, whole_seconds};
-ghost use Rattle.x509_base_time.specs.Time.{IsTimeAt};
+ghost use Rattle.x509_base_time.specs.Time.{date_time_of, IsTimeAt};
 ghost use Rattle.x509_base_time.specs.declared.time.Time.TheVariants.{GeneralTime};
 ghost use Rattle.x509_der_element.specs.declared.error.ErrorKind.TheVariants.{Memory, Value};
 
@@ -46,6 +46,17 @@ impl<P: Profile> Validity<P> {
             not_after,
             profile: PhantomData,
         }
+    }
+
+    /// Whether the date-time lies between the two dates, both included (RFC 5280 4.1.2.5), however they are spelled.
+    pub fn contains(&self, at: DateTime) -> bool
+        ensures { IsTrue result ↔ ((unix_seconds (date_time_of self.now.not_before) ≤ unix_seconds at)
+            × (unix_seconds at ≤ unix_seconds (date_time_of self.now.not_after))) }
+    {
+        let first = self.not_before.to_date_time().unix_seconds();
+        let last = self.not_after.to_date_time().unix_seconds();
+        let at = at.unix_seconds();
+        first <= at && at <= last
     }
 
     /// From a moment on, for some time. `now` is the time since 1970-01-01T00:00:00Z. Fractions of a second are dropped

@@ -56,7 +56,7 @@ MakesExtensions number identifier (Err e) = (e.kind ≡ Memory) ⊎ (MakesNumber
 
 abbrev pub first_part : {P : Type 0} → NameList → Time → List Extension → TbsCertList P
 first_part issuer this_update extensions = record {
-  version = V2;
+  version = Some V2;
   signature = no_algorithm;
   issuer = issuer;
   this_update = this_update;

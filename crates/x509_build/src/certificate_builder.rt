@@ -188,6 +188,8 @@ impl<P: BuilderProfile> Builder for CertificateBuilder<P> {
 
     ghost asks_key = { Unit {0} };
 
+    ghost assembles_by_algorithm = { ⊥ };
+
     ghost whole = { λ part algorithm bits. record { tbs_certificate = part; signature_algorithm = part.signature; signature = bits } };
 
     fn finalize<S: Signer>(&mut self, alloc: Global, signer: &S) -> Result<Vec<u8>> {

@@ -80,7 +80,7 @@ impl<P: Profile> CrlBuilder<P> {
         let identifier = issuer_key(alloc, issuer)?;
         let extensions = list_extensions(alloc, &name, crl_number, identifier)?;
         let tbs = TbsCertList {
-            version: Version::V2,
+            version: Some(Version::V2),
             signature: no_algorithm(),
             issuer: name,
             this_update,
@@ -174,6 +174,8 @@ impl<P: Profile> Builder for CrlBuilder<P> {
     ghost asks_algorithm = { Unit {0} };
 
     ghost asks_key = { ⊥ };
+
+    ghost assembles_by_algorithm = { ⊥ };
 
     ghost whole = { λ part algorithm bits. record { tbs_cert_list = part; signature_algorithm = part.signature; signature = bits } };
 

@@ -3,15 +3,22 @@
 ghost use Rattle.std.specs.Prelude.{◌≡◌};
 ghost use Rattle.x509_base.specs.declared.algorithm_identifier.AlgorithmIdentifier.{AlgorithmIdentifier};
 ghost use Rattle.x509_base.specs.declared.subject_public_key_info.SubjectPublicKeyInfo.{SubjectPublicKeyInfo};
-ghost use Rattle.x509_build.specs.declared.certificate_builder.CertificateBuilder as built;
+ghost use Rattle.x509_build.specs.declared.certificate_builder.CertificateBuilder as certificates;
+ghost use Rattle.x509_build.specs.declared.crl_builder.CrlBuilder as crls;
+ghost use Rattle.x509_build.specs.declared.request.request_builder.RequestBuilder as requests;
 ghost use Rattle.x509_prim.specs.BitString.{BitParts};
 
 use crate::certificate_builder::CertificateBuilder;
+use crate::crl_builder::CrlBuilder;
+use crate::request::RequestBuilder;
+use x509_base_time::Profile;
 pub use x509_build_profile::laws::a_further_finalize_answers_the_same_bytes;
 use x509_build_profile::{Builder, BuilderProfile};
 
-/// The certificate that is put together of the part that is finalized for a signer has that part, and the signer's algorithm
-/// outside it (RFC 5280 4.1.1.2).
-pub fn the_algorithm_outside_is_the_signers<P: BuilderProfile>()
-    ensures { (builder : built.CertificateBuilder P) (algorithm : AlgorithmIdentifier) (key : SubjectPublicKeyInfo) (bits : BitParts) → ⟦<CertificateBuilder<P> as Builder>⟧.whole (⟦<CertificateBuilder<P> as Builder>⟧.next builder algorithm key).value algorithm bits ≡ record { tbs_certificate = (⟦<CertificateBuilder<P> as Builder>⟧.next builder algorithm key).value; signature_algorithm = algorithm; signature = bits } }
+/// What is put together of the part that is finalized for a signer has that part, and the signer's algorithm outside it: a
+/// certificate (RFC 5280 4.1.1.2), a CRL (RFC 5280 5.1.1.2) and a request (RFC 2986 4.2).
+pub fn the_algorithm_outside_is_the_signers<B: BuilderProfile, P: Profile>()
+    ensures certificate { (builder : certificates.CertificateBuilder B) (algorithm : AlgorithmIdentifier) (key : SubjectPublicKeyInfo) (bits : BitParts) → ⟦<CertificateBuilder<B> as Builder>⟧.whole (⟦<CertificateBuilder<B> as Builder>⟧.next builder algorithm key).value algorithm bits ≡ record { tbs_certificate = (⟦<CertificateBuilder<B> as Builder>⟧.next builder algorithm key).value; signature_algorithm = algorithm; signature = bits } }
+    ensures crl { (builder : crls.CrlBuilder P) (algorithm : AlgorithmIdentifier) (key : SubjectPublicKeyInfo) (bits : BitParts) → ⟦<CrlBuilder<P> as Builder>⟧.whole (⟦<CrlBuilder<P> as Builder>⟧.next builder algorithm key).value algorithm bits ≡ record { tbs_cert_list = (⟦<CrlBuilder<P> as Builder>⟧.next builder algorithm key).value; signature_algorithm = algorithm; signature = bits } }
+    ensures request { (builder : requests.RequestBuilder) (algorithm : AlgorithmIdentifier) (key : SubjectPublicKeyInfo) (bits : BitParts) → ⟦<RequestBuilder as Builder>⟧.whole (⟦<RequestBuilder as Builder>⟧.next builder algorithm key).value algorithm bits ≡ record { info = (⟦<RequestBuilder as Builder>⟧.next builder algorithm key).value; algorithm = algorithm; signature = bits } }
 {}

@@ -42,6 +42,9 @@ pub trait Builder: Sized + Drop {
     /// Whether it asks for the key.
     ghost asks_key: { Type 0 };
 
+    /// Whether `assemble` asks the signer for its algorithm.
+    ghost assembles_by_algorithm: { Type 0 };
+
     /// What is put together of a part, the algorithm of the signer and the bits of the signature.
     ghost whole: { Self.Signed → AlgorithmIdentifier → BitParts → Self.Output };
 
@@ -73,7 +76,7 @@ pub trait Builder: Sized + Drop {
         signer: &S,
     ) -> Result<Self::Output>
         ensures ok { IfOk result (λ output. output ≡ whole (current self) (S.algorithm_of signer.now) signature) }
-        ensures err { IfErr result (λ e. ByKey (S.may_refuse_algorithm signer.now) e ⊎ LacksMemory e) };
+        ensures err { IfErr result (λ e. (assembles_by_algorithm × ByKey (S.may_refuse_algorithm signer.now) e) ⊎ LacksMemory e) };
 
     /// Computes the part for the signer, signs its encoding, and puts both together.
     ///
@@ -82,7 +85,7 @@ pub trait Builder: Sized + Drop {
     /// Those of `finalize` and of `assemble`, and `Signature` of what the signer answers for the encoding.
     final fn build<S: Signer>(mut self, alloc: Global, signer: &S) -> Result<Self::Output>
         ensures ok { IfOk result (λ output. (message : List ℕ) × (bits : BitParts) × Encodes Self.Signed.form Self.Signed.writing (next self (S.algorithm_of signer.now) (S.key_of signer.now)) message × S.signs signer.now message bits × (output ≡ whole (next self (S.algorithm_of signer.now) (S.key_of signer.now)).value (S.algorithm_of signer.now) bits)) }
-        ensures err { IfErr result (λ e. (ByKey (S.may_refuse_algorithm signer.now) e ⊎ (asks_key × ByKey (S.may_refuse_key signer.now) e)) ⊎ (PartRefuses Self.Signed.form Self.Signed.writing (next self (S.algorithm_of signer.now) (S.key_of signer.now)) e ⊎ ((message : List ℕ) × Encodes Self.Signed.form Self.Signed.writing (next self (S.algorithm_of signer.now) (S.key_of signer.now)) message × BySigning (S.may_refuse_message signer.now message) e))) }
+        ensures err { IfErr result (λ e. (((asks_algorithm ⊎ assembles_by_algorithm) × ByKey (S.may_refuse_algorithm signer.now) e) ⊎ (asks_key × ByKey (S.may_refuse_key signer.now) e)) ⊎ (PartRefuses Self.Signed.form Self.Signed.writing (next self (S.algorithm_of signer.now) (S.key_of signer.now)) e ⊎ ((message : List ℕ) × Encodes Self.Signed.form Self.Signed.writing (next self (S.algorithm_of signer.now) (S.key_of signer.now)) message × BySigning (S.may_refuse_message signer.now message) e))) }
     {
         let message = self.finalize(alloc, signer)?;
         let signature = signer.try_sign(alloc, message.as_slice())?;
@@ -101,7 +104,7 @@ pub trait Builder: Sized + Drop {
         rng: &mut R,
     ) -> Result<Self::Output>
         ensures ok { IfOk result (λ output. (message : List ℕ) × (bits : BitParts) × Encodes Self.Signed.form Self.Signed.writing (next self (S.algorithm_of signer.now) (S.key_of signer.now)) message × S.signs_with_rng signer.now message bits × (output ≡ whole (next self (S.algorithm_of signer.now) (S.key_of signer.now)).value (S.algorithm_of signer.now) bits)) }
-        ensures err { IfErr result (λ e. (ByKey (S.may_refuse_algorithm signer.now) e ⊎ (asks_key × ByKey (S.may_refuse_key signer.now) e)) ⊎ (PartRefuses Self.Signed.form Self.Signed.writing (next self (S.algorithm_of signer.now) (S.key_of signer.now)) e ⊎ ((message : List ℕ) × Encodes Self.Signed.form Self.Signed.writing (next self (S.algorithm_of signer.now) (S.key_of signer.now)) message × BySigning (S.may_refuse_message signer.now message) e))) }
+        ensures err { IfErr result (λ e. (((asks_algorithm ⊎ assembles_by_algorithm) × ByKey (S.may_refuse_algorithm signer.now) e) ⊎ (asks_key × ByKey (S.may_refuse_key signer.now) e)) ⊎ (PartRefuses Self.Signed.form Self.Signed.writing (next self (S.algorithm_of signer.now) (S.key_of signer.now)) e ⊎ ((message : List ℕ) × Encodes Self.Signed.form Self.Signed.writing (next self (S.algorithm_of signer.now) (S.key_of signer.now)) message × BySigning (S.may_refuse_message signer.now message) e))) }
     {
         let message = self.finalize(alloc, signer)?;
         let signature = signer.try_sign_with_rng(alloc, rng, message.as_slice())?;

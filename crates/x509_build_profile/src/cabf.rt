@@ -12,7 +12,7 @@ pub use crate::{ca_certificate_naming, check_names_encoding};
 use std::alloc::Global;
 use x509_base::SubjectPublicKeyInfoRef;
 use x509_cert_certificate::TbsCertificate;
-use x509_der_grammar::TryClone;
+use x509_der_grammar::{Error as DerError, TryClone};
 use x509_ext_frame::Extension;
 use x509_name::name::Name;
 
@@ -44,6 +44,15 @@ impl Root {
         Ok(Root {
             emits_ocsp_response,
             subject,
+        })
+    }
+}
+
+impl TryClone for Root {
+    fn try_clone(&self, alloc: Global) -> std::result::Result<Root, DerError> {
+        Ok(Root {
+            emits_ocsp_response: self.emits_ocsp_response,
+            subject: self.subject.try_clone(alloc)?,
         })
     }
 }

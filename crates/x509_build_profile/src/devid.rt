@@ -186,6 +186,16 @@ impl DevId {
     }
 }
 
+impl TryClone for DevId {
+    fn try_clone(&self, alloc: Global) -> std::result::Result<DevId, DerError> {
+        Ok(DevId {
+            issuer: self.issuer.try_clone(alloc)?,
+            subject: self.subject.try_clone(alloc)?,
+            subject_alt_name: self.subject_alt_name.try_clone(alloc)?,
+        })
+    }
+}
+
 impl BuilderProfile for DevId {
     ghost use Rattle.x509_build_profile.specs.Profiles.{device_list, given};
 

@@ -5,9 +5,10 @@ ghost use Rattle.x509_build_profile.specs.declared.error.Error.TheVariants.{Asn1
 ghost use Rattle.x509_build_profile.specs.declared.error.KeyError.TheVariants as keys;
 ghost use Rattle.x509_build_profile.specs.declared.error.SignError.TheVariants as signing;
 
-use std::alloc::{AllocError, AllocFailed};
+use std::alloc::{AllocError, AllocFailed, Global};
 use x509_der::ObjectIdentifier;
 use x509_der_element::Error as DerError;
+use x509_der_grammar::TryClone;
 
 /// Why a signer doesn't tell its algorithm or its public key.
 #[derive(Clone, Copy, Debug, PartialEq, Eq, thiserror::Error)]
@@ -37,6 +38,16 @@ impl<T: Drop> From<AllocFailed<T>> for KeyError {
     }
 }
 
+impl TryClone for KeyError {
+    ghost use Rattle.std.specs.Prelude.{Ok};
+
+    fn try_clone(&self, _alloc: Global) -> std::result::Result<KeyError, DerError>
+        ensures { result ≡ Ok self.now }
+    {
+        Ok(*self)
+    }
+}
+
 /// Why a signer doesn't sign.
 #[derive(Clone, Copy, Debug, PartialEq, Eq, thiserror::Error)]
 pub enum SignError {
@@ -62,6 +73,16 @@ impl<T: Drop> From<AllocFailed<T>> for SignError {
 
     fn from(_e: AllocFailed<T>) -> SignError {
         SignError::Memory
+    }
+}
+
+impl TryClone for SignError {
+    ghost use Rattle.std.specs.Prelude.{Ok};
+
+    fn try_clone(&self, _alloc: Global) -> std::result::Result<SignError, DerError>
+        ensures { result ≡ Ok self.now }
+    {
+        Ok(*self)
     }
 }
 

@@ -2,13 +2,17 @@
 
 ghost use Rattle.std.specs.Prelude.{◌≡◌};
 ghost use Rattle.x509_c_certificate.specs.Extensions.{LooksUpExtension};
+ghost use Rattle.x509_c_certificate.specs.Signature.{IsSignature};
 ghost use Rattle.x509_c_certificate.specs.View.{IsView};
 ghost use Rattle.x509_c_status.specs.Calls.{Reads};
 ghost use Rattle.x509_c_status.specs.Status.{Tells};
 
 use std::alloc::Global;
 use x509_base_time::Rfc5280;
-use x509_c_certificate::{CertificateView, ExtensionView, certificate_extension, certificate_view};
+use x509_c_certificate::{
+    CertificateView, ExtensionView, SignatureView, certificate_extension, certificate_signature,
+    certificate_view,
+};
 use x509_cert_certificate::CertificateInner;
 use x509_der_grammar::Grammar;
 
@@ -35,4 +39,16 @@ pub extern "C" fn x509_certificate_extension(
     ensures { Tells (λ status. LooksUpExtension ⟦<CertificateInner<Rfc5280> as Grammar>⟧.form ⟦<CertificateInner<Rfc5280> as Grammar>⟧.refuses input.now oid.now found.old found.new status) result }
 {
     certificate_extension(alloc, input, oid, found).code()
+}
+
+/// Reads a certificate under the rules of RFC 5280, and fills in what is to be verified of it.
+#[unsafe(no_mangle)]
+pub extern "C" fn x509_certificate_signature(
+    alloc: Global,
+    input: &[u8],
+    signature: &mut SignatureView,
+) -> i32
+    ensures { Tells (λ status. Reads ⟦<CertificateInner<Rfc5280> as Grammar>⟧.form ⟦<CertificateInner<Rfc5280> as Grammar>⟧.refuses input.now (λ certificate. IsSignature input.now certificate signature.new) (signature.new ≡ signature.old) status) result }
+{
+    certificate_signature(alloc, input, signature).code()
 }

@@ -3,4 +3,5 @@
 
 mod certificate;
 mod list;
+mod path;
 mod whole;

@@ -97,7 +97,7 @@ module _ {P : Type 0} (check : List ℕ → Result Unit ErrorKind) (value : Cert
       (version_text ++ (spelling (serial_number check) value.tbs_certificate.serial_number ++ (spelling algorithm_identifier value.tbs_certificate.signature ++ (spelling name value.tbs_certificate.issuer ++ spelling validity value.tbs_certificate.validity))))
       ++ (spelling name value.tbs_certificate.subject ++ (spelling subject_public_key_info value.tbs_certificate.subject_public_key_info ++ (optional_text (spelling (implicit 1 3 bit_string)) value.tbs_certificate.issuer_unique_id ++ (optional_text (spelling (implicit 2 3 bit_string)) value.tbs_certificate.subject_unique_id ++ extensions_text))))
 
-  whole : bytes ≡ element 48 (element 48 part_text ++ behind_part)
+  pub whole : bytes ≡ element 48 (element 48 part_text ++ behind_part)
   unfolding fields_octets certificate_fields tbs_certificate_fields
   whole = spells.1
 

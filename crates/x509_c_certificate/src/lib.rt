@@ -2,9 +2,11 @@
 #![tactic(auto)]
 
 mod extension;
+mod signature;
 mod view;
 mod whole;
 
 pub use extension::{ExtensionView, certificate_extension};
+pub use signature::{SignatureView, certificate_signature};
 pub use view::CertificateView;
 pub use whole::certificate_view;

@@ -6,7 +6,7 @@ use Rattle.x509_c_crl.specs.Entries.{entries}
 use Rattle.x509_c_crl.specs.declared.lookup.Revocation.{Revocation}
 use Rattle.x509_tool_table.specs.Reencoding.{IsRefused}
 use Rattle.x509_c_status.specs.declared.status.Status.{Status}
-use Rattle.x509_c_status.specs.declared.status.Status.TheVariants.{Done, NoRoom, Absent, Repeated, Refused}
+use Rattle.x509_c_status.specs.declared.status.Status.TheVariants.{Done, NoRoom, Absent, Repeated, Faulty, Refused}
 use Rattle.x509_cert.specs.declared.crl.certificate_list.CertificateList.{CertificateList}
 use Rattle.x509_cert.specs.declared.crl.revoked_cert.RevokedCert.{RevokedCert}
 use Rattle.x509_der_element.specs.declared.error.Error.{Error}
@@ -56,6 +56,7 @@ Tells finds list number was is Absent = (with_serial number list ≡ []) × (is 
 Tells finds list number was is (Refused e) = (found : FirstEntry number list) × (why : Error) × (why.kind ≡ e) × Revokes finds found.entry (Err why) × (is ≡ was)
 Tells finds list number was is NoRoom = ⊥
 Tells finds list number was is Repeated = ⊥
+Tells finds list number was is Faulty = ⊥
 
 -- What a call leaves that asks bytes for bytes: what the list says of the number that are spelled; or the list is
 -- refused; or, where there is a list, the number is.

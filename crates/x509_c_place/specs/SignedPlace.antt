@@ -3,7 +3,7 @@ use Rattle.std.specs.Prelude.{◌≡◌, ℕ, List}
 use Rattle.x509_c_place.specs.Place.{IsAt}
 use Rattle.x509_c_place.specs.declared.span.Span.{Span}
 use Rattle.x509_c_status.specs.declared.status.Status.{Status}
-use Rattle.x509_c_status.specs.declared.status.Status.TheVariants.{Done, NoRoom, Absent, Repeated, Refused}
+use Rattle.x509_c_status.specs.declared.status.Status.TheVariants.{Done, NoRoom, Absent, Repeated, Faulty, Refused}
 use Rattle.x509_cert_signed.specs.Signed.{IsSignedPart}
 use Rattle.x509_der_element.specs.declared.error.ErrorKind.TheVariants.{Malformed}
 
@@ -14,3 +14,4 @@ IsSignedAt bytes was is (Refused e) = (e ≡ Malformed) × ((signed : List ℕ) 
 IsSignedAt bytes was is NoRoom = ⊥
 IsSignedAt bytes was is Absent = ⊥
 IsSignedAt bytes was is Repeated = ⊥
+IsSignedAt bytes was is Faulty = ⊥

@@ -1,7 +1,7 @@
 -- What calls from C answer that read a value, or write one.
 use Rattle.std.specs.Prelude.{◌≡◌, ◌⊎◌, ℕ, List, Result, Ok, Err}
 use Rattle.x509_c_status.specs.declared.status.Status.{Status}
-use Rattle.x509_c_status.specs.declared.status.Status.TheVariants.{Done, NoRoom, Absent, Repeated, Refused}
+use Rattle.x509_c_status.specs.declared.status.Status.TheVariants.{Done, NoRoom, Absent, Repeated, Faulty, Refused}
 use Rattle.x509_der_element.specs.declared.error.ErrorKind.{ErrorKind}
 use Rattle.x509_der_element.specs.declared.error.ErrorKind.TheVariants.{Memory}
 use Rattle.x509_der_element.specs.Element.{limit}
@@ -17,6 +17,7 @@ Reads form refuses bytes holds unchanged (Refused e) = ((e ≡ Memory) ⊎ IsRef
 Reads form refuses bytes holds unchanged NoRoom = ⊥
 Reads form refuses bytes holds unchanged Absent = ⊥
 Reads form refuses bytes holds unchanged Repeated = ⊥
+Reads form refuses bytes holds unchanged Faulty = ⊥
 
 -- the same of a call that fills in nothing
 abbrev pub Checks : {X : Type 0} → Form X → (ErrorKind → Type 0) → List ℕ → Status → Type 0

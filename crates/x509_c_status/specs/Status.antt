@@ -3,7 +3,7 @@ use Rattle.std.specs.Prelude.{◌≡◌, ◌<◌, ◌⊎◌, ℕ, ℤ, pos, negs
 use Rattle.x509_der_element.specs.declared.error.ErrorKind.{ErrorKind}
 use Rattle.x509_der_element.specs.declared.error.ErrorKind.TheVariants.{Memory, Overlength, Malformed, Failed, SetDuplicate, Value}
 use Rattle.x509_c_status.specs.declared.status.Status.{Status}
-use Rattle.x509_c_status.specs.declared.status.Status.TheVariants.{Done, NoRoom, Absent, Repeated, Refused}
+use Rattle.x509_c_status.specs.declared.status.Status.TheVariants.{Done, NoRoom, Absent, Repeated, Faulty, Refused}
 
 -- the number of a refusal: -1 for want of memory
 abbrev pub refusal_code : ErrorKind → ℤ
@@ -20,6 +20,7 @@ code_of Done = pos 0
 code_of NoRoom = negsuc 1
 code_of Absent = pos 6
 code_of Repeated = pos 7
+code_of Faulty = pos 8
 code_of (Refused e) = refusal_code e
 
 -- a number that tells of a status of which this holds
@@ -37,3 +38,4 @@ Fills answers room filled was written NoRoom =
 Fills answers room filled was written (Refused e) = ((e ≡ Memory) ⊎ answers (Err e)) × (written ≡ was)
 Fills answers room filled was written Absent = ⊥
 Fills answers room filled was written Repeated = ⊥
+Fills answers room filled was written Faulty = ⊥

@@ -21,6 +21,9 @@ pub enum Status {
     /// What was asked for, and may be there once, is there more than once.
     Repeated,
 
+    /// A certificate of a path has a fault.
+    Faulty,
+
     /// The call was refused.
     Refused(ErrorKind),
 }
@@ -39,6 +42,7 @@ impl Status {
             Status::Refused(ErrorKind::Value) => 5,
             Status::Absent => 6,
             Status::Repeated => 7,
+            Status::Faulty => 8,
             Status::Refused(ErrorKind::Memory) => -1,
             Status::NoRoom => -2,
         }

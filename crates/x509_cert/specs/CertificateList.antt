@@ -1,4 +1,4 @@
--- TbsCertList: version: Version, signature: AlgorithmIdentifier, issuer: Name, this_update: Time, next_update: Time?,
+-- TbsCertList: version: Version?, signature: AlgorithmIdentifier, issuer: Name, this_update: Time, next_update: Time?,
 -- revoked_certificates: (list RevokedCert)?, crl_extensions: {0}Extensions? (RFC 5280 5.1)
 -- CertificateList: tbs_cert_list: TbsCertList, signature_algorithm: AlgorithmIdentifier, signature: BIT STRING (RFC 5280 5.1)
 use Rattle.std.specs.Prelude.{ℕ, List, Option, Result}
@@ -26,18 +26,20 @@ use Rattle.x509_name_attribute.specs.declared.type_and_value.AttributeTypeAndVal
 use Rattle.x509_cert_certificate.specs.Names.{name, rdn_sequence_lawful}
 use Rattle.x509_prim.specs.BitString.{BitParts, bit_string}
 use Rattle.x509_prim.specs.BitStringLaws.{bit_string_lawful}
+use Rattle.x509_base_time.specs.Profiles.{rfc5280_serial_number}
+use Rattle.x509_base_time.specs.declared.profile.Rfc5280.{Rfc5280}
 
 -- ---- what is signed
 
 abbrev pub Front : Type 0
-Front = Version × (AlgorithmIdentifier × (List (List AttributeTypeAndValue) × Time))
+Front = Option Version × (AlgorithmIdentifier × (List (List AttributeTypeAndValue) × Time))
 
 abbrev pub Behind : Type 0 → Type 0
 Behind P = Option Time × (Option (List (RevokedCert P)) × Option (List Extension))
 
 unfoldable pub tbs_cert_list_fields : {P : Type 0} → (List ℕ → Result Unit ErrorKind) → Part (Front × Behind P)
 tbs_cert_list_fields check =
-    (required version ⊗ (required algorithm_identifier ⊗ (required name ⊗ required time)))
+    (optional version ⊗ (required algorithm_identifier ⊗ (required name ⊗ required time)))
     ⊗ (optional time ⊗ (optional (universal Sequence (list_of (revoked_cert check))) ⊗ optional (explicit 0 extensions)))
 
 abbrev pub tbs_cert_list_contents : {P : Type 0} → (List ℕ → Result Unit ErrorKind) → Contents (TbsCertList P)
@@ -73,3 +75,11 @@ certificate_list_contents_lawful check = search (part_rules, tbs_cert_list_lawfu
 
 pub certificate_list_lawful : {P : Type 0} (check : List ℕ → Result Unit ErrorKind) → IsForm (CheckRefuses check) (certificate_list {P = P} check)
 certificate_list_lawful check = universal_lawful Sequence (certificate_list_contents check) (certificate_list_contents_lawful check)
+
+-- ---- under Rfc5280
+
+abbrev pub rfc5280_tbs_cert_list : Form (TbsCertList Rfc5280)
+rfc5280_tbs_cert_list = tbs_cert_list rfc5280_serial_number
+
+abbrev pub rfc5280_certificate_list : Form (CertificateList Rfc5280)
+rfc5280_certificate_list = certificate_list rfc5280_serial_number

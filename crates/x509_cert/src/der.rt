@@ -15,6 +15,6 @@ pub mod asn1 {
     pub use x509_prim::{BitString, Int, OctetString, Uint};
     pub use x509_prim_text::{
         BmpString, Ia5String, Ia5StringRef, PrintableString, PrintableStringRef, TeletexString,
-        TeletexStringRef, Utf8String, Utf8StringRef,
+        TeletexStringRef, Utf8String, Utf8StringRef, VisibleString, VisibleStringRef,
     };
 }

@@ -1,5 +1,6 @@
-//! What holds of all values, of certificates, of lists, of requests and of signed bytes. Each law is a function whose contract is the
-//! law. Those of trust anchors stand in [`anchor`].
+//! What holds of all values, of certificates, of CRLs, of requests and of signed bytes. Each law is a function whose contract is the
+//! law. Those of the layers below stand in a module for each layer: [`der`], [`prim`], [`base`] (times, serial numbers, algorithms and
+//! keys), [`name`], [`ext`], [`sct`] and [`anchor`]. By which forms the types are read and written stands in [`forms`].
 
 ghost use Rattle.std.specs.Prelude.{◌≡◌, List, ℕ, None, ◌<◌, [], ◌∷◌};
 ghost use Rattle.x509_cert.specs.AnySerial.{any_certificate_list, any_revoked_cert, any_tbs_cert_list};
@@ -23,6 +24,7 @@ ghost use Rattle.x509_name_attribute.specs.DirectoryString.{directory_string};
 
 use crate::crl::{CertificateList, RevokedCert, TbsCertList};
 use crate::request::{CertReq, CertReqInfo, ExtensionReq};
+pub use x509_base::laws as base;
 use x509_base_time::Profile;
 pub use x509_cert_certificate::laws::{
     certificates_written_alike_are_respelled_alike, dates_are_written_once, raw_certificates_stay,
@@ -32,11 +34,18 @@ pub use x509_cert_certificate::laws::{
 pub use x509_cert_signed::laws::{
     one_signed_part, signed_bytes_are_written_again, what_stands_in_front_is_signed,
 };
+pub use x509_der::laws as der;
 use x509_der_grammar::Encode;
 pub use x509_der_grammar::laws::{
     no_spelling_begins_another, one_spelling, one_value, what_is_written_alike_is_respelled_alike,
     what_was_written_reads_as_respelled, writing_again_gives_the_same,
 };
+pub use x509_ext::laws as ext;
+pub use x509_name::laws as name;
+pub use x509_prim::laws as prim;
+pub use x509_sct::laws as sct;
+
+pub mod forms;
 
 /// Under every profile lists are written as they are, with their times: what is written is what they are read from.
 pub fn lists_stay<P: Profile>()

@@ -2,6 +2,8 @@
 -- (RFC 5914 3)
 use Rattle.std.specs.Prelude.{◌≡◌, ℕ, List, None, Result, refl}
 use Rattle.x509_base.specs.Checked.{CheckRefuses}
+use Rattle.x509_base_time.specs.Profiles.{rfc5280_serial_number}
+use Rattle.x509_base_time.specs.declared.profile.Rfc5280.{Rfc5280}
 use Rattle.x509_cert_certificate.specs.Certificate.{certificate, certificate_lawful}
 use Rattle.x509_cert_certificate.specs.TbsCertificate.{tbs_certificate, tbs_certificate_lawful}
 use Rattle.x509_cert_certificate.specs.declared.certificate.CertificateInner.{CertificateInner}
@@ -78,3 +80,8 @@ module _ {P : Type 0} (check : List ℕ → Result Unit ErrorKind) (certificates
     -- what is written once more is as it was, where it is so in each case
     pub trust_anchor_choice_stable : IsStable (trust_anchor_choice {P = P} check).good (respelling (written_anchor certificates signed_parts infos))
     trust_anchor_choice_stable = record { kept = kept; again = again }
+
+-- ---- under Rfc5280
+
+abbrev pub rfc5280_trust_anchor_choice : Form (TrustAnchorChoice Rfc5280)
+rfc5280_trust_anchor_choice = trust_anchor_choice rfc5280_serial_number

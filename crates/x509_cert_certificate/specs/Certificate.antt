@@ -17,6 +17,8 @@ use Rattle.x509_base.specs.declared.algorithm_identifier.AlgorithmIdentifier.{Al
 use Rattle.x509_cert_certificate.specs.TbsCertificate.{tbs_certificate, tbs_certificate_lawful}
 use Rattle.x509_cert_certificate.specs.declared.certificate.CertificateInner.{CertificateInner}
 use Rattle.x509_cert_certificate.specs.declared.tbs_certificate.TbsCertificateInner.{TbsCertificateInner}
+use Rattle.x509_base_time.specs.Profiles.{rfc5280_serial_number}
+use Rattle.x509_base_time.specs.declared.profile.Rfc5280.{Rfc5280}
 
 unfoldable pub certificate_fields : {P : Type 0} → (List ℕ → Result Unit ErrorKind) → Part (TbsCertificateInner P × (AlgorithmIdentifier × BitParts))
 certificate_fields check = required (tbs_certificate check) ⊗ (required algorithm_identifier ⊗ required bit_string)
@@ -42,3 +44,8 @@ certificate_writing writing = with_field (λ c. c.tbs_certificate) (λ c t. reco
 pub certificate_stable : {P : Type 0} (check : List ℕ → Result Unit ErrorKind) (writing : Writing (TbsCertificateInner P)) → IsStable (tbs_certificate {P = P} check).good writing → IsStable (certificate {P = P} check).good (certificate_writing writing)
 unfolding certificate_fields fields_good
 certificate_stable check writing stable = with_field_stable _ _ writing (λ c t. refl) (λ c s t. refl) (λ c g. g.0) (λ c t g h. (h, g.1)) stable
+
+-- ---- under Rfc5280
+
+abbrev pub rfc5280_certificate : Form (CertificateInner Rfc5280)
+rfc5280_certificate = certificate rfc5280_serial_number

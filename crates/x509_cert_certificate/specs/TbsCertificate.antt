@@ -27,6 +27,8 @@ use Rattle.x509_cert_extension.specs.extension.Extension.{Extension}
 use Rattle.x509_cert_certificate.specs.Version.{version, version_lawful, version_default, version_default_lawful}
 use Rattle.x509_cert_certificate.specs.declared.version.Version.{Version}
 use Rattle.x509_cert_certificate.specs.declared.tbs_certificate.TbsCertificateInner.{TbsCertificateInner}
+use Rattle.x509_base_time.specs.Profiles.{rfc5280_serial_number}
+use Rattle.x509_base_time.specs.declared.profile.Rfc5280.{Rfc5280}
 
 -- ---- the grammar
 
@@ -71,3 +73,8 @@ pub tbs_certificate_stable : {P : Type 0} (check : List ℕ → Result Unit Erro
 unfolding tbs_certificate_fields fields_good
 tbs_certificate_stable check writing stable =
     with_field_stable _ _ writing (λ t v. refl) (λ t u v. refl) (λ t g. g.0.1.1.1.1) (λ t v g h. ((g.0.0, (g.0.1.0, (g.0.1.1.0, (g.0.1.1.1.0, h)))), g.1)) stable
+
+-- ---- under Rfc5280
+
+abbrev pub rfc5280_tbs_certificate : Form (TbsCertificateInner Rfc5280)
+rfc5280_tbs_certificate = tbs_certificate rfc5280_serial_number

@@ -201,7 +201,7 @@ impl<P: Profile> TbsCertificateInner<P> {
     ) -> Result<Option<(bool, T)>, Error>
         ensures { Finds T.form T.refuses T.wants_memory (with_oid T.OID (members self.now.extensions)) result }
     {
-        get_extension::<T>(alloc, members(&self.extensions))
+        get_extension::<T>(alloc, members(self.extensions()))
     }
 
     /// The extensions with the identifier of the type, in their order: of each whether it is critical, and its value or
@@ -213,7 +213,7 @@ impl<P: Profile> TbsCertificateInner<P> {
     ) -> FilterExtensions<'_, T>
         ensures { extensions_left T.OID result ≡ with_oid T.OID (members self.now.extensions) }
     {
-        filter_extensions::<T>(alloc, members(&self.extensions))
+        filter_extensions::<T>(alloc, members(self.extensions()))
     }
 }
 

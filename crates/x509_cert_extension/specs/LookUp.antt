@@ -17,6 +17,10 @@ members (Some extensions) = extensions
 abbrev pub with_oid : List ℕ → List Extension → List Extension
 with_oid oid extensions = filter (λ e. bytes_eq e.extn_id oid) extensions
 
+-- two or more have one identifier, which RFC 5280 4.2 forbids
+abbrev pub IsRepeated : List Extension → Type 0
+IsRepeated extensions = (oid : List ℕ) × (2 ≤ length (with_oid oid extensions))
+
 -- What the decoder of a type may answer on bytes: the one value that they spell; Overlength exactly over the limit; else
 -- Malformed, or a refusal of the type's own, exactly where they spell none, and which of them is said by reading; else
 -- Memory, where reading the type wants it.

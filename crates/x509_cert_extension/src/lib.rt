@@ -5,5 +5,5 @@ mod filter;
 mod look_up;
 
 pub use filter::{FilterExtensions, filter_extensions};
-pub use look_up::{get_extension, members};
+pub use look_up::{get_extension, has_repeated_extension, members};
 pub use x509_ext_frame::{Extension, Extensions, Name};

@@ -1,16 +1,18 @@
 //! The one extension of a kind.
 
-ghost use Rattle.std.specs.Prelude.{◌≡◌, [], ◌∷◌, MatchOption};
-ghost use Rattle.x509_cert_extension.specs.LookUp.{Decodes, DecodesPayload, Finds, members, with_oid};
+ghost use Rattle.std.specs.Option.{option_copied};
+ghost use Rattle.std.specs.Prelude.{◌≡◌, ◌↔◌, [], ◌∷◌, MatchOption, IfOk, IfErr, IsTrue};
+ghost use Rattle.x509_cert_extension.specs.LookUp.{Decodes, DecodesPayload, Finds, IsRepeated, members, with_oid};
+ghost use Rattle.x509_der_element.specs.declared.error.ErrorKind.TheVariants.{Memory};
 
 use std::alloc::Global;
-use x509_der::{AssociatedOid, ObjectIdentifier};
+use x509_der::{AssociatedOid, ObjectIdentifier, ValueOrd};
 use x509_der_grammar::{Decode, Error, ErrorKind};
 use x509_ext_frame::{Extension, Extensions};
 
 /// The extensions, none where the list is left out.
-pub fn members(extensions: &Option<Extensions>) -> &[Extension]
-    ensures { result.now ≡ members extensions.now }
+pub fn members(extensions: Option<&Extensions>) -> &[Extension]
+    ensures { result.now ≡ members (option_copied extensions.entry) }
 {
     match extensions {
         None => &[],
@@ -61,4 +63,21 @@ pub fn get_extension<T: AssociatedOid + Decode>(
         return Err(ErrorKind::Failed.into());
     }
     Ok(Some(decode(alloc, extension)?))
+}
+
+/// Whether an identifier stands in two or more of the extensions, which RFC 5280 4.2 forbids: in O(n log n) comparisons.
+///
+/// # Errors
+///
+/// `Memory` where there is none for a copy of the identifiers.
+pub fn has_repeated_extension(alloc: Global, extensions: &[Extension]) -> Result<bool, Error>
+    ensures ok { IfOk result (λ repeated. IsTrue repeated ↔ IsRepeated extensions.now) }
+    ensures err { IfErr result (λ e. e.kind ≡ Memory) }
+{
+    let mut identifiers = Vec::with_capacity(alloc, extensions.len())?;
+    for extension in extensions {
+        identifiers.push(extension.extn_id)?;
+    }
+    identifiers.sort_unstable_by(|a, b| a.value_cmp(b));
+    Ok(!identifiers.is_sorted_by(|a, b| a.value_cmp(b).is_lt()))
 }

@@ -14,6 +14,8 @@ mod fakes;
 #[cfg(test)]
 mod look_ups;
 #[cfg(test)]
+mod path_checks;
+#[cfg(test)]
 mod paths;
 #[cfg(test)]
 mod program;

@@ -10,7 +10,9 @@ use x509_cert_certificate::{CertificateInner, TbsCertificateInner};
 use x509_der::{ObjectIdentifier, SetOfVec};
 use x509_der_frames::{Any, SequenceOf};
 use x509_prim::{BitString, Int, OctetString, Uint};
-use x509_prim_text::{BmpString, Ia5String, PrintableString, TeletexString, Utf8String};
+use x509_prim_text::{
+    BmpString, Ia5String, PrintableString, TeletexString, Utf8String, VisibleString,
+};
 
 /// Certificates, from the root.
 fn root(
@@ -172,6 +174,7 @@ fn strings_of_asn1(
         der::asn1::PrintableString,
         der::asn1::TeletexString,
         der::asn1::Utf8String,
+        der::asn1::VisibleString,
     ),
 ) -> &(
     BmpString,
@@ -179,6 +182,7 @@ fn strings_of_asn1(
     PrintableString,
     TeletexString,
     Utf8String,
+    VisibleString,
 ) {
     it
 }

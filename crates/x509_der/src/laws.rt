@@ -6,12 +6,20 @@ ghost use Rattle.std.specs.List.{All};
 ghost use Rattle.std.specs.Prelude.{◌≡◌, List, map, ◌↔◌, ℕ, true};
 ghost use Rattle.x509_der.specs.Arcs.{AreArcs, content_of, dotted};
 ghost use Rattle.x509_der.specs.ObjectIdentifier.{arcs_of, is_object_identifier};
+ghost use Rattle.x509_der_element.specs.Exact.{IsExact};
 ghost use Rattle.x509_der_grammar.specs.Form.{spelling};
 ghost use Rattle.x509_der_grammar.specs.Writing.{writes};
 ghost use Rattle.x509_der_order.specs.Order.{HasEncoding, bytes_cmp, der_order};
 
-pub use x509_der_element::laws::{no_element_begins_another, one_tag};
-pub use x509_der_frames::laws::the_next_octet_decides_an_optional_field;
+use crate::identifier::ObjectIdentifier;
+use crate::member::SetMember;
+use crate::set::SetOfVec;
+pub use x509_der_element::laws::{
+    equality_of_elements_is_exact, no_element_begins_another, one_tag,
+};
+pub use x509_der_frames::laws::{
+    equality_of_any_is_exact, equality_of_lists_is_exact, the_next_octet_decides_an_optional_field,
+};
 pub use x509_der_grammar::laws::{
     no_spelling_begins_another, one_spelling, one_value, what_is_written_alike_is_respelled_alike,
     what_was_written_reads_as_respelled, writing_again_gives_the_same,
@@ -52,4 +60,15 @@ pub fn members_make_the_set<T: DerOrd>()
 /// A set of members with encodings is a DER SET OF: each of its members' encodings is below the next (X.690 11.6).
 pub fn encodings_rise<T: DerOrd>()
     ensures { (members : List T) → IsStrictlySortedBy (der_order T.form (writes T.writing) T.order) members → All (HasEncoding T.form (writes T.writing)) members → IsStrictlySortedBy bytes_cmp (map (spelling T.form) members) }
+{}
+
+/// `==` of object identifiers holds exactly of equal contents.
+#[tactic(auto, using(x509_der_element::specs::Exact::exact_octets))]
+pub fn equality_of_identifiers_is_exact()
+    ensures { (a b : List ℕ) → (⟦<ObjectIdentifier as PartialEq>⟧.eq a b ≡ true) ↔ (a ≡ b) }
+{}
+
+/// `==` of sets holds exactly of equal values where that of the members does.
+pub fn equality_of_sets_is_exact<T: SetMember + PartialEq>()
+    ensures { IsExact T.PartialEq.eq → (a b : List T) → (⟦<SetOfVec<T> as PartialEq>⟧.eq a b ≡ true) ↔ (a ≡ b) }
 {}

@@ -4,8 +4,10 @@ pub mod Element
 pub mod ElementReading
 pub mod ElementLaws
 pub mod FrontLaws
+pub mod Exact
 pub mod Tag
 pub mod TagLaws
 pub mod TagReading
+pub mod TagEquality
 pub mod ContentLaws
 pub mod Place

@@ -11,7 +11,7 @@ use Rattle.x509_der_element.specs.declared.tag.Tag.{Tag}
 use Rattle.x509_der_element.specs.declared.tag.Tag.TheVariants.{Boolean, Integer, BitString, OctetString, Null, ObjectIdentifier, Real, Enumerated, Utf8String, RelativeOid, NumericString, PrintableString, TeletexString, VideotexString, Ia5String, UtcTime, GeneralizedTime, GraphicString, VisibleString, GeneralString, UniversalString, BmpString, Sequence, Set, Application, ContextSpecific, Private}
 use Rattle.x509_der_element.specs.declared.tag.number.TagNumber.{TagNumber}
 
-number_is : (a b : TagNumber) → a.number ≡ b.number → a ≡ b
+pub number_is : (a b : TagNumber) → a.number ≡ b.number → a ≡ b
 number_is a b e =
     subst (λ (m : ℕ). (k : m ≤ 30) → a ≡ record { number = m; low = k }) e
     (λ k. ap (λ (low : a.number ≤ 30). record { number = a.number; low = low }) (le_prop a.low k)) b.low

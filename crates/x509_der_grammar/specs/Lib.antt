@@ -13,7 +13,9 @@ pub mod StableLaws
 pub mod Round
 pub mod Tested
 pub use Rattle.x509_der_element.specs.Element
+pub use Rattle.x509_der_element.specs.Exact
 pub use Rattle.x509_der_element.specs.Tag
+pub use Rattle.x509_der_element.specs.TagEquality
 pub use Rattle.x509_der_element.specs.declared.error
 pub use Rattle.x509_der_element.specs.declared.tag
 pub use Rattle.x509_der_element.specs.ElementLaws

@@ -5,11 +5,13 @@ pub mod NumberOrder
 pub mod RoundOrder
 pub use Rattle.x509_der_grammar.specs.Element
 pub use Rattle.x509_der_grammar.specs.ElementLaws
+pub use Rattle.x509_der_grammar.specs.Exact
 pub use Rattle.x509_der_grammar.specs.ElementReading
 pub use Rattle.x509_der_grammar.specs.FrontLaws
 pub use Rattle.x509_der_grammar.specs.Outcome
 pub use Rattle.x509_der_grammar.specs.OutcomeLaws
 pub use Rattle.x509_der_grammar.specs.Tag
+pub use Rattle.x509_der_grammar.specs.TagEquality
 pub use Rattle.x509_der_grammar.specs.TagLaws
 pub use Rattle.x509_der_grammar.specs.TagReading
 pub use Rattle.x509_der_grammar.specs.error

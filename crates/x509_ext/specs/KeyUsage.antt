@@ -1,9 +1,12 @@
 -- KeyUsage: what a key may be used for, as named bits (RFC 5280 4.2.1.3)
 use Rattle.std.specs.Prelude.{ℕ, ◌^◌, ◌==◌, Bool, List, [], ◌∷◌, codes, refl}
 use Rattle.std.specs.Int.RustNames.{bit_and}
-use Rattle.x509_der_grammar.specs.Round.{Round}
+use Rattle.x509_der_grammar.specs.Round.{Round, rounded}
 use Rattle.x509_ext.specs.declared.pkix.key_usage.KeyUsages.{KeyUsages}
 use Rattle.x509_ext.specs.declared.pkix.key_usage.KeyUsage.{KeyUsage}
+use Rattle.x509_der_element.specs.declared.tag.Tag.TheVariants.{BitString}
+use Rattle.x509_der_grammar.specs.Form.{Form}
+use Rattle.x509_prim.specs.NamedBits.{flag_bits}
 
 -- the named bits 0 to 8, each as the set of it alone
 abbrev pub key_usage_names : List (List ℕ × ℕ)
@@ -15,6 +18,15 @@ key_usage_names =
 -- each set of them is a number
 abbrev pub key_usage_set : Round KeyUsages ℕ
 key_usage_set = record { to = λ usages. usages.0; from = λ set. record { 0 = set }; back = λ usages. refl; there = λ set. refl }
+
+abbrev pub key_usages : Form KeyUsages
+key_usages = flag_bits key_usage_set key_usage_names
+
+abbrev pub key_usage_round : Round KeyUsage KeyUsages
+key_usage_round = record { to = λ usage. usage.0; from = λ usages. record { 0 = usages }; back = λ usage. refl; there = λ usages. refl }
+
+abbrev pub key_usage : Form KeyUsage
+key_usage = rounded key_usage_round BitString key_usages
 
 -- whether the named bit n is there
 abbrev pub has_bit : KeyUsage → ℕ → Bool

@@ -6,3 +6,6 @@ pub mod Access
 pub mod AlternativeNames
 pub mod AuthorityKeyIdentifier
 pub mod PartyRows
+pub mod ExtendedKeyUsage
+pub mod SubjectDirectoryAttributes
+pub mod SubjectKeyIdentifier

@@ -4,16 +4,20 @@ use Rattle.std.specs.Prelude.{Option}
 use Rattle.x509_base_time.specs.CivilTime.{CivilTime}
 use Rattle.x509_base_time.specs.TimeForms.{generalized_time, generalized_time_lawful}
 use Rattle.x509_der_element.specs.declared.error.ErrorKind.{ErrorKind}
-use Rattle.x509_der_grammar.specs.Form.{Contents, IsContents}
+use Rattle.x509_der_grammar.specs.Form.{Form, Contents, IsContents, universal}
 use Rattle.x509_der_frames.specs.Frames.{Part, implicit, optional, ◌⊗◌, fields}
 use Rattle.x509_der_frames.specs.PartRules.{part_rules}
 use Rattle.x509_ext.specs.declared.pkix.private_key_usage_period.PrivateKeyUsagePeriod.{PrivateKeyUsagePeriod}
+use Rattle.x509_der_element.specs.declared.tag.Tag.TheVariants.{Sequence}
 
 unfoldable pub private_key_usage_period_fields : Part (Option CivilTime × Option CivilTime)
 private_key_usage_period_fields = optional (implicit 0 24 generalized_time) ⊗ optional (implicit 1 24 generalized_time)
 
 abbrev pub private_key_usage_period_contents : Contents PrivateKeyUsagePeriod
 private_key_usage_period_contents = fields (λ p. (p.not_before, p.not_after)) (λ (not_before, not_after). record { not_before = not_before; not_after = not_after }) private_key_usage_period_fields
+
+abbrev pub private_key_usage_period : Form PrivateKeyUsagePeriod
+private_key_usage_period = universal Sequence private_key_usage_period_contents
 
 pub private_key_usage_period_contents_lawful : {R : ErrorKind → Type 0} → IsContents R private_key_usage_period_contents
 unfolding private_key_usage_period_fields

@@ -5,7 +5,9 @@ ghost use Rattle.x509_ext.specs.KeyUsage.{has_bit};
 ghost use Rattle.x509_ext.specs.declared.pkix.key_usage.KeyUsage.{KeyUsage};
 ghost use Rattle.x509_prim.specs.BitString.{is_one};
 
-pub use x509_ext_frame::laws::{identifiers_of_extensions, identifiers_of_pkix};
+pub use x509_ext_frame::laws::{
+    equality_of_extensions_is_exact, identifiers_of_extensions, identifiers_of_pkix,
+};
 
 /// A named bit is there where it is a one in the bit string (X.680 22.7).
 #[tactic(auto, using(crate::proofs::Bits::named_bit))]

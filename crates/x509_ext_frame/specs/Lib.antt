@@ -1,4 +1,5 @@
 pub mod Extension
+pub mod Equality
 pub mod Identifiers
 pub mod ToExtension
 pub use Rattle.x509_name.specs.Names

@@ -1,8 +1,10 @@
 -- CrlReason: why a certificate was revoked, as an ENUMERATED (RFC 5280 5.3.1)
 use Rattle.std.specs.Prelude.{◌≡◌, ℕ, List, [], ◌∷◌, Some, refl}
-use Rattle.x509_prim.specs.Names.{with_number, Names}
+use Rattle.x509_prim.specs.Names.{with_number, Names, named_form}
 use Rattle.x509_pkix.specs.declared.crl_reason.CrlReason.{CrlReason}
 use Rattle.x509_pkix.specs.declared.crl_reason.CrlReason.TheVariants.{Unspecified, KeyCompromise, CaCompromise, AffiliationChanged, Superseded, CessationOfOperation, CertificateHold, RemoveFromCRL, PrivilegeWithdrawn, AaCompromise}
+use Rattle.x509_der_element.specs.declared.tag.Tag.TheVariants.{Enumerated}
+use Rattle.x509_der_grammar.specs.Form.{Form}
 
 abbrev pub crl_reason_number : CrlReason → ℕ
 crl_reason_number Unspecified = 0
@@ -27,3 +29,6 @@ crl_reason_found reason = refl
 
 abbrev pub crl_reason_names : Names CrlReason
 crl_reason_names = record { values = crl_reason_values; number = crl_reason_number; found = crl_reason_found; small = refl }
+
+abbrev pub crl_reason : Form CrlReason
+crl_reason = named_form Enumerated crl_reason_names

@@ -1,8 +1,9 @@
 -- DistributionPoint: distribution_point: {0}DistributionPointName?, reasons: [1]Reasons?, crl_issuer: [2]list GeneralName?
 -- (RFC 5280 4.2.1.13)
-use Rattle.std.specs.Prelude.{List, Option}
+-- CrlDistributionPoints and FreshestCrl: list DistributionPoint (RFC 5280 4.2.1.13, 4.2.1.15)
+use Rattle.std.specs.Prelude.{List, Option, refl}
 use Rattle.x509_der_element.specs.declared.error.ErrorKind.{ErrorKind}
-use Rattle.x509_der_grammar.specs.Form.{Contents, IsContents}
+use Rattle.x509_der_grammar.specs.Form.{Form, Contents, IsContents, universal}
 use Rattle.x509_der_frames.specs.Frames.{Part, optional, implicit, explicit, ◌⊗◌, fields}
 use Rattle.x509_der_frames.specs.PartRules.{part_rules}
 use Rattle.x509_ext_name.specs.DistributionPointName.{distribution_point_name, distribution_point_name_lawful}
@@ -12,12 +13,35 @@ use Rattle.x509_ext_name.specs.declared.general_name.GeneralName.{GeneralName}
 use Rattle.x509_pkix.specs.Reasons.{reasons, reasons_lawful}
 use Rattle.x509_pkix.specs.declared.reasons.Reasons.{Reasons}
 use Rattle.x509_pkix.specs.declared.distribution_point.DistributionPoint.{DistributionPoint}
+use Rattle.x509_der_element.specs.declared.tag.Tag.TheVariants.{Sequence}
+use Rattle.x509_der_frames.specs.List.{list_of}
+use Rattle.x509_der_grammar.specs.Round.{Round, rounded}
+use Rattle.x509_pkix.specs.declared.distribution_points.CrlDistributionPoints.{CrlDistributionPoints}
+use Rattle.x509_pkix.specs.declared.distribution_points.FreshestCrl.{FreshestCrl}
 
 unfoldable pub distribution_point_fields : Part (Option DistributionPointName × (Option Reasons × Option (List GeneralName)))
 distribution_point_fields = optional (explicit 0 distribution_point_name) ⊗ (optional (implicit 1 3 reasons) ⊗ optional (implicit 2 48 general_names))
 
 abbrev pub distribution_point_contents : Contents DistributionPoint
 distribution_point_contents = fields (λ d. (d.distribution_point, (d.reasons, d.crl_issuer))) (λ (distribution_point, (reasons, crl_issuer)). record { distribution_point = distribution_point; reasons = reasons; crl_issuer = crl_issuer }) distribution_point_fields
+
+abbrev pub distribution_point : Form DistributionPoint
+distribution_point = universal Sequence distribution_point_contents
+
+abbrev points : Form (List DistributionPoint)
+points = universal Sequence (list_of distribution_point)
+
+abbrev pub crl_distribution_points_round : Round CrlDistributionPoints (List DistributionPoint)
+crl_distribution_points_round = record { to = λ places. places.0; from = λ points. record { 0 = points }; back = λ places. refl; there = λ points. refl }
+
+abbrev pub crl_distribution_points : Form CrlDistributionPoints
+crl_distribution_points = rounded crl_distribution_points_round Sequence points
+
+abbrev pub freshest_crl_round : Round FreshestCrl (List DistributionPoint)
+freshest_crl_round = record { to = λ places. places.0; from = λ points. record { 0 = points }; back = λ places. refl; there = λ points. refl }
+
+abbrev pub freshest_crl : Form FreshestCrl
+freshest_crl = rounded freshest_crl_round Sequence points
 
 pub distribution_point_contents_lawful : {R : ErrorKind → Type 0} → IsContents R distribution_point_contents
 unfolding distribution_point_fields

@@ -4,7 +4,7 @@
 use Rattle.std.specs.Prelude.{ℕ, Bool, Option}
 use Rattle.x509_der_element.specs.declared.error.ErrorKind.{ErrorKind}
 use Rattle.x509_der_grammar.specs.Boolean.{boolean}
-use Rattle.x509_der_grammar.specs.Form.{Contents, IsContents}
+use Rattle.x509_der_grammar.specs.Form.{Form, Contents, IsContents, universal}
 use Rattle.x509_der_frames.specs.DefaultValues.{boolean_default}
 use Rattle.x509_der_frames.specs.Frames.{Part, optional, defaulted, implicit, explicit, ◌⊗◌, fields}
 use Rattle.x509_der_frames.specs.PartRules.{part_rules}
@@ -13,6 +13,7 @@ use Rattle.x509_ext_name.specs.declared.distribution_point_name.DistributionPoin
 use Rattle.x509_pkix.specs.Reasons.{reasons, reasons_lawful}
 use Rattle.x509_pkix.specs.declared.reasons.Reasons.{Reasons}
 use Rattle.x509_pkix.specs.declared.issuing_distribution_point.IssuingDistributionPoint.{IssuingDistributionPoint}
+use Rattle.x509_der_element.specs.declared.tag.Tag.TheVariants.{Sequence}
 
 -- [n]BOOLEAN=FALSE
 abbrev said_or_not : ℕ → Part Bool
@@ -28,6 +29,9 @@ issuing_distribution_point_contents = fields
     (λ i. ((i.distribution_point, (i.only_contains_user_certs, i.only_contains_ca_certs)), (i.only_some_reasons, (i.indirect_crl, i.only_contains_attribute_certs))))
     (λ ((distribution_point, (only_contains_user_certs, only_contains_ca_certs)), (only_some_reasons, (indirect_crl, only_contains_attribute_certs))). record { distribution_point = distribution_point; only_contains_user_certs = only_contains_user_certs; only_contains_ca_certs = only_contains_ca_certs; only_some_reasons = only_some_reasons; indirect_crl = indirect_crl; only_contains_attribute_certs = only_contains_attribute_certs })
     issuing_distribution_point_fields
+
+abbrev pub issuing_distribution_point : Form IssuingDistributionPoint
+issuing_distribution_point = universal Sequence issuing_distribution_point_contents
 
 pub issuing_distribution_point_contents_lawful : {R : ErrorKind → Type 0} → IsContents R issuing_distribution_point_contents
 unfolding issuing_distribution_point_fields

@@ -5,3 +5,4 @@ pub mod NameConstraints
 pub mod DistributionPoint
 pub mod IssuingDistributionPoint
 pub mod Rows
+pub mod CrlNumber

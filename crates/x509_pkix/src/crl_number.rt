@@ -81,11 +81,11 @@ impl Criticality for CrlNumber {
 }
 
 impl Newtype for CrlNumber {
-    ghost use Rattle.std.specs.Prelude.{refl};
+    ghost use Rattle.x509_pkix.specs.CrlNumber.{crl_number_round};
 
     type Inner = Uint;
 
-    ghost round = { record { to = λ crl. crl.0; from = λ number. record { 0 = number }; back = λ crl. refl; there = λ number. refl } };
+    ghost round = { crl_number_round };
 
     fn inner(&self) -> &Uint {
         &self.0
@@ -164,11 +164,11 @@ impl Criticality for BaseCrlNumber {
 }
 
 impl Newtype for BaseCrlNumber {
-    ghost use Rattle.std.specs.Prelude.{refl};
+    ghost use Rattle.x509_pkix.specs.CrlNumber.{base_crl_number_round};
 
     type Inner = Uint;
 
-    ghost round = { record { to = λ base. base.0; from = λ number. record { 0 = number }; back = λ base. refl; there = λ number. refl } };
+    ghost round = { base_crl_number_round };
 
     fn inner(&self) -> &Uint {
         &self.0

@@ -46,11 +46,11 @@ impl Criticality for CrlDistributionPoints {
 }
 
 impl Newtype for CrlDistributionPoints {
-    ghost use Rattle.std.specs.Prelude.{refl};
+    ghost use Rattle.x509_pkix.specs.DistributionPoint.{crl_distribution_points_round};
 
     type Inner = SequenceOf<DistributionPoint>;
 
-    ghost round = { record { to = λ places. places.0; from = λ points. record { 0 = points }; back = λ places. refl; there = λ points. refl } };
+    ghost round = { crl_distribution_points_round };
 
     fn inner(&self) -> &SequenceOf<DistributionPoint> {
         &self.0
@@ -136,11 +136,11 @@ impl Criticality for FreshestCrl {
 }
 
 impl Newtype for FreshestCrl {
-    ghost use Rattle.std.specs.Prelude.{refl};
+    ghost use Rattle.x509_pkix.specs.DistributionPoint.{freshest_crl_round};
 
     type Inner = SequenceOf<DistributionPoint>;
 
-    ghost round = { record { to = λ places. places.0; from = λ points. record { 0 = points }; back = λ places. refl; there = λ points. refl } };
+    ghost round = { freshest_crl_round };
 
     fn inner(&self) -> &SequenceOf<DistributionPoint> {
         &self.0

@@ -7,3 +7,4 @@ pub mod CertificatePolicies
 pub mod PolicyMapping
 pub mod PolicyConstraints
 pub mod Rows
+pub mod InhibitAnyPolicy

@@ -1,17 +1,21 @@
 -- PolicyConstraints: require_explicit_policy: [0]u32?, inhibit_policy_mapping: [1]u32? (RFC 5280 4.2.1.11)
 use Rattle.std.specs.Prelude.{ℕ, ◌^◌, Option}
 use Rattle.x509_der_element.specs.declared.error.ErrorKind.{ErrorKind}
-use Rattle.x509_der_grammar.specs.Form.{Contents, IsContents}
+use Rattle.x509_der_grammar.specs.Form.{Form, Contents, IsContents, universal}
 use Rattle.x509_der_grammar.specs.Natural.{natural}
 use Rattle.x509_der_frames.specs.Frames.{Part, implicit, optional, ◌⊗◌, fields}
 use Rattle.x509_der_frames.specs.PartRules.{part_rules}
 use Rattle.x509_pkix_policy.specs.declared.policy_constraints.PolicyConstraints.{PolicyConstraints}
+use Rattle.x509_der_element.specs.declared.tag.Tag.TheVariants.{Sequence}
 
 unfoldable pub policy_constraints_fields : Part (Option ℕ × Option ℕ)
 policy_constraints_fields = optional (implicit 0 2 (natural (2 ^ 32))) ⊗ optional (implicit 1 2 (natural (2 ^ 32)))
 
 abbrev pub policy_constraints_contents : Contents PolicyConstraints
 policy_constraints_contents = fields (λ c. (c.require_explicit_policy, c.inhibit_policy_mapping)) (λ (require_explicit_policy, inhibit_policy_mapping). record { require_explicit_policy = require_explicit_policy; inhibit_policy_mapping = inhibit_policy_mapping }) policy_constraints_fields
+
+abbrev pub policy_constraints : Form PolicyConstraints
+policy_constraints = universal Sequence policy_constraints_contents
 
 pub policy_constraints_contents_lawful : {R : ErrorKind → Type 0} → IsContents R policy_constraints_contents
 unfolding policy_constraints_fields

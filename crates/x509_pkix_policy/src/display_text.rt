@@ -2,7 +2,7 @@
 
 use std::alloc::Global;
 use x509_der_grammar::{Decode, Encode, Error, Grammar, Room, Tag, TryClone};
-use x509_prim_text::{Ia5String, Utf8String};
+use x509_prim_text::{BmpString, Ia5String, Utf8String, VisibleString};
 
 /// Where the statement of an authority on its practices stands (RFC 5280 4.2.1.4).
 ///
@@ -11,18 +11,25 @@ use x509_prim_text::{Ia5String, Utf8String};
 /// ```
 pub type CpsUri = Ia5String;
 
-/// A text for people to read (RFC 5280 4.2.1.4). Sizes have no bounds, and there is neither a VisibleString nor a
-/// BMPString.
+/// A text for people to read (RFC 5280 4.2.1.4). The bound of 200 characters isn't looked at.
 ///
 /// ```text
 /// DisplayText ::= CHOICE {
-///     ia5String   IA5String,
-///     utf8String  UTF8String }
+///     ia5String      IA5String,
+///     visibleString  VisibleString,
+///     bmpString      BMPString,
+///     utf8String     UTF8String }
 /// ```
 #[derive(Debug, PartialEq, Eq)]
 pub enum DisplayText {
     /// Characters up to 7F.
     Ia5String(Ia5String),
+
+    /// The graphic characters of ISO 646 and the space.
+    VisibleString(VisibleString),
+
+    /// Characters of the basic multilingual plane.
+    BmpString(BmpString),
 
     /// Any characters.
     Utf8String(Utf8String),
@@ -32,6 +39,8 @@ impl Drop for DisplayText {
     fn drop(self) {
         match self {
             DisplayText::Ia5String(_) => {}
+            DisplayText::VisibleString(_) => {}
+            DisplayText::BmpString(_) => {}
             DisplayText::Utf8String(_) => {}
         }
     }
@@ -41,6 +50,10 @@ impl TryClone for DisplayText {
     fn try_clone(&self, alloc: Global) -> Result<DisplayText, Error> {
         match self {
             DisplayText::Ia5String(string) => Ok(DisplayText::Ia5String(string.try_clone(alloc)?)),
+            DisplayText::VisibleString(string) => Ok(DisplayText::VisibleString(string.try_clone(
+                alloc,
+            )?)),
+            DisplayText::BmpString(string) => Ok(DisplayText::BmpString(string.try_clone(alloc)?)),
             DisplayText::Utf8String(string) => Ok(DisplayText::Utf8String(string.try_clone(
                 alloc,
             )?)),
@@ -57,12 +70,17 @@ impl Grammar for DisplayText {
     fn identifier(&self) -> Tag {
         match self {
             DisplayText::Ia5String(string) => string.identifier(),
+            DisplayText::VisibleString(string) => string.identifier(),
+            DisplayText::BmpString(string) => string.identifier(),
             DisplayText::Utf8String(string) => string.identifier(),
         }
     }
 
     fn is_start(octet: u8) -> bool {
-        Ia5String::is_start(octet) || Utf8String::is_start(octet)
+        Ia5String::is_start(octet)
+            || VisibleString::is_start(octet)
+            || BmpString::is_start(octet)
+            || Utf8String::is_start(octet)
     }
 
     fn usual() -> Tag {
@@ -77,6 +95,10 @@ impl Decode for DisplayText {
     fn read(alloc: Global, tag: u8, content: &[u8]) -> Result<DisplayText, Error> {
         if Ia5String::is_start(tag) {
             Ok(DisplayText::Ia5String(Ia5String::read(alloc, tag, content)?))
+        } else if VisibleString::is_start(tag) {
+            Ok(DisplayText::VisibleString(VisibleString::read(alloc, tag, content)?))
+        } else if BmpString::is_start(tag) {
+            Ok(DisplayText::BmpString(BmpString::read(alloc, tag, content)?))
         } else {
             Ok(DisplayText::Utf8String(Utf8String::read(alloc, tag, content)?))
         }
@@ -90,6 +112,8 @@ impl Encode for DisplayText {
     fn put_content<R: Room>(&self, room: &mut R) -> Result<(), Error> {
         match self {
             DisplayText::Ia5String(string) => string.put_content(room),
+            DisplayText::VisibleString(string) => string.put_content(room),
+            DisplayText::BmpString(string) => string.put_content(room),
             DisplayText::Utf8String(string) => string.put_content(room),
         }
     }

@@ -37,11 +37,11 @@ impl Criticality for InhibitAnyPolicy {
 }
 
 impl Newtype for InhibitAnyPolicy {
-    ghost use Rattle.std.specs.Prelude.{refl};
+    ghost use Rattle.x509_pkix_policy.specs.InhibitAnyPolicy.{inhibit_any_policy_round};
 
     type Inner = u32;
 
-    ghost round = { record { to = λ inhibit. inhibit.0; from = λ certificates. record { 0 = certificates }; back = λ inhibit. refl; there = λ certificates. refl } };
+    ghost round = { inhibit_any_policy_round };
 
     fn inner(&self) -> &u32 {
         &self.0

@@ -96,11 +96,11 @@ impl Criticality for PolicyMappings {
 }
 
 impl Newtype for PolicyMappings {
-    ghost use Rattle.std.specs.Prelude.{refl};
+    ghost use Rattle.x509_pkix_policy.specs.PolicyMapping.{policy_mappings_round};
 
     type Inner = SequenceOf<PolicyMapping>;
 
-    ghost round = { record { to = λ mappings. mappings.0; from = λ pairs. record { 0 = pairs }; back = λ mappings. refl; there = λ pairs. refl } };
+    ghost round = { policy_mappings_round };
 
     fn inner(&self) -> &SequenceOf<PolicyMapping> {
         &self.0

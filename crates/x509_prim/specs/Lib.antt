@@ -1,6 +1,7 @@
 pub mod OctetString
 pub mod BitString
 pub mod BitStringLaws
+pub mod Equality
 pub mod Below
 pub mod ShortOctets
 pub mod Integer

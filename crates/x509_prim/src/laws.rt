@@ -7,7 +7,7 @@ ghost use Rattle.x509_prim.specs.Integer.{is_integer, integer_value};
 ghost use Rattle.x509_prim.specs.NamedBits.{set_octets};
 ghost use Rattle.x509_prim.specs.SetBits.{AreSetBits};
 
-use crate::{BitString, OctetString};
+use crate::{BitString, Int, OctetString, Uint};
 pub use x509_prim_text::laws::{
     bmp_contents_are_texts, equality_is_exact as equality_of_texts_is_exact,
     restricted_strings_are_theirs,
@@ -35,9 +35,17 @@ pub fn padded_contents_are_bits()
 {}
 
 /// `==` holds exactly of equal strings.
+#[tactic(auto, using(crate::specs::Equality::exact_bit_string, x509_der_element::specs::Exact::exact_octets))]
 pub fn equality_of_strings_is_exact()
     ensures bits { (a b : BitParts) → (⟦<BitString as PartialEq>⟧.eq a b ≡ true) ↔ (a ≡ b) }
     ensures octets { (a b : List ℕ) → (⟦<OctetString as PartialEq>⟧.eq a b ≡ true) ↔ (a ≡ b) }
+{}
+
+/// `==` of whole numbers holds exactly of equal contents.
+#[tactic(auto, using(x509_der_element::specs::Exact::exact_octets))]
+pub fn equality_of_integers_is_exact()
+    ensures signed { (a b : List ℕ) → (⟦<Int as PartialEq>⟧.eq a b ≡ true) ↔ (a ≡ b) }
+    ensures unsigned { (a b : List ℕ) → (⟦<Uint as PartialEq>⟧.eq a b ≡ true) ↔ (a ≡ b) }
 {}
 
 /// No whole number has two contents.

@@ -27,5 +27,5 @@ pub use uint::Uint;
 pub use x509_prim_text::{
     Alphabet, BmpString, Ia5, Ia5String, Ia5StringRef, Printable, PrintableString,
     PrintableStringRef, RestrictedString, RestrictedStringRef, Teletex, TeletexString,
-    TeletexStringRef, Utf8String, Utf8StringRef,
+    TeletexStringRef, Utf8String, Utf8StringRef, Visible, VisibleString, VisibleStringRef,
 };

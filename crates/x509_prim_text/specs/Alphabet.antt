@@ -14,6 +14,10 @@ is_printable char =
 unfoldable pub is_ia5 : ℕ → Bool
 is_ia5 char = nat_lt char 0x80
 
+-- VisibleString: the graphic characters of ISO 646 and the space (X.680 41.1, Table 8)
+unfoldable pub is_visible : ℕ → Bool
+is_visible char = nat_le 0x20 char && nat_le char 0x7E
+
 pub printable_ascii : (char : ℕ) → is_printable char ≡ true → char < 0x80
 unfolding is_printable
 printable_ascii char h = grind (arith, nat_tests)
@@ -21,3 +25,7 @@ printable_ascii char h = grind (arith, nat_tests)
 pub ia5_ascii : (char : ℕ) → is_ia5 char ≡ true → char < 0x80
 unfolding is_ia5
 ia5_ascii char h = grind (arith, nat_tests)
+
+pub visible_ascii : (char : ℕ) → is_visible char ≡ true → char < 0x80
+unfolding is_visible
+visible_ascii char h = grind (arith, nat_tests)

@@ -1,7 +1,7 @@
--- Texts that are borrowed from an element.
-use Rattle.std.specs.Prelude.{◌≡◌, ◌≢◌, ◌⊎◌, ℕ, Bool, true, false, List, Result, MatchResult}
+-- Texts that come out of an element.
+use Rattle.std.specs.Prelude.{◌≡◌, ◌≢◌, ◌<◌, ◌⊎◌, ℕ, Bool, true, false, List, length, Result, MatchResult}
 use Rattle.x509_der_frames.specs.error.Error.{Error}
-use Rattle.x509_der_frames.specs.error.ErrorKind.TheVariants.{Malformed}
+use Rattle.x509_der_frames.specs.error.ErrorKind.TheVariants.{Malformed, Memory}
 use Rattle.x509_der_frames.specs.Tag.{octet_of}
 use Rattle.x509_der_frames.specs.tag.Tag.{Tag}
 use Rattle.x509_der_frames.specs.declared.any.Any.{Any}
@@ -16,3 +16,9 @@ BorrowsText text_of wanted is_text tag content answer = MatchResult answer
 -- the same on an element that is not looked into
 abbrev pub BorrowsTextFrom : {X : Type 0} → (X → List ℕ) → Tag → (List ℕ → Bool) → Any → Result X Error → Type 0
 BorrowsTextFrom text_of wanted is_text any answer = BorrowsText text_of wanted is_text any.tag any.value answer
+
+-- The same of a text that is copied; more than 24 octets take memory, which may be refused.
+abbrev pub CopiesTextFrom : Tag → (List ℕ → Bool) → Any → Result (List ℕ) Error → Type 0
+CopiesTextFrom wanted is_text any answer = MatchResult answer
+    (λ string. (octet_of any.tag ≡ octet_of wanted) × (is_text any.value ≡ true) × (string ≡ any.value))
+    (λ e. ((e.kind ≡ Memory) × (octet_of any.tag ≡ octet_of wanted) × (is_text any.value ≡ true) × (24 < length any.value)) ⊎ ((e.kind ≡ Malformed) × ((octet_of any.tag ≢ octet_of wanted) ⊎ (is_text any.value ≡ false))))

@@ -6,7 +6,7 @@ use Rattle.x509_der_frames.specs.error.ErrorKind.{ErrorKind}
 use Rattle.x509_der_frames.specs.tag.Tag.TheVariants as tags
 use Rattle.x509_der_grammar.specs.Form.{Form, IsForm}
 use Rattle.x509_der_grammar.specs.Tested.{tested, tested_lawful}
-use Rattle.x509_prim_text.specs.Alphabet.{is_printable, is_ia5}
+use Rattle.x509_prim_text.specs.Alphabet.{is_printable, is_ia5, is_visible}
 use Rattle.x509_prim_text.specs.Bmp.{is_bmp}
 
 abbrev pub printable_string : Form (List ℕ)
@@ -18,6 +18,9 @@ teletex_string = tested tags.TeletexString (list_all is_ia5)
 
 abbrev pub ia5_string : Form (List ℕ)
 ia5_string = tested tags.Ia5String (list_all is_ia5)
+
+abbrev pub visible_string : Form (List ℕ)
+visible_string = tested tags.VisibleString (list_all is_visible)
 
 abbrev pub utf8_string : Form (List ℕ)
 utf8_string = tested tags.Utf8String is_utf8
@@ -33,6 +36,9 @@ teletex_string_lawful = tested_lawful tags.TeletexString (list_all is_ia5)
 
 pub ia5_string_lawful : {R : ErrorKind → Type 0} → IsForm R ia5_string
 ia5_string_lawful = tested_lawful tags.Ia5String (list_all is_ia5)
+
+pub visible_string_lawful : {R : ErrorKind → Type 0} → IsForm R visible_string
+visible_string_lawful = tested_lawful tags.VisibleString (list_all is_visible)
 
 pub utf8_string_lawful : {R : ErrorKind → Type 0} → IsForm R utf8_string
 utf8_string_lawful = tested_lawful tags.Utf8String is_utf8

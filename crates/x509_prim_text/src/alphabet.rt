@@ -103,3 +103,25 @@ impl Alphabet for Teletex {
 
     ghost ascii = { ia5_ascii };
 }
+
+/// The characters of VisibleString: the graphic characters of ISO 646 and the space.
+#[derive(Clone, Copy, Debug, PartialEq, Eq, Hash)]
+pub struct Visible;
+
+#[tactic(auto, unfolding(crate::specs::Alphabet::is_visible))]
+impl Alphabet for Visible {
+    ghost use Rattle.x509_der_frames.specs.tag.Tag.TheVariants as tags;
+    ghost use Rattle.x509_prim_text.specs.Alphabet.{is_visible, visible_ascii};
+
+    ghost TAG = { tags.VisibleString };
+
+    const TAG: Tag = Tag::VisibleString;
+
+    ghost has_char = { is_visible };
+
+    fn has_char(octet: u8) -> bool {
+        matches!(octet, 0x20..=0x7E)
+    }
+
+    ghost ascii = { visible_ascii };
+}

@@ -1,6 +1,6 @@
 //! BMPString.
 
-ghost use Rattle.std.specs.Prelude.{◌≡◌, true, false, bytes_eq, string_bytes, encode_utf8_all, IfOk, IfErr, IsErrAnd};
+ghost use Rattle.std.specs.Prelude.{◌≡◌, ◌<◌, true, false, length, bytes_eq, string_bytes, encode_utf8_all, IfOk, IfErr, IsErrAnd};
 ghost use Rattle.std.proofs.Common.{rules};
 ghost use Rattle.std.specs.Hash as fed;
 ghost use Rattle.std.specs.Cmp.{partial_equiv_from_equiv};
@@ -12,10 +12,13 @@ ghost use Rattle.x509_der_frames.specs.error.ErrorKind.TheVariants as errors;
 ghost use Rattle.x509_prim_text.specs.Bmp as plane;
 
 use std::alloc::Global;
+use std::cmp::Ordering;
 use std::fmt;
 use std::hash::{Hash, Hasher};
 use std::marker::Model;
+use x509_der_frames::{Any, FromAny};
 use x509_der_grammar::{Bytes, Content, Error, ErrorKind, Room, Tag, TryClone};
+use x509_der_order::ValueOrd;
 
 /// A BMPString (X.680 41.15, X.690 8.23.8): characters of the basic multilingual plane. Contracts see their octets,
 /// two for each character.
@@ -131,6 +134,17 @@ impl BmpString {
     }
 }
 
+/// The string with a copy of the octets, which are those of characters of the plane.
+fn copied(alloc: Global, octets: &[u8]) -> Result<BmpString, Error>
+    requires { plane.is_bmp octets.now ≡ true }
+    ensures ok { IfOk result (λ string. string ≡ octets.now) }
+    ensures err { IfErr result (λ e. (e.kind ≡ errors.Memory) × (24 < length octets.now)) }
+{
+    Ok(BmpString {
+        octets: Bytes::from_slice(alloc, octets)?,
+    })
+}
+
 #[tactic(auto, unfolding(x509_der_grammar::specs::Tested::tested_reading))]
 impl Content for BmpString {
     ghost use Rattle.x509_der_frames.specs.tag.Tag.TheVariants as tags;
@@ -147,9 +161,7 @@ impl Content for BmpString {
         if !check_octets(octets) {
             return Err(ErrorKind::Malformed.into());
         }
-        Ok(BmpString {
-            octets: Bytes::from_slice(alloc, octets)?,
-        })
+        copied(alloc, octets)
     }
 
     fn write_content<R: Room>(&self, room: &mut R) -> Result<(), Error> {
@@ -157,6 +169,40 @@ impl Content for BmpString {
     }
 
     ghost contents_lawful = { tested_contents_lawful is_bmp };
+}
+
+impl ValueOrd for BmpString {
+    ghost use Rattle.x509_der_order.specs.Ordered.{by_bytes, by_bytes_lawful};
+    ghost use Rattle.x509_der_order.specs.Writing.{plain, writes};
+    ghost use Rattle.x509_prim_text.specs.Texts.{bmp_string};
+
+    ghost order = { by_bytes bmp_string };
+
+    fn value_cmp(&self, other: &BmpString) -> Ordering {
+        self.octets.as_slice().cmp(other.octets.as_slice())
+    }
+
+    ghost ordered = { by_bytes_lawful bmp_string (writes plain) (λ x y p q. q) };
+}
+
+/// The text of an element; `Malformed` exactly where it has another identifier, or a content that isn't that of characters
+/// of the plane. More than 24 octets take memory, which may be refused.
+impl FromAny<'_> for BmpString {
+    ghost use Rattle.x509_der_frames.specs.tag.Tag.TheVariants.{BmpString};
+    ghost use Rattle.x509_prim_text.specs.Bmp.{is_bmp};
+    ghost use Rattle.x509_prim_text.specs.Borrowed.{CopiesTextFrom};
+
+    ghost from_any_gives = { CopiesTextFrom BmpString is_bmp };
+
+    fn from_any(alloc: Global, any: &Any) -> Result<BmpString, Error> {
+        if any.tag() != Tag::BmpString {
+            return Err(ErrorKind::Malformed.into());
+        }
+        if !check_octets(any.value()) {
+            return Err(ErrorKind::Malformed.into());
+        }
+        copied(alloc, any.value())
+    }
 }
 
 impl TryClone for BmpString {

@@ -3,7 +3,7 @@
 ghost use Rattle.std.specs.Prelude.{◌≡◌, ◌↔◌, ℕ, List, true};
 ghost use Rattle.std.specs.List.{list_all};
 ghost use Rattle.x509_der_grammar.specs.Form.{Spells};
-ghost use Rattle.x509_prim_text.specs.Alphabet.{is_printable, is_ia5};
+ghost use Rattle.x509_prim_text.specs.Alphabet.{is_printable, is_ia5, is_visible};
 ghost use Rattle.x509_prim_text.specs.Bmp.{is_bmp, is_bmp_char, bmp_chars, bmp_octets};
 ghost use Rattle.x509_prim_text.specs.Text.{text};
 ghost use Rattle.x509_prim_text.specs.declared.restricted_ref.RestrictedStringRef.{RestrictedStringRef};
@@ -11,7 +11,7 @@ ghost use Rattle.x509_prim_text.specs.declared.utf8.Utf8StringRef.{Utf8StringRef
 
 use crate::{
     Alphabet, BmpString, Ia5String, PrintableString, RestrictedString, RestrictedStringRef,
-    TeletexString, Utf8String, Utf8StringRef,
+    TeletexString, Utf8String, Utf8StringRef, VisibleString,
 };
 use x509_der_grammar::Grammar;
 
@@ -25,6 +25,7 @@ pub fn bmp_contents_are_texts()
 pub fn restricted_strings_are_theirs()
     ensures printable { (string bytes : List ℕ) → Spells ⟦<PrintableString as Grammar>⟧.form string bytes ↔ Spells (text 0x13 (list_all is_printable)) string bytes }
     ensures ia5 { (string bytes : List ℕ) → Spells ⟦<Ia5String as Grammar>⟧.form string bytes ↔ Spells (text 0x16 (list_all is_ia5)) string bytes }
+    ensures visible { (string bytes : List ℕ) → Spells ⟦<VisibleString as Grammar>⟧.form string bytes ↔ Spells (text 0x1A (list_all is_visible)) string bytes }
     ensures teletex { (string bytes : List ℕ) → Spells ⟦<TeletexString as Grammar>⟧.form string bytes ↔ Spells (text 0x14 (list_all is_ia5)) string bytes }
 {}
 

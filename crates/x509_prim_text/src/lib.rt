@@ -9,7 +9,7 @@ mod restricted_ref;
 mod text;
 mod utf8;
 
-pub use alphabet::{Alphabet, Ia5, Printable, Teletex};
+pub use alphabet::{Alphabet, Ia5, Printable, Teletex, Visible};
 pub use bmp::BmpString;
 pub use restricted::RestrictedString;
 pub use restricted_ref::{RestrictedStringRef, text_of};
@@ -24,6 +24,9 @@ pub type Ia5String = RestrictedString<Ia5>;
 /// TeletexString (X.680 41.1), of which only the characters up to 7F are taken.
 pub type TeletexString = RestrictedString<Teletex>;
 
+/// VisibleString (X.680 41.1): the graphic characters of ISO 646 and the space, 20 to 7E.
+pub type VisibleString = RestrictedString<Visible>;
+
 /// A borrowed PrintableString.
 pub type PrintableStringRef<'a> = RestrictedStringRef<'a, Printable>;
 
@@ -32,5 +35,8 @@ pub type Ia5StringRef<'a> = RestrictedStringRef<'a, Ia5>;
 
 /// A borrowed TeletexString.
 pub type TeletexStringRef<'a> = RestrictedStringRef<'a, Teletex>;
+
+/// A borrowed VisibleString.
+pub type VisibleStringRef<'a> = RestrictedStringRef<'a, Visible>;
 
 pub use x509_der_frames::Any;

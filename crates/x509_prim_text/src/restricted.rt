@@ -10,13 +10,16 @@ ghost use Rattle.std.specs.List.{list_all};
 ghost use Rattle.x509_der_frames.specs.error.ErrorKind.TheVariants as errors;
 
 use crate::alphabet::Alphabet;
-use crate::restricted_ref::{check_text, text_of};
+use crate::restricted_ref::{check_text, text_in, text_of};
 use crate::text::Text;
 use std::alloc::Global;
+use std::cmp::Ordering;
 use std::fmt;
 use std::hash::{Hash, Hasher};
 use std::marker::{Model, PhantomData};
+use x509_der_frames::{Any, FromAny};
 use x509_der_grammar::{Content, Error, ErrorKind, Room, Tag, TryClone};
+use x509_der_order::ValueOrd;
 
 /// A text of a restricted character string type (X.680 41). Contracts see its octets, one for each character.
 #[derive(Drop)]
@@ -96,6 +99,41 @@ impl<A: Alphabet> Content for RestrictedString<A> {
     }
 
     ghost contents_lawful = { tested_contents_lawful (list_all A.has_char) };
+}
+
+impl<A: Alphabet> ValueOrd for RestrictedString<A> {
+    ghost use Rattle.std.specs.List.{list_all};
+    ghost use Rattle.x509_der_grammar.specs.Tested.{tested};
+    ghost use Rattle.x509_der_order.specs.Ordered.{by_bytes, by_bytes_lawful};
+    ghost use Rattle.x509_der_order.specs.Writing.{plain, writes};
+
+    ghost order = { by_bytes (tested A.TAG (list_all A.has_char)) };
+
+    fn value_cmp(&self, other: &RestrictedString<A>) -> Ordering {
+        self.text
+            .as_str()
+            .as_bytes()
+            .cmp(other.text.as_str().as_bytes())
+    }
+
+    ghost ordered = { by_bytes_lawful (tested A.TAG (list_all A.has_char)) (writes plain) (λ x y p q. q) };
+}
+
+/// The text of an element; `Malformed` exactly where it has another identifier, or a character that is not one of the
+/// type's. More than 24 octets take memory, which may be refused.
+impl<A: Alphabet> FromAny<'_> for RestrictedString<A> {
+    ghost use Rattle.std.specs.List.{list_all};
+    ghost use Rattle.x509_prim_text.specs.Borrowed.{CopiesTextFrom};
+
+    ghost from_any_gives = { CopiesTextFrom A.TAG (list_all A.has_char) };
+
+    fn from_any(alloc: Global, any: &Any) -> Result<RestrictedString<A>, Error> {
+        let borrowed = text_in::<A>(any.tag(), any.value())?;
+        Ok(RestrictedString {
+            text: Text::new(alloc, borrowed.as_str())?,
+            alphabet: PhantomData,
+        })
+    }
 }
 
 impl<A: Alphabet> TryClone for RestrictedString<A> {

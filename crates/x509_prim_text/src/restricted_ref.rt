@@ -75,7 +75,10 @@ impl<'a, A: Alphabet> RestrictedStringRef<'a, A> {
 }
 
 /// The text in an element with this identifier and this content.
-fn text_in<'a, A: Alphabet>(tag: Tag, octets: &'a [u8]) -> Result<RestrictedStringRef<'a, A>, Error>
+pub(crate) fn text_in<'a, A: Alphabet>(
+    tag: Tag,
+    octets: &'a [u8],
+) -> Result<RestrictedStringRef<'a, A>, Error>
     ensures { BorrowsText (λ string. string.text.now) A.TAG (list_all A.has_char) tag octets.now result }
 {
     if tag.octet() != A::TAG.octet() {

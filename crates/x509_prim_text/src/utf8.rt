@@ -13,11 +13,13 @@ ghost use Rattle.x509_prim_text.specs.Borrowed.{BorrowsText, BorrowsTextFrom};
 
 use crate::text::Text;
 use std::alloc::Global;
+use std::cmp::Ordering;
 use std::fmt;
 use std::hash::{Hash, Hasher};
 use std::marker::Model;
 use x509_der_frames::{Any, FromAny};
 use x509_der_grammar::{AnyRef, Content, Error, ErrorKind, Room, Tag, TryClone};
+use x509_der_order::ValueOrd;
 
 /// A UTF8String (X.680 41.16, X.690 8.23.10). Contracts see the UTF-8 octets of its characters.
 #[derive(Drop)]
@@ -106,6 +108,36 @@ impl Content for Utf8String {
     }
 
     ghost contents_lawful = { tested_contents_lawful is_utf8 };
+}
+
+impl ValueOrd for Utf8String {
+    ghost use Rattle.x509_der_order.specs.Ordered.{by_bytes, by_bytes_lawful};
+    ghost use Rattle.x509_der_order.specs.Writing.{plain, writes};
+    ghost use Rattle.x509_prim_text.specs.Texts.{utf8_string};
+
+    ghost order = { by_bytes utf8_string };
+
+    fn value_cmp(&self, other: &Utf8String) -> Ordering {
+        self.text
+            .as_str()
+            .as_bytes()
+            .cmp(other.text.as_str().as_bytes())
+    }
+
+    ghost ordered = { by_bytes_lawful utf8_string (writes plain) (λ x y p q. q) };
+}
+
+/// The text of an element; `Malformed` exactly where it has another identifier, or a content that is not UTF-8. More than
+/// 24 octets take memory, which may be refused.
+impl FromAny<'_> for Utf8String {
+    ghost use Rattle.x509_prim_text.specs.Borrowed.{CopiesTextFrom};
+
+    ghost from_any_gives = { CopiesTextFrom tags.Utf8String is_utf8 };
+
+    fn from_any(alloc: Global, any: &Any) -> Result<Utf8String, Error> {
+        let borrowed = utf8_text_in(any.tag(), any.value())?;
+        Utf8String::new(alloc, borrowed.as_str())
+    }
 }
 
 impl TryClone for Utf8String {

@@ -2,3 +2,5 @@ pub mod DigitallySigned
 pub mod Timestamp
 pub mod TimestampList
 pub mod Identifier
+pub mod Payload
+pub use Rattle.x509_sct_tls.specs as sct_tls

@@ -84,11 +84,11 @@ impl Criticality for SignedCertificateTimestampList {
 }
 
 impl Newtype for SignedCertificateTimestampList {
-    ghost use Rattle.std.specs.Prelude.{refl};
+    ghost use Rattle.x509_sct.specs.Payload.{signed_certificate_timestamp_list_round};
 
     type Inner = OctetString;
 
-    ghost round = { record { to = λ list. list.0; from = λ octets. record { 0 = octets }; back = λ list. refl; there = λ octets. refl } };
+    ghost round = { signed_certificate_timestamp_list_round };
 
     fn inner(&self) -> &OctetString {
         &self.0

@@ -4,22 +4,21 @@ use Rattle.std.specs.Str.{IsUtf8, is_utf8}
 use Rattle.std.proofs.lemmas.Bool.{cases_Bool}
 use Rattle.std.proofs.lemmas.Str.{is_utf8-from_IsUtf8, IsUtf8-from_is_utf8}
 use Rattle.x509_der_element.specs.declared.error.ErrorKind.TheVariants.{Memory, Failed}
-use Rattle.x509_tool_run.specs.declared.command.Command.{Command}
 use Rattle.x509_tool_run.specs.declared.refusal.Refusal.{Refusal}
 use Rattle.x509_tool_run.specs.declared.refusal.Refusal.TheVariants.{Because}
 use Rattle.x509_tool_run.specs.Input.{Whole, IsRead}
-use Rattle.x509_tool_run.specs.Answer.{Answer, Codecs, IsFromText, IsLine, IsLineAnswer, line_of}
+use Rattle.x509_tool_run.specs.Answer.{Answer, IsFromText, IsLine, line_of}
 use Rattle.x509_tool_run.specs.Program.{Answers}
 
 -- an answer to the line is one to the input
-pub answers_line : {R X : Type 0} (P : X → List ℕ → Type 0) (codecs : Codecs) (command : Command) (gives : R → Option (List ℕ) → R → Type 0) (from to : R) (bytes line : List ℕ) (result : Result X Refusal) → IsRead gives from (Whole bytes) to → line ≡ line_of bytes → MatchResult result (λ x. (text : List ℕ) × IsLineAnswer codecs command line (Ok text) × P x text) (λ refusal. (refusal ≡ Because Memory) ⊎ IsLineAnswer codecs command line (Err refusal)) → MatchResult result (λ x. (text : List ℕ) × Answers codecs command gives from to (Ok text) × P x text) (λ refusal. Answers codecs command gives from to (Err refusal))
-answers_line P codecs command gives from to bytes line (Ok x) read is h =
-    let At : List ℕ → Type 0 = λ line. IsLineAnswer codecs command line (Ok h.0) in
+pub answers_line : {R X A : Type 0} (P : X → A → Type 0) (answers : List ℕ → Result A Refusal → Type 0) (gives : R → Option (List ℕ) → R → Type 0) (from to : R) (bytes line : List ℕ) (result : Result X Refusal) → IsRead gives from (Whole bytes) to → line ≡ line_of bytes → MatchResult result (λ x. (text : A) × answers line (Ok text) × P x text) (λ refusal. (refusal ≡ Because Memory) ⊎ answers line (Err refusal)) → MatchResult result (λ x. (text : A) × Answers answers gives from to (Ok text) × P x text) (λ refusal. Answers answers gives from to (Err refusal))
+answers_line P answers gives from to bytes line (Ok x) read is h =
+    let At : List ℕ → Type 0 = λ line. answers line (Ok h.0) in
     (h.0, (Whole bytes, read, inl (subst At is h.1)), h.2)
-answers_line P codecs command gives from to bytes line (Err refusal) read is (inl memory) =
+answers_line P answers gives from to bytes line (Err refusal) read is (inl memory) =
     (Whole bytes, read, inr (ap (λ (r : Refusal). Err r) memory))
-answers_line P codecs command gives from to bytes line (Err refusal) read is (inr h) =
-    let At : List ℕ → Type 0 = λ line. IsLineAnswer codecs command line (Err refusal) in
+answers_line P answers gives from to bytes line (Err refusal) read is (inr h) =
+    let At : List ℕ → Type 0 = λ line. answers line (Err refusal) in
     (Whole bytes, read, inl (subst At is h))
 
 -- a line that is UTF-8 is answered as the text that it is

@@ -4,3 +4,4 @@ pub mod Writes
 pub mod AnswerLemmas
 pub mod Known
 mod GivenWords
+pub mod Paths

@@ -73,17 +73,16 @@ IsLineAnswer codecs Name line answer = IsFromHex (IsShown (λ text. text) codecs
 IsLineAnswer codecs EncodeName line answer =
     IsFromText (IsShown encode_upper codecs.encodes_name) (is_utf8 line) line answer
 
--- the answer to a command with this input
-abbrev pub IsInputAnswer : Codecs → Command → Input → Answer → Type 0
-IsInputAnswer codecs command (Whole bytes) answer = IsLineAnswer codecs command (line_of bytes) answer
-IsInputAnswer codecs command TooLong answer = answer ≡ Err (Because Overlength)
-IsInputAnswer codecs command Unreadable answer = answer ≡ Err Read
-IsInputAnswer codecs command Unkept answer = answer ≡ Err (Because Memory)
+-- the answer to an input, where a line is answered so
+abbrev pub IsInputAnswer : {A : Type 0} → (List ℕ → Result A Refusal → Type 0) → Input → Result A Refusal → Type 0
+IsInputAnswer answers (Whole bytes) answer = answers (line_of bytes) answer
+IsInputAnswer answers TooLong answer = answer ≡ Err (Because Overlength)
+IsInputAnswer answers Unreadable answer = answer ≡ Err Read
+IsInputAnswer answers Unkept answer = answer ≡ Err (Because Memory)
 
 -- that answer, or that memory was refused
-abbrev pub IsAnswer : Codecs → Command → Input → Answer → Type 0
-IsAnswer codecs command input answer =
-    IsInputAnswer codecs command input answer ⊎ (answer ≡ Err (Because Memory))
+abbrev pub IsAnswer : {A : Type 0} → (List ℕ → Result A Refusal → Type 0) → Input → Result A Refusal → Type 0
+IsAnswer answers input answer = IsInputAnswer answers input answer ⊎ (answer ≡ Err (Because Memory))
 
 -- the name of an error
 abbrev pub kind_name : ErrorKind → List ℕ

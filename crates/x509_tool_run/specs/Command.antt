@@ -72,3 +72,8 @@ command_of (command ∷ kind ∷ []) =
 command_of (command ∷ kind ∷ profile ∷ []) =
     if bytes_eq command (codes "reencode") then reencoding_of (kind_of kind) (profile_of profile) else None
 command_of words = None
+
+-- `path MOMENT`: the text of the moment
+abbrev pub moment_of : List (List ℕ) → Option (List ℕ)
+moment_of (command ∷ moment ∷ []) = if bytes_eq command (codes "path") then Some moment else None
+moment_of words = None

@@ -1,4 +1,4 @@
-//! Decoding bytes and encoding the value again, and names as texts.
+//! Decoding bytes and encoding the value again, names as texts, and paths of certificates.
 
 ghost use Rattle.std.specs.Prelude.{◌≡◌, ◌⊎◌, ℕ, List, Result, Ok, Err, MatchResult};
 ghost use Rattle.x509_der_element.specs.declared.error.ErrorKind.{ErrorKind};
@@ -49,4 +49,26 @@ pub trait NameCodec {
         ensures { MatchResult result
             (λ encoding. encodes_name text.now (Ok encoding.items))
             (λ e. (e.kind ≡ Memory) ⊎ encodes_name text.now (Err e.kind)) };
+}
+
+/// The checker of paths of certificates.
+pub trait PathCodec {
+    ghost use Rattle.std.specs.Prelude.{map, string_bytes};
+    ghost use Rattle.std.specs.Option.{option_map};
+    ghost use Rattle.x509_tool_run.specs.Path.{PathStep};
+
+    /// What may be said of a path, memory aside: nothing where it holds, else its first fault; or an error.
+    ghost checks_path: { PathStep };
+
+    /// The first fault of the certificates, topmost first, at the moment of the text, under the subject and the key of the
+    /// anchor's certificate; `None` where the path holds.
+    fn check_path(
+        alloc: Global,
+        moment: &str,
+        anchor: &[u8],
+        path: &[Vec<u8>],
+    ) -> Result<Option<String>, Error>
+        ensures { MatchResult result
+            (λ fault. checks_path moment.now anchor.now (map (λ certificate. certificate.items) path.now) (Ok (option_map string_bytes fault)))
+            (λ e. (e.kind ≡ Memory) ⊎ checks_path moment.now anchor.now (map (λ certificate. certificate.items) path.now) (Err e.kind)) };
 }

@@ -1,7 +1,8 @@
 //! What the words after the program's name ask for.
 
+ghost use Rattle.std.specs.Option.{option_map};
 ghost use Rattle.std.specs.Prelude.{◌≡◌, map, string_bytes, ◌∷◌, []};
-ghost use Rattle.x509_tool_run.specs.Command.{kind_of, type_name, profile_of, name_command_of, command_of};
+ghost use Rattle.x509_tool_run.specs.Command.{kind_of, type_name, profile_of, name_command_of, command_of, moment_of};
 
 /// A type whose encodings the program reads.
 #[derive(Clone, Copy, Debug, PartialEq, Eq)]
@@ -164,5 +165,15 @@ impl Command {
             return None;
         }
         Some(Command::Reencode(Kind::from_word(kind)?, ProfileName::from_word(profile)?))
+    }
+}
+
+/// The text of the moment, where the words are `path MOMENT`.
+pub fn path_moment(words: &[String]) -> Option<&str>
+    ensures { option_map (λ moment. moment.now) result ≡ moment_of (map string_bytes words.now) }
+{
+    match words {
+        [command, moment] if command.as_str() == "path" => Some(moment.as_str()),
+        _ => None,
     }
 }

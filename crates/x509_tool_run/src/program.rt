@@ -5,14 +5,15 @@ ghost use Rattle.std.specs.Str.{is_utf8};
 ghost use Rattle.hex.specs.Hex.{decode_of, encode_upper};
 ghost use Rattle.x509_der_element.specs.declared.error.ErrorKind.TheVariants.{Memory, Failed};
 ghost use Rattle.x509_tool_run.specs.declared.refusal.Refusal.TheVariants.{Because};
-ghost use Rattle.x509_tool_run.specs.Command.{command_of, type_name};
+ghost use Rattle.x509_tool_run.specs.Command.{command_of, moment_of, type_name};
 ghost use Rattle.x509_tool_run.specs.Answer.{IsFromHex, IsFromText, IsLine, IsLineAnswer, IsReencoded, IsShown, as_line, codecs_of, line_of, text_of, usage};
-ghost use Rattle.x509_tool_run.specs.Program.{Says, Answers, Obeys};
+ghost use Rattle.x509_tool_run.specs.Program.{Says, Answers, ChecksPath, Obeys};
 
-use crate::codec::{Codec, NameCodec};
-use crate::command::{Command, Kind, ProfileName};
+use crate::codec::{Codec, NameCodec, PathCodec};
+use crate::command::{Command, Kind, ProfileName, path_moment};
 use crate::input::{Source, read_input};
 use crate::output::{Sink, WriteError, write_text};
+use crate::path::read_and_check;
 use crate::refusal::Refusal;
 use hex::FromHexError;
 use std::alloc::Global;
@@ -22,7 +23,7 @@ const USAGE: &[u8] =
     b"usage: x509_tool reencode TYPE [rfc5280|raw] | name | encode-name | path MOMENT\n";
 
 /// The line of an input: all of it but one final line feed.
-fn line_of(input: &[u8]) -> &[u8]
+pub(crate) fn line_of(input: &[u8]) -> &[u8]
     ensures { result.now ≡ line_of input.now }
 {
     match input {
@@ -132,12 +133,29 @@ fn read_and_answer<C: Codec + NameCodec, R: Source>(
 ) -> Result<String, Refusal>
     ensures { MatchResult result
         (λ line. (text : List ℕ)
-        × Answers (codecs_of C.reencodes C.prints_name C.encodes_name) command R.gives reader.old reader.new (Ok text)
+        × Answers (IsLineAnswer (codecs_of C.reencodes C.prints_name C.encodes_name) command) R.gives reader.old reader.new (Ok text)
         × (string_bytes line ≡ as_line text))
-        (λ refusal. Answers (codecs_of C.reencodes C.prints_name C.encodes_name) command R.gives reader.old reader.new (Err refusal)) }
+        (λ refusal. Answers (IsLineAnswer (codecs_of C.reencodes C.prints_name C.encodes_name) command) R.gives reader.old reader.new (Err refusal)) }
 {
     let input = read_input(alloc, reader)?;
     answer::<C>(alloc, command, line_of(input.as_slice()))
+}
+
+/// Checks the path that the input is, at the moment of the text: says whether it holds or its first fault, and answers the
+/// status.
+fn check_and_say<C: PathCodec, R: Source, W: Sink>(
+    alloc: Global,
+    moment: &str,
+    reader: &mut R,
+    writer: &mut W,
+) -> u8
+    ensures { ChecksPath C.checks_path moment.now R.gives reader.old reader.new W.takes writer.old writer.new result }
+{
+    match read_and_check::<C, R>(alloc, moment, reader) {
+        Ok(None) => say(writer, b"ok\n", 0),
+        Ok(Some(line)) => say(writer, line.as_str().as_bytes(), 1),
+        Err(refusal) => say(writer, refusal.line(), 1),
+    }
 }
 
 /// The answer where no memory was left for the words.
@@ -147,22 +165,28 @@ pub fn refuse_memory<W: Sink>(writer: &mut W) -> u8
     say(writer, Refusal::Because(ErrorKind::Memory).line(), 1)
 }
 
-/// Does what the words ask for with the input of the reader, by the decoders and encoders of `C`: writes one line to the
-/// writer, and answers the status.
-pub fn run<C: Codec + NameCodec, R: Source, W: Sink>(
+/// Does what the words ask for with the input of the reader, by the decoders, encoders and checker of `C`: writes one line to
+/// the writer, and answers the status.
+pub fn run<C: Codec + NameCodec + PathCodec, R: Source, W: Sink>(
     alloc: Global,
     words: &[String],
     reader: &mut R,
     writer: &mut W,
 ) -> u8
     // With other words nothing is read.
-    ensures untouched { command_of (map string_bytes words.now) ≡ None → reader.new ≡ reader.old }
-    ensures usage { command_of (map string_bytes words.now) ≡ None
+    ensures untouched { command_of (map string_bytes words.now) ≡ None → moment_of (map string_bytes words.now) ≡ None
+        → reader.new ≡ reader.old }
+    ensures usage { command_of (map string_bytes words.now) ≡ None → moment_of (map string_bytes words.now) ≡ None
         → Says W.takes writer.old usage 2 writer.new result }
     ensures obeys { IfSome (command_of (map string_bytes words.now)) (λ command.
         Obeys (codecs_of C.reencodes C.prints_name C.encodes_name) command
         R.gives reader.old reader.new W.takes writer.old writer.new result) }
+    ensures path { IfSome (moment_of (map string_bytes words.now)) (λ moment.
+        ChecksPath C.checks_path moment R.gives reader.old reader.new W.takes writer.old writer.new result) }
 {
+    if let Some(moment) = path_moment(words) {
+        return check_and_say::<C, R, W>(alloc, moment, reader, writer);
+    }
     let Some(command) = Command::from_words(words) else {
         return say(writer, USAGE, 2);
     };

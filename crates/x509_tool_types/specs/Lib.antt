@@ -1,2 +1,3 @@
 pub mod Naming
 pub mod NameAnswers
+pub mod Paths

@@ -25,7 +25,7 @@ use x509_prim::Int;
 use x509_tool_run::Codec;
 use x509_tool_table::Reencode;
 
-/// What the program re-encodes is of the type that its word stands for.
+/// What the program re-encodes is of the type that its word stands for, under the profile that its word stands for.
 #[tactic(auto, unfolding(crate::specs::NameAnswers::rdn_answers))]
 pub fn program_types()
     ensures anchor { (bytes : List ℕ) (answer : Result (List ℕ) ErrorKind) → ⟦<Types as Codec>⟧.reencodes (type_name kinds.Anchor) profiles.Rfc5280 bytes answer → ⟦<TrustAnchorChoice<Rfc5280> as Reencode>⟧.reencodes bytes answer }
@@ -42,5 +42,9 @@ pub fn program_types()
     ensures serial { (bytes : List ℕ) (answer : Result (List ℕ) ErrorKind) → ⟦<Types as Codec>⟧.reencodes (type_name kinds.Serial) profiles.Rfc5280 bytes answer → ⟦<SerialNumber<Rfc5280> as Reencode>⟧.reencodes bytes answer }
     ensures time { (bytes : List ℕ) (answer : Result (List ℕ) ErrorKind) → ⟦<Types as Codec>⟧.reencodes (type_name kinds.Time) profiles.Rfc5280 bytes answer → ⟦<Time as Reencode>⟧.reencodes bytes answer }
     ensures validity { (bytes : List ℕ) (answer : Result (List ℕ) ErrorKind) → ⟦<Types as Codec>⟧.reencodes (type_name kinds.Validity) profiles.Rfc5280 bytes answer → ⟦<Validity<Rfc5280> as Reencode>⟧.reencodes bytes answer }
-    ensures raw { (bytes : List ℕ) (answer : Result (List ℕ) ErrorKind) → ⟦<Types as Codec>⟧.reencodes (type_name kinds.Validity) profiles.Raw bytes answer → ⟦<Validity<Raw> as Reencode>⟧.reencodes bytes answer }
+    ensures raw_anchor { (bytes : List ℕ) (answer : Result (List ℕ) ErrorKind) → ⟦<Types as Codec>⟧.reencodes (type_name kinds.Anchor) profiles.Raw bytes answer → ⟦<TrustAnchorChoice<Raw> as Reencode>⟧.reencodes bytes answer }
+    ensures raw_certificate { (bytes : List ℕ) (answer : Result (List ℕ) ErrorKind) → ⟦<Types as Codec>⟧.reencodes (type_name kinds.Certificate) profiles.Raw bytes answer → ⟦<CertificateInner<Raw> as Reencode>⟧.reencodes bytes answer }
+    ensures raw_crl { (bytes : List ℕ) (answer : Result (List ℕ) ErrorKind) → ⟦<Types as Codec>⟧.reencodes (type_name kinds.Crl) profiles.Raw bytes answer → ⟦<CertificateList<Raw> as Reencode>⟧.reencodes bytes answer }
+    ensures raw_serial { (bytes : List ℕ) (answer : Result (List ℕ) ErrorKind) → ⟦<Types as Codec>⟧.reencodes (type_name kinds.Serial) profiles.Raw bytes answer → ⟦<SerialNumber<Raw> as Reencode>⟧.reencodes bytes answer }
+    ensures raw_validity { (bytes : List ℕ) (answer : Result (List ℕ) ErrorKind) → ⟦<Types as Codec>⟧.reencodes (type_name kinds.Validity) profiles.Raw bytes answer → ⟦<Validity<Raw> as Reencode>⟧.reencodes bytes answer }
 {}

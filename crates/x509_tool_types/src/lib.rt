@@ -12,6 +12,7 @@ mod general_name;
 pub mod laws;
 mod name;
 mod party;
+mod paths;
 mod policy;
 mod primitive;
 mod revocation;

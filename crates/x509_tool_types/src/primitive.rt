@@ -6,7 +6,9 @@ use x509_der::ObjectIdentifier;
 use x509_der_frames::Any;
 use x509_der_grammar::Error;
 use x509_prim::{BitString, Int, OctetString, Uint};
-use x509_prim_text::{BmpString, Ia5String, PrintableString, TeletexString, Utf8String};
+use x509_prim_text::{
+    BmpString, Ia5String, PrintableString, TeletexString, Utf8String, VisibleString,
+};
 use x509_tool_table::{Reencode, Table};
 
 /// The primitive types, in front of another table.
@@ -30,6 +32,7 @@ impl<T: Table> Table for Primitives<T> {
         named (codes "TeletexString") ⟦<TeletexString as Reencode>⟧.reencodes otherwise
         named (codes "Uint") ⟦<Uint as Reencode>⟧.reencodes otherwise
         named (codes "Utf8String") ⟦<Utf8String as Reencode>⟧.reencodes otherwise
+        named (codes "VisibleString") ⟦<VisibleString as Reencode>⟧.reencodes otherwise
         T.table };
 
     fn reencode(alloc: Global, name: &str, bytes: &[u8]) -> Result<Vec<u8>, Error> {
@@ -45,6 +48,7 @@ impl<T: Table> Table for Primitives<T> {
             "TeletexString" => TeletexString::reencode_as(alloc, bytes),
             "Uint" => Uint::reencode_as(alloc, bytes),
             "Utf8String" => Utf8String::reencode_as(alloc, bytes),
+            "VisibleString" => VisibleString::reencode_as(alloc, bytes),
             _ => T::reencode(alloc, name, bytes),
         }
     }

@@ -1,21 +1,11 @@
 //! Prints the subject, the dates, the key usage and the alternative names of a certificate, and checks that writing it gives its bytes.
+mod payload;
 mod x509;
 
+use payload::{names, usages};
 use std::process::ExitCode;
 use std::{env, fs};
-use x509::{name_text, Certificate, Refused};
-
-const USAGES: [&str; 9] = [
-    "digitalSignature",
-    "nonRepudiation",
-    "keyEncipherment",
-    "dataEncipherment",
-    "keyAgreement",
-    "keyCertSign",
-    "cRLSign",
-    "encipherOnly",
-    "decipherOnly",
-];
+use x509::{name_text, reencode, Certificate, Refused, RAW};
 
 /// Year, month and day of a number of days since 1970-01-01.
 fn date(days: u64) -> (u64, u64, u64) {
@@ -53,79 +43,65 @@ fn moment(seconds: u64) -> String {
     format!("{year:04}-{month:02}-{day:02}T{hour:02}:{minute:02}:{second:02}Z")
 }
 
-fn usages(payload: &[u8]) -> Vec<String> {
-    let is_set = |bit: usize| {
-        payload
-            .get(3 + bit / 8)
-            .is_some_and(|octet| octet & (0x80 >> (bit % 8)) != 0)
-    };
-    (0..9)
-        .filter(|&bit| is_set(bit))
-        .map(|bit| USAGES[bit].to_owned())
-        .collect()
-}
-
-fn names(payload: &[u8]) -> Vec<String> {
-    let skip = if payload[1] >= 0x80 {
-        usize::from(payload[1] & 0x7f)
-    } else {
-        0
-    };
-    let (mut found, mut rest) = (Vec::new(), &payload[2 + skip..]);
-    while let [tag, len, after @ ..] = rest {
-        let (name, others) = after.split_at(usize::from(*len));
-        match *tag {
-            0x81 => found.push(format!("email:{}", String::from_utf8_lossy(name))),
-            0x82 => found.push(format!("DNS:{}", String::from_utf8_lossy(name))),
-            0x87 => found.push(format!(
-                "IP:{}",
-                name.iter().map(u8::to_string).collect::<Vec<_>>().join(".")
-            )),
-            _ => {}
+/// The text, with each octet of a control character as RFC 4514 escapes it: a backslash and two hex digits.
+fn visible(text: &str) -> String {
+    let mut shown = String::new();
+    for character in text.chars() {
+        if character.is_control() {
+            let octets = character.to_string().into_bytes();
+            shown.extend(octets.iter().map(|octet| format!("\\{octet:02x}")));
+        } else {
+            shown.push(character);
         }
-        rest = others;
     }
-    found
+    shown
 }
 
-fn told(extension: Option<(bool, &[u8])>, read: fn(&[u8]) -> Vec<String>) -> String {
-    match extension {
-        None => "none".to_owned(),
-        Some((critical, payload)) => format!(
-            "{}{}",
-            if critical { "critical, " } else { "" },
-            read(payload).join(" ")
-        ),
+/// Words that say what an extension holds, where it is a value of its type.
+fn told(
+    certificate: &Certificate,
+    oid: &[u8],
+    kind: &str,
+    read: fn(&[u8]) -> Vec<String>,
+) -> Result<Vec<String>, Refused> {
+    let Some((critical, payload)) = certificate.extension(oid)? else {
+        return Ok(vec!["none".to_owned()]);
+    };
+    reencode(kind, RAW, payload)?;
+    let mut words = vec!["critical,".to_owned(); usize::from(critical)];
+    words.extend(read(payload));
+    Ok(words)
+}
+
+/// Prints the words, or the refusal; and says whether there is none.
+fn tell(what: &str, told: Result<Vec<String>, Refused>) -> bool {
+    match &told {
+        Ok(words) => println!("{}", [&[format!("{what}:")], &words[..]].concat().join(" ")),
+        Err(Refused(status)) => println!("{what}: refused with {status}"),
     }
+    told.is_ok()
 }
 
 fn show(bytes: &[u8]) -> Result<bool, Refused> {
     let certificate = Certificate::new(bytes)?;
-    println!("subject: {}", name_text(certificate.subject())?);
+    println!("subject: {}", visible(&name_text(certificate.subject())?));
     let (not_before, not_after) = certificate.validity();
-    println!(
-        "not before: {}\nnot after: {}",
-        moment(not_before),
-        moment(not_after)
-    );
-    println!(
-        "key usage: {}",
-        told(certificate.extension(b"\x55\x1d\x0f")?, usages)
-    );
-    println!(
-        "alternative names: {}",
-        told(certificate.extension(b"\x55\x1d\x11")?, names)
-    );
-    let same = certificate.to_der()? == bytes;
+    println!("not before: {}", moment(not_before));
+    println!("not after: {}", moment(not_after));
+    let usage = told(&certificate, b"\x55\x1d\x0f", "KeyUsage", usages);
+    let others = told(&certificate, b"\x55\x1d\x11", "SubjectAltName", names);
+    let is_told = [tell("key usage", usage), tell("alternative names", others)];
+    // Under `RAW` what was read is written as the same bytes. Under `RFC5280` its dates may be spelled otherwise.
+    let is_same = certificate.to_der(RAW)? == bytes;
     println!(
         "written again: {}",
-        if same {
+        if is_same {
             "the same bytes"
         } else {
             "other bytes"
         }
     );
-    Ok(same)
+    Ok(is_same && is_told == [true, true])
 }
 
 fn main() -> ExitCode {

@@ -141,6 +141,8 @@ impl Builder for RequestBuilder {
 
     ghost asks_key = { Unit {0} };
 
+    ghost assembles_by_algorithm = { Unit {0} };
+
     ghost whole = { λ part algorithm bits. record { info = part; algorithm = algorithm; signature = bits } };
 
     fn finalize<S: Signer>(&mut self, alloc: Global, signer: &S) -> Result<Vec<u8>> {

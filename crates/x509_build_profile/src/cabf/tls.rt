@@ -47,6 +47,18 @@ pub struct Subordinate {
     pub client_auth: bool,
 }
 
+impl TryClone for Subordinate {
+    fn try_clone(&self, alloc: Global) -> std::result::Result<Subordinate, DerError> {
+        Ok(Subordinate {
+            issuer: self.issuer.try_clone(alloc)?,
+            subject: self.subject.try_clone(alloc)?,
+            path_len_constraint: self.path_len_constraint,
+            emits_ocsp_response: self.emits_ocsp_response,
+            client_auth: self.client_auth,
+        })
+    }
+}
+
 impl BuilderProfile for Subordinate {
     ghost use Rattle.x509_build_profile.specs.Profiles.{given, subordinate_list};
 
@@ -208,6 +220,15 @@ pub struct Tls12Options {
     pub enable_key_agreement: bool,
 }
 
+impl TryClone for Tls12Options {
+    fn try_clone(&self, _alloc: Global) -> std::result::Result<Tls12Options, DerError> {
+        Ok(Tls12Options {
+            enable_key_encipherment: self.enable_key_encipherment,
+            enable_key_agreement: self.enable_key_agreement,
+        })
+    }
+}
+
 /// Neither is enabled.
 impl Default for Tls12Options {
     ghost use Rattle.std.specs.Prelude.{false};
@@ -258,6 +279,18 @@ impl Subscriber {
             is_rsa && self.tls12_options.enable_key_encipherment,
             is_ecc && self.tls12_options.enable_key_agreement,
         )
+    }
+}
+
+impl TryClone for Subscriber {
+    fn try_clone(&self, alloc: Global) -> std::result::Result<Subscriber, DerError> {
+        Ok(Subscriber {
+            certificate_type: self.certificate_type.try_clone(alloc)?,
+            issuer: self.issuer.try_clone(alloc)?,
+            client_auth: self.client_auth,
+            tls12_options: self.tls12_options.try_clone(alloc)?,
+            enable_data_encipherment: self.enable_data_encipherment,
+        })
     }
 }
 

@@ -46,7 +46,7 @@ impl<P: Profile> RevokedCert<P> {
     ) -> Result<Option<(bool, T)>, Error>
         ensures { Finds T.form T.refuses T.wants_memory (with_oid T.OID (members self.now.crl_entry_extensions)) result }
     {
-        get_extension(alloc, members(&self.crl_entry_extensions))
+        get_extension(alloc, members(self.crl_entry_extensions.as_ref()))
     }
 
     /// The extensions of the entry with the identifier of the type, in their order.
@@ -56,7 +56,7 @@ impl<P: Profile> RevokedCert<P> {
     ) -> FilterExtensions<'_, T>
         ensures { extensions_left T.OID result ≡ with_oid T.OID (members self.now.crl_entry_extensions) }
     {
-        filter_extensions(alloc, members(&self.crl_entry_extensions))
+        filter_extensions(alloc, members(self.crl_entry_extensions.as_ref()))
     }
 }
 

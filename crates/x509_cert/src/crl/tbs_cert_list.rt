@@ -17,13 +17,13 @@ use x509_der_frames::{
 };
 use x509_der_grammar::{Content, Decode, Error, Room, Tag, TryClone};
 
-/// The part of a list of revoked certificates that is signed (RFC 5280 5.1.2). The version is always there. Times are
-/// written as they are. That the version is v2, and that a list of entries is left out where there are none, as RFC 5280
-/// wants it, isn't looked at.
+/// The part of a CRL that is signed (RFC 5280 5.1.2). Times are written as they are. That a version which is there is v2, that
+/// it is there where there are extensions, and that the list of entries is left out where there are none, as RFC 5280 wants
+/// it, isn't looked at.
 ///
 /// ```text
 /// TBSCertList ::= SEQUENCE {
-///     version              Version,
+///     version              Version OPTIONAL,
 ///     signature            AlgorithmIdentifier,
 ///     issuer               Name,
 ///     thisUpdate           Time,
@@ -33,8 +33,8 @@ use x509_der_grammar::{Content, Decode, Error, Room, Tag, TryClone};
 /// ```
 #[derive(Debug, PartialEq, Eq)]
 pub struct TbsCertList<P: Profile = Rfc5280> {
-    /// The version of the list.
-    pub version: Version,
+    /// The version; absent in a CRL of v1.
+    pub version: Option<Version>,
 
     /// The algorithm of the signature, as the whole has it once more.
     pub signature: AlgorithmIdentifier,
@@ -66,7 +66,7 @@ impl<P: Profile> TbsCertList<P> {
     ) -> Result<Option<(bool, T)>, Error>
         ensures { Finds T.form T.refuses T.wants_memory (with_oid T.OID (members self.now.crl_extensions)) result }
     {
-        get_extension(alloc, members(&self.crl_extensions))
+        get_extension(alloc, members(self.crl_extensions.as_ref()))
     }
 
     /// The extensions of the list with the identifier of the type, in their order.
@@ -76,7 +76,7 @@ impl<P: Profile> TbsCertList<P> {
     ) -> FilterExtensions<'_, T>
         ensures { extensions_left T.OID result ≡ with_oid T.OID (members self.now.crl_extensions) }
     {
-        filter_extensions(alloc, members(&self.crl_extensions))
+        filter_extensions(alloc, members(self.crl_extensions.as_ref()))
     }
 }
 
@@ -124,7 +124,7 @@ impl<P: Profile> Content for TbsCertList<P> {
 
     fn read_content(alloc: Global, octets: &[u8]) -> Result<TbsCertList<P>, Error> {
         let mut rest = octets;
-        let version = field::<Version>(alloc, &mut rest)?;
+        let version = optional_field::<Version>(alloc, &mut rest)?;
         let signature = field::<AlgorithmIdentifier>(alloc, &mut rest)?;
         let issuer = field::<Name>(alloc, &mut rest)?;
         let this_update = field::<Time>(alloc, &mut rest)?;
@@ -145,7 +145,7 @@ impl<P: Profile> Content for TbsCertList<P> {
 
     fn write_content<R: Room>(&self, room: &mut R) -> Result<(), Error> {
         let front = (
-            &self.version,
+            optional(&self.version),
             (&self.signature, (&self.issuer, &self.this_update)),
         );
         let behind = (

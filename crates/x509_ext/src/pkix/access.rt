@@ -101,11 +101,11 @@ impl Criticality for AuthorityInfoAccessSyntax {
 }
 
 impl Newtype for AuthorityInfoAccessSyntax {
-    ghost use Rattle.std.specs.Prelude.{refl};
+    ghost use Rattle.x509_ext.specs.Access.{authority_info_access_syntax_round};
 
     type Inner = SequenceOf<AccessDescription>;
 
-    ghost round = { record { to = λ access. access.0; from = λ descriptions. record { 0 = descriptions }; back = λ access. refl; there = λ descriptions. refl } };
+    ghost round = { authority_info_access_syntax_round };
 
     fn inner(&self) -> &SequenceOf<AccessDescription> {
         &self.0
@@ -191,11 +191,11 @@ impl Criticality for SubjectInfoAccessSyntax {
 }
 
 impl Newtype for SubjectInfoAccessSyntax {
-    ghost use Rattle.std.specs.Prelude.{refl};
+    ghost use Rattle.x509_ext.specs.Access.{subject_info_access_syntax_round};
 
     type Inner = SequenceOf<AccessDescription>;
 
-    ghost round = { record { to = λ access. access.0; from = λ descriptions. record { 0 = descriptions }; back = λ access. refl; there = λ descriptions. refl } };
+    ghost round = { subject_info_access_syntax_round };
 
     fn inner(&self) -> &SequenceOf<AccessDescription> {
         &self.0

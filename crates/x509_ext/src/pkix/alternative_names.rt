@@ -49,11 +49,11 @@ impl Criticality for SubjectAltName {
 }
 
 impl Newtype for SubjectAltName {
-    ghost use Rattle.std.specs.Prelude.{refl};
+    ghost use Rattle.x509_ext.specs.AlternativeNames.{subject_alt_name_round};
 
     type Inner = GeneralNames;
 
-    ghost round = { record { to = λ alternative. alternative.0; from = λ names. record { 0 = names }; back = λ alternative. refl; there = λ names. refl } };
+    ghost round = { subject_alt_name_round };
 
     fn inner(&self) -> &GeneralNames {
         &self.0
@@ -142,11 +142,11 @@ impl Criticality for IssuerAltName {
 }
 
 impl Newtype for IssuerAltName {
-    ghost use Rattle.std.specs.Prelude.{refl};
+    ghost use Rattle.x509_ext.specs.AlternativeNames.{issuer_alt_name_round};
 
     type Inner = GeneralNames;
 
-    ghost round = { record { to = λ alternative. alternative.0; from = λ names. record { 0 = names }; back = λ alternative. refl; there = λ names. refl } };
+    ghost round = { issuer_alt_name_round };
 
     fn inner(&self) -> &GeneralNames {
         &self.0

@@ -35,11 +35,11 @@ impl Criticality for ExtendedKeyUsage {
 }
 
 impl Newtype for ExtendedKeyUsage {
-    ghost use Rattle.std.specs.Prelude.{refl};
+    ghost use Rattle.x509_ext.specs.ExtendedKeyUsage.{extended_key_usage_round};
 
     type Inner = SequenceOf<ObjectIdentifier>;
 
-    ghost round = { record { to = λ usage. usage.0; from = λ purposes. record { 0 = purposes }; back = λ usage. refl; there = λ purposes. refl } };
+    ghost round = { extended_key_usage_round };
 
     fn inner(&self) -> &SequenceOf<ObjectIdentifier> {
         &self.0

@@ -227,11 +227,11 @@ impl Criticality for KeyUsage {
 }
 
 impl Newtype for KeyUsage {
-    ghost use Rattle.std.specs.Prelude.{refl};
+    ghost use Rattle.x509_ext.specs.KeyUsage.{key_usage_round};
 
     type Inner = KeyUsages;
 
-    ghost round = { record { to = λ usage. usage.0; from = λ usages. record { 0 = usages }; back = λ usage. refl; there = λ usages. refl } };
+    ghost round = { key_usage_round };
 
     fn inner(&self) -> &KeyUsages {
         &self.0

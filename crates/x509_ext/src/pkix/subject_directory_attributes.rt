@@ -50,11 +50,11 @@ impl Criticality for SubjectDirectoryAttributes {
 }
 
 impl Newtype for SubjectDirectoryAttributes {
-    ghost use Rattle.std.specs.Prelude.{refl};
+    ghost use Rattle.x509_ext.specs.SubjectDirectoryAttributes.{subject_directory_attributes_round};
 
     type Inner = SequenceOf<Attribute>;
 
-    ghost round = { record { to = λ subject_attributes. subject_attributes.0; from = λ attributes. record { 0 = attributes }; back = λ subject_attributes. refl; there = λ attributes. refl } };
+    ghost round = { subject_directory_attributes_round };
 
     fn inner(&self) -> &SequenceOf<Attribute> {
         &self.0

@@ -68,11 +68,11 @@ impl Criticality for SubjectKeyIdentifier {
 }
 
 impl Newtype for SubjectKeyIdentifier {
-    ghost use Rattle.std.specs.Prelude.{refl};
+    ghost use Rattle.x509_ext.specs.SubjectKeyIdentifier.{subject_key_identifier_round};
 
     type Inner = OctetString;
 
-    ghost round = { record { to = λ identifier. identifier.0; from = λ octets. record { 0 = octets }; back = λ identifier. refl; there = λ octets. refl } };
+    ghost round = { subject_key_identifier_round };
 
     fn inner(&self) -> &OctetString {
         &self.0

@@ -9,3 +9,6 @@ returns-in-PrintableString g c = search (is_found, is_passed) depth 24
 
 pub returns-in-TeletexString : goal.returns-in-TeletexString
 returns-in-TeletexString g c = search (is_found, is_passed) depth 24
+
+pub returns-in-VisibleString : goal.returns-in-VisibleString
+returns-in-VisibleString g c = search (is_found, is_passed) depth 24

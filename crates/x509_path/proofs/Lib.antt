@@ -1,0 +1,7 @@
+pub mod Payloads
+pub mod Rooms
+pub mod Firsts
+pub mod Places
+pub mod Judged
+pub mod OneAnswer
+pub mod SignaturesApart

@@ -1,0 +1,59 @@
+-- There is one answer to a path, out of memory aside.
+use Rattle.std.proofs.Common.{◌≡◌, ◌⊎◌, inl, inr, ◌∙◌, ℕ, ◌<◌, List, [], Result, Ok, Err, refl, sym, ap, subst}
+use Rattle.std.proofs.lemmas.Bool.{cases_lt}
+use Rattle.std.proofs.Math.Nat.{eq-or-lt_of_le}
+use Rattle.x509_cert.specs.base_time.CivilTime.{CivilTime}
+use Rattle.x509_path.specs.Certificates.{Accepting}
+use Rattle.x509_path.specs.Path.{Answers, HasFault, IsFirst, IsFirstFault, PathHolds}
+use Rattle.x509_path.specs.declared.anchor.Anchor.{Anchor}
+use Rattle.x509_path.specs.declared.fault.PathFault.{PathFault}
+use Rattle.x509_path.specs.declared.fault.PathFault.TheVariants.{Memory, Empty, At}
+use Rattle.x509_path.specs.declared.fault.PathReason.{PathReason}
+use Rattle.x509_path.proofs.Firsts.{one_first}
+
+one_lowest : (p q : ℕ) (P : ℕ → Type 0) → P p → P q → ((n : ℕ) → n < p → P n → ⊥) → ((n : ℕ) → n < q → P n → ⊥) → p ≡ q
+one_lowest p q P hp hq below_p below_q = elim (cases_lt p q) [
+  | inl less ↦ absurd (below_q p less hp)
+  | inr le ↦ elim (eq-or-lt_of_le le) [ inl same ↦ sym same | inr less ↦ absurd (below_p q less hq) ]
+]
+
+module _ (accepts : Accepting) (moment : CivilTime) (anchor : Anchor) (inputs : List (List ℕ)) where
+  abbrev HasSome : ℕ → Type 0
+  HasSome p = (r : PathReason) × HasFault accepts moment anchor inputs p r
+
+  one_fault : (p q : ℕ) (r s : PathReason) → IsFirstFault accepts moment anchor inputs p r → IsFirstFault accepts moment anchor inputs q s → At p r ≡ At q s
+  one_fault p q r s h k =
+      let places : p ≡ q = one_lowest p q HasSome (r, h.first.has) (s, k.first.has) (λ n less f. h.lowest n less f.0 f.1) (λ n less f. k.lowest n less f.0 f.1) in
+      let here : IsFirst (HasFault accepts moment anchor inputs q) r = subst (λ n. IsFirst (HasFault accepts moment anchor inputs n) r) places h.first in
+      ap (λ n. At n r) places ∙ ap (λ t. At q t) (one_first (HasFault accepts moment anchor inputs q) r s here k.first)
+
+  some_input : (p : ℕ) (r : PathReason) → HasFault accepts moment anchor inputs p r → inputs ≡ [] → ⊥
+  some_input p r fault none = subst (λ xs. HasFault accepts moment anchor xs p r) none fault
+
+  pub one : (a b : Result Unit PathFault) → Answers accepts moment anchor inputs a → Answers accepts moment anchor inputs b → (a ≡ b) ⊎ ((a ≡ Err Memory) ⊎ (b ≡ Err Memory))
+  one (Ok u) (Ok v) h k = inl refl
+  one (Ok u) (Err Memory) h k = inr (inr refl)
+  one (Ok u) (Err Empty) h k = absurd (h.0 k)
+  one (Ok u) (Err (At p r)) h k = absurd (h.1 p r k.first.has)
+  one (Err Memory) b h k = inr (inl refl)
+  one (Err Empty) (Ok v) h k = absurd (k.0 h)
+  one (Err Empty) (Err Memory) h k = inr (inr refl)
+  one (Err Empty) (Err Empty) h k = inl refl
+  one (Err Empty) (Err (At p r)) h k = absurd (some_input p r k.first.has h)
+  one (Err (At p r)) (Ok v) h k = absurd (k.1 p r h.first.has)
+  one (Err (At p r)) (Err Memory) h k = inr (inr refl)
+  one (Err (At p r)) (Err Empty) h k = absurd (some_input p r h.first.has k)
+  one (Err (At p r)) (Err (At q s)) h k = inl (ap (λ e. Err e) (one_fault p q r s h k))
+
+  answered : (a b : Result Unit PathFault) → (b ≡ Err Memory → ⊥) → Answers accepts moment anchor inputs a → Answers accepts moment anchor inputs b → (a ≡ b) ⊎ (a ≡ Err Memory)
+  answered a b other h k = elim (one a b h k) [
+    | inl same ↦ inl same
+    | inr (inl memory) ↦ inr memory
+    | inr (inr memory) ↦ absurd (other memory)
+  ]
+
+  pub holds : (a : Result Unit PathFault) → PathHolds accepts moment anchor inputs → Answers accepts moment anchor inputs a → (a ≡ Ok tt) ⊎ (a ≡ Err Memory)
+  holds a path h = answered a (Ok tt) (λ e. cc) h path
+
+  pub faulty : (p : ℕ) (r : PathReason) (a : Result Unit PathFault) → IsFirstFault accepts moment anchor inputs p r → Answers accepts moment anchor inputs a → (a ≡ Err (At p r)) ⊎ (a ≡ Err Memory)
+  faulty p r a fault h = answered a (Err (At p r)) (λ e. cc) h fault

@@ -1,0 +1,44 @@
+use Rattle.std.proofs.Common.{◌∙◌, List, [], ℕ, Bor, Ok, Err, map, get_or, refl, arith}
+use Rattle.std.proofs.lemmas.List.{length-map}
+use Rattle.std.proofs.lemmas.Result.{err_from_is_err_and}
+use Rattle.x509_path.specs.Path.{Answers}
+use Rattle.x509_path.specs.Room.{Judges}
+use Rattle.x509_path.proofs.Places.{counted, done, further, given_at, here, judged, refused, some_left}
+use Rattle.x509_path.proofs.path.check_path_slices.Goals as goal
+
+-- what a read of a list of slices answers behind its end
+abbrev nothing : Bor (List ℕ)
+nothing = record { ref_ptr = (0, 0); now = [] }
+
+pub loop-index-preserved : goal.loop-index-preserved
+loop-index-preserved g c =
+    let accepts = g.V.Verifier.accepts c.args.verifier.now in
+    let inputs = map (λ (input : Bor (List ℕ)). input.now) c.args.path.now in
+    let bytes = (get_or c.args.path.now c.loop-index.index nothing).now in
+    let input = given_at (λ (input : Bor (List ℕ)). input.now) c.args.path.now c.loop-index.index nothing c.loop-index-test.true in
+    let said : Judges accepts c.args.moment (here accepts c.args.moment c.args.anchor.now inputs c.loop-index.index c.loop-index.above c.loop-index.room bytes c.loop-index.invariant input) bytes c.loop-index.index (Ok c.in_ok-certificate.certificate) =
+    judged accepts c.args.moment c.args.anchor.now inputs c.loop-index.index c.loop-index.above c.loop-index.room bytes c.loop-index.invariant input
+    c.place_below-place.result.name.now c.place_below-place.result.key.now c.place_below-place.result.room c.place_below-place.result.is_last bytes (Ok c.in_ok-certificate.certificate)
+    c.place_below-place.ensures.name c.place_below-place.ensures.key c.place_below-place.ensures.room (c.place_below-place.ensures.is_last ∙ counted (λ (input : Bor (List ℕ)). input.now) c.args.path.now c.loop-index.index) refl c.in_ok-certificate.ensures in
+    further accepts c.args.moment c.args.anchor.now inputs c.loop-index.index c.loop-index.above c.loop-index.room bytes c.loop-index.invariant input c.in_ok-certificate.certificate c.in_ok-room.room said c.in_ok-room.ensures.ok
+
+pub returns-in_err-certificate : goal.returns-in_err-certificate
+returns-in_err-certificate g c =
+    let accepts = g.V.Verifier.accepts c.args.verifier.now in
+    let inputs = map (λ (input : Bor (List ℕ)). input.now) c.args.path.now in
+    let bytes = (get_or c.args.path.now c.loop-index.index nothing).now in
+    let input = given_at (λ (input : Bor (List ℕ)). input.now) c.args.path.now c.loop-index.index nothing c.loop-index-test.true in
+    let said : Judges accepts c.args.moment (here accepts c.args.moment c.args.anchor.now inputs c.loop-index.index c.loop-index.above c.loop-index.room bytes c.loop-index.invariant input) bytes c.loop-index.index (Err c.in_err-certificate.field-0.0) =
+    judged accepts c.args.moment c.args.anchor.now inputs c.loop-index.index c.loop-index.above c.loop-index.room bytes c.loop-index.invariant input
+    c.place_below-place.result.name.now c.place_below-place.result.key.now c.place_below-place.result.room c.place_below-place.result.is_last bytes (Err c.in_err-certificate.field-0.0)
+    c.place_below-place.ensures.name c.place_below-place.ensures.key c.place_below-place.ensures.room (c.place_below-place.ensures.is_last ∙ counted (λ (input : Bor (List ℕ)). input.now) c.args.path.now c.loop-index.index) refl c.in_err-certificate.ensures in
+    let answer : Answers accepts c.args.moment c.args.anchor.now inputs (Err c.in_err-certificate.field-0.0) =
+    refused accepts c.args.moment c.args.anchor.now inputs c.loop-index.index c.loop-index.above c.loop-index.room bytes c.loop-index.invariant input c.in_err-certificate.field-0.0
+    (some_left (λ (input : Bor (List ℕ)). input.now) c.args.path.now c.if-is_empty.ensures) said in
+    let told = err_from_is_err_and c.from_residual.result c.from_residual.ensures.1 in
+    rw (told.1, told.2) answer
+
+pub returns : goal.returns
+returns g c =
+    done (g.V.Verifier.accepts c.args.verifier.now) c.args.moment c.args.anchor.now (map (λ input. input.now) c.args.path.now) c.loop-index.index c.loop-index.above c.loop-index.room c.loop-index.invariant
+    (omega (arith, length-map c.args.path.now (λ input. input.now), c.loop-index-test.false)) (some_left (λ input. input.now) c.args.path.now c.if-is_empty.ensures)

@@ -1,0 +1,97 @@
+-- What may be said against one certificate of a path (RFC 5280 6.1.3, 6.1.4), and against how many follow another.
+use Rattle.std.specs.Prelude.{◌≡◌, ◌≢◌, ◌<◌, ◌⊎◌, ℕ, Bool, true, false, not, List, [], ◌∷◌, count_by, Some}
+use Rattle.std.specs.List.{All}
+use Rattle.x509_cert.specs.der_grammar.Form.{Form, Spells}
+use Rattle.x509_cert.specs.prim.BitString.{BitParts}
+use Rattle.x509_cert.specs.base_time.CivilTime.{CivilTime, unix_seconds}
+use Rattle.x509_cert.specs.base_time.Time.{date_time_of}
+use Rattle.x509_cert.specs.base_time.declared.profile.Rfc5280.{Rfc5280}
+use Rattle.x509_cert.specs.base_time.declared.validity.Validity.{Validity}
+use Rattle.x509_cert.specs.base.declared.algorithm_identifier.AlgorithmIdentifier.{AlgorithmIdentifier}
+use Rattle.x509_cert.specs.base.declared.subject_public_key_info.SubjectPublicKeyInfo.{SubjectPublicKeyInfo}
+use Rattle.x509_cert.specs.name.Names.{rdn_sequence_eq}
+use Rattle.x509_cert.specs.ext_frame.Identifiers.{id_ce}
+use Rattle.x509_cert.specs.ext_frame.declared.extension.Extension.{Extension}
+use Rattle.x509_cert.specs.ext.AlternativeNames.{subject_alt_name}
+use Rattle.x509_cert.specs.ext.BasicConstraints.{basic_constraints}
+use Rattle.x509_cert.specs.ext.ExtendedKeyUsage.{extended_key_usage}
+use Rattle.x509_cert.specs.ext.KeyUsage.{key_usage, has_bit}
+use Rattle.x509_cert.specs.ext.declared.pkix.basic_constraints.BasicConstraints.{BasicConstraints}
+use Rattle.x509_cert.specs.ext.declared.pkix.key_usage.KeyUsage.{KeyUsage}
+use Rattle.x509_cert.specs.cert_extension.LookUp.{members, with_oid}
+use Rattle.x509_cert.specs.cert_signed.Signed.{IsSignedPart}
+use Rattle.x509_cert.specs.cert_certificate.declared.certificate.CertificateInner.{CertificateInner}
+
+abbrev pub Certificate : Type 0
+Certificate = CertificateInner Rfc5280
+
+abbrev pub extensions_of : Certificate → List Extension
+extensions_of c = members c.tbs_certificate.extensions
+
+-- ---- extensions (RFC 5280 4.2)
+
+-- one has the identifier, and its octets spell the value
+abbrev pub HasPayload : {T : Type 0} → Form T → List ℕ → List Extension → T → Type 0
+HasPayload form oid extensions value = (e : Extension) × (with_oid oid extensions ≡ e ∷ []) × Spells form value e.extn_value
+
+-- it has the identifier, and its octets spell a value
+abbrev pub IsReadable : {T : Type 0} → Form T → List ℕ → Extension → Type 0
+IsReadable {T} form oid extension = (extension.extn_id ≡ oid) × ((value : T) × Spells form value extension.extn_value)
+
+-- it is a BasicConstraints, KeyUsage, ExtendedKeyUsage or SubjectAltName that can be read
+abbrev pub IsKnown : Extension → Type 0
+IsKnown e =
+    IsReadable basic_constraints (id_ce 19) e ⊎ (IsReadable key_usage (id_ce 15) e
+    ⊎ (IsReadable extended_key_usage (id_ce 37) e ⊎ IsReadable subject_alt_name (id_ce 17) e))
+
+-- the certificate is that of a certification authority (RFC 5280 4.2.1.9)
+abbrev pub IsCa : List Extension → Type 0
+IsCa extensions = (b : BasicConstraints) × HasPayload basic_constraints (id_ce 19) extensions b × (b.ca ≡ true)
+
+-- a KeyUsage is there, and says nowhere that the key signs certificates (RFC 5280 4.2.1.3)
+abbrev pub LacksKeyCertSign : List Extension → Type 0
+LacksKeyCertSign extensions = (with_oid (id_ce 15) extensions ≢ []) × ((u : KeyUsage) → HasPayload key_usage (id_ce 15) extensions u → has_bit u 5 ≡ false)
+
+-- how many certificates that aren't self-issued may follow, the last aside (RFC 5280 4.2.1.9)
+abbrev pub HasPathLen : List Extension → ℕ → Type 0
+HasPathLen extensions k = (b : BasicConstraints) × HasPayload basic_constraints (id_ce 19) extensions b × (b.path_len_constraint ≡ Some k)
+
+-- ---- what is wrong with a certificate
+
+-- the algorithm that is signed isn't that outside (RFC 5280 4.1.1.2)
+abbrev pub HasTwoAlgorithms : Certificate → Type 0
+HasTwoAlgorithms c = c.tbs_certificate.signature ≢ c.signature_algorithm
+
+-- the moment is before the one date or after the other (RFC 5280 6.1.3 (a) (2), 4.1.2.5)
+abbrev pub IsOutside : CivilTime → Validity Rfc5280 → Type 0
+IsOutside moment validity = (unix_seconds moment < unix_seconds (date_time_of validity.not_before)) ⊎ (unix_seconds (date_time_of validity.not_after) < unix_seconds moment)
+
+-- what a verifier says: whether these bits are a signature of the message, by the algorithm, for the key
+abbrev pub Accepting : Type 0
+Accepting = AlgorithmIdentifier → SubjectPublicKeyInfo → List ℕ → BitParts → Bool
+
+-- all bits are taken for a signature
+abbrev pub accept_all : Accepting
+accept_all algorithm key message signature = true
+
+-- its bits are accepted as a signature of what is signed in the bytes as they stand, for the key (RFC 5280 6.1.3 (a) (1))
+abbrev pub IsSigned : Accepting → SubjectPublicKeyInfo → List ℕ → Certificate → Type 0
+IsSigned accepts key bytes c = (signed : List ℕ) × IsSignedPart bytes signed × (accepts c.signature_algorithm key signed c.signature ≡ true)
+
+-- each critical extension is known (RFC 5280 4.2, 6.1.4 (o), 6.1.5 (f))
+abbrev pub AreHandled : List Extension → Type 0
+AreHandled extensions = All (λ e. e.critical ≡ true → IsKnown e) extensions
+
+-- ---- how many certificates follow (RFC 5280 6.1.4 (l), (m))
+
+-- the subject is the issuer (RFC 5280 6.1)
+abbrev pub is_self_issued : Certificate → Bool
+is_self_issued c = rdn_sequence_eq c.tbs_certificate.subject c.tbs_certificate.issuer
+
+abbrev pub count_not_self_issued : List Certificate → ℕ
+count_not_self_issued certificates = count_by (λ c. not (is_self_issued c)) certificates
+
+-- of certificates, topmost first, one has a path length, and more of those behind it than that aren't self-issued
+abbrev pub IsTooLong : List Certificate → Type 0
+IsTooLong [] = ⊥
+IsTooLong (c ∷ behind) = ((k : ℕ) × HasPathLen (extensions_of c) k × (k < count_not_self_issued behind)) ⊎ IsTooLong behind

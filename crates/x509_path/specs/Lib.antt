@@ -1,0 +1,4 @@
+pub mod Certificates
+pub mod Path
+pub mod Fault
+pub mod Room

@@ -1,0 +1,44 @@
+-- Tools of the proofs: how many certificates may still follow, and what is said of one certificate.
+use Rattle.std.specs.Prelude.{◌≡◌, ◌<◌, ◌-◌, ◌⊎◌, ◌↔◌, ℕ, Bool, min, List, ◌++◌, Option, Some, None, Result, Ok, Err, if◌then◌else◌}
+use Rattle.x509_cert.specs.base_time.CivilTime.{CivilTime}
+use Rattle.x509_cert.specs.der_grammar.Form.{Spells}
+use Rattle.x509_cert.specs.base.declared.subject_public_key_info.SubjectPublicKeyInfo.{SubjectPublicKeyInfo}
+use Rattle.x509_cert.specs.name.type_and_value.AttributeTypeAndValue.{AttributeTypeAndValue}
+use Rattle.x509_cert.specs.cert_certificate.Certificate.{rfc5280_certificate}
+use Rattle.x509_path.specs.Certificates.{Accepting, Certificate, count_not_self_issued, IsTooLong}
+use Rattle.x509_path.specs.Path.{Standing, Breaks, IsFault, IsFirst, subject_of}
+use Rattle.x509_path.specs.declared.anchor.Anchor.{Anchor}
+use Rattle.x509_path.specs.declared.fault.PathFault.{PathFault}
+use Rattle.x509_path.specs.declared.fault.PathFault.TheVariants.{Memory, Empty, At}
+use Rattle.x509_path.specs.declared.fault.PathReason.{PathReason}
+
+-- more of them aren't self-issued than may follow
+abbrev pub IsOver : Option ℕ → List Certificate → Type 0
+IsOver None behind = ⊥
+IsOver (Some room) behind = room < count_not_self_issued behind
+
+-- the certificates leave that room to those behind them
+abbrev pub Leaves : List Certificate → Option ℕ → Type 0
+Leaves before room = (behind : List Certificate) → IsTooLong (before ++ behind) ↔ (IsOver room behind ⊎ IsTooLong behind)
+
+-- the room behind a certificate that has a path length, or none
+abbrev pub narrowed : Option ℕ → Bool → Option ℕ → Option ℕ
+narrowed None self_issued path_len = path_len
+narrowed (Some room) self_issued None = Some (if self_issued then room else room - 1)
+narrowed (Some room) self_issued (Some path_len) = Some (min path_len (if self_issued then room else room - 1))
+
+-- the name and the key behind the last certificate, or those of the anchor
+abbrev pub anchor_behind : Anchor → Option Certificate → Anchor
+anchor_behind anchor None = anchor
+anchor_behind anchor (Some c) = subject_of c
+
+-- where a certificate stands under that name and key
+abbrev pub standing : List (List AttributeTypeAndValue) → SubjectPublicKeyInfo → List Certificate → Bool → Standing
+standing name key before is_last = record { above = record { name = name; key = key }; before = before; is_last = is_last }
+
+-- what is answered of the certificate that stands there, at that place
+abbrev pub Judges : Accepting → CivilTime → Standing → List ℕ → ℕ → Result Certificate PathFault → Type 0
+Judges accepts moment standing bytes place (Ok c) = Spells rfc5280_certificate c bytes × ((r : PathReason) → Breaks accepts moment standing bytes c r → ⊥)
+Judges accepts moment standing bytes place (Err Memory) = Unit {0}
+Judges accepts moment standing bytes place (Err Empty) = ⊥
+Judges accepts moment standing bytes place (Err (At p reason)) = (p ≡ place) × IsFirst (IsFault accepts moment standing bytes) reason

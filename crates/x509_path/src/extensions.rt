@@ -1,0 +1,129 @@
+//! What the extensions of a certificate say of its place in a path.
+
+ghost use Rattle.std.specs.Prelude.{◌≡◌, ◌↔◌, Some, IfOk, IfErr, IsTrue, ℕ};
+ghost use Rattle.x509_cert.specs.cert_extension.LookUp.{IsRepeated, members};
+ghost use Rattle.x509_path.specs.Certificates as certificates;
+ghost use Rattle.x509_path.specs.declared.fault.PathFault.TheVariants.{Memory};
+
+use crate::fault::PathFault;
+use std::alloc::Global;
+use x509_cert::TbsCertificate;
+use x509_cert::der::{AssociatedOid, Decode, Error, ErrorKind};
+use x509_cert::ext::pkix::{BasicConstraints, ExtendedKeyUsage, KeyUsage, SubjectAltName};
+use x509_cert::ext::{Extension, has_repeated_extension, members};
+
+/// Whether an identifier stands in two of the extensions.
+pub(crate) fn is_repeated(alloc: Global, extensions: &[Extension]) -> Result<bool, PathFault>
+    ensures ok { IfOk result (λ b. IsTrue b ↔ IsRepeated extensions.now) }
+    ensures err { IfErr result (λ e. e ≡ Memory) }
+{
+    match has_repeated_extension(alloc, extensions) {
+        Ok(repeated) => Ok(repeated),
+        Err(_) => Err(PathFault::Memory),
+    }
+}
+
+/// Whether the extension has the identifier of the type, and its octets are of the type.
+fn is_readable<T: AssociatedOid + Decode + Drop>(
+    alloc: Global,
+    extension: &Extension,
+) -> Result<bool, PathFault>
+    ensures ok { IfOk result (λ b. IsTrue b ↔ certificates.IsReadable T.form T.OID extension.now) }
+    ensures err { IfErr result (λ e. e ≡ Memory) }
+{
+    if extension.extn_id != T::OID {
+        return Ok(false);
+    }
+    match T::from_der(alloc, extension.extn_value.as_bytes()) {
+        Ok(_) => Ok(true),
+        Err(e) => match e.kind() {
+            ErrorKind::Memory => Err(PathFault::Memory),
+            _ => Ok(false),
+        },
+    }
+}
+
+/// Whether the extension is of a type that is looked into here, and can be read.
+fn is_known(alloc: Global, extension: &Extension) -> Result<bool, PathFault>
+    ensures ok { IfOk result (λ b. IsTrue b ↔ certificates.IsKnown extension.now) }
+    ensures err { IfErr result (λ e. e ≡ Memory) }
+{
+    if is_readable::<BasicConstraints>(alloc, extension)? {
+        return Ok(true);
+    }
+    if is_readable::<KeyUsage>(alloc, extension)? {
+        return Ok(true);
+    }
+    if is_readable::<ExtendedKeyUsage>(alloc, extension)? {
+        return Ok(true);
+    }
+    is_readable::<SubjectAltName>(alloc, extension)
+}
+
+/// Whether each critical extension is of a type that is looked into here, and can be read.
+pub(crate) fn are_handled(alloc: Global, extensions: &[Extension]) -> Result<bool, PathFault>
+    ensures ok { IfOk result (λ b. IsTrue b ↔ certificates.AreHandled extensions.now) }
+    ensures err { IfErr result (λ e. e ≡ Memory) }
+{
+    for extension in extensions {
+        if extension.critical && !is_known(alloc, extension)? {
+            return Ok(false);
+        }
+    }
+    Ok(true)
+}
+
+/// What the one extension of the type says; `None` where there isn't one that can be read.
+fn payload<T: AssociatedOid + Decode + Drop>(
+    alloc: Global,
+    part: &TbsCertificate,
+) -> Result<Option<T>, PathFault>
+    ensures ok { IfOk result (λ found. (value : T) → certificates.HasPayload T.form T.OID (members part.now.extensions) value ↔ (found ≡ Some value)) }
+    ensures err { IfErr result (λ e. e ≡ Memory) }
+{
+    match part.get_extension::<T>(alloc) {
+        Ok(Some((_, value))) => Ok(Some(value)),
+        Ok(None) => Ok(None),
+        Err(e) => match e.kind() {
+            ErrorKind::Memory => Err(PathFault::Memory),
+            _ => Ok(None),
+        },
+    }
+}
+
+/// Whether the certificate is that of a certification authority.
+pub(crate) fn is_ca(alloc: Global, part: &TbsCertificate) -> Result<bool, PathFault>
+    ensures ok { IfOk result (λ b. IsTrue b ↔ certificates.IsCa (members part.now.extensions)) }
+    ensures err { IfErr result (λ e. e ≡ Memory) }
+{
+    match payload::<BasicConstraints>(alloc, part)? {
+        Some(constraints) => Ok(constraints.ca),
+        None => Ok(false),
+    }
+}
+
+/// Whether there is a KeyUsage that doesn't say that the key signs certificates.
+pub(crate) fn lacks_key_cert_sign(alloc: Global, part: &TbsCertificate) -> Result<bool, PathFault>
+    ensures ok { IfOk result (λ b. IsTrue b ↔ certificates.LacksKeyCertSign (members part.now.extensions)) }
+    ensures err { IfErr result (λ e. e ≡ Memory) }
+{
+    match part.get_extension::<KeyUsage>(alloc) {
+        Ok(Some((_, usage))) => Ok(!usage.key_cert_sign()),
+        Ok(None) => Ok(false),
+        Err(e) => match e.kind() {
+            ErrorKind::Memory => Err(PathFault::Memory),
+            _ => Ok(true),
+        },
+    }
+}
+
+/// How many certificates that aren't self-issued may follow, the last aside; `None` where it isn't said.
+pub(crate) fn path_len(alloc: Global, part: &TbsCertificate) -> Result<Option<u8>, PathFault>
+    ensures ok { IfOk result (λ limit. (k : ℕ) → certificates.HasPathLen (members part.now.extensions) k ↔ (limit ≡ Some k)) }
+    ensures err { IfErr result (λ e. e ≡ Memory) }
+{
+    match payload::<BasicConstraints>(alloc, part)? {
+        Some(constraints) => Ok(constraints.path_len_constraint),
+        None => Ok(None),
+    }
+}

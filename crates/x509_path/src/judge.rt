@@ -1,0 +1,239 @@
+//! What is wrong with one certificate of a path.
+
+ghost use Rattle.std.specs.Prelude.{◌≡◌, ◌≢◌, ◌↔◌, ◌∷◌, ◌++◌, [], List, IfOk, IfErr, IsTrue};
+ghost use Rattle.x509_cert.specs.der_element.declared.error.ErrorKind.TheVariants as kinds;
+ghost use Rattle.x509_path.specs.Certificates as certificates;
+ghost use Rattle.x509_path.specs.Path.{Breaks};
+ghost use Rattle.x509_path.specs.Room.{IsOver, Judges, Leaves, anchor_behind, narrowed, standing};
+ghost use Rattle.x509_path.specs.declared.fault.PathFault.TheVariants.{Memory, At};
+ghost use Rattle.x509_path.specs.declared.fault.PathReason.TheVariants as reasons;
+
+use crate::anchor::Anchor;
+use crate::extensions::{are_handled, is_ca, is_repeated, lacks_key_cert_sign, path_len};
+use crate::fault::{PathFault, PathReason};
+use crate::verifier::Verifier;
+use std::alloc::Global;
+use x509_cert::certificate::{Certificate, signed_slice};
+use x509_cert::der::{Decode, ErrorKind};
+use x509_cert::ext::members;
+use x509_cert::laws::base::equality_of_keys_is_exact;
+use x509_cert::laws::name::equal_names_are_one_value;
+use x509_cert::name::Name;
+use x509_cert::spki::SubjectPublicKeyInfo;
+use x509_cert::time::{DateTime, Validity};
+
+/// The reasons behind `Decode`, in their order.
+const REASONS: [PathReason; 9] = [
+    PathReason::Algorithm,
+    PathReason::Issuer,
+    PathReason::Moment,
+    PathReason::Signature,
+    PathReason::Repeated,
+    PathReason::Critical,
+    PathReason::NotCa,
+    PathReason::KeyUsage,
+    PathReason::PathLen,
+];
+
+/// Where a certificate stands.
+#[derive(Drop)]
+pub(crate) struct Place<'a> {
+    /// The name above it.
+    pub(crate) name: &'a Name,
+
+    /// The key above it.
+    pub(crate) key: &'a SubjectPublicKeyInfo,
+
+    /// How many certificates that aren't self-issued may follow, where that is limited.
+    pub(crate) room: Option<u8>,
+
+    /// Whether no other follows.
+    pub(crate) is_last: bool,
+}
+
+/// The place below the certificate, or below the anchor where there is none.
+pub(crate) fn place_below<'a>(
+    anchor: &'a Anchor,
+    above: &'a Option<Certificate>,
+    room: Option<u8>,
+    is_last: bool,
+) -> Place<'a>
+    ensures name { result.name.now ≡ (anchor_behind anchor.now above.now).name }
+    ensures key { result.key.now ≡ (anchor_behind anchor.now above.now).key }
+    ensures room { result.room ≡ room }
+    ensures is_last { result.is_last ≡ is_last }
+{
+    match above {
+        Some(certificate) => Place {
+            name: certificate.tbs_certificate().subject(),
+            key: certificate.tbs_certificate().subject_public_key_info(),
+            room,
+            is_last,
+        },
+        None => Place {
+            name: &anchor.name,
+            key: &anchor.key,
+            room,
+            is_last,
+        },
+    }
+}
+
+/// Whether the algorithm in the signed part isn't the one outside it.
+fn has_two_algorithms(certificate: &Certificate) -> bool
+    ensures { IsTrue result ↔ certificates.HasTwoAlgorithms certificate.now }
+{
+    equality_of_keys_is_exact();
+    certificate.tbs_certificate().signature() != certificate.signature_algorithm()
+}
+
+/// Whether the issuer isn't that name.
+fn is_of_another(certificate: &Certificate, name: &Name) -> bool
+    ensures { IsTrue result ↔ (certificate.now.tbs_certificate.issuer ≢ name.now) }
+{
+    equal_names_are_one_value();
+    certificate.tbs_certificate().issuer() != name
+}
+
+/// Whether the moment is before or after the validity.
+fn is_outside(moment: DateTime, validity: &Validity) -> bool
+    ensures { IsTrue result ↔ certificates.IsOutside moment validity.now }
+{
+    !validity.contains(moment)
+}
+
+/// Whether the subject is the issuer.
+fn is_self_issued(certificate: &Certificate) -> bool
+    ensures { result ≡ certificates.is_self_issued certificate.now }
+{
+    certificate.tbs_certificate().subject() == certificate.tbs_certificate().issuer()
+}
+
+/// Whether the verifier accepts the signature of the signed part, as it stands in the bytes.
+fn is_signed<V: Verifier>(
+    verifier: &V,
+    key: &SubjectPublicKeyInfo,
+    bytes: &[u8],
+    certificate: &Certificate,
+) -> bool
+    ensures { IsTrue result ↔ certificates.IsSigned (V.accepts verifier.now) key.now bytes.now certificate.now }
+{
+    match signed_slice(bytes) {
+        Some(signed) => verifier.verify(
+            certificate.signature_algorithm(),
+            key,
+            signed,
+            certificate.signature(),
+        ),
+        None => false,
+    }
+}
+
+/// Whether there is no room for the certificate.
+fn is_over(room: Option<u8>, certificate: &Certificate) -> bool
+    ensures { IsTrue result ↔ IsOver room (certificate.now ∷ []) }
+{
+    match room {
+        Some(room) => room == 0 && !is_self_issued(certificate),
+        None => false,
+    }
+}
+
+/// The room behind a certificate that has room itself.
+fn narrow(room: Option<u8>, is_self_issued: bool, path_len: Option<u8>) -> Option<u8>
+    ensures { result ≡ narrowed room is_self_issued path_len }
+{
+    let Some(room) = room else {
+        return path_len;
+    };
+    let left = if is_self_issued {
+        room
+    } else {
+        room.saturating_sub(1)
+    };
+    match path_len {
+        Some(path_len) => Some(path_len.min(left)),
+        None => Some(left),
+    }
+}
+
+/// The room behind the certificate, where there is room for it.
+pub(crate) fn room_behind(
+    alloc: Global,
+    room: Option<u8>,
+    certificate: &Certificate,
+) -> Result<Option<u8>, PathFault>
+    ensures ok { IfOk result (λ next. (before : List certificates.Certificate) → Leaves before room → (IsOver room (certificate.now ∷ []) → ⊥) → Leaves (before ++ certificate.now ∷ []) next) }
+    ensures err { IfErr result (λ e. e ≡ Memory) }
+{
+    let path_len = path_len(alloc, certificate.tbs_certificate())?;
+    Ok(narrow(room, is_self_issued(certificate), path_len))
+}
+
+/// Whether that is wrong with the certificate of these bytes.
+fn breaks<V: Verifier>(
+    alloc: Global,
+    verifier: &V,
+    moment: DateTime,
+    place: &Place<'_>,
+    bytes: &[u8],
+    certificate: &Certificate,
+    reason: PathReason,
+) -> Result<bool, PathFault>
+    ensures ok { IfOk result (λ b. (before : List certificates.Certificate) → Leaves before place.now.room → IsTrue b ↔ Breaks (V.accepts verifier.now) moment (standing place.now.name.now place.now.key.now before place.now.is_last) bytes.now certificate.now reason) }
+    ensures err { IfErr result (λ e. e ≡ Memory) }
+{
+    let part = certificate.tbs_certificate();
+    match reason {
+        PathReason::Decode => Ok(false),
+        PathReason::Algorithm => Ok(has_two_algorithms(certificate)),
+        PathReason::Issuer => Ok(is_of_another(certificate, place.name)),
+        PathReason::Moment => Ok(is_outside(moment, part.validity())),
+        PathReason::Signature => Ok(!is_signed(verifier, place.key, bytes, certificate)),
+        PathReason::Repeated => is_repeated(alloc, members(part.extensions())),
+        PathReason::Critical => Ok(!are_handled(alloc, members(part.extensions()))?),
+        PathReason::NotCa => Ok(!place.is_last && !is_ca(alloc, part)?),
+        PathReason::KeyUsage => Ok(!place.is_last && lacks_key_cert_sign(alloc, part)?),
+        PathReason::PathLen => Ok(!place.is_last && is_over(place.room, certificate)),
+    }
+}
+
+/// The certificate of these bytes, where nothing is wrong with it; `index` is the number of its place.
+pub(crate) fn judge<V: Verifier>(
+    alloc: Global,
+    verifier: &V,
+    moment: DateTime,
+    place: &Place<'_>,
+    bytes: &[u8],
+    index: usize,
+) -> Result<Certificate, PathFault>
+    ensures { (before : List certificates.Certificate) → Leaves before place.now.room → Judges (V.accepts verifier.now) moment (standing place.now.name.now place.now.key.now before place.now.is_last) bytes.now index result }
+{
+    let certificate = match Certificate::from_der(alloc, bytes) {
+        Ok(certificate) => certificate,
+        Err(e) => return Err(refusal(e.kind(), index)),
+    };
+    for reason in REASONS {
+        if breaks(alloc, verifier, moment, place, bytes, &certificate, reason)? {
+            return Err(PathFault::At {
+                place: index,
+                reason,
+            });
+        }
+    }
+    Ok(certificate)
+}
+
+/// What is answered where a certificate is refused so in reading.
+fn refusal(kind: ErrorKind, place: usize) -> PathFault
+    ensures memory { kind ≡ kinds.Memory → result ≡ Memory }
+    ensures others { kind ≢ kinds.Memory → result ≡ At place reasons.Decode }
+{
+    match kind {
+        ErrorKind::Memory => PathFault::Memory,
+        _ => PathFault::At {
+            place,
+            reason: PathReason::Decode,
+        },
+    }
+}

@@ -1,0 +1,78 @@
+//! Whether a path holds.
+
+ghost use Rattle.std.specs.Prelude.{◌≡◌, map, IfOk, List, ℕ};
+ghost use Rattle.x509_path.specs.Path.{Answers};
+
+use crate::anchor::Anchor;
+use crate::fault::PathFault;
+use crate::judge::{judge, place_below, room_behind};
+use crate::verifier::Verifier;
+use std::alloc::{AllocError, Global};
+use x509_cert::Certificate;
+use x509_cert::time::DateTime;
+
+/// The octets of each input, lent.
+fn slices(alloc: Global, inputs: &[Vec<u8>]) -> Result<Vec<&[u8]>, AllocError>
+    ensures { IfOk result (λ lent. map (λ input. input.now) lent.items ≡ map (λ input. input.items) inputs.now) }
+{
+    let mut lent = Vec::with_capacity(alloc, inputs.len())?;
+    for input in inputs {
+        lent.push(input.as_slice())?;
+    }
+    Ok(lent)
+}
+
+/// Checks the certificates of a path, the topmost first, at the moment (RFC 5280 6.1): the first under the anchor's name and key, each other
+/// one under the subject and the key of the one before it. Each signature is verified over the input's own bytes, and none is
+/// written again. It goes over the path once; one certificate's value stands in memory at a time, besides the one above it.
+///
+/// # Errors
+///
+/// [`PathFault::Empty`] exactly where there is no certificate; else [`PathFault::At`] with the lowest place at which something is wrong,
+/// and what is wrong there first, in the order of [`PathReason`](crate::PathReason). [`PathFault::Memory`] may come instead.
+pub fn check_path<V: Verifier>(
+    alloc: Global,
+    anchor: &Anchor,
+    path: &[Vec<u8>],
+    moment: DateTime,
+    verifier: &V,
+) -> Result<(), PathFault>
+    ensures { Answers (V.accepts verifier.now) moment anchor.now (map (λ input. input.items) path.now) result }
+{
+    if path.is_empty() {
+        return Err(PathFault::Empty);
+    }
+    match slices(alloc, path) {
+        Ok(lent) => check_path_slices(alloc, anchor, lent.as_slice(), moment, verifier),
+        Err(_) => Err(PathFault::Memory),
+    }
+}
+
+/// [`check_path`] of certificates whose bytes are lent.
+///
+/// # Errors
+///
+/// Those of [`check_path`].
+pub fn check_path_slices<V: Verifier>(
+    alloc: Global,
+    anchor: &Anchor,
+    path: &[&[u8]],
+    moment: DateTime,
+    verifier: &V,
+) -> Result<(), PathFault>
+    ensures { Answers (V.accepts verifier.now) moment anchor.now (map (λ input. input.now) path.now) result }
+{
+    if path.is_empty() {
+        return Err(PathFault::Empty);
+    }
+    let mut above: Option<Certificate> = None;
+    let mut room: Option<u8> = None;
+    for (index, bytes) in path.iter().enumerate() {
+        let is_last = index + 1 == path.len();
+        let place = place_below(anchor, &above, room, is_last);
+        let certificate = judge(alloc, verifier, moment, &place, bytes, index)?;
+        room = room_behind(alloc, room, &certificate)?;
+        above = Some(certificate);
+    }
+    Ok(())
+}

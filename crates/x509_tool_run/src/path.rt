@@ -1,0 +1,98 @@
+//! The answer to a path of certificates: whether it holds, or its first fault.
+
+ghost use Rattle.std.specs.Prelude.{◌≡◌, ◌⊎◌, ℕ, List, map, string_bytes, Option, Some, None, Ok, Err, MatchResult, IfOk, IfErr};
+ghost use Rattle.std.specs.Option.{option_map};
+ghost use Rattle.x509_der_element.specs.declared.error.ErrorKind.TheVariants.{Memory, Failed};
+ghost use Rattle.x509_tool_run.specs.declared.refusal.Refusal.TheVariants.{Because};
+ghost use Rattle.x509_tool_run.specs.Answer.{as_line};
+ghost use Rattle.x509_tool_run.specs.Path.{IsPathLine, decode_all, fault_line, fault_text, texts_of};
+ghost use Rattle.x509_tool_run.specs.Program.{Answers};
+
+use crate::codec::PathCodec;
+use crate::input::{Source, read_input};
+use crate::program::{bytes_of, line_of};
+use crate::refusal::Refusal;
+use std::alloc::{AllocError, Global};
+use x509_der_element::ErrorKind;
+
+/// The texts between single spaces.
+fn texts_of(alloc: Global, line: &[u8]) -> Result<Vec<&[u8]>, AllocError>
+    ensures { IfOk result (λ texts. map (λ text. text.now) texts.items ≡ texts_of line.now) }
+{
+    line.split(|byte| *byte == b' ').collect(alloc)
+}
+
+/// The bytes that the texts stand for, each of which is hex text.
+fn decode_all(alloc: Global, texts: &[&[u8]]) -> Result<Vec<Vec<u8>>, Refusal>
+    ensures { MatchResult result
+        (λ decoded. decode_all (map (λ text. text.now) texts.now) ≡ Some (map (λ bytes. bytes.items) decoded.items))
+        (λ refusal. (refusal ≡ Because Memory) ⊎ ((refusal ≡ Because Failed) × (decode_all (map (λ text. text.now) texts.now) ≡ None))) }
+{
+    let mut decoded = Vec::new(alloc);
+    for text in texts {
+        if decoded.push(bytes_of(alloc, text)?).is_err() {
+            return Err(Refusal::Because(ErrorKind::Memory));
+        }
+    }
+    Ok(decoded)
+}
+
+/// The first fault of the path whose hex texts a line is, if it has one.
+fn check_line<C: PathCodec>(
+    alloc: Global,
+    moment: &str,
+    line: &[u8],
+) -> Result<Option<String>, Refusal>
+    ensures { MatchResult result
+        (λ fault. IsPathLine C.checks_path moment.now line.now (Ok (option_map string_bytes fault)))
+        (λ refusal. (refusal ≡ Because Memory) ⊎ IsPathLine C.checks_path moment.now line.now (Err refusal)) }
+{
+    let texts = texts_of(alloc, line)?;
+    let certificates = decode_all(alloc, texts.as_slice())?;
+    let [anchor, path @ ..] = certificates.as_slice() else {
+        return Err(Refusal::Because(ErrorKind::Failed));
+    };
+    if path.is_empty() {
+        return Err(Refusal::Because(ErrorKind::Failed));
+    }
+    Ok(C::check_path(alloc, moment, anchor.as_slice(), path)?)
+}
+
+/// The line that tells of a fault.
+fn fault_line(alloc: Global, fault: &str) -> Result<String, AllocError>
+    ensures { IfOk result (λ line. string_bytes line ≡ as_line (fault_text fault.now)) }
+{
+    format!(in alloc; "fault {fault}\n")
+}
+
+/// The line that tells of the first fault of the path whose hex texts a line is, if it has one.
+fn tell_fault<C: PathCodec>(
+    alloc: Global,
+    moment: &str,
+    line: &[u8],
+) -> Result<Option<String>, Refusal>
+    ensures { MatchResult result
+        (λ told. (fault : Option (List ℕ)) × IsPathLine C.checks_path moment.now line.now (Ok fault) × (option_map string_bytes told ≡ fault_line fault))
+        (λ refusal. (refusal ≡ Because Memory) ⊎ IsPathLine C.checks_path moment.now line.now (Err refusal)) }
+{
+    match check_line::<C>(alloc, moment, line)? {
+        None => Ok(None),
+        Some(fault) => Ok(Some(fault_line(alloc, fault.as_str())?)),
+    }
+}
+
+/// Reads the input, and checks the path that its line is: the line that tells of its first fault, if it has one.
+pub(crate) fn read_and_check<C: PathCodec, R: Source>(
+    alloc: Global,
+    moment: &str,
+    reader: &mut R,
+) -> Result<Option<String>, Refusal>
+    ensures { MatchResult result
+        (λ told. (fault : Option (List ℕ))
+        × Answers (IsPathLine C.checks_path moment.now) R.gives reader.old reader.new (Ok fault)
+        × (option_map string_bytes told ≡ fault_line fault))
+        (λ refusal. Answers (IsPathLine C.checks_path moment.now) R.gives reader.old reader.new (Err refusal)) }
+{
+    let input = read_input(alloc, reader)?;
+    tell_fault::<C>(alloc, moment, line_of(input.as_slice()))
+}

@@ -1,0 +1,265 @@
+/* Checks a path of certificates, topmost first, at a moment, under the subject and the key of an anchor's certificate. The library checks all but the
+ * signatures, and says what is to be verified of each certificate; here OpenSSL's libcrypto verifies that. Policies, name constraints and revocation
+ * aren't looked at, nor for whom and for which use the last certificate is.
+ *
+ * It prints `holds`; or `fault PLACE REASON`, the lowest place that has a fault, from 0, and the first of its faults in the order of x509.h; or
+ * `refused STATUS`. It ends with 0 where the path holds, and with 1 else.
+ *
+ * Link with libx509_c.a liblibc_c.a -lcrypto.
+ *
+ * usage: path MOMENT ANCHOR CERTIFICATE.., the moment in seconds since 1970-01-01T00:00:00Z, the others files of DER */
+#include <openssl/core_names.h>
+#include <openssl/err.h>
+#include <openssl/evp.h>
+#include <openssl/rsa.h>
+#include <openssl/x509.h>
+#include <stdio.h>
+#include <stdlib.h>
+#include <string.h>
+#include "x509.h"
+
+typedef struct {
+    const uint8_t *bytes;
+    size_t len;
+} octets;
+
+/* ---- one signature */
+
+/* A signature algorithm: its whole AlgorithmIdentifier, the type of its keys and the fewest bits that these may have, its digest, and whether its
+ * padding is that of PSS. */
+typedef struct {
+    const char *identifier;
+    size_t len;
+    const char *key;
+    int bits;
+    const char *digest;
+    int is_pss;
+} algorithm;
+
+/* How DER spells an AlgorithmIdentifier: of a digest; of RSA with the padding of PKCS #1 v1.5 (RFC 4055 5) and of PSS, of which the digest is also that of
+ * the mask, and the salt as long as it (RFC 4055 3.1); of ECDSA (RFC 5758 3.2); of Ed25519 (RFC 8410 3). */
+#define SHA(last) "\x30\x0d\x06\x09\x60\x86\x48\x01\x65\x03\x04\x02" last "\x05\x00"
+#define PKCS1(last) "\x30\x0d\x06\x09\x2a\x86\x48\x86\xf7\x0d\x01\x01" last "\x05\x00"
+#define PSS(sha, salt)                                                                                                              \
+    "\x30\x41\x06\x09\x2a\x86\x48\x86\xf7\x0d\x01\x01\x0a\x30\x34\xa0\x0f" SHA(sha)                                                 \
+    "\xa1\x1c\x30\x1a\x06\x09\x2a\x86\x48\x86\xf7\x0d\x01\x01\x08" SHA(sha) "\xa2\x03\x02\x01" salt
+#define ECDSA(last) "\x30\x0a\x06\x08\x2a\x86\x48\xce\x3d\x04\x03" last
+#define ED25519 "\x30\x05\x06\x03\x2b\x65\x70"
+#define ROW(identifier, ...) {identifier, sizeof identifier - 1, __VA_ARGS__}
+
+/* The algorithms that are taken. A signature by another one, as by SHA-1, isn't accepted. */
+static const algorithm ALGORITHMS[] = {
+    ROW(PKCS1("\x0b"), "RSA", 2048, "SHA256", 0),
+    ROW(PKCS1("\x0c"), "RSA", 2048, "SHA384", 0),
+    ROW(PKCS1("\x0d"), "RSA", 2048, "SHA512", 0),
+    ROW(PSS("\x01", "\x20"), "RSA", 2048, "SHA256", 1),
+    ROW(PSS("\x02", "\x30"), "RSA", 2048, "SHA384", 1),
+    ROW(PSS("\x03", "\x40"), "RSA", 2048, "SHA512", 1),
+    ROW(ECDSA("\x02"), "EC", 256, "SHA256", 0),
+    ROW(ECDSA("\x03"), "EC", 256, "SHA384", 0),
+    ROW(ECDSA("\x04"), "EC", 256, "SHA512", 0),
+    ROW(ED25519, "ED25519", 0, NULL, 0),
+};
+
+static const algorithm *find_algorithm(octets identifier)
+{
+    for (size_t row = 0; row < sizeof ALGORITHMS / sizeof *ALGORITHMS; row++)
+        if (identifier.len == ALGORITHMS[row].len && memcmp(identifier.bytes, ALGORITHMS[row].identifier, identifier.len) == 0)
+            return &ALGORITHMS[row];
+    return NULL;
+}
+
+/* How libcrypto writes a key: with a curve by its name, and with both coordinates of a point (RFC 5480 2.1.1, 2.2). */
+static int write_key(EVP_PKEY *key, unsigned char **out)
+{
+    if (EVP_PKEY_is_a(key, "EC") &&
+        (!EVP_PKEY_set_utf8_string_param(key, OSSL_PKEY_PARAM_EC_ENCODING, OSSL_PKEY_EC_ENCODING_GROUP) ||
+         !EVP_PKEY_set_utf8_string_param(key, OSSL_PKEY_PARAM_EC_POINT_CONVERSION_FORMAT, OSSL_PKEY_EC_POINT_CONVERSION_FORMAT_UNCOMPRESSED)))
+        return -1;
+    return i2d_PUBKEY(key, out);
+}
+
+/* The key of a whole SubjectPublicKeyInfo; NULL where libcrypto reads none, or would write the one that it reads as other bytes. */
+static EVP_PKEY *read_key(octets info)
+{
+    const unsigned char *at = info.bytes;
+    EVP_PKEY *key = d2i_PUBKEY(NULL, &at, (long)info.len);
+    unsigned char *again = NULL;
+    const int len = key == NULL ? -1 : write_key(key, &again);
+    const int is_same = len >= 0 && (size_t)len == info.len && memcmp(again, info.bytes, info.len) == 0;
+    OPENSSL_free(again);
+    if (is_same)
+        return key;
+    EVP_PKEY_free(key);
+    return NULL;
+}
+
+/* Whether libcrypto accepts the bits as a signature of the message, by that algorithm, for that key. */
+static int accepts(const algorithm *by, EVP_PKEY *key, octets message, octets bits)
+{
+    if (!EVP_PKEY_is_a(key, by->key) || EVP_PKEY_get_bits(key) < by->bits)
+        return 0;
+    EVP_MD_CTX *context = EVP_MD_CTX_new();
+    EVP_PKEY_CTX *inner = NULL; /* a part of the context */
+    int is_good = context != NULL && EVP_DigestVerifyInit_ex(context, &inner, by->digest, NULL, NULL, key, NULL) == 1;
+    if (is_good && by->is_pss)
+        is_good = EVP_PKEY_CTX_set_rsa_padding(inner, RSA_PKCS1_PSS_PADDING) == 1 &&
+                  EVP_PKEY_CTX_set_rsa_pss_saltlen(inner, RSA_PSS_SALTLEN_DIGEST) == 1;
+    is_good = is_good && EVP_DigestVerify(context, bits.bytes, bits.len, message.bytes, message.len) == 1;
+    EVP_MD_CTX_free(context);
+    return is_good;
+}
+
+static octets part_of(octets whole, x509_span span)
+{
+    return (octets){whole.bytes + span.place, span.len};
+}
+
+/* Finds out whether a certificate is signed by the key of the one above it. Where either can't be read, nothing is found out. */
+static x509_status verify(octets certificate, octets above, int *is_signed)
+{
+    x509_signature signature;
+    x509_certificate view;
+    x509_status status = x509_certificate_signature(certificate.bytes, certificate.len, &signature);
+    if (status != X509_OK)
+        return status;
+    status = x509_certificate_view(above.bytes, above.len, &view);
+    if (status != X509_OK)
+        return status;
+    const algorithm *by = find_algorithm(part_of(certificate, signature.algorithm));
+    ERR_set_mark();
+    EVP_PKEY *key = read_key(part_of(above, view.subject_public_key_info));
+    /* The bits of each of these algorithms are whole octets. */
+    *is_signed = by != NULL && key != NULL && signature.unused_bits == 0 &&
+                 accepts(by, key, part_of(certificate, signature.signed_part), part_of(certificate, signature.bits));
+    EVP_PKEY_free(key);
+    ERR_pop_to_mark(); /* the thread's errors are as they were */
+    return X509_OK;
+}
+
+/* ---- a path */
+
+/* X509_OK where the path holds; X509_FAULT where it has a fault, with the first; else why it wasn't checked. */
+static x509_status check(octets anchor, octets path, const size_t *lens, size_t count, uint64_t moment, x509_path_fault *fault)
+{
+    const x509_status status = x509_path_check(anchor.bytes, anchor.len, path.bytes, path.len, lens, count, moment, fault);
+    if (status != X509_OK && status != X509_FAULT)
+        return status;
+    /* A signature's fault comes first where it stands above the other, or at its place and in front of it in the order. */
+    const size_t end = status == X509_OK ? count : fault->place + (fault->reason > X509_PATH_SIGNATURE);
+    octets above = anchor;
+    for (size_t place = 0; place < end; place++) {
+        const octets certificate = {path.bytes, lens[place]};
+        int is_signed = 0;
+        const x509_status verified = verify(certificate, above, &is_signed);
+        if (verified != X509_OK)
+            return verified;
+        if (!is_signed) {
+            *fault = (x509_path_fault){place, X509_PATH_SIGNATURE};
+            return X509_FAULT;
+        }
+        path.bytes += lens[place];
+        above = certificate;
+    }
+    return status;
+}
+
+/* Prints the answer, and says with what the program ends. */
+static int tell(x509_status status, x509_path_fault fault)
+{
+    static const char *const reasons[] = {"?", "Decode", "Algorithm", "Issuer", "Moment", "Signature", "Repeated", "Critical", "NotCa", "KeyUsage", "PathLen"};
+    if (status == X509_OK)
+        printf("holds\n");
+    else if (status == X509_FAULT)
+        printf("fault %zu %s\n", fault.place, reasons[fault.reason <= X509_PATH_PATH_LEN ? fault.reason : 0]);
+    else
+        printf("refused %d\n", status);
+    return status == X509_OK ? 0 : 1;
+}
+
+/* ---- words and files */
+
+/* A certificate has at most LIMIT bytes (X509_OVERLENGTH). */
+enum { LIMIT = 268435455, CHUNK = 65536 };
+
+typedef struct {
+    uint8_t *bytes;
+    size_t len, room;
+} buffer;
+
+static int has_room(buffer *it)
+{
+    if (it->room - it->len >= CHUNK)
+        return 1;
+    if (it->room > SIZE_MAX / 2 - CHUNK)
+        return 0;
+    uint8_t *bytes = realloc(it->bytes, it->room * 2 + CHUNK);
+    if (bytes == NULL)
+        return 0;
+    it->bytes = bytes;
+    it->room = it->room * 2 + CHUNK;
+    return 1;
+}
+
+/* Puts the bytes of a file behind those of a buffer. Of a file that is longer than any certificate some are put there, which are too many too. */
+static int read_file(buffer *to, const char *name)
+{
+    FILE *file = fopen(name, "rb");
+    if (file == NULL)
+        return 0;
+    const size_t start = to->len;
+    size_t got = 1;
+    while (got > 0 && to->len - start <= LIMIT && has_room(to)) {
+        got = fread(to->bytes + to->len, 1, CHUNK, file);
+        to->len += got;
+    }
+    const int is_read = (got == 0 && !ferror(file)) || to->len - start > LIMIT;
+    fclose(file);
+    return is_read;
+}
+
+/* The files of a path, one behind the other, and their lengths. */
+static int read_files(buffer *path, size_t *lens, size_t count, char **names)
+{
+    for (size_t at = 0; at < count; at++) {
+        const size_t start = path->len;
+        if (!read_file(path, names[at]))
+            return 0;
+        lens[at] = path->len - start;
+    }
+    return 1;
+}
+
+/* Reads 1 to 19 decimal digits, which are below 2^64. */
+static int read_moment(const char *text, uint64_t *moment)
+{
+    const size_t len = strlen(text);
+    *moment = 0;
+    for (size_t at = 0; at < len && len <= 19; at++)
+        *moment = *moment * 10 + (uint64_t)(text[at] - '0');
+    return len >= 1 && len <= 19 && strspn(text, "0123456789") == len;
+}
+
+int main(int argc, char **argv)
+{
+    uint64_t moment = 0;
+    if (argc < 3 || !read_moment(argv[1], &moment)) {
+        fprintf(stderr, "usage: path MOMENT ANCHOR CERTIFICATE..\n");
+        return 1;
+    }
+    const size_t count = (size_t)argc - 3;
+    size_t *lens = calloc(count + 1, sizeof *lens);
+    buffer anchor = {NULL, 0, 0}, path = {NULL, 0, 0};
+    int ended = 1;
+    if (lens != NULL && read_file(&anchor, argv[2]) && read_files(&path, lens, count, argv + 3)) {
+        x509_path_fault fault = {0, 0};
+        const x509_status status = check((octets){anchor.bytes, anchor.len}, (octets){path.bytes, path.len}, lens, count, moment, &fault);
+        ended = tell(status, fault);
+    } else {
+        fprintf(stderr, "path: a file can't be read, or there is too little memory\n");
+    }
+    free(lens);
+    free(anchor.bytes);
+    free(path.bytes);
+    return ended;
+}

@@ -1,0 +1,203 @@
+/* Asks for what x509.h says beside answers: no pointer where there are no bytes, what stands in rooms, early dates, respelled dates, bytes behind, and
+ * inputs over the limit.
+ *
+ * usage: rules CERTIFICATE LIST RESPELLED, the last a certificate with two dates that RFC 5280 spells two bytes shorter */
+#include <stdio.h>
+#include <stdlib.h>
+#include <string.h>
+#include "x509.h"
+
+static int failures = 0;
+
+static void want(const char *what, int is_so)
+{
+    if (!is_so) {
+        printf("wrong: %s\n", what);
+        failures++;
+    }
+}
+
+#define WANT(condition) want(#condition, condition)
+
+static uint8_t certificate[65536], list[65536], respelled[65536], room[65536];
+static size_t certificate_len, list_len, respelled_len, written;
+static x509_certificate view;
+static x509_extension found;
+static x509_revocation revocation;
+static size_t entries;
+static x509_span part;
+static x509_signature signature;
+static x509_path_fault fault;
+static const uint8_t *const CERTIFICATE = (const uint8_t *)"Certificate";
+static const uint8_t *const OID = (const uint8_t *)"\x55\x1d\x0f";
+static const uint8_t *const SERIAL = (const uint8_t *)"\x02\x01\x03";
+
+/* when both certificates hold: 2026-01-02T03:04:05Z */
+static const uint64_t MOMENT = 1767323045;
+
+static size_t read_file(const char *path, uint8_t *bytes)
+{
+    FILE *file = fopen(path, "rb");
+    size_t len = file == NULL ? 0 : fread(bytes, 1, 65535, file);
+    if (file != NULL)
+        fclose(file);
+    return len;
+}
+
+/* Whether the first certificate of a path was none. */
+static int is_decode(x509_status status)
+{
+    const x509_path_fault found = fault;
+    fault = (x509_path_fault){7, 7};
+    return status == X509_FAULT && found.place == 0 && found.reason == X509_PATH_DECODE;
+}
+
+/* NULL with a length of 0 is no bytes, with a room of 0 no room, and with a count of 0 no lengths. */
+static void no_pointers(void)
+{
+    WANT(x509_certificate_check(NULL, 0) == X509_MALFORMED);
+    WANT(x509_crl_check(NULL, 0) == X509_MALFORMED);
+    WANT(x509_request_check(NULL, 0) == X509_MALFORMED);
+    WANT(x509_signed_slice(NULL, 0, &part) == X509_MALFORMED);
+    WANT(x509_certificate_view(NULL, 0, &view) == X509_MALFORMED);
+    WANT(x509_certificate_extension(NULL, 0, NULL, 0, &found) == X509_MALFORMED);
+    WANT(x509_certificate_extension(certificate, certificate_len, NULL, 0, &found) == X509_ABSENT);
+    WANT(x509_certificate_signature(NULL, 0, &signature) == X509_MALFORMED);
+    const size_t none = 0;
+    WANT(x509_path_check(certificate, certificate_len, NULL, 0, NULL, 0, MOMENT, &fault) == X509_ABSENT);
+    WANT(x509_path_check(NULL, 0, certificate, certificate_len, &certificate_len, 1, MOMENT, &fault) == X509_MALFORMED);
+    WANT(is_decode(x509_path_check(certificate, certificate_len, NULL, 0, &none, 1, MOMENT, &fault)));
+    WANT(x509_crl_walk(NULL, 0, &entries) == X509_MALFORMED);
+    WANT(x509_crl_lookup(NULL, 0, NULL, 0, &revocation) == X509_MALFORMED);
+    WANT(x509_crl_lookup(list, list_len, NULL, 0, &revocation) == X509_MALFORMED);
+
+    written = 77;
+    WANT(x509_certificate_reencode(NULL, 0, NULL, 0, &written) == X509_MALFORMED && written == 77);
+    WANT(x509_certificate_reencode(certificate, certificate_len, NULL, 0, &written) == X509_ROOM && written == certificate_len);
+    written = 77;
+    WANT(x509_reencode(NULL, 0, X509_RAW, NULL, 0, NULL, 0, &written) == X509_FAILED && written == 77);
+    WANT(x509_reencode(CERTIFICATE, 11, X509_RAW, NULL, 0, NULL, 0, &written) == X509_MALFORMED && written == 77);
+    WANT(x509_reencode(CERTIFICATE, 11, X509_RAW, certificate, certificate_len, NULL, 0, &written) == X509_ROOM && written == certificate_len);
+    written = 77;
+    WANT(x509_name_text(NULL, 0, NULL, 0, &written) == X509_MALFORMED && written == 77);
+    WANT(x509_name_text((const uint8_t *)"\x30\x00", 2, NULL, 0, &written) == X509_OK && written == 0);
+    written = 77;
+    WANT(x509_name_from_text(NULL, 0, NULL, 0, &written) == X509_ROOM && written == 2);
+    WANT(x509_name_from_text(NULL, 0, room, 2, &written) == X509_OK && written == 2 && memcmp(room, "\x30\x00", 2) == 0);
+    WANT(x509_name_from_text((const uint8_t *)"CN=a", 4, NULL, 0, &written) == X509_ROOM && written == 14);
+}
+
+/* Each span is a whole element; behind the signed SEQUENCE stands nothing. */
+static void parts(void)
+{
+    WANT(x509_certificate_view(certificate, certificate_len, &view) == X509_OK);
+    WANT(certificate[view.serial_number.place] == 0x02);
+    WANT(certificate[view.issuer.place] == 0x30 && certificate[view.subject.place] == 0x30);
+    WANT(certificate[view.subject_public_key_info.place] == 0x30);
+    WANT(certificate[view.extensions.place] == 0x30);
+    WANT(view.extensions.len == 2u + certificate[view.extensions.place + 1]); /* fewer than 128 octets */
+    WANT(certificate[view.extensions.place - 2] == 0xa3);
+    WANT(x509_signed_slice(certificate, certificate_len, &part) == X509_OK);
+    certificate[certificate_len] = 0;
+    part = (x509_span){7, 7};
+    WANT(x509_signed_slice(certificate, certificate_len + 1, &part) == X509_MALFORMED && part.place == 7 && part.len == 7);
+    WANT(x509_certificate_check(certificate, certificate_len + 1) == X509_MALFORMED);
+    const size_t longer = certificate_len + 1;
+    WANT(x509_certificate_signature(certificate, longer, &signature) == X509_MALFORMED);
+    WANT(x509_path_check(certificate, longer, certificate, certificate_len, &certificate_len, 1, MOMENT, &fault) == X509_MALFORMED);
+    WANT(is_decode(x509_path_check(certificate, certificate_len, certificate, longer, &longer, 1, MOMENT, &fault)));
+}
+
+/* RFC 5280 spells dates before 2050 as UTCTime; the grammar alone takes both. */
+static void respelled_dates(void)
+{
+    WANT(x509_certificate_check(respelled, respelled_len) == X509_OK);
+    WANT(x509_certificate_reencode(respelled, respelled_len, room, sizeof room, &written) == X509_OK && written == respelled_len - 4);
+    WANT(x509_certificate_check(room, written) == X509_OK);
+    WANT(x509_signed_slice(respelled, respelled_len, &part) == X509_OK);
+    x509_span other;
+    WANT(x509_signed_slice(room, written, &other) == X509_OK && other.len == part.len - 4);
+    WANT(x509_reencode(CERTIFICATE, 11, X509_RFC5280, respelled, respelled_len, room, sizeof room, &written) == X509_OK);
+    WANT(written == respelled_len - 4);
+    WANT(x509_reencode(CERTIFICATE, 11, X509_RAW, respelled, respelled_len, room, sizeof room, &written) == X509_OK);
+    WANT(written == respelled_len && memcmp(room, respelled, written) == 0);
+    WANT(x509_certificate_signature(respelled, respelled_len, &signature) == X509_OK);
+    WANT(signature.signed_part.place == part.place && signature.signed_part.len == part.len);
+    WANT(x509_path_check(respelled, respelled_len, respelled, respelled_len, &respelled_len, 1, MOMENT, &fault) == X509_OK);
+}
+
+/* Makes the first date of the bytes one of 1969, or one of 1970. */
+static void set_year(uint8_t *bytes, size_t len, const char *year)
+{
+    for (size_t at = 0; at + 4 < len; at++)
+        if (bytes[at] == 0x17 && bytes[at + 1] == 0x0d) {
+            memcpy(bytes + at + 2, year, 2);
+            return;
+        }
+}
+
+static void early_dates(void)
+{
+    const uint8_t *const time = (const uint8_t *)"Time";
+    WANT(x509_reencode(time, 4, X509_RAW, (const uint8_t *)"\x17\x0d" "691231235959Z", 15, room, sizeof room, &written) == X509_MALFORMED);
+    WANT(x509_reencode(time, 4, X509_RAW, (const uint8_t *)"\x18\x0f" "19691231235959Z", 17, room, sizeof room, &written) == X509_MALFORMED);
+    WANT(x509_reencode(time, 4, X509_RAW, (const uint8_t *)"\x17\x0d" "700101000000Z", 15, room, sizeof room, &written) == X509_OK);
+    set_year(certificate, certificate_len, "70");
+    WANT(x509_certificate_view(certificate, certificate_len, &view) == X509_OK && view.not_before == 97445);
+    set_year(certificate, certificate_len, "69");
+    WANT(x509_certificate_check(certificate, certificate_len) == X509_MALFORMED);
+    WANT(x509_certificate_view(certificate, certificate_len, &view) == X509_MALFORMED);
+    WANT(x509_certificate_extension(certificate, certificate_len, OID, 3, &found) == X509_MALFORMED);
+    WANT(x509_certificate_reencode(certificate, certificate_len, room, sizeof room, &written) == X509_MALFORMED);
+    WANT(x509_reencode(CERTIFICATE, 11, X509_RAW, certificate, certificate_len, room, sizeof room, &written) == X509_MALFORMED);
+    WANT(x509_certificate_signature(certificate, certificate_len, &signature) == X509_MALFORMED);
+    WANT(x509_path_check(certificate, certificate_len, respelled, respelled_len, &respelled_len, 1, MOMENT, &fault) == X509_MALFORMED);
+    WANT(is_decode(x509_path_check(respelled, respelled_len, certificate, certificate_len, &certificate_len, 1, MOMENT, &fault)));
+    WANT(x509_signed_slice(certificate, certificate_len, &part) == X509_OK);
+    WANT(x509_crl_check(list, list_len) == X509_OK);
+    set_year(list, list_len, "69");
+    WANT(x509_crl_check(list, list_len) == X509_MALFORMED);
+    WANT(x509_crl_walk(list, list_len, &entries) == X509_MALFORMED);
+    WANT(x509_crl_lookup(list, list_len, SERIAL, 3, &revocation) == X509_MALFORMED);
+}
+
+/* 268,435,456 bytes are one too many; these are zeros. */
+static void overlong(void)
+{
+    const size_t len = (size_t)1 << 28;
+    uint8_t *const bytes = calloc(len, 1);
+    if (bytes == NULL)
+        return;
+    WANT(x509_certificate_check(bytes, len) == X509_OVERLENGTH);
+    WANT(x509_crl_check(bytes, len) == X509_OVERLENGTH);
+    WANT(x509_request_check(bytes, len) == X509_OVERLENGTH);
+    WANT(x509_certificate_view(bytes, len, &view) == X509_OVERLENGTH);
+    WANT(x509_certificate_extension(bytes, len, OID, 3, &found) == X509_OVERLENGTH);
+    WANT(x509_certificate_signature(bytes, len, &signature) == X509_OVERLENGTH);
+    WANT(x509_path_check(bytes, len, certificate, certificate_len, &certificate_len, 1, MOMENT, &fault) == X509_OVERLENGTH);
+    WANT(is_decode(x509_path_check(certificate, certificate_len, bytes, len, &len, 1, MOMENT, &fault)));
+    WANT(x509_crl_walk(bytes, len, &entries) == X509_OVERLENGTH);
+    WANT(x509_crl_lookup(bytes, len, SERIAL, 3, &revocation) == X509_OVERLENGTH);
+    WANT(x509_certificate_reencode(bytes, len, room, sizeof room, &written) == X509_OVERLENGTH);
+    WANT(x509_reencode(CERTIFICATE, 11, X509_RAW, bytes, len, room, sizeof room, &written) == X509_OVERLENGTH);
+    WANT(x509_name_text(bytes, len, room, sizeof room, &written) == X509_OVERLENGTH);
+    WANT(x509_signed_slice(bytes, len, &part) == X509_MALFORMED);
+    free(bytes);
+}
+
+int main(int argc, char **argv)
+{
+    if (argc != 4)
+        return 2;
+    certificate_len = read_file(argv[1], certificate);
+    list_len = read_file(argv[2], list);
+    respelled_len = read_file(argv[3], respelled);
+    no_pointers();
+    parts();
+    respelled_dates();
+    overlong();
+    early_dates();
+    if (failures == 0)
+        printf("all calls answer as they should\n");
+    return failures != 0;
+}
