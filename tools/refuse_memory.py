@@ -7,7 +7,7 @@
 A line of CASES is the words, a tab, the line in, a tab and the line out. Each case is run with no allocation refused, then with
 the Nth one refused, and with all from the Nth on, for N from 1 until so many aren't asked for. The second form runs each test
 of the crates so; it must end well, by an error that says that memory was refused, or by an assertion of its own, where the answer
-that it wants is another than a want of memory (it says `assertion ..`, or `at ..` with what it was over). A test whose name speaks of memory may not end by an assertion: what it wants holds
+that it wants is another than a lack of memory (it says `assertion ..`, or `at ..` with what it was over). A test whose name speaks of memory may not end by an assertion: what it wants holds
 whatever is refused. All else is printed, as a fault or a run without end.
 """
 import collections
@@ -66,7 +66,7 @@ def tests(paths):
                 if not status:
                     ends["ended well"] += 1
                 elif status == 101 and re.search(rb"Memory|Alloc(Error|Failed)", said):
-                    ends["for want of memory"] += 1
+                    ends["out of memory"] += 1
                 elif status == -6 and said.startswith((b"assertion ", b"at ")) and "memory" not in name:
                     ends["by an assertion"] += 1
                 else:

@@ -1,4 +1,4 @@
--- The signed parts that a builder of lists of revoked certificates makes (RFC 5280 5.1.2).
+-- The signed parts that a builder of CRLs makes (RFC 5280 5.1.2).
 use Rattle.sha1.specs.Sha1.{sha1}
 use Rattle.std.specs.Prelude.{◌≡◌, ◌⊎◌, ◌<◌, ℕ, Bool, false, List, [], ◌∷◌, Option, Some, None, Result, Ok, Err}
 use Rattle.x509_base.specs.declared.algorithm_identifier.AlgorithmIdentifier.{AlgorithmIdentifier}

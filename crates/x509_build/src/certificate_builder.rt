@@ -1,4 +1,4 @@
-//! What makes certificates of a profile.
+//! The builder of certificates by a profile.
 
 ghost use Rattle.std.specs.Prelude.{◌≡◌, ◌⊎◌, [], ◌∷◌, ◌++◌, Ok, Err, IfOk, IfErr, OnOk, OnErr};
 ghost use Rattle.x509_build.specs.CertificateParts.{bare_part, new_builder, next_part, part_with};
@@ -18,7 +18,7 @@ use x509_der_grammar::{Encode, Error, TryClone};
 use x509_ext_frame::{Extension, Extensions, ToExtension};
 use x509_prim::BitString;
 
-/// What makes a certificate of what is handed in and of what a profile puts in (RFC 5280 4.1).
+/// A builder of a certificate (RFC 5280 4.1), made of what is handed in and of what a profile puts in.
 ///
 /// The profile says whom the certificate names and who signs it. A part without extensions is of version 1, else of version 3;
 /// it has no unique identifiers (RFC 5280 4.1.2.8).

@@ -1,4 +1,4 @@
-//! What makes lists of revoked certificates.
+//! The builder of CRLs.
 
 ghost use Rattle.std.specs.Duration.{as_nanos};
 ghost use Rattle.std.specs.Iterator.{Drains, IsFinite};
@@ -29,7 +29,7 @@ use x509_ext::pkix::SubjectKeyIdentifier;
 use x509_pkix::CrlNumber;
 use x509_prim::BitString;
 
-/// What makes a list of revoked certificates (RFC 5280 5.1).
+/// A builder of a CRL (RFC 5280 5.1).
 ///
 /// The part that is signed is of version 2, names the subject of the issuer's certificate as issuer, and has two extensions: the
 /// number of the list, and the identifier of the issuer's key.

@@ -1,4 +1,4 @@
-//! Certificates, lists of revoked certificates and requests that are built and signed (RFC 5280, 2986), under the paths that the
+//! Certificates, CRLs and requests that are built and signed (RFC 5280, 2986), under the paths that the
 //! module `builder` of the Rust crate `x509-cert` has.
 //!
 //! A builder is made of what is to stand in its part; [`Builder::build`] has a [`Signer`] sign the encoding of that part. What is

@@ -1,4 +1,4 @@
--- Facts on the names of hardware modules among names of many kinds.
+-- Facts on the names of hardware modules among general names.
 use Rattle.std.proofs.Common.{◌≡◌, Bool, true, false, List, [], ◌∷◌, Option, Some, None, Result, Ok, IfOk, refl, sym}
 use Rattle.std.specs.Prelude.{IsSomeAnd, bytes_eq, if◌then◌else◌}
 use Rattle.std.proofs.lemmas.Slice.Eq.{bytes_eq-Decides}

@@ -1,4 +1,4 @@
--- Names of hardware modules among names of many kinds (RFC 4108 5).
+-- Names of hardware modules among general names (RFC 4108 5).
 use Rattle.std.specs.Prelude.{◌≡◌, ◌<◌, ◌⊎◌, ℕ, List, [], ◌∷◌, length, Option, Some, None, Result, Ok, Err, IsOk, bytes_eq, if◌then◌else◌}
 use Rattle.x509_build_profile.specs.declared.error.Error.{Error}
 use Rattle.x509_build_profile.specs.declared.error.Error.TheVariants.{Asn1}

@@ -7,7 +7,7 @@ use std::alloc::Global;
 use x509_der_grammar::Encode;
 use x509_prim::BitString;
 
-/// What is made of a part that gets signed: a certificate, a list of revoked certificates, or a request.
+/// What is made of a part that gets signed: a certificate, a CRL, or a request.
 ///
 /// [`finalize`](Builder::finalize) computes the part for a signer and answers the bytes that are to be signed;
 /// [`assemble`](Builder::assemble) puts the part and a signature together. [`build`](Builder::build) is both, with a signature

@@ -124,7 +124,7 @@ fn check_module(alloc: Global, names: &[GeneralName]) -> std::result::Result<(),
 }
 
 impl DevId {
-    /// The profile of that device. Where further names are given, one of them is to be that of a hardware module
+    /// The profile of that device. Where alternative names are given, one of them is to be that of a hardware module
     /// ([`HardwareModuleName`]): the first [`OtherName`] with its identifier decides. Without names it takes no memory.
     ///
     /// # Errors

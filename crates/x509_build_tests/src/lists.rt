@@ -1,4 +1,4 @@
-//! Lists of revoked certificates that are built.
+//! CRLs that are built.
 
 use crate::calls::is_answer;
 use crate::signers::{ABC, Echo, Refused};

@@ -55,7 +55,7 @@ pub extern "C" fn x509_certificate_reencode(
     reencode::<CertificateInner<Rfc5280>>(alloc, input, room, written).code()
 }
 
-/// Reads a list of revoked certificates under the rules of RFC 5280, and lets it go again.
+/// Reads a CRL under the rules of RFC 5280, and lets it go again.
 #[unsafe(no_mangle)]
 pub extern "C" fn x509_crl_check(alloc: Global, input: &[u8]) -> i32
     ensures { Tells (λ status. Checks ⟦<CertificateList<Rfc5280> as Grammar>⟧.form ⟦<CertificateList<Rfc5280> as Grammar>⟧.refuses input.now status) result }

@@ -1,4 +1,4 @@
--- The entries of a list of revoked certificates.
+-- The entries of a CRL.
 use Rattle.std.specs.Prelude.{List, [], Option, Some, None}
 
 -- the members, none where the list of them is left out

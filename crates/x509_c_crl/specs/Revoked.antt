@@ -1,4 +1,4 @@
--- What a list of revoked certificates says of one (RFC 5280 5.3).
+-- What a CRL says of a revoked certificate (RFC 5280 5.3).
 use Rattle.std.specs.Prelude.{◌≡◌, ◌⊎◌, ℕ, ℤ, pos, negsuc, Bool, List, [], ◌∷◌, filter, bytes_eq, Option, Some, None, Result, Ok, Err}
 use Rattle.x509_base_time.specs.CivilTime.{unix_seconds}
 use Rattle.x509_base_time.specs.Time.{date_time_of}

@@ -1,4 +1,4 @@
-//! What a list of revoked certificates says.
+//! What a CRL says.
 #![tactic(auto)]
 
 mod list;

@@ -20,7 +20,7 @@ pub fn entries(list: &CertificateList<Rfc5280>) -> &[RevokedCert<Rfc5280>]
     }
 }
 
-/// Reads a list of revoked certificates under the rules of RFC 5280, and says how many entries it has. Where it is refused,
+/// Reads a CRL under the rules of RFC 5280, and says how many entries it has. Where it is refused,
 /// the count stays as it was.
 #[tactic(auto, unfolding(x509_c_status::specs::Calls::Reads))]
 pub fn crl_walk(alloc: Global, input: &[u8], count: &mut usize) -> Status

@@ -86,7 +86,7 @@ fn ask(
     }
 }
 
-/// Reads a list of revoked certificates and a serial number, both under the rules of RFC 5280, and fills in what the first entry with the
+/// Reads a CRL and a serial number, both under the rules of RFC 5280, and fills in what the first entry with the
 /// number says.
 #[tactic(auto, unfolding(crate::specs::Revoked::LooksUp))]
 pub fn crl_lookup(

@@ -5,7 +5,7 @@ use Rattle.x509_der_element.specs.declared.error.ErrorKind.TheVariants.{Memory, 
 use Rattle.x509_c_status.specs.declared.status.Status.{Status}
 use Rattle.x509_c_status.specs.declared.status.Status.TheVariants.{Done, NoRoom, Absent, Repeated, Faulty, Refused}
 
--- the number of a refusal: -1 for want of memory
+-- the number of a refusal: -1 where memory ran out
 abbrev pub refusal_code : ErrorKind → ℤ
 refusal_code Overlength = pos 1
 refusal_code Malformed = pos 2

@@ -1,4 +1,4 @@
-//! X.509 certificates, lists of revoked certificates, requests and trust anchors in strict DER (RFC 5280, 2986, 5914), under the
+//! X.509 certificates, CRLs, requests and trust anchors in strict DER (RFC 5280, 2986, 5914), under the
 //! paths that the Rust crate `x509-cert` has.
 //!
 //! Bytes are read by `from_der` of [`der::Decode`] and written by `to_der` of [`der::Encode`]. What is promised of them stands at

@@ -1,4 +1,4 @@
-//! The signed bytes of certificates, of lists of revoked certificates and of requests.
+//! The signed bytes of certificates, of CRLs and of requests.
 
 ghost use Rattle.std.specs.Prelude.{◌≡◌, ◌<◌, ◌≤◌, ◌++◌, length, List, ℕ, IfSome, IfNone};
 ghost use Rattle.x509_cert_signed.specs.Signed.{IsSignedPart};

@@ -1,4 +1,4 @@
-//! Copies of what was read: of lists of revoked certificates, requests and trust anchors.
+//! Copies of what was read: of CRLs, requests and trust anchors.
 
 use crate::certificate::WHOLE;
 use std::test::*;

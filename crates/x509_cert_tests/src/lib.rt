@@ -1,4 +1,4 @@
-//! Tests of certificates, lists of revoked certificates, requests and trust anchors, and of runs of the program over them.
+//! Tests of certificates, CRLs, requests and trust anchors, and of runs of the program over them.
 #![tactic(auto)]
 
 #[cfg(test)]

@@ -105,7 +105,7 @@ fn attributes(
     it
 }
 
-/// Lists of revoked certificates.
+/// CRLs.
 fn lists(
     it: &(crl::CertificateList, crl::RevokedCert, crl::TbsCertList),
 ) -> &(

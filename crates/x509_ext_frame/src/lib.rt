@@ -1,4 +1,4 @@
-//! Extensions of certificates, of lists of revoked certificates and of requests, and how they are made of their
+//! Extensions of certificates, of CRLs and of requests, and how they are made of their
 //! payloads.
 #![tactic(auto)]
 

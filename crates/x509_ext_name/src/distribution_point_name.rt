@@ -1,4 +1,4 @@
-//! Names of the places at which lists of revoked certificates are found.
+//! Names of the places at which CRLs are found.
 
 use crate::general_name::GeneralNames;
 use std::alloc::Global;
@@ -6,7 +6,7 @@ use x509_der_frames::implicit_identifier;
 use x509_der_grammar::{Content, Decode, Encode, Error, ErrorKind, Grammar, Room, Tag, TryClone};
 use x509_ext_frame::RelativeDistinguishedName;
 
-/// The name of a place at which a list of revoked certificates is found (RFC 5280 4.2.1.13).
+/// The name of a place at which a CRL is found (RFC 5280 4.2.1.13).
 ///
 /// ```text
 /// DistributionPointName ::= CHOICE {

@@ -42,29 +42,29 @@ pub enum IpAddress {
 /// ```
 #[derive(Debug, PartialEq, Eq)]
 pub enum GeneralName {
-    /// A name of a kind that an identifier tells.
+    /// A name whose type is told by an OID.
     OtherName(OtherName),
 
-    /// An address of electronic mail.
+    /// An e-mail address.
     Rfc822Name(Ia5String),
 
-    /// A name of the domain name system.
+    /// A DNS name.
     DnsName(Ia5String),
 
-    /// A name as that of an issuer.
+    /// A distinguished name.
     DirectoryName(Name),
 
-    /// A name of electronic data interchange.
+    /// An EDI party name.
     EdiPartyName(EdiPartyName),
 
-    /// A uniform resource identifier.
+    /// A URI.
     UniformResourceIdentifier(Ia5String),
 
-    /// An address of the Internet protocol; in name constraints an address and a mask. How many octets there are isn't
+    /// An IP address; in name constraints an address and a mask. How many octets there are isn't
     /// looked at.
     IpAddress(OctetString),
 
-    /// An identifier that was registered.
+    /// A registered OID.
     RegisteredId(ObjectIdentifier),
 }
 

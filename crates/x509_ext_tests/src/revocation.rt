@@ -1,4 +1,4 @@
-//! Numbers of lists of revoked certificates, and reasons.
+//! Numbers of CRLs, and reasons.
 
 use crate::calls::is_written;
 use bitflags::Flags;

@@ -1,4 +1,4 @@
-//! Numbers of lists of revoked certificates.
+//! Numbers of CRLs.
 
 ghost use Rattle.std.specs.Prelude.{◌≡◌, IfOk, IfErr};
 ghost use Rattle.x509_der_element.specs.declared.error.ErrorKind.TheVariants.{Memory};

@@ -1,4 +1,4 @@
-//! Where a list of revoked certificates is found.
+//! Where a CRL is found.
 
 use crate::ReasonFlags;
 use std::alloc::Global;
@@ -8,7 +8,7 @@ use x509_der_frames::{
 use x509_der_grammar::{Content, Encode, Error, Room, Tag, TryClone};
 use x509_ext_name::{DistributionPointName, GeneralNames};
 
-/// Where a list of revoked certificates is found (RFC 5280 4.2.1.13). That a place or an issuer is there, as RFC 5280
+/// Where a CRL is found (RFC 5280 4.2.1.13). That a place or an issuer is there, as RFC 5280
 /// wants it, isn't looked at.
 ///
 /// ```text

@@ -1,4 +1,4 @@
-//! Where lists of revoked certificates are found.
+//! Where CRLs are found.
 
 ghost use Rattle.std.specs.Prelude.{◌≡◌, []};
 

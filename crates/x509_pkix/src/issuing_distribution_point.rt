@@ -11,7 +11,7 @@ use x509_der_grammar::{Content, Encode, Error, Room, Tag, TryClone};
 use x509_ext_frame::{Criticality, Extension, Name, id_ce};
 use x509_ext_name::DistributionPointName;
 
-/// Where a list of revoked certificates is found, and of what certificates it speaks (RFC 5280 5.2.5). Its identifier is
+/// Where a CRL is found, and of what certificates it speaks (RFC 5280 5.2.5). Its identifier is
 /// 2.5.29.28, and it is critical. That at most one of the three kinds of certificates is said, as RFC 5280 wants it, isn't
 /// looked at.
 ///

@@ -30,7 +30,7 @@ pub mod constraints {
     }
 }
 
-/// Lists of revoked certificates.
+/// CRLs.
 pub mod crl {
     pub use crate::crl_number::{BaseCrlNumber, CrlNumber};
     pub use crate::crl_reason::CrlReason;

@@ -16,7 +16,7 @@ pub enum Kind {
     /// A certificate.
     Certificate,
 
-    /// A list of revoked certificates.
+    /// A CRL.
     Crl,
 
     /// The extensions of a certificate, a list or a request.

@@ -1,4 +1,4 @@
-//! What makes requests for certificates.
+//! The builder of PKCS #10 requests (CSRs).
 
 ghost use Rattle.std.specs.BTreeSet.{insert_key};
 ghost use Rattle.std.specs.Prelude.{◌≡◌, ◌⊎◌, [], ◌∷◌, ◌++◌, Contains, Ok, Err, IfOk, IfErr, OnOk, OnErr};
@@ -25,7 +25,7 @@ use x509_name::name::Name;
 use x509_name_attribute::{Attribute, Attributes};
 use x509_prim::BitString;
 
-/// What makes a request for a certificate (RFC 2986 4).
+/// A builder of a PKCS #10 request (CSR, RFC 2986 4).
 ///
 /// The part that is signed holds the signer's key, the attributes that were added, and one more, which asks for the extensions
 /// that were added (RFC 2985 5.4.2). That stands there where none were added too.

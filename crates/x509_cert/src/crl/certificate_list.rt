@@ -1,4 +1,4 @@
-//! Lists of revoked certificates.
+//! CRLs.
 
 use crate::crl::tbs_cert_list::TbsCertList;
 use std::alloc::Global;
@@ -8,7 +8,7 @@ use x509_der_frames::{PutPart, end, field};
 use x509_der_grammar::{Content, Error, Room, Tag, TryClone};
 use x509_prim::BitString;
 
-/// A list of revoked certificates, signed (RFC 5280 5.1). That the signature fits, and that both algorithms are one, isn't
+/// A certificate revocation list (CRL), signed (RFC 5280 5.1). That the signature fits, and that both algorithms are one, isn't
 /// looked at.
 ///
 /// ```text

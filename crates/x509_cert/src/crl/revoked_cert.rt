@@ -1,4 +1,4 @@
-//! An entry of a list of revoked certificates.
+//! An entry of a CRL.
 
 ghost use Rattle.std.specs.Prelude.{◌≡◌};
 ghost use Rattle.x509_cert_certificate.specs.Filter.{extensions_left};

@@ -1,4 +1,4 @@
-//! The part of a list of revoked certificates that is signed.
+//! The part of a CRL that is signed.
 
 ghost use Rattle.std.specs.Prelude.{◌≡◌};
 ghost use Rattle.x509_cert_certificate.specs.Filter.{extensions_left};

@@ -40,7 +40,7 @@ pub mod constraints {
     }
 }
 
-/// Lists of revoked certificates.
+/// CRLs.
 pub mod crl {
     pub use x509_pkix::{
         BaseCrlNumber, CrlDistributionPoints, CrlNumber, CrlReason, FreshestCrl,

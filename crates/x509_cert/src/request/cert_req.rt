@@ -30,7 +30,7 @@ pub struct CertReqInfo {
     /// The version of the request.
     pub version: Version,
 
-    /// Who asks.
+    /// The subject of the certificate that is asked for.
     pub subject: Name,
 
     /// The key that is to be certified.

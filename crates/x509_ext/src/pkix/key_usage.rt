@@ -37,7 +37,7 @@ bitflag_items! {
         /// The key is used to verify signatures of certificates.
         const KEY_CERT_SIGN = 32;
 
-        /// The key is used to verify signatures of lists of revoked certificates.
+        /// The key is used to verify signatures of CRLs.
         const CRL_SIGN = 64;
 
         /// Beside `key_agreement`: the key is used in it only to encipher.
@@ -186,7 +186,7 @@ impl KeyUsage {
         self.0.contains(KeyUsages::KEY_CERT_SIGN)
     }
 
-    /// Whether the key is used to verify signatures of lists of revoked certificates.
+    /// Whether the key is used to verify signatures of CRLs.
     pub fn crl_sign(&self) -> bool
         ensures { result ≡ has_bit self.now 6 }
     {
