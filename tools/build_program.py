@@ -1,10 +1,11 @@
 #!/usr/bin/env python3
 """Proves and builds a program, with no more than the crates that it stands on, two at a time where neither stands on the other. Prints a
-line for each crate on standard error, and what a crate printed only where it isn't proved.
+line for each crate on standard error, with how much is left by what crates cost (docs/GATE.md), and what a crate printed only where it isn't proved.
 
 usage: tools/build_program.py NAME
 """
 import os
+import re
 import shutil
 import subprocess
 import sys
@@ -51,19 +52,41 @@ def jobs():
     return 1, 0
 
 
-class Told:
-    """The crates that were told of."""
+def costs():
+    """Returns the processor seconds that the proofs of each crate took, as docs/GATE.md has them."""
+    with open(f"{TOP}/docs/GATE.md", encoding="utf-8") as lines:
+        return {row[1]: int(row[2]) for row in (re.match(r"\| `(x509_\w+)` \| (\d+) \|", line) for line in lines) if row}
 
-    def __init__(self, program, count):
-        self.program, self.count, self.told = program, count, 0
+
+def cost_of(crates):
+    """Returns the processor seconds of the proofs of these crates; a crate without a record has the mean of the others."""
+    known = costs()
+    mean = sum(known.values()) / max(1, len(known))
+    return sum(known.get(it, mean) for it in crates)
+
+
+def minutes_of(crates):
+    return max(1, round(cost_of(crates) / 60))
+
+
+class Told:
+    """The crates that were told of, and what is left."""
+
+    def __init__(self, program, path):
+        self.program, self.left, self.told = program, set(path), 0
+        self.count, self.cost = len(path), cost_of(path)
         self.start = time.monotonic()
         self.turn = threading.Lock()
 
     def tell(self, name):
         with self.turn:
             self.told += 1
-            minutes, seconds = divmod(round(time.monotonic() - self.start), 60)
-            line = f"{self.program}: {self.told} of {self.count} crates, {name}, {minutes}:{seconds:02}"
+            self.left.discard(name)
+            spent = time.monotonic() - self.start
+            done = self.cost - cost_of(self.left)
+            minutes, seconds = divmod(round(spent), 60)
+            left = f", about {max(1, round(spent * (self.cost / done - 1) / 60))} min left" if self.left and done else ""
+            line = f"{self.program}: {self.told} of {self.count} crates, {name}, {minutes}:{seconds:02}, {100 * done / self.cost:.0f}%{left}"
             print(line, file=sys.stderr, flush=True)
 
 
@@ -153,7 +176,7 @@ def copy(to):
 def main(program):
     named = crates_below()
     path = path_of(program, named)
-    told, crates = Told(program, len(path)), Crates(path - {program}, named)
+    told, crates = Told(program, path), Crates(path - {program}, named)
     first, second = jobs()
     folder = f"{TOP}/crates/{program}/out"
     lanes = [(TOP, first)]

@@ -1,5 +1,5 @@
 #!/usr/bin/env bash
-# Builds the C library and the callers of examples/, and runs them on a certificate, on bad input, on hostile payloads of extensions and on paths, under
+# Tries ./x509_tool, builds the C library and the callers of examples/, and runs them on a certificate, on bad input, on hostile payloads of extensions and on paths, under
 # valgrind and with sanitizers where these are there. What isn't installed is left out, with a line that says so. What they print is compared with what
 # Python's `cryptography` says (examples/data/make.py), and with what tools/hostile_payloads.py and examples/data/make_path.py state by hand.
 set -eu
@@ -89,8 +89,9 @@ echo 'all calls answer as they should' >"$folder/calls.txt"
 printf '0' >"$folder/one"
 head -c -1 "$data/certificate.der" >"$folder/short"
 
-if has python3 "hostile payloads, and the snippets of README.md"; then
+if has python3 "hostile payloads, the snippets of README.md, and ./x509_tool"; then
     python3 -B "$top/tools/readme_snippets.py" || failed=1
+    python3 -B "$top/tools/test_first_command.py" real || failed=1
     python3 -B "$top/tools/hostile_payloads.py" "$folder/hostile"
     python3 -B "$top/examples/python/payloads.py" "$folder/hostile/spoilt" >"$folder/hostile/spoilt.txt"
     rules=("$data/certificate.der" "$data/list.der" "$folder/hostile/generalized_time_before_2050.der")
