@@ -89,8 +89,9 @@ echo 'all calls answer as they should' >"$folder/calls.txt"
 printf '0' >"$folder/one"
 head -c -1 "$data/certificate.der" >"$folder/short"
 
-if has python3 "hostile payloads, the snippets of README.md, and ./x509_tool"; then
+if has python3 "hostile payloads, the snippets of README.md, the names in docs/PROMISES.md, and ./x509_tool"; then
     python3 -B "$top/tools/readme_snippets.py" || failed=1
+    python3 -B "$top/tools/check_promises.py" || failed=1
     python3 -B "$top/tools/test_first_command.py" real || failed=1
     python3 -B "$top/tools/hostile_payloads.py" "$folder/hostile"
     python3 -B "$top/examples/python/payloads.py" "$folder/hostile/spoilt" >"$folder/hostile/spoilt.txt"
