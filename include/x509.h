@@ -1,7 +1,7 @@
 /* X.509 in strict DER.
  *
  * What each call answers is proved of the Rattle functions of the same names (crates/x509_c), over the definitions of the grammar; see
- * README.md. This header repeats it in words.
+ * docs/PROMISES.md. This header repeats it in words.
  *
  * Memory. Bytes go in as a pointer and a length, which are lent for the call and aren't changed. Where the length is 0, the pointer may be
  * NULL; so may the pointer to a room of 0, and that to a list of 0 lengths. No other pointer may be NULL. What a call fills in is the caller's. A
