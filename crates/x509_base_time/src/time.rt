@@ -15,7 +15,7 @@ use std::fmt;
 use std::str::FromStr;
 use std::time::Duration;
 use x509_der_grammar::{Decode, Encode, Error, Grammar, Room, Tag, TryClone};
-use x509_der_order::ValueOrd;
+use x509_der_order::{EncodingOrd, SetMember, SetOrd, ValueOrd};
 
 /// A date-time, and how it is spelled (RFC 5280 4.1.2.5).
 ///
@@ -196,4 +196,14 @@ impl ValueOrd for Time {
     }
 
     ghost ordered = { time_ordered (writes plain) };
+}
+
+impl SetOrd for Time {
+    ghost set_order = { ⟦<Time as EncodingOrd>⟧.encoding_order };
+}
+
+impl SetMember for Time {
+    ghost use Rattle.std.specs.Prelude.{refl};
+
+    ghost in_der_order = { refl };
 }

@@ -7,7 +7,6 @@ pub mod ObjectIdentifierForm
 pub mod Set
 pub mod SetLaws
 pub mod Members
-pub mod MemberOrder
 pub use Rattle.x509_der_frames.specs.Any
 pub use Rattle.x509_der_frames.specs.FieldsOrder
 pub use Rattle.x509_der_frames.specs.Frames

@@ -5,7 +5,9 @@ ghost use Rattle.std.specs.Prelude.{◌≡◌, Ok};
 use crate::identifier::ObjectIdentifier;
 use std::alloc::Global;
 use std::cmp::Ordering;
-use x509_der_order::{Content, Error, Room, Tag, TryClone, ValueOrd};
+use x509_der_order::{
+    Content, EncodingOrd, Error, Room, SetMember, SetOrd, Tag, TryClone, ValueOrd,
+};
 
 #[tactic(auto, unfolding(crate::specs::ObjectIdentifierForm::object_identifier_reading))]
 impl Content for ObjectIdentifier {
@@ -44,6 +46,16 @@ impl ValueOrd for ObjectIdentifier {
     }
 
     ghost ordered = { grammar.object_identifier_ordered (writes plain) };
+}
+
+impl SetOrd for ObjectIdentifier {
+    ghost set_order = { ⟦<ObjectIdentifier as EncodingOrd>⟧.encoding_order };
+}
+
+impl SetMember for ObjectIdentifier {
+    ghost use Rattle.std.specs.Prelude.{refl};
+
+    ghost in_der_order = { refl };
 }
 
 impl TryClone for ObjectIdentifier {

@@ -12,7 +12,6 @@ ghost use Rattle.x509_der_grammar.specs.Writing.{writes};
 ghost use Rattle.x509_der_order.specs.Order.{HasEncoding, bytes_cmp, der_order};
 
 use crate::identifier::ObjectIdentifier;
-use crate::member::SetMember;
 use crate::set::SetOfVec;
 pub use x509_der_element::laws::{
     equality_of_elements_is_exact, no_element_begins_another, one_tag,
@@ -24,10 +23,10 @@ pub use x509_der_grammar::laws::{
     no_spelling_begins_another, one_spelling, one_value, what_is_written_alike_is_respelled_alike,
     what_was_written_reads_as_respelled, writing_again_gives_the_same,
 };
-use x509_der_order::DerOrd;
 pub use x509_der_order::laws::{
     contents_in_order, encodings_in_order, equal_values_alone_are_equal, orders_are_total,
 };
+use x509_der_order::{DerOrd, SetMember};
 
 /// Content octets are those of one list of arcs.
 pub fn one_content()

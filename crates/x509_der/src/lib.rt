@@ -9,16 +9,13 @@ mod codec;
 mod content;
 mod identifier;
 pub mod laws;
-mod member;
 mod members;
-mod number_members;
 mod numbers;
 mod places;
 mod set;
 
 pub use associated::AssociatedOid;
 pub use identifier::ObjectIdentifier;
-pub use member::{SetMember, SetOrd};
 pub use set::SetOfVec;
 pub use x509_der_frames::{
     Any, FromAny, PutPart, Retagged, SequenceOf, Standard, Wrapped, clone_members,
@@ -33,5 +30,8 @@ pub use x509_der_grammar::{
     expect_tag, put_header, put_natural, read_natural, read_whole, split_element, split_usual,
     take_element,
 };
-pub use x509_der_order::{DerOrd, NewtypeOrd, ValueOrd, cmp_members, cmp_naturals};
+pub use x509_der_order::{
+    DerOrd, EncodingOrd, NewtypeOrd, SetMember, SetOrd, ValueOrd, cmp_members, cmp_naturals,
+    cmp_optional,
+};
 pub use x509_prim_text::Utf8String;

@@ -10,7 +10,6 @@ ghost use Rattle.x509_der_element.specs.declared.error.ErrorKind.TheVariants as 
 ghost use Rattle.x509_der_order.specs.Order.{der_order};
 ghost use Rattle.x509_der.specs.Set.{AreDistinct};
 
-use crate::member::{SetMember, SetOrd};
 use crate::members::Members;
 use crate::places::{is_rising, place};
 use std::alloc::Global;
@@ -20,7 +19,7 @@ use std::marker::Model;
 use std::{fmt, slice};
 use x509_der_frames::put_members;
 use x509_der_grammar::{Content, Decode, Error, ErrorKind, Room, Tag, TryClone};
-use x509_der_order::{DerOrd, ValueOrd, cmp_members};
+use x509_der_order::{DerOrd, SetMember, SetOrd, ValueOrd, cmp_members};
 
 /// The members of a SET OF, no two of them equal, in the byte order of their encodings (X.690 11.6). Contracts see
 /// their list.

@@ -15,8 +15,8 @@ ghost use Rattle.x509_der_order.specs.Writing.{writes, written_spelling, IsWrita
 use std::alloc::Global;
 use std::cmp::Ordering;
 use x509_der_order::{
-    AnyRef, Bytes, Decode, Encode, Error, ErrorKind, Grammar, Growing, Length, Room, Tag, TryClone,
-    ValueOrd, check_content, check_identifier, take_element,
+    AnyRef, Bytes, Decode, Encode, EncodingOrd, Error, ErrorKind, Grammar, Growing, Length, Room,
+    SetMember, SetOrd, Tag, TryClone, ValueOrd, check_content, check_identifier, take_element,
 };
 
 /// An element whose content is not looked into: its identifier and its content octets (X.690 8.1).
@@ -189,6 +189,16 @@ impl ValueOrd for Any {
     }
 
     ghost ordered = { any_ordered (writes plain) };
+}
+
+impl SetOrd for Any {
+    ghost set_order = { ⟦<Any as EncodingOrd>⟧.encoding_order };
+}
+
+impl SetMember for Any {
+    ghost use Rattle.std.specs.Prelude.{refl};
+
+    ghost in_der_order = { refl };
 }
 
 impl TryClone for Any {

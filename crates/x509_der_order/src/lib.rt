@@ -2,12 +2,15 @@
 #![tactic(auto)]
 
 pub mod laws;
+mod member;
 mod members;
 mod newtype;
 mod number;
+mod number_members;
 mod order;
 
-pub use members::cmp_members;
+pub use member::{EncodingOrd, SetMember, SetOrd};
+pub use members::{cmp_members, cmp_optional};
 pub use newtype::NewtypeOrd;
 pub use number::cmp_naturals;
 pub use order::{DerOrd, ValueOrd};

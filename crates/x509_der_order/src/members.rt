@@ -1,6 +1,7 @@
-//! Members one after the other.
+//! Members one after the other, and what may be left out.
 
 ghost use Rattle.std.specs.Prelude.{◌≡◌};
+ghost use Rattle.std.specs.Option.{option_cmp};
 ghost use Rattle.x509_der_grammar.specs.Writing.{writes};
 ghost use Rattle.x509_der_order.specs.Order.{der_order};
 ghost use Rattle.x509_der_order.specs.Ordered.{by_members};
@@ -22,4 +23,16 @@ pub fn cmp_members<T: DerOrd>(a: &[T], b: &[T]) -> Ordering
         i += 1;
     }
     a.len().cmp(&b.len())
+}
+
+/// The byte order of what may be left out: nothing stands before an element, and two elements in their order.
+pub fn cmp_optional<T: DerOrd>(a: &Option<T>, b: &Option<T>) -> Ordering
+    ensures { result ≡ option_cmp (der_order T.form (writes T.writing) T.order) a.now b.now }
+{
+    match (a, b) {
+        (None, None) => Ordering::Equal,
+        (None, Some(_)) => Ordering::Less,
+        (Some(_), None) => Ordering::Greater,
+        (Some(a), Some(b)) => a.der_cmp(b),
+    }
 }

@@ -8,7 +8,9 @@ use std::alloc::Global;
 use std::cmp::Ordering;
 use std::fmt;
 use std::marker::Model;
-use x509_der_order::{Bytes, Content, Error, ErrorKind, Room, Tag, TryClone, ValueOrd};
+use x509_der_order::{
+    Bytes, Content, EncodingOrd, Error, ErrorKind, Room, SetMember, SetOrd, Tag, TryClone, ValueOrd,
+};
 
 /// A list of bits (X.690 8.6). Contracts see the octets in which they stand, bit 8 of the first octet first, and
 /// how many bits of the last octet are unused; those are zero (X.690 11.2.1).
@@ -148,6 +150,16 @@ impl ValueOrd for BitString {
     }
 
     ghost ordered = { by_bytes_lawful bit_string (writes plain) (λ x y p q. one_bit_string x y q) };
+}
+
+impl SetOrd for BitString {
+    ghost set_order = { ⟦<BitString as EncodingOrd>⟧.encoding_order };
+}
+
+impl SetMember for BitString {
+    ghost use Rattle.std.specs.Prelude.{refl};
+
+    ghost in_der_order = { refl };
 }
 
 impl TryClone for BitString {

@@ -17,7 +17,7 @@ use std::fmt;
 use std::hash::{Hash, Hasher};
 use std::marker::Model;
 use x509_der_grammar::{Bytes, Content, Error, ErrorKind, Room, Tag, TryClone};
-use x509_der_order::ValueOrd;
+use x509_der_order::{EncodingOrd, SetMember, SetOrd, ValueOrd};
 
 /// A whole number of any size (X.690 8.3). Contracts see its content octets.
 #[derive(Drop)]
@@ -109,6 +109,16 @@ impl ValueOrd for Int {
     }
 
     ghost ordered = { by_bytes_lawful integer (writes plain) (λ x y p q. q) };
+}
+
+impl SetOrd for Int {
+    ghost set_order = { ⟦<Int as EncodingOrd>⟧.encoding_order };
+}
+
+impl SetMember for Int {
+    ghost use Rattle.std.specs.Prelude.{refl};
+
+    ghost in_der_order = { refl };
 }
 
 impl TryClone for Int {

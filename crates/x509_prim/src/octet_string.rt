@@ -16,7 +16,10 @@ use std::cmp::Ordering;
 use std::fmt;
 use std::hash::{Hash, Hasher};
 use std::marker::Model;
-use x509_der_order::{Bytes, Content, Error, Room, Tag, TryClone, ValueOrd, check_content};
+use x509_der_order::{
+    Bytes, Content, EncodingOrd, Error, Room, SetMember, SetOrd, Tag, TryClone, ValueOrd,
+    check_content,
+};
 
 /// Any octets (X.690 8.7). Contracts see their list.
 #[derive(Drop)]
@@ -110,6 +113,16 @@ impl ValueOrd for OctetString {
     }
 
     ghost ordered = { by_bytes_lawful octet_string (writes plain) (λ x y p q. q) };
+}
+
+impl SetOrd for OctetString {
+    ghost set_order = { ⟦<OctetString as EncodingOrd>⟧.encoding_order };
+}
+
+impl SetMember for OctetString {
+    ghost use Rattle.std.specs.Prelude.{refl};
+
+    ghost in_der_order = { refl };
 }
 
 impl TryClone for OctetString {

@@ -18,7 +18,7 @@ use std::hash::{Hash, Hasher};
 use std::marker::Model;
 use x509_der_frames::{Any, FromAny};
 use x509_der_grammar::{Bytes, Content, Error, ErrorKind, Room, Tag, TryClone};
-use x509_der_order::ValueOrd;
+use x509_der_order::{EncodingOrd, SetMember, SetOrd, ValueOrd};
 
 /// A BMPString (X.680 41.15, X.690 8.23.8): characters of the basic multilingual plane. Contracts see their octets,
 /// two for each character.
@@ -183,6 +183,16 @@ impl ValueOrd for BmpString {
     }
 
     ghost ordered = { by_bytes_lawful bmp_string (writes plain) (λ x y p q. q) };
+}
+
+impl SetOrd for BmpString {
+    ghost set_order = { ⟦<BmpString as EncodingOrd>⟧.encoding_order };
+}
+
+impl SetMember for BmpString {
+    ghost use Rattle.std.specs.Prelude.{refl};
+
+    ghost in_der_order = { refl };
 }
 
 /// The text of an element; `Malformed` exactly where it has another identifier, or a content that isn't that of characters

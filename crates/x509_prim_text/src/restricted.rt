@@ -19,7 +19,7 @@ use std::hash::{Hash, Hasher};
 use std::marker::{Model, PhantomData};
 use x509_der_frames::{Any, FromAny};
 use x509_der_grammar::{Content, Error, ErrorKind, Room, Tag, TryClone};
-use x509_der_order::ValueOrd;
+use x509_der_order::{EncodingOrd, SetMember, SetOrd, ValueOrd};
 
 /// A text of a restricted character string type (X.680 41). Contracts see its octets, one for each character.
 #[derive(Drop)]
@@ -117,6 +117,16 @@ impl<A: Alphabet> ValueOrd for RestrictedString<A> {
     }
 
     ghost ordered = { by_bytes_lawful (tested A.TAG (list_all A.has_char)) (writes plain) (λ x y p q. q) };
+}
+
+impl<A: Alphabet> SetOrd for RestrictedString<A> {
+    ghost set_order = { ⟦<RestrictedString<A> as EncodingOrd>⟧.encoding_order };
+}
+
+impl<A: Alphabet> SetMember for RestrictedString<A> {
+    ghost use Rattle.std.specs.Prelude.{refl};
+
+    ghost in_der_order = { refl };
 }
 
 /// The text of an element; `Malformed` exactly where it has another identifier, or a character that is not one of the

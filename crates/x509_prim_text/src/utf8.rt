@@ -19,7 +19,7 @@ use std::hash::{Hash, Hasher};
 use std::marker::Model;
 use x509_der_frames::{Any, FromAny};
 use x509_der_grammar::{AnyRef, Content, Error, ErrorKind, Room, Tag, TryClone};
-use x509_der_order::ValueOrd;
+use x509_der_order::{EncodingOrd, SetMember, SetOrd, ValueOrd};
 
 /// A UTF8String (X.680 41.16, X.690 8.23.10). Contracts see the UTF-8 octets of its characters.
 #[derive(Drop)]
@@ -125,6 +125,16 @@ impl ValueOrd for Utf8String {
     }
 
     ghost ordered = { by_bytes_lawful utf8_string (writes plain) (λ x y p q. q) };
+}
+
+impl SetOrd for Utf8String {
+    ghost set_order = { ⟦<Utf8String as EncodingOrd>⟧.encoding_order };
+}
+
+impl SetMember for Utf8String {
+    ghost use Rattle.std.specs.Prelude.{refl};
+
+    ghost in_der_order = { refl };
 }
 
 /// The text of an element; `Malformed` exactly where it has another identifier, or a content that is not UTF-8. More than
