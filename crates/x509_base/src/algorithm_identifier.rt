@@ -1,9 +1,11 @@
 //! Algorithms with their parameters.
 
 use std::alloc::Global;
+use std::cmp::Ordering;
 use x509_der::ObjectIdentifier;
 use x509_der_frames::{Any, PutPart, end, field, optional, optional_field};
 use x509_der_grammar::{Content, Error, Room, Tag, TryClone};
+use x509_der_order::{DerOrd, EncodingOrd, SetMember, SetOrd, ValueOrd, cmp_optional};
 
 /// An algorithm, by its name, and the parameters with which it is used (RFC 5280 4.1.1.2).
 ///
@@ -57,6 +59,30 @@ impl Content for AlgorithmIdentifier {
     }
 
     ghost contents_lawful = { grammar.algorithm_identifier_contents_lawful };
+}
+
+impl ValueOrd for AlgorithmIdentifier {
+    ghost use Rattle.x509_base.specs.AlgorithmIdentifier as grammar;
+
+    ghost order = { grammar.algorithm_identifier_order };
+
+    fn value_cmp(&self, other: &AlgorithmIdentifier) -> Ordering {
+        self.oid
+            .der_cmp(&other.oid)
+            .then(cmp_optional(&self.parameters, &other.parameters))
+    }
+
+    ghost ordered = { grammar.algorithm_identifier_ordered };
+}
+
+impl SetOrd for AlgorithmIdentifier {
+    ghost set_order = { ⟦<AlgorithmIdentifier as EncodingOrd>⟧.encoding_order };
+}
+
+impl SetMember for AlgorithmIdentifier {
+    ghost use Rattle.std.specs.Prelude.{refl};
+
+    ghost in_der_order = { refl };
 }
 
 impl TryClone for AlgorithmIdentifier {

@@ -18,7 +18,7 @@ use std::hash::{Hash, Hasher};
 use std::marker::{Model, PhantomData};
 use x509_base_time::{Profile, Rfc5280};
 use x509_der_grammar::{Content, Error, ErrorKind, Room, Tag, TryClone};
-use x509_der_order::{DerOrd, ValueOrd};
+use x509_der_order::{DerOrd, EncodingOrd, SetMember, SetOrd, ValueOrd};
 use x509_prim::{Int, Uint, strip_zeros};
 
 /// The number that the issuer of a certificate gave it (RFC 5280 4.1.2.2). Reading asks the profile whether the content
@@ -208,6 +208,16 @@ impl<P: Profile> ValueOrd for SerialNumber<P> {
     }
 
     ghost ordered = { serial_ordered P.serial_check (writes plain) };
+}
+
+impl<P: Profile> SetOrd for SerialNumber<P> {
+    ghost set_order = { ⟦<SerialNumber<P> as EncodingOrd>⟧.encoding_order };
+}
+
+impl<P: Profile> SetMember for SerialNumber<P> {
+    ghost use Rattle.std.specs.Prelude.{refl};
+
+    ghost in_der_order = { refl };
 }
 
 /// By the encodings, as [`DerOrd`] compares them.

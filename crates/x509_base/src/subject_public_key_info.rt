@@ -5,8 +5,10 @@ ghost use Rattle.std.specs.Prelude.{◌≡◌};
 use crate::algorithm_identifier::AlgorithmIdentifier;
 use crate::subject_public_key_info_ref::SubjectPublicKeyInfoRef;
 use std::alloc::Global;
+use std::cmp::Ordering;
 use x509_der_frames::{PutPart, end, field};
 use x509_der_grammar::{Content, Error, Room, Tag, TryClone};
+use x509_der_order::{DerOrd, EncodingOrd, SetMember, SetOrd, ValueOrd};
 use x509_prim::BitString;
 
 /// A public key, and the algorithm with which it is used (RFC 5280 4.1.2.7).
@@ -75,6 +77,30 @@ impl Content for SubjectPublicKeyInfo {
     }
 
     ghost contents_lawful = { grammar.subject_public_key_info_contents_lawful };
+}
+
+impl ValueOrd for SubjectPublicKeyInfo {
+    ghost use Rattle.x509_base.specs.SubjectPublicKeyInfo as grammar;
+
+    ghost order = { grammar.subject_public_key_info_order };
+
+    fn value_cmp(&self, other: &SubjectPublicKeyInfo) -> Ordering {
+        self.algorithm
+            .der_cmp(&other.algorithm)
+            .then(self.subject_public_key.der_cmp(&other.subject_public_key))
+    }
+
+    ghost ordered = { grammar.subject_public_key_info_ordered };
+}
+
+impl SetOrd for SubjectPublicKeyInfo {
+    ghost set_order = { ⟦<SubjectPublicKeyInfo as EncodingOrd>⟧.encoding_order };
+}
+
+impl SetMember for SubjectPublicKeyInfo {
+    ghost use Rattle.std.specs.Prelude.{refl};
+
+    ghost in_der_order = { refl };
 }
 
 impl TryClone for SubjectPublicKeyInfo {

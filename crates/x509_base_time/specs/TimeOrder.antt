@@ -1,11 +1,12 @@
 -- The byte order of times (X.690 11.6).
 use Rattle.std.specs.Prelude.{◌≡◌, ℕ, List, [], ◌∷◌, slice_index, refl}
 use Rattle.std.proofs.Common.{ap, sym, ◌∙◌, arith}
-use Rattle.std.proofs.lemmas.Cmp.{nat_list_cmp_total}
+use Rattle.std.specs.Ordering.{on}
+use Rattle.std.proofs.lemmas.Cmp.{nat_list_cmp_total, on_total}
 use Rattle.std.proofs.lemmas.Map.Lookups.{exact_bytes}
 use Rattle.x509_der_element.specs.declared.error.ErrorKind.{ErrorKind}
 use Rattle.x509_der_element.specs.Element.{element, length_octets}
-use Rattle.x509_der_grammar.specs.Form.{IsForm}
+use Rattle.x509_der_grammar.specs.Form.{Form, IsForm}
 use Rattle.x509_der_element.specs.OutcomeLaws.{ok_is}
 use Rattle.x509_der_grammar.specs.Writing.{Written, plain, writes}
 use Rattle.x509_der_order.specs.Order.{bytes_cmp, HasEncoding, Order, IsOrder}
@@ -15,6 +16,7 @@ use Rattle.x509_der_frames.specs.Choice as choice
 use Rattle.x509_base_time.specs.TimeText as texts
 use Rattle.x509_base_time.specs.TimeText.{utc_time_octets, generalized_time_octets}
 use Rattle.x509_base_time.specs.TimeReading.{IsUtcTime}
+use Rattle.x509_base_time.specs.TimeForms.{utc_time, generalized_time}
 use Rattle.x509_base_time.specs.Time.{time, time_lawful, date_time_of}
 use Rattle.x509_base_time.specs.declared.time.Time.{Time}
 use Rattle.x509_base_time.specs.declared.time.Time.TheVariants.{UtcTime, GeneralTime}
@@ -74,6 +76,31 @@ has_encoding : (t : Time) → time.good t → HasEncoding time (writes plain) t
 unfolding element length_octets choice.by_case texts.utc_time_octets texts.generalized_time_octets
 has_encoding (UtcTime c) g = (g, refl, omega arith)
 has_encoding (GeneralTime c) g = (g, refl, omega arith)
+
+-- ---- times of one type, in the order of all times
+
+abbrev pub as_times : (CivilTime → Time) → Order CivilTime
+as_times case = on case time_order
+
+case_ordered : (form : Form CivilTime) (case : CivilTime → Time) → ((c : CivilTime) → date_time_of (case c) ≡ c) → ((c : CivilTime) → time.tag (case c) ≡ form.tag c)
+    → ((c : CivilTime) → time.content (case c) ≡ form.content c) → ((c : CivilTime) → form.good c → time.good (case c)) → IsOrder form (writes plain) (as_times case)
+case_ordered form case back tags contents good =
+    let times = time_ordered (writes plain) in
+    record {
+      total = on_total case times.total;
+      agrees = λ c d p q. times.agrees (case c) (case d) (has_encoding (case c) (good c p.0)) (has_encoding (case d) (good d q.0)) ∙ ap (λ octets. bytes_cmp octets (time.content (case d))) (contents c) ∙ ap (bytes_cmp (form.content c)) (contents d);
+      exact = λ c d same e. sym (back c) ∙ ap date_time_of (times.exact (case c) (case d) (tags c ∙ same ∙ sym (tags d)) e) ∙ back d;
+    }
+
+pub utc_time_ordered : IsOrder utc_time (writes plain) (as_times UtcTime)
+unfolding choice.by_case choice.either_good
+utc_time_ordered = case_ordered utc_time UtcTime (λ c. refl) (λ c. refl) (λ c. refl) (λ c good. good)
+
+pub generalized_time_ordered : IsOrder generalized_time (writes plain) (as_times GeneralTime)
+unfolding choice.by_case choice.either_good
+generalized_time_ordered = case_ordered generalized_time GeneralTime (λ c. refl) (λ c. refl) (λ c. refl) (λ c good. good)
+
+-- ---- contents
 
 -- a time with an encoding, and its content octets
 abbrev pub HasContent : Time → List ℕ → Type 0

@@ -207,3 +207,47 @@ impl SetMember for Time {
 
     ghost in_der_order = { refl };
 }
+
+impl ValueOrd for UtcTime {
+    ghost use Rattle.x509_base_time.specs.TimeOrder.{as_times, utc_time_ordered};
+
+    ghost order = { as_times times.UtcTime };
+
+    fn value_cmp(&self, other: &UtcTime) -> Ordering {
+        Time::UtcTime(*self).value_cmp(&Time::UtcTime(*other))
+    }
+
+    ghost ordered = { utc_time_ordered };
+}
+
+impl SetOrd for UtcTime {
+    ghost set_order = { ⟦<UtcTime as EncodingOrd>⟧.encoding_order };
+}
+
+impl SetMember for UtcTime {
+    ghost use Rattle.std.specs.Prelude.{refl};
+
+    ghost in_der_order = { refl };
+}
+
+impl ValueOrd for GeneralizedTime {
+    ghost use Rattle.x509_base_time.specs.TimeOrder.{as_times, generalized_time_ordered};
+
+    ghost order = { as_times times.GeneralTime };
+
+    fn value_cmp(&self, other: &GeneralizedTime) -> Ordering {
+        Time::GeneralTime(*self).value_cmp(&Time::GeneralTime(*other))
+    }
+
+    ghost ordered = { generalized_time_ordered };
+}
+
+impl SetOrd for GeneralizedTime {
+    ghost set_order = { ⟦<GeneralizedTime as EncodingOrd>⟧.encoding_order };
+}
+
+impl SetMember for GeneralizedTime {
+    ghost use Rattle.std.specs.Prelude.{refl};
+
+    ghost in_der_order = { refl };
+}
