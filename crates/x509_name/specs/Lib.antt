@@ -8,6 +8,7 @@ pub use Rattle.x509_name_attribute.specs.declared.type_and_value
 pub use Rattle.x509_der.specs.Arcs
 pub use Rattle.x509_der.specs.ObjectIdentifierForm
 pub use Rattle.x509_name_attribute.specs.Attribute
+pub use Rattle.x509_name_attribute.specs.AttributeNames
 pub use Rattle.x509_name_attribute.specs.Text
 pub use Rattle.x509_name_attribute.specs.TypeAndValue
 pub use Rattle.x509_name_attribute.specs.DirectoryString

@@ -14,9 +14,9 @@ use x509_der::laws::members_make_the_set;
 use x509_der_grammar::laws::one_value;
 use x509_name_attribute::AttributeTypeAndValue;
 pub use x509_name_attribute::laws::{
-    attribute_again, bytes_determine_the_directory_string, equal_directory_strings_are_one_value,
-    equality_is_exact, one_attribute, one_attribute_refusal, one_attribute_text, one_cut,
-    one_reading, read_again,
+    attribute_again, attribute_names, bytes_determine_the_directory_string,
+    equal_directory_strings_are_one_value, equality_is_exact, one_attribute, one_attribute_refusal,
+    one_attribute_text, one_cut, one_reading, read_again,
 };
 
 /// The bytes of a name determine it.

@@ -1,13 +1,14 @@
 -- Facts of the table of keys, by computation.
-use Rattle.std.proofs.Common.{◌≡◌, ◌⊎◌, ℕ, Bool, true, false, ◌&&◌, ◌||◌, leb, List, [], ◌∷◌, map, Some, refl, arith, inl, inr, subst}
+use Rattle.std.proofs.Common.{◌≡◌, ℕ, Bool, true, ◌&&◌, leb, List, [], ◌∷◌, map, Some, refl, arith, inl, inr, subst}
 use Rattle.std.specs.List.{list_all, slice_index}
 use Rattle.std.specs.Char.{is_ascii_uppercase}
 use Rattle.std.specs.Str.{str_to_ascii_lowercase, str_eq_ignore_ascii_case}
 use Rattle.std.proofs.lemmas.Bool.{and_parts, cases_Bool}
 use Rattle.std.proofs.lemmas.Bool.Decides.{nat_tests}
 use Rattle.std.proofs.lemmas.Slice.Eq.{bytes_eq-Decides}
-use Rattle.x509_der.specs.Arcs.{AreArcs, dotted}
+use Rattle.x509_der.specs.Arcs.{AreArcs, dotted, subidentifier}
 use Rattle.x509_der.specs.ObjectIdentifier.{is_object_identifier}
+use Rattle.x509_name_attribute.specs.AttributeNames.{attribute_names}
 use Rattle.x509_name_attribute.specs.Keys.{Key, keys, key_named, key_of, first_where, is_named, has_octets}
 use Rattle.x509_name_attribute.proofs.DottedTexts.{IsDottedOctet, first_dotted}
 use Rattle.x509_name_attribute.proofs.Printed.{or_tells}
@@ -51,6 +52,11 @@ names_again = refl
 octets_again : map (λ key. key_of key.octets) keys ≡ map Some keys
 unfolding keys key_of
 octets_again = refl
+
+-- the standards' table
+pub as_the_standards_say : keys ≡ attribute_names
+unfolding keys attribute_names subidentifier
+as_the_standards_say = refl
 
 are_identifiers : map (λ key. is_object_identifier key.octets) keys ≡ map (λ key. true) keys
 unfolding keys

@@ -3,6 +3,7 @@ pub mod Parts
 pub mod Cutting
 pub mod Reading
 pub mod Keys
+pub mod AttributeNames
 pub mod Attributes
 pub mod Refusals
 pub mod Encodings

@@ -4,9 +4,11 @@
 ghost use Rattle.std.specs.Prelude.{◌≡◌, ◌↔◌, List, ℕ, true, ◌≢◌, ◌∷◌};
 ghost use Rattle.x509_der_element.specs.declared.error.ErrorKind.{ErrorKind};
 ghost use Rattle.x509_der_grammar.specs.Form.{Spells};
+ghost use Rattle.x509_name_attribute.specs.AttributeNames as standard;
 ghost use Rattle.x509_name_attribute.specs.Attributes.{AttributeReads, AttributeRefused, ReadsBack, attribute_text};
 ghost use Rattle.x509_name_attribute.specs.DirectoryString.{directory_string};
 ghost use Rattle.x509_name_attribute.specs.Escapes.{Unescapes, escaped};
+ghost use Rattle.x509_name_attribute.specs.Keys.{keys};
 ghost use Rattle.x509_name_attribute.specs.Parts.{Joined};
 ghost use Rattle.x509_name_attribute.specs.TextRef.{octets_of};
 ghost use Rattle.x509_name_attribute.specs.declared.directory_string.DirectoryString.{DirectoryString};
@@ -24,6 +26,13 @@ use x509_der_grammar::laws::one_value;
 pub fn equality_is_exact()
     ensures pairs { (a b : AttributeTypeAndValue) → (⟦<AttributeTypeAndValue as PartialEq>⟧.eq a b ≡ true) ↔ (a ≡ b) }
     ensures attributes { (a b : Attribute) → (⟦<Attribute as PartialEq>⟧.eq a b ≡ true) ↔ (a ≡ b) }
+{}
+
+/// The table of names is that of the standards: each row's two names, the content of its arcs, and its tag (RFC 4514 section 3,
+/// RFC 4519 section 2, RFC 2985 5.2.1, RFC 5280 4.1.2.4).
+#[tactic(auto, using(crate::proofs::TableFacts::as_the_standards_say))]
+pub fn attribute_names()
+    ensures { keys ≡ standard.attribute_names }
 {}
 
 /// A text stands for at most one list of bytes.
