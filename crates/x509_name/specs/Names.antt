@@ -1,22 +1,24 @@
 -- What names are made of (RFC 5280 4.1.2.4, appendix A.1). A set or a sequence without members is one too.
 use Rattle.std.specs.Prelude.{◌≡◌, Bool, List, refl}
 use Rattle.std.specs.Bool.{Decides}
-use Rattle.std.specs.Cmp.{IsEquivalence}
+use Rattle.std.specs.Cmp.{IsEquivalence, IsTotalOrder}
 use Rattle.std.specs.Cmp.Lexicographic.{pointwise, pointwise_decides, lists_equiv}
+use Rattle.std.specs.Ordering.{eq_by_cmp}
 use Rattle.x509_der_element.specs.declared.error.ErrorKind.{ErrorKind}
 use Rattle.x509_der_element.specs.declared.tag.Tag.TheVariants.{Sequence, Set}
-use Rattle.x509_der_grammar.specs.Form.{Form, Contents, IsForm, IsContents, universal}
+use Rattle.x509_der_grammar.specs.Form.{Form, Contents, IsForm, IsContents, universal, spelling}
 use Rattle.x509_der_grammar.specs.FormLaws.{universal_lawful}
 use Rattle.x509_der_grammar.specs.Round.{same, round_contents, round_lawful}
 use Rattle.x509_der_grammar.specs.Writing.{plain, writes}
-use Rattle.x509_der.specs.Order.{Order, IsOrder, der_order}
-use Rattle.x509_der.specs.Ordered.{by_members}
+use Rattle.x509_der.specs.Order.{Order, IsOrder, IsDerOrder, HasEncoding, der_order}
+use Rattle.x509_der.specs.Ordered.{by_members, der_lawful}
 use Rattle.x509_der.specs.RoundOrder.{round_ordered}
 use Rattle.x509_der.specs.List.{list_of}
 use Rattle.x509_der.specs.ListLaws.{list_lawful}
 use Rattle.x509_der.specs.ListOrder.{list_ordered}
 use Rattle.x509_der.specs.Set.{set_of}
 use Rattle.x509_der.specs.SetLaws.{set_lawful, set_ordered}
+use Rattle.x509_name_attribute.specs.Equality.{order_ties}
 use Rattle.x509_name_attribute.specs.TypeAndValue.{attribute_type_and_value, type_and_value_contents_lawful, type_and_value_order, type_and_value_ordered, type_and_value_cmp, type_and_value_eq, type_and_value_equivalence, type_and_value_decides}
 use Rattle.x509_name_attribute.specs.declared.type_and_value.AttributeTypeAndValue.{AttributeTypeAndValue}
 
@@ -88,3 +90,30 @@ rdn_decides = pointwise_decides type_and_value_decides
 
 pub rdn_sequence_decides : (x y : List (List AttributeTypeAndValue)) → Decides (rdn_sequence_eq x y) (x ≡ y)
 rdn_sequence_decides = pointwise_decides rdn_decides
+
+-- ---- the order of names as keys: that of the encodings
+
+abbrev pub rdn_cmp : Order (List AttributeTypeAndValue)
+rdn_cmp = der_order relative_distinguished_name (writes plain) rdn_order
+
+rdns_lawful : IsDerOrder (HasEncoding relative_distinguished_name (writes plain)) (spelling relative_distinguished_name) rdn_cmp
+rdns_lawful = der_lawful relative_distinguished_name (writes plain) rdn_order rdn_ordered
+
+pub rdn_total : IsTotalOrder rdn_cmp
+rdn_total = rdns_lawful.total
+
+-- no two are equal in it but equal ones
+pub rdn_ties : (x y : List AttributeTypeAndValue) → rdn_eq x y ≡ eq_by_cmp rdn_cmp x y
+rdn_ties = order_ties rdns_lawful rdn_eq rdn_decides
+
+abbrev pub rdn_sequence_cmp : Order (List (List AttributeTypeAndValue))
+rdn_sequence_cmp = der_order rdn_sequence (writes plain) rdn_sequence_order
+
+rdn_sequences_lawful : IsDerOrder (HasEncoding rdn_sequence (writes plain)) (spelling rdn_sequence) rdn_sequence_cmp
+rdn_sequences_lawful = der_lawful rdn_sequence (writes plain) rdn_sequence_order rdn_sequence_ordered
+
+pub rdn_sequence_total : IsTotalOrder rdn_sequence_cmp
+rdn_sequence_total = rdn_sequences_lawful.total
+
+pub rdn_sequence_ties : (x y : List (List AttributeTypeAndValue)) → rdn_sequence_eq x y ≡ eq_by_cmp rdn_sequence_cmp x y
+rdn_sequence_ties = order_ties rdn_sequences_lawful rdn_sequence_eq rdn_sequence_decides

@@ -2,15 +2,16 @@
 
 ghost use Rattle.std.specs.List.Sorted.{IsStrictlySortedBy, IsPermutation};
 ghost use Rattle.std.specs.Prelude.{◌≡◌, ◌↔◌, List, ℕ, true};
+ghost use Rattle.x509_der.specs.Order.{bytes_cmp};
 ghost use Rattle.x509_der_element.specs.declared.error.ErrorKind.{ErrorKind};
 ghost use Rattle.x509_der_grammar.specs.Form.{Spells};
 ghost use Rattle.x509_name.specs.NameText as texts;
-ghost use Rattle.x509_name.specs.Names.{name};
+ghost use Rattle.x509_name.specs.Names.{name, rdn_sequence, relative_distinguished_name};
 ghost use Rattle.x509_name_attribute.specs.TypeAndValue.{type_and_value_cmp};
 ghost use Rattle.x509_name_attribute.specs.declared.type_and_value.AttributeTypeAndValue.{AttributeTypeAndValue};
 
-use crate::name::{Name, RelativeDistinguishedName};
-use x509_der::laws::members_make_the_set;
+use crate::name::{Name, RdnSequence, RelativeDistinguishedName};
+use x509_der::laws::{encodings_in_order, members_make_the_set};
 use x509_der_grammar::laws::one_value;
 use x509_name_attribute::AttributeTypeAndValue;
 pub use x509_name_attribute::laws::{
@@ -33,12 +34,24 @@ pub fn attributes_make_the_rdn()
     members_make_the_set::<AttributeTypeAndValue>();
 }
 
-/// `==` holds exactly where contracts see one list.
+/// `==` of relative distinguished names, of sequences of them and of names holds exactly of equal values.
 #[tactic(auto, using(crate::specs::Names::rdn_decides, crate::specs::Names::rdn_sequence_decides))]
 pub fn equal_names_are_one_value()
     ensures rdns { (a b : List AttributeTypeAndValue) → (⟦<RelativeDistinguishedName as PartialEq>⟧.eq a b ≡ true) ↔ (a ≡ b) }
+    ensures sequences { (a b : List (List AttributeTypeAndValue)) → (⟦<RdnSequence as PartialEq>⟧.eq a b ≡ true) ↔ (a ≡ b) }
     ensures names { (a b : List (List AttributeTypeAndValue)) → (⟦<Name as PartialEq>⟧.eq a b ≡ true) ↔ (a ≡ b) }
 {}
+
+/// Names with encodings, relative distinguished names and sequences of them stand, as keys, in the byte order of the encodings.
+pub fn names_stand_in_the_order_of_encodings()
+    ensures rdns { (v w : List AttributeTypeAndValue) (a b : List ℕ) → Spells relative_distinguished_name v a → Spells relative_distinguished_name w b → ⟦<RelativeDistinguishedName as Ord>⟧.cmp v w ≡ bytes_cmp a b }
+    ensures sequences { (v w : List (List AttributeTypeAndValue)) (a b : List ℕ) → Spells rdn_sequence v a → Spells rdn_sequence w b → ⟦<RdnSequence as Ord>⟧.cmp v w ≡ bytes_cmp a b }
+    ensures names { (v w : List (List AttributeTypeAndValue)) (a b : List ℕ) → Spells name v a → Spells name w b → ⟦<Name as Ord>⟧.cmp v w ≡ bytes_cmp a b }
+{
+    encodings_in_order::<RelativeDistinguishedName>();
+    encodings_in_order::<RdnSequence>();
+    encodings_in_order::<Name>();
+}
 
 /// What is printed of a name reads as that name: of each name without an empty relative distinguished name, whose attributes
 /// that are printed by name have the tag of their type. So does what is printed of one relative distinguished name.

@@ -10,7 +10,7 @@ use std::alloc::Global;
 use std::cmp::Ordering;
 use std::hash::{Hash, Hasher};
 use std::marker::Model;
-use x509_der::ValueOrd;
+use x509_der::{DerOrd, ValueOrd};
 use x509_der_grammar::{Content, Error, Room, Tag, TryClone};
 
 /// The name of an issuer or a subject (RFC 5280 4.1.2.4). Contracts see the list of its relative distinguished names.
@@ -161,6 +161,39 @@ impl Eq for Name {
     ghost use Rattle.x509_name.specs.Names as grammar;
 
     ghost laws = { grammar.rdn_sequence_equivalence };
+}
+
+/// By the encodings, as [`DerOrd`] compares them.
+impl PartialOrd for Name {
+    ghost use Rattle.std.specs.Cmp.{po};
+    ghost use Rattle.std.specs.Ordering.{as_partial_cmp};
+    ghost use Rattle.x509_name.specs.Names as grammar;
+
+    ghost partial_cmp = { as_partial_cmp grammar.rdn_sequence_cmp };
+
+    ghost laws = { po grammar.rdn_sequence_total grammar.rdn_sequence_ties };
+
+    fn partial_cmp(&self, other: &Name) -> Option<Ordering> {
+        Some(self.cmp(other))
+    }
+}
+
+/// By the encodings, as [`DerOrd`] compares them.
+impl Ord for Name {
+    ghost use Rattle.std.specs.Prelude.{refl};
+    ghost use Rattle.x509_name.specs.Names as grammar;
+
+    ghost cmp = { grammar.rdn_sequence_cmp };
+
+    ghost total = { grammar.rdn_sequence_total };
+
+    ghost matches_partial_cmp = { λ x y. refl };
+
+    ghost matches_eq = { grammar.rdn_sequence_ties };
+
+    fn cmp(&self, other: &Name) -> Ordering {
+        self.der_cmp(other)
+    }
 }
 
 impl Hash for Name {

@@ -10,9 +10,10 @@ ghost use Rattle.x509_name.specs.Iterators.{rdn_left};
 
 use crate::name::iterators::RdnIter;
 use std::alloc::Global;
+use std::cmp::Ordering;
 use std::hash::{Hash, Hasher};
 use std::marker::Model;
-use x509_der::{NewtypeOrd, SetOfVec};
+use x509_der::{DerOrd, NewtypeOrd, SetOfVec};
 use x509_der_grammar::{Error, Newtype};
 use x509_name_attribute::AttributeTypeAndValue;
 
@@ -177,6 +178,39 @@ impl Eq for RelativeDistinguishedName {
     ghost use Rattle.x509_name.specs.Names as grammar;
 
     ghost laws = { grammar.rdn_equivalence };
+}
+
+/// By the encodings, as [`DerOrd`] compares them.
+impl PartialOrd for RelativeDistinguishedName {
+    ghost use Rattle.std.specs.Cmp.{po};
+    ghost use Rattle.std.specs.Ordering.{as_partial_cmp};
+    ghost use Rattle.x509_name.specs.Names as grammar;
+
+    ghost partial_cmp = { as_partial_cmp grammar.rdn_cmp };
+
+    ghost laws = { po grammar.rdn_total grammar.rdn_ties };
+
+    fn partial_cmp(&self, other: &RelativeDistinguishedName) -> Option<Ordering> {
+        Some(self.cmp(other))
+    }
+}
+
+/// By the encodings, as [`DerOrd`] compares them.
+impl Ord for RelativeDistinguishedName {
+    ghost use Rattle.std.specs.Prelude.{refl};
+    ghost use Rattle.x509_name.specs.Names as grammar;
+
+    ghost cmp = { grammar.rdn_cmp };
+
+    ghost total = { grammar.rdn_total };
+
+    ghost matches_partial_cmp = { λ x y. refl };
+
+    ghost matches_eq = { grammar.rdn_ties };
+
+    fn cmp(&self, other: &RelativeDistinguishedName) -> Ordering {
+        self.der_cmp(other)
+    }
 }
 
 impl Hash for RelativeDistinguishedName {

@@ -7,9 +7,10 @@ ghost use Rattle.x509_name.specs.Iterators.{rdns_left};
 use crate::name::iterators::RdnSequenceIter;
 use crate::name::rdn::RelativeDistinguishedName;
 use std::alloc::Global;
+use std::cmp::Ordering;
 use std::hash::{Hash, Hasher};
 use std::marker::Model;
-use x509_der::{NewtypeOrd, SequenceOf};
+use x509_der::{DerOrd, NewtypeOrd, SequenceOf};
 use x509_der_grammar::{Error, Newtype};
 
 /// Relative distinguished names, the most general first (RFC 5280 4.1.2.4). Contracts see their list. A sequence
@@ -104,6 +105,23 @@ impl From<RdnSequence> for Vec<RelativeDistinguishedName> {
     }
 }
 
+impl From<SequenceOf<RelativeDistinguishedName>> for RdnSequence {
+    ghost from_gives = { λ rdns sequence. sequence ≡ rdns };
+
+    fn from(rdns: SequenceOf<RelativeDistinguishedName>) -> RdnSequence {
+        RdnSequence(rdns)
+    }
+}
+
+impl From<RdnSequence> for SequenceOf<RelativeDistinguishedName> {
+    ghost from_gives = { λ sequence rdns. rdns ≡ sequence };
+
+    fn from(sequence: RdnSequence) -> SequenceOf<RelativeDistinguishedName> {
+        let RdnSequence(rdns) = sequence;
+        rdns
+    }
+}
+
 impl AsRef<SequenceOf<RelativeDistinguishedName>> for RdnSequence {
     fn as_ref(&self) -> &SequenceOf<RelativeDistinguishedName>
         ensures { result.now ≡ self.now }
@@ -160,6 +178,39 @@ impl Eq for RdnSequence {
     ghost use Rattle.x509_name.specs.Names as grammar;
 
     ghost laws = { grammar.rdn_sequence_equivalence };
+}
+
+/// By the encodings, as [`DerOrd`] compares them.
+impl PartialOrd for RdnSequence {
+    ghost use Rattle.std.specs.Cmp.{po};
+    ghost use Rattle.std.specs.Ordering.{as_partial_cmp};
+    ghost use Rattle.x509_name.specs.Names as grammar;
+
+    ghost partial_cmp = { as_partial_cmp grammar.rdn_sequence_cmp };
+
+    ghost laws = { po grammar.rdn_sequence_total grammar.rdn_sequence_ties };
+
+    fn partial_cmp(&self, other: &RdnSequence) -> Option<Ordering> {
+        Some(self.cmp(other))
+    }
+}
+
+/// By the encodings, as [`DerOrd`] compares them.
+impl Ord for RdnSequence {
+    ghost use Rattle.std.specs.Prelude.{refl};
+    ghost use Rattle.x509_name.specs.Names as grammar;
+
+    ghost cmp = { grammar.rdn_sequence_cmp };
+
+    ghost total = { grammar.rdn_sequence_total };
+
+    ghost matches_partial_cmp = { λ x y. refl };
+
+    ghost matches_eq = { grammar.rdn_sequence_ties };
+
+    fn cmp(&self, other: &RdnSequence) -> Ordering {
+        self.der_cmp(other)
+    }
 }
 
 impl Hash for RdnSequence {
