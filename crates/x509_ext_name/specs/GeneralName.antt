@@ -1,7 +1,7 @@
 -- GeneralName: [0]OtherName / [1]IA5String / [2]IA5String / {4}Name / [5]EdiPartyName / [6]IA5String / [7]OCTET STRING /
 -- [8]OBJECT IDENTIFIER (RFC 5280 4.2.1.6)
 -- GeneralNames: list GeneralName
-use Rattle.std.specs.Prelude.{ℕ, List, refl}
+use Rattle.std.specs.Prelude.{ℕ, List, length, Option, Some, None, ◌==◌, if◌then◌else◌, refl}
 use Rattle.x509_der_element.specs.declared.error.ErrorKind.{ErrorKind}
 use Rattle.x509_der_element.specs.declared.tag.Tag.TheVariants.{Sequence}
 use Rattle.x509_der_grammar.specs.Form.{Form, IsForm, universal}
@@ -86,3 +86,12 @@ general_names_lawful = universal_lawful Sequence _ (list_lawful general_name gen
 abbrev pub address_octets : addresses.IpAddress → List ℕ
 address_octets (versions.V4 octets) = octets
 address_octets (versions.V6 octets) = octets
+
+-- the address that octets are: those of version 4 are four, those of version 6 sixteen (RFC 5280 4.2.1.6)
+abbrev pub address_of : List ℕ → Option addresses.IpAddress
+address_of octets = if length octets == 4 then Some (versions.V4 octets) else if length octets == 16 then Some (versions.V6 octets) else None
+
+-- that of a name, which only an iPAddress has
+abbrev pub ip_of : GeneralName → Option addresses.IpAddress
+ip_of (IpAddress octets) = address_of octets
+ip_of _ = None

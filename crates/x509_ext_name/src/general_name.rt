@@ -2,7 +2,7 @@
 
 ghost use Rattle.std.specs.Prelude.{◌≡◌, ◌<◌, length, IfOk, IfErr};
 ghost use Rattle.x509_der_element.specs.declared.error.ErrorKind.TheVariants.{Memory};
-ghost use Rattle.x509_ext_name.specs.GeneralName.{address_octets};
+ghost use Rattle.x509_ext_name.specs.GeneralName.{address_octets, ip_of};
 ghost use Rattle.x509_ext_name.specs.declared.general_name.GeneralName.TheVariants as names;
 
 use crate::edi_party_name::EdiPartyName;
@@ -101,6 +101,21 @@ impl GeneralName {
             IpAddress::V6(octets) => address_string(alloc, &octets)?,
         };
         Ok(GeneralName::IpAddress(octets))
+    }
+
+    /// The address that the name is: of version 4 exactly where it is an `iPAddress` of 4 octets, of version 6 exactly where it is one of
+    /// 16 (RFC 5280 4.2.1.6). `None` else, as for an address and a mask of name constraints (RFC 5280 4.2.1.10).
+    pub fn to_ip(&self) -> Option<IpAddress>
+        ensures { result ≡ ip_of self.now }
+    {
+        let GeneralName::IpAddress(octets) = self else {
+            return None;
+        };
+        if let Some(octets) = octets.as_bytes().as_array::<4>() {
+            return Some(IpAddress::V4(*octets));
+        }
+        let octets = octets.as_bytes().as_array::<16>()?;
+        Some(IpAddress::V6(*octets))
     }
 }
 

@@ -52,10 +52,10 @@ fn kinds(rt: HostRuntime) -> Result<(), Fail> {
     Ok(())
 }
 
-/// Whether the name of the address is written as these bytes.
+/// Whether the name of the address is written as these bytes, and has that address.
 fn address_is(rt: &HostRuntime, address: IpAddress, bytes: &[u8]) -> Result<bool, Error> {
     let name = GeneralName::from_ip(rt.alloc(), address)?;
-    is_written(rt, &name, bytes)
+    Ok(name.to_ip() == Some(address) && is_written(rt, &name, bytes)?)
 }
 
 #[test]
