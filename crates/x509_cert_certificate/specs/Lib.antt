@@ -1,5 +1,6 @@
 pub mod Version
 pub mod TbsCertificate
+pub mod Without
 pub mod Certificate
 pub mod Respelling
 pub use Rattle.x509_cert_extension.specs.Names

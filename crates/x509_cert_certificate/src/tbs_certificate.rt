@@ -2,6 +2,7 @@
 
 ghost use Rattle.std.specs.Option.{option_copied};
 ghost use Rattle.std.specs.Prelude.{◌≡◌};
+ghost use Rattle.x509_cert_certificate.specs.Without.{where_any, without_oid};
 ghost use Rattle.x509_cert_extension.specs.Filter.{extensions_left};
 ghost use Rattle.x509_cert_extension.specs.LookUp.{Finds, members, with_oid};
 
@@ -10,9 +11,9 @@ use std::alloc::Global;
 use x509_base::{AlgorithmIdentifier, SerialNumber, SubjectPublicKeyInfo};
 use x509_base_time::{Profile, Rfc5280, Validity};
 use x509_cert_extension::{
-    Extensions, FilterExtensions, Name, filter_extensions, get_extension, members,
+    Extension, Extensions, FilterExtensions, Name, filter_extensions, get_extension, members,
 };
-use x509_der::AssociatedOid;
+use x509_der::{AssociatedOid, ObjectIdentifier};
 use x509_der_frames::{
     PutPart, default_explicit, end, explicit_default, explicit_optional, field, implicit_optional,
     optional_explicit, optional_implicit,
@@ -119,6 +120,21 @@ impl<P: Profile> TbsCertificateInner<P> {
         }
     }
 
+    /// The part without the extensions of the identifier of the type; the others stay in their order, and where none is left there is no list of
+    /// them (RFC 5280 4.1). It takes no memory.
+    ///
+    /// The part without its list of timestamps, or that of a precertificate without its poison, is what a log signs (RFC 6962 section 3.2).
+    pub fn without_extension<T: AssociatedOid>(self) -> TbsCertificateInner<P>
+        ensures { result ≡ record self { extensions = where_any (without_oid T.OID (members self.extensions)) } }
+    {
+        let mut part = self;
+        part.extensions = match part.extensions.take() {
+            Some(extensions) => list_of(others(extensions.into_vec(), T::OID)),
+            None => None,
+        };
+        part
+    }
+
     /// The version.
     pub fn version(&self) -> Version
         ensures { result ≡ self.now.version }
@@ -214,6 +230,26 @@ impl<P: Profile> TbsCertificateInner<P> {
         ensures { extensions_left T.OID result ≡ with_oid T.OID (members self.now.extensions) }
     {
         filter_extensions::<T>(alloc, members(self.extensions()))
+    }
+}
+
+/// The extensions of other identifiers.
+fn others(extensions: Vec<Extension>, oid: ObjectIdentifier) -> Vec<Extension>
+    ensures { result.items ≡ without_oid oid extensions.items }
+{
+    let mut others = extensions;
+    others.retain(|extension| extension.extn_id != oid);
+    others
+}
+
+/// The list of the extensions, where there are any.
+fn list_of(extensions: Vec<Extension>) -> Option<Extensions>
+    ensures { result ≡ where_any extensions.items }
+{
+    if extensions.is_empty() {
+        None
+    } else {
+        Some(Extensions::from(extensions))
     }
 }
 

@@ -5,9 +5,9 @@ use std::test::*;
 use x509_der_grammar::{Decode, Error as DerError, ErrorKind};
 use x509_prim::OctetString;
 use x509_sct::{
-    DigitallySigned, Error, HashAlgorithm, LogId, SerializedSct, SignatureAlgorithm,
-    SignatureAndHashAlgorithm, SignedCertificateTimestamp, SignedCertificateTimestampList, Tls,
-    TlsByteVecU16, TlsError, Version,
+    CtPrecertificatePoison, DigitallySigned, Error, HashAlgorithm, LogId, SerializedSct,
+    SignatureAlgorithm, SignatureAndHashAlgorithm, SignedCertificateTimestamp,
+    SignedCertificateTimestampList, Tls, TlsByteVecU16, TlsError, Version,
 };
 use x509_sct_tls::NamedByte;
 
@@ -252,5 +252,19 @@ fn printed(rt: HostRuntime) -> Result<(), Fail> {
         assert!(rt; prints(&rt, &error, text)?);
     }
     assert!(rt; vector_prints(&rt, &[1, 2], "[1, 2]")?);
+    Ok(())
+}
+
+/// The extension of a precertificate (RFC 6962 section 3.1).
+const POISON: &[u8] = &[
+    0x30, 0x13, 0x06, 0x0A, 0x2B, 0x06, 0x01, 0x04, 0x01, 0xD6, 0x79, 0x02, 0x04, 0x03, 0x01, 0x01,
+    0xFF, 0x04, 0x02, 0x05, 0x00,
+];
+
+#[test]
+fn poison(rt: HostRuntime) -> Result<(), Fail> {
+    assert!(rt; is_made(&rt, &CtPrecertificatePoison, POISON)?);
+    let payload = CtPrecertificatePoison::from_der(rt.alloc(), &POISON[19..])?;
+    assert!(rt; payload == CtPrecertificatePoison);
     Ok(())
 }

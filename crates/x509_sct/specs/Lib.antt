@@ -3,4 +3,5 @@ pub mod Timestamp
 pub mod TimestampList
 pub mod Identifier
 pub mod Payload
+pub mod Poison
 pub use Rattle.x509_sct_tls.specs as sct_tls

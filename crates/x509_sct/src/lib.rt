@@ -1,16 +1,18 @@
 //! Signed certificate timestamps (RFC 6962 sections 3.2 and 3.3): the extension that holds them, their serialized form,
-//! and what they say.
+//! and what they say; and the poison of precertificates (section 3.1).
 #![tactic(auto)]
 
 mod error;
 pub mod laws;
 mod list;
+mod poison;
 mod serialized;
 mod signed;
 mod timestamp;
 
 pub use error::Error;
 pub use list::SignedCertificateTimestampList;
+pub use poison::CtPrecertificatePoison;
 pub use serialized::SerializedSct;
 pub use signed::{DigitallySigned, HashAlgorithm, SignatureAlgorithm, SignatureAndHashAlgorithm};
 pub use timestamp::{LogId, SignedCertificateTimestamp, Version};

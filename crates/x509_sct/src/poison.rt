@@ -1,0 +1,79 @@
+//! What makes a certificate a precertificate.
+
+use std::alloc::Global;
+use x509_der::{AssociatedOid, ObjectIdentifier};
+use x509_der_grammar::{Content, Error, ErrorKind, Room, Tag, TryClone};
+use x509_ext_frame::{Criticality, Extension, Name};
+
+// 1.3.6.1.4.1.11129.2.4.3 (RFC 6962 section 3.1)
+const POISON: ObjectIdentifier = ObjectIdentifier {
+    len: 10,
+    octets: [
+        0x2B, 0x06, 0x01, 0x04, 0x01, 0xD6, 0x79, 0x02, 0x04, 0x03, 0, 0, 0, 0, 0, 0, 0, 0, 0, 0,
+        0, 0, 0, 0, 0, 0, 0, 0, 0, 0, 0, 0, 0, 0, 0, 0, 0, 0, 0,
+    ],
+};
+
+/// What makes a certificate a precertificate, which is submitted to a log and which no one may accept as a certificate (RFC 6962
+/// section 3.1). Its identifier is 1.3.6.1.4.1.11129.2.4.3, and it is critical.
+///
+/// ```text
+/// CtPrecertificatePoison ::= NULL
+/// ```
+#[derive(Clone, Copy, Debug, PartialEq, Eq)]
+pub struct CtPrecertificatePoison;
+
+impl AssociatedOid for CtPrecertificatePoison {
+    ghost use Rattle.x509_sct.specs.Identifier.{precertificate_poison};
+
+    ghost OID = { precertificate_poison };
+
+    const OID: ObjectIdentifier = POISON;
+}
+
+impl Criticality for CtPrecertificatePoison {
+    ghost use Rattle.std.specs.Prelude.{true};
+
+    ghost is_critical = { λ poison subject extensions. true };
+
+    fn criticality(&self, _subject: &Name, _extensions: &[Extension]) -> bool {
+        true
+    }
+}
+
+impl Content for CtPrecertificatePoison {
+    ghost use Rattle.x509_der_element.specs.declared.tag.Tag.TheVariants.{Null};
+    ghost use Rattle.x509_sct.specs.Poison as grammar;
+
+    ghost contents = { grammar.poison_contents };
+
+    ghost takes_memory = { ⊥ };
+
+    ghost IDENTIFIER = { Null };
+
+    const IDENTIFIER: Tag = Tag::Null;
+
+    fn read_content(_alloc: Global, octets: &[u8]) -> Result<CtPrecertificatePoison, Error> {
+        if octets.is_empty() {
+            Ok(CtPrecertificatePoison)
+        } else {
+            Err(ErrorKind::Malformed.into())
+        }
+    }
+
+    fn write_content<R: Room>(&self, room: &mut R) -> Result<(), Error> {
+        room.put(&[])
+    }
+
+    ghost contents_lawful = { grammar.poison_contents_lawful };
+}
+
+impl TryClone for CtPrecertificatePoison {
+    ghost use Rattle.std.specs.Prelude.{◌≡◌, Ok};
+
+    fn try_clone(&self, _alloc: Global) -> Result<CtPrecertificatePoison, Error>
+        ensures { result ≡ Ok self.now }
+    {
+        Ok(*self)
+    }
+}
