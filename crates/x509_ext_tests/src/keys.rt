@@ -1,6 +1,7 @@
 //! What keys are used for, and by what they are known.
 
 use crate::calls::is_written;
+use bitflags::Flags;
 use std::test::*;
 use x509_base::SubjectPublicKeyInfo;
 use x509_der_grammar::{Decode, Error};
@@ -77,6 +78,15 @@ fn usages(rt: HostRuntime) -> Result<(), Fail> {
         );
     }
     Ok(())
+}
+
+/// The flags that are set are given in the order of their bits, each with its name.
+#[test]
+fn names_of_usages(rt: HostRuntime) {
+    let mut uses = (KeyUsages::CRL_SIGN | KeyUsages::DIGITAL_SIGNATURE).iter_names();
+    assert!(rt; uses.next() == Some(("DIGITAL_SIGNATURE", KeyUsages::DIGITAL_SIGNATURE)));
+    assert!(rt; uses.next() == Some(("CRL_SIGN", KeyUsages::CRL_SIGN)));
+    assert!(rt; uses.next().is_none());
 }
 
 /// Whether the key with these bits has that identifier.

@@ -8,7 +8,7 @@ use x509_der_order::ValueOrd;
 use x509_prim::{cmp_named_bits, put_named_bits, read_named_bits};
 
 /// A set of reasons, of which bit n stands for the named bit n (RFC 5280 4.2.1.13). A bit from 9 on has no name: it is
-/// refused in reading as `Malformed`, and in writing as `Value`.
+/// refused in reading as `Malformed`, and in writing as `Value`. [`Flags::iter_names`] gives the reasons that are set, each with its name.
 ///
 /// ```text
 /// ReasonFlags ::= BIT STRING {

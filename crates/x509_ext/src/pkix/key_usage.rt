@@ -13,7 +13,7 @@ use x509_ext_frame::{Criticality, Extension, Name, id_ce};
 use x509_prim::{cmp_named_bits, put_named_bits, read_named_bits};
 
 /// A set of uses of a key, of which bit n stands for the named bit n (RFC 5280 4.2.1.3). A bit from 9 on has no name: it
-/// is refused in reading as `Malformed`, and in writing as `Value`.
+/// is refused in reading as `Malformed`, and in writing as `Value`. [`Flags::iter_names`] gives the uses that are set, each with its name.
 #[derive(Clone, Copy, Debug, PartialEq, Eq)]
 pub struct KeyUsages(u16);
 
