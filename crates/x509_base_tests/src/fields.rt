@@ -28,9 +28,19 @@ fn seven_and_five(rt: &HostRuntime) -> Result<SequenceOf<u8>, Error> {
     Ok(numbers)
 }
 
+/// Whether the list is 7 and 5, by place, in order, and as a vector from which it is made again.
+fn is_seen(numbers: SequenceOf<u8>) -> bool {
+    let by_place = numbers.get(1) == Some(&5) && numbers.get(2).is_none();
+    let in_order = numbers.iter().next() == Some(&7) && numbers.iter().count() == 2;
+    let items: Vec<u8> = numbers.into();
+    let is_whole = items.as_slice() == [7, 5].as_slice();
+    by_place && in_order && is_whole && SequenceOf::from(items).len() == 2
+}
+
 #[test]
 fn lists(rt: HostRuntime) -> Result<(), Fail> {
     assert!(rt; makes(&rt, seven_and_five(&rt), "[7, 5]")?);
+    assert!(rt; is_seen(seven_and_five(&rt)?));
     assert!(rt; stays::<SequenceOf<u8>>(&rt, &[0x30, 6, 2, 1, 7, 2, 1, 5])?);
     Ok(())
 }

@@ -1,6 +1,9 @@
 //! SEQUENCE OF (X.690 8.10).
 
-ghost use Rattle.std.specs.Prelude.{◌≡◌, ◌≤◌, ◌↔◌, ◌++◌, [], ◌∷◌, length, IsTrue, IfOk, IfErr, OnOk, OnErr};
+ghost use Rattle.std.specs.Prelude.{◌≡◌, ◌<◌, ◌≤◌, ◌^◌, ◌↔◌, ◌++◌, [], ◌∷◌, length, IsTrue, IfOk, IfErr, OnOk, OnErr, slice_get};
+ghost use Rattle.std.specs.Iterator.Adapters.{IterYieldsInOrder, IterYieldsInReverse};
+ghost use Rattle.std.specs.Option.{option_copied};
+ghost use Rattle.std.specs.Slice.Iter.{iter_rest};
 ghost use Rattle.x509_der_order.specs.error.ErrorKind.TheVariants.{Memory};
 ghost use Rattle.x509_der_order.specs.Outcome.{GivesBy};
 ghost use Rattle.x509_der_order.specs.Writing.{Puts, writes};
@@ -9,9 +12,9 @@ ghost use Rattle.x509_der_frames.specs.List.{list_reading, with_front, members_t
 use crate::reading::field;
 use std::alloc::Global;
 use std::cmp::Ordering;
-use std::fmt;
 use std::hash::{Hash, Hasher};
 use std::marker::Model;
+use std::{fmt, slice};
 use x509_der_order::{
     Content, Decode, Encode, Error, Room, Tag, TryClone, ValueOrd, cmp_members, split_element,
 };
@@ -46,6 +49,23 @@ impl<T> SequenceOf<T> {
         ensures { result.now ≡ self.now }
     {
         self.items.as_slice()
+    }
+
+    /// The values, in their order.
+    pub fn iter(&self) -> slice::Iter<'_, T>
+        ensures rest { iter_rest result ≡ self.now }
+        ensures bound { length (iter_rest result) < 2 ^ 64 }
+        ensures runs { IterYieldsInOrder T }
+        ensures runs_back { IterYieldsInReverse T }
+    {
+        self.as_slice().iter()
+    }
+
+    /// The value at that place, from 0 on.
+    pub fn get(&self, index: usize) -> Option<&T>
+        ensures { option_copied result ≡ slice_get self.now index }
+    {
+        self.as_slice().get(index)
     }
 
     /// How many values there are.
@@ -89,6 +109,14 @@ impl<T> From<Vec<T>> for SequenceOf<T> {
 
     fn from(items: Vec<T>) -> SequenceOf<T> {
         SequenceOf { items }
+    }
+}
+
+impl<T> From<SequenceOf<T>> for Vec<T> {
+    ghost from_gives = { λ sequence items. items.items ≡ sequence };
+
+    fn from(sequence: SequenceOf<T>) -> Vec<T> {
+        sequence.into_vec()
     }
 }
 

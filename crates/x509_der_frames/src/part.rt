@@ -1,4 +1,5 @@
-//! Writing what stands in a sequence. A pair of parts is the first and then the second.
+//! Writing what stands in a sequence. A pair of parts is the first and then the second. The number `n` of a tag is 0 to
+//! 30, those that one identifier octet has (X.690 8.1.2.2).
 
 ghost use Rattle.std.specs.Prelude.{◌≡◌, ◌+◌, ◌<◌};
 ghost use Rattle.x509_der_order.specs.Element.{element};
@@ -93,7 +94,7 @@ pub struct Retagged<'a, T> {
     value: &'a T,
 }
 
-/// [n]x
+/// [n]x; n is 0 to 30.
 pub fn implicit<T: Encode + FixedTag>(n: u8, value: &T) -> Retagged<'_, T>
     requires { n < 31 }
     ensures tag { result.tag ≡ implicit_tag n (octet_of T.TAG) }
@@ -126,7 +127,7 @@ pub struct Wrapped<'a, T> {
     value: &'a T,
 }
 
-/// {n}x
+/// {n}x; n is 0 to 30.
 pub fn explicit<T: Encode>(n: u8, value: &T) -> Wrapped<'_, T>
     requires { n < 31 }
     ensures tag { result.tag ≡ 160 + n }
@@ -183,7 +184,7 @@ pub fn optional<T: Encode>(value: &Option<T>) -> Option<&T>
     }
 }
 
-/// [n]x?
+/// [n]x?; n is 0 to 30.
 pub fn implicit_optional<T: Encode + FixedTag>(n: u8, value: &Option<T>) -> Option<Retagged<'_, T>>
     requires { n < 31 }
     ensures text { optional_text (λ p. element p.tag (T.form.content (writes T.writing p.value.now).value)) result ≡ optional_text (λ v. element (implicit_tag n (octet_of T.TAG)) (T.form.content (writes T.writing v).value)) value.now }
@@ -195,7 +196,7 @@ pub fn implicit_optional<T: Encode + FixedTag>(n: u8, value: &Option<T>) -> Opti
     }
 }
 
-/// {n}x?
+/// {n}x?; n is 0 to 30.
 pub fn explicit_optional<T: Encode>(n: u8, value: &Option<T>) -> Option<Wrapped<'_, T>>
     requires { n < 31 }
     ensures text { optional_text (λ p. element p.tag (spelling T.form (writes T.writing p.value.now).value)) result ≡ optional_text (λ v. element (160 + n) (spelling T.form (writes T.writing v).value)) value.now }
@@ -220,7 +221,7 @@ pub fn defaulted<T: Encode + Standard>(value: &T) -> Option<&T>
     }
 }
 
-/// [n]x=d
+/// [n]x=d; n is 0 to 30.
 #[tactic(auto, unfolding(crate::specs::Frames::default_text))]
 pub fn implicit_default<T: Encode + FixedTag + Standard>(
     n: u8,
@@ -237,7 +238,7 @@ pub fn implicit_default<T: Encode + FixedTag + Standard>(
     }
 }
 
-/// {n}x=d
+/// {n}x=d; n is 0 to 30.
 #[tactic(auto, unfolding(crate::specs::Frames::default_text))]
 pub fn explicit_default<T: Encode + Standard>(n: u8, value: &T) -> Option<Wrapped<'_, T>>
     requires { n < 31 }

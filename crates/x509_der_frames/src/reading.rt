@@ -1,6 +1,7 @@
 //! Reading the fields of a sequence. Each reader takes its field from the front of `rest`; `Malformed`, or the
 //! refusal of the type, where the field does not stand there. Memory may be refused where reading the type wants it.
-//! Where a reader is refused, `rest` is as it was.
+//! Where a reader is refused, `rest` is as it was. The number `n` of a tag is 0 to 30, those that one identifier octet
+//! has (X.690 8.1.2.2).
 
 ghost use Rattle.std.specs.Prelude.{◌≡◌, ◌<◌, IfErr, OnErr};
 ghost use Rattle.x509_der_order.specs.error.ErrorKind.TheVariants.{Malformed, Memory};
@@ -25,7 +26,7 @@ pub fn end(rest: &[u8]) -> Result<(), Error>
     }
 }
 
-/// The identifier octet under [n] of a type with a tag of its own (X.690 8.14.3).
+/// The identifier octet under [n] of a type with a tag of its own (X.690 8.14.3); n is 0 to 30.
 #[inline(always)]
 pub fn implicit_octet<T: FixedTag>(n: u8) -> u8
     requires { n < 31 }
@@ -54,7 +55,7 @@ pub fn field<T: Decode>(alloc: Global, rest: &mut &[u8]) -> Result<T, Error>
     result
 }
 
-/// {n}x: a field in an element of its own, with the identifier octet A0 + n (X.690 8.14.2).
+/// {n}x: a field in an element of its own, with the identifier octet A0 + n (X.690 8.14.2); n is 0 to 30.
 #[tactic(auto, unfolding(crate::specs::Frames::field_at))]
 #[inline(always)]
 pub fn explicit_field<T: Decode>(alloc: Global, n: u8, rest: &mut &[u8]) -> Result<T, Error>
@@ -74,7 +75,7 @@ pub fn explicit_field<T: Decode>(alloc: Global, n: u8, rest: &mut &[u8]) -> Resu
     result
 }
 
-/// [n]x: a field under the identifier octet 80 + n, or A0 + n where its content is elements (X.690 8.14.3).
+/// [n]x: a field under the identifier octet 80 + n, or A0 + n where its content is elements (X.690 8.14.3); n is 0 to 30.
 #[tactic(auto, unfolding(crate::specs::Frames::field_at))]
 #[inline(always)]
 pub fn implicit_field<T: Decode + FixedTag>(
@@ -112,7 +113,7 @@ pub fn optional_field<T: Decode>(alloc: Global, rest: &mut &[u8]) -> Result<Opti
     }
 }
 
-/// {n}x?: the same in an element of its own.
+/// {n}x?: the same in an element of its own; n is 0 to 30.
 #[tactic(auto, unfolding(crate::specs::Frames::optional_at))]
 #[inline(always)]
 pub fn optional_explicit<T: Decode>(
@@ -131,7 +132,7 @@ pub fn optional_explicit<T: Decode>(
     }
 }
 
-/// [n]x?: the same under a tag in place of its own.
+/// [n]x?: the same under a tag in place of its own; n is 0 to 30.
 #[tactic(auto, unfolding(crate::specs::Frames::optional_at))]
 #[inline(always)]
 pub fn optional_implicit<T: Decode + FixedTag>(
@@ -176,7 +177,7 @@ pub fn default_field<T: Decode + Standard>(alloc: Global, rest: &mut &[u8]) -> R
     Ok(value)
 }
 
-/// {n}x=d: the same in an element of its own.
+/// {n}x=d: the same in an element of its own; n is 0 to 30.
 #[tactic(auto, unfolding(crate::specs::Frames::default_at))]
 #[inline(always)]
 pub fn default_explicit<T: Decode + Standard>(
@@ -204,7 +205,7 @@ pub fn default_explicit<T: Decode + Standard>(
     Ok(value)
 }
 
-/// [n]x=d: the same under a tag in place of its own.
+/// [n]x=d: the same under a tag in place of its own; n is 0 to 30.
 #[tactic(auto, unfolding(crate::specs::Frames::default_at))]
 #[inline(always)]
 pub fn default_implicit<T: Decode + FixedTag + Standard>(
