@@ -7,7 +7,7 @@ use x509_prim::OctetString;
 use x509_sct::{
     CtPrecertificatePoison, DigitallySigned, Error, HashAlgorithm, LogId, SerializedSct,
     SignatureAlgorithm, SignatureAndHashAlgorithm, SignedCertificateTimestamp,
-    SignedCertificateTimestampList, Tls, TlsByteVecU16, TlsError, Version,
+    SignedCertificateTimestampList, TlsByteVecU16, TlsError, Version,
 };
 use x509_sct_tls::NamedByte;
 

@@ -2,6 +2,7 @@
 //! and what they say; and the poison of precertificates (section 3.1).
 #![tactic(auto)]
 
+mod calls;
 mod error;
 pub mod laws;
 mod list;

@@ -4,7 +4,9 @@ ghost use Rattle.std.specs.Prelude.{◌≡◌, ◌<◌, ◌≤◌, ◌⊎◌, le
 ghost use Rattle.std.specs.Cmp.{partial_equiv_from_equiv};
 ghost use Rattle.std.specs.Cmp.Lexicographic.{nat_list_eq_equiv};
 ghost use Rattle.x509_sct_tls.specs.declared.error.TlsError.TheVariants.{InvalidVectorLength, Memory};
+ghost use Rattle.x509_sct_tls.specs.Answers.{AnswersFront};
 ghost use Rattle.x509_sct_tls.specs.Form.{Spells};
+ghost use Rattle.x509_sct_tls.specs.Numbers.{vector16};
 
 use crate::error::TlsError;
 use crate::octets::take_octets;
@@ -68,6 +70,25 @@ impl TlsByteVecU16 {
         ensures short { length result.now ≤ 65535 }
     {
         self.octets.as_slice()
+    }
+
+    /// Two bytes that say how many there are, and the bytes. Memory may be refused, and nothing else.
+    pub fn tls_serialize(&self, alloc: Global) -> Result<Vec<u8>, TlsError>
+        ensures ok { IfOk result (λ bytes. Spells vector16 self.now bytes.items) }
+        ensures err { IfErr result (λ e. e ≡ Memory) }
+    {
+        Tls::tls_serialize(self, alloc)
+    }
+
+    /// The vector that stands in front of the bytes, and what follows it; where none stands there, the first fault from
+    /// the left. Memory may be refused.
+    pub fn tls_deserialize_bytes(
+        alloc: Global,
+        bytes: &[u8],
+    ) -> Result<(TlsByteVecU16, &[u8]), TlsError>
+        ensures { AnswersFront (λ x. (x.0, x.1.now)) vector16 Unit bytes.now result }
+    {
+        <TlsByteVecU16 as Tls>::tls_deserialize_bytes(alloc, bytes)
     }
 }
 
