@@ -107,6 +107,9 @@ impl<P: Profile> CrlBuilder<P> {
     /// The builder, with the certificates behind those that it has. Where it has none, and none are given, it has the list
     /// without members. They are in the part of the next [`finalize`](Builder::finalize).
     ///
+    /// The iterator ends, and its next item may be asked for where it stands: its `next` states what it wants for that
+    /// (`can_next`). One over a vector wants nothing; one that calls closures wants that these may be called.
+    ///
     /// # Errors
     ///
     /// Memory may be refused, and nothing else; then the builder is dropped.
