@@ -2,6 +2,7 @@
 
 use crate::calls::{is_refused, is_written, prints};
 use std::test::*;
+use x509_der::SequenceOf;
 use x509_der_grammar::{Error, ErrorKind};
 use x509_name::name::attribute_types::ORGANIZATIONAL_UNIT_NAME;
 use x509_name::name::{Name, RdnSequence, RelativeDistinguishedName};
@@ -33,11 +34,33 @@ fn inserts_in_either_order(rt: HostRuntime) -> Result<(), Fail> {
     Ok(())
 }
 
-/// Whether the sequence of the relative distinguished name of the text alone prints it.
+/// Whether the sequence of the relative distinguished name of the text alone prints it, and so does that of its list.
 fn is_pushed(rt: &HostRuntime, text: &str) -> Result<bool, Error> {
     let mut rdns = RdnSequence::new(rt.alloc());
     rdns.push(RelativeDistinguishedName::from_str(rt.alloc(), text)?)?;
-    prints(rt, &rdns, text)
+    let list: SequenceOf<RelativeDistinguishedName> = rdns.into();
+    prints(rt, &RdnSequence::from(list), text)
+}
+
+/// Whether the one stands before the other as a key, and as a sequence.
+fn stand_in_order(below: &Name, above: &Name) -> bool {
+    below < above && below.as_ref() < above.as_ref()
+}
+
+/// Whether the names of the texts stand in that order.
+fn are_in_order(rt: &HostRuntime, below: &str, above: &str) -> Result<bool, Error> {
+    let below = Name::from_str(rt.alloc(), below)?;
+    let above = Name::from_str(rt.alloc(), above)?;
+    Ok(stand_in_order(&below, &above))
+}
+
+/// By their encodings: a longer value stands behind, whatever its text is.
+#[test]
+fn keys_in_order(rt: HostRuntime) -> Result<(), Fail> {
+    assert!(rt; are_in_order(&rt, "CN=a", "CN=b")?);
+    assert!(rt; are_in_order(&rt, "CN=b", "CN=aa")?);
+    assert!(rt; are_in_order(&rt, "CN=a", "CN=a,CN=a")?);
+    Ok(())
 }
 
 #[test]
