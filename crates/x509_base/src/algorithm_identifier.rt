@@ -3,8 +3,8 @@
 use std::alloc::Global;
 use std::cmp::Ordering;
 use x509_der::ObjectIdentifier;
-use x509_der_frames::{Any, PutPart, end, field, optional, optional_field};
-use x509_der_grammar::{Content, Error, Room, Tag, TryClone};
+use x509_der_frames::{Any, PutPart, end, field, option_has_spelling, optional, optional_field};
+use x509_der_grammar::{Content, Error, Room, Spelled, Tag, TryClone};
 use x509_der_order::{DerOrd, EncodingOrd, SetMember, SetOrd, ValueOrd, cmp_optional};
 
 /// An algorithm, by its name, and the parameters with which it is used (RFC 5280 4.1.1.2).
@@ -83,6 +83,14 @@ impl SetMember for AlgorithmIdentifier {
     ghost use Rattle.std.specs.Prelude.{refl};
 
     ghost in_der_order = { refl };
+}
+
+#[tactic(auto, unfolding(crate::specs::AlgorithmIdentifier::algorithm_identifier_fields, x509_der_frames::specs::Frames::fields_good))]
+impl Spelled for AlgorithmIdentifier {
+    fn has_spelling(&self) {
+        self.oid.has_spelling();
+        option_has_spelling(&self.parameters);
+    }
 }
 
 impl TryClone for AlgorithmIdentifier {

@@ -17,7 +17,7 @@ use std::fmt;
 use std::hash::{Hash, Hasher};
 use std::marker::{Model, PhantomData};
 use x509_base_time::{Profile, Rfc5280};
-use x509_der_grammar::{Content, Error, ErrorKind, Room, Tag, TryClone};
+use x509_der_grammar::{Content, Error, ErrorKind, Room, Spelled, Tag, TryClone};
 use x509_der_order::{DerOrd, EncodingOrd, SetMember, SetOrd, ValueOrd};
 use x509_prim::{Int, Uint, strip_zeros};
 
@@ -173,6 +173,16 @@ impl<P: Profile> Content for SerialNumber<P> {
     }
 
     ghost contents_lawful = { serial_number_contents_lawful P.serial_check };
+}
+
+impl<P: Profile> Spelled for SerialNumber<P> {
+    ghost use Rattle.std.specs.Prelude.{Ok};
+
+    ghost premise = { λ serial. P.serial_check serial ≡ Ok tt };
+
+    fn has_spelling(&self) {
+        let _content = self.as_bytes();
+    }
 }
 
 impl<P: Profile> TryClone for SerialNumber<P> {

@@ -7,7 +7,7 @@ use crate::subject_public_key_info_ref::SubjectPublicKeyInfoRef;
 use std::alloc::Global;
 use std::cmp::Ordering;
 use x509_der_frames::{PutPart, end, field};
-use x509_der_grammar::{Content, Error, Room, Tag, TryClone};
+use x509_der_grammar::{Content, Error, Room, Spelled, Tag, TryClone};
 use x509_der_order::{DerOrd, EncodingOrd, SetMember, SetOrd, ValueOrd};
 use x509_prim::BitString;
 
@@ -101,6 +101,14 @@ impl SetMember for SubjectPublicKeyInfo {
     ghost use Rattle.std.specs.Prelude.{refl};
 
     ghost in_der_order = { refl };
+}
+
+#[tactic(auto, unfolding(crate::specs::SubjectPublicKeyInfo::subject_public_key_info_fields, x509_der_frames::specs::Frames::fields_good))]
+impl Spelled for SubjectPublicKeyInfo {
+    fn has_spelling(&self) {
+        self.algorithm.has_spelling();
+        self.subject_public_key.has_spelling();
+    }
 }
 
 impl TryClone for SubjectPublicKeyInfo {

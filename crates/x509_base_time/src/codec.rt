@@ -6,7 +6,7 @@ use crate::date_time::DateTime;
 use crate::generalized_time::GeneralizedTime;
 use crate::utc_time::UtcTime;
 use std::alloc::Global;
-use x509_der_grammar::{Content, Error, Room, Tag, TryClone};
+use x509_der_grammar::{Content, Error, Room, Spelled, Tag, TryClone};
 
 impl Content for UtcTime {
     ghost use Rattle.x509_base_time.specs.TimeForms.{utc_time_contents, utc_time_contents_lawful};
@@ -32,6 +32,12 @@ impl Content for UtcTime {
     ghost contents_lawful = { utc_time_contents_lawful };
 }
 
+impl Spelled for UtcTime {
+    fn has_spelling(&self) {
+        let _content = self.content();
+    }
+}
+
 impl Content for GeneralizedTime {
     ghost use Rattle.x509_base_time.specs.TimeForms.{generalized_time_contents, generalized_time_contents_lawful};
     ghost use Rattle.x509_der_element.specs.declared.tag.Tag.TheVariants as tags;
@@ -53,6 +59,12 @@ impl Content for GeneralizedTime {
     }
 
     ghost contents_lawful = { generalized_time_contents_lawful };
+}
+
+impl Spelled for GeneralizedTime {
+    fn has_spelling(&self) {
+        let _content = self.content();
+    }
 }
 
 impl TryClone for DateTime {

@@ -14,7 +14,7 @@ use std::cmp::Ordering;
 use std::fmt;
 use std::str::FromStr;
 use std::time::Duration;
-use x509_der_grammar::{Decode, Encode, Error, Grammar, Room, Tag, TryClone};
+use x509_der_grammar::{Decode, Encode, Error, Grammar, Room, Spelled, Tag, TryClone};
 use x509_der_order::{EncodingOrd, SetMember, SetOrd, ValueOrd};
 
 /// A date-time, and how it is spelled (RFC 5280 4.1.2.5).
@@ -174,6 +174,16 @@ impl Encode for Time {
     }
 
     ghost same_tag = { λ value. refl };
+}
+
+#[tactic(auto, unfolding(x509_der_frames::specs::Choice::either_good))]
+impl Spelled for Time {
+    fn has_spelling(&self) {
+        match self {
+            Time::UtcTime(time) => time.has_spelling(),
+            Time::GeneralTime(time) => time.has_spelling(),
+        }
+    }
 }
 
 impl ValueOrd for Time {

@@ -14,7 +14,7 @@ use std::alloc::Global;
 use std::marker::PhantomData;
 use std::time::Duration;
 use x509_der_frames::{PutPart, end, field};
-use x509_der_grammar::{Content, Error, ErrorKind, Room, Tag, TryClone};
+use x509_der_grammar::{Content, Error, ErrorKind, Room, Spelled, Tag, TryClone};
 
 /// The two dates between which a certificate holds, both included (RFC 5280 4.1.2.5). They are written as the profile
 /// spells them.
@@ -147,4 +147,12 @@ impl<P: Profile> Content for Validity<P> {
     }
 
     ghost contents_lawful = { grammar.validity_contents_lawful };
+}
+
+#[tactic(auto, unfolding(crate::specs::Validity::validity_fields, x509_der_frames::specs::Frames::fields_good))]
+impl<P: Profile> Spelled for Validity<P> {
+    fn has_spelling(&self) {
+        self.not_before.has_spelling();
+        self.not_after.has_spelling();
+    }
 }

@@ -1,2 +1,3 @@
 pub mod Respelled
+pub mod Serials
 pub mod SignedParts

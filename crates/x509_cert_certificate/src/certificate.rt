@@ -11,7 +11,7 @@ use x509_base::AlgorithmIdentifier;
 use x509_base_time::{Profile, Rfc5280};
 use x509_cert_digest::{CertDigest, hash};
 use x509_der_frames::{PutPart, SequenceOf, end, field};
-use x509_der_grammar::{Content, Encode, Error, Grammar, Room, Tag, TryClone};
+use x509_der_grammar::{Content, Encode, Error, Grammar, Room, Spelled, Tag, TryClone};
 use x509_prim::BitString;
 
 /// A certificate under the rules of RFC 5280.
@@ -144,4 +144,17 @@ impl<P: Profile> Content for CertificateInner<P> {
     }
 
     ghost contents_lawful = { grammar.certificate_contents_lawful P.serial_check };
+}
+
+#[tactic(auto, unfolding(crate::specs::Certificate::certificate_fields, x509_der_frames::specs::Frames::fields_good))]
+impl<P: Profile> Spelled for CertificateInner<P> {
+    ghost use Rattle.std.specs.Prelude.{Ok};
+
+    ghost premise = { λ certificate. P.serial_check certificate.tbs_certificate.serial_number ≡ Ok tt };
+
+    fn has_spelling(&self) {
+        self.tbs_certificate.has_spelling();
+        self.signature_algorithm.has_spelling();
+        self.signature.has_spelling();
+    }
 }

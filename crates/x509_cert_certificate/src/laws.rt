@@ -5,7 +5,7 @@
 //! what follows from what [`dates_are_written_once`] says: that decoding what was written and writing it again gives the same
 //! bytes, and that what was written reads as the value that is spelled.
 
-ghost use Rattle.std.specs.Prelude.{◌≡◌, ◌↔◌, List, ℕ};
+ghost use Rattle.std.specs.Prelude.{◌≡◌, ◌≤◌, ◌↔◌, List, ℕ, length};
 ghost use Rattle.x509_base_time.specs.Validity.{validity};
 ghost use Rattle.x509_base_time.specs.declared.profile.Raw as raw;
 ghost use Rattle.x509_base_time.specs.declared.profile.Rfc5280 as rfc5280;
@@ -13,13 +13,14 @@ ghost use Rattle.x509_cert_certificate.specs.Respelling.{HasRfc5280Dates, Stays,
 ghost use Rattle.x509_cert_certificate.specs.declared.certificate.CertificateInner as whole;
 ghost use Rattle.x509_cert_signed.specs.Signed.{IsSignedPart};
 ghost use Rattle.x509_der_grammar.specs.Form.{Spells, spelling};
-ghost use Rattle.x509_der_grammar.specs.Writing.{IsStable, RespellsAlike, writes, written_spelling};
+ghost use Rattle.x509_der_element.specs.Element.{limit};
+ghost use Rattle.x509_der_grammar.specs.Writing.{IsStable, IsWritable, RespellsAlike, writes, written_spelling};
 
 use crate::certificate::CertificateInner;
 use crate::tbs_certificate::TbsCertificateInner;
 use x509_base_time::{Profile, Raw, Rfc5280, Validity};
 use x509_der_frames::SequenceOf;
-use x509_der_grammar::{Encode, Grammar};
+use x509_der_grammar::{Encode, Grammar, Spelled};
 
 /// Where what is written of a validity is written as it is, so is what is written of a signed part, of a certificate and
 /// of a list of certificates.
@@ -81,4 +82,21 @@ pub fn rfc5280_signed_bytes_are_written_again()
     ensures { (v : whole.CertificateInner rfc5280.Rfc5280) (bytes signed : List ℕ) → Spells ⟦<CertificateInner<Rfc5280> as Grammar>⟧.form v bytes → IsSignedPart bytes signed → (written_spelling ⟦<TbsCertificateInner<Rfc5280> as Grammar>⟧.form (writes ⟦<TbsCertificateInner<Rfc5280> as Encode>⟧.writing v.tbs_certificate) ≡ signed) ↔ HasRfc5280Dates v.tbs_certificate.validity }
 {
     x509_base_time::laws::rfc5280_dates_are_written_once();
+}
+
+/// Under [`Rfc5280`] what is written of a certificate that a program made is read as what was meant, with its dates as they are
+/// spelled there, where its serial number is one that reading lets stand: at most 21 octets.
+#[tactic(auto, using(crate::proofs::Serials::few_octets_stand))]
+pub fn rfc5280_certificates_are_read_as_meant(certificate: &CertificateInner<Rfc5280>)
+    ensures { length certificate.now.tbs_certificate.serial_number ≤ 21 → IsWritable ⟦<CertificateInner<Rfc5280> as Grammar>⟧.form (writes ⟦<CertificateInner<Rfc5280> as Encode>⟧.writing certificate.now) limit → Spells ⟦<CertificateInner<Rfc5280> as Grammar>⟧.form (writes ⟦<CertificateInner<Rfc5280> as Encode>⟧.writing certificate.now).value (written_spelling ⟦<CertificateInner<Rfc5280> as Grammar>⟧.form (writes ⟦<CertificateInner<Rfc5280> as Encode>⟧.writing certificate.now)) }
+{
+    rfc5280_dates_are_written_once();
+    x509_der_grammar::laws::what_is_written_of_a_value_is_read_as_meant(certificate);
+}
+
+/// Under [`Raw`] it is read as the very certificate, whatever its serial number.
+pub fn raw_certificates_are_read_as_meant(certificate: &CertificateInner<Raw>)
+    ensures { length (spelling ⟦<CertificateInner<Raw> as Grammar>⟧.form certificate.now) ≤ limit → Spells ⟦<CertificateInner<Raw> as Grammar>⟧.form certificate.now (spelling ⟦<CertificateInner<Raw> as Grammar>⟧.form certificate.now) }
+{
+    certificate.has_spelling();
 }

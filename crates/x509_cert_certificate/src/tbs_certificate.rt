@@ -16,9 +16,9 @@ use x509_cert_extension::{
 use x509_der::{AssociatedOid, ObjectIdentifier};
 use x509_der_frames::{
     PutPart, default_explicit, end, explicit_default, explicit_optional, field, implicit_optional,
-    optional_explicit, optional_implicit,
+    option_has_spelling, optional_explicit, optional_implicit,
 };
-use x509_der_grammar::{Content, Decode, Encode, Error, Room, Tag, TryClone};
+use x509_der_grammar::{Content, Decode, Encode, Error, Room, Spelled, Tag, TryClone};
 use x509_prim::BitString;
 
 /// The signed part of a certificate under the rules of RFC 5280.
@@ -356,4 +356,24 @@ impl<P: Profile> Content for TbsCertificateInner<P> {
     }
 
     ghost contents_lawful = { grammar.tbs_certificate_contents_lawful P.serial_check };
+}
+
+#[tactic(auto, unfolding(crate::specs::TbsCertificate::tbs_certificate_fields, x509_der_frames::specs::Frames::fields_good))]
+impl<P: Profile> Spelled for TbsCertificateInner<P> {
+    ghost use Rattle.std.specs.Prelude.{Ok};
+
+    ghost premise = { λ signed. P.serial_check signed.serial_number ≡ Ok tt };
+
+    fn has_spelling(&self) {
+        self.version.has_spelling();
+        self.serial_number.has_spelling();
+        self.signature.has_spelling();
+        self.issuer.has_spelling();
+        self.validity.has_spelling();
+        self.subject.has_spelling();
+        self.subject_public_key_info.has_spelling();
+        option_has_spelling(&self.issuer_unique_id);
+        option_has_spelling(&self.subject_unique_id);
+        option_has_spelling(&self.extensions);
+    }
 }

@@ -3,7 +3,7 @@
 use std::alloc::Global;
 use std::cmp::Ordering;
 use x509_der_frames::Standard;
-use x509_der_grammar::{Content, Error, Room, Tag, TryClone};
+use x509_der_grammar::{Content, Error, Room, Spelled, Tag, TryClone};
 use x509_der_order::ValueOrd;
 use x509_prim::{NamedNumber, cmp_named_numbers, put_named_number, read_named_number};
 
@@ -79,6 +79,10 @@ impl Content for Version {
     }
 
     ghost contents_lawful = { named_contents_lawful version_names };
+}
+
+impl Spelled for Version {
+    fn has_spelling(&self) {}
 }
 
 impl ValueOrd for Version {

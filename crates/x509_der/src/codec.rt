@@ -6,7 +6,7 @@ use crate::identifier::ObjectIdentifier;
 use std::alloc::Global;
 use std::cmp::Ordering;
 use x509_der_order::{
-    Content, EncodingOrd, Error, Room, SetMember, SetOrd, Tag, TryClone, ValueOrd,
+    Content, EncodingOrd, Error, Room, SetMember, SetOrd, Spelled, Tag, TryClone, ValueOrd,
 };
 
 #[tactic(auto, unfolding(crate::specs::ObjectIdentifierForm::object_identifier_reading))]
@@ -32,6 +32,13 @@ impl Content for ObjectIdentifier {
     }
 
     ghost contents_lawful = { grammar.object_identifier_contents_lawful };
+}
+
+#[tactic(auto, using(crate::specs::ObjectIdentifierForm::pass_arcs))]
+impl Spelled for ObjectIdentifier {
+    fn has_spelling(&self) {
+        let _content = self.as_bytes();
+    }
 }
 
 impl ValueOrd for ObjectIdentifier {

@@ -17,10 +17,12 @@ pub use x509_der_element::laws::{
     equality_of_elements_is_exact, no_element_begins_another, one_tag,
 };
 pub use x509_der_frames::laws::{
-    equality_of_any_is_exact, equality_of_lists_is_exact, the_next_octet_decides_an_optional_field,
+    equality_of_any_is_exact, equality_of_lists_is_exact, lists_are_written_once,
+    the_next_octet_decides_an_optional_field,
 };
 pub use x509_der_grammar::laws::{
-    no_spelling_begins_another, one_spelling, one_value, what_is_written_alike_is_respelled_alike,
+    no_spelling_begins_another, one_spelling, one_value, plain_writing_is_stable,
+    what_is_written_alike_is_respelled_alike, what_is_written_of_a_value_is_read_as_meant,
     what_was_written_reads_as_respelled, writing_again_gives_the_same,
 };
 pub use x509_der_order::laws::{

@@ -21,14 +21,15 @@ pub use x509_der_frames::{
     Any, FromAny, PutPart, Retagged, SequenceOf, Standard, Wrapped, clone_members,
     default_explicit, default_field, default_implicit, defaulted, end, explicit, explicit_default,
     explicit_field, explicit_identifier, explicit_optional, field, implicit, implicit_default,
-    implicit_field, implicit_identifier, implicit_octet, implicit_optional, optional,
-    optional_explicit, optional_field, optional_implicit, put_members, read_further, read_members,
+    implicit_field, implicit_identifier, implicit_octet, implicit_optional, members_have_spellings,
+    option_has_spelling, optional, optional_explicit, optional_field, optional_implicit,
+    put_members, read_further, read_members,
 };
 pub use x509_der_grammar::{
     AnyRef, Bytes, Content, Counting, Decode, Encode, Error, ErrorKind, Fixed, FixedTag, Grammar,
-    Growing, Header, Length, Newtype, Piece, Room, Tag, TagNumber, Tagged, TryClone, check_content,
-    expect_tag, put_header, put_natural, read_natural, read_whole, split_element, split_usual,
-    take_element,
+    Growing, Header, Length, Newtype, Piece, Room, Spelled, Tag, TagNumber, Tagged, TryClone,
+    check_content, expect_tag, put_header, put_natural, read_natural, read_whole, split_element,
+    split_usual, take_element,
 };
 pub use x509_der_order::{
     DerOrd, EncodingOrd, NewtypeOrd, SetMember, SetOrd, ValueOrd, cmp_members, cmp_naturals,

@@ -17,8 +17,8 @@ use std::cmp::Ordering;
 use std::hash::{Hash, Hasher};
 use std::marker::Model;
 use std::{fmt, slice};
-use x509_der_frames::put_members;
-use x509_der_grammar::{Content, Decode, Error, ErrorKind, Room, Tag, TryClone};
+use x509_der_frames::{members_have_spellings, put_members};
+use x509_der_grammar::{Content, Decode, Error, ErrorKind, Room, Spelled, Tag, TryClone};
 use x509_der_order::{DerOrd, SetMember, SetOrd, ValueOrd, cmp_members};
 
 /// The members of a SET OF, no two of them equal, in the byte order of their encodings (X.690 11.6). Contracts see
@@ -185,6 +185,17 @@ impl<T: Decode + SetMember + Drop> Content for SetOfVec<T> {
     }
 
     ghost contents_lawful = { set_lawful T.form (der_order T.form (writes T.writing) T.order) T.lawful };
+}
+
+#[tactic(auto, unfolding(crate::specs::Set::set_good))]
+impl<T: Decode + SetMember + Spelled + Drop> Spelled for SetOfVec<T> {
+    ghost use Rattle.std.specs.List.{All};
+
+    ghost premise = { All T.premise };
+
+    fn has_spelling(&self) {
+        members_have_spellings(self.as_slice());
+    }
 }
 
 impl<T: Decode + SetMember + Drop> ValueOrd for SetOfVec<T> {

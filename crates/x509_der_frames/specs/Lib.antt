@@ -7,6 +7,7 @@ pub mod Equality
 pub mod List
 pub mod ListLaws
 pub mod ListWriting
+pub mod SpelledLists
 pub mod ListOrder
 pub mod FieldsOrder
 pub mod Choice

@@ -5,10 +5,11 @@ ghost use Rattle.x509_der_frames.specs.Frames.{optional_text, IsClearOf};
 ghost use Rattle.x509_der_frames.specs.declared.any.Any.{Any};
 ghost use Rattle.x509_der_order.specs.Exact.{IsExact};
 ghost use Rattle.x509_der_order.specs.Form.{spelling};
+ghost use Rattle.x509_der_order.specs.Writing.{IsStable};
 
 use crate::any::Any;
 use crate::list::SequenceOf;
-use x509_der_order::Grammar;
+use x509_der_order::{Decode, Encode, Grammar};
 
 /// The next identifier octet decides whether an optional field is there (X.690 8.9.3): where what follows doesn't begin
 /// as the field may, bytes are those of one value of the field, or of none, and of one rest.
@@ -25,4 +26,9 @@ pub fn equality_of_any_is_exact()
 /// `==` of lists holds exactly of equal values where that of the members does.
 pub fn equality_of_lists_is_exact<T: PartialEq>()
     ensures { IsExact T.eq → (a b : List T) → (⟦<SequenceOf<T> as PartialEq>⟧.eq a b ≡ true) ↔ (a ≡ b) }
+{}
+
+/// Where what is written of the members is written as it is, so is what is written of a list of them.
+pub fn lists_are_written_once<T: Decode + Encode + Drop>()
+    ensures { IsStable T.form.good T.writing → IsStable ⟦<SequenceOf<T> as Grammar>⟧.form.good ⟦<SequenceOf<T> as Encode>⟧.writing }
 {}

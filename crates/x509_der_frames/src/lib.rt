@@ -8,6 +8,7 @@ pub mod laws;
 mod list;
 mod part;
 mod reading;
+mod spelled;
 mod standard;
 
 pub use any::{Any, FromAny};
@@ -21,5 +22,6 @@ pub use reading::{
     default_explicit, default_field, default_implicit, end, explicit_field, field, implicit_field,
     implicit_octet, optional_explicit, optional_field, optional_implicit,
 };
+pub use spelled::{members_have_spellings, option_has_spelling};
 pub use standard::Standard;
 pub use x509_der_order::{AnyRef, Bytes, Content, Error, ErrorKind, Grammar, Room, Tag, TryClone};

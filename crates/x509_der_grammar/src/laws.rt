@@ -4,10 +4,11 @@
 ghost use Rattle.std.specs.Prelude.{◌≡◌, ◌++◌, List, ℕ, None};
 ghost use Rattle.x509_der_element.specs.Element.{limit};
 ghost use Rattle.x509_der_grammar.specs.Form.{spelling, Spells};
-ghost use Rattle.x509_der_grammar.specs.Writing.{IsStable, IsWritable, RespellsAlike, writes, written_spelling};
+ghost use Rattle.x509_der_grammar.specs.Writing.{IsStable, IsWritable, RespellsAlike, plain, writes, written_spelling};
 
 use crate::encode::Encode;
 use crate::grammar::Grammar;
+use crate::spelled::Spelled;
 
 /// No spelling begins another, whatever their types.
 pub fn no_spelling_begins_another<T: Grammar, U: Grammar>()
@@ -40,3 +41,16 @@ pub fn what_is_written_alike_is_respelled_alike<T: Encode>()
 pub fn what_was_written_reads_as_respelled<T: Encode>()
     ensures { IsStable T.form.good T.writing → (v : T) → T.form.good v → IsWritable T.form (writes T.writing v) limit → Spells T.form (writes T.writing v).value (written_spelling T.form (writes T.writing v)) }
 {}
+
+/// What is written of a type whose values are written as they are is written as it is: the premise of the laws above.
+pub fn plain_writing_is_stable<T: Encode>()
+    ensures { T.writing ≡ plain → IsStable T.form.good T.writing }
+{}
+
+/// What is written of a value that a program made is read as the value that is spelled, where what is written of the type's
+/// values is written as it is: an authority that issues what it made issues what it meant.
+pub fn what_is_written_of_a_value_is_read_as_meant<T: Encode + Spelled>(value: &T)
+    ensures { IsStable T.form.good T.writing → T.premise value.now → IsWritable T.form (writes T.writing value.now) limit → Spells T.form (writes T.writing value.now).value (written_spelling T.form (writes T.writing value.now)) }
+{
+    value.has_spelling();
+}

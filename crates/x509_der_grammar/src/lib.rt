@@ -12,6 +12,7 @@ pub mod laws;
 mod natural;
 mod newtype;
 mod room;
+mod spelled;
 
 pub use clone::TryClone;
 pub use content::Content;
@@ -21,6 +22,7 @@ pub use grammar::{FixedTag, Grammar, Tagged};
 pub use natural::{put_natural, read_natural};
 pub use newtype::Newtype;
 pub use room::{Counting, Fixed, Growing, Room};
+pub use spelled::Spelled;
 pub use x509_der_element::{
     AnyRef, Bytes, Error, ErrorKind, Header, Length, Piece, Tag, TagNumber, check_content,
     check_identifier, split_element, split_usual, take_element,

@@ -16,6 +16,6 @@ pub use number::cmp_naturals;
 pub use order::{DerOrd, ValueOrd};
 pub use x509_der_grammar::{
     AnyRef, Bytes, Content, Decode, Encode, Error, ErrorKind, FixedTag, Grammar, Growing, Length,
-    Room, Tag, TagNumber, TryClone, check_content, check_identifier, put_header, read_whole,
-    split_element, split_usual, take_element,
+    Room, Spelled, Tag, TagNumber, TryClone, check_content, check_identifier, put_header,
+    read_whole, split_element, split_usual, take_element,
 };

@@ -2,7 +2,7 @@
 
 use std::alloc::Global;
 use x509_der_frames::{PutPart, SequenceOf, default_field, defaulted, end, field};
-use x509_der_grammar::{Content, Error, Room, Tag, TryClone};
+use x509_der_grammar::{Content, Error, Room, Spelled, Tag, TryClone};
 use x509_name::name::ObjectIdentifier;
 use x509_prim::OctetString;
 
@@ -74,4 +74,13 @@ impl Content for Extension {
     }
 
     ghost contents_lawful = { grammar.extension_contents_lawful };
+}
+
+#[tactic(auto, unfolding(crate::specs::Extension::extension_fields, x509_der_frames::specs::Frames::fields_good))]
+impl Spelled for Extension {
+    fn has_spelling(&self) {
+        self.extn_id.has_spelling();
+        self.critical.has_spelling();
+        self.extn_value.has_spelling();
+    }
 }

@@ -3,7 +3,9 @@
 use crate::general_name::GeneralNames;
 use std::alloc::Global;
 use x509_der_frames::implicit_identifier;
-use x509_der_grammar::{Content, Decode, Encode, Error, ErrorKind, Grammar, Room, Tag, TryClone};
+use x509_der_grammar::{
+    Content, Decode, Encode, Error, ErrorKind, Grammar, Room, Spelled, Tag, TryClone,
+};
 use x509_ext_frame::RelativeDistinguishedName;
 
 /// The name of a place at which a CRL is found (RFC 5280 4.2.1.13).
@@ -91,4 +93,14 @@ impl Encode for DistributionPointName {
     }
 
     ghost same_tag = { λ value. refl };
+}
+
+#[tactic(auto, unfolding(x509_der_frames::specs::Cases::choice_good))]
+impl Spelled for DistributionPointName {
+    fn has_spelling(&self) {
+        match self {
+            DistributionPointName::FullName(names) => names.has_spelling(),
+            DistributionPointName::NameRelativeToCRLIssuer(rdn) => rdn.has_spelling(),
+        }
+    }
 }

@@ -2,9 +2,10 @@
 
 use std::alloc::Global;
 use x509_der_frames::{
-    PutPart, end, explicit, explicit_field, explicit_optional, optional_explicit,
+    PutPart, end, explicit, explicit_field, explicit_optional, option_has_spelling,
+    optional_explicit,
 };
-use x509_der_grammar::{Content, Error, Room, Tag, TryClone};
+use x509_der_grammar::{Content, Error, Room, Spelled, Tag, TryClone};
 use x509_name_attribute::DirectoryString;
 
 /// A name of electronic data interchange (RFC 5280 4.2.1.6). Its tags are explicit, since what they are put on is a choice
@@ -73,4 +74,12 @@ impl Content for EdiPartyName {
     }
 
     ghost contents_lawful = { grammar.edi_party_name_contents_lawful };
+}
+
+#[tactic(auto, unfolding(crate::specs::EdiPartyName::edi_party_name_fields, x509_der_frames::specs::Frames::fields_good))]
+impl Spelled for EdiPartyName {
+    fn has_spelling(&self) {
+        option_has_spelling(&self.name_assigner);
+        self.party_name.has_spelling();
+    }
 }

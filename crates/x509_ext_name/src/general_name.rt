@@ -11,7 +11,7 @@ use std::alloc::Global;
 use x509_der::ObjectIdentifier;
 use x509_der_frames::{SequenceOf, explicit_identifier, implicit_identifier};
 use x509_der_grammar::{
-    Content, Decode, Encode, Error, ErrorKind, Grammar, Room, Tag, TryClone, read_whole,
+    Content, Decode, Encode, Error, ErrorKind, Grammar, Room, Spelled, Tag, TryClone, read_whole,
 };
 use x509_ext_frame::Name;
 use x509_prim::OctetString;
@@ -222,4 +222,20 @@ impl Encode for GeneralName {
     }
 
     ghost same_tag = { λ value. refl };
+}
+
+#[tactic(auto, unfolding(x509_der_frames::specs::Cases::choice_good))]
+impl Spelled for GeneralName {
+    fn has_spelling(&self) {
+        match self {
+            GeneralName::OtherName(other) => other.has_spelling(),
+            GeneralName::Rfc822Name(text) => text.has_spelling(),
+            GeneralName::DnsName(text) => text.has_spelling(),
+            GeneralName::DirectoryName(name) => name.has_spelling(),
+            GeneralName::EdiPartyName(party) => party.has_spelling(),
+            GeneralName::UniformResourceIdentifier(text) => text.has_spelling(),
+            GeneralName::IpAddress(octets) => octets.has_spelling(),
+            GeneralName::RegisteredId(identifier) => identifier.has_spelling(),
+        }
+    }
 }

@@ -6,7 +6,7 @@ use crate::other_name::OtherName;
 use std::alloc::Global;
 use x509_der::ObjectIdentifier;
 use x509_der_frames::{PutPart, end, field};
-use x509_der_grammar::{Content, Error, Room, Tag, TryClone};
+use x509_der_grammar::{Content, Error, Room, Spelled, Tag, TryClone};
 use x509_ext_frame::id_pkix;
 use x509_prim::OctetString;
 
@@ -84,4 +84,12 @@ impl Content for HardwareModuleName {
     }
 
     ghost contents_lawful = { grammar.hardware_module_name_contents_lawful };
+}
+
+#[tactic(auto, unfolding(crate::specs::HardwareModuleName::hardware_module_name_fields, x509_der_frames::specs::Frames::fields_good))]
+impl Spelled for HardwareModuleName {
+    fn has_spelling(&self) {
+        self.hw_type.has_spelling();
+        self.hw_serial_num.has_spelling();
+    }
 }

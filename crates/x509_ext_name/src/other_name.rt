@@ -10,7 +10,7 @@ use crate::hardware_module_name::{HardwareModuleName, ID_ON_HARDWARE_MODULE_NAME
 use std::alloc::Global;
 use x509_der::ObjectIdentifier;
 use x509_der_frames::{Any, PutPart, end, explicit, explicit_field, field};
-use x509_der_grammar::{Content, Error, Room, Tag, TryClone};
+use x509_der_grammar::{Content, Error, Room, Spelled, Tag, TryClone};
 
 /// A name of a kind that an identifier tells (RFC 5280 4.2.1.6).
 ///
@@ -79,4 +79,12 @@ impl Content for OtherName {
     }
 
     ghost contents_lawful = { grammar.other_name_contents_lawful };
+}
+
+#[tactic(auto, unfolding(crate::specs::OtherName::other_name_fields, x509_der_frames::specs::Frames::fields_good))]
+impl Spelled for OtherName {
+    fn has_spelling(&self) {
+        self.type_id.has_spelling();
+        self.value.has_spelling();
+    }
 }

@@ -5,7 +5,7 @@ use std::alloc::Global;
 use std::cmp::Ordering;
 use x509_der::{DerOrd, SetMember, SetOfVec, SetOrd, ValueOrd};
 use x509_der_frames::{PutPart, end, field};
-use x509_der_grammar::{Content, Error, Room, Tag, TryClone};
+use x509_der_grammar::{Content, Error, Room, Spelled, Tag, TryClone};
 
 /// The type of an attribute, with its values (RFC 2986 4.1). A set without values is read and written too.
 ///
@@ -60,6 +60,14 @@ impl Content for Attribute {
     }
 
     ghost contents_lawful = { grammar.attribute_contents_lawful };
+}
+
+#[tactic(auto, unfolding(crate::specs::Attribute::attribute_fields, x509_der_frames::specs::Frames::fields_good))]
+impl Spelled for Attribute {
+    fn has_spelling(&self) {
+        self.oid.has_spelling();
+        self.values.has_spelling();
+    }
 }
 
 impl ValueOrd for Attribute {

@@ -9,7 +9,7 @@ ghost use Rattle.x509_name_attribute.specs.declared.directory_string.DirectorySt
 use crate::text_ref::TextRef;
 use std::alloc::Global;
 use x509_der_frames::{Any, FromAny};
-use x509_der_grammar::{Decode, Encode, Error, Grammar, Room, Tag, TryClone};
+use x509_der_grammar::{Decode, Encode, Error, Grammar, Room, Spelled, Tag, TryClone};
 use x509_prim_text::{BmpString, PrintableString, TeletexString, Utf8String};
 
 /// A text of a name (RFC 5280 4.1.2.4). Sizes have no bounds, and there is no UniversalString.
@@ -203,4 +203,16 @@ impl Encode for DirectoryString {
     }
 
     ghost same_tag = { λ value. refl };
+}
+
+#[tactic(auto, unfolding(x509_der_frames::specs::Cases::choice_good))]
+impl Spelled for DirectoryString {
+    fn has_spelling(&self) {
+        match self {
+            DirectoryString::PrintableString(string) => string.has_spelling(),
+            DirectoryString::TeletexString(string) => string.has_spelling(),
+            DirectoryString::Utf8String(string) => string.has_spelling(),
+            DirectoryString::BmpString(string) => string.has_spelling(),
+        }
+    }
 }

@@ -12,7 +12,7 @@ use std::fmt;
 use std::hash::{Hash, Hasher};
 use x509_der::{DerOrd, SetMember, SetOrd, ValueOrd};
 use x509_der_frames::{Any, PutPart, end, field};
-use x509_der_grammar::{Content, Encode, Error, Room, Tag, TryClone};
+use x509_der_grammar::{Content, Encode, Error, Room, Spelled, Tag, TryClone};
 
 /// The type of an attribute (RFC 5280 4.1.2.4).
 pub type AttributeType = ObjectIdentifier;
@@ -110,6 +110,14 @@ impl Content for AttributeTypeAndValue {
     }
 
     ghost contents_lawful = { grammar.type_and_value_contents_lawful };
+}
+
+#[tactic(auto, unfolding(crate::specs::TypeAndValue::type_and_value_fields, x509_der_frames::specs::Frames::fields_good))]
+impl Spelled for AttributeTypeAndValue {
+    fn has_spelling(&self) {
+        self.oid.has_spelling();
+        self.value.has_spelling();
+    }
 }
 
 impl ValueOrd for AttributeTypeAndValue {

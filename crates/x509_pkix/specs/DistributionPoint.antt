@@ -4,7 +4,9 @@
 use Rattle.std.specs.Prelude.{List, Option, refl}
 use Rattle.x509_der_element.specs.declared.error.ErrorKind.{ErrorKind}
 use Rattle.x509_der_grammar.specs.Form.{Form, Contents, IsContents, universal}
-use Rattle.x509_der_frames.specs.Frames.{Part, optional, implicit, explicit, ◌⊗◌, fields}
+use Rattle.x509_der_grammar.specs.StableLaws.{with_field_stable, in_option_stable}
+use Rattle.x509_der_grammar.specs.Writing.{Writing, with_field, in_option, IsStable}
+use Rattle.x509_der_frames.specs.Frames.{Part, optional, implicit, explicit, ◌⊗◌, fields, fields_good}
 use Rattle.x509_der_frames.specs.PartRules.{part_rules}
 use Rattle.x509_ext_name.specs.DistributionPointName.{distribution_point_name, distribution_point_name_lawful}
 use Rattle.x509_ext_name.specs.GeneralName.{general_names, general_names_lawful}
@@ -46,3 +48,11 @@ freshest_crl = rounded freshest_crl_round Sequence points
 pub distribution_point_contents_lawful : {R : ErrorKind → Type 0} → IsContents R distribution_point_contents
 unfolding distribution_point_fields
 distribution_point_contents_lawful = search (part_rules, distribution_point_name_lawful, reasons_lawful, general_names_lawful) depth 20
+
+-- the reasons as they are written, the rest as it is
+abbrev pub distribution_point_writing : Writing Reasons → Writing DistributionPoint
+distribution_point_writing writing = with_field (λ d. d.reasons) (λ d r. record d { reasons = r }) (in_option writing)
+
+pub distribution_point_stable : (writing : Writing Reasons) → IsStable reasons.good writing → IsStable distribution_point.good (distribution_point_writing writing)
+unfolding distribution_point_fields fields_good
+distribution_point_stable writing stable = with_field_stable _ _ (in_option writing) (λ d r. refl) (λ d q r. refl) (λ d g. g.1.0) (λ d r g h. (g.0, (h, g.1.1))) (in_option_stable writing stable)

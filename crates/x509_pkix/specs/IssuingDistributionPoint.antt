@@ -1,12 +1,14 @@
 -- IssuingDistributionPoint: distribution_point: {0}DistributionPointName?, only_contains_user_certs: [1]BOOLEAN=FALSE,
 -- only_contains_ca_certs: [2]BOOLEAN=FALSE, only_some_reasons: [3]Reasons?, indirect_crl: [4]BOOLEAN=FALSE,
 -- only_contains_attribute_certs: [5]BOOLEAN=FALSE (RFC 5280 5.2.5)
-use Rattle.std.specs.Prelude.{ℕ, Bool, Option}
+use Rattle.std.specs.Prelude.{ℕ, Bool, Option, refl}
 use Rattle.x509_der_element.specs.declared.error.ErrorKind.{ErrorKind}
 use Rattle.x509_der_grammar.specs.Boolean.{boolean}
 use Rattle.x509_der_grammar.specs.Form.{Form, Contents, IsContents, universal}
+use Rattle.x509_der_grammar.specs.StableLaws.{with_field_stable, in_option_stable}
+use Rattle.x509_der_grammar.specs.Writing.{Writing, with_field, in_option, IsStable}
 use Rattle.x509_der_frames.specs.DefaultValues.{boolean_default}
-use Rattle.x509_der_frames.specs.Frames.{Part, optional, defaulted, implicit, explicit, ◌⊗◌, fields}
+use Rattle.x509_der_frames.specs.Frames.{Part, optional, defaulted, implicit, explicit, ◌⊗◌, fields, fields_good}
 use Rattle.x509_der_frames.specs.PartRules.{part_rules}
 use Rattle.x509_ext_name.specs.DistributionPointName.{distribution_point_name, distribution_point_name_lawful}
 use Rattle.x509_ext_name.specs.declared.distribution_point_name.DistributionPointName.{DistributionPointName}
@@ -36,3 +38,11 @@ issuing_distribution_point = universal Sequence issuing_distribution_point_conte
 pub issuing_distribution_point_contents_lawful : {R : ErrorKind → Type 0} → IsContents R issuing_distribution_point_contents
 unfolding issuing_distribution_point_fields
 issuing_distribution_point_contents_lawful = search (part_rules, distribution_point_name_lawful, reasons_lawful) depth 20
+
+-- the reasons as they are written, the rest as it is
+abbrev pub issuing_distribution_point_writing : Writing Reasons → Writing IssuingDistributionPoint
+issuing_distribution_point_writing writing = with_field (λ i. i.only_some_reasons) (λ i r. record i { only_some_reasons = r }) (in_option writing)
+
+pub issuing_distribution_point_stable : (writing : Writing Reasons) → IsStable reasons.good writing → IsStable issuing_distribution_point.good (issuing_distribution_point_writing writing)
+unfolding issuing_distribution_point_fields fields_good
+issuing_distribution_point_stable writing stable = with_field_stable _ _ (in_option writing) (λ i r. refl) (λ i q r. refl) (λ i g. g.1.0) (λ i r g h. (g.0, (h, g.1.1))) (in_option_stable writing stable)

@@ -3,8 +3,9 @@ use Rattle.std.specs.Prelude.{ℕ, List, [], ◌∷◌, codes, refl}
 use Rattle.x509_der_element.specs.declared.error.ErrorKind.{ErrorKind}
 use Rattle.x509_der_grammar.specs.Form.{Form, IsForm}
 use Rattle.x509_der_grammar.specs.Round.{Round}
-use Rattle.x509_prim.specs.NamedBits.{flag_bits}
-use Rattle.x509_prim.specs.NamedBitsLaws.{flag_bits_lawful}
+use Rattle.x509_der_grammar.specs.Writing.{IsStable}
+use Rattle.x509_prim.specs.NamedBits.{flag_bits, flag_writing}
+use Rattle.x509_prim.specs.NamedBitsLaws.{flag_bits_lawful, flag_stable}
 use Rattle.x509_pkix.specs.declared.reasons.Reasons.{Reasons}
 
 -- the named bits 0 to 8, each as the set of it alone
@@ -23,3 +24,6 @@ reasons = flag_bits reason_set reason_names
 
 pub reasons_lawful : {R : ErrorKind → Type 0} → IsForm R reasons
 reasons_lawful = flag_bits_lawful reason_set reason_names
+
+pub reasons_stable : IsStable reasons.good (flag_writing reason_set reason_names)
+reasons_stable = flag_stable reason_set reason_names

@@ -2,7 +2,7 @@
 
 use std::alloc::Global;
 use x509_der::{AssociatedOid, ObjectIdentifier};
-use x509_der_grammar::{Content, Error, Room, Tag, TryClone};
+use x509_der_grammar::{Content, Error, Room, Spelled, Tag, TryClone};
 use x509_ext_frame::{Criticality, Extension, Name, id_ce};
 use x509_prim::{NamedNumber, put_named_number, read_named_number};
 
@@ -104,6 +104,10 @@ impl Content for CrlReason {
     }
 
     ghost contents_lawful = { named_contents_lawful crl_reason_names };
+}
+
+impl Spelled for CrlReason {
+    fn has_spelling(&self) {}
 }
 
 impl AssociatedOid for CrlReason {

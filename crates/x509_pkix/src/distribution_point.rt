@@ -3,9 +3,10 @@
 use crate::ReasonFlags;
 use std::alloc::Global;
 use x509_der_frames::{
-    PutPart, end, explicit_optional, implicit_optional, optional_explicit, optional_implicit,
+    PutPart, end, explicit_optional, implicit_optional, option_has_spelling, optional_explicit,
+    optional_implicit,
 };
-use x509_der_grammar::{Content, Encode, Error, Room, Tag, TryClone};
+use x509_der_grammar::{Content, Encode, Error, Room, Spelled, Tag, TryClone};
 use x509_ext_name::{DistributionPointName, GeneralNames};
 
 /// Where a CRL is found (RFC 5280 4.2.1.13). That a place or an issuer is there, as RFC 5280
@@ -52,12 +53,11 @@ impl TryClone for DistributionPoint {
 #[tactic(auto, unfolding(crate::specs::DistributionPoint::distribution_point_fields, x509_der_frames::specs::Frames::fields_reading, x509_der_frames::specs::Frames::fields_octets), using(x509_der_frames::specs::FrameWriting::text_in_option, x509_der_frames::specs::FrameWriting::refusal_in_option))]
 impl Content for DistributionPoint {
     ghost use Rattle.x509_der_element.specs.declared.tag.Tag.TheVariants.{Sequence};
-    ghost use Rattle.x509_der_grammar.specs.Writing.{with_field, in_option};
     ghost use Rattle.x509_pkix.specs.DistributionPoint as grammar;
 
     ghost contents = { grammar.distribution_point_contents };
 
-    ghost written_as = { with_field (λ d. d.reasons) (λ d r. record d { reasons = r }) (in_option ⟦<ReasonFlags as Encode>⟧.writing) };
+    ghost written_as = { grammar.distribution_point_writing ⟦<ReasonFlags as Encode>⟧.writing };
 
     ghost IDENTIFIER = { Sequence };
 
@@ -88,4 +88,20 @@ impl Content for DistributionPoint {
     }
 
     ghost contents_lawful = { grammar.distribution_point_contents_lawful };
+}
+
+#[tactic(auto, unfolding(crate::specs::DistributionPoint::distribution_point_fields, x509_der_frames::specs::Frames::fields_good))]
+impl Spelled for DistributionPoint {
+    ghost use Rattle.std.specs.Prelude.{◌≡◌, Some, true};
+    ghost use Rattle.x509_pkix.specs.Reasons.{reason_names};
+    ghost use Rattle.x509_pkix.specs.declared.reasons.Reasons.{Reasons};
+    ghost use Rattle.x509_prim.specs.NamedBits.{has_names};
+
+    ghost premise = { λ point. (reasons : Reasons) → point.reasons ≡ Some reasons → has_names reason_names reasons.0 ≡ true };
+
+    fn has_spelling(&self) {
+        option_has_spelling(&self.distribution_point);
+        option_has_spelling(&self.reasons);
+        option_has_spelling(&self.crl_issuer);
+    }
 }

@@ -3,9 +3,9 @@
 use std::alloc::Global;
 use x509_der_frames::{
     PutPart, SequenceOf, default_implicit, end, field, implicit_default, implicit_optional,
-    optional_implicit,
+    option_has_spelling, optional_implicit,
 };
-use x509_der_grammar::{Content, Error, Room, Tag, TryClone};
+use x509_der_grammar::{Content, Error, Room, Spelled, Tag, TryClone};
 use x509_ext_name::GeneralName;
 
 /// A name with those below it (RFC 5280 4.2.1.10). That the distances are 0 and left out, as RFC 5280 wants them, isn't
@@ -82,4 +82,13 @@ impl Content for GeneralSubtree {
     }
 
     ghost contents_lawful = { grammar.general_subtree_contents_lawful };
+}
+
+#[tactic(auto, unfolding(crate::specs::GeneralSubtree::general_subtree_fields, x509_der_frames::specs::Frames::fields_good))]
+impl Spelled for GeneralSubtree {
+    fn has_spelling(&self) {
+        self.base.has_spelling();
+        self.minimum.has_spelling();
+        option_has_spelling(&self.maximum);
+    }
 }

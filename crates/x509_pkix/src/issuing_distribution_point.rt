@@ -5,9 +5,9 @@ use std::alloc::Global;
 use x509_der::{AssociatedOid, ObjectIdentifier};
 use x509_der_frames::{
     PutPart, default_implicit, end, explicit_optional, implicit_default, implicit_optional,
-    optional_explicit, optional_implicit,
+    option_has_spelling, optional_explicit, optional_implicit,
 };
-use x509_der_grammar::{Content, Encode, Error, Room, Tag, TryClone};
+use x509_der_grammar::{Content, Encode, Error, Room, Spelled, Tag, TryClone};
 use x509_ext_frame::{Criticality, Extension, Name, id_ce};
 use x509_ext_name::DistributionPointName;
 
@@ -92,12 +92,11 @@ impl TryClone for IssuingDistributionPoint {
 #[tactic(auto, unfolding(crate::specs::IssuingDistributionPoint::issuing_distribution_point_fields, x509_der_frames::specs::Frames::fields_reading, x509_der_frames::specs::Frames::fields_octets), using(x509_der_frames::specs::FrameWriting::text_in_option, x509_der_frames::specs::FrameWriting::refusal_in_option, crate::proofs::Refusals::no_refusal))]
 impl Content for IssuingDistributionPoint {
     ghost use Rattle.x509_der_element.specs.declared.tag.Tag.TheVariants.{Sequence};
-    ghost use Rattle.x509_der_grammar.specs.Writing.{with_field, in_option};
     ghost use Rattle.x509_pkix.specs.IssuingDistributionPoint as grammar;
 
     ghost contents = { grammar.issuing_distribution_point_contents };
 
-    ghost written_as = { with_field (λ i. i.only_some_reasons) (λ i r. record i { only_some_reasons = r }) (in_option ⟦<ReasonFlags as Encode>⟧.writing) };
+    ghost written_as = { grammar.issuing_distribution_point_writing ⟦<ReasonFlags as Encode>⟧.writing };
 
     ghost IDENTIFIER = { Sequence };
 
@@ -141,4 +140,19 @@ impl Content for IssuingDistributionPoint {
     }
 
     ghost contents_lawful = { grammar.issuing_distribution_point_contents_lawful };
+}
+
+#[tactic(auto, unfolding(crate::specs::IssuingDistributionPoint::issuing_distribution_point_fields, x509_der_frames::specs::Frames::fields_good))]
+impl Spelled for IssuingDistributionPoint {
+    ghost use Rattle.std.specs.Prelude.{◌≡◌, Some, true};
+    ghost use Rattle.x509_pkix.specs.Reasons.{reason_names};
+    ghost use Rattle.x509_pkix.specs.declared.reasons.Reasons.{Reasons};
+    ghost use Rattle.x509_prim.specs.NamedBits.{has_names};
+
+    ghost premise = { λ point. (reasons : Reasons) → point.only_some_reasons ≡ Some reasons → has_names reason_names reasons.0 ≡ true };
+
+    fn has_spelling(&self) {
+        option_has_spelling(&self.distribution_point);
+        option_has_spelling(&self.only_some_reasons);
+    }
 }

@@ -7,6 +7,7 @@ mod distribution_point;
 mod distribution_points;
 mod general_subtree;
 mod issuing_distribution_point;
+pub mod laws;
 mod name_constraints;
 mod reasons;
 

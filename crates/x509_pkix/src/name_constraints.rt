@@ -3,8 +3,8 @@
 use crate::general_subtree::GeneralSubtrees;
 use std::alloc::Global;
 use x509_der::{AssociatedOid, ObjectIdentifier};
-use x509_der_frames::{PutPart, end, implicit_optional, optional_implicit};
-use x509_der_grammar::{Content, Error, Room, Tag, TryClone};
+use x509_der_frames::{PutPart, end, implicit_optional, option_has_spelling, optional_implicit};
+use x509_der_grammar::{Content, Error, Room, Spelled, Tag, TryClone};
 use x509_ext_frame::{Criticality, Extension, Name, id_ce};
 
 /// What names the subjects of the certificates below an authority may have (RFC 5280 4.2.1.10). Its identifier is
@@ -91,4 +91,12 @@ impl Content for NameConstraints {
     }
 
     ghost contents_lawful = { grammar.name_constraints_contents_lawful };
+}
+
+#[tactic(auto, unfolding(crate::specs::NameConstraints::name_constraints_fields, x509_der_frames::specs::Frames::fields_good))]
+impl Spelled for NameConstraints {
+    fn has_spelling(&self) {
+        option_has_spelling(&self.permitted_subtrees);
+        option_has_spelling(&self.excluded_subtrees);
+    }
 }

@@ -3,7 +3,7 @@
 use bitflags::{Flag, Flags, bitflag_items};
 use std::alloc::Global;
 use std::cmp::Ordering;
-use x509_der_grammar::{Content, Error, Room, Tag, TryClone};
+use x509_der_grammar::{Content, Error, Room, Spelled, Tag, TryClone};
 use x509_der_order::ValueOrd;
 use x509_prim::{cmp_named_bits, put_named_bits, read_named_bits};
 
@@ -110,6 +110,18 @@ impl Content for Reasons {
     }
 
     ghost contents_lawful = { flag_contents_lawful reason_set reason_names };
+}
+
+impl Spelled for Reasons {
+    ghost use Rattle.std.specs.Prelude.{◌≡◌, true};
+    ghost use Rattle.x509_pkix.specs.Reasons.{reason_names};
+    ghost use Rattle.x509_prim.specs.NamedBits.{has_names};
+
+    ghost premise = { λ reasons. has_names reason_names reasons.0 ≡ true };
+
+    fn has_spelling(&self) {
+        let _set = self.0;
+    }
 }
 
 impl ValueOrd for Reasons {

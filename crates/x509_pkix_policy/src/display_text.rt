@@ -1,7 +1,7 @@
 //! Texts for people to read.
 
 use std::alloc::Global;
-use x509_der_grammar::{Decode, Encode, Error, Grammar, Room, Tag, TryClone};
+use x509_der_grammar::{Decode, Encode, Error, Grammar, Room, Spelled, Tag, TryClone};
 use x509_prim_text::{BmpString, Ia5String, Utf8String, VisibleString};
 
 /// Where the statement of an authority on its practices stands (RFC 5280 4.2.1.4).
@@ -119,4 +119,16 @@ impl Encode for DisplayText {
     }
 
     ghost same_tag = { λ value. refl };
+}
+
+#[tactic(auto, unfolding(x509_der_frames::specs::Cases::choice_good))]
+impl Spelled for DisplayText {
+    fn has_spelling(&self) {
+        match self {
+            DisplayText::Ia5String(string) => string.has_spelling(),
+            DisplayText::VisibleString(string) => string.has_spelling(),
+            DisplayText::BmpString(string) => string.has_spelling(),
+            DisplayText::Utf8String(string) => string.has_spelling(),
+        }
+    }
 }

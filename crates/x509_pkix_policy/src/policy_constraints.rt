@@ -2,8 +2,8 @@
 
 use std::alloc::Global;
 use x509_der::{AssociatedOid, ObjectIdentifier};
-use x509_der_frames::{PutPart, end, implicit_optional, optional_implicit};
-use x509_der_grammar::{Content, Error, Room, Tag, TryClone};
+use x509_der_frames::{PutPart, end, implicit_optional, option_has_spelling, optional_implicit};
+use x509_der_grammar::{Content, Error, Room, Spelled, Tag, TryClone};
 use x509_ext_frame::{Criticality, Extension, Name, id_ce};
 
 /// After how many further certificates of a path policies have to be acceptable, or mappings aren't followed any more
@@ -88,4 +88,12 @@ impl Content for PolicyConstraints {
     }
 
     ghost contents_lawful = { grammar.policy_constraints_contents_lawful };
+}
+
+#[tactic(auto, unfolding(crate::specs::PolicyConstraints::policy_constraints_fields, x509_der_frames::specs::Frames::fields_good))]
+impl Spelled for PolicyConstraints {
+    fn has_spelling(&self) {
+        option_has_spelling(&self.require_explicit_policy);
+        option_has_spelling(&self.inhibit_policy_mapping);
+    }
 }

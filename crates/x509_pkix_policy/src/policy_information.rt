@@ -2,8 +2,10 @@
 
 use std::alloc::Global;
 use x509_der::ObjectIdentifier;
-use x509_der_frames::{Any, PutPart, SequenceOf, end, field, optional, optional_field};
-use x509_der_grammar::{Content, Error, Room, Tag, TryClone};
+use x509_der_frames::{
+    Any, PutPart, SequenceOf, end, field, option_has_spelling, optional, optional_field,
+};
+use x509_der_grammar::{Content, Error, Room, Spelled, Tag, TryClone};
 
 /// A policy, and perhaps what qualifies it (RFC 5280 4.2.1.4).
 ///
@@ -72,6 +74,14 @@ impl Content for PolicyInformation {
     ghost contents_lawful = { grammar.policy_information_contents_lawful };
 }
 
+#[tactic(auto, unfolding(crate::specs::PolicyInformation::policy_information_fields, x509_der_frames::specs::Frames::fields_good))]
+impl Spelled for PolicyInformation {
+    fn has_spelling(&self) {
+        self.policy_identifier.has_spelling();
+        option_has_spelling(&self.policy_qualifiers);
+    }
+}
+
 /// What qualifies a policy (RFC 5280 4.2.1.4), as a [`CpsUri`](crate::CpsUri) or a [`UserNotice`](crate::UserNotice).
 ///
 /// ```text
@@ -134,4 +144,12 @@ impl Content for PolicyQualifierInfo {
     }
 
     ghost contents_lawful = { grammar.policy_qualifier_info_contents_lawful };
+}
+
+#[tactic(auto, unfolding(crate::specs::PolicyQualifierInfo::policy_qualifier_info_fields, x509_der_frames::specs::Frames::fields_good))]
+impl Spelled for PolicyQualifierInfo {
+    fn has_spelling(&self) {
+        self.policy_qualifier_id.has_spelling();
+        option_has_spelling(&self.qualifier);
+    }
 }

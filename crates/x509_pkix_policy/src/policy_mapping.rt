@@ -3,7 +3,7 @@
 use std::alloc::Global;
 use x509_der::{AssociatedOid, ObjectIdentifier};
 use x509_der_frames::{PutPart, SequenceOf, end, field};
-use x509_der_grammar::{Content, Error, Newtype, Room, Tag, TryClone};
+use x509_der_grammar::{Content, Error, Newtype, Room, Spelled, Tag, TryClone};
 use x509_ext_frame::{Criticality, Extension, Name, id_ce};
 
 /// A policy of the issuer, and one of the subject that the issuer takes for it (RFC 5280 4.2.1.5).
@@ -66,6 +66,14 @@ impl Content for PolicyMapping {
     }
 
     ghost contents_lawful = { grammar.policy_mapping_contents_lawful };
+}
+
+#[tactic(auto, unfolding(crate::specs::PolicyMapping::policy_mapping_fields, x509_der_frames::specs::Frames::fields_good))]
+impl Spelled for PolicyMapping {
+    fn has_spelling(&self) {
+        self.issuer_domain_policy.has_spelling();
+        self.subject_domain_policy.has_spelling();
+    }
 }
 
 /// Which policies of the subject stand for which of the issuer (RFC 5280 4.2.1.5). Its identifier is 2.5.29.33, and it is

@@ -2,8 +2,10 @@
 
 use crate::display_text::DisplayText;
 use std::alloc::Global;
-use x509_der_frames::{PutPart, SequenceOf, end, field, optional, optional_field};
-use x509_der_grammar::{Content, Error, Room, Tag, TryClone};
+use x509_der_frames::{
+    PutPart, SequenceOf, end, field, option_has_spelling, optional, optional_field,
+};
+use x509_der_grammar::{Content, Error, Room, Spelled, Tag, TryClone};
 use x509_prim::Uint;
 
 /// A notice to whoever relies on the certificate (RFC 5280 4.2.1.4).
@@ -70,6 +72,14 @@ impl Content for UserNotice {
     ghost contents_lawful = { grammar.user_notice_contents_lawful };
 }
 
+#[tactic(auto, unfolding(crate::specs::UserNotice::user_notice_fields, x509_der_frames::specs::Frames::fields_good))]
+impl Spelled for UserNotice {
+    fn has_spelling(&self) {
+        option_has_spelling(&self.notice_ref);
+        option_has_spelling(&self.explicit_text);
+    }
+}
+
 /// Texts of notices by their numbers (RFC 5280 4.2.1.4). The numbers may be left out.
 ///
 /// ```text
@@ -132,4 +142,12 @@ impl Content for NoticeReference {
     }
 
     ghost contents_lawful = { grammar.notice_reference_contents_lawful };
+}
+
+#[tactic(auto, unfolding(crate::specs::NoticeReference::notice_reference_fields, x509_der_frames::specs::Frames::fields_good))]
+impl Spelled for NoticeReference {
+    fn has_spelling(&self) {
+        self.organization.has_spelling();
+        option_has_spelling(&self.notice_numbers);
+    }
 }

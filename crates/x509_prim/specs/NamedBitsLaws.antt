@@ -8,11 +8,12 @@ use Rattle.x509_der_element.specs.declared.error.ErrorKind.TheVariants.{Memory, 
 use Rattle.x509_der_element.specs.declared.tag.Tag.TheVariants.{BitString}
 use Rattle.x509_der_grammar.specs.Form.{IsForm, IsContents}
 use Rattle.x509_der_grammar.specs.FormLaws.{universal_lawful}
-use Rattle.x509_der_grammar.specs.Round.{Round, round_lawful}
+use Rattle.x509_der_grammar.specs.Round.{Round, round_lawful, round_stable}
+use Rattle.x509_der_grammar.specs.Writing.{respelling, IsStable}
 use Rattle.x509_der_element.specs.declared.error.Error.{Error}
 use Rattle.x509_der_element.specs.Outcome.{◌>>=◌, IsRefusal, GivesBy, Gives}
 use Rattle.x509_der_element.specs.OutcomeLaws.{ok_is, test_ok, test_err}
-use Rattle.x509_prim.specs.NamedBits.{turned, unused_after, set_octets, ends, set_at, has_names, named, named_reading, named_contents, flag_contents, flag_bits}
+use Rattle.x509_prim.specs.NamedBits.{turned, unused_after, set_octets, ends, set_at, has_names, named, named_reading, named_contents, named_written, flag_contents, flag_bits, flag_writing}
 use Rattle.x509_prim.specs.Below.{all_below, all_below-at}
 
 -- ---- octets
@@ -166,3 +167,12 @@ flag_is_read round table (Err e) octets r = refused e.kind (named_reading table 
     refused Failed reading r = rw r refl
     refused SetDuplicate reading r = rw r refl
     refused Value reading r = rw r refl
+
+-- ---- what is written once more
+
+-- a set that isn't refused is written as it is
+pub named_stable : (table : List (List ℕ × ℕ)) → IsStable (named_contents table).good (respelling (named_written table))
+named_stable table = record { kept = λ set good free. good; again = λ set good free. rw free refl }
+
+pub flag_stable : {T : Type 0} (round : Round T ℕ) (table : List (List ℕ × ℕ)) → IsStable (flag_contents round table).good (flag_writing round table)
+flag_stable round table = round_stable round (respelling (named_written table)) (named_stable table)

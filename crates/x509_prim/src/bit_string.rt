@@ -9,7 +9,8 @@ use std::cmp::Ordering;
 use std::fmt;
 use std::marker::Model;
 use x509_der_order::{
-    Bytes, Content, EncodingOrd, Error, ErrorKind, Room, SetMember, SetOrd, Tag, TryClone, ValueOrd,
+    Bytes, Content, EncodingOrd, Error, ErrorKind, Room, SetMember, SetOrd, Spelled, Tag, TryClone,
+    ValueOrd,
 };
 
 /// A list of bits (X.690 8.6). Contracts see the octets in which they stand, bit 8 of the first octet first, and
@@ -133,6 +134,12 @@ impl Content for BitString {
     }
 
     ghost contents_lawful = { bit_string_contents_lawful };
+}
+
+impl Spelled for BitString {
+    fn has_spelling(&self) {
+        let _unused = self.unused_bits();
+    }
 }
 
 impl ValueOrd for BitString {

@@ -16,7 +16,7 @@ use std::cmp::Ordering;
 use std::fmt;
 use std::hash::{Hash, Hasher};
 use std::marker::Model;
-use x509_der_grammar::{Bytes, Content, Error, ErrorKind, Room, Tag, TryClone};
+use x509_der_grammar::{Bytes, Content, Error, ErrorKind, Room, Spelled, Tag, TryClone};
 use x509_der_order::{EncodingOrd, SetMember, SetOrd, ValueOrd};
 
 /// A whole number of any size (X.690 8.3). Contracts see its content octets.
@@ -95,6 +95,12 @@ impl Content for Int {
     }
 
     ghost contents_lawful = { integer_contents_lawful };
+}
+
+impl Spelled for Int {
+    fn has_spelling(&self) {
+        let _content = self.as_bytes();
+    }
 }
 
 impl ValueOrd for Int {

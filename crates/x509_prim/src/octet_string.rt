@@ -17,7 +17,7 @@ use std::fmt;
 use std::hash::{Hash, Hasher};
 use std::marker::Model;
 use x509_der_order::{
-    Bytes, Content, EncodingOrd, Error, Room, SetMember, SetOrd, Tag, TryClone, ValueOrd,
+    Bytes, Content, EncodingOrd, Error, Room, SetMember, SetOrd, Spelled, Tag, TryClone, ValueOrd,
     check_content,
 };
 
@@ -99,6 +99,10 @@ impl Content for OctetString {
     }
 
     ghost contents_lawful = { octet_string_contents_lawful };
+}
+
+impl Spelled for OctetString {
+    fn has_spelling(&self) {}
 }
 
 impl ValueOrd for OctetString {

@@ -16,7 +16,7 @@ use std::cmp::Ordering;
 use std::fmt;
 use std::hash::{Hash, Hasher};
 use std::marker::Model;
-use x509_der_grammar::{Bytes, Content, Error, ErrorKind, Room, Tag, TryClone};
+use x509_der_grammar::{Bytes, Content, Error, ErrorKind, Room, Spelled, Tag, TryClone};
 use x509_der_order::{EncodingOrd, SetMember, SetOrd, ValueOrd};
 
 /// A whole number of any size that is not negative (X.690 8.3). Contracts see its content octets.
@@ -118,6 +118,12 @@ impl Content for Uint {
     }
 
     ghost contents_lawful = { unsigned_integer_contents_lawful };
+}
+
+impl Spelled for Uint {
+    fn has_spelling(&self) {
+        let _content = &self.content;
+    }
 }
 
 impl ValueOrd for Uint {

@@ -17,7 +17,7 @@ use std::fmt;
 use std::hash::{Hash, Hasher};
 use std::marker::Model;
 use x509_der_frames::{Any, FromAny};
-use x509_der_grammar::{Bytes, Content, Error, ErrorKind, Room, Tag, TryClone};
+use x509_der_grammar::{Bytes, Content, Error, ErrorKind, Room, Spelled, Tag, TryClone};
 use x509_der_order::{EncodingOrd, SetMember, SetOrd, ValueOrd};
 
 /// A BMPString (X.680 41.15, X.690 8.23.8): characters of the basic multilingual plane. Contracts see their octets,
@@ -169,6 +169,12 @@ impl Content for BmpString {
     }
 
     ghost contents_lawful = { tested_contents_lawful is_bmp };
+}
+
+impl Spelled for BmpString {
+    fn has_spelling(&self) {
+        let _octets = self.as_bytes();
+    }
 }
 
 impl ValueOrd for BmpString {

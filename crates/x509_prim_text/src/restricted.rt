@@ -18,7 +18,7 @@ use std::fmt;
 use std::hash::{Hash, Hasher};
 use std::marker::{Model, PhantomData};
 use x509_der_frames::{Any, FromAny};
-use x509_der_grammar::{Content, Error, ErrorKind, Room, Tag, TryClone};
+use x509_der_grammar::{Content, Error, ErrorKind, Room, Spelled, Tag, TryClone};
 use x509_der_order::{EncodingOrd, SetMember, SetOrd, ValueOrd};
 
 /// A text of a restricted character string type (X.680 41). Contracts see its octets, one for each character.
@@ -99,6 +99,12 @@ impl<A: Alphabet> Content for RestrictedString<A> {
     }
 
     ghost contents_lawful = { tested_contents_lawful (list_all A.has_char) };
+}
+
+impl<A: Alphabet> Spelled for RestrictedString<A> {
+    fn has_spelling(&self) {
+        let _text = self.as_str();
+    }
 }
 
 impl<A: Alphabet> ValueOrd for RestrictedString<A> {

@@ -18,7 +18,7 @@ use std::fmt;
 use std::hash::{Hash, Hasher};
 use std::marker::Model;
 use x509_der_frames::{Any, FromAny};
-use x509_der_grammar::{AnyRef, Content, Error, ErrorKind, Room, Tag, TryClone};
+use x509_der_grammar::{AnyRef, Content, Error, ErrorKind, Room, Spelled, Tag, TryClone};
 use x509_der_order::{EncodingOrd, SetMember, SetOrd, ValueOrd};
 
 /// A UTF8String (X.680 41.16, X.690 8.23.10). Contracts see the UTF-8 octets of its characters.
@@ -108,6 +108,12 @@ impl Content for Utf8String {
     }
 
     ghost contents_lawful = { tested_contents_lawful is_utf8 };
+}
+
+impl Spelled for Utf8String {
+    fn has_spelling(&self) {
+        let _text = self.as_str();
+    }
 }
 
 impl ValueOrd for Utf8String {

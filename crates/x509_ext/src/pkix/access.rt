@@ -5,7 +5,7 @@ ghost use Rattle.std.specs.Prelude.{◌≡◌, []};
 use std::alloc::Global;
 use x509_der::{AssociatedOid, ObjectIdentifier};
 use x509_der_frames::{PutPart, SequenceOf, end, field};
-use x509_der_grammar::{Content, Error, Newtype, Room, Tag, TryClone};
+use x509_der_grammar::{Content, Error, Newtype, Room, Spelled, Tag, TryClone};
 use x509_ext_frame::{Criticality, Extension, id_pkix};
 use x509_ext_name::{GeneralName, Name};
 
@@ -62,6 +62,14 @@ impl Content for AccessDescription {
     }
 
     ghost contents_lawful = { grammar.access_description_contents_lawful };
+}
+
+#[tactic(auto, unfolding(crate::specs::Access::access_description_fields, x509_der_frames::specs::Frames::fields_good))]
+impl Spelled for AccessDescription {
+    fn has_spelling(&self) {
+        self.access_method.has_spelling();
+        self.access_location.has_spelling();
+    }
 }
 
 /// Where more is found out about the issuer, as its certificates or the state of those that it issued (RFC 5280 4.2.2.1).

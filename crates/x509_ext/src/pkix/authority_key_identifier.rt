@@ -8,8 +8,8 @@ use crate::pkix::key_identifier;
 use std::alloc::Global;
 use x509_base::{SerialNumber, SubjectPublicKeyInfoRef};
 use x509_der::{AssociatedOid, ObjectIdentifier};
-use x509_der_frames::{PutPart, end, implicit_optional, optional_implicit};
-use x509_der_grammar::{Content, Error, Room, Tag, TryClone};
+use x509_der_frames::{PutPart, end, implicit_optional, option_has_spelling, optional_implicit};
+use x509_der_grammar::{Content, Error, Room, Spelled, Tag, TryClone};
 use x509_ext_frame::{Criticality, Extension, id_ce};
 use x509_ext_name::{GeneralNames, Name};
 use x509_prim::OctetString;
@@ -140,4 +140,18 @@ impl Content for AuthorityKeyIdentifier {
     }
 
     ghost contents_lawful = { grammar.authority_key_identifier_contents_lawful };
+}
+
+#[tactic(auto, unfolding(crate::specs::AuthorityKeyIdentifier::authority_key_identifier_fields, x509_der_frames::specs::Frames::fields_good))]
+impl Spelled for AuthorityKeyIdentifier {
+    ghost use Rattle.std.specs.Prelude.{◌≡◌, ℕ, List, Some, Ok};
+    ghost use Rattle.x509_base_time.specs.Profiles.{rfc5280_serial_number};
+
+    ghost premise = { λ key. (serial : List ℕ) → key.authority_cert_serial_number ≡ Some serial → rfc5280_serial_number serial ≡ Ok tt };
+
+    fn has_spelling(&self) {
+        option_has_spelling(&self.key_identifier);
+        option_has_spelling(&self.authority_cert_issuer);
+        option_has_spelling(&self.authority_cert_serial_number);
+    }
 }

@@ -2,8 +2,10 @@
 
 use std::alloc::Global;
 use x509_der::{AssociatedOid, ObjectIdentifier};
-use x509_der_frames::{PutPart, default_field, defaulted, end, optional, optional_field};
-use x509_der_grammar::{Content, Error, Room, Tag, TryClone};
+use x509_der_frames::{
+    PutPart, default_field, defaulted, end, option_has_spelling, optional, optional_field,
+};
+use x509_der_grammar::{Content, Error, Room, Spelled, Tag, TryClone};
 use x509_ext_frame::{Criticality, Extension, Name, id_ce};
 
 /// Whether a certificate is that of an authority, and how many more authorities may stand below it (RFC 5280 4.2.1.9).
@@ -85,4 +87,12 @@ impl Content for BasicConstraints {
     }
 
     ghost contents_lawful = { grammar.basic_constraints_contents_lawful };
+}
+
+#[tactic(auto, unfolding(crate::specs::BasicConstraints::basic_constraints_fields, x509_der_frames::specs::Frames::fields_good))]
+impl Spelled for BasicConstraints {
+    fn has_spelling(&self) {
+        self.ca.has_spelling();
+        option_has_spelling(&self.path_len_constraint);
+    }
 }

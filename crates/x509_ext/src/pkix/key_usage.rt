@@ -7,7 +7,7 @@ use bitflags::{Flag, Flags, bitflag_items};
 use std::alloc::Global;
 use std::cmp::Ordering;
 use x509_der::{AssociatedOid, ObjectIdentifier};
-use x509_der_grammar::{Content, Error, Newtype, Room, Tag, TryClone};
+use x509_der_grammar::{Content, Error, Newtype, Room, Spelled, Tag, TryClone};
 use x509_der_order::{NewtypeOrd, ValueOrd};
 use x509_ext_frame::{Criticality, Extension, Name, id_ce};
 use x509_prim::{cmp_named_bits, put_named_bits, read_named_bits};
@@ -99,6 +99,18 @@ impl Content for KeyUsages {
     }
 
     ghost contents_lawful = { flag_contents_lawful key_usage_set key_usage_names };
+}
+
+impl Spelled for KeyUsages {
+    ghost use Rattle.std.specs.Prelude.{true};
+    ghost use Rattle.x509_ext.specs.KeyUsage.{key_usage_names};
+    ghost use Rattle.x509_prim.specs.NamedBits.{has_names};
+
+    ghost premise = { λ usages. has_names key_usage_names usages.0 ≡ true };
+
+    fn has_spelling(&self) {
+        let _set = self.0;
+    }
 }
 
 impl ValueOrd for KeyUsages {

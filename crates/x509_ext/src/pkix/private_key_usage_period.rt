@@ -3,8 +3,8 @@
 use std::alloc::Global;
 use x509_base_time::GeneralizedTime;
 use x509_der::{AssociatedOid, ObjectIdentifier};
-use x509_der_frames::{PutPart, end, implicit_optional, optional_implicit};
-use x509_der_grammar::{Content, Error, Room, Tag, TryClone};
+use x509_der_frames::{PutPart, end, implicit_optional, option_has_spelling, optional_implicit};
+use x509_der_grammar::{Content, Error, Room, Spelled, Tag, TryClone};
 use x509_ext_frame::{Criticality, Extension, Name, id_ce};
 
 /// From when and until when the private key may sign, where that differs from when its certificate holds (X.509
@@ -89,4 +89,12 @@ impl Content for PrivateKeyUsagePeriod {
     }
 
     ghost contents_lawful = { grammar.private_key_usage_period_contents_lawful };
+}
+
+#[tactic(auto, unfolding(crate::specs::PrivateKeyUsagePeriod::private_key_usage_period_fields, x509_der_frames::specs::Frames::fields_good))]
+impl Spelled for PrivateKeyUsagePeriod {
+    fn has_spelling(&self) {
+        option_has_spelling(&self.not_before);
+        option_has_spelling(&self.not_after);
+    }
 }

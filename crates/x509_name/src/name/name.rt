@@ -11,7 +11,7 @@ use std::cmp::Ordering;
 use std::hash::{Hash, Hasher};
 use std::marker::Model;
 use x509_der::{DerOrd, ValueOrd};
-use x509_der_grammar::{Content, Error, Room, Tag, TryClone};
+use x509_der_grammar::{Content, Error, Room, Spelled, Tag, TryClone};
 
 /// The name of an issuer or a subject (RFC 5280 4.1.2.4). Contracts see the list of its relative distinguished names.
 ///
@@ -130,6 +130,12 @@ impl Content for Name {
     }
 
     ghost contents_lawful = { grammar.rdn_sequence_contents_lawful };
+}
+
+impl Spelled for Name {
+    fn has_spelling(&self) {
+        self.0.has_spelling();
+    }
 }
 
 impl ValueOrd for Name {
