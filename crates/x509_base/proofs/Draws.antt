@@ -1,16 +1,16 @@
 -- Fills, one after the other, and the number of one.
-use Rattle.std.proofs.Common.{◌≡◌, ◌≢◌, ℕ, ◌+◌, ◌<◌, List, ◌++◌, length, take, drop, ◌-◌, ◌≤◌, ◌⊎◌, inr, Result, Ok, Err, length-append, length-drop, refl, sym, ap, ◌∙◌, add-one, arith, get_or, below_more}
-use Rattle.std.specs.Prelude.{IfOk, IfErr}
+use Rattle.std.proofs.Common.{◌≡◌, ◌≢◌, ℕ, ◌+◌, ◌<◌, List, ◌++◌, length, take, drop, ◌-◌, ◌≤◌, Result, Ok, Err, length-append, length-drop, refl, sym, ap, ◌∙◌, add-one, arith, get_or, below_more}
+use Rattle.std.specs.Prelude.{IfOk, IfErr, IsOk}
+use Rattle.std.proofs.lemmas.Bool.{false≢true}
 use Rattle.std.proofs.lemmas.List.{length-take}
 use Rattle.std.proofs.Math.Seq.{take-append_seam}
 use Rattle.std.proofs.lemmas.Slice.{take-put_mid}
 use borrow.Rule.Slice.PartMut.{put_mid}
 use Rattle.x509_der_element.specs.declared.error.Error.{Error}
-use Rattle.x509_der_element.specs.declared.error.ErrorKind.TheVariants as errors
 use Rattle.x509_base.specs.Serial.{number_content}
 use Rattle.x509_prim.proofs.NumberTypes.{length_content}
 use Rattle.rand_core.specs.Stream.{Stream, fill_bytes}
-use Rattle.x509_base.specs.Fills.{after_fills, fill_after, BeginWithZero, Draws, GivesZeros}
+use Rattle.x509_base.specs.Fills.{after_fills, fill_after, BeginWithZero, Draws}
 
 pub no_fills : (size : ℕ) (source : Stream) → source ≡ after_fills size source 0
 unfolding after_fills
@@ -55,11 +55,10 @@ pub made_of : (r : Result (List ℕ) Error) (octets prefix fill : List ℕ) (n :
 made_of (Ok serial) octets prefix fill n source left h is draws = (fill, draws, h ∙ ap number_content is)
 made_of (Err e) octets prefix fill n source left h is draws = tt
 
-pub refused_of : (r : Result (List ℕ) Error) (octets prefix fill : List ℕ) (n : ℕ) (source left : Stream)
-    → (0 < length octets → length (number_content octets) ≤ 20 → IfErr r (λ e. e.kind ≡ errors.Memory))
-    → octets ≡ prefix ++ fill → 0 < length fill → length prefix + length fill ≤ 19 → Draws n source fill left
-    → IfErr r (λ e. ((e.kind ≡ errors.Failed) × GivesZeros n source left) ⊎ ((e.kind ≡ errors.Memory) × ((x : List ℕ) × Draws n source x left)))
-refused_of (Ok serial) octets prefix fill n source left h is some few draws = tt
-refused_of (Err e) octets prefix fill n source left h is some few draws =
+pub never_refused : (r : Result (List ℕ) Error) (octets prefix fill : List ℕ) (Refusal : Error → Type 0)
+    → (0 < length octets → length (number_content octets) ≤ 20 → IsOk r)
+    → octets ≡ prefix ++ fill → 0 < length fill → length prefix + length fill ≤ 19 → IfErr r Refusal
+never_refused (Ok serial) octets prefix fill Refusal h is some few = tt
+never_refused (Err e) octets prefix fill Refusal h is some few =
     let all : length octets ≡ length prefix + length fill = ap length is ∙ length-append prefix fill in
-    inr (h (omega arith) (omega (arith, length_content octets)), (fill, draws))
+    absurd (false≢true (h (omega arith) (omega (arith, length_content octets))))

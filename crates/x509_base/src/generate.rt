@@ -1,6 +1,6 @@
 //! Serial numbers from a source of random bytes.
 
-ghost use Rattle.std.specs.Prelude.{◌≡◌, ◌<◌, ◌⊎◌, ℕ, List, true, false, ◌++◌, length, IfOk, IfErr, IsErrAnd, OnOk};
+ghost use Rattle.std.specs.Prelude.{◌≡◌, ◌<◌, ℕ, List, true, false, ◌++◌, length, IfOk, IfErr, IsErrAnd, OnOk};
 ghost use Rattle.x509_der_element.specs.declared.error.ErrorKind.TheVariants as errors;
 ghost use Rattle.x509_base.specs.Fills.{are_lengths, Draws, GivesZeros};
 ghost use Rattle.x509_base.specs.Serial.{number_content};
@@ -26,10 +26,10 @@ impl<P: Profile> SerialNumber<P> {
     ///
     /// # Errors
     ///
-    /// `Failed` where each of the 64 fills begins with a zero. Memory may be refused after the fills.
+    /// `Failed` where each of the 64 fills begins with a zero. No memory is taken.
     pub fn generate<R: Rng>(alloc: Global, rng: &mut R) -> Result<SerialNumber<P>, Error>
         ensures ok { IfOk result (λ serial. (fill : List ℕ) × Draws 17 (R.stream rng.old) fill (R.stream rng.new) × (serial ≡ number_content fill)) }
-        ensures err { IfErr result (λ e. ((e.kind ≡ errors.Failed) × GivesZeros 17 (R.stream rng.old) (R.stream rng.new)) ⊎ ((e.kind ≡ errors.Memory) × ((fill : List ℕ) × Draws 17 (R.stream rng.old) fill (R.stream rng.new)))) }
+        ensures err { IfErr result (λ e. (e.kind ≡ errors.Failed) × GivesZeros 17 (R.stream rng.old) (R.stream rng.new)) }
     {
         SerialNumber::generate_with_prefix(alloc, &[], 17, rng)
     }
@@ -40,7 +40,7 @@ impl<P: Profile> SerialNumber<P> {
     /// # Errors
     ///
     /// `Failed` where fewer than 8 random bytes are asked for, or more than 19 octets in all; then no fill is made.
-    /// `Failed` where each of the 64 fills begins with a zero. Memory may be refused after the fills.
+    /// `Failed` where each of the 64 fills begins with a zero. No memory is taken.
     pub fn generate_with_prefix<R: Rng>(
         alloc: Global,
         prefix: &[u8],
@@ -49,7 +49,7 @@ impl<P: Profile> SerialNumber<P> {
     ) -> Result<SerialNumber<P>, Error>
         ensures lengths { are_lengths prefix.now rand_len ≡ false → IsErrAnd result (λ e. (e.kind ≡ errors.Failed) × (rng.new ≡ rng.old)) }
         ensures ok { IfOk result (λ serial. (fill : List ℕ) × Draws rand_len (R.stream rng.old) fill (R.stream rng.new) × (serial ≡ number_content (prefix.now ++ fill))) }
-        ensures err { are_lengths prefix.now rand_len ≡ true → IfErr result (λ e. ((e.kind ≡ errors.Failed) × GivesZeros rand_len (R.stream rng.old) (R.stream rng.new)) ⊎ ((e.kind ≡ errors.Memory) × ((fill : List ℕ) × Draws rand_len (R.stream rng.old) fill (R.stream rng.new)))) }
+        ensures err { are_lengths prefix.now rand_len ≡ true → IfErr result (λ e. (e.kind ≡ errors.Failed) × GivesZeros rand_len (R.stream rng.old) (R.stream rng.new)) }
     {
         if rand_len < FEWEST_RANDOM
             || rand_len > MOST_OCTETS

@@ -1,6 +1,6 @@
 //! Serial numbers.
 
-ghost use Rattle.std.specs.Prelude.{◌≡◌, ◌<◌, ◌≤◌, true, [], length, bytes_eq, IfOk, IfErr, IsErrAnd};
+ghost use Rattle.std.specs.Prelude.{◌≡◌, ◌<◌, ◌≤◌, true, [], length, bytes_eq, IfOk, IsOk, IsOkAnd, IsErrAnd};
 ghost use Rattle.std.proofs.Common.{rules};
 ghost use Rattle.std.specs.Hash as fed;
 ghost use Rattle.std.specs.Cmp.{partial_equiv_from_equiv};
@@ -52,13 +52,13 @@ impl<P: Profile> SerialNumber<P> {
     /// # Errors
     ///
     /// `Value` where there are no octets; `Overlength` where the content has more than [`SerialNumber::MAX_LEN`] octets,
-    /// the first of which may be there for the sign. Memory may be refused for any other number.
+    /// the first of which may be there for the sign. Any other number is taken, without memory.
     pub fn new(alloc: Global, octets: &[u8]) -> Result<SerialNumber<P>, Error>
         ensures value { IfOk result (λ serial. serial ≡ number_content octets.now) }
         ensures number { IfOk result (λ serial. number serial ≡ number octets.now) }
         ensures empty { octets.now ≡ [] → IsErrAnd result (λ e. e.kind ≡ errors.Value) }
         ensures overlength { 20 < length (number_content octets.now) → IsErrAnd result (λ e. e.kind ≡ errors.Overlength) }
-        ensures err { 0 < length octets.now → length (number_content octets.now) ≤ 20 → IfErr result (λ e. e.kind ≡ errors.Memory) }
+        ensures taken { 0 < length octets.now → length (number_content octets.now) ≤ 20 → IsOk result }
     {
         if octets.is_empty() {
             return Err(ErrorKind::Value.into());
@@ -69,43 +69,38 @@ impl<P: Profile> SerialNumber<P> {
         Ok(SerialNumber::from_number(Int::from(Uint::new(alloc, octets)?)))
     }
 
-    /// The serial number with that value. Memory may be refused, and nothing else.
+    /// The serial number with that value. It takes no memory and is never refused.
     pub fn from_u8(alloc: Global, number: u8) -> Result<SerialNumber<P>, Error>
-        ensures ok { IfOk result (λ serial. serial ≡ natural_octets number) }
-        ensures err { IfErr result (λ e. e.kind ≡ errors.Memory) }
+        ensures { IsOkAnd result (λ serial. serial ≡ natural_octets number) }
     {
         SerialNumber::from_u16(alloc, u16::from(number))
     }
 
-    /// The serial number with that value. Memory may be refused, and nothing else.
+    /// The serial number with that value. It takes no memory and is never refused.
     pub fn from_u16(alloc: Global, number: u16) -> Result<SerialNumber<P>, Error>
-        ensures ok { IfOk result (λ serial. serial ≡ natural_octets number) }
-        ensures err { IfErr result (λ e. e.kind ≡ errors.Memory) }
+        ensures { IsOkAnd result (λ serial. serial ≡ natural_octets number) }
     {
         SerialNumber::from_u32(alloc, u32::from(number))
     }
 
-    /// The serial number with that value. Memory may be refused, and nothing else.
+    /// The serial number with that value. It takes no memory and is never refused.
     pub fn from_u32(alloc: Global, number: u32) -> Result<SerialNumber<P>, Error>
-        ensures ok { IfOk result (λ serial. serial ≡ natural_octets number) }
-        ensures err { IfErr result (λ e. e.kind ≡ errors.Memory) }
+        ensures { IsOkAnd result (λ serial. serial ≡ natural_octets number) }
     {
         SerialNumber::from_u64(alloc, u64::from(number))
     }
 
-    /// The serial number with that value. Memory may be refused, and nothing else.
+    /// The serial number with that value. It takes no memory and is never refused.
     pub fn from_u64(alloc: Global, number: u64) -> Result<SerialNumber<P>, Error>
-        ensures ok { IfOk result (λ serial. serial ≡ natural_octets number) }
-        ensures err { IfErr result (λ e. e.kind ≡ errors.Memory) }
+        ensures { IsOkAnd result (λ serial. serial ≡ natural_octets number) }
     {
         let uint = Uint::from_u128(alloc, u128::from(number))?;
         Ok(SerialNumber::from_number(Int::from(uint)))
     }
 
-    /// The serial number with that value. Memory may be refused, and nothing else.
+    /// The serial number with that value. It takes no memory and is never refused.
     pub fn from_usize(alloc: Global, number: usize) -> Result<SerialNumber<P>, Error>
-        ensures ok { IfOk result (λ serial. serial ≡ natural_octets number) }
-        ensures err { IfErr result (λ e. e.kind ≡ errors.Memory) }
+        ensures { IsOkAnd result (λ serial. serial ≡ natural_octets number) }
     {
         SerialNumber::from_u64(alloc, number as u64)
     }

@@ -76,7 +76,7 @@ impl<T> Members<T> {
     where
         T: Drop,
         ensures ok { IfOk result (λ items. items.items ≡ self) }
-        ensures err { IfErr result (λ e. e.kind ≡ Memory) }
+        ensures err { IfErr result (λ e. (e.kind ≡ Memory) × (length self ≡ 1)) }
     {
         let Members { kept } = self;
         match kept {

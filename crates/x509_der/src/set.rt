@@ -143,7 +143,7 @@ impl<T: SetMember> SetOfVec<T> {
     where
         T: Drop,
         ensures members { IfOk result (λ members. members.items ≡ self) }
-        ensures err { IfErr result (λ e. e.kind ≡ errors.Memory) }
+        ensures err { IfErr result (λ e. (e.kind ≡ errors.Memory) × (length self ≡ 1)) }
         ensures sorted { IsStrictlySortedBy (der_order T.form (writes T.writing) T.order) self }
     {
         let SetOfVec { members } = self;

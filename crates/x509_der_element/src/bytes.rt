@@ -1,6 +1,6 @@
 //! Octets that a value owns.
 
-ghost use Rattle.std.specs.Prelude.{◌≡◌, ◌<◌, length, IfOk, IfErr, bytes_eq};
+ghost use Rattle.std.specs.Prelude.{◌≡◌, ◌<◌, ◌≤◌, length, IfOk, IfErr, bytes_eq};
 ghost use Rattle.std.proofs.Common.{rules};
 ghost use Rattle.std.specs.Hash as fed;
 ghost use Rattle.std.specs.Cmp.{partial_equiv_from_equiv};
@@ -86,10 +86,11 @@ impl Bytes {
         }
     }
 
-    /// The vector of the octets. Those inside the value are copied, for which memory may be refused.
+    /// The vector of the octets. Those inside the value are copied, for which memory may be refused; more than 24 lie in
+    /// memory of their own, and are not.
     pub fn into_vec(self) -> Result<Vec<u8>, Error>
         ensures ok { IfOk result (λ octets. octets.items ≡ self) }
-        ensures err { IfErr result (λ e. e.kind ≡ Memory) }
+        ensures err { IfErr result (λ e. (e.kind ≡ Memory) × (length self ≤ 24)) }
     {
         let Bytes { place } = self;
         match place {

@@ -36,11 +36,11 @@ fn drop_front(octets: &mut Vec<u8>, count: usize)
 
 impl Any {
     /// The element with the identifier and a copy of the content; `Overlength` exactly where it would be longer
-    /// than `Length::MAX`. Memory may be refused.
+    /// than `Length::MAX`. More than 24 octets of content take memory, which may be refused.
     pub fn new(alloc: Global, tag: Tag, bytes: &[u8]) -> Result<Any, Error>
         ensures ok { IfOk result (λ any. (any.tag ≡ tag) × (any.value ≡ bytes.now)) }
         ensures overlength { limit < length (element (octet_of tag) bytes.now) → IsErrAnd result (λ e. e.kind ≡ errors.Overlength) }
-        ensures err { length (element (octet_of tag) bytes.now) ≤ limit → IfErr result (λ e. e.kind ≡ errors.Memory) }
+        ensures err { length (element (octet_of tag) bytes.now) ≤ limit → IfErr result (λ e. (e.kind ≡ errors.Memory) × (24 < length bytes.now)) }
     {
         check_content(bytes)?;
         Ok(Any {

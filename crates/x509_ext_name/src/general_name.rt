@@ -1,7 +1,6 @@
-//! Names of many kinds.
+//! General names.
 
-ghost use Rattle.std.specs.Prelude.{◌≡◌, ◌<◌, length, IfOk, IfErr};
-ghost use Rattle.x509_der_element.specs.declared.error.ErrorKind.TheVariants.{Memory};
+ghost use Rattle.std.specs.Prelude.{◌≡◌, ◌≤◌, length, IsOkAnd};
 ghost use Rattle.x509_ext_name.specs.GeneralName.{address_octets, ip_of};
 ghost use Rattle.x509_ext_name.specs.declared.general_name.GeneralName.TheVariants as names;
 
@@ -91,10 +90,9 @@ impl Drop for GeneralName {
 pub type GeneralNames = SequenceOf<GeneralName>;
 
 impl GeneralName {
-    /// The name that is the address. Memory may be refused, and nothing else.
+    /// The name that is the address. It takes no memory and is never refused.
     pub fn from_ip(alloc: Global, address: IpAddress) -> Result<GeneralName, Error>
-        ensures ok { IfOk result (λ name. name ≡ names.IpAddress (address_octets address)) }
-        ensures err { IfErr result (λ e. e.kind ≡ Memory) }
+        ensures { IsOkAnd result (λ name. name ≡ names.IpAddress (address_octets address)) }
     {
         let octets = match address {
             IpAddress::V4(octets) => address_string(alloc, &octets)?,
@@ -121,9 +119,8 @@ impl GeneralName {
 
 /// The octets of an address.
 fn address_string(alloc: Global, octets: &[u8]) -> Result<OctetString, Error>
-    requires { length octets.now < 128 }
-    ensures ok { IfOk result (λ string. string ≡ octets.now) }
-    ensures err { IfErr result (λ e. e.kind ≡ Memory) }
+    requires { length octets.now ≤ 24 }
+    ensures { IsOkAnd result (λ string. string ≡ octets.now) }
 {
     OctetString::new(alloc, octets)
 }

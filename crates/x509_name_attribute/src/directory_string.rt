@@ -1,6 +1,6 @@
 //! DirectoryString.
 
-ghost use Rattle.std.specs.Prelude.{◌≡◌, true, string_bytes, IfOk, IfErr};
+ghost use Rattle.std.specs.Prelude.{◌≡◌, ◌≤◌, length, true, string_bytes, IfOk, IfErr};
 ghost use Rattle.x509_der_element.specs.declared.error.ErrorKind.TheVariants.{Memory};
 ghost use Rattle.x509_name_attribute.specs.DirectoryString.{ReadsDirectoryString, is_bmp_string, text_in_place, text_of};
 ghost use Rattle.x509_name_attribute.specs.TextRef.{is_owned, octets_of};
@@ -73,10 +73,11 @@ impl DirectoryString {
         }
     }
 
-    /// The text as a string. Memory may be refused.
+    /// The text as a string. Memory may be refused for that of a BMPString, and for up to 24 octets, which may lie inside the
+    /// value and are copied.
     pub fn into_string(self, alloc: Global) -> Result<String, Error>
         ensures ok { IfOk result (λ text. string_bytes text ≡ text_of self) }
-        ensures err { IfErr result (λ e. e.kind ≡ Memory) }
+        ensures err { IfErr result (λ e. (e.kind ≡ Memory) × (length (text_in_place self) ≤ 24)) }
     {
         match self {
             DirectoryString::PrintableString(string) => string.into_string(),

@@ -1,7 +1,6 @@
 //! Numbers of CRLs.
 
-ghost use Rattle.std.specs.Prelude.{◌≡◌, IfOk, IfErr};
-ghost use Rattle.x509_der_element.specs.declared.error.ErrorKind.TheVariants.{Memory};
+ghost use Rattle.std.specs.Prelude.{◌≡◌, IsOkAnd};
 ghost use Rattle.x509_der_grammar.specs.Natural.{natural_octets};
 
 use std::alloc::Global;
@@ -21,42 +20,37 @@ use x509_prim::Uint;
 pub struct CrlNumber(pub Uint);
 
 impl CrlNumber {
-    /// The number. Memory may be refused, and nothing else.
+    /// The number. It takes no memory and is never refused.
     pub fn from_u8(alloc: Global, number: u8) -> Result<CrlNumber, Error>
-        ensures ok { IfOk result (λ crl. crl.0 ≡ natural_octets number) }
-        ensures err { IfErr result (λ e. e.kind ≡ Memory) }
+        ensures { IsOkAnd result (λ crl. crl.0 ≡ natural_octets number) }
     {
         Ok(CrlNumber(Uint::from_u128(alloc, u128::from(number))?))
     }
 
-    /// The number. Memory may be refused, and nothing else.
+    /// The number. It takes no memory and is never refused.
     pub fn from_u16(alloc: Global, number: u16) -> Result<CrlNumber, Error>
-        ensures ok { IfOk result (λ crl. crl.0 ≡ natural_octets number) }
-        ensures err { IfErr result (λ e. e.kind ≡ Memory) }
+        ensures { IsOkAnd result (λ crl. crl.0 ≡ natural_octets number) }
     {
         Ok(CrlNumber(Uint::from_u128(alloc, u128::from(number))?))
     }
 
-    /// The number. Memory may be refused, and nothing else.
+    /// The number. It takes no memory and is never refused.
     pub fn from_u32(alloc: Global, number: u32) -> Result<CrlNumber, Error>
-        ensures ok { IfOk result (λ crl. crl.0 ≡ natural_octets number) }
-        ensures err { IfErr result (λ e. e.kind ≡ Memory) }
+        ensures { IsOkAnd result (λ crl. crl.0 ≡ natural_octets number) }
     {
         Ok(CrlNumber(Uint::from_u128(alloc, u128::from(number))?))
     }
 
-    /// The number. Memory may be refused, and nothing else.
+    /// The number. It takes no memory and is never refused.
     pub fn from_u64(alloc: Global, number: u64) -> Result<CrlNumber, Error>
-        ensures ok { IfOk result (λ crl. crl.0 ≡ natural_octets number) }
-        ensures err { IfErr result (λ e. e.kind ≡ Memory) }
+        ensures { IsOkAnd result (λ crl. crl.0 ≡ natural_octets number) }
     {
         Ok(CrlNumber(Uint::from_u128(alloc, u128::from(number))?))
     }
 
-    /// The number. Memory may be refused, and nothing else.
+    /// The number. It takes no memory and is never refused.
     pub fn from_u128(alloc: Global, number: u128) -> Result<CrlNumber, Error>
-        ensures ok { IfOk result (λ crl. crl.0 ≡ natural_octets number) }
-        ensures err { IfErr result (λ e. e.kind ≡ Memory) }
+        ensures { IsOkAnd result (λ crl. crl.0 ≡ natural_octets number) }
     {
         Ok(CrlNumber(Uint::from_u128(alloc, number)?))
     }

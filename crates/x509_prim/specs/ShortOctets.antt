@@ -1,5 +1,5 @@
--- Short octets fit into an OCTET STRING, so that memory alone may be refused for it.
-use Rattle.std.specs.Prelude.{◌≡◌, ℕ, ◌<◌, ◌≤◌, ◌⊎◌, List, length, Result, Ok, Err, IfErr}
+-- Up to 24 octets fit into an OCTET STRING and take no memory, so that it is never refused.
+use Rattle.std.specs.Prelude.{◌≡◌, ℕ, ◌<◌, ◌≤◌, ◌⊎◌, List, length, Result, Ok, Err, IfOk, IfErr, IsOkAnd}
 use Rattle.std.proofs.Common.{arith, inl, inr}
 use Rattle.x509_der_element.specs.declared.error.Error.{Error}
 use Rattle.x509_der_element.specs.declared.error.ErrorKind.TheVariants.{Memory, Overlength}
@@ -8,11 +8,12 @@ use Rattle.x509_der_element.specs.Element.{limit}
 use Rattle.x509_der_order.specs.Form.{spelling}
 use Rattle.x509_prim.specs.OctetString.{octet_string}
 
-pub short_octets_are_held : (octets : List ℕ) (result : Result (List ℕ) Error) → length octets < 128
-    → IfErr result (λ e. ((e.kind ≡ Memory) × (length (spelling octet_string octets) ≤ limit)) ⊎ ((e.kind ≡ Overlength) × (limit < length (spelling octet_string octets))))
-    → IfErr result (λ e. e.kind ≡ Memory)
-short_octets_are_held octets (Ok string) short h = tt
-short_octets_are_held octets (Err e) short h = elim h [
-  | inl memory ↦ memory.0
+pub short_octets_are_held : (octets : List ℕ) (result : Result (List ℕ) Error) → length octets ≤ 24
+    → IfOk result (λ string. (string ≡ octets) × (length (spelling octet_string octets) ≤ limit))
+    → IfErr result (λ e. ((e.kind ≡ Memory) × (24 < length octets) × (length (spelling octet_string octets) ≤ limit)) ⊎ ((e.kind ≡ Overlength) × (limit < length (spelling octet_string octets))))
+    → IsOkAnd result (λ string. string ≡ octets)
+short_octets_are_held octets (Ok string) short ok err = ok.0
+short_octets_are_held octets (Err e) short ok err = elim err [
+  | inl memory ↦ absurd (let more = memory.1 in omega (arith, more, short))
   | inr long ↦ absurd (let fits = content_fits octets (omega (arith, short)) 4 in let over = long.1 in omega (arith, fits, over))
 ]

@@ -1,6 +1,6 @@
 //! BIT STRING.
 
-ghost use Rattle.std.specs.Prelude.{◌≡◌, ◌<◌, ◌⊎◌, true, false, IfOk, IfErr, IfSome, IfNone};
+ghost use Rattle.std.specs.Prelude.{◌≡◌, ◌<◌, ◌⊎◌, length, true, false, IfOk, IfErr, IfSome, IfNone};
 ghost use Rattle.x509_der_element.specs.declared.error.ErrorKind.TheVariants as errors;
 ghost use Rattle.x509_prim.specs.BitString as grammar;
 
@@ -48,10 +48,11 @@ fn check_padding(unused: u8, octets: &[u8]) -> bool
 
 impl BitString {
     /// A copy of the octets, of the last of which some bits are unused; `Value` exactly where more than seven are, or
-    /// one of them is not zero, or there is no octet and yet an unused bit. Memory may be refused.
+    /// one of them is not zero, or there is no octet and yet an unused bit. More than 24 octets take memory, which may be
+    /// refused.
     pub fn new(alloc: Global, unused: u8, octets: &[u8]) -> Result<BitString, Error>
         ensures ok { IfOk result (λ string. (string ≡ grammar.parts_of unused octets.now) × (grammar.is_padded (grammar.parts_of unused octets.now) ≡ true)) }
-        ensures err { IfErr result (λ e. ((e.kind ≡ errors.Memory) × (grammar.is_padded (grammar.parts_of unused octets.now) ≡ true)) ⊎ ((e.kind ≡ errors.Value) × (grammar.is_padded (grammar.parts_of unused octets.now) ≡ false))) }
+        ensures err { IfErr result (λ e. ((e.kind ≡ errors.Memory) × (24 < length octets.now) × (grammar.is_padded (grammar.parts_of unused octets.now) ≡ true)) ⊎ ((e.kind ≡ errors.Value) × (grammar.is_padded (grammar.parts_of unused octets.now) ≡ false))) }
     {
         if !check_padding(unused, octets) {
             return Err(ErrorKind::Value.into());
@@ -62,11 +63,11 @@ impl BitString {
         })
     }
 
-    /// A copy of the octets, all bits of which are used. Memory may be refused.
+    /// A copy of the octets, all bits of which are used. More than 24 take memory, which may be refused.
     #[tactic(auto, unfolding(crate::specs::BitString::is_padded))]
     pub fn from_bytes(alloc: Global, octets: &[u8]) -> Result<BitString, Error>
         ensures ok { IfOk result (λ string. string ≡ grammar.parts_of 0 octets.now) }
-        ensures err { IfErr result (λ e. e.kind ≡ errors.Memory) }
+        ensures err { IfErr result (λ e. (e.kind ≡ errors.Memory) × (24 < length octets.now)) }
     {
         Ok(BitString {
             unused: 0,

@@ -1,6 +1,6 @@
 //! INTEGER.
 
-ghost use Rattle.std.specs.Prelude.{◌≡◌, ◌⊎◌, true, false, bytes_eq, IfOk, IfErr};
+ghost use Rattle.std.specs.Prelude.{◌≡◌, ◌<◌, ◌⊎◌, true, false, length, bytes_eq, IfOk, IfErr};
 ghost use Rattle.std.proofs.Common.{rules};
 ghost use Rattle.std.specs.Hash as fed;
 ghost use Rattle.std.specs.Cmp.{partial_equiv_from_equiv};
@@ -37,10 +37,11 @@ impl Model for Int {
 }
 
 impl Int {
-    /// The number with that content; `Value` exactly where it is not the content of an INTEGER. Memory may be refused.
+    /// The number with that content; `Value` exactly where it is not the content of an INTEGER. More than 24 octets take
+    /// memory, which may be refused.
     pub fn new(alloc: Global, content: &[u8]) -> Result<Int, Error>
         ensures ok { IfOk result (λ int. (int ≡ content.now) × (is_integer content.now ≡ true)) }
-        ensures err { IfErr result (λ e. ((e.kind ≡ errors.Memory) × (is_integer content.now ≡ true)) ⊎ ((e.kind ≡ errors.Value) × (is_integer content.now ≡ false))) }
+        ensures err { IfErr result (λ e. ((e.kind ≡ errors.Memory) × (24 < length content.now) × (is_integer content.now ≡ true)) ⊎ ((e.kind ≡ errors.Value) × (is_integer content.now ≡ false))) }
     {
         if !check_integer(content) {
             return Err(ErrorKind::Value.into());

@@ -37,10 +37,10 @@ impl Model for OctetString {
 
 impl OctetString {
     /// A copy of the octets; `Overlength` exactly where their element would be longer than
-    /// [`Length::MAX`](x509_der_order::Length::MAX). Memory may be refused.
+    /// [`Length::MAX`](x509_der_order::Length::MAX). More than 24 octets take memory, which may be refused.
     pub fn new(alloc: Global, octets: &[u8]) -> Result<OctetString, Error>
         ensures ok { IfOk result (λ string. (string ≡ octets.now) × (length (spelling octet_string octets.now) ≤ limit)) }
-        ensures err { IfErr result (λ e. ((e.kind ≡ errors.Memory) × (length (spelling octet_string octets.now) ≤ limit)) ⊎ ((e.kind ≡ errors.Overlength) × (limit < length (spelling octet_string octets.now)))) }
+        ensures err { IfErr result (λ e. ((e.kind ≡ errors.Memory) × (24 < length octets.now) × (length (spelling octet_string octets.now) ≤ limit)) ⊎ ((e.kind ≡ errors.Overlength) × (limit < length (spelling octet_string octets.now)))) }
     {
         check_content(octets)?;
         Ok(OctetString {
@@ -70,7 +70,7 @@ impl OctetString {
     /// refused.
     pub fn into_bytes(self) -> Result<Vec<u8>, Error>
         ensures ok { IfOk result (λ octets. octets.items ≡ self) }
-        ensures err { IfErr result (λ e. e.kind ≡ errors.Memory) }
+        ensures err { IfErr result (λ e. (e.kind ≡ errors.Memory) × (length self ≤ 24)) }
     {
         let OctetString { bytes } = self;
         bytes.into_vec()

@@ -1,6 +1,6 @@
 //! INTEGER that is not negative.
 
-ghost use Rattle.std.specs.Prelude.{◌≡◌, ◌<◌, ◌⊎◌, true, [], length, bytes_eq, IfOk, IfErr};
+ghost use Rattle.std.specs.Prelude.{◌≡◌, ◌<◌, ◌⊎◌, true, [], length, bytes_eq, IfOk, IfErr, IsOkAnd};
 ghost use Rattle.std.proofs.Common.{rules};
 ghost use Rattle.std.specs.Hash as fed;
 ghost use Rattle.std.specs.Cmp.{partial_equiv_from_equiv};
@@ -18,6 +18,9 @@ use std::hash::{Hash, Hasher};
 use std::marker::Model;
 use x509_der_grammar::{Bytes, Content, Error, ErrorKind, Room, Spelled, Tag, TryClone};
 use x509_der_order::{EncodingOrd, SetMember, SetOrd, ValueOrd};
+
+/// How many octets [`Bytes`] keep inside the value.
+const SHORT: usize = 24;
 
 /// A whole number of any size that is not negative (X.690 8.3). Contracts see its content octets.
 #[derive(Drop)]
@@ -38,11 +41,11 @@ impl Model for Uint {
 
 impl Uint {
     /// The number of the octets, most significant first, which may begin with zeros; `Value` exactly where there are
-    /// no octets. Memory may be refused.
+    /// no octets. A content of more than 24 octets takes memory, which may be refused.
     pub fn new(alloc: Global, octets: &[u8]) -> Result<Uint, Error>
         ensures ok { IfOk result (λ uint. uint ≡ with_sign (without_zeros octets.now)) }
         ensures number { IfOk result (λ uint. number uint ≡ number octets.now) }
-        ensures err { IfErr result (λ e. ((e.kind ≡ errors.Memory) × (0 < length octets.now)) ⊎ ((e.kind ≡ errors.Value) × (octets.now ≡ []))) }
+        ensures err { IfErr result (λ e. ((e.kind ≡ errors.Memory) × (24 < length (with_sign (without_zeros octets.now)))) ⊎ ((e.kind ≡ errors.Value) × (octets.now ≡ []))) }
     {
         if octets.is_empty() {
             return Err(ErrorKind::Value.into());
@@ -52,10 +55,9 @@ impl Uint {
         })
     }
 
-    /// The number of a number type. Memory may be refused, and nothing else.
+    /// The number of a number type. It takes no memory and is never refused.
     pub fn from_u128(alloc: Global, number: u128) -> Result<Uint, Error>
-        ensures ok { IfOk result (λ uint. uint ≡ natural_octets number) }
-        ensures err { IfErr result (λ e. e.kind ≡ errors.Memory) }
+        ensures { IsOkAnd result (λ uint. uint ≡ natural_octets number) }
     {
         Uint::new(alloc, &number.to_be_bytes())
     }
@@ -79,13 +81,20 @@ impl Uint {
     }
 }
 
-/// The octets, with a zero in front where bit 8 of the first is 1.
+/// The octets, with a zero in front where bit 8 of the first is 1. More than 24 in all take memory, which may be refused.
 fn signed_content(alloc: Global, octets: &[u8]) -> Result<Bytes, Error>
     ensures ok { IfOk result (λ content. content ≡ with_sign octets.now) }
-    ensures err { IfErr result (λ e. e.kind ≡ errors.Memory) }
+    ensures err { IfErr result (λ e. (e.kind ≡ errors.Memory) × (24 < length (with_sign octets.now))) }
 {
     if !is_signed(octets) {
         return Bytes::from_slice(alloc, octets);
+    }
+    if octets.len() < SHORT {
+        let mut content = [0x00; SHORT];
+        let (_, behind) = content.split_at_mut(1);
+        let (place, _) = behind.split_at_mut(octets.len());
+        place.copy_from_slice(octets);
+        return Bytes::from_slice(alloc, &content[..octets.len() + 1]);
     }
     let mut content = Vec::from_slice(alloc, &[0x00])?;
     content.extend_from_slice(octets)?;

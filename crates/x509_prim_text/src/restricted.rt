@@ -1,6 +1,6 @@
 //! Restricted character strings.
 
-ghost use Rattle.std.specs.Prelude.{◌≡◌, ◌<◌, ◌⊎◌, true, false, length, bytes_eq, string_bytes, IfOk, IfErr};
+ghost use Rattle.std.specs.Prelude.{◌≡◌, ◌<◌, ◌≤◌, ◌⊎◌, true, false, length, bytes_eq, string_bytes, IfOk, IfErr};
 ghost use Rattle.std.proofs.Common.{rules};
 ghost use Rattle.std.specs.Hash as fed;
 ghost use Rattle.std.specs.Cmp.{partial_equiv_from_equiv};
@@ -63,10 +63,10 @@ impl<A: Alphabet> RestrictedString<A> {
         self.text.as_str()
     }
 
-    /// The text as a string. Up to 24 octets are copied, for which memory may be refused.
+    /// The text as a string. Up to 24 octets may lie inside the value; those are copied, for which memory may be refused.
     pub fn into_string(self) -> Result<String, Error>
         ensures ok { IfOk result (λ text. string_bytes text ≡ self) }
-        ensures err { IfErr result (λ e. e.kind ≡ errors.Memory) }
+        ensures err { IfErr result (λ e. (e.kind ≡ errors.Memory) × (length self ≤ 24)) }
     {
         let RestrictedString { text, alphabet: _ } = self;
         text.into_string()

@@ -1,6 +1,6 @@
 //! Texts that a value owns.
 
-ghost use Rattle.std.specs.Prelude.{◌≡◌, ◌<◌, length, string_bytes, IfOk, IfErr};
+ghost use Rattle.std.specs.Prelude.{◌≡◌, ◌<◌, ◌≤◌, length, string_bytes, IfOk, IfErr};
 ghost use Rattle.x509_der_frames.specs.error.ErrorKind.TheVariants.{Memory};
 
 use std::alloc::Global;
@@ -42,10 +42,10 @@ impl Text {
         unsafe { str::from_utf8_unchecked(self.octets.as_slice()) }
     }
 
-    /// The text as a string. What lies inside the value is copied, for which memory may be refused.
+    /// The text as a string. Up to 24 octets may lie inside the value; those are copied, for which memory may be refused.
     pub(crate) fn into_string(self) -> Result<String, Error>
         ensures ok { IfOk result (λ text. string_bytes text ≡ self) }
-        ensures err { IfErr result (λ e. e.kind ≡ Memory) }
+        ensures err { IfErr result (λ e. (e.kind ≡ Memory) × (length self ≤ 24)) }
     {
         let Text { octets } = self;
         let octets = octets.into_vec()?;

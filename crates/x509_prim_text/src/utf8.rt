@@ -1,6 +1,6 @@
 //! UTF8String.
 
-ghost use Rattle.std.specs.Prelude.{◌≡◌, ◌<◌, ◌≢◌, ◌⊎◌, true, false, length, bytes_eq, string_bytes, IfOk, IfErr, IfSome, IfNone, IsOk, IsOkAnd};
+ghost use Rattle.std.specs.Prelude.{◌≡◌, ◌<◌, ◌≤◌, ◌≢◌, ◌⊎◌, true, false, length, bytes_eq, string_bytes, IfOk, IfErr, IfSome, IfNone, IsOk, IsOkAnd};
 ghost use Rattle.std.proofs.Common.{rules};
 ghost use Rattle.std.specs.Hash as fed;
 ghost use Rattle.std.specs.Cmp.{on_equiv, on_per, partial_equiv_from_equiv};
@@ -54,10 +54,10 @@ impl Utf8String {
         self.text.as_str()
     }
 
-    /// The text as a string. Up to 24 octets are copied, for which memory may be refused.
+    /// The text as a string. Up to 24 octets may lie inside the value; those are copied, for which memory may be refused.
     pub fn into_string(self) -> Result<String, Error>
         ensures ok { IfOk result (λ text. string_bytes text ≡ self) }
-        ensures err { IfErr result (λ e. e.kind ≡ errors.Memory) }
+        ensures err { IfErr result (λ e. (e.kind ≡ errors.Memory) × (length self ≤ 24)) }
     {
         let Utf8String { text } = self;
         text.into_string()

@@ -1,8 +1,7 @@
 //! By what the key of an issuer is told.
 
 ghost use Rattle.sha1.specs.Sha1.{sha1};
-ghost use Rattle.std.specs.Prelude.{◌≡◌, Some, None, IfOk, IfErr};
-ghost use Rattle.x509_der_element.specs.declared.error.ErrorKind.TheVariants.{Memory};
+ghost use Rattle.std.specs.Prelude.{◌≡◌, Some, None, IsOkAnd};
 
 use crate::pkix::key_identifier;
 use std::alloc::Global;
@@ -47,13 +46,12 @@ impl Drop for AuthorityKeyIdentifier {
 
 impl AuthorityKeyIdentifier {
     /// The identifier of a key alone: the SHA-1 digest of the octets in which its bits stand (RFC 5280 4.2.1.2, method 1).
-    /// Memory may be refused, and nothing else.
+    /// It takes no memory and is never refused.
     pub fn from_key(
         alloc: Global,
         key: SubjectPublicKeyInfoRef<'_>,
     ) -> Result<AuthorityKeyIdentifier, Error>
-        ensures ok { IfOk result (λ identifier. identifier ≡ record { key_identifier = Some (sha1 key.entry.subject_public_key.now.octets); authority_cert_issuer = None; authority_cert_serial_number = None }) }
-        ensures err { IfErr result (λ e. e.kind ≡ Memory) }
+        ensures { IsOkAnd result (λ identifier. identifier ≡ record { key_identifier = Some (sha1 key.entry.subject_public_key.now.octets); authority_cert_issuer = None; authority_cert_serial_number = None }) }
     {
         Ok(AuthorityKeyIdentifier {
             key_identifier: Some(key_identifier(alloc, key)?),

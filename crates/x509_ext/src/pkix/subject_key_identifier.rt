@@ -1,8 +1,7 @@
 //! Identifiers of keys.
 
 ghost use Rattle.sha1.specs.Sha1.{sha1};
-ghost use Rattle.std.specs.Prelude.{◌≡◌, IfOk, IfErr};
-ghost use Rattle.x509_der_element.specs.declared.error.ErrorKind.TheVariants.{Memory};
+ghost use Rattle.std.specs.Prelude.{◌≡◌, IsOkAnd};
 
 use sha1::Sha1;
 use std::alloc::Global;
@@ -25,11 +24,10 @@ pub const ID_CE_SUBJECT_KEY_IDENTIFIER: ObjectIdentifier = id_ce!(14);
 #[derive(Debug, Drop, PartialEq, Eq)]
 pub struct SubjectKeyIdentifier(pub OctetString);
 
-/// The SHA-1 digest of the octets in which the bits of the key stand (RFC 5280 4.2.1.2, method 1). Memory may be
-/// refused, and nothing else.
+/// The SHA-1 digest of the octets in which the bits of the key stand (RFC 5280 4.2.1.2, method 1). It takes no
+/// memory and is never refused.
 pub fn key_identifier(alloc: Global, key: SubjectPublicKeyInfoRef<'_>) -> Result<OctetString, Error>
-    ensures ok { IfOk result (λ identifier. identifier ≡ sha1 key.entry.subject_public_key.now.octets) }
-    ensures err { IfErr result (λ e. e.kind ≡ Memory) }
+    ensures { IsOkAnd result (λ identifier. identifier ≡ sha1 key.entry.subject_public_key.now.octets) }
 {
     let digest = Sha1::digest(key.subject_public_key.raw_bytes());
     OctetString::new(alloc, &digest)
@@ -37,13 +35,12 @@ pub fn key_identifier(alloc: Global, key: SubjectPublicKeyInfoRef<'_>) -> Result
 
 impl SubjectKeyIdentifier {
     /// The identifier of a key: the SHA-1 digest of the octets in which its bits stand (RFC 5280 4.2.1.2, method 1).
-    /// Memory may be refused, and nothing else.
+    /// It takes no memory and is never refused.
     pub fn from_key(
         alloc: Global,
         key: SubjectPublicKeyInfoRef<'_>,
     ) -> Result<SubjectKeyIdentifier, Error>
-        ensures ok { IfOk result (λ identifier. identifier.0 ≡ sha1 key.entry.subject_public_key.now.octets) }
-        ensures err { IfErr result (λ e. e.kind ≡ Memory) }
+        ensures { IsOkAnd result (λ identifier. identifier.0 ≡ sha1 key.entry.subject_public_key.now.octets) }
     {
         Ok(SubjectKeyIdentifier(key_identifier(alloc, key)?))
     }
