@@ -1,6 +1,6 @@
 //! Serial numbers.
 
-ghost use Rattle.std.specs.Prelude.{◌≡◌, ◌<◌, ◌≤◌, true, [], length, bytes_eq, IfOk, IsOk, IsOkAnd, IsErrAnd};
+ghost use Rattle.std.specs.Prelude.{◌≡◌, ◌^◌, ◌<◌, ◌≤◌, true, [], length, bytes_eq, IfOk, IsOk, IsOkAnd, IsErrAnd};
 ghost use Rattle.std.proofs.Common.{rules};
 ghost use Rattle.std.specs.Hash as fed;
 ghost use Rattle.std.specs.Cmp.{partial_equiv_from_equiv};
@@ -8,7 +8,7 @@ ghost use Rattle.std.specs.Cmp.Lexicographic.{nat_list_eq_equiv};
 ghost use Rattle.std.specs.Cmp.Rules.{hashing};
 ghost use Rattle.x509_der_element.specs.declared.error.ErrorKind.TheVariants as errors;
 ghost use Rattle.x509_der_grammar.specs.Natural.{natural_octets};
-ghost use Rattle.x509_prim.specs.Integer.{is_integer, number, with_sign};
+ghost use Rattle.x509_prim.specs.Integer.{integer_value, is_integer, natural_below, number, with_sign};
 ghost use Rattle.x509_base.specs.Serial.{number_content};
 
 use std::alloc::Global;
@@ -111,6 +111,20 @@ impl<P: Profile> SerialNumber<P> {
         ensures integer { is_integer self.now ≡ true }
     {
         self.number.as_bytes()
+    }
+
+    /// The number where it is from 0 to 2^64 - 1, else `None`.
+    pub fn to_u64(&self) -> Option<u64>
+        ensures { result ≡ natural_below (2 ^ 64) (integer_value self.now) }
+    {
+        self.number.to_u64()
+    }
+
+    /// The number where it is from 0 to 2^128 - 1, else `None`.
+    pub fn to_u128(&self) -> Option<u128>
+        ensures { result ≡ natural_below (2 ^ 128) (integer_value self.now) }
+    {
+        self.number.to_u128()
     }
 
     fn from_number(number: Int) -> SerialNumber<P>

@@ -1,7 +1,8 @@
 //! Numbers of CRLs.
 
-ghost use Rattle.std.specs.Prelude.{◌≡◌, IsOkAnd};
+ghost use Rattle.std.specs.Prelude.{◌≡◌, ◌^◌, IsOkAnd};
 ghost use Rattle.x509_der_grammar.specs.Natural.{natural_octets};
+ghost use Rattle.x509_prim.specs.Integer.{integer_value, natural_below};
 
 use std::alloc::Global;
 use x509_der::{AssociatedOid, ObjectIdentifier};
@@ -53,6 +54,20 @@ impl CrlNumber {
         ensures { IsOkAnd result (λ crl. crl.0 ≡ natural_octets number) }
     {
         Ok(CrlNumber(Uint::from_u128(alloc, number)?))
+    }
+
+    /// The number where it is below 2^64, else `None`.
+    pub fn to_u64(&self) -> Option<u64>
+        ensures { result ≡ natural_below (2 ^ 64) (integer_value self.now.0) }
+    {
+        self.0.to_u64()
+    }
+
+    /// The number where it is below 2^128, else `None`.
+    pub fn to_u128(&self) -> Option<u128>
+        ensures { result ≡ natural_below (2 ^ 128) (integer_value self.now.0) }
+    {
+        self.0.to_u128()
     }
 }
 
@@ -138,6 +153,22 @@ impl AsMut<Uint> for CrlNumber {
 /// ```
 #[derive(Debug, Drop, PartialEq, Eq)]
 pub struct BaseCrlNumber(pub Uint);
+
+impl BaseCrlNumber {
+    /// The number where it is below 2^64, else `None`.
+    pub fn to_u64(&self) -> Option<u64>
+        ensures { result ≡ natural_below (2 ^ 64) (integer_value self.now.0) }
+    {
+        self.0.to_u64()
+    }
+
+    /// The number where it is below 2^128, else `None`.
+    pub fn to_u128(&self) -> Option<u128>
+        ensures { result ≡ natural_below (2 ^ 128) (integer_value self.now.0) }
+    {
+        self.0.to_u128()
+    }
+}
 
 impl AssociatedOid for BaseCrlNumber {
     ghost use Rattle.x509_ext_frame.specs.Identifiers.{id_ce};

@@ -1,8 +1,26 @@
 -- Octets without zeros in front, and the number that they say.
-use Rattle.std.proofs.Common.{◌≡◌, ℕ, ◌<◌, true, false, not, List, [], ◌∷◌, length, nat_eq, refl, ◌∙◌, inl, inr, arith}
+use Rattle.std.proofs.Common.{◌≡◌, ℕ, ◌+◌, ◌*◌, ◌^◌, ◌<◌, ◌≤◌, true, false, not, List, [], ◌∷◌, length, drop, length-drop, fold, nat_eq, refl, ◌∙◌, inl, inr, arith}
 use Rattle.std.proofs.lemmas.Bool.{and_parts, cases_Bool, cases_lt, eqb-true}
 use Rattle.std.proofs.lemmas.Bool.Decides.{nat_tests}
 use Rattle.x509_prim.specs.Integer.{is_integer, is_negative, is_unsigned, number, without_zeros, with_sign}
+
+-- digits that follow a number
+abbrev pub number_from : ℕ → List ℕ → ℕ
+number_from high octets = fold (λ high octet. 256 * high + octet) high octets
+
+pub number_from-above : (high : ℕ) (octets : List ℕ) → high ≤ number_from high octets
+number_from-above high [] = omega arith
+number_from-above high (octet ∷ octets) = let above = number_from-above (256 * high + octet) octets in omega arith
+
+one_more : (high : ℕ) (octets : List ℕ) → 0 < length octets → 2 ^ 120 ≤ high → 2 ^ 128 ≤ number_from high octets
+one_more high [] some large = absurd (omega arith)
+one_more high (octet ∷ octets) some large = let above = number_from-above (256 * high + octet) octets in omega arith
+
+-- 120 bits, and one octet behind them
+pub too_large : (high : ℕ) (octets : List ℕ) (i : ℕ) → i < length octets → 2 ^ 120 ≤ high → number_from high (drop i octets) ≡ number octets → 2 ^ 128 ≤ number octets
+too_large high octets i within large is =
+    let more = one_more high (drop i octets) (omega (arith, length-drop i octets)) large in
+    rw is at more
 
 pub number-without_zeros : (octets : List ℕ) → number (without_zeros octets) ≡ number octets
 number-without_zeros [] = refl

@@ -1,12 +1,12 @@
 -- Contents of integers and whole numbers are one to one.
-use Rattle.std.proofs.Common.{◌≡◌, ℕ, zero, suc, ◌+◌, ◌-◌, ◌*◌, ◌/◌, ◌%◌, ◌<◌, ◌≤◌, true, false, nat_eq, nat_le, List, [], ◌∷◌, ◌++◌, length, take, drop, get_or, map, fold, ℤ, pos, negsuc, refl, sym, ap, ◌∙◌, length-append, length-drop, inl, inr, arith}
+use Rattle.std.proofs.Common.{◌≡◌, ℕ, zero, suc, ◌+◌, ◌-◌, ◌*◌, ◌/◌, ◌%◌, ◌<◌, ◌≤◌, true, false, nat_eq, nat_le, List, [], ◌∷◌, ◌++◌, length, take, drop, get_or, map, ℤ, pos, negsuc, refl, sym, ap, ◌∙◌, length-append, length-drop, inl, inr, arith}
 use Rattle.std.specs.List.{All}
 use Rattle.std.proofs.lemmas.Bool.{cases_Bool, cases_lt, eqb-true, eqb-false, ne_eqb, le-leb}
 use Rattle.std.proofs.lemmas.Bool.Decides.{nat_tests}
 use Rattle.std.proofs.lemmas.List.{take-append-drop}
 use Rattle.std.proofs.lemmas.List.Elements.{All-nil, All-cons, All-head, All-tail, All-append}
 use Rattle.x509_prim.specs.Integer.{is_integer, is_negative, is_unsigned, number, integer_value, without_zeros, with_sign}
-use Rattle.x509_prim.proofs.Naturals.{number-without_zeros, number-content, is_unsigned-content, is_unsigned-is_integer, is_unsigned-some}
+use Rattle.x509_prim.proofs.Naturals.{number_from, number_from-above, number-without_zeros, number-content, is_unsigned-content, is_unsigned-is_integer, is_unsigned-some}
 
 abbrev small : ℕ → Type 0
 small octet = octet < 256
@@ -14,13 +14,9 @@ small octet = octet < 256
 abbrev pub AreOctets : List ℕ → Type 0
 AreOctets octets = All (λ octet. octet < 256) octets
 
--- digits that follow a number
-abbrev from : ℕ → List ℕ → ℕ
-from high octets = fold (λ high octet. 256 * high + octet) high octets
-
 -- ---- numbers of one length
 
-same_length : (a b : ℕ) (xs ys : List ℕ) → AreOctets xs → AreOctets ys → length xs ≡ length ys → from a xs ≡ from b ys → (a ≡ b) × (xs ≡ ys)
+same_length : (a b : ℕ) (xs ys : List ℕ) → AreOctets xs → AreOctets ys → length xs ≡ length ys → number_from a xs ≡ number_from b ys → (a ≡ b) × (xs ≡ ys)
 same_length a b [] [] p q l e = (e, refl)
 same_length a b [] (y ∷ ys) p q l e = absurd (omega arith)
 same_length a b (x ∷ xs) [] p q l e = absurd (omega arith)
@@ -33,16 +29,12 @@ same_length a b (x ∷ xs) (y ∷ ys) p q l e =
     let lows : x ≡ y = omega arith in
     (highs, rw (lows, rest.1) refl)
 
-from-append : (a : ℕ) (xs ys : List ℕ) → from a (xs ++ ys) ≡ from (from a xs) ys
+from-append : (a : ℕ) (xs ys : List ℕ) → number_from a (xs ++ ys) ≡ number_from (number_from a xs) ys
 from-append a [] ys = refl
 from-append a (x ∷ xs) ys = from-append (256 * a + x) xs ys
 
-from-above : (a : ℕ) (xs : List ℕ) → a ≤ from a xs
-from-above a [] = omega arith
-from-above a (x ∷ xs) = let above = from-above (256 * a + x) xs in omega arith
-
-number-first : (x : ℕ) (xs : List ℕ) → number (x ∷ xs) ≡ from x xs
-number-first x xs = let same : 256 * 0 + x ≡ x = omega arith in ap (λ n. from n xs) same
+number-first : (x : ℕ) (xs : List ℕ) → number (x ∷ xs) ≡ number_from x xs
+number-first x xs = let same : 256 * 0 + x ≡ x = omega arith in ap (λ n. number_from n xs) same
 
 -- ---- octets without zeros in front
 
@@ -55,10 +47,10 @@ longer zero xs ys p q short some l e = (same_length 0 0 xs ys p q (omega arith) 
 longer (suc k) [] ys p q short some l e = absurd (omega arith)
 longer (suc k) (x ∷ xs) ys p q short some l e =
     let parts : take k xs ++ drop k xs ≡ xs = take-append-drop k xs in
-    let split : from x xs ≡ from (from x (take k xs)) (drop k xs) = ap (from x) (sym parts) ∙ from-append x (take k xs) (drop k xs) in
-    let same = same_length (from x (take k xs)) 0 (drop k xs) ys p q (omega (arith, length-drop k xs)) (sym split ∙ sym (number-first x xs) ∙ e) in
+    let split : number_from x xs ≡ number_from (number_from x (take k xs)) (drop k xs) = ap (number_from x) (sym parts) ∙ from-append x (take k xs) (drop k xs) in
+    let same = same_length (number_from x (take k xs)) 0 (drop k xs) ys p q (omega (arith, length-drop k xs)) (sym split ∙ sym (number-first x xs) ∙ e) in
     let high : 0 < x = short.first (omega arith) in
-    let above = from-above x (take k xs) in
+    let above = number_from-above x (take k xs) in
     absurd (omega (arith, same.0))
 
 all_drop : (k : ℕ) (xs : List ℕ) → AreOctets xs → AreOctets (drop k xs)

@@ -1,5 +1,5 @@
 -- INTEGER: a whole number as a two's complement number in octets, as few as there can be (X.690 8.3).
-use Rattle.std.specs.Prelude.{ℕ, ◌+◌, ◌-◌, ◌*◌, Bool, true, false, ◌&&◌, not, nat_eq, nat_lt, nat_le, List, [], ◌∷◌, ℤ, pos, negsuc, map, fold, if◌then◌else◌}
+use Rattle.std.specs.Prelude.{ℕ, ◌+◌, ◌-◌, ◌*◌, Bool, true, false, ◌&&◌, not, nat_eq, nat_lt, nat_le, List, [], ◌∷◌, ℤ, pos, negsuc, map, fold, Option, Some, None, if◌then◌else◌}
 use Rattle.x509_der_element.specs.declared.tag.Tag.TheVariants as tags
 use Rattle.x509_der_grammar.specs.Form.{Form, Contents, universal}
 use Rattle.x509_der_grammar.specs.Tested.{tested_contents}
@@ -45,6 +45,11 @@ number octets = fold (λ high octet. 256 * high + octet) 0 octets
 -- number is -1 less the number of the octets with each bit turned; negsuc n is -1 - n.
 abbrev pub integer_value : List ℕ → ℤ
 integer_value octets = if is_negative octets then negsuc (number (map (λ octet. 255 - octet) octets)) else pos (number octets)
+
+-- the whole number where it is from 0 on and below the bound
+abbrev pub natural_below : ℕ → ℤ → Option ℕ
+natural_below bound (pos n) = if nat_lt n bound then Some n else None
+natural_below bound (negsuc n) = None
 
 -- ---- octets of a number that is not negative
 

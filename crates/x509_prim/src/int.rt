@@ -1,15 +1,15 @@
 //! INTEGER.
 
-ghost use Rattle.std.specs.Prelude.{◌≡◌, ◌<◌, ◌⊎◌, true, false, length, bytes_eq, IfOk, IfErr};
+ghost use Rattle.std.specs.Prelude.{◌≡◌, ◌^◌, ◌<◌, ◌⊎◌, true, false, length, bytes_eq, IfOk, IfErr};
 ghost use Rattle.std.proofs.Common.{rules};
 ghost use Rattle.std.specs.Hash as fed;
 ghost use Rattle.std.specs.Cmp.{partial_equiv_from_equiv};
 ghost use Rattle.std.specs.Cmp.Lexicographic.{nat_list_eq_equiv};
 ghost use Rattle.std.specs.Cmp.Rules.{hashing};
 ghost use Rattle.x509_der_element.specs.declared.error.ErrorKind.TheVariants as errors;
-ghost use Rattle.x509_prim.specs.Integer.{is_integer};
+ghost use Rattle.x509_prim.specs.Integer.{integer_value, is_integer, natural_below};
 
-use crate::content::check_integer;
+use crate::content::{check_integer, natural_u64, natural_u128};
 use crate::uint::Uint;
 use std::alloc::Global;
 use std::cmp::Ordering;
@@ -57,6 +57,20 @@ impl Int {
         ensures integer { is_integer self.now ≡ true }
     {
         self.content.as_slice()
+    }
+
+    /// The number where it is from 0 to 2^64 - 1, else `None`.
+    pub fn to_u64(&self) -> Option<u64>
+        ensures { result ≡ natural_below (2 ^ 64) (integer_value self.now) }
+    {
+        natural_u64(self.content.as_slice())
+    }
+
+    /// The number where it is from 0 to 2^128 - 1, else `None`.
+    pub fn to_u128(&self) -> Option<u128>
+        ensures { result ≡ natural_below (2 ^ 128) (integer_value self.now) }
+    {
+        natural_u128(self.content.as_slice())
     }
 }
 

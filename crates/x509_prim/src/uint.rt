@@ -1,6 +1,6 @@
 //! INTEGER that is not negative.
 
-ghost use Rattle.std.specs.Prelude.{◌≡◌, ◌<◌, ◌⊎◌, true, [], length, bytes_eq, IfOk, IfErr, IsOkAnd};
+ghost use Rattle.std.specs.Prelude.{◌≡◌, ◌^◌, ◌<◌, ◌⊎◌, true, [], length, bytes_eq, IfOk, IfErr, IsOkAnd};
 ghost use Rattle.std.proofs.Common.{rules};
 ghost use Rattle.std.specs.Hash as fed;
 ghost use Rattle.std.specs.Cmp.{partial_equiv_from_equiv};
@@ -8,9 +8,9 @@ ghost use Rattle.std.specs.Cmp.Lexicographic.{nat_list_eq_equiv};
 ghost use Rattle.std.specs.Cmp.Rules.{hashing};
 ghost use Rattle.x509_der_element.specs.declared.error.ErrorKind.TheVariants as errors;
 ghost use Rattle.x509_der_grammar.specs.Natural.{natural_octets};
-ghost use Rattle.x509_prim.specs.Integer.{is_unsigned, number, with_sign, without_zeros};
+ghost use Rattle.x509_prim.specs.Integer.{integer_value, is_unsigned, natural_below, number, with_sign, without_zeros};
 
-use crate::content::{check_unsigned, is_signed, strip_zeros};
+use crate::content::{check_unsigned, is_signed, natural_u64, natural_u128, strip_zeros};
 use std::alloc::Global;
 use std::cmp::Ordering;
 use std::fmt;
@@ -69,6 +69,20 @@ impl Uint {
         ensures some { 0 < length result.now }
     {
         strip_zeros(self.content.as_slice())
+    }
+
+    /// The number where it is below 2^64, else `None`.
+    pub fn to_u64(&self) -> Option<u64>
+        ensures { result ≡ natural_below (2 ^ 64) (integer_value self.now) }
+    {
+        natural_u64(self.content.as_slice())
+    }
+
+    /// The number where it is below 2^128, else `None`.
+    pub fn to_u128(&self) -> Option<u128>
+        ensures { result ≡ natural_below (2 ^ 128) (integer_value self.now) }
+    {
+        natural_u128(self.content.as_slice())
     }
 
     /// The content octets, without a copy.
