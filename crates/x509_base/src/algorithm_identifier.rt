@@ -20,7 +20,8 @@ pub struct AlgorithmIdentifier {
     pub oid: ObjectIdentifier,
 
     /// The parameters: one element of any type. What it has to be, or whether it is left out, is for the algorithm to
-    /// say; it isn't looked into here.
+    /// say; it isn't looked into here. RSA keys and signatures have a NULL (RFC 3279 2.3.1, 2.2.1), which
+    /// [`Any::null`] makes; elliptic curves have the name of the curve, Ed25519 has none.
     pub parameters: Option<Any>,
 }
 

@@ -126,6 +126,17 @@ impl Any {
         })
     }
 
+    /// The element of ASN.1 NULL, which has no content (X.690 8.8). It takes no memory.
+    pub fn null(alloc: Global) -> Any
+        ensures tag { result.tag ≡ Null }
+        ensures content { result.value ≡ [] }
+    {
+        Any {
+            tag: Tag::Null,
+            value: Bytes::from(Vec::new(alloc)),
+        }
+    }
+
     /// Whether the element is a NULL, with no content (X.690 8.8).
     pub fn is_null(&self) -> bool
         ensures { IsTrue result ↔ ((self.now.tag ≡ Null) × (self.now.value ≡ [])) }
