@@ -1,5 +1,6 @@
 pub mod RevokedCert
 pub mod CertificateList
+pub mod Revoked
 pub mod AnySerial
 pub mod Version
 pub mod CertReq

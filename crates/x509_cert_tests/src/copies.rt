@@ -2,6 +2,7 @@
 
 use crate::certificate::WHOLE;
 use std::test::*;
+use x509_base::SerialNumber;
 use x509_cert::crl::CertificateList;
 use x509_cert::request::CertReq;
 use x509_cert_anchor::TrustAnchorChoice;
@@ -10,6 +11,24 @@ use x509_der_grammar::{Decode, Encode, Error, TryClone};
 /// A list with one entry; the list and the entry have the identifier of a key.
 const LIST: &[u8] =
     b"\x30\x6C\x30\x60\x02\x01\x01\x30\x05\x06\x03\x2A\x03\x04\x30\x00\x18\x0F20020101120100Z\x17\x0D200102030405Z\x30\x22\x30\x20\x02\x01\x05\x17\x0D200102030405Z\x30\x0C\x30\x0A\x06\x03\x55\x1D\x0E\x04\x03\x04\x01\xAA\xA0\x0E\x30\x0C\x30\x0A\x06\x03\x55\x1D\x0E\x04\x03\x04\x01\xAA\x30\x05\x06\x03\x2A\x03\x04\x03\x01\x00";
+
+/// Whether the list has an entry with that serial number.
+fn has_entry(list: &CertificateList, serial_number: &SerialNumber) -> bool {
+    match list.find(serial_number) {
+        Some(entry) => entry.serial_number == *serial_number,
+        None => false,
+    }
+}
+
+/// The entry is found by its serial number alone.
+#[test]
+fn entries(rt: HostRuntime) -> Result<(), Fail> {
+    let list = CertificateList::from_der(rt.alloc(), LIST)?;
+    assert!(rt; list.tbs_cert_list.entries().len() == 1);
+    assert!(rt; has_entry(&list, &SerialNumber::from_u8(rt.alloc(), 5)?));
+    assert!(rt; !has_entry(&list, &SerialNumber::from_u8(rt.alloc(), 6)?));
+    Ok(())
+}
 
 /// A request of nobody that asks for no extensions.
 pub(crate) const REQUEST: &[u8] =

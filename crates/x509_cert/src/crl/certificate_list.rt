@@ -1,8 +1,12 @@
 //! CRLs.
 
+ghost use Rattle.std.specs.Prelude.{◌≡◌, [], MatchOption};
+ghost use Rattle.x509_cert.specs.Revoked.{IsFirstWith, entries, with_serial};
+
+use crate::crl::revoked_cert::RevokedCert;
 use crate::crl::tbs_cert_list::TbsCertList;
 use std::alloc::Global;
-use x509_base::AlgorithmIdentifier;
+use x509_base::{AlgorithmIdentifier, SerialNumber};
 use x509_base_time::{Profile, Rfc5280};
 use x509_der_frames::{PutPart, end, field};
 use x509_der_grammar::{Content, Error, Room, Tag, TryClone};
@@ -27,6 +31,34 @@ pub struct CertificateList<P: Profile = Rfc5280> {
 
     /// The signature.
     pub signature: BitString,
+}
+
+impl<P: Profile> CertificateList<P> {
+    /// The first entry with the serial number; `None` exactly where no entry has it. In one pass over the entries, without memory.
+    ///
+    /// Whether the list speaks of the issuer of the certificate, and from when until when, isn't looked at (RFC 5280 6.3.3).
+    pub fn find(&self, serial_number: &SerialNumber<P>) -> Option<&RevokedCert<P>>
+        ensures { MatchOption result (with_serial serial_number.now (entries self.now.tbs_cert_list.revoked_certificates) ≡ []) (λ entry. IsFirstWith serial_number.now (entries self.now.tbs_cert_list.revoked_certificates) entry.now) }
+    {
+        first_with(self.tbs_cert_list.entries(), serial_number)
+    }
+}
+
+/// The first entry with the serial number.
+fn first_with<'a, P: Profile>(
+    entries: &'a [RevokedCert<P>],
+    serial_number: &SerialNumber<P>,
+) -> Option<&'a RevokedCert<P>>
+    ensures { MatchOption result (with_serial serial_number.now entries.now ≡ []) (λ entry. IsFirstWith serial_number.now entries.now entry.now) }
+{
+    let mut rest = entries;
+    while let Some((first, others)) = rest.split_first() {
+        if first.serial_number == *serial_number {
+            return Some(first);
+        }
+        rest = others;
+    }
+    None
 }
 
 impl<P: Profile> Drop for CertificateList<P> {

@@ -1,6 +1,7 @@
 //! The part of a CRL that is signed.
 
 ghost use Rattle.std.specs.Prelude.{◌≡◌};
+ghost use Rattle.x509_cert.specs.Revoked.{entries};
 ghost use Rattle.x509_cert_certificate.specs.Filter.{extensions_left};
 ghost use Rattle.x509_cert_certificate.specs.LookUp.{Finds, members, with_oid};
 
@@ -56,6 +57,16 @@ pub struct TbsCertList<P: Profile = Rfc5280> {
 }
 
 impl<P: Profile> TbsCertList<P> {
+    /// The entries in their order, none where the list of them is left out.
+    pub fn entries(&self) -> &[RevokedCert<P>]
+        ensures { result.now ≡ entries self.now.revoked_certificates }
+    {
+        match &self.revoked_certificates {
+            Some(entries) => entries.as_slice(),
+            None => &[],
+        }
+    }
+
     /// The extension of the list with the identifier of the type: whether it is critical, and its value.
     ///
     /// `None` exactly where none has the identifier; `Failed` where two or more have it, whatever they hold; else refused as
