@@ -1,4 +1,4 @@
--- ChallengePassword: DirectoryString, encoded only (RFC 2985 5.4.1)
+-- ChallengePassword: DirectoryString (RFC 2985 5.4.1)
 use Rattle.std.specs.Prelude.{◌≡◌, Ok, refl}
 use Rattle.std.proofs.Common.{ap, inl, inr}
 use Rattle.x509_cert.specs.declared.request.attributes.ChallengePassword.{ChallengePassword}

@@ -6,6 +6,7 @@ pub mod Version
 pub mod CertReq
 pub mod Identifiers
 pub mod Attributes
+pub mod AttributeLookUp
 pub mod ChallengePassword
 pub mod Rows
 pub mod Forms

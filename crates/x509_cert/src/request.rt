@@ -4,8 +4,10 @@ pub mod attributes;
 mod cert_req;
 mod extension_req;
 mod identifiers;
+mod look_up;
 mod version;
 
 pub use cert_req::{CertReq, CertReqInfo};
 pub use extension_req::{ExtensionReq, extension_req_attribute};
+pub use look_up::get_attribute;
 pub use version::Version;

@@ -3,16 +3,38 @@
 use crate::copies::REQUEST;
 use std::test::*;
 use x509_cert::request::attributes::{AsAttribute, ChallengePassword};
-use x509_cert::request::{CertReq, ExtensionReq, extension_req_attribute};
-use x509_der_grammar::{Encode, Error};
-use x509_name_attribute::{Attribute, DirectoryString};
+use x509_cert::request::{CertReq, ExtensionReq, extension_req_attribute, get_attribute};
+use x509_der_grammar::{Decode, Encode, Error};
+use x509_name_attribute::{Attribute, Attributes, DirectoryString};
 use x509_prim_text::Utf8String;
 
 #[test]
 fn a_request(rt: HostRuntime) -> Result<(), Fail> {
     let request = CertReq::try_from_bytes(rt.alloc(), REQUEST)?;
     assert!(rt; request.signature.raw_bytes() == [0xAB, 0xCD].as_slice());
+    assert!(rt; asks_for_none(&rt, &request)?);
     Ok(())
+}
+
+/// Whether the request asks for an empty list of extensions, and has no password.
+fn asks_for_none(rt: &HostRuntime, request: &CertReq) -> Result<bool, Error> {
+    let password = request.get_attribute::<ChallengePassword>(rt.alloc())?;
+    Ok(match request.extension_req(rt.alloc())? {
+        Some(asked) => asked.0.is_empty() && password.is_none(),
+        None => false,
+    })
+}
+
+/// Whether the one attribute of these bytes has the password pw.
+fn has_password(rt: &HostRuntime, bytes: &[u8]) -> Result<bool, Error> {
+    let mut attributes = Attributes::new(rt.alloc());
+    attributes.insert(Attribute::from_der(rt.alloc(), bytes)?)?;
+    Ok(
+        match get_attribute::<ChallengePassword>(rt.alloc(), &attributes)? {
+            Some(password) => password.0.as_ref() == "pw",
+            None => false,
+        },
+    )
 }
 
 /// The password pw.
@@ -46,6 +68,7 @@ fn password(rt: &HostRuntime) -> Result<Attribute, Error> {
 #[test]
 fn attributes(rt: HostRuntime) -> Result<(), Fail> {
     assert!(rt; is_spelled(&rt, password(&rt), PASSWORD)?);
+    assert!(rt; has_password(&rt, PASSWORD)?);
     let none = ExtensionReq::new(rt.alloc());
     let made = extension_req_attribute(rt.alloc(), none);
     assert!(rt; is_spelled(&rt, made, NO_EXTENSIONS)?);

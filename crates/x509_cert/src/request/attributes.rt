@@ -7,7 +7,7 @@ use crate::request::identifiers::pkcs_9;
 use std::alloc::Global;
 use x509_der::{AssociatedOid, ObjectIdentifier, SetOfVec};
 use x509_der_frames::Any;
-use x509_der_grammar::{Encode, Error, Grammar, Room, Tag, Tagged};
+use x509_der_grammar::{Decode, Encode, Error, Grammar, Room, Tag, Tagged, TryClone};
 use x509_name_attribute::{Attribute, DirectoryString};
 
 /// A value that an attribute of a request may have. The type of the attribute is the identifier of the value's type.
@@ -39,13 +39,13 @@ pub(crate) fn attribute_of<T: Encode>(
     Ok(Attribute { oid, values })
 }
 
-/// A password by which the subject may ask later that the certificate be revoked (RFC 2985 5.4.1). It is encoded as its
-/// text is, and isn't read. Its identifier is 1.2.840.113549.1.9.7.
+/// A password by which the subject may ask later that the certificate be revoked (RFC 2985 5.4.1). It is read and written as its
+/// text is. Its identifier is 1.2.840.113549.1.9.7.
 ///
 /// ```text
 /// ChallengePassword ::= DirectoryString
 /// ```
-#[derive(Drop)]
+#[derive(Debug, Drop, PartialEq, Eq)]
 pub struct ChallengePassword(pub DirectoryString);
 
 impl AssociatedOid for ChallengePassword {
@@ -74,6 +74,18 @@ impl Grammar for ChallengePassword {
     }
 
     ghost lawful = { grammar.challenge_password_lawful };
+}
+
+impl Decode for ChallengePassword {
+    fn read(alloc: Global, tag: u8, content: &[u8]) -> Result<ChallengePassword, Error> {
+        Ok(ChallengePassword(DirectoryString::read(alloc, tag, content)?))
+    }
+}
+
+impl TryClone for ChallengePassword {
+    fn try_clone(&self, alloc: Global) -> Result<ChallengePassword, Error> {
+        Ok(ChallengePassword(self.0.try_clone(alloc)?))
+    }
 }
 
 impl Encode for ChallengePassword {

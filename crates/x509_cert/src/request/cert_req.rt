@@ -1,18 +1,23 @@
 //! Requests for certificates.
 
 ghost use Rattle.std.specs.Prelude.{◌≡◌, ◌<◌, ◌≤◌, ◌⊎◌, length, IfOk, IfErr, IsErrAnd};
+ghost use Rattle.x509_cert.specs.AttributeLookUp.{FindsValue, with_type};
 ghost use Rattle.x509_cert.specs.CertReq.{cert_req};
+ghost use Rattle.x509_cert.specs.Identifiers.{pkcs_9};
 ghost use Rattle.x509_cert.specs.declared.request.cert_req.CertReq.{CertReq};
 ghost use Rattle.x509_der_element.specs.Element.{limit};
 ghost use Rattle.x509_der_element.specs.declared.error.ErrorKind.TheVariants as errors;
 ghost use Rattle.x509_der_grammar.specs.Form.{Spells};
 
+use crate::request::extension_req::ExtensionReq;
+use crate::request::look_up::get_attribute;
 use crate::request::version::Version;
 use std::alloc::Global;
 use x509_base::{AlgorithmIdentifier, SubjectPublicKeyInfo};
 use x509_cert_extension::Name;
+use x509_der::AssociatedOid;
 use x509_der_frames::{PutPart, end, field, implicit, implicit_field};
-use x509_der_grammar::{Content, Decode, Error, Room, Tag, TryClone};
+use x509_der_grammar::{Content, Decode, Error, Grammar, Room, Tag, TryClone};
 use x509_name_attribute::Attributes;
 use x509_prim::BitString;
 
@@ -146,6 +151,32 @@ impl CertReq {
         ensures refused { length bytes.now ≤ limit → IfErr result (λ e. (e.kind ≡ errors.Memory) ⊎ (e.kind ≡ errors.Malformed)) }
     {
         CertReq::from_der(alloc, bytes)
+    }
+
+    /// The value of the attribute whose type is the identifier of the value's type, as [`ChallengePassword`](crate::request::attributes::ChallengePassword).
+    ///
+    /// # Errors
+    ///
+    /// Those of [`get_attribute`].
+    pub fn get_attribute<T: AssociatedOid + Decode>(
+        &self,
+        alloc: Global,
+    ) -> Result<Option<T>, Error>
+        ensures { FindsValue T.form T.refuses T.wants_memory (with_type T.OID self.now.info.attributes) result }
+    {
+        get_attribute(alloc, &self.info.attributes)
+    }
+
+    /// The extensions that are asked for (RFC 2985 5.4.2): `None` exactly where no attribute asks for extensions.
+    ///
+    /// # Errors
+    ///
+    /// `Failed` exactly where two or more attributes ask for extensions, or where the one has no value, or two or more; else `Malformed` exactly where its one value is
+    /// no [`ExtensionReq`]. Memory may be refused.
+    pub fn extension_req(&self, alloc: Global) -> Result<Option<ExtensionReq>, Error>
+        ensures { FindsValue ⟦<ExtensionReq as Grammar>⟧.form ⟦<ExtensionReq as Grammar>⟧.refuses ⟦<ExtensionReq as Decode>⟧.wants_memory (with_type (pkcs_9 14) self.now.info.attributes) result }
+    {
+        get_attribute(alloc, &self.info.attributes)
     }
 }
 
