@@ -1,10 +1,10 @@
 //! What a CRL says.
 
 ghost use Rattle.std.specs.Prelude.{◌≡◌, length};
-ghost use Rattle.x509_c_crl.specs.Entries.{entries};
 ghost use Rattle.x509_c_crl.specs.Revoked.{LooksUp};
 ghost use Rattle.x509_c_status.specs.Calls.{Reads};
 ghost use Rattle.x509_c_status.specs.Status.{Tells};
+ghost use Rattle.x509_cert.specs.Revoked.{entries};
 ghost use Rattle.x509_cert_extension.specs.LookUp.{Finds, members, with_oid};
 
 use std::alloc::Global;

@@ -1,12 +1,12 @@
 -- What a CRL says of a revoked certificate (RFC 5280 5.3).
-use Rattle.std.specs.Prelude.{◌≡◌, ◌⊎◌, ℕ, ℤ, pos, negsuc, Bool, List, [], ◌∷◌, filter, bytes_eq, Option, Some, None, Result, Ok, Err}
+use Rattle.std.specs.Prelude.{◌≡◌, ◌⊎◌, ℕ, ℤ, pos, negsuc, Bool, List, [], Option, Some, None, Result, Ok, Err}
 use Rattle.x509_base_time.specs.CivilTime.{unix_seconds}
 use Rattle.x509_base_time.specs.Time.{date_time_of}
-use Rattle.x509_c_crl.specs.Entries.{entries}
 use Rattle.x509_c_crl.specs.declared.lookup.Revocation.{Revocation}
 use Rattle.x509_tool_table.specs.Reencoding.{IsRefused}
 use Rattle.x509_c_status.specs.declared.status.Status.{Status}
 use Rattle.x509_c_status.specs.declared.status.Status.TheVariants.{Done, NoRoom, Absent, Repeated, Faulty, Refused}
+use Rattle.x509_cert.specs.Revoked.{IsFirstWith, entries, with_serial}
 use Rattle.x509_cert.specs.declared.crl.certificate_list.CertificateList.{CertificateList}
 use Rattle.x509_cert.specs.declared.crl.revoked_cert.RevokedCert.{RevokedCert}
 use Rattle.x509_der_element.specs.declared.error.Error.{Error}
@@ -15,10 +15,6 @@ use Rattle.x509_der_element.specs.declared.error.ErrorKind.TheVariants.{Memory}
 use Rattle.x509_der_grammar.specs.Form.{Form, Spells}
 use Rattle.x509_pkix.specs.CrlReason.{crl_reason_number}
 use Rattle.x509_pkix.specs.declared.crl_reason.CrlReason.{CrlReason}
-
--- the entries with this serial number, in their order
-abbrev pub with_serial : {P : Type 0} → List ℕ → List (RevokedCert P) → List (RevokedCert P)
-with_serial number entries = filter (λ e. bytes_eq e.serial_number number) entries
 
 -- the number of the reason that was found; -1 where there is none
 abbrev pub reason_number : Option (Bool × CrlReason) → ℤ
@@ -45,8 +41,7 @@ pub record Asked {P : Type 0} (list_form : Form (CertificateList P)) (serial_for
 -- the first entry of the list with the number
 pub record FirstEntry {P : Type 0} (number : List ℕ) (list : List (RevokedCert P)) : Type 0 where
   pub entry : RevokedCert P
-  pub others : List (RevokedCert P)
-  pub first : with_serial number list ≡ entry ∷ others
+  pub first : IsFirstWith number list entry
 
 -- What a list says of a number. Done: what the first entry with the number says. Absent: there is none. A refusal is that of the entry's reason. What
 -- isn't filled in stays as it was.

@@ -4,5 +4,5 @@
 mod list;
 mod lookup;
 
-pub use list::{crl_walk, entries};
+pub use list::crl_walk;
 pub use lookup::{Revocation, crl_lookup};

@@ -1,24 +1,14 @@
 //! The entries of a list.
 
 ghost use Rattle.std.specs.Prelude.{◌≡◌, length};
-ghost use Rattle.x509_c_crl.specs.Entries.{entries};
+ghost use Rattle.x509_cert.specs.Revoked.{entries};
 ghost use Rattle.x509_c_status.specs.Calls.{Reads};
 
 use std::alloc::Global;
 use x509_base_time::Rfc5280;
 use x509_c_status::Status;
-use x509_cert::crl::{CertificateList, RevokedCert};
+use x509_cert::crl::CertificateList;
 use x509_der_grammar::{Decode, Grammar};
-
-/// The entries of the list, none where they are left out.
-pub fn entries(list: &CertificateList<Rfc5280>) -> &[RevokedCert<Rfc5280>]
-    ensures { result.now ≡ entries list.now.tbs_cert_list.revoked_certificates }
-{
-    match &list.tbs_cert_list.revoked_certificates {
-        Some(entries) => entries.as_slice(),
-        None => &[],
-    }
-}
 
 /// Reads a CRL under the rules of RFC 5280, and says how many entries it has. Where it is refused,
 /// the count stays as it was.
@@ -28,7 +18,7 @@ pub fn crl_walk(alloc: Global, input: &[u8], count: &mut usize) -> Status
 {
     match CertificateList::<Rfc5280>::from_der(alloc, input) {
         Ok(list) => {
-            *count = entries(&list).len();
+            *count = list.tbs_cert_list.entries().len();
             Status::Done
         }
         Err(e) => e.into(),

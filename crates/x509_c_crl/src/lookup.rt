@@ -1,11 +1,10 @@
 //! What a list says of a certificate.
 
-ghost use Rattle.std.specs.Prelude.{◌≡◌, ◌∷◌, [], MatchOption};
-ghost use Rattle.x509_c_crl.specs.Entries.{entries};
-ghost use Rattle.x509_c_crl.specs.Revoked.{LooksUp, Revokes, Tells, reason_number, with_serial};
+ghost use Rattle.std.specs.Prelude.{◌≡◌};
+ghost use Rattle.x509_c_crl.specs.Revoked.{LooksUp, Revokes, Tells, reason_number};
+ghost use Rattle.x509_cert.specs.Revoked.{entries};
 ghost use Rattle.x509_cert_extension.specs.LookUp.{Finds, members, with_oid};
 
-use crate::list::entries;
 use std::alloc::Global;
 use x509_base::SerialNumber;
 use x509_base_time::Rfc5280;
@@ -24,23 +23,6 @@ pub struct Revocation {
 
     /// The number of the reason (RFC 5280 5.3.1); -1 where the entry gives none.
     pub reason: i32,
-}
-
-/// The first entry with the serial number, and those behind it.
-fn split_first_with<'a>(
-    entries: &'a [RevokedCert<Rfc5280>],
-    serial_number: &SerialNumber<Rfc5280>,
-) -> Option<(&'a RevokedCert<Rfc5280>, &'a [RevokedCert<Rfc5280>])>
-    ensures { MatchOption result (with_serial serial_number.now entries.now ≡ []) (λ found. with_serial serial_number.now entries.now ≡ found.0.now ∷ with_serial serial_number.now found.1.now) }
-{
-    let mut rest = entries;
-    while let Some((first, others)) = rest.split_first() {
-        if first.serial_number == *serial_number {
-            return Some((first, others));
-        }
-        rest = others;
-    }
-    None
 }
 
 /// The number of a reason, -1 for none.
@@ -68,13 +50,13 @@ fn revocation_of(alloc: Global, entry: &RevokedCert<Rfc5280>) -> Result<Revocati
 #[tactic(auto, unfolding(crate::specs::Revoked::Tells))]
 fn ask(
     alloc: Global,
-    entries: &[RevokedCert<Rfc5280>],
+    list: &CertificateList<Rfc5280>,
     serial_number: &SerialNumber<Rfc5280>,
     revocation: &mut Revocation,
 ) -> Status
-    ensures { Tells (λ e found. Finds ⟦<CrlReason as Grammar>⟧.form ⟦<CrlReason as Grammar>⟧.refuses ⟦<CrlReason as Decode>⟧.wants_memory (with_oid ⟦<CrlReason as AssociatedOid>⟧.OID (members e.crl_entry_extensions)) found) entries.now serial_number.now revocation.old revocation.new result }
+    ensures { Tells (λ e found. Finds ⟦<CrlReason as Grammar>⟧.form ⟦<CrlReason as Grammar>⟧.refuses ⟦<CrlReason as Decode>⟧.wants_memory (with_oid ⟦<CrlReason as AssociatedOid>⟧.OID (members e.crl_entry_extensions)) found) (entries list.now.tbs_cert_list.revoked_certificates) serial_number.now revocation.old revocation.new result }
 {
-    let Some((entry, _)) = split_first_with(entries, serial_number) else {
+    let Some(entry) = list.find(serial_number) else {
         return Status::Absent;
     };
     match revocation_of(alloc, entry) {
@@ -105,5 +87,5 @@ pub fn crl_lookup(
         Ok(serial_number) => serial_number,
         Err(e) => return Status::Refused(e),
     };
-    ask(alloc, entries(&list), &serial_number, revocation)
+    ask(alloc, &list, &serial_number, revocation)
 }

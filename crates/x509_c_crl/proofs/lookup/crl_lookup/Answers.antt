@@ -13,4 +13,4 @@ returns-in-Err-read c = inr (c.in-Err-read.e, refl, refl, refused_behind (c.in-O
 
 pub returns : goal.returns
 unfolding LooksUp
-returns c = inl (record { list = c.in-Ok.list; number = _; list_spelled = c.in-Ok.ensures; number_spelled = c.in-Ok-read.ensures }, rw c.entries.ensures at c.ask.ensures)
+returns c = inl (record { list = c.in-Ok.list; number = _; list_spelled = c.in-Ok.ensures; number_spelled = c.in-Ok-read.ensures }, c.ask.ensures)
