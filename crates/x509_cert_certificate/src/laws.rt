@@ -5,12 +5,14 @@
 //! what follows from what [`dates_are_written_once`] says: that decoding what was written and writing it again gives the same
 //! bytes, and that what was written reads as the value that is spelled.
 
-ghost use Rattle.std.specs.Prelude.{◌≡◌, ◌≤◌, ◌↔◌, List, ℕ, length};
+ghost use Rattle.std.specs.Prelude.{List, length, true, ℕ, ◌↔◌, ◌≡◌, ◌≤◌};
 ghost use Rattle.x509_base_time.specs.Validity.{validity};
 ghost use Rattle.x509_base_time.specs.declared.profile.Raw as raw;
 ghost use Rattle.x509_base_time.specs.declared.profile.Rfc5280 as rfc5280;
 ghost use Rattle.x509_cert_certificate.specs.Respelling.{HasRfc5280Dates, Stays, any_certificate, any_certificates, any_tbs_certificate};
 ghost use Rattle.x509_cert_certificate.specs.declared.certificate.CertificateInner as whole;
+ghost use Rattle.x509_cert_certificate.specs.declared.tbs_certificate.TbsCertificateInner.{TbsCertificateInner};
+ghost use Rattle.x509_cert_certificate.specs.declared.version.Version.{Version};
 ghost use Rattle.x509_cert_signed.specs.Signed.{IsSignedPart};
 ghost use Rattle.x509_der_grammar.specs.Form.{Spells, spelling};
 ghost use Rattle.x509_der_element.specs.Element.{limit};
@@ -18,6 +20,7 @@ ghost use Rattle.x509_der_grammar.specs.Writing.{IsStable, IsWritable, RespellsA
 
 use crate::certificate::CertificateInner;
 use crate::tbs_certificate::TbsCertificateInner;
+use crate::version::Version;
 use x509_base_time::{Profile, Raw, Rfc5280, Validity};
 use x509_der_frames::SequenceOf;
 use x509_der_grammar::{Encode, Grammar, Spelled};
@@ -100,3 +103,12 @@ pub fn raw_certificates_are_read_as_meant(certificate: &CertificateInner<Raw>)
 {
     certificate.has_spelling();
 }
+
+/// Under every profile `==` of certificates, of their signed parts and of versions holds exactly of equal values. Dates in two
+/// spellings differ, and so do serial numbers with other octets.
+#[tactic(auto, using(crate::specs::Equality::exact_version))]
+pub fn equality_of_certificates_is_exact<P: Profile>()
+    ensures versions { (a b : Version) → (⟦<Version as PartialEq>⟧.eq a b ≡ true) ↔ (a ≡ b) }
+    ensures signed { (a b : TbsCertificateInner P) → (⟦<TbsCertificateInner<P> as PartialEq>⟧.eq a b ≡ true) ↔ (a ≡ b) }
+    ensures whole { (a b : whole.CertificateInner P) → (⟦<CertificateInner<P> as PartialEq>⟧.eq a b ≡ true) ↔ (a ≡ b) }
+{}

@@ -9,3 +9,4 @@ pub mod PartyRows
 pub mod ExtendedKeyUsage
 pub mod SubjectDirectoryAttributes
 pub mod SubjectKeyIdentifier
+pub mod Equality

@@ -3,3 +3,4 @@ pub mod EdiPartyName
 pub mod GeneralName
 pub mod HardwareModuleName
 pub mod OtherName
+pub mod Equality

@@ -5,6 +5,7 @@ mod distribution_point_name;
 mod edi_party_name;
 mod general_name;
 mod hardware_module_name;
+pub mod laws;
 mod other_name;
 
 pub use distribution_point_name::DistributionPointName;

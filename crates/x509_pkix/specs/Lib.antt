@@ -6,3 +6,4 @@ pub mod DistributionPoint
 pub mod IssuingDistributionPoint
 pub mod Rows
 pub mod CrlNumber
+pub mod Equality

@@ -8,3 +8,4 @@ pub mod PolicyMapping
 pub mod PolicyConstraints
 pub mod Rows
 pub mod InhibitAnyPolicy
+pub mod Equality

@@ -4,6 +4,7 @@
 mod certificate_policies;
 mod display_text;
 mod inhibit_any_policy;
+pub mod laws;
 mod policy_constraints;
 mod policy_information;
 mod policy_mapping;

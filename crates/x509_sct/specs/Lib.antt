@@ -4,4 +4,5 @@ pub mod TimestampList
 pub mod Identifier
 pub mod Payload
 pub mod Poison
+pub mod Equality
 pub use Rattle.x509_sct_tls.specs as sct_tls

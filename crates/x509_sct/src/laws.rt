@@ -1,9 +1,26 @@
 //! What holds of signed certificate timestamps. Each law is a function with an empty body, whose contract is the law.
 
-ghost use Rattle.std.specs.Prelude.{◌≡◌, [], ◌∷◌};
+ghost use Rattle.std.specs.Prelude.{◌≡◌, ◌↔◌, [], ◌∷◌, true};
 ghost use Rattle.x509_der.specs.Arcs.{content_of};
 ghost use Rattle.x509_sct.specs.Identifier.{embedded_timestamps, precertificate_poison};
+ghost use Rattle.x509_sct.specs.declared.error.Error.{Error};
+ghost use Rattle.x509_sct.specs.declared.list.SignedCertificateTimestampList.{SignedCertificateTimestampList};
+ghost use Rattle.x509_sct.specs.declared.serialized.SerializedSct.{SerializedSct};
+ghost use Rattle.x509_sct.specs.declared.signed.DigitallySigned.{DigitallySigned};
+ghost use Rattle.x509_sct.specs.declared.signed.HashAlgorithm.{HashAlgorithm};
+ghost use Rattle.x509_sct.specs.declared.signed.SignatureAlgorithm.{SignatureAlgorithm};
+ghost use Rattle.x509_sct.specs.declared.signed.SignatureAndHashAlgorithm.{SignatureAndHashAlgorithm};
+ghost use Rattle.x509_sct.specs.declared.timestamp.LogId.{LogId};
+ghost use Rattle.x509_sct.specs.declared.timestamp.SignedCertificateTimestamp.{SignedCertificateTimestamp};
+ghost use Rattle.x509_sct.specs.declared.timestamp.Version.{Version};
 
+use crate::error::Error;
+use crate::list::SignedCertificateTimestampList;
+use crate::serialized::SerializedSct;
+use crate::signed::{
+    DigitallySigned, HashAlgorithm, SignatureAlgorithm, SignatureAndHashAlgorithm,
+};
+use crate::timestamp::{LogId, SignedCertificateTimestamp, Version};
 pub use x509_sct_tls::laws as sct_tls;
 
 /// The identifier of the list is 1.3.6.1.4.1.11129.2.4.2 (RFC 6962 section 3.3).
@@ -16,4 +33,20 @@ pub fn identifier_of_embedded_timestamps()
 #[tactic(auto, unfolding(x509_der::specs::Arcs::subidentifier))]
 pub fn identifier_of_the_poison()
     ensures { precertificate_poison ≡ content_of (1 ∷ 3 ∷ 6 ∷ 1 ∷ 4 ∷ 1 ∷ 11129 ∷ 2 ∷ 4 ∷ 3 ∷ []) }
+{}
+
+/// `==` of timestamps and of what stands in them holds exactly of equal values: of lists and of serialized timestamps, where
+/// they have the same octets.
+#[tactic(auto, using(crate::specs::Equality::exact_hash_algorithm, crate::specs::Equality::exact_signature_algorithm, crate::specs::Equality::exact_signature_and_hash_algorithm, crate::specs::Equality::exact_digitally_signed, crate::specs::Equality::exact_version, crate::specs::Equality::exact_log_id, crate::specs::Equality::exact_signed_certificate_timestamp, crate::specs::Equality::exact_serialized_sct, crate::specs::Equality::exact_signed_certificate_timestamp_list, crate::specs::Equality::exact_timestamp_error))]
+pub fn equality_of_timestamps_is_exact()
+    ensures hashes { (a b : HashAlgorithm) → (⟦<HashAlgorithm as PartialEq>⟧.eq a b ≡ true) ↔ (a ≡ b) }
+    ensures signature_algorithms { (a b : SignatureAlgorithm) → (⟦<SignatureAlgorithm as PartialEq>⟧.eq a b ≡ true) ↔ (a ≡ b) }
+    ensures algorithms { (a b : SignatureAndHashAlgorithm) → (⟦<SignatureAndHashAlgorithm as PartialEq>⟧.eq a b ≡ true) ↔ (a ≡ b) }
+    ensures signatures { (a b : DigitallySigned) → (⟦<DigitallySigned as PartialEq>⟧.eq a b ≡ true) ↔ (a ≡ b) }
+    ensures versions { (a b : Version) → (⟦<Version as PartialEq>⟧.eq a b ≡ true) ↔ (a ≡ b) }
+    ensures logs { (a b : LogId) → (⟦<LogId as PartialEq>⟧.eq a b ≡ true) ↔ (a ≡ b) }
+    ensures timestamps { (a b : SignedCertificateTimestamp) → (⟦<SignedCertificateTimestamp as PartialEq>⟧.eq a b ≡ true) ↔ (a ≡ b) }
+    ensures serialized { (a b : SerializedSct) → (⟦<SerializedSct as PartialEq>⟧.eq a b ≡ true) ↔ (a ≡ b) }
+    ensures lists { (a b : SignedCertificateTimestampList) → (⟦<SignedCertificateTimestampList as PartialEq>⟧.eq a b ≡ true) ↔ (a ≡ b) }
+    ensures errors { (a b : Error) → (⟦<Error as PartialEq>⟧.eq a b ≡ true) ↔ (a ≡ b) }
 {}

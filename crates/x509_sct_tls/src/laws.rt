@@ -1,10 +1,12 @@
 //! What holds of all types with a form of TLS. Each law is a function with an empty body, whose contract is the law.
 
-ghost use Rattle.std.specs.Prelude.{◌≡◌, ◌++◌, ◌⊎◌, List, ℕ};
+ghost use Rattle.std.specs.Prelude.{◌≡◌, ◌↔◌, ◌++◌, ◌⊎◌, List, ℕ, true};
 ghost use Rattle.x509_sct_tls.specs.declared.error.TlsError.{TlsError};
 ghost use Rattle.x509_sct_tls.specs.Form.{AreOctets, Begins};
 
+use crate::error::TlsError;
 use crate::tls::Tls;
+use crate::vector::TlsByteVecU16;
 
 /// No value's bytes begin those of another, and no two values have the same bytes.
 pub fn one_value_in_front<T: Tls>()
@@ -20,4 +22,10 @@ pub fn a_value_or_a_fault<T: Tls>()
 pub fn one_fault<T: Tls>()
     ensures none { (input : List ℕ) (v : T) (rest : List ℕ) (e : TlsError) → Begins T.form v rest input → T.form.fault input e → ⊥ }
     ensures one { (input : List ℕ) (d e : TlsError) → T.form.fault input d → T.form.fault input e → d ≡ e }
+{}
+
+/// `==` holds exactly of vectors of the same bytes, and of errors of the same kind.
+pub fn equality_of_vectors_is_exact()
+    ensures vectors { (a b : List ℕ) → (⟦<TlsByteVecU16 as PartialEq>⟧.eq a b ≡ true) ↔ (a ≡ b) }
+    ensures errors { (a b : TlsError) → (⟦<TlsError as PartialEq>⟧.eq a b ≡ true) ↔ (a ≡ b) }
 {}
