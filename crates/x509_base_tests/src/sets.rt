@@ -1,9 +1,12 @@
 //! Sets.
 
-use crate::calls::{makes, stays};
+use crate::calls::{is_refused, makes, stays};
 use std::cmp::Ordering;
 use std::test::*;
-use x509_der::{DerOrd, Error, ErrorKind, SetOfVec, ValueOrd, cmp_members};
+use x509_base::AlgorithmIdentifier;
+use x509_der::{DerOrd, Error, ErrorKind, ObjectIdentifier, SetOfVec, ValueOrd, cmp_members};
+use x509_der_grammar::Decode;
+use x509_probe::Digests;
 
 /// The set of all numbers below 300, put in out of order.
 fn many(rt: &HostRuntime) -> Result<SetOfVec<u32>, Error> {
@@ -59,5 +62,34 @@ fn numbers_in_order(rt: HostRuntime) {
 fn shown(rt: HostRuntime) -> Result<(), Fail> {
     let numbers = Vec::from_slice(rt.alloc(), &[9_u32, 300, 4])?;
     assert!(rt; makes(&rt, SetOfVec::try_from_vec(numbers), "[4, 9, 300]")?);
+    Ok(())
+}
+
+#[test]
+fn object_identifiers(rt: HostRuntime) -> Result<(), Fail> {
+    let sorted = [0x31, 10, 6, 3, 0x55, 4, 3, 6, 3, 0x55, 4, 6];
+    assert!(rt; stays::<SetOfVec<ObjectIdentifier>>(&rt, &sorted)?);
+    Ok(())
+}
+
+/// A type round a set of algorithms.
+#[test]
+fn algorithms_of_digests(rt: HostRuntime) -> Result<(), Fail> {
+    let sorted = [
+        0x31, 0x10, 0x30, 0x05, 0x06, 0x03, 0x2A, 0x03, 0x04, 0x30, 0x07, 0x06, 0x03, 0x2A, 0x03,
+        0x04, 0x05, 0x00,
+    ];
+    let unsorted = [
+        0x31, 0x10, 0x30, 0x07, 0x06, 0x03, 0x2A, 0x03, 0x04, 0x05, 0x00, 0x30, 0x05, 0x06, 0x03,
+        0x2A, 0x03, 0x04,
+    ];
+    assert!(rt; stays::<Digests>(&rt, &sorted)?);
+    assert!(rt; stays::<SetOfVec<AlgorithmIdentifier>>(&rt, &sorted)?);
+    assert!(rt;
+        is_refused(
+            Digests::from_der(rt.alloc(), &unsorted),
+            ErrorKind::Malformed
+        )
+    );
     Ok(())
 }
