@@ -16,8 +16,8 @@ pub use x509_pkix_policy::{
     PolicyMapping, PolicyMappings,
 };
 pub use x509_sct::{
-    Error, HashAlgorithm, SerializedSct, SignatureAlgorithm, SignatureAndHashAlgorithm,
-    SignedCertificateTimestamp, SignedCertificateTimestampList, Version,
+    CtPrecertificatePoison, Error, HashAlgorithm, SerializedSct, SignatureAlgorithm,
+    SignatureAndHashAlgorithm, SignedCertificateTimestamp, SignedCertificateTimestampList, Version,
 };
 
 /// Policies of certificates.
@@ -65,8 +65,8 @@ pub mod name {
 /// Signed certificate timestamps (RFC 6962).
 pub mod sct {
     pub use x509_sct::{
-        DigitallySigned, Error, HashAlgorithm, LogId, SerializedSct, SignatureAlgorithm,
-        SignatureAndHashAlgorithm, SignedCertificateTimestamp, SignedCertificateTimestampList, Tls,
-        TlsByteVecU16, TlsError, Version,
+        CtPrecertificatePoison, DigitallySigned, Error, HashAlgorithm, LogId, SerializedSct,
+        SignatureAlgorithm, SignatureAndHashAlgorithm, SignedCertificateTimestamp,
+        SignedCertificateTimestampList, Tls, TlsByteVecU16, TlsError, Version,
     };
 }
