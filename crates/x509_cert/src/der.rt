@@ -3,7 +3,7 @@
 pub use x509_der::AssociatedOid;
 pub use x509_der_element::{Error, ErrorKind, Header, Length, Tag, TagNumber};
 pub use x509_der_frames::FromAny;
-pub use x509_der_grammar::{Decode, Encode, FixedTag, Tagged, TryClone};
+pub use x509_der_grammar::{Decode, Encode, FixedTag, Spelled, Tagged, TryClone};
 pub use x509_der_order::{DerOrd, ValueOrd};
 
 /// The types of ASN.1.

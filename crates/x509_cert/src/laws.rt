@@ -1,6 +1,6 @@
 //! What holds of all values, of certificates, of CRLs, of requests and of signed bytes. Each law is a function whose contract is the
 //! law. Those of the layers below stand in a module for each layer: [`der`], [`prim`], [`base`] (times, serial numbers, algorithms and
-//! keys), [`name`], [`ext`], [`sct`] and [`anchor`]. By which forms the types are read and written stands in [`forms`].
+//! keys), [`name`], [`ext`], [`pkix`], [`sct`] and [`anchor`]. By which forms the types are read and written stands in [`forms`].
 
 ghost use Rattle.std.specs.Prelude.{◌≡◌, List, ℕ, None, ◌<◌, [], ◌∷◌};
 ghost use Rattle.x509_cert.specs.AnySerial.{any_certificate_list, any_revoked_cert, any_tbs_cert_list};
@@ -27,9 +27,11 @@ use crate::request::{CertReq, CertReqInfo, ExtensionReq};
 pub use x509_base::laws as base;
 use x509_base_time::Profile;
 pub use x509_cert_certificate::laws::{
-    certificates_written_alike_are_respelled_alike, dates_are_written_once, raw_certificates_stay,
-    raw_dates_are_written_once, raw_signed_bytes_are_written_again, rfc5280_dates_are_written_once,
-    rfc5280_signed_bytes_are_written_again, signed_bytes_spell_the_signed_part,
+    certificates_written_alike_are_respelled_alike, dates_are_written_once,
+    raw_certificates_are_read_as_meant, raw_certificates_stay, raw_dates_are_written_once,
+    raw_signed_bytes_are_written_again, rfc5280_certificates_are_read_as_meant,
+    rfc5280_dates_are_written_once, rfc5280_signed_bytes_are_written_again,
+    signed_bytes_spell_the_signed_part,
 };
 pub use x509_cert_signed::laws::{
     one_signed_part, signed_bytes_are_written_again, what_stands_in_front_is_signed,
@@ -37,11 +39,13 @@ pub use x509_cert_signed::laws::{
 pub use x509_der::laws as der;
 use x509_der_grammar::Encode;
 pub use x509_der_grammar::laws::{
-    no_spelling_begins_another, one_spelling, one_value, what_is_written_alike_is_respelled_alike,
+    no_spelling_begins_another, one_spelling, one_value, plain_writing_is_stable,
+    what_is_written_alike_is_respelled_alike, what_is_written_of_a_value_is_read_as_meant,
     what_was_written_reads_as_respelled, writing_again_gives_the_same,
 };
 pub use x509_ext::laws as ext;
 pub use x509_name::laws as name;
+pub use x509_pkix::laws as pkix;
 pub use x509_prim::laws as prim;
 pub use x509_sct::laws as sct;
 
@@ -98,7 +102,8 @@ pub fn passwords_are_texts()
 /// What holds of trust anchors.
 pub mod anchor {
     pub use x509_cert_anchor::laws::{
-        anchors_written_alike_are_respelled_alike, dates_are_written_once, raw_anchors_stay,
-        raw_dates_are_written_once, rfc5280_dates_are_written_once,
+        anchors_written_alike_are_respelled_alike, dates_are_written_once,
+        policy_flags_are_written_once, raw_anchors_stay, raw_dates_are_written_once,
+        rfc5280_dates_are_written_once,
     };
 }

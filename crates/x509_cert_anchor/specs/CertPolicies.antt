@@ -2,10 +2,10 @@
 use Rattle.std.specs.Prelude.{ℕ, List, [], ◌∷◌, codes, refl}
 use Rattle.x509_der_element.specs.declared.error.ErrorKind.{ErrorKind}
 use Rattle.x509_der_grammar.specs.Form.{Form, IsForm}
-use Rattle.x509_der_grammar.specs.Round.{Round, round_stable}
-use Rattle.x509_der_grammar.specs.Writing.{respelling, IsStable}
-use Rattle.x509_prim.specs.NamedBits.{named_contents, named_written, flag_bits, flag_writing}
-use Rattle.x509_prim.specs.NamedBitsLaws.{flag_bits_lawful}
+use Rattle.x509_der_grammar.specs.Round.{Round}
+use Rattle.x509_der_grammar.specs.Writing.{IsStable}
+use Rattle.x509_prim.specs.NamedBits.{flag_bits, flag_writing}
+use Rattle.x509_prim.specs.NamedBitsLaws.{flag_bits_lawful, flag_stable}
 use Rattle.x509_cert_anchor.specs.declared.cert_policies.CertPolicies.{CertPolicies}
 
 -- the named bits 0 to 2, each as the set of it alone
@@ -22,9 +22,5 @@ cert_policies = flag_bits cert_policies_set cert_policies_names
 pub cert_policies_lawful : {R : ErrorKind → Type 0} → IsForm R cert_policies
 cert_policies_lawful = flag_bits_lawful cert_policies_set cert_policies_names
 
--- a set that isn't refused is written as it is
-set_stable : (table : List (List ℕ × ℕ)) → IsStable (named_contents table).good (respelling (named_written table))
-set_stable table = record { kept = λ set good free. good; again = λ set good free. rw free refl }
-
 pub cert_policies_stable : IsStable cert_policies.good (flag_writing cert_policies_set cert_policies_names)
-cert_policies_stable = round_stable cert_policies_set (respelling (named_written cert_policies_names)) (set_stable cert_policies_names)
+cert_policies_stable = flag_stable cert_policies_set cert_policies_names

@@ -9,10 +9,11 @@ ghost use Rattle.x509_cert_anchor.specs.TrustAnchorInfo.{trust_anchor_info};
 ghost use Rattle.x509_der_grammar.specs.Writing.{IsStable, RespellsAlike};
 
 use crate::cert_path_controls::CertPathControls;
+use crate::cert_policies::CertPolicies;
 use crate::trust_anchor_choice::TrustAnchorChoice;
 use crate::trust_anchor_info::TrustAnchorInfo;
 use x509_base_time::{Profile, Raw, Rfc5280, Validity};
-use x509_der_grammar::Encode;
+use x509_der_grammar::{Encode, Grammar};
 
 /// Where what is written of a validity is written as it is, so is what is written of a trust anchor that holds one, at
 /// whatever depth: decoding and encoding twice gives the bytes of once.
@@ -55,4 +56,9 @@ pub fn anchors_written_alike_are_respelled_alike<P: Profile>()
     ensures controls { IsStable validity.good ⟦<Validity<P> as Encode>⟧.writing → RespellsAlike (cert_path_controls P.serial_check) any_cert_path_controls.good ⟦<CertPathControls<P> as Encode>⟧.writing }
     ensures info { IsStable validity.good ⟦<Validity<P> as Encode>⟧.writing → RespellsAlike (trust_anchor_info P.serial_check) any_trust_anchor_info.good ⟦<TrustAnchorInfo<P> as Encode>⟧.writing }
     ensures anchor { IsStable validity.good ⟦<Validity<P> as Encode>⟧.writing → RespellsAlike (trust_anchor_choice P.serial_check) any_trust_anchor_choice.good ⟦<TrustAnchorChoice<P> as Encode>⟧.writing }
+{}
+
+/// What is written of what is asked of policies is written as it is: decoding and encoding twice gives the bytes of once.
+pub fn policy_flags_are_written_once()
+    ensures { IsStable ⟦<CertPolicies as Grammar>⟧.form.good ⟦<CertPolicies as Encode>⟧.writing }
 {}
