@@ -28,10 +28,10 @@ pub use x509_base::laws as base;
 use x509_base_time::Profile;
 pub use x509_cert_certificate::laws::{
     certificates_written_alike_are_respelled_alike, dates_are_written_once,
-    raw_certificates_are_read_as_meant, raw_certificates_stay, raw_dates_are_written_once,
-    raw_signed_bytes_are_written_again, rfc5280_certificates_are_read_as_meant,
-    rfc5280_dates_are_written_once, rfc5280_signed_bytes_are_written_again,
-    signed_bytes_spell_the_signed_part,
+    equality_of_certificates_is_exact, raw_certificates_are_read_as_meant, raw_certificates_stay,
+    raw_dates_are_written_once, raw_signed_bytes_are_written_again,
+    rfc5280_certificates_are_read_as_meant, rfc5280_dates_are_written_once,
+    rfc5280_signed_bytes_are_written_again, signed_bytes_spell_the_signed_part,
 };
 pub use x509_cert_signed::laws::{
     one_signed_part, signed_bytes_are_written_again, what_stands_in_front_is_signed,
