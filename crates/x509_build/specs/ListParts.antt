@@ -73,7 +73,7 @@ key_octets part = part.subject_public_key_info.subject_public_key.octets
 abbrev pub Starts : {P : Type 0} → (Result (Option (Bool × SubjectKeyIdentifier)) Error → Type 0) → TbsCertificateInner Rfc5280 → List ℕ → Time → CrlBuilder P → Type 0
 Starts LooksUp issuer number this_update made =
     (identifier : List ℕ) × (extensions : List Extension) × IdentifiesKey LooksUp (key_octets issuer) identifier × MakesExtensions number identifier (Ok extensions)
-    × (made ≡ record { tbs = first_part issuer.subject this_update extensions; finalized = None })
+    × (made ≡ record { tbs = first_part issuer.subject this_update extensions; extensions = extensions; finalized = None })
 
 -- why there is none: the look-up is refused, or an extension can't be made
 abbrev pub RefusesStart : (Result (Option (Bool × SubjectKeyIdentifier)) Error → Type 0) → TbsCertificateInner Rfc5280 → List ℕ → builder.Error → Type 0
@@ -92,6 +92,6 @@ abbrev pub current_part : {P : Type 0} → Option (TbsCertList P) → TbsCertLis
 current_part None part = record part { next_update = None; revoked_certificates = None }
 current_part (Some last) part = last
 
--- the part with the signer's algorithm; nothing refuses it
-abbrev pub next_part : {P : Type 0} → TbsCertList P → AlgorithmIdentifier → Answer (TbsCertList P)
-next_part part algorithm = record { value = record part { signature = algorithm }; refuses = λ e. ⊥ }
+-- the part with the extensions that the builder has, and the signer's algorithm; nothing refuses it
+abbrev pub next_part : {P : Type 0} → TbsCertList P → List Extension → AlgorithmIdentifier → Answer (TbsCertList P)
+next_part part extensions algorithm = record { value = record part { signature = algorithm; crl_extensions = Some extensions }; refuses = λ e. ⊥ }

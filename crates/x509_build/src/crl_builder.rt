@@ -2,7 +2,7 @@
 
 ghost use Rattle.std.specs.Duration.{as_nanos};
 ghost use Rattle.std.specs.Iterator.{Drains, IsFinite};
-ghost use Rattle.std.specs.Prelude.{◌≡◌, ◌⊎◌, ◌<◌, ◌≤◌, ◌++◌, List, Some, None, IfOk, IfErr, OnOk};
+ghost use Rattle.std.specs.Prelude.{◌≡◌, ◌⊎◌, ◌<◌, ◌≤◌, [], ◌∷◌, ◌++◌, List, Some, None, Ok, Err, IfOk, IfErr, OnOk, OnErr};
 ghost use Rattle.x509_base_time.specs.CivilTime.{last_date_time, unix_seconds, whole_seconds};
 ghost use Rattle.x509_base_time.specs.Time.{IsTimeAt};
 ghost use Rattle.x509_base_time.specs.declared.time.Time.{Time};
@@ -15,6 +15,7 @@ ghost use Rattle.x509_cert_extension.specs.LookUp.{Finds, with_oid};
 ghost use Rattle.x509_der_element.specs.declared.error.Error.{Error};
 ghost use Rattle.x509_der_element.specs.declared.error.ErrorKind.TheVariants.{Memory, Value};
 ghost use Rattle.x509_ext_frame.specs.Identifiers.{id_ce};
+ghost use Rattle.x509_ext_frame.specs.declared.extension.Extension.{Extension};
 
 use crate::extensions::{issuer_key, list_extensions};
 use std::alloc::Global;
@@ -26,15 +27,17 @@ use x509_cert_certificate::{Certificate, Version};
 use x509_der_frames::SequenceOf;
 use x509_der_grammar::{Decode, Encode, Error, Grammar, TryClone};
 use x509_ext::pkix::SubjectKeyIdentifier;
+use x509_ext_frame::{Extensions, ToExtension};
 use x509_pkix::CrlNumber;
 use x509_prim::BitString;
 
 /// A builder of a CRL (RFC 5280 5.1).
 ///
-/// The part that is signed is of version 2, names the subject of the issuer's certificate as issuer, and has two extensions: the
-/// number of the list, and the identifier of the issuer's key.
+/// The part that is signed is of version 2, names the subject of the issuer's certificate as issuer, and has two extensions, the
+/// number of the list and the identifier of the issuer's key, and behind them those that were added.
 pub struct CrlBuilder<P: Profile = Rfc5280> {
     tbs: TbsCertList<P>,
+    extensions: Extensions,
     finalized: Option<TbsCertList<P>>,
 }
 
@@ -86,12 +89,31 @@ impl<P: Profile> CrlBuilder<P> {
             this_update,
             next_update: None,
             revoked_certificates: None,
-            crl_extensions: Some(extensions),
+            crl_extensions: Some(extensions.try_clone(alloc)?),
         };
         Ok(CrlBuilder {
             tbs,
+            extensions,
             finalized: None,
         })
+    }
+
+    /// Adds an extension, as the delta CRL indicator or the issuing distribution point (RFC 5280 5.2), behind the number of the list, the
+    /// identifier of the key and those that were added before: made for the issuer and behind all of these. It is in the part of the
+    /// next [`finalize`](Builder::finalize). That no identifier stands there twice isn't looked at.
+    ///
+    /// # Errors
+    ///
+    /// `Asn1` of what [`ToExtension::to_extension`] answers. Memory may be refused. A builder that refuses stays as it was, and
+    /// the extension is dropped.
+    pub fn add_extension<E: ToExtension>(&mut self, alloc: Global, extension: E) -> Result<()>
+        ensures ok { OnOk result ((made : Extension) × E.makes extension self.old.tbs.issuer self.old.extensions (Ok made) × (self.new ≡ record self.old { extensions = self.old.extensions ++ made ∷ [] })) }
+        ensures err { IfErr result (λ e. LacksMemory e ⊎ ((refusal : Error) × (e ≡ Asn1 refusal) × E.makes extension self.old.tbs.issuer self.old.extensions (Err refusal))) }
+        ensures unchanged { OnErr result (self.new ≡ self.old) }
+    {
+        let made = extension.to_extension(alloc, &self.tbs.issuer, self.extensions.as_slice())?;
+        self.extensions.push(made)?;
+        Ok(())
     }
 
     /// The builder, with that moment by which the next list will be issued, or with none. It is in the part of the next
@@ -154,6 +176,7 @@ impl<P: Profile> Drop for CrlBuilder<P> {
     fn drop(self) {
         let CrlBuilder {
             tbs: _,
+            extensions: _,
             finalized: _,
         } = self;
     }
@@ -170,9 +193,9 @@ impl<P: Profile> Builder for CrlBuilder<P> {
 
     ghost current = { λ builder. parts.current_part builder.finalized builder.tbs };
 
-    ghost next = { λ builder algorithm key. parts.next_part builder.tbs algorithm };
+    ghost next = { λ builder algorithm key. parts.next_part builder.tbs builder.extensions algorithm };
 
-    ghost keeps = { λ old new. new.tbs ≡ old.tbs };
+    ghost keeps = { λ old new. (new.tbs ≡ old.tbs) × (new.extensions ≡ old.extensions) };
 
     ghost asks_algorithm = { Unit {0} };
 
@@ -186,6 +209,7 @@ impl<P: Profile> Builder for CrlBuilder<P> {
         let algorithm = signer.algorithm(alloc)?;
         let mut part = self.tbs.try_clone(alloc)?;
         part.signature = algorithm;
+        part.crl_extensions = Some(self.extensions.try_clone(alloc)?);
         let bytes = part.to_der(alloc)?;
         self.finalized = Some(part);
         Ok(bytes)
@@ -205,7 +229,11 @@ impl<P: Profile> Builder for CrlBuilder<P> {
         ensures ok { IfOk result (λ list. list ≡ record { tbs_cert_list = parts.current_part self.finalized self.tbs; signature_algorithm = (parts.current_part self.finalized self.tbs).signature; signature = signature }) }
         ensures err { IfErr result LacksMemory }
     {
-        let CrlBuilder { tbs, finalized } = self;
+        let CrlBuilder {
+            tbs,
+            extensions: _,
+            finalized,
+        } = self;
         let tbs_cert_list = match finalized {
             Some(part) => part,
             None => at_first(tbs),

@@ -11,7 +11,8 @@ use x509_cert::crl::RevokedCert;
 use x509_cert_certificate::Certificate;
 use x509_der_frames::SequenceOf;
 use x509_der_grammar::Decode;
-use x509_pkix::CrlNumber;
+use x509_pkix::{BaseCrlNumber, CrlNumber};
+use x509_prim::Uint;
 
 /// The certificate of nobody, for an empty key.
 const ISSUER: &[u8] =
@@ -129,4 +130,22 @@ fn certificates(rt: HostRuntime) -> std::result::Result<(), Fail> {
     let three = full(&rt)?.finalize(rt.alloc(), &signer);
     assert!(rt; is_answer(&rt, three, FULL, ""));
     Ok(())
+}
+
+/// The part of a delta CRL whose base has the number 41 (RFC 5280 5.2.4).
+const DELTA: &[u8] =
+    b"\x30\x5B\x02\x01\x01\x30\x05\x06\x03\x2A\x03\x04\x30\x00\x17\x0D100101083000Z\xA0\x3E\x30\x3C\x30\x0A\x06\x03\x55\x1D\x14\x04\x03\x02\x01\x2A\x30\x1F\x06\x03\x55\x1D\x23\x04\x18\x30\x16\x80\x14\xDA\x39\xA3\xEE\x5E\x6B\x4B\x0D\x32\x55\xBF\xEF\x95\x60\x18\x90\xAF\xD8\x07\x09\x30\x0D\x06\x03\x55\x1D\x1B\x01\x01\xFF\x04\x03\x02\x01\x29";
+
+/// The part to which the indicator of that base was added.
+fn delta(rt: &HostRuntime) -> Result<Vec<u8>> {
+    let mut builder = builder(rt)?;
+    let base = BaseCrlNumber(Uint::new(rt.alloc(), &[41])?);
+    builder.add_extension(rt.alloc(), &base)?;
+    builder.finalize(rt.alloc(), &ABC)
+}
+
+/// What is added stands behind the number and the identifier of the key.
+#[test]
+fn extensions(rt: HostRuntime) {
+    assert!(rt; is_answer(&rt, delta(&rt), DELTA, ""));
 }
