@@ -1,7 +1,7 @@
 //! The builder of PKCS #10 requests (CSRs).
 
 ghost use Rattle.std.specs.BTreeSet.{insert_key};
-ghost use Rattle.std.specs.Prelude.{◌≡◌, ◌⊎◌, [], ◌∷◌, ◌++◌, Contains, Ok, Err, IfOk, IfErr, OnOk, OnErr};
+ghost use Rattle.std.specs.Prelude.{◌≡◌, ◌⊎◌, [], ◌∷◌, ◌++◌, Contains, Ok, Err, IfErr, IfOk, IsOkAnd, OnOk, OnErr};
 ghost use Rattle.x509_build_profile.specs.declared.error.Error.TheVariants.{Asn1};
 ghost use Rattle.x509_build.specs.RequestParts.{first_part, next_part};
 ghost use Rattle.x509_build_profile.specs.Answer.{Gives};
@@ -38,14 +38,9 @@ pub struct RequestBuilder {
 
 impl RequestBuilder {
     /// A builder of a request of that subject. Until [`finalize`](Builder::finalize) the part has no attributes, and a key with
-    /// the algorithm 0.0.0 and no bits.
-    ///
-    /// # Errors
-    ///
-    /// Memory may be refused, and nothing else.
+    /// the algorithm 0.0.0 and no bits. It takes no memory and is never refused.
     pub fn new(alloc: Global, subject: Name) -> Result<RequestBuilder>
-        ensures ok { IfOk result (λ builder. builder ≡ record { info = first_part subject; attributes = []; extension_req = record { 0 = [] } }) }
-        ensures err { IfErr result LacksMemory }
+        ensures { IsOkAnd result (λ builder. builder ≡ record { info = first_part subject; attributes = []; extension_req = record { 0 = [] } }) }
     {
         let public_key = SubjectPublicKeyInfo {
             algorithm: no_algorithm(),
