@@ -11,6 +11,7 @@ use std::cmp::Ordering;
 use std::hash::{Hash, Hasher};
 use std::marker::Model;
 use x509_der::{DerOrd, ValueOrd};
+use x509_der_frames::members_have_spellings;
 use x509_der_grammar::{Content, Error, Room, Spelled, Tag, TryClone};
 
 /// The name of an issuer or a subject (RFC 5280 4.1.2.4). Contracts see the list of its relative distinguished names.
@@ -134,7 +135,7 @@ impl Content for Name {
 
 impl Spelled for Name {
     fn has_spelling(&self) {
-        self.0.has_spelling();
+        members_have_spellings(self.0.as_slice());
     }
 }
 
