@@ -2,6 +2,7 @@
 #![tactic(auto)]
 
 mod dated;
+mod digests;
 mod laws;
 mod moment;
 mod number;
@@ -11,6 +12,7 @@ mod purposes;
 mod ten_fields;
 
 pub use dated::{Dated, Enclosing};
+pub use digests::Digests;
 pub use laws::{dates_are_written_once, rfc5280_dates_are_written_once};
 pub use moment::Moment;
 pub use number::Number;

@@ -3,7 +3,8 @@
 use std::alloc::Global;
 use std::cmp::Ordering;
 use x509_der::{
-    Any, Content, DerOrd, Error, ObjectIdentifier, PutPart, Room, Tag, ValueOrd, end, field,
+    Any, Content, DerOrd, EncodingOrd, Error, ObjectIdentifier, PutPart, Room, SetMember, SetOrd,
+    Tag, ValueOrd, end, field,
 };
 
 /// Two fields that are always there.
@@ -61,4 +62,14 @@ impl ValueOrd for Pair {
     }
 
     ghost ordered = { pair_ordered };
+}
+
+impl SetOrd for Pair {
+    ghost set_order = { ⟦<Pair as EncodingOrd>⟧.encoding_order };
+}
+
+impl SetMember for Pair {
+    ghost use Rattle.std.specs.Prelude.{refl};
+
+    ghost in_der_order = { refl };
 }
