@@ -365,7 +365,7 @@ fn points(
     it
 }
 
-/// Names of many kinds.
+/// General names.
 fn general_names(
     it: &(
         pkix::name::DirectoryString,

@@ -26,7 +26,7 @@ pub use subject_key_identifier::{
     ID_CE_SUBJECT_KEY_IDENTIFIER, SubjectKeyIdentifier, key_identifier,
 };
 
-/// Names of many kinds.
+/// General names.
 pub mod name {
     pub use x509_ext_name::{
         DistributionPointName, EdiPartyName, GeneralName, GeneralNames, HardwareModuleName,

@@ -1,4 +1,4 @@
--- Equality of names of many kinds, and of what stands in them, is exact.
+-- Equality of general names, and of what stands in them, is exact.
 use Rattle.std.specs.Prelude.{refl}
 use Rattle.x509_der_element.specs.Exact.{IsExact, exact_octets, exact_list, exact_option, exact_both, exact_last, exact_by, exact_cases}
 use Rattle.x509_der_frames.specs.Equality.{exact_any}

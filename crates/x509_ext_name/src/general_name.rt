@@ -82,7 +82,7 @@ impl Drop for GeneralName {
     }
 }
 
-/// Names of many kinds in their order (RFC 5280 4.2.1.6). A sequence without members is read and written too.
+/// General names in their order (RFC 5280 4.2.1.6). A sequence without members is read and written too.
 ///
 /// ```text
 /// GeneralNames ::= SEQUENCE OF GeneralName

@@ -1,4 +1,4 @@
-//! Which names of many kinds, and what stands in them, are equal. Each law is a function with an empty body, whose contract is
+//! Which general names, and what stands in them, are equal. Each law is a function with an empty body, whose contract is
 //! the law.
 
 ghost use Rattle.std.specs.Prelude.{◌≡◌, ◌↔◌, true};
@@ -15,7 +15,7 @@ use crate::general_name::{GeneralName, IpAddress};
 use crate::hardware_module_name::HardwareModuleName;
 use crate::other_name::OtherName;
 
-/// `==` of names of many kinds and of what stands in them holds exactly of equal values: letters are compared with their
+/// `==` of general names and of what stands in them holds exactly of equal values: letters are compared with their
 /// case, and the same text in a name of another kind is another name.
 #[tactic(auto, using(crate::specs::Equality::exact_other_name, crate::specs::Equality::exact_edi_party_name, crate::specs::Equality::exact_general_name, crate::specs::Equality::exact_ip_address, crate::specs::Equality::exact_hardware_module_name, crate::specs::Equality::exact_distribution_point_name))]
 pub fn equality_of_general_names_is_exact()

@@ -1,4 +1,4 @@
-//! Names of many kinds, and what stands in them.
+//! General names, and what stands in them.
 #![tactic(auto)]
 
 mod distribution_point_name;

@@ -1,4 +1,4 @@
-//! Names of many kinds.
+//! General names.
 
 use crate::calls::{is_refused, is_written, stays};
 use std::test::*;

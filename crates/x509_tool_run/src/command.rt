@@ -22,7 +22,7 @@ pub enum Kind {
     /// The extensions of a certificate, a list or a request.
     Extensions,
 
-    /// Names of many kinds.
+    /// General names.
     GeneralNames,
 
     /// A whole number.

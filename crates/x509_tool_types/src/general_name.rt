@@ -1,4 +1,4 @@
-//! Names of many kinds, in front of another table.
+//! General names, in front of another table.
 
 use std::alloc::Global;
 use std::marker::PhantomData;
@@ -8,7 +8,7 @@ use x509_ext_name::{
 };
 use x509_tool_table::{Reencode, Table};
 
-/// Names of many kinds, in front of another table.
+/// General names, in front of another table.
 pub struct GeneralNameTypes<T> {
     rest: PhantomData<T>,
 }

@@ -53,7 +53,7 @@ pub mod crl {
     }
 }
 
-/// Names of many kinds.
+/// General names.
 pub mod name {
     pub use x509_ext_name::{
         DistributionPointName, EdiPartyName, GeneralName, GeneralNames, HardwareModuleName,

@@ -1,4 +1,4 @@
-//! Further names of the subject and of the issuer.
+//! Alternative names of the subject and of the issuer: SAN and IAN.
 
 ghost use Rattle.std.specs.Prelude.{◌≡◌, []};
 
@@ -12,7 +12,7 @@ use x509_ext_name::{GeneralNames, Name};
 /// The identifier of [`SubjectAltName`], 2.5.29.17.
 pub const ID_CE_SUBJECT_ALT_NAME: ObjectIdentifier = id_ce!(17);
 
-/// Further names of the subject (RFC 5280 4.2.1.6). Its identifier is 2.5.29.17. It is critical exactly where the subject is
+/// Alternative names of the subject, SAN (RFC 5280 4.2.1.6). Its identifier is 2.5.29.17. It is critical exactly where the subject is
 /// the empty name. A sequence without members is read and written too.
 ///
 /// ```text
@@ -105,7 +105,7 @@ impl AsMut<GeneralNames> for SubjectAltName {
 /// The identifier of [`IssuerAltName`], 2.5.29.18.
 pub const ID_CE_ISSUER_ALT_NAME: ObjectIdentifier = id_ce!(18);
 
-/// Further names of the issuer (RFC 5280 4.2.1.7). Its identifier is 2.5.29.18, and it isn't critical. A sequence without
+/// Alternative names of the issuer, IAN (RFC 5280 4.2.1.7). Its identifier is 2.5.29.18, and it isn't critical. A sequence without
 /// members is read and written too.
 ///
 /// ```text
