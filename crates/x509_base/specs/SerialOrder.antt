@@ -1,15 +1,15 @@
 -- The order of serial numbers: that of their encodings.
-use Rattle.std.specs.Prelude.{◌≡◌, ℕ, List, Result, bytes_eq}
+use Rattle.std.specs.Prelude.{◌≡◌, ◌↔◌, ℕ, true, List, Result, bytes_eq}
 use Rattle.std.specs.Ordering.{eq_by_cmp}
+use Rattle.std.specs.Cmp.{IsTotalOrder, Equal-is}
 use Rattle.std.specs.declared.cmp.Ordering.TheVariants.{Equal}
-use Rattle.std.specs.Cmp.{IsTotalOrder, both_ways, Equal-is}
+use Rattle.std.proofs.Common.{sym, ◌∙◌}
 use Rattle.std.specs.Cmp.Lexicographic.{bytes_decides}
-use Rattle.std.proofs.Common.{subst}
-use Rattle.std.proofs.lemmas.Cmp.{tied_itself}
 use Rattle.x509_der_element.specs.declared.error.ErrorKind.{ErrorKind}
 use Rattle.x509_der_grammar.specs.Writing.{Written, plain, writes}
 use Rattle.x509_der_order.specs.Order.{Order, IsOrder, IsDerOrder, HasEncoding, der_order}
 use Rattle.x509_der_order.specs.Ordered.{by_bytes, by_bytes_lawful, der_lawful}
+use Rattle.x509_der_order.specs.OrderEquality.{order_ties}
 use Rattle.x509_der_grammar.specs.Form.{spelling}
 use Rattle.x509_base.specs.Serial.{serial_number}
 
@@ -28,6 +28,9 @@ serial_total check = (lawful check).total
 
 -- equal in this order are equal numbers alone
 pub serial_ties : (check : List ℕ → Result Unit ErrorKind) (x y : List ℕ) → bytes_eq x y ≡ eq_by_cmp (serial_order check) x y
-serial_ties check x y = both_ways (bytes_eq x y) (eq_by_cmp (serial_order check) x y)
-    (λ e. (Equal-is (serial_order check x y)).1 (subst (λ (z : List ℕ). serial_order check x z ≡ Equal) ((bytes_decides x y).0 e) (tied_itself (serial_total check) x)))
-    (λ e. (bytes_decides x y).1 ((lawful check).exact x y ((Equal-is (serial_order check x y)).0 e)))
+serial_ties check = order_ties (lawful check) bytes_eq bytes_decides
+
+-- neither of two numbers is before the other exactly where they are equal
+pub equal_numbers_tie : (check : List ℕ → Result Unit ErrorKind) (x y : List ℕ) → (bytes_eq x y ≡ true) ↔ (serial_order check x y ≡ Equal)
+equal_numbers_tie check x y =
+    (λ e. (Equal-is (serial_order check x y)).0 (sym (serial_ties check x y) ∙ e), λ e. serial_ties check x y ∙ (Equal-is (serial_order check x y)).1 e)

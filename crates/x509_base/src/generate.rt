@@ -6,7 +6,7 @@ ghost use Rattle.x509_base.specs.Fills.{are_lengths, Draws, GivesZeros};
 ghost use Rattle.x509_base.specs.Serial.{number_content};
 
 use crate::serial_number::SerialNumber;
-use rand_core::Rng;
+use rand_core::{CryptoRng, Rng};
 use std::alloc::Global;
 use x509_base_time::Profile;
 use x509_der_grammar::{Error, ErrorKind};
@@ -22,12 +22,12 @@ const FEWEST_RANDOM: usize = 8;
 
 impl<P: Profile> SerialNumber<P> {
     /// The number of 17 random bytes. The source fills them until the first is no zero, at most 64 times, so that the number
-    /// has all 17. For a certificate the source is to be cryptographically secure.
+    /// has all 17.
     ///
     /// # Errors
     ///
     /// `Failed` where each of the 64 fills begins with a zero. No memory is taken.
-    pub fn generate<R: Rng>(alloc: Global, rng: &mut R) -> Result<SerialNumber<P>, Error>
+    pub fn generate<R: CryptoRng>(alloc: Global, rng: &mut R) -> Result<SerialNumber<P>, Error>
         ensures ok { IfOk result (λ serial. (fill : List ℕ) × Draws 17 (R.stream rng.old) fill (R.stream rng.new) × (serial ≡ number_content fill)) }
         ensures err { IfErr result (λ e. (e.kind ≡ errors.Failed) × GivesZeros 17 (R.stream rng.old) (R.stream rng.new)) }
     {
@@ -35,13 +35,13 @@ impl<P: Profile> SerialNumber<P> {
     }
 
     /// The number of the octets of the prefix and of random bytes behind them. The source fills those until the first of
-    /// them is no zero, at most 64 times. For a certificate the source is to be cryptographically secure.
+    /// them is no zero, at most 64 times.
     ///
     /// # Errors
     ///
     /// `Failed` where fewer than 8 random bytes are asked for, or more than 19 octets in all; then no fill is made.
     /// `Failed` where each of the 64 fills begins with a zero. No memory is taken.
-    pub fn generate_with_prefix<R: Rng>(
+    pub fn generate_with_prefix<R: CryptoRng>(
         alloc: Global,
         prefix: &[u8],
         rand_len: usize,

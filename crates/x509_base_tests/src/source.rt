@@ -3,7 +3,7 @@
 ghost use Rattle.std.specs.Prelude.{◌+◌, ◌%◌, ◌^◌, nat_lt, replicate, if◌then◌else◌};
 ghost use Rattle.rand_core.specs.Steps.{stream_of};
 
-use rand_core::Rng;
+use rand_core::{CryptoRng, Rng};
 
 /// Gives zeros in its first fills and ones in those after; as numbers it gives 0.
 #[derive(Drop)]
@@ -29,3 +29,5 @@ impl Rng for Source {
         self.fills = self.fills.wrapping_add(1);
     }
 }
+
+impl CryptoRng for Source {}

@@ -18,6 +18,7 @@ pub use Rattle.x509_der_frames.specs.ListOrder
 pub use Rattle.x509_der_frames.specs.contracts.list
 pub use Rattle.x509_der_order.specs.Order
 pub use Rattle.x509_der_order.specs.Ordered
+pub use Rattle.x509_der_order.specs.OrderEquality
 pub use Rattle.x509_der_order.specs.RoundOrder
 pub use Rattle.x509_der_element.specs.Outcome
 pub use Rattle.x509_der_element.specs.Element

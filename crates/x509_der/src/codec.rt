@@ -5,6 +5,7 @@ ghost use Rattle.std.specs.Prelude.{◌≡◌, Ok};
 use crate::identifier::ObjectIdentifier;
 use std::alloc::Global;
 use std::cmp::Ordering;
+use x509_der_frames::{Any, FromAny};
 use x509_der_order::{
     Content, EncodingOrd, Error, Room, SetMember, SetOrd, Spelled, Tag, TryClone, ValueOrd,
 };
@@ -38,6 +39,18 @@ impl Content for ObjectIdentifier {
 impl Spelled for ObjectIdentifier {
     fn has_spelling(&self) {
         let _content = self.as_bytes();
+    }
+}
+
+/// The identifier whose element it is; `Malformed` exactly where it is that of none. It takes no memory.
+impl FromAny<'_> for ObjectIdentifier {
+    ghost use Rattle.x509_der.specs.ObjectIdentifierForm as grammar;
+    ghost use Rattle.x509_der_frames.specs.ReadsElement.{ReadsElement};
+
+    ghost from_any_gives = { ReadsElement grammar.object_identifier ⊥ };
+
+    fn from_any(alloc: Global, any: &Any) -> Result<ObjectIdentifier, Error> {
+        any.decode_as(alloc)
     }
 }
 

@@ -3,6 +3,7 @@ pub mod FrameLaws
 pub mod FrameWriting
 pub mod DefaultValues
 pub mod Any
+pub mod ReadsElement
 pub mod Equality
 pub mod List
 pub mod ListLaws

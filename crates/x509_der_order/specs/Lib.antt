@@ -1,6 +1,7 @@
 pub mod Order
 pub mod OrderLaws
 pub mod Ordered
+pub mod OrderEquality
 pub mod NumberOrder
 pub mod RoundOrder
 pub use Rattle.x509_der_grammar.specs.Element

@@ -18,7 +18,7 @@ use Rattle.x509_der.specs.ListLaws.{list_lawful}
 use Rattle.x509_der.specs.ListOrder.{list_ordered}
 use Rattle.x509_der.specs.Set.{set_of}
 use Rattle.x509_der.specs.SetLaws.{set_lawful, set_ordered}
-use Rattle.x509_name_attribute.specs.Equality.{order_ties}
+use Rattle.x509_der.specs.OrderEquality.{order_ties}
 use Rattle.x509_name_attribute.specs.TypeAndValue.{attribute_type_and_value, type_and_value_contents_lawful, type_and_value_order, type_and_value_ordered, type_and_value_cmp, type_and_value_eq, type_and_value_equivalence, type_and_value_decides}
 use Rattle.x509_name_attribute.specs.declared.type_and_value.AttributeTypeAndValue.{AttributeTypeAndValue}
 

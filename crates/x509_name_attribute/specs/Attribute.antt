@@ -18,7 +18,7 @@ use Rattle.x509_der_frames.specs.FieldsOrder.{by_two, two_ordered}
 use Rattle.x509_der_frames.specs.declared.any.Any.{Any}
 use Rattle.x509_der.specs.Set.{set_of}
 use Rattle.x509_der.specs.SetLaws.{set_lawful, set_ordered}
-use Rattle.x509_name_attribute.specs.Equality.{order_equivalence, order_decides}
+use Rattle.x509_der.specs.OrderEquality.{order_equivalence, order_decides}
 use Rattle.x509_name_attribute.specs.declared.attribute.Attribute.{Attribute}
 
 -- the order of the values by their octets

@@ -1,13 +1,11 @@
 -- DirectoryString: PrintableString / TeletexString / UTF8String / BMPString (RFC 5280 4.1.2.4, appendix A.1)
-use Rattle.std.specs.Prelude.{◌≡◌, ℕ, Bool, true, false, List, [], ◌⊎◌, Result, IfOk, IfErr, encode_utf8_all, refl}
+use Rattle.std.specs.Prelude.{ℕ, Bool, true, false, List, [], Result, encode_utf8_all, refl}
 use Rattle.x509_der_element.specs.declared.error.Error.{Error}
 use Rattle.x509_der_element.specs.declared.error.ErrorKind.{ErrorKind}
-use Rattle.x509_der_element.specs.declared.error.ErrorKind.TheVariants.{Memory, Malformed}
-use Rattle.x509_der_element.specs.Element.{element}
-use Rattle.x509_der_element.specs.Tag.{octet_of}
-use Rattle.x509_der_grammar.specs.Form.{Form, IsForm, spelling}
+use Rattle.x509_der_grammar.specs.Form.{Form, IsForm}
 use Rattle.x509_der_frames.specs.Cases.{Cases, ◌∥◌, ◌holds◌, none, CaseOf, choice, choice_lawful}
 use Rattle.x509_der_frames.specs.declared.any.Any.{Any}
+use Rattle.x509_der_frames.specs.ReadsElement.{ReadsElement}
 use Rattle.x509_prim_text.specs.Bmp.{bmp_chars}
 use Rattle.x509_prim_text.specs.Texts.{printable_string, teletex_string, utf8_string, bmp_string, printable_string_lawful, teletex_string_lawful, utf8_string_lawful, bmp_string_lawful}
 use Rattle.x509_name_attribute.specs.declared.directory_string.DirectoryString.{DirectoryString}
@@ -67,12 +65,6 @@ is_bmp_string (BmpString octets) = true
 
 -- ---- elements
 
--- the element is that of the string
-abbrev pub IsElementOf : DirectoryString → Any → Type 0
-IsElementOf string any = directory_string.good string × (element (octet_of any.tag) any.value ≡ spelling directory_string string)
-
--- The answer is the string whose element it is; where it is that of none, a refusal. Memory may be refused.
-pub record ReadsDirectoryString (any : Any) (answer : Result DirectoryString Error) : Type 0 where
-  pub found : IfOk answer (λ string. IsElementOf string any)
-  pub every : (string : DirectoryString) → IsElementOf string any → IfErr answer (λ e. e.kind ≡ Memory)
-  pub refused : IfErr answer (λ e. (e.kind ≡ Memory) ⊎ (e.kind ≡ Malformed))
+-- what an element may give as a string
+abbrev pub ReadsDirectoryString : Any → Result DirectoryString Error → Type 0
+ReadsDirectoryString = ReadsElement directory_string (Unit {0})

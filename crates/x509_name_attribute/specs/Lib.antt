@@ -9,7 +9,6 @@ pub mod Refusals
 pub mod Encodings
 pub mod TextRef
 pub mod DirectoryString
-pub mod Equality
 pub mod TypeAndValue
 pub mod Attribute
 pub mod Text

@@ -15,7 +15,7 @@ use Rattle.x509_der_frames.specs.Frames.{Part, required, ◌⊗◌, fields}
 use Rattle.x509_der_frames.specs.PartRules.{part_rules}
 use Rattle.x509_der_frames.specs.FieldsOrder.{by_two, two_ordered}
 use Rattle.x509_der_frames.specs.declared.any.Any.{Any}
-use Rattle.x509_name_attribute.specs.Equality.{order_equivalence, order_decides}
+use Rattle.x509_der.specs.OrderEquality.{order_equivalence, order_decides}
 use Rattle.x509_name_attribute.specs.declared.type_and_value.AttributeTypeAndValue.{AttributeTypeAndValue}
 
 unfoldable pub type_and_value_fields : Part (List ℕ × Any)

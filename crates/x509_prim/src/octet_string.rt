@@ -16,6 +16,7 @@ use std::cmp::Ordering;
 use std::fmt;
 use std::hash::{Hash, Hasher};
 use std::marker::Model;
+use x509_der_frames::{Any, FromAny};
 use x509_der_order::{
     Bytes, Content, EncodingOrd, Error, Room, SetMember, SetOrd, Spelled, Tag, TryClone, ValueOrd,
     check_content,
@@ -103,6 +104,19 @@ impl Content for OctetString {
 
 impl Spelled for OctetString {
     fn has_spelling(&self) {}
+}
+
+/// The octet string whose element it is; `Malformed` exactly where it is that of none. More than 24 octets take memory, which
+/// may be refused.
+impl FromAny<'_> for OctetString {
+    ghost use Rattle.x509_der_frames.specs.ReadsElement.{ReadsElement};
+    ghost use Rattle.x509_prim.specs.OctetString.{octet_string};
+
+    ghost from_any_gives = { ReadsElement octet_string (Unit {0}) };
+
+    fn from_any(alloc: Global, any: &Any) -> Result<OctetString, Error> {
+        any.decode_as(alloc)
+    }
 }
 
 impl ValueOrd for OctetString {

@@ -4,7 +4,7 @@ use Rattle.std.specs.Bool.{Decides, one_answer}
 use Rattle.std.specs.Cmp.{IsEquivalence, Equal-is, eq_by_cmp_equiv}
 use Rattle.std.specs.Ordering.{eq_by_cmp}
 use Rattle.std.proofs.Common.{subst}
-use Rattle.x509_der.specs.Order.{Order, IsDerOrder}
+use Rattle.x509_der_order.specs.Order.{Order, IsDerOrder}
 
 module _ {X : Type 0} {Has : X → Type 0} {text : X → List ℕ} {order : Order X} (h : IsDerOrder Has text order) where
   pub order_equivalence : IsEquivalence (eq_by_cmp order)
