@@ -1,3 +1,4 @@
+pub mod Made
 pub mod Refusals
 pub mod Respelled
 pub mod Unchanged

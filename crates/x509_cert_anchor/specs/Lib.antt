@@ -5,3 +5,5 @@ pub mod CertPathControls
 pub mod TrustAnchorInfo
 pub mod TrustAnchorChoice
 pub mod Respelling
+pub mod Equality
+pub mod Made

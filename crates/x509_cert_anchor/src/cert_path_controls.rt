@@ -4,8 +4,10 @@ use crate::cert_policies::CertPolicyFlags;
 use std::alloc::Global;
 use x509_base_time::{Profile, Rfc5280};
 use x509_cert_certificate::CertificateInner;
-use x509_der_frames::{PutPart, end, field, implicit_optional, optional_implicit};
-use x509_der_grammar::{Content, Encode, Error, Room, Tag, TryClone};
+use x509_der_frames::{
+    PutPart, end, field, implicit_optional, option_has_spelling, optional_implicit,
+};
+use x509_der_grammar::{Content, Encode, Error, Room, Spelled, Tag, TryClone};
 use x509_name::name::Name;
 use x509_pkix::NameConstraints;
 use x509_pkix_policy::CertificatePolicies;
@@ -123,4 +125,21 @@ impl<P: Profile> Content for CertPathControls<P> {
     }
 
     ghost contents_lawful = { grammar.cert_path_controls_contents_lawful P.serial_check };
+}
+
+#[tactic(auto, unfolding(crate::specs::CertPathControls::cert_path_controls_fields, x509_der_frames::specs::Frames::fields_good))]
+impl<P: Profile> Spelled for CertPathControls<P> {
+    ghost use Rattle.std.specs.Prelude.{◌≡◌, Ok};
+    ghost use Rattle.x509_cert_anchor.specs.Made.{MadeControls};
+
+    ghost premise = { MadeControls (λ serial. P.serial_check serial ≡ Ok tt) };
+
+    fn has_spelling(&self) {
+        self.ta_name.has_spelling();
+        option_has_spelling(&self.certificate);
+        option_has_spelling(&self.policy_set);
+        option_has_spelling(&self.policy_flags);
+        option_has_spelling(&self.name_constr);
+        option_has_spelling(&self.path_len_constraint);
+    }
 }

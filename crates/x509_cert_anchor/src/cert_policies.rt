@@ -3,7 +3,7 @@
 use bitflags::{Flag, Flags, bitflag_items};
 use std::alloc::Global;
 use std::cmp::Ordering;
-use x509_der_grammar::{Content, Error, Room, Tag, TryClone};
+use x509_der_grammar::{Content, Error, Room, Spelled, Tag, TryClone};
 use x509_der_order::ValueOrd;
 use x509_prim::{cmp_named_bits, put_named_bits, read_named_bits};
 
@@ -86,6 +86,16 @@ impl Content for CertPolicies {
     }
 
     ghost contents_lawful = { flag_contents_lawful cert_policies_set cert_policies_names };
+}
+
+impl Spelled for CertPolicies {
+    ghost use Rattle.x509_cert_anchor.specs.Made.{HasNamedFlags};
+
+    ghost premise = { HasNamedFlags };
+
+    fn has_spelling(&self) {
+        let _set = self.0;
+    }
 }
 
 impl ValueOrd for CertPolicies {

@@ -1,19 +1,29 @@
 //! What is written of trust anchors. Each law is a function with an empty body, or one that cites others, whose contract is
 //! the law.
 
+ghost use Rattle.std.specs.Prelude.{length, true, ◌↔◌, ◌≡◌, ◌≤◌};
 ghost use Rattle.x509_base_time.specs.Validity.{validity};
 ghost use Rattle.x509_cert_anchor.specs.CertPathControls.{cert_path_controls};
+ghost use Rattle.x509_cert_anchor.specs.Made.{MadeAnchor};
 ghost use Rattle.x509_cert_anchor.specs.Respelling.{GoodStay, any_cert_path_controls, any_trust_anchor_choice, any_trust_anchor_info};
 ghost use Rattle.x509_cert_anchor.specs.TrustAnchorChoice.{trust_anchor_choice};
 ghost use Rattle.x509_cert_anchor.specs.TrustAnchorInfo.{trust_anchor_info};
-ghost use Rattle.x509_der_grammar.specs.Writing.{IsStable, RespellsAlike};
+ghost use Rattle.x509_cert_anchor.specs.declared.cert_path_controls.CertPathControls.{CertPathControls};
+ghost use Rattle.x509_cert_anchor.specs.declared.cert_policies.CertPolicies.{CertPolicies};
+ghost use Rattle.x509_cert_anchor.specs.declared.trust_anchor_choice.TrustAnchorChoice.{TrustAnchorChoice};
+ghost use Rattle.x509_cert_anchor.specs.declared.trust_anchor_info.TrustAnchorInfo.{TrustAnchorInfo};
+ghost use Rattle.x509_cert_anchor.specs.declared.version.Version.{Version};
+ghost use Rattle.x509_der_element.specs.Element.{limit};
+ghost use Rattle.x509_der_grammar.specs.Form.{Spells, spelling};
+ghost use Rattle.x509_der_grammar.specs.Writing.{IsStable, IsWritable, RespellsAlike, writes, written_spelling};
 
 use crate::cert_path_controls::CertPathControls;
 use crate::cert_policies::CertPolicies;
 use crate::trust_anchor_choice::TrustAnchorChoice;
 use crate::trust_anchor_info::TrustAnchorInfo;
+use crate::version::Version;
 use x509_base_time::{Profile, Raw, Rfc5280, Validity};
-use x509_der_grammar::{Encode, Grammar};
+use x509_der_grammar::{Encode, Grammar, Spelled};
 
 /// Where what is written of a validity is written as it is, so is what is written of a trust anchor that holds one, at
 /// whatever depth: decoding and encoding twice gives the bytes of once.
@@ -61,4 +71,37 @@ pub fn anchors_written_alike_are_respelled_alike<P: Profile>()
 /// What is written of what is asked of policies is written as it is: decoding and encoding twice gives the bytes of once.
 pub fn policy_flags_are_written_once()
     ensures { IsStable ⟦<CertPolicies as Grammar>⟧.form.good ⟦<CertPolicies as Encode>⟧.writing }
+{}
+
+/// Under [`Rfc5280`] what is written of a trust anchor that a program made is read as what was meant, with its dates as they are
+/// spelled there, where the serial number of each certificate in it has at most 21 octets, and each bit of what is asked of
+/// policies has a name.
+#[tactic(auto, using(crate::proofs::Made::made_for_rfc5280))]
+pub fn rfc5280_anchors_are_read_as_meant(anchor: &TrustAnchorChoice<Rfc5280>)
+    ensures { MadeAnchor (λ serial. length serial ≤ 21) anchor.now → IsWritable ⟦<TrustAnchorChoice<Rfc5280> as Grammar>⟧.form (writes ⟦<TrustAnchorChoice<Rfc5280> as Encode>⟧.writing anchor.now) limit → Spells ⟦<TrustAnchorChoice<Rfc5280> as Grammar>⟧.form (writes ⟦<TrustAnchorChoice<Rfc5280> as Encode>⟧.writing anchor.now).value (written_spelling ⟦<TrustAnchorChoice<Rfc5280> as Grammar>⟧.form (writes ⟦<TrustAnchorChoice<Rfc5280> as Encode>⟧.writing anchor.now)) }
+{
+    rfc5280_dates_are_written_once();
+    x509_der_grammar::laws::what_is_written_of_a_value_is_read_as_meant(anchor);
+}
+
+/// Under [`Raw`] it is read as the very anchor, whatever the serial numbers, where each bit of what is asked of policies has a name.
+pub fn raw_anchors_are_read_as_meant(anchor: &TrustAnchorChoice<Raw>)
+    ensures { MadeAnchor (λ serial. Unit) anchor.now → length (spelling ⟦<TrustAnchorChoice<Raw> as Grammar>⟧.form anchor.now) ≤ limit → Spells ⟦<TrustAnchorChoice<Raw> as Grammar>⟧.form anchor.now (spelling ⟦<TrustAnchorChoice<Raw> as Grammar>⟧.form anchor.now) }
+{
+    anchor.has_spelling();
+}
+
+/// `==` of what is asked of policies, and of versions, holds exactly of equal values: of sets, where they have the same bits.
+#[tactic(auto, using(crate::specs::Equality::exact_version, crate::specs::Equality::exact_cert_policies))]
+pub fn equality_of_policy_flags_is_exact()
+    ensures versions { (a b : Version) → (⟦<Version as PartialEq>⟧.eq a b ≡ true) ↔ (a ≡ b) }
+    ensures flags { (a b : CertPolicies) → (⟦<CertPolicies as PartialEq>⟧.eq a b ≡ true) ↔ (a ≡ b) }
+{}
+
+/// Under every profile `==` of trust anchors, of what is said of them, and of what is asked of paths from them holds exactly of
+/// equal values. Dates in two spellings differ, and so do serial numbers with other octets.
+pub fn equality_of_anchors_is_exact<P: Profile>()
+    ensures controls { (a b : CertPathControls P) → (⟦<CertPathControls<P> as PartialEq>⟧.eq a b ≡ true) ↔ (a ≡ b) }
+    ensures info { (a b : TrustAnchorInfo P) → (⟦<TrustAnchorInfo<P> as PartialEq>⟧.eq a b ≡ true) ↔ (a ≡ b) }
+    ensures anchor { (a b : TrustAnchorChoice P) → (⟦<TrustAnchorChoice<P> as PartialEq>⟧.eq a b ≡ true) ↔ (a ≡ b) }
 {}

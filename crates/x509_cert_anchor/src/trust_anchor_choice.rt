@@ -6,7 +6,7 @@ use x509_base_time::{Profile, Rfc5280};
 use x509_cert_certificate::{CertificateInner, TbsCertificateInner};
 use x509_der_frames::explicit_identifier;
 use x509_der_grammar::{
-    Content, Decode, Encode, Error, ErrorKind, Grammar, Room, Tag, TryClone, read_whole,
+    Content, Decode, Encode, Error, ErrorKind, Grammar, Room, Spelled, Tag, TryClone, read_whole,
 };
 
 /// A trust anchor (RFC 5914 3).
@@ -109,4 +109,20 @@ impl<P: Profile> Encode for TrustAnchorChoice<P> {
     }
 
     ghost same_tag = { grammar.trust_anchor_choice_same_tag P.serial_check ⟦<CertificateInner<P> as Encode>⟧.writing ⟦<TbsCertificateInner<P> as Encode>⟧.writing ⟦<TrustAnchorInfo<P> as Encode>⟧.writing };
+}
+
+#[tactic(auto, unfolding(x509_der_frames::specs::Cases::choice_good))]
+impl<P: Profile> Spelled for TrustAnchorChoice<P> {
+    ghost use Rattle.std.specs.Prelude.{◌≡◌, Ok};
+    ghost use Rattle.x509_cert_anchor.specs.Made.{MadeAnchor};
+
+    ghost premise = { MadeAnchor (λ serial. P.serial_check serial ≡ Ok tt) };
+
+    fn has_spelling(&self) {
+        match self {
+            TrustAnchorChoice::Certificate(certificate) => certificate.has_spelling(),
+            TrustAnchorChoice::TbsCertificate(certificate) => certificate.has_spelling(),
+            TrustAnchorChoice::TaInfo(info) => info.has_spelling(),
+        }
+    }
 }

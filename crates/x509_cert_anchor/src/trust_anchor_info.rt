@@ -6,10 +6,10 @@ use std::alloc::Global;
 use x509_base::SubjectPublicKeyInfo;
 use x509_base_time::{Profile, Rfc5280};
 use x509_der_frames::{
-    PutPart, default_field, defaulted, end, explicit_optional, field, implicit_optional, optional,
-    optional_explicit, optional_field, optional_implicit,
+    PutPart, default_field, defaulted, end, explicit_optional, field, implicit_optional,
+    option_has_spelling, optional, optional_explicit, optional_field, optional_implicit,
 };
-use x509_der_grammar::{Content, Encode, Error, Room, Tag, TryClone};
+use x509_der_grammar::{Content, Encode, Error, Room, Spelled, Tag, TryClone};
 use x509_ext_frame::Extensions;
 use x509_prim::OctetString;
 use x509_prim_text::Utf8String;
@@ -131,4 +131,22 @@ impl<P: Profile> Content for TrustAnchorInfo<P> {
     }
 
     ghost contents_lawful = { grammar.trust_anchor_info_contents_lawful P.serial_check };
+}
+
+#[tactic(auto, unfolding(crate::specs::TrustAnchorInfo::trust_anchor_info_fields, x509_der_frames::specs::Frames::fields_good))]
+impl<P: Profile> Spelled for TrustAnchorInfo<P> {
+    ghost use Rattle.std.specs.Prelude.{◌≡◌, Ok};
+    ghost use Rattle.x509_cert_anchor.specs.Made.{MadeInfo};
+
+    ghost premise = { MadeInfo (λ serial. P.serial_check serial ≡ Ok tt) };
+
+    fn has_spelling(&self) {
+        self.version.has_spelling();
+        self.pub_key.has_spelling();
+        self.key_id.has_spelling();
+        option_has_spelling(&self.ta_title);
+        option_has_spelling(&self.cert_path);
+        option_has_spelling(&self.extensions);
+        option_has_spelling(&self.ta_title_lang_tag);
+    }
 }

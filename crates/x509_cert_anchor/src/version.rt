@@ -2,7 +2,7 @@
 
 use std::alloc::Global;
 use x509_der_frames::Standard;
-use x509_der_grammar::{Content, Error, Room, Tag, TryClone};
+use x509_der_grammar::{Content, Error, Room, Spelled, Tag, TryClone};
 use x509_prim::{NamedNumber, put_named_number, read_named_number};
 
 /// The version of a [`TrustAnchorInfo`](crate::TrustAnchorInfo) (RFC 5914 2.1). There is one, and since it is the default it
@@ -69,6 +69,10 @@ impl Content for Version {
     }
 
     ghost contents_lawful = { named_contents_lawful version_names };
+}
+
+impl Spelled for Version {
+    fn has_spelling(&self) {}
 }
 
 /// V1.
