@@ -1,0 +1,4 @@
+pub mod Walks
+pub mod Members
+pub mod Identifiers
+pub mod Fields
