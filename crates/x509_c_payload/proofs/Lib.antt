@@ -1,4 +1,6 @@
 pub mod Walks
 pub mod Members
-pub mod Identifiers
+pub mod Octets
 pub mod Fields
+pub mod Texts
+pub mod Names

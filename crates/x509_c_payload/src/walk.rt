@@ -17,3 +17,13 @@ pub(crate) fn step_content(input: &[u8], at: &mut usize) -> Span
     step(input, at, true);
     content
 }
+
+/// Where the content stands of the element that stands at the place.
+pub(crate) fn content_at(input: &[u8], place: usize) -> Span
+    requires { place ≤ length input.now }
+    ensures stands { (tag : ℕ) (content more : List ℕ) → is_identifier tag ≡ true → drop place input.now ≡ element tag content ++ more → IsAt content more input.now result }
+    ensures within { result.place ≤ length input.now }
+{
+    let mut at = place;
+    enter(input, &mut at)
+}

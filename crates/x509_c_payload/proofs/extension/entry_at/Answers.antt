@@ -1,6 +1,6 @@
 use Rattle.std.proofs.Common.{◌++◌, refl, ◌∙◌}
 use Rattle.x509_c_payload.proofs.Fields.{laid_out, critical_field}
-use Rattle.x509_c_payload.proofs.Identifiers.{is_octets, is_oid, is_sequence}
+use Rattle.x509_c_payload.proofs.Octets.{is_octets, is_oid, is_sequence}
 use Rattle.x509_c_payload.proofs.extension.entry_at.Goals as goal
 use Rattle.x509_ext_frame.specs.Extension.{extension}
 

@@ -13,3 +13,7 @@ is_oid = refl
 pub is_sequence : is_identifier 48 ≡ true
 unfolding is_identifier is_universal
 is_sequence = refl
+
+pub is_explicit_0 : is_identifier 160 ≡ true
+unfolding is_identifier is_universal
+is_explicit_0 = refl
