@@ -1,5 +1,5 @@
 -- The member at the front of what is left, or why there is none.
-use Rattle.std.proofs.Common.{◌≡◌, ℕ, ◌+◌, ◌-◌, ◌≤◌, ◌⊎◌, List, [], ◌++◌, length, drop, Ok, Err, refl, sym, ap, ◌∙◌, inl, inr, arith, length-append}
+use Rattle.std.proofs.Common.{◌≡◌, ℕ, ◌-◌, ◌≤◌, List, [], ◌++◌, length, Ok, Err, refl, sym, ap, ◌∙◌, inl, inr, arith, length-append}
 use Rattle.x509_c_payload.proofs.Walks.{left_fits, stands}
 use Rattle.x509_c_payload.specs.Cursor.{IsLeft, IsNext, IsNoMember, Stops}
 use Rattle.x509_der_element.specs.Outcome.{IsRefusal}

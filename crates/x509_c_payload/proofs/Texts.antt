@@ -1,5 +1,5 @@
 -- What a room is filled with, and texts of object identifiers.
-use Rattle.std.proofs.Common.{◌≡◌, ◌⊎◌, ℕ, Bool, true, false, List, Result, Ok, Err, refl, sym, ap, subst, ◌∙◌, inl, inr}
+use Rattle.std.proofs.Common.{◌≡◌, ◌⊎◌, ℕ, Bool, true, false, List, Result, Ok, sym, ap, subst, inl, inr}
 use Rattle.std.specs.Str.{IsUtf8}
 use Rattle.x509_c_status.specs.Status.{Fills}
 use Rattle.x509_c_status.specs.declared.status.Status.{Status}

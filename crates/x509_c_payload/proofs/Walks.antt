@@ -3,13 +3,10 @@ use Rattle.std.proofs.Common.{◌≡◌, ℕ, ◌+◌, ◌-◌, ◌≤◌, ◌<�
 use Rattle.std.proofs.lemmas.Bool.{eqb-true}
 use Rattle.std.proofs.lemmas.List.{append-nil, drop_at, take-append-drop}
 use Rattle.x509_c_payload.specs.Cursor.{IsLeft}
-use Rattle.x509_c_place.specs.Place.{IsAt}
-use Rattle.x509_c_place.specs.declared.span.Span.{Span}
 use Rattle.x509_der_element.specs.Element.{element, is_identifier, limit, length_octets}
 use Rattle.x509_der_element.specs.ElementLaws.{piece_at-sound, piece_at-whole}
 use Rattle.x509_der_element.specs.ElementReading.{Piece, piece_at}
 use Rattle.x509_der_element.specs.OutcomeLaws.{ok_is, not_refused}
-use Rattle.x509_der_element.specs.declared.error.ErrorKind.{ErrorKind}
 use Rattle.x509_der_element.specs.declared.error.ErrorKind.TheVariants.{Malformed}
 
 module _ (tag : ℕ) (bytes left : List ℕ) (at : ℕ) (identifier : is_identifier tag ≡ true) (l : IsLeft tag bytes at left) where

@@ -43,11 +43,7 @@ fn view_of(constraints: &BasicConstraints) -> BasicConstraintsView
 
 /// Reads a BasicConstraints (RFC 5280 4.2.1.9), and fills in what it says. It takes no memory. Where it is refused, the view stays as it was.
 #[tactic(auto, unfolding(x509_c_status::specs::Calls::Reads))]
-pub fn basic_constraints(
-    alloc: Global,
-    input: &[u8],
-    view: &mut BasicConstraintsView,
-) -> Status
+pub fn basic_constraints(alloc: Global, input: &[u8], view: &mut BasicConstraintsView) -> Status
     ensures read { Reads ⟦<BasicConstraints as Grammar>⟧.form ⟦<BasicConstraints as Grammar>⟧.refuses input.now (λ constraints. IsBasicConstraints constraints view.new) (view.new ≡ view.old) result }
     ensures memory { result ≡ Refused Memory → ⊥ }
 {

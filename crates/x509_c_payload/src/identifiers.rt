@@ -20,12 +20,7 @@ use x509_der_grammar::{Decode, Grammar};
 /// Fills in where the content octets stand of the next object identifier of a list of them, which the bytes are, as an ExtendedKeyUsage (RFC 5280 4.2.1.12), and moves the
 /// place behind it. It takes no memory.
 #[tactic(auto, unfolding(crate::specs::Cursor::Steps))]
-pub fn identifiers_next(
-    alloc: Global,
-    input: &[u8],
-    at: &mut usize,
-    found: &mut Span,
-) -> Status
+pub fn identifiers_next(alloc: Global, input: &[u8], at: &mut usize, found: &mut Span) -> Status
     ensures { Steps ⟦<ObjectIdentifier as Grammar>⟧.form ⟦<ObjectIdentifier as Grammar>⟧.refuses ⟦<ObjectIdentifier as Decode>⟧.wants_memory 48 input.now at.old at.new (λ oid behind span. IsAt oid behind input.now found.new) (found.new ≡ found.old) result }
 {
     match next::<ObjectIdentifier>(alloc, Tag::Sequence, input, at) {

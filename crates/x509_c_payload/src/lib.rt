@@ -12,6 +12,6 @@ mod walk;
 pub use constraints::{BasicConstraintsView, basic_constraints};
 pub use cursor::next;
 pub use extension::{ExtensionEntry, extensions_next};
-pub use general_name::{GeneralNameView, general_names_next};
+pub use general_name::{GeneralNameView, general_names_next, general_names_under_next};
 pub use identifiers::{identifiers_next, oid_from_text, oid_text};
 pub use usage::key_usage;

@@ -1,5 +1,5 @@
-use Rattle.std.proofs.Common.{◌≡◌, inl, inr, refl, sym, ◌∙◌, arith}
-use Rattle.x509_c_payload.proofs.Walks.{no_refusal, same_piece, alone, content_fits, from_the_place, from_the_begin, in_content, not_in_content, no_octets, some_octets}
+use Rattle.std.proofs.Common.{inl, inr, refl, sym, ◌∙◌, arith}
+use Rattle.x509_c_payload.proofs.Walks.{no_refusal, same_piece, alone, content_fits, from_the_place, from_the_begin, not_in_content, no_octets, some_octets}
 use Rattle.x509_c_payload.proofs.cursor.left.Goals as goal
 use Rattle.x509_c_payload.proofs.cursor.left.Goals.{then-whole-octet-via-then-whole-octet, then-whole-octet-via-else-whole-octet+then-not-is_empty, then-at-begin-via-then-at-begin, then-at-begin-via-else-at-begin+then-at-input}
 use Rattle.x509_der_element.specs.TagLaws.{tag_is_identifier}
@@ -10,12 +10,16 @@ returns-in_default-clause-err c =
 
 pub returns-then-whole-octet-clause-err : goal.returns-then-whole-octet-clause-err
 returns-then-whole-octet-clause-err c =
-    inr (rw c.as_u32.ensures.octets at c.if-input-as_u32.false, refl, λ left l.
-      let same = same_piece _ _ _ _ (tag_is_identifier c.args.list) l _ c.in-Ok.ensures.exact in
-      elim c.then-whole-octet.branch [
-        | then-whole-octet-via-then-whole-octet w ↦ w.if-whole-octet.true (sym same.0 ∙ sym c.octet.ensures.octet)
-        | then-whole-octet-via-else-whole-octet+then-not-is_empty w ↦ some_octets _ _ w.is_empty.ensures w.if-not-is_empty.true (sym same.2)
-      ])
+    inr (
+      rw c.as_u32.ensures.octets at c.if-input-as_u32.false,
+      refl,
+      λ left l.
+          let same = same_piece _ _ _ _ (tag_is_identifier c.args.list) l _ c.in-Ok.ensures.exact in
+          elim c.then-whole-octet.branch [
+            | then-whole-octet-via-then-whole-octet w ↦ w.if-whole-octet.true (sym same.0 ∙ sym c.octet.ensures.octet)
+            | then-whole-octet-via-else-whole-octet+then-not-is_empty w ↦ some_octets _ _ w.is_empty.ensures w.if-not-is_empty.true (sym same.2)
+          ],
+    )
 
 pub returns-then-at-eq0-clause-ok : goal.returns-then-at-eq0-clause-ok
 returns-then-at-eq0-clause-ok c =
@@ -27,12 +31,16 @@ overflow_sub-begin c =
 
 pub returns-then-at-begin-clause-err : goal.returns-then-at-begin-clause-err
 returns-then-at-begin-clause-err c =
-    inr (rw c.as_u32.ensures.octets at c.if-input-as_u32.false, refl, λ left l.
-      let same = same_piece _ _ _ _ (tag_is_identifier c.args.list) l _ c.in-Ok.ensures.exact in
-      elim c.then-at-begin.branch [
-        | then-at-begin-via-then-at-begin w ↦ not_in_content _ _ _ _ _ l same.1 c.if-at-eq0.false (inl w.if-at-begin.true)
-        | then-at-begin-via-else-at-begin+then-at-input w ↦ not_in_content _ _ _ _ _ l same.1 c.if-at-eq0.false (inr w.if-at-input.true)
-      ])
+    inr (
+      rw c.as_u32.ensures.octets at c.if-input-as_u32.false,
+      refl,
+      λ left l.
+          let same = same_piece _ _ _ _ (tag_is_identifier c.args.list) l _ c.in-Ok.ensures.exact in
+          elim c.then-at-begin.branch [
+            | then-at-begin-via-then-at-begin w ↦ not_in_content _ _ _ _ _ l same.1 c.if-at-eq0.false (inl w.if-at-begin.true)
+            | then-at-begin-via-else-at-begin+then-at-input w ↦ not_in_content _ _ _ _ _ l same.1 c.if-at-eq0.false (inr w.if-at-input.true)
+          ],
+    )
 
 pub returns-clause-ok : goal.returns-clause-ok
 returns-clause-ok c =

@@ -1,4 +1,4 @@
-use Rattle.std.proofs.Common.{◌++◌, refl, ◌∙◌}
+use Rattle.std.proofs.Common.{◌∙◌}
 use Rattle.x509_c_payload.proofs.Fields.{laid_out, critical_field}
 use Rattle.x509_c_payload.proofs.Octets.{is_octets, is_oid, is_sequence}
 use Rattle.x509_c_payload.proofs.extension.entry_at.Goals as goal

@@ -1,4 +1,3 @@
-use Rattle.std.proofs.Common.{◌++◌}
 use Rattle.x509_c_payload.proofs.Names.{content_is, is_name}
 use Rattle.x509_c_payload.proofs.general_name.name_at.Goals as goal
 use Rattle.x509_c_payload.specs.GeneralNames.{held}

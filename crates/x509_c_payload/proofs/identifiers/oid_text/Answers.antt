@@ -1,4 +1,4 @@
-use Rattle.std.proofs.Common.{◌∙◌, ap, sym}
+use Rattle.std.proofs.Common.{◌∙◌, ap}
 use Rattle.x509_c_payload.proofs.Texts.{fills_with, is_dotted}
 use Rattle.x509_c_payload.proofs.identifiers.oid_text.Goals as goal
 use Rattle.x509_der.specs.Arcs.{dotted}
