@@ -130,6 +130,94 @@ typedef struct {
  * Answers X509_OK, X509_MEMORY, X509_OVERLENGTH, X509_MALFORMED, X509_ABSENT, X509_REPEATED. */
 x509_status x509_certificate_extension(const uint8_t *in, size_t len, const uint8_t *oid, size_t oid_len, x509_extension *found);
 
+/* ---- payloads of extensions
+ *
+ * These calls take the bytes of a value, as `value` of x509_extension, and say what it holds, so that no caller has to take DER apart.
+ *
+ * The calls that end in _next walk over the members of a list, one a call. `value[0..len)` is the whole list, one element with nothing behind it.
+ * `*at` is 0 to begin. X509_OK fills in the next member and moves `*at` behind it; X509_ABSENT at the end of the list, and `*at` stays; so each member
+ * comes once, in order. X509_MALFORMED where the bytes aren't one element with the list's tag, where no member stands at `*at`, or where `*at` is neither 0
+ * nor a place in the list's content. Any other `*at` than 0 and what the last call left over the same bytes means what stands there. A member that can't be
+ * read is refused when the walk comes to it: whoever wants all or nothing goes over the list once before, or asks x509_reencode with the type's name.
+ * A step costs what the member has, whatever the list has. Places are offsets in `value`. */
+
+typedef struct {
+    x509_span oid;     /* the content octets of its identifier, as "\x55\x1d\x0f" for 2.5.29.15 */
+    uint32_t critical; /* 1 or 0 */
+    x509_span value;   /* what the OCTET STRING holds: the DER of the extension's type, which isn't looked into */
+} x509_extension_entry;
+
+/* The extensions of a certificate (`extensions` of its view), of a CRL or of a request, one after the other.
+ * Answers X509_OK, X509_MEMORY, X509_OVERLENGTH, X509_MALFORMED, X509_ABSENT. */
+x509_status x509_extensions_next(const uint8_t *value, size_t len, size_t *at, x509_extension_entry *found);
+
+/* What a key may be used for (RFC 5280 4.2.1.3): the named bit n as 1 << n. */
+#define X509_KEY_USAGE_DIGITAL_SIGNATURE 0x001
+#define X509_KEY_USAGE_NON_REPUDIATION 0x002 /* also called contentCommitment */
+#define X509_KEY_USAGE_KEY_ENCIPHERMENT 0x004
+#define X509_KEY_USAGE_DATA_ENCIPHERMENT 0x008
+#define X509_KEY_USAGE_KEY_AGREEMENT 0x010
+#define X509_KEY_USAGE_KEY_CERT_SIGN 0x020
+#define X509_KEY_USAGE_CRL_SIGN 0x040
+#define X509_KEY_USAGE_ENCIPHER_ONLY 0x080
+#define X509_KEY_USAGE_DECIPHER_ONLY 0x100
+
+/* Reads a KeyUsage (2.5.29.15), and says its uses, a sum of the numbers above. X509_MALFORMED also where a bit is set that has no name. It takes no memory.
+ * Answers X509_OK, X509_OVERLENGTH, X509_MALFORMED. */
+x509_status x509_key_usage(const uint8_t *value, size_t len, uint32_t *uses);
+
+typedef struct {
+    uint32_t ca;           /* 1 where the key may sign certificates, else 0 */
+    uint32_t has_path_len; /* 1 where the number of authorities below is limited, else 0 */
+    uint32_t path_len;     /* how many may follow at most, 0 to 255; 0 where that isn't limited */
+} x509_basic_constraints_view;
+
+/* Reads a BasicConstraints (2.5.29.19), and says what it says. X509_MALFORMED also for a path length above 255. It takes no memory.
+ * Answers X509_OK, X509_OVERLENGTH, X509_MALFORMED. */
+x509_status x509_basic_constraints(const uint8_t *value, size_t len, x509_basic_constraints_view *view);
+
+/* Kinds of general names, by the numbers of their tags (RFC 5280 4.2.1.6). An X.400 address, 3, is X509_MALFORMED. */
+#define X509_GENERAL_NAME_OTHER 0
+#define X509_GENERAL_NAME_EMAIL 1
+#define X509_GENERAL_NAME_DNS 2
+#define X509_GENERAL_NAME_DIRECTORY 4
+#define X509_GENERAL_NAME_EDI_PARTY 5
+#define X509_GENERAL_NAME_URI 6
+#define X509_GENERAL_NAME_IP 7
+#define X509_GENERAL_NAME_REGISTERED_ID 8
+
+typedef struct {
+    uint32_t kind;     /* one of these numbers */
+    x509_span element; /* the whole name */
+    x509_span content; /* what it holds: the ASCII octets of an e-mail address, a DNS name or a URI, of which NUL and controls may be some; the octets of an
+                        * address, of which there may be any number (4 are of IPv4, 16 of IPv6); a whole Name, for x509_name_text; the content octets of a
+                        * registered identifier; of the other two kinds their fields */
+    x509_span type_id; /* of an otherName the content octets of its type's identifier; else 0 and 0 */
+    x509_span value;   /* of an otherName its value, a whole element; else 0 and 0 */
+} x509_general_name;
+
+/* The names of a GeneralNames, one after the other, as of SubjectAltName (2.5.29.17) and IssuerAltName (2.5.29.18).
+ * Answers X509_OK, X509_MEMORY, X509_OVERLENGTH, X509_MALFORMED, X509_ABSENT. */
+x509_status x509_general_names_next(const uint8_t *value, size_t len, size_t *at, x509_general_name *found);
+
+/* The same of a GeneralNames under an implicit tag [number] of the context-specific class, as within an AuthorityKeyIdentifier. X509_MALFORMED also where
+ * the number is above 30.
+ * Answers X509_OK, X509_MEMORY, X509_OVERLENGTH, X509_MALFORMED, X509_ABSENT. */
+x509_status x509_general_names_under_next(uint32_t number, const uint8_t *value, size_t len, size_t *at, x509_general_name *found);
+
+/* The purposes of an ExtendedKeyUsage (2.5.29.37), one after the other: the content octets of their identifiers. It takes no memory.
+ * Answers X509_OK, X509_OVERLENGTH, X509_MALFORMED, X509_ABSENT. */
+x509_status x509_extended_key_usage_next(const uint8_t *value, size_t len, size_t *at, x509_span *found);
+
+/* Writes the dotted text of the object identifier with these content octets, as "2.5.29.15" (no zero at the end). X509_MALFORMED where they are none's (X.690 8.19),
+ * where there are more than 39, or where a subidentifier is above 4,294,967,295. Rooms are as said under whole values.
+ * Answers X509_OK, X509_ROOM, X509_MEMORY, X509_MALFORMED. */
+x509_status x509_oid_text(const uint8_t *oid, size_t oid_len, uint8_t *out, size_t room, size_t *written);
+
+/* Writes the content octets of the object identifier with this dotted text, at most 39. X509_FAILED where it is none's. It takes no memory.
+ * Answers X509_OK, X509_ROOM, X509_FAILED. */
+x509_status x509_oid_from_text(const uint8_t *text, size_t len, uint8_t *out, size_t room, size_t *written);
+
 /* ---- paths */
 
 /* What is to be verified of a certificate: that these bits are a signature of the signed part, by that algorithm, for the key of the certificate

@@ -14,7 +14,7 @@ import sys
 DATA = pathlib.Path(__file__).parent.parent / "examples" / "data"
 LINES = (DATA / "expected.txt").read_text(encoding="utf-8").splitlines()
 KEY_USAGE, NAMES = bytes.fromhex("551D0F"), bytes.fromhex("551D11")
-REFUSED = "refused with 2"
+REFUSED = " refused with 2"
 
 
 def element(tag, content):
@@ -44,26 +44,25 @@ def names(*parts):
     return element(0x30, joined(parts))
 
 
-# What stands in a payload of alternative names, what payload readers print of it that check nothing before, and what is printed of a certificate with
-# it. The second is left out where it is the same.
+# What stands in a payload of alternative names, and what is printed of it.
 ADDRESS = bytes.fromhex("20010DB8000000000000000000000001")
 NAME_ROWS = {
-    "names_nothing": (b"", "", REFUSED),
-    "names_one_octet": (b"\x30", "", REFUSED),
-    "names_length_past_the_end": (bytes.fromhex("30028206"), "", REFUSED),
-    "names_length_127_past_the_end": (bytes.fromhex("3002827F"), "", REFUSED),
-    "names_length_of_four_octets_past_the_end": (bytes.fromhex("30068284FFFFFFFF"), "", REFUSED),
-    "names_length_of_five_octets": (bytes.fromhex("300782850000000000"), "", REFUSED),
-    "names_length_cut": (bytes.fromhex("30028281"), "", REFUSED),
-    "names_outer_length_cut": (bytes.fromhex("3082"), "", REFUSED),
-    "names_outer_length_past_the_end": (bytes.fromhex("3005820161"), "", REFUSED),
-    "names_indefinite": (bytes.fromhex("30808201610000"), "", REFUSED),
-    "names_long_tag": (bytes.fromhex("30049F820161"), "", REFUSED),
-    "names_good_then_past_the_end": (bytes.fromhex("30058201618202"), " DNS:a", REFUSED),
-    "names_length_not_shortest": (bytes.fromhex("300482810161"), " DNS:a", REFUSED),
-    "names_octets_behind": (names((0x82, b"a")) + b"\0", " DNS:a", REFUSED),
-    "names_set": (element(0x31, element(0x82, b"a")), "", REFUSED),
-    "names_dns_not_ascii": (names((0x82, "ö".encode())), r" DNS:\c3\b6", REFUSED),
+    "names_nothing": (b"", REFUSED),
+    "names_one_octet": (b"\x30", REFUSED),
+    "names_length_past_the_end": (bytes.fromhex("30028206"), REFUSED),
+    "names_length_127_past_the_end": (bytes.fromhex("3002827F"), REFUSED),
+    "names_length_of_four_octets_past_the_end": (bytes.fromhex("30068284FFFFFFFF"), REFUSED),
+    "names_length_of_five_octets": (bytes.fromhex("300782850000000000"), REFUSED),
+    "names_length_cut": (bytes.fromhex("30028281"), REFUSED),
+    "names_outer_length_cut": (bytes.fromhex("3082"), REFUSED),
+    "names_outer_length_past_the_end": (bytes.fromhex("3005820161"), REFUSED),
+    "names_indefinite": (bytes.fromhex("30808201610000"), REFUSED),
+    "names_long_tag": (bytes.fromhex("30049F820161"), REFUSED),
+    "names_good_then_past_the_end": (bytes.fromhex("30058201618202"), REFUSED),
+    "names_length_not_shortest": (bytes.fromhex("300482810161"), REFUSED),
+    "names_octets_behind": (names((0x82, b"a")) + b"\0", REFUSED),
+    "names_set": (element(0x31, element(0x82, b"a")), REFUSED),
+    "names_dns_not_ascii": (names((0x82, "ö".encode())), REFUSED),
     "names_none": (names(), ""),
     "names_dns_of_200": (names((0x82, b"a" * 200)), " DNS:" + "a" * 200),
     "names_dns_of_300": (names((0x82, b"b" * 300), (0x82, b"c")), " DNS:" + "b" * 300 + " DNS:c"),
@@ -80,26 +79,34 @@ NAME_ROWS = {
     "names_ipv6_and_mask": (names((0x87, ADDRESS + b"\xff" * 16)), " IP:#20010DB8000000000000000000000001" + "FF" * 16),
     "names_address_of_none": (names((0x87, b"")), " IP:#"),
     "names_address_of_3_and_5": (names((0x87, b"\1\2\3"), (0x87, b"\1\2\3\4\5")), " IP:#010203 IP:#0102030405"),
-    "names_registered": (names((0x88, b"\x2a\x03")), " [8]:#2A03"),
+    "names_registered": (names((0x88, b"\x2a\x03")), " ID:1.2.3"),
+    "names_registered_empty": (names((0x88, b"")), REFUSED),
+    "names_registered_cut": (names((0x88, b"\x2a\x83")), REFUSED),
+    "names_other": (names((0xA0, bytes.fromhex("06032A0304A0040C026162"))), " other:1.2.3.4:#0C026162"),
+    "names_other_without_value": (names((0xA0, bytes.fromhex("06032A0304"))), REFUSED),
+    "names_other_of_two_values": (names((0xA0, bytes.fromhex("06032A0304A00405000500"))), REFUSED),
+    "names_x400": (names((0xA3, b"")), REFUSED),
+    "names_edi": (names((0xA5, bytes.fromhex("A1030C0161"))), " [5]:#A1030C0161"),
+    "names_primitive_directory": (names((0x84, bytes.fromhex("3000"))), REFUSED),
     "names_directory": (names((0xA4, bytes.fromhex("300C310A300806035504030C0161"))), " [4]:#300C310A300806035504030C0161"),
 }
 # the same of key usages
 ALL = " digitalSignature nonRepudiation keyEncipherment dataEncipherment keyAgreement keyCertSign cRLSign encipherOnly"
 USAGE_ROWS = {
-    "usages_nothing": (b"", "", REFUSED),
-    "usages_one_octet": (b"\x03", "", REFUSED),
-    "usages_no_content": (bytes.fromhex("0300"), "", REFUSED),
-    "usages_length_past_the_end": (bytes.fromhex("030207"), "", REFUSED),
-    "usages_length_127_past_the_end": (bytes.fromhex("037F0780"), "", REFUSED),
-    "usages_unused_8": (bytes.fromhex("03020880"), "", REFUSED),
-    "usages_unused_255": (bytes.fromhex("0302FF80"), "", REFUSED),
-    "usages_unused_of_none": (bytes.fromhex("030107"), "", REFUSED),
-    "usages_zero_at_the_end": (bytes.fromhex("03020080"), " digitalSignature", REFUSED),
-    "usages_unused_bit_set": (bytes.fromhex("030206C1"), " digitalSignature nonRepudiation", REFUSED),
-    "usages_of_three_octets": (bytes.fromhex("030400FFFFFF"), ALL + " decipherOnly", REFUSED),
-    "usages_of_ten_bits": (bytes.fromhex("0303060040"), "", REFUSED),
-    "usages_octet_string": (bytes.fromhex("04020780"), "", REFUSED),
-    "usages_octets_behind": (bytes.fromhex("0302078000"), " digitalSignature", REFUSED),
+    "usages_nothing": (b"", REFUSED),
+    "usages_one_octet": (b"\x03", REFUSED),
+    "usages_no_content": (bytes.fromhex("0300"), REFUSED),
+    "usages_length_past_the_end": (bytes.fromhex("030207"), REFUSED),
+    "usages_length_127_past_the_end": (bytes.fromhex("037F0780"), REFUSED),
+    "usages_unused_8": (bytes.fromhex("03020880"), REFUSED),
+    "usages_unused_255": (bytes.fromhex("0302FF80"), REFUSED),
+    "usages_unused_of_none": (bytes.fromhex("030107"), REFUSED),
+    "usages_zero_at_the_end": (bytes.fromhex("03020080"), REFUSED),
+    "usages_unused_bit_set": (bytes.fromhex("030206C1"), REFUSED),
+    "usages_of_three_octets": (bytes.fromhex("030400FFFFFF"), REFUSED),
+    "usages_of_ten_bits": (bytes.fromhex("0303060040"), REFUSED),
+    "usages_octet_string": (bytes.fromhex("04020780"), REFUSED),
+    "usages_octets_behind": (bytes.fromhex("0302078000"), REFUSED),
     "usages_none": (bytes.fromhex("030100"), ""),
     "usages_of_one_bit": (bytes.fromhex("03020780"), " digitalSignature"),
     "usages_of_seven_bits": (bytes.fromhex("03020106"), " keyCertSign cRLSign"),
@@ -149,13 +156,12 @@ def with_payloads():
     for name, row in NAME_ROWS.items():
         certificate = Certificate()
         certificate.set_payload(NAMES, row[0])
-        said = f" {row[2]}" if len(row) == 3 else row[1]
-        yield name, certificate, lines(names="alternative names:" + said), len(row) == 3
+        yield name, certificate, lines(names="alternative names:" + row[1]), row[1] == REFUSED
     for name, row in USAGE_ROWS.items():
         certificate = Certificate()
         certificate.set_payload(KEY_USAGE, row[0])
-        said = f" {row[2]}" if len(row) == 3 else " critical," + row[1]
-        yield name, certificate, lines(usage="key usage:" + said), len(row) == 3
+        said = row[1] if row[1] == REFUSED else " critical," + row[1]
+        yield name, certificate, lines(usage="key usage:" + said), row[1] == REFUSED
 
 
 def unusual():

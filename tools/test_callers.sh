@@ -56,7 +56,7 @@ hostile() {
     failed=$((failed | before))
 }
 
-# usage: payloads NAME WORDS..: the reader of payloads prints what is stated of hostile ones that nothing has checked, and of spoilt ones what that of Python does
+# usage: payloads NAME WORDS..: the caller prints what is stated of hostile payloads that nothing has checked, and of spoilt ones what that in Python does
 payloads() {
     local name=$1
     shift
@@ -94,7 +94,6 @@ if has python3 "hostile payloads, the snippets of README.md, the names in docs/P
     python3 -B "$top/tools/check_promises.py" || failed=1
     python3 -B "$top/tools/test_first_command.py" real || failed=1
     python3 -B "$top/tools/hostile_payloads.py" "$folder/hostile"
-    python3 -B "$top/examples/python/payloads.py" "$folder/hostile/spoilt" >"$folder/hostile/spoilt.txt"
     rules=("$data/certificate.der" "$data/list.der" "$folder/hostile/generalized_time_before_2050.der")
     if python3 -c 'import cryptography' 2>"$folder/said"; then
         python3 -B "$data/make_path.py" "$folder/paths"
@@ -106,6 +105,7 @@ fi
 
 has "${CC:-cc}" "all callers" || exit "$failed"
 "$top/tools/link_c_library.sh" "$folder"
+[ ! -d "$folder/hostile" ] || python3 -B "$top/examples/python/payloads.py" "$folder/libx509.so" "$folder/hostile/spoilt" >"$folder/hostile/spoilt.txt"
 [ ! -d "$folder/paths" ] || python3 -B "$top/tools/path_cases.py" --spoil "$folder/paths" "$folder/spoilt" "$folder/libx509.so" || failed=1
 
 callers=(show calls rules payloads)
@@ -181,7 +181,7 @@ fi
 if has python3 "the caller in Python, and wide and deep values"; then
     show "Python" python3 -B "$top/examples/python/show.py" "$folder/libx509.so"
     hostile "Python" python3 -B "$top/examples/python/show.py" "$folder/libx509.so"
-    payloads "Python" python3 -B "$top/examples/python/payloads.py"
+    payloads "Python" python3 -B "$top/examples/python/payloads.py" "$folder/libx509.so"
     paths paths "Python" python3 -B "$top/examples/python/path.py" "$folder/libx509.so"
     python3 -B "$top/tools/hostile_sizes.py" --rows "$folder"
     wants "C, each allocation refused of wide and deep values" 0 "$folder/calls.txt" "$folder/refuse_memory" "${files[@]}" "$folder/rows" "$folder/answers"

@@ -1,5 +1,5 @@
-/* Reads the payloads of two extensions, and prints them. Each step stays within the octets that it is given, and answers that there is no element
- * where they begin with none. Text is printed with each octet that isn't visible ASCII, and each backslash, as a backslash and two hex digits. */
+/* Prints what the payloads of two extensions hold, by the calls of x509.h. Text is printed with each octet that isn't visible ASCII, and each backslash, as a
+ * backslash and two hex digits. */
 #ifndef PAYLOAD_H
 #define PAYLOAD_H
 
@@ -7,32 +7,16 @@
 #include <stddef.h>
 #include <stdint.h>
 #include <stdio.h>
+#include "x509.h"
 
 typedef struct {
     const uint8_t *bytes;
     size_t len;
 } octets;
 
-/* Takes the first element from the front: its identifier octet and its content. Answers 0, and takes nothing, where there is none: the length is
- * more than what follows, or isn't there; or its form, or that of the identifier, isn't one of those that X.509 needs. */
-static int take_element(octets *rest, uint8_t *tag, octets *content)
+static octets part_of(octets whole, x509_span span)
 {
-    if (rest->len < 2 || (rest->bytes[0] & 0x1f) == 0x1f)
-        return 0;
-    size_t at = 2, len = rest->bytes[1];
-    if (len >= 0x80) {
-        size_t count = len & 0x7f;
-        if (count == 0 || count > 4 || count > rest->len - at)
-            return 0;
-        for (len = 0; count > 0; count--)
-            len = len << 8 | rest->bytes[at++];
-    }
-    if (len > rest->len - at)
-        return 0;
-    *tag = rest->bytes[0];
-    *content = (octets){rest->bytes + at, len};
-    *rest = (octets){rest->bytes + at + len, rest->len - at - len};
-    return 1;
+    return (octets){whole.bytes + span.place, span.len};
 }
 
 static void print_text(octets text)
@@ -63,54 +47,88 @@ static void print_address(octets address)
     print_hex(address);
 }
 
-static void print_name(uint8_t tag, octets name)
+/* The text of an object identifier's 39 content octets is shorter than the room. */
+static void print_identifier(octets oid)
 {
-    switch (tag) {
-    case 0x81:
+    uint8_t text[256];
+    size_t written = 0;
+    if (x509_oid_text(oid.bytes, oid.len, text, sizeof text, &written) == X509_OK)
+        printf("%.*s", (int)written, (const char *)text);
+    else
+        printf("?");
+}
+
+static void print_name(octets list, const x509_general_name *name)
+{
+    const octets content = part_of(list, name->content);
+    switch (name->kind) {
+    case X509_GENERAL_NAME_OTHER:
+        printf(" other:");
+        print_identifier(part_of(list, name->type_id));
+        printf(":#");
+        print_hex(part_of(list, name->value));
+        break;
+    case X509_GENERAL_NAME_EMAIL:
         printf(" email:");
-        print_text(name);
+        print_text(content);
         break;
-    case 0x82:
+    case X509_GENERAL_NAME_DNS:
         printf(" DNS:");
-        print_text(name);
+        print_text(content);
         break;
-    case 0x86:
+    case X509_GENERAL_NAME_URI:
         printf(" URI:");
-        print_text(name);
+        print_text(content);
         break;
-    case 0x87:
+    case X509_GENERAL_NAME_IP:
         printf(" IP:");
-        print_address(name);
+        print_address(content);
+        break;
+    case X509_GENERAL_NAME_REGISTERED_ID:
+        printf(" ID:");
+        print_identifier(content);
         break;
     default:
-        printf(" [%u]:#", tag & 0x1f);
-        print_hex(name);
+        printf(" [%u]:#", name->kind);
+        print_hex(content);
     }
 }
 
-/* SubjectAltName is a SEQUENCE of names (RFC 5280 4.2.1.6). */
-static void print_names(octets payload)
+/* X509_OK where the payload is a list of names to its end. */
+static x509_status check_names(octets payload)
 {
-    octets names, name;
-    uint8_t tag;
-    if (!take_element(&payload, &tag, &names) || tag != 0x30)
-        return;
-    while (take_element(&names, &tag, &name))
-        print_name(tag, name);
+    x509_general_name name;
+    x509_status status;
+    size_t at = 0;
+    do
+        status = x509_general_names_next(payload.bytes, payload.len, &at, &name);
+    while (status == X509_OK);
+    return status == X509_ABSENT ? X509_OK : status;
 }
 
-/* KeyUsage is a BIT STRING: how many bits of the last octet are unused, and the bits (RFC 5280 4.2.1.3, X.690 8.6.2). */
+static void print_names(octets payload)
+{
+    x509_general_name name;
+    size_t at = 0;
+    while (x509_general_names_next(payload.bytes, payload.len, &at, &name) == X509_OK)
+        print_name(payload, &name);
+}
+
+static x509_status check_key_usage(octets payload)
+{
+    uint32_t uses;
+    return x509_key_usage(payload.bytes, payload.len, &uses);
+}
+
 static void print_key_usage(octets payload)
 {
     static const char *const usages[] = {"digitalSignature", "nonRepudiation", "keyEncipherment", "dataEncipherment", "keyAgreement",
                                          "keyCertSign", "cRLSign", "encipherOnly", "decipherOnly"};
-    octets content;
-    uint8_t tag;
-    if (!take_element(&payload, &tag, &content) || tag != 0x03 || content.len < 2 || content.bytes[0] > 7)
+    uint32_t uses = 0;
+    if (x509_key_usage(payload.bytes, payload.len, &uses) != X509_OK)
         return;
-    const size_t bits = (content.len - 1) * 8 - content.bytes[0];
-    for (size_t bit = 0; bit < 9 && bit < bits; bit++)
-        if (content.bytes[1 + bit / 8] & (0x80 >> bit % 8))
+    for (size_t bit = 0; bit < 9; bit++)
+        if (uses & (uint32_t)1 << bit)
             printf(" %s", usages[bit]);
 }
 

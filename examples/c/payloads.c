@@ -1,4 +1,4 @@
-/* Prints what payload.h reads of payloads that nothing has checked: for each line of a file, `names HEX` or `usages HEX`, a line.
+/* Prints what the calls say of payloads that nothing has checked: for each line of a file, `names HEX` or `usages HEX`, a line.
  *
  * usage: payloads FILE */
 #include <stdlib.h>
@@ -31,8 +31,12 @@ int main(int argc, char **argv)
             return 2;
         *hex++ = 0;
         octets payload = from_hex(hex);
+        const int is_names = strcmp(line, "names") == 0;
+        const x509_status status = is_names ? check_names(payload) : check_key_usage(payload);
         printf("%s:", line);
-        if (strcmp(line, "names") == 0)
+        if (status != X509_OK)
+            printf(" refused with %d", status);
+        else if (is_names)
             print_names(payload);
         else
             print_key_usage(payload);

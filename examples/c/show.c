@@ -77,15 +77,8 @@ static x509_status print_subject_and_dates(const uint8_t *bytes, size_t len)
     return status;
 }
 
-/* X509_OK where the bytes are a value of the type with that name. Each value has some bytes, so that there is too little room for them. */
-static x509_status check(const char *type, octets payload)
-{
-    size_t written = 0;
-    x509_status status = x509_reencode((const uint8_t *)type, strlen(type), X509_RAW, payload.bytes, payload.len, NULL, 0, &written);
-    return status == X509_ROOM ? X509_OK : status;
-}
-
-static int print_extension(const char *what, const uint8_t *bytes, size_t len, const char *oid, const char *type, void (*print)(octets))
+/* Prints what an extension holds; or, where it is no value of its type, the refusal alone. */
+static int print_extension(const char *what, const uint8_t *bytes, size_t len, const char *oid, x509_status (*check)(octets), void (*print)(octets))
 {
     x509_extension found;
     x509_status status = x509_certificate_extension(bytes, len, (const uint8_t *)oid, 3, &found);
@@ -95,8 +88,8 @@ static int print_extension(const char *what, const uint8_t *bytes, size_t len, c
     }
     if (status != X509_OK)
         return refuse(what, status);
-    const octets payload = {bytes + found.value.place, found.value.len};
-    status = check(type, payload);
+    const octets payload = part_of((octets){bytes, len}, found.value);
+    status = check(payload);
     if (status != X509_OK)
         return refuse(what, status);
     printf("%s:%s", what, found.critical ? " critical," : "");
@@ -138,8 +131,8 @@ int main(int argc, char **argv)
     x509_status status = print_subject_and_dates(bytes, len);
     int failed = status != X509_OK ? refuse("certificate", status) : 0;
     if (!failed) {
-        failed |= print_extension("key usage", bytes, len, "\x55\x1d\x0f", "KeyUsage", print_key_usage);
-        failed |= print_extension("alternative names", bytes, len, "\x55\x1d\x11", "SubjectAltName", print_names);
+        failed |= print_extension("key usage", bytes, len, "\x55\x1d\x0f", check_key_usage, print_key_usage);
+        failed |= print_extension("alternative names", bytes, len, "\x55\x1d\x11", check_names, print_names);
         failed |= write_again(bytes, len);
     }
     free(bytes);

@@ -1,19 +1,25 @@
 #!/usr/bin/env python3
-"""Prints what payload.py reads of payloads that nothing has checked: for each line of a file, `names HEX` or `usages HEX`, a line.
+"""Prints what the calls say of payloads that nothing has checked: for each line of a file, `names HEX` or `usages HEX`, a line.
 
-usage: payloads.py FILE
+usage: payloads.py LIBRARY FILE
 """
 import sys
 
 from payload import names, usages
+from x509 import Library, Refused
 
 
 def main():
-    with open(sys.argv[1], encoding="ascii") as file:
+    library = Library(sys.argv[1])
+    with open(sys.argv[2], encoding="ascii") as file:
         for line in file:
             kind, digits = line.rstrip("\n").split(" ")
             read = names if kind == "names" else usages
-            print(f"{kind}:" + "".join(" " + word for word in read(bytes.fromhex(digits))))
+            try:
+                words = read(library, bytes.fromhex(digits))
+            except Refused as refused:
+                words = [f"refused with {refused.args[1]}"]
+            print(f"{kind}:" + "".join(" " + word for word in words))
 
 
 if __name__ == "__main__":

@@ -20,15 +20,14 @@ def visible(text):
     return "".join(escaped(it) if it < " " or "\x7f" <= it <= "\x9f" else it for it in text)
 
 
-def told(library, data, oid, kind, read):
+def told(library, data, oid, read):
     """Words that say what an extension holds, where it is a value of its type; and whether nothing was refused."""
     try:
         extension = library.extension(data, oid)
         if extension is None:
             return ["none"], True
         critical, payload = extension
-        library.reencode(kind, RAW, payload)
-        return ["critical,"] * critical + read(payload), True
+        return ["critical,"] * critical + read(library, payload), True
     except Refused as refused:
         return [f"refused with {refused.args[1]}"], False
 
@@ -38,9 +37,9 @@ def show(library, data):
     print("subject:", visible(library.name_text(view.subject.of(data))))
     print("not before:", moment(view.not_before))
     print("not after:", moment(view.not_after))
-    usage, is_usage = told(library, data, b"\x55\x1d\x0f", "KeyUsage", usages)
+    usage, is_usage = told(library, data, b"\x55\x1d\x0f", usages)
     print("key usage:", *usage)
-    others, are_others = told(library, data, b"\x55\x1d\x11", "SubjectAltName", names)
+    others, are_others = told(library, data, b"\x55\x1d\x11", names)
     print("alternative names:", *others)
     # Under RAW what was read is written as the same bytes. Under RFC5280 its dates may be spelled otherwise.
     is_same = library.reencode("Certificate", RAW, data) == data

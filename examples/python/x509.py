@@ -3,6 +3,7 @@ import ctypes
 
 OK, ROOM, ABSENT, FAULT = 0, -2, 6, 8
 RFC5280, RAW = 0, 1
+OTHER, EMAIL, DNS, URI, IP, REGISTERED_ID = 0, 1, 2, 6, 7, 8
 
 
 class Span(ctypes.Structure):
@@ -20,6 +21,18 @@ class View(ctypes.Structure):
 
 class Extension(ctypes.Structure):
     _fields_ = [("critical", ctypes.c_uint32), ("value", Span)]
+
+
+class ExtensionEntry(ctypes.Structure):
+    _fields_ = [("oid", Span), ("critical", ctypes.c_uint32), ("value", Span)]
+
+
+class GeneralName(ctypes.Structure):
+    _fields_ = [("kind", ctypes.c_uint32)] + [(part, Span) for part in ("element", "content", "type_id", "value")]
+
+
+class BasicConstraints(ctypes.Structure):
+    _fields_ = [(part, ctypes.c_uint32) for part in ("ca", "has_path_len", "path_len")]
 
 
 class Signature(ctypes.Structure):
@@ -81,6 +94,48 @@ class Library:
                 return None
             raise
         return bool(found.critical), found.value.of(data)
+
+    def walk(self, name, member, data):
+        """The members of a list, each a structure of that type, by the call with that name. What comes before a refusal is let go."""
+        at, found = ctypes.c_size_t(), []
+        while True:
+            it = member()
+            status = self.calls[name](*self.bytes_in(data), ctypes.byref(at), ctypes.byref(it))
+            if status == ABSENT:
+                return found
+            if status != OK:
+                raise Refused(f"{name} {status}", status)
+            found.append(it)
+
+    def extensions(self, data):
+        """Of each extension of a list of them the content octets of its identifier, whether it is critical, and its octets."""
+        entries = self.walk("x509_extensions_next", ExtensionEntry, data)
+        return [(it.oid.of(data), bool(it.critical), it.value.of(data)) for it in entries]
+
+    def general_names(self, data):
+        """Of each name of a GeneralNames the number of its kind, and the octets that it holds; of an otherName those of its type's identifier, and its value."""
+        found = self.walk("x509_general_names_next", GeneralName, data)
+        return [(it.kind, (it.type_id.of(data), it.value.of(data)) if it.kind == OTHER else it.content.of(data)) for it in found]
+
+    def extended_key_usage(self, data):
+        """The content octets of the identifiers of an ExtendedKeyUsage."""
+        return [it.of(data) for it in self.walk("x509_extended_key_usage_next", Span, data)]
+
+    def key_usage(self, data):
+        """The uses of a KeyUsage, the named bit n as 1 << n."""
+        uses = ctypes.c_uint32()
+        self.call("x509_key_usage", *self.bytes_in(data), ctypes.byref(uses))
+        return uses.value
+
+    def basic_constraints(self, data):
+        """Whether the key may sign certificates, and how many authorities may follow; None where that isn't limited."""
+        view = BasicConstraints()
+        self.call("x509_basic_constraints", *self.bytes_in(data), ctypes.byref(view))
+        return bool(view.ca), view.path_len if view.has_path_len else None
+
+    def oid_text(self, oid):
+        """The dotted text of an object identifier with these content octets."""
+        return self.fill("x509_oid_text", *self.bytes_in(oid)).decode("ascii")
 
     def signature(self, data):
         """What is to be verified of a certificate."""

@@ -4,4 +4,5 @@
 mod certificate;
 mod list;
 mod path;
+mod payload;
 mod whole;

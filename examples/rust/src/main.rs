@@ -5,7 +5,7 @@ mod x509;
 use payload::{names, usages};
 use std::process::ExitCode;
 use std::{env, fs};
-use x509::{name_text, reencode, Certificate, Refused, RAW};
+use x509::{name_text, Certificate, Refused, RAW};
 
 /// Year, month and day of a number of days since 1970-01-01.
 fn date(days: u64) -> (u64, u64, u64) {
@@ -61,15 +61,13 @@ fn visible(text: &str) -> String {
 fn told(
     certificate: &Certificate,
     oid: &[u8],
-    kind: &str,
-    read: fn(&[u8]) -> Vec<String>,
+    read: fn(&[u8]) -> Result<Vec<String>, Refused>,
 ) -> Result<Vec<String>, Refused> {
     let Some((critical, payload)) = certificate.extension(oid)? else {
         return Ok(vec!["none".to_owned()]);
     };
-    reencode(kind, RAW, payload)?;
     let mut words = vec!["critical,".to_owned(); usize::from(critical)];
-    words.extend(read(payload));
+    words.extend(read(payload)?);
     Ok(words)
 }
 
@@ -88,8 +86,8 @@ fn show(bytes: &[u8]) -> Result<bool, Refused> {
     let (not_before, not_after) = certificate.validity();
     println!("not before: {}", moment(not_before));
     println!("not after: {}", moment(not_after));
-    let usage = told(&certificate, b"\x55\x1d\x0f", "KeyUsage", usages);
-    let others = told(&certificate, b"\x55\x1d\x11", "SubjectAltName", names);
+    let usage = told(&certificate, b"\x55\x1d\x0f", usages);
+    let others = told(&certificate, b"\x55\x1d\x11", names);
     let is_told = [tell("key usage", usage), tell("alternative names", others)];
     // Under `RAW` what was read is written as the same bytes. Under `RFC5280` its dates may be spelled otherwise.
     let is_same = certificate.to_der(RAW)? == bytes;

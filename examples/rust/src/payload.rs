@@ -1,4 +1,5 @@
-//! Reads the payloads of two extensions. A length that is more than what follows is no element, and ends the list.
+//! Words that say what the payloads of two extensions hold, by the calls of `x509`.
+use crate::x509::{general_names, key_usage, oid_text, GeneralName, Refused};
 use std::net::{Ipv4Addr, Ipv6Addr};
 
 const USAGES: [&str; 9] = [
@@ -12,32 +13,6 @@ const USAGES: [&str; 9] = [
     "encipherOnly",
     "decipherOnly",
 ];
-
-/// An element's identifier octet and its content.
-type Element<'a> = (u8, &'a [u8]);
-
-/// The first element, and what follows it.
-fn split_element(bytes: &[u8]) -> Option<(Element<'_>, &[u8])> {
-    let (&tag, rest) = bytes.split_first()?;
-    let (&first, mut rest) = rest.split_first()?;
-    if tag & 0x1f == 0x1f {
-        return None;
-    }
-    let mut len = usize::from(first);
-    if first >= 0x80 {
-        let count = usize::from(first & 0x7f);
-        if count == 0 || count > 4 {
-            return None;
-        }
-        let (octets, others) = rest.split_at_checked(count)?;
-        len = octets
-            .iter()
-            .fold(0, |len, &octet| len << 8 | usize::from(octet));
-        rest = others;
-    }
-    let (content, others) = rest.split_at_checked(len)?;
-    Some(((tag, content), others))
-}
 
 /// The octets as text: each that isn't visible ASCII, and each backslash, as a backslash and two hex digits.
 fn text(octets: &[u8]) -> String {
@@ -67,38 +42,28 @@ fn address(octets: &[u8]) -> String {
     }
 }
 
-fn name_text((tag, name): Element<'_>) -> String {
-    match tag {
-        0x81 => format!("email:{}", text(name)),
-        0x82 => format!("DNS:{}", text(name)),
-        0x86 => format!("URI:{}", text(name)),
-        0x87 => format!("IP:{}", address(name)),
-        _ => format!("[{}]:#{}", tag & 0x1f, hex(name)),
-    }
+fn name_text(name: GeneralName) -> Result<String, Refused> {
+    Ok(match name {
+        GeneralName::Other(oid, value) => format!("other:{}:#{}", oid_text(oid)?, hex(value)),
+        GeneralName::Email(name) => format!("email:{}", text(name)),
+        GeneralName::Dns(name) => format!("DNS:{}", text(name)),
+        GeneralName::Directory(name) => format!("[4]:#{}", hex(name)),
+        GeneralName::EdiParty(fields) => format!("[5]:#{}", hex(fields)),
+        GeneralName::Uri(name) => format!("URI:{}", text(name)),
+        GeneralName::Ip(octets) => format!("IP:{}", address(octets)),
+        GeneralName::RegisteredId(oid) => format!("ID:{}", oid_text(oid)?),
+    })
 }
 
-/// SubjectAltName is a SEQUENCE of names (RFC 5280 4.2.1.6).
-pub fn names(payload: &[u8]) -> Vec<String> {
-    let Some(((0x30, mut rest), _)) = split_element(payload) else {
-        return Vec::new();
-    };
-    let mut found = Vec::new();
-    while let Some((name, others)) = split_element(rest) {
-        found.push(name_text(name));
-        rest = others;
-    }
-    found
+pub fn names(payload: &[u8]) -> Result<Vec<String>, Refused> {
+    general_names(payload)?.into_iter().map(name_text).collect()
 }
 
-/// KeyUsage is a BIT STRING: how many bits of the last octet are unused, and the bits (RFC 5280 4.2.1.3, X.690 8.6.2).
-pub fn usages(payload: &[u8]) -> Vec<String> {
-    let Some(((0x03, [unused @ 0..=7, octets @ ..]), _)) = split_element(payload) else {
-        return Vec::new();
-    };
-    let bits = (octets.len() * 8).saturating_sub(usize::from(*unused));
-    let is_set = |bit: usize| octets[bit / 8] & (0x80 >> (bit % 8)) != 0;
-    (0..bits.min(USAGES.len()))
-        .filter(|&bit| is_set(bit))
-        .map(|bit| USAGES[bit].to_owned())
-        .collect()
+pub fn usages(payload: &[u8]) -> Result<Vec<String>, Refused> {
+    let uses = key_usage(payload)?;
+    let set = USAGES
+        .iter()
+        .enumerate()
+        .filter(|(bit, _)| uses >> bit & 1 == 1);
+    Ok(set.map(|(_, usage)| (*usage).to_owned()).collect())
 }

@@ -55,6 +55,32 @@ struct RawExtension {
 
 #[repr(C)]
 #[derive(Default)]
+struct RawEntry {
+    oid: Span,
+    critical: u32,
+    value: Span,
+}
+
+#[repr(C)]
+#[derive(Default)]
+struct RawName {
+    kind: u32,
+    element: Span,
+    content: Span,
+    type_id: Span,
+    value: Span,
+}
+
+#[repr(C)]
+#[derive(Default)]
+struct RawConstraints {
+    ca: u32,
+    has_path_len: u32,
+    path_len: u32,
+}
+
+#[repr(C)]
+#[derive(Default)]
 struct RawSignature {
     signed_part: Span,
     algorithm: Span,
@@ -77,6 +103,33 @@ extern "C" {
         oid: *const u8,
         oid_len: usize,
         found: *mut RawExtension,
+    ) -> c_int;
+    fn x509_extensions_next(
+        value: *const u8,
+        len: usize,
+        at: *mut usize,
+        found: *mut RawEntry,
+    ) -> c_int;
+    fn x509_general_names_next(
+        value: *const u8,
+        len: usize,
+        at: *mut usize,
+        found: *mut RawName,
+    ) -> c_int;
+    fn x509_extended_key_usage_next(
+        value: *const u8,
+        len: usize,
+        at: *mut usize,
+        found: *mut Span,
+    ) -> c_int;
+    fn x509_key_usage(value: *const u8, len: usize, uses: *mut u32) -> c_int;
+    fn x509_basic_constraints(value: *const u8, len: usize, view: *mut RawConstraints) -> c_int;
+    fn x509_oid_text(
+        oid: *const u8,
+        oid_len: usize,
+        out: *mut u8,
+        room: usize,
+        written: *mut usize,
     ) -> c_int;
     fn x509_certificate_signature(
         input: *const u8,
@@ -152,6 +205,131 @@ pub fn reencode(kind: &str, profile: u32, input: &[u8]) -> Result<Vec<u8>, Refus
     })
 }
 
+/// The dotted text of an object identifier with these content octets.
+pub fn oid_text(oid: &[u8]) -> Result<String, Refused> {
+    let text = fill(|room, len, written| unsafe {
+        x509_oid_text(oid.as_ptr(), oid.len(), room, len, written)
+    })?;
+    Ok(String::from_utf8(text).expect("digits and full stops"))
+}
+
+/// The members of a list, by the call that answers the next one. What comes before a refusal is let go.
+fn walk<T: Default>(next: impl Fn(&mut usize, &mut T) -> c_int) -> Result<Vec<T>, Refused> {
+    let (mut at, mut found) = (0, Vec::new());
+    loop {
+        let mut member = T::default();
+        match next(&mut at, &mut member) {
+            0 => found.push(member),
+            ABSENT => return Ok(found),
+            status => return Err(Refused(status)),
+        }
+    }
+}
+
+/// An extension of a list of them.
+#[derive(Clone, Copy, Debug, PartialEq, Eq)]
+pub struct Extension<'a> {
+    /// The content octets of its identifier.
+    pub oid: &'a [u8],
+
+    pub critical: bool,
+
+    /// The DER of the extension's type.
+    pub value: &'a [u8],
+}
+
+/// The extensions of a list of them, in order.
+pub fn extensions(list: &[u8]) -> Result<Vec<Extension<'_>>, Refused> {
+    let entries =
+        walk(|at, found| unsafe { x509_extensions_next(list.as_ptr(), list.len(), at, found) })?;
+    let of = |it: RawEntry| Extension {
+        oid: &list[it.oid.range()],
+        critical: it.critical == 1,
+        value: &list[it.value.range()],
+    };
+    Ok(entries.into_iter().map(of).collect())
+}
+
+/// A general name (RFC 5280 4.2.1.6), by what it holds.
+#[derive(Clone, Copy, Debug, PartialEq, Eq)]
+pub enum GeneralName<'a> {
+    /// The content octets of the identifier of a type, and a value of it, a whole element.
+    Other(&'a [u8], &'a [u8]),
+
+    /// ASCII.
+    Email(&'a [u8]),
+
+    /// ASCII.
+    Dns(&'a [u8]),
+
+    /// A whole Name.
+    Directory(&'a [u8]),
+
+    /// The fields of an EDIPartyName.
+    EdiParty(&'a [u8]),
+
+    /// ASCII.
+    Uri(&'a [u8]),
+
+    /// The octets of an address: four of IPv4, sixteen of IPv6, or any other number.
+    Ip(&'a [u8]),
+
+    /// The content octets of an object identifier.
+    RegisteredId(&'a [u8]),
+}
+
+/// The names of a GeneralNames, in order.
+pub fn general_names(list: &[u8]) -> Result<Vec<GeneralName<'_>>, Refused> {
+    let names =
+        walk(|at, found| unsafe { x509_general_names_next(list.as_ptr(), list.len(), at, found) })?;
+    let of = |it: RawName| {
+        let content = &list[it.content.range()];
+        match it.kind {
+            0 => GeneralName::Other(&list[it.type_id.range()], &list[it.value.range()]),
+            1 => GeneralName::Email(content),
+            2 => GeneralName::Dns(content),
+            4 => GeneralName::Directory(content),
+            5 => GeneralName::EdiParty(content),
+            6 => GeneralName::Uri(content),
+            7 => GeneralName::Ip(content),
+            _ => GeneralName::RegisteredId(content),
+        }
+    };
+    Ok(names.into_iter().map(of).collect())
+}
+
+/// The content octets of the identifiers of an ExtendedKeyUsage, in order.
+pub fn extended_key_usage(list: &[u8]) -> Result<Vec<&[u8]>, Refused> {
+    let found = walk(|at, found| unsafe {
+        x509_extended_key_usage_next(list.as_ptr(), list.len(), at, found)
+    })?;
+    Ok(found
+        .into_iter()
+        .map(|it: Span| &list[it.range()])
+        .collect())
+}
+
+/// The uses of a KeyUsage, the named bit n as `1 << n`.
+pub fn key_usage(value: &[u8]) -> Result<u32, Refused> {
+    let mut uses = 0;
+    match unsafe { x509_key_usage(value.as_ptr(), value.len(), &mut uses) } {
+        0 => Ok(uses),
+        status => Err(Refused(status)),
+    }
+}
+
+/// Of a BasicConstraints whether the key may sign certificates, and how many authorities may follow, where that is limited.
+pub fn basic_constraints(value: &[u8]) -> Result<(bool, Option<u32>), Refused> {
+    let mut view = RawConstraints::default();
+    match unsafe { x509_basic_constraints(value.as_ptr(), value.len(), &mut view) } {
+        0 => Ok((
+            view.ca == 1,
+            (view.has_path_len == 1).then_some(view.path_len),
+        )),
+        status => Err(Refused(status)),
+    }
+}
+
 /// A certificate, by its bytes.
 pub struct Certificate<'a> {
     bytes: &'a [u8],
@@ -179,6 +357,11 @@ impl<'a> Certificate<'a> {
     /// From when on it holds, and until when, in seconds since 1970.
     pub fn validity(&self) -> (u64, u64) {
         (self.view.not_before, self.view.not_after)
+    }
+
+    /// The list of its extensions, for [`extensions`]; no octets where it has none.
+    pub fn extensions(&self) -> &'a [u8] {
+        &self.bytes[self.view.extensions.range()]
     }
 
     /// Whether the extension with these content octets of an identifier is critical, and its octets.
@@ -325,6 +508,43 @@ mod tests {
         let whole = [found.signed_part, algorithm, &behind].concat();
         assert!(CERTIFICATE.ends_with(&whole) && CERTIFICATE.len() <= whole.len() + 4);
         assert_eq!(signature(&[]), Err(Refused(2)));
+    }
+
+    #[test]
+    fn payloads() {
+        let certificate = Certificate::new(CERTIFICATE).expect("a certificate");
+        let all = extensions(certificate.extensions()).expect("extensions");
+        assert_eq!(all[0].oid, b"\x55\x1d\x0f");
+        assert!(all[0].critical && key_usage(all[0].value) == Ok(5));
+        assert_eq!(oid_text(all[0].oid), Ok("2.5.29.15".to_owned()));
+        assert_eq!(oid_text(&[]), Err(Refused(2)));
+        assert_eq!(extensions(&[]), Err(Refused(2)));
+        assert_eq!(general_names(b"\x30\x00"), Ok(vec![]));
+        let other = b"\x30\x09\xa0\x07\x06\x01\x2a\xa0\x02\x05\x00";
+        assert_eq!(
+            general_names(other),
+            Ok(vec![GeneralName::Other(b"\x2a", b"\x05\x00")])
+        );
+        let two = b"\x30\x08\x82\x01a\x87\x03\x01\x02\x03";
+        assert_eq!(
+            general_names(two),
+            Ok(vec![
+                GeneralName::Dns(b"a"),
+                GeneralName::Ip(b"\x01\x02\x03")
+            ])
+        );
+        assert_eq!(general_names(&two[..9]), Err(Refused(2)));
+        let purposes = b"\x30\x06\x06\x01\x2a\x06\x01\x2b";
+        assert_eq!(
+            extended_key_usage(purposes),
+            Ok(vec![&b"\x2a"[..], &b"\x2b"[..]])
+        );
+        assert_eq!(
+            basic_constraints(b"\x30\x06\x01\x01\xff\x02\x01\x03"),
+            Ok((true, Some(3)))
+        );
+        assert_eq!(basic_constraints(b"\x30\x00"), Ok((false, None)));
+        assert_eq!(basic_constraints(b""), Err(Refused(2)));
     }
 
     #[test]

@@ -1,6 +1,8 @@
-//! Prints what `payload` reads of payloads that nothing has checked: for each line of a file, `names HEX` or `usages HEX`, a line.
+//! Prints what the calls say of payloads that nothing has checked: for each line of a file, `names HEX` or `usages HEX`, a line.
 #[path = "../payload.rs"]
 mod payload;
+#[path = "../x509.rs"]
+mod x509;
 
 use std::{env, fs};
 
@@ -18,10 +20,16 @@ fn main() {
         } else {
             payload::usages
         };
-        let words = read(&from_hex(digits)).into_iter();
+        let words = match read(&from_hex(digits)) {
+            Ok(words) => words,
+            Err(x509::Refused(status)) => vec![format!("refused with {status}")],
+        };
         println!(
             "{kind}:{}",
-            words.map(|word| format!(" {word}")).collect::<String>()
+            words
+                .iter()
+                .map(|word| format!(" {word}"))
+                .collect::<String>()
         );
     }
 }

@@ -1,0 +1,19 @@
+-- Identifier octets of elements.
+use Rattle.std.proofs.Common.{◌≡◌, true, refl}
+use Rattle.x509_der_element.specs.Element.{is_identifier, is_universal}
+
+pub is_octets : is_identifier 4 ≡ true
+unfolding is_identifier is_universal
+is_octets = refl
+
+pub is_oid : is_identifier 6 ≡ true
+unfolding is_identifier is_universal
+is_oid = refl
+
+pub is_sequence : is_identifier 48 ≡ true
+unfolding is_identifier is_universal
+is_sequence = refl
+
+pub is_explicit_0 : is_identifier 160 ≡ true
+unfolding is_identifier is_universal
+is_explicit_0 = refl

@@ -1,0 +1,12 @@
+use Rattle.x509_c_payload.proofs.Names.{content_is, is_name}
+use Rattle.x509_c_payload.proofs.general_name.name_at.Goals as goal
+use Rattle.x509_c_payload.specs.GeneralNames.{held}
+use Rattle.x509_c_place.specs.Place.{IsAt}
+use Rattle.x509_ext_name.specs.GeneralName.{general_name}
+
+pub returns : goal.returns
+returns c = λ behind e.
+    let it = c.args.name.now in
+    let inside = c.content_at-content.ensures.stands (general_name.tag it) (general_name.content it) behind (is_name it) e.0 in
+    let content : IsAt (held it) behind c.args.input.now c.content_at-content.result = rw content_is at inside in
+    record { kind = c.kind_of.ensures; element = e; content = content; other = c.other_at.ensures behind content.0 }

@@ -1,0 +1,5 @@
+pub mod Cursor
+pub mod Extensions
+pub mod BasicConstraints
+pub mod Identifiers
+pub mod GeneralNames

@@ -1,0 +1,64 @@
+//! Object identifiers: the purposes of a key one after the other, and identifiers as texts.
+
+ghost use Rattle.std.specs.Prelude.{◌≡◌};
+ghost use Rattle.x509_c_payload.specs.Cursor.{Steps};
+ghost use Rattle.x509_c_payload.specs.Identifiers.{IsDotted, IsIdentified};
+ghost use Rattle.x509_c_place.specs.Place.{IsAt};
+ghost use Rattle.x509_c_status.specs.Status.{Fills};
+ghost use Rattle.x509_c_status.specs.declared.status.Status.TheVariants.{Refused};
+ghost use Rattle.x509_der_element.specs.declared.error.ErrorKind.TheVariants.{Memory};
+
+use crate::cursor::next;
+use crate::walk::content_at;
+use std::alloc::Global;
+use x509_c_place::Span;
+use x509_c_status::{Status, fill};
+use x509_der::ObjectIdentifier;
+use x509_der_element::{ErrorKind, Tag};
+use x509_der_grammar::{Decode, Grammar};
+
+/// Fills in where the content octets stand of the next object identifier of a list of them, which the bytes are, as an ExtendedKeyUsage (RFC 5280 4.2.1.12), and moves the
+/// place behind it. It takes no memory.
+#[tactic(auto, unfolding(crate::specs::Cursor::Steps))]
+pub fn identifiers_next(alloc: Global, input: &[u8], at: &mut usize, found: &mut Span) -> Status
+    ensures { Steps ⟦<ObjectIdentifier as Grammar>⟧.form ⟦<ObjectIdentifier as Grammar>⟧.refuses ⟦<ObjectIdentifier as Decode>⟧.wants_memory 48 input.now at.old at.new (λ oid behind span. IsAt oid behind input.now found.new) (found.new ≡ found.old) result }
+{
+    match next::<ObjectIdentifier>(alloc, Tag::Sequence, input, at) {
+        Ok(Some((_oid, span))) => {
+            *found = content_at(input, span.place);
+            Status::Done
+        }
+        Ok(None) => Status::Absent,
+        Err(e) => Status::Refused(e),
+    }
+}
+
+/// Puts the dotted text of the object identifier that has these content octets at the front of the room, as `2.5.29.15`. `Malformed` exactly where they are none's.
+#[tactic(auto, unfolding(x509_c_status::specs::Status::Fills))]
+pub fn oid_text(alloc: Global, content: &[u8], room: &mut [u8], written: &mut usize) -> Status
+    ensures { Fills (λ answer. IsDotted content.now answer) room.old room.new written.old written.new result }
+{
+    let oid = match ObjectIdentifier::from_bytes(content) {
+        Ok(oid) => oid,
+        Err(e) => return e.into(),
+    };
+    match oid.to_string(alloc) {
+        Ok(text) => fill(text.as_str().as_bytes(), room, written),
+        Err(_) => Status::Refused(ErrorKind::Memory),
+    }
+}
+
+/// Puts the content octets of the object identifier with this dotted text at the front of the room. `Failed` exactly where it is none's. It takes no memory.
+#[tactic(auto, unfolding(x509_c_status::specs::Status::Fills))]
+pub fn oid_from_text(text: &[u8], room: &mut [u8], written: &mut usize) -> Status
+    ensures filled { Fills (λ answer. IsIdentified text.now answer) room.old room.new written.old written.new result }
+    ensures memory { result ≡ Refused Memory → ⊥ }
+{
+    let Ok(text) = str::from_utf8(text) else {
+        return Status::Refused(ErrorKind::Failed);
+    };
+    match ObjectIdentifier::new(text) {
+        Ok(oid) => fill(oid.as_bytes(), room, written),
+        Err(e) => e.into(),
+    }
+}

@@ -1,0 +1,29 @@
+//! Steps over elements whose contents are told.
+
+ghost use Rattle.std.specs.Prelude.{◌≡◌, ◌≤◌, ◌++◌, true, drop, length, List, ℕ};
+ghost use Rattle.x509_c_place.specs.Place.{IsAt};
+ghost use Rattle.x509_der_element.specs.Element.{element, is_identifier};
+
+use x509_c_place::{Span, enter, step};
+
+/// Steps over an element, and answers where its content stands.
+pub(crate) fn step_content(input: &[u8], at: &mut usize) -> Span
+    requires { at.old ≤ length input.now }
+    ensures within { at.new ≤ length input.now }
+    ensures stands { (tag : ℕ) (content more : List ℕ) → is_identifier tag ≡ true → drop at.old input.now ≡ element tag content ++ more → IsAt content more input.now result × (drop at.new input.now ≡ more) }
+{
+    let mut inside = *at;
+    let content = enter(input, &mut inside);
+    step(input, at, true);
+    content
+}
+
+/// Where the content stands of the element that stands at the place.
+pub(crate) fn content_at(input: &[u8], place: usize) -> Span
+    requires { place ≤ length input.now }
+    ensures stands { (tag : ℕ) (content more : List ℕ) → is_identifier tag ≡ true → drop place input.now ≡ element tag content ++ more → IsAt content more input.now result }
+    ensures within { result.place ≤ length input.now }
+{
+    let mut at = place;
+    enter(input, &mut at)
+}
