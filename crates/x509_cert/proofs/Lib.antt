@@ -1,2 +1,3 @@
 pub mod ArcsOfAttributes
 pub mod OneValue
+pub mod Made

@@ -1,6 +1,8 @@
 pub mod RevokedCert
 pub mod CertificateList
 pub mod Revoked
+pub mod Made
+pub mod Equality
 pub mod AnySerial
 pub mod Version
 pub mod CertReq

@@ -2,12 +2,14 @@
 //! law. Those of the layers below stand in a module for each layer: [`der`], [`prim`], [`base`] (times, serial numbers, algorithms and
 //! keys), [`name`], [`ext`], [`pkix`], [`sct`] and [`anchor`]. By which forms the types are read and written stands in [`forms`].
 
-ghost use Rattle.std.specs.Prelude.{◌≡◌, List, ℕ, None, ◌<◌, [], ◌∷◌};
+ghost use Rattle.std.specs.List.{All};
+ghost use Rattle.std.specs.Prelude.{◌≡◌, List, ℕ, None, ◌<◌, ◌≤◌, ◌↔◌, [], ◌∷◌, length, true};
 ghost use Rattle.x509_cert.specs.AnySerial.{any_certificate_list, any_revoked_cert, any_tbs_cert_list};
 ghost use Rattle.x509_cert.specs.CertReq.{cert_req, cert_req_info};
 ghost use Rattle.x509_cert.specs.CertificateList.{certificate_list, tbs_cert_list};
 ghost use Rattle.x509_cert.specs.ChallengePassword.{challenge_password};
 ghost use Rattle.x509_cert.specs.Identifiers.{pkcs_9};
+ghost use Rattle.x509_cert.specs.Made.{MadeList};
 ghost use Rattle.x509_cert.specs.RevokedCert.{revoked_cert};
 ghost use Rattle.x509_cert.specs.declared.crl.certificate_list.CertificateList.{CertificateList};
 ghost use Rattle.x509_cert.specs.declared.crl.revoked_cert.RevokedCert.{RevokedCert};
@@ -16,16 +18,18 @@ ghost use Rattle.x509_cert.specs.declared.request.attributes.ChallengePassword.{
 ghost use Rattle.x509_cert.specs.declared.request.cert_req.CertReq.{CertReq};
 ghost use Rattle.x509_cert.specs.declared.request.cert_req.CertReqInfo.{CertReqInfo};
 ghost use Rattle.x509_cert.specs.declared.request.extension_req.ExtensionReq.{ExtensionReq};
+ghost use Rattle.x509_cert.specs.declared.request.version.Version as request_version;
 ghost use Rattle.x509_cert_signed.specs.Signed.{IsSignedPart};
 ghost use Rattle.x509_der.specs.Arcs.{content_of};
+ghost use Rattle.x509_der_element.specs.Element.{limit};
 ghost use Rattle.x509_der_grammar.specs.Form.{Spells, spelling};
 ghost use Rattle.x509_der_grammar.specs.Writing.{writes, written_spelling};
 ghost use Rattle.x509_name_attribute.specs.DirectoryString.{directory_string};
 
 use crate::crl::{CertificateList, RevokedCert, TbsCertList};
-use crate::request::{CertReq, CertReqInfo, ExtensionReq};
+use crate::request::{CertReq, CertReqInfo, ExtensionReq, Version};
 pub use x509_base::laws as base;
-use x509_base_time::Profile;
+use x509_base_time::{Profile, Raw, Rfc5280};
 pub use x509_cert_certificate::laws::{
     certificates_written_alike_are_respelled_alike, dates_are_written_once,
     equality_of_certificates_is_exact, raw_certificates_are_read_as_meant, raw_certificates_stay,
@@ -37,12 +41,12 @@ pub use x509_cert_signed::laws::{
     one_signed_part, signed_bytes_are_written_again, what_stands_in_front_is_signed,
 };
 pub use x509_der::laws as der;
-use x509_der_grammar::Encode;
 pub use x509_der_grammar::laws::{
     no_spelling_begins_another, one_spelling, one_value, plain_writing_is_stable,
     what_is_written_alike_is_respelled_alike, what_is_written_of_a_value_is_read_as_meant,
     what_was_written_reads_as_respelled, writing_again_gives_the_same,
 };
+use x509_der_grammar::{Encode, Grammar, Spelled};
 pub use x509_ext::laws as ext;
 pub use x509_name::laws as name;
 pub use x509_pkix::laws as pkix;
@@ -73,6 +77,30 @@ pub fn lists_have_a_signed_part<P: Profile>()
     ensures written { (signed : TbsCertList P) → written_spelling (tbs_cert_list P.serial_check) (writes ⟦<TbsCertList<P> as Encode>⟧.writing signed) ≡ spelling (tbs_cert_list P.serial_check) signed }
 {}
 
+/// Under [`Rfc5280`] what is written of a CRL that a program made is read as the very CRL, where the serial number of each entry
+/// has at most 21 octets.
+#[tactic(auto, using(crate::proofs::Made::made_for_rfc5280))]
+pub fn rfc5280_crls_are_read_as_meant(list: &CertificateList<Rfc5280>)
+    ensures { MadeList (λ serial. length serial ≤ 21) list.now.tbs_cert_list → length (spelling ⟦<CertificateList<Rfc5280> as Grammar>⟧.form list.now) ≤ limit → Spells ⟦<CertificateList<Rfc5280> as Grammar>⟧.form list.now (spelling ⟦<CertificateList<Rfc5280> as Grammar>⟧.form list.now) }
+{
+    list.has_spelling();
+}
+
+/// Under [`Raw`] it is read as the very CRL, whatever the serial numbers.
+pub fn raw_crls_are_read_as_meant(list: &CertificateList<Raw>)
+    ensures { length (spelling ⟦<CertificateList<Raw> as Grammar>⟧.form list.now) ≤ limit → Spells ⟦<CertificateList<Raw> as Grammar>⟧.form list.now (spelling ⟦<CertificateList<Raw> as Grammar>⟧.form list.now) }
+{
+    list.has_spelling();
+}
+
+/// Under every profile `==` of CRLs, of their entries and of their signed parts holds exactly of equal values. Dates in two
+/// spellings differ, and so do serial numbers with other octets.
+pub fn equality_of_crls_is_exact<P: Profile>()
+    ensures entry { (a b : RevokedCert P) → (⟦<RevokedCert<P> as PartialEq>⟧.eq a b ≡ true) ↔ (a ≡ b) }
+    ensures signed { (a b : TbsCertList P) → (⟦<TbsCertList<P> as PartialEq>⟧.eq a b ≡ true) ↔ (a ≡ b) }
+    ensures list { (a b : CertificateList P) → (⟦<CertificateList<P> as PartialEq>⟧.eq a b ≡ true) ↔ (a ≡ b) }
+{}
+
 /// The octets that stand for 1.2.840.113549.1.9.n are its content (X.690 8.19).
 #[tactic(auto, using(crate::proofs::ArcsOfAttributes::pkcs_9_content))]
 pub fn identifiers_of_attributes()
@@ -94,6 +122,21 @@ pub fn requests_have_a_signed_part()
     ensures written { (info : CertReqInfo) → written_spelling cert_req_info (writes ⟦<CertReqInfo as Encode>⟧.writing info) ≡ spelling cert_req_info info }
 {}
 
+/// What is written of a request that a program made is read as the very request.
+pub fn requests_are_read_as_meant(request: &CertReq)
+    ensures { length (spelling ⟦<CertReq as Grammar>⟧.form request.now) ≤ limit → Spells ⟦<CertReq as Grammar>⟧.form request.now (spelling ⟦<CertReq as Grammar>⟧.form request.now) }
+{
+    request.has_spelling();
+}
+
+/// `==` of requests, of their signed parts, their versions and what they ask for holds exactly of equal values.
+pub fn equality_of_requests_is_exact()
+    ensures versions { (a b : request_version.Version) → (⟦<Version as PartialEq>⟧.eq a b ≡ true) ↔ (a ≡ b) }
+    ensures info { (a b : CertReqInfo) → (⟦<CertReqInfo as PartialEq>⟧.eq a b ≡ true) ↔ (a ≡ b) }
+    ensures request { (a b : CertReq) → (⟦<CertReq as PartialEq>⟧.eq a b ≡ true) ↔ (a ≡ b) }
+    ensures extensions { (a b : ExtensionReq) → (⟦<ExtensionReq as PartialEq>⟧.eq a b ≡ true) ↔ (a ≡ b) }
+{}
+
 /// A password is written as its text is.
 pub fn passwords_are_texts()
     ensures { (password : ChallengePassword) → spelling challenge_password password ≡ spelling directory_string password.0 }
@@ -103,7 +146,9 @@ pub fn passwords_are_texts()
 pub mod anchor {
     pub use x509_cert_anchor::laws::{
         anchors_written_alike_are_respelled_alike, dates_are_written_once,
-        policy_flags_are_written_once, raw_anchors_stay, raw_dates_are_written_once,
+        equality_of_anchors_is_exact, equality_of_policy_flags_is_exact,
+        policy_flags_are_written_once, raw_anchors_are_read_as_meant, raw_anchors_stay,
+        raw_dates_are_written_once, rfc5280_anchors_are_read_as_meant,
         rfc5280_dates_are_written_once,
     };
 }

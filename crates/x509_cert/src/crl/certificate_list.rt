@@ -9,7 +9,7 @@ use std::alloc::Global;
 use x509_base::{AlgorithmIdentifier, SerialNumber};
 use x509_base_time::{Profile, Rfc5280};
 use x509_der_frames::{PutPart, end, field};
-use x509_der_grammar::{Content, Error, Room, Tag, TryClone};
+use x509_der_grammar::{Content, Error, Room, Spelled, Tag, TryClone};
 use x509_prim::BitString;
 
 /// A certificate revocation list (CRL), signed (RFC 5280 5.1). That the signature fits, and that both algorithms are one, isn't
@@ -117,4 +117,18 @@ impl<P: Profile> Content for CertificateList<P> {
     }
 
     ghost contents_lawful = { grammar.certificate_list_contents_lawful P.serial_check };
+}
+
+#[tactic(auto, unfolding(crate::specs::CertificateList::certificate_list_fields, x509_der_frames::specs::Frames::fields_good))]
+impl<P: Profile> Spelled for CertificateList<P> {
+    ghost use Rattle.std.specs.Prelude.{Ok};
+    ghost use Rattle.x509_cert.specs.Made.{MadeList};
+
+    ghost premise = { λ list. MadeList (λ serial. P.serial_check serial ≡ Ok tt) list.tbs_cert_list };
+
+    fn has_spelling(&self) {
+        self.tbs_cert_list.has_spelling();
+        self.signature_algorithm.has_spelling();
+        self.signature.has_spelling();
+    }
 }

@@ -11,8 +11,8 @@ use x509_cert_certificate::{
     Extensions, FilterExtensions, filter_extensions, get_extension, members,
 };
 use x509_der::AssociatedOid;
-use x509_der_frames::{PutPart, end, field, optional, optional_field};
-use x509_der_grammar::{Content, Decode, Error, Room, Tag, TryClone};
+use x509_der_frames::{PutPart, end, field, option_has_spelling, optional, optional_field};
+use x509_der_grammar::{Content, Decode, Error, Room, Spelled, Tag, TryClone};
 
 /// A certificate that was revoked: an entry of a list (RFC 5280 5.1.2.6). Reading asks the profile whether the serial number
 /// may stand. The date is written as it is.
@@ -117,4 +117,18 @@ impl<P: Profile> Content for RevokedCert<P> {
     }
 
     ghost contents_lawful = { grammar.revoked_cert_contents_lawful P.serial_check };
+}
+
+#[tactic(auto, unfolding(crate::specs::RevokedCert::revoked_cert_fields, x509_der_frames::specs::Frames::fields_good))]
+impl<P: Profile> Spelled for RevokedCert<P> {
+    ghost use Rattle.std.specs.Prelude.{Ok};
+    ghost use Rattle.x509_cert.specs.Made.{MadeEntry};
+
+    ghost premise = { MadeEntry (λ serial. P.serial_check serial ≡ Ok tt) };
+
+    fn has_spelling(&self) {
+        self.serial_number.has_spelling();
+        self.revocation_date.has_spelling();
+        option_has_spelling(&self.crl_entry_extensions);
+    }
 }

@@ -14,9 +14,10 @@ use x509_cert_certificate::{
 };
 use x509_der::AssociatedOid;
 use x509_der_frames::{
-    PutPart, SequenceOf, end, explicit_optional, field, optional, optional_explicit, optional_field,
+    PutPart, SequenceOf, end, explicit_optional, field, option_has_spelling, optional,
+    optional_explicit, optional_field,
 };
-use x509_der_grammar::{Content, Decode, Error, Room, Tag, TryClone};
+use x509_der_grammar::{Content, Decode, Error, Room, Spelled, Tag, TryClone};
 
 /// The part of a CRL that is signed (RFC 5280 5.1.2). Times are written as they are. That a version which is there is v2, that
 /// it is there where there are extensions, and that the list of entries is left out where there are none, as RFC 5280 wants
@@ -170,4 +171,22 @@ impl<P: Profile> Content for TbsCertList<P> {
     }
 
     ghost contents_lawful = { grammar.tbs_cert_list_contents_lawful P.serial_check };
+}
+
+#[tactic(auto, unfolding(crate::specs::CertificateList::tbs_cert_list_fields, x509_der_frames::specs::Frames::fields_good))]
+impl<P: Profile> Spelled for TbsCertList<P> {
+    ghost use Rattle.std.specs.Prelude.{Ok};
+    ghost use Rattle.x509_cert.specs.Made.{MadeList};
+
+    ghost premise = { MadeList (λ serial. P.serial_check serial ≡ Ok tt) };
+
+    fn has_spelling(&self) {
+        option_has_spelling(&self.version);
+        self.signature.has_spelling();
+        self.issuer.has_spelling();
+        self.this_update.has_spelling();
+        option_has_spelling(&self.next_update);
+        option_has_spelling(&self.revoked_certificates);
+        option_has_spelling(&self.crl_extensions);
+    }
 }

@@ -7,7 +7,7 @@ use crate::request::identifiers::pkcs_9;
 use std::alloc::Global;
 use x509_der::{AssociatedOid, ObjectIdentifier, SetOfVec};
 use x509_der_frames::Any;
-use x509_der_grammar::{Decode, Encode, Error, Grammar, Room, Tag, Tagged, TryClone};
+use x509_der_grammar::{Decode, Encode, Error, Grammar, Room, Spelled, Tag, Tagged, TryClone};
 use x509_name_attribute::{Attribute, DirectoryString};
 
 /// A value that an attribute of a request may have. The type of the attribute is the identifier of the value's type.
@@ -96,6 +96,12 @@ impl Encode for ChallengePassword {
     }
 
     ghost same_tag = { λ value. refl };
+}
+
+impl Spelled for ChallengePassword {
+    fn has_spelling(&self) {
+        self.0.has_spelling();
+    }
 }
 
 impl AsAttribute for ChallengePassword {}

@@ -17,7 +17,7 @@ use x509_base::{AlgorithmIdentifier, SubjectPublicKeyInfo};
 use x509_cert_extension::Name;
 use x509_der::AssociatedOid;
 use x509_der_frames::{PutPart, end, field, implicit, implicit_field};
-use x509_der_grammar::{Content, Decode, Error, Grammar, Room, Tag, TryClone};
+use x509_der_grammar::{Content, Decode, Error, Grammar, Room, Spelled, Tag, TryClone};
 use x509_name_attribute::Attributes;
 use x509_prim::BitString;
 
@@ -105,6 +105,16 @@ impl Content for CertReqInfo {
     }
 
     ghost contents_lawful = { grammar.cert_req_info_contents_lawful };
+}
+
+#[tactic(auto, unfolding(crate::specs::CertReq::cert_req_info_fields, x509_der_frames::specs::Frames::fields_good))]
+impl Spelled for CertReqInfo {
+    fn has_spelling(&self) {
+        self.version.has_spelling();
+        self.subject.has_spelling();
+        self.public_key.has_spelling();
+        self.attributes.has_spelling();
+    }
 }
 
 /// A request for a certificate, signed with the key that is to be certified (RFC 2986 4.2). That the signature fits isn't
@@ -220,4 +230,13 @@ impl Content for CertReq {
     }
 
     ghost contents_lawful = { grammar.cert_req_contents_lawful };
+}
+
+#[tactic(auto, unfolding(crate::specs::CertReq::cert_req_fields, x509_der_frames::specs::Frames::fields_good))]
+impl Spelled for CertReq {
+    fn has_spelling(&self) {
+        self.info.has_spelling();
+        self.algorithm.has_spelling();
+        self.signature.has_spelling();
+    }
 }

@@ -1,7 +1,7 @@
 //! The version of a request.
 
 use std::alloc::Global;
-use x509_der_grammar::{Content, Error, Room, Tag, TryClone};
+use x509_der_grammar::{Content, Error, Room, Spelled, Tag, TryClone};
 use x509_prim::{NamedNumber, put_named_number, read_named_number};
 
 /// The version of a request, of which there is one (RFC 2986 4.1).
@@ -56,6 +56,10 @@ impl Content for Version {
     }
 
     ghost contents_lawful = { named_contents_lawful version_names };
+}
+
+impl Spelled for Version {
+    fn has_spelling(&self) {}
 }
 
 impl TryClone for Version {
