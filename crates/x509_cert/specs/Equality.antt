@@ -11,6 +11,7 @@ use Rattle.x509_cert.specs.contracts.request.version.VersionPartialEq.TheImpl as
 use Rattle.x509_cert.specs.declared.crl.certificate_list.CertificateList.{CertificateList}
 use Rattle.x509_cert.specs.declared.crl.revoked_cert.RevokedCert.{RevokedCert}
 use Rattle.x509_cert.specs.declared.crl.tbs_cert_list.TbsCertList.{TbsCertList}
+use Rattle.x509_cert.specs.declared.request.attributes.ChallengePassword.{ChallengePassword}
 use Rattle.x509_cert.specs.declared.request.cert_req.CertReq.{CertReq}
 use Rattle.x509_cert.specs.declared.request.cert_req.CertReqInfo.{CertReqInfo}
 use Rattle.x509_cert.specs.declared.request.extension_req.ExtensionReq.{ExtensionReq}
@@ -20,8 +21,10 @@ use Rattle.x509_cert_certificate.specs.contracts.version.VersionPartialEq.TheImp
 use Rattle.x509_der_element.specs.Exact.{IsExact, exact_octets, exact_list, exact_option, exact_both, exact_by}
 use Rattle.x509_ext_frame.specs.Equality.{exact_extension}
 use Rattle.x509_ext_frame.specs.contracts.extension.ExtensionPartialEq.TheImpl as extension_eq
+use Rattle.x509_ext_name.specs.Equality.{exact_directory_string}
 use Rattle.x509_name.specs.Names.{rdn_sequence_eq, rdn_sequence_decides}
 use Rattle.x509_name_attribute.specs.Attribute.{attribute_eq, attribute_decides}
+use Rattle.x509_name_attribute.specs.contracts.directory_string.DirectoryStringPartialEq.TheImpl as directory_string_eq
 use Rattle.x509_prim.specs.Equality.{exact_bit_string}
 use Rattle.x509_prim.specs.contracts.bit_string.BitStringPartialEq.TheImpl as bit_string_eq
 
@@ -98,3 +101,6 @@ exact_cert_req =
 
 pub exact_extension_req : IsExact (λ (a b : ExtensionReq). pointwise extension_eq.ghosts.eq a.0 b.0)
 exact_extension_req = exact_by (λ (r : ExtensionReq). r.0) (λ extensions. record { 0 = extensions }) (λ r. refl) (exact_list exact_extension)
+
+pub exact_challenge_password : IsExact (λ (a b : ChallengePassword). directory_string_eq.ghosts.eq a.0 b.0)
+exact_challenge_password = exact_by (λ (p : ChallengePassword). p.0) (λ string. record { 0 = string }) (λ p. refl) exact_directory_string

@@ -27,6 +27,7 @@ ghost use Rattle.x509_der_grammar.specs.Writing.{writes, written_spelling};
 ghost use Rattle.x509_name_attribute.specs.DirectoryString.{directory_string};
 
 use crate::crl::{CertificateList, RevokedCert, TbsCertList};
+use crate::request::attributes::ChallengePassword;
 use crate::request::{CertReq, CertReqInfo, ExtensionReq, Version};
 pub use x509_base::laws as base;
 use x509_base_time::{Profile, Raw, Rfc5280};
@@ -135,6 +136,7 @@ pub fn equality_of_requests_is_exact()
     ensures info { (a b : CertReqInfo) → (⟦<CertReqInfo as PartialEq>⟧.eq a b ≡ true) ↔ (a ≡ b) }
     ensures request { (a b : CertReq) → (⟦<CertReq as PartialEq>⟧.eq a b ≡ true) ↔ (a ≡ b) }
     ensures extensions { (a b : ExtensionReq) → (⟦<ExtensionReq as PartialEq>⟧.eq a b ≡ true) ↔ (a ≡ b) }
+    ensures passwords { (a b : ChallengePassword) → (⟦<ChallengePassword as PartialEq>⟧.eq a b ≡ true) ↔ (a ≡ b) }
 {}
 
 /// A password is written as its text is.

@@ -18,7 +18,7 @@ use Rattle.x509_ext_name.specs.declared.edi_party_name.EdiPartyName.{EdiPartyNam
 use Rattle.x509_ext_name.specs.declared.hardware_module_name.HardwareModuleName.{HardwareModuleName}
 use Rattle.x509_ext_name.specs.declared.other_name.OtherName.{OtherName}
 
-exact_directory_string : IsExact directory_string_eq.ghosts.eq
+pub exact_directory_string : IsExact directory_string_eq.ghosts.eq
 exact_directory_string = exact_cases strings _ (exact_last exact_octets, (exact_last exact_octets, (exact_last exact_octets, (exact_last exact_octets, tt))))
 
 pub exact_other_name : IsExact other_name_eq.ghosts.eq
