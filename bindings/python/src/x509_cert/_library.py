@@ -1,0 +1,217 @@
+"""The C library of `include/x509.h`, by `ctypes`: its structs, its statuses, and one way to call it.
+
+The library is the file that the environment variable X509_LIBRARY names, or else `libx509.so` as the system finds it.
+"""
+
+from __future__ import annotations
+
+import ctypes
+import ctypes.util
+import os
+from typing import Any, Iterator, TypeVar
+
+OK, MEMORY, ROOM = 0, -1, -2
+OVERLENGTH, MALFORMED, FAILED, SET_DUPLICATE, VALUE, ABSENT, REPEATED, FAULT = range(1, 9)
+RFC5280, RAW = 0, 1
+
+
+class X509Error(ValueError):
+    """A call was refused. `status` is its number in `x509.h`."""
+
+    TEXTS = {
+        OVERLENGTH: "longer than 268,435,455 bytes",
+        MALFORMED: "not the DER of such a value",
+        FAILED: "a text is not of its form, or an extension stands there twice",
+        SET_DUPLICATE: "a relative distinguished name has an attribute twice",
+        VALUE: "a value can't be made or written",
+        REPEATED: "the extension is there more than once",
+    }
+
+    def __init__(self, call: str, status: int) -> None:
+        super().__init__(f"{call}: {self.TEXTS.get(status, f'status {status}')}")
+        self.status = status
+
+
+class Span(ctypes.Structure):
+    _fields_ = [("place", ctypes.c_size_t), ("len", ctypes.c_size_t)]
+
+    def of(self, data: bytes) -> bytes:
+        """The part of the bytes that a call filled this in for."""
+        place, length = int(self.place), int(self.len)
+        return data[place : place + length]
+
+    def is_there(self) -> bool:
+        return int(self.place) != 0 or int(self.len) != 0
+
+
+def _spans(*names: str) -> list[tuple[str, Any]]:
+    return [(name, Span) for name in names]
+
+
+def _numbers(*names: str) -> list[tuple[str, Any]]:
+    return [(name, ctypes.c_uint32) for name in names]
+
+
+class CertificateView(ctypes.Structure):
+    _fields_ = [
+        *_numbers("version"),
+        *_spans("serial_number", "issuer", "subject", "subject_public_key_info", "extensions"),
+        ("not_before", ctypes.c_uint64),
+        ("not_after", ctypes.c_uint64),
+    ]
+
+
+class SignatureView(ctypes.Structure):
+    _fields_ = [*_spans("signed_part", "algorithm", "bits"), *_numbers("unused_bits")]
+
+
+class ExtensionEntry(ctypes.Structure):
+    _fields_ = [*_spans("oid"), *_numbers("critical"), *_spans("value")]
+
+
+class GeneralNameView(ctypes.Structure):
+    _fields_ = [*_numbers("kind"), *_spans("element", "content", "type_id", "value")]
+
+
+class BasicConstraintsView(ctypes.Structure):
+    _fields_ = _numbers("ca", "has_path_len", "path_len")
+
+
+class AuthorityKeyIdentifierView(ctypes.Structure):
+    _fields_ = _spans("key_identifier", "issuer", "serial_number")
+
+
+class AccessView(ctypes.Structure):
+    _fields_ = [*_spans("method"), ("location", GeneralNameView)]
+
+
+class PolicyView(ctypes.Structure):
+    _fields_ = _spans("identifier", "qualifiers")
+
+
+class PolicyQualifierView(ctypes.Structure):
+    _fields_ = _spans("identifier", "qualifier")
+
+
+class PolicyMappingView(ctypes.Structure):
+    _fields_ = _spans("issuer_policy", "subject_policy")
+
+
+class PolicyConstraintsView(ctypes.Structure):
+    _fields_ = _numbers(
+        "has_require_explicit_policy", "require_explicit_policy", "has_inhibit_policy_mapping", "inhibit_policy_mapping"
+    )
+
+
+class DistributionPointView(ctypes.Structure):
+    _fields_ = [*_spans("full_name", "relative_name"), *_numbers("has_reasons", "reasons"), *_spans("crl_issuer")]
+
+
+class IssuingDistributionPointView(ctypes.Structure):
+    _fields_ = [
+        *_spans("full_name", "relative_name"),
+        *_numbers(
+            "only_contains_user_certs",
+            "only_contains_ca_certs",
+            "has_only_some_reasons",
+            "only_some_reasons",
+            "indirect_crl",
+            "only_contains_attribute_certs",
+        ),
+    ]
+
+
+class NameConstraintsView(ctypes.Structure):
+    _fields_ = _spans("permitted", "excluded")
+
+
+class SubtreeView(ctypes.Structure):
+    _fields_ = [("base", GeneralNameView), *_numbers("minimum", "has_maximum", "maximum")]
+
+
+class AttributeView(ctypes.Structure):
+    _fields_ = [*_spans("oid"), *_numbers("tag"), *_spans("element", "content")]
+
+
+class RevocationView(ctypes.Structure):
+    _fields_ = [("date", ctypes.c_uint64), ("reason", ctypes.c_int32)]
+
+
+class PathFaultView(ctypes.Structure):
+    _fields_ = [("place", ctypes.c_size_t), *_numbers("reason")]
+
+
+View = TypeVar("View", bound=ctypes.Structure)
+
+_loaded: ctypes.CDLL | None = None
+
+
+def _library() -> ctypes.CDLL:
+    global _loaded
+    if _loaded is None:
+        found = os.environ.get("X509_LIBRARY") or ctypes.util.find_library("x509")
+        if found is None:
+            raise ImportError("libx509.so isn't found: install it (tools/install_c.sh), or name it in X509_LIBRARY")
+        _loaded = ctypes.CDLL(found)
+    return _loaded
+
+
+def _words(arguments: tuple[Any, ...]) -> list[Any]:
+    """Bytes go in as a pointer and a length."""
+    words: list[Any] = []
+    for it in arguments:
+        words += [ctypes.c_char_p(it), ctypes.c_size_t(len(it))] if isinstance(it, bytes) else [it]
+    return words
+
+
+def status_of(name: str, *arguments: Any) -> int:
+    """The status of a call."""
+    status = int(_library()[name](*_words(arguments)))
+    if status == MEMORY:
+        raise MemoryError(name)
+    return status
+
+
+def call(name: str, *arguments: Any) -> None:
+    """Makes a call that has to succeed."""
+    status = status_of(name, *arguments)
+    if status != OK:
+        raise X509Error(name, status)
+
+
+def view(name: str, kind: type[View], *arguments: Any) -> View:
+    """What a call fills in."""
+    found = kind()
+    call(name, *arguments, ctypes.byref(found))
+    return found
+
+
+def number(name: str, *arguments: Any) -> int:
+    """The number that a call fills in."""
+    found = ctypes.c_uint32()
+    call(name, *arguments, ctypes.byref(found))
+    return found.value
+
+
+def fill(name: str, *arguments: Any) -> bytes:
+    """What a call writes into a buffer, by a first call that asks for its length."""
+    written = ctypes.c_size_t()
+    status = status_of(name, *arguments, None, ctypes.c_size_t(0), ctypes.byref(written))
+    if status not in (OK, ROOM):
+        raise X509Error(name, status)
+    buffer = ctypes.create_string_buffer(max(1, written.value))
+    call(name, *arguments, buffer, ctypes.c_size_t(written.value), ctypes.byref(written))
+    return buffer.raw[: written.value]
+
+
+def walk(name: str, kind: type[View], *arguments: Any) -> Iterator[View]:
+    """The members of a list, by the call that fills in the next one."""
+    at = ctypes.c_size_t()
+    while True:
+        found = kind()
+        status = status_of(name, *arguments, ctypes.byref(at), ctypes.byref(found))
+        if status == ABSENT:
+            return
+        if status != OK:
+            raise X509Error(name, status)
+        yield found

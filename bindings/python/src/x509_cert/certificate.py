@@ -1,0 +1,260 @@
+"""Certificates and CRLs (RFC 5280 4.1, 5.1), and paths of certificates (RFC 5280 6.1)."""
+
+from __future__ import annotations
+
+import ctypes
+import datetime
+import enum
+import hashlib
+from typing import Callable, Sequence
+
+from ._library import (
+    ABSENT,
+    FAULT,
+    OK,
+    RAW,
+    RFC5280,
+    CertificateView,
+    PathFaultView,
+    RevocationView,
+    SignatureView,
+    Span,
+    X509Error,
+    call,
+    fill,
+    status_of,
+    view,
+)
+from .extensions import Extensions
+from .name import Name
+
+_EPOCH = datetime.datetime(1970, 1, 1, tzinfo=datetime.timezone.utc)
+
+
+def _moment(seconds: int) -> datetime.datetime:
+    return _EPOCH + datetime.timedelta(seconds=seconds)
+
+
+class Version(enum.Enum):
+    """The version of a certificate (RFC 5280 4.1.2.1)."""
+
+    v1 = 1
+    v2 = 2
+    v3 = 3
+
+
+class Certificate:
+    """A certificate, by its DER."""
+
+    def __init__(self, data: bytes) -> None:
+        self._data = bytes(data)
+        self._view = view("x509_certificate_view", CertificateView, self._data)
+
+    def public_bytes(self) -> bytes:
+        """The DER that it was read from."""
+        return self._data
+
+    def canonical_bytes(self) -> bytes:
+        """Its DER with the dates as RFC 5280 4.1.2.5 spells them. Where that isn't how they stood, the signature doesn't hold of these bytes."""
+        return fill("x509_certificate_reencode", self._data)
+
+    @property
+    def version(self) -> Version:
+        return Version(int(self._view.version))
+
+    @property
+    def serial_number(self) -> int:
+        element = self._view.serial_number.of(self._data)
+        return int.from_bytes(view("x509_serial_number", Span, element).of(element), "big", signed=True)
+
+    @property
+    def issuer(self) -> Name:
+        return Name(self._view.issuer.of(self._data))
+
+    @property
+    def subject(self) -> Name:
+        return Name(self._view.subject.of(self._data))
+
+    @property
+    def not_valid_before_utc(self) -> datetime.datetime:
+        return _moment(int(self._view.not_before))
+
+    @property
+    def not_valid_after_utc(self) -> datetime.datetime:
+        return _moment(int(self._view.not_after))
+
+    @property
+    def public_key_bytes(self) -> bytes:
+        """The DER of the SubjectPublicKeyInfo."""
+        return self._view.subject_public_key_info.of(self._data)
+
+    @property
+    def extensions(self) -> Extensions:
+        return Extensions.from_der(self._view.extensions.of(self._data))
+
+    @property
+    def tbs_certificate_bytes(self) -> bytes:
+        """The bytes that the signature is over, as they stand in the DER."""
+        return view("x509_signed_slice", Span, self._data).of(self._data)
+
+    @property
+    def signature(self) -> bytes:
+        """The octets of the signature's bits."""
+        return self._signature.bits.of(self._data)
+
+    @property
+    def signature_algorithm_bytes(self) -> bytes:
+        """The DER of the AlgorithmIdentifier of the signature."""
+        return self._signature.algorithm.of(self._data)
+
+    @property
+    def _signature(self) -> SignatureView:
+        return view("x509_certificate_signature", SignatureView, self._data)
+
+    def fingerprint(self, algorithm: str) -> bytes:
+        """The digest of the DER, by an algorithm of `hashlib`."""
+        return hashlib.new(algorithm, self._data).digest()
+
+    def __eq__(self, other: object) -> bool:
+        return isinstance(other, Certificate) and self._data == other._data
+
+    def __hash__(self) -> int:
+        return hash(self._data)
+
+    def __repr__(self) -> str:
+        return f"<Certificate(subject={self.subject!r})>"
+
+
+def load_der_x509_certificate(data: bytes) -> Certificate:
+    """The certificate that the bytes are; an X509Error where they are none."""
+    return Certificate(data)
+
+
+class ReasonFlags(enum.Enum):
+    """Why a certificate was revoked (RFC 5280 5.3.1)."""
+
+    unspecified = 0
+    key_compromise = 1
+    ca_compromise = 2
+    affiliation_changed = 3
+    superseded = 4
+    cessation_of_operation = 5
+    certificate_hold = 6
+    remove_from_crl = 8
+    privilege_withdrawn = 9
+    aa_compromise = 10
+
+
+class RevokedCertificate:
+    """An entry of a CRL."""
+
+    def __init__(self, serial_number: int, revocation_date_utc: datetime.datetime, reason: ReasonFlags | None) -> None:
+        self.serial_number, self.revocation_date_utc, self.reason = serial_number, revocation_date_utc, reason
+
+    def __repr__(self) -> str:
+        return f"<RevokedCertificate(serial_number={self.serial_number}, {self.revocation_date_utc:%Y-%m-%dT%H:%M:%SZ}, {self.reason})>"
+
+
+class CertificateRevocationList:
+    """A CRL, by its DER."""
+
+    def __init__(self, data: bytes) -> None:
+        self._data = bytes(data)
+        entries = ctypes.c_size_t()
+        call("x509_crl_walk", self._data, ctypes.byref(entries))
+        self._len = entries.value
+
+    def public_bytes(self) -> bytes:
+        """The DER that it was read from."""
+        return self._data
+
+    @property
+    def tbs_certlist_bytes(self) -> bytes:
+        """The bytes that the signature is over, as they stand in the DER."""
+        return view("x509_signed_slice", Span, self._data).of(self._data)
+
+    def get_revoked_certificate_by_serial_number(self, serial_number: int) -> RevokedCertificate | None:
+        """The first entry with the serial number. Its issuer isn't compared (RFC 5280 5.3.3)."""
+        size = (serial_number + (serial_number < 0)).bit_length() // 8 + 1
+        if size > 21:
+            return None
+        element = bytes([2, size]) + serial_number.to_bytes(size, "big", signed=True)
+        found = RevocationView()
+        status = status_of("x509_crl_lookup", self._data, element, ctypes.byref(found))
+        if status == ABSENT:
+            return None
+        if status != OK:
+            raise X509Error("x509_crl_lookup", status)
+        reason = None if found.reason < 0 else ReasonFlags(int(found.reason))
+        return RevokedCertificate(serial_number, _moment(int(found.date)), reason)
+
+    def __len__(self) -> int:
+        return self._len
+
+    def __repr__(self) -> str:
+        return f"<CertificateRevocationList of {self._len} entries>"
+
+
+def load_der_x509_crl(data: bytes) -> CertificateRevocationList:
+    """The CRL that the bytes are; an X509Error where they are none."""
+    return CertificateRevocationList(data)
+
+
+def reencode(kind: str, data: bytes, raw: bool = True) -> bytes:
+    """Reads a value of the type with that name, and writes it again: the same bytes, but without `raw` the dates of a validity as RFC 5280 spells them."""
+    return fill("x509_reencode", kind.encode("ascii"), ctypes.c_uint32(RAW if raw else RFC5280), bytes(data))
+
+
+class PathFault(Exception):
+    """What is wrong with a path: the place of a certificate in it, from 0, and the reason."""
+
+    REASONS = (
+        "is no certificate; has another algorithm in its signed part; has another issuer than the certificate above; isn't valid at the moment; "
+        "has a signature that isn't accepted; has an extension twice; has a critical extension that isn't known; is no authority; may not sign "
+        "certificates; has more below it than its path length allows"
+    ).split("; ")
+
+    def __init__(self, place: int, reason: int) -> None:
+        super().__init__(f"certificate {place} {self.REASONS[reason - 1]}")
+        self.place, self.reason = place, reason
+
+
+SIGNATURE_FAULT = 5
+Verifier = Callable[[bytes, bytes, bytes, bytes], bool]
+
+
+def check_path(anchor: Certificate, path: Sequence[bytes], moment: datetime.datetime, verify: Verifier) -> list[Certificate]:
+    """The certificates of a path, topmost first, where it holds at the moment under the subject and the key of the anchor; a PathFault else.
+
+    `verify(public_key, algorithm, message, signature)` says whether the bits are a signature of the message: it is given the DER of the key and of the
+    algorithm. Policies, name constraints and revocation aren't looked at.
+    """
+    if moment.tzinfo is None:
+        raise ValueError("a moment has a time zone")
+    seconds = int((moment - _EPOCH).total_seconds() // 1)
+    if seconds < 0:
+        raise ValueError("a moment is from 1970 on")
+    if not path:
+        raise ValueError("a path has a certificate")
+    fault = PathFaultView()
+    lens = (ctypes.c_size_t * len(path))(*map(len, path))
+    words = (lens, ctypes.c_size_t(len(path)), ctypes.c_uint64(seconds), ctypes.byref(fault))
+    status = status_of("x509_path_check", anchor.public_bytes(), b"".join(path), *words)
+    if status not in (OK, FAULT):
+        raise X509Error("x509_path_check", status)
+    found = (int(fault.place), int(fault.reason)) if status == FAULT else None
+    # the first fault is that of the lowest place; of one place that with the lowest number
+    certificates: list[Certificate] = []
+    key = anchor.public_key_bytes
+    for place, data in enumerate(path):
+        if found is not None and (place, SIGNATURE_FAULT) > found:
+            break
+        certificate = Certificate(data)
+        told = certificate._signature
+        if int(told.unused_bits) != 0 or not verify(key, told.algorithm.of(data), told.signed_part.of(data), told.bits.of(data)):
+            raise PathFault(place, SIGNATURE_FAULT)
+        certificates.append(certificate)
+        key = certificate.public_key_bytes
+    if found is not None:
+        raise PathFault(*found)
+    return certificates

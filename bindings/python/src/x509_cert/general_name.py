@@ -1,0 +1,162 @@
+"""General names (RFC 5280 4.2.1.6)."""
+
+from __future__ import annotations
+
+import ipaddress
+from typing import Any, Iterator, Union
+
+from ._library import GeneralNameView, walk
+from .name import Name
+from .oid import ObjectIdentifier
+
+
+class GeneralName:
+    """A name of one of the kinds below. `value` is what it holds."""
+
+    __slots__ = ("value",)
+
+    def __init__(self, value: Any) -> None:
+        self.value = value
+
+    def __eq__(self, other: object) -> bool:
+        return type(self) is type(other) and self.value == other.value  # type: ignore[attr-defined]
+
+    def __hash__(self) -> int:
+        return hash((type(self), self.value))
+
+    def __repr__(self) -> str:
+        return f"<{type(self).__name__}(value={self.value!r})>"
+
+
+class RFC822Name(GeneralName):
+    """An e-mail address."""
+
+    value: str
+
+
+class DNSName(GeneralName):
+    """A DNS name."""
+
+    value: str
+
+
+class UniformResourceIdentifier(GeneralName):
+    """A URI."""
+
+    value: str
+
+
+class DirectoryName(GeneralName):
+    """A distinguished name."""
+
+    value: Name
+
+
+class RegisteredID(GeneralName):
+    """A registered identifier."""
+
+    value: ObjectIdentifier
+
+
+class IPAddress(GeneralName):
+    """An address; with a mask behind it, as name constraints have it, a network. Octets that are neither stay octets."""
+
+    value: Union[
+        ipaddress.IPv4Address, ipaddress.IPv6Address, ipaddress.IPv4Network, ipaddress.IPv6Network, bytes
+    ]
+
+
+class OtherName(GeneralName):
+    """A name of another kind: the identifier of its type. `data` is its value, a whole element."""
+
+    __slots__ = ("data",)
+    value: ObjectIdentifier
+
+    def __init__(self, type_id: ObjectIdentifier, data: bytes) -> None:
+        super().__init__(type_id)
+        self.data = data
+
+    @property
+    def type_id(self) -> ObjectIdentifier:
+        return self.value
+
+    def __eq__(self, other: object) -> bool:
+        return isinstance(other, OtherName) and (self.value, self.data) == (other.value, other.data)
+
+    def __hash__(self) -> int:
+        return hash((self.value, self.data))
+
+
+class EDIPartyName(GeneralName):
+    """A name of EDI, by the octets of its fields."""
+
+    value: bytes
+
+
+def _address(octets: bytes) -> Any:
+    if len(octets) in (4, 16):
+        return ipaddress.ip_address(octets)
+    if len(octets) in (8, 32):
+        half = len(octets) // 2
+        kind = ipaddress.IPv4Network if half == 4 else ipaddress.IPv6Network
+        mask = int.from_bytes(octets[half:], "big")
+        bits = 8 * half
+        ones = bits - (mask ^ ((1 << bits) - 1)).bit_length()
+        try:
+            return kind((octets[:half], ones)) if mask == ((1 << ones) - 1) << (bits - ones) else octets
+        except ValueError:
+            return octets
+    return octets
+
+
+def general_name(view: GeneralNameView, data: bytes) -> GeneralName:
+    """The name that a call filled in over these bytes."""
+    content = view.content.of(data)
+    kind = int(view.kind)
+    if kind == 0:
+        return OtherName(ObjectIdentifier.from_content(view.type_id.of(data)), view.value.of(data))
+    if kind in (1, 2, 6):
+        texts = {1: RFC822Name, 2: DNSName, 6: UniformResourceIdentifier}
+        return texts[kind](content.decode("ascii"))
+    if kind == 4:
+        return DirectoryName(Name(content))
+    if kind == 5:
+        return EDIPartyName(content)
+    if kind == 7:
+        return IPAddress(_address(content))
+    return RegisteredID(ObjectIdentifier.from_content(content))
+
+
+class GeneralNames:
+    """A list of general names."""
+
+    __slots__ = ("_names",)
+
+    def __init__(self, names: list[GeneralName]) -> None:
+        self._names = tuple(names)
+
+    @classmethod
+    def from_der(cls, data: bytes) -> GeneralNames:
+        return cls([general_name(it, data) for it in walk("x509_general_names_next", GeneralNameView, data)])
+
+    def get_values_for_type(self, kind: type[GeneralName]) -> list[Any]:
+        """What the names of that kind hold."""
+        return [it if isinstance(it, OtherName) else it.value for it in self._names if isinstance(it, kind)]
+
+    def __iter__(self) -> Iterator[GeneralName]:
+        return iter(self._names)
+
+    def __len__(self) -> int:
+        return len(self._names)
+
+    def __getitem__(self, at: int) -> GeneralName:
+        return self._names[at]
+
+    def __eq__(self, other: object) -> bool:
+        return isinstance(other, GeneralNames) and self._names == other._names
+
+    def __hash__(self) -> int:
+        return hash(self._names)
+
+    def __repr__(self) -> str:
+        return f"<{type(self).__name__}({list(self._names)!r})>"
