@@ -1,4 +1,4 @@
-//! Look-ups among the extensions of certificates, of CRLs and of requests.
+//! Look-ups among the extensions of certificates, of CRLs and of CSRs.
 #![tactic(auto)]
 
 mod filter;

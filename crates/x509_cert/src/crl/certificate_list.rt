@@ -12,8 +12,8 @@ use x509_der_frames::{PutPart, end, field};
 use x509_der_grammar::{Content, Error, Room, Tag, TryClone};
 use x509_prim::BitString;
 
-/// A certificate revocation list (CRL), signed (RFC 5280 5.1). That the signature fits, and that both algorithms are one, isn't
-/// looked at.
+/// A certificate revocation list (CRL) with its signature (RFC 5280 5.1). Neither the signature nor that both algorithm
+/// fields are equal is checked.
 ///
 /// ```text
 /// CertificateList ::= SEQUENCE {
@@ -34,9 +34,10 @@ pub struct CertificateList<P: Profile = Rfc5280> {
 }
 
 impl<P: Profile> CertificateList<P> {
-    /// The first entry with the serial number; `None` exactly where no entry has it. In one pass over the entries, without memory.
+    /// The first entry with the serial number; `None` exactly where no entry has it. One pass over the entries, without
+    /// memory.
     ///
-    /// Whether the list speaks of the issuer of the certificate, and from when until when, isn't looked at (RFC 5280 6.3.3).
+    /// Whether the CRL covers the issuer of the certificate, and for which time, isn't checked (RFC 5280 6.3.3).
     pub fn find(&self, serial_number: &SerialNumber<P>) -> Option<&RevokedCert<P>>
         ensures { MatchOption result (with_serial serial_number.now (entries self.now.tbs_cert_list.revoked_certificates) ≡ []) (λ entry. IsFirstWith serial_number.now (entries self.now.tbs_cert_list.revoked_certificates) entry.now) }
     {
