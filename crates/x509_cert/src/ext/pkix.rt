@@ -28,7 +28,7 @@ pub mod certpolicy {
     };
 }
 
-/// Basic constraints and policy constraints: what limits the certificates that may follow in a path.
+/// Basic, name and policy constraints: what limits the certificates that may follow in a path.
 pub mod constraints {
     pub use x509_ext::pkix::BasicConstraints;
     pub use x509_pkix::NameConstraints;

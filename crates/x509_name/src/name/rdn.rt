@@ -63,8 +63,8 @@ impl RelativeDistinguishedName {
     ///
     /// # Errors
     ///
-    /// `SetDuplicate` exactly where an equal attribute is there. `Memory` when out of memory, which comes only where
-    /// none is. On an error the RDN is unchanged, and the attribute is dropped.
+    /// `SetDuplicate` exactly where an equal attribute is there; else `Memory` when out of memory. On an error the RDN is
+    /// unchanged, and the attribute is dropped.
     pub fn insert(&mut self, attribute: AttributeTypeAndValue) -> Result<(), Error>
         ensures put { OnOk result (IsPermutation (attribute ∷ self.old) self.new) }
         ensures sorted { IsStrictlySortedBy type_and_value_cmp self.new }
