@@ -41,13 +41,13 @@ pub fn rfc5280_dates()
     ensures { (v : Validity rfc5280.Rfc5280) → writes ⟦<Validity<Rfc5280> as Encode>⟧.writing v ≡ record { value = record { not_before = rfc5280_time v.not_before; not_after = rfc5280_time v.not_after; profile = v.profile }; refusal = None } }
 {}
 
-/// Where a profile spells a date that it has spelled as it is, what is encoded of a validity is encoded as it is.
+/// Where a profile spells a date that it has spelled as it is, what is encoded of a validity is encoded again as it is.
 pub fn dates_are_written_once<P: Profile>()
     ensures { ((t u : Time) → time.good t → P.time_of t ≡ Ok u → time.good u × (P.time_of u ≡ Ok u)) → IsStable validity.good ⟦<Validity<P> as Encode>⟧.writing }
 {}
 
-/// Under [`Rfc5280`] what is encoded of a validity is encoded as it is: decoding and encoding twice gives the bytes of
-/// once.
+/// Under [`Rfc5280`] what is encoded of a validity is encoded again as it is: decoding and encoding twice gives the
+/// bytes of once.
 pub fn rfc5280_dates_are_written_once()
     ensures { IsStable validity.good ⟦<Validity<Rfc5280> as Encode>⟧.writing }
 {}

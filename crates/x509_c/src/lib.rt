@@ -1,4 +1,5 @@
-//! The calls from C, which `include/x509.h` declares. Each is a call of the libraries below, and tells its status by a number.
+//! The calls from C, which `include/x509.h` declares. Each is a call of the libraries below, and answers its status as
+//! a number. The parameter `room` is the caller's buffer for what is written.
 #![tactic(auto)]
 
 mod certificate;

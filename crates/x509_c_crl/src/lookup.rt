@@ -1,4 +1,4 @@
-//! What a list says of a certificate.
+//! Looking up a serial number in a CRL.
 
 ghost use Rattle.std.specs.Prelude.{◌≡◌};
 ghost use Rattle.x509_c_crl.specs.Revoked.{LooksUp, Revokes, Tells, reason_number};
@@ -68,7 +68,7 @@ fn ask(
     }
 }
 
-/// Reads a CRL and a serial number, both under the rules of RFC 5280, and fills in what the first entry with the
+/// Decodes a CRL and a serial number, both under the rules of RFC 5280, and fills in what the first entry with the
 /// number says.
 #[tactic(auto, unfolding(crate::specs::Revoked::LooksUp))]
 pub fn crl_lookup(

@@ -13,7 +13,7 @@ use x509_c_status::{Status, fill};
 use x509_der_element::ErrorKind;
 use x509_tool_run::NameCodec;
 
-/// Reads a name, and puts its text in UTF-8 at the front of the room.
+/// Decodes a name, and puts its text in UTF-8 at the front of the buffer.
 #[tactic(auto, unfolding(x509_c_status::specs::Status::Fills))]
 pub fn name_text<C: NameCodec>(
     alloc: Global,
@@ -29,7 +29,8 @@ pub fn name_text<C: NameCodec>(
     }
 }
 
-/// Reads the text of a name, and puts the name's encoding at the front of the room. `Failed` where the text isn't UTF-8.
+/// Reads the text of a name, and puts the name's encoding at the front of the buffer. `Failed` where the text is a bad
+/// one: it isn't UTF-8, or says no name.
 #[tactic(auto, unfolding(x509_c_status::specs::Status::Fills))]
 pub fn name_from_text<C: NameCodec>(
     alloc: Global,

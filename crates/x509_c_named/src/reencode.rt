@@ -1,4 +1,4 @@
-//! Reading and writing a value of the type with a name.
+//! Decoding a value of the type with a name, and encoding it again.
 
 ghost use Rattle.std.specs.Prelude.{◌≡◌, false, None};
 ghost use Rattle.std.specs.Str.{is_utf8};
@@ -24,8 +24,8 @@ fn profile_of(number: u32) -> Option<ProfileName>
     }
 }
 
-/// Reads a value of the type with that name under the profile with that number, and writes it at the front of the room. `Failed` where there is
-/// no such type or profile.
+/// Decodes a value of the type with that name under the profile with that number, and encodes it at the front of the
+/// buffer. `Failed` where the type or the profile is unknown.
 #[tactic(auto, unfolding(x509_c_status::specs::Status::Fills))]
 pub fn reencode_named<C: Codec>(
     alloc: Global,

@@ -26,8 +26,8 @@ use crate::version::Version;
 use x509_base_time::{Profile, Raw, Rfc5280, Validity};
 use x509_der_grammar::{Encode, Grammar, Spelled};
 
-/// Where what is encoded of a validity is encoded as it is, so is what is encoded of a trust anchor that holds one, at
-/// whatever depth: decoding and encoding twice gives the bytes of once.
+/// Where what is encoded of a validity is encoded again as it is, so is what is encoded of a trust anchor that holds
+/// one, at whatever depth: decoding and encoding twice gives the bytes of once.
 pub fn dates_are_written_once<P: Profile>()
     ensures controls { IsStable validity.good ⟦<Validity<P> as Encode>⟧.writing → IsStable (cert_path_controls P.serial_check).good ⟦<CertPathControls<P> as Encode>⟧.writing }
     ensures info { IsStable validity.good ⟦<Validity<P> as Encode>⟧.writing → IsStable (trust_anchor_info P.serial_check).good ⟦<TrustAnchorInfo<P> as Encode>⟧.writing }
@@ -61,15 +61,15 @@ pub fn raw_anchors_stay()
     ensures anchor { GoodStay (trust_anchor_choice ⟦<Raw as Profile>⟧.serial_check).good ⟦<TrustAnchorChoice<Raw> as Encode>⟧.writing }
 {}
 
-/// Where what is encoded of a validity is encoded as it is, of two trust anchors with the same encoding the same value
-/// is spelled, also of those with a certificate whose serial number the profile refuses in decoding.
+/// Where what is encoded of a validity is encoded again as it is, of two trust anchors with the same encoding the same
+/// value is spelled, also of those with a certificate whose serial number the profile refuses in decoding.
 pub fn anchors_written_alike_are_respelled_alike<P: Profile>()
     ensures controls { IsStable validity.good ⟦<Validity<P> as Encode>⟧.writing → RespellsAlike (cert_path_controls P.serial_check) any_cert_path_controls.good ⟦<CertPathControls<P> as Encode>⟧.writing }
     ensures info { IsStable validity.good ⟦<Validity<P> as Encode>⟧.writing → RespellsAlike (trust_anchor_info P.serial_check) any_trust_anchor_info.good ⟦<TrustAnchorInfo<P> as Encode>⟧.writing }
     ensures anchor { IsStable validity.good ⟦<Validity<P> as Encode>⟧.writing → RespellsAlike (trust_anchor_choice P.serial_check) any_trust_anchor_choice.good ⟦<TrustAnchorChoice<P> as Encode>⟧.writing }
 {}
 
-/// What is encoded of policy flags is encoded as it is: decoding and encoding twice gives the bytes of once.
+/// What is encoded of policy flags is encoded again as it is: decoding and encoding twice gives the bytes of once.
 pub fn policy_flags_are_written_once()
     ensures { IsStable ⟦<CertPolicies as Grammar>⟧.form.good ⟦<CertPolicies as Encode>⟧.writing }
 {}

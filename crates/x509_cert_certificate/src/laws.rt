@@ -27,8 +27,8 @@ use x509_base_time::{Profile, Raw, Rfc5280, Validity};
 use x509_der_frames::SequenceOf;
 use x509_der_grammar::{Encode, Grammar, Spelled};
 
-/// Where what is encoded of a validity is encoded as it is, so is what is encoded of a signed part, of a certificate
-/// and of a path.
+/// Where what is encoded of a validity is encoded again as it is, so is what is encoded of a signed part, of a
+/// certificate and of a path.
 pub fn dates_are_written_once<P: Profile>()
     ensures signed { IsStable validity.good ⟦<Validity<P> as Encode>⟧.writing → IsStable ⟦<TbsCertificateInner<P> as Grammar>⟧.form.good ⟦<TbsCertificateInner<P> as Encode>⟧.writing }
     ensures whole { IsStable validity.good ⟦<Validity<P> as Encode>⟧.writing → IsStable ⟦<CertificateInner<P> as Grammar>⟧.form.good ⟦<CertificateInner<P> as Encode>⟧.writing }
@@ -62,8 +62,8 @@ pub fn raw_certificates_stay()
     ensures listed { Stays ⟦<SequenceOf<CertificateInner<Raw>> as Encode>⟧.writing }
 {}
 
-/// Where what is encoded of a validity is encoded as it is, of two certificates with the same encoding the same value
-/// is spelled, also of those whose serial numbers the profile refuses in decoding.
+/// Where what is encoded of a validity is encoded again as it is, of two certificates with the same encoding the same
+/// value is spelled, also of those whose serial numbers the profile refuses in decoding.
 pub fn certificates_written_alike_are_respelled_alike<P: Profile>()
     ensures signed { IsStable validity.good ⟦<Validity<P> as Encode>⟧.writing → RespellsAlike ⟦<TbsCertificateInner<P> as Grammar>⟧.form any_tbs_certificate.good ⟦<TbsCertificateInner<P> as Encode>⟧.writing }
     ensures whole { IsStable validity.good ⟦<Validity<P> as Encode>⟧.writing → RespellsAlike ⟦<CertificateInner<P> as Grammar>⟧.form any_certificate.good ⟦<CertificateInner<P> as Encode>⟧.writing }

@@ -35,8 +35,8 @@ pub fn named_bits_are_ones()
     ensures { (usage : KeyUsage) (n : ℕ) → has_bit usage n ≡ is_one usage.0.0 n }
 {}
 
-/// What is encoded of a set of key usages is encoded as it is: decoding and encoding twice gives the bytes of once. It
-/// is the premise of the laws of canonical form of
+/// What is encoded of a set of key usages is encoded again as it is: decoding and encoding twice gives the bytes of
+/// once. It is the premise of the laws of canonical form of
 /// [`x509_der_grammar::laws`](x509_der_grammar::laws::writing_again_gives_the_same).
 pub fn key_usages_are_written_once()
     ensures usages { IsStable ⟦<KeyUsages as Grammar>⟧.form.good ⟦<KeyUsages as Encode>⟧.writing }

@@ -1,4 +1,4 @@
-//! Room that was written, and is only read from then on.
+//! A buffer that was written, and is only read from then on.
 
 ghost use Rattle.std.specs.Prelude.{◌≡◌, ◌≤◌, IfOk, MatchResult, IsErrAnd, IsOkAnd, drop, length};
 ghost use Rattle.std.specs.Borrow.{sem, Array, u8};
