@@ -57,7 +57,6 @@ pub trait Builder: Sized + Drop {
     /// `PublicKey` of the signer's error for its algorithm or its public key, where that is asked for; the profile's
     /// errors; `Asn1` where the signed part can't be made or encoded. `Memory`, within these, when out of memory. On an
     /// error the builder is unchanged.
-    /// `Asn1` where the part can't be made or encoded. Memory may be refused. A builder that refuses stays as it was.
     fn finalize<S: Signer>(&mut self, alloc: Global, signer: &S) -> Result<Vec<u8>>
         ensures ok { IfOk result (λ bytes. Encodes Self.Signed.form Self.Signed.writing (next self.old (S.algorithm_of signer.now) (S.key_of signer.now)) bytes.items) }
         ensures part { OnOk result (current self.new ≡ (next self.old (S.algorithm_of signer.now) (S.key_of signer.now)).value) }

@@ -38,7 +38,7 @@ impl Text {
     pub(crate) fn as_str(&self) -> &str
         ensures { result.now ≡ self.now }
     {
-        // The octets are those of a text, so nothing is looked at once more.
+        // The octets are those of a text, so nothing is checked again.
         unsafe { str::from_utf8_unchecked(self.octets.as_slice()) }
     }
 
