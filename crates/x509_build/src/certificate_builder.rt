@@ -22,6 +22,29 @@ use x509_prim::BitString;
 ///
 /// The profile says what the subject is and who the issuer is. A certificate without extensions is of version 1, else
 /// of version 3; it has no unique identifiers (RFC 5280 4.1.2.8).
+///
+/// A root, signed by a [`Signer`] that is `ABC`:
+///
+/// ```rust
+/// pub(crate) fn builder<P: BuilderProfile>(
+///     rt: &HostRuntime,
+///     profile: P,
+///     key: &[u8],
+/// ) -> Result<CertificateBuilder<P>> {
+///     let alloc = rt.alloc();
+///     CertificateBuilder::new(
+///         alloc,
+///         profile,
+///         SerialNumber::from_u8(alloc, 42)?,
+///         Validity::from_der(alloc, DATES)?,
+///         SubjectPublicKeyInfo::from_der(alloc, key)?,
+///     )
+/// }
+///
+/// let profile = Root::new(true, Name::from_str(alloc, "CN=R,O=T,C=US")?)?;
+/// let certificate = builder(rt, profile, ABC_KEY)?.build(alloc, &ABC)?;
+/// Ok(certificate.to_der(alloc)?)
+/// ```
 #[derive(Drop)]
 pub struct CertificateBuilder<P> {
     profile: P,

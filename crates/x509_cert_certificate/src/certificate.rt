@@ -15,7 +15,17 @@ use x509_der_grammar::{Content, Encode, Error, Grammar, Room, Spelled, Tag, TryC
 use x509_prim::BitString;
 
 /// A certificate under the profile [`Rfc5280`]: decoding refuses serial numbers of more than 21 octets, and encoding
-/// spells dates as RFC 5280 wants.
+/// spells dates as RFC 5280 wants. From bytes to what a certificate says, and back:
+///
+/// ```rust
+/// let certificate = Certificate::from_der(alloc, CERTIFICATE)?;
+/// let part = certificate.tbs_certificate();
+/// assert_eq!(rt; format!(in alloc; "{}", part.subject())?.as_str(), "CN=R");
+/// assert!(rt; is_to_sign(&part.get_extension::<KeyUsage>(alloc)?));
+///
+/// let bytes = certificate.to_der(alloc)?;
+/// assert_eq!(rt; bytes.as_slice(), CERTIFICATE);
+/// ```
 pub type Certificate = CertificateInner<Rfc5280>;
 
 /// A path of certificates, the topmost first: each signed the next (RFC 6066 10.1). That they did isn't checked, and an

@@ -32,6 +32,11 @@ fn take_sequence(bytes: &[u8]) -> Option<(&[u8], &[u8])>
 ///     signed  SEQUENCE { .. },
 ///     .. }
 /// ```
+///
+/// ```rust
+/// assert!(rt; signed_slice(LONG) == Some(&LONG[2..64]));
+/// assert!(rt; signed_slice(&[0x30, 0x02, 0x30, 0x00, 0x30]).is_none());
+/// ```
 pub fn signed_slice(bytes: &[u8]) -> Option<&[u8]>
     ensures some { IfSome result (λ signed. IsSignedPart bytes.now signed.now) }
     ensures none { IfNone result ((signed : List ℕ) → ¬ (IsSignedPart bytes.now signed)) }

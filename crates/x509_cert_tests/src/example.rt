@@ -3,6 +3,7 @@
 use std::test::*;
 use x509_cert::der::{Decode, Encode};
 use x509_cert::ext::pkix::KeyUsage;
+use x509_cert::name::Name;
 use x509_cert::{Certificate, signed_slice};
 
 /// A certificate of R for R itself, whose key may sign certificates and CRLs.
@@ -35,5 +36,14 @@ fn example(rt: HostRuntime) -> Result<(), Fail> {
     assert!(rt; signed_slice(CERTIFICATE) == Some(&CERTIFICATE[2..114]));
     let bytes = certificate.to_der(alloc)?;
     assert_eq!(rt; bytes.as_slice(), CERTIFICATE);
+    Ok(())
+}
+
+/// A text is read as a name, which prints it.
+#[test]
+fn a_name(rt: HostRuntime) -> Result<(), Fail> {
+    let alloc = rt.alloc();
+    let name = Name::from_str(alloc, "CN=Good CA,C=US")?;
+    assert_eq!(rt; format!(in alloc; "{}", &name)?.as_str(), "CN=Good CA,C=US");
     Ok(())
 }

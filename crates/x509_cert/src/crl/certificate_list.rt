@@ -21,6 +21,22 @@ use x509_prim::BitString;
 ///     signatureAlgorithm  AlgorithmIdentifier,
 ///     signatureValue      BIT STRING }
 /// ```
+///
+/// [`find`](CertificateList::find) looks a serial number up:
+///
+/// ```rust
+/// fn has_entry(list: &CertificateList, serial_number: &SerialNumber) -> bool {
+///     match list.find(serial_number) {
+///         Some(entry) => entry.serial_number == *serial_number,
+///         None => false,
+///     }
+/// }
+///
+/// let list = CertificateList::from_der(rt.alloc(), LIST)?;
+/// assert!(rt; list.tbs_cert_list.entries().len() == 1);
+/// assert!(rt; has_entry(&list, &SerialNumber::from_u8(rt.alloc(), 5)?));
+/// assert!(rt; !has_entry(&list, &SerialNumber::from_u8(rt.alloc(), 6)?));
+/// ```
 #[derive(Debug, PartialEq, Eq)]
 pub struct CertificateList<P: Profile = Rfc5280> {
     /// The part that is signed.

@@ -116,6 +116,18 @@ impl Content for CertReqInfo {
 ///     signatureAlgorithm        AlgorithmIdentifier,
 ///     signature                 BIT STRING }
 /// ```
+///
+/// Whether a CSR asks for an empty list of extensions, and has no challenge password:
+///
+/// ```rust
+/// let request = CertReq::try_from_bytes(rt.alloc(), REQUEST)?;
+///
+/// let password = request.get_attribute::<ChallengePassword>(rt.alloc())?;
+/// Ok(match request.extension_req(rt.alloc())? {
+///     Some(asked) => asked.0.is_empty() && password.is_none(),
+///     None => false,
+/// })
+/// ```
 #[derive(Debug, PartialEq, Eq)]
 pub struct CertReq {
     /// The part that is signed.

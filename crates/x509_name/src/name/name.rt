@@ -20,6 +20,13 @@ use x509_der_grammar::{Content, Error, Room, Spelled, Tag, TryClone};
 /// ```text
 /// Name ::= CHOICE { rdnSequence  RDNSequence }
 /// ```
+///
+/// A text is read by [`from_str`](Name::from_str), and `Display` writes it:
+///
+/// ```rust
+/// let name = Name::from_str(alloc, "CN=Good CA,C=US")?;
+/// assert_eq!(rt; format!(in alloc; "{}", &name)?.as_str(), "CN=Good CA,C=US");
+/// ```
 #[derive(Debug, Drop)]
 pub struct Name(RdnSequence);
 
