@@ -100,6 +100,12 @@ fn pick(
 
 /// Decodes a certificate under the rules of RFC 5280, and fills in its extension with the OID of these content octets.
 /// An extension may appear once at most (RFC 5280 4.2).
+///
+/// # Errors
+///
+/// [`Status::Absent`] exactly where no extension has the OID, [`Status::Repeated`] exactly where two or more have it.
+/// Else the error of decoding the certificate, as [`certificate_view`](crate::certificate_view). `found` is unchanged
+/// then.
 #[tactic(auto, unfolding(crate::specs::Extensions::LooksUpExtension))]
 pub fn certificate_extension(
     alloc: Global,

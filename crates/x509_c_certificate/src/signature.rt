@@ -51,8 +51,11 @@ fn signature_of(input: &[u8], certificate: &CertificateInner<Rfc5280>) -> Signat
     }
 }
 
-/// Decodes a certificate under the rules of RFC 5280, and fills in what is to be verified of it; on an error the view
-/// is unchanged.
+/// Decodes a certificate under the rules of RFC 5280, and fills in what is to be verified of it.
+///
+/// # Errors
+///
+/// Those of decoding the certificate, as [`certificate_view`](crate::certificate_view). `found` is unchanged then.
 #[tactic(auto, unfolding(x509_c_status::specs::Calls::Reads))]
 pub fn certificate_signature(alloc: Global, input: &[u8], found: &mut SignatureView) -> Status
     ensures { Reads ⟦<CertificateInner<Rfc5280> as Grammar>⟧.form ⟦<CertificateInner<Rfc5280> as Grammar>⟧.refuses input.now (λ certificate. IsSignature input.now certificate found.new) (found.new ≡ found.old) result }

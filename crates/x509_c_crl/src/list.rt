@@ -10,7 +10,12 @@ use x509_c_status::Status;
 use x509_cert::crl::CertificateList;
 use x509_der_grammar::{Decode, Grammar};
 
-/// Decodes a CRL under the rules of RFC 5280, and says how many entries it has. On an error the count is unchanged.
+/// Decodes a CRL under the rules of RFC 5280, and says how many entries it has.
+///
+/// # Errors
+///
+/// `Overlength` where the bytes are more than 268,435,455. Within that length `Malformed` where they are the encoding
+/// of no CRL. `Memory` when out of memory. The count is unchanged then.
 #[tactic(auto, unfolding(x509_c_status::specs::Calls::Reads))]
 pub fn crl_walk(alloc: Global, input: &[u8], count: &mut usize) -> Status
     ensures { Reads ⟦<CertificateList<Rfc5280> as Grammar>⟧.form ⟦<CertificateList<Rfc5280> as Grammar>⟧.refuses input.now (λ list. count.new ≡ length (entries list.tbs_cert_list.revoked_certificates)) (count.new ≡ count.old) result }

@@ -25,7 +25,13 @@ fn profile_of(number: u32) -> Option<ProfileName>
 }
 
 /// Decodes a value of the type with that name under the profile with that number, and encodes it at the front of the
-/// buffer. `Failed` where the type or the profile is unknown.
+/// buffer `room`.
+///
+/// # Errors
+///
+/// [`Status::NoRoom`] where the buffer is too small; then `written` is the needed length. `Failed` where the profile is
+/// unknown or the name isn't UTF-8. Else the codec's errors, `Failed` among them where the type is unknown; `Memory`
+/// when out of memory.
 #[tactic(auto, unfolding(x509_c_status::specs::Status::Fills))]
 pub fn reencode_named<C: Codec>(
     alloc: Global,

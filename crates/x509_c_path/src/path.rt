@@ -70,9 +70,12 @@ fn tell(
 /// anchor's certificate, apart from the signatures: any bits are accepted as one. The certificates stand one behind the
 /// other, the topmost first, and have these lengths.
 ///
-/// [`Status::Faulty`] where a certificate has a fault, the first of which is filled in; else `fault` is unchanged.
-/// [`Status::Absent`] where there is no certificate. `Value` where the time is after the year 9999, `Failed` where the
-/// lengths don't add up, and the error of decoding where the anchor's certificate is refused.
+/// # Errors
+///
+/// `Value` where the time is after the year 9999, `Failed` where the lengths don't add up, and the error of decoding
+/// the anchor's certificate; where several of these are bad, any of them. Else [`Status::Absent`] where there is no
+/// certificate, and [`Status::Faulty`] where one has a fault, the first of which is filled in. `Memory` when out of
+/// memory. `fault` is unchanged except on [`Status::Faulty`].
 #[tactic(auto, unfolding(crate::specs::Paths::ChecksPath))]
 pub fn path_check(
     alloc: Global,

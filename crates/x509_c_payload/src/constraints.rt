@@ -42,8 +42,12 @@ fn view_of(constraints: &BasicConstraints) -> BasicConstraintsView
     }
 }
 
-/// Decodes a BasicConstraints (RFC 5280 4.2.1.9), and fills in what it says. It takes no memory. On an error the view
-/// is unchanged.
+/// Decodes a BasicConstraints (RFC 5280 4.2.1.9), and fills in what it says. It takes no memory.
+///
+/// # Errors
+///
+/// `Overlength` where the bytes are more than 268,435,455. Within that length `Malformed` where they are the encoding
+/// of no BasicConstraints. The view is unchanged then.
 #[tactic(auto, unfolding(x509_c_status::specs::Calls::Reads))]
 pub fn basic_constraints(alloc: Global, input: &[u8], view: &mut BasicConstraintsView) -> Status
     ensures read { Reads ⟦<BasicConstraints as Grammar>⟧.form ⟦<BasicConstraints as Grammar>⟧.refuses input.now (λ constraints. IsBasicConstraints constraints view.new) (view.new ≡ view.old) result }

@@ -54,6 +54,10 @@ fn entry_at(input: &[u8], place: usize, extension: &Extension) -> ExtensionEntry
 
 /// Fills in the next extension of a list of extensions, which the bytes are (RFC 5280 4.1.2.9, 5.1.2.7), and moves the
 /// place behind it.
+///
+/// # Errors
+///
+/// [`Status::Absent`] at the end of the list. Else those of [`next`]. `at` and `found` are unchanged then.
 #[tactic(auto, unfolding(crate::specs::Cursor::Steps))]
 pub fn extensions_next(
     alloc: Global,

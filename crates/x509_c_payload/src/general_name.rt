@@ -117,7 +117,12 @@ fn names_in(
     }
 }
 
-/// Fills in the next name of a list of general names, which the bytes are (RFC 5280 4.2.1.6), and moves the place behind it.
+/// Fills in the next name of a list of general names, which the bytes are (RFC 5280 4.2.1.6), and moves the place
+/// behind it.
+///
+/// # Errors
+///
+/// [`Status::Absent`] at the end of the list. Else those of [`next`]. `at` and `found` are unchanged then.
 pub fn general_names_next(
     alloc: Global,
     input: &[u8],
@@ -146,7 +151,10 @@ fn implicit_list(number: u32) -> Option<Tag>
 }
 
 /// The same of a list under the implicit tag \[n\], such as the issuer's names in an AKI (RFC 5280 4.2.1.1).
-/// `Malformed` where n is above 30.
+///
+/// # Errors
+///
+/// `Malformed` where n is above 30. Else those of [`general_names_next`]. `at` and `found` are unchanged then.
 pub fn general_names_under_next(
     alloc: Global,
     number: u32,

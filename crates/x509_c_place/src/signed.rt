@@ -24,8 +24,11 @@ pub fn signed_span(input: &[u8]) -> Option<Span>
     Some(step(input, &mut at, true))
 }
 
-/// The same as a call that fills in the span: `Malformed` where there is no such part, and the span is unchanged then.
-/// It takes no memory.
+/// [`signed_span`] as a call that fills in the span. It takes no memory.
+///
+/// # Errors
+///
+/// `Malformed` exactly where there are no signed bytes; the span is unchanged then.
 #[tactic(auto, unfolding(crate::specs::SignedPlace::IsSignedAt))]
 pub fn signed_place(input: &[u8], span: &mut Span) -> Status
     ensures { IsSignedAt input.now span.old span.new result }

@@ -10,7 +10,11 @@ use crate::status::Status;
 use std::alloc::Global;
 use x509_der_grammar::{Decode, ErrorKind};
 
-/// Decodes a value, and frees it: done exactly where the bytes are the encoding of one. `Memory` when out of memory.
+/// Decodes a value, and frees it: done exactly where the bytes are the encoding of one.
+///
+/// # Errors
+///
+/// As [`Decode::from_der`]; `Memory` when out of memory.
 #[tactic(auto, unfolding(crate::specs::Calls::Reads))]
 pub fn check<T: Decode + Drop>(alloc: Global, input: &[u8]) -> Status
     ensures { Checks T.form T.refuses input.now result }
