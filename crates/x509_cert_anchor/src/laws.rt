@@ -1,6 +1,6 @@
 //! What is encoded of trust anchors. Each law is a function with an empty body, or one that cites others, whose
-//! contract is the law. A value spells its encoding; it is respelled where a profile encodes its dates otherwise than
-//! they were decoded (`docs/MAP.md` has these words).
+//! contract is the law. Bytes spell a value where they are its encoding; it is respelled where a profile encodes its
+//! dates otherwise than they were decoded (`docs/MAP.md` has these words).
 
 ghost use Rattle.std.specs.Prelude.{length, true, ◌↔◌, ◌≡◌, ◌≤◌};
 ghost use Rattle.x509_base_time.specs.Validity.{validity};

@@ -1,7 +1,7 @@
 //! What is encoded of certificates, of their signed parts and of paths of certificates, and what the signed bytes
-//! spell. Each law is a function with an empty body, or one that cites others, whose contract is the law. A value
-//! spells its encoding; it is respelled where a profile encodes its dates otherwise than they were decoded
-//! (`docs/MAP.md` has these words).
+//! spell. Each law is a function with an empty body, or one that cites others, whose contract is the law. Bytes spell a
+//! value where they are its encoding; it is respelled where a profile encodes its dates otherwise than they were
+//! decoded (`docs/MAP.md` has these words).
 //!
 //! That no two values share a spelling, and no value has two, stands in [`x509_der_grammar::laws`] for every type. So
 //! does what follows from what [`dates_are_written_once`] says: that decoding what was encoded and encoding it again

@@ -166,7 +166,7 @@ impl<P: Profile> TbsCertificateInner<P> {
         &self.issuer
     }
 
-    /// The validity: from when and until when the certificate holds (RFC 5280 4.1.2.5).
+    /// The validity: from when and until when the certificate is valid (RFC 5280 4.1.2.5).
     pub fn validity(&self) -> &Validity<P>
         ensures { result.now ≡ self.now.validity }
     {

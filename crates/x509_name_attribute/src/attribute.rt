@@ -96,7 +96,7 @@ impl SetMember for Attribute {
     ghost in_der_order = { refl };
 }
 
-/// Attributes are ordered by their encodings, as [`DerOrd`] compares them.
+/// Attributes are compared by their encodings, as [`DerOrd`] compares them.
 impl PartialEq for Attribute {
     ghost use Rattle.std.specs.Cmp.{partial_equiv_from_equiv};
     ghost use Rattle.x509_name_attribute.specs.Attribute as grammar;

@@ -87,7 +87,7 @@ fn put_set<R: Room>(set: u16, room: &mut R) -> Result<(), Error>
 ///
 /// # Errors
 ///
-/// `Malformed` exactly where no value has them: a zero bit ends the string, an unused bit is one, or a bit has no name.
+/// `Malformed` where no value has them: a zero bit ends the string, an unused bit is one, or a bit has no name.
 #[tactic(auto, unfolding(crate::specs::NamedBits::named_reading))]
 pub fn read_named_bits<T: Flags<Bits = u16>>(octets: &[u8]) -> Result<T, Error>
     ensures exact { T.exact → GivesBy T.set_of result (grammar.named_reading T.table octets.now) }

@@ -52,7 +52,7 @@ impl Line {
         }
     }
 
-    /// Starts anew, in the room that there is.
+    /// Starts anew, in the memory that it has.
     pub fn clear(&mut self)
         ensures { Keeps self.new.kept.items self.new.fault [] }
     {
