@@ -15,7 +15,7 @@ use x509_der_grammar::{Content, Encode, Error, Grammar, Room, Spelled, Tag, TryC
 use x509_prim::BitString;
 
 /// A certificate under the profile [`Rfc5280`]: decoding refuses serial numbers of more than 21 octets, and encoding
-/// spells dates as RFC 5280 wants. From bytes to what a certificate says, and back:
+/// writes the dates of the validity through 2049 as UTCTime. From bytes to what a certificate says, and back:
 ///
 /// ```rust
 /// let certificate = Certificate::from_der(alloc, CERTIFICATE)?;

@@ -25,7 +25,7 @@ use x509_prim::BitString;
 pub type TbsCertificate = TbsCertificateInner<Rfc5280>;
 
 /// The part of a certificate that is signed: the subject, its public key, and what the issuer says of them (RFC 5280
-/// 4.1.2). The profile checks the serial number in decoding, and spells the validity in encoding. That the fields are
+/// 4.1.2). The profile checks the serial number in decoding, and says how the validity is encoded. That the fields are
 /// those which the version allows isn't checked.
 ///
 /// ```text
