@@ -94,7 +94,7 @@ impl DateTime {
         *self == DateTime::INFINITY
     }
 
-    /// The date-time so long after 1970-01-01T00:00:00Z. A fraction of a second is dropped.
+    /// The date-time `duration` after 1970-01-01T00:00:00Z. A fraction of a second is dropped.
     ///
     /// # Errors
     ///

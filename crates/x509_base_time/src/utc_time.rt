@@ -53,7 +53,7 @@ impl UtcTime {
         Ok(UtcTime { date_time })
     }
 
-    /// The date-time so long after 1970-01-01T00:00:00Z. A fraction of a second is dropped.
+    /// The date-time `duration` after 1970-01-01T00:00:00Z. A fraction of a second is dropped.
     ///
     /// # Errors
     ///

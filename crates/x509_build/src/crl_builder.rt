@@ -42,8 +42,8 @@ pub struct CrlBuilder<P: Profile = Rfc5280> {
 }
 
 impl<P: Profile> CrlBuilder<P> {
-    /// A builder of the CRL with that number, issued now: so long after 1970-01-01T00:00:00Z, of which a fraction of a
-    /// second is dropped. The date is a UTCTime through 2049. Otherwise as
+    /// A builder of the CRL with that number, issued now: `now` is the time since 1970-01-01T00:00:00Z, of which a
+    /// fraction of a second is dropped. The date is a UTCTime through 2049. Otherwise as
     /// [`new_with_this_update`](CrlBuilder::new_with_this_update).
     ///
     /// # Errors

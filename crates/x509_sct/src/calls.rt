@@ -139,7 +139,8 @@ impl SignatureAndHashAlgorithm {
     ///
     /// # Errors
     ///
-    /// The first one from the left: `EndOfStream` where a byte is missing, `UnknownValue` where it is of no algorithm.
+    /// The first error from the left: `EndOfStream` where a byte is missing, `UnknownValue` where it is of no
+    /// algorithm.
     pub fn tls_deserialize_bytes(
         alloc: Global,
         bytes: &[u8],
@@ -167,7 +168,7 @@ impl DigitallySigned {
     ///
     /// # Errors
     ///
-    /// The first one from the left: `EndOfStream` where bytes are missing, `UnknownValue` where a byte is of no
+    /// The first error from the left: `EndOfStream` where bytes are missing, `UnknownValue` where a byte is of no
     /// algorithm. `Memory` when out of memory.
     pub fn tls_deserialize_bytes(
         alloc: Global,
@@ -196,8 +197,8 @@ impl SignedCertificateTimestamp {
     ///
     /// # Errors
     ///
-    /// The first one from the left: `EndOfStream` where bytes are missing, `UnknownValue` where a byte is of no version
-    /// or no algorithm. `Memory` when out of memory.
+    /// The first error from the left: `EndOfStream` where bytes are missing, `UnknownValue` where a byte is of no
+    /// version or no algorithm. `Memory` when out of memory.
     pub fn tls_deserialize_bytes(
         alloc: Global,
         bytes: &[u8],

@@ -61,8 +61,8 @@ impl SignedCertificateTimestampList {
     ///
     /// # Errors
     ///
-    /// As [`Error::Tls`], the first one from the left: `EndOfStream` where bytes are missing, and `TrailingData` where
-    /// bytes follow the list, which comes before any error of an item. `Memory` when out of memory.
+    /// As [`Error::Tls`], the first error from the left: `EndOfStream` where bytes are missing, and `TrailingData`
+    /// where bytes follow the list, which comes before any error of an item. `Memory` when out of memory.
     pub fn parse_timestamps(&self, alloc: Global) -> Result<Vec<SerializedSct>, Error>
         ensures { Answers (λ v. v.items) (λ e. errors.Tls e) (λ items. IsTimestampList items self.now.0) (ListFault uint16 serialized self.now.0) Unit result }
     {

@@ -42,7 +42,7 @@ impl SerializedSct {
     ///
     /// # Errors
     ///
-    /// As [`Error::Tls`], the first one from the left: `EndOfStream` where bytes are missing, `UnknownValue` where a
+    /// As [`Error::Tls`], the first error from the left: `EndOfStream` where bytes are missing, `UnknownValue` where a
     /// byte is of no version or no algorithm, and `TrailingData` where bytes follow the timestamp. `Memory` when out of
     /// memory.
     pub fn parse_timestamp(&self, alloc: Global) -> Result<SignedCertificateTimestamp, Error>

@@ -32,8 +32,8 @@ impl TlsItem for TlsByteVecU16 {
 ///
 /// # Errors
 ///
-/// The first one from the left; `TrailingData`, where bytes follow the list, comes before the errors of items. `Memory`
-/// when out of memory.
+/// The first error from the left; `TrailingData`, where bytes follow the list, comes before the errors of items.
+/// `Memory` when out of memory.
 pub fn read_list<T: TlsItem + Drop>(alloc: Global, bytes: &[u8]) -> Result<Vec<T>, TlsError>
     ensures { Answers (λ items. items.items) (λ e. e) (λ items. IsList uint16 T.form items bytes.now) (ListFault uint16 T.form bytes.now) Unit result }
 {

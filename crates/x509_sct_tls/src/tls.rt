@@ -28,8 +28,8 @@ pub trait Tls: Sized {
     ///
     /// # Errors
     ///
-    /// The first one from the left, as the form says it; `Memory` when out of memory, only where decoding the type may
-    /// take memory.
+    /// The first error from the left, as the form says it; `Memory` when out of memory, only where decoding the type
+    /// may take memory.
     fn take(alloc: Global, bytes: &[u8]) -> Result<(Self, &[u8]), TlsError>
         ensures exact { GivesBy (λ x. (x.0, x.1.now)) result (form.reading bytes.now) }
         ensures memory { IfErr result (λ e. e ≡ Memory → wants_memory) };
@@ -81,8 +81,8 @@ pub trait Tls: Sized {
 ///
 /// # Errors
 ///
-/// The first one from the left, or `TrailingData` where the bytes begin with a value and something follows it. `Memory`
-/// when out of memory, only where decoding the type may take memory.
+/// The first error from the left, or `TrailingData` where the bytes begin with a value and something follows it.
+/// `Memory` when out of memory, only where decoding the type may take memory.
 pub fn read_whole<T: Tls + Drop>(alloc: Global, bytes: &[u8]) -> Result<T, TlsError>
     ensures { Answers (λ x. x) (λ e. e) (λ x. Spells T.form x bytes.now) (IsWholeFault T.form bytes.now) T.wants_memory result }
 {
