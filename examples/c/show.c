@@ -61,7 +61,7 @@ static x509_status print_subject_and_dates(const uint8_t *bytes, size_t len)
         return status;
     const uint8_t *name = bytes + view.subject.place;
     size_t written = 0;
-    status = x509_name_text(name, view.subject.len, NULL, 0, &written); /* no room: says how much is wanted */
+    status = x509_name_text(name, view.subject.len, NULL, 0, &written); /* no buffer: says how much is needed */
     if (status != X509_OK && status != X509_ROOM)
         return status;
     uint8_t *text = malloc(written + 1);

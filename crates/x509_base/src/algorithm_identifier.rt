@@ -7,7 +7,7 @@ use x509_der_frames::{Any, PutPart, end, field, option_has_spelling, optional, o
 use x509_der_grammar::{Content, Error, Room, Spelled, Tag, TryClone};
 use x509_der_order::{DerOrd, EncodingOrd, SetMember, SetOrd, ValueOrd, cmp_optional};
 
-/// An algorithm, by its name, and the parameters with which it is used (RFC 5280 4.1.1.2).
+/// An algorithm, by its OID, and the parameters with which it is used (RFC 5280 4.1.1.2).
 ///
 /// ```text
 /// AlgorithmIdentifier ::= SEQUENCE {
@@ -16,12 +16,12 @@ use x509_der_order::{DerOrd, EncodingOrd, SetMember, SetOrd, ValueOrd, cmp_optio
 /// ```
 #[derive(Debug, PartialEq, Eq)]
 pub struct AlgorithmIdentifier {
-    /// The name of the algorithm.
+    /// The OID of the algorithm.
     pub oid: ObjectIdentifier,
 
-    /// The parameters: one element of any type. What it has to be, or whether it is left out, is for the algorithm to
-    /// say; it isn't looked into here. RSA keys and signatures have a NULL (RFC 3279 2.3.1, 2.2.1), which
-    /// [`Any::null`] makes; elliptic curves have the name of the curve, Ed25519 has none.
+    /// The parameters: one element of any type. What it has to be, or whether it is absent, is for the algorithm to
+    /// say; that isn't checked here. RSA keys and signatures have a NULL (RFC 3279 2.3.1, 2.2.1), which [`Any::null`]
+    /// makes; elliptic curve keys have the name of the curve, Ed25519 has none.
     pub parameters: Option<Any>,
 }
 

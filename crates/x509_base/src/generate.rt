@@ -11,7 +11,7 @@ use std::alloc::Global;
 use x509_base_time::Profile;
 use x509_der_grammar::{Error, ErrorKind};
 
-/// How often a source is asked before it is taken to give zeros alone.
+/// How often a source is asked before it is taken to give only zeros.
 const MOST_FILLS: u32 = 64;
 
 /// The most octets of a number that is generated; its content may have one more, the sign.
@@ -21,12 +21,12 @@ const MOST_OCTETS: usize = 19;
 const FEWEST_RANDOM: usize = 8;
 
 impl<P: Profile> SerialNumber<P> {
-    /// The number of 17 random bytes. The source fills them until the first is no zero, at most 64 times, so that the number
-    /// has all 17.
+    /// A serial number of 17 random bytes. The source fills them until the first isn't zero, at most 64 times, so that
+    /// the number has all 17.
     ///
     /// # Errors
     ///
-    /// `Failed` where each of the 64 fills begins with a zero. No memory is taken.
+    /// `Failed` where the random source is a bad one: each of the 64 fills begins with a zero. No memory is taken.
     pub fn generate<R: CryptoRng>(alloc: Global, rng: &mut R) -> Result<SerialNumber<P>, Error>
         ensures ok { IfOk result (λ serial. (fill : List ℕ) × Draws 17 (R.stream rng.old) fill (R.stream rng.new) × (serial ≡ number_content fill)) }
         ensures err { IfErr result (λ e. (e.kind ≡ errors.Failed) × GivesZeros 17 (R.stream rng.old) (R.stream rng.new)) }
@@ -34,13 +34,13 @@ impl<P: Profile> SerialNumber<P> {
         SerialNumber::generate_with_prefix(alloc, &[], 17, rng)
     }
 
-    /// The number of the octets of the prefix and of random bytes behind them. The source fills those until the first of
-    /// them is no zero, at most 64 times.
+    /// A serial number of the octets of the prefix followed by random bytes. The source fills those until the first of
+    /// them isn't zero, at most 64 times.
     ///
     /// # Errors
     ///
     /// `Failed` where fewer than 8 random bytes are asked for, or more than 19 octets in all; then no fill is made.
-    /// `Failed` where each of the 64 fills begins with a zero. No memory is taken.
+    /// `Failed` too where the random source is a bad one: each of the 64 fills begins with a zero. No memory is taken.
     pub fn generate_with_prefix<R: CryptoRng>(
         alloc: Global,
         prefix: &[u8],
@@ -65,7 +65,7 @@ impl<P: Profile> SerialNumber<P> {
     }
 }
 
-/// Fills the octets until the first is no zero, at most 64 times; `Failed` where each fill begins with one.
+/// Fills the octets until the first isn't zero, at most 64 times; `Failed` where each fill begins with a zero.
 fn draw<R: Rng>(octets: &mut [u8], rng: &mut R) -> Result<(), Error>
     requires { 0 < length octets.old }
     ensures ok { OnOk result (Draws (length octets.old) (R.stream rng.old) octets.new (R.stream rng.new)) }

@@ -1,4 +1,4 @@
-//! What holds of times, what is written of dates, and which serial numbers, algorithms and keys are equal. Each law is
+//! What holds of times, what is encoded of dates, and which serial numbers, algorithms and keys are equal. Each law is
 //! a function with an empty body, whose contract is the law.
 
 ghost use Rattle.std.specs.Prelude.{◌≡◌, ◌↔◌, List, ℕ, true};
@@ -28,14 +28,14 @@ pub fn equality_of_serial_numbers_is_exact<P: Profile>()
     ensures { (a b : List ℕ) → (⟦<SerialNumber<P> as PartialEq>⟧.eq a b ≡ true) ↔ (a ≡ b) }
 {}
 
-/// Serial numbers with encodings stand, as keys, in the byte order of the encodings.
+/// Serial numbers that have an encoding are ordered, as keys, by the bytes of their encodings.
 pub fn serial_numbers_stand_in_the_order_of_encodings<P: Profile>()
     ensures { (v w a b : List ℕ) → Spells (serial_number P.serial_check) v a → Spells (serial_number P.serial_check) w b → ⟦<SerialNumber<P> as Ord>⟧.cmp v w ≡ bytes_cmp a b }
 {
     encodings_in_order::<SerialNumber<P>>();
 }
 
-/// Serial numbers that are `==` are hashed alike, and neither is before the other.
+/// Serial numbers that are `==` have one hash, and neither is before the other.
 pub fn equal_serial_numbers_are_one_key<P: Profile>()
     ensures order { (a b : List ℕ) → (⟦<SerialNumber<P> as PartialEq>⟧.eq a b ≡ true) ↔ (⟦<SerialNumber<P> as Ord>⟧.cmp a b ≡ Equal) }
     ensures hash { (a b : List ℕ) → ⟦<SerialNumber<P> as PartialEq>⟧.eq a b ≡ true → ⟦<SerialNumber<P> as Hash>⟧.hash_input a ≡ ⟦<SerialNumber<P> as Hash>⟧.hash_input b }

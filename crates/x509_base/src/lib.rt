@@ -1,4 +1,5 @@
-//! Serial numbers, times, profiles, validity and keys of certificates.
+//! Serial numbers, times, profiles, validity and keys of certificates. A profile says which serial numbers decoding
+//! allows and how dates are encoded; words of our own are explained in `docs/MAP.md`.
 #![tactic(auto)]
 
 mod algorithm_identifier;

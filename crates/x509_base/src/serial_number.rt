@@ -21,8 +21,8 @@ use x509_der_grammar::{Content, Error, ErrorKind, Room, Spelled, Tag, TryClone};
 use x509_der_order::{DerOrd, EncodingOrd, SetMember, SetOrd, ValueOrd};
 use x509_prim::{Int, Uint, strip_zeros};
 
-/// The number that the issuer of a certificate gave it (RFC 5280 4.1.2.2). Reading asks the profile whether the content
-/// octets may stand; writing doesn't. Contracts see the content octets.
+/// The serial number that the issuer of a certificate gave it (RFC 5280 4.1.2.2). Decoding asks the profile whether the
+/// content octets are allowed; encoding doesn't. Contracts see the content octets.
 ///
 /// ```text
 /// CertificateSerialNumber ::= INTEGER
@@ -47,12 +47,12 @@ impl SerialNumber<Rfc5280> {
 }
 
 impl<P: Profile> SerialNumber<P> {
-    /// The number of the octets, most significant first, which may begin with zeros.
+    /// The serial number with these octets, most significant first; they may begin with zeros.
     ///
     /// # Errors
     ///
-    /// `Value` where there are no octets; `Overlength` where the content has more than [`SerialNumber::MAX_LEN`] octets,
-    /// the first of which may be there for the sign. Any other number is taken, without memory.
+    /// `Value` exactly where there are no octets; `Overlength` exactly where the content has more than
+    /// [`SerialNumber::MAX_LEN`] octets, the first of which may be there for the sign. No memory is taken.
     pub fn new(alloc: Global, octets: &[u8]) -> Result<SerialNumber<P>, Error>
         ensures value { IfOk result (λ serial. serial ≡ number_content octets.now) }
         ensures number { IfOk result (λ serial. number serial ≡ number octets.now) }
@@ -69,28 +69,44 @@ impl<P: Profile> SerialNumber<P> {
         Ok(SerialNumber::from_number(Int::from(Uint::new(alloc, octets)?)))
     }
 
-    /// The serial number with that value. It takes no memory and is never refused.
+    /// The serial number with that value. It takes no memory.
+    ///
+    /// # Errors
+    ///
+    /// None: it is never refused.
     pub fn from_u8(alloc: Global, number: u8) -> Result<SerialNumber<P>, Error>
         ensures { IsOkAnd result (λ serial. serial ≡ natural_octets number) }
     {
         SerialNumber::from_u16(alloc, u16::from(number))
     }
 
-    /// The serial number with that value. It takes no memory and is never refused.
+    /// The serial number with that value. It takes no memory.
+    ///
+    /// # Errors
+    ///
+    /// None: it is never refused.
     pub fn from_u16(alloc: Global, number: u16) -> Result<SerialNumber<P>, Error>
         ensures { IsOkAnd result (λ serial. serial ≡ natural_octets number) }
     {
         SerialNumber::from_u32(alloc, u32::from(number))
     }
 
-    /// The serial number with that value. It takes no memory and is never refused.
+    /// The serial number with that value. It takes no memory.
+    ///
+    /// # Errors
+    ///
+    /// None: it is never refused.
     pub fn from_u32(alloc: Global, number: u32) -> Result<SerialNumber<P>, Error>
         ensures { IsOkAnd result (λ serial. serial ≡ natural_octets number) }
     {
         SerialNumber::from_u64(alloc, u64::from(number))
     }
 
-    /// The serial number with that value. It takes no memory and is never refused.
+    /// The serial number with that value. It takes no memory.
+    ///
+    /// # Errors
+    ///
+    /// None: it is never refused.
     pub fn from_u64(alloc: Global, number: u64) -> Result<SerialNumber<P>, Error>
         ensures { IsOkAnd result (λ serial. serial ≡ natural_octets number) }
     {
@@ -98,7 +114,11 @@ impl<P: Profile> SerialNumber<P> {
         Ok(SerialNumber::from_number(Int::from(uint)))
     }
 
-    /// The serial number with that value. It takes no memory and is never refused.
+    /// The serial number with that value. It takes no memory.
+    ///
+    /// # Errors
+    ///
+    /// None: it is never refused.
     pub fn from_usize(alloc: Global, number: usize) -> Result<SerialNumber<P>, Error>
         ensures { IsOkAnd result (λ serial. serial ≡ natural_octets number) }
     {
@@ -137,7 +157,7 @@ impl<P: Profile> SerialNumber<P> {
     }
 }
 
-/// How many content octets a number from 0 on has, by its octets without zeros in front (X.690 8.3.3).
+/// How many content octets a number from 0 on has, by its octets without leading zeros (X.690 8.3.3).
 fn signed_len(digits: &[u8]) -> usize
     ensures { result ≡ length (with_sign digits.now) }
 {
@@ -239,7 +259,7 @@ impl<P: Profile> SetMember for SerialNumber<P> {
     ghost in_der_order = { refl };
 }
 
-/// By the encodings, as [`DerOrd`] compares them.
+/// Serial numbers are ordered by their encodings, as [`DerOrd`] compares them.
 impl<P: Profile> Ord for SerialNumber<P> {
     ghost use Rattle.std.specs.Prelude.{refl};
     ghost use Rattle.x509_base.specs.SerialOrder.{serial_order, serial_total, serial_ties};

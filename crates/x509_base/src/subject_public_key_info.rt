@@ -23,7 +23,7 @@ pub struct SubjectPublicKeyInfo {
     /// The algorithm of the key.
     pub algorithm: AlgorithmIdentifier,
 
-    /// The bits of the key, in the way of its algorithm; they aren't looked into here.
+    /// The bits of the key, in the format of its algorithm; they aren't decoded here.
     pub subject_public_key: BitString,
 }
 

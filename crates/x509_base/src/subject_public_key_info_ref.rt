@@ -20,7 +20,7 @@ pub struct SubjectPublicKeyInfoRef<'a> {
     /// The algorithm of the key.
     pub algorithm: &'a AlgorithmIdentifier,
 
-    /// The bits of the key, in the way of its algorithm.
+    /// The bits of the key, in the format of its algorithm.
     pub subject_public_key: &'a BitString,
 }
 
@@ -33,7 +33,7 @@ impl SubjectPublicKeyInfoRef<'_> {
         self.algorithm.oid.as_bytes() == RSA_ENCRYPTION
     }
 
-    /// Whether the algorithm is that of elliptic curves: id-ecPublicKey, 1.2.840.10045.2.1 (RFC 5480 2.1.1).
+    /// Whether the algorithm is elliptic curve: id-ecPublicKey, 1.2.840.10045.2.1 (RFC 5480 2.1.1).
     pub fn is_ecc(&self) -> bool
         ensures { IsTrue result ↔ (self.now.algorithm.now.oid ≡ ec_public_key) }
     {

@@ -1,11 +1,11 @@
-//! Object identifiers: their contents and their texts.
+//! OIDs: their content octets and their texts.
 
 use crate::calls::{is_refused, prints};
 use std::test::*;
 use x509_der::ObjectIdentifier;
 use x509_der_grammar::{Encode, ErrorKind};
 
-/// Whether the content and the text are those of one object identifier.
+/// Whether the content and the text are those of one OID.
 fn agree(rt: &HostRuntime, content: &[u8], text: &str) -> Result<bool, Fail> {
     let identifier = ObjectIdentifier::from_bytes(content)?;
     Ok(identifier == ObjectIdentifier::new(text)? && prints(rt, &identifier, text)?)

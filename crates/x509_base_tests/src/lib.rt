@@ -1,4 +1,4 @@
-//! Tests of elements and fields, object identifiers and sets, integers, strings and texts, times, serial numbers and keys.
+//! Tests of elements and fields, OIDs and sets, integers, strings and texts, times, serial numbers and keys.
 #![tactic(auto)]
 
 #[cfg(test)]

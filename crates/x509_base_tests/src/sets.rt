@@ -72,7 +72,7 @@ fn object_identifiers(rt: HostRuntime) -> Result<(), Fail> {
     Ok(())
 }
 
-/// A type round a set of algorithms.
+/// A type with one field, a set of algorithms.
 #[test]
 fn algorithms_of_digests(rt: HostRuntime) -> Result<(), Fail> {
     let sorted = [

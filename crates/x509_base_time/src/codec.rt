@@ -1,4 +1,4 @@
-//! UTCTime and GeneralizedTime, read and written (X.690 11.7, 11.8), and copies of times.
+//! UTCTime and GeneralizedTime, decoded and encoded (X.690 11.7, 11.8), and copies of times.
 
 ghost use Rattle.std.specs.Prelude.{◌≡◌, Ok};
 

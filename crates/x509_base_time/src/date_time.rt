@@ -40,7 +40,7 @@ impl Model for DateTime {
 }
 
 impl DateTime {
-    /// 9999-12-31T23:59:59Z, which stands for no end (RFC 5280 4.1.2.5).
+    /// 9999-12-31T23:59:59Z, which means no expiry (RFC 5280 4.1.2.5).
     pub const INFINITY: DateTime = DateTime {
         year: 9999,
         month: 12,
@@ -54,8 +54,7 @@ impl DateTime {
     ///
     /// # Errors
     ///
-    /// `Value` where the calendar or a clock has no such date-time, or the year is not from 1970 to
-    /// 9999.
+    /// `Value` exactly where the calendar or a clock has no such date-time, or the year is not from 1970 to 9999.
     #[inline(always)]
     pub fn new(
         year: u16,
@@ -95,11 +94,11 @@ impl DateTime {
         *self == DateTime::INFINITY
     }
 
-    /// The date-time that long after 1970-01-01T00:00:00Z. A fraction of a second is dropped.
+    /// The date-time `duration` after 1970-01-01T00:00:00Z. A fraction of a second is dropped.
     ///
     /// # Errors
     ///
-    /// `Value` after [`DateTime::INFINITY`].
+    /// `Value` exactly after [`DateTime::INFINITY`].
     pub fn from_unix_duration(duration: Duration) -> Result<DateTime, Error>
         ensures succeeds { IsOk result
             ↔ (whole_seconds duration ≤ unix_seconds last_date_time) }
@@ -286,7 +285,7 @@ impl FromStr for DateTime {
     ///
     /// # Errors
     ///
-    /// `Failed` where no date-time has it.
+    /// `Failed` where the text is a bad one: no date-time has it.
     fn from_str(text: &str) -> Result<DateTime, Error> {
         let bytes = text.as_bytes();
         if bytes.len() != 20 {

@@ -17,7 +17,7 @@ pub(crate) fn ones(number: u8) -> u8
     b'0' + number % 10
 }
 
-/// The number that two digits at a place name. Whether they are digits is not looked at.
+/// The number that two digits at a place say. That they are digits isn't checked.
 pub(crate) fn number_at(bytes: &[u8], place: usize) -> u8
     requires { place + 1 < length bytes.now }
     ensures { result ≡ reading.number_at bytes.now place }
@@ -26,7 +26,7 @@ pub(crate) fn number_at(bytes: &[u8], place: usize) -> u8
     10 * (bytes[place] % 16) + bytes[place + 1] % 16
 }
 
-/// The number that four digits at a place name.
+/// The number that four digits at a place say.
 pub(crate) fn long_number_at(bytes: &[u8], place: usize) -> u16
     requires { place + 3 < length bytes.now }
     ensures { result ≡ reading.long_number_at bytes.now place }

@@ -15,7 +15,7 @@ use std::marker::Model;
 use std::time::Duration;
 use x509_der_grammar::{Error, ErrorKind};
 
-/// A date-time from 1970 to 9999 that is spelled as GeneralizedTime (RFC 5280 4.1.2.5.2).
+/// A date-time from 1970 to 9999 that is encoded as GeneralizedTime (RFC 5280 4.1.2.5.2).
 #[derive(Clone, Copy, Debug, PartialEq, Eq, PartialOrd, Ord, Hash)]
 pub struct GeneralizedTime {
     date_time: DateTime,
@@ -30,23 +30,23 @@ impl Model for GeneralizedTime {
 }
 
 impl GeneralizedTime {
-    /// 9999-12-31T23:59:59Z, which stands for no end (RFC 5280 4.1.2.5).
+    /// 9999-12-31T23:59:59Z, which means no expiry (RFC 5280 4.1.2.5).
     pub const INFINITY: GeneralizedTime = GeneralizedTime {
         date_time: DateTime::INFINITY,
     };
 
-    /// The date-time, to be spelled as GeneralizedTime.
+    /// The date-time, to be encoded as GeneralizedTime.
     pub fn from_date_time(date_time: DateTime) -> GeneralizedTime
         ensures { result ≡ date_time }
     {
         GeneralizedTime { date_time }
     }
 
-    /// The date-time that long after 1970-01-01T00:00:00Z. A fraction of a second is dropped.
+    /// The date-time `duration` after 1970-01-01T00:00:00Z. A fraction of a second is dropped.
     ///
     /// # Errors
     ///
-    /// `Value` after [`GeneralizedTime::INFINITY`].
+    /// `Value` exactly after [`GeneralizedTime::INFINITY`].
     pub fn from_unix_duration(duration: Duration) -> Result<GeneralizedTime, Error>
         ensures succeeds { IsOk result ↔ (whole_seconds duration ≤ unix_seconds last_date_time) }
         ensures found { IfOk result (λ t. IsDateTime t × (unix_seconds t ≡ whole_seconds duration)) }
@@ -103,11 +103,11 @@ impl GeneralizedTime {
         ]
     }
 
-    /// The value with this content.
+    /// The value with these content octets.
     ///
     /// # Errors
     ///
-    /// `Malformed` where no value has it.
+    /// `Malformed` exactly where no value has them.
     pub fn from_content(content: &[u8]) -> Result<GeneralizedTime, Error>
         ensures reads { Reads IsDateTime generalized_time_octets Malformed content.now result }
         ensures answers { Answers result (generalized_time_reading content.now) }

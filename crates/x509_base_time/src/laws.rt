@@ -1,4 +1,5 @@
-//! What holds of all times, what is written of dates, and which are equal. Each law is a function with an empty body, whose contract is the law.
+//! What holds of all times, what is encoded of dates, and which are equal. Each law is a function with an empty body,
+//! whose contract is the law.
 
 ghost use Rattle.std.specs.Ordering.{nat_cmp};
 ghost use Rattle.std.specs.Prelude.{◌≡◌, ◌↔◌, Ok, None, true};
@@ -30,23 +31,23 @@ pub fn date_times_are_in_order_of_time()
         → ⟦<GeneralizedTime as Ord>⟧.cmp c d ≡ nat_cmp (unix_seconds c) (unix_seconds d) }
 {}
 
-/// Under [`Raw`] a validity is written as it is.
+/// Under [`Raw`] a validity is encoded as it is.
 pub fn raw_dates_stay()
     ensures { (v : Validity raw.Raw) → writes ⟦<Validity<Raw> as Encode>⟧.writing v ≡ record { value = v; refusal = None } }
 {}
 
-/// Under [`Rfc5280`] each of the two dates is written as UTCTime through 2049 and else as it is; none is refused.
+/// Under [`Rfc5280`] each of the two dates is encoded as UTCTime through 2049 and else as it is; none is refused.
 pub fn rfc5280_dates()
     ensures { (v : Validity rfc5280.Rfc5280) → writes ⟦<Validity<Rfc5280> as Encode>⟧.writing v ≡ record { value = record { not_before = rfc5280_time v.not_before; not_after = rfc5280_time v.not_after; profile = v.profile }; refusal = None } }
 {}
 
-/// Where a profile spells a date that it has spelled as it is, what is written of a validity is written as it is.
+/// Where a profile spells a date that it has spelled as it is, what is encoded of a validity is encoded again as it is.
 pub fn dates_are_written_once<P: Profile>()
     ensures { ((t u : Time) → time.good t → P.time_of t ≡ Ok u → time.good u × (P.time_of u ≡ Ok u)) → IsStable validity.good ⟦<Validity<P> as Encode>⟧.writing }
 {}
 
-/// Under [`Rfc5280`] what is written of a validity is written as it is: decoding and encoding twice gives the bytes of
-/// once.
+/// Under [`Rfc5280`] what is encoded of a validity is encoded again as it is: decoding and encoding twice gives the
+/// bytes of once.
 pub fn rfc5280_dates_are_written_once()
     ensures { IsStable validity.good ⟦<Validity<Rfc5280> as Encode>⟧.writing }
 {}

@@ -1,4 +1,6 @@
-//! Calendar times of certificates, as seconds since 1970, texts and contents; and the profiles and the validity of certificates.
+//! The times of certificates, as seconds since 1970, texts and content octets; and the profiles and the validity of
+//! certificates. A profile says which serial numbers decoding allows and how dates are encoded; words of our own are
+//! explained in `docs/MAP.md`.
 #![tactic(auto)]
 
 mod codec;

@@ -1,12 +1,12 @@
-//! What a certificate may hold, and how its dates are spelled.
+//! Which serial numbers a certificate may have, and how its dates are encoded.
 
 use crate::UtcTime;
 use crate::time::Time;
 use std::fmt::Debug;
 use x509_der_grammar::{Error, ErrorKind};
 
-/// The rules that serial numbers and validity follow beyond their grammar. A profile says what its two calls answer by
-/// two definitions; no other law is asked of it.
+/// The rules for serial numbers and validity beyond their grammar. A profile says what its two calls answer by two
+/// definitions; no other law is asked of it.
 pub trait Profile: PartialEq + Eq + PartialOrd + Ord + Debug + Clone + Copy + Default + 'static {
     ghost use Rattle.std.specs.Prelude.{ℕ, List, Result};
     ghost use Rattle.x509_der_element.specs.declared.error.ErrorKind.{ErrorKind};
@@ -16,28 +16,28 @@ pub trait Profile: PartialEq + Eq + PartialOrd + Ord + Debug + Clone + Copy + De
     /// What the check of a serial number's content answers.
     ghost serial_check: { List ℕ → Result Unit ErrorKind };
 
-    /// How a date of a validity is spelled.
+    /// How a date of a validity is encoded.
     ghost time_of: { Time → Result Time ErrorKind };
 
-    /// Whether a serial number may have these content octets (RFC 5280 4.1.2.2). It is asked in reading alone.
+    /// Checks that a serial number may have these content octets (RFC 5280 4.1.2.2). Decoding alone calls it.
     ///
     /// # Errors
     ///
-    /// The profile's own, which reading passes on.
+    /// The profile's own, which decoding passes on.
     fn check_serial_number(content: &[u8]) -> Result<(), Error>
         ensures { Answers result (serial_check content.now) };
 
-    /// The date as a validity spells it (RFC 5280 4.1.2.5). It is asked in writing alone.
+    /// The date as a validity is encoded with it (RFC 5280 4.1.2.5). Encoding alone calls it.
     ///
     /// # Errors
     ///
-    /// The profile's own, which writing passes on.
+    /// The profile's own, which encoding passes on.
     fn time_encoding(time: Time) -> Result<Time, Error>
         ensures { Answers result (time_of time) };
 }
 
-/// The rules of RFC 5280: a serial number has at most 21 content octets (the 20 of 4.1.2.2, and one in front where their first bit
-/// is set), and a date through 2049 is written as UTCTime.
+/// The rules of RFC 5280: a serial number has at most 21 content octets (the 20 of 4.1.2.2, and one in front where
+/// their first bit is set), and a date through 2049 is encoded as UTCTime.
 #[derive(Clone, Copy, Debug, Default, PartialEq, Eq, PartialOrd, Ord)]
 pub struct Rfc5280;
 
@@ -64,7 +64,7 @@ impl Profile for Rfc5280 {
     }
 }
 
-/// No rules: each serial number passes, and dates stay as they are.
+/// No rules: every serial number is allowed, and dates are encoded as they are.
 #[derive(Clone, Copy, Debug, Default, PartialEq, Eq, PartialOrd, Ord)]
 pub struct Raw;
 

@@ -17,7 +17,7 @@ use std::time::Duration;
 use x509_der_grammar::{Decode, Encode, Error, Grammar, Room, Spelled, Tag, TryClone};
 use x509_der_order::{EncodingOrd, SetMember, SetOrd, ValueOrd};
 
-/// A date-time, and how it is spelled (RFC 5280 4.1.2.5).
+/// A date-time, and how it is encoded (RFC 5280 4.1.2.5).
 ///
 /// ```text
 /// Time ::= CHOICE {
@@ -26,15 +26,15 @@ use x509_der_order::{EncodingOrd, SetMember, SetOrd, ValueOrd};
 /// ```
 #[derive(Clone, Copy, Debug, PartialEq, Eq)]
 pub enum Time {
-    /// With a year of two digits, through 2049.
+    /// UTCTime: a year of two digits, through 2049.
     UtcTime(UtcTime),
 
-    /// With a year of four digits.
+    /// GeneralizedTime: a year of four digits.
     GeneralTime(GeneralizedTime),
 }
 
 impl Time {
-    /// 9999-12-31T23:59:59Z, which stands for no end (RFC 5280 4.1.2.5).
+    /// 9999-12-31T23:59:59Z, which means no expiry (RFC 5280 4.1.2.5).
     pub const INFINITY: Time = Time::GeneralTime(GeneralizedTime::INFINITY);
 
     /// The time since 1970-01-01T00:00:00Z.
@@ -44,7 +44,7 @@ impl Time {
         self.to_date_time().unix_duration()
     }
 
-    /// The date-time, however it is spelled.
+    /// The date-time, however it is encoded.
     pub fn to_date_time(&self) -> DateTime
         ensures { result ≡ date_time_of self.now }
     {
@@ -54,8 +54,8 @@ impl Time {
         }
     }
 
-    /// The order of the two moments, however each is spelled. Two times of one moment in two spellings are `Equal` here,
-    /// but not the same value by `==`, so `Time` has no `Ord`.
+    /// The order of the two moments, however each is encoded. Two times of one moment in two encodings are `Equal`
+    /// here, but not the same value by `==`, so `Time` has no `Ord`.
     pub fn cmp_moments(&self, other: &Time) -> Ordering
         ensures { result ≡ nat_cmp (unix_seconds (date_time_of self.now)) (unix_seconds (date_time_of other.now)) }
     {
@@ -110,7 +110,7 @@ impl FromStr for Time {
     ///
     /// # Errors
     ///
-    /// `Failed` where no date-time has it.
+    /// `Failed` where the text is a bad one: no date-time has it.
     fn from_str(text: &str) -> Result<Time, Error> {
         let date_time = DateTime::from_str(text)?;
         Ok(Time::from(date_time))

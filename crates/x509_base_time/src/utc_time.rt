@@ -16,7 +16,7 @@ use std::marker::Model;
 use std::time::Duration;
 use x509_der_grammar::{Error, ErrorKind};
 
-/// A date-time from 1970 to 2049 that is spelled as UTCTime (RFC 5280 4.1.2.5.1).
+/// A date-time from 1970 to 2049 that is encoded as UTCTime (RFC 5280 4.1.2.5.1).
 #[derive(Clone, Copy, Debug, PartialEq, Eq, PartialOrd, Ord, Hash)]
 pub struct UtcTime {
     date_time: DateTime,
@@ -33,14 +33,14 @@ impl Model for UtcTime {
 }
 
 impl UtcTime {
-    /// The last year that two digits name (RFC 5280 4.1.2.5.1).
+    /// The last year that UTCTime has (RFC 5280 4.1.2.5.1).
     pub const MAX_YEAR: u16 = 2049;
 
-    /// The date-time, to be spelled as UTCTime.
+    /// The date-time, to be encoded as UTCTime.
     ///
     /// # Errors
     ///
-    /// `Value` after the year 2049.
+    /// `Value` exactly after the year 2049.
     pub fn from_date_time(date_time: DateTime) -> Result<UtcTime, Error>
         ensures succeeds { IsOk result ↔ (date_time.year ≤ 2049) }
         ensures last_year { UtcTime.MAX_YEAR ≡ 2049 }
@@ -53,11 +53,11 @@ impl UtcTime {
         Ok(UtcTime { date_time })
     }
 
-    /// The date-time that long after 1970-01-01T00:00:00Z. A fraction of a second is dropped.
+    /// The date-time `duration` after 1970-01-01T00:00:00Z. A fraction of a second is dropped.
     ///
     /// # Errors
     ///
-    /// `Value` after the year 2049.
+    /// `Value` exactly after the year 2049.
     pub fn from_unix_duration(duration: Duration) -> Result<UtcTime, Error>
         ensures succeeds { IsOk result ↔ (whole_seconds duration ≤ unix_seconds last_utc_time) }
         ensures found { IfOk result (λ t. IsUtcTime t × (unix_seconds t ≡ whole_seconds duration)) }
@@ -112,11 +112,11 @@ impl UtcTime {
         ]
     }
 
-    /// The value with this content. The years 70 to 99 are from 1970 on, 00 to 49 from 2000 on.
+    /// The value with these content octets. The years 70 to 99 are from 1970 on, 00 to 49 from 2000 on.
     ///
     /// # Errors
     ///
-    /// `Malformed` where no value has it.
+    /// `Malformed` exactly where no value has them.
     pub fn from_content(content: &[u8]) -> Result<UtcTime, Error>
         ensures reads { Reads IsUtcTime utc_time_octets Malformed content.now result }
         ensures answers { Answers result (utc_time_reading content.now) }

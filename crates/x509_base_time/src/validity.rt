@@ -1,4 +1,4 @@
-//! From when and until when a certificate holds.
+//! The validity of a certificate.
 
 ghost use Rattle.std.specs.Prelude.{IsTrue, ◌≡◌, ◌↔◌, ◌+◌, ◌/◌, ◌≤◌, IsOk, IfOk, IfErr, Ok};
 ghost use Rattle.std.specs.Duration.{as_nanos};
@@ -16,8 +16,8 @@ use std::time::Duration;
 use x509_der_frames::{PutPart, end, field};
 use x509_der_grammar::{Content, Error, ErrorKind, Room, Spelled, Tag, TryClone};
 
-/// The two dates between which a certificate holds, both included (RFC 5280 4.1.2.5). They are written as the profile
-/// spells them.
+/// The validity of a certificate: the two dates between which it is valid, both included (RFC 5280 4.1.2.5). They are
+/// encoded as the profile says.
 ///
 /// ```text
 /// Validity ::= SEQUENCE {
@@ -26,17 +26,17 @@ use x509_der_grammar::{Content, Error, ErrorKind, Room, Spelled, Tag, TryClone};
 /// ```
 #[derive(Clone, Copy, Debug, PartialEq, Eq)]
 pub struct Validity<P: Profile = Rfc5280> {
-    /// The first moment.
+    /// The first moment of the validity.
     pub not_before: Time,
 
-    /// The last moment.
+    /// The last moment of the validity.
     pub not_after: Time,
 
     profile: PhantomData<P>,
 }
 
 impl<P: Profile> Validity<P> {
-    /// From the one date to the other, in the spelling that they have.
+    /// From the one date to the other, encoded as UTCTime or GeneralizedTime as they are.
     pub fn new(not_before: Time, not_after: Time) -> Validity<P>
         ensures before { result.not_before ≡ not_before }
         ensures after { result.not_after ≡ not_after }
@@ -48,7 +48,7 @@ impl<P: Profile> Validity<P> {
         }
     }
 
-    /// Whether the date-time lies between the two dates, both included (RFC 5280 4.1.2.5), however they are spelled.
+    /// Whether the date-time lies between the two dates, both included (RFC 5280 4.1.2.5), however they are encoded.
     pub fn contains(&self, at: DateTime) -> bool
         ensures { IsTrue result ↔ ((unix_seconds (date_time_of self.now.not_before) ≤ unix_seconds at)
             × (unix_seconds at ≤ unix_seconds (date_time_of self.now.not_after))) }
@@ -59,12 +59,12 @@ impl<P: Profile> Validity<P> {
         first <= at && at <= last
     }
 
-    /// From a moment on, for some time. `now` is the time since 1970-01-01T00:00:00Z. Fractions of a second are dropped
+    /// From `now` on, for some time. `now` is the time since 1970-01-01T00:00:00Z. Fractions of a second are dropped
     /// from `now`, and from the sum of the two. Dates through 2049 are UTCTimes.
     ///
     /// # Errors
     ///
-    /// `Value` where the sum is after 9999-12-31T23:59:59Z.
+    /// `Value` exactly where the sum is after 9999-12-31T23:59:59Z.
     #[tactic(auto, using(crate::proofs::Dates::last_second))]
     pub fn from_now(now: Duration, lasting: Duration) -> Result<Validity<P>, Error>
         ensures succeeds { IsOk result ↔ ((as_nanos now + as_nanos lasting) / 1_000_000_000 ≤ unix_seconds last_date_time) }
@@ -80,12 +80,12 @@ impl<P: Profile> Validity<P> {
         Ok(Validity::new(not_before, not_after))
     }
 
-    /// From a moment on, without an end: until 9999-12-31T23:59:59Z (RFC 5280 4.1.2.5). `now` is the time since
+    /// From `now` on, without expiry: until 9999-12-31T23:59:59Z (RFC 5280 4.1.2.5). `now` is the time since
     /// 1970-01-01T00:00:00Z, of which a fraction of a second is dropped.
     ///
     /// # Errors
     ///
-    /// `Value` where `now` is after that.
+    /// `Value` exactly where `now` is after 9999-12-31T23:59:59Z.
     pub fn infinity(now: Duration) -> Result<Validity<P>, Error>
         ensures succeeds { IsOk result ↔ (whole_seconds now ≤ unix_seconds last_date_time) }
         ensures before { IfOk result (λ validity. IsTimeAt (whole_seconds now) validity.not_before) }

@@ -1,4 +1,4 @@
--- The signed parts that a builder of requests makes (RFC 2986 4.1).
+-- The signed parts that a builder of CSRs makes (RFC 2986 4.1).
 use Rattle.std.specs.BTreeSet.{insert_key}
 use Rattle.std.specs.Prelude.{◌≡◌, ◌⊎◌, List, [], ◌∷◌, Contains}
 use Rattle.x509_base.specs.declared.subject_public_key_info.SubjectPublicKeyInfo.{SubjectPublicKeyInfo}

@@ -1,4 +1,4 @@
-//! The builder of certificates by a profile.
+//! The builder of certificates.
 
 ghost use Rattle.std.specs.Prelude.{◌≡◌, ◌⊎◌, [], ◌∷◌, ◌++◌, Ok, Err, IfOk, IfErr, OnOk, OnErr};
 ghost use Rattle.x509_build.specs.CertificateParts.{bare_part, new_builder, next_part, part_with};
@@ -18,10 +18,33 @@ use x509_der_grammar::{Encode, Error, TryClone};
 use x509_ext_frame::{Extension, Extensions, ToExtension};
 use x509_prim::BitString;
 
-/// A builder of a certificate (RFC 5280 4.1), made of what is handed in and of what a profile puts in.
+/// A builder of a certificate (RFC 5280 4.1), made of what the caller hands in and of what a profile adds.
 ///
-/// The profile says whom the certificate names and who signs it. A part without extensions is of version 1, else of version 3;
-/// it has no unique identifiers (RFC 5280 4.1.2.8).
+/// The profile says what the subject is and who the issuer is. A certificate without extensions is of version 1, else
+/// of version 3; it has no unique identifiers (RFC 5280 4.1.2.8).
+///
+/// A root, signed by a [`Signer`] that is `ABC`:
+///
+/// ```rust
+/// pub(crate) fn builder<P: BuilderProfile>(
+///     rt: &HostRuntime,
+///     profile: P,
+///     key: &[u8],
+/// ) -> Result<CertificateBuilder<P>> {
+///     let alloc = rt.alloc();
+///     CertificateBuilder::new(
+///         alloc,
+///         profile,
+///         SerialNumber::from_u8(alloc, 42)?,
+///         Validity::from_der(alloc, DATES)?,
+///         SubjectPublicKeyInfo::from_der(alloc, key)?,
+///     )
+/// }
+///
+/// let profile = Root::new(true, Name::from_str(alloc, "CN=R,O=T,C=US")?)?;
+/// let certificate = builder(rt, profile, ABC_KEY)?.build(alloc, &ABC)?;
+/// Ok(certificate.to_der(alloc)?)
+/// ```
 #[derive(Drop)]
 pub struct CertificateBuilder<P> {
     profile: P,
@@ -30,12 +53,12 @@ pub struct CertificateBuilder<P> {
 }
 
 impl<P: BuilderProfile> CertificateBuilder<P> {
-    /// A builder of the certificate of that key. The dates are spelled as RFC 5280 4.1.2.5 wants them. Until
-    /// [`finalize`](Builder::finalize) the part is of version 3, with the algorithm 0.0.0 and no extensions.
+    /// A builder of the certificate for that public key. The dates are encoded as RFC 5280 4.1.2.5 wants them. Until
+    /// [`finalize`](Builder::finalize) the signed part is of version 3, with the algorithm 0.0.0 and no extensions.
     ///
     /// # Errors
     ///
-    /// What the profile answers for the subject, and else for the issuer. Memory may be refused.
+    /// The profile's error for the subject, and else the one for the issuer. `Asn1` of `Memory` when out of memory.
     pub fn new(
         alloc: Global,
         profile: P,
@@ -69,13 +92,13 @@ impl<P: BuilderProfile> CertificateBuilder<P> {
         })
     }
 
-    /// Adds an extension behind those that were added before, made for the subject and behind those. The profile's extensions
-    /// come behind all that are added.
+    /// Adds an extension behind those that were added before; it is made for the subject and for those. The profile's
+    /// extensions come behind all that are added.
     ///
     /// # Errors
     ///
-    /// `Asn1` of what [`ToExtension::to_extension`] answers. Memory may be refused. A builder that refuses stays as it was, and
-    /// the extension is dropped.
+    /// `Asn1` of the error of [`ToExtension::to_extension`]. `Asn1` of `Memory` when out of memory. On an error the
+    /// builder is unchanged, and the extension is dropped.
     pub fn add_extension<E: ToExtension>(&mut self, alloc: Global, extension: E) -> Result<()>
         ensures ok { OnOk result ((made : Extension) × E.makes extension self.old.tbs.subject self.old.extensions (Ok made) × (self.new ≡ record self.old { extensions = self.old.extensions ++ made ∷ [] })) }
         ensures err { IfErr result (λ e. LacksMemory e ⊎ ((refusal : Error) × (e ≡ Asn1 refusal) × E.makes extension self.old.tbs.subject self.old.extensions (Err refusal))) }
@@ -86,7 +109,7 @@ impl<P: BuilderProfile> CertificateBuilder<P> {
         Ok(())
     }
 
-    /// The part that the profile is asked with: it has the signer's algorithm, and no extensions.
+    /// The signed part with which the profile is asked: it has the signer's algorithm, and no extensions.
     fn bare_part(
         &self,
         alloc: Global,
@@ -110,7 +133,7 @@ impl<P: BuilderProfile> CertificateBuilder<P> {
         ))
     }
 
-    /// What the profile puts in, for the key of that part and for the signer's.
+    /// The profile's extensions, for the key of that part and for the signer's.
     fn of_profile(
         &self,
         alloc: Global,
@@ -127,7 +150,7 @@ impl<P: BuilderProfile> CertificateBuilder<P> {
         )
     }
 
-    /// The part for a signer of that algorithm and that key.
+    /// The signed part for a signer with that algorithm and that key.
     fn next_part(
         &self,
         alloc: Global,
@@ -143,7 +166,7 @@ impl<P: BuilderProfile> CertificateBuilder<P> {
     }
 }
 
-/// Copies of the extensions, and behind them the others.
+/// Copies of the extensions, followed by the others.
 fn joined(
     alloc: Global,
     added: &Extensions,
@@ -158,7 +181,7 @@ fn joined(
     Ok(extensions)
 }
 
-/// The part with these extensions; without any it is of version 1 (RFC 5280 4.1.2.1).
+/// The signed part with these extensions; without any it is of version 1 (RFC 5280 4.1.2.1).
 fn part_with(part: TbsCertificate, extensions: Vec<Extension>) -> TbsCertificate
     ensures { result ≡ part_with part extensions.items }
 {
@@ -201,11 +224,11 @@ impl<P: BuilderProfile> Builder for CertificateBuilder<P> {
         Ok(bytes)
     }
 
-    /// The certificate of the current part, under the algorithm of that part. The signer isn't asked.
+    /// The certificate of the current signed part, under the algorithm of that part. The signer isn't asked.
     ///
     /// # Errors
     ///
-    /// Memory may be refused.
+    /// `Asn1` of `Memory` when out of memory.
     fn assemble<S: Signer>(
         self,
         alloc: Global,

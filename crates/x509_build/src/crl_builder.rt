@@ -33,8 +33,8 @@ use x509_prim::BitString;
 
 /// A builder of a CRL (RFC 5280 5.1).
 ///
-/// The part that is signed is of version 2, names the subject of the issuer's certificate as issuer, and has two extensions, the
-/// number of the list and the identifier of the issuer's key, and behind them those that were added.
+/// The signed part is of version 2, has the subject of the issuer's certificate as issuer, and two extensions, the CRL
+/// number and the AKI of the issuer's key, followed by those that were added.
 pub struct CrlBuilder<P: Profile = Rfc5280> {
     tbs: TbsCertList<P>,
     extensions: Extensions,
@@ -42,8 +42,9 @@ pub struct CrlBuilder<P: Profile = Rfc5280> {
 }
 
 impl<P: Profile> CrlBuilder<P> {
-    /// A builder of the list of that number, issued now: that long after 1970-01-01T00:00:00Z, of which a fraction of a second is
-    /// dropped. The date is a UTCTime through 2049. Otherwise as [`new_with_this_update`](CrlBuilder::new_with_this_update).
+    /// A builder of the CRL with that number, issued now: `now` is the time since 1970-01-01T00:00:00Z, of which a
+    /// fraction of a second is dropped. The date is a UTCTime through 2049. Otherwise as
+    /// [`new_with_this_update`](CrlBuilder::new_with_this_update).
     ///
     /// # Errors
     ///
@@ -62,14 +63,15 @@ impl<P: Profile> CrlBuilder<P> {
         CrlBuilder::new_with_this_update(alloc, issuer, crl_number, this_update)
     }
 
-    /// A builder of the list of that number, issued at that moment by the subject of the certificate. Until
-    /// [`finalize`](Builder::finalize) the part has the algorithm 0.0.0. The key of the certificate is told by its subject key
-    /// identifier, and where it has none by the SHA-1 digest of the key (RFC 5280 4.2.1.2, method 1).
+    /// A builder of the CRL with that number, issued at that time by the subject of the certificate. Until
+    /// [`finalize`](Builder::finalize) the signed part has the algorithm 0.0.0. The AKI of the CRL is the SKI in the
+    /// certificate, and where the certificate has none, the SHA-1 digest of its public key (RFC 5280 4.2.1.2, method
+    /// 1).
     ///
     /// # Errors
     ///
-    /// `Asn1` of what [`get_extension`](x509_cert_certificate::TbsCertificateInner::get_extension) answers for that identifier, or of
-    /// what can't be written of the number or of the identifier. Memory may be refused.
+    /// `Asn1` of the error of [`get_extension`](x509_cert_certificate::TbsCertificateInner::get_extension) for the SKI,
+    /// or of the error of encoding the CRL number or the AKI. `Asn1` of `Memory` when out of memory.
     pub fn new_with_this_update(
         alloc: Global,
         issuer: &Certificate,
@@ -98,14 +100,14 @@ impl<P: Profile> CrlBuilder<P> {
         })
     }
 
-    /// Adds an extension, as the delta CRL indicator or the issuing distribution point (RFC 5280 5.2), behind the number of the list, the
-    /// identifier of the key and those that were added before: made for the issuer and behind all of these. It is in the part of the
-    /// next [`finalize`](Builder::finalize). That no identifier stands there twice isn't looked at.
+    /// Adds an extension, such as the delta CRL indicator or the issuing distribution point (RFC 5280 5.2), behind the
+    /// CRL number, the AKI and those that were added before: made for the issuer and for all of these. The next
+    /// [`finalize`](Builder::finalize) puts it into the signed part. That no OID stands there twice isn't checked.
     ///
     /// # Errors
     ///
-    /// `Asn1` of what [`ToExtension::to_extension`] answers. Memory may be refused. A builder that refuses stays as it was, and
-    /// the extension is dropped.
+    /// `Asn1` of the error of [`ToExtension::to_extension`]. `Asn1` of `Memory` when out of memory. On an error the
+    /// builder is unchanged, and the extension is dropped.
     pub fn add_extension<E: ToExtension>(&mut self, alloc: Global, extension: E) -> Result<()>
         ensures ok { OnOk result ((made : Extension) × E.makes extension self.old.tbs.issuer self.old.extensions (Ok made) × (self.new ≡ record self.old { extensions = self.old.extensions ++ made ∷ [] })) }
         ensures err { IfErr result (λ e. LacksMemory e ⊎ ((refusal : Error) × (e ≡ Asn1 refusal) × E.makes extension self.old.tbs.issuer self.old.extensions (Err refusal))) }
@@ -116,8 +118,8 @@ impl<P: Profile> CrlBuilder<P> {
         Ok(())
     }
 
-    /// The builder, with that moment by which the next list will be issued, or with none. It is in the part of the next
-    /// [`finalize`](Builder::finalize).
+    /// The builder, with that time by which the next CRL will be issued, or with none. The next
+    /// [`finalize`](Builder::finalize) puts it into the signed part.
     pub fn with_next_update(self, next_update: Option<Time>) -> CrlBuilder<P>
         ensures { result ≡ record self { tbs = record self.tbs { next_update = next_update } } }
     {
@@ -126,15 +128,15 @@ impl<P: Profile> CrlBuilder<P> {
         builder
     }
 
-    /// The builder, with the certificates behind those that it has. Where it has none, and none are given, it has the list
-    /// without members. They are in the part of the next [`finalize`](Builder::finalize).
+    /// The builder, with these revoked certificates behind those that it has. Where it has none, and none are given,
+    /// the CRL has an empty list of entries. The next [`finalize`](Builder::finalize) puts them into the signed part.
     ///
-    /// The iterator ends, and its next item may be asked for where it stands: its `next` states what it wants for that
-    /// (`can_next`). One over a vector wants nothing; one that calls closures wants that these may be called.
+    /// The iterator ends, and its next item may be asked for at each step: its `next` states what it wants for that
+    /// (`can_next`). An iterator over a vector wants nothing; one that calls closures wants that these may be called.
     ///
     /// # Errors
     ///
-    /// Memory may be refused, and nothing else; then the builder is dropped.
+    /// `Asn1` of `Memory` when out of memory, and nothing else; then the builder is dropped.
     pub fn with_certificates<I: Iterator<Item = RevokedCert<P>> + Drop>(
         self,
         alloc: Global,
@@ -215,11 +217,11 @@ impl<P: Profile> Builder for CrlBuilder<P> {
         Ok(bytes)
     }
 
-    /// The list of the current part, under the algorithm of that part. The signer isn't asked.
+    /// The CRL of the current signed part, under the algorithm of that part. The signer isn't asked.
     ///
     /// # Errors
     ///
-    /// Memory may be refused.
+    /// `Asn1` of `Memory` when out of memory.
     fn assemble<S: Signer>(
         self,
         alloc: Global,
@@ -247,7 +249,7 @@ impl<P: Profile> Builder for CrlBuilder<P> {
     }
 }
 
-/// The part without what was given later than at first.
+/// The signed part without what was given after the builder was made.
 fn at_first<P: Profile>(part: TbsCertList<P>) -> TbsCertList<P>
     ensures { result ≡ record part { next_update = None; revoked_certificates = None } }
 {

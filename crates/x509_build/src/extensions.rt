@@ -1,4 +1,4 @@
-//! The extensions of a list.
+//! The extensions of a CRL.
 
 ghost use Rattle.std.specs.Prelude.{◌≡◌, ◌⊎◌, Ok, Err, IfOk, IfErr};
 ghost use Rattle.x509_build.specs.ListParts.{IdentifiesKey, MakesExtensions, key_octets};
@@ -15,7 +15,7 @@ use x509_name::name::Name;
 use x509_pkix::CrlNumber;
 use x509_prim::OctetString;
 
-/// By what the key of a certificate is told: what its extension says, and where it has none, the SHA-1 digest of the key.
+/// The identifier of a certificate's key: its SKI, and where it has none, the SHA-1 digest of the key.
 pub(crate) fn issuer_key(alloc: Global, issuer: &Certificate) -> Result<OctetString, Error>
     ensures ok { IfOk result (λ identifier. IdentifiesKey (Finds ⟦<SubjectKeyIdentifier as Grammar>⟧.form ⟦<SubjectKeyIdentifier as Decode>⟧.refuses ⟦<SubjectKeyIdentifier as Decode>⟧.wants_memory (with_oid (id_ce 14) (members issuer.now.tbs_certificate.extensions))) (key_octets issuer.now.tbs_certificate) identifier) }
     ensures err { IfErr result (λ e. (e.kind ≡ Memory) ⊎ Finds ⟦<SubjectKeyIdentifier as Grammar>⟧.form ⟦<SubjectKeyIdentifier as Decode>⟧.refuses ⟦<SubjectKeyIdentifier as Decode>⟧.wants_memory (with_oid (id_ce 14) (members issuer.now.tbs_certificate.extensions)) (Err e)) }
@@ -27,7 +27,7 @@ pub(crate) fn issuer_key(alloc: Global, issuer: &Certificate) -> Result<OctetStr
     }
 }
 
-/// The extensions of a list of that number, which the key of that identifier signs.
+/// The extensions of a CRL with that number, signed by the key with that identifier.
 pub(crate) fn list_extensions(
     alloc: Global,
     issuer: &Name,

@@ -15,8 +15,8 @@ use x509_base_time::Profile;
 pub use x509_build_profile::laws::a_further_finalize_answers_the_same_bytes;
 use x509_build_profile::{Builder, BuilderProfile};
 
-/// What is put together of the part that is finalized for a signer has that part, and the signer's algorithm outside it: a
-/// certificate (RFC 5280 4.1.1.2), a CRL (RFC 5280 5.1.1.2) and a request (RFC 2986 4.2).
+/// What is built of the signed part that is finalized for a signer has that part, and the signer's algorithm outside
+/// it: a certificate (RFC 5280 4.1.1.2), a CRL (RFC 5280 5.1.1.2) and a CSR (RFC 2986 4.2).
 pub fn the_algorithm_outside_is_the_signers<B: BuilderProfile, P: Profile>()
     ensures certificate { (builder : certificates.CertificateBuilder B) (algorithm : AlgorithmIdentifier) (key : SubjectPublicKeyInfo) (bits : BitParts) → ⟦<CertificateBuilder<B> as Builder>⟧.whole (⟦<CertificateBuilder<B> as Builder>⟧.next builder algorithm key).value algorithm bits ≡ record { tbs_certificate = (⟦<CertificateBuilder<B> as Builder>⟧.next builder algorithm key).value; signature_algorithm = algorithm; signature = bits } }
     ensures crl { (builder : crls.CrlBuilder P) (algorithm : AlgorithmIdentifier) (key : SubjectPublicKeyInfo) (bits : BitParts) → ⟦<CrlBuilder<P> as Builder>⟧.whole (⟦<CrlBuilder<P> as Builder>⟧.next builder algorithm key).value algorithm bits ≡ record { tbs_cert_list = (⟦<CrlBuilder<P> as Builder>⟧.next builder algorithm key).value; signature_algorithm = algorithm; signature = bits } }

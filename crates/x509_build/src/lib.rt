@@ -1,8 +1,9 @@
-//! Certificates, CRLs and requests that are built and signed (RFC 5280, 2986), under the paths that the
-//! module `builder` of the Rust crate `x509-cert` has.
+//! Builders of certificates, CRLs and PKCS #10 requests (CSRs; RFC 5280, 2986), under the paths that the module
+//! `builder` of the Rust crate `x509-cert` has.
 //!
-//! A builder is made of what is to stand in its part; [`Builder::build`] has a [`Signer`] sign the encoding of that part. What is
-//! promised stands at these traits; what each builder makes, in the definitions beside its struct.
+//! A builder is made of what its signed part is to hold; [`Builder::build`] has a [`Signer`] sign the encoding of that
+//! part. What is promised stands at these traits; what each builder makes, in the definitions beside its struct. Words
+//! of our own are explained in `docs/MAP.md`.
 #![tactic(auto)]
 
 mod certificate_builder;

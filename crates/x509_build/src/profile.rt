@@ -1,12 +1,12 @@
-//! What certificates of some kinds hold.
+//! Profiles: which names and extensions certificates of some kinds have.
 
 pub use x509_build_profile::BuilderProfile;
 
-/// Profiles of the CA/Browser Forum (Baseline Requirements for TLS Server Certificates), and what it asks of names.
+/// Profiles of the CA/Browser Forum (Baseline Requirements for TLS Server Certificates), and its rules for names.
 pub mod cabf {
     pub use x509_build_profile::cabf::{Root, ca_certificate_naming, check_names_encoding};
 
-    /// Profiles of certificates for servers, and of the authorities that issue them.
+    /// Profiles of certificates for TLS servers, and for the authorities that issue them.
     pub mod tls {
         pub use x509_build_profile::cabf::tls::{
             CertificateType, DomainValidated, Subordinate, Subscriber, Tls12Options,
@@ -18,7 +18,7 @@ pub mod cabf {
 pub mod devid {
     pub use x509_build_profile::devid::{DevId, TpmVersion};
 
-    /// Identifiers of the Trusted Computing Group for modules.
+    /// OIDs of the Trusted Computing Group for trusted platform modules.
     pub mod tcgtpm {
         pub use x509_build_profile::devid::tcgtpm::{TCG_SV_TPM_12, TCG_SV_TPM_20};
     }

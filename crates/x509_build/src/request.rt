@@ -1,4 +1,4 @@
-//! Requests for certificates (RFC 2986) that are built.
+//! Building PKCS #10 requests (CSRs; RFC 2986).
 
 mod request_builder;
 

@@ -1,5 +1,5 @@
--- The order of a name's attributes (CA/Browser Forum, Baseline Requirements 7.1.4.1, 7.1.4.2): which relative name breaks
--- it first, and how.
+-- The order of a name's attributes (CA/Browser Forum, Baseline Requirements 7.1.4.1, 7.1.4.2): which RDN breaks it
+-- first, and how.
 use Rattle.std.specs.Prelude.{◌≡◌, ◌<◌, ℕ, Bool, false, List, [], ◌∷◌, Option, Some, None, Result, Ok, Err, bytes_eq, nat_le, take, slice_get, option_and_then, if◌then◌else◌, ◌&&◌, not}
 use Rattle.std.specs.List.{list_any, position_from}
 use Rattle.x509_der.specs.Arcs.{content_of}

@@ -1,4 +1,4 @@
-//! The types of attributes whose order is fixed (Baseline Requirements 7.1.4.2).
+//! The types of name attributes whose order is fixed (Baseline Requirements 7.1.4.2).
 
 ghost use Rattle.std.specs.Prelude.{◌≡◌, ◌<◌, IfSome};
 ghost use Rattle.x509_build_profile.specs.Order.{place_of};

@@ -12,7 +12,7 @@ use x509_name::name::attribute_types::{
 };
 use x509_name::name::{Name, RelativeDistinguishedName};
 
-/// The types that such a name may have.
+/// The types of attributes that such a name may have.
 const CA_TYPES: [ObjectIdentifier; 7] = [
     COUNTRY_NAME,
     STATE_OR_PROVINCE_NAME,
@@ -30,7 +30,7 @@ fn is_ca_type(oid: ObjectIdentifier) -> bool
     CA_TYPES.iter().any(|listed| *listed == oid)
 }
 
-/// Whether the types that such a name has to have are there.
+/// Whether the types of attributes that such a name has to have are there.
 #[tactic(auto, unfolding(crate::specs::CaNaming::has_ca_types, x509_der::specs::Arcs::subidentifier))]
 fn has_ca_types(rdns: &[RelativeDistinguishedName]) -> bool
     ensures { result ≡ has_ca_types rdns.now }
@@ -38,17 +38,18 @@ fn has_ca_types(rdns: &[RelativeDistinguishedName]) -> bool
     has_type(rdns, COUNTRY_NAME) && has_type(rdns, ORGANIZATION_NAME) && has_type(rdns, COMMON_NAME)
 }
 
-/// Whether a name can be that of a certification authority (Baseline Requirements 7.1.2.10.2): [`check_names_encoding`]
-/// without `multiple_allowed` holds; its types are among countryName, stateOrProvinceName, localityName, postalCode,
-/// streetAddress, organizationName and commonName; and countryName, organizationName and commonName are there. The
-/// Baseline Requirements advise against other types; here none may stand.
+/// Checks that a name can be that of a certification authority (Baseline Requirements 7.1.2.10.2):
+/// [`check_names_encoding`] without `multiple_allowed` holds; its attribute types are among countryName,
+/// stateOrProvinceName, localityName, postalCode, streetAddress, organizationName and commonName; and countryName,
+/// organizationName and commonName are there. The Baseline Requirements advise against other types; here none is
+/// allowed.
 ///
 /// It takes no memory.
 ///
 /// # Errors
 ///
 /// That of [`check_names_encoding`]; else `InvalidAttribute` with the first type that isn't among these; else
-/// `MissingAttributes` where not all three are there.
+/// `MissingAttributes` where not all of the three are there.
 pub fn ca_certificate_naming(name: &Name) -> Result<()>
     ensures { IsCaName name.now result }
 {

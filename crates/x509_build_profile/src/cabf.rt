@@ -16,12 +16,12 @@ use x509_der_grammar::{Error as DerError, TryClone};
 use x509_ext_frame::Extension;
 use x509_name::name::Name;
 
-/// The profile of a root certification authority (Baseline Requirements 7.1.2.1). Its certificates have their subject as
-/// issuer.
+/// The profile of a root certification authority (Baseline Requirements 7.1.2.1). Its certificates have their subject
+/// as issuer.
 ///
-/// They hold, in this order: an AuthorityKeyIdentifier of the certified key; BasicConstraints of an authority without a
-/// bound on paths; a KeyUsage of keyCertSign and cRLSign, and of digitalSignature where OCSP responses are emitted; a
-/// SubjectKeyIdentifier.
+/// They have these extensions, in this order: AKI of the certified key; BasicConstraints of an authority without a path
+/// length constraint; KeyUsage with keyCertSign and cRLSign, and with digitalSignature where the authority signs OCSP
+/// responses; SKI.
 #[derive(Drop)]
 pub struct Root {
     /// Whether the authority signs OCSP responses with this key.
@@ -31,7 +31,7 @@ pub struct Root {
 }
 
 impl Root {
-    /// The profile of a root of that name. It takes no memory.
+    /// The profile of a root with that name. It takes no memory.
     ///
     /// # Errors
     ///

@@ -60,7 +60,7 @@ pub enum TpmVersion {
 }
 
 impl TpmVersion {
-    /// The version as a type of module.
+    /// The version as the OID of a type of module.
     #[tactic(auto, unfolding(crate::specs::Modules::tpm_12, crate::specs::Modules::tpm_20, x509_der::specs::Arcs::subidentifier))]
     pub fn to_oid(&self) -> ObjectIdentifier
         ensures { result ≡ modules.type_of_module self.now }
@@ -85,11 +85,11 @@ impl TryClone for TpmVersion {
 
 /// The profile of a device (IEEE 802.1AR 8).
 ///
-/// Its certificates hold, in this order: an AuthorityKeyIdentifier of the issuer's key; a KeyUsage of digitalSignature; a
-/// SubjectAltName where names were given.
+/// Its certificates have these extensions, in this order: AKI of the issuer's key; KeyUsage with digitalSignature; SAN
+/// where names were given.
 #[derive(Drop)]
 pub struct DevId {
-    /// Who signs the certificate.
+    /// The issuer of the certificate.
     pub issuer: Name,
 
     subject: Name,
@@ -97,7 +97,7 @@ pub struct DevId {
     subject_alt_name: Option<SubjectAltName>,
 }
 
-/// The first name of which the identifier says that it is that of a hardware module.
+/// The first name whose OID says that it is the name of a hardware module.
 fn first_module(mut names: &[GeneralName]) -> Option<&OtherName>
     ensures { option_copied result ≡ modules.first_module names.entry.now }
 {
@@ -112,7 +112,7 @@ fn first_module(mut names: &[GeneralName]) -> Option<&OtherName>
     None
 }
 
-/// That the first of these names of which it is said is that of a hardware module.
+/// That the first of these names with that OID is the name of a hardware module.
 fn check_module(alloc: Global, names: &[GeneralName]) -> std::result::Result<(), DerError>
     ensures { MatchResult result (λ done. modules.HasModule (modules.first_module names.now)) (λ e. modules.NoModule (modules.first_module names.now) e.kind) }
 {
@@ -124,13 +124,13 @@ fn check_module(alloc: Global, names: &[GeneralName]) -> std::result::Result<(),
 }
 
 impl DevId {
-    /// The profile of that device. Where alternative names are given, one of them is to be that of a hardware module
-    /// ([`HardwareModuleName`]): the first [`OtherName`] with its identifier decides. Without names it takes no memory.
+    /// The profile of that device. Where alternative names are given, one of them has to be the name of a hardware
+    /// module ([`HardwareModuleName`]): the first [`OtherName`] with its OID decides. Without names it takes no memory.
     ///
     /// # Errors
     ///
-    /// `Asn1` of `Failed` where names are given and none has that identifier; of `Malformed` exactly where the first that
-    /// has it holds something else. Memory may be refused.
+    /// `Asn1` of `Failed` where names are given and none has that OID; `Asn1` of `Malformed` exactly where the first
+    /// that has it isn't the name of a hardware module. `Asn1` of `Memory` when out of memory.
     pub fn new(
         alloc: Global,
         issuer: Name,
@@ -154,13 +154,13 @@ impl DevId {
         })
     }
 
-    /// The profile of a device whose key is held by a trusted platform module: its one further name is that of the module
-    /// of that type and that serial number.
+    /// The profile of a device whose key is held by a trusted platform module: its one alternative name is that of the
+    /// module, with that type and that serial number.
     ///
     /// # Errors
     ///
     /// `Asn1` of `Overlength` exactly where the element of the module's name would be longer than
-    /// [`Length::MAX`](x509_der_grammar::Length::MAX). Memory may be refused.
+    /// [`Length::MAX`](x509_der_grammar::Length::MAX). `Asn1` of `Memory` when out of memory.
     pub fn idevid_tpm(
         alloc: Global,
         issuer: Name,

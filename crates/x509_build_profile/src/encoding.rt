@@ -21,8 +21,8 @@ pub(crate) fn has_type(rdns: &[RelativeDistinguishedName], oid: ObjectIdentifier
     rdns.iter().any(|rdn| is_there(rdn, oid))
 }
 
-/// `next` is the first place of the order behind those of all types of the earlier relative names. The answer is that place
-/// behind this relative name too, or how it breaks the rules.
+/// `next` is the place in the order after all types of the earlier RDNs. The answer is that place after this RDN too,
+/// or the rule that it breaks.
 fn next_place(
     earlier: &[RelativeDistinguishedName],
     next: usize,
@@ -54,21 +54,22 @@ fn next_place(
     Ok(next)
 }
 
-/// Whether the encoding of a name is as the CA/Browser Forum asks (Baseline Requirements 7.1.4.1): each relative
-/// distinguished name has one attribute; without `multiple_allowed` no type of attribute is there twice; and the
+/// Checks that a name is encoded as the CA/Browser Forum asks (Baseline Requirements 7.1.4.1): each relative
+/// distinguished name (RDN) has one attribute; without `multiple_allowed` no attribute type is there twice; and the
 /// types of this list come in its order, each once at most: domainComponent, countryName, stateOrProvinceName,
 /// localityName, postalCode, streetAddress, organizationName, surname, givenName, organizationalUnitName, commonName.
 /// Types that aren't in the list may stand anywhere. The empty name is in order.
 ///
 /// It takes no memory. With `multiple_allowed` the time is linear. Without it each attribute whose type isn't in the
-/// list is held against all attributes before it, so of a name from a stranger the length should be bounded first.
+/// list is compared with all attributes before it, so the length of a name from an untrusted source should be bounded
+/// first.
 ///
 /// # Errors
 ///
-/// The first relative distinguished name that breaks a rule gives the fault, by the first of these that it breaks:
-/// `NonUniqueRdn` where it hasn't just one attribute; `NonUniqueATV` where `multiple_allowed` is false and its type was
-/// there before; `InvalidAttribute` with its type where that is in the list and an earlier one stands in the list at
-/// the same place or later.
+/// The first RDN that breaks a rule gives the error, by the first of these that it breaks: `NonUniqueRdn` where it
+/// hasn't just one attribute; `NonUniqueATV` where `multiple_allowed` is false and its type was there before;
+/// `InvalidAttribute` with its type where that is in the list and an earlier one stands in the list at the same place
+/// or later.
 pub fn check_names_encoding(name: &Name, multiple_allowed: bool) -> Result<()>
     ensures { IsChecked multiple_allowed name.now result }
 {

@@ -13,7 +13,7 @@ use x509_der_grammar::TryClone;
 /// Why a signer doesn't tell its algorithm or its public key.
 #[derive(Clone, Copy, Debug, PartialEq, Eq, thiserror::Error)]
 pub enum KeyError {
-    /// Memory was asked for and not given.
+    /// Out of memory.
     #[error("Memory")]
     Memory,
 
@@ -51,7 +51,7 @@ impl TryClone for KeyError {
 /// Why a signer doesn't sign.
 #[derive(Clone, Copy, Debug, PartialEq, Eq, thiserror::Error)]
 pub enum SignError {
-    /// Memory was asked for and not given.
+    /// Out of memory.
     #[error("Memory")]
     Memory,
 
@@ -89,7 +89,7 @@ impl TryClone for SignError {
 /// Why a builder refused.
 #[derive(Debug, Drop, thiserror::Error)]
 pub enum Error {
-    /// A value can't be made, read or written.
+    /// A value can't be made, decoded or encoded.
     #[error("ASN.1 error: {0}")]
     Asn1(DerError),
 
@@ -101,11 +101,11 @@ pub enum Error {
     #[error("signature error: {0}")]
     Signature(SignError),
 
-    /// A relative distinguished name without exactly one attribute, in a name that may have none of those.
+    /// An RDN that hasn't just one attribute, in a name in which each has to have one.
     #[error("Each RelativeDistinguishedName MUST contain exactly one AttributeTypeAndValue.")]
     NonUniqueRdn,
 
-    /// A type of attribute that a name has more than once.
+    /// An attribute type that a name has more than once.
     #[error("Each Name MUST NOT contain more than one instance of a given AttributeTypeAndValue")]
     NonUniqueATV,
 
@@ -120,7 +120,7 @@ pub enum Error {
     #[error("Not all required elements were specified")]
     MissingAttributes,
 
-    /// No certificate of this kind is made here.
+    /// There is no profile for certificates of this kind.
     #[error("unsupported certificate kind")]
     UnsupportedKind,
 }

@@ -1,5 +1,6 @@
-//! What builders stand on: why they refuse, what signs, what each builder does, what one asks of a profile, and profiles with
-//! what certificates of some kinds hold.
+//! What builders stand on: their errors, signers, what every builder does, what a builder asks of a profile, and
+//! profiles, which say which names and extensions certificates of some kinds have. Words of our own are explained in
+//! `docs/MAP.md`.
 #![tactic(auto)]
 
 mod attribute_types;

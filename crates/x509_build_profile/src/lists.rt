@@ -1,4 +1,4 @@
-//! Lists of extensions that are made of their payloads.
+//! Lists of extensions that are made of their values.
 
 ghost use Rattle.std.specs.Prelude.{◌≡◌, Bool, List, true, false};
 ghost use Rattle.x509_build_profile.specs.Making as makings;
@@ -18,13 +18,13 @@ use x509_ext::pkix::{
 use x509_ext_frame::{Criticality, Extension, ToExtension, id_pkix};
 use x509_name::name::Name;
 
-/// The purpose of a server in TLS, id-kp-serverAuth, 1.3.6.1.5.5.7.3.1 (RFC 5280 4.2.1.12).
+/// The purpose of TLS servers, id-kp-serverAuth, 1.3.6.1.5.5.7.3.1 (RFC 5280 4.2.1.12).
 const SERVER_AUTH: ObjectIdentifier = id_pkix!(3, 1);
 
-/// The purpose of a client in TLS, id-kp-clientAuth, 1.3.6.1.5.5.7.3.2 (RFC 5280 4.2.1.12).
+/// The purpose of TLS clients, id-kp-clientAuth, 1.3.6.1.5.5.7.3.2 (RFC 5280 4.2.1.12).
 const CLIENT_AUTH: ObjectIdentifier = id_pkix!(3, 2);
 
-/// Puts the extension of a payload behind those that stand, as critical as the payload says (RFC 5280 4.2).
+/// Puts the extension of a value behind those that stand, as critical as the value says (RFC 5280 4.2).
 fn push<T: AssociatedOid + Criticality + Encode>(
     alloc: Global,
     extensions: &mut Vec<Extension>,
@@ -97,7 +97,7 @@ pub(crate) fn push_key_usage(
     Ok(())
 }
 
-/// The purposes of a server, and where asked for of a client.
+/// The purpose of TLS servers, and where asked for that of clients.
 fn purposes(
     alloc: Global,
     client_auth: bool,
@@ -112,7 +112,7 @@ fn purposes(
     Ok(purposes)
 }
 
-/// Puts an ExtendedKeyUsage for servers, and where asked for for clients.
+/// Puts an ExtendedKeyUsage for TLS servers, and where asked for also for clients.
 pub(crate) fn push_purposes(
     alloc: Global,
     extensions: &mut Vec<Extension>,

@@ -5,10 +5,10 @@ use std::alloc::Global;
 use x509_base::SubjectPublicKeyInfoRef;
 use x509_cert_certificate::{Extension, Name, TbsCertificate};
 
-/// What the certificates of one kind hold: whom they name, who signs them, and which extensions they have.
+/// What the certificates of one kind have: their subject, their issuer, and their extensions.
 ///
-/// A profile says by definitions what its calls answer. No law is asked of them, so a profile of a user may put in anything,
-/// and refuse by any error.
+/// A profile says by definitions what its calls answer. No law is asked of them, so a user's profile may add anything,
+/// and refuse with any error.
 pub trait BuilderProfile: Drop {
     ghost use Rattle.std.specs.Prelude.{List};
     ghost use Rattle.x509_base.specs.declared.subject_public_key_info.SubjectPublicKeyInfo.{SubjectPublicKeyInfo};
@@ -18,21 +18,21 @@ pub trait BuilderProfile: Drop {
     ghost use Rattle.x509_cert_certificate.specs.extension.Extension.{Extension};
     ghost use Rattle.x509_name_attribute.specs.declared.type_and_value.AttributeTypeAndValue.{AttributeTypeAndValue};
 
-    /// Who signs a certificate of that subject.
+    /// The issuer of a certificate with that subject.
     ghost issuer_of: { Self → List (List AttributeTypeAndValue) → Answer (List (List AttributeTypeAndValue)) };
 
-    /// Whom the certificates name.
+    /// The subject of the certificates.
     ghost subject_of: { Self → Answer (List (List AttributeTypeAndValue)) };
 
     /// The extensions of a certificate for the first key, signed by the second. The part has neither extensions nor a
     /// signature.
     ghost extensions_of: { Self → SubjectPublicKeyInfo → SubjectPublicKeyInfo → TbsCertificateInner Rfc5280 → Answer (List Extension) };
 
-    /// The issuer of a certificate of that subject (RFC 5280 4.1.2.4).
+    /// The issuer of a certificate with that subject (RFC 5280 4.1.2.4).
     ///
     /// # Errors
     ///
-    /// The profile's own. Memory may be refused.
+    /// The profile's own. `Asn1` of `Memory` when out of memory.
     fn get_issuer(&self, alloc: Global, subject: &Name) -> Result<Name>
         ensures { Gives (λ name. name) (issuer_of self.now subject.now) result };
 
@@ -40,16 +40,16 @@ pub trait BuilderProfile: Drop {
     ///
     /// # Errors
     ///
-    /// The profile's own. Memory may be refused.
+    /// The profile's own. `Asn1` of `Memory` when out of memory.
     fn get_subject(&self, alloc: Global) -> Result<Name>
         ensures { Gives (λ name. name) (subject_of self.now) result };
 
-    /// The extensions of a certificate for the key `spk`, signed by the key `issuer_spk` (RFC 5280 4.2). `tbs` is the part that
-    /// is to be signed, as far as it stands: without extensions.
+    /// The extensions of a certificate for the public key `spk`, signed by the key of `issuer_spk` (RFC 5280 4.2).
+    /// `tbs` is the part that is to be signed, as far as it stands: without extensions.
     ///
     /// # Errors
     ///
-    /// The profile's own. Memory may be refused.
+    /// The profile's own. `Asn1` of `Memory` when out of memory.
     fn build_extensions(
         &self,
         alloc: Global,

@@ -6,9 +6,10 @@ use std::alloc::Global;
 use x509_base::{AlgorithmIdentifier, SubjectPublicKeyInfo};
 use x509_prim::BitString;
 
-/// A private key, or what stands for one: it tells its algorithm and its public key, and signs messages.
+/// A signer: a private key, or what stands for one. It tells its algorithm and its public key, and signs messages.
 ///
-/// A signer says by definitions what its calls answer, and where they may be refused. That a signature is sound isn't asked.
+/// A signer says by definitions what its calls answer, and where they may be refused. That a signature is valid isn't
+/// checked.
 pub trait Signer {
     ghost use Rattle.std.specs.Prelude.{◌≡◌, ℕ, List, IfOk, IfErr};
     ghost use Rattle.x509_base.specs.declared.algorithm_identifier.AlgorithmIdentifier.{AlgorithmIdentifier};
@@ -41,7 +42,7 @@ pub trait Signer {
     ///
     /// # Errors
     ///
-    /// `Refused` where the signer may refuse that. Memory may be refused.
+    /// `Refused`, only where the signer may refuse that. `Memory` when out of memory.
     fn algorithm(&self, alloc: Global) -> Result<AlgorithmIdentifier, KeyError>
         ensures ok { IfOk result (λ algorithm. algorithm ≡ algorithm_of self.now) }
         ensures err { IfErr result (λ e. KeyRefuses (may_refuse_algorithm self.now) e) };
@@ -50,7 +51,7 @@ pub trait Signer {
     ///
     /// # Errors
     ///
-    /// `Refused` where the signer may refuse that. Memory may be refused.
+    /// `Refused`, only where the signer may refuse that. `Memory` when out of memory.
     fn public_key(&self, alloc: Global) -> Result<SubjectPublicKeyInfo, KeyError>
         ensures ok { IfOk result (λ key. key ≡ key_of self.now) }
         ensures err { IfErr result (λ e. KeyRefuses (may_refuse_key self.now) e) };
@@ -59,7 +60,7 @@ pub trait Signer {
     ///
     /// # Errors
     ///
-    /// `Refused` where the signer may refuse this message. Memory may be refused.
+    /// `Refused`, only where the signer may refuse this message. `Memory` when out of memory.
     fn try_sign(&self, alloc: Global, message: &[u8]) -> Result<BitString, SignError>
         ensures ok { IfOk result (λ bits. signs self.now message.now bits) }
         ensures err { IfErr result (λ e. SigningRefuses (may_refuse_message self.now message.now) e) };
@@ -68,7 +69,7 @@ pub trait Signer {
     ///
     /// # Errors
     ///
-    /// `Refused` where the signer may refuse this message. Memory may be refused.
+    /// `Refused`, only where the signer may refuse this message. `Memory` when out of memory.
     fn try_sign_with_rng<R: CryptoRng>(
         &self,
         alloc: Global,

@@ -1,4 +1,4 @@
-//! What the keys of certificates may be used for.
+//! The key usages of certificates.
 
 ghost use Rattle.std.specs.Prelude.{◌≡◌};
 ghost use Rattle.x509_build_profile.specs.Usages as sets;
@@ -6,7 +6,7 @@ ghost use Rattle.x509_build_profile.specs.Usages as sets;
 use bitflags::Flags;
 use x509_ext::pkix::KeyUsages;
 
-/// These uses, and a further one where it is wanted.
+/// These key usages, and a further one where it is wanted.
 fn with_usage(usages: KeyUsages, further: KeyUsages, wanted: bool) -> KeyUsages
     ensures { result.0 ≡ sets.with_usage wanted further.0 usages.0 }
 {
@@ -17,7 +17,7 @@ fn with_usage(usages: KeyUsages, further: KeyUsages, wanted: bool) -> KeyUsages
     }
 }
 
-/// The uses of the key of a certification authority.
+/// The key usages of a certification authority.
 pub(crate) fn ca_usages(emits_ocsp_response: bool) -> KeyUsages
     ensures { result.0 ≡ sets.ca_usages emits_ocsp_response }
 {
@@ -25,7 +25,7 @@ pub(crate) fn ca_usages(emits_ocsp_response: bool) -> KeyUsages
     with_usage(usages, KeyUsages::DIGITAL_SIGNATURE, emits_ocsp_response)
 }
 
-/// The uses of the key of a server.
+/// The key usages of a TLS server.
 pub(crate) fn subscriber_usages(
     enciphers_data: bool,
     enciphers_keys: bool,

@@ -45,7 +45,7 @@ const NO_KEY: &str = "public key error: Refused";
 
 const UNSIGNED: &str = "signature error: Refused";
 
-/// A list doesn't hold the signer's key, so the signer isn't asked for that.
+/// A CRL doesn't hold the signer's key, so the signer isn't asked for that.
 #[test]
 fn with_each_signer(rt: HostRuntime) {
     for (refuses, with_rng, text, of_list) in [

@@ -1,4 +1,4 @@
-//! Tests of builders, of profiles and of what is asked of names.
+//! Tests of builders, of profiles and of the rules for names.
 #![tactic(auto)]
 
 #[cfg(test)]

@@ -31,7 +31,7 @@ fn profiles(
     it
 }
 
-/// Why builders refuse.
+/// The errors of builders.
 fn refusals(
     it: &(
         x509_build::Error,

@@ -22,8 +22,8 @@ const PUT_IN: ObjectIdentifier = ObjectIdentifier {
     ],
 };
 
-/// Nobody signs for nobody. It puts in one extension or none, 1.2.3.6 with the octet AA. It refuses the issuer key `abd` as
-/// failed, and where it has no issuer, that one as a missing attribute.
+/// Issuer and subject are empty names. It adds one extension or none, 1.2.3.6 with the octet AA. It refuses the issuer
+/// key `abd` as failed, and where it has no issuer, that one as a missing attribute.
 #[derive(Drop)]
 pub(crate) struct Picky {
     pub(crate) has_issuer: bool,

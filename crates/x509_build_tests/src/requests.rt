@@ -1,4 +1,4 @@
-//! Requests that are built.
+//! CSRs that are built.
 
 use crate::calls::{is_answer, is_refused};
 use crate::signers::{ABC, ECHO, Echo, Refused};
@@ -15,7 +15,7 @@ use x509_name_attribute::DirectoryString;
 use x509_pkix::Reasons;
 use x509_prim_text::Utf8String;
 
-/// The request of nobody, for the key `abc`, that asks for no extensions, signed with its part.
+/// The CSR with an empty subject, for the key `abc`, that asks for no extensions, signed with its part.
 pub(crate) const SIGNED: &[u8] =
     b"\x30\x5C\x30\x27\x02\x01\x00\x30\x00\x30\x0D\x30\x05\x06\x03\x2A\x03\x04\x03\x04\x00\x61\x62\x63\xA0\x11\x30\x0F\x06\x09\x2A\x86\x48\x86\xF7\x0D\x01\x09\x0E\x31\x02\x30\x00\x30\x05\x06\x03\x2A\x03\x04\x03\x2A\x00\x30\x27\x02\x01\x00\x30\x00\x30\x0D\x30\x05\x06\x03\x2A\x03\x04\x03\x04\x00\x61\x62\x63\xA0\x11\x30\x0F\x06\x09\x2A\x86\x48\x86\xF7\x0D\x01\x09\x0E\x31\x02\x30\x00";
 
@@ -23,7 +23,7 @@ pub(crate) const SIGNED: &[u8] =
 pub(crate) const UNSIGNED: &[u8] =
     b"\x30\x33\x30\x27\x02\x01\x00\x30\x00\x30\x0D\x30\x05\x06\x03\x2A\x03\x04\x03\x04\x00\x61\x62\x63\xA0\x11\x30\x0F\x06\x09\x2A\x86\x48\x86\xF7\x0D\x01\x09\x0E\x31\x02\x30\x00\x30\x05\x06\x03\x2A\x03\x04\x03\x01\x00";
 
-/// A request of the part as a builder is made with it, and no bits.
+/// A CSR of the part as a builder is made with it, and no bits.
 pub(crate) const AS_MADE: &[u8] =
     b"\x30\x1E\x30\x12\x02\x01\x00\x30\x00\x30\x09\x30\x04\x06\x02\x00\x00\x03\x01\x00\xA0\x00\x30\x05\x06\x03\x2A\x03\x04\x03\x01\x00";
 
@@ -34,7 +34,7 @@ const FULL: &[u8] =
 /// The extension that is asked for.
 const EXTENSION: &[u8] = b"\x30\x0A\x06\x03\x55\x1D\x0E\x04\x03\x04\x01\xAA";
 
-/// A builder of a request of nobody.
+/// A builder of a CSR with an empty subject.
 pub(crate) fn builder(rt: &HostRuntime) -> Result<RequestBuilder> {
     RequestBuilder::new(rt.alloc(), Name::new(rt.alloc()))
 }
@@ -60,7 +60,7 @@ fn add_unnamed(rt: &HostRuntime, builder: &mut RequestBuilder) -> Result<()> {
     builder.add_extension(rt.alloc(), (ECHO, false, &Reasons::from_bits_retain(512)))
 }
 
-/// The part of a request names no signature algorithm (RFC 2986 4.1), so the signer isn't asked for it.
+/// The signed part of a CSR has no signature algorithm (RFC 2986 4.1), so the signer isn't asked for it.
 #[test]
 fn what_is_asked_for(rt: HostRuntime) -> std::result::Result<(), Fail> {
     let mut builder = full(&rt)?;

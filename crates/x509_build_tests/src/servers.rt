@@ -1,4 +1,4 @@
-//! Certificates of servers.
+//! Certificates of TLS servers.
 
 use crate::calls::is_answer;
 use crate::certificates::part;
@@ -9,7 +9,7 @@ use x509_der_grammar::TryClone;
 use x509_ext_name::GeneralNames;
 use x509_name::name::Name;
 
-/// A key of RSA and one of elliptic curves, of one octet each.
+/// An RSA key and an elliptic curve key, of one octet each.
 const RSA: &[u8] = b"\x30\x11\x30\x0B\x06\x09\x2A\x86\x48\x86\xF7\x0D\x01\x01\x01\x03\x02\x00\x01";
 
 const EC: &[u8] = b"\x30\x0F\x30\x09\x06\x07\x2A\x86\x48\xCE\x3D\x02\x01\x03\x02\x00\x01";

@@ -16,7 +16,7 @@ use x509_c_certificate::{
 use x509_cert_certificate::CertificateInner;
 use x509_der_grammar::Grammar;
 
-/// Reads a certificate under the rules of RFC 5280, and fills in what it says and where its parts stand.
+/// Decodes a certificate under the rules of RFC 5280, and fills in what it says and where its parts stand.
 #[unsafe(no_mangle)]
 pub extern "C" fn x509_certificate_view(
     alloc: Global,
@@ -28,7 +28,7 @@ pub extern "C" fn x509_certificate_view(
     certificate_view(alloc, input, view).code()
 }
 
-/// Reads a certificate under the rules of RFC 5280, and fills in its extension with the identifier of these content octets.
+/// Decodes a certificate under the rules of RFC 5280, and fills in its extension with the OID of these content octets.
 #[unsafe(no_mangle)]
 pub extern "C" fn x509_certificate_extension(
     alloc: Global,
@@ -41,7 +41,7 @@ pub extern "C" fn x509_certificate_extension(
     certificate_extension(alloc, input, oid, found).code()
 }
 
-/// Reads a certificate under the rules of RFC 5280, and fills in what is to be verified of it.
+/// Decodes a certificate under the rules of RFC 5280, and fills in what is to be verified of it.
 #[unsafe(no_mangle)]
 pub extern "C" fn x509_certificate_signature(
     alloc: Global,

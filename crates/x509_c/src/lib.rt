@@ -1,4 +1,6 @@
-//! The calls from C, which `include/x509.h` declares. Each is a call of the libraries below, and tells its status by a number.
+//! The calls from C, which `include/x509.h` declares. Each is a call of the libraries below, and answers its status as
+//! a number. The parameter `room` is the caller's buffer for what is written. Words of our own are explained in
+//! `docs/MAP.md`.
 #![tactic(auto)]
 
 mod certificate;

@@ -16,7 +16,7 @@ use x509_der::AssociatedOid;
 use x509_der_grammar::{Decode, Grammar};
 use x509_pkix::CrlReason;
 
-/// Reads a CRL under the rules of RFC 5280, and says how many entries it has.
+/// Decodes a CRL under the rules of RFC 5280, and says how many entries it has.
 #[unsafe(no_mangle)]
 pub extern "C" fn x509_crl_walk(alloc: Global, input: &[u8], count: &mut usize) -> i32
     ensures { Tells (λ status. Reads ⟦<CertificateList<Rfc5280> as Grammar>⟧.form ⟦<CertificateList<Rfc5280> as Grammar>⟧.refuses input.now (λ list. count.new ≡ length (entries list.tbs_cert_list.revoked_certificates)) (count.new ≡ count.old) status) result }
@@ -24,7 +24,7 @@ pub extern "C" fn x509_crl_walk(alloc: Global, input: &[u8], count: &mut usize) 
     crl_walk(alloc, input, count).code()
 }
 
-/// Reads a CRL and a serial number, and fills in what the first entry with the number says.
+/// Decodes a CRL and a serial number, and fills in what the first entry with the number says.
 #[unsafe(no_mangle)]
 pub extern "C" fn x509_crl_lookup(
     alloc: Global,

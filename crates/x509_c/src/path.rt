@@ -1,4 +1,4 @@
-//! Whether a path of certificates holds.
+//! Checking a path of certificates.
 
 ghost use Rattle.x509_c_path.specs.Paths.{ChecksPath};
 ghost use Rattle.x509_c_status.specs.Status.{Tells};
@@ -9,8 +9,8 @@ use x509_c_path::{Fault, path_check};
 use x509_cert_certificate::CertificateInner;
 use x509_der_grammar::Grammar;
 
-/// Checks a path of certificates at a moment, in seconds since 1970-01-01T00:00:00Z, under the subject and the key of an anchor's
-/// certificate, but for the signatures, and fills in its first fault.
+/// Checks a path of certificates at a time, in seconds since 1970-01-01T00:00:00Z, under the subject and the key of an
+/// anchor's certificate, apart from the signatures, and fills in its first fault.
 #[unsafe(no_mangle)]
 pub extern "C" fn x509_path_check(
     alloc: Global,

@@ -1,4 +1,4 @@
-//! What the payloads of extensions hold.
+//! What the values of extensions hold.
 
 ghost use Rattle.std.specs.Prelude.{◌≡◌, ◌≤◌, ◌<◌, ◌+◌};
 ghost use Rattle.x509_c_payload.specs.BasicConstraints.{IsBasicConstraints};
@@ -25,7 +25,7 @@ use x509_ext::Extension;
 use x509_ext::pkix::name::GeneralName;
 use x509_ext::pkix::{BasicConstraints, KeyUsage};
 
-/// Fills in the next extension of a list of them.
+/// Fills in the next extension of a list of extensions.
 #[unsafe(no_mangle)]
 pub extern "C" fn x509_extensions_next(
     alloc: Global,
@@ -38,7 +38,7 @@ pub extern "C" fn x509_extensions_next(
     extensions_next(alloc, input, at, found).code()
 }
 
-/// Reads a KeyUsage, and fills in its uses.
+/// Decodes a KeyUsage, and fills in its bits.
 #[unsafe(no_mangle)]
 pub extern "C" fn x509_key_usage(alloc: Global, input: &[u8], uses: &mut u32) -> i32
     ensures { Tells (λ status. Reads ⟦<KeyUsage as Grammar>⟧.form ⟦<KeyUsage as Grammar>⟧.refuses input.now (λ usage. uses.new ≡ usage.0.0) (uses.new ≡ uses.old) status × (status ≡ Refused Memory → ⊥)) result }
@@ -46,7 +46,7 @@ pub extern "C" fn x509_key_usage(alloc: Global, input: &[u8], uses: &mut u32) ->
     key_usage(alloc, input, uses).code()
 }
 
-/// Reads a BasicConstraints, and fills in what it says.
+/// Decodes a BasicConstraints, and fills in what it says.
 #[unsafe(no_mangle)]
 pub extern "C" fn x509_basic_constraints(
     alloc: Global,
@@ -86,7 +86,7 @@ pub extern "C" fn x509_general_names_under_next(
     general_names_under_next(alloc, number, input, at, found).code()
 }
 
-/// Fills in where the content octets of the next object identifier of a list of them stand.
+/// Fills in where the content octets of the next OID of a list of OIDs stand.
 #[unsafe(no_mangle)]
 pub extern "C" fn x509_extended_key_usage_next(
     alloc: Global,
@@ -99,7 +99,7 @@ pub extern "C" fn x509_extended_key_usage_next(
     identifiers_next(alloc, input, at, found).code()
 }
 
-/// Puts the dotted text of the object identifier with these content octets at the front of the room.
+/// Puts the dotted text of the OID with these content octets at the front of the buffer.
 #[unsafe(no_mangle)]
 pub extern "C" fn x509_oid_text(
     alloc: Global,
@@ -112,7 +112,7 @@ pub extern "C" fn x509_oid_text(
     oid_text(alloc, content, room, written).code()
 }
 
-/// Puts the content octets of the object identifier with this dotted text at the front of the room.
+/// Puts the content octets of the OID with this dotted text at the front of the buffer.
 #[unsafe(no_mangle)]
 pub extern "C" fn x509_oid_from_text(text: &[u8], room: &mut [u8], written: &mut usize) -> i32
     ensures { Tells (λ status. Fills (λ answer. IsIdentified text.now answer) room.old room.new written.old written.new status × (status ≡ Refused Memory → ⊥)) result }

@@ -1,4 +1,4 @@
-//! Values that are read, or read and written, as a whole.
+//! Values that are decoded, or decoded and encoded, as a whole.
 
 ghost use Rattle.std.specs.Str.{is_utf8};
 ghost use Rattle.x509_c_named.specs.Named.{IsNamedAnswer, IsTextAnswer, profile_of};
@@ -19,7 +19,8 @@ use x509_der_grammar::{Encode, Grammar};
 use x509_tool_run::{Codec, NameCodec};
 use x509_tool_types::Types;
 
-/// Reads a value of the type with that name under the profile with that number, and writes it at the front of the room.
+/// Decodes a value of the type with that name under the profile with that number, and encodes it at the front of the
+/// buffer.
 #[unsafe(no_mangle)]
 pub extern "C" fn x509_reencode(
     alloc: Global,
@@ -34,7 +35,7 @@ pub extern "C" fn x509_reencode(
     reencode_named::<Types>(alloc, name, profile, input, room, written).code()
 }
 
-/// Reads a certificate under the rules of RFC 5280, and lets it go again.
+/// Decodes a certificate under the rules of RFC 5280, and frees it.
 #[unsafe(no_mangle)]
 pub extern "C" fn x509_certificate_check(alloc: Global, input: &[u8]) -> i32
     ensures { Tells (λ status. Checks ⟦<CertificateInner<Rfc5280> as Grammar>⟧.form ⟦<CertificateInner<Rfc5280> as Grammar>⟧.refuses input.now status) result }
@@ -42,7 +43,7 @@ pub extern "C" fn x509_certificate_check(alloc: Global, input: &[u8]) -> i32
     check::<CertificateInner<Rfc5280>>(alloc, input).code()
 }
 
-/// Reads a certificate under the rules of RFC 5280, and writes it at the front of the room.
+/// Decodes a certificate under the rules of RFC 5280, and encodes it at the front of the buffer.
 #[unsafe(no_mangle)]
 pub extern "C" fn x509_certificate_reencode(
     alloc: Global,
@@ -55,7 +56,7 @@ pub extern "C" fn x509_certificate_reencode(
     reencode::<CertificateInner<Rfc5280>>(alloc, input, room, written).code()
 }
 
-/// Reads a CRL under the rules of RFC 5280, and lets it go again.
+/// Decodes a CRL under the rules of RFC 5280, and frees it.
 #[unsafe(no_mangle)]
 pub extern "C" fn x509_crl_check(alloc: Global, input: &[u8]) -> i32
     ensures { Tells (λ status. Checks ⟦<CertificateList<Rfc5280> as Grammar>⟧.form ⟦<CertificateList<Rfc5280> as Grammar>⟧.refuses input.now status) result }
@@ -63,7 +64,7 @@ pub extern "C" fn x509_crl_check(alloc: Global, input: &[u8]) -> i32
     check::<CertificateList<Rfc5280>>(alloc, input).code()
 }
 
-/// Reads a request for a certificate, and lets it go again.
+/// Decodes a CSR, and frees it.
 #[unsafe(no_mangle)]
 pub extern "C" fn x509_request_check(alloc: Global, input: &[u8]) -> i32
     ensures { Tells (λ status. Checks ⟦<CertReq as Grammar>⟧.form ⟦<CertReq as Grammar>⟧.refuses input.now status) result }
@@ -71,7 +72,7 @@ pub extern "C" fn x509_request_check(alloc: Global, input: &[u8]) -> i32
     check::<CertReq>(alloc, input).code()
 }
 
-/// Reads a name, and puts its text in UTF-8 at the front of the room.
+/// Decodes a name, and puts its text in UTF-8 at the front of the buffer.
 #[unsafe(no_mangle)]
 pub extern "C" fn x509_name_text(
     alloc: Global,
@@ -84,7 +85,7 @@ pub extern "C" fn x509_name_text(
     name_text::<Types>(alloc, input, room, written).code()
 }
 
-/// Reads the text of a name, and puts the name's encoding at the front of the room.
+/// Reads the text of a name, and puts the name's encoding at the front of the buffer.
 #[unsafe(no_mangle)]
 pub extern "C" fn x509_name_from_text(
     alloc: Global,
@@ -97,7 +98,7 @@ pub extern "C" fn x509_name_from_text(
     name_from_text::<Types>(alloc, text, room, written).code()
 }
 
-/// Where the part stands that a signature is over.
+/// Where the bytes stand that the signature is over.
 #[unsafe(no_mangle)]
 pub extern "C" fn x509_signed_slice(input: &[u8], span: &mut Span) -> i32
     ensures { Tells (λ status. IsSignedAt input.now span.old span.new status) result }

@@ -1,4 +1,4 @@
--- The extension of a certificate with an identifier, and where its value stands (RFC 5280 4.2).
+-- The extension of a certificate with an OID, and where its value stands (RFC 5280 4.2).
 use Rattle.std.specs.Prelude.{◌≡◌, ◌⊎◌, ℕ, Bool, true, false, List, [], ◌∷◌, ◌++◌}
 use Rattle.x509_c_certificate.specs.declared.extension.ExtensionView.{ExtensionView}
 use Rattle.x509_c_certificate.specs.View.{behind_part}

@@ -1,4 +1,4 @@
-//! The extension with an identifier.
+//! The extension with an OID.
 
 ghost use Rattle.std.specs.Prelude.{◌≡◌, ◌≤◌, ◌++◌, ◌∷◌, [], drop, length, List, ℕ, IfSome, MatchOption};
 ghost use Rattle.x509_c_certificate.specs.Extensions.{FindsExtension, IsExtensionAt, LooksUpExtension, flag};
@@ -35,7 +35,8 @@ fn flag(is_set: bool) -> u32
     if is_set { 1 } else { 0 }
 }
 
-/// The first extension with the identifier, with its place, and those behind it. The bytes of the extensions begin at the place.
+/// The first extension with the OID, with its place, and those that follow it. The bytes of the extensions begin at the
+/// place.
 fn find<'a>(
     input: &[u8],
     place: usize,
@@ -75,7 +76,7 @@ fn view_at(input: &[u8], place: usize, extension: &Extension) -> ExtensionView
     }
 }
 
-/// Fills in the one extension with the identifier. The bytes of the extensions begin at the place.
+/// Fills in the one extension with the OID. The bytes of the extensions begin at the place.
 #[tactic(auto, unfolding(crate::specs::Extensions::FindsExtension))]
 fn pick(
     input: &[u8],
@@ -97,8 +98,14 @@ fn pick(
     Status::Done
 }
 
-/// Reads a certificate under the rules of RFC 5280, and fills in its extension with the identifier of these content octets. An extension may appear once at
-/// most (RFC 5280 4.2).
+/// Decodes a certificate under the rules of RFC 5280, and fills in its extension with the OID of these content octets.
+/// An extension may appear once at most (RFC 5280 4.2).
+///
+/// # Errors
+///
+/// [`Status::Absent`] exactly where no extension has the OID, [`Status::Repeated`] exactly where two or more have it.
+/// Else the error of decoding the certificate, as [`certificate_view`](crate::certificate_view). `found` is unchanged
+/// then.
 #[tactic(auto, unfolding(crate::specs::Extensions::LooksUpExtension))]
 pub fn certificate_extension(
     alloc: Global,

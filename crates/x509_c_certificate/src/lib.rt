@@ -1,4 +1,4 @@
-//! What a certificate says, and where its parts stand in the bytes.
+//! What a certificate says, and where its parts stand in the bytes. Words of our own are explained in `docs/MAP.md`.
 #![tactic(auto)]
 
 mod extension;

@@ -12,8 +12,8 @@ use x509_c_status::Status;
 use x509_cert_certificate::CertificateInner;
 use x509_der_grammar::{Decode, Grammar};
 
-/// What is to be verified of a certificate (RFC 5280 4.1.1), by its place in the bytes: that these bits are a signature of the signed part, by that
-/// algorithm. The key is that of the certificate above.
+/// What is to be verified of a certificate (RFC 5280 4.1.1), by its place in the bytes: that these bits are a signature
+/// of the signed part, by that algorithm. The key is that of the issuer's certificate.
 #[derive(Clone, Copy, Debug, PartialEq, Eq)]
 #[repr(C)]
 pub struct SignatureView {
@@ -23,14 +23,14 @@ pub struct SignatureView {
     /// The algorithm of the signature, a whole AlgorithmIdentifier.
     pub algorithm: Span,
 
-    /// The octets of the signature's bits: what its BIT STRING holds behind the first octet.
+    /// The octets of the signature's bits: what its BIT STRING holds after the first octet.
     pub bits: Span,
 
     /// How many bits of the last of these octets are unused, 0 to 7.
     pub unused_bits: u32,
 }
 
-/// What is to be verified of the certificate that the bytes spell.
+/// What is to be verified of the certificate of which the bytes are the encoding.
 fn signature_of(input: &[u8], certificate: &CertificateInner<Rfc5280>) -> SignatureView
     requires { Spells ⟦<CertificateInner<Rfc5280> as Grammar>⟧.form certificate.now input.now }
     ensures { IsSignature input.now certificate.now result }
@@ -51,7 +51,11 @@ fn signature_of(input: &[u8], certificate: &CertificateInner<Rfc5280>) -> Signat
     }
 }
 
-/// Reads a certificate under the rules of RFC 5280, and fills in what is to be verified of it; where it is refused, the view stays as it was.
+/// Decodes a certificate under the rules of RFC 5280, and fills in what is to be verified of it.
+///
+/// # Errors
+///
+/// Those of decoding the certificate, as [`certificate_view`](crate::certificate_view). `found` is unchanged then.
 #[tactic(auto, unfolding(x509_c_status::specs::Calls::Reads))]
 pub fn certificate_signature(alloc: Global, input: &[u8], found: &mut SignatureView) -> Status
     ensures { Reads ⟦<CertificateInner<Rfc5280> as Grammar>⟧.form ⟦<CertificateInner<Rfc5280> as Grammar>⟧.refuses input.now (λ certificate. IsSignature input.now certificate found.new) (found.new ≡ found.old) result }

@@ -25,22 +25,22 @@ pub struct CertificateView {
     /// The serial number, an INTEGER.
     pub serial_number: Span,
 
-    /// The name of who signed it.
+    /// The name of the issuer.
     pub issuer: Span,
 
-    /// The name of whom it is for.
+    /// The name of the subject.
     pub subject: Span,
 
-    /// The key, with its algorithm.
+    /// The public key, with its algorithm.
     pub subject_public_key_info: Span,
 
-    /// The extensions, a SEQUENCE; where they are left out, both numbers are 0.
+    /// The extensions, a SEQUENCE; where they are absent, both numbers are 0.
     pub extensions: Span,
 
-    /// From when on it holds, in seconds since 1970-01-01T00:00:00Z.
+    /// From when on it is valid, in seconds since 1970-01-01T00:00:00Z.
     pub not_before: u64,
 
-    /// Until when it holds, in seconds since 1970-01-01T00:00:00Z.
+    /// Until when it is valid, in seconds since 1970-01-01T00:00:00Z.
     pub not_after: u64,
 }
 
@@ -55,7 +55,7 @@ fn version_number(version: Version) -> u32
     }
 }
 
-/// Whether the version is written.
+/// Whether the version is encoded.
 fn is_written(version: Version) -> bool
     ensures { result ≡ not (is_first version) }
 {
@@ -72,7 +72,7 @@ pub fn seconds(time: &Time) -> u64
     time.to_unix_duration().as_secs()
 }
 
-/// Where an element stands that stands alone in another; both numbers are 0 where it is left out.
+/// Where an element stands that stands alone in another; both numbers are 0 where it is absent.
 fn wrapped(input: &[u8], place: usize, is_there: bool) -> Span
     requires { place ≤ length input.now }
     ensures there { is_there ≡ true → (t u : ℕ) (content more : List ℕ) → is_identifier t ≡ true → is_identifier u ≡ true → drop place input.now ≡ element t (element u content) ++ more → IsAt (element u content) more input.now result }
@@ -85,7 +85,7 @@ fn wrapped(input: &[u8], place: usize, is_there: bool) -> Span
     enter(input, &mut at)
 }
 
-/// What the certificate says, and where its parts stand in the bytes that spell it.
+/// What the certificate says, and where its parts stand in the bytes, which are its encoding.
 pub(crate) fn view_of(input: &[u8], certificate: &CertificateInner<Rfc5280>) -> CertificateView
     ensures { Spells ⟦<CertificateInner<Rfc5280> as Grammar>⟧.form certificate.now input.now → IsView input.now certificate.now result }
 {

@@ -1,4 +1,4 @@
-//! Reading a certificate for what it says.
+//! The view of a certificate.
 
 ghost use Rattle.std.specs.Prelude.{◌≡◌};
 ghost use Rattle.x509_c_certificate.specs.View.{IsView};
@@ -11,7 +11,12 @@ use x509_c_status::Status;
 use x509_cert_certificate::CertificateInner;
 use x509_der_grammar::{Decode, Grammar};
 
-/// Reads a certificate under the rules of RFC 5280, and fills in the view; where it is refused, the view stays as it was.
+/// Decodes a certificate under the rules of RFC 5280, and fills in the view.
+///
+/// # Errors
+///
+/// `Overlength` where the bytes are more than 268,435,455. Within that length `Malformed` where they are the encoding
+/// of no certificate. `Memory` when out of memory. The view is unchanged then.
 #[tactic(auto, unfolding(x509_c_status::specs::Calls::Reads))]
 pub fn certificate_view(alloc: Global, input: &[u8], view: &mut CertificateView) -> Status
     ensures { Reads ⟦<CertificateInner<Rfc5280> as Grammar>⟧.form ⟦<CertificateInner<Rfc5280> as Grammar>⟧.refuses input.now (λ certificate. IsView input.now certificate view.new) (view.new ≡ view.old) result }

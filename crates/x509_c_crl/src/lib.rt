@@ -1,4 +1,4 @@
-//! What a CRL says.
+//! What a CRL says. Words of our own are explained in `docs/MAP.md`.
 #![tactic(auto)]
 
 mod list;

@@ -1,4 +1,4 @@
-//! The entries of a list.
+//! The entries of a CRL.
 
 ghost use Rattle.std.specs.Prelude.{◌≡◌, length};
 ghost use Rattle.x509_cert.specs.Revoked.{entries};
@@ -10,8 +10,12 @@ use x509_c_status::Status;
 use x509_cert::crl::CertificateList;
 use x509_der_grammar::{Decode, Grammar};
 
-/// Reads a CRL under the rules of RFC 5280, and says how many entries it has. Where it is refused,
-/// the count stays as it was.
+/// Decodes a CRL under the rules of RFC 5280, and says how many entries it has.
+///
+/// # Errors
+///
+/// `Overlength` where the bytes are more than 268,435,455. Within that length `Malformed` where they are the encoding
+/// of no CRL. `Memory` when out of memory. The count is unchanged then.
 #[tactic(auto, unfolding(x509_c_status::specs::Calls::Reads))]
 pub fn crl_walk(alloc: Global, input: &[u8], count: &mut usize) -> Status
     ensures { Reads ⟦<CertificateList<Rfc5280> as Grammar>⟧.form ⟦<CertificateList<Rfc5280> as Grammar>⟧.refuses input.now (λ list. count.new ≡ length (entries list.tbs_cert_list.revoked_certificates)) (count.new ≡ count.old) result }

@@ -1,4 +1,4 @@
-//! What a list says of a certificate.
+//! Looking up a serial number in a CRL.
 
 ghost use Rattle.std.specs.Prelude.{◌≡◌};
 ghost use Rattle.x509_c_crl.specs.Revoked.{LooksUp, Revokes, Tells, reason_number};
@@ -68,8 +68,14 @@ fn ask(
     }
 }
 
-/// Reads a CRL and a serial number, both under the rules of RFC 5280, and fills in what the first entry with the
+/// Decodes a CRL and a serial number, both under the rules of RFC 5280, and fills in what the first entry with the
 /// number says.
+///
+/// # Errors
+///
+/// [`Status::Absent`] where no entry has the number. The error of decoding the CRL, as [`crl_walk`](crate::crl_walk);
+/// else that of decoding the serial number; else that of the entry's reason code: `Malformed`, or `Failed` where that
+/// extension is repeated. `Memory` when out of memory. `revocation` is unchanged then.
 #[tactic(auto, unfolding(crate::specs::Revoked::LooksUp))]
 pub fn crl_lookup(
     alloc: Global,

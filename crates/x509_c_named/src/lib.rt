@@ -1,4 +1,5 @@
-//! The calls from C on types by their names, and on names as texts, over any codec of them.
+//! The calls from C on types by their names, and on names as texts, over any codec of them. Words of our own are
+//! explained in `docs/MAP.md`.
 #![tactic(auto)]
 
 mod name;

@@ -13,7 +13,12 @@ use x509_c_status::{Status, fill};
 use x509_der_element::ErrorKind;
 use x509_tool_run::NameCodec;
 
-/// Reads a name, and puts its text in UTF-8 at the front of the room.
+/// Decodes a name, and puts its text in UTF-8 at the front of the buffer `room`.
+///
+/// # Errors
+///
+/// [`Status::NoRoom`] where the buffer is too small; then `written` is the needed length. Else the codec's errors on
+/// the bytes; `Memory` when out of memory.
 #[tactic(auto, unfolding(x509_c_status::specs::Status::Fills))]
 pub fn name_text<C: NameCodec>(
     alloc: Global,
@@ -29,7 +34,12 @@ pub fn name_text<C: NameCodec>(
     }
 }
 
-/// Reads the text of a name, and puts the name's encoding at the front of the room. `Failed` where the text isn't UTF-8.
+/// Reads the text of a name, and puts the name's encoding at the front of the buffer `room`.
+///
+/// # Errors
+///
+/// [`Status::NoRoom`] where the buffer is too small; then `written` is the needed length. `Failed` where the text isn't
+/// UTF-8. Else the codec's errors on the text; `Memory` when out of memory.
 #[tactic(auto, unfolding(x509_c_status::specs::Status::Fills))]
 pub fn name_from_text<C: NameCodec>(
     alloc: Global,

@@ -1,4 +1,4 @@
-//! Reading and writing a value of the type with a name.
+//! Decoding a value of the type with a name, and encoding it again.
 
 ghost use Rattle.std.specs.Prelude.{◌≡◌, false, None};
 ghost use Rattle.std.specs.Str.{is_utf8};
@@ -24,8 +24,14 @@ fn profile_of(number: u32) -> Option<ProfileName>
     }
 }
 
-/// Reads a value of the type with that name under the profile with that number, and writes it at the front of the room. `Failed` where there is
-/// no such type or profile.
+/// Decodes a value of the type with that name under the profile with that number, and encodes it at the front of the
+/// buffer `room`.
+///
+/// # Errors
+///
+/// [`Status::NoRoom`] where the buffer is too small; then `written` is the needed length. `Failed` where the profile is
+/// unknown or the name isn't UTF-8. Else the codec's errors, `Failed` among them where the type is unknown; `Memory`
+/// when out of memory.
 #[tactic(auto, unfolding(x509_c_status::specs::Status::Fills))]
 pub fn reencode_named<C: Codec>(
     alloc: Global,

@@ -1,4 +1,4 @@
--- What a call leaves that checks a path of certificates but for their signatures.
+-- What a call leaves that checks a path of certificates apart from their signatures.
 use Rattle.std.specs.Prelude.{◌≡◌, ◌<◌, ◌⊎◌, ℕ, List, []}
 use Rattle.x509_base_time.specs.CivilTime.{CivilTime, IsDateTime, last_date_time, unix_seconds}
 use Rattle.x509_c_path.specs.Pieces.{AreCut}

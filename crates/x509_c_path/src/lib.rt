@@ -1,4 +1,4 @@
-//! Paths of certificates, checked but for their signatures.
+//! Paths of certificates, checked apart from their signatures. Words of our own are explained in `docs/MAP.md`.
 #![tactic(auto)]
 
 mod path;

@@ -1,4 +1,4 @@
-//! Whether a path holds, its signatures aside.
+//! Checking a path apart from its signatures.
 
 ghost use Rattle.std.specs.Prelude.{◌≡◌, map};
 ghost use Rattle.x509_c_path.specs.Paths.{ChecksPath, Tells, reason_code};
@@ -41,7 +41,7 @@ fn number_of(reason: PathReason) -> u32
     }
 }
 
-/// Checks the path of these inputs but for their signatures, and fills in its first fault where it has one.
+/// Checks the path of these inputs apart from their signatures, and fills in its first fault where it has one.
 #[tactic(auto, unfolding(crate::specs::Paths::Tells))]
 fn tell(
     alloc: Global,
@@ -66,13 +66,16 @@ fn tell(
     }
 }
 
-/// Checks a path of certificates at a moment, in seconds since 1970-01-01T00:00:00Z, under the subject and the key of the anchor's
-/// certificate, but for the signatures: any bits are taken for one. The certificates stand one behind the other, the topmost first, and
-/// have these lengths.
+/// Checks a path of certificates at a time, in seconds since 1970-01-01T00:00:00Z, under the subject and the key of the
+/// anchor's certificate, apart from the signatures: any bits are accepted as one. The certificates stand one behind the
+/// other, the topmost first, and have these lengths.
 ///
-/// [`Status::Faulty`] where a certificate has a fault, the first of which is filled in; else it stays as it was. [`Status::Absent`] where there is
-/// no certificate. `Value` where the moment is after 9999, `Failed` where the lengths don't add up, and the anchor's certificate is
-/// refused as it is in reading.
+/// # Errors
+///
+/// `Value` where the time is after the year 9999, `Failed` where the lengths don't add up, and the error of decoding
+/// the anchor's certificate; where several of these are bad, any of them. Else [`Status::Absent`] where there is no
+/// certificate, and [`Status::Faulty`] where one has a fault, the first of which is filled in. `Memory` when out of
+/// memory. `fault` is unchanged except on [`Status::Faulty`].
 #[tactic(auto, unfolding(crate::specs::Paths::ChecksPath))]
 pub fn path_check(
     alloc: Global,

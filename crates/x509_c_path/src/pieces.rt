@@ -5,7 +5,7 @@ ghost use Rattle.x509_c_path.specs.Pieces.{AreCut};
 
 use std::alloc::{AllocError, Global};
 
-/// The pieces of these lengths that the bytes are cut into; `None` where the lengths don't add up to theirs.
+/// The pieces of these lengths into which the bytes are cut; `None` where the lengths don't add up to theirs.
 pub(crate) fn cut<'a>(
     alloc: Global,
     bytes: &'a [u8],

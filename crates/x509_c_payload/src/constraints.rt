@@ -1,4 +1,4 @@
-//! Whether a certificate is that of an authority.
+//! Basic constraints.
 
 ghost use Rattle.std.specs.Prelude.{◌≡◌};
 ghost use Rattle.x509_c_payload.specs.BasicConstraints.{IsBasicConstraints};
@@ -12,17 +12,18 @@ use x509_c_status::Status;
 use x509_der_grammar::{Decode, Grammar};
 use x509_ext::pkix::BasicConstraints;
 
-/// Whether a certificate is that of an authority, and how many more authorities may stand below it (RFC 5280 4.2.1.9).
+/// Basic constraints: whether the subject is a certification authority, and how many more may stand below it (RFC 5280
+/// 4.2.1.9).
 #[derive(Clone, Copy, Debug, PartialEq, Eq)]
 #[repr(C)]
 pub struct BasicConstraintsView {
-    /// 1 where it is one, else 0.
+    /// 1 where it is a certification authority, else 0.
     pub ca: u32,
 
-    /// 1 where the number of authorities is limited, else 0.
+    /// 1 where there is a path length constraint, else 0.
     pub has_path_len: u32,
 
-    /// How many may follow at most; 0 where that isn't limited.
+    /// How many intermediate certificates may follow at most; 0 where there is no path length constraint.
     pub path_len: u32,
 }
 
@@ -41,7 +42,12 @@ fn view_of(constraints: &BasicConstraints) -> BasicConstraintsView
     }
 }
 
-/// Reads a BasicConstraints (RFC 5280 4.2.1.9), and fills in what it says. It takes no memory. Where it is refused, the view stays as it was.
+/// Decodes a BasicConstraints (RFC 5280 4.2.1.9), and fills in what it says. It takes no memory.
+///
+/// # Errors
+///
+/// `Overlength` where the bytes are more than 268,435,455. Within that length `Malformed` where they are the encoding
+/// of no BasicConstraints. The view is unchanged then.
 #[tactic(auto, unfolding(x509_c_status::specs::Calls::Reads))]
 pub fn basic_constraints(alloc: Global, input: &[u8], view: &mut BasicConstraintsView) -> Status
     ensures read { Reads ⟦<BasicConstraints as Grammar>⟧.form ⟦<BasicConstraints as Grammar>⟧.refuses input.now (λ constraints. IsBasicConstraints constraints view.new) (view.new ≡ view.old) result }

@@ -35,12 +35,14 @@ fn left(list: Tag, input: &[u8], at: usize) -> Result<&[u8], ErrorKind>
     Ok(whole.content.split_at(at - begin).1)
 }
 
-/// The next member of the list that the bytes are, with the place of its element, and the place moves behind it; `None` at the end of the list. Where it is refused,
-/// the place stays as it was.
+/// The next member of the list that the bytes are, with the place of its element, and the place moves behind it; `None`
+/// at the end of the list. On an error the place is unchanged.
 ///
 /// # Errors
-/// `Overlength` exactly where the bytes are too many. `Malformed` where they aren't one element with that tag, where the place isn't 0 and not
-/// in its content, or, as the refusal of the type itself, where no value of the type stands there. Memory may be refused where reading the type wants it.
+///
+/// `Overlength` exactly where the bytes are too many. `Malformed` where they aren't one element with that tag, where
+/// the place isn't 0 and not in its content, or, as the type's own errors, where no value of the type stands there.
+/// `Memory` when out of memory, only where decoding the type may take memory.
 pub fn next<T: Decode>(
     alloc: Global,
     list: Tag,

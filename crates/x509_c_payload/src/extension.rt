@@ -1,4 +1,4 @@
-//! The extensions of a certificate, of a CRL or of a request, one after the other.
+//! The extensions of a certificate, of a CRL or of a CSR, one after the other.
 
 ghost use Rattle.std.specs.Prelude.{◌≡◌, ◌≤◌, ◌++◌, drop, length, List, ℕ};
 ghost use Rattle.x509_c_payload.specs.Cursor.{Steps};
@@ -15,11 +15,11 @@ use x509_der_element::Tag;
 use x509_der_grammar::{Decode, Grammar};
 use x509_ext_frame::Extension;
 
-/// An extension (RFC 5280 4.2), by its place in the bytes of a list of them.
+/// An extension (RFC 5280 4.2), by its place in the bytes of a list of extensions.
 #[derive(Clone, Copy, Debug, PartialEq, Eq)]
 #[repr(C)]
 pub struct ExtensionEntry {
-    /// Where the content octets of its identifier stand.
+    /// Where the content octets of its OID stand.
     pub oid: Span,
 
     /// 1 where it is critical, else 0.
@@ -52,7 +52,12 @@ fn entry_at(input: &[u8], place: usize, extension: &Extension) -> ExtensionEntry
     }
 }
 
-/// Fills in the next extension of a list of them, which the bytes are (RFC 5280 4.1.2.9, 5.1.2.7), and moves the place behind it.
+/// Fills in the next extension of a list of extensions, which the bytes are (RFC 5280 4.1.2.9, 5.1.2.7), and moves the
+/// place behind it.
+///
+/// # Errors
+///
+/// [`Status::Absent`] at the end of the list. Else those of [`next`]. `at` and `found` are unchanged then.
 #[tactic(auto, unfolding(crate::specs::Cursor::Steps))]
 pub fn extensions_next(
     alloc: Global,

@@ -19,17 +19,18 @@ use x509_der_element::{ErrorKind, Tag, TagNumber};
 use x509_der_grammar::{Decode, Grammar};
 use x509_ext_name::GeneralName;
 
-/// A general name (RFC 5280 4.2.1.6), by its place in the bytes of a list of them.
+/// A general name (RFC 5280 4.2.1.6), by its place in the bytes of a list of general names.
 #[derive(Clone, Copy, Debug, PartialEq, Eq)]
 #[repr(C)]
 pub struct GeneralNameView {
-    /// The number of its tag, which says what kind of name it is.
+    /// The tag number, which says what kind of name it is.
     pub kind: u32,
 
     /// Where the whole element stands.
     pub element: Span,
 
-    /// Where what it holds stands: the octets of a text or an address, a whole Name, the content octets of an object identifier, or the fields of another sequence.
+    /// Where what it holds stands: the octets of a text or an address, a whole Name, the content octets of an OID, or
+    /// the fields of another sequence.
     pub content: Span,
 
     /// Of an otherName where the content octets of its type stand; of other names both numbers are 0.
@@ -39,7 +40,7 @@ pub struct GeneralNameView {
     pub value: Span,
 }
 
-/// The number of the tag of a name.
+/// The tag number of a name.
 fn kind_of(name: &GeneralName) -> u32
     ensures { result ≡ kind_of name.now }
 {
@@ -79,7 +80,7 @@ fn other_at(input: &[u8], place: usize, name: &GeneralName) -> (Span, Span)
     }
 }
 
-/// The name whose element stands there.
+/// The general name whose element stands there.
 pub(crate) fn name_at(input: &[u8], element: Span, name: &GeneralName) -> GeneralNameView
     requires { element.place ≤ length input.now }
     ensures { (behind : List ℕ) → IsAt (spelling general_name name.now) behind input.now element → IsGeneralName input.now name.now behind result }
@@ -116,7 +117,12 @@ fn names_in(
     }
 }
 
-/// Fills in the next name of a list of general names, which the bytes are (RFC 5280 4.2.1.6), and moves the place behind it.
+/// Fills in the next name of a list of general names, which the bytes are (RFC 5280 4.2.1.6), and moves the place
+/// behind it.
+///
+/// # Errors
+///
+/// [`Status::Absent`] at the end of the list. Else those of [`next`]. `at` and `found` are unchanged then.
 pub fn general_names_next(
     alloc: Global,
     input: &[u8],
@@ -144,7 +150,11 @@ fn implicit_list(number: u32) -> Option<Tag>
     }
 }
 
-/// The same of a list under the implicit tag \[n\], as the issuer's names in an AuthorityKeyIdentifier (RFC 5280 4.2.1.1). `Malformed` where n is above 30.
+/// The same of a list under the implicit tag \[n\], such as the issuer's names in an AKI (RFC 5280 4.2.1.1).
+///
+/// # Errors
+///
+/// `Malformed` where n is above 30. Else those of [`general_names_next`]. `at` and `found` are unchanged then.
 pub fn general_names_under_next(
     alloc: Global,
     number: u32,

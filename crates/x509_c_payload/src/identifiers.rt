@@ -1,4 +1,4 @@
-//! Object identifiers: the purposes of a key one after the other, and identifiers as texts.
+//! OIDs: the purposes of an ExtendedKeyUsage one after the other, and OIDs as texts.
 
 ghost use Rattle.std.specs.Prelude.{◌≡◌};
 ghost use Rattle.x509_c_payload.specs.Cursor.{Steps};
@@ -17,8 +17,12 @@ use x509_der::ObjectIdentifier;
 use x509_der_element::{ErrorKind, Tag};
 use x509_der_grammar::{Decode, Grammar};
 
-/// Fills in where the content octets stand of the next object identifier of a list of them, which the bytes are, as an ExtendedKeyUsage (RFC 5280 4.2.1.12), and moves the
-/// place behind it. It takes no memory.
+/// Fills in where the content octets stand of the next OID of a list of OIDs, which the bytes are, such as an
+/// ExtendedKeyUsage (RFC 5280 4.2.1.12), and moves the place behind it. It takes no memory.
+///
+/// # Errors
+///
+/// [`Status::Absent`] at the end of the list. Else those of [`next`]. `at` and `found` are unchanged then.
 #[tactic(auto, unfolding(crate::specs::Cursor::Steps))]
 pub fn identifiers_next(alloc: Global, input: &[u8], at: &mut usize, found: &mut Span) -> Status
     ensures { Steps ⟦<ObjectIdentifier as Grammar>⟧.form ⟦<ObjectIdentifier as Grammar>⟧.refuses ⟦<ObjectIdentifier as Decode>⟧.wants_memory 48 input.now at.old at.new (λ oid behind span. IsAt oid behind input.now found.new) (found.new ≡ found.old) result }
@@ -33,7 +37,13 @@ pub fn identifiers_next(alloc: Global, input: &[u8], at: &mut usize, found: &mut
     }
 }
 
-/// Puts the dotted text of the object identifier that has these content octets at the front of the room, as `2.5.29.15`. `Malformed` exactly where they are none's.
+/// Puts the dotted text of the OID that has these content octets at the front of the buffer `room`, such as
+/// `2.5.29.15`.
+///
+/// # Errors
+///
+/// [`Status::NoRoom`] where the buffer is too small; then `written` is the needed length. `Malformed` exactly where no
+/// OID has the content octets. `Memory` when out of memory.
 #[tactic(auto, unfolding(x509_c_status::specs::Status::Fills))]
 pub fn oid_text(alloc: Global, content: &[u8], room: &mut [u8], written: &mut usize) -> Status
     ensures { Fills (λ answer. IsDotted content.now answer) room.old room.new written.old written.new result }
@@ -48,7 +58,12 @@ pub fn oid_text(alloc: Global, content: &[u8], room: &mut [u8], written: &mut us
     }
 }
 
-/// Puts the content octets of the object identifier with this dotted text at the front of the room. `Failed` exactly where it is none's. It takes no memory.
+/// Puts the content octets of the OID with this dotted text at the front of the buffer `room`. It takes no memory.
+///
+/// # Errors
+///
+/// [`Status::NoRoom`] where the buffer is too small; then `written` is the needed length. `Failed` exactly where the
+/// text is a bad one: that of no OID.
 #[tactic(auto, unfolding(x509_c_status::specs::Status::Fills))]
 pub fn oid_from_text(text: &[u8], room: &mut [u8], written: &mut usize) -> Status
     ensures filled { Fills (λ answer. IsIdentified text.now answer) room.old room.new written.old written.new result }

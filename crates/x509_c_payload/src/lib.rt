@@ -1,4 +1,5 @@
-//! What the payloads of extensions hold, and where: a walk over the members of a list, and what a member says.
+//! What the values of extensions hold, and where: a walk over the members of a list, and what a member says. Words of
+//! our own are explained in `docs/MAP.md`.
 #![tactic(auto)]
 
 mod constraints;

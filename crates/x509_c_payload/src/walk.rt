@@ -1,4 +1,4 @@
-//! Steps over elements whose contents are told.
+//! Steps over elements of which the contents are known.
 
 ghost use Rattle.std.specs.Prelude.{◌≡◌, ◌≤◌, ◌++◌, true, drop, length, List, ℕ};
 ghost use Rattle.x509_c_place.specs.Place.{IsAt};

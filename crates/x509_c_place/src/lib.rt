@@ -1,4 +1,4 @@
-//! Places of parts in the bytes that were read.
+//! Places of parts in the bytes that were decoded. Words of our own are explained in `docs/MAP.md`.
 #![tactic(auto)]
 
 mod signed;

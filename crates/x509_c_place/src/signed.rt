@@ -11,7 +11,8 @@ use x509_c_status::Status;
 use x509_cert_signed::signed_slice;
 use x509_der_element::ErrorKind;
 
-/// Where the part stands that a signature is over (RFC 5280 4.1.1.3, 5.1.1.3, RFC 2986 4.2).
+/// Where the bytes stand that the signature of a certificate, of a CRL or of a CSR is over (RFC 5280 4.1.1.3, 5.1.1.3,
+/// RFC 2986 4.2).
 pub fn signed_span(input: &[u8]) -> Option<Span>
     ensures { MatchOption result ((signed : List ℕ) → IsSignedPart input.now signed → ⊥) (λ span. (signed : List ℕ) × (part : IsSignedPart input.now signed) × IsAt signed part.behind input.now span) }
 {
@@ -23,8 +24,11 @@ pub fn signed_span(input: &[u8]) -> Option<Span>
     Some(step(input, &mut at, true))
 }
 
-/// The same as a call that fills in the span: `Malformed` where there is no such part, and the span stays as it was then. It takes no
-/// memory.
+/// [`signed_span`] as a call that fills in the span. It takes no memory.
+///
+/// # Errors
+///
+/// `Malformed` exactly where there are no signed bytes; the span is unchanged then.
 #[tactic(auto, unfolding(crate::specs::SignedPlace::IsSignedAt))]
 pub fn signed_place(input: &[u8], span: &mut Span) -> Status
     ensures { IsSignedAt input.now span.old span.new result }

@@ -1,4 +1,5 @@
-//! What a call from C answers, and the calls on any type: reading a value, and writing it.
+//! The status of a call from C, and the calls on any type: decoding a value, and encoding it. Words of our own are
+//! explained in `docs/MAP.md`.
 #![tactic(auto)]
 
 mod reading;

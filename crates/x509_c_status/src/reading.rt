@@ -1,4 +1,4 @@
-//! Reading a value.
+//! Decoding a value.
 
 ghost use Rattle.std.specs.Prelude.{◌≡◌, ◌⊎◌, MatchResult};
 ghost use Rattle.x509_c_status.specs.Calls.{Checks};
@@ -10,7 +10,11 @@ use crate::status::Status;
 use std::alloc::Global;
 use x509_der_grammar::{Decode, ErrorKind};
 
-/// Reads a value from the bytes, and lets it go again: done exactly where the bytes spell one. Memory may be refused.
+/// Decodes a value, and frees it: done exactly where the bytes are the encoding of one.
+///
+/// # Errors
+///
+/// As [`Decode::from_der`]; `Memory` when out of memory.
 #[tactic(auto, unfolding(crate::specs::Calls::Reads))]
 pub fn check<T: Decode + Drop>(alloc: Global, input: &[u8]) -> Status
     ensures { Checks T.form T.refuses input.now result }
@@ -21,7 +25,11 @@ pub fn check<T: Decode + Drop>(alloc: Global, input: &[u8]) -> Status
     }
 }
 
-/// Reads a value from the bytes; else says why there is none.
+/// Decodes a value.
+///
+/// # Errors
+///
+/// As [`Decode::from_der`]; `Memory` when out of memory.
 pub fn read<T: Decode>(alloc: Global, input: &[u8]) -> Result<T, ErrorKind>
     ensures { MatchResult result (λ value. Spells T.form value input.now) (λ e. (e ≡ Memory) ⊎ IsRefused T.form T.refuses input.now e) }
 {

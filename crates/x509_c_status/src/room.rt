@@ -6,7 +6,11 @@ ghost use Rattle.x509_c_status.specs.declared.status.Status.TheVariants as statu
 
 use crate::status::Status;
 
-/// Puts the bytes at the front of the room, and says how many they are. Where the room is too small, it stays as it was.
+/// Puts the bytes at the front of the buffer `room`, and says how many they are.
+///
+/// # Errors
+///
+/// [`Status::NoRoom`] exactly where the buffer is too small; then it is unchanged, and `written` is the needed length.
 #[tactic(auto, unfolding(crate::specs::Status::Fills))]
 pub fn fill(bytes: &[u8], room: &mut [u8], written: &mut usize) -> Status
     ensures left { Fills (λ answer. answer ≡ Ok bytes.now) room.old room.new written.old written.new result }

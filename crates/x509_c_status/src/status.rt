@@ -6,30 +6,31 @@ ghost use Rattle.x509_c_status.specs.declared.status.Status.TheVariants as statu
 
 use x509_der_element::{Error, ErrorKind};
 
-/// What a call from C answers.
+/// The status of a call from C.
 #[derive(Clone, Copy, Debug, PartialEq, Eq)]
 pub enum Status {
-    /// The call did what it is for.
+    /// The call succeeded.
     Done,
 
-    /// The room is too small for what is to be written.
+    /// The buffer is too small for what is to be written.
     NoRoom,
 
     /// What was asked for isn't there.
     Absent,
 
-    /// What was asked for, and may be there once, is there more than once.
+    /// What was asked for is there more than once, where it may be there once.
     Repeated,
 
     /// A certificate of a path has a fault.
     Faulty,
 
-    /// The call was refused.
+    /// The call was refused with an error.
     Refused(ErrorKind),
 }
 
 impl Status {
-    /// The number that C sees: 0 for [`Status::Done`], below 0 where there was too little memory or room, else above 0.
+    /// The number that C sees: 0 for [`Status::Done`], below 0 where there was too little memory or too small a buffer,
+    /// else above 0.
     pub fn code(self) -> i32
         ensures { result ≡ code_of self }
     {

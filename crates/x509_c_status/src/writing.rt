@@ -1,4 +1,4 @@
-//! Reading a value and writing it again.
+//! Decoding a value and encoding it again.
 
 ghost use Rattle.std.specs.Prelude.{◌≡◌};
 ghost use Rattle.x509_c_status.specs.Calls.{Encodes};
@@ -13,8 +13,12 @@ use crate::status::Status;
 use std::alloc::Global;
 use x509_der_grammar::{Decode, Encode};
 
-/// Writes the value at the front of the room, and says how many bytes it has. It takes no memory. Where the room is too
-/// small, or the value can't be written, the room may hold a part of them.
+/// Encodes the value at the front of the buffer `room`, and says how many bytes it has. It takes no memory.
+///
+/// # Errors
+///
+/// [`Status::NoRoom`] where the buffer is too small; then `written` is the needed length. Else as [`Encode::to_der`]
+/// where the value can't be encoded. The buffer may hold a part of the encoding then.
 #[tactic(auto, unfolding(crate::specs::Calls::Encodes, crate::specs::Status::Fills))]
 pub fn write<T: Encode>(value: &T, room: &mut [u8], written: &mut usize) -> Status
     ensures filled { Fills (Encodes T.form (writes T.writing value.now)) room.old room.new written.old written.new result }
@@ -36,7 +40,12 @@ pub fn write<T: Encode>(value: &T, room: &mut [u8], written: &mut usize) -> Stat
     }
 }
 
-/// Reads a value from the bytes, and writes it at the front of the room. Memory may be refused.
+/// Decodes a value, and encodes it at the front of the buffer `room`.
+///
+/// # Errors
+///
+/// [`Status::NoRoom`] where the buffer is too small; then `written` is the needed length. Else as [`Decode::from_der`]
+/// and [`Encode::to_der`]; `Memory` when out of memory.
 #[tactic(auto, unfolding(crate::specs::Calls::Encodes, crate::specs::Status::Fills, x509_tool_table::specs::Reencoding::Reencodes))]
 pub fn reencode<T: Decode + Encode + Drop>(
     alloc: Global,

@@ -1,4 +1,4 @@
--- Lists whose serial numbers may have any content octets.
+-- CRLs whose serial numbers may have any content octets.
 use Rattle.x509_cert_certificate.specs.Respelling.{no_check}
 use Rattle.x509_cert.specs.CertificateList.{certificate_list, tbs_cert_list}
 use Rattle.x509_cert.specs.RevokedCert.{revoked_cert}

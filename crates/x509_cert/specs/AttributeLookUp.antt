@@ -1,4 +1,4 @@
--- Look-ups among the attributes of a request: those of a type, and what the one value of the one is decoded to (RFC 2986 4.1).
+-- Look-ups among the attributes of a CSR: those of a type, and what the one value of the one is decoded to (RFC 2986 4.1).
 use Rattle.std.specs.Prelude.{◌≡◌, ◌⊎◌, ℕ, List, [], ◌∷◌, filter, bytes_eq, Option, Some, None, Result, Ok, Err, IfOk, IfErr, IsErrAnd}
 use Rattle.x509_der_element.specs.Outcome.{Gives}
 use Rattle.x509_der_element.specs.Tag.{octet_of}

@@ -1,4 +1,4 @@
--- The identifiers of attributes.
+-- The OIDs of attributes.
 use Rattle.std.specs.Prelude.{ℕ, List, [], ◌∷◌}
 
 -- the content octets of 1.2.840.113549.1.9.n, where n is below 128 (pkcs-9; RFC 2985, appendix A)

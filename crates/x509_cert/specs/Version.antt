@@ -1,4 +1,4 @@
--- Version of a request: INTEGER V1 0 (RFC 2986 4.1)
+-- Version of a CSR: INTEGER V1 0 (RFC 2986 4.1)
 use Rattle.std.specs.Prelude.{◌≡◌, ℕ, List, [], ◌∷◌, Some, refl}
 use Rattle.x509_der_element.specs.declared.error.ErrorKind.{ErrorKind}
 use Rattle.x509_der_element.specs.declared.tag.Tag.TheVariants.{Integer}

@@ -1,4 +1,4 @@
-//! Certificates (RFC 5280 4.1), the profiles under which they are read and written, and what is made of their bytes.
+//! Certificates (RFC 5280 4.1), the profiles under which they are decoded and encoded, and what is made of their bytes.
 
 pub use x509_base_time::{Profile, Raw, Rfc5280};
 pub use x509_cert_certificate::{

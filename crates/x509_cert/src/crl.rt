@@ -1,4 +1,4 @@
-//! Certificate revocation lists, CRLs (RFC 5280 5.1). Their times are written as they are, under every profile.
+//! Certificate revocation lists, CRLs (RFC 5280 5.1). Their times are encoded as they are, under every profile.
 
 mod certificate_list;
 mod revoked_cert;

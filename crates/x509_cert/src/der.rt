@@ -1,4 +1,4 @@
-//! Strict DER (X.690): how values are read and written, and the types of ASN.1 that others are made of.
+//! Strict DER (X.690): how values are decoded and encoded, and the types of ASN.1 that others are made of.
 
 pub use x509_der::AssociatedOid;
 pub use x509_der_element::{Error, ErrorKind, Header, Length, Tag, TagNumber};

@@ -1,6 +1,8 @@
-//! What holds of all values, of certificates, of CRLs, of requests and of signed bytes. Each law is a function whose contract is the
-//! law. Those of the layers below stand in a module for each layer: [`der`], [`prim`], [`base`] (times, serial numbers, algorithms and
-//! keys), [`name`], [`ext`], [`pkix`], [`sct`] and [`anchor`]. By which forms the types are read and written stands in [`forms`].
+//! What holds of all values, of certificates, of CRLs, of CSRs and of signed bytes. Each law is a function whose
+//! contract is the law. The laws of the layers below stand in a module for each layer: [`der`], [`prim`], [`base`]
+//! (times, serial numbers, algorithms and keys), [`name`], [`ext`], [`pkix`], [`sct`] and [`anchor`]. The forms by
+//! which the types are decoded and encoded stand in [`forms`]; `docs/MAP.md` has the words of our own, such as form,
+//! spelling and good.
 
 ghost use Rattle.std.specs.List.{All};
 ghost use Rattle.std.specs.Prelude.{◌≡◌, List, ℕ, None, ◌<◌, ◌≤◌, ◌↔◌, [], ◌∷◌, length, true};
@@ -56,22 +58,22 @@ pub use x509_sct::laws as sct;
 
 pub mod forms;
 
-/// Under every profile lists are written as they are, with their times: what is written is what they are read from.
+/// Under every profile CRLs are encoded as they are, with their times: what is encoded is what they are decoded from.
 pub fn lists_stay<P: Profile>()
     ensures entry { (entry : RevokedCert P) → writes ⟦<RevokedCert<P> as Encode>⟧.writing entry ≡ record { value = entry; refusal = None } }
     ensures signed { (signed : TbsCertList P) → writes ⟦<TbsCertList<P> as Encode>⟧.writing signed ≡ record { value = signed; refusal = None } }
     ensures list { (list : CertificateList P) → writes ⟦<CertificateList<P> as Encode>⟧.writing list ≡ record { value = list; refusal = None } }
 {}
 
-/// Two values that are written alike are one, also where the profile refuses their serial numbers in reading.
+/// Two values with the same encoding are equal, also where the profile refuses their serial numbers in decoding.
 pub fn lists_written_alike_are_one<P: Profile>()
     ensures entry { (v w : RevokedCert P) → any_revoked_cert.good v → any_revoked_cert.good w → written_spelling (revoked_cert P.serial_check) (writes ⟦<RevokedCert<P> as Encode>⟧.writing v) ≡ written_spelling (revoked_cert P.serial_check) (writes ⟦<RevokedCert<P> as Encode>⟧.writing w) → v ≡ w }
     ensures signed { (v w : TbsCertList P) → any_tbs_cert_list.good v → any_tbs_cert_list.good w → written_spelling (tbs_cert_list P.serial_check) (writes ⟦<TbsCertList<P> as Encode>⟧.writing v) ≡ written_spelling (tbs_cert_list P.serial_check) (writes ⟦<TbsCertList<P> as Encode>⟧.writing w) → v ≡ w }
     ensures list { (v w : CertificateList P) → any_certificate_list.good v → any_certificate_list.good w → written_spelling (certificate_list P.serial_check) (writes ⟦<CertificateList<P> as Encode>⟧.writing v) ≡ written_spelling (certificate_list P.serial_check) (writes ⟦<CertificateList<P> as Encode>⟧.writing w) → v ≡ w }
 {}
 
-/// Bytes that spell a list have a signed part, which [`signed_slice`](x509_cert_signed::signed_slice) answers: it spells what
-/// is signed, and under every profile writing that gives it again.
+/// Bytes that are the encoding of a CRL have a signed part, which [`signed_slice`](x509_cert_signed::signed_slice)
+/// answers: it is the encoding of what is signed, and under every profile encoding that gives it again.
 pub fn lists_have_a_signed_part<P: Profile>()
     ensures signed { (list : CertificateList P) (bytes : List ℕ) → Spells (certificate_list P.serial_check) list bytes → IsSignedPart bytes (spelling (tbs_cert_list P.serial_check) list.tbs_cert_list) }
     ensures spelled { (list : CertificateList P) (bytes : List ℕ) → Spells (certificate_list P.serial_check) list bytes → Spells (tbs_cert_list P.serial_check) list.tbs_cert_list (spelling (tbs_cert_list P.serial_check) list.tbs_cert_list) }
@@ -102,21 +104,21 @@ pub fn equality_of_crls_is_exact<P: Profile>()
     ensures list { (a b : CertificateList P) → (⟦<CertificateList<P> as PartialEq>⟧.eq a b ≡ true) ↔ (a ≡ b) }
 {}
 
-/// The octets that stand for 1.2.840.113549.1.9.n are its content (X.690 8.19).
+/// The octets that stand for 1.2.840.113549.1.9.n are its content octets (X.690 8.19).
 #[tactic(auto, using(crate::proofs::ArcsOfAttributes::pkcs_9_content))]
 pub fn identifiers_of_attributes()
     ensures { (n : ℕ) → n < 128 → pkcs_9 n ≡ content_of (1 ∷ 2 ∷ 840 ∷ 113549 ∷ 1 ∷ 9 ∷ n ∷ []) }
 {}
 
-/// Requests are written as they are: what is written is what they are read from.
+/// CSRs are encoded as they are: what is encoded is what they are decoded from.
 pub fn requests_stay()
     ensures info { (info : CertReqInfo) → writes ⟦<CertReqInfo as Encode>⟧.writing info ≡ record { value = info; refusal = None } }
     ensures request { (request : CertReq) → writes ⟦<CertReq as Encode>⟧.writing request ≡ record { value = request; refusal = None } }
     ensures extensions { (req : ExtensionReq) → writes ⟦<ExtensionReq as Encode>⟧.writing req ≡ record { value = req; refusal = None } }
 {}
 
-/// Bytes that spell a request have a signed part, which [`signed_slice`](x509_cert_signed::signed_slice) answers: it spells
-/// what is signed, and writing that gives it again.
+/// Bytes that are the encoding of a CSR have a signed part, which [`signed_slice`](x509_cert_signed::signed_slice)
+/// answers: it is the encoding of what is signed, and encoding that gives it again.
 pub fn requests_have_a_signed_part()
     ensures signed { (request : CertReq) (bytes : List ℕ) → Spells cert_req request bytes → IsSignedPart bytes (spelling cert_req_info request.info) }
     ensures spelled { (request : CertReq) (bytes : List ℕ) → Spells cert_req request bytes → Spells cert_req_info request.info (spelling cert_req_info request.info) }
@@ -139,7 +141,7 @@ pub fn equality_of_requests_is_exact()
     ensures passwords { (a b : ChallengePassword) → (⟦<ChallengePassword as PartialEq>⟧.eq a b ≡ true) ↔ (a ≡ b) }
 {}
 
-/// A password is written as its text is.
+/// A password is encoded as its text is.
 pub fn passwords_are_texts()
     ensures { (password : ChallengePassword) → spelling challenge_password password ≡ spelling directory_string password.0 }
 {}

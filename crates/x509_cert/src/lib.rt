@@ -1,8 +1,9 @@
-//! X.509 certificates, CRLs, requests and trust anchors in strict DER (RFC 5280, 2986, 5914), under the
+//! X.509 certificates, CRLs, PKCS #10 requests (CSRs) and trust anchors in strict DER (RFC 5280, 2986, 5914), under the
 //! paths that the Rust crate `x509-cert` has.
 //!
-//! Bytes are read by `from_der` of [`der::Decode`] and written by `to_der` of [`der::Encode`]. What is promised of them stands at
-//! these traits; what the bytes are, in the definitions of this crate and of those that it re-exports.
+//! Values are decoded by `from_der` of [`der::Decode`] and encoded by `to_der` of [`der::Encode`]. What is promised of
+//! these calls stands at the traits; what the bytes are, in the definitions of this crate and of those that it
+//! re-exports. Words of our own, such as form, spelling and profile, are explained in `docs/MAP.md`.
 #![tactic(auto)]
 
 pub mod anchor;

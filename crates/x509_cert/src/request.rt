@@ -1,4 +1,4 @@
-//! Requests for certificates (PKCS #10; RFC 2986), and the attributes that they hold.
+//! PKCS #10 requests (CSRs; RFC 2986), and the attributes that they hold.
 
 pub mod attributes;
 mod cert_req;

@@ -1,4 +1,4 @@
--- CertPolicies: what is asked of policies, as named bits (CertPolicyFlags; RFC 5914 2.5)
+-- CertPolicies: flags about policies, as named bits (CertPolicyFlags; RFC 5914 2.5)
 use Rattle.std.specs.Prelude.{ℕ, List, [], ◌∷◌, codes, refl}
 use Rattle.x509_der_element.specs.declared.error.ErrorKind.{ErrorKind}
 use Rattle.x509_der_grammar.specs.Form.{Form, IsForm}

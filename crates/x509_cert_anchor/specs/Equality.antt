@@ -1,4 +1,4 @@
--- Equality of trust anchors, of what is said of them, and of what is asked of paths from them is exact, under every profile.
+-- Equality of trust anchors, of their descriptions and of the constraints on paths from them is exact, under every profile.
 use Rattle.std.specs.Cmp.Lexicographic.{pointwise}
 use Rattle.std.specs.Option.{option_eq}
 use Rattle.std.specs.Prelude.{Bool, bytes_eq, nat_eq, refl, ◌&&◌}

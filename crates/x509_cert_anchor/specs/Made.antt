@@ -1,5 +1,5 @@
 -- What is to hold of trust anchors that a program made, so that each is a value of its grammar: the serial numbers of the
--- certificates in them may stand, and each bit of what is asked of policies has a name (RFC 5914 2.5).
+-- certificates in them are allowed, and each bit of the policy flags has a name (RFC 5914 2.5).
 use Rattle.std.specs.Prelude.{◌≡◌, ℕ, List, Some, true}
 use Rattle.x509_cert_anchor.specs.CertPolicies.{cert_policies_names}
 use Rattle.x509_cert_anchor.specs.declared.cert_path_controls.CertPathControls.{CertPathControls}

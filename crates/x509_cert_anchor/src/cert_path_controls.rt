@@ -1,4 +1,4 @@
-//! What is asked of the paths from a trust anchor.
+//! Constraints on the certification paths from a trust anchor.
 
 use crate::cert_policies::CertPolicyFlags;
 use std::alloc::Global;
@@ -12,8 +12,8 @@ use x509_name::name::Name;
 use x509_pkix::NameConstraints;
 use x509_pkix_policy::CertificatePolicies;
 
-/// What is asked of the paths from a trust anchor (RFC 5914 2.5). That the certificate has the name and the key of the anchor,
-/// as RFC 5914 wants it, isn't looked at.
+/// Constraints on the certification paths from a trust anchor (RFC 5914 2.5). That the certificate has the name and the
+/// key of the anchor, as RFC 5914 wants it, isn't checked.
 ///
 /// ```text
 /// CertPathControls ::= SEQUENCE {
@@ -32,16 +32,16 @@ pub struct CertPathControls<P: Profile = Rfc5280> {
     /// A certificate of the anchor.
     pub certificate: Option<CertificateInner<P>>,
 
-    /// The policies for which a path may be valid, any if left out.
+    /// The policies for which a path may be valid; any where absent.
     pub policy_set: Option<CertificatePolicies>,
 
-    /// What is asked of policies, nothing if left out.
+    /// Flags about policies; none is set where absent.
     pub policy_flags: Option<CertPolicyFlags>,
 
-    /// The names that certificates of a path may have, any if left out.
+    /// The names that certificates of a path may have; any where absent.
     pub name_constr: Option<NameConstraints>,
 
-    /// How many authorities may follow in a path, any number if left out.
+    /// How many intermediate certificates may follow in a path; any number where absent.
     pub path_len_constraint: Option<u32>,
 }
 

@@ -1,4 +1,4 @@
-//! What is asked of policies on the paths from a trust anchor.
+//! Flags about policies on the paths from a trust anchor.
 
 use bitflags::{Flag, Flags, bitflag_items};
 use std::alloc::Global;
@@ -7,8 +7,8 @@ use x509_der_grammar::{Content, Error, Room, Spelled, Tag, TryClone};
 use x509_der_order::ValueOrd;
 use x509_prim::{cmp_named_bits, put_named_bits, read_named_bits};
 
-/// What is asked of policies on the paths from a trust anchor, of which bit n stands for the named bit n (RFC 5914 2.5). A
-/// bit from 3 on has no name: it is refused in reading as `Malformed`, and in writing as `Value`.
+/// Flags about policies on the paths from a trust anchor; bit n stands for the named bit n (RFC 5914 2.5). A bit from 3
+/// on has no name: decoding refuses it as `Malformed`, and encoding as `Value`.
 ///
 /// ```text
 /// CertPolicyFlags ::= BIT STRING {
@@ -19,18 +19,18 @@ use x509_prim::{cmp_named_bits, put_named_bits, read_named_bits};
 #[derive(Clone, Copy, Debug, PartialEq, Eq)]
 pub struct CertPolicies(u16);
 
-/// What is asked of policies on the paths from a trust anchor.
+/// Flags about policies on the paths from a trust anchor.
 pub type CertPolicyFlags = CertPolicies;
 
 bitflag_items! {
     impl CertPolicies: u16 {
-        /// No policy is mapped to another.
+        /// Policies aren't mapped.
         const INHIBIT_POLICY_MAPPING = 1;
 
-        /// The path has to be valid for one of the policies of the anchor.
+        /// The path has to be valid for one of the anchor's policies.
         const REQUIRE_EXPLICIT_POLICY = 2;
 
-        /// anyPolicy isn't taken for other policies.
+        /// anyPolicy doesn't count as a match for other policies.
         const INHIBIT_ANY_POLICY = 4;
     }
 }

@@ -1,4 +1,5 @@
-//! Trust anchors, from which paths of certificates start (RFC 5914).
+//! Trust anchors, from which certification paths start (RFC 5914). Words of our own, such as spelling and law, are
+//! explained in `docs/MAP.md`.
 #![tactic(auto)]
 
 mod cert_path_controls;

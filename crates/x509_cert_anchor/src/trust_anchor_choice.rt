@@ -22,10 +22,10 @@ pub enum TrustAnchorChoice<P: Profile = Rfc5280> {
     /// As a certificate.
     Certificate(CertificateInner<P>),
 
-    /// As what would be signed of a certificate.
+    /// As a TBSCertificate: a certificate without its signature.
     TbsCertificate(TbsCertificateInner<P>),
 
-    /// By what is said of it.
+    /// As a name, a key and constraints.
     TaInfo(TrustAnchorInfo<P>),
 }
 

@@ -1,4 +1,4 @@
-//! What is said of a trust anchor.
+//! The description of a trust anchor.
 
 use crate::cert_path_controls::CertPathControls;
 use crate::version::Version;
@@ -14,7 +14,8 @@ use x509_ext_frame::Extensions;
 use x509_prim::OctetString;
 use x509_prim_text::Utf8String;
 
-/// What is said of a trust anchor (RFC 5914 2). How long the title is isn't looked at.
+/// The description of a trust anchor: its key, and what is asked of paths from it (RFC 5914 2). How long the title is
+/// isn't checked.
 ///
 /// ```text
 /// TrustAnchorInfo ::= SEQUENCE {
@@ -28,22 +29,22 @@ use x509_prim_text::Utf8String;
 /// ```
 #[derive(Debug, PartialEq, Eq)]
 pub struct TrustAnchorInfo<P: Profile = Rfc5280> {
-    /// The version, which is never written, as there is one.
+    /// The version, which is never encoded, as there is one.
     pub version: Version,
 
-    /// The key of the anchor.
+    /// The public key of the anchor.
     pub pub_key: SubjectPublicKeyInfo,
 
-    /// The identifier of the key.
+    /// The key identifier.
     pub key_id: OctetString,
 
     /// A title for people to read.
     pub ta_title: Option<Utf8String>,
 
-    /// What is asked of the paths from the anchor.
+    /// Constraints on the paths from the anchor.
     pub cert_path: Option<CertPathControls<P>>,
 
-    /// What else is said.
+    /// Extensions.
     pub extensions: Option<Extensions>,
 
     /// The language of the title.

@@ -1,12 +1,12 @@
-//! The version of what is said of a trust anchor.
+//! The version of the description of a trust anchor.
 
 use std::alloc::Global;
 use x509_der_frames::Standard;
 use x509_der_grammar::{Content, Error, Room, Spelled, Tag, TryClone};
 use x509_prim::{NamedNumber, put_named_number, read_named_number};
 
-/// The version of a [`TrustAnchorInfo`](crate::TrustAnchorInfo) (RFC 5914 2.1). There is one, and since it is the default it
-/// is never written there. Alone it is the INTEGER 0; RFC 5914 numbers it 1.
+/// The version of a [`TrustAnchorInfo`](crate::TrustAnchorInfo) (RFC 5914 2.1). There is one, and since it is the
+/// default it is never encoded there. Alone it is the INTEGER 0; RFC 5914 numbers it 1.
 ///
 /// ```text
 /// TrustAnchorInfoVersion ::= INTEGER { v1(0) }

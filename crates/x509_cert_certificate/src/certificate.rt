@@ -14,18 +14,29 @@ use x509_der_frames::{PutPart, SequenceOf, end, field};
 use x509_der_grammar::{Content, Encode, Error, Grammar, Room, Spelled, Tag, TryClone};
 use x509_prim::BitString;
 
-/// A certificate under the rules of RFC 5280.
+/// A certificate under the profile [`Rfc5280`]: decoding refuses serial numbers of more than 21 octets, and encoding
+/// writes the dates of the validity through 2049 as UTCTime. From bytes to what a certificate says, and back:
+///
+/// ```rust
+/// let certificate = Certificate::from_der(alloc, CERTIFICATE)?;
+/// let part = certificate.tbs_certificate();
+/// assert_eq!(rt; format!(in alloc; "{}", part.subject())?.as_str(), "CN=R");
+/// assert!(rt; is_to_sign(&part.get_extension::<KeyUsage>(alloc)?));
+///
+/// let bytes = certificate.to_der(alloc)?;
+/// assert_eq!(rt; bytes.as_slice(), CERTIFICATE);
+/// ```
 pub type Certificate = CertificateInner<Rfc5280>;
 
-/// Certificates of which each signed the key of the next, the topmost first (RFC 6066 10.1). That they do isn't looked at,
-/// and a sequence without members is read and written too.
+/// A path of certificates, the topmost first: each signed the next (RFC 6066 10.1). That they did isn't checked, and an
+/// empty sequence is decoded and encoded too.
 ///
 /// ```text
 /// PkiPath ::= SEQUENCE OF Certificate
 /// ```
 pub type PkiPath = SequenceOf<Certificate>;
 
-/// A certificate: the part that is signed, and the signature (RFC 5280 4.1.1).
+/// A certificate: the part that is signed, and the signature (RFC 5280 4.1.1). The signature isn't checked.
 ///
 /// ```text
 /// Certificate ::= SEQUENCE {
@@ -70,14 +81,18 @@ impl<P: Profile> CertificateInner<P> {
         &self.signature_algorithm
     }
 
-    /// The signature of the encoding of the signed part (RFC 5280 4.1.1.3). It isn't looked into here.
+    /// The signature of the encoding of the signed part (RFC 5280 4.1.1.3). It isn't checked here.
     pub fn signature(&self) -> &BitString
         ensures { result.now ≡ self.now.signature }
     {
         &self.signature
     }
 
-    /// The digest of the certificate as [`Encode::to_der`] writes it; refused as that is. Memory may be refused.
+    /// The digest of the certificate as [`Encode::to_der`] encodes it.
+    ///
+    /// # Errors
+    ///
+    /// Those of [`Encode::to_der`]; `Memory` when out of memory.
     pub fn hash<D: CertDigest>(&self, alloc: Global) -> Result<Vec<u8>, Error>
         ensures ok { IfOk result (λ digest. (digest.items ≡ D.digest_of (written_spelling ⟦<CertificateInner<P> as Grammar>⟧.form (writes ⟦<CertificateInner<P> as Encode>⟧.writing self.now))) × IsWritable ⟦<CertificateInner<P> as Grammar>⟧.form (writes ⟦<CertificateInner<P> as Encode>⟧.writing self.now) limit) }
         ensures err { IfErr result (λ e. (e.kind ≡ Memory) ⊎ IsUnwritable ⟦<CertificateInner<P> as Grammar>⟧.form (writes ⟦<CertificateInner<P> as Encode>⟧.writing self.now) limit e.kind) }

@@ -1,4 +1,4 @@
-//! Certificates (RFC 5280 4.1).
+//! Certificates (RFC 5280 4.1). Words of our own, such as spelling and law, are explained in `docs/MAP.md`.
 #![tactic(auto)]
 
 mod certificate;

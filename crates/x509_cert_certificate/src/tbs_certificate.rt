@@ -1,4 +1,4 @@
-//! What is signed of a certificate.
+//! The part of a certificate that is signed.
 
 ghost use Rattle.std.specs.Option.{option_copied};
 ghost use Rattle.std.specs.Prelude.{◌≡◌};
@@ -21,11 +21,12 @@ use x509_der_frames::{
 use x509_der_grammar::{Content, Decode, Encode, Error, Room, Spelled, Tag, TryClone};
 use x509_prim::BitString;
 
-/// The signed part of a certificate under the rules of RFC 5280.
+/// The signed part of a certificate under the profile [`Rfc5280`].
 pub type TbsCertificate = TbsCertificateInner<Rfc5280>;
 
-/// The signed part of a certificate: whom it names, and which key is theirs (RFC 5280 4.1.2). The profile checks the serial
-/// number in reading, and spells the validity in writing. What the version says of the other fields isn't looked at.
+/// The part of a certificate that is signed: the subject, its public key, and what the issuer says of them (RFC 5280
+/// 4.1.2). The profile checks the serial number in decoding, and says how the validity is encoded. That the fields are
+/// those which the version allows isn't checked.
 ///
 /// ```text
 /// TBSCertificate ::= SEQUENCE {
@@ -57,7 +58,7 @@ pub struct TbsCertificateInner<P: Profile = Rfc5280> {
 }
 
 impl<P: Profile> TbsCertificateInner<P> {
-    /// The part with these fields. It takes no memory.
+    /// The signed part with these fields. It takes no memory.
     pub fn from_parts(
         version: Version,
         serial_number: SerialNumber<P>,
@@ -86,7 +87,7 @@ impl<P: Profile> TbsCertificateInner<P> {
         }
     }
 
-    /// The part with that version and these extensions in place of its own. It takes no memory.
+    /// The signed part with that version, and with these extensions in place of its own. It takes no memory.
     pub fn with_extensions(
         self,
         version: Version,
@@ -120,10 +121,11 @@ impl<P: Profile> TbsCertificateInner<P> {
         }
     }
 
-    /// The part without the extensions of the identifier of the type; the others stay in their order, and where none is left there is no list of
-    /// them (RFC 5280 4.1). It takes no memory.
+    /// The signed part without the extensions of type `T`, found by the OID of the type. The others stay in their
+    /// order, and where none is left the list of extensions is absent (RFC 5280 4.1). It takes no memory.
     ///
-    /// The part without its list of timestamps, or that of a precertificate without its poison, is what a log signs (RFC 6962 section 3.2).
+    /// Without its list of SCTs, or for a precertificate without its poison extension, it is what a log signs (RFC 6962
+    /// 3.2).
     pub fn without_extension<T: AssociatedOid>(self) -> TbsCertificateInner<P>
         ensures { result ≡ record self { extensions = where_any (without_oid T.OID (members self.extensions)) } }
     {
@@ -142,7 +144,7 @@ impl<P: Profile> TbsCertificateInner<P> {
         self.version
     }
 
-    /// The number that the issuer gave the certificate (RFC 5280 4.1.2.2).
+    /// The serial number that the issuer gave the certificate (RFC 5280 4.1.2.2).
     pub fn serial_number(&self) -> &SerialNumber<P>
         ensures { result.now ≡ self.now.serial_number }
     {
@@ -150,49 +152,49 @@ impl<P: Profile> TbsCertificateInner<P> {
     }
 
     /// The algorithm with which the certificate is signed. RFC 5280 4.1.2.3 wants it to be that of
-    /// [`CertificateInner::signature_algorithm`](crate::CertificateInner::signature_algorithm), which isn't looked at.
+    /// [`CertificateInner::signature_algorithm`](crate::CertificateInner::signature_algorithm), which isn't checked.
     pub fn signature(&self) -> &AlgorithmIdentifier
         ensures { result.now ≡ self.now.signature }
     {
         &self.signature
     }
 
-    /// Who signed it (RFC 5280 4.1.2.4).
+    /// The issuer, who signed the certificate (RFC 5280 4.1.2.4).
     pub fn issuer(&self) -> &Name
         ensures { result.now ≡ self.now.issuer }
     {
         &self.issuer
     }
 
-    /// From when and until when it holds (RFC 5280 4.1.2.5).
+    /// The validity: from when and until when the certificate is valid (RFC 5280 4.1.2.5).
     pub fn validity(&self) -> &Validity<P>
         ensures { result.now ≡ self.now.validity }
     {
         &self.validity
     }
 
-    /// Whose key it is (RFC 5280 4.1.2.6).
+    /// The subject, whose public key it is (RFC 5280 4.1.2.6).
     pub fn subject(&self) -> &Name
         ensures { result.now ≡ self.now.subject }
     {
         &self.subject
     }
 
-    /// The key (RFC 5280 4.1.2.7).
+    /// The public key of the subject (RFC 5280 4.1.2.7).
     pub fn subject_public_key_info(&self) -> &SubjectPublicKeyInfo
         ensures { result.now ≡ self.now.subject_public_key_info }
     {
         &self.subject_public_key_info
     }
 
-    /// What tells the issuer from others of its name (RFC 5280 4.1.2.8).
+    /// The unique identifier of the issuer, which tells it from others of its name (RFC 5280 4.1.2.8).
     pub fn issuer_unique_id(&self) -> &Option<BitString>
         ensures { result.now ≡ self.now.issuer_unique_id }
     {
         &self.issuer_unique_id
     }
 
-    /// What tells the subject from others of its name (RFC 5280 4.1.2.8).
+    /// The unique identifier of the subject, which tells it from others of its name (RFC 5280 4.1.2.8).
     pub fn subject_unique_id(&self) -> &Option<BitString>
         ensures { result.now ≡ self.now.subject_unique_id }
     {
@@ -206,11 +208,14 @@ impl<P: Profile> TbsCertificateInner<P> {
         self.extensions.as_ref()
     }
 
-    /// The extension with the identifier of the type: whether it is critical, and its value. An extension may appear once
-    /// at most (RFC 5280 4.2).
+    /// The extension of type `T`, found by the OID of the type: whether it is critical, and its value; `None` exactly
+    /// where no extension has the OID. An extension may appear once at most (RFC 5280 4.2).
     ///
-    /// `None` exactly where none has the identifier; `Failed` where two or more have it, whatever they hold; else refused
-    /// as [`Decode::from_der`] is on the octets of the one. Memory may be refused where reading the type wants it.
+    /// # Errors
+    ///
+    /// `Failed` where two or more extensions have the OID (a repeated extension), whatever they hold. Where one has it,
+    /// the errors of [`Decode::from_der`] on the octets that it holds, `Memory` only where decoding the type may take
+    /// memory.
     pub fn get_extension<T: AssociatedOid + Decode>(
         &self,
         alloc: Global,
@@ -220,9 +225,9 @@ impl<P: Profile> TbsCertificateInner<P> {
         get_extension::<T>(alloc, members(self.extensions()))
     }
 
-    /// The extensions with the identifier of the type, in their order: of each whether it is critical, and its value or
-    /// the refusal of [`Decode::from_der`] on its octets. [`TbsCertificateInner::get_extension`] wants that there is one
-    /// at most, as RFC 5280 4.2 does.
+    /// The extensions of type `T`, found by the OID of the type, in their order: of each whether it is critical, and
+    /// its value or the error of [`Decode::from_der`] on its octets. [`TbsCertificateInner::get_extension`] wants that
+    /// there is one at most, as RFC 5280 4.2 does.
     pub fn filter_extensions<T: AssociatedOid + Decode>(
         &self,
         alloc: Global,
@@ -233,7 +238,7 @@ impl<P: Profile> TbsCertificateInner<P> {
     }
 }
 
-/// The extensions of other identifiers.
+/// The extensions with another OID.
 fn others(extensions: Vec<Extension>, oid: ObjectIdentifier) -> Vec<Extension>
     ensures { result.items ≡ without_oid oid extensions.items }
 {
@@ -242,7 +247,7 @@ fn others(extensions: Vec<Extension>, oid: ObjectIdentifier) -> Vec<Extension>
     others
 }
 
-/// The list of the extensions, where there are any.
+/// The list of the extensions; absent where there are none.
 fn list_of(extensions: Vec<Extension>) -> Option<Extensions>
     ensures { result ≡ where_any extensions.items }
 {

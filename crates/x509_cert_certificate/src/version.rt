@@ -7,21 +7,21 @@ use x509_der_grammar::{Content, Error, Room, Spelled, Tag, TryClone};
 use x509_der_order::ValueOrd;
 use x509_prim::{NamedNumber, cmp_named_numbers, put_named_number, read_named_number};
 
-/// The version of a certificate (RFC 5280 4.1.2.1). It is V1 where it is left out. That a certificate has no fields which
-/// came with a later version isn't looked at.
+/// The version of a certificate (RFC 5280 4.1.2.1). It is V1 where the field is absent. That a certificate has no field
+/// of a later version isn't checked.
 ///
 /// ```text
 /// Version ::= INTEGER { v1(0), v2(1), v3(2) }
 /// ```
 #[derive(Clone, Copy, Debug, PartialEq, Eq)]
 pub enum Version {
-    /// The first version.
+    /// Version 1.
     V1 = 0,
 
-    /// The version that came with unique identifiers.
+    /// Version 2, which added unique identifiers.
     V2 = 1,
 
-    /// The version that came with extensions.
+    /// Version 3, which added extensions.
     V3 = 2,
 }
 

@@ -5,7 +5,7 @@ use sha2::{Digest, Sha224, Sha256, Sha384, Sha512, Sha512_224, Sha512_256};
 use std::alloc::Global;
 use x509_der_grammar::Error;
 
-/// A hash function, by which the encodings of certificates are told apart.
+/// A hash function, by which certificates are identified.
 pub trait CertDigest {
     ghost use Rattle.std.specs.Prelude.{◌≡◌, List, ℕ, IfOk, IfErr};
     ghost use Rattle.x509_der_element.specs.declared.error.ErrorKind.TheVariants.{Memory};
@@ -13,13 +13,17 @@ pub trait CertDigest {
     /// The digest of a message.
     ghost digest_of: { List ℕ → List ℕ };
 
-    /// The digest of the bytes. Memory may be refused, and nothing else.
+    /// The digest of the bytes.
+    ///
+    /// # Errors
+    ///
+    /// `Memory` when out of memory, and nothing else.
     fn digest(alloc: Global, bytes: &[u8]) -> Result<Vec<u8>, Error>
         ensures ok { IfOk result (λ digest. digest.items ≡ digest_of bytes.now) }
         ensures err { IfErr result (λ e. e.kind ≡ Memory) };
 }
 
-/// SHA-1 (FIPS 180-4 6.1), 20 bytes. It gives no security any more.
+/// SHA-1 (FIPS 180-4 6.1), 20 bytes. It is no longer secure.
 impl CertDigest for Sha1 {
     ghost use Rattle.sha1.specs.Sha1.{sha1};
 

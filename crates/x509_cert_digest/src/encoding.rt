@@ -1,4 +1,4 @@
-//! What is digested of a value.
+//! Digests of encodings.
 
 ghost use Rattle.std.specs.Prelude.{◌≡◌, ◌⊎◌, IfOk, IfErr};
 ghost use Rattle.x509_der_element.specs.declared.error.ErrorKind.TheVariants.{Memory};
@@ -9,7 +9,11 @@ use crate::digest::CertDigest;
 use std::alloc::Global;
 use x509_der_grammar::{Encode, Error};
 
-/// The digest of what [`Encode::to_der`] writes of the value; refused as that is. Memory may be refused.
+/// The digest of the value as [`Encode::to_der`] encodes it.
+///
+/// # Errors
+///
+/// Those of [`Encode::to_der`]; `Memory` when out of memory.
 pub fn hash<D: CertDigest, T: Encode>(alloc: Global, value: &T) -> Result<Vec<u8>, Error>
     ensures ok { IfOk result (λ digest. (digest.items ≡ D.digest_of (written_spelling T.form (writes T.writing value.now))) × IsWritable T.form (writes T.writing value.now) limit) }
     ensures err { IfErr result (λ e. (e.kind ≡ Memory) ⊎ IsUnwritable T.form (writes T.writing value.now) limit e.kind) }

@@ -1,4 +1,4 @@
-//! Digests of the encodings of values.
+//! Digests of the encodings of values. Words of our own are explained in `docs/MAP.md`.
 #![tactic(auto)]
 
 mod digest;

@@ -1,4 +1,4 @@
--- Look-ups among extensions: those with an identifier, and what their octets are decoded to (RFC 5280 4.2).
+-- Look-ups among extensions: those with an OID, and what their octets are decoded to (RFC 5280 4.2).
 use Rattle.std.specs.Prelude.{◌≡◌, ◌<◌, ◌≤◌, ◌⊎◌, ℕ, Bool, List, [], ◌∷◌, length, filter, Option, Some, None, Result, Ok, Err, IfOk, IfErr, IsErrAnd, bytes_eq}
 use Rattle.x509_der_element.specs.declared.error.Error.{Error}
 use Rattle.x509_der_element.specs.declared.error.ErrorKind.{ErrorKind}

@@ -1,4 +1,4 @@
-//! All extensions of a kind.
+//! All extensions of one type.
 
 ghost use Rattle.std.specs.Prelude.{◌≡◌};
 ghost use Rattle.std.specs.Iterator.{item_count};
@@ -12,8 +12,8 @@ use x509_der::AssociatedOid;
 use x509_der_grammar::{Decode, Error};
 use x509_ext_frame::Extension;
 
-/// Gives the extensions of a type, in their order: of each whether it is critical, and its value, or the refusal of
-/// [`Decode::from_der`] on its octets. After a refusal those behind it are still given.
+/// An iterator over the extensions of one type, in their order: of each whether it is critical, and its value, or the
+/// error of [`Decode::from_der`] on its octets. After an error those that follow are still given.
 #[derive(Drop)]
 pub struct FilterExtensions<'a, T> {
     alloc: Global,
@@ -21,8 +21,8 @@ pub struct FilterExtensions<'a, T> {
     of_type: PhantomData<T>,
 }
 
-/// The extensions with the identifier of the type, in their order. [`get_extension`](crate::get_extension) wants that
-/// there is one at most, as RFC 5280 4.2 does.
+/// The extensions of type `T`, found by the OID of the type, in their order. [`get_extension`](crate::get_extension)
+/// wants that there is one at most, as RFC 5280 4.2 does.
 pub fn filter_extensions<T: AssociatedOid + Decode>(
     alloc: Global,
     extensions: &[Extension],

@@ -1,4 +1,4 @@
-//! Look-ups among the extensions of certificates, of CRLs and of requests.
+//! Look-ups among the extensions of certificates, of CRLs and of CSRs. Words of our own are explained in `docs/MAP.md`.
 #![tactic(auto)]
 
 mod filter;

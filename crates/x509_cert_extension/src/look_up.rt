@@ -1,4 +1,4 @@
-//! The one extension of a kind.
+//! The one extension of a type.
 
 ghost use Rattle.std.specs.Option.{option_copied};
 ghost use Rattle.std.specs.Prelude.{◌≡◌, ◌↔◌, [], ◌∷◌, MatchOption, IfOk, IfErr, IsTrue};
@@ -10,7 +10,7 @@ use x509_der::{AssociatedOid, ObjectIdentifier, ValueOrd};
 use x509_der_grammar::{Decode, Error, ErrorKind};
 use x509_ext_frame::{Extension, Extensions};
 
-/// The extensions, none where the list is left out.
+/// The extensions; none where the list is absent.
 pub fn members(extensions: Option<&Extensions>) -> &[Extension]
     ensures { result.now ≡ members (option_copied extensions.entry) }
 {
@@ -20,7 +20,7 @@ pub fn members(extensions: Option<&Extensions>) -> &[Extension]
     }
 }
 
-/// The first extension with the identifier, and those behind it.
+/// The first extension with the OID, and those that follow it.
 pub(crate) fn split_first_with(
     extensions: &[Extension],
     oid: ObjectIdentifier,
@@ -37,7 +37,7 @@ pub(crate) fn split_first_with(
     None
 }
 
-/// Whether the extension is critical, and what its octets spell.
+/// Whether the extension is critical, and the value of its octets.
 pub(crate) fn decode<T: Decode>(alloc: Global, extension: &Extension) -> Result<(bool, T), Error>
     ensures { DecodesPayload T.form T.refuses T.wants_memory extension.now result }
 {
@@ -45,11 +45,13 @@ pub(crate) fn decode<T: Decode>(alloc: Global, extension: &Extension) -> Result<
     Ok((extension.critical, payload))
 }
 
-/// The extension with the identifier of the type: whether it is critical, and its value. An extension may appear once
-/// at most (RFC 5280 4.2).
+/// The extension of type `T`, found by the OID of the type: whether it is critical, and its value; `None` exactly where
+/// no extension has the OID. An extension may appear once at most (RFC 5280 4.2).
 ///
-/// `None` exactly where none has the identifier; `Failed` where two or more have it, whatever they hold; else refused as
-/// [`Decode::from_der`] is on the octets of the one. Memory may be refused where reading the type wants it.
+/// # Errors
+///
+/// `Failed` where two or more extensions have the OID (a repeated extension), whatever they hold. Where one has it, the
+/// errors of [`Decode::from_der`] on the octets that it holds, `Memory` only where decoding the type may take memory.
 pub fn get_extension<T: AssociatedOid + Decode>(
     alloc: Global,
     extensions: &[Extension],
@@ -65,11 +67,11 @@ pub fn get_extension<T: AssociatedOid + Decode>(
     Ok(Some(decode(alloc, extension)?))
 }
 
-/// Whether an identifier stands in two or more of the extensions, which RFC 5280 4.2 forbids: in O(n log n) comparisons.
+/// Whether two or more of the extensions have one OID, which RFC 5280 4.2 forbids. O(n log n) comparisons.
 ///
 /// # Errors
 ///
-/// `Memory` where there is none for a copy of the identifiers.
+/// `Memory` when out of memory, and nothing else: it copies the OIDs.
 pub fn has_repeated_extension(alloc: Global, extensions: &[Extension]) -> Result<bool, Error>
     ensures ok { IfOk result (λ repeated. IsTrue repeated ↔ IsRepeated extensions.now) }
     ensures err { IfErr result (λ e. e.kind ≡ Memory) }

@@ -1,4 +1,4 @@
-//! The signed bytes of certificates, of CRLs and of requests.
+//! The signed bytes of certificates, of CRLs and of CSRs.
 
 ghost use Rattle.std.specs.Prelude.{◌≡◌, ◌<◌, ◌≤◌, ◌++◌, length, List, ℕ, IfSome, IfNone};
 ghost use Rattle.x509_cert_signed.specs.Signed.{IsSignedPart};
@@ -6,8 +6,8 @@ ghost use Rattle.x509_der_element.specs.Element.{element, header, limit};
 
 use x509_der_element::{Tag, take_element};
 
-/// The content of the SEQUENCE at the front, and what follows it; `None` where the bytes begin with none of at most
-/// [`Length::MAX`](x509_der_element::Length::MAX) octets.
+/// The content of the SEQUENCE at the front, and what follows it; `None` where the bytes begin with no SEQUENCE of at
+/// most [`Length::MAX`](x509_der_element::Length::MAX) octets.
 fn take_sequence(bytes: &[u8]) -> Option<(&[u8], &[u8])>
     ensures some { IfSome result (λ found. (bytes.now ≡ element 0x30 found.0.now ++ found.1.now) × (length (element 0x30 found.0.now) ≤ limit)) }
     ensures none { IfNone result ((content rest : List ℕ) → bytes.now ≡ element 0x30 content ++ rest → limit < length (element 0x30 content)) }
@@ -21,16 +21,21 @@ fn take_sequence(bytes: &[u8]) -> Option<(&[u8], &[u8])>
     Some((element.value(), rest))
 }
 
-/// The part that a signature is over (RFC 5280 4.1.1.3, 5.1.1.3, RFC 2986 4.2), as it stands in the bytes and not as it
-/// would be written again. It is lent and not copied.
+/// The bytes that the signature of a certificate, of a CRL or of a CSR is over (RFC 5280 4.1.1.3, 5.1.1.3, RFC 2986
+/// 4.2), as they stand in the input and not encoded again. They are lent and not copied.
 ///
-/// `Some` exactly where the bytes are one SEQUENCE of at most [`Length::MAX`](x509_der_element::Length::MAX) octets,
+/// `Some` exactly where the bytes are one SEQUENCE of at most [`Length::MAX`](x509_der_element::Length::MAX) octets
 /// whose content begins with a SEQUENCE, which is the answer. Neither is looked into any further.
 ///
 /// ```text
 /// SEQUENCE {
 ///     signed  SEQUENCE { .. },
 ///     .. }
+/// ```
+///
+/// ```rust
+/// assert!(rt; signed_slice(LONG) == Some(&LONG[2..64]));
+/// assert!(rt; signed_slice(&[0x30, 0x02, 0x30, 0x00, 0x30]).is_none());
 /// ```
 pub fn signed_slice(bytes: &[u8]) -> Option<&[u8]>
     ensures some { IfSome result (λ signed. IsSignedPart bytes.now signed.now) }

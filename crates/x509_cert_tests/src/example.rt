@@ -3,9 +3,10 @@
 use std::test::*;
 use x509_cert::der::{Decode, Encode};
 use x509_cert::ext::pkix::KeyUsage;
+use x509_cert::name::Name;
 use x509_cert::{Certificate, signed_slice};
 
-/// A certificate of R for R itself, whose key may sign certificates and lists.
+/// A certificate of R for R itself, whose key may sign certificates and CRLs.
 const CERTIFICATE: &[u8] = &[
     0x30, 0x7B, 0x30, 0x6E, 0xA0, 0x03, 0x02, 0x01, 0x02, 0x02, 0x01, 0x2A, 0x30, 0x05, 0x06, 0x03,
     0x2A, 0x03, 0x04, 0x30, 0x0C, 0x31, 0x0A, 0x30, 0x08, 0x06, 0x03, 0x55, 0x04, 0x03, 0x0C, 0x01,
@@ -17,7 +18,7 @@ const CERTIFICATE: &[u8] = &[
     0x01, 0x06, 0x30, 0x05, 0x06, 0x03, 0x2A, 0x03, 0x04, 0x03, 0x02, 0x00, 0xAA,
 ];
 
-/// Whether the usage is critical, and is to sign certificates and lists.
+/// Whether the usage is critical, and is to sign certificates and CRLs.
 fn is_to_sign(usage: &Option<(bool, KeyUsage)>) -> bool {
     match usage {
         Some((critical, usage)) => *critical && usage.key_cert_sign() && usage.crl_sign(),
@@ -35,5 +36,14 @@ fn example(rt: HostRuntime) -> Result<(), Fail> {
     assert!(rt; signed_slice(CERTIFICATE) == Some(&CERTIFICATE[2..114]));
     let bytes = certificate.to_der(alloc)?;
     assert_eq!(rt; bytes.as_slice(), CERTIFICATE);
+    Ok(())
+}
+
+/// A text is read as a name, which prints it.
+#[test]
+fn a_name(rt: HostRuntime) -> Result<(), Fail> {
+    let alloc = rt.alloc();
+    let name = Name::from_str(alloc, "CN=Good CA,C=US")?;
+    assert_eq!(rt; format!(in alloc; "{}", &name)?.as_str(), "CN=Good CA,C=US");
     Ok(())
 }

@@ -1,4 +1,4 @@
-//! Tests of certificates, CRLs, requests and trust anchors, and of runs of the program over them.
+//! Tests of certificates, CRLs, CSRs and trust anchors, and of runs of the program over them.
 #![tactic(auto)]
 
 #[cfg(test)]

@@ -81,7 +81,7 @@ fn anchors(
     it
 }
 
-/// The version of what is said of an anchor, which is another type than that of certificates.
+/// The version of an anchor's description, which is another type than that of certificates.
 fn version_of_an_anchor(info: &anchor::TrustAnchorInfo) -> &anchor::Version {
     &info.version
 }
@@ -116,7 +116,7 @@ fn lists(
     it
 }
 
-/// What reading and writing answer and take.
+/// What decoding and encoding answer and take.
 fn ders(
     it: &(
         der::Error,
@@ -287,7 +287,7 @@ fn parts_of_policies(
     it
 }
 
-/// Constraints on names.
+/// Name constraints.
 fn constraints_on_names(
     it: &(
         pkix::NameConstraints,
@@ -306,7 +306,7 @@ fn constraints_on_names(
     it
 }
 
-/// Extensions of lists.
+/// Extensions of CRLs.
 fn extensions_of_lists(
     it: &(
         pkix::BaseCrlNumber,
@@ -348,7 +348,7 @@ fn module_of_lists(
     it
 }
 
-/// Where lists are found.
+/// CRL distribution points.
 fn points(
     it: &(
         pkix::crl::dp::DistributionPoint,
@@ -465,7 +465,7 @@ fn names(
     it
 }
 
-/// The parts of a request, and what it asks for.
+/// The parts of a CSR, and what it asks for.
 fn parts_of_requests<'a>(
     request: &'a request::CertReq,
     extensions: &'a request::ExtensionReq,
@@ -500,7 +500,7 @@ fn parts_of_certificates(
     it
 }
 
-/// Wants the traits of reading and writing.
+/// Wants the traits of decoding and encoding.
 fn wants_der<'a, T>()
 where
     T: x509_der::AssociatedOid
@@ -513,7 +513,7 @@ where
         + x509_der_order::ValueOrd,
 {}
 
-/// The traits of reading and writing.
+/// The traits of decoding and encoding.
 fn traits_of_der<'a, T>()
 where
     T: der::AssociatedOid

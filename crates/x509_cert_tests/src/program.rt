@@ -217,7 +217,7 @@ fn a_failing_writer(rt: HostRuntime) -> Result<(), Fail> {
     Ok(())
 }
 
-/// An argument that wants more room than the first, and one that just fits.
+/// An argument that needs more space than the first, and one that just fits.
 const LONG_WORD: &[u8] = &[b'x'; 200];
 
 const JUST: &[u8] = &[b'y'; 64];

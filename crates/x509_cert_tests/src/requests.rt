@@ -1,4 +1,4 @@
-//! Requests, and the attributes that they hold.
+//! CSRs, and the attributes that they hold.
 
 use crate::copies::REQUEST;
 use std::test::*;
@@ -16,7 +16,7 @@ fn a_request(rt: HostRuntime) -> Result<(), Fail> {
     Ok(())
 }
 
-/// Whether the request asks for an empty list of extensions, and has no password.
+/// Whether the CSR asks for an empty list of extensions, and has no password.
 fn asks_for_none(rt: &HostRuntime, request: &CertReq) -> Result<bool, Error> {
     let password = request.get_attribute::<ChallengePassword>(rt.alloc())?;
     Ok(match request.extension_req(rt.alloc())? {

@@ -1,14 +1,14 @@
-//! Types that have an object identifier.
+//! Types that have an OID.
 
 ghost use Rattle.x509_der.specs.declared.identifier.ObjectIdentifier.{ObjectIdentifier};
 
 use crate::identifier::ObjectIdentifier;
 
-/// A type that has an object identifier, as a certificate's extension or an algorithm's parameters have.
+/// A type that has an object identifier (OID), as a certificate's extension or an algorithm's parameters have.
 pub trait AssociatedOid {
-    /// The object identifier, as clauses see it.
+    /// The OID of the type, as clauses see it.
     ghost OID: { ObjectIdentifier };
 
-    /// The object identifier of the type.
+    /// The OID of the type.
     const OID: ObjectIdentifier;
 }

@@ -1,4 +1,4 @@
-//! OBJECT IDENTIFIER, read and written (X.690 8.19).
+//! OBJECT IDENTIFIER, decoded and encoded (X.690 8.19).
 
 ghost use Rattle.std.specs.Prelude.{◌≡◌, Ok};
 
@@ -42,7 +42,7 @@ impl Spelled for ObjectIdentifier {
     }
 }
 
-/// The identifier whose element it is; `Malformed` exactly where it is that of none. It takes no memory.
+/// The OID whose element it is; `Malformed` exactly where it is the element of none. It takes no memory.
 impl FromAny<'_> for ObjectIdentifier {
     ghost use Rattle.x509_der.specs.ObjectIdentifierForm as grammar;
     ghost use Rattle.x509_der_frames.specs.ReadsElement.{ReadsElement};

@@ -1,4 +1,4 @@
-//! Content octets as they are put together from arcs, with no allocation.
+//! Content octets of OIDs that are made of arcs, without allocation.
 
 ghost use Rattle.std.specs.Prelude.{◌≡◌, ℕ, ◌+◌, ◌<◌, ◌≤◌, List, [], ◌∷◌, ◌++◌, length, take, Some, IfSome, IfNone, OnSome};
 ghost use Rattle.std.specs.List.{flat_map};
@@ -7,7 +7,7 @@ ghost use Rattle.x509_der.specs.Arcs.{AreArcs, content_limit, content_of, high_o
 
 use std::marker::Model;
 
-/// The most content octets that an object identifier has here.
+/// The most content octets that an OID has here.
 pub const MAX_OCTETS: usize = 39;
 
 /// Up to [`MAX_OCTETS`] octets.

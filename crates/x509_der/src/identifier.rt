@@ -13,10 +13,10 @@ use std::hash::{Hash, Hasher};
 use std::marker::Model;
 use x509_der_order::{Error, ErrorKind};
 
-/// An object identifier, as its content octets (X.690 8.19).
+/// An object identifier (OID), as its content octets (X.690 8.19).
 ///
-/// A literal is checked where it is used: the first `len` octets are the content of an object identifier, and zeros
-/// follow them.
+/// A literal is checked where it is used: the first `len` octets are the content octets of an OID, and zeros follow
+/// them.
 #[derive(Clone, Copy, Debug)]
 pub struct ObjectIdentifier {
     /// How many content octets there are, at most 39.
@@ -116,13 +116,13 @@ impl ObjectIdentifier {
         }
     }
 
-    /// The object identifier of a dotted text, as `2.5.4.6`.
+    /// The OID of a dotted text, such as `2.5.4.6`.
     ///
     /// # Errors
     ///
-    /// `Failed` where no object identifier has this text: it is not two or more arcs of decimal digits without leading
-    /// zeros, joined by full stops; the first arc is above 2, or the second above 39 under 0 or 1 (X.690 8.19.4); or the
-    /// content has a subidentifier above 4,294,967,295 or more than 39 octets.
+    /// `Failed` exactly where the text is a bad one, which no OID has: it is not two or more arcs of decimal digits
+    /// without leading zeros, joined by full stops; the first arc is above 2, or the second above 39 under 0 or 1
+    /// (X.690 8.19.4); or the content has a subidentifier above 4,294,967,295 or more than 39 octets.
     pub fn new(text: &str) -> Result<ObjectIdentifier, Error>
         ensures ok { IfOk result (λ v. (arcs : List ℕ) × AreArcs arcs
             × (text.now ≡ dotted arcs) × (v ≡ content_of arcs)) }
@@ -143,12 +143,12 @@ impl ObjectIdentifier {
         Ok(ObjectIdentifier::from_checked(content.as_slice()))
     }
 
-    /// The object identifier that has these content octets.
+    /// The OID that has these content octets.
     ///
     /// # Errors
     ///
-    /// `Malformed` where no arcs have this content: it is empty, ends within a subidentifier, has one that begins with
-    /// the octet 0x80 or is above 4,294,967,295, or is longer than 39 octets (X.690 8.19.2).
+    /// `Malformed` exactly where no arcs have this content: it is empty, ends within a subidentifier, has one that
+    /// begins with the octet 0x80 or is above 4,294,967,295, or is longer than 39 octets (X.690 8.19.2).
     #[inline(always)]
     pub fn from_bytes(content: &[u8]) -> Result<ObjectIdentifier, Error>
         ensures ok { IfOk result (λ v. (arcs : List ℕ) × AreArcs arcs

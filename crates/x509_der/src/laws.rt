@@ -1,5 +1,5 @@
-//! What holds of all elements, spellings, tags, fields, object identifiers, byte orders and sets. Each law is a function
-//! with an empty body, whose contract is the law.
+//! What holds of all elements, spellings, tags, fields, OIDs, byte orders and sets. Each law is a function with an
+//! empty body, whose contract is the law.
 
 ghost use Rattle.std.specs.List.Sorted.{IsStrictlySortedBy, IsPermutation};
 ghost use Rattle.std.specs.List.{All};
@@ -30,7 +30,7 @@ pub use x509_der_order::laws::{
 };
 use x509_der_order::{DerOrd, SetMember};
 
-/// Content octets are those of one list of arcs.
+/// Content octets of an OID are those of one list of arcs.
 pub fn one_content()
     ensures { (xs ys : List ℕ) → AreArcs xs → AreArcs ys → content_of xs ≡ content_of ys → xs ≡ ys }
 {}
@@ -40,20 +40,20 @@ pub fn one_text()
     ensures { (xs ys : List ℕ) → AreArcs xs → AreArcs ys → dotted xs ≡ dotted ys → xs ≡ ys }
 {}
 
-/// The test of content octets passes exactly what is the content of arcs.
+/// The test of content octets passes exactly those of arcs.
 pub fn tested_contents()
     ensures { (content : List ℕ) → (is_object_identifier content ≡ true)
         ↔ ((arcs : List ℕ) × AreArcs arcs × (content ≡ content_of arcs)) }
 {}
 
-/// The arcs of a content are the arcs that have it.
+/// The arcs of content octets are the arcs that have them.
 pub fn arcs_of_contents()
     ensures content { (content : List ℕ) → is_object_identifier content ≡ true
         → AreArcs (arcs_of content) × (content_of (arcs_of content) ≡ content) }
     ensures arcs { (arcs : List ℕ) → AreArcs arcs → arcs_of (content_of arcs) ≡ arcs }
 {}
 
-/// Sets of the same members are equal, in whatever order the members were put in.
+/// Sets of the same members are equal, in whatever order the members were inserted.
 pub fn members_make_the_set<T: DerOrd>()
     ensures { (a b : List T) → IsStrictlySortedBy (der_order T.form (writes T.writing) T.order) a → IsStrictlySortedBy (der_order T.form (writes T.writing) T.order) b → IsPermutation a b → a ≡ b }
 {}
@@ -63,7 +63,7 @@ pub fn encodings_rise<T: DerOrd>()
     ensures { (members : List T) → IsStrictlySortedBy (der_order T.form (writes T.writing) T.order) members → All (HasEncoding T.form (writes T.writing)) members → IsStrictlySortedBy bytes_cmp (map (spelling T.form) members) }
 {}
 
-/// `==` of object identifiers holds exactly of equal contents.
+/// `==` of OIDs holds exactly of equal content octets.
 #[tactic(auto, using(x509_der_element::specs::Exact::exact_octets))]
 pub fn equality_of_identifiers_is_exact()
     ensures { (a b : List ℕ) → (⟦<ObjectIdentifier as PartialEq>⟧.eq a b ≡ true) ↔ (a ≡ b) }

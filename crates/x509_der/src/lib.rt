@@ -1,7 +1,9 @@
-//! Strict DER (X.690): values that are read from the bytes of their one spelling and written as them.
+//! Strict DER (X.690): values that are decoded from the one encoding that they have, and encoded as it.
 //!
-//! Object identifiers and sets stand here. The other parts stand in crates of their own: the grammar with its two traits and the
-//! elements, the frames that sequences, lists and choices are made of, the byte orders, and UTF8String beside the other texts.
+//! OIDs and sets stand here. The other parts stand in crates of their own: the grammar with its two traits and the
+//! elements, the frames that sequences, lists and choices are made of (a frame is how a field stands in its sequence),
+//! the byte orders, and UTF8String beside the other texts. `docs/MAP.md` explains words of our own, such as form,
+//! spelling, frame and law.
 #![tactic(auto)]
 
 mod associated;

@@ -1,4 +1,4 @@
-//! Where the members of a set are kept.
+//! The members of a set.
 
 ghost use Rattle.std.specs.Prelude.{◌≡◌, ◌≤◌, [], length, insert, IfOk, IfErr, OnOk, OnErr};
 ghost use Rattle.x509_der_element.specs.Outcome.{Gives};
@@ -13,10 +13,10 @@ use x509_der_grammar::{Decode, Error, ErrorKind, TryClone};
 
 #[derive(Drop)]
 enum Kept<T> {
-    /// One, and what gives memory for more.
+    /// One, and the allocator for more.
     One([T; 1], Global),
 
-    /// None, or several.
+    /// None, or two and more.
     Several(Vec<T>),
 }
 
@@ -71,7 +71,7 @@ impl<T> Members<T> {
         }
     }
 
-    /// The vector of the values. One alone is moved into a vector, for which memory may be refused.
+    /// The vector of the values. One alone is moved into a vector, which takes memory.
     pub(crate) fn into_vec(self) -> Result<Vec<T>, Error>
     where
         T: Drop,
@@ -85,7 +85,7 @@ impl<T> Members<T> {
         }
     }
 
-    /// What gives memory.
+    /// The allocator.
     fn memory(&self) -> Global {
         match &self.kept {
             Kept::One(_, alloc) => *alloc,
@@ -93,7 +93,7 @@ impl<T> Members<T> {
         }
     }
 
-    /// Puts the item at the place. Where memory is refused the values are as they were, and the item is dropped.
+    /// Inserts the item at the place. When out of memory the values are unchanged, and the item is dropped.
     pub(crate) fn insert(&mut self, at: usize, item: T) -> Result<(), Error>
     where
         T: Drop,
@@ -119,7 +119,7 @@ impl<T> Members<T> {
         Ok(())
     }
 
-    /// Copies of the values. Memory may be refused.
+    /// Copies of the values; `Memory` when out of memory.
     pub(crate) fn copy(&self, alloc: Global) -> Result<Members<T>, Error>
     where
         T: TryClone + Drop,
@@ -139,8 +139,8 @@ impl<T> Members<T> {
 }
 
 impl<T: Decode + Drop> Members<T> {
-    /// The values whose elements the bytes are, one after the other; `Malformed`, or the refusal of the type, where
-    /// they are not. Memory may be refused.
+    /// The values of the elements that the bytes are, one after the other; `Malformed`, or an error of the type's own,
+    /// where they are not. `Memory` when out of memory.
     #[inline(always)]
     pub(crate) fn read(alloc: Global, bytes: &[u8]) -> Result<Members<T>, Error>
         ensures exact { Gives result (list_reading T.form.reading bytes.now) }

@@ -8,7 +8,11 @@ ghost use Rattle.x509_der.specs.Set.{is_rising};
 
 use x509_der_order::DerOrd;
 
-/// Where the item stands among the members, or where it would stand.
+/// The index of the item among the members.
+///
+/// # Errors
+///
+/// Where no member is equal to it, the index at which it would stand.
 pub fn place<T: DerOrd>(members: &[T], item: &T) -> Result<usize, usize>
     ensures bound { IsSearchInRange result (length members.now) }
     ensures found { IsBinarySearchResult (λ x. der_order T.form (writes T.writing) T.order x item.now) members.now result }

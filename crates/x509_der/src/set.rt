@@ -21,8 +21,8 @@ use x509_der_frames::{members_have_spellings, put_members};
 use x509_der_grammar::{Content, Decode, Error, ErrorKind, Room, Spelled, Tag, TryClone};
 use x509_der_order::{DerOrd, SetMember, SetOrd, ValueOrd, cmp_members};
 
-/// The members of a SET OF, no two of them equal, in the byte order of their encodings (X.690 11.6). Contracts see
-/// their list.
+/// SET OF: the members, no two of them equal, in the byte order of their encodings (X.690 11.6). Contracts see their
+/// list.
 #[derive(Drop)]
 pub struct SetOfVec<T: SetOrd> {
     members: Members<T>,
@@ -39,7 +39,7 @@ impl<T: SetOrd> Model for SetOfVec<T> {
     ghost invariant = { λ set. IsStrictlySortedBy T.set_order set.members };
 }
 
-/// Puts the item in its place among the members. Where it is refused they are as they were.
+/// Inserts the item in its place among the members. On an error they are unchanged.
 fn put<T: DerOrd + Drop>(members: &mut Members<T>, item: T) -> Result<(), Error>
     requires { IsStrictlySortedBy (der_order T.form (writes T.writing) T.order) members.old }
     ensures put { OnOk result (IsPermutation (item ∷ members.old) members.new) }
@@ -67,8 +67,11 @@ impl<T: SetMember> SetOfVec<T> {
         }
     }
 
-    /// The set of the items, in O(n log n) comparisons and without memory; `SetDuplicate` exactly where two of them
-    /// are equal.
+    /// The set of the items, in O(n log n) comparisons and without memory.
+    ///
+    /// # Errors
+    ///
+    /// `SetDuplicate` exactly where two of the items are equal.
     pub fn try_from_vec(mut items: Vec<T>) -> Result<SetOfVec<T>, Error>
     where
         T: Drop,
@@ -85,8 +88,12 @@ impl<T: SetMember> SetOfVec<T> {
         })
     }
 
-    /// Puts the item in its place; `SetDuplicate` exactly where an equal member is there, and memory may be refused.
-    /// Where it is refused the set is as it was, and the item is dropped.
+    /// Inserts the item in its place.
+    ///
+    /// # Errors
+    ///
+    /// `SetDuplicate` exactly where an equal member is there; else `Memory` when out of memory. On an error the set is
+    /// unchanged, and the item is dropped.
     pub fn insert(&mut self, item: T) -> Result<(), Error>
     where
         T: Drop,
@@ -117,7 +124,7 @@ impl<T: SetMember> SetOfVec<T> {
         self.as_slice().iter()
     }
 
-    /// The member at that place, from 0 on.
+    /// The member at that index, from 0 on.
     pub fn get(&self, index: usize) -> Option<&T>
         ensures { option_copied result ≡ slice_get self.now index }
     {
@@ -138,7 +145,11 @@ impl<T: SetMember> SetOfVec<T> {
         self.as_slice().is_empty()
     }
 
-    /// The vector of the members, in their order. One alone is moved into a vector, for which memory may be refused.
+    /// The vector of the members, in their order. One alone is moved into a vector, which takes memory.
+    ///
+    /// # Errors
+    ///
+    /// `Memory` when out of memory, only for one member.
     pub fn into_vec(self) -> Result<Vec<T>, Error>
     where
         T: Drop,

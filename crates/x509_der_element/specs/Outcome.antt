@@ -1,4 +1,4 @@
--- Steps that may be refused, and what a call answers: what reading gives, unless memory was refused.
+-- Steps that may be refused, and what a call answers: what reading gives, unless it ran out of memory.
 use Rattle.std.specs.Prelude.{◌≡◌, ℕ, List, Result, Ok, Err, MatchResult}
 use Rattle.x509_der_element.specs.declared.error.Error.{Error}
 use Rattle.x509_der_element.specs.declared.error.ErrorKind.{ErrorKind}

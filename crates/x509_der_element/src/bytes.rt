@@ -55,7 +55,11 @@ impl Model for Bytes {
 }
 
 impl Bytes {
-    /// A copy of the octets. More than 24 take memory, which may be refused.
+    /// A copy of the octets.
+    ///
+    /// # Errors
+    ///
+    /// `Memory` when out of memory, only for more than 24 octets.
     pub fn from_slice(alloc: Global, octets: &[u8]) -> Result<Bytes, Error>
         ensures ok { IfOk result (λ bytes. bytes ≡ octets.now) }
         ensures err { IfErr result (λ e. (e.kind ≡ Memory) × (24 < length octets.now)) }
@@ -86,8 +90,12 @@ impl Bytes {
         }
     }
 
-    /// The vector of the octets. Those inside the value are copied, for which memory may be refused; more than 24 lie in
-    /// memory of their own, and are not.
+    /// The vector of the octets. Up to 24 lie inside the value and are copied; more lie in memory of their own, and are
+    /// not.
+    ///
+    /// # Errors
+    ///
+    /// `Memory` when out of memory, only for up to 24 octets.
     pub fn into_vec(self) -> Result<Vec<u8>, Error>
         ensures ok { IfOk result (λ octets. octets.items ≡ self) }
         ensures err { IfErr result (λ e. (e.kind ≡ Memory) × (length self ≤ 24)) }

@@ -46,7 +46,11 @@ fn read_length(bytes: &[u8]) -> Result<(usize, &[u8]), Error>
     }
 }
 
-/// The element at the front, of any length; `Malformed` where none stands there.
+/// The element that the bytes begin with, of any length.
+///
+/// # Errors
+///
+/// `Malformed` exactly where they begin with none.
 #[inline(always)]
 pub fn split_element(bytes: &[u8]) -> Result<Piece<'_>, Error>
     ensures exact { GivesBy (λ x. record { tag = x.tag; content = x.content.now; rest = x.rest.now }) result (piece_at bytes.now) }
@@ -67,7 +71,11 @@ fn may_begin(octet: u8, usual: Tag) -> bool
     check_identifier(octet)
 }
 
-/// As [`split_element`], of an element that mostly has this identifier.
+/// As [`split_element`], for an element that mostly has this identifier.
+///
+/// # Errors
+///
+/// `Malformed` exactly where the bytes begin with no element.
 #[tactic(auto, unfolding(crate::specs::ElementReading::piece_at, crate::specs::ElementReading::content_at))]
 #[inline(always)]
 pub fn split_usual(bytes: &[u8], usual: Tag) -> Result<Piece<'_>, Error>
@@ -95,7 +103,11 @@ pub fn split_usual(bytes: &[u8], usual: Tag) -> Result<Piece<'_>, Error>
 /// The longest content whose element is no longer than [`Length::MAX`](crate::Length::MAX).
 const LONGEST_CONTENT: usize = 268_435_449;
 
-/// `Overlength` exactly where an element with the content is longer than [`Length::MAX`](crate::Length::MAX).
+/// Checks that an element with this content isn't too long.
+///
+/// # Errors
+///
+/// `Overlength` exactly where it is longer than [`Length::MAX`](crate::Length::MAX).
 pub fn check_content(content: &[u8]) -> Result<(), Error>
     ensures ok { OnOk result ((tag : ℕ) → length (element tag content.now) ≤ limit) }
     ensures err { IfErr result (λ e. (e.kind ≡ errors.Overlength) × ((tag : ℕ) → limit < length (element tag content.now))) }
@@ -106,7 +118,7 @@ pub fn check_content(content: &[u8]) -> Result<(), Error>
     Ok(())
 }
 
-/// An element that is borrowed: its identifier and its content, which is not looked into.
+/// A borrowed element: its identifier and its content, which isn't decoded further.
 #[derive(Clone, Copy, Debug, PartialEq, Eq)]
 pub struct AnyRef<'a> {
     tag: Tag,
@@ -114,8 +126,11 @@ pub struct AnyRef<'a> {
 }
 
 impl<'a> AnyRef<'a> {
-    /// The element with the identifier and the content; `Overlength` exactly where it would be longer than
-    /// [`Length::MAX`](crate::Length::MAX).
+    /// The element with the identifier and the content.
+    ///
+    /// # Errors
+    ///
+    /// `Overlength` exactly where it would be longer than [`Length::MAX`](crate::Length::MAX).
     pub fn new(tag: Tag, value: &'a [u8]) -> Result<AnyRef<'a>, Error>
         ensures ok { IfOk result (λ any. (any.tag ≡ tag) × (any.value.now ≡ value.now) × (length (element (octet_of tag) value.now) ≤ limit)) }
         ensures err { IfErr result (λ e. (e.kind ≡ errors.Overlength) × (limit < length (element (octet_of tag) value.now))) }
@@ -139,8 +154,11 @@ impl<'a> AnyRef<'a> {
     }
 }
 
-/// The element at the front and what follows it; `Malformed` exactly where the bytes begin with no element of at
-/// most [`Length::MAX`](crate::Length::MAX) octets (X.690 8.1, 10.1).
+/// The element that the bytes begin with, and what follows it (X.690 8.1, 10.1).
+///
+/// # Errors
+///
+/// `Malformed` exactly where the bytes begin with no element of at most [`Length::MAX`](crate::Length::MAX) octets.
 pub fn take_element(bytes: &[u8]) -> Result<(AnyRef<'_>, &[u8]), Error>
     ensures ok { IfOk result (λ found. bytes.now ≡ element (octet_of found.0.tag) found.0.value.now ++ found.1.now) }
     ensures within { IfOk result (λ found. length (element (octet_of found.0.tag) found.0.value.now) ≤ limit) }

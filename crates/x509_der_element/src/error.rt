@@ -1,39 +1,43 @@
-//! Why a call was refused.
+//! Errors.
 
 ghost use Rattle.std.specs.Prelude.{◌≡◌};
 ghost use Rattle.x509_der_element.specs.declared.error.ErrorKind.TheVariants.{Memory};
 
 use std::alloc::{AllocError, AllocFailed};
 
-/// What a refusal is about.
+/// The kind of an error.
 #[derive(Clone, Copy, Debug, PartialEq, Eq, thiserror::Error)]
 pub enum ErrorKind {
-    /// Memory was asked for and not given.
+    /// Out of memory.
     #[error("Memory")]
     Memory,
 
-    /// An input or an encoding is longer than [`Length::MAX`](crate::Length::MAX).
+    /// The input, or the encoding of a value, is longer than [`Length::MAX`](crate::Length::MAX), or than the buffer
+    /// for it.
     #[error("Overlength")]
     Overlength,
 
-    /// The bytes are not of the grammar.
+    /// The bytes are not the DER encoding of a value of the type.
     #[error("Malformed")]
     Malformed,
 
-    /// A text is not of its form, or a count is wrong.
+    /// The argument, or what was found, isn't what the call wants: a bad text (of an OID, a time, a name or hex), a
+    /// repeated extension or attribute, an attribute that hasn't just one value, a bad random source, lengths that a
+    /// serial number can't have or that don't add up, no name with the OID that a profile wants, or an unknown type or
+    /// profile. The `# Errors` of each call say which.
     #[error("Failed")]
     Failed,
 
-    /// The member is in the set already.
+    /// An equal member is in the set already.
     #[error("SetDuplicate")]
     SetDuplicate,
 
-    /// The value can't be made or spelled.
+    /// The value is out of range, or has no encoding.
     #[error("Value")]
     Value,
 }
 
-/// A refused call.
+/// An error, of some kind.
 #[derive(Clone, Copy, Debug, PartialEq, Eq, thiserror::Error)]
 #[error("{kind}")]
 pub struct Error {
@@ -41,7 +45,7 @@ pub struct Error {
 }
 
 impl Error {
-    /// What the refusal is about.
+    /// The kind of the error.
     pub fn kind(self) -> ErrorKind
         ensures { result ≡ self.kind }
     {

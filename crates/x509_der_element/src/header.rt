@@ -1,4 +1,4 @@
-//! What stands before the content of an element.
+//! Headers of elements.
 
 ghost use Rattle.std.specs.Prelude.{◌≡◌};
 

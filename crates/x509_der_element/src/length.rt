@@ -22,7 +22,11 @@ impl Length {
         octets: 268_435_455,
     };
 
-    /// The length of that many octets; `Overlength` where they are more than [`Length::MAX`].
+    /// The length of that many octets.
+    ///
+    /// # Errors
+    ///
+    /// `Overlength` exactly where they are more than [`Length::MAX`].
     pub fn new(octets: u32) -> Result<Length, Error>
         ensures ok { IfOk result (λ length. (length.octets ≡ octets) × (octets ≤ limit)) }
         ensures err { IfErr result (λ e. (e.kind ≡ errors.Overlength) × (limit < octets)) }

@@ -1,4 +1,5 @@
-//! Elements of strict DER: identifiers, lengths, contents, and why a call was refused.
+//! Elements of strict DER: identifiers, lengths, contents, and errors. Words of our own, such as law, are explained in
+//! `docs/MAP.md`.
 #![tactic(auto)]
 
 mod bytes;

@@ -12,7 +12,7 @@ mod number;
 
 pub use number::TagNumber;
 
-/// An identifier: the class, whether the content is elements, and the number (X.690 8.1.2; the universal
+/// An identifier (a tag): the class, whether the encoding is constructed, and the number (X.690 8.1.2; the universal
 /// types of X.680 8.4).
 #[derive(Clone, Copy, Debug, PartialEq, Eq, Hash)]
 pub enum Tag {
@@ -90,7 +90,7 @@ pub enum Tag {
 
     /// The application class, 40 + n or 60 + n.
     Application {
-        /// Whether the content is elements.
+        /// Whether the encoding is constructed: the content is elements.
         constructed: bool,
 
         /// The number.
@@ -99,7 +99,7 @@ pub enum Tag {
 
     /// The context-specific class, 80 + n or A0 + n.
     ContextSpecific {
-        /// Whether the content is elements.
+        /// Whether the encoding is constructed: the content is elements.
         constructed: bool,
 
         /// The number.
@@ -108,7 +108,7 @@ pub enum Tag {
 
     /// The private class, C0 + n or E0 + n.
     Private {
-        /// Whether the content is elements.
+        /// Whether the encoding is constructed: the content is elements.
         constructed: bool,
 
         /// The number.
@@ -170,7 +170,11 @@ impl Tag {
         }
     }
 
-    /// The tag with the identifier octet; `Malformed` where there is none.
+    /// The tag with the identifier octet.
+    ///
+    /// # Errors
+    ///
+    /// `Malformed` exactly where no tag has it.
     #[tactic(auto, using(crate::proofs::Octets::octet_refused, crate::specs::TagReading::same_tag), unfolding(crate::specs::Element::is_identifier, crate::specs::Element::is_universal))]
     #[inline(always)]
     pub fn from_octet(octet: u8) -> Result<Tag, Error>

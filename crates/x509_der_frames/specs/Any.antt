@@ -1,4 +1,4 @@
--- Any element: an identifier and a content that is not looked into (X.690 8.1).
+-- Any element: an identifier and a content that isn't decoded further (X.690 8.1).
 use Rattle.std.specs.Prelude.{◌≡◌, ◌<◌, ℕ, zero, suc, List, [], ◌∷◌, Result, Ok, Err, if◌then◌else◌, refl}
 use Rattle.std.proofs.Common.{sym, ap, ◌∙◌, inl, inr, false}
 use Rattle.std.proofs.lemmas.Bool.{agree_below_at}

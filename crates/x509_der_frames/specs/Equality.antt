@@ -1,4 +1,4 @@
--- Equality of elements that are not looked into is exact, and of lists where that of their members is.
+-- Equality of elements that aren't decoded further is exact, and of lists where that of their members is.
 use Rattle.std.specs.Prelude.{refl}
 use Rattle.x509_der_frames.specs.contracts.any.AnyPartialEq.TheImpl as any_eq
 use Rattle.x509_der_frames.specs.declared.any.Any.{Any}

@@ -1,4 +1,4 @@
--- Values of a type that come out of an element which is not looked into.
+-- Values of a type that come out of an element that isn't decoded further.
 use Rattle.std.specs.Prelude.{◌≡◌, ◌⊎◌, Result, IfOk, IfErr}
 use Rattle.x509_der_order.specs.Element.{element}
 use Rattle.x509_der_order.specs.error.Error.{Error}

@@ -1,4 +1,4 @@
-//! Elements that are not looked into.
+//! Elements that aren't decoded further.
 
 ghost use Rattle.std.specs.Prelude.{◌≡◌, ◌≢◌, ◌<◌, ◌≤◌, ◌↔◌, ◌⊎◌, [], length, drop, false, IfOk, IfErr, IsErrAnd, IsTrue};
 ghost use Rattle.x509_der_order.specs.error.ErrorKind.TheVariants as errors;
@@ -19,7 +19,7 @@ use x509_der_order::{
     SetMember, SetOrd, Tag, TryClone, ValueOrd, check_content, check_identifier, take_element,
 };
 
-/// An element whose content is not looked into: its identifier and its content octets (X.690 8.1).
+/// An element whose content isn't decoded further: its identifier and its content octets (X.690 8.1).
 #[derive(Debug, Drop, PartialEq, Eq, Hash)]
 pub struct Any {
     tag: Tag,
@@ -35,8 +35,12 @@ fn drop_front(octets: &mut Vec<u8>, count: usize)
 }
 
 impl Any {
-    /// The element with the identifier and a copy of the content; `Overlength` exactly where it would be longer
-    /// than `Length::MAX`. More than 24 octets of content take memory, which may be refused.
+    /// The element with the identifier and a copy of the content.
+    ///
+    /// # Errors
+    ///
+    /// `Overlength` exactly where it would be longer than `Length::MAX`. Else `Memory` when out of memory, only for
+    /// more than 24 octets of content.
     pub fn new(alloc: Global, tag: Tag, bytes: &[u8]) -> Result<Any, Error>
         ensures ok { IfOk result (λ any. (any.tag ≡ tag) × (any.value ≡ bytes.now)) }
         ensures overlength { limit < length (element (octet_of tag) bytes.now) → IsErrAnd result (λ e. e.kind ≡ errors.Overlength) }
@@ -49,8 +53,11 @@ impl Any {
         })
     }
 
-    /// The element with the identifier and the content, which is not copied; `Overlength` exactly where it would be
-    /// longer than `Length::MAX`.
+    /// The element with the identifier and the content, which is not copied.
+    ///
+    /// # Errors
+    ///
+    /// `Overlength` exactly where it would be longer than `Length::MAX`.
     pub fn from_vec(tag: Tag, content: Vec<u8>) -> Result<Any, Error>
         ensures ok { IfOk result (λ any. (any.tag ≡ tag) × (any.value ≡ content.items) × (length (element (octet_of tag) content.items) ≤ limit)) }
         ensures err { IfErr result (λ e. (e.kind ≡ errors.Overlength) × (limit < length (element (octet_of tag) content.items))) }
@@ -62,8 +69,12 @@ impl Any {
         })
     }
 
-    /// The element that the octets are, whose content is not copied; `Overlength` exactly where they are more than
-    /// `Length::MAX`, and else `Malformed` exactly where they are no element (X.690 8.1, 10.1).
+    /// The element that the octets are, whose content is not copied.
+    ///
+    /// # Errors
+    ///
+    /// `Overlength` exactly where they are more than `Length::MAX`, and else `Malformed` exactly where they are no
+    /// element (X.690 8.1, 10.1).
     pub fn from_octets(mut octets: Vec<u8>) -> Result<Any, Error>
         ensures ok { IfOk result (λ any. (octets.items ≡ element (octet_of any.tag) any.value) × (length octets.items ≤ limit)) }
         ensures overlength { limit < length octets.items → IsErrAnd result (λ e. e.kind ≡ errors.Overlength) }
@@ -99,8 +110,12 @@ impl Any {
         self.value.as_slice()
     }
 
-    /// The value that the element spells: what the type's decoder answers on it. `Malformed`, or the refusal of the
-    /// type, exactly where it spells none. Memory may be refused where reading the type wants it.
+    /// The value of which this is the element: what the type's decoder answers on it.
+    ///
+    /// # Errors
+    ///
+    /// `Malformed`, or an error of the type's own, exactly where it is the element of no value. `Memory` when out of
+    /// memory, only where decoding the type may take memory.
     pub fn decode_as<T: Decode>(&self, alloc: Global) -> Result<T, Error>
         ensures found { IfOk result (λ value. T.form.good value × (element (octet_of self.now.tag) self.now.value ≡ spelling T.form value)) }
         ensures refused { IfErr result (λ e. ((e.kind ≡ errors.Memory) × T.wants_memory) ⊎ ((e.kind ≡ errors.Malformed) ⊎ T.refuses e.kind)) }
@@ -111,7 +126,11 @@ impl Any {
         T::read(alloc, self.tag.octet(), self.value.as_slice())
     }
 
-    /// The element of the value, as `to_der` writes it; refused as `to_der` is.
+    /// The element of the value, as `to_der` encodes it.
+    ///
+    /// # Errors
+    ///
+    /// Those of `to_der`; `Memory` when out of memory.
     pub fn encode_from<T: Encode>(alloc: Global, value: &T) -> Result<Any, Error>
         ensures ok { IfOk result (λ any. (element (octet_of any.tag) any.value ≡ written_spelling T.form (writes T.writing value.now)) × IsWritable T.form (writes T.writing value.now) limit) }
         ensures err { IfErr result (λ e. (e.kind ≡ errors.Memory) ⊎ IsUnwritable T.form (writes T.writing value.now) limit e.kind) }
@@ -221,7 +240,7 @@ impl TryClone for Any {
     }
 }
 
-/// A value that borrows from an element.
+/// A value that is converted from an element, and may borrow from it.
 pub trait FromAny<'a>: Sized {
     ghost use Rattle.x509_der_order.specs.error.Error.{Error};
     ghost use Rattle.std.specs.Prelude.{Result};
@@ -230,7 +249,11 @@ pub trait FromAny<'a>: Sized {
     /// What may be answered on an element.
     ghost from_any_gives: { Any → Result Self Error → Type 0 };
 
-    /// The value in the element. Memory may be refused.
+    /// The value in the element.
+    ///
+    /// # Errors
+    ///
+    /// The conversion's own; each type says them.
     fn from_any(alloc: Global, any: &'a Any) -> Result<Self, Error>
         ensures { from_any_gives any.now result };
 }

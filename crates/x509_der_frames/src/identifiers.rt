@@ -1,4 +1,4 @@
-//! Identifiers of the context-specific class.
+//! Tags of the context-specific class.
 
 ghost use Rattle.std.specs.Prelude.{◌≡◌, ◌<◌, ◌+◌};
 ghost use Rattle.x509_der_order.specs.Tag.{constructed_bit, octet_of};
@@ -6,7 +6,7 @@ ghost use Rattle.x509_der_frames.specs.Frames.{implicit_tag};
 
 use x509_der_order::{FixedTag, Tag, TagNumber};
 
-/// The identifier under [n] of a type with a tag of its own (X.690 8.14.3).
+/// The tag under [n], which is implicit, of a type with a tag of its own (X.690 8.14.3).
 pub fn implicit_identifier<T: FixedTag>(n: u8) -> Tag
     requires { n < 31 }
     ensures { octet_of result ≡ implicit_tag n (octet_of T.TAG) }
@@ -14,7 +14,7 @@ pub fn implicit_identifier<T: FixedTag>(n: u8) -> Tag
     context(T::TAG.octet() % 64 >= 32, n)
 }
 
-/// The identifier {n} of an element round another (X.690 8.14.2).
+/// The explicit tag {n} of an element around another (X.690 8.14.2).
 pub fn explicit_identifier(n: u8) -> Tag
     requires { n < 31 }
     ensures { octet_of result ≡ 160 + n }
@@ -22,7 +22,7 @@ pub fn explicit_identifier(n: u8) -> Tag
     context(true, n)
 }
 
-/// The identifier of this number in the class.
+/// The tag with this number in the class.
 fn context(constructed: bool, n: u8) -> Tag
     requires { n < 31 }
     ensures { octet_of result ≡ 128 + constructed_bit constructed + n }

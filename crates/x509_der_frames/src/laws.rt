@@ -17,7 +17,7 @@ pub fn the_next_octet_decides_an_optional_field<T: Grammar>()
     ensures { (v w : Option T) (x y : List ℕ) → IfSome v T.form.good → IfSome w T.form.good → IsClearOf T.form.starts x → IsClearOf T.form.starts y → optional_text (spelling T.form) v ++ x ≡ optional_text (spelling T.form) w ++ y → (v ≡ w) × (x ≡ y) }
 {}
 
-/// `==` of elements that are not looked into holds exactly of equal values.
+/// `==` of elements that aren't decoded further holds exactly of equal values.
 #[tactic(auto, using(crate::specs::Equality::exact_any))]
 pub fn equality_of_any_is_exact()
     ensures { (a b : Any) → (⟦<Any as PartialEq>⟧.eq a b ≡ true) ↔ (a ≡ b) }
@@ -28,7 +28,7 @@ pub fn equality_of_lists_is_exact<T: PartialEq>()
     ensures { IsExact T.eq → (a b : List T) → (⟦<SequenceOf<T> as PartialEq>⟧.eq a b ≡ true) ↔ (a ≡ b) }
 {}
 
-/// Where what is written of the members is written as it is, so is what is written of a list of them.
+/// Where what is encoded of the members is encoded again as it is, so is what is encoded of a list of them.
 pub fn lists_are_written_once<T: Decode + Encode + Drop>()
     ensures { IsStable T.form.good T.writing → IsStable ⟦<SequenceOf<T> as Grammar>⟧.form.good ⟦<SequenceOf<T> as Encode>⟧.writing }
 {}

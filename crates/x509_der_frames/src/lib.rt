@@ -1,4 +1,9 @@
-//! The frames of strict DER: what the fields of a sequence, lists and choices are read and written with.
+//! The frames of strict DER: a frame is how a field stands in its sequence, required, optional, with a default or under
+//! a tag. Here are the calls with which the fields of a sequence, lists and choices are decoded and encoded.
+//!
+//! In these docs x is a field, `{n}x` the same under an explicit tag of the number n, `[n]x` under an implicit one,
+//! `x?` may be absent, and `x=d` has the default d. A part is one or more fields, as they are encoded. These and other
+//! words of our own, such as form and room, are explained in `docs/MAP.md`.
 #![tactic(auto)]
 
 mod any;

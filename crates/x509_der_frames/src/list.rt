@@ -19,8 +19,8 @@ use x509_der_order::{
     Content, Decode, Encode, Error, Room, Tag, TryClone, ValueOrd, cmp_members, split_element,
 };
 
-/// Values one after the other, which contracts see as a list (X.690 8.10). It is made from a vector and gives it
-/// back without a copy.
+/// SEQUENCE OF: values one after the other, which contracts see as a list (X.690 8.10). It is made from a vector and
+/// gives it back without a copy.
 #[derive(Drop)]
 pub struct SequenceOf<T> {
     items: Vec<T>,
@@ -61,7 +61,7 @@ impl<T> SequenceOf<T> {
         self.as_slice().iter()
     }
 
-    /// The value at that place, from 0 on.
+    /// The value at that index, from 0 on.
     pub fn get(&self, index: usize) -> Option<&T>
         ensures { option_copied result ≡ slice_get self.now index }
     {
@@ -82,8 +82,11 @@ impl<T> SequenceOf<T> {
         self.items.is_empty()
     }
 
-    /// Puts the value behind the others. Where memory is refused the values are as they were, and the item is
-    /// dropped.
+    /// Adds the value behind the others.
+    ///
+    /// # Errors
+    ///
+    /// `Memory` when out of memory, and nothing else; then the values are unchanged, and the item is dropped.
     pub fn push(&mut self, item: T) -> Result<(), Error>
     where
         T: Drop,
@@ -165,7 +168,11 @@ impl<T: fmt::Debug> fmt::Debug for SequenceOf<T> {
     }
 }
 
-/// Copies of the members, in their order. Memory may be refused.
+/// Copies of the members, in their order.
+///
+/// # Errors
+///
+/// `Memory` when out of memory, and nothing else.
 pub fn clone_members<T: TryClone + Drop>(alloc: Global, members: &[T]) -> Result<Vec<T>, Error>
     ensures ok { IfOk result (λ copies. copies.items ≡ members.now) }
     ensures err { IfErr result (λ e. e.kind ≡ Memory) }
@@ -177,12 +184,12 @@ pub fn clone_members<T: TryClone + Drop>(alloc: Global, members: &[T]) -> Result
     Ok(copies)
 }
 
-/// For how many members a list takes memory at once. More make it grow, so that bytes of many members which turn out
-/// to be none cost little.
+/// For how many members a list takes memory at once. For more it grows, so that bytes that seem to have many members,
+/// and turn out to have none, cost little.
 const FORESEEN: usize = 1024;
 
 /// For how many members at the front of the bytes a list takes memory, up to [`FORESEEN`]: the identifiers of elements
-/// with short lengths aren't looked at.
+/// with short lengths aren't checked.
 fn count_elements(bytes: &[u8]) -> usize
     ensures { result ≤ 1024 }
 {
@@ -201,8 +208,12 @@ fn count_elements(bytes: &[u8]) -> usize
     FORESEEN
 }
 
-/// The values whose elements the bytes are, one after the other; `Malformed`, or the refusal of the type, where they
-/// are not. Memory may be refused.
+/// The values of the elements that the bytes are, one after the other.
+///
+/// # Errors
+///
+/// `Malformed`, or an error of the type's own, exactly where the bytes are no such elements. `Memory` when out of
+/// memory.
 #[inline(always)]
 pub fn read_members<T: Decode + Drop>(alloc: Global, bytes: &[u8]) -> Result<Vec<T>, Error>
     ensures exact { GivesBy (λ v. v.items) result (list_reading T.form.reading bytes.now) }
@@ -212,6 +223,10 @@ pub fn read_members<T: Decode + Drop>(alloc: Global, bytes: &[u8]) -> Result<Vec
 }
 
 /// The first value, and behind it those that [`read_members`] answers.
+///
+/// # Errors
+///
+/// Those of [`read_members`].
 #[inline(never)]
 pub fn read_further<T: Decode + Drop>(
     alloc: Global,
@@ -242,7 +257,12 @@ fn read_behind<T: Decode + Drop>(
     Ok(items)
 }
 
-/// Puts the elements of the values in front of what stands, the last first.
+/// Puts the elements of the values in front of the bytes that stand in the room, the last first.
+///
+/// # Errors
+///
+/// The error of a value that can't be encoded; `Overlength` where there is no place in the room for all; `Memory` when
+/// out of memory, only for a room that takes memory.
 pub fn put_members<T: Encode, R: Room>(items: &[T], room: &mut R) -> Result<(), Error>
     ensures { Puts R.kind (members_text T.form (writes T.writing) items.now) (members_refusal (writes T.writing) items.now) result room.old room.new }
 {

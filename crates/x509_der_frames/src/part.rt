@@ -1,5 +1,6 @@
-//! Writing what stands in a sequence. A pair of parts is the first and then the second. The number `n` of a tag is 0 to
-//! 30, those that one identifier octet has (X.690 8.1.2.2).
+//! Encoding what stands in a sequence, in parts: a part is one or more fields. A pair of parts is the first and then
+//! the second. x is a field, `{n}x` the same under an explicit tag of the number n, `[n]x` under an implicit one, `x?`
+//! may be absent, `x=d` has the default d. n is 0 to 30, the numbers that one identifier octet has (X.690 8.1.2.2).
 
 ghost use Rattle.std.specs.Prelude.{◌≡◌, ◌+◌, ◌<◌};
 ghost use Rattle.x509_der_order.specs.Element.{element};
@@ -13,7 +14,7 @@ use crate::reading::implicit_octet;
 use crate::standard::Standard;
 use x509_der_order::{Encode, Error, FixedTag, Room, put_header};
 
-/// What stands in a sequence, as it is written.
+/// A part of a sequence, as it is encoded.
 pub trait PutPart {
     ghost use Rattle.std.specs.Prelude.{List, ℕ, Option};
     ghost use Rattle.x509_der_order.specs.error.ErrorKind.{ErrorKind};
@@ -23,12 +24,17 @@ pub trait PutPart {
 
     ghost refusal: { Self → Option ErrorKind };
 
-    /// Puts the text in front of what stands.
+    /// Puts the encoding of the part in front of the bytes that stand in the room.
+    ///
+    /// # Errors
+    ///
+    /// The error of a value that can't be encoded; `Overlength` where there is no place in the room; `Memory` when out
+    /// of memory, only for a room that takes memory.
     fn put_text<R: Room>(&self, room: &mut R) -> Result<(), Error>
         ensures { Puts R.kind (text self.now) (refusal self.now) result room.old room.new };
 }
 
-/// One part and another behind it.
+/// One part, followed by another.
 impl<A: PutPart, B: PutPart> PutPart for (A, B) {
     ghost use Rattle.std.specs.Prelude.{◌++◌};
     ghost use Rattle.x509_der_order.specs.Writing.{first};
@@ -72,7 +78,7 @@ impl<T: Encode> PutPart for Contents<'_, T> {
     }
 }
 
-/// x
+/// x: a field that is required.
 impl<T: Encode> PutPart for &T {
     ghost use Rattle.x509_der_order.specs.Form.{spelling};
     ghost use Rattle.x509_der_order.specs.Writing.{writes};
@@ -87,14 +93,14 @@ impl<T: Encode> PutPart for &T {
     }
 }
 
-/// x under another identifier octet
+/// x under another identifier octet.
 #[derive(Clone, Copy)]
 pub struct Retagged<'a, T> {
     tag: u8,
     value: &'a T,
 }
 
-/// [n]x; n is 0 to 30.
+/// [n]x: a field under an implicit tag; n is 0 to 30.
 pub fn implicit<T: Encode + FixedTag>(n: u8, value: &T) -> Retagged<'_, T>
     requires { n < 31 }
     ensures tag { result.tag ≡ implicit_tag n (octet_of T.TAG) }
@@ -120,14 +126,14 @@ impl<T: Encode> PutPart for Retagged<'_, T> {
     }
 }
 
-/// x in an element of its own
+/// x in an element of its own.
 #[derive(Clone, Copy)]
 pub struct Wrapped<'a, T> {
     tag: u8,
     value: &'a T,
 }
 
-/// {n}x; n is 0 to 30.
+/// {n}x: a field under an explicit tag; n is 0 to 30.
 pub fn explicit<T: Encode>(n: u8, value: &T) -> Wrapped<'_, T>
     requires { n < 31 }
     ensures tag { result.tag ≡ 160 + n }
@@ -154,7 +160,7 @@ impl<T: Encode> PutPart for Wrapped<'_, T> {
     }
 }
 
-/// A part that may be left out.
+/// A part that may be absent.
 impl<P: PutPart> PutPart for Option<P> {
     ghost use Rattle.x509_der_frames.specs.Frames.{optional_text};
     ghost use Rattle.x509_der_frames.specs.FrameWriting.{optional_refusal};
@@ -173,7 +179,7 @@ impl<P: PutPart> PutPart for Option<P> {
     }
 }
 
-/// x?
+/// x?: a field that may be absent.
 pub fn optional<T: Encode>(value: &Option<T>) -> Option<&T>
     ensures text { optional_text (λ p. spelling T.form (writes T.writing p.now).value) result ≡ optional_text (λ v. spelling T.form (writes T.writing v).value) value.now }
     ensures refusal { optional_refusal (λ p. (writes T.writing p.now).refusal) result ≡ optional_refusal (λ v. (writes T.writing v).refusal) value.now }
@@ -184,7 +190,7 @@ pub fn optional<T: Encode>(value: &Option<T>) -> Option<&T>
     }
 }
 
-/// [n]x?; n is 0 to 30.
+/// [n]x?: a field under an implicit tag that may be absent; n is 0 to 30.
 pub fn implicit_optional<T: Encode + FixedTag>(n: u8, value: &Option<T>) -> Option<Retagged<'_, T>>
     requires { n < 31 }
     ensures text { optional_text (λ p. element p.tag (T.form.content (writes T.writing p.value.now).value)) result ≡ optional_text (λ v. element (implicit_tag n (octet_of T.TAG)) (T.form.content (writes T.writing v).value)) value.now }
@@ -196,7 +202,7 @@ pub fn implicit_optional<T: Encode + FixedTag>(n: u8, value: &Option<T>) -> Opti
     }
 }
 
-/// {n}x?; n is 0 to 30.
+/// {n}x?: a field under an explicit tag that may be absent; n is 0 to 30.
 pub fn explicit_optional<T: Encode>(n: u8, value: &Option<T>) -> Option<Wrapped<'_, T>>
     requires { n < 31 }
     ensures text { optional_text (λ p. element p.tag (spelling T.form (writes T.writing p.value.now).value)) result ≡ optional_text (λ v. element (160 + n) (spelling T.form (writes T.writing v).value)) value.now }
@@ -208,7 +214,7 @@ pub fn explicit_optional<T: Encode>(n: u8, value: &Option<T>) -> Option<Wrapped<
     }
 }
 
-/// x=d
+/// x=d: a field with a default.
 #[tactic(auto, unfolding(crate::specs::Frames::default_text))]
 pub fn defaulted<T: Encode + Standard>(value: &T) -> Option<&T>
     ensures text { optional_text (λ p. spelling T.form (writes T.writing p.now).value) result ≡ default_text T.default (λ v. spelling T.form (writes T.writing v).value) value.now }
@@ -221,7 +227,7 @@ pub fn defaulted<T: Encode + Standard>(value: &T) -> Option<&T>
     }
 }
 
-/// [n]x=d; n is 0 to 30.
+/// [n]x=d: a field under an implicit tag with a default; n is 0 to 30.
 #[tactic(auto, unfolding(crate::specs::Frames::default_text))]
 pub fn implicit_default<T: Encode + FixedTag + Standard>(
     n: u8,
@@ -238,7 +244,7 @@ pub fn implicit_default<T: Encode + FixedTag + Standard>(
     }
 }
 
-/// {n}x=d; n is 0 to 30.
+/// {n}x=d: a field under an explicit tag with a default; n is 0 to 30.
 #[tactic(auto, unfolding(crate::specs::Frames::default_text))]
 pub fn explicit_default<T: Encode + Standard>(n: u8, value: &T) -> Option<Wrapped<'_, T>>
     requires { n < 31 }

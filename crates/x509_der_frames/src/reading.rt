@@ -1,7 +1,6 @@
-//! Reading the fields of a sequence. Each reader takes its field from the front of `rest`; `Malformed`, or the
-//! refusal of the type, where the field does not stand there. Memory may be refused where reading the type wants it.
-//! Where a reader is refused, `rest` is as it was. The number `n` of a tag is 0 to 30, those that one identifier octet
-//! has (X.690 8.1.2.2).
+//! Decoding the fields of a sequence. Each reader takes its field from the front of `rest`, and leaves there what
+//! follows it. x is a field, `{n}x` the same under an explicit tag of the number n, `[n]x` under an implicit one, `x?`
+//! may be absent, `x=d` has the default d. n is 0 to 30, the numbers that one identifier octet has (X.690 8.1.2.2).
 
 ghost use Rattle.std.specs.Prelude.{◌≡◌, ◌<◌, IfErr, OnErr};
 ghost use Rattle.x509_der_order.specs.error.ErrorKind.TheVariants.{Malformed, Memory};
@@ -13,7 +12,11 @@ use crate::standard::Standard;
 use std::alloc::Global;
 use x509_der_order::{Decode, Error, ErrorKind, FixedTag, read_whole, split_element, split_usual};
 
-/// The end of a sequence; `Malformed` where bytes are left.
+/// The end of a sequence.
+///
+/// # Errors
+///
+/// `Malformed` exactly where bytes are left.
 #[inline(always)]
 pub fn end(rest: &[u8]) -> Result<(), Error>
     ensures exact { Gives result (end_at rest.now) }
@@ -26,7 +29,8 @@ pub fn end(rest: &[u8]) -> Result<(), Error>
     }
 }
 
-/// The identifier octet under [n] of a type with a tag of its own (X.690 8.14.3); n is 0 to 30.
+/// The identifier octet under [n], which is an implicit tag, of a type with a tag of its own (X.690 8.14.3); n is 0 to
+/// 30.
 #[inline(always)]
 pub fn implicit_octet<T: FixedTag>(n: u8) -> u8
     requires { n < 31 }
@@ -39,7 +43,12 @@ pub fn implicit_octet<T: FixedTag>(n: u8) -> u8
     }
 }
 
-/// x: a field that is there.
+/// x: a field that is required.
+///
+/// # Errors
+///
+/// `Malformed`, or an error of the type's own, exactly where no such field stands at the front of `rest`. `Memory` when
+/// out of memory, only where decoding the type may take memory. On an error `rest` is unchanged.
 #[tactic(auto, unfolding(crate::specs::Frames::field_at))]
 #[inline(always)]
 pub fn field<T: Decode>(alloc: Global, rest: &mut &[u8]) -> Result<T, Error>
@@ -55,7 +64,12 @@ pub fn field<T: Decode>(alloc: Global, rest: &mut &[u8]) -> Result<T, Error>
     result
 }
 
-/// {n}x: a field in an element of its own, with the identifier octet A0 + n (X.690 8.14.2); n is 0 to 30.
+/// {n}x: a field under an explicit tag, in an element of its own with the identifier octet A0 + n (X.690 8.14.2); n is
+/// 0 to 30.
+///
+/// # Errors
+///
+/// As [`field`].
 #[tactic(auto, unfolding(crate::specs::Frames::field_at))]
 #[inline(always)]
 pub fn explicit_field<T: Decode>(alloc: Global, n: u8, rest: &mut &[u8]) -> Result<T, Error>
@@ -75,7 +89,12 @@ pub fn explicit_field<T: Decode>(alloc: Global, n: u8, rest: &mut &[u8]) -> Resu
     result
 }
 
-/// [n]x: a field under the identifier octet 80 + n, or A0 + n where its content is elements (X.690 8.14.3); n is 0 to 30.
+/// [n]x: a field under an implicit tag, the identifier octet 80 + n, or A0 + n where its content is elements (X.690
+/// 8.14.3); n is 0 to 30.
+///
+/// # Errors
+///
+/// As [`field`].
 #[tactic(auto, unfolding(crate::specs::Frames::field_at))]
 #[inline(always)]
 pub fn implicit_field<T: Decode + FixedTag>(
@@ -99,7 +118,11 @@ pub fn implicit_field<T: Decode + FixedTag>(
     result
 }
 
-/// x?: a field that may be left out; it is there where the next identifier octet may begin one (X.690 8.9.3).
+/// x?: a field that may be absent; it is there where the next identifier octet may begin one (X.690 8.9.3).
+///
+/// # Errors
+///
+/// As [`field`], where it is there.
 #[tactic(auto, unfolding(crate::specs::Frames::optional_at))]
 #[inline(always)]
 pub fn optional_field<T: Decode>(alloc: Global, rest: &mut &[u8]) -> Result<Option<T>, Error>
@@ -113,7 +136,11 @@ pub fn optional_field<T: Decode>(alloc: Global, rest: &mut &[u8]) -> Result<Opti
     }
 }
 
-/// {n}x?: the same in an element of its own; n is 0 to 30.
+/// {n}x?: the same under an explicit tag; n is 0 to 30.
+///
+/// # Errors
+///
+/// As [`field`], where it is there.
 #[tactic(auto, unfolding(crate::specs::Frames::optional_at))]
 #[inline(always)]
 pub fn optional_explicit<T: Decode>(
@@ -132,7 +159,11 @@ pub fn optional_explicit<T: Decode>(
     }
 }
 
-/// [n]x?: the same under a tag in place of its own; n is 0 to 30.
+/// [n]x?: the same under an implicit tag; n is 0 to 30.
+///
+/// # Errors
+///
+/// As [`field`], where it is there.
 #[tactic(auto, unfolding(crate::specs::Frames::optional_at))]
 #[inline(always)]
 pub fn optional_implicit<T: Decode + FixedTag>(
@@ -153,8 +184,11 @@ pub fn optional_implicit<T: Decode + FixedTag>(
     }
 }
 
-/// x=d: a field that is left out exactly where it has its default, which is `Malformed` where it is written
-/// (X.690 11.5).
+/// x=d: a field that is absent exactly where it has its default (X.690 11.5).
+///
+/// # Errors
+///
+/// As [`field`], where it is there; `Malformed` too where it is there with its default.
 #[tactic(auto, unfolding(crate::specs::Frames::default_at))]
 #[inline(always)]
 pub fn default_field<T: Decode + Standard>(alloc: Global, rest: &mut &[u8]) -> Result<T, Error>
@@ -177,7 +211,11 @@ pub fn default_field<T: Decode + Standard>(alloc: Global, rest: &mut &[u8]) -> R
     Ok(value)
 }
 
-/// {n}x=d: the same in an element of its own; n is 0 to 30.
+/// {n}x=d: the same under an explicit tag; n is 0 to 30.
+///
+/// # Errors
+///
+/// As [`default_field`].
 #[tactic(auto, unfolding(crate::specs::Frames::default_at))]
 #[inline(always)]
 pub fn default_explicit<T: Decode + Standard>(
@@ -205,7 +243,11 @@ pub fn default_explicit<T: Decode + Standard>(
     Ok(value)
 }
 
-/// [n]x=d: the same under a tag in place of its own; n is 0 to 30.
+/// [n]x=d: the same under an implicit tag; n is 0 to 30.
+///
+/// # Errors
+///
+/// As [`default_field`].
 #[tactic(auto, unfolding(crate::specs::Frames::default_at))]
 #[inline(always)]
 pub fn default_implicit<T: Decode + FixedTag + Standard>(

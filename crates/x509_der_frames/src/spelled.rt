@@ -1,4 +1,4 @@
-//! Values that a program made: elements that are not looked into, lists, and fields that may be left out.
+//! Values that a program made: elements that aren't decoded further, lists, and fields that may be absent.
 
 ghost use Rattle.std.specs.List.{All};
 ghost use Rattle.std.specs.Prelude.{◌≡◌, Some, IfSome};
@@ -12,7 +12,7 @@ impl Spelled for Any {
     fn has_spelling(&self) {}
 }
 
-/// Each of the values is one of the grammar, where each meets the premise of its type.
+/// Each of the values has an encoding, where each meets the premise of its type.
 pub fn members_have_spellings<T: Spelled>(items: &[T])
     ensures { All T.premise items.now → all_good T.form.good items.now }
 {
@@ -24,7 +24,7 @@ pub fn members_have_spellings<T: Spelled>(items: &[T])
     }
 }
 
-/// The value of a field that may be left out is one of the grammar, where it meets the premise of its type.
+/// The value of a field that may be absent has an encoding, where it meets the premise of its type.
 pub fn option_has_spelling<T: Spelled>(value: &Option<T>)
     ensures { ((v : T) → value.now ≡ Some v → T.premise v) → IfSome value.now T.form.good }
 {

@@ -1,17 +1,17 @@
-//! Values that are left out.
+//! Defaults of fields.
 
-/// The value that a field has where it is left out (X.690 11.5).
+/// The default of a field: the value that it has where it is absent (X.690 11.5).
 pub trait Standard: Drop {
     ghost use Rattle.std.specs.Prelude.{◌≡◌};
     ghost use Rattle.x509_der_frames.specs.Frames.{Default, IsDefault};
 
     ghost default: { Default Self };
 
-    /// That value.
+    /// The default.
     fn standard() -> Self
         ensures { result ≡ default.standard };
 
-    /// Whether it is that value.
+    /// Whether it is the default.
     fn is_standard(&self) -> bool
         ensures { result ≡ default.is_standard self.now };
 

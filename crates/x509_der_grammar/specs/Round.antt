@@ -1,4 +1,4 @@
--- A type round one value: each of its values is one value within and nothing else.
+-- A type with one field: each of its values is one value within and nothing else.
 use Rattle.std.specs.Prelude.{◌≡◌, Ok, refl}
 use Rattle.std.proofs.Common.{sym, ◌∙◌, ap, inl, inr}
 use Rattle.x509_der_element.specs.declared.error.ErrorKind.{ErrorKind}

@@ -1,4 +1,4 @@
-//! Copies that may want memory.
+//! Copies that may take memory.
 
 ghost use Rattle.std.specs.Prelude.{◌≡◌, Ok, None, IfOk, IfErr, IsOk};
 ghost use Rattle.x509_der_element.specs.declared.error.ErrorKind.TheVariants.{Memory};
@@ -11,7 +11,11 @@ pub trait TryClone: Sized {
     ghost use Rattle.std.specs.Prelude.{◌≡◌, IfOk, IfErr};
     ghost use Rattle.x509_der_element.specs.declared.error.ErrorKind.TheVariants.{Memory};
 
-    /// A copy, which equals the value. Memory may be refused.
+    /// A copy, which equals the value.
+    ///
+    /// # Errors
+    ///
+    /// `Memory` when out of memory, and nothing else.
     fn try_clone(&self, alloc: Global) -> Result<Self, Error>
         ensures ok { IfOk result (λ copy. copy ≡ self.now) }
         ensures err { IfErr result (λ e. e.kind ≡ Memory) };

@@ -7,7 +7,7 @@ use crate::room::Room;
 use std::alloc::Global;
 use x509_der_element::{Error, Tag};
 
-/// A type each value of which is a content under one identifier (X.690 8.1). From it come [`Grammar`], [`FixedTag`],
+/// A type of which each value is a content under one identifier (X.690 8.1). From it come [`Grammar`], [`FixedTag`],
 /// [`Decode`] and [`Encode`].
 pub trait Content: Sized {
     ghost use Rattle.std.specs.Prelude.{◌≡◌, IfErr};
@@ -20,13 +20,13 @@ pub trait Content: Sized {
 
     ghost contents: { Contents Self };
 
-    /// The refusals of reading besides `Malformed`.
+    /// The errors of decoding besides `Malformed`.
     ghost refusals: { ErrorKind → Type 0 } = { λ _. ⊥ };
 
-    /// Whether reading may want memory.
+    /// Whether decoding may take memory.
     ghost takes_memory: { Type 0 } = { Unit };
 
-    /// How values are written.
+    /// How values are encoded.
     ghost written_as: { Writing Self } = { plain };
 
     ghost IDENTIFIER: { Tag };
@@ -34,12 +34,22 @@ pub trait Content: Sized {
     /// The identifier.
     const IDENTIFIER: Tag;
 
-    /// The value of the content octets. Memory may be refused where reading wants it.
+    /// The value of the content octets.
+    ///
+    /// # Errors
+    ///
+    /// `Malformed`, or an error of the type's own, exactly where they are the content octets of no value. `Memory` when
+    /// out of memory, only where decoding the type may take memory.
     fn read_content(alloc: Global, octets: &[u8]) -> Result<Self, Error>
         ensures exact { Gives result (contents.reading octets.now) }
         ensures memory { IfErr result (λ e. e.kind ≡ Memory → takes_memory) };
 
-    /// Puts the content octets in front of what stands.
+    /// Puts the content octets in front of the bytes that stand in the room.
+    ///
+    /// # Errors
+    ///
+    /// The error of a value that can't be encoded; `Overlength` where there is no place in the room; `Memory` when out
+    /// of memory, only for a room that takes memory.
     fn write_content<R: Room>(&self, room: &mut R) -> Result<(), Error>
         ensures { Puts R.kind (contents.octets (writes written_as self.now).value) (writes written_as self.now).refusal result room.old room.new };
 

@@ -1,4 +1,4 @@
-//! Reading a value from the bytes of its one spelling.
+//! Decoding a value from its one encoding.
 
 ghost use Rattle.std.specs.Prelude.{◌≡◌, IfErr};
 ghost use Rattle.x509_der_element.specs.declared.error.ErrorKind.TheVariants.{Malformed, Memory};
@@ -10,7 +10,7 @@ use crate::grammar::Grammar;
 use std::alloc::Global;
 use x509_der_element::{Error, ErrorKind, Length, Tag, split_usual};
 
-/// A type that is read from its spelling.
+/// A type that is decoded from its DER encoding.
 pub trait Decode: Grammar {
     ghost use Rattle.std.specs.Prelude.{◌≡◌, length, ◌<◌, ◌≤◌, ◌⊎◌, IfOk, IfErr, IsErrAnd};
     ghost use Rattle.x509_der_element.specs.Outcome.{Gives};
@@ -18,19 +18,26 @@ pub trait Decode: Grammar {
     ghost use Rattle.x509_der_grammar.specs.Form.{Spells, whole_reading};
     ghost use Rattle.x509_der_element.specs.declared.error.ErrorKind.TheVariants as errors;
 
-    /// Whether reading may want memory.
+    /// Whether decoding may take memory.
     ghost wants_memory: { Type 0 } = { Unit };
 
-    /// The value of an element with this identifier octet and this content. Memory may be refused where reading wants
-    /// it.
+    /// The value of an element with this identifier octet and this content.
+    ///
+    /// # Errors
+    ///
+    /// `Malformed`, or an error of the type's own, exactly where it is the element of no value. `Memory` when out of
+    /// memory, only where decoding the type may take memory.
     fn read(alloc: Global, tag: u8, content: &[u8]) -> Result<Self, Error>
         ensures exact { Gives result (Self.form.reading tag content.now) }
         ensures memory { IfErr result (λ e. e.kind ≡ errors.Memory → Self.wants_memory) };
 
-    /// The one value that the bytes spell.
+    /// The one value of which the bytes are the encoding.
     ///
-    /// `Overlength` exactly where they are more than [`Length::MAX`]; within that `Malformed`, or an error of
-    /// the type's own, exactly where they spell no value. Memory may be refused where reading wants it.
+    /// # Errors
+    ///
+    /// `Overlength` exactly where the bytes are more than [`Length::MAX`]. Within that length `Malformed`, or an error
+    /// of the type's own, exactly where they are the encoding of no value. `Memory` when out of memory, only where
+    /// decoding the type may take memory.
     #[tactic(auto, unfolding(crate::specs::Form::whole_reading), using(crate::specs::FormLaws::whole_sound, crate::specs::FormLaws::whole_complete, crate::specs::FormLaws::whole_refused))]
     final fn from_der(alloc: Global, bytes: &[u8]) -> Result<Self, Error>
         ensures found { IfOk result (λ value. Spells Self.form value bytes.now) }
@@ -48,6 +55,11 @@ pub trait Decode: Grammar {
 }
 
 /// The value of one element with nothing after it.
+///
+/// # Errors
+///
+/// `Malformed`, or an error of the type's own, exactly where the bytes are the encoding of no value. `Memory` when out
+/// of memory, only where decoding the type may take memory.
 #[tactic(auto, unfolding(crate::specs::Form::whole_reading))]
 #[inline(always)]
 pub fn read_whole<T: Decode>(alloc: Global, bytes: &[u8]) -> Result<T, Error>
@@ -61,7 +73,11 @@ pub fn read_whole<T: Decode>(alloc: Global, bytes: &[u8]) -> Result<T, Error>
     T::read(alloc, piece.tag, piece.content)
 }
 
-/// `Malformed` where the identifier octet is not that of the tag which is wanted.
+/// Checks that the identifier octet is that of the tag.
+///
+/// # Errors
+///
+/// `Malformed` exactly where it isn't.
 #[inline(always)]
 pub fn expect_tag(tag: u8, wanted: Tag) -> Result<(), Error>
     ensures exact { Gives result (tag_at tag (octet_of wanted)) }

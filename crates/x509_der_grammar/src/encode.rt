@@ -1,4 +1,4 @@
-//! Writing a value as the bytes of its one spelling.
+//! Encoding a value as its one encoding.
 
 ghost use Rattle.std.specs.Prelude.{◌≡◌, ◌≤◌, None};
 ghost use Rattle.x509_der_element.specs.Element.{header, limit};
@@ -9,7 +9,7 @@ use crate::room::{Counting, Fixed, Growing, Room, bytes_after, share};
 use std::alloc::Global;
 use x509_der_element::{Error, Length};
 
-/// A type that is written as its spelling, in one pass from the end.
+/// A type that is encoded in DER, in one pass from the end.
 pub trait Encode: Grammar {
     ghost use Rattle.std.specs.Prelude.{◌≡◌, ◌+◌, ◌-◌, ◌≤◌, ◌++◌, ◌⊎◌, None, IfOk, IfErr, OnOk, length, take, min};
     ghost use Rattle.std.specs.Borrow.{sem, Array, u8};
@@ -19,16 +19,26 @@ pub trait Encode: Grammar {
     ghost use Rattle.x509_der_grammar.specs.Writing.{Writing, plain, writes, Puts, IsWritable, IsUnwritable, written_spelling};
     ghost use Rattle.x509_der_element.specs.declared.error.ErrorKind.TheVariants as errors;
 
-    /// How values are written.
+    /// How values are encoded.
     ghost writing: { Writing Self } = { plain };
 
-    /// Puts the content in front of what stands.
+    /// Puts the content octets in front of the bytes that stand in the room.
+    ///
+    /// # Errors
+    ///
+    /// The error of a part that can't be encoded; `Overlength` where there is no place in the room; `Memory` when out
+    /// of memory, only for a room that takes memory.
     fn put_content<R: Room>(&self, room: &mut R) -> Result<(), Error>
         ensures { Puts R.kind (Self.form.content (writes writing self.now).value) (writes writing self.now).refusal result room.old room.new };
 
     ghost same_tag: { (value : Self) → Self.form.tag (writes writing value).value ≡ Self.form.tag value };
 
-    /// Puts the element in front of what stands. Its content stands before its header is put.
+    /// Puts the element in front of the bytes that stand in the room. Its content stands before its header is put.
+    ///
+    /// # Errors
+    ///
+    /// The error of a part that can't be encoded; `Overlength` where there is no place in the room; `Memory` when out
+    /// of memory, only for a room that takes memory.
     #[inline(always)]
     final fn put_element<R: Room>(&self, room: &mut R) -> Result<(), Error>
         ensures { Puts R.kind (spelling Self.form (writes writing self.now).value) (writes writing self.now).refusal result room.old room.new }
@@ -39,10 +49,12 @@ pub trait Encode: Grammar {
         put_header(self.identifier().octet(), len as u32, room)
     }
 
-    /// The bytes of the value's one spelling.
+    /// The one encoding of the value.
     ///
-    /// `Overlength` exactly where they are more than [`Length::MAX`](crate::Length::MAX), or the refusal of a
-    /// part that can't be written. Memory may be refused.
+    /// # Errors
+    ///
+    /// `Overlength` exactly where it is longer than [`Length::MAX`](crate::Length::MAX), or the error of a part that
+    /// can't be encoded. `Memory` when out of memory.
     final fn to_der(&self, alloc: Global) -> Result<Vec<u8>, Error>
         ensures ok { IfOk result (λ bytes. (bytes.items ≡ written_spelling Self.form (writes writing self.now)) × IsWritable Self.form (writes writing self.now) limit) }
         ensures err { IfErr result (λ e. (e.kind ≡ errors.Memory) ⊎ IsUnwritable Self.form (writes writing self.now) limit e.kind) }
@@ -52,8 +64,11 @@ pub trait Encode: Grammar {
         Ok(room.into_vec())
     }
 
-    /// How many bytes `to_der` writes; it takes no memory, and is refused exactly where `to_der` is refused for
-    /// another cause than memory.
+    /// The length of what `to_der` gives. It takes no memory.
+    ///
+    /// # Errors
+    ///
+    /// Those of `to_der` other than `Memory`, and exactly where they come there.
     final fn encoded_len(&self) -> Result<Length, Error>
         ensures ok { IfOk result (λ len. (len.octets ≡ length (written_spelling Self.form (writes writing self.now))) × IsWritable Self.form (writes writing self.now) limit) }
         ensures err { IfErr result (λ e. IsUnwritable Self.form (writes writing self.now) limit e.kind) }
@@ -63,7 +78,11 @@ pub trait Encode: Grammar {
         Ok(room.count())
     }
 
-    /// How many bytes of content `to_der` writes; as `encoded_len` otherwise.
+    /// The length of the content of what `to_der` gives. It takes no memory.
+    ///
+    /// # Errors
+    ///
+    /// Those of `to_der` other than `Memory`, and exactly where they come there.
     final fn value_len(&self) -> Result<Length, Error>
         ensures ok { IfOk result (λ len. (len.octets ≡ length (Self.form.content (writes writing self.now).value)) × IsWritable Self.form (writes writing self.now) limit) }
         ensures err { IfErr result (λ e. IsUnwritable Self.form (writes writing self.now) limit e.kind) }
@@ -75,8 +94,13 @@ pub trait Encode: Grammar {
         Ok(content)
     }
 
-    /// Writes the bytes of the value at the end of the room, and answers how many bytes of the room come before
-    /// them; those stay as they were. It takes no memory. Where it is refused, the room may hold a part of them.
+    /// Writes the encoding of the value at the end of the buffer `room`, and answers how many bytes of the buffer come
+    /// before it; those stay as they were. It takes no memory.
+    ///
+    /// # Errors
+    ///
+    /// `Overlength` exactly where the encoding is longer than the buffer or than [`Length::MAX`](crate::Length::MAX),
+    /// or the error of a part that can't be encoded. Then the buffer may hold a part of the encoding.
     final fn encode_into(&self, room: &mut [u8]) -> Result<usize, Error>
         ensures ok { OnOk result (IsWritable Self.form (writes writing self.now) (min (length room.old) limit)) }
         ensures bytes { IfOk result (λ before. room.new ≡ take before room.old ++ written_spelling Self.form (writes writing self.now)) }
@@ -88,8 +112,12 @@ pub trait Encode: Grammar {
         Ok(fixed.start())
     }
 
-    /// Writes the bytes of the value at the end of the room, and answers that part, as [`encode_into`]: what comes
-    /// before it stays as it was. It takes no memory.
+    /// Writes the encoding of the value at the end of the buffer `room`, and answers that part of it, as
+    /// [`encode_into`]: what comes before it stays as it was. It takes no memory.
+    ///
+    /// # Errors
+    ///
+    /// Those of [`encode_into`].
     ///
     /// [`encode_into`]: Encode::encode_into
     final fn encode_to_slice<'a>(&self, room: &'a mut [u8]) -> Result<&'a [u8], Error>
@@ -103,7 +131,11 @@ pub trait Encode: Grammar {
     }
 }
 
-/// Puts an identifier octet and the length of what follows.
+/// Puts an identifier octet and the length of what follows into the room.
+///
+/// # Errors
+///
+/// `Overlength` where there is no place in the room; `Memory` when out of memory, only for a room that takes memory.
 #[tactic(auto, unfolding(x509_der_element::specs::Element::length_octets))]
 #[inline(always)]
 pub fn put_header<R: Room>(tag: u8, len: u32, room: &mut R) -> Result<(), Error>

@@ -1,10 +1,11 @@
-//! The written form of a type.
+//! The grammar of a type.
 
 use crate::decode::Decode;
 use crate::encode::Encode;
 use x509_der_element::Tag;
 
-/// A type each value of which is one element. What reading and writing speak of.
+/// A type of which each value is one element, with its form (the grammar as one record), on which decoding and encoding
+/// rest.
 pub trait Grammar: Sized {
     ghost use Rattle.std.specs.Prelude.{◌≡◌};
     ghost use Rattle.x509_der_element.specs.declared.error.ErrorKind.{ErrorKind};
@@ -13,10 +14,10 @@ pub trait Grammar: Sized {
 
     ghost form: { Form Self };
 
-    /// The refusals of reading besides `Malformed`.
+    /// The errors of decoding besides `Malformed`.
     ghost refuses: { ErrorKind → Type 0 } = { λ _. ⊥ };
 
-    /// The identifier of the value.
+    /// The identifier of the value's element.
     fn identifier(&self) -> Tag
         ensures { octet_of result ≡ form.tag self.now };
 
@@ -24,7 +25,7 @@ pub trait Grammar: Sized {
     fn is_start(octet: u8) -> bool
         ensures { result ≡ is_in octet form.starts };
 
-    /// The identifier that most values have: the one that readers look for first.
+    /// The identifier that most values have: the one that decoders look for first.
     fn usual() -> Tag {
         Tag::Sequence
     }

@@ -1,5 +1,6 @@
-//! What holds of all types that are read and written. Each law is a function with an empty body,
-//! whose contract is the law.
+//! What holds of all types that are decoded and encoded. A spelling is the encoding of a value, and a value is
+//! respelled where its encoding is that of another value, as a profile wants it for dates (`docs/MAP.md` has these
+//! words). Each law is a function with an empty body, whose contract is the law.
 
 ghost use Rattle.std.specs.Prelude.{◌≡◌, ◌++◌, List, ℕ, None};
 ghost use Rattle.x509_der_element.specs.Element.{limit};
@@ -25,30 +26,32 @@ pub fn one_value<T: Grammar>()
     ensures { (v w : T) (b : List ℕ) → Spells T.form v b → Spells T.form w b → v ≡ w }
 {}
 
-/// Decoding what was written and writing it again gives the same bytes, where what is written is written as it is.
+/// Decoding what was encoded and encoding it again gives the same bytes, where what is encoded is encoded again as it
+/// is.
 pub fn writing_again_gives_the_same<T: Encode>()
     ensures { IsStable T.form.good T.writing → (v w : T) → T.form.good v → (writes T.writing v).refusal ≡ None → Spells T.form w (written_spelling T.form (writes T.writing v)) → ((writes T.writing w).refusal ≡ None) × (written_spelling T.form (writes T.writing w) ≡ written_spelling T.form (writes T.writing v)) }
 {}
 
-/// Where what is written of a type's values is written as it is, of two values that are written alike the same value is
-/// spelled.
+/// Where what is encoded of a type's values is encoded again as it is, of two values with the same encoding the same
+/// value is spelled.
 pub fn what_is_written_alike_is_respelled_alike<T: Encode>()
     ensures { IsStable T.form.good T.writing → RespellsAlike T.form T.form.good T.writing }
 {}
 
-/// Where what is written of a type's values is written as it is, the bytes that are written of a value are read as the
-/// value that is spelled.
+/// Where what is encoded of a type's values is encoded again as it is, the encoding of a value decodes to the value
+/// that is spelled.
 pub fn what_was_written_reads_as_respelled<T: Encode>()
     ensures { IsStable T.form.good T.writing → (v : T) → T.form.good v → IsWritable T.form (writes T.writing v) limit → Spells T.form (writes T.writing v).value (written_spelling T.form (writes T.writing v)) }
 {}
 
-/// What is written of a type whose values are written as they are is written as it is: the premise of the laws above.
+/// What is encoded of a type whose values are encoded as they are is encoded again as it is: the premise of the laws
+/// above.
 pub fn plain_writing_is_stable<T: Encode>()
     ensures { T.writing ≡ plain → IsStable T.form.good T.writing }
 {}
 
-/// What is written of a value that a program made is read as the value that is spelled, where what is written of the type's
-/// values is written as it is: an authority that issues what it made issues what it meant.
+/// The encoding of a value that a program made decodes to the value that is spelled, where what is encoded of the
+/// type's values is encoded again as it is: an authority that issues what it made issues what it meant.
 pub fn what_is_written_of_a_value_is_read_as_meant<T: Encode + Spelled>(value: &T)
     ensures { IsStable T.form.good T.writing → T.premise value.now → IsWritable T.form (writes T.writing value.now) limit → Spells T.form (writes T.writing value.now).value (written_spelling T.form (writes T.writing value.now)) }
 {

@@ -1,4 +1,6 @@
-//! The grammar of strict DER.
+//! The grammar of strict DER. The form of a type is its grammar as one record; a value is good where it has an
+//! encoding, its spelling; a room is where bytes are put, from the end. `docs/MAP.md` has these and other words of our
+//! own.
 #![tactic(auto)]
 
 mod boolean;

@@ -22,8 +22,11 @@ fn check_natural(content: &[u8]) -> bool
     shortest && content.len() <= 17
 }
 
-/// The number of an INTEGER content; `Malformed` where it is below 0, not in as few octets as there can be, or
-/// 2<sup>128</sup> and more (X.690 8.3).
+/// The number of the content octets of an INTEGER.
+///
+/// # Errors
+///
+/// `Malformed` exactly where it is below 0, not in as few octets as possible, or 2<sup>128</sup> and more (X.690 8.3).
 #[tactic(auto, unfolding(crate::specs::Natural::natural_reading))]
 pub fn read_natural(content: &[u8]) -> Result<u128, Error>
     ensures exact { Gives result (natural_reading (2 ^ 128) content.now) }
@@ -42,7 +45,11 @@ pub fn read_natural(content: &[u8]) -> Result<u128, Error>
     Ok(number)
 }
 
-/// Puts the INTEGER content of the number in front of what stands.
+/// Puts the content octets of the number as an INTEGER in front of the bytes that stand in the room.
+///
+/// # Errors
+///
+/// `Overlength` where there is no place in the room; `Memory` when out of memory, only for a room that takes memory.
 pub fn put_natural<R: Room>(number: u128, room: &mut R) -> Result<(), Error>
     ensures { Puts R.kind (natural_octets number) None result room.old room.new }
 {

@@ -1,4 +1,4 @@
-//! Types round one value.
+//! Types with one field.
 
 use crate::clone::TryClone;
 use crate::content::Content;
@@ -9,7 +9,7 @@ use crate::room::Room;
 use std::alloc::Global;
 use x509_der_element::{Error, Tag};
 
-/// A type round one value, which is copied, read and written as that value is. From it come [`Content`] and
+/// A type with one field, which is copied, decoded and encoded as that field is. From it come [`Content`] and
 /// [`TryClone`].
 pub trait Newtype: Sized {
     ghost use Rattle.std.specs.Prelude.{◌≡◌};

@@ -1,4 +1,4 @@
-//! Rooms that are filled from their end.
+//! Rooms: where bytes are put, from the end.
 
 use x509_der_element::Error;
 
@@ -12,7 +12,7 @@ pub use fixed::Fixed;
 pub use growing::Growing;
 pub(crate) use shared::{bytes_after, share};
 
-/// Room in which bytes are put in front of those that stand already.
+/// A room: bytes are put into it in front of those that stand already.
 pub trait Room {
     ghost use Rattle.std.specs.Prelude.{◌≡◌, ◌≤◌, None, OnErr};
     ghost use Rattle.x509_der_grammar.specs.Writing.{Kind, IsKind, Puts};
@@ -24,7 +24,12 @@ pub trait Room {
         ensures count { result ≡ kind.count self.now }
         ensures within { result ≤ kind.most self.now };
 
-    /// Puts the bytes in front of those that stand. Where it is refused, the room is as it was.
+    /// Puts the bytes in front of those that stand.
+    ///
+    /// # Errors
+    ///
+    /// `Overlength` where there is no place in the room for them; `Memory` when out of memory, only for a room that
+    /// takes memory. On an error the room is unchanged.
     fn put(&mut self, bytes: &[u8]) -> Result<(), Error>
         ensures put { Puts kind bytes.now None result self.old self.new }
         ensures unchanged { OnErr result (self.new ≡ self.old) };

@@ -1,16 +1,17 @@
-//! Values that a program made: which of them are values of the grammar.
+//! Values that a program made: which of them have an encoding.
 
 use crate::content::Content;
 use crate::grammar::{FixedTag, Grammar};
 use crate::newtype::Newtype;
 
-/// A type of which each value that a program holds is one of its grammar, however it was made: what is written of it is
-/// read as what was meant.
+/// A type of which each value that a program holds has an encoding, however it was made: what is encoded of it decodes
+/// to what was meant.
 pub trait Spelled: Grammar {
-    /// What is to hold of a value for that: of most types nothing, as what a value may be is looked at where one is made.
+    /// The premise: what is to hold of a value for that. For most types it is nothing, as a value is checked where it
+    /// is made.
     ghost premise: { Self → Type 0 } = { λ value. Unit };
 
-    /// The value is one of the grammar. It is for proofs: it only looks at the parts of the value.
+    /// The value has an encoding. It is for proofs: it only looks at the parts of the value.
     fn has_spelling(&self)
         ensures { premise self.now → Self.form.good self.now };
 }

@@ -1,4 +1,4 @@
--- The order of a type round one value is that of the value within.
+-- The order of a type with one field is that of the value within.
 use Rattle.std.specs.Ordering.{on}
 use Rattle.std.proofs.Common.{sym, ◌∙◌, ap}
 use Rattle.std.proofs.lemmas.Cmp.{on_total}

@@ -1,4 +1,5 @@
-//! The byte order of strict DER: of contents and of encodings, without encoding (X.690 11.6).
+//! The byte order of strict DER: of contents and of encodings, without encoding (X.690 11.6). Words of our own, such as
+//! law, are explained in `docs/MAP.md`.
 #![tactic(auto)]
 
 pub mod laws;

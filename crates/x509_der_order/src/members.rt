@@ -1,4 +1,4 @@
-//! Members one after the other, and what may be left out.
+//! Members one after the other, and what may be absent.
 
 ghost use Rattle.std.specs.Prelude.{◌≡◌};
 ghost use Rattle.std.specs.Option.{option_cmp};
@@ -25,7 +25,7 @@ pub fn cmp_members<T: DerOrd>(a: &[T], b: &[T]) -> Ordering
     a.len().cmp(&b.len())
 }
 
-/// The byte order of what may be left out: nothing stands before an element, and two elements in their order.
+/// The byte order of what may be absent: an absent one stands before an element, and two elements in their order.
 pub fn cmp_optional<T: DerOrd>(a: &Option<T>, b: &Option<T>) -> Ordering
     ensures { result ≡ option_cmp (der_order T.form (writes T.writing) T.order) a.now b.now }
 {

@@ -1,10 +1,10 @@
-//! The order of types round one value.
+//! The order of types with one field.
 
 use crate::order::ValueOrd;
 use std::cmp::Ordering;
 use x509_der_grammar::{FixedTag, Newtype};
 
-/// A type round one value, which is compared as that value is: from it comes [`ValueOrd`].
+/// A type with one field, which is compared as that field is: from it comes [`ValueOrd`].
 pub trait NewtypeOrd: Newtype {}
 
 impl<T: NewtypeOrd> ValueOrd for T

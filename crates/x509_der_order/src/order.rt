@@ -7,8 +7,8 @@ ghost use Rattle.x509_der_order.specs.Order.{counted};
 use std::cmp::Ordering;
 use x509_der_grammar::Encode;
 
-/// A type whose values are compared as their contents: the byte order of the content octets, by the first that differ, a
-/// content that begins another before it (X.690 11.6).
+/// A type of which values are compared as their contents: the byte order of the content octets, by the first that
+/// differ, a content that begins another before it (X.690 11.6).
 ///
 /// It encodes nothing and takes no memory. Values that can't be encoded have their places in it too.
 pub trait ValueOrd: Encode {
@@ -25,8 +25,8 @@ pub trait ValueOrd: Encode {
     ghost ordered: { IsOrder Self.form (writes Self.writing) order };
 }
 
-/// A type whose values are compared as their encodings: the byte order of the octets of their elements. Each type whose
-/// contents are compared has it.
+/// A type of which values are compared as their encodings: the byte order of the octets of their elements. Each type
+/// whose contents are compared has it.
 pub trait DerOrd: ValueOrd {
     ghost use Rattle.std.specs.Prelude.{◌≡◌};
     ghost use Rattle.x509_der_grammar.specs.Writing.{writes};
@@ -50,8 +50,8 @@ pub trait DerOrd: ValueOrd {
 
 impl<T: ValueOrd> DerOrd for T {}
 
-/// How many content octets are written; one more than [`Length::MAX`](x509_der_grammar::Length::MAX) where the value
-/// can't be written.
+/// How many content octets are encoded; one more than [`Length::MAX`](x509_der_grammar::Length::MAX) where the value
+/// can't be encoded.
 #[tactic(auto, using(crate::specs::Ordered::counted_written, crate::specs::Ordered::counted_refused, crate::specs::Ordered::counted_too_long))]
 fn counted_len<T: Encode>(value: &T) -> u32
     ensures { result ≡ counted T.form (writes T.writing) value.now }

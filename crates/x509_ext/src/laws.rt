@@ -29,21 +29,22 @@ pub use x509_ext_frame::laws::{
 };
 pub use x509_ext_name::laws::equality_of_general_names_is_exact;
 
-/// A named bit is there where it is a one in the bit string (X.680 22.7).
+/// A named bit is set where it is a one in the bit string (X.680 22.7).
 #[tactic(auto, using(crate::proofs::Bits::named_bit))]
 pub fn named_bits_are_ones()
     ensures { (usage : KeyUsage) (n : ℕ) → has_bit usage n ≡ is_one usage.0.0 n }
 {}
 
-/// What is written of a set of uses is written as it is: decoding and encoding twice gives the bytes of once. It is the
-/// premise of the laws of canonical form of
+/// What is encoded of a set of key usages is encoded again as it is: decoding and encoding twice gives the bytes of
+/// once. It is the premise of the laws of canonical form of
 /// [`x509_der_grammar::laws`](x509_der_grammar::laws::writing_again_gives_the_same).
 pub fn key_usages_are_written_once()
     ensures usages { IsStable ⟦<KeyUsages as Grammar>⟧.form.good ⟦<KeyUsages as Encode>⟧.writing }
     ensures extension { IsStable ⟦<KeyUsage as Grammar>⟧.form.good ⟦<KeyUsage as Encode>⟧.writing }
 {}
 
-/// `==` of what extensions say of keys holds exactly of equal values: of sets of uses, where they have the same bits.
+/// `==` of the extensions about keys holds exactly of equal values: of sets of key usages, where they have the same
+/// bits.
 #[tactic(auto, using(crate::specs::Equality::exact_key_usages, crate::specs::Equality::exact_key_usage, crate::specs::Equality::exact_extended_key_usage, crate::specs::Equality::exact_private_key_usage_period, crate::specs::Equality::exact_subject_key_identifier, crate::specs::Equality::exact_authority_key_identifier))]
 pub fn equality_of_key_extensions_is_exact()
     ensures uses { (a b : KeyUsages) → (⟦<KeyUsages as PartialEq>⟧.eq a b ≡ true) ↔ (a ≡ b) }
@@ -54,7 +55,7 @@ pub fn equality_of_key_extensions_is_exact()
     ensures authority_keys { (a b : AuthorityKeyIdentifier) → (⟦<AuthorityKeyIdentifier as PartialEq>⟧.eq a b ≡ true) ↔ (a ≡ b) }
 {}
 
-/// `==` of what extensions say of the subject and of the issuer holds exactly of equal values: lists are equal where they
+/// `==` of the extensions about the subject and the issuer holds exactly of equal values: lists are equal where they
 /// have the same members in the same order.
 #[tactic(auto, using(crate::specs::Equality::exact_basic_constraints, crate::specs::Equality::exact_subject_alt_name, crate::specs::Equality::exact_issuer_alt_name, crate::specs::Equality::exact_subject_directory_attributes, crate::specs::Equality::exact_access_description, crate::specs::Equality::exact_authority_info_access_syntax, crate::specs::Equality::exact_subject_info_access_syntax))]
 pub fn equality_of_party_extensions_is_exact()

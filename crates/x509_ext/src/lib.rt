@@ -1,4 +1,5 @@
-//! Extensions (RFC 5280 4.2): how they stand in certificates, and what they hold.
+//! Extensions (RFC 5280 4.2): how they stand in certificates, and what they hold. Words of our own, such as law, are
+//! explained in `docs/MAP.md`.
 #![tactic(auto)]
 
 pub mod laws;

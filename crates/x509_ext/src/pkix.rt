@@ -1,4 +1,4 @@
-//! What extensions hold, by its identifiers and forms in RFC 5280.
+//! The extensions of RFC 5280: the types of their values.
 
 mod access;
 mod alternative_names;
@@ -35,7 +35,7 @@ pub mod name {
     pub use x509_name_attribute::DirectoryString;
 }
 
-/// What limits the certificates that may follow.
+/// Basic constraints.
 pub mod constraints {
     pub use super::BasicConstraints;
 }

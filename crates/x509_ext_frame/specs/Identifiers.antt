@@ -1,4 +1,4 @@
--- The identifiers of extensions, and of what stands in them.
+-- The OIDs of extensions, and of what stands in them.
 use Rattle.std.specs.Prelude.{ℕ, List, [], ◌∷◌}
 
 -- the content octets of 2.5.29.n, where n is below 128 (id-ce; RFC 5280 4.2.1)

@@ -1,4 +1,4 @@
-//! Extensions, whose payloads are not looked into.
+//! Extensions, whose values aren't decoded further.
 
 use std::alloc::Global;
 use x509_der_frames::{PutPart, SequenceOf, default_field, defaulted, end, field};
@@ -16,17 +16,18 @@ use x509_prim::OctetString;
 /// ```
 #[derive(Debug, Drop, PartialEq, Eq)]
 pub struct Extension {
-    /// What kind of extension it is.
+    /// The OID of the extension.
     pub extn_id: ObjectIdentifier,
 
-    /// Whether who does not know it, or can't handle what it says, has to refuse the whole (RFC 5280 4.2).
+    /// Whether an implementation that doesn't know the extension, or can't process its value, has to refuse the
+    /// certificate or CRL (RFC 5280 4.2).
     pub critical: bool,
 
-    /// The encoding of the payload. It isn't looked into here.
+    /// The encoding of the extension's value. It isn't decoded here.
     pub extn_value: OctetString,
 }
 
-/// Extensions in their order (RFC 5280 4.1.2.9). A sequence without members is read and written too.
+/// A list of extensions, in their order (RFC 5280 4.1.2.9). An empty sequence is decoded and encoded too.
 ///
 /// ```text
 /// Extensions ::= SEQUENCE OF Extension

@@ -1,6 +1,6 @@
-//! The identifiers of extensions, and of what stands in them.
+//! The OIDs of extensions, and of what stands in them.
 
-/// The object identifier 2.5.29.n, where n is below 128 (id-ce; RFC 5280 4.2.1).
+/// The OID 2.5.29.n, where n is below 128 (id-ce; RFC 5280 4.2.1).
 #[macro_export]
 macro_rules! id_ce {
     ($n:literal) => {
@@ -14,7 +14,7 @@ macro_rules! id_ce {
     };
 }
 
-/// The object identifier 1.3.6.1.5.5.7.a.n, where a and n are below 128 (id-pkix; RFC 5280 4.2.2).
+/// The OID 1.3.6.1.5.5.7.a.n, where a and n are below 128 (id-pkix; RFC 5280 4.2.2).
 #[macro_export]
 macro_rules! id_pkix {
     ($a:literal, $n:literal) => {

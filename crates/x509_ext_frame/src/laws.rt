@@ -7,13 +7,13 @@ ghost use Rattle.x509_ext_frame.specs.declared.extension.Extension.{Extension};
 
 use crate::extension::{Extension, Extensions};
 
-/// The octets that stand for 2.5.29.n are its content (X.690 8.19).
+/// The octets that stand for 2.5.29.n are its content octets (X.690 8.19).
 #[tactic(auto, using(crate::proofs::ArcsOfExtensions::id_ce_content))]
 pub fn identifiers_of_extensions()
     ensures { (n : ℕ) → n < 128 → id_ce n ≡ content_of (2 ∷ 5 ∷ 29 ∷ n ∷ []) }
 {}
 
-/// The octets that stand for 1.3.6.1.5.5.7.a.n are its content (X.690 8.19).
+/// The octets that stand for 1.3.6.1.5.5.7.a.n are its content octets (X.690 8.19).
 #[tactic(auto, using(crate::proofs::ArcsOfExtensions::id_pkix_content))]
 pub fn identifiers_of_pkix()
     ensures { (a n : ℕ) → a < 128 → n < 128 → id_pkix a n ≡ content_of (1 ∷ 3 ∷ 6 ∷ 1 ∷ 5 ∷ 5 ∷ 7 ∷ a ∷ n ∷ []) }

@@ -1,5 +1,5 @@
-//! Extensions of certificates, of CRLs and of requests, and how they are made of their
-//! payloads.
+//! Extensions of certificates, of CRLs and of CSRs, and how they are made of their values. Words of our own, such as
+//! law, are explained in `docs/MAP.md`.
 #![tactic(auto)]
 
 mod extension;

@@ -1,4 +1,4 @@
-//! Making extensions of their payloads.
+//! Making extensions of their values.
 
 ghost use Rattle.x509_der_grammar.specs.Writing.{writes};
 ghost use Rattle.x509_ext_frame.specs.ToExtension.{Makes};
@@ -9,35 +9,38 @@ use x509_der_grammar::{Encode, Error};
 use x509_name::name::{AssociatedOid, Name, ObjectIdentifier};
 use x509_prim::OctetString;
 
-/// A payload that says whether its extension is critical, where the caller does not (RFC 5280 4.2).
+/// An extension's value that says whether the extension is critical, where the caller does not (RFC 5280 4.2).
 pub trait Criticality {
     ghost use Rattle.std.specs.Prelude.{◌≡◌, Bool, List};
     ghost use Rattle.x509_name.specs.AttributeTypeAndValue.{AttributeTypeAndValue};
     ghost use Rattle.x509_ext_frame.specs.declared.extension.Extension.{Extension};
 
-    /// Whether it is, under that subject and behind those extensions.
+    /// Whether it is critical, with that subject and after those extensions.
     ghost is_critical: { Self → List (List AttributeTypeAndValue) → List Extension → Bool };
 
-    /// Whether the extension is critical in a certificate of that subject, behind those extensions.
+    /// Whether the extension is critical in a certificate with that subject, after those extensions.
     fn criticality(&self, subject: &Name, extensions: &[Extension]) -> bool
         ensures { result ≡ is_critical self.now subject.now extensions.now };
 }
 
-/// What an extension can be made of: an extension, or a payload with or without an identifier and a criticality.
+/// What an extension can be made of: an extension, or a value with or without an OID and a criticality.
 pub trait ToExtension: Sized {
     ghost use Rattle.std.specs.Prelude.{List, Result};
     ghost use Rattle.x509_der_element.specs.declared.error.Error.{Error};
     ghost use Rattle.x509_name.specs.AttributeTypeAndValue.{AttributeTypeAndValue};
     ghost use Rattle.x509_ext_frame.specs.declared.extension.Extension.{Extension};
 
-    /// What the call answers, under that subject and behind those extensions.
+    /// What the call answers, with that subject and after those extensions.
     ghost makes: { Self → List (List AttributeTypeAndValue) → List Extension → Result Extension Error → Type 0 };
 
-    /// The extension, for a certificate of that subject, behind those extensions.
+    /// The extension, for a certificate with that subject, after those extensions. An extension stays as it is. The
+    /// extension of a value holds the bytes of the value's [`Encode::to_der`].
     ///
-    /// An extension stays as it is. That of a payload holds the bytes of its [`Encode::to_der`]. It is refused where
-    /// that is refused; memory aside, it is else refused exactly by `Overlength` where the OCTET STRING that is to hold
-    /// these bytes would be longer than [`Length::MAX`](x509_der_grammar::Length::MAX).
+    /// # Errors
+    ///
+    /// None for an extension. For a value those of [`Encode::to_der`]; where that succeeds, `Overlength` exactly where
+    /// the OCTET STRING that is to hold the bytes would be longer than [`Length::MAX`](x509_der_grammar::Length::MAX).
+    /// `Memory` when out of memory.
     fn to_extension(
         self,
         alloc: Global,
@@ -47,7 +50,7 @@ pub trait ToExtension: Sized {
         ensures { makes self subject.now extensions.now result };
 }
 
-/// The extension that holds the encoding of the payload.
+/// The extension that holds the encoding of the value.
 fn hold<T: Encode>(
     alloc: Global,
     extn_id: ObjectIdentifier,
@@ -80,7 +83,7 @@ impl ToExtension for Extension {
     }
 }
 
-/// A payload, under the identifier of its type and as critical as it says.
+/// A value, under the OID of its type and as critical as it says.
 impl<T: AssociatedOid + Criticality + Encode> ToExtension for &T {
     ghost use Rattle.x509_der_grammar.specs.Writing.{writes};
     ghost use Rattle.x509_ext_frame.specs.ToExtension.{Makes};
@@ -98,7 +101,7 @@ impl<T: AssociatedOid + Criticality + Encode> ToExtension for &T {
     }
 }
 
-/// A payload under that identifier, as critical as it says.
+/// A value under that OID, as critical as it says.
 impl<T: Criticality + Encode> ToExtension for (ObjectIdentifier, &T) {
     ghost use Rattle.x509_der_grammar.specs.Writing.{writes};
     ghost use Rattle.x509_ext_frame.specs.ToExtension.{Makes};
@@ -117,7 +120,7 @@ impl<T: Criticality + Encode> ToExtension for (ObjectIdentifier, &T) {
     }
 }
 
-/// A payload under the identifier of its type, critical or not as is said.
+/// A value under the OID of its type, critical or not as is said.
 impl<T: AssociatedOid + Encode> ToExtension for (bool, &T) {
     ghost use Rattle.x509_der_grammar.specs.Writing.{writes};
     ghost use Rattle.x509_ext_frame.specs.ToExtension.{Makes};
@@ -135,7 +138,7 @@ impl<T: AssociatedOid + Encode> ToExtension for (bool, &T) {
     }
 }
 
-/// A payload under that identifier, critical or not as is said.
+/// A value under that OID, critical or not as is said.
 impl<T: Encode> ToExtension for (ObjectIdentifier, bool, &T) {
     ghost use Rattle.x509_der_grammar.specs.Writing.{writes};
     ghost use Rattle.x509_ext_frame.specs.ToExtension.{Makes};

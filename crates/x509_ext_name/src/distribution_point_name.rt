@@ -1,4 +1,4 @@
-//! Names of the places at which CRLs are found.
+//! Names of CRL distribution points.
 
 use crate::general_name::GeneralNames;
 use std::alloc::Global;
@@ -8,7 +8,7 @@ use x509_der_grammar::{
 };
 use x509_ext_frame::RelativeDistinguishedName;
 
-/// The name of a place at which a CRL is found (RFC 5280 4.2.1.13).
+/// The name of a CRL distribution point (RFC 5280 4.2.1.13).
 ///
 /// ```text
 /// DistributionPointName ::= CHOICE {
@@ -17,10 +17,10 @@ use x509_ext_frame::RelativeDistinguishedName;
 /// ```
 #[derive(Debug, PartialEq, Eq)]
 pub enum DistributionPointName {
-    /// Names of the place.
+    /// The full name, as general names.
     FullName(GeneralNames),
 
-    /// What stands behind the name of the list's issuer.
+    /// An RDN that is appended to the name of the CRL issuer.
     NameRelativeToCRLIssuer(RelativeDistinguishedName),
 }
 

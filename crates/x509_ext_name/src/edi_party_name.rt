@@ -1,4 +1,4 @@
-//! Names of electronic data interchange.
+//! EDI party names.
 
 use std::alloc::Global;
 use x509_der_frames::{
@@ -8,8 +8,8 @@ use x509_der_frames::{
 use x509_der_grammar::{Content, Error, Room, Spelled, Tag, TryClone};
 use x509_name_attribute::DirectoryString;
 
-/// A name of electronic data interchange (RFC 5280 4.2.1.6). Its tags are explicit, since what they are put on is a choice
-/// (X.680 31.2.7).
+/// A name of a party in electronic data interchange (RFC 5280 4.2.1.6). Its tags are explicit, since what they tag is a
+/// CHOICE (X.680 31.2.7).
 ///
 /// ```text
 /// EDIPartyName ::= SEQUENCE {
@@ -18,7 +18,7 @@ use x509_name_attribute::DirectoryString;
 /// ```
 #[derive(Debug, PartialEq, Eq)]
 pub struct EdiPartyName {
-    /// Who gave the name.
+    /// The authority that assigned the name.
     pub name_assigner: Option<DirectoryString>,
 
     /// The name.

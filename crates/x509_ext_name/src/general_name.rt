@@ -16,17 +16,17 @@ use x509_ext_frame::Name;
 use x509_prim::OctetString;
 use x509_prim_text::Ia5String;
 
-/// An address of the Internet protocol (RFC 791, RFC 4291), its octets in the order of the network.
+/// An IP address (RFC 791, RFC 4291), its octets in network byte order.
 #[derive(Clone, Copy, Debug, PartialEq, Eq)]
 pub enum IpAddress {
-    /// Of version 4.
+    /// IPv4.
     V4([u8; 4]),
 
-    /// Of version 6.
+    /// IPv6.
     V6([u8; 16]),
 }
 
-/// A name of some kind (RFC 5280 4.2.1.6). There is no `x400Address`, whose identifier \[3\] is `Malformed`.
+/// A general name (RFC 5280 4.2.1.6). There is no `x400Address`, whose identifier \[3\] is `Malformed`.
 ///
 /// ```text
 /// GeneralName ::= CHOICE {
@@ -41,7 +41,7 @@ pub enum IpAddress {
 /// ```
 #[derive(Debug, PartialEq, Eq)]
 pub enum GeneralName {
-    /// A name whose type is told by an OID.
+    /// A name whose type is given by an OID.
     OtherName(OtherName),
 
     /// An e-mail address.
@@ -59,8 +59,7 @@ pub enum GeneralName {
     /// A URI.
     UniformResourceIdentifier(Ia5String),
 
-    /// An IP address; in name constraints an address and a mask. How many octets there are isn't
-    /// looked at.
+    /// An IP address; in name constraints an address and a mask. The number of octets isn't checked.
     IpAddress(OctetString),
 
     /// A registered OID.
@@ -82,7 +81,7 @@ impl Drop for GeneralName {
     }
 }
 
-/// General names in their order (RFC 5280 4.2.1.6). A sequence without members is read and written too.
+/// A list of general names, in their order (RFC 5280 4.2.1.6). An empty sequence is decoded and encoded too.
 ///
 /// ```text
 /// GeneralNames ::= SEQUENCE OF GeneralName
@@ -90,7 +89,11 @@ impl Drop for GeneralName {
 pub type GeneralNames = SequenceOf<GeneralName>;
 
 impl GeneralName {
-    /// The name that is the address. It takes no memory and is never refused.
+    /// The general name that is the address. It takes no memory.
+    ///
+    /// # Errors
+    ///
+    /// None: it is never refused.
     pub fn from_ip(alloc: Global, address: IpAddress) -> Result<GeneralName, Error>
         ensures { IsOkAnd result (λ name. name ≡ names.IpAddress (address_octets address)) }
     {
@@ -101,8 +104,8 @@ impl GeneralName {
         Ok(GeneralName::IpAddress(octets))
     }
 
-    /// The address that the name is: of version 4 exactly where it is an `iPAddress` of 4 octets, of version 6 exactly where it is one of
-    /// 16 (RFC 5280 4.2.1.6). `None` else, as for an address and a mask of name constraints (RFC 5280 4.2.1.10).
+    /// The IP address: IPv4 exactly where the name is an `iPAddress` of 4 octets, IPv6 exactly where it is one of 16
+    /// (RFC 5280 4.2.1.6). `None` else, as for an address and a mask of name constraints (RFC 5280 4.2.1.10).
     pub fn to_ip(&self) -> Option<IpAddress>
         ensures { result ≡ ip_of self.now }
     {

@@ -10,7 +10,7 @@ use x509_der_grammar::{Content, Error, Room, Spelled, Tag, TryClone};
 use x509_ext_frame::id_pkix;
 use x509_prim::OctetString;
 
-/// The kind of an [`OtherName`] that is a [`HardwareModuleName`], 1.3.6.1.5.5.7.8.4 (RFC 4108 5).
+/// The `type_id` of an [`OtherName`] that is a [`HardwareModuleName`], 1.3.6.1.5.5.7.8.4 (RFC 4108 5).
 pub const ID_ON_HARDWARE_MODULE_NAME: ObjectIdentifier = id_pkix!(8, 4);
 
 /// The name of a hardware module (RFC 4108 5).
@@ -25,14 +25,17 @@ pub struct HardwareModuleName {
     /// The type of module.
     pub hw_type: ObjectIdentifier,
 
-    /// The serial number among the modules of that type.
+    /// The serial number of the module, among those of its type.
     pub hw_serial_num: OctetString,
 }
 
 impl HardwareModuleName {
-    /// The name of a hardware module that stands in a name of another kind: `None` where the identifier tells another
-    /// kind, and `Malformed` exactly where it tells this one and the value is not the element of one. Memory may be
-    /// refused for one of this kind.
+    /// The name of a hardware module that stands in an `otherName`; `None` exactly where the OID is another one.
+    ///
+    /// # Errors
+    ///
+    /// Where the OID is [`ID_ON_HARDWARE_MODULE_NAME`]: `Malformed` exactly where the value is no
+    /// [`HardwareModuleName`], and `Memory` when out of memory.
     pub fn from_other_name(
         alloc: Global,
         other_name: &OtherName,

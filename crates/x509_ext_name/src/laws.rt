@@ -16,7 +16,7 @@ use crate::hardware_module_name::HardwareModuleName;
 use crate::other_name::OtherName;
 
 /// `==` of general names and of what stands in them holds exactly of equal values: letters are compared with their
-/// case, and the same text in a name of another kind is another name.
+/// case, and the same text in another kind of name is another name.
 #[tactic(auto, using(crate::specs::Equality::exact_other_name, crate::specs::Equality::exact_edi_party_name, crate::specs::Equality::exact_general_name, crate::specs::Equality::exact_ip_address, crate::specs::Equality::exact_hardware_module_name, crate::specs::Equality::exact_distribution_point_name))]
 pub fn equality_of_general_names_is_exact()
     ensures other_names { (a b : OtherName) → (⟦<OtherName as PartialEq>⟧.eq a b ≡ true) ↔ (a ≡ b) }

@@ -1,4 +1,4 @@
-//! General names, and what stands in them.
+//! General names, and what stands in them. Words of our own, such as law, are explained in `docs/MAP.md`.
 #![tactic(auto)]
 
 mod distribution_point_name;

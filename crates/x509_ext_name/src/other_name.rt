@@ -1,4 +1,4 @@
-//! Names of a kind that an identifier tells.
+//! Names whose type is given by an OID.
 
 ghost use Rattle.std.specs.Prelude.{◌≡◌, ◌<◌, ◌⊎◌, length, IfOk, IfErr};
 ghost use Rattle.x509_der_element.specs.Element.{limit};
@@ -12,7 +12,7 @@ use x509_der::ObjectIdentifier;
 use x509_der_frames::{Any, PutPart, end, explicit, explicit_field, field};
 use x509_der_grammar::{Content, Error, Room, Spelled, Tag, TryClone};
 
-/// A name of a kind that an identifier tells (RFC 5280 4.2.1.6).
+/// A name whose type is given by an OID (RFC 5280 4.2.1.6).
 ///
 /// ```text
 /// OtherName ::= SEQUENCE {
@@ -21,16 +21,20 @@ use x509_der_grammar::{Content, Error, Room, Spelled, Tag, TryClone};
 /// ```
 #[derive(Debug, Drop, PartialEq, Eq)]
 pub struct OtherName {
-    /// The kind of name.
+    /// The OID of the name's type.
     pub type_id: ObjectIdentifier,
 
-    /// The name.
+    /// The name, of the type that the OID says.
     pub value: Any,
 }
 
 impl OtherName {
-    /// The name of a hardware module (RFC 4108 5). `Overlength` exactly where its element would be longer than
-    /// [`Length::MAX`](x509_der_grammar::Length::MAX). Memory may be refused.
+    /// The name of a hardware module (RFC 4108 5).
+    ///
+    /// # Errors
+    ///
+    /// `Overlength` exactly where the element of the module's name would be longer than
+    /// [`Length::MAX`](x509_der_grammar::Length::MAX). `Memory` when out of memory.
     pub fn from_hardware_module(
         alloc: Global,
         hardware: &HardwareModuleName,

@@ -83,7 +83,8 @@ fn of_parties(rt: HostRuntime) -> Result<(), Fail> {
     Ok(())
 }
 
-/// The policy 1.2.3, qualified by where the statement of practices stands, and that policy mapped to 1.2.4.
+/// The policy 1.2.3, with the URI of a certification practice statement (CPS) as qualifier, and that policy mapped to
+/// 1.2.4.
 #[test]
 fn of_policies(rt: HostRuntime) -> Result<(), Fail> {
     let policies = [

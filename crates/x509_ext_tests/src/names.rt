@@ -1,4 +1,4 @@
-//! Relative distinguished names, their sequences, and look-ups in names.
+//! Relative distinguished names (RDNs), their sequences, and look-ups in names.
 
 use crate::calls::{is_refused, is_written, prints};
 use std::test::*;
@@ -34,7 +34,7 @@ fn inserts_in_either_order(rt: HostRuntime) -> Result<(), Fail> {
     Ok(())
 }
 
-/// Whether the sequence of the relative distinguished name of the text alone prints it, and so does that of its list.
+/// Whether the sequence of the RDN of the text alone prints it, and so does that of its list.
 fn is_pushed(rt: &HostRuntime, text: &str) -> Result<bool, Error> {
     let mut rdns = RdnSequence::new(rt.alloc());
     rdns.push(RelativeDistinguishedName::from_str(rt.alloc(), text)?)?;

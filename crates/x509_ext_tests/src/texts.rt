@@ -93,7 +93,7 @@ const NET: &str = "DC=net";
 
 const NET_ENCODING: &[u8] = b"\x30\x11\x06\x0A\x09\x92\x26\x89\x93\xF2\x2C\x64\x01\x19\x16\x03net";
 
-/// Whether the relative distinguished name of the text prints it.
+/// Whether the RDN of the text prints it.
 fn is_rdn(rt: &HostRuntime) -> Result<bool, Error> {
     let rdn = RelativeDistinguishedName::from_str(rt.alloc(), NET)?;
     prints(rt, &rdn, NET)

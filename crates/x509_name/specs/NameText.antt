@@ -1,4 +1,4 @@
--- The texts of relative distinguished names and of names (RFC 4514 sections 2.1, 2.2 and 3).
+-- The texts of relative distinguished names (RDNs) and of names (RFC 4514 sections 2.1, 2.2 and 3).
 use Rattle.std.specs.Prelude.{◌≡◌, ◌≢◌, ◌⊎◌, ℕ, List, [], ◌∷◌, map, reverse}
 use Rattle.std.specs.List.{AllByRecursion, AllZip, join_with_byte}
 use Rattle.std.specs.List.Sorted.{IsStrictlySortedBy, IsPermutation}

@@ -1,4 +1,4 @@
--- What names are made of (RFC 5280 4.1.2.4, appendix A.1). A set or a sequence without members is one too.
+-- What names are made of (RFC 5280 4.1.2.4, appendix A.1). An empty set or sequence is one too.
 use Rattle.std.specs.Prelude.{◌≡◌, Bool, List, refl}
 use Rattle.std.specs.Bool.{Decides}
 use Rattle.std.specs.Cmp.{IsEquivalence, IsTotalOrder}

@@ -27,14 +27,14 @@ pub fn bytes_determine_the_name()
     one_value::<Name>();
 }
 
-/// Relative distinguished names of the same attributes are equal, in whatever order these were put in.
+/// RDNs of the same attributes are equal, in whatever order these were inserted.
 pub fn attributes_make_the_rdn()
     ensures { (a b : List AttributeTypeAndValue) → IsStrictlySortedBy type_and_value_cmp a → IsStrictlySortedBy type_and_value_cmp b → IsPermutation a b → a ≡ b }
 {
     members_make_the_set::<AttributeTypeAndValue>();
 }
 
-/// `==` of relative distinguished names, of sequences of them and of names holds exactly of equal values.
+/// `==` of RDNs, of sequences of them and of names holds exactly of equal values.
 #[tactic(auto, using(crate::specs::Names::rdn_decides, crate::specs::Names::rdn_sequence_decides))]
 pub fn equal_names_are_one_value()
     ensures rdns { (a b : List AttributeTypeAndValue) → (⟦<RelativeDistinguishedName as PartialEq>⟧.eq a b ≡ true) ↔ (a ≡ b) }
@@ -42,7 +42,7 @@ pub fn equal_names_are_one_value()
     ensures names { (a b : List (List AttributeTypeAndValue)) → (⟦<Name as PartialEq>⟧.eq a b ≡ true) ↔ (a ≡ b) }
 {}
 
-/// Names with encodings, relative distinguished names and sequences of them stand, as keys, in the byte order of the encodings.
+/// Names that have an encoding, RDNs and sequences of them are ordered, as keys, by the bytes of their encodings.
 pub fn names_stand_in_the_order_of_encodings()
     ensures rdns { (v w : List AttributeTypeAndValue) (a b : List ℕ) → Spells relative_distinguished_name v a → Spells relative_distinguished_name w b → ⟦<RelativeDistinguishedName as Ord>⟧.cmp v w ≡ bytes_cmp a b }
     ensures sequences { (v w : List (List AttributeTypeAndValue)) (a b : List ℕ) → Spells rdn_sequence v a → Spells rdn_sequence w b → ⟦<RdnSequence as Ord>⟧.cmp v w ≡ bytes_cmp a b }
@@ -53,28 +53,28 @@ pub fn names_stand_in_the_order_of_encodings()
     encodings_in_order::<Name>();
 }
 
-/// What is printed of a name reads as that name: of each name without an empty relative distinguished name, whose attributes
-/// that are printed by name have the tag of their type. So does what is printed of one relative distinguished name.
+/// What is printed of a name reads as that name: of each name without an empty RDN, whose attributes that are printed
+/// by name have the tag of their type. So does what is printed of one RDN.
 #[tactic(auto, using(crate::proofs::NameTexts::rdn_again, crate::proofs::NameTexts::name_again))]
 pub fn printed_names_read_back()
     ensures rdns { (rdn : List AttributeTypeAndValue) → texts.RdnReadsBack rdn → texts.RdnReads (texts.rdn_text rdn) rdn }
     ensures names { (name : List (List AttributeTypeAndValue)) → texts.NameReadsBack name → texts.NameReads (texts.name_text name) name }
 {}
 
-/// A text reads as at most one name, and as at most one relative distinguished name.
+/// A text reads as at most one name, and as at most one RDN.
 pub fn a_text_reads_as_one_name()
     ensures rdns { (text : List ℕ) (rdn other : List AttributeTypeAndValue) → texts.RdnReads text rdn → texts.RdnReads text other → rdn ≡ other }
     ensures names { (text : List ℕ) (name other : List (List AttributeTypeAndValue)) → texts.NameReads text name → texts.NameReads text other → name ≡ other }
 {}
 
-/// No two names that read back print alike, and no two relative distinguished names.
+/// No two names that read back print alike, and no two RDNs.
 #[tactic(auto, using(crate::proofs::NameTexts::rdns_apart, crate::proofs::NameTexts::names_apart))]
 pub fn no_two_names_print_alike()
     ensures rdns { (rdn other : List AttributeTypeAndValue) → texts.RdnReadsBack rdn → texts.RdnReadsBack other → texts.rdn_text rdn ≡ texts.rdn_text other → rdn ≡ other }
     ensures names { (name other : List (List AttributeTypeAndValue)) → texts.NameReadsBack name → texts.NameReadsBack other → texts.name_text name ≡ texts.name_text other → name ≡ other }
 {}
 
-/// A text that reads is refused by nothing, and a text is refused in at most one way.
+/// A text that reads has no error, and a text has at most one error.
 pub fn a_text_is_refused_in_one_way()
     ensures rdns { (text : List ℕ) (rdn : List AttributeTypeAndValue) (kind : ErrorKind) → texts.RdnReads text rdn → texts.RdnRefused text kind → ⊥ }
     ensures rdns_once { (text : List ℕ) (kind other : ErrorKind) → texts.RdnRefused text kind → texts.RdnRefused text other → kind ≡ other }

@@ -1,4 +1,4 @@
-//! Names: relative distinguished names, sequences of them, and names.
+//! Relative distinguished names (RDNs), sequences of them, and names.
 
 pub mod attribute_types;
 mod iterators;

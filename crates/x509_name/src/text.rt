@@ -1,4 +1,4 @@
-//! What the texts of names are made of: the table of the names of attributes, escapes, and parts at separators.
+//! What the texts of names are made of: the table of attribute names, escapes, and the splitting at separators.
 
 pub use x509_name_attribute::{
     KEYS, Key, Parts, Row, TextType, count_parts, key_named, key_of, read_attribute, tag_for,

@@ -1,4 +1,4 @@
--- The names of types of attributes in texts, and their arcs (RFC 4514 section 3, RFC 4519 section 2, RFC 2985 5.2.1, RFC 5280
+-- The names of attribute types in texts, and their arcs (RFC 4514 section 3, RFC 4519 section 2, RFC 2985 5.2.1, RFC 5280
 -- 4.1.2.4 and A.1). That dnQualifier reads as a UTF8String is told in docs/DEFINITIONS.md.
 use Rattle.std.specs.Prelude.{ℕ, List, [], ◌∷◌, codes}
 use Rattle.x509_der_element.specs.declared.tag.Tag.{Tag}

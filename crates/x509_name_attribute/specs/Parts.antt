@@ -1,4 +1,4 @@
--- A text cut into parts at a separator that no backslash escapes (RFC 4514 sections 2.1, 2.2 and 3).
+-- A text split into parts at a separator that no backslash escapes (RFC 4514 sections 2.1, 2.2 and 3).
 use Rattle.std.specs.Prelude.{◌≡◌, ℕ, suc, ◌%◌, ◌<◌, nat_eq, List, [], ◌∷◌, ◌++◌, length, if◌then◌else◌}
 use Rattle.std.specs.List.{AllByRecursion, join_with_byte}
 

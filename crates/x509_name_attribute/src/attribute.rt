@@ -1,4 +1,4 @@
-//! Attributes with a set of values, as certification requests have them.
+//! Attributes with a set of values, as CSRs have them.
 
 use crate::type_and_value::{AttributeType, AttributeValue};
 use std::alloc::Global;
@@ -7,7 +7,7 @@ use x509_der::{DerOrd, SetMember, SetOfVec, SetOrd, ValueOrd};
 use x509_der_frames::{PutPart, end, field};
 use x509_der_grammar::{Content, Error, Room, Spelled, Tag, TryClone};
 
-/// The type of an attribute, with its values (RFC 2986 4.1). A set without values is read and written too.
+/// An attribute: its type, and a set of values (RFC 2986 4.1). An empty set is decoded and encoded too.
 ///
 /// ```text
 /// Attribute ::= SEQUENCE {
@@ -23,7 +23,7 @@ pub struct Attribute {
     pub values: SetOfVec<AttributeValue>,
 }
 
-/// Attributes, no two of them equal, in the byte order of their encodings (RFC 2986 4.1).
+/// A set of attributes: no two of them equal, in the byte order of their encodings (RFC 2986 4.1).
 pub type Attributes = SetOfVec<Attribute>;
 
 impl TryClone for Attribute {
@@ -96,7 +96,7 @@ impl SetMember for Attribute {
     ghost in_der_order = { refl };
 }
 
-/// By the encodings, as [`DerOrd`] compares them.
+/// Attributes are compared by their encodings, as [`DerOrd`] compares them.
 impl PartialEq for Attribute {
     ghost use Rattle.std.specs.Cmp.{partial_equiv_from_equiv};
     ghost use Rattle.x509_name_attribute.specs.Attribute as grammar;

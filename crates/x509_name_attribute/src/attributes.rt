@@ -86,14 +86,14 @@ fn read_value(alloc: Global, oid: &ObjectIdentifier, text: &[u8]) -> Result<Any,
 }
 
 /// The attribute that a text says: a key, the first equals sign and the value. The key is a name of the table, without
-/// regard to ASCII case, or a dotted object identifier. The value is the hex of an element behind a number sign, or the
-/// content with escapes, whose tag is that of the type; the content isn't checked against the tag.
+/// regard to ASCII case, or a dotted OID. The value is the hex of an element behind a number sign, or the content with
+/// escapes, whose tag is that of the type; the content isn't checked against the tag.
 ///
 /// # Errors
 ///
 /// `Overlength` exactly where the key names a type and the value's element, or the octets that its hex says, are longer
-/// than [`Length::MAX`](x509_der_grammar::Length::MAX); else `Failed` exactly where the text says no attribute. Memory
-/// may be refused.
+/// than [`Length::MAX`]; else `Failed` exactly where the text is a bad one: it says no attribute. `Memory` when out of
+/// memory.
 pub fn read_attribute(alloc: Global, text: &[u8]) -> Result<(ObjectIdentifier, Any), Error>
     ensures ok { IfOk result (λ read. attributes.AttributeReads text.now read.0 read.1) }
     ensures err { IfErr result (λ e. (e.kind ≡ errors.Memory) ⊎ attributes.AttributeRefused text.now e.kind) }
@@ -123,7 +123,7 @@ fn printed_content(value: &Any) -> Option<&str>
 }
 
 /// Writes the text of an attribute: the name of its type and the content with escapes, where the type has a name and
-/// the content is a text; else the dotted identifier, and the hex of the value's element behind a number sign.
+/// the content is a text; else the dotted OID, and the hex of the value's element behind a number sign.
 ///
 /// # Errors
 ///

@@ -12,7 +12,7 @@ use x509_der_frames::{Any, FromAny};
 use x509_der_grammar::{Decode, Encode, Error, Grammar, Room, Spelled, Tag, TryClone};
 use x509_prim_text::{BmpString, PrintableString, TeletexString, Utf8String};
 
-/// A text of a name (RFC 5280 4.1.2.4). Sizes have no bounds, and there is no UniversalString.
+/// DirectoryString, a text of a name (RFC 5280 4.1.2.4). Lengths have no bounds, and there is no UniversalString.
 ///
 /// ```text
 /// DirectoryString ::= CHOICE {
@@ -26,7 +26,7 @@ pub enum DirectoryString {
     /// Letters, digits, space and eleven marks.
     PrintableString(PrintableString),
 
-    /// Characters up to 7F.
+    /// Characters up to U+007F.
     TeletexString(TeletexString),
 
     /// Any characters.
@@ -48,7 +48,11 @@ impl Drop for DirectoryString {
 }
 
 impl DirectoryString {
-    /// The text; owned for a BMPString, for which memory may be refused, and else borrowed.
+    /// The text: owned for a BMPString, else borrowed.
+    ///
+    /// # Errors
+    ///
+    /// `Memory` when out of memory, only for a BMPString.
     pub fn value(&self, alloc: Global) -> Result<TextRef<'_>, Error>
         ensures ok { IfOk result (λ text. (octets_of text ≡ text_of self.now) × (is_owned text ≡ is_bmp_string self.now)) }
         ensures err { IfErr result (λ e. (e.kind ≡ Memory) × (is_bmp_string self.now ≡ true)) }
@@ -61,7 +65,7 @@ impl DirectoryString {
         }
     }
 
-    /// The text where it stands as UTF-8; empty for a BMPString, whose text [`value`](DirectoryString::value) has.
+    /// The text where it is held as UTF-8; empty for a BMPString, whose text [`value`](DirectoryString::value) has.
     pub fn as_ref(&self) -> &str
         ensures { result.now ≡ text_in_place self.now }
     {
@@ -73,8 +77,12 @@ impl DirectoryString {
         }
     }
 
-    /// The text as a string. Memory may be refused for that of a BMPString, and for up to 24 octets, which may lie inside the
-    /// value and are copied.
+    /// The text as a string. It is copied where it is a BMPString's, and where it has at most 24 octets, which may lie
+    /// inside the value.
+    ///
+    /// # Errors
+    ///
+    /// `Memory` when out of memory, only where the text is copied so.
     pub fn into_string(self, alloc: Global) -> Result<String, Error>
         ensures ok { IfOk result (λ text. string_bytes text ≡ text_of self) }
         ensures err { IfErr result (λ e. (e.kind ≡ Memory) × (length (text_in_place self) ≤ 24)) }
@@ -87,7 +95,11 @@ impl DirectoryString {
         }
     }
 
-    /// The string whose element it is; `Malformed` exactly where it is that of none. Memory may be refused.
+    /// The string whose element it is.
+    ///
+    /// # Errors
+    ///
+    /// `Malformed` exactly where it is the element of no DirectoryString. `Memory` when out of memory.
     pub fn from_any(alloc: Global, any: &Any) -> Result<DirectoryString, Error>
         ensures { ReadsDirectoryString any.now result }
     {

@@ -94,8 +94,8 @@ fn step(position: Position, byte: u8) -> Turn
 ///
 /// # Errors
 ///
-/// `Failed` where the text stands for no bytes: a backslash stands at its end, or before what is neither a special
-/// character nor two hex digits. `Memory` where there is no memory for as many bytes as the text has.
+/// `Failed` exactly where the text is a bad one, which stands for no bytes: a backslash stands at its end, or before
+/// what is neither a special character nor two hex digits. `Memory` when out of memory.
 pub fn unescape(alloc: Global, text: &[u8]) -> Result<Vec<u8>, Error>
     ensures ok { IfOk result (λ bytes. Unescapes text.now bytes.items) }
     ensures err { IfErr result (λ e. (e.kind ≡ Memory)

@@ -31,12 +31,12 @@ impl TextType {
     }
 }
 
-/// A row of the table: the name that is printed, the name in full, the content octets of the object identifier, and the
-/// type of a value that is read from a text.
+/// A row of the table: the name that is printed, the full name, the content octets of the OID, and the string type of a
+/// value that is read from a text.
 // A tuple, since contracts can't name a constant of structs that borrow.
 pub type Row = (&'static str, &'static str, &'static [u8], TextType);
 
-/// The types of attribute that have a name. Both names are found without regard to ASCII case.
+/// The attribute types that have a name. Both names are found without regard to ASCII case.
 pub const KEYS: [Row; 21] = [
     (
         "CN",
@@ -166,16 +166,16 @@ pub const KEYS: [Row; 21] = [
     ),
 ];
 
-/// A type of attribute that has a name.
+/// An attribute type that has a name.
 #[derive(Clone, Copy, Debug)]
 pub struct Key {
     /// The name that is printed.
     pub name: &'static str,
 
-    /// The name in full.
+    /// The full name.
     pub full_name: &'static str,
 
-    /// The content octets of the object identifier.
+    /// The content octets of the OID.
     pub octets: &'static [u8],
 
     /// The tag of a value that is read from a text.
@@ -227,7 +227,7 @@ fn find_octets(mut rows: &[Row], octets: &[u8]) -> Option<Key>
     None
 }
 
-/// The type with the name, without regard to ASCII case.
+/// The attribute type with the name, without regard to ASCII case.
 #[tactic(auto, unfolding(crate::specs::Keys::key_named, crate::specs::Keys::keys))]
 pub fn key_named(name: &[u8]) -> Option<Key>
     ensures { keys.said result ≡ keys.key_named name.now }
@@ -235,7 +235,7 @@ pub fn key_named(name: &[u8]) -> Option<Key>
     find_named(&KEYS, name)
 }
 
-/// The type of the object identifier with the content octets, where it has a name.
+/// The attribute type of the OID with the content octets, where it has a name.
 #[tactic(auto, unfolding(crate::specs::Keys::key_of, crate::specs::Keys::keys))]
 pub fn key_of(octets: &[u8]) -> Option<Key>
     ensures { keys.said result ≡ keys.key_of octets.now }

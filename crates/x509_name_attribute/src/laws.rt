@@ -1,5 +1,5 @@
-//! What holds of all attributes, of texts of names, of escapes and of the parts of texts. Each law is a function whose contract is the
-//! law.
+//! What holds of all attributes, of texts of names, of escapes and of texts split at separators. Each law is a function
+//! whose contract is the law.
 
 ghost use Rattle.std.specs.Prelude.{◌≡◌, ◌↔◌, List, ℕ, true, ◌≢◌, ◌∷◌};
 ghost use Rattle.x509_der_element.specs.declared.error.ErrorKind.{ErrorKind};
@@ -28,8 +28,8 @@ pub fn equality_is_exact()
     ensures attributes { (a b : Attribute) → (⟦<Attribute as PartialEq>⟧.eq a b ≡ true) ↔ (a ≡ b) }
 {}
 
-/// The table of names is that of the standards: each row's two names, the content of its arcs, and its tag (RFC 4514 section 3,
-/// RFC 4519 section 2, RFC 2985 5.2.1, RFC 5280 4.1.2.4).
+/// The table of attribute names is that of the standards: each row's two names, the OID's content octets, and its tag
+/// (RFC 4514 section 3, RFC 4519 section 2, RFC 2985 5.2.1, RFC 5280 4.1.2.4).
 #[tactic(auto, using(crate::proofs::TableFacts::as_the_standards_say))]
 pub fn attribute_names()
     ensures { keys ≡ standard.attribute_names }
@@ -46,7 +46,7 @@ pub fn read_again()
     ensures front { (bytes rest : List ℕ) → escaped bytes ≢ 35 ∷ rest }
 {}
 
-/// A text is joined of at most one list of parts.
+/// A text is split in at most one way.
 pub fn one_cut()
     ensures { (separator : ℕ) (text : List ℕ) (parts others : List (List ℕ))
         → Joined separator parts text → Joined separator others text → parts ≡ others }
@@ -70,7 +70,7 @@ pub fn one_attribute_text()
         → attribute_text octets value ≡ attribute_text others other → (octets ≡ others) × (value ≡ other) }
 {}
 
-/// A text that reads as an attribute is refused by nothing, and a text is refused in at most one way.
+/// A text that reads as an attribute has no error, and a text has at most one error.
 pub fn one_attribute_refusal()
     ensures apart { (text octets : List ℕ) (value : Any) (kind : ErrorKind) → AttributeReads text octets value
         → AttributeRefused text kind → ⊥ }
@@ -78,14 +78,15 @@ pub fn one_attribute_refusal()
         → AttributeRefused text other → kind ≡ other }
 {}
 
-/// The bytes of a text of a name determine it, with its case.
+/// The encoding of a DirectoryString determines it, with its case of the choice.
 pub fn bytes_determine_the_directory_string()
     ensures { (v w : DirectoryString) (b : List ℕ) → Spells directory_string v b → Spells directory_string w b → v ≡ w }
 {
     one_value::<DirectoryString>();
 }
 
-/// `==` holds exactly of equal texts of one case, and of a borrowed or owned text exactly where the octets are equal.
+/// `==` holds exactly of equal texts of one case of the choice, and of a borrowed or owned text exactly where the
+/// octets are equal.
 pub fn equal_directory_strings_are_one_value<'a>()
     ensures strings { (a b : DirectoryString) → (⟦<DirectoryString as PartialEq>⟧.eq a b ≡ true) ↔ (a ≡ b) }
     ensures texts { (a b : TextRef) → (⟦<TextRef<'a> as PartialEq>⟧.eq a b ≡ true) ↔ (octets_of a ≡ octets_of b) }

@@ -1,5 +1,6 @@
-//! The attributes of names and of requests: a type with a value, and a type with a set of values; DirectoryString; and attributes as
-//! text: the table of their names, escapes, and texts cut at separators.
+//! The attributes of names and of CSRs: a type with a value, and a type with a set of values; DirectoryString; and
+//! attributes as text: the table of their names, escapes, and texts split at separators. Words of our own, such as law,
+//! are explained in `docs/MAP.md`.
 #![tactic(auto)]
 
 mod attribute;

@@ -1,12 +1,12 @@
-//! Texts cut into parts at separators (RFC 4514 sections 2.1, 2.2 and 3).
+//! Texts split at separators (RFC 4514 sections 2.1, 2.2 and 3).
 
 ghost use Rattle.std.specs.Prelude.{◌≡◌, ◌∷◌, length, false, List, ℕ};
 ghost use Rattle.std.specs.Iterator.{YieldsFirstRef, item_count};
 ghost use Rattle.x509_name_attribute.specs.Cutting.{cut, cut_if_some, parts_left};
 ghost use Rattle.x509_name_attribute.specs.Parts.{Joined};
 
-/// Gives the parts of a text, from the left. The text is cut at each separator that no backslash escapes, so there is
-/// one part at least, and a part may be empty.
+/// An iterator over the pieces of a text, from the left. The text is split at each separator that no backslash escapes,
+/// so there is at least one piece, and a piece may be empty.
 #[derive(Clone, Copy, Debug)]
 pub struct Parts<'a> {
     // None once the last part was given
@@ -15,7 +15,7 @@ pub struct Parts<'a> {
 }
 
 impl<'a> Parts<'a> {
-    /// The parts of the text between the separators.
+    /// The pieces of the text between the separators.
     pub fn new(text: &'a [u8], separator: u8) -> Parts<'a>
         ensures joined { Joined separator (parts_left result) text.now }
         ensures left { parts_left result ≡ cut separator text.now false }
@@ -58,7 +58,7 @@ fn first_part(text: &[u8], separator: u8) -> (&[u8], Option<&[u8]>)
     (text, None)
 }
 
-/// How many parts a text has.
+/// How many pieces a text has.
 pub fn count_parts(text: &[u8], separator: u8) -> usize
     ensures count { result ≡ length (cut separator text.now false) }
     ensures joined { (parts : List (List ℕ)) → Joined separator parts text.now → result ≡ length parts }

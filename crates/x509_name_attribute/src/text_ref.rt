@@ -9,7 +9,7 @@ ghost use Rattle.x509_name_attribute.specs.TextRef.{is_owned, octets_of};
 use std::alloc::Global;
 use x509_der_grammar::Error;
 
-/// A text that is borrowed where it stands as UTF-8, and else owned.
+/// A text that is borrowed where it is held as UTF-8, and else owned.
 #[derive(Debug, Drop)]
 pub enum TextRef<'a> {
     /// The text where it stands.
@@ -30,7 +30,11 @@ impl TextRef<'_> {
         }
     }
 
-    /// The same text; owned where this one is, for which memory may be refused, and else borrowed from where it stands.
+    /// The same text: owned where this one is, else borrowed from where it stands.
+    ///
+    /// # Errors
+    ///
+    /// `Memory` when out of memory, only where this text is owned.
     pub fn try_clone(&self, alloc: Global) -> Result<Self, Error>
         ensures ok { IfOk result (λ copy. (octets_of copy ≡ octets_of self.now) × (is_owned copy ≡ is_owned self.now)) }
         ensures err { IfErr result (λ e. (e.kind ≡ Memory) × (is_owned self.now ≡ true)) }

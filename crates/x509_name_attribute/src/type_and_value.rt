@@ -1,4 +1,4 @@
-//! What one part of a name says: the type of an attribute, and its value.
+//! One attribute of a name: its type, and its value.
 
 ghost use Rattle.std.specs.Prelude.{◌≡◌, ◌⊎◌, IfOk, IfErr};
 ghost use Rattle.x509_der_element.specs.declared.error.ErrorKind.TheVariants.{Memory};
@@ -17,10 +17,11 @@ use x509_der_grammar::{Content, Encode, Error, Room, Spelled, Tag, TryClone};
 /// The type of an attribute (RFC 5280 4.1.2.4).
 pub type AttributeType = ObjectIdentifier;
 
-/// A value of an attribute: an element that is not looked into (RFC 5280 4.1.2.4).
+/// The value of an attribute: an element that isn't decoded further (RFC 5280 4.1.2.4).
 pub type AttributeValue = Any;
 
-/// The type of an attribute, with one value (RFC 5280 4.1.2.4). Their order is that of `der_cmp`.
+/// An attribute of a name: its type, and one value (RFC 5280 4.1.2.4). Attributes are ordered as `der_cmp` compares
+/// them.
 ///
 /// ```text
 /// AttributeTypeAndValue ::= SEQUENCE {
@@ -37,7 +38,7 @@ pub struct AttributeTypeAndValue {
 }
 
 impl AttributeTypeAndValue {
-    /// The attribute that a text says, as `CN=Good CA` (RFC 4514 sections 2.3, 2.4 and 3).
+    /// The attribute that a text says, such as `CN=Good CA` (RFC 4514 sections 2.3, 2.4 and 3).
     ///
     /// # Errors
     ///

@@ -1,4 +1,4 @@
-//! What the extensions of a certificate say of its place in a path.
+//! The extensions of a certificate that say where it may stand in a path.
 
 ghost use Rattle.std.specs.Prelude.{◌≡◌, ◌↔◌, Some, IfOk, IfErr, IsTrue, ℕ};
 ghost use Rattle.x509_cert.specs.cert_extension.LookUp.{IsRepeated, members};
@@ -12,7 +12,7 @@ use x509_cert::der::{AssociatedOid, Decode, Error, ErrorKind};
 use x509_cert::ext::pkix::{BasicConstraints, ExtendedKeyUsage, KeyUsage, SubjectAltName};
 use x509_cert::ext::{Extension, has_repeated_extension, members};
 
-/// Whether an identifier stands in two of the extensions.
+/// Whether two of the extensions have one OID.
 pub(crate) fn is_repeated(alloc: Global, extensions: &[Extension]) -> Result<bool, PathFault>
     ensures ok { IfOk result (λ b. IsTrue b ↔ IsRepeated extensions.now) }
     ensures err { IfErr result (λ e. e ≡ Memory) }
@@ -23,7 +23,7 @@ pub(crate) fn is_repeated(alloc: Global, extensions: &[Extension]) -> Result<boo
     }
 }
 
-/// Whether the extension has the identifier of the type, and its octets are of the type.
+/// Whether the extension has the OID of the type, and its octets are an encoding of the type.
 fn is_readable<T: AssociatedOid + Decode + Drop>(
     alloc: Global,
     extension: &Extension,
@@ -43,7 +43,7 @@ fn is_readable<T: AssociatedOid + Decode + Drop>(
     }
 }
 
-/// Whether the extension is of a type that is looked into here, and can be read.
+/// Whether the extension is of a type that is processed here, and can be decoded.
 fn is_known(alloc: Global, extension: &Extension) -> Result<bool, PathFault>
     ensures ok { IfOk result (λ b. IsTrue b ↔ certificates.IsKnown extension.now) }
     ensures err { IfErr result (λ e. e ≡ Memory) }
@@ -60,7 +60,7 @@ fn is_known(alloc: Global, extension: &Extension) -> Result<bool, PathFault>
     is_readable::<SubjectAltName>(alloc, extension)
 }
 
-/// Whether each critical extension is of a type that is looked into here, and can be read.
+/// Whether each critical extension is of a type that is processed here, and can be decoded.
 pub(crate) fn are_handled(alloc: Global, extensions: &[Extension]) -> Result<bool, PathFault>
     ensures ok { IfOk result (λ b. IsTrue b ↔ certificates.AreHandled extensions.now) }
     ensures err { IfErr result (λ e. e ≡ Memory) }
@@ -73,7 +73,7 @@ pub(crate) fn are_handled(alloc: Global, extensions: &[Extension]) -> Result<boo
     Ok(true)
 }
 
-/// What the one extension of the type says; `None` where there isn't one that can be read.
+/// The value of the one extension of the type; `None` where there isn't one that can be decoded.
 fn payload<T: AssociatedOid + Decode + Drop>(
     alloc: Global,
     part: &TbsCertificate,
@@ -102,7 +102,7 @@ pub(crate) fn is_ca(alloc: Global, part: &TbsCertificate) -> Result<bool, PathFa
     }
 }
 
-/// Whether there is a KeyUsage that doesn't say that the key signs certificates.
+/// Whether there is a KeyUsage without keyCertSign.
 pub(crate) fn lacks_key_cert_sign(alloc: Global, part: &TbsCertificate) -> Result<bool, PathFault>
     ensures ok { IfOk result (λ b. IsTrue b ↔ certificates.LacksKeyCertSign (members part.now.extensions)) }
     ensures err { IfErr result (λ e. e ≡ Memory) }
@@ -117,7 +117,8 @@ pub(crate) fn lacks_key_cert_sign(alloc: Global, part: &TbsCertificate) -> Resul
     }
 }
 
-/// How many certificates that aren't self-issued may follow, the last aside; `None` where it isn't said.
+/// How many certificates that aren't self-issued may follow, the last apart; `None` where there is no path length
+/// constraint.
 pub(crate) fn path_len(alloc: Global, part: &TbsCertificate) -> Result<Option<u8>, PathFault>
     ensures ok { IfOk result (λ limit. (k : ℕ) → certificates.HasPathLen (members part.now.extensions) k ↔ (limit ≡ Some k)) }
     ensures err { IfErr result (λ e. e ≡ Memory) }

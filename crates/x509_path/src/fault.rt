@@ -6,40 +6,42 @@ ghost use Rattle.x509_path.specs.Fault.{fault_text, reason_text};
 use std::error::Error;
 use std::fmt;
 
-/// What is wrong with a certificate of a path, in the order in which it is looked for. The last three are asked of all certificates but
-/// the last. It is printed as the variant's name.
+/// What is wrong with a certificate of a path, in the order of the checks. The last three are asked of all certificates
+/// but the last. It is printed as the variant's name.
 #[derive(Clone, Copy, Debug, PartialEq, Eq)]
 pub enum PathReason {
-    /// The bytes are those of no certificate.
+    /// The bytes are not the encoding of a certificate.
     Decode,
 
     /// The algorithm in the signed part isn't the one outside it (RFC 5280 4.1.1.2).
     Algorithm,
 
-    /// The issuer isn't the name above: the subject of the certificate above, or the anchor's name (RFC 5280 6.1.3 (a) (4)).
+    /// The issuer isn't the subject of the certificate above, or, for the first, the anchor's name (RFC 5280 6.1.3 (a)
+    /// (4)).
     Issuer,
 
-    /// The moment is before the first or after the last second of the validity (RFC 5280 6.1.3 (a) (2)).
+    /// The time is before the first or after the last second of the validity (RFC 5280 6.1.3 (a) (2)).
     Moment,
 
     /// The verifier doesn't accept the signature of the signed part, as it stands in the input, for the key above
     /// (RFC 5280 6.1.3 (a) (1)).
     Signature,
 
-    /// An identifier stands in two extensions (RFC 5280 4.2).
+    /// Two extensions have one OID (RFC 5280 4.2).
     Repeated,
 
-    /// A critical extension isn't a BasicConstraints, KeyUsage, ExtendedKeyUsage or SubjectAltName, or can't be read
-    /// (RFC 5280 6.1.4 (o), 6.1.5 (f)).
+    /// A critical extension isn't a BasicConstraints, KeyUsage, ExtendedKeyUsage or SAN, or can't be decoded (RFC 5280
+    /// 6.1.4 (o), 6.1.5 (f)).
     Critical,
 
-    /// There is no BasicConstraints that can be read and says that it is a certification authority's (RFC 5280 6.1.4 (k)).
+    /// There is no BasicConstraints that can be decoded and has cA set (RFC 5280 6.1.4 (k)).
     NotCa,
 
-    /// There is a KeyUsage, and it can't be read, or doesn't say that the key signs certificates (RFC 5280 6.1.4 (n)).
+    /// There is a KeyUsage, and it can't be decoded, or hasn't keyCertSign (RFC 5280 6.1.4 (n)).
     KeyUsage,
 
-    /// More certificates that aren't self-issued follow one of those above than its path length allows (RFC 5280 6.1.4 (l), (m)).
+    /// More certificates that aren't self-issued follow one of those above than its path length constraint allows (RFC
+    /// 5280 6.1.4 (l), (m)).
     PathLen,
 }
 
@@ -49,7 +51,7 @@ pub enum PathFault {
     /// Out of memory.
     Memory,
 
-    /// There is no certificate.
+    /// The path is empty.
     Empty,
 
     /// Something is wrong with a certificate.

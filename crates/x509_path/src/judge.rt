@@ -1,4 +1,4 @@
-//! What is wrong with one certificate of a path.
+//! The checks of one certificate of a path.
 
 ghost use Rattle.std.specs.Prelude.{◌≡◌, ◌≢◌, ◌↔◌, ◌∷◌, ◌++◌, [], List, IfOk, IfErr, IsTrue};
 ghost use Rattle.x509_cert.specs.der_element.declared.error.ErrorKind.TheVariants as kinds;
@@ -22,7 +22,7 @@ use x509_cert::name::Name;
 use x509_cert::spki::SubjectPublicKeyInfo;
 use x509_cert::time::{DateTime, Validity};
 
-/// The reasons behind `Decode`, in their order.
+/// The reasons after `Decode`, in their order.
 const REASONS: [PathReason; 9] = [
     PathReason::Algorithm,
     PathReason::Issuer,
@@ -35,19 +35,19 @@ const REASONS: [PathReason; 9] = [
     PathReason::PathLen,
 ];
 
-/// Where a certificate stands.
+/// The place of a certificate in a path.
 #[derive(Drop)]
 pub(crate) struct Place<'a> {
-    /// The name above it.
+    /// The name of the certificate or the anchor above it.
     pub(crate) name: &'a Name,
 
-    /// The key above it.
+    /// The public key of the certificate or the anchor above it.
     pub(crate) key: &'a SubjectPublicKeyInfo,
 
     /// How many certificates that aren't self-issued may follow, where that is limited.
     pub(crate) room: Option<u8>,
 
-    /// Whether no other follows.
+    /// Whether it is the last.
     pub(crate) is_last: bool,
 }
 
@@ -129,7 +129,7 @@ fn is_signed<V: Verifier>(
     }
 }
 
-/// Whether there is no room for the certificate.
+/// Whether a path length constraint above allows no such certificate here.
 fn is_over(room: Option<u8>, certificate: &Certificate) -> bool
     ensures { IsTrue result ↔ IsOver room (certificate.now ∷ []) }
 {
@@ -139,7 +139,7 @@ fn is_over(room: Option<u8>, certificate: &Certificate) -> bool
     }
 }
 
-/// The room behind a certificate that has room itself.
+/// How many certificates may follow one that is allowed itself.
 fn narrow(room: Option<u8>, is_self_issued: bool, path_len: Option<u8>) -> Option<u8>
     ensures { result ≡ narrowed room is_self_issued path_len }
 {
@@ -157,7 +157,7 @@ fn narrow(room: Option<u8>, is_self_issued: bool, path_len: Option<u8>) -> Optio
     }
 }
 
-/// The room behind the certificate, where there is room for it.
+/// How many certificates may follow the certificate, where it is allowed itself.
 pub(crate) fn room_behind(
     alloc: Global,
     room: Option<u8>,
@@ -170,7 +170,7 @@ pub(crate) fn room_behind(
     Ok(narrow(room, is_self_issued(certificate), path_len))
 }
 
-/// Whether that is wrong with the certificate of these bytes.
+/// Whether the certificate of these bytes has that fault.
 fn breaks<V: Verifier>(
     alloc: Global,
     verifier: &V,
@@ -198,7 +198,7 @@ fn breaks<V: Verifier>(
     }
 }
 
-/// The certificate of these bytes, where nothing is wrong with it; `index` is the number of its place.
+/// The certificate of these bytes, where nothing is wrong with it; `index` is its place.
 pub(crate) fn judge<V: Verifier>(
     alloc: Global,
     verifier: &V,
@@ -224,7 +224,7 @@ pub(crate) fn judge<V: Verifier>(
     Ok(certificate)
 }
 
-/// What is answered where a certificate is refused so in reading.
+/// The fault where decoding the certificate is refused with that kind.
 fn refusal(kind: ErrorKind, place: usize) -> PathFault
     ensures memory { kind ≡ kinds.Memory → result ≡ Memory }
     ensures others { kind ≢ kinds.Memory → result ≡ At place reasons.Decode }

@@ -13,16 +13,16 @@ ghost use Rattle.x509_path.specs.declared.fault.PathReason.TheVariants.{Signatur
 use x509_cert::certificate::Rfc5280;
 use x509_cert::laws::signed_bytes_spell_the_signed_part;
 
-/// Out of memory aside, there is one answer to a path: that it holds, exactly where it does, and else the first fault of the lowest place that
-/// has one.
+/// Apart from out of memory there is one answer to a path: that it holds, exactly where it does, and else the first
+/// fault of the lowest place that has one.
 pub fn one_answer()
     ensures answers { (accepts : Accepting) (moment : CivilTime) (anchor : Anchor) (inputs : List (List ℕ)) (a b : Result Unit PathFault) → Answers accepts moment anchor inputs a → Answers accepts moment anchor inputs b → (a ≡ b) ⊎ ((a ≡ Err Memory) ⊎ (b ≡ Err Memory)) }
     ensures holds { (accepts : Accepting) (moment : CivilTime) (anchor : Anchor) (inputs : List (List ℕ)) (a : Result Unit PathFault) → PathHolds accepts moment anchor inputs → Answers accepts moment anchor inputs a → (a ≡ Ok tt) ⊎ (a ≡ Err Memory) }
     ensures fault { (accepts : Accepting) (moment : CivilTime) (anchor : Anchor) (inputs : List (List ℕ)) (place : ℕ) (reason : PathReason) (a : Result Unit PathFault) → IsFirstFault accepts moment anchor inputs place reason → Answers accepts moment anchor inputs a → (a ≡ Err (At place reason)) ⊎ (a ≡ Err Memory) }
 {}
 
-/// A path holds exactly where it does with all bits taken for signatures ([`AnySignature`](crate::AnySignature)), and the signature of
-/// each of its certificates is accepted. So signatures may be verified apart from the rest.
+/// A path holds exactly where it does with all bits taken for signatures ([`AnySignature`](crate::AnySignature)), and
+/// the signature of each of its certificates is accepted. So signatures may be verified apart from the rest.
 pub fn signatures_may_be_verified_apart()
     ensures { (accepts : Accepting) (moment : CivilTime) (anchor : Anchor) (inputs : List (List ℕ)) → PathHolds accepts moment anchor inputs ↔ (PathHolds accept_all moment anchor inputs × ((place : ℕ) → HasFault accepts moment anchor inputs place Signature → ⊥)) }
 {

@@ -1,8 +1,9 @@
-//! Paths of certificates under a trust anchor (RFC 5280 6.1): whether each certificate is signed by the one above it, names it as its
-//! issuer, holds at the moment, and may have others below it. Policies, name constraints and revocation aren't looked at, and names
-//! are compared as they are encoded.
+//! Certification paths under a trust anchor (RFC 5280 6.1): whether each certificate is signed by the one above it, has
+//! its subject as issuer, is valid at the time, and may have others below it. Policies, name constraints and revocation
+//! aren't checked, and names are compared as they are encoded.
 //!
-//! The library has no signature algorithm. Who checks a path hands in a [`Verifier`].
+//! The library has no signature algorithm: the caller hands in a [`Verifier`]. Words of our own are explained in
+//! `docs/MAP.md`.
 #![tactic(auto)]
 
 mod anchor;

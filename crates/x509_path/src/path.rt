@@ -1,4 +1,4 @@
-//! Whether a path holds.
+//! Checking a path.
 
 ghost use Rattle.std.specs.Prelude.{◌≡◌, map, IfOk, List, ℕ};
 ghost use Rattle.x509_path.specs.Path.{Answers};
@@ -22,14 +22,16 @@ fn slices(alloc: Global, inputs: &[Vec<u8>]) -> Result<Vec<&[u8]>, AllocError>
     Ok(lent)
 }
 
-/// Checks the certificates of a path, the topmost first, at the moment (RFC 5280 6.1): the first under the anchor's name and key, each other
-/// one under the subject and the key of the one before it. Each signature is verified over the input's own bytes, and none is
-/// written again. It goes over the path once; one certificate's value stands in memory at a time, besides the one above it.
+/// Checks the certificates of a path, the topmost first, at that time (RFC 5280 6.1): the first under the anchor's name
+/// and key, each other one under the subject and the key of the one before it. Each signature is verified over the
+/// bytes of the input; nothing is encoded again. It goes over the path once; the values of at most two certificates,
+/// one and the one above it, are in memory at a time.
 ///
 /// # Errors
 ///
-/// [`PathFault::Empty`] exactly where there is no certificate; else [`PathFault::At`] with the lowest place at which something is wrong,
-/// and what is wrong there first, in the order of [`PathReason`](crate::PathReason). [`PathFault::Memory`] may come instead.
+/// [`PathFault::Empty`] exactly where there is no certificate; else [`PathFault::At`] with the lowest place at which
+/// something is wrong, and the first thing that is wrong there, in the order of [`PathReason`](crate::PathReason).
+/// [`PathFault::Memory`] may come instead, when out of memory.
 pub fn check_path<V: Verifier>(
     alloc: Global,
     anchor: &Anchor,

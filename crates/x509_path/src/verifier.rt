@@ -1,17 +1,18 @@
-//! Who verifies signatures.
+//! Verifiers of signatures.
 
 use x509_cert::der::asn1::BitString;
 use x509_cert::{AlgorithmIdentifier, SubjectPublicKeyInfo};
 
-/// Says of bits whether they are a signature. What it says is a function of its four arguments.
+/// A verifier of signatures. Its answer is a function of the four arguments.
 pub trait Verifier {
     ghost use Rattle.std.specs.Prelude.{◌≡◌};
     ghost use Rattle.x509_path.specs.Certificates.{Accepting};
 
-    /// What it says.
+    /// What it answers.
     ghost accepts: { Self → Accepting };
 
-    /// Whether the bits are a signature of the message, by the algorithm, for the key. The key's own algorithm stands in it.
+    /// Whether the bits are a signature of the message, by the algorithm, for the public key. The key's own algorithm
+    /// stands in it.
     fn verify(
         &self,
         algorithm: &AlgorithmIdentifier,
@@ -22,8 +23,8 @@ pub trait Verifier {
         ensures { result ≡ accepts self.now algorithm.now key.now message.now signature.now };
 }
 
-/// Takes any bits for a signature. So a path is checked but for its signatures, which are for the caller to verify: without that, the
-/// answer gives no security.
+/// Accepts any bits as a signature. So a path is checked apart from its signatures, which are for the caller to verify:
+/// without that, the answer gives no security.
 #[derive(Clone, Copy, Debug, PartialEq, Eq)]
 pub struct AnySignature;
 

@@ -1,4 +1,4 @@
-//! Numbers of CRLs.
+//! CRL numbers.
 
 ghost use Rattle.std.specs.Prelude.{◌≡◌, ◌^◌, IsOkAnd};
 ghost use Rattle.x509_der_grammar.specs.Natural.{natural_octets};
@@ -11,8 +11,8 @@ use x509_der_order::NewtypeOrd;
 use x509_ext_frame::{Criticality, Extension, Name, id_ce};
 use x509_prim::Uint;
 
-/// The number of a list, which rises from each list of an authority to its next (RFC 5280 5.2.3). Its identifier is
-/// 2.5.29.20, and it isn't critical.
+/// The CRL number, which rises from each CRL of an issuer to its next (RFC 5280 5.2.3). Its OID is 2.5.29.20, and it
+/// isn't critical.
 ///
 /// ```text
 /// CRLNumber ::= INTEGER (0..MAX)
@@ -21,35 +21,55 @@ use x509_prim::Uint;
 pub struct CrlNumber(pub Uint);
 
 impl CrlNumber {
-    /// The number. It takes no memory and is never refused.
+    /// The CRL number with that value. It takes no memory.
+    ///
+    /// # Errors
+    ///
+    /// None: it is never refused.
     pub fn from_u8(alloc: Global, number: u8) -> Result<CrlNumber, Error>
         ensures { IsOkAnd result (λ crl. crl.0 ≡ natural_octets number) }
     {
         Ok(CrlNumber(Uint::from_u128(alloc, u128::from(number))?))
     }
 
-    /// The number. It takes no memory and is never refused.
+    /// The CRL number with that value. It takes no memory.
+    ///
+    /// # Errors
+    ///
+    /// None: it is never refused.
     pub fn from_u16(alloc: Global, number: u16) -> Result<CrlNumber, Error>
         ensures { IsOkAnd result (λ crl. crl.0 ≡ natural_octets number) }
     {
         Ok(CrlNumber(Uint::from_u128(alloc, u128::from(number))?))
     }
 
-    /// The number. It takes no memory and is never refused.
+    /// The CRL number with that value. It takes no memory.
+    ///
+    /// # Errors
+    ///
+    /// None: it is never refused.
     pub fn from_u32(alloc: Global, number: u32) -> Result<CrlNumber, Error>
         ensures { IsOkAnd result (λ crl. crl.0 ≡ natural_octets number) }
     {
         Ok(CrlNumber(Uint::from_u128(alloc, u128::from(number))?))
     }
 
-    /// The number. It takes no memory and is never refused.
+    /// The CRL number with that value. It takes no memory.
+    ///
+    /// # Errors
+    ///
+    /// None: it is never refused.
     pub fn from_u64(alloc: Global, number: u64) -> Result<CrlNumber, Error>
         ensures { IsOkAnd result (λ crl. crl.0 ≡ natural_octets number) }
     {
         Ok(CrlNumber(Uint::from_u128(alloc, u128::from(number))?))
     }
 
-    /// The number. It takes no memory and is never refused.
+    /// The CRL number with that value. It takes no memory.
+    ///
+    /// # Errors
+    ///
+    /// None: it is never refused.
     pub fn from_u128(alloc: Global, number: u128) -> Result<CrlNumber, Error>
         ensures { IsOkAnd result (λ crl. crl.0 ≡ natural_octets number) }
     {
@@ -145,7 +165,7 @@ impl AsMut<Uint> for CrlNumber {
     }
 }
 
-/// In a list of changes: the number of the list that it is to be added to (RFC 5280 5.2.4). Its identifier is 2.5.29.27,
+/// The delta CRL indicator: the number of the base CRL that a delta CRL changes (RFC 5280 5.2.4). Its OID is 2.5.29.27,
 /// and it is critical.
 ///
 /// ```text

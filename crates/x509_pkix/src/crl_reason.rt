@@ -1,4 +1,4 @@
-//! Why a certificate was revoked.
+//! CRL reason codes.
 
 use std::alloc::Global;
 use x509_der::{AssociatedOid, ObjectIdentifier};
@@ -6,8 +6,8 @@ use x509_der_grammar::{Content, Error, Room, Spelled, Tag, TryClone};
 use x509_ext_frame::{Criticality, Extension, Name, id_ce};
 use x509_prim::{NamedNumber, put_named_number, read_named_number};
 
-/// Why a certificate was revoked (RFC 5280 5.3.1). Its identifier is 2.5.29.21, and it isn't critical. Reasons are
-/// ordered by their numbers.
+/// The reason for which a certificate was revoked (RFC 5280 5.3.1). Its OID is 2.5.29.21, and it isn't critical.
+/// Reasons are ordered by their numbers.
 ///
 /// ```text
 /// CRLReason ::= ENUMERATED {
@@ -27,31 +27,31 @@ pub enum CrlReason {
     /// No reason is given.
     Unspecified = 0,
 
-    /// The key isn't secret any more, or may not be.
+    /// The key has been compromised, or may have been.
     KeyCompromise = 1,
 
-    /// The key of the authority isn't secret any more, or may not be.
+    /// The key of the authority has been compromised, or may have been.
     CaCompromise = 2,
 
-    /// What is said of the subject has changed.
+    /// The subject's name or other information about it has changed.
     AffiliationChanged = 3,
 
-    /// Another certificate has taken its place.
+    /// Another certificate supersedes it.
     Superseded = 4,
 
-    /// It isn't wanted any more.
+    /// It is no longer needed.
     CessationOfOperation = 5,
 
     /// It is on hold.
     CertificateHold = 6,
 
-    /// In a list of changes: it isn't on hold any more, or has ended.
+    /// In a delta CRL: it is no longer on hold, or has expired.
     RemoveFromCRL = 8,
 
     /// A privilege that it grants has been withdrawn.
     PrivilegeWithdrawn = 9,
 
-    /// The key of the authority that grants its attributes isn't secret any more, or may not be.
+    /// The key of the attribute authority has been compromised, or may have been.
     AaCompromise = 10,
 }
 

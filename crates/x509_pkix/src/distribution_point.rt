@@ -1,4 +1,4 @@
-//! Where a CRL is found.
+//! A CRL distribution point.
 
 use crate::ReasonFlags;
 use std::alloc::Global;
@@ -9,8 +9,8 @@ use x509_der_frames::{
 use x509_der_grammar::{Content, Encode, Error, Room, Spelled, Tag, TryClone};
 use x509_ext_name::{DistributionPointName, GeneralNames};
 
-/// Where a CRL is found (RFC 5280 4.2.1.13). That a place or an issuer is there, as RFC 5280
-/// wants it, isn't looked at.
+/// A CRL distribution point: where a CRL is found (RFC 5280 4.2.1.13). That a name or an issuer is there, as RFC 5280
+/// wants it, isn't checked.
 ///
 /// ```text
 /// DistributionPoint ::= SEQUENCE {
@@ -20,13 +20,13 @@ use x509_ext_name::{DistributionPointName, GeneralNames};
 /// ```
 #[derive(Debug, PartialEq, Eq)]
 pub struct DistributionPoint {
-    /// The place.
+    /// The name of the distribution point.
     pub distribution_point: Option<DistributionPointName>,
 
-    /// The reasons that the list has, all if left out.
+    /// The reasons that the CRL covers; all where absent.
     pub reasons: Option<ReasonFlags>,
 
-    /// The issuer of the list, that of the certificate if left out.
+    /// The issuer of the CRL; that of the certificate where absent.
     pub crl_issuer: Option<GeneralNames>,
 }
 

@@ -1,4 +1,4 @@
-//! Where CRLs are found.
+//! CRL distribution points, and freshest CRL.
 
 ghost use Rattle.std.specs.Prelude.{◌≡◌, []};
 
@@ -9,8 +9,8 @@ use x509_der_frames::SequenceOf;
 use x509_der_grammar::Newtype;
 use x509_ext_frame::{Criticality, Extension, Name, id_ce};
 
-/// Where the lists are found that would revoke a certificate (RFC 5280 4.2.1.13). Its identifier is 2.5.29.31, and it isn't
-/// critical. A sequence without members is read and written too.
+/// The CRL distribution points: where the CRLs are found that would revoke the certificate (RFC 5280 4.2.1.13). Its OID
+/// is 2.5.29.31, and it isn't critical. An empty sequence is decoded and encoded too.
 ///
 /// ```text
 /// CRLDistributionPoints ::= SEQUENCE OF DistributionPoint
@@ -19,7 +19,7 @@ use x509_ext_frame::{Criticality, Extension, Name, id_ce};
 pub struct CrlDistributionPoints(pub SequenceOf<DistributionPoint>);
 
 impl CrlDistributionPoints {
-    /// No points. It takes no memory.
+    /// No distribution points. It takes no memory.
     pub fn new(alloc: Global) -> CrlDistributionPoints
         ensures { result.0 ≡ [] }
     {
@@ -99,8 +99,8 @@ impl AsMut<SequenceOf<DistributionPoint>> for CrlDistributionPoints {
     }
 }
 
-/// Where the lists are found that tell what changed since the last one (RFC 5280 4.2.1.15, 5.2.6). Its identifier is
-/// 2.5.29.46, and it isn't critical. A sequence without members is read and written too.
+/// Freshest CRL: where the delta CRLs are found (RFC 5280 4.2.1.15, 5.2.6). Its OID is 2.5.29.46, and it isn't
+/// critical. An empty sequence is decoded and encoded too.
 ///
 /// ```text
 /// FreshestCRL ::= CRLDistributionPoints
@@ -109,7 +109,7 @@ impl AsMut<SequenceOf<DistributionPoint>> for CrlDistributionPoints {
 pub struct FreshestCrl(pub SequenceOf<DistributionPoint>);
 
 impl FreshestCrl {
-    /// No points. It takes no memory.
+    /// No distribution points. It takes no memory.
     pub fn new(alloc: Global) -> FreshestCrl
         ensures { result.0 ≡ [] }
     {

@@ -1,4 +1,4 @@
-//! Trees of names.
+//! Subtrees of names.
 
 use std::alloc::Global;
 use x509_der_frames::{
@@ -8,8 +8,8 @@ use x509_der_frames::{
 use x509_der_grammar::{Content, Error, Room, Spelled, Tag, TryClone};
 use x509_ext_name::GeneralName;
 
-/// A name with those below it (RFC 5280 4.2.1.10). That the distances are 0 and left out, as RFC 5280 wants them, isn't
-/// looked at.
+/// A name, with those below it (RFC 5280 4.2.1.10). That `minimum` is 0 and `maximum` absent, as RFC 5280 wants them,
+/// isn't checked.
 ///
 /// ```text
 /// GeneralSubtree ::= SEQUENCE {
@@ -19,17 +19,17 @@ use x509_ext_name::GeneralName;
 /// ```
 #[derive(Debug, Drop, PartialEq, Eq)]
 pub struct GeneralSubtree {
-    /// The name.
+    /// The base name.
     pub base: GeneralName,
 
-    /// How far below the name the tree begins.
+    /// How far below the base the subtree begins.
     pub minimum: u32,
 
-    /// How far below the name the tree ends; it has no end if left out.
+    /// How far below the base the subtree ends; it has no end where absent.
     pub maximum: Option<u32>,
 }
 
-/// Trees of names in their order (RFC 5280 4.2.1.10). A sequence without members is read and written too.
+/// A list of subtrees, in their order (RFC 5280 4.2.1.10). An empty sequence is decoded and encoded too.
 ///
 /// ```text
 /// GeneralSubtrees ::= SEQUENCE OF GeneralSubtree

@@ -1,4 +1,4 @@
-//! Of what certificates a list of revoked ones speaks.
+//! The issuing distribution point: which certificates a CRL covers.
 
 use crate::ReasonFlags;
 use std::alloc::Global;
@@ -11,9 +11,9 @@ use x509_der_grammar::{Content, Encode, Error, Room, Spelled, Tag, TryClone};
 use x509_ext_frame::{Criticality, Extension, Name, id_ce};
 use x509_ext_name::DistributionPointName;
 
-/// Where a CRL is found, and of what certificates it speaks (RFC 5280 5.2.5). Its identifier is
-/// 2.5.29.28, and it is critical. That at most one of the three kinds of certificates is said, as RFC 5280 wants it, isn't
-/// looked at.
+/// The issuing distribution point: where the CRL is found, and which certificates it covers (RFC 5280 5.2.5). Its OID
+/// is 2.5.29.28, and it is critical. That at most one of the three `only_contains` is true, as RFC 5280 wants it, isn't
+/// checked.
 ///
 /// ```text
 /// IssuingDistributionPoint ::= SEQUENCE {
@@ -26,22 +26,22 @@ use x509_ext_name::DistributionPointName;
 /// ```
 #[derive(Debug, PartialEq, Eq)]
 pub struct IssuingDistributionPoint {
-    /// The place.
+    /// The name of the distribution point.
     pub distribution_point: Option<DistributionPointName>,
 
-    /// Whether it speaks of certificates of end entities alone.
+    /// Whether it covers end entity certificates alone.
     pub only_contains_user_certs: bool,
 
-    /// Whether it speaks of certificates of authorities alone.
+    /// Whether it covers CA certificates alone.
     pub only_contains_ca_certs: bool,
 
-    /// The reasons that it has, all if left out.
+    /// The reasons that it covers; all where absent.
     pub only_some_reasons: Option<ReasonFlags>,
 
-    /// Whether it speaks of certificates of other issuers too.
+    /// Whether it covers certificates of other issuers too.
     pub indirect_crl: bool,
 
-    /// Whether it speaks of attribute certificates alone.
+    /// Whether it covers attribute certificates alone.
     pub only_contains_attribute_certs: bool,
 }
 

@@ -1,5 +1,5 @@
-//! What is written of sets of reasons and of what holds one, and which values of extensions that speak of policies, of constraints and of
-//! revocation are equal. Each law is a function with an empty body, whose contract is the law.
+//! What is encoded of sets of reasons and of what holds one, and which values of the extensions about policies,
+//! constraints and revocation are equal. Each law is a function with an empty body, whose contract is the law.
 
 ghost use Rattle.std.specs.Prelude.{◌≡◌, ◌↔◌, true};
 ghost use Rattle.x509_der_grammar.specs.Writing.{IsStable};
@@ -27,8 +27,8 @@ pub use x509_pkix_policy::laws::{
     equality_of_policies_is_exact, equality_of_policy_constraints_is_exact,
 };
 
-/// What is written of a set of reasons, or of what holds one, is written as it is: decoding and encoding twice gives the
-/// bytes of once. It is the premise of the laws of canonical form of
+/// What is encoded of a set of reasons, or of what holds one, is encoded as it is: decoding and encoding twice gives
+/// the bytes of once. It is the premise of the laws of canonical form of
 /// [`x509_der_grammar::laws`](x509_der_grammar::laws::writing_again_gives_the_same).
 pub fn reasons_are_written_once()
     ensures reasons { IsStable ⟦<Reasons as Grammar>⟧.form.good ⟦<Reasons as Encode>⟧.writing }
@@ -38,15 +38,15 @@ pub fn reasons_are_written_once()
     ensures issuing { IsStable ⟦<IssuingDistributionPoint as Grammar>⟧.form.good ⟦<IssuingDistributionPoint as Encode>⟧.writing }
 {}
 
-/// `==` of constraints on names and of the subtrees in them holds exactly of equal values.
+/// `==` of name constraints and of the subtrees in them holds exactly of equal values.
 #[tactic(auto, using(crate::specs::Equality::exact_general_subtree, crate::specs::Equality::exact_name_constraints))]
 pub fn equality_of_name_constraints_is_exact()
     ensures subtrees { (a b : GeneralSubtree) → (⟦<GeneralSubtree as PartialEq>⟧.eq a b ≡ true) ↔ (a ≡ b) }
     ensures constraints { (a b : NameConstraints) → (⟦<NameConstraints as PartialEq>⟧.eq a b ≡ true) ↔ (a ≡ b) }
 {}
 
-/// `==` of where CRLs are found and of what they say of themselves and of their entries holds exactly of equal values: of sets
-/// of reasons, where they have the same bits.
+/// `==` of distribution points, of the extensions of CRLs and of those of their entries holds exactly of equal values:
+/// of sets of reasons, where they have the same bits.
 #[tactic(auto, using(crate::specs::Equality::exact_reasons, crate::specs::Equality::exact_distribution_point, crate::specs::Equality::exact_crl_distribution_points, crate::specs::Equality::exact_freshest_crl, crate::specs::Equality::exact_issuing_distribution_point, crate::specs::Equality::exact_crl_number, crate::specs::Equality::exact_base_crl_number, crate::specs::Equality::exact_crl_reason))]
 pub fn equality_of_crl_extensions_is_exact()
     ensures reason_sets { (a b : Reasons) → (⟦<Reasons as PartialEq>⟧.eq a b ≡ true) ↔ (a ≡ b) }

@@ -1,4 +1,5 @@
-//! What extensions hold of policies, of constraints and of revocation (RFC 5280 4.2.1, 5.2, 5.3).
+//! The extensions about policies, constraints and revocation (RFC 5280 4.2.1, 5.2, 5.3). Words of our own, such as law,
+//! are explained in `docs/MAP.md`.
 #![tactic(auto)]
 
 mod crl_number;
@@ -11,7 +12,7 @@ pub mod laws;
 mod name_constraints;
 mod reasons;
 
-/// Policies of certificates.
+/// Certificate policies.
 pub mod certpolicy {
     pub use x509_pkix_policy::{
         CertificatePolicies, CpsUri, DisplayText, NoticeReference, PolicyInformation,
@@ -19,26 +20,26 @@ pub mod certpolicy {
     };
 }
 
-/// What limits the certificates that may follow.
+/// Name and policy constraints: what limits the certificates that may follow in a path.
 pub mod constraints {
     pub use crate::name_constraints::NameConstraints;
     pub use x509_pkix_policy::PolicyConstraints;
 
-    /// Constraints on names.
+    /// Name constraints.
     pub mod name {
         pub use crate::general_subtree::{GeneralSubtree, GeneralSubtrees};
         pub use crate::name_constraints::NameConstraints;
     }
 }
 
-/// CRLs.
+/// Extensions about CRLs.
 pub mod crl {
     pub use crate::crl_number::{BaseCrlNumber, CrlNumber};
     pub use crate::crl_reason::CrlReason;
     pub use crate::distribution_points::{CrlDistributionPoints, FreshestCrl};
     pub use crate::issuing_distribution_point::IssuingDistributionPoint;
 
-    /// Where these lists are found.
+    /// CRL distribution points: where CRLs are found.
     pub mod dp {
         pub use crate::distribution_point::DistributionPoint;
         pub use crate::issuing_distribution_point::IssuingDistributionPoint;

@@ -1,4 +1,4 @@
-//! What names may stand below an authority.
+//! Name constraints.
 
 use crate::general_subtree::GeneralSubtrees;
 use std::alloc::Global;
@@ -7,8 +7,8 @@ use x509_der_frames::{PutPart, end, implicit_optional, option_has_spelling, opti
 use x509_der_grammar::{Content, Error, Room, Spelled, Tag, TryClone};
 use x509_ext_frame::{Criticality, Extension, Name, id_ce};
 
-/// What names the subjects of the certificates below an authority may have (RFC 5280 4.2.1.10). Its identifier is
-/// 2.5.29.30, and it is critical.
+/// Name constraints: which names the subjects of the certificates below an authority may have (RFC 5280 4.2.1.10). Its
+/// OID is 2.5.29.30, and it is critical.
 ///
 /// ```text
 /// NameConstraints ::= SEQUENCE {
@@ -17,10 +17,10 @@ use x509_ext_frame::{Criticality, Extension, Name, id_ce};
 /// ```
 #[derive(Debug, PartialEq, Eq)]
 pub struct NameConstraints {
-    /// The trees in one of which a name has to be.
+    /// The subtrees in one of which a name has to be.
     pub permitted_subtrees: Option<GeneralSubtrees>,
 
-    /// The trees in none of which a name may be.
+    /// The subtrees in none of which a name may be.
     pub excluded_subtrees: Option<GeneralSubtrees>,
 }
 

@@ -1,4 +1,4 @@
-//! Sets of reasons for which certificates are revoked.
+//! Sets of revocation reasons.
 
 use bitflags::{Flag, Flags, bitflag_items};
 use std::alloc::Global;
@@ -7,8 +7,9 @@ use x509_der_grammar::{Content, Error, Room, Spelled, Tag, TryClone};
 use x509_der_order::ValueOrd;
 use x509_prim::{cmp_named_bits, put_named_bits, read_named_bits};
 
-/// A set of reasons, of which bit n stands for the named bit n (RFC 5280 4.2.1.13). A bit from 9 on has no name: it is
-/// refused in reading as `Malformed`, and in writing as `Value`. [`Flags::iter_names`] gives the reasons that are set, each with its name.
+/// A set of revocation reasons, of which bit n stands for the named bit n (RFC 5280 4.2.1.13). A bit from 9 on has no
+/// name: decoding refuses it as `Malformed`, and encoding as `Value`. [`Flags::iter_names`] gives the reasons that are
+/// set, each with its name.
 ///
 /// ```text
 /// ReasonFlags ::= BIT STRING {
@@ -25,7 +26,7 @@ use x509_prim::{cmp_named_bits, put_named_bits, read_named_bits};
 #[derive(Clone, Copy, Debug, PartialEq, Eq)]
 pub struct Reasons(u16);
 
-/// A set of reasons for which certificates are revoked.
+/// A set of revocation reasons.
 pub type ReasonFlags = Reasons;
 
 bitflag_items! {
@@ -33,19 +34,19 @@ bitflag_items! {
         /// A bit that stands for no reason.
         const UNUSED = 1;
 
-        /// The key isn't secret any more, or may not be.
+        /// The key has been compromised, or may have been.
         const KEY_COMPROMISE = 2;
 
-        /// The key of the authority isn't secret any more, or may not be.
+        /// The key of the authority has been compromised, or may have been.
         const CA_COMPROMISE = 4;
 
-        /// What is said of the subject has changed.
+        /// The subject's name or other information about it has changed.
         const AFFILIATION_CHANGED = 8;
 
-        /// Another certificate has taken the place of the one that is revoked.
+        /// Another certificate supersedes it.
         const SUPERSEDED = 16;
 
-        /// The certificate isn't wanted any more.
+        /// The certificate is no longer needed.
         const CESSATION_OF_OPERATION = 32;
 
         /// The certificate is on hold.
@@ -54,7 +55,7 @@ bitflag_items! {
         /// A privilege that the certificate grants has been withdrawn.
         const PRIVILEGE_WITHDRAWN = 128;
 
-        /// The key of the authority that grants its attributes isn't secret any more, or may not be.
+        /// The key of the attribute authority has been compromised, or may have been.
         const AA_COMPROMISE = 256;
     }
 }

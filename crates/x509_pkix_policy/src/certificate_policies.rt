@@ -1,4 +1,4 @@
-//! The policies of a certificate.
+//! Certificate policies.
 
 use crate::policy_information::PolicyInformation;
 use x509_der::{AssociatedOid, ObjectIdentifier};
@@ -6,8 +6,8 @@ use x509_der_frames::SequenceOf;
 use x509_der_grammar::Newtype;
 use x509_ext_frame::{Criticality, Extension, Name, id_ce};
 
-/// The policies under which the certificate was issued and for which it may be used (RFC 5280 4.2.1.4). Its identifier is
-/// 2.5.29.32, and it isn't critical where the caller doesn't say so. A sequence without members is read and written too.
+/// The policies under which the certificate was issued and for which it may be used (RFC 5280 4.2.1.4). Its OID is
+/// 2.5.29.32, and it isn't critical unless the caller says so. An empty sequence is decoded and encoded too.
 ///
 /// ```text
 /// CertificatePolicies ::= SEQUENCE OF PolicyInformation

@@ -4,14 +4,14 @@ use std::alloc::Global;
 use x509_der_grammar::{Decode, Encode, Error, Grammar, Room, Spelled, Tag, TryClone};
 use x509_prim_text::{BmpString, Ia5String, Utf8String, VisibleString};
 
-/// Where the statement of an authority on its practices stands (RFC 5280 4.2.1.4).
+/// The URI of a certification practice statement, CPS (RFC 5280 4.2.1.4).
 ///
 /// ```text
 /// CPSuri ::= IA5String
 /// ```
 pub type CpsUri = Ia5String;
 
-/// A text for people to read (RFC 5280 4.2.1.4). The bound of 200 characters isn't looked at.
+/// A text for people to read (RFC 5280 4.2.1.4). The bound of 200 characters isn't checked.
 ///
 /// ```text
 /// DisplayText ::= CHOICE {
@@ -22,7 +22,7 @@ pub type CpsUri = Ia5String;
 /// ```
 #[derive(Debug, PartialEq, Eq)]
 pub enum DisplayText {
-    /// Characters up to 7F.
+    /// Characters up to U+007F.
     Ia5String(Ia5String),
 
     /// The graphic characters of ISO 646 and the space.

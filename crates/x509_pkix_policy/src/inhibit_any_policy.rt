@@ -1,15 +1,15 @@
-//! Where the policy that stands for all isn't taken any more.
+//! Inhibit anyPolicy.
 
 use x509_der::{AssociatedOid, ObjectIdentifier};
 use x509_der_grammar::Newtype;
 use x509_der_order::NewtypeOrd;
 use x509_ext_frame::{Criticality, Extension, Name, id_ce};
 
-/// The identifier of [`InhibitAnyPolicy`], 2.5.29.54.
+/// The OID of [`InhibitAnyPolicy`], 2.5.29.54.
 pub const ID_CE_INHIBIT_ANY_POLICY: ObjectIdentifier = id_ce!(54);
 
-/// After how many further certificates of a path anyPolicy isn't taken for other policies any more (RFC 5280 4.2.1.14).
-/// Its identifier is 2.5.29.54, and it is critical.
+/// After how many further certificates of a path anyPolicy doesn't count as a match for other policies any more (RFC
+/// 5280 4.2.1.14). Its OID is 2.5.29.54, and it is critical.
 ///
 /// ```text
 /// InhibitAnyPolicy ::= SkipCerts

@@ -1,4 +1,5 @@
-//! Which values that speak of policies are equal. Each law is a function with an empty body, whose contract is the law.
+//! Which values of the extensions about policies are equal. Each law is a function with an empty body, whose contract
+//! is the law.
 
 ghost use Rattle.std.specs.Prelude.{◌≡◌, ◌↔◌, true};
 ghost use Rattle.x509_pkix_policy.specs.declared.certificate_policies.CertificatePolicies.{CertificatePolicies};
@@ -20,7 +21,7 @@ use crate::policy_information::{PolicyInformation, PolicyQualifierInfo};
 use crate::policy_mapping::{PolicyMapping, PolicyMappings};
 use crate::user_notice::{NoticeReference, UserNotice};
 
-/// `==` of policies of certificates, and of what qualifies them, holds exactly of equal values.
+/// `==` of certificate policies, and of their qualifiers, holds exactly of equal values.
 #[tactic(auto, using(crate::specs::Equality::exact_display_text, crate::specs::Equality::exact_notice_reference, crate::specs::Equality::exact_user_notice, crate::specs::Equality::exact_policy_qualifier_info, crate::specs::Equality::exact_policy_information, crate::specs::Equality::exact_certificate_policies))]
 pub fn equality_of_policies_is_exact()
     ensures texts { (a b : DisplayText) → (⟦<DisplayText as PartialEq>⟧.eq a b ≡ true) ↔ (a ≡ b) }
@@ -31,7 +32,7 @@ pub fn equality_of_policies_is_exact()
     ensures lists { (a b : CertificatePolicies) → (⟦<CertificatePolicies as PartialEq>⟧.eq a b ≡ true) ↔ (a ≡ b) }
 {}
 
-/// `==` of how policies map to others, and of what is asked of those below, holds exactly of equal values.
+/// `==` of policy mappings and of policy constraints holds exactly of equal values.
 #[tactic(auto, using(crate::specs::Equality::exact_policy_mapping, crate::specs::Equality::exact_policy_mappings, crate::specs::Equality::exact_policy_constraints, crate::specs::Equality::exact_inhibit_any_policy))]
 pub fn equality_of_policy_constraints_is_exact()
     ensures mappings { (a b : PolicyMapping) → (⟦<PolicyMapping as PartialEq>⟧.eq a b ≡ true) ↔ (a ≡ b) }

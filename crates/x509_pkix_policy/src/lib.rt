@@ -1,4 +1,5 @@
-//! Extensions that speak of policies: those of a certificate, how they map to others, and what is asked of those below.
+//! The extensions about policies: certificate policies, policy mappings, policy constraints and inhibit anyPolicy.
+//! Words of our own, such as law, are explained in `docs/MAP.md`.
 #![tactic(auto)]
 
 mod certificate_policies;

@@ -1,4 +1,4 @@
-//! What is asked of policies further down.
+//! Policy constraints.
 
 use std::alloc::Global;
 use x509_der::{AssociatedOid, ObjectIdentifier};
@@ -6,8 +6,8 @@ use x509_der_frames::{PutPart, end, implicit_optional, option_has_spelling, opti
 use x509_der_grammar::{Content, Error, Room, Spelled, Tag, TryClone};
 use x509_ext_frame::{Criticality, Extension, Name, id_ce};
 
-/// After how many further certificates of a path policies have to be acceptable, or mappings aren't followed any more
-/// (RFC 5280 4.2.1.11). Its identifier is 2.5.29.36, and it is critical.
+/// Policy constraints: after how many further certificates of a path policies have to be acceptable, or mappings aren't
+/// followed any more (RFC 5280 4.2.1.11). Its OID is 2.5.29.36, and it is critical.
 ///
 /// ```text
 /// PolicyConstraints ::= SEQUENCE {

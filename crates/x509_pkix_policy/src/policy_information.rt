@@ -1,4 +1,4 @@
-//! Policies with what qualifies them.
+//! Policies with their qualifiers.
 
 use std::alloc::Global;
 use x509_der::ObjectIdentifier;
@@ -7,7 +7,7 @@ use x509_der_frames::{
 };
 use x509_der_grammar::{Content, Error, Room, Spelled, Tag, TryClone};
 
-/// A policy, and perhaps what qualifies it (RFC 5280 4.2.1.4).
+/// A policy, perhaps with qualifiers (RFC 5280 4.2.1.4).
 ///
 /// ```text
 /// PolicyInformation ::= SEQUENCE {
@@ -17,10 +17,10 @@ use x509_der_grammar::{Content, Error, Room, Spelled, Tag, TryClone};
 /// ```
 #[derive(Debug, PartialEq, Eq)]
 pub struct PolicyInformation {
-    /// Which policy it is.
+    /// The OID of the policy.
     pub policy_identifier: ObjectIdentifier,
 
-    /// What qualifies it. A sequence without members is read and written too.
+    /// The qualifiers. An empty sequence is decoded and encoded too.
     pub policy_qualifiers: Option<SequenceOf<PolicyQualifierInfo>>,
 }
 
@@ -82,7 +82,7 @@ impl Spelled for PolicyInformation {
     }
 }
 
-/// What qualifies a policy (RFC 5280 4.2.1.4), as a [`CpsUri`](crate::CpsUri) or a [`UserNotice`](crate::UserNotice).
+/// A policy qualifier (RFC 5280 4.2.1.4), such as a [`CpsUri`](crate::CpsUri) or a [`UserNotice`](crate::UserNotice).
 ///
 /// ```text
 /// PolicyQualifierInfo ::= SEQUENCE {
@@ -91,10 +91,10 @@ impl Spelled for PolicyInformation {
 /// ```
 #[derive(Debug, PartialEq, Eq)]
 pub struct PolicyQualifierInfo {
-    /// What kind of qualifier it is.
+    /// The OID of the qualifier's type.
     pub policy_qualifier_id: ObjectIdentifier,
 
-    /// The qualifier: one element of any type, which may be left out. It isn't looked into here.
+    /// The qualifier: one element of any type, which may be absent. It isn't decoded here.
     pub qualifier: Option<Any>,
 }
 

@@ -1,4 +1,4 @@
-//! Policies that stand for others.
+//! Policy mappings.
 
 use std::alloc::Global;
 use x509_der::{AssociatedOid, ObjectIdentifier};
@@ -6,7 +6,7 @@ use x509_der_frames::{PutPart, SequenceOf, end, field};
 use x509_der_grammar::{Content, Error, Newtype, Room, Spelled, Tag, TryClone};
 use x509_ext_frame::{Criticality, Extension, Name, id_ce};
 
-/// A policy of the issuer, and one of the subject that the issuer takes for it (RFC 5280 4.2.1.5).
+/// A policy of the issuer, and a policy of the subject that the issuer considers equivalent (RFC 5280 4.2.1.5).
 ///
 /// ```text
 /// PolicyMapping ::= SEQUENCE {
@@ -76,8 +76,8 @@ impl Spelled for PolicyMapping {
     }
 }
 
-/// Which policies of the subject stand for which of the issuer (RFC 5280 4.2.1.5). Its identifier is 2.5.29.33, and it is
-/// critical. A sequence without members is read and written too.
+/// Policy mappings: which policies of the subject are equivalent to which of the issuer (RFC 5280 4.2.1.5). Its OID is
+/// 2.5.29.33, and it is critical. An empty sequence is decoded and encoded too.
 ///
 /// ```text
 /// PolicyMappings ::= SEQUENCE OF PolicyMapping

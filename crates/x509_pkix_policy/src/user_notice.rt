@@ -1,4 +1,4 @@
-//! Notices to people.
+//! User notices.
 
 use crate::display_text::DisplayText;
 use std::alloc::Global;
@@ -17,10 +17,10 @@ use x509_prim::Uint;
 /// ```
 #[derive(Debug, PartialEq, Eq)]
 pub struct UserNotice {
-    /// Where its text stands.
+    /// A reference to the notice's text.
     pub notice_ref: Option<NoticeReference>,
 
-    /// Its text.
+    /// The notice's text.
     pub explicit_text: Option<DisplayText>,
 }
 
@@ -80,7 +80,7 @@ impl Spelled for UserNotice {
     }
 }
 
-/// Texts of notices by their numbers (RFC 5280 4.2.1.4). The numbers may be left out.
+/// A reference to notices by their numbers (RFC 5280 4.2.1.4). The numbers may be absent.
 ///
 /// ```text
 /// NoticeReference ::= SEQUENCE {
@@ -89,7 +89,7 @@ impl Spelled for UserNotice {
 /// ```
 #[derive(Debug, PartialEq, Eq)]
 pub struct NoticeReference {
-    /// Who has written the notices.
+    /// The organization that wrote the notices.
     pub organization: DisplayText,
 
     /// The numbers of the notices.

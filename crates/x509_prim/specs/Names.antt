@@ -1,4 +1,4 @@
--- Types each value of which is a number with a name: ENUMERATED, and INTEGER of which all numbers have names (X.680 19.5,
+-- Types of which each value is a number with a name: ENUMERATED, and INTEGER of which all numbers have names (X.680 19.5,
 -- 20.5). The content octets are those of the number as an INTEGER (X.690 8.3, 8.4).
 use Rattle.std.specs.Prelude.{◌≡◌, ℕ, ◌^◌, true, nat_eq, nat_lt, List, [], ◌∷◌, Option, Some, None, Result, Ok, Err, if◌then◌else◌}
 use Rattle.std.specs.List.{list_all}

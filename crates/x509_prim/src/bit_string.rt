@@ -13,7 +13,7 @@ use x509_der_order::{
     ValueOrd,
 };
 
-/// A list of bits (X.690 8.6). Contracts see the octets in which they stand, bit 8 of the first octet first, and
+/// BIT STRING: a list of bits (X.690 8.6). Contracts see the octets that hold them, bit 8 of the first octet first, and
 /// how many bits of the last octet are unused; those are zero (X.690 11.2.1).
 #[derive(Drop, PartialEq, Eq, Hash)]
 pub struct BitString {
@@ -47,9 +47,12 @@ fn check_padding(unused: u8, octets: &[u8]) -> bool
 }
 
 impl BitString {
-    /// A copy of the octets, of the last of which some bits are unused; `Value` exactly where more than seven are, or
-    /// one of them is not zero, or there is no octet and yet an unused bit. More than 24 octets take memory, which may be
-    /// refused.
+    /// A copy of the octets, of the last of which some bits are unused.
+    ///
+    /// # Errors
+    ///
+    /// `Value` exactly where more than seven bits are unused, or one of them isn't zero, or there is no octet and yet
+    /// an unused bit. Else `Memory` when out of memory, only for more than 24 octets.
     pub fn new(alloc: Global, unused: u8, octets: &[u8]) -> Result<BitString, Error>
         ensures ok { IfOk result (λ string. (string ≡ grammar.parts_of unused octets.now) × (grammar.is_padded (grammar.parts_of unused octets.now) ≡ true)) }
         ensures err { IfErr result (λ e. ((e.kind ≡ errors.Memory) × (24 < length octets.now) × (grammar.is_padded (grammar.parts_of unused octets.now) ≡ true)) ⊎ ((e.kind ≡ errors.Value) × (grammar.is_padded (grammar.parts_of unused octets.now) ≡ false))) }
@@ -63,7 +66,11 @@ impl BitString {
         })
     }
 
-    /// A copy of the octets, all bits of which are used. More than 24 take memory, which may be refused.
+    /// A copy of the octets, all bits of which are used.
+    ///
+    /// # Errors
+    ///
+    /// `Memory` when out of memory, only for more than 24 octets.
     #[tactic(auto, unfolding(crate::specs::BitString::is_padded))]
     pub fn from_bytes(alloc: Global, octets: &[u8]) -> Result<BitString, Error>
         ensures ok { IfOk result (λ string. string ≡ grammar.parts_of 0 octets.now) }
@@ -75,7 +82,7 @@ impl BitString {
         })
     }
 
-    /// The octets in which the bits stand, the unused bits too.
+    /// The octets that hold the bits, the unused bits too.
     pub fn raw_bytes(&self) -> &[u8]
         ensures octets { result.now ≡ self.now.octets }
         ensures padded { grammar.is_padded self.now ≡ true }
@@ -91,7 +98,7 @@ impl BitString {
         self.unused
     }
 
-    /// The octets where each bit of them is used, else `None`.
+    /// The octets where all their bits are used, else `None`.
     pub fn as_bytes(&self) -> Option<&[u8]>
         ensures some { IfSome result (λ octets. (self.now.unused ≡ 0) × (octets.now ≡ self.now.octets)) }
         ensures none { IfNone result (0 < self.now.unused) }

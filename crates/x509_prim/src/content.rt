@@ -1,4 +1,4 @@
-//! Contents of integers (X.690 8.3).
+//! Content octets of INTEGER (X.690 8.3).
 
 ghost use Rattle.std.specs.Prelude.{◌≡◌, ◌^◌, ◌≤◌, IfSome, IfNone};
 ghost use Rattle.x509_prim.specs.Integer.{integer_value, is_integer, is_unsigned, is_negative, natural_below, number, without_zeros};
@@ -32,7 +32,7 @@ pub(crate) fn is_signed(octets: &[u8]) -> bool
     matches!(octets, [first, ..] if *first >= 0x80)
 }
 
-/// The octets of a number, most significant first, without zeros in front, but with one octet where there are some.
+/// The octets of a number, most significant first, without leading zeros, but at least one octet where there are some.
 pub fn strip_zeros(octets: &[u8]) -> &[u8]
     ensures { result.now ≡ without_zeros octets.now }
 {

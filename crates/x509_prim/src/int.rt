@@ -19,7 +19,7 @@ use std::marker::Model;
 use x509_der_grammar::{Bytes, Content, Error, ErrorKind, Room, Spelled, Tag, TryClone};
 use x509_der_order::{EncodingOrd, SetMember, SetOrd, ValueOrd};
 
-/// A whole number of any size (X.690 8.3). Contracts see its content octets.
+/// INTEGER: a whole number of any size (X.690 8.3). Contracts see its content octets.
 #[derive(Drop)]
 pub struct Int {
     content: Bytes,
@@ -37,8 +37,12 @@ impl Model for Int {
 }
 
 impl Int {
-    /// The number with that content; `Value` exactly where it is not the content of an INTEGER. More than 24 octets take
-    /// memory, which may be refused.
+    /// The number with these content octets.
+    ///
+    /// # Errors
+    ///
+    /// `Value` exactly where they aren't the content octets of an INTEGER. Else `Memory` when out of memory, only for
+    /// more than 24 octets.
     pub fn new(alloc: Global, content: &[u8]) -> Result<Int, Error>
         ensures ok { IfOk result (λ int. (int ≡ content.now) × (is_integer content.now ≡ true)) }
         ensures err { IfErr result (λ e. ((e.kind ≡ errors.Memory) × (24 < length content.now) × (is_integer content.now ≡ true)) ⊎ ((e.kind ≡ errors.Value) × (is_integer content.now ≡ false))) }

@@ -1,11 +1,12 @@
-//! The primitive types of strict DER: integers, bit and octet strings, texts, named bits and named numbers.
+//! The primitive types of strict DER: integers, bit and octet strings, texts, named bits and named numbers. Words of
+//! our own, such as law, are explained in `docs/MAP.md`.
 //!
-//! A flag type is a struct round a `u16` with the constants and the `Flags` of `bitflags`, of which bit n stands for the
-//! named bit n. Its `Content` has the contents and the writing of its names, and calls [`read_named_bits`] and
-//! [`put_named_bits`].
+//! A flag type is a struct with one field, a `u16`, with the constants and the `Flags` of `bitflags`, of which bit n
+//! stands for the named bit n. Its `Content` has the contents and the writing of its names, and calls
+//! [`read_named_bits`] and [`put_named_bits`].
 //!
-//! A type of numbers with names, ENUMERATED or INTEGER, is an enum with [`NamedNumber`]. Its `Content` has the contents of its names,
-//! and calls [`read_named_number`] and [`put_named_number`].
+//! A type of numbers with names, ENUMERATED or INTEGER, is an enum with [`NamedNumber`]. Its `Content` has the contents
+//! of its names, and calls [`read_named_number`] and [`put_named_number`].
 #![tactic(auto)]
 
 mod bit_string;

@@ -52,7 +52,7 @@ fn check_end(unused: u8, octet: u8) -> bool
     bits != 0 && unused == unused_after(bits)
 }
 
-/// The set of a content; `None` where the string ends in a zero bit or an unused bit is one.
+/// The set that has these content octets; `None` where the string ends in a zero bit or an unused bit is one.
 #[tactic(auto, unfolding(crate::specs::NamedBits::set_at))]
 fn set_of_content(content: &[u8]) -> Option<u16>
     ensures { result ≡ grammar.set_at content.now }
@@ -67,7 +67,7 @@ fn set_of_content(content: &[u8]) -> Option<u16>
     }
 }
 
-/// Puts the content of a set.
+/// Puts the content octets of a set.
 #[tactic(auto, unfolding(crate::specs::NamedBits::set_octets))]
 fn put_set<R: Room>(set: u16, room: &mut R) -> Result<(), Error>
     ensures { Puts R.kind (grammar.set_octets set) None result room.old room.new }
@@ -83,8 +83,11 @@ fn put_set<R: Room>(set: u16, room: &mut R) -> Result<(), Error>
     }
 }
 
-/// The value of these content octets; `Malformed` where a zero bit ends the string, an unused bit is one, or a bit has
-/// no name.
+/// The value with these content octets.
+///
+/// # Errors
+///
+/// `Malformed` where no value has them: a zero bit ends the string, an unused bit is one, or a bit has no name.
 #[tactic(auto, unfolding(crate::specs::NamedBits::named_reading))]
 pub fn read_named_bits<T: Flags<Bits = u16>>(octets: &[u8]) -> Result<T, Error>
     ensures exact { T.exact → GivesBy T.set_of result (grammar.named_reading T.table octets.now) }
@@ -100,7 +103,12 @@ pub fn read_named_bits<T: Flags<Bits = u16>>(octets: &[u8]) -> Result<T, Error>
     Ok(value)
 }
 
-/// Puts the content octets of the value; `Value` exactly where a bit of it has no name.
+/// Puts the content octets of the value into the room.
+///
+/// # Errors
+///
+/// `Value` where a bit of it has no name; `Overlength` where there is no place in the room for the octets; `Memory`
+/// when out of memory, only for a room that takes memory.
 pub fn put_named_bits<T: Flags<Bits = u16>, R: Room>(value: &T, room: &mut R) -> Result<(), Error>
     ensures { T.exact → let written = grammar.named_written T.table (T.set_of value.now) in Puts R.kind (grammar.set_octets written.value) written.refusal result room.old room.new }
 {
@@ -110,7 +118,7 @@ pub fn put_named_bits<T: Flags<Bits = u16>, R: Room>(value: &T, room: &mut R) ->
     put_set(value.bits(), room)
 }
 
-/// How many bits the content of the set says to be unused.
+/// How many bits the content octets of the set say to be unused.
 #[tactic(auto, unfolding(crate::specs::SetOrder::unused_of))]
 fn unused_bits(set: u16) -> u8
     ensures { result ≡ unused_of set }
@@ -133,8 +141,8 @@ fn cmp_sets(a: u16, b: u16) -> Ordering
     unused_bits(a).cmp(&unused_bits(b)).then(low).then(high)
 }
 
-/// The byte order of the contents of the values. It takes no memory. Values with bits that have no name stand where
-/// these bits would put them.
+/// The byte order of the contents of the values. It takes no memory. Values with bits that have no name are ordered as
+/// if these bits had one.
 pub fn cmp_named_bits<T: Flags<Bits = u16>>(a: &T, b: &T) -> Ordering
     ensures { T.exact → result ≡ set_order (T.set_of a.now) (T.set_of b.now) }
 {

@@ -12,7 +12,7 @@ use std::cmp::Ordering;
 use x509_der_grammar::{Error, ErrorKind, Room, put_natural, read_natural};
 use x509_der_order::cmp_naturals;
 
-/// A type each value of which is a number with a name.
+/// A type of which each value is a number with a name.
 pub trait NamedNumber: Sized {
     ghost use Rattle.std.specs.Prelude.{◌≡◌};
     ghost use Rattle.x509_prim.specs.Names.{Names, named};
@@ -29,7 +29,7 @@ pub trait NamedNumber: Sized {
         ensures { result ≡ named names number };
 }
 
-/// The number of an INTEGER content; `Malformed` where it is not from 0 to 255 (X.690 8.3).
+/// The number of the content octets of an INTEGER; `Malformed` where it isn't from 0 to 255 (X.690 8.3).
 #[tactic(auto, unfolding(x509_der_grammar::specs::Natural::natural_reading))]
 fn read_number(octets: &[u8]) -> Result<u8, Error>
     ensures exact { Gives result (natural_reading (2 ^ 8) octets.now) }
@@ -41,8 +41,11 @@ fn read_number(octets: &[u8]) -> Result<u8, Error>
     }
 }
 
-/// The value of these content octets, which are those of an INTEGER (X.690 8.3, 8.4); `Malformed` where no value has
-/// their number.
+/// The value with these content octets, which are those of an INTEGER (X.690 8.3, 8.4).
+///
+/// # Errors
+///
+/// `Malformed` exactly where no value has their number.
 #[tactic(auto, unfolding(crate::specs::Names::named_reading))]
 pub fn read_named_number<T: NamedNumber>(octets: &[u8]) -> Result<T, Error>
     ensures exact { Gives result (named_reading T.names octets.now) }
@@ -54,7 +57,12 @@ pub fn read_named_number<T: NamedNumber>(octets: &[u8]) -> Result<T, Error>
     }
 }
 
-/// Puts the content octets of the value, which are those of its number as an INTEGER (X.690 8.3, 8.4).
+/// Puts the content octets of the value, those of its number as an INTEGER, into the room (X.690 8.3, 8.4).
+///
+/// # Errors
+///
+/// `Overlength` where there is no place in the room for the octets; `Memory` when out of memory, only for a room that
+/// takes memory.
 pub fn put_named_number<T: NamedNumber, R: Room>(value: &T, room: &mut R) -> Result<(), Error>
     ensures { Puts R.kind (natural_octets (T.names.number value.now)) None result room.old room.new }
 {

@@ -22,7 +22,7 @@ use x509_der_order::{
     check_content,
 };
 
-/// Any octets (X.690 8.7). Contracts see their list.
+/// OCTET STRING: any octets (X.690 8.7). Contracts see their list.
 #[derive(Drop)]
 pub struct OctetString {
     bytes: Bytes,
@@ -37,8 +37,12 @@ impl Model for OctetString {
 }
 
 impl OctetString {
-    /// A copy of the octets; `Overlength` exactly where their element would be longer than
-    /// [`Length::MAX`](x509_der_order::Length::MAX). More than 24 octets take memory, which may be refused.
+    /// A copy of the octets.
+    ///
+    /// # Errors
+    ///
+    /// `Overlength` exactly where their element would be longer than [`Length::MAX`](x509_der_order::Length::MAX). Else
+    /// `Memory` when out of memory, only for more than 24 octets.
     pub fn new(alloc: Global, octets: &[u8]) -> Result<OctetString, Error>
         ensures ok { IfOk result (λ string. (string ≡ octets.now) × (length (spelling octet_string octets.now) ≤ limit)) }
         ensures err { IfErr result (λ e. ((e.kind ≡ errors.Memory) × (24 < length octets.now) × (length (spelling octet_string octets.now) ≤ limit)) ⊎ ((e.kind ≡ errors.Overlength) × (limit < length (spelling octet_string octets.now)))) }
@@ -49,7 +53,11 @@ impl OctetString {
         })
     }
 
-    /// The octets of the vector, without a copy; `Overlength` as for [`OctetString::new`].
+    /// The octets of the vector, without a copy.
+    ///
+    /// # Errors
+    ///
+    /// `Overlength` exactly where their element would be longer than [`Length::MAX`](x509_der_order::Length::MAX).
     pub fn from_vec(octets: Vec<u8>) -> Result<OctetString, Error>
         ensures ok { IfOk result (λ string. (string ≡ octets.items) × (length (spelling octet_string octets.items) ≤ limit)) }
         ensures err { IfErr result (λ e. (e.kind ≡ errors.Overlength) × (limit < length (spelling octet_string octets.items))) }
@@ -67,8 +75,11 @@ impl OctetString {
         self.bytes.as_slice()
     }
 
-    /// The vector of the octets. Up to 24 octets may lie inside the value; those are copied, for which memory may be
-    /// refused.
+    /// The vector of the octets. Up to 24 octets may lie inside the value; those are copied.
+    ///
+    /// # Errors
+    ///
+    /// `Memory` when out of memory, only for up to 24 octets.
     pub fn into_bytes(self) -> Result<Vec<u8>, Error>
         ensures ok { IfOk result (λ octets. octets.items ≡ self) }
         ensures err { IfErr result (λ e. (e.kind ≡ errors.Memory) × (length self ≤ 24)) }
@@ -106,8 +117,8 @@ impl Spelled for OctetString {
     fn has_spelling(&self) {}
 }
 
-/// The octet string whose element it is; `Malformed` exactly where it is that of none. More than 24 octets take memory, which
-/// may be refused.
+/// The octet string whose element it is; `Malformed` exactly where it is the element of none. `Memory` when out of
+/// memory, only for more than 24 octets.
 impl FromAny<'_> for OctetString {
     ghost use Rattle.x509_der_frames.specs.ReadsElement.{ReadsElement};
     ghost use Rattle.x509_prim.specs.OctetString.{octet_string};

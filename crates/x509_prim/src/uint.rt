@@ -22,7 +22,7 @@ use x509_der_order::{EncodingOrd, SetMember, SetOrd, ValueOrd};
 /// How many octets [`Bytes`] keep inside the value.
 const SHORT: usize = 24;
 
-/// A whole number of any size that is not negative (X.690 8.3). Contracts see its content octets.
+/// INTEGER that isn't negative: a whole number of any size (X.690 8.3). Contracts see its content octets.
 #[derive(Drop)]
 pub struct Uint {
     content: Bytes,
@@ -40,8 +40,12 @@ impl Model for Uint {
 }
 
 impl Uint {
-    /// The number of the octets, most significant first, which may begin with zeros; `Value` exactly where there are
-    /// no octets. A content of more than 24 octets takes memory, which may be refused.
+    /// The number of these octets, most significant first, which may begin with zeros.
+    ///
+    /// # Errors
+    ///
+    /// `Value` exactly where there are no octets. Else `Memory` when out of memory, only for more than 24 content
+    /// octets.
     pub fn new(alloc: Global, octets: &[u8]) -> Result<Uint, Error>
         ensures ok { IfOk result (λ uint. uint ≡ with_sign (without_zeros octets.now)) }
         ensures number { IfOk result (λ uint. number uint ≡ number octets.now) }
@@ -55,14 +59,18 @@ impl Uint {
         })
     }
 
-    /// The number of a number type. It takes no memory and is never refused.
+    /// The number with that value. It takes no memory.
+    ///
+    /// # Errors
+    ///
+    /// None: it is never refused.
     pub fn from_u128(alloc: Global, number: u128) -> Result<Uint, Error>
         ensures { IsOkAnd result (λ uint. uint ≡ natural_octets number) }
     {
         Uint::new(alloc, &number.to_be_bytes())
     }
 
-    /// The octets of the number, most significant first, without zeros in front; the number 0 has one octet.
+    /// The octets of the number, most significant first, without leading zeros; the number 0 has one octet.
     pub fn as_bytes(&self) -> &[u8]
         ensures octets { result.now ≡ without_zeros self.now }
         ensures number { number result.now ≡ number self.now }
@@ -95,7 +103,7 @@ impl Uint {
     }
 }
 
-/// The octets, with a zero in front where bit 8 of the first is 1. More than 24 in all take memory, which may be refused.
+/// The octets, with a zero in front where bit 8 of the first is 1. More than 24 in all take memory.
 fn signed_content(alloc: Global, octets: &[u8]) -> Result<Bytes, Error>
     ensures ok { IfOk result (λ content. content ≡ with_sign octets.now) }
     ensures err { IfErr result (λ e. (e.kind ≡ errors.Memory) × (24 < length (with_sign octets.now))) }

@@ -82,7 +82,7 @@ impl Alphabet for Ia5 {
     ghost ascii = { ia5_ascii };
 }
 
-/// The characters of TeletexString that are taken: those up to 7F.
+/// The characters of TeletexString that are accepted: those up to 7F.
 #[derive(Clone, Copy, Debug, PartialEq, Eq, Hash)]
 pub struct Teletex;
 

@@ -102,7 +102,11 @@ fn text_of(alloc: Global, octets: &[u8]) -> Result<String, Error>
 }
 
 impl BmpString {
-    /// The text, two octets for each character; `Value` exactly where a character is above FFFF. Memory may be refused.
+    /// The text, two octets for each character.
+    ///
+    /// # Errors
+    ///
+    /// `Value` exactly where a character is above U+FFFF. Else `Memory` when out of memory.
     pub fn from_str(alloc: Global, text: &str) -> Result<BmpString, Error>
         ensures ok { IfOk result (λ string. string ≡ plane.bmp_octets (chars text.now)) }
         ensures value { list_all plane.is_bmp_char (chars text.now) ≡ false → IsErrAnd result (λ e. e.kind ≡ errors.Value) }
@@ -117,7 +121,11 @@ impl BmpString {
         })
     }
 
-    /// The text. Memory may be refused.
+    /// The text.
+    ///
+    /// # Errors
+    ///
+    /// `Memory` when out of memory, and nothing else.
     pub fn to_text(&self, alloc: Global) -> Result<String, Error>
         ensures ok { IfOk result (λ text. string_bytes text ≡ encode_utf8_all (plane.bmp_chars self.now)) }
         ensures err { IfErr result (λ e. e.kind ≡ errors.Memory) }
@@ -201,8 +209,8 @@ impl SetMember for BmpString {
     ghost in_der_order = { refl };
 }
 
-/// The text of an element; `Malformed` exactly where it has another identifier, or a content that isn't that of characters
-/// of the plane. More than 24 octets take memory, which may be refused.
+/// The text of an element; `Malformed` exactly where it has another identifier, or a content that isn't that of
+/// characters of the plane. `Memory` when out of memory, only for more than 24 octets.
 impl FromAny<'_> for BmpString {
     ghost use Rattle.x509_der_frames.specs.tag.Tag.TheVariants.{BmpString};
     ghost use Rattle.x509_prim_text.specs.Bmp.{is_bmp};

@@ -15,7 +15,7 @@ use crate::{
 };
 use x509_der_grammar::Grammar;
 
-/// Characters of the basic multilingual plane and contents of BMPString are one to one.
+/// Characters of the basic multilingual plane and content octets of BMPString are one to one.
 pub fn bmp_contents_are_texts()
     ensures chars { (chars : List ℕ) → list_all is_bmp_char chars ≡ true → (is_bmp (bmp_octets chars) ≡ true) × (bmp_chars (bmp_octets chars) ≡ chars) }
     ensures octets { (octets : List ℕ) → is_bmp octets ≡ true → (list_all is_bmp_char (bmp_chars octets) ≡ true) × (bmp_octets (bmp_chars octets) ≡ octets) }

@@ -1,4 +1,4 @@
-//! The text types in strict DER.
+//! The string types in strict DER. Words of our own, such as law, are explained in `docs/MAP.md`.
 #![tactic(auto)]
 
 mod alphabet;
@@ -21,7 +21,7 @@ pub type PrintableString = RestrictedString<Printable>;
 /// IA5String (X.680 41.1): the characters up to 7F.
 pub type Ia5String = RestrictedString<Ia5>;
 
-/// TeletexString (X.680 41.1), of which only the characters up to 7F are taken.
+/// TeletexString (X.680 41.1), of which only the characters up to 7F are accepted.
 pub type TeletexString = RestrictedString<Teletex>;
 
 /// VisibleString (X.680 41.1): the graphic characters of ISO 646 and the space, 20 to 7E.

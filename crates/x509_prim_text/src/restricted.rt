@@ -40,8 +40,12 @@ impl<A: Alphabet> Model for RestrictedString<A> {
 }
 
 impl<A: Alphabet> RestrictedString<A> {
-    /// A copy of the text; `Value` exactly where a character is not one of the type's. More than 24 octets take memory,
-    /// which may be refused.
+    /// A copy of the text.
+    ///
+    /// # Errors
+    ///
+    /// `Value` exactly where a character is not one of the type's. Else `Memory` when out of memory, only for more than
+    /// 24 octets.
     pub fn new(alloc: Global, text: &str) -> Result<RestrictedString<A>, Error>
         ensures ok { IfOk result (λ string. (string ≡ text.now) × (list_all A.has_char text.now ≡ true)) }
         ensures err { IfErr result (λ e. ((e.kind ≡ errors.Memory) × (24 < length text.now) × (list_all A.has_char text.now ≡ true)) ⊎ ((e.kind ≡ errors.Value) × (list_all A.has_char text.now ≡ false))) }
@@ -63,7 +67,11 @@ impl<A: Alphabet> RestrictedString<A> {
         self.text.as_str()
     }
 
-    /// The text as a string. Up to 24 octets may lie inside the value; those are copied, for which memory may be refused.
+    /// The text as a string. Up to 24 octets may lie inside the value; those are copied.
+    ///
+    /// # Errors
+    ///
+    /// `Memory` when out of memory, only for up to 24 octets.
     pub fn into_string(self) -> Result<String, Error>
         ensures ok { IfOk result (λ text. string_bytes text ≡ self) }
         ensures err { IfErr result (λ e. (e.kind ≡ errors.Memory) × (length self ≤ 24)) }
@@ -136,7 +144,7 @@ impl<A: Alphabet> SetMember for RestrictedString<A> {
 }
 
 /// The text of an element; `Malformed` exactly where it has another identifier, or a character that is not one of the
-/// type's. More than 24 octets take memory, which may be refused.
+/// type's. `Memory` when out of memory, only for more than 24 octets.
 impl<A: Alphabet> FromAny<'_> for RestrictedString<A> {
     ghost use Rattle.std.specs.List.{list_all};
     ghost use Rattle.x509_prim_text.specs.Borrowed.{CopiesTextFrom};

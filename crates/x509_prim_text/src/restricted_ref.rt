@@ -43,7 +43,11 @@ pub struct RestrictedStringRef<'a, A: Alphabet> {
 }
 
 impl<'a, A: Alphabet> RestrictedStringRef<'a, A> {
-    /// The text; `Value` exactly where a character is not one of the type's.
+    /// The borrowed text.
+    ///
+    /// # Errors
+    ///
+    /// `Value` exactly where a character is not one of the type's.
     pub fn new(text: &'a str) -> Result<RestrictedStringRef<'a, A>, Error>
         ensures ok { IfOk result (λ string. (string.text.now ≡ text.now) × (list_all A.has_char text.now ≡ true)) }
         ensures err { IfErr result (λ e. (e.kind ≡ errors.Value) × (list_all A.has_char text.now ≡ false)) }
@@ -57,8 +61,11 @@ impl<'a, A: Alphabet> RestrictedStringRef<'a, A> {
         })
     }
 
-    /// The text of an element; `Malformed` exactly where it has another identifier, or a character that is not one of
-    /// the type's.
+    /// The text of an element, borrowed.
+    ///
+    /// # Errors
+    ///
+    /// `Malformed` exactly where the element has another identifier, or a character that is not one of the type's.
     pub fn from_any(any: AnyRef<'a>) -> Result<RestrictedStringRef<'a, A>, Error>
         ensures ok { IfOk result (λ string. (string.text.now ≡ any.entry.value.now) × (octet_of any.entry.tag ≡ octet_of A.TAG) × (list_all A.has_char any.entry.value.now ≡ true)) }
         ensures err { IfErr result (λ e. (e.kind ≡ errors.Malformed) × ((octet_of any.entry.tag ≢ octet_of A.TAG) ⊎ (list_all A.has_char any.entry.value.now ≡ false))) }

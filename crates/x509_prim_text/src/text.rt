@@ -24,7 +24,7 @@ impl Model for Text {
 }
 
 impl Text {
-    /// A copy of the text. More than 24 octets take memory, which may be refused.
+    /// A copy of the text. More than 24 octets take memory.
     pub(crate) fn new(alloc: Global, text: &str) -> Result<Text, Error>
         ensures ok { IfOk result (λ copy. copy ≡ text.now) }
         ensures err { IfErr result (λ e. (e.kind ≡ Memory) × (24 < length text.now)) }
@@ -38,11 +38,11 @@ impl Text {
     pub(crate) fn as_str(&self) -> &str
         ensures { result.now ≡ self.now }
     {
-        // The octets are those of a text, so nothing is looked at once more.
+        // The octets are those of a text, so nothing is checked again.
         unsafe { str::from_utf8_unchecked(self.octets.as_slice()) }
     }
 
-    /// The text as a string. Up to 24 octets may lie inside the value; those are copied, for which memory may be refused.
+    /// The text as a string. Up to 24 octets may lie inside the value; those are copied.
     pub(crate) fn into_string(self) -> Result<String, Error>
         ensures ok { IfOk result (λ text. string_bytes text ≡ self) }
         ensures err { IfErr result (λ e. (e.kind ≡ Memory) × (length self ≤ 24)) }

@@ -36,7 +36,11 @@ impl Model for Utf8String {
 }
 
 impl Utf8String {
-    /// A copy of the text. More than 24 octets take memory, which may be refused.
+    /// A copy of the text.
+    ///
+    /// # Errors
+    ///
+    /// `Memory` when out of memory, only for more than 24 octets.
     pub fn new(alloc: Global, text: &str) -> Result<Utf8String, Error>
         ensures ok { IfOk result (λ string. string ≡ text.now) }
         ensures err { IfErr result (λ e. (e.kind ≡ errors.Memory) × (24 < length text.now)) }
@@ -54,7 +58,11 @@ impl Utf8String {
         self.text.as_str()
     }
 
-    /// The text as a string. Up to 24 octets may lie inside the value; those are copied, for which memory may be refused.
+    /// The text as a string. Up to 24 octets may lie inside the value; those are copied.
+    ///
+    /// # Errors
+    ///
+    /// `Memory` when out of memory, only for up to 24 octets.
     pub fn into_string(self) -> Result<String, Error>
         ensures ok { IfOk result (λ text. string_bytes text ≡ self) }
         ensures err { IfErr result (λ e. (e.kind ≡ errors.Memory) × (length self ≤ 24)) }
@@ -143,8 +151,8 @@ impl SetMember for Utf8String {
     ghost in_der_order = { refl };
 }
 
-/// The text of an element; `Malformed` exactly where it has another identifier, or a content that is not UTF-8. More than
-/// 24 octets take memory, which may be refused.
+/// The text of an element; `Malformed` exactly where it has another identifier, or a content that is not UTF-8.
+/// `Memory` when out of memory, only for more than 24 octets.
 impl FromAny<'_> for Utf8String {
     ghost use Rattle.x509_prim_text.specs.Borrowed.{CopiesTextFrom};
 
@@ -213,14 +221,22 @@ pub struct Utf8StringRef<'a> {
 }
 
 impl<'a> Utf8StringRef<'a> {
-    /// The text. Any text is one of this type, so no text is refused.
+    /// The borrowed text. Any text is one of this type.
+    ///
+    /// # Errors
+    ///
+    /// None: it is never refused.
     pub fn new(text: &'a str) -> Result<Utf8StringRef<'a>, Error>
         ensures { IsOkAnd result (λ string. string.text.now ≡ text.now) }
     {
         Ok(Utf8StringRef { text })
     }
 
-    /// The text of an element; `Malformed` exactly where it has another identifier, or a content that is not UTF-8.
+    /// The text of an element, borrowed.
+    ///
+    /// # Errors
+    ///
+    /// `Malformed` exactly where the element has another identifier, or a content that is not UTF-8.
     pub fn from_any(any: AnyRef<'a>) -> Result<Utf8StringRef<'a>, Error>
         ensures ok { IfOk result (λ string. (string.text.now ≡ any.entry.value.now) × (any.entry.tag ≡ tags.Utf8String) × (is_utf8 any.entry.value.now ≡ true)) }
         ensures err { IfErr result (λ e. (e.kind ≡ errors.Malformed) × ((any.entry.tag ≢ tags.Utf8String) ⊎ (is_utf8 any.entry.value.now ≡ false))) }

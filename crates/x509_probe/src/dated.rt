@@ -76,7 +76,7 @@ impl<P: Profile> Content for Dated<P> {
     ghost contents_lawful = { grammar.dated_contents_lawful };
 }
 
-/// A sequence with such a sequence in it, which may be left out.
+/// A sequence with such a sequence in it, which may be absent.
 ///
 /// ```text
 /// Enclosing ::= SEQUENCE {

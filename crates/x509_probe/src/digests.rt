@@ -1,4 +1,4 @@
-//! A type round a set of algorithms.
+//! A type with one field, a set of algorithms.
 
 use x509_base::AlgorithmIdentifier;
 use x509_der::{Newtype, NewtypeOrd, SetOfVec};

@@ -1,4 +1,4 @@
-//! What is written of the types with dates. Each law is a function with an empty body, or one that cites others, whose
+//! What is encoded of the types with dates. Each law is a function with an empty body, or one that cites others, whose
 //! contract is the law.
 
 ghost use Rattle.x509_base_time.specs.Validity.{validity};
@@ -12,7 +12,8 @@ use crate::moment::Moment;
 use x509_base::{Profile, Rfc5280, Validity};
 use x509_der::{Encode, SequenceOf};
 
-/// Where what is written of a validity is written as it is, so is what is written of a type that holds one, at some depth.
+/// Where what is encoded of a validity is encoded again as it is, so is what is encoded of a type that holds one, at
+/// some depth.
 pub fn dates_are_written_once<P: Profile>()
     ensures named { IsStable validity.good ⟦<Validity<P> as Encode>⟧.writing → IsStable dated.good ⟦<Dated<P> as Encode>⟧.writing }
     ensures enclosed { IsStable validity.good ⟦<Validity<P> as Encode>⟧.writing → IsStable enclosing.good ⟦<Enclosing<P> as Encode>⟧.writing }

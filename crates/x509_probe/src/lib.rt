@@ -1,4 +1,5 @@
-//! Types with each kind of field, which show what a type over the frames costs and are used by tests alone.
+//! Types with each kind of field, which show what a type over the frames costs and are used by tests alone. Words of
+//! our own, such as frame and law, are explained in `docs/MAP.md`.
 #![tactic(auto)]
 
 mod dated;

@@ -7,7 +7,7 @@ use x509_der::{
     Tag, ValueOrd, end, field,
 };
 
-/// Two fields that are always there.
+/// Two required fields.
 ///
 /// ```text
 /// Pair ::= SEQUENCE {
@@ -19,7 +19,7 @@ pub struct Pair {
     /// What the value is for.
     pub id: ObjectIdentifier,
 
-    /// An element that is not looked into.
+    /// An element that isn't decoded further.
     pub value: Any,
 }
 

@@ -18,16 +18,16 @@ use x509_prim::OctetString;
 /// ```
 #[derive(Debug, Drop, PartialEq, Eq)]
 pub struct Probe {
-    /// A field in an element of its own, with a default.
+    /// A field under an explicit tag, with a default.
     pub a: u8,
 
-    /// An optional field under a tag in place of its own.
+    /// An optional field under an implicit tag.
     pub b: Option<OctetString>,
 
     /// A field with a default.
     pub c: bool,
 
-    /// A field that is always there.
+    /// A required field.
     pub d: ObjectIdentifier,
 }
 

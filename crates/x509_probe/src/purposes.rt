@@ -1,4 +1,4 @@
-//! A type round a list of object identifiers.
+//! A type with one field, a list of OIDs.
 
 use x509_der::{Newtype, NewtypeOrd, ObjectIdentifier, SequenceOf};
 

@@ -30,7 +30,7 @@ pub struct TenFields {
     /// The first field, with a default.
     pub version: u8,
 
-    /// An identifier.
+    /// An OID.
     pub name: ObjectIdentifier,
 
     /// A choice.
@@ -45,16 +45,16 @@ pub struct TenFields {
     /// Further bits.
     pub further_bits: Option<BitString>,
 
-    /// Octets in an element of their own.
+    /// Octets under an explicit tag.
     pub wrapped: Option<OctetString>,
 
-    /// A choice in an element of its own.
+    /// A choice under an explicit tag.
     pub inner: Number,
 
-    /// A sequence under a tag in place of its own.
+    /// A sequence under an implicit tag.
     pub retagged: Probe,
 
-    /// A sequence that may be left out.
+    /// A sequence that may be absent.
     pub last: Option<Probe>,
 }
 

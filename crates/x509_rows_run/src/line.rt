@@ -9,7 +9,7 @@ use x509_der_element::ErrorKind;
 /// The most bytes of a line that is kept.
 pub const LINE_LIMIT: usize = 536_871_936;
 
-/// The bytes since the last line feed. Where they are too many, or memory is refused, they are let go, and the error
+/// The bytes since the last line feed. Where they are too many, or memory ran out, they are dropped, and the error
 /// stands in their place.
 #[derive(Drop)]
 pub struct Line {
@@ -52,7 +52,7 @@ impl Line {
         }
     }
 
-    /// Starts anew, in the room that there is.
+    /// Starts anew, in the memory that it has.
     pub fn clear(&mut self)
         ensures { Keeps self.new.kept.items self.new.fault [] }
     {

@@ -99,6 +99,11 @@ fn reencode_row<C: Codec>(alloc: Global, row: &Row<'_>) -> Result<String, Refusa
 }
 
 /// The answer to a line, and a line feed.
+///
+/// # Errors
+///
+/// `Because` of `Failed` where the line is a bad one: no row, or its text is not hex; the codec's errors; `Because` of
+/// `Memory` when out of memory.
 pub fn answer_row<C: Codec>(alloc: Global, line: &[u8]) -> Result<String, Refusal>
     ensures { MatchResult result
         (λ text. (answer : List ℕ) × AnswersKept C.reencodes line.now (Ok answer)

@@ -1,4 +1,4 @@
--- The identifiers of the extensions of RFC 6962.
+-- The OIDs of the extensions of RFC 6962.
 use Rattle.std.specs.Prelude.{ℕ, List, [], ◌∷◌}
 
 -- the content octets of 1.3.6.1.4.1.11129.2.4.2 (RFC 6962 3.3)

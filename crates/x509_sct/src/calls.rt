@@ -1,4 +1,4 @@
-//! The calls of TLS at each type, for callers that don't name the trait [`Tls`].
+//! The TLS calls of each type, for callers that don't name the trait [`Tls`].
 
 ghost use Rattle.std.specs.Prelude.{◌≡◌, IfOk, IfErr};
 ghost use Rattle.x509_sct.specs.DigitallySigned.{digitally_signed, hash_algorithm, signature_algorithm, signature_and_hash};
@@ -17,7 +17,11 @@ use std::alloc::Global;
 use x509_sct_tls::{Tls, TlsError};
 
 impl Version {
-    /// Its bytes. Memory may be refused, and nothing else.
+    /// The encoding of the version in TLS.
+    ///
+    /// # Errors
+    ///
+    /// `Memory` when out of memory, and nothing else.
     pub fn tls_serialize(&self, alloc: Global) -> Result<Vec<u8>, TlsError>
         ensures ok { IfOk result (λ bytes. Spells version self.now bytes.items) }
         ensures err { IfErr result (λ e. e ≡ Memory) }
@@ -25,8 +29,11 @@ impl Version {
         Tls::tls_serialize(self, alloc)
     }
 
-    /// What stands in front of the bytes, and what follows it; where none stands there, the first fault from the left.
-    /// It takes no memory.
+    /// The version that the bytes begin with, and what follows it. It takes no memory.
+    ///
+    /// # Errors
+    ///
+    /// `EndOfStream` where there is no byte; `UnknownValue` where the first one is of no version.
     pub fn tls_deserialize_bytes(alloc: Global, bytes: &[u8]) -> Result<(Version, &[u8]), TlsError>
         ensures { AnswersFront (λ x. (x.0, x.1.now)) version ⊥ bytes.now result }
     {
@@ -35,7 +42,11 @@ impl Version {
 }
 
 impl LogId {
-    /// Its bytes. Memory may be refused, and nothing else.
+    /// The encoding of the log ID in TLS.
+    ///
+    /// # Errors
+    ///
+    /// `Memory` when out of memory, and nothing else.
     pub fn tls_serialize(&self, alloc: Global) -> Result<Vec<u8>, TlsError>
         ensures ok { IfOk result (λ bytes. Spells log_id self.now bytes.items) }
         ensures err { IfErr result (λ e. e ≡ Memory) }
@@ -43,8 +54,11 @@ impl LogId {
         Tls::tls_serialize(self, alloc)
     }
 
-    /// What stands in front of the bytes, and what follows it; where none stands there, the first fault from the left.
-    /// It takes no memory.
+    /// The log ID that the bytes begin with, and what follows it. It takes no memory.
+    ///
+    /// # Errors
+    ///
+    /// `EndOfStream` where there are fewer than 32 bytes.
     pub fn tls_deserialize_bytes(alloc: Global, bytes: &[u8]) -> Result<(LogId, &[u8]), TlsError>
         ensures { AnswersFront (λ x. (x.0, x.1.now)) log_id ⊥ bytes.now result }
     {
@@ -53,7 +67,11 @@ impl LogId {
 }
 
 impl HashAlgorithm {
-    /// Its bytes. Memory may be refused, and nothing else.
+    /// The encoding of the hash algorithm in TLS.
+    ///
+    /// # Errors
+    ///
+    /// `Memory` when out of memory, and nothing else.
     pub fn tls_serialize(&self, alloc: Global) -> Result<Vec<u8>, TlsError>
         ensures ok { IfOk result (λ bytes. Spells hash_algorithm self.now bytes.items) }
         ensures err { IfErr result (λ e. e ≡ Memory) }
@@ -61,8 +79,11 @@ impl HashAlgorithm {
         Tls::tls_serialize(self, alloc)
     }
 
-    /// What stands in front of the bytes, and what follows it; where none stands there, the first fault from the left.
-    /// It takes no memory.
+    /// The hash algorithm that the bytes begin with, and what follows it. It takes no memory.
+    ///
+    /// # Errors
+    ///
+    /// `EndOfStream` where there is no byte; `UnknownValue` where the first one is of no hash algorithm.
     pub fn tls_deserialize_bytes(
         alloc: Global,
         bytes: &[u8],
@@ -74,7 +95,11 @@ impl HashAlgorithm {
 }
 
 impl SignatureAlgorithm {
-    /// Its bytes. Memory may be refused, and nothing else.
+    /// The encoding of the signature algorithm in TLS.
+    ///
+    /// # Errors
+    ///
+    /// `Memory` when out of memory, and nothing else.
     pub fn tls_serialize(&self, alloc: Global) -> Result<Vec<u8>, TlsError>
         ensures ok { IfOk result (λ bytes. Spells signature_algorithm self.now bytes.items) }
         ensures err { IfErr result (λ e. e ≡ Memory) }
@@ -82,8 +107,11 @@ impl SignatureAlgorithm {
         Tls::tls_serialize(self, alloc)
     }
 
-    /// What stands in front of the bytes, and what follows it; where none stands there, the first fault from the left.
-    /// It takes no memory.
+    /// The signature algorithm that the bytes begin with, and what follows it. It takes no memory.
+    ///
+    /// # Errors
+    ///
+    /// `EndOfStream` where there is no byte; `UnknownValue` where the first one is of no signature algorithm.
     pub fn tls_deserialize_bytes(
         alloc: Global,
         bytes: &[u8],
@@ -95,7 +123,11 @@ impl SignatureAlgorithm {
 }
 
 impl SignatureAndHashAlgorithm {
-    /// Its bytes. Memory may be refused, and nothing else.
+    /// The encoding of both algorithms in TLS.
+    ///
+    /// # Errors
+    ///
+    /// `Memory` when out of memory, and nothing else.
     pub fn tls_serialize(&self, alloc: Global) -> Result<Vec<u8>, TlsError>
         ensures ok { IfOk result (λ bytes. Spells signature_and_hash self.now bytes.items) }
         ensures err { IfErr result (λ e. e ≡ Memory) }
@@ -103,8 +135,12 @@ impl SignatureAndHashAlgorithm {
         Tls::tls_serialize(self, alloc)
     }
 
-    /// What stands in front of the bytes, and what follows it; where none stands there, the first fault from the left.
-    /// It takes no memory.
+    /// The algorithms that the bytes begin with, and what follows them. It takes no memory.
+    ///
+    /// # Errors
+    ///
+    /// The first error from the left: `EndOfStream` where a byte is missing, `UnknownValue` where it is of no
+    /// algorithm.
     pub fn tls_deserialize_bytes(
         alloc: Global,
         bytes: &[u8],
@@ -116,7 +152,11 @@ impl SignatureAndHashAlgorithm {
 }
 
 impl DigitallySigned {
-    /// Its bytes. Memory may be refused, and nothing else.
+    /// The encoding of the signature, with its algorithms, in TLS.
+    ///
+    /// # Errors
+    ///
+    /// `Memory` when out of memory, and nothing else.
     pub fn tls_serialize(&self, alloc: Global) -> Result<Vec<u8>, TlsError>
         ensures ok { IfOk result (λ bytes. Spells digitally_signed self.now bytes.items) }
         ensures err { IfErr result (λ e. e ≡ Memory) }
@@ -124,8 +164,12 @@ impl DigitallySigned {
         Tls::tls_serialize(self, alloc)
     }
 
-    /// What stands in front of the bytes, and what follows it; where none stands there, the first fault from the left.
-    /// Memory may be refused.
+    /// The signature, with its algorithms, that the bytes begin with, and what follows it.
+    ///
+    /// # Errors
+    ///
+    /// The first error from the left: `EndOfStream` where bytes are missing, `UnknownValue` where a byte is of no
+    /// algorithm. `Memory` when out of memory.
     pub fn tls_deserialize_bytes(
         alloc: Global,
         bytes: &[u8],
@@ -137,7 +181,11 @@ impl DigitallySigned {
 }
 
 impl SignedCertificateTimestamp {
-    /// Its bytes. Memory may be refused, and nothing else.
+    /// The encoding of the timestamp in TLS.
+    ///
+    /// # Errors
+    ///
+    /// `Memory` when out of memory, and nothing else.
     pub fn tls_serialize(&self, alloc: Global) -> Result<Vec<u8>, TlsError>
         ensures ok { IfOk result (λ bytes. Spells timestamp self.now bytes.items) }
         ensures err { IfErr result (λ e. e ≡ Memory) }
@@ -145,8 +193,12 @@ impl SignedCertificateTimestamp {
         Tls::tls_serialize(self, alloc)
     }
 
-    /// What stands in front of the bytes, and what follows it; where none stands there, the first fault from the left.
-    /// Memory may be refused.
+    /// The timestamp that the bytes begin with, and what follows it.
+    ///
+    /// # Errors
+    ///
+    /// The first error from the left: `EndOfStream` where bytes are missing, `UnknownValue` where a byte is of no
+    /// version or no algorithm. `Memory` when out of memory.
     pub fn tls_deserialize_bytes(
         alloc: Global,
         bytes: &[u8],
@@ -158,7 +210,11 @@ impl SignedCertificateTimestamp {
 }
 
 impl SerializedSct {
-    /// Its bytes. Memory may be refused, and nothing else.
+    /// The encoding of the serialized timestamp in TLS.
+    ///
+    /// # Errors
+    ///
+    /// `Memory` when out of memory, and nothing else.
     pub fn tls_serialize(&self, alloc: Global) -> Result<Vec<u8>, TlsError>
         ensures ok { IfOk result (λ bytes. Spells serialized self.now bytes.items) }
         ensures err { IfErr result (λ e. e ≡ Memory) }
@@ -166,8 +222,11 @@ impl SerializedSct {
         Tls::tls_serialize(self, alloc)
     }
 
-    /// What stands in front of the bytes, and what follows it; where none stands there, the first fault from the left.
-    /// Memory may be refused.
+    /// The serialized timestamp that the bytes begin with, and what follows it.
+    ///
+    /// # Errors
+    ///
+    /// `EndOfStream` where bytes are missing. `Memory` when out of memory.
     pub fn tls_deserialize_bytes(
         alloc: Global,
         bytes: &[u8],

@@ -1,4 +1,4 @@
-//! Why a call on timestamps was refused.
+//! Errors of timestamps.
 
 ghost use Rattle.std.specs.Prelude.{◌≡◌};
 ghost use Rattle.x509_sct.specs.declared.error.Error.TheVariants.{Der, Tls};
@@ -9,11 +9,11 @@ use x509_sct_tls::TlsError;
 /// Why a call on timestamps was refused.
 #[derive(Clone, Copy, Debug, PartialEq, Eq, thiserror::Error)]
 pub enum Error {
-    /// By the rules of DER.
+    /// An error of DER.
     #[error("{0}")]
     Der(DerError),
 
-    /// By the form of TLS.
+    /// An error of the TLS encoding.
     #[error("{0}")]
     Tls(TlsError),
 }

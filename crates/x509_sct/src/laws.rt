@@ -23,13 +23,13 @@ use crate::signed::{
 use crate::timestamp::{LogId, SignedCertificateTimestamp, Version};
 pub use x509_sct_tls::laws as sct_tls;
 
-/// The identifier of the list is 1.3.6.1.4.1.11129.2.4.2 (RFC 6962 section 3.3).
+/// The OID of the list is 1.3.6.1.4.1.11129.2.4.2 (RFC 6962 section 3.3).
 #[tactic(auto, unfolding(x509_der::specs::Arcs::subidentifier))]
 pub fn identifier_of_embedded_timestamps()
     ensures { embedded_timestamps ≡ content_of (1 ∷ 3 ∷ 6 ∷ 1 ∷ 4 ∷ 1 ∷ 11129 ∷ 2 ∷ 4 ∷ 2 ∷ []) }
 {}
 
-/// The identifier of the poison is 1.3.6.1.4.1.11129.2.4.3 (RFC 6962 section 3.1).
+/// The OID of the poison extension is 1.3.6.1.4.1.11129.2.4.3 (RFC 6962 section 3.1).
 #[tactic(auto, unfolding(x509_der::specs::Arcs::subidentifier))]
 pub fn identifier_of_the_poison()
     ensures { precertificate_poison ≡ content_of (1 ∷ 3 ∷ 6 ∷ 1 ∷ 4 ∷ 1 ∷ 11129 ∷ 2 ∷ 4 ∷ 3 ∷ []) }

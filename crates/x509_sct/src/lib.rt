@@ -1,5 +1,6 @@
-//! Signed certificate timestamps (RFC 6962 sections 3.2 and 3.3): the extension that holds them, their serialized form,
-//! and what they say; and the poison of precertificates (section 3.1).
+//! Signed certificate timestamps, SCTs (RFC 6962 sections 3.2 and 3.3): the extension that holds them, their encoding
+//! in TLS, and what they say; and the poison extension of precertificates (section 3.1). Words of our own, such as law,
+//! are explained in `docs/MAP.md`.
 #![tactic(auto)]
 
 mod calls;

@@ -1,4 +1,4 @@
-//! Lists of signed certificate timestamps.
+//! Lists of signed certificate timestamps (SCTs).
 
 ghost use Rattle.std.specs.Prelude.{◌≡◌, ◌<◌, ◌≤◌, ◌⊎◌, length, IfOk, IfErr};
 ghost use Rattle.x509_sct.specs.declared.error.Error.TheVariants as errors;
@@ -28,9 +28,10 @@ const EMBEDDED_TIMESTAMPS: ObjectIdentifier = ObjectIdentifier {
     ],
 };
 
-/// The timestamps of a certificate, as octets that are to be a list of TLS (RFC 6962 section 3.3). Its identifier is
-/// 1.3.6.1.4.1.11129.2.4.2, and it isn't critical. The octets are read and written as they are; what they say is asked
-/// by [`parse_timestamps`](SignedCertificateTimestampList::parse_timestamps). A list without timestamps is one too.
+/// The list of a certificate's SCTs, as octets that are to be a list in TLS (RFC 6962 section 3.3). Its OID is
+/// 1.3.6.1.4.1.11129.2.4.2, and it isn't critical. The octets are decoded and encoded as they are;
+/// [`parse_timestamps`](SignedCertificateTimestampList::parse_timestamps) decodes what they hold. The list may be
+/// empty.
 ///
 /// ```text
 /// SignedCertificateTimestampList ::= OCTET STRING
@@ -44,7 +45,7 @@ impl SignedCertificateTimestampList {
     /// # Errors
     ///
     /// `InvalidVectorLength`, as [`Error::Tls`], exactly where they have, with their lengths, more than 65,535 bytes.
-    /// Within that memory may be refused.
+    /// Else `Memory`, as [`Error::Tls`], when out of memory.
     pub fn new(
         alloc: Global,
         timestamps: &[SerializedSct],
@@ -56,8 +57,12 @@ impl SignedCertificateTimestampList {
         Ok(SignedCertificateTimestampList(OctetString::from_vec(octets)?))
     }
 
-    /// The timestamps of the list that the octets are, to the last; else, as [`Error::Tls`], the first fault from the
-    /// left, where `TrailingData` behind the list comes before any fault of an item. Memory may be refused.
+    /// The timestamps of the list, which is to be all of the octets.
+    ///
+    /// # Errors
+    ///
+    /// As [`Error::Tls`], the first error from the left: `EndOfStream` where bytes are missing, and `TrailingData`
+    /// where bytes follow the list, which comes before any error of an item. `Memory` when out of memory.
     pub fn parse_timestamps(&self, alloc: Global) -> Result<Vec<SerializedSct>, Error>
         ensures { Answers (λ v. v.items) (λ e. errors.Tls e) (λ items. IsTimestampList items self.now.0) (ListFault uint16 serialized self.now.0) Unit result }
     {

@@ -1,4 +1,4 @@
-//! What makes a certificate a precertificate.
+//! The poison extension of precertificates.
 
 use std::alloc::Global;
 use x509_der::{AssociatedOid, ObjectIdentifier};
@@ -14,8 +14,8 @@ const POISON: ObjectIdentifier = ObjectIdentifier {
     ],
 };
 
-/// What makes a certificate a precertificate, which is submitted to a log and which no one may accept as a certificate (RFC 6962
-/// section 3.1). Its identifier is 1.3.6.1.4.1.11129.2.4.3, and it is critical.
+/// The poison extension: it makes a certificate a precertificate, which is submitted to a log and which no one may
+/// accept as a certificate (RFC 6962 section 3.1). Its OID is 1.3.6.1.4.1.11129.2.4.3, and it is critical.
 ///
 /// ```text
 /// CtPrecertificatePoison ::= NULL

@@ -12,20 +12,20 @@ use crate::timestamp::SignedCertificateTimestamp;
 use std::alloc::{AllocError, Global};
 use x509_sct_tls::{Tls, TlsByteVecU16, TlsError, TlsItem, read_whole, serialize_vector};
 
-/// The bytes of a timestamp, which a list holds (RFC 6962 section 3.3). They needn't be those of a timestamp of a known
-/// version, and no bytes are read and written too.
+/// The bytes of a timestamp, as a list holds them (RFC 6962 section 3.3). They needn't be those of a timestamp of a
+/// known version, and may be none.
 #[derive(Debug, Drop, PartialEq, Eq)]
 pub struct SerializedSct {
     octets: TlsByteVecU16,
 }
 
 impl SerializedSct {
-    /// The bytes of that timestamp.
+    /// The encoding of that timestamp in TLS.
     ///
     /// # Errors
     ///
-    /// `InvalidVectorLength` exactly where they are more than [`TlsByteVecU16::MAX_LEN`]. Within that memory may be
-    /// refused.
+    /// `InvalidVectorLength` exactly where it has more than [`TlsByteVecU16::MAX_LEN`] bytes. Else `Memory` when out of
+    /// memory.
     pub fn new(
         alloc: Global,
         timestamp: SignedCertificateTimestamp,
@@ -38,8 +38,13 @@ impl SerializedSct {
         })
     }
 
-    /// The timestamp whose bytes these are, to the last; else, as [`Error::Tls`], the first fault from the left, or
-    /// `TrailingData` where a timestamp stands in front. Memory may be refused.
+    /// The timestamp of which these bytes, all of them, are the encoding.
+    ///
+    /// # Errors
+    ///
+    /// As [`Error::Tls`], the first error from the left: `EndOfStream` where bytes are missing, `UnknownValue` where a
+    /// byte is of no version or no algorithm, and `TrailingData` where bytes follow the timestamp. `Memory` when out of
+    /// memory.
     pub fn parse_timestamp(&self, alloc: Global) -> Result<SignedCertificateTimestamp, Error>
         ensures { Answers (λ x. x) (λ e. errors.Tls e) (λ x. Spells form x self.now.octets) (IsWholeFault form self.now.octets) Unit result }
     {

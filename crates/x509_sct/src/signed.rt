@@ -123,7 +123,7 @@ impl NamedByte for SignatureAlgorithm {
     ghost are_named = { grammar.signatures_named };
 }
 
-/// With which algorithms a signature was made (RFC 5246 section 7.4.1.4.1).
+/// A pair of a hash and a signature algorithm (RFC 5246 section 7.4.1.4.1).
 #[derive(Clone, Copy, Debug, PartialEq, Eq)]
 pub struct SignatureAndHashAlgorithm {
     /// The hash algorithm.

@@ -1,4 +1,4 @@
-//! Signed certificate timestamps.
+//! Signed certificate timestamps (SCTs).
 
 ghost use Rattle.std.specs.Prelude.{◌≡◌, ◌↔◌, ◌≤◌, ◌/◌, IsOk, Ok, IfOk, IfErr};
 ghost use Rattle.x509_base_time.specs.CivilTime.{CivilTime, last_date_time, IsDateTime, unix_seconds};
@@ -43,7 +43,7 @@ impl NamedByte for Version {
     ghost are_named = { grammar.versions_named };
 }
 
-/// By what a log is told from others (RFC 6962 section 3.2).
+/// The ID of a log (RFC 6962 section 3.2).
 #[derive(Clone, Copy, Debug, PartialEq, Eq)]
 pub struct LogId {
     /// The SHA-256 digest of the log's public key.
@@ -74,7 +74,8 @@ impl Tls for LogId {
     ghost lawful = { grammar.log_id_lawful };
 }
 
-/// A log's promise that it has a certificate, or that it will have it soon (RFC 6962 section 3.2).
+/// A signed certificate timestamp (SCT): a log's promise to have the certificate, or to have it soon (RFC 6962 section
+/// 3.2).
 #[derive(Debug, Drop, PartialEq, Eq)]
 pub struct SignedCertificateTimestamp {
     /// The version.
@@ -98,7 +99,7 @@ impl SignedCertificateTimestamp {
     ///
     /// # Errors
     ///
-    /// `Value` after [`DateTime::INFINITY`].
+    /// `Value` exactly after [`DateTime::INFINITY`].
     pub fn timestamp(&self) -> Result<DateTime, Error>
         ensures succeeds { IsOk result ↔ (self.now.timestamp / 1000 ≤ unix_seconds last_date_time) }
         ensures found { IfOk result (λ d. IsDateTime d × (unix_seconds d ≡ self.now.timestamp / 1000)) }

@@ -1,22 +1,22 @@
-//! Why a call on TLS forms was refused.
+//! Errors of the TLS encoding.
 
 ghost use Rattle.std.specs.Prelude.{◌≡◌};
 ghost use Rattle.x509_sct_tls.specs.declared.error.TlsError.TheVariants.{Memory};
 
 use std::alloc::{AllocError, AllocFailed};
 
-/// Why a TLS form was refused.
+/// Why a call on a TLS encoding was refused.
 #[derive(Clone, Copy, Debug, PartialEq, Eq, thiserror::Error)]
 pub enum TlsError {
-    /// Not all bytes of a field are there.
+    /// Bytes of a field are missing.
     #[error("EndOfStream")]
     EndOfStream,
 
-    /// A byte that has no name, where one with a name is wanted.
+    /// A byte that has no name, where one with a name is needed.
     #[error("UnknownValue({0})")]
     UnknownValue(u8),
 
-    /// Bytes are left behind the value that was to be all of them.
+    /// Bytes follow the value, which was to be all of them.
     #[error("TrailingData")]
     TrailingData,
 
@@ -24,7 +24,7 @@ pub enum TlsError {
     #[error("InvalidVectorLength")]
     InvalidVectorLength,
 
-    /// Memory was asked for and not given.
+    /// Out of memory.
     #[error("Memory")]
     Memory,
 }

@@ -1,4 +1,4 @@
-//! What holds of all types with a form of TLS. Each law is a function with an empty body, whose contract is the law.
+//! What holds of all types with a TLS encoding. Each law is a function with an empty body, whose contract is the law.
 
 ghost use Rattle.std.specs.Prelude.{◌≡◌, ◌↔◌, ◌++◌, ◌⊎◌, List, ℕ, true};
 ghost use Rattle.x509_sct_tls.specs.declared.error.TlsError.{TlsError};
@@ -13,12 +13,12 @@ pub fn one_value_in_front<T: Tls>()
     ensures { (v w : T) (x y : List ℕ) → T.form.good v → T.form.good w → T.form.bytes v ++ x ≡ T.form.bytes w ++ y → (v ≡ w) × (x ≡ y) }
 {}
 
-/// Bytes begin with a value, or have a first fault.
+/// Bytes begin with the encoding of a value, or have a first error.
 pub fn a_value_or_a_fault<T: Tls>()
     ensures { (input : List ℕ) → AreOctets input → ((x : T × List ℕ) × Begins T.form x.0 x.1 input) ⊎ ((e : TlsError) × T.form.fault input e) }
 {}
 
-/// Bytes that begin with a value have no first fault, and no bytes have two.
+/// Bytes that begin with the encoding of a value have no first error, and no bytes have two.
 pub fn one_fault<T: Tls>()
     ensures none { (input : List ℕ) (v : T) (rest : List ℕ) (e : TlsError) → Begins T.form v rest input → T.form.fault input e → ⊥ }
     ensures one { (input : List ℕ) (d e : TlsError) → T.form.fault input d → T.form.fault input e → d ≡ e }

@@ -1,4 +1,5 @@
 //! The presentation language of TLS (RFC 5246 section 4): fields, and values that are their fields one after the other.
+//! A form is the grammar of a type as one record; this and other words of our own are explained in `docs/MAP.md`.
 #![tactic(auto)]
 
 mod error;

@@ -14,7 +14,7 @@ use crate::tls::Tls;
 use crate::vector::TlsByteVecU16;
 use std::alloc::Global;
 
-/// A type each value of which has at least one byte, so that reading many of them ends.
+/// A type of which each value has at least one byte, so that decoding many of them ends.
 pub trait TlsItem: Tls {
     ghost use Rattle.x509_sct_tls.specs.Items.{Moves};
 
@@ -28,15 +28,19 @@ impl TlsItem for TlsByteVecU16 {
     ghost moves = { counted_moves uint16.reading uint16_moves };
 }
 
-/// The items of a list, `T<0..2^16-1>` (RFC 5246 section 4.3), that is all of the bytes; else the first fault from the
-/// left. Bytes behind the list are `TrailingData`, which is looked for before the items are read. Memory may be refused.
+/// The items of a list, `T<0..2^16-1>` (RFC 5246 section 4.3), which is to be all of the bytes.
+///
+/// # Errors
+///
+/// The first error from the left; `TrailingData`, where bytes follow the list, comes before the errors of items.
+/// `Memory` when out of memory.
 pub fn read_list<T: TlsItem + Drop>(alloc: Global, bytes: &[u8]) -> Result<Vec<T>, TlsError>
     ensures { Answers (λ items. items.items) (λ e. e) (λ items. IsList uint16 T.form items bytes.now) (ListFault uint16 T.form bytes.now) Unit result }
 {
     take_list(alloc, bytes)
 }
 
-/// What [`read_list`] answers, as reading gives it.
+/// What [`read_list`] answers, as the form says it.
 #[tactic(auto, unfolding(crate::specs::Lists::list_reading, crate::specs::FieldReading::counted_at))]
 fn take_list<T: TlsItem + Drop>(alloc: Global, bytes: &[u8]) -> Result<Vec<T>, TlsError>
     ensures { GivesBy (λ v. v.items) result (list_reading uint16.reading T.form.reading bytes.now) }
@@ -63,11 +67,11 @@ fn take_items<T: TlsItem + Drop>(alloc: Global, bytes: &[u8]) -> Result<Vec<T>, 
     Ok(items)
 }
 
-/// The bytes of the list of the items, `T<0..2^16-1>` (RFC 5246 section 4.3).
+/// The encoding of the list of the items, `T<0..2^16-1>` (RFC 5246 section 4.3).
 ///
 /// # Errors
 ///
-/// `InvalidVectorLength` exactly where the items have more than 65,535 bytes. Within that memory may be refused.
+/// `InvalidVectorLength` exactly where the items have more than 65,535 bytes. Else `Memory` when out of memory.
 pub fn serialize_list<T: Tls>(alloc: Global, items: &[T]) -> Result<Vec<u8>, TlsError>
     ensures ok { IfOk result (λ bytes. IsList uint16 T.form items.now bytes.items) }
     ensures err { IfErr result (λ e. ((e ≡ InvalidVectorLength) × (65535 < length (joined T.form items.now))) ⊎ ((e ≡ Memory) × (length (joined T.form items.now) ≤ 65535))) }

@@ -5,7 +5,7 @@ use crate::octets::take_octet;
 use crate::tls::Tls;
 use std::alloc::{AllocError, Global};
 
-/// A type each value of which is a byte (RFC 5246 section 4.5). From it comes [`Tls`].
+/// A type of which each value is one byte (RFC 5246 section 4.5). From it comes [`Tls`].
 pub trait NamedByte: Sized {
     ghost use Rattle.std.specs.Prelude.{◌≡◌, ℕ, List};
     ghost use Rattle.x509_sct_tls.specs.FieldReading.{name_of};

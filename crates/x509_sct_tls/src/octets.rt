@@ -9,7 +9,7 @@ use crate::error::TlsError;
 use crate::tls::Tls;
 use std::alloc::{AllocError, Global};
 
-/// That many octets in front of the bytes, and what follows them.
+/// So many octets at the front of the bytes, and what follows them.
 #[tactic(auto, unfolding(crate::specs::FieldReading::octets_at))]
 pub(crate) fn take_octets(len: usize, bytes: &[u8]) -> Result<(&[u8], &[u8]), TlsError>
     ensures exact { GivesBy (λ x. (x.0.now, x.1.now)) result (octets_at len bytes.now) }
@@ -22,7 +22,7 @@ pub(crate) fn take_octets(len: usize, bytes: &[u8]) -> Result<(&[u8], &[u8]), Tl
     Ok(bytes.split_at(len))
 }
 
-/// The octet in front of the bytes, and what follows it.
+/// The octet at the front of the bytes, and what follows it.
 pub(crate) fn take_octet(bytes: &[u8]) -> Result<(u8, &[u8]), TlsError>
     ensures exact { GivesBy (λ x. (x.0, x.1.now)) result (octet_at bytes.now) }
     ensures err { IfErr result (λ e. e ≡ EndOfStream) }

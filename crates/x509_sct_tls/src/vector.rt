@@ -52,8 +52,8 @@ impl TlsByteVecU16 {
     ///
     /// # Errors
     ///
-    /// `InvalidVectorLength` exactly where there are more than [`MAX_LEN`](TlsByteVecU16::MAX_LEN). Within that memory
-    /// may be refused.
+    /// `InvalidVectorLength` exactly where there are more than [`MAX_LEN`](TlsByteVecU16::MAX_LEN). Else `Memory` when
+    /// out of memory.
     pub fn from_slice(alloc: Global, octets: &[u8]) -> Result<TlsByteVecU16, TlsError>
         ensures ok { IfOk result (λ vector. (vector ≡ octets.now) × (length octets.now ≤ 65535)) }
         ensures err { IfErr result (λ e. ((e ≡ InvalidVectorLength) × (65535 < length octets.now)) ⊎ ((e ≡ Memory) × (length octets.now ≤ 65535))) }
@@ -72,7 +72,11 @@ impl TlsByteVecU16 {
         self.octets.as_slice()
     }
 
-    /// Two bytes that say how many there are, and the bytes. Memory may be refused, and nothing else.
+    /// Two bytes that say how many bytes there are, and the bytes.
+    ///
+    /// # Errors
+    ///
+    /// `Memory` when out of memory, and nothing else.
     pub fn tls_serialize(&self, alloc: Global) -> Result<Vec<u8>, TlsError>
         ensures ok { IfOk result (λ bytes. Spells vector16 self.now bytes.items) }
         ensures err { IfErr result (λ e. e ≡ Memory) }
@@ -80,8 +84,11 @@ impl TlsByteVecU16 {
         Tls::tls_serialize(self, alloc)
     }
 
-    /// The vector that stands in front of the bytes, and what follows it; where none stands there, the first fault from
-    /// the left. Memory may be refused.
+    /// The vector that the bytes begin with, and what follows it.
+    ///
+    /// # Errors
+    ///
+    /// `EndOfStream` where bytes are missing. `Memory` when out of memory.
     pub fn tls_deserialize_bytes(
         alloc: Global,
         bytes: &[u8],
@@ -103,12 +110,12 @@ fn check_len(len: usize) -> Result<(), TlsError>
     Ok(())
 }
 
-/// The vector of the bytes of a value.
+/// The vector of the encoding of a value.
 ///
 /// # Errors
 ///
-/// `InvalidVectorLength` exactly where the value has more than [`MAX_LEN`](TlsByteVecU16::MAX_LEN) bytes. Within that
-/// memory may be refused.
+/// `InvalidVectorLength` exactly where the value has more than [`MAX_LEN`](TlsByteVecU16::MAX_LEN) bytes. Else `Memory`
+/// when out of memory.
 pub fn serialize_vector<T: Tls>(alloc: Global, value: &T) -> Result<TlsByteVecU16, TlsError>
     ensures ok { IfOk result (λ vector. Spells T.form value.now vector × (length (T.form.bytes value.now) ≤ 65535)) }
     ensures err { IfErr result (λ e. ((e ≡ InvalidVectorLength) × (65535 < length (T.form.bytes value.now))) ⊎ ((e ≡ Memory) × (length (T.form.bytes value.now) ≤ 65535))) }

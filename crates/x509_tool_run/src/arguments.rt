@@ -13,6 +13,10 @@ pub trait Arguments {
     ghost gives: { Self → ℕ → Option (List ℕ) → Type 0 };
 
     /// The bytes of the argument at a place, of which the first is the program's name.
+    ///
+    /// # Errors
+    ///
+    /// `AllocError` when out of memory.
     fn argument(&self, alloc: Global, place: usize) -> Result<Option<Vec<u8>>, AllocError>
         ensures { IfOk result (λ found. gives self.now place (option_map (λ bytes. bytes.items) found)) };
 }
@@ -49,8 +53,11 @@ fn word_of(alloc: Global, argument: Vec<u8>) -> String
     }
 }
 
-/// The arguments but the program's name, in their order. One that isn't UTF-8 counts as the empty word. Memory may be
-/// refused.
+/// The arguments but the program's name, in their order. One that isn't UTF-8 counts as the empty word.
+///
+/// # Errors
+///
+/// `AllocError` when out of memory.
 pub fn words<A: Arguments>(alloc: Global, arguments: &A) -> Result<Vec<String>, AllocError>
     ensures { IfOk result (λ words. AreWords (A.gives arguments.now) (map string_bytes words.items)) }
 {

@@ -11,11 +11,15 @@ use x509_der_element::Error;
 
 /// The decoders and encoders of the types that have a name.
 pub trait Codec {
-    /// What the bytes of the type with a name may give under a profile, memory aside: the encoding of the value that
-    /// they spell, or an error.
+    /// What the bytes of the type with a name may give under a profile, apart from out of memory: the encoding of the
+    /// value that was decoded, or an error.
     ghost reencodes: { List ℕ → ProfileName → List ℕ → Result (List ℕ) ErrorKind → Type 0 };
 
     /// Decodes the bytes as the type with that name, and encodes the value again.
+    ///
+    /// # Errors
+    ///
+    /// Those that `reencodes` has for the bytes; `Memory` when out of memory.
     fn reencode(
         alloc: Global,
         name: &str,
@@ -32,19 +36,27 @@ pub trait NameCodec {
     ghost use Rattle.std.specs.Prelude.{string_bytes};
     ghost use Rattle.x509_tool_run.specs.Answer.{Step};
 
-    /// What the bytes of a name may give, memory aside: the text of the name that they spell, or an error.
+    /// What the bytes of a name may give, apart from out of memory: the text of the name, or an error.
     ghost prints_name: { Step };
 
-    /// What the text of a name may give, memory aside: the encoding of the name that it says, or an error.
+    /// What the text of a name may give, apart from out of memory: the encoding of the name that it says, or an error.
     ghost encodes_name: { Step };
 
     /// Decodes the bytes as a name, and prints it.
+    ///
+    /// # Errors
+    ///
+    /// Those that `prints_name` has for the bytes; `Memory` when out of memory.
     fn print_name(alloc: Global, bytes: &[u8]) -> Result<String, Error>
         ensures { MatchResult result
             (λ text. prints_name bytes.now (Ok (string_bytes text)))
             (λ e. (e.kind ≡ Memory) ⊎ prints_name bytes.now (Err e.kind)) };
 
     /// Reads a text as a name, and encodes it.
+    ///
+    /// # Errors
+    ///
+    /// Those that `encodes_name` has for the text; `Memory` when out of memory.
     fn encode_name(alloc: Global, text: &str) -> Result<Vec<u8>, Error>
         ensures { MatchResult result
             (λ encoding. encodes_name text.now (Ok encoding.items))
@@ -57,11 +69,15 @@ pub trait PathCodec {
     ghost use Rattle.std.specs.Option.{option_map};
     ghost use Rattle.x509_tool_run.specs.Path.{PathStep};
 
-    /// What may be said of a path, memory aside: nothing where it holds, else its first fault; or an error.
+    /// What may be said of a path, apart from out of memory: nothing where it holds, else its first fault; or an error.
     ghost checks_path: { PathStep };
 
-    /// The first fault of the certificates, topmost first, at the moment of the text, under the subject and the key of the
-    /// anchor's certificate; `None` where the path holds.
+    /// The first fault of the certificates, topmost first, at the moment of the text, under the subject and the key of
+    /// the anchor's certificate; `None` where the path holds.
+    ///
+    /// # Errors
+    ///
+    /// Those that `checks_path` has; `Memory` when out of memory.
     fn check_path(
         alloc: Global,
         moment: &str,

@@ -4,13 +4,13 @@ ghost use Rattle.std.specs.Option.{option_map};
 ghost use Rattle.std.specs.Prelude.{◌≡◌, map, string_bytes, ◌∷◌, []};
 ghost use Rattle.x509_tool_run.specs.Command.{kind_of, type_name, profile_of, name_command_of, command_of, moment_of};
 
-/// A type whose encodings the program reads.
+/// A type whose encodings the program decodes.
 #[derive(Clone, Copy, Debug, PartialEq, Eq)]
 pub enum Kind {
     /// A trust anchor.
     Anchor,
 
-    /// An element that is not looked into.
+    /// An element that isn't decoded further.
     Any,
 
     /// A certificate.
@@ -19,7 +19,7 @@ pub enum Kind {
     /// A CRL.
     Crl,
 
-    /// The extensions of a certificate, a list or a request.
+    /// The extensions of a certificate, a CRL or a CSR.
     Extensions,
 
     /// General names.
@@ -31,13 +31,13 @@ pub enum Kind {
     /// A name.
     Name,
 
-    /// An object identifier.
+    /// An OID.
     Oid,
 
-    /// A relative distinguished name.
+    /// An RDN.
     Rdn,
 
-    /// A request for a certificate.
+    /// A CSR.
     Request,
 
     /// A serial number of a certificate.
@@ -46,11 +46,11 @@ pub enum Kind {
     /// A date of a certificate.
     Time,
 
-    /// The two dates between which a certificate holds.
+    /// The validity of a certificate.
     Validity,
 }
 
-/// The profile under which bytes are read and written.
+/// The profile under which bytes are decoded and encoded.
 #[derive(Clone, Copy, Debug, PartialEq, Eq)]
 pub enum ProfileName {
     /// The rules of RFC 5280.
@@ -66,7 +66,7 @@ pub enum Command {
     /// Decode the bytes of the line, and encode the value again.
     Reencode(Kind, ProfileName),
 
-    /// Print the name that the bytes of the line spell.
+    /// Print the name of which the bytes of the line are the encoding.
     Name,
 
     /// Encode the name that the line says.

@@ -24,7 +24,11 @@ pub trait Source {
     /// That a read leads from one state to another and gives these bytes, none of them at the end, or fails.
     ghost gives: { Self → Option (List ℕ) → Self → Type 0 };
 
-    /// Reads some bytes to the front of the room, and answers how many; none is the end of the input.
+    /// Reads some bytes to the front of the buffer `room`, and answers how many; none is the end of the input.
+    ///
+    /// # Errors
+    ///
+    /// [`ReadError`] where the read fails.
     fn take_some(&mut self, room: &mut [u8]) -> Result<usize, ReadError>
         requires { 0 < length room.old }
         ensures fits { IfOk result (λ count. count ≤ length room.new) }
@@ -43,6 +47,11 @@ impl<R: io::Read> Source for R {
 }
 
 /// Reads the whole input: to its end, to the first read that fails, or past the limit.
+///
+/// # Errors
+///
+/// `Read` where a read fails; `Because` of `Overlength` where the input is longer than [`INPUT_LIMIT`], and of `Memory`
+/// when out of memory.
 pub fn read_input<R: Source>(alloc: Global, reader: &mut R) -> Result<Vec<u8>, Refusal>
     ensures { EndsReading (λ v. v.items) R.gives reader.old result reader.new }
 {

@@ -1,5 +1,6 @@
-//! A program over lines of hex text and of names: its words, its input, its answer and its status. What it makes of the bytes is
-//! for a [`Codec`], a [`NameCodec`] and a [`PathCodec`] to say.
+//! A program over lines of hex text and of names: its words, its input, its answer and its status. What it makes of the
+//! bytes is for a [`Codec`], a [`NameCodec`] and a [`PathCodec`] to say. Words of our own are explained in
+//! `docs/MAP.md`.
 #![tactic(auto)]
 
 mod arguments;

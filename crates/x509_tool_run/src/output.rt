@@ -16,6 +16,10 @@ pub trait Sink {
     ghost takes: { Self → Option (List ℕ) → Self → Type 0 };
 
     /// Writes some of the first bytes, and answers how many.
+    ///
+    /// # Errors
+    ///
+    /// [`WriteError`] where the write fails.
     fn put_some(&mut self, bytes: &[u8]) -> Result<usize, WriteError>
         ensures fits { IfOk result (λ count. count ≤ length bytes.now) }
         ensures takes { takes self.old (moved result bytes.now) self.new };
@@ -33,6 +37,10 @@ impl<W: io::Write> Sink for W {
 }
 
 /// Writes all of a text, up to the first write that fails or takes no bytes.
+///
+/// # Errors
+///
+/// [`WriteError`] where a write fails or takes no bytes; then a part of the text may be written.
 pub fn write_text<W: Sink>(writer: &mut W, text: &[u8]) -> Result<(), WriteError>
     ensures ok { OnOk result (IsWritten W.takes writer.old text.now writer.new) }
     ensures err { OnErr result (IsCutOff W.takes writer.old text.now writer.new) }

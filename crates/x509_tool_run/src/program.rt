@@ -33,6 +33,10 @@ pub(crate) fn line_of(input: &[u8]) -> &[u8]
 }
 
 /// The bytes that a line of hex text stands for.
+///
+/// # Errors
+///
+/// `Because` of `Failed` exactly where the text is a bad one: not hex; `Because` of `Memory` when out of memory.
 pub fn bytes_of(alloc: Global, line: &[u8]) -> Result<Vec<u8>, Refusal>
     ensures { MatchResult result
         (λ bytes. decode_of line.now ≡ Ok bytes.items)
@@ -158,7 +162,7 @@ fn check_and_say<C: PathCodec, R: Source, W: Sink>(
     }
 }
 
-/// The answer where no memory was left for the words.
+/// The answer when out of memory for the words.
 pub fn refuse_memory<W: Sink>(writer: &mut W) -> u8
     ensures { Says W.takes writer.old (text_of (Err (Because Memory))) 1 writer.new result }
 {

@@ -13,7 +13,7 @@ pub enum Refusal {
     /// A read failed.
     Read,
 
-    /// A step refused the input, or memory was refused.
+    /// A step refused the input, or ran out of memory.
     Because(ErrorKind),
 }
 

@@ -6,7 +6,8 @@ use std::marker::PhantomData;
 use x509_der_grammar::Error;
 use x509_tool_run::{Codec, ProfileName};
 
-/// A table of types as they are read and written under the profile of RFC 5280, and one of them as they are under none.
+/// A table of types as they are decoded and encoded under the profile of RFC 5280, and one of them as they are under
+/// none.
 pub struct ByProfile<A, B> {
     tables: PhantomData<(A, B)>,
 }

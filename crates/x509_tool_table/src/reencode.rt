@@ -8,10 +8,14 @@ pub trait Reencode {
     ghost use Rattle.std.specs.Prelude.{ℕ, List};
     ghost use Rattle.x509_tool_table.specs.Table.{Answers, IsAmong};
 
-    /// What bytes may give, memory aside.
+    /// What bytes may give, apart from out of memory.
     ghost reencodes: { List ℕ → Answers };
 
-    /// The encoding of the value that the bytes spell.
+    /// Decodes the bytes, and encodes the value again.
+    ///
+    /// # Errors
+    ///
+    /// Those that `reencodes` has for the bytes; `Memory` when out of memory.
     fn reencode_as(alloc: Global, bytes: &[u8]) -> Result<Vec<u8>, Error>
         ensures { IsAmong (λ encoding. encoding.items) (reencodes bytes.now) result };
 }

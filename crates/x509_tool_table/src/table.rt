@@ -3,8 +3,7 @@
 use std::alloc::Global;
 use x509_der_grammar::{Error, ErrorKind};
 
-/// A part of a table, and the parts behind it: types by their names, under one profile. A name that stands in none is refused
-/// as `Failed`.
+/// A part of a table, and the parts after it: types by their names, under one profile.
 pub trait Table {
     ghost use Rattle.x509_tool_table.specs.Table.{Table, IsAmong};
 
@@ -12,6 +11,11 @@ pub trait Table {
     ghost table: { Table };
 
     /// Decodes the bytes as the type with that name, and encodes the value again.
+    ///
+    /// # Errors
+    ///
+    /// `Failed` where the type is unknown: no part of the table has the name. Else those of decoding and of encoding;
+    /// `Memory` when out of memory.
     fn reencode(alloc: Global, name: &str, bytes: &[u8]) -> Result<Vec<u8>, Error>
         ensures { IsAmong (λ encoding. encoding.items) (table name.now bytes.now) result };
 }

@@ -1,4 +1,4 @@
-//! Certificates, CRLs and requests, in front of another table.
+//! Certificates, CRLs and CSRs, in front of another table.
 
 use std::alloc::Global;
 use std::marker::PhantomData;
@@ -10,7 +10,7 @@ use x509_der_frames::SequenceOf;
 use x509_der_grammar::Error;
 use x509_tool_table::{Reencode, Table};
 
-/// Certificates, CRLs and requests, in front of another table.
+/// Certificates, CRLs and CSRs, in front of another table.
 pub struct Certificates<P, T> {
     rest: PhantomData<(P, T)>,
 }

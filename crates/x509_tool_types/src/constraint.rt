@@ -1,4 +1,4 @@
-//! Constraints on names, where CRLs are found, in front of another table.
+//! Name constraints and CRL distribution points, in front of another table.
 
 use std::alloc::Global;
 use std::marker::PhantomData;
@@ -9,7 +9,7 @@ use x509_pkix::{
 };
 use x509_tool_table::{Reencode, Table};
 
-/// Constraints on names, where CRLs are found, in front of another table.
+/// Name constraints and CRL distribution points, in front of another table.
 pub struct Constraints<T> {
     rest: PhantomData<T>,
 }

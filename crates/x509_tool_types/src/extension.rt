@@ -1,4 +1,4 @@
-//! Extensions and what is said of keys, in front of another table.
+//! Extensions and those about keys, in front of another table.
 
 use std::alloc::Global;
 use std::marker::PhantomData;
@@ -9,7 +9,7 @@ use x509_ext::pkix::{
 use x509_ext_frame::{Extension, Extensions};
 use x509_tool_table::{Reencode, Table};
 
-/// Extensions and what is said of keys, in front of another table.
+/// Extensions and those about keys, in front of another table.
 pub struct Payloads<T> {
     rest: PhantomData<T>,
 }

@@ -1,4 +1,5 @@
-//! The types of this library by their public names: bytes of a type are decoded and the value is encoded again.
+//! The types of this library by their public names: bytes of a type are decoded and the value is encoded again. Words of
+//! our own are explained in `docs/MAP.md`.
 //!
 //! A type joins by two lines in the file of its layer: one of the match, and one of the table above it.
 #![tactic(auto)]

@@ -1,4 +1,4 @@
-//! What extensions say of the subject and of the issuer, in front of another table.
+//! The extensions about the subject and the issuer, in front of another table.
 
 use std::alloc::Global;
 use std::marker::PhantomData;
@@ -9,7 +9,7 @@ use x509_ext::pkix::{
 };
 use x509_tool_table::{Reencode, Table};
 
-/// What extensions say of the subject and of the issuer, in front of another table.
+/// The extensions about the subject and the issuer, in front of another table.
 pub struct Parties<T> {
     rest: PhantomData<T>,
 }

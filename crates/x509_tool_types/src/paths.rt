@@ -20,7 +20,7 @@ use x509_path::{Anchor, PathFault, Verifier, check_path};
 use x509_prim::BitString;
 use x509_tool_run::PathCodec;
 
-/// A verifier that takes a message for its own signature, whatever the algorithm and the key.
+/// A verifier that accepts a message as its own signature, whatever the algorithm and the key.
 struct Echo;
 
 impl Verifier for Echo {

@@ -1,4 +1,4 @@
-//! What CRLs hold, in front of another table.
+//! The extensions of CRLs, in front of another table.
 
 use std::alloc::Global;
 use std::marker::PhantomData;
@@ -6,7 +6,7 @@ use x509_der_grammar::Error;
 use x509_pkix::{BaseCrlNumber, CrlNumber, CrlReason, Reasons};
 use x509_tool_table::{Reencode, Table};
 
-/// What CRLs hold, in front of another table.
+/// The extensions of CRLs, in front of another table.
 pub struct Revocation<T> {
     rest: PhantomData<T>,
 }

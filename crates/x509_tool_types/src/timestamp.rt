@@ -1,4 +1,4 @@
-//! Lists of signed certificate timestamps, in front of another table.
+//! Lists of signed certificate timestamps (SCTs), in front of another table.
 
 use std::alloc::Global;
 use std::marker::PhantomData;
@@ -6,7 +6,7 @@ use x509_der_grammar::Error;
 use x509_sct::SignedCertificateTimestampList;
 use x509_tool_table::{Reencode, Table};
 
-/// Lists of signed certificate timestamps, in front of another table.
+/// Lists of signed certificate timestamps (SCTs), in front of another table.
 pub struct Timestamps<T> {
     rest: PhantomData<T>,
 }

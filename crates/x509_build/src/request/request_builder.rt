@@ -27,8 +27,8 @@ use x509_prim::BitString;
 
 /// A builder of a PKCS #10 request (CSR, RFC 2986 4).
 ///
-/// The part that is signed holds the signer's key, the attributes that were added, and one more, which asks for the extensions
-/// that were added (RFC 2985 5.4.2). That stands there where none were added too.
+/// The signed part holds the signer's key, the attributes that were added, and one more, which asks for the extensions
+/// that were added (RFC 2985 5.4.2). That one stands there where no extension was added too.
 #[derive(Drop)]
 pub struct RequestBuilder {
     info: CertReqInfo,
@@ -37,8 +37,12 @@ pub struct RequestBuilder {
 }
 
 impl RequestBuilder {
-    /// A builder of a request of that subject. Until [`finalize`](Builder::finalize) the part has no attributes, and a key with
-    /// the algorithm 0.0.0 and no bits. It takes no memory and is never refused.
+    /// A builder of a CSR for that subject. Until [`finalize`](Builder::finalize) the signed part has no attributes,
+    /// and a key with the algorithm 0.0.0 and no bits. It takes no memory.
+    ///
+    /// # Errors
+    ///
+    /// None: it is never refused. It answers a `Result` as the Rust crate's call does.
     pub fn new(alloc: Global, subject: Name) -> Result<RequestBuilder>
         ensures { IsOkAnd result (λ builder. builder ≡ record { info = first_part subject; attributes = []; extension_req = record { 0 = [] } }) }
     {
@@ -59,12 +63,12 @@ impl RequestBuilder {
         })
     }
 
-    /// Adds an extension behind those that were added before, made for the subject and behind those.
+    /// Adds an extension behind those that were added before; it is made for the subject and for those.
     ///
     /// # Errors
     ///
-    /// `Asn1` of what [`ToExtension::to_extension`] answers. Memory may be refused. A builder that refuses stays as it was, and
-    /// the extension is dropped.
+    /// `Asn1` of the error of [`ToExtension::to_extension`]. `Asn1` of `Memory` when out of memory. On an error the
+    /// builder is unchanged, and the extension is dropped.
     pub fn add_extension<E: ToExtension>(&mut self, alloc: Global, extension: E) -> Result<()>
         ensures ok { OnOk result ((made : Extension) × E.makes extension self.old.info.subject self.old.extension_req.0 (Ok made) × (self.new ≡ record self.old { extension_req = record { 0 = self.old.extension_req.0 ++ made ∷ [] } })) }
         ensures err { IfErr result (λ e. LacksMemory e ⊎ ((refusal : Error) × (e ≡ Asn1 refusal) × E.makes extension self.old.info.subject self.old.extension_req.0 (Err refusal))) }
@@ -80,8 +84,8 @@ impl RequestBuilder {
     ///
     /// # Errors
     ///
-    /// `Asn1` of what [`AsAttribute::to_attribute`] answers, and else `Asn1` of `SetDuplicate` exactly where an equal attribute
-    /// was added before. Memory may be refused. A builder that refuses stays as it was.
+    /// `Asn1` of the error of [`AsAttribute::to_attribute`], and else `Asn1` of `SetDuplicate` exactly where an equal
+    /// attribute was added before. `Asn1` of `Memory` when out of memory. On an error the builder is unchanged.
     pub fn add_attribute<A: AsAttribute>(&mut self, alloc: Global, attribute: &A) -> Result<()>
         ensures ok { OnOk result ((made : Attribute) × MakesAttribute A.OID A.form (writes A.writing attribute.now) (Ok made) × (¬ Contains self.old.attributes made) × (self.new ≡ record self.old { attributes = insert_key attribute_cmp self.old.attributes made })) }
         ensures err { IfErr result (λ e. LacksMemory e ⊎ ((refusal : Error) × (e ≡ Asn1 refusal) × (MakesAttribute A.OID A.form (writes A.writing attribute.now) (Err refusal) ⊎ ((made : Attribute) × MakesAttribute A.OID A.form (writes A.writing attribute.now) (Ok made) × (refusal.kind ≡ SetDuplicate) × Contains self.old.attributes made)))) }
@@ -92,7 +96,7 @@ impl RequestBuilder {
         Ok(())
     }
 
-    /// The part for a signer of that key.
+    /// The signed part for a signer with that key.
     fn next_part(&self, alloc: Global, public_key: SubjectPublicKeyInfo) -> Result<CertReqInfo>
         ensures { Gives (λ part. part) (next_part self.now.info.subject self.now.attributes self.now.extension_req.0 public_key) result }
     {
@@ -108,7 +112,7 @@ impl RequestBuilder {
     }
 }
 
-/// Puts the attribute in its place among the others. Where it is refused they are as they were.
+/// Puts the attribute in its place among the others. On an error they are unchanged.
 fn add(attributes: &mut Attributes, attribute: Attribute) -> std::result::Result<(), Error>
     ensures ok { OnOk result ((¬ Contains attributes.old attribute) × (attributes.new ≡ insert_key attribute_cmp attributes.old attribute)) }
     ensures err { IfErr result (λ e. (e.kind ≡ Memory) ⊎ ((e.kind ≡ SetDuplicate) × Contains attributes.old attribute)) }

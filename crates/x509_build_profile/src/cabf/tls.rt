@@ -1,4 +1,4 @@
-//! Profiles for servers and for the authorities above them (Baseline Requirements 7.1.2.6, 7.1.2.7).
+//! Profiles for TLS servers and for the authorities above them (Baseline Requirements 7.1.2.6, 7.1.2.7).
 
 ghost use Rattle.std.specs.Prelude.{◌≡◌, IfOk, IfErr};
 ghost use Rattle.x509_build_profile.specs.Domain.{domain_attributes, domain_name, is_domain_type};
@@ -26,24 +26,24 @@ use x509_name::name::{Name, RdnSequence, RelativeDistinguishedName};
 
 /// The profile of a subordinate certification authority for TLS (Baseline Requirements 7.1.2.6).
 ///
-/// Its certificates hold, in this order: an AuthorityKeyIdentifier of the issuer's key; BasicConstraints of an authority; a
-/// KeyUsage of keyCertSign and cRLSign, and of digitalSignature where OCSP responses are emitted; a SubjectKeyIdentifier; an
-/// ExtendedKeyUsage of serverAuth, and of clientAuth where asked for.
+/// Its certificates have these extensions, in this order: AKI of the issuer's key; BasicConstraints of an authority;
+/// KeyUsage with keyCertSign and cRLSign, and with digitalSignature where the authority signs OCSP responses; SKI;
+/// ExtendedKeyUsage with serverAuth, and with clientAuth where asked for.
 #[derive(Drop)]
 pub struct Subordinate {
-    /// Who signs the certificate.
+    /// The issuer of the certificate.
     pub issuer: Name,
 
-    /// Whom it names.
+    /// The subject of the certificate.
     pub subject: Name,
 
-    /// How many authorities may stand below, at most; any number if left out (RFC 5280 4.2.1.9).
+    /// How many authorities may stand below, at most; any number where absent (RFC 5280 4.2.1.9).
     pub path_len_constraint: Option<u8>,
 
     /// Whether the authority signs OCSP responses with this key.
     pub emits_ocsp_response: bool,
 
-    /// Whether it may issue certificates of clients.
+    /// Whether it may issue client certificates.
     pub client_auth: bool,
 }
 
@@ -101,11 +101,11 @@ impl BuilderProfile for Subordinate {
     }
 }
 
-/// What of a subscriber was validated (Baseline Requirements 7.1.2.7). Only of a domain validated one the subject is known
-/// here.
+/// What was validated of a subscriber (Baseline Requirements 7.1.2.7). Only for a domain validated one the subject is
+/// known here.
 #[derive(Debug, Drop, PartialEq, Eq)]
 pub enum CertificateType {
-    /// Control of the domains.
+    /// Control of the domains alone.
     DomainValidated(DomainValidated),
 
     /// A person.
@@ -114,7 +114,7 @@ pub enum CertificateType {
     /// An organization.
     OrganizationValidated,
 
-    /// An organization, at more length.
+    /// An organization, under the extended validation guidelines.
     ExtendedValidation,
 }
 
@@ -151,7 +151,7 @@ fn domain_attributes(
     RelativeDistinguishedName::try_from_vec(kept)
 }
 
-/// The relative names of such attributes.
+/// The RDNs of such attributes.
 fn domain_rdns(alloc: Global, subject: &Name) -> std::result::Result<RdnSequence, DerError>
     ensures ok { IfOk result (λ rdns. rdns ≡ domain_name subject.now) }
     ensures err { IfErr result (λ e. e.kind ≡ Memory) }
@@ -168,10 +168,13 @@ fn domain_rdns(alloc: Global, subject: &Name) -> std::result::Result<RdnSequence
 }
 
 impl CertificateType {
-    /// The type of a subscriber of whom control of the domains `names` was validated. Of the subject only the attributes
-    /// countryName and commonName are kept, in their order, and relative distinguished names that have neither go
-    /// (Baseline Requirements 7.1.2.7.2). The names are kept; no extension is made of them here. Memory may be refused, and
-    /// nothing else.
+    /// The type of a subscriber of whom control of the domains `names` was validated. Of the subject only the
+    /// attributes countryName and commonName are kept, in their order, and each relative distinguished name (RDN) that
+    /// has neither is dropped (Baseline Requirements 7.1.2.7.2). The names are kept; no extension is made of them here.
+    ///
+    /// # Errors
+    ///
+    /// `Asn1` of `Memory` when out of memory, and nothing else.
     pub fn domain_validated(
         alloc: Global,
         subject: Name,
@@ -213,10 +216,10 @@ impl TryClone for CertificateType {
 /// What TLS 1.2 asks of keys beside signing (RFC 5246 7.4.2). Other versions of TLS want neither.
 #[derive(Drop)]
 pub struct Tls12Options {
-    /// Whether an RSA key enciphers keys, as the key exchanges RSA and RSA_PSK want it.
+    /// Whether an RSA key may encipher keys, as the key exchanges RSA and RSA_PSK want it.
     pub enable_key_encipherment: bool,
 
-    /// Whether a key of elliptic curves agrees on keys, as the key exchanges that aren't ephemeral want it.
+    /// Whether an elliptic curve key may agree on keys, as the key exchanges that aren't ephemeral want it.
     pub enable_key_agreement: bool,
 }
 
@@ -243,32 +246,32 @@ impl Default for Tls12Options {
     }
 }
 
-/// The profile of a server (Baseline Requirements 7.1.2.7).
+/// The profile of a TLS server (Baseline Requirements 7.1.2.7).
 ///
-/// Its certificates hold, in this order: an AuthorityKeyIdentifier of the issuer's key; an ExtendedKeyUsage of serverAuth,
-/// and of clientAuth where asked for; BasicConstraints of no authority; a KeyUsage of digitalSignature, for an RSA key also
-/// of dataEncipherment and keyEncipherment where these are enabled, for a key of elliptic curves also of keyAgreement where
-/// that is enabled. A SubjectAltName is left to the caller.
+/// Its certificates have these extensions, in this order: AKI of the issuer's key; ExtendedKeyUsage with serverAuth,
+/// and with clientAuth where asked for; BasicConstraints of an end entity; KeyUsage with digitalSignature, for an RSA
+/// key also with dataEncipherment and keyEncipherment where these are enabled, for an elliptic curve key also with
+/// keyAgreement where that is enabled. The SAN is left to the caller.
 #[derive(Drop)]
 pub struct Subscriber {
-    /// What of the subscriber was validated.
+    /// What was validated of the subscriber.
     pub certificate_type: CertificateType,
 
-    /// Who signs the certificate.
+    /// The issuer of the certificate.
     pub issuer: Name,
 
-    /// Whether the key may be that of a client too.
+    /// Whether the key may be that of a TLS client too.
     pub client_auth: bool,
 
-    /// What TLS 1.2 asks of the key.
+    /// The key usages for TLS 1.2.
     pub tls12_options: Tls12Options,
 
-    /// Whether an RSA key enciphers data.
+    /// Whether an RSA key may encipher data.
     pub enable_data_encipherment: bool,
 }
 
 impl Subscriber {
-    /// The uses of that key.
+    /// The key usages for that key.
     fn usages(&self, key: SubjectPublicKeyInfoRef<'_>) -> KeyUsages
         ensures { result.0 ≡ usages_for self.now key.entry.algorithm.now.oid }
     {

@@ -12,14 +12,30 @@ use x509_der_frames::{PutPart, end, field};
 use x509_der_grammar::{Content, Error, Room, Spelled, Tag, TryClone};
 use x509_prim::BitString;
 
-/// A certificate revocation list (CRL), signed (RFC 5280 5.1). That the signature fits, and that both algorithms are one, isn't
-/// looked at.
+/// A certificate revocation list (CRL) with its signature (RFC 5280 5.1). Neither the signature nor that both algorithm
+/// fields are equal is checked.
 ///
 /// ```text
 /// CertificateList ::= SEQUENCE {
 ///     tbsCertList         TBSCertList,
 ///     signatureAlgorithm  AlgorithmIdentifier,
 ///     signatureValue      BIT STRING }
+/// ```
+///
+/// [`find`](CertificateList::find) looks a serial number up:
+///
+/// ```rust
+/// fn has_entry(list: &CertificateList, serial_number: &SerialNumber) -> bool {
+///     match list.find(serial_number) {
+///         Some(entry) => entry.serial_number == *serial_number,
+///         None => false,
+///     }
+/// }
+///
+/// let list = CertificateList::from_der(rt.alloc(), LIST)?;
+/// assert!(rt; list.tbs_cert_list.entries().len() == 1);
+/// assert!(rt; has_entry(&list, &SerialNumber::from_u8(rt.alloc(), 5)?));
+/// assert!(rt; !has_entry(&list, &SerialNumber::from_u8(rt.alloc(), 6)?));
 /// ```
 #[derive(Debug, PartialEq, Eq)]
 pub struct CertificateList<P: Profile = Rfc5280> {
@@ -34,9 +50,10 @@ pub struct CertificateList<P: Profile = Rfc5280> {
 }
 
 impl<P: Profile> CertificateList<P> {
-    /// The first entry with the serial number; `None` exactly where no entry has it. In one pass over the entries, without memory.
+    /// The first entry with the serial number; `None` exactly where no entry has it. One pass over the entries, without
+    /// memory.
     ///
-    /// Whether the list speaks of the issuer of the certificate, and from when until when, isn't looked at (RFC 5280 6.3.3).
+    /// Whether the CRL covers the issuer of the certificate, and for which time, isn't checked (RFC 5280 6.3.3).
     pub fn find(&self, serial_number: &SerialNumber<P>) -> Option<&RevokedCert<P>>
         ensures { MatchOption result (with_serial serial_number.now (entries self.now.tbs_cert_list.revoked_certificates) ≡ []) (λ entry. IsFirstWith serial_number.now (entries self.now.tbs_cert_list.revoked_certificates) entry.now) }
     {

@@ -14,8 +14,8 @@ use x509_der::AssociatedOid;
 use x509_der_frames::{PutPart, end, field, option_has_spelling, optional, optional_field};
 use x509_der_grammar::{Content, Decode, Error, Room, Spelled, Tag, TryClone};
 
-/// A certificate that was revoked: an entry of a list (RFC 5280 5.1.2.6). Reading asks the profile whether the serial number
-/// may stand. The date is written as it is.
+/// An entry of a CRL: a certificate that was revoked (RFC 5280 5.1.2.6). Decoding asks the profile whether the serial
+/// number is allowed. The date is encoded as it is.
 ///
 /// ```text
 /// RevokedCert ::= SEQUENCE {
@@ -25,21 +25,24 @@ use x509_der_grammar::{Content, Decode, Error, Room, Spelled, Tag, TryClone};
 /// ```
 #[derive(Debug, PartialEq, Eq)]
 pub struct RevokedCert<P: Profile = Rfc5280> {
-    /// The number that the issuer gave the certificate.
+    /// The serial number that the issuer gave the certificate.
     pub serial_number: SerialNumber<P>,
 
     /// When it was revoked.
     pub revocation_date: Time,
 
-    /// What more is said, as why it was revoked.
+    /// The extensions of the entry, such as the reason for which the certificate was revoked.
     pub crl_entry_extensions: Option<Extensions>,
 }
 
 impl<P: Profile> RevokedCert<P> {
-    /// The extension of the entry with the identifier of the type: whether it is critical, and its value.
+    /// The entry's extension of type `T`, found by the OID of the type: whether it is critical, and its value; `None`
+    /// exactly where no extension has the OID.
     ///
-    /// `None` exactly where none has the identifier; `Failed` where two or more have it, whatever they hold; else refused as
-    /// [`Decode::from_der`] is on the octets of the one.
+    /// # Errors
+    ///
+    /// `Failed` where two or more extensions have the OID (a repeated extension), whatever they hold; where one has it,
+    /// the errors of [`Decode::from_der`] on the octets that it holds.
     pub fn get_extension<T: AssociatedOid + Decode>(
         &self,
         alloc: Global,
@@ -49,7 +52,7 @@ impl<P: Profile> RevokedCert<P> {
         get_extension(alloc, members(self.crl_entry_extensions.as_ref()))
     }
 
-    /// The extensions of the entry with the identifier of the type, in their order.
+    /// The entry's extensions of type `T`, found by the OID of the type, in their order.
     pub fn filter_extensions<T: AssociatedOid + Decode>(
         &self,
         alloc: Global,

@@ -19,9 +19,9 @@ use x509_der_frames::{
 };
 use x509_der_grammar::{Content, Decode, Error, Room, Spelled, Tag, TryClone};
 
-/// The part of a CRL that is signed (RFC 5280 5.1.2). Times are written as they are. That a version which is there is v2, that
-/// it is there where there are extensions, and that the list of entries is left out where there are none, as RFC 5280 wants
-/// it, isn't looked at.
+/// The part of a CRL that is signed (RFC 5280 5.1.2). Times are encoded as they are. These rules of RFC
+/// 5280 aren't checked: that a version which is there is v2, that it is there where there are extensions, and that the list of
+/// entries is absent where there are none.
 ///
 /// ```text
 /// TBSCertList ::= SEQUENCE {
@@ -35,30 +35,30 @@ use x509_der_grammar::{Content, Decode, Error, Room, Spelled, Tag, TryClone};
 /// ```
 #[derive(Debug, PartialEq, Eq)]
 pub struct TbsCertList<P: Profile = Rfc5280> {
-    /// The version; absent in a CRL of v1.
+    /// The version; absent in a v1 CRL.
     pub version: Option<Version>,
 
-    /// The algorithm of the signature, as the whole has it once more.
+    /// The algorithm of the signature, of which [`CertificateList`](crate::crl::CertificateList) has a field too.
     pub signature: AlgorithmIdentifier,
 
-    /// Who signed the list.
+    /// The issuer, who signed the CRL.
     pub issuer: Name,
 
-    /// When the list was issued.
+    /// When the CRL was issued.
     pub this_update: Time,
 
-    /// By when the next list will be issued.
+    /// By when the next CRL will be issued.
     pub next_update: Option<Time>,
 
     /// The certificates that were revoked.
     pub revoked_certificates: Option<SequenceOf<RevokedCert<P>>>,
 
-    /// What more is said, as the number of the list.
+    /// The extensions of the CRL, such as the CRL number.
     pub crl_extensions: Option<Extensions>,
 }
 
 impl<P: Profile> TbsCertList<P> {
-    /// The entries in their order, none where the list of them is left out.
+    /// The entries in their order; none where the list of entries is absent.
     pub fn entries(&self) -> &[RevokedCert<P>]
         ensures { result.now ≡ entries self.now.revoked_certificates }
     {
@@ -68,10 +68,13 @@ impl<P: Profile> TbsCertList<P> {
         }
     }
 
-    /// The extension of the list with the identifier of the type: whether it is critical, and its value.
+    /// The CRL's extension of type `T`, found by the OID of the type: whether it is critical, and its value; `None`
+    /// exactly where no extension has the OID.
     ///
-    /// `None` exactly where none has the identifier; `Failed` where two or more have it, whatever they hold; else refused as
-    /// [`Decode::from_der`] is on the octets of the one.
+    /// # Errors
+    ///
+    /// `Failed` where two or more extensions have the OID (a repeated extension), whatever they hold; where one has it,
+    /// the errors of [`Decode::from_der`] on the octets that it holds.
     pub fn get_extension<T: AssociatedOid + Decode>(
         &self,
         alloc: Global,
@@ -81,7 +84,7 @@ impl<P: Profile> TbsCertList<P> {
         get_extension(alloc, members(self.crl_extensions.as_ref()))
     }
 
-    /// The extensions of the list with the identifier of the type, in their order.
+    /// The CRL's extensions of type `T`, found by the OID of the type, in their order.
     pub fn filter_extensions<T: AssociatedOid + Decode>(
         &self,
         alloc: Global,

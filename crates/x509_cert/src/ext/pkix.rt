@@ -1,4 +1,4 @@
-//! What extensions hold, by its identifiers and forms in RFC 5280 and RFC 6962.
+//! The extensions of RFC 5280 and RFC 6962: the types of their values.
 
 pub use x509_ext::pkix::{
     AccessDescription, AuthorityInfoAccessSyntax, AuthorityKeyIdentifier, BasicConstraints,
@@ -20,7 +20,7 @@ pub use x509_sct::{
     SignatureAndHashAlgorithm, SignedCertificateTimestamp, SignedCertificateTimestampList, Version,
 };
 
-/// Policies of certificates.
+/// Certificate policies.
 pub mod certpolicy {
     pub use x509_pkix_policy::{
         CertificatePolicies, CpsUri, DisplayText, NoticeReference, PolicyInformation,
@@ -28,26 +28,26 @@ pub mod certpolicy {
     };
 }
 
-/// What limits the certificates that may follow.
+/// Basic, name and policy constraints: what limits the certificates that may follow in a path.
 pub mod constraints {
     pub use x509_ext::pkix::BasicConstraints;
     pub use x509_pkix::NameConstraints;
     pub use x509_pkix_policy::PolicyConstraints;
 
-    /// Constraints on names.
+    /// Name constraints.
     pub mod name {
         pub use x509_pkix::{GeneralSubtree, GeneralSubtrees, NameConstraints};
     }
 }
 
-/// CRLs.
+/// Extensions about CRLs.
 pub mod crl {
     pub use x509_pkix::{
         BaseCrlNumber, CrlDistributionPoints, CrlNumber, CrlReason, FreshestCrl,
         IssuingDistributionPoint,
     };
 
-    /// Where these lists are found.
+    /// CRL distribution points: where CRLs are found.
     pub mod dp {
         pub use x509_pkix::{DistributionPoint, IssuingDistributionPoint, ReasonFlags, Reasons};
     }

@@ -1,5 +1,6 @@
-//! By which forms the types are read and written: those whose names the definitions have, so that a user's definitions can
-//! quote them. Each law is a function with an empty body, whose contract is the law.
+//! The forms by which the types are decoded and encoded (a form is the grammar of a type as one record, see
+//! `docs/MAP.md`): those that the definitions name, so that a user's definitions can quote them. Each law is a function
+//! with an empty body, whose contract is the law.
 
 ghost use Rattle.x509_cert.specs.CertReq.{cert_req};
 ghost use Rattle.x509_cert.specs.CertificateList.{rfc5280_certificate_list};
@@ -44,7 +45,7 @@ use x509_pkix::{
 use x509_pkix_policy::{CertificatePolicies, InhibitAnyPolicy, PolicyConstraints, PolicyMappings};
 use x509_sct::SignedCertificateTimestampList;
 
-/// Certificates and their signed parts, CRLs, requests and trust anchors, under the rules of RFC 5280.
+/// Certificates and their signed parts, CRLs, CSRs and trust anchors, under the rules of RFC 5280.
 pub fn of_objects()
     ensures certificate { AreAlike ⟦<Certificate as Grammar>⟧.form rfc5280_certificate }
     ensures signed_part { AreAlike ⟦<TbsCertificate as Grammar>⟧.form rfc5280_tbs_certificate }
@@ -53,7 +54,7 @@ pub fn of_objects()
     ensures trust_anchor { AreAlike ⟦<TrustAnchorChoice as Grammar>⟧.form rfc5280_trust_anchor_choice }
 {}
 
-/// What extensions say of keys.
+/// The extensions about keys.
 pub fn of_keys()
     ensures key_usage { AreAlike ⟦<KeyUsage as Grammar>⟧.form key_usage }
     ensures extended_key_usage { AreAlike ⟦<ExtendedKeyUsage as Grammar>⟧.form extended_key_usage }
@@ -62,7 +63,7 @@ pub fn of_keys()
     ensures authority_key_identifier { AreAlike ⟦<AuthorityKeyIdentifier as Grammar>⟧.form authority_key_identifier }
 {}
 
-/// What extensions say of the subject and of the issuer.
+/// The extensions about the subject and the issuer.
 pub fn of_parties()
     ensures basic_constraints { AreAlike ⟦<BasicConstraints as Grammar>⟧.form basic_constraints }
     ensures subject_alt_name { AreAlike ⟦<SubjectAltName as Grammar>⟧.form subject_alt_name }
@@ -72,7 +73,7 @@ pub fn of_parties()
     ensures subject_info_access { AreAlike ⟦<SubjectInfoAccessSyntax as Grammar>⟧.form subject_info_access_syntax }
 {}
 
-/// What extensions say of policies.
+/// The extensions about policies.
 pub fn of_policies()
     ensures certificate_policies { AreAlike ⟦<CertificatePolicies as Grammar>⟧.form certificate_policies }
     ensures policy_mappings { AreAlike ⟦<PolicyMappings as Grammar>⟧.form policy_mappings }
@@ -80,7 +81,7 @@ pub fn of_policies()
     ensures inhibit_any_policy { AreAlike ⟦<InhibitAnyPolicy as Grammar>⟧.form inhibit_any_policy }
 {}
 
-/// What extensions say of names that are constrained, and of CRLs.
+/// Name constraints, and the extensions about CRLs.
 pub fn of_revocation()
     ensures name_constraints { AreAlike ⟦<NameConstraints as Grammar>⟧.form name_constraints }
     ensures crl_distribution_points { AreAlike ⟦<CrlDistributionPoints as Grammar>⟧.form crl_distribution_points }

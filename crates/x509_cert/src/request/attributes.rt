@@ -1,4 +1,4 @@
-//! What requests have as attributes, and how attributes are made of it.
+//! The attributes of CSRs, and how they are made of their values.
 
 ghost use Rattle.x509_cert.specs.Attributes.{MakesAttribute};
 ghost use Rattle.x509_der_grammar.specs.Writing.{writes};
@@ -10,14 +10,16 @@ use x509_der_frames::Any;
 use x509_der_grammar::{Decode, Encode, Error, Grammar, Room, Spelled, Tag, Tagged, TryClone};
 use x509_name_attribute::{Attribute, DirectoryString};
 
-/// A value that an attribute of a request may have. The type of the attribute is the identifier of the value's type.
+/// A value that an attribute of a CSR may have. The type of the attribute is the OID of the value's type.
 pub trait AsAttribute: AssociatedOid + Tagged + Encode {
     ghost use Rattle.x509_cert.specs.Attributes.{MakesAttribute};
     ghost use Rattle.x509_der_grammar.specs.Writing.{writes};
 
-    /// The attribute whose one value is the encoding of the value.
+    /// The attribute whose one value is the encoding of this value.
     ///
-    /// Memory aside it is refused exactly as [`Encode::to_der`] is.
+    /// # Errors
+    ///
+    /// Those of [`Encode::to_der`] on this value; `Memory` when out of memory.
     fn to_attribute(&self, alloc: Global) -> Result<Attribute, Error>
         ensures { MakesAttribute Self.OID Self.form (writes Self.writing self.now) result }
     {
@@ -39,8 +41,8 @@ pub(crate) fn attribute_of<T: Encode>(
     Ok(Attribute { oid, values })
 }
 
-/// A password by which the subject may ask later that the certificate be revoked (RFC 2985 5.4.1). It is read and written as its
-/// text is. Its identifier is 1.2.840.113549.1.9.7.
+/// A password by which the subject may later ask that the certificate be revoked (RFC 2985 5.4.1). It is decoded and
+/// encoded as its text is. Its OID is 1.2.840.113549.1.9.7.
 ///
 /// ```text
 /// ChallengePassword ::= DirectoryString

@@ -1,4 +1,4 @@
-//! Requests for certificates.
+//! PKCS #10 requests (CSRs).
 
 ghost use Rattle.std.specs.Prelude.{◌≡◌, ◌<◌, ◌≤◌, ◌⊎◌, length, IfOk, IfErr, IsErrAnd};
 ghost use Rattle.x509_cert.specs.AttributeLookUp.{FindsValue, with_type};
@@ -21,7 +21,7 @@ use x509_der_grammar::{Content, Decode, Error, Grammar, Room, Spelled, Tag, TryC
 use x509_name_attribute::Attributes;
 use x509_prim::BitString;
 
-/// What is asked for, and by whom: the part of a request that is signed (RFC 2986 4.1).
+/// The part of a CSR that is signed: the subject, its public key and attributes (RFC 2986 4.1).
 ///
 /// ```text
 /// CertificationRequestInfo ::= SEQUENCE {
@@ -32,7 +32,7 @@ use x509_prim::BitString;
 /// ```
 #[derive(Debug, PartialEq, Eq)]
 pub struct CertReqInfo {
-    /// The version of the request.
+    /// The version of the CSR.
     pub version: Version,
 
     /// The subject of the certificate that is asked for.
@@ -41,7 +41,7 @@ pub struct CertReqInfo {
     /// The key that is to be certified.
     pub public_key: SubjectPublicKeyInfo,
 
-    /// What more is said or asked, as the extensions of the certificate. The set is written where it is empty too.
+    /// The attributes, such as the extensions that are asked for. The set is encoded where it is empty too.
     pub attributes: Attributes,
 }
 
@@ -117,8 +117,8 @@ impl Spelled for CertReqInfo {
     }
 }
 
-/// A request for a certificate, signed with the key that is to be certified (RFC 2986 4.2). That the signature fits isn't
-/// looked at.
+/// A PKCS #10 request (CSR): a request for a certificate, signed with the key that is to be certified (RFC 2986 4.2).
+/// The signature isn't checked.
 ///
 /// ```text
 /// CertificationRequest ::= SEQUENCE {
@@ -126,9 +126,21 @@ impl Spelled for CertReqInfo {
 ///     signatureAlgorithm        AlgorithmIdentifier,
 ///     signature                 BIT STRING }
 /// ```
+///
+/// Whether a CSR asks for an empty list of extensions, and has no challenge password:
+///
+/// ```rust
+/// let request = CertReq::try_from_bytes(rt.alloc(), REQUEST)?;
+///
+/// let password = request.get_attribute::<ChallengePassword>(rt.alloc())?;
+/// Ok(match request.extension_req(rt.alloc())? {
+///     Some(asked) => asked.0.is_empty() && password.is_none(),
+///     None => false,
+/// })
+/// ```
 #[derive(Debug, PartialEq, Eq)]
 pub struct CertReq {
-    /// What is asked for: the part that is signed.
+    /// The part that is signed.
     pub info: CertReqInfo,
 
     /// The algorithm of the signature.
@@ -149,10 +161,12 @@ impl Drop for CertReq {
 }
 
 impl CertReq {
-    /// The request that the bytes spell, as [`Decode::from_der`] answers it.
+    /// The CSR of which the bytes are the encoding, as [`Decode::from_der`] answers it.
     ///
-    /// `Overlength` exactly where they are more than [`Length::MAX`](x509_der_grammar::Length::MAX); within that `Malformed`
-    /// exactly where they spell no request. Memory may be refused.
+    /// # Errors
+    ///
+    /// `Overlength` exactly where the bytes are more than [`Length::MAX`](x509_der_grammar::Length::MAX). Within that
+    /// length `Malformed` exactly where they are the encoding of no CSR. `Memory` when out of memory.
     pub fn try_from_bytes(alloc: Global, bytes: &[u8]) -> Result<CertReq, Error>
         ensures found { IfOk result (λ request. Spells cert_req request bytes.now) }
         ensures value { (request : CertReq) → Spells cert_req request bytes.now → IfOk result (λ found. found ≡ request) }
@@ -163,7 +177,9 @@ impl CertReq {
         CertReq::from_der(alloc, bytes)
     }
 
-    /// The value of the attribute whose type is the identifier of the value's type, as [`ChallengePassword`](crate::request::attributes::ChallengePassword).
+    /// The value of the attribute of type `T`, found by the OID of the type, such as
+    /// [`ChallengePassword`](crate::request::attributes::ChallengePassword); `None` exactly where no attribute has the
+    /// OID.
     ///
     /// # Errors
     ///
@@ -177,12 +193,12 @@ impl CertReq {
         get_attribute(alloc, &self.info.attributes)
     }
 
-    /// The extensions that are asked for (RFC 2985 5.4.2): `None` exactly where no attribute asks for extensions.
+    /// The extensions that are asked for (RFC 2985 5.4.2); `None` exactly where no attribute asks for extensions.
     ///
     /// # Errors
     ///
-    /// `Failed` exactly where two or more attributes ask for extensions, or where the one has no value, or two or more; else `Malformed` exactly where its one value is
-    /// no [`ExtensionReq`]. Memory may be refused.
+    /// `Failed` exactly where two or more attributes ask for extensions, or where the only one has no value, or two or
+    /// more. Else `Malformed` exactly where its only value is no [`ExtensionReq`]. `Memory` when out of memory.
     pub fn extension_req(&self, alloc: Global) -> Result<Option<ExtensionReq>, Error>
         ensures { FindsValue ⟦<ExtensionReq as Grammar>⟧.form ⟦<ExtensionReq as Grammar>⟧.refuses ⟦<ExtensionReq as Decode>⟧.wants_memory (with_type (pkcs_9 14) self.now.info.attributes) result }
     {

@@ -1,4 +1,4 @@
-//! The extensions that a request asks for.
+//! The extensions that a CSR asks for.
 
 ghost use Rattle.std.specs.Prelude.{◌≡◌, []};
 ghost use Rattle.x509_cert_extension.specs.Filter.{extensions_left};
@@ -17,8 +17,8 @@ use x509_der_grammar::{Decode, Error, Newtype};
 use x509_ext_frame::Extensions;
 use x509_name_attribute::Attribute;
 
-/// The extensions that a request asks for, as the value of an attribute (RFC 2985 5.4.2, RFC 5272 3.1). Its identifier is
-/// 1.2.840.113549.1.9.14. A sequence without members is read and written too.
+/// The extensions that a CSR asks for, as the value of an attribute (RFC 2985 5.4.2, RFC 5272 3.1). Its OID is
+/// 1.2.840.113549.1.9.14. An empty sequence is decoded and encoded too.
 ///
 /// ```text
 /// ExtensionReq ::= SEQUENCE OF Extension
@@ -34,10 +34,13 @@ impl ExtensionReq {
         ExtensionReq(Extensions::new(alloc))
     }
 
-    /// The extension with the identifier of the type: whether it is critical, and its value.
+    /// The extension of type `T`, found by the OID of the type: whether it is critical, and its value; `None` exactly
+    /// where no extension has the OID.
     ///
-    /// `None` exactly where none has the identifier; `Failed` where two or more have it, whatever they hold; else refused as
-    /// [`Decode::from_der`] is on the octets of the one.
+    /// # Errors
+    ///
+    /// `Failed` where two or more extensions have the OID (a repeated extension), whatever they hold; where one has it,
+    /// the errors of [`Decode::from_der`] on the octets that it holds.
     pub fn get_extension<T: AssociatedOid + Decode>(
         &self,
         alloc: Global,
@@ -47,7 +50,7 @@ impl ExtensionReq {
         get_extension(alloc, self.0.as_slice())
     }
 
-    /// The extensions with the identifier of the type, in their order.
+    /// The extensions of type `T`, found by the OID of the type, in their order.
     pub fn filter_extensions<T: AssociatedOid + Decode>(
         &self,
         alloc: Global,
@@ -60,8 +63,10 @@ impl ExtensionReq {
 
 /// The attribute whose one value is the encoding of the extensions (RFC 2985 5.4.2).
 ///
-/// It is `Overlength` exactly where that encoding is longer than [`Length::MAX`](x509_der_grammar::Length::MAX). Memory may
-/// be refused.
+/// # Errors
+///
+/// `Overlength` exactly where that encoding is longer than [`Length::MAX`](x509_der_grammar::Length::MAX). `Memory`
+/// when out of memory.
 pub fn extension_req_attribute(alloc: Global, req: ExtensionReq) -> Result<Attribute, Error>
     ensures { MakesAttribute (pkcs_9 14) extensions (writes plain req.0) result }
 {

@@ -1,6 +1,6 @@
-//! The identifiers of attributes.
+//! The OIDs of attributes.
 
-/// The object identifier 1.2.840.113549.1.9.n, where n is below 128 (pkcs-9; RFC 2985, appendix A).
+/// The OID 1.2.840.113549.1.9.n, where n is below 128 (pkcs-9; RFC 2985, appendix A).
 macro_rules! pkcs_9 {
     ($n:literal) => {
         ObjectIdentifier {

@@ -1,4 +1,4 @@
-//! Look-ups among the attributes of requests.
+//! Look-ups among the attributes of CSRs.
 
 ghost use Rattle.std.specs.Prelude.{◌≡◌, [], ◌∷◌, MatchOption};
 ghost use Rattle.x509_cert.specs.AttributeLookUp.{DecodesAlone, FindsValue, with_type};
@@ -8,7 +8,7 @@ use x509_der::{AssociatedOid, ObjectIdentifier};
 use x509_der_grammar::{Decode, Error, ErrorKind};
 use x509_name_attribute::{Attribute, Attributes};
 
-/// The first attribute of the type, and those behind it.
+/// The first attribute of the type, and those that follow it.
 fn split_first_with(
     attributes: &[Attribute],
     oid: ObjectIdentifier,
@@ -35,13 +35,13 @@ fn only_value<T: Decode>(alloc: Global, attribute: &Attribute) -> Result<T, Erro
     value.decode_as(alloc)
 }
 
-/// The value of the attribute whose type is the identifier of the value's type, where the attribute is to have one value, as those of requests
-/// are (RFC 2985 5.4).
+/// The value of the attribute of type `T`, found by the OID of the type, among attributes that have one value each, as
+/// those of CSRs do (RFC 2985 5.4). `None` exactly where no attribute has the OID.
 ///
 /// # Errors
 ///
-/// `None` exactly where no attribute has the type. `Failed` where two or more have it, and where the one has no value, or two or more, whatever
-/// they are; else refused as [`Any::decode_as`](x509_der_frames::Any::decode_as) is on the one value.
+/// `Failed` where two or more attributes have the OID, and where the only one has no value, or two or more, whatever
+/// they are. Where it has one value, the errors of [`Any::decode_as`](x509_der_frames::Any::decode_as) on that.
 pub fn get_attribute<T: AssociatedOid + Decode>(
     alloc: Global,
     attributes: &Attributes,

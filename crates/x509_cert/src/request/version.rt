@@ -1,17 +1,17 @@
-//! The version of a request.
+//! The version of a CSR.
 
 use std::alloc::Global;
 use x509_der_grammar::{Content, Error, Room, Spelled, Tag, TryClone};
 use x509_prim::{NamedNumber, put_named_number, read_named_number};
 
-/// The version of a request, of which there is one (RFC 2986 4.1).
+/// The version of a CSR, of which there is one (RFC 2986 4.1).
 ///
 /// ```text
 /// Version ::= INTEGER { v1(0) }
 /// ```
 #[derive(Clone, Copy, Debug, Default, PartialEq, Eq)]
 pub enum Version {
-    /// The first.
+    /// Version 1.
     #[default]
     V1 = 0,
 }

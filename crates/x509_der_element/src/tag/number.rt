@@ -1,11 +1,11 @@
-//! Numbers of identifiers outside the universal class.
+//! Tag numbers outside the universal class.
 
 ghost use Rattle.std.specs.Prelude.{◌≡◌, ◌≤◌, ◌<◌, ◌%◌, IfOk, IfErr};
 ghost use Rattle.x509_der_element.specs.declared.error.ErrorKind.TheVariants as errors;
 
 use crate::error::{Error, ErrorKind};
 
-/// The number of an identifier outside the universal class, from 0 to 30 (X.690 8.1.2.2).
+/// The tag number of an identifier outside the universal class, from 0 to 30 (X.690 8.1.2.2).
 #[derive(Clone, Copy, Debug, PartialEq, Eq, PartialOrd, Ord, Hash)]
 pub struct TagNumber {
     number: u8,
@@ -13,7 +13,11 @@ pub struct TagNumber {
 }
 
 impl TagNumber {
-    /// The identifier number; `Value` above 30.
+    /// The tag number.
+    ///
+    /// # Errors
+    ///
+    /// `Value` exactly above 30.
     pub fn new(number: u8) -> Result<TagNumber, Error>
         ensures ok { IfOk result (λ tag. (tag.number ≡ number) × (number ≤ 30)) }
         ensures err { IfErr result (λ e. (e.kind ≡ errors.Value) × (30 < number)) }

@@ -1,4 +1,4 @@
-//! Room that counts and keeps nothing.
+//! A room that counts and keeps nothing.
 
 ghost use Rattle.std.specs.Prelude.{◌≡◌};
 

@@ -1,4 +1,4 @@
-//! Room in bytes that the caller has.
+//! A room in a buffer of the caller.
 
 ghost use Rattle.std.specs.Prelude.{◌≡◌, ◌≤◌, ◌+◌, length};
 ghost use Rattle.x509_der_element.specs.Element.{limit};
@@ -6,7 +6,7 @@ ghost use Rattle.x509_der_element.specs.Element.{limit};
 use crate::room::Room;
 use x509_der_element::{Error, ErrorKind, Length};
 
-/// Bytes of the caller that are filled from their end.
+/// A buffer of the caller that is filled from its end.
 #[derive(Drop)]
 pub struct Fixed<'a> {
     room: &'a mut [u8],
@@ -16,7 +16,7 @@ pub struct Fixed<'a> {
 }
 
 impl<'a> Fixed<'a> {
-    /// The whole room, in which nothing stands.
+    /// The whole buffer, with no bytes put.
     pub fn new(room: &'a mut [u8]) -> Fixed<'a>
         ensures same_reference { result.room.ghost_name ≡ room.entry.ghost_name }
         ensures same { result.room.now ≡ room.old }
@@ -26,7 +26,7 @@ impl<'a> Fixed<'a> {
         Fixed { room, start }
     }
 
-    /// How many bytes of the room come before those that were put.
+    /// How many bytes of the buffer come before those that were put.
     pub fn start(&self) -> usize
         ensures { result ≡ self.now.start }
     {

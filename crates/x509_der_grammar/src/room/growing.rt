@@ -1,4 +1,4 @@
-//! Room in a vector that grows at its front.
+//! A room in a vector that grows at its front.
 
 ghost use Rattle.std.specs.Prelude.{◌≡◌, ◌+◌, ◌<◌, ◌≤◌, ◌⊎◌, [], length, drop, IfOk, IfErr, OnOk, OnErr};
 ghost use Rattle.x509_der_element.specs.Element.{limit};
@@ -57,7 +57,7 @@ fn make_room(items: &mut Vec<u8>, start: usize, more: usize) -> Result<usize, Er
 }
 
 impl Growing {
-    /// Room in which nothing stands. It takes memory as bytes are put.
+    /// A room with no bytes put. It takes memory as bytes are put.
     pub fn new(alloc: Global) -> Growing
         ensures { result ≡ [] }
     {

@@ -1,4 +1,4 @@
-//! Room that was written, and is only read from then on.
+//! A buffer that was written, and is only read from then on.
 
 ghost use Rattle.std.specs.Prelude.{◌≡◌, ◌≤◌, IfOk, MatchResult, IsErrAnd, IsOkAnd, drop, length};
 ghost use Rattle.std.specs.Borrow.{sem, Array, u8};
@@ -6,7 +6,7 @@ ghost use Rattle.std.specs.Io.BufRead.{Rests};
 
 use x509_der_element::Error;
 
-/// The same bytes, to be read alone. Once they are no longer borrowed, the room is as it was.
+/// The same bytes, to be read alone. Once they are no longer borrowed, the buffer is as it was.
 pub(crate) fn share<'a>(room: &'a mut [u8]) -> &'a [u8]
     ensures* place { sem 𝓛 (Rests (Array u8 0) room.entry (λ last. last ≡ room.old)) }
     ensures value { result.now ≡ room.old }

@@ -1,4 +1,4 @@
-//! Where more is found out about the issuer and the subject.
+//! Authority information access and subject information access.
 
 ghost use Rattle.std.specs.Prelude.{◌≡◌, []};
 
@@ -9,7 +9,7 @@ use x509_der_grammar::{Content, Error, Newtype, Room, Spelled, Tag, TryClone};
 use x509_ext_frame::{Criticality, Extension, id_pkix};
 use x509_ext_name::{GeneralName, Name};
 
-/// By which means something is found out, and where (RFC 5280 4.2.2.1).
+/// Information that can be accessed about the issuer or the subject: by which method, and where (RFC 5280 4.2.2.1).
 ///
 /// ```text
 /// AccessDescription ::= SEQUENCE {
@@ -18,10 +18,10 @@ use x509_ext_name::{GeneralName, Name};
 /// ```
 #[derive(Debug, Drop, PartialEq, Eq)]
 pub struct AccessDescription {
-    /// By which means.
+    /// The OID of the access method.
     pub access_method: ObjectIdentifier,
 
-    /// Where.
+    /// Where it is accessed.
     pub access_location: GeneralName,
 }
 
@@ -72,8 +72,9 @@ impl Spelled for AccessDescription {
     }
 }
 
-/// Where more is found out about the issuer, as its certificates or the state of those that it issued (RFC 5280 4.2.2.1).
-/// Its identifier is 1.3.6.1.5.5.7.1.1, and it isn't critical. A sequence without members is read and written too.
+/// Authority information access: where more is found about the issuer, such as its certificates or its OCSP responder
+/// (RFC 5280 4.2.2.1). Its OID is 1.3.6.1.5.5.7.1.1, and it isn't critical. An empty sequence is decoded and encoded
+/// too.
 ///
 /// ```text
 /// AuthorityInfoAccessSyntax ::= SEQUENCE OF AccessDescription
@@ -82,7 +83,7 @@ impl Spelled for AccessDescription {
 pub struct AuthorityInfoAccessSyntax(pub SequenceOf<AccessDescription>);
 
 impl AuthorityInfoAccessSyntax {
-    /// No descriptions. It takes no memory.
+    /// No access descriptions. It takes no memory.
     pub fn new(alloc: Global) -> AuthorityInfoAccessSyntax
         ensures { result.0 ≡ [] }
     {
@@ -162,8 +163,8 @@ impl AsMut<SequenceOf<AccessDescription>> for AuthorityInfoAccessSyntax {
     }
 }
 
-/// Where more is found out about the subject (RFC 5280 4.2.2.2). Its identifier is 1.3.6.1.5.5.7.1.11, and it isn't
-/// critical. A sequence without members is read and written too.
+/// Subject information access: where more is found about the subject (RFC 5280 4.2.2.2). Its OID is 1.3.6.1.5.5.7.1.11,
+/// and it isn't critical. An empty sequence is decoded and encoded too.
 ///
 /// ```text
 /// SubjectInfoAccessSyntax ::= SEQUENCE OF AccessDescription
@@ -172,7 +173,7 @@ impl AsMut<SequenceOf<AccessDescription>> for AuthorityInfoAccessSyntax {
 pub struct SubjectInfoAccessSyntax(pub SequenceOf<AccessDescription>);
 
 impl SubjectInfoAccessSyntax {
-    /// No descriptions. It takes no memory.
+    /// No access descriptions. It takes no memory.
     pub fn new(alloc: Global) -> SubjectInfoAccessSyntax
         ensures { result.0 ≡ [] }
     {

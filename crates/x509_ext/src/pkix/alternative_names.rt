@@ -9,11 +9,11 @@ use x509_der_grammar::Newtype;
 use x509_ext_frame::{Criticality, Extension, id_ce};
 use x509_ext_name::{GeneralNames, Name};
 
-/// The identifier of [`SubjectAltName`], 2.5.29.17.
+/// The OID of [`SubjectAltName`], 2.5.29.17.
 pub const ID_CE_SUBJECT_ALT_NAME: ObjectIdentifier = id_ce!(17);
 
-/// Alternative names of the subject, SAN (RFC 5280 4.2.1.6). Its identifier is 2.5.29.17. It is critical exactly where the subject is
-/// the empty name. A sequence without members is read and written too.
+/// The subject alternative name, SAN (RFC 5280 4.2.1.6). Its OID is 2.5.29.17. It is critical exactly where the subject
+/// is the empty name. An empty sequence is decoded and encoded too.
 ///
 /// ```text
 /// SubjectAltName ::= GeneralNames
@@ -102,11 +102,11 @@ impl AsMut<GeneralNames> for SubjectAltName {
     }
 }
 
-/// The identifier of [`IssuerAltName`], 2.5.29.18.
+/// The OID of [`IssuerAltName`], 2.5.29.18.
 pub const ID_CE_ISSUER_ALT_NAME: ObjectIdentifier = id_ce!(18);
 
-/// Alternative names of the issuer, IAN (RFC 5280 4.2.1.7). Its identifier is 2.5.29.18, and it isn't critical. A sequence without
-/// members is read and written too.
+/// The issuer alternative name, IAN (RFC 5280 4.2.1.7). Its OID is 2.5.29.18, and it isn't critical. An empty sequence
+/// is decoded and encoded too.
 ///
 /// ```text
 /// IssuerAltName ::= GeneralNames

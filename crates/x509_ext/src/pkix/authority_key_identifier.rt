@@ -1,4 +1,4 @@
-//! By what the key of an issuer is told.
+//! The authority key identifier, AKI.
 
 ghost use Rattle.sha1.specs.Sha1.{sha1};
 ghost use Rattle.std.specs.Prelude.{◌≡◌, Some, None, IsOkAnd};
@@ -13,8 +13,8 @@ use x509_ext_frame::{Criticality, Extension, id_ce};
 use x509_ext_name::{GeneralNames, Name};
 use x509_prim::OctetString;
 
-/// By what the key that signed a certificate is told from others (RFC 5280 4.2.1.1). Its identifier is 2.5.29.35, and it
-/// isn't critical.
+/// The authority key identifier, AKI: it tells which key signed the certificate (RFC 5280 4.2.1.1). Its OID is
+/// 2.5.29.35, and it isn't critical.
 ///
 /// ```text
 /// AuthorityKeyIdentifier ::= SEQUENCE {
@@ -24,10 +24,10 @@ use x509_prim::OctetString;
 /// ```
 #[derive(Debug, PartialEq, Eq)]
 pub struct AuthorityKeyIdentifier {
-    /// The identifier of the key.
+    /// The key identifier, as in the SKI of the issuer's certificate.
     pub key_identifier: Option<OctetString>,
 
-    /// The issuer of a certificate of that key.
+    /// The issuer of a certificate for that key.
     pub authority_cert_issuer: Option<GeneralNames>,
 
     /// The serial number of that certificate.
@@ -45,8 +45,12 @@ impl Drop for AuthorityKeyIdentifier {
 }
 
 impl AuthorityKeyIdentifier {
-    /// The identifier of a key alone: the SHA-1 digest of the octets in which its bits stand (RFC 5280 4.2.1.2, method 1).
-    /// It takes no memory and is never refused.
+    /// The key identifier alone: the SHA-1 digest of the octets that hold the key's bits (RFC 5280 4.2.1.2, method 1).
+    /// It takes no memory.
+    ///
+    /// # Errors
+    ///
+    /// None: it is never refused.
     pub fn from_key(
         alloc: Global,
         key: SubjectPublicKeyInfoRef<'_>,
@@ -61,7 +65,7 @@ impl AuthorityKeyIdentifier {
     }
 }
 
-/// All are left out.
+/// All fields are absent.
 impl Default for AuthorityKeyIdentifier {
     ghost is_default = { λ identifier. identifier ≡ record { key_identifier = None; authority_cert_issuer = None; authority_cert_serial_number = None } };
 

@@ -1,4 +1,4 @@
-//! Whether a certificate is that of an authority.
+//! Basic constraints.
 
 use std::alloc::Global;
 use x509_der::{AssociatedOid, ObjectIdentifier};
@@ -8,8 +8,8 @@ use x509_der_frames::{
 use x509_der_grammar::{Content, Error, Room, Spelled, Tag, TryClone};
 use x509_ext_frame::{Criticality, Extension, Name, id_ce};
 
-/// Whether a certificate is that of an authority, and how many more authorities may stand below it (RFC 5280 4.2.1.9).
-/// Its identifier is 2.5.29.19, and it is critical.
+/// Basic constraints: whether the subject is a certification authority, and how many more may stand below it (RFC 5280
+/// 4.2.1.9). Its OID is 2.5.29.19, and it is critical.
 ///
 /// ```text
 /// BasicConstraints ::= SEQUENCE {
@@ -18,11 +18,10 @@ use x509_ext_frame::{Criticality, Extension, Name, id_ce};
 /// ```
 #[derive(Debug, Drop, PartialEq, Eq)]
 pub struct BasicConstraints {
-    /// Whether the key may sign certificates.
+    /// Whether the key may verify signatures of certificates.
     pub ca: bool,
 
-    /// How many certificates of authorities that aren't issued by themselves may follow, at most; any number if left
-    /// out.
+    /// How many intermediate certificates that aren't self-issued may follow, at most; any number where absent.
     pub path_len_constraint: Option<u8>,
 }
 

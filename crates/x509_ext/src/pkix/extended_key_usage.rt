@@ -1,4 +1,4 @@
-//! For what purposes a key may be used.
+//! Extended key usage.
 
 use x509_der::{AssociatedOid, ObjectIdentifier};
 use x509_der_frames::SequenceOf;
@@ -6,8 +6,8 @@ use x509_der_grammar::Newtype;
 use x509_der_order::NewtypeOrd;
 use x509_ext_frame::{Criticality, Extension, Name, id_ce};
 
-/// For what purposes the key may be used (RFC 5280 4.2.1.12). Its identifier is 2.5.29.37, and it isn't critical where
-/// the caller doesn't say so. A sequence without members is read and written too.
+/// Extended key usage: the purposes for which the key may be used (RFC 5280 4.2.1.12). Its OID is 2.5.29.37, and it
+/// isn't critical unless the caller says so. An empty sequence is decoded and encoded too.
 ///
 /// ```text
 /// ExtKeyUsageSyntax ::= SEQUENCE OF KeyPurposeId

@@ -1,4 +1,4 @@
-//! What a key may be used for.
+//! Key usage.
 
 ghost use Rattle.std.specs.Prelude.{◌≡◌};
 ghost use Rattle.x509_ext.specs.KeyUsage.{has_bit};
@@ -12,14 +12,15 @@ use x509_der_order::{NewtypeOrd, ValueOrd};
 use x509_ext_frame::{Criticality, Extension, Name, id_ce};
 use x509_prim::{cmp_named_bits, put_named_bits, read_named_bits};
 
-/// A set of uses of a key, of which bit n stands for the named bit n (RFC 5280 4.2.1.3). A bit from 9 on has no name: it
-/// is refused in reading as `Malformed`, and in writing as `Value`. [`Flags::iter_names`] gives the uses that are set, each with its name.
+/// A set of key usages, of which bit n stands for the named bit n (RFC 5280 4.2.1.3). A bit from 9 on has no name:
+/// decoding refuses it as `Malformed`, and encoding as `Value`. [`Flags::iter_names`] gives the usages that are set,
+/// each with its name.
 #[derive(Clone, Copy, Debug, PartialEq, Eq)]
 pub struct KeyUsages(u16);
 
 bitflag_items! {
     impl KeyUsages: u16 {
-        /// The key is used to verify signatures, other than those of certificates and of lists of revoked ones.
+        /// The key is used to verify signatures other than those of certificates and CRLs.
         const DIGITAL_SIGNATURE = 1;
 
         /// The key is used to verify signatures that the signer can't deny later; also called contentCommitment.
@@ -138,7 +139,7 @@ impl TryClone for KeyUsages {
     }
 }
 
-/// What the key may be used for (RFC 5280 4.2.1.3). Its identifier is 2.5.29.15, and it is critical.
+/// Key usage: what the key may be used for (RFC 5280 4.2.1.3). Its OID is 2.5.29.15, and it is critical.
 ///
 /// ```text
 /// KeyUsage ::= BIT STRING {
@@ -156,7 +157,7 @@ impl TryClone for KeyUsages {
 pub struct KeyUsage(pub KeyUsages);
 
 impl KeyUsage {
-    /// Whether the key is used to verify signatures, other than those of certificates and of lists of revoked ones.
+    /// Whether the key is used to verify signatures other than those of certificates and CRLs.
     pub fn digital_signature(&self) -> bool
         ensures { result ≡ has_bit self.now 0 }
     {

@@ -1,4 +1,4 @@
-//! When a private key may be used.
+//! The private key usage period.
 
 use std::alloc::Global;
 use x509_base_time::GeneralizedTime;
@@ -7,9 +7,9 @@ use x509_der_frames::{PutPart, end, implicit_optional, option_has_spelling, opti
 use x509_der_grammar::{Content, Error, Room, Spelled, Tag, TryClone};
 use x509_ext_frame::{Criticality, Extension, Name, id_ce};
 
-/// From when and until when the private key may sign, where that differs from when its certificate holds (X.509
-/// 9.2.2.5). Its times are written as they are, under any profile. Its identifier is 2.5.29.16 (RFC 5280 appendix A.2),
-/// and it isn't critical.
+/// The period in which the private key may sign, where that isn't the validity of its certificate (X.509 9.2.2.5). Its
+/// times are encoded as they are, under any profile. Its OID is 2.5.29.16 (RFC 5280 appendix A.2), and it isn't
+/// critical.
 ///
 /// ```text
 /// PrivateKeyUsagePeriod ::= SEQUENCE {

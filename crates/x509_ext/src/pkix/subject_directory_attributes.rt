@@ -10,11 +10,11 @@ use x509_ext_frame::{Criticality, Extension, id_ce};
 use x509_ext_name::Name;
 use x509_name_attribute::Attribute;
 
-/// The identifier of [`SubjectDirectoryAttributes`], 2.5.29.9.
+/// The OID of [`SubjectDirectoryAttributes`], 2.5.29.9.
 pub const ID_CE_SUBJECT_DIRECTORY_ATTRIBUTES: ObjectIdentifier = id_ce!(9);
 
-/// Attributes of the subject, as its nationality (RFC 5280 4.2.1.8). Its identifier is 2.5.29.9, and it isn't critical. A
-/// sequence without members is read and written too.
+/// Attributes of the subject, such as its nationality (RFC 5280 4.2.1.8). Its OID is 2.5.29.9, and it isn't critical.
+/// An empty sequence is decoded and encoded too.
 ///
 /// ```text
 /// SubjectDirectoryAttributes ::= SEQUENCE OF Attribute

@@ -1,4 +1,4 @@
-//! Identifiers of keys.
+//! The subject key identifier, SKI.
 
 ghost use Rattle.sha1.specs.Sha1.{sha1};
 ghost use Rattle.std.specs.Prelude.{◌≡◌, IsOkAnd};
@@ -12,11 +12,11 @@ use x509_der_order::NewtypeOrd;
 use x509_ext_frame::{Criticality, Extension, Name, id_ce};
 use x509_prim::OctetString;
 
-/// The identifier of [`SubjectKeyIdentifier`], 2.5.29.14.
+/// The OID of [`SubjectKeyIdentifier`], 2.5.29.14.
 pub const ID_CE_SUBJECT_KEY_IDENTIFIER: ObjectIdentifier = id_ce!(14);
 
-/// By what the key of a certificate is told from others (RFC 5280 4.2.1.2). Its identifier is 2.5.29.14, and it isn't
-/// critical.
+/// The subject key identifier, SKI: it tells which key the certificate has (RFC 5280 4.2.1.2). Its OID is 2.5.29.14,
+/// and it isn't critical.
 ///
 /// ```text
 /// SubjectKeyIdentifier ::= OCTET STRING
@@ -24,8 +24,11 @@ pub const ID_CE_SUBJECT_KEY_IDENTIFIER: ObjectIdentifier = id_ce!(14);
 #[derive(Debug, Drop, PartialEq, Eq)]
 pub struct SubjectKeyIdentifier(pub OctetString);
 
-/// The SHA-1 digest of the octets in which the bits of the key stand (RFC 5280 4.2.1.2, method 1). It takes no
-/// memory and is never refused.
+/// The SHA-1 digest of the octets that hold the key's bits (RFC 5280 4.2.1.2, method 1). It takes no memory.
+///
+/// # Errors
+///
+/// None: it is never refused.
 pub fn key_identifier(alloc: Global, key: SubjectPublicKeyInfoRef<'_>) -> Result<OctetString, Error>
     ensures { IsOkAnd result (λ identifier. identifier ≡ sha1 key.entry.subject_public_key.now.octets) }
 {
@@ -34,8 +37,12 @@ pub fn key_identifier(alloc: Global, key: SubjectPublicKeyInfoRef<'_>) -> Result
 }
 
 impl SubjectKeyIdentifier {
-    /// The identifier of a key: the SHA-1 digest of the octets in which its bits stand (RFC 5280 4.2.1.2, method 1).
-    /// It takes no memory and is never refused.
+    /// The SKI of a key: the SHA-1 digest of the octets that hold its bits (RFC 5280 4.2.1.2, method 1). It takes no
+    /// memory.
+    ///
+    /// # Errors
+    ///
+    /// None: it is never refused.
     pub fn from_key(
         alloc: Global,
         key: SubjectPublicKeyInfoRef<'_>,

@@ -1,4 +1,4 @@
-//! The types of attributes that names are asked for (RFC 5280 appendix A.1).
+//! The attribute types for which names have look-ups (RFC 5280 appendix A.1).
 
 use x509_der::ObjectIdentifier;
 

@@ -1,4 +1,4 @@
-//! The iterators over names and their parts.
+//! The iterators over names, sequences of RDNs and RDNs.
 
 ghost use Rattle.std.specs.Prelude.{◌≡◌};
 ghost use Rattle.std.specs.Iterator.{YieldsFirstRef, YieldsLastRef, item_count};
@@ -7,7 +7,7 @@ ghost use Rattle.x509_name.specs.Iterators.{attributes_left, members_of, rdn_lef
 use crate::name::rdn::RelativeDistinguishedName;
 use x509_name_attribute::AttributeTypeAndValue;
 
-/// Gives the attributes of a name, those of one relative distinguished name after those of the other.
+/// An iterator over the attributes of a name, RDN after RDN.
 #[derive(Clone, Copy, Debug)]
 pub struct NameIter<'a> {
     front: &'a [AttributeTypeAndValue],
@@ -44,7 +44,7 @@ impl<'a> Iterator for NameIter<'a> {
     }
 }
 
-/// Gives the attributes of a relative distinguished name, in their order, from both ends.
+/// An iterator over the attributes of an RDN, in their order, from both ends.
 #[derive(Clone, Copy, Debug)]
 pub struct RdnIter<'a> {
     attributes: &'a [AttributeTypeAndValue],
@@ -92,7 +92,7 @@ impl ExactSizeIterator for RdnIter<'_> {
     }
 }
 
-/// Gives the relative distinguished names of a sequence, in their order, from both ends.
+/// An iterator over the RDNs of a sequence, in their order, from both ends.
 #[derive(Clone, Copy, Debug)]
 pub struct RdnSequenceIter<'a> {
     rdns: &'a [RelativeDistinguishedName],

@@ -33,8 +33,12 @@ impl Name {
         None
     }
 
-    /// The first attribute of the type, in the order of the encoding, as its value is converted; `None` exactly where
-    /// there is no attribute of the type, and refused as the conversion is. [`iter`](Name::iter) has the others.
+    /// The value of the first attribute of the type, in the order of the encoding, converted to `T`; `None` exactly
+    /// where there is no attribute of the type. [`iter`](Name::iter) has the others.
+    ///
+    /// # Errors
+    ///
+    /// Those of the conversion ([`FromAny`]), where there is an attribute of the type.
     pub fn by_oid<'a, T: FromAny<'a>>(
         &'a self,
         alloc: Global,
@@ -51,56 +55,77 @@ impl Name {
 
 #[tactic(auto, unfolding(x509_der::specs::Arcs::subidentifier))]
 impl Name {
-    /// The common name, by the first attribute of the type; `None` exactly where there is none, and `Malformed` exactly
-    /// where the value is no DirectoryString. Memory may be refused.
+    /// The common name, by the first attribute of the type; `None` exactly where there is none.
+    ///
+    /// # Errors
+    ///
+    /// `Malformed` exactly where the value is no DirectoryString. `Memory` when out of memory.
     pub fn common_name(&self, alloc: Global) -> Result<Option<DirectoryString>, Error>
         ensures { LooksUpString types.common_name self.now result }
     {
         self.by_oid(alloc, COMMON_NAME)
     }
 
-    /// The state or province, by the first attribute of the type; `None` exactly where there is none, and `Malformed`
-    /// exactly where the value is no DirectoryString. Memory may be refused.
+    /// The state or province, by the first attribute of the type; `None` exactly where there is none.
+    ///
+    /// # Errors
+    ///
+    /// `Malformed` exactly where the value is no DirectoryString. `Memory` when out of memory.
     pub fn state_or_province(&self, alloc: Global) -> Result<Option<DirectoryString>, Error>
         ensures { LooksUpString types.state_or_province_name self.now result }
     {
         self.by_oid(alloc, STATE_OR_PROVINCE_NAME)
     }
 
-    /// The locality, by the first attribute of the type; `None` exactly where there is none, and `Malformed` exactly
-    /// where the value is no DirectoryString. Memory may be refused.
+    /// The locality, by the first attribute of the type; `None` exactly where there is none.
+    ///
+    /// # Errors
+    ///
+    /// `Malformed` exactly where the value is no DirectoryString. `Memory` when out of memory.
     pub fn locality(&self, alloc: Global) -> Result<Option<DirectoryString>, Error>
         ensures { LooksUpString types.locality_name self.now result }
     {
         self.by_oid(alloc, LOCALITY_NAME)
     }
 
-    /// The organization, by the first attribute of the type; `None` exactly where there is none, and `Malformed`
-    /// exactly where the value is no DirectoryString. Memory may be refused.
+    /// The organization, by the first attribute of the type; `None` exactly where there is none.
+    ///
+    /// # Errors
+    ///
+    /// `Malformed` exactly where the value is no DirectoryString. `Memory` when out of memory.
     pub fn organization(&self, alloc: Global) -> Result<Option<DirectoryString>, Error>
         ensures { LooksUpString types.organization_name self.now result }
     {
         self.by_oid(alloc, ORGANIZATION_NAME)
     }
 
-    /// The organizational unit, by the first attribute of the type; `None` exactly where there is none, and `Malformed`
-    /// exactly where the value is no DirectoryString. Memory may be refused.
+    /// The organizational unit, by the first attribute of the type; `None` exactly where there is none.
+    ///
+    /// # Errors
+    ///
+    /// `Malformed` exactly where the value is no DirectoryString. `Memory` when out of memory.
     pub fn organization_unit(&self, alloc: Global) -> Result<Option<DirectoryString>, Error>
         ensures { LooksUpString types.organizational_unit_name self.now result }
     {
         self.by_oid(alloc, ORGANIZATIONAL_UNIT_NAME)
     }
 
-    /// The country, by the first attribute of the type; `None` exactly where there is none, and `Malformed` exactly
-    /// where the value is no PrintableString. It takes no memory.
+    /// The country, by the first attribute of the type; `None` exactly where there is none. It takes no memory.
+    ///
+    /// # Errors
+    ///
+    /// `Malformed` exactly where the value is no PrintableString.
     pub fn country(&self, alloc: Global) -> Result<Option<PrintableStringRef<'_>>, Error>
         ensures { LooksUp (BorrowsTextFrom (λ string. string.text.now) tags.PrintableString (list_all is_printable)) (first_of_type types.country_name (members_of self.now)) result }
     {
         self.by_oid(alloc, COUNTRY_NAME)
     }
 
-    /// The email address, by the first attribute of the type; `None` exactly where there is none, and `Malformed`
-    /// exactly where the value is no IA5String. It takes no memory.
+    /// The email address, by the first attribute of the type; `None` exactly where there is none. It takes no memory.
+    ///
+    /// # Errors
+    ///
+    /// `Malformed` exactly where the value is no IA5String.
     pub fn email_address(&self, alloc: Global) -> Result<Option<Ia5StringRef<'_>>, Error>
         ensures { LooksUp (BorrowsTextFrom (λ string. string.text.now) tags.Ia5String (list_all is_ia5)) (first_of_type types.email_address (members_of self.now)) result }
     {

@@ -14,10 +14,18 @@ use x509_der::{DerOrd, ValueOrd};
 use x509_der_frames::members_have_spellings;
 use x509_der_grammar::{Content, Error, Room, Spelled, Tag, TryClone};
 
-/// The name of an issuer or a subject (RFC 5280 4.1.2.4). Contracts see the list of its relative distinguished names.
+/// The name of an issuer or a subject: a sequence of relative distinguished names, RDNs (RFC 5280 4.1.2.4). Contracts
+/// see the list of its RDNs.
 ///
 /// ```text
 /// Name ::= CHOICE { rdnSequence  RDNSequence }
+/// ```
+///
+/// A text is read by [`from_str`](Name::from_str), and `Display` writes it:
+///
+/// ```rust
+/// let name = Name::from_str(alloc, "CN=Good CA,C=US")?;
+/// assert_eq!(rt; format!(in alloc; "{}", &name)?.as_str(), "CN=Good CA,C=US");
 /// ```
 #[derive(Debug, Drop)]
 pub struct Name(RdnSequence);
@@ -39,15 +47,15 @@ impl Name {
         Name(RdnSequence::new(alloc))
     }
 
-    /// The name of these relative distinguished names. That they keep the rules of RFC 5280 4.1.2.4 for the types and
-    /// the texts of attributes is the caller's to see to.
+    /// The name of these RDNs. The caller sees to the rules of RFC 5280 4.1.2.4 for the types and the texts of
+    /// attributes: they aren't checked.
     pub fn hazmat_from_rdn_sequence(rdns: RdnSequence) -> Name
         ensures { result ≡ rdns }
     {
         Name(rdns)
     }
 
-    /// How many relative distinguished names there are.
+    /// How many RDNs there are.
     pub fn len(&self) -> usize
         ensures { result ≡ length self.now }
     {
@@ -61,14 +69,14 @@ impl Name {
         self.0.is_empty()
     }
 
-    /// The attributes of the relative distinguished names, one after the other; `iter_rdn` tells which stand together.
+    /// The attributes of all RDNs, one after the other; `iter_rdn` tells which belong to one RDN.
     pub fn iter(&self) -> NameIter<'_>
         ensures { attributes_left result ≡ members_of self.now }
     {
         NameIter::new(self.0.as_slice())
     }
 
-    /// The relative distinguished names.
+    /// The RDNs.
     pub fn iter_rdn(&self) -> RdnSequenceIter<'_>
         ensures { rdns_left result ≡ self.now }
     {
@@ -170,7 +178,7 @@ impl Eq for Name {
     ghost laws = { grammar.rdn_sequence_equivalence };
 }
 
-/// By the encodings, as [`DerOrd`] compares them.
+/// Names are ordered by their encodings, as [`DerOrd`] compares them.
 impl PartialOrd for Name {
     ghost use Rattle.std.specs.Cmp.{po};
     ghost use Rattle.std.specs.Ordering.{as_partial_cmp};
@@ -185,7 +193,7 @@ impl PartialOrd for Name {
     }
 }
 
-/// By the encodings, as [`DerOrd`] compares them.
+/// Names are ordered by their encodings, as [`DerOrd`] compares them.
 impl Ord for Name {
     ghost use Rattle.std.specs.Prelude.{refl};
     ghost use Rattle.x509_name.specs.Names as grammar;

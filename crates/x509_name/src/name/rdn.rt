@@ -1,4 +1,4 @@
-//! Relative distinguished names.
+//! Relative distinguished names (RDNs).
 
 ghost use Rattle.std.specs.Prelude.{◌≡◌, ◌↔◌, ◌⊎◌, [], ◌∷◌, length, IsTrue, Contains, IfOk, IfErr, OnOk, OnErr, IsErrAnd, slice_get};
 ghost use Rattle.std.specs.Option.{option_copied};
@@ -17,8 +17,8 @@ use x509_der::{DerOrd, NewtypeOrd, SetOfVec};
 use x509_der_grammar::{Error, Newtype};
 use x509_name_attribute::AttributeTypeAndValue;
 
-/// One step of a name: a set of attributes (RFC 5280 4.1.2.4). Contracts see their list, in the byte order of their
-/// encodings. A set without attributes is read and written too.
+/// A relative distinguished name (RDN): a set of attributes (RFC 5280 4.1.2.4). Contracts see their list, in the byte
+/// order of their encodings. An empty set is decoded and encoded too.
 ///
 /// ```text
 /// RelativeDistinguishedName ::= SET OF AttributeTypeAndValue
@@ -43,8 +43,11 @@ impl RelativeDistinguishedName {
         RelativeDistinguishedName(SetOfVec::new(alloc))
     }
 
-    /// The set of the attributes, in O(n log n) comparisons and without memory; `SetDuplicate` exactly where two of
-    /// them are equal.
+    /// The set of the attributes, in O(n log n) comparisons and without memory.
+    ///
+    /// # Errors
+    ///
+    /// `SetDuplicate` exactly where two of the attributes are equal.
     pub fn try_from_vec(
         attributes: Vec<AttributeTypeAndValue>,
     ) -> Result<RelativeDistinguishedName, Error>
@@ -56,8 +59,12 @@ impl RelativeDistinguishedName {
         Ok(RelativeDistinguishedName(set))
     }
 
-    /// Puts the attribute in its place; `SetDuplicate` exactly where an equal one is there, and memory may be refused.
-    /// Where it is refused the name is as it was, and the attribute is dropped.
+    /// Inserts the attribute in its place.
+    ///
+    /// # Errors
+    ///
+    /// `SetDuplicate` exactly where an equal attribute is there; else `Memory` when out of memory. On an error the RDN is
+    /// unchanged, and the attribute is dropped.
     pub fn insert(&mut self, attribute: AttributeTypeAndValue) -> Result<(), Error>
         ensures put { OnOk result (IsPermutation (attribute ∷ self.old) self.new) }
         ensures sorted { IsStrictlySortedBy type_and_value_cmp self.new }
@@ -83,7 +90,7 @@ impl RelativeDistinguishedName {
         RdnIter::new(self.as_slice())
     }
 
-    /// The attribute at that place, from 0 on.
+    /// The attribute at that index, from 0 on.
     pub fn get(&self, index: usize) -> Option<&AttributeTypeAndValue>
         ensures { option_copied result ≡ slice_get self.now index }
     {
@@ -180,7 +187,7 @@ impl Eq for RelativeDistinguishedName {
     ghost laws = { grammar.rdn_equivalence };
 }
 
-/// By the encodings, as [`DerOrd`] compares them.
+/// RDNs are ordered by their encodings, as [`DerOrd`] compares them.
 impl PartialOrd for RelativeDistinguishedName {
     ghost use Rattle.std.specs.Cmp.{po};
     ghost use Rattle.std.specs.Ordering.{as_partial_cmp};
@@ -195,7 +202,7 @@ impl PartialOrd for RelativeDistinguishedName {
     }
 }
 
-/// By the encodings, as [`DerOrd`] compares them.
+/// RDNs are ordered by their encodings, as [`DerOrd`] compares them.
 impl Ord for RelativeDistinguishedName {
     ghost use Rattle.std.specs.Prelude.{refl};
     ghost use Rattle.x509_name.specs.Names as grammar;

@@ -1,4 +1,4 @@
-//! Sequences of relative distinguished names.
+//! Sequences of RDNs.
 
 ghost use Rattle.std.specs.Prelude.{◌≡◌, ◌↔◌, ◌++◌, [], ◌∷◌, length, IsTrue, IfErr, OnOk, OnErr};
 ghost use Rattle.x509_der_element.specs.declared.error.ErrorKind.TheVariants.{Memory};
@@ -13,8 +13,8 @@ use std::marker::Model;
 use x509_der::{DerOrd, NewtypeOrd, SequenceOf};
 use x509_der_grammar::{Error, Newtype};
 
-/// Relative distinguished names, the most general first (RFC 5280 4.1.2.4). Contracts see their list. A sequence
-/// without members is read and written too.
+/// A sequence of relative distinguished names (RDNs), the most general first (RFC 5280 4.1.2.4). Contracts see their
+/// list. An empty sequence is decoded and encoded too.
 ///
 /// ```text
 /// RDNSequence ::= SEQUENCE OF RelativeDistinguishedName
@@ -22,7 +22,7 @@ use x509_der_grammar::{Error, Newtype};
 #[derive(Debug, Drop)]
 pub struct RdnSequence(SequenceOf<RelativeDistinguishedName>);
 
-/// The same by another name (RFC 5280 appendix A.1).
+/// [`RdnSequence`] by another name (RFC 5280 appendix A.1).
 pub type DistinguishedName = RdnSequence;
 
 impl Model for RdnSequence {
@@ -35,15 +35,18 @@ impl Model for RdnSequence {
 }
 
 impl RdnSequence {
-    /// No relative distinguished names. It takes no memory.
+    /// The empty sequence. It takes no memory.
     pub fn new(alloc: Global) -> RdnSequence
         ensures { result ≡ [] }
     {
         RdnSequence(SequenceOf::new(alloc))
     }
 
-    /// Puts the relative distinguished name behind the others. Where memory is refused the sequence is as it was, and
-    /// the one that was to be put is dropped.
+    /// Adds the RDN behind the others.
+    ///
+    /// # Errors
+    ///
+    /// `Memory` when out of memory, and nothing else; then the sequence is unchanged, and the RDN is dropped.
     pub fn push(&mut self, rdn: RelativeDistinguishedName) -> Result<(), Error>
         ensures ok { OnOk result (self.new ≡ self.old ++ rdn ∷ []) }
         ensures err { IfErr result (λ e. e.kind ≡ Memory) }
@@ -52,21 +55,21 @@ impl RdnSequence {
         self.0.push(rdn)
     }
 
-    /// The relative distinguished names.
+    /// The RDNs.
     pub fn as_slice(&self) -> &[RelativeDistinguishedName]
         ensures { result.now ≡ self.now }
     {
         self.0.as_slice()
     }
 
-    /// The relative distinguished names.
+    /// The RDNs.
     pub fn iter(&self) -> RdnSequenceIter<'_>
         ensures { rdns_left result ≡ self.now }
     {
         RdnSequenceIter::new(self.as_slice())
     }
 
-    /// How many relative distinguished names there are.
+    /// How many RDNs there are.
     pub fn len(&self) -> usize
         ensures { result ≡ length self.now }
     {
@@ -80,7 +83,7 @@ impl RdnSequence {
         self.0.is_empty()
     }
 
-    /// The vector of the relative distinguished names, without a copy.
+    /// The vector of the RDNs, without a copy.
     pub fn into_vec(self) -> Vec<RelativeDistinguishedName>
         ensures { result.items ≡ self }
     {
@@ -180,7 +183,7 @@ impl Eq for RdnSequence {
     ghost laws = { grammar.rdn_sequence_equivalence };
 }
 
-/// By the encodings, as [`DerOrd`] compares them.
+/// Sequences are ordered by their encodings, as [`DerOrd`] compares them.
 impl PartialOrd for RdnSequence {
     ghost use Rattle.std.specs.Cmp.{po};
     ghost use Rattle.std.specs.Ordering.{as_partial_cmp};
@@ -195,7 +198,7 @@ impl PartialOrd for RdnSequence {
     }
 }
 
-/// By the encodings, as [`DerOrd`] compares them.
+/// Sequences are ordered by their encodings, as [`DerOrd`] compares them.
 impl Ord for RdnSequence {
     ghost use Rattle.std.specs.Prelude.{refl};
     ghost use Rattle.x509_name.specs.Names as grammar;

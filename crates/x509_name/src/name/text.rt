@@ -1,4 +1,4 @@
-//! The texts of relative distinguished names and of names, read and written (RFC 4514 sections 2.1, 2.2 and 3).
+//! The texts of RDNs and of names, read and written (RFC 4514 sections 2.1, 2.2 and 3).
 
 ghost use Rattle.std.specs.Prelude.{◌≡◌, ◌⊎◌, IfOk, IfErr};
 ghost use Rattle.std.specs.Fmt.{WritesOnOk};
@@ -26,7 +26,7 @@ fn read_one(alloc: Global, part: &[u8]) -> Result<AttributeTypeAndValue, Error>
     Ok(AttributeTypeAndValue { oid, value })
 }
 
-/// The relative distinguished name that a text says.
+/// The RDN that a text says.
 pub(crate) fn read_rdn(alloc: Global, text: &[u8]) -> Result<RelativeDistinguishedName, Error>
     ensures ok { IfOk result (λ rdn. texts.RdnReads text.now rdn) }
     ensures err { IfErr result (λ e. (e.kind ≡ errors.Memory) ⊎ texts.RdnRefused text.now e.kind) }
@@ -38,7 +38,7 @@ pub(crate) fn read_rdn(alloc: Global, text: &[u8]) -> Result<RelativeDistinguish
     RelativeDistinguishedName::try_from_vec(attributes)
 }
 
-/// The relative distinguished names that a text says, the last of them first.
+/// The RDNs that a text says, the last of them first.
 pub(crate) fn read_name(alloc: Global, text: &[u8]) -> Result<RdnSequence, Error>
     ensures ok { IfOk result (λ name. texts.NameReads text.now name) }
     ensures err { IfErr result (λ e. (e.kind ≡ errors.Memory) ⊎ texts.NameRefused text.now e.kind) }
@@ -71,7 +71,7 @@ pub(crate) fn write_rdn<W: fmt::Write>(
     Ok(())
 }
 
-/// Writes the relative distinguished names from the last to the first, with a comma between each two.
+/// Writes the RDNs from the last to the first, with a comma between each two.
 #[tactic(auto, unfolding(crate::specs::NameText::name_text))]
 pub(crate) fn write_name<W: fmt::Write>(
     f: &mut fmt::Formatter<W>,
@@ -89,13 +89,13 @@ pub(crate) fn write_name<W: fmt::Write>(
 }
 
 impl RelativeDistinguishedName {
-    /// The relative distinguished name of a text: attributes with plus signs between, in any order (RFC 4514 sections
-    /// 2.2 and 3).
+    /// The RDN that a text says: attributes with plus signs between, in any order (RFC 4514 sections 2.2 and 3).
     ///
     /// # Errors
     ///
-    /// Those of [`AttributeTypeAndValue::from_str`] for the leftmost part that is refused; where all are read,
-    /// `SetDuplicate` exactly where two of the attributes are equal. Memory may be refused.
+    /// Those of [`AttributeTypeAndValue::from_str`] for the leftmost attribute that is refused: `Failed` for a bad
+    /// text, `Overlength` for a value that is too long. Where all are read, `SetDuplicate` exactly where two of the
+    /// attributes are equal. `Memory` when out of memory.
     pub fn from_str(alloc: Global, text: &str) -> Result<RelativeDistinguishedName, Error>
         ensures ok { IfOk result (λ rdn. texts.RdnReads text.now rdn) }
         ensures err { IfErr result (λ e. (e.kind ≡ errors.Memory) ⊎ texts.RdnRefused text.now e.kind) }
@@ -116,12 +116,13 @@ impl fmt::Display for RelativeDistinguishedName {
 }
 
 impl RdnSequence {
-    /// The relative distinguished names of a text, which has the last of them first and commas between. The empty text
-    /// is that of none (RFC 4514 sections 2.1 and 3).
+    /// The RDNs that a text says, which has the last of them first and commas between. The empty text says none (RFC
+    /// 4514 sections 2.1 and 3).
     ///
     /// # Errors
     ///
-    /// Those of [`RelativeDistinguishedName::from_str`] for the leftmost part that is refused. Memory may be refused.
+    /// Those of [`RelativeDistinguishedName::from_str`] for the leftmost RDN that is refused. `Memory` when out of
+    /// memory.
     pub fn from_str(alloc: Global, text: &str) -> Result<RdnSequence, Error>
         ensures ok { IfOk result (λ rdns. texts.NameReads text.now rdns) }
         ensures err { IfErr result (λ e. (e.kind ≡ errors.Memory) ⊎ texts.NameRefused text.now e.kind) }
@@ -129,12 +130,12 @@ impl RdnSequence {
         read_name(alloc, text.as_bytes())
     }
 
-    /// The encoding of what a text says.
+    /// The encoding of the RDNs that a text says.
     ///
     /// # Errors
     ///
     /// Those of `from_str`; where the text is read, `Overlength` exactly where the encoding is longer than
-    /// [`Length::MAX`](x509_der_grammar::Length::MAX). Memory may be refused.
+    /// [`Length::MAX`](x509_der_grammar::Length::MAX). `Memory` when out of memory.
     pub fn encode_from_string(alloc: Global, text: &str) -> Result<Vec<u8>, Error>
         ensures ok { IfOk result (λ bytes. texts.NameEncodes text.now bytes.items) }
         ensures err { IfErr result (λ e. (e.kind ≡ errors.Memory) ⊎ texts.NameNotEncoded text.now e.kind) }
@@ -156,7 +157,7 @@ impl fmt::Display for RdnSequence {
 }
 
 impl Name {
-    /// The name of a text, as [`RdnSequence::from_str`] reads it.
+    /// The name that a text says, such as `CN=Good CA,C=US`, as [`RdnSequence::from_str`] reads it.
     ///
     /// # Errors
     ///
