@@ -1,7 +1,7 @@
 """Calls of the C library in child processes, for `hostile_sizes.py`: each on a thread of a small stack, its answer compared, its time taken."""
 import ctypes
+import multiprocessing
 import os
-import pickle
 import signal
 import struct
 import sys
@@ -89,23 +89,27 @@ def keep_memory():
 
 def in_child(work):
     """What the work answers on a thread of a small stack in a child process; or nothing, and how the child ended."""
-    read, write = os.pipe()
-    child = os.fork()
-    if child == 0:
+    context = multiprocessing.get_context("fork")
+    answer, says = context.Pipe(duplex=False)
+
+    def run():
         answers = []
         thread = threading.Thread(target=lambda: answers.append(work()))
         thread.start()
         thread.join()
-        with os.fdopen(write, "wb") as out:
-            pickle.dump(answers, out)
-        os._exit(0)
-    os.close(write)
-    with os.fdopen(read, "rb") as pipe:
-        answers = pipe.read()
-    _, ended = os.waitpid(child, 0)
-    if os.WIFSIGNALED(ended):
-        return 0, f"ended by {signal.Signals(os.WTERMSIG(ended)).name}"
-    return (pickle.loads(answers) or [(0, "no answer")])[0]
+        says.send(answers)
+
+    child = context.Process(target=run)
+    child.start()
+    says.close()
+    try:
+        answers = answer.recv()
+    except EOFError:
+        answers = []
+    child.join()
+    if child.exitcode < 0:
+        return 0, f"ended by {signal.Signals(-child.exitcode).name}"
+    return (answers or [(0, "no answer")])[0]
 
 
 def told(status, left):
