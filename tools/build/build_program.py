@@ -169,6 +169,6 @@ def main(program):
 
 
 if __name__ == "__main__":
-    words = argparse.ArgumentParser(description=__doc__, formatter_class=argparse.RawDescriptionHelpFormatter)
-    words.add_argument("program", metavar="NAME", help="the program's crate, as x509_tool")
-    sys.exit(main(words.parse_args().program))
+    parser = argparse.ArgumentParser(description=__doc__, formatter_class=argparse.RawDescriptionHelpFormatter)
+    parser.add_argument("program", metavar="NAME", help="the program's crate, as x509_tool")
+    sys.exit(main(parser.parse_args().program))

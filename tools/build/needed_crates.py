@@ -9,10 +9,10 @@ from common.crates import TOP, crates_below, path_of
 
 
 def main():
-    words = argparse.ArgumentParser(description=__doc__)
-    words.add_argument("--folders", action="store_true", help="their folders in place of their lines")
-    words.add_argument("crates", nargs="+", metavar="CRATE")
-    asked = words.parse_args()
+    parser = argparse.ArgumentParser(description=__doc__)
+    parser.add_argument("--folders", action="store_true", help="their folders in place of their lines")
+    parser.add_argument("crates", nargs="+", metavar="CRATE")
+    asked = parser.parse_args()
     named = crates_below()
     for crate in asked.crates:
         if crate not in named:

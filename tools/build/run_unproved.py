@@ -62,7 +62,7 @@ def main(program, words):
 
 
 if __name__ == "__main__":
-    words = argparse.ArgumentParser(description=__doc__, usage="%(prog)s NAME [WORD ..]", formatter_class=argparse.RawDescriptionHelpFormatter)
-    words.add_argument("program", metavar="NAME", help="the program's crate, as x509_tool; all words behind it are handed to the program")
+    parser = argparse.ArgumentParser(description=__doc__, usage="%(prog)s NAME [WORD ..]", formatter_class=argparse.RawDescriptionHelpFormatter)
+    parser.add_argument("program", metavar="NAME", help="the program's crate, as x509_tool; all words behind it are handed to the program")
     # The words may be any, also such as the parser would take for its own.
-    sys.exit(main(words.parse_args(sys.argv[1:2]).program, sys.argv[2:]))
+    sys.exit(main(parser.parse_args(sys.argv[1:2]).program, sys.argv[2:]))

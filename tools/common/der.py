@@ -17,6 +17,11 @@ def length(size):
     return bytes([0x80 + len(octets)]) + octets
 
 
+def header_len(total):
+    """How many octets stand before the content of an element of so many octets in all."""
+    return next(it for it in range(2, total + 1) if it == 1 + len(length(total - it)))
+
+
 def element(tag, *contents):
     """An element: its identifier octet, length octets, and content octets (8.1.1)."""
     content = b"".join(contents)

@@ -36,9 +36,9 @@ def rows():
 
 
 def main():
-    words = argparse.ArgumentParser(description=__doc__)
-    words.add_argument("--check", action="store_true", help="write nothing, but compare")
-    is_check = words.parse_args().check
+    parser = argparse.ArgumentParser(description=__doc__)
+    parser.add_argument("--check", action="store_true", help="write nothing, but compare")
+    is_check = parser.parse_args().check
     found = rows()
     made = {
         "stdin": "\n".join(asked for _, asked, _ in found),

@@ -114,9 +114,9 @@ def real():
 
 
 def main():
-    words = argparse.ArgumentParser(description=__doc__)
-    words.add_argument("real", nargs="?", choices=["real"], help="run the sources by `rt` itself too")
-    given = words.parse_args()
+    parser = argparse.ArgumentParser(description=__doc__)
+    parser.add_argument("real", nargs="?", choices=["real"], help="run the sources by `rt` itself too")
+    given = parser.parse_args()
     with tempfile.TemporaryDirectory() as folder:
         top = pathlib.Path(folder)
         more = copy_of_scripts(top)

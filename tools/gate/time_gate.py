@@ -79,9 +79,9 @@ def table(seen):
 
 
 def main():
-    words = argparse.ArgumentParser(description=__doc__, formatter_class=argparse.RawDescriptionHelpFormatter)
-    words.add_argument("file", metavar="FILE", nargs="?", default="gate.log", help="gate.log, if left out")
-    file = words.parse_args().file
+    parser = argparse.ArgumentParser(description=__doc__, formatter_class=argparse.RawDescriptionHelpFormatter)
+    parser.add_argument("file", metavar="FILE", nargs="?", default="gate.log", help="gate.log, if left out")
+    file = parser.parse_args().file
     seen, is_over, start = {}, threading.Event(), time.time()
     gate = subprocess.Popen(["rt", "ci"], stdout=subprocess.PIPE, stderr=subprocess.STDOUT, text=True)
     watcher = threading.Thread(target=watch, args=(str(gate.pid), seen, is_over))

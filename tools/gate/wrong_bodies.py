@@ -49,10 +49,10 @@ def try_all(crates):
 
 
 def main():
-    words = argparse.ArgumentParser(description=__doc__, formatter_class=argparse.RawDescriptionHelpFormatter)
-    words.add_argument("crates", nargs="*", metavar="CRATE", help="all that have wrong bodies, if left out")
+    parser = argparse.ArgumentParser(description=__doc__, formatter_class=argparse.RawDescriptionHelpFormatter)
+    parser.add_argument("crates", nargs="*", metavar="CRATE", help="all that have wrong bodies, if left out")
     found = [folder.name for folder in sorted((TOP / "crates").iterdir()) if edits(folder.name)]
-    crates = words.parse_args().crates or found
+    crates = parser.parse_args().crates or found
     none = [crate for crate in crates if crate not in found]
     if none:
         sys.exit(f"no wrong bodies: {' '.join(none)}")

@@ -91,9 +91,9 @@ def row(counted, program, what, count, size, words, data, answer=None):
 
 
 def main():
-    words = argparse.ArgumentParser(description=__doc__, formatter_class=argparse.RawDescriptionHelpFormatter)
-    words.add_argument("program", metavar="PROGRAM", help="crates/x509_tool/out/x509_tool")
-    program = words.parse_args().program
+    parser = argparse.ArgumentParser(description=__doc__, formatter_class=argparse.RawDescriptionHelpFormatter)
+    parser.add_argument("program", metavar="PROGRAM", help="crates/x509_tool/out/x509_tool")
+    program = parser.parse_args().program
     counted = Counted(program)
     print("| Input | Members | Bytes | Seconds | Nanoseconds a byte | Allocations | Memory a byte |")
     print("|---|---|---|---|---|---|---|")

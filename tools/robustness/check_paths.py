@@ -36,11 +36,11 @@ def ask(folder, name, words):
 
 
 def main():
-    words = argparse.ArgumentParser(description=__doc__, formatter_class=argparse.RawDescriptionHelpFormatter)
-    words.add_argument("folder", metavar="FOLDER", type=pathlib.Path)
-    words.add_argument("name", metavar="NAME", help="what the checker is called in the lines that are printed")
-    words.add_argument("words", metavar="WORDS", nargs=argparse.REMAINDER, help="the checker's command")
-    given = words.parse_args()
+    parser = argparse.ArgumentParser(description=__doc__, formatter_class=argparse.RawDescriptionHelpFormatter)
+    parser.add_argument("folder", metavar="FOLDER", type=pathlib.Path)
+    parser.add_argument("name", metavar="NAME", help="what the checker is called in the lines that are printed")
+    parser.add_argument("words", metavar="WORDS", nargs=argparse.REMAINDER, help="the checker's command")
+    given = parser.parse_args()
     return ask(given.folder, given.name, given.words)
 
 

@@ -176,9 +176,9 @@ def unusual():
 
 
 def main():
-    words = argparse.ArgumentParser(description=__doc__, formatter_class=argparse.RawDescriptionHelpFormatter)
-    words.add_argument("folder", metavar="FOLDER", type=pathlib.Path, help="where the files go")
-    folder = words.parse_args().folder
+    parser = argparse.ArgumentParser(description=__doc__, formatter_class=argparse.RawDescriptionHelpFormatter)
+    parser.add_argument("folder", metavar="FOLDER", type=pathlib.Path, help="where the files go")
+    folder = parser.parse_args().folder
     if certificate() != WHOLE:
         sys.exit("examples/data/certificate.der isn't the certificate that is stated here")
     folder.mkdir(parents=True, exist_ok=True)

@@ -29,7 +29,7 @@ import threading
 
 sys.path.insert(0, str(pathlib.Path(__file__).resolve().parents[1]))
 from common import rows
-from common.der import NULL, TRUE, UTF8_STRING, element, integer, nested, object_identifier, octet_string, sequence, set_of
+from common.der import NULL, TRUE, UTF8_STRING, element, header_len, integer, nested, object_identifier, octet_string, sequence, set_of
 from hostile_calls import ABSENT, FAILED, FAULT, KEPT, MALFORMED, OK, OVERLENGTH, RAW, REPEATED, RFC5280, ROOM, SET_DUPLICATE
 from hostile_calls import Library, Trial, checks, in_child, keep_memory, looks, reencodes, writes
 from hostile_inputs import ALGORITHM, BITS, COMMON_NAME, COUNTS, DEEP, LEVELS, LISTS, ONE, REASON, SECONDS, SETS, STRINGS
@@ -192,8 +192,8 @@ def certificate_calls():
     make = lambda size: certificate(extensions=members(size))
     twice = lambda size: certificate(extensions=[named] + members(size))
     find = lambda last: lambda library, data: find_extension(library, data, b"\x55\x1d" + last)
+    signed = lambda header, total: (header, total - header - tail)
     view = lambda size, data: (3, len(data) - tail - len(sequence(*members(size))), len(sequence(*members(size))), SECONDS, SECONDS)
-    header = lambda data: 2 + data[1] % 128
     yield "x509_certificate_check", make, checks, lambda size, data: (OK, KEPT)
     yield "x509_certificate_reencode", make, lambda name: writes(name, len), same
     yield "x509_certificate_reencode, a byte too few", make, lambda name: writes(name, lambda data: len(data) - 1), lambda size, data: (ROOM, len(data))
@@ -201,7 +201,7 @@ def certificate_calls():
     yield "x509_certificate_extension", make, lambda name: find(b"\x0f"), lambda size, data: (OK, (0, len(data) - tail, 0))
     yield "x509_certificate_extension, absent", make, lambda name: find(b"\x10"), refused(ABSENT)
     yield "x509_certificate_extension, twice", twice, lambda name: find(b"\x0f"), refused(REPEATED)
-    yield "x509_signed_slice", make, lambda name: looks(name, "2Q"), lambda size, data: (OK, (header(data), len(data) - header(data) - tail))
+    yield "x509_signed_slice", make, lambda name: looks(name, "2Q"), lambda size, data: (OK, signed(header_len(len(data)), len(data)))
 
 
 def other_calls():
@@ -247,10 +247,10 @@ def runs_over():
 
 
 def main():
-    words = argparse.ArgumentParser(description=__doc__, formatter_class=argparse.RawDescriptionHelpFormatter)
-    words.add_argument("folder", metavar="FOLDER", type=pathlib.Path)
-    words.add_argument("--rows", action="store_true", help="write the files of rows and answers there")
-    given = words.parse_args()
+    parser = argparse.ArgumentParser(description=__doc__, formatter_class=argparse.RawDescriptionHelpFormatter)
+    parser.add_argument("folder", metavar="FOLDER", type=pathlib.Path)
+    parser.add_argument("--rows", action="store_true", help="write the files of rows and answers there")
+    given = parser.parse_args()
     if given.rows:
         return write_rows(given.folder)
     resource.setrlimit(resource.RLIMIT_CORE, (0, 0))

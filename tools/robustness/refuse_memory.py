@@ -80,11 +80,11 @@ def tests(paths):
 
 
 def main():
-    words = argparse.ArgumentParser(description=__doc__, formatter_class=argparse.RawDescriptionHelpFormatter)
-    asks = words.add_mutually_exclusive_group(required=True)
-    asks.add_argument("program", metavar="PROGRAM", nargs="?", help="crates/x509_tool/out/x509_tool")
-    asks.add_argument("--tests", metavar="TESTS", nargs="+", help="crates/*/out/*_tests")
-    given = words.parse_args()
+    parser = argparse.ArgumentParser(description=__doc__, formatter_class=argparse.RawDescriptionHelpFormatter)
+    either = parser.add_mutually_exclusive_group(required=True)
+    either.add_argument("program", metavar="PROGRAM", nargs="?", help="crates/x509_tool/out/x509_tool")
+    either.add_argument("--tests", metavar="TESTS", nargs="+", help="crates/*/out/*_tests")
+    given = parser.parse_args()
     return tests(given.tests) if given.tests else program(given.program)
 
 

@@ -44,11 +44,11 @@ def spoil(paths, folder, library):
 
 
 def main():
-    words = argparse.ArgumentParser(description=__doc__, formatter_class=argparse.RawDescriptionHelpFormatter)
-    words.add_argument("paths", metavar="PATHS", type=pathlib.Path, help="the folder of the path")
-    words.add_argument("folder", metavar="FOLDER", type=pathlib.Path, help="the folder that is written")
-    words.add_argument("library", metavar="LIBRARY", help="libx509.so")
-    given = words.parse_args()
+    parser = argparse.ArgumentParser(description=__doc__, formatter_class=argparse.RawDescriptionHelpFormatter)
+    parser.add_argument("paths", metavar="PATHS", type=pathlib.Path, help="the folder of the path")
+    parser.add_argument("folder", metavar="FOLDER", type=pathlib.Path, help="the folder that is written")
+    parser.add_argument("library", metavar="LIBRARY", help="libx509.so")
+    given = parser.parse_args()
     return spoil(given.paths, given.folder, given.library)
 
 

@@ -95,12 +95,12 @@ def share():
 
 
 def main():
-    words = argparse.ArgumentParser(description=__doc__, formatter_class=argparse.RawDescriptionHelpFormatter)
-    asks = words.add_mutually_exclusive_group(required=True)
-    asks.add_argument("program", metavar="PROGRAM", nargs="?", type=pathlib.Path, help="crates/x509_rows/out/x509_rows")
-    asks.add_argument("--share", action="store_true", help="print the fixed share")
-    words.add_argument("--seconds", type=int, help="go no further after so long, and say where it stopped")
-    given = words.parse_args()
+    parser = argparse.ArgumentParser(description=__doc__, formatter_class=argparse.RawDescriptionHelpFormatter)
+    either = parser.add_mutually_exclusive_group(required=True)
+    either.add_argument("program", metavar="PROGRAM", nargs="?", type=pathlib.Path, help="crates/x509_rows/out/x509_rows")
+    either.add_argument("--share", action="store_true", help="print the fixed share")
+    parser.add_argument("--seconds", type=int, help="go no further after so long, and say where it stopped")
+    given = parser.parse_args()
     return share() if given.share else ask(given.program.resolve(), given.seconds)
 
 
