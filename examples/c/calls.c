@@ -143,8 +143,9 @@ static void certificates(void)
     WANT(memcmp(certificate + view.issuer.place, certificate + view.subject.place, view.subject.len) == 0);
     WANT(x509_name_text(certificate + view.subject.place, view.subject.len, room, sizeof room, &written) == X509_OK);
     WANT(view.subject_public_key_info.len == 91); /* a key of P-256 (RFC 5480) */
-    WANT(x509_reencode((const uint8_t *)"SubjectPublicKeyInfo", 20, X509_RAW, certificate + view.subject_public_key_info.place, 91, room, 91, &written) == X509_OK);
-    WANT(x509_reencode((const uint8_t *)"Extensions", 10, X509_RAW, certificate + view.extensions.place, view.extensions.len, room, sizeof room, &written) == X509_OK);
+    const uint8_t *key = certificate + view.subject_public_key_info.place, *extensions = certificate + view.extensions.place;
+    WANT(x509_reencode((const uint8_t *)"SubjectPublicKeyInfo", 20, X509_RAW, key, 91, room, 91, &written) == X509_OK);
+    WANT(x509_reencode((const uint8_t *)"Extensions", 10, X509_RAW, extensions, view.extensions.len, room, sizeof room, &written) == X509_OK);
 
     x509_extension found = {7, {7, 7}};
     const uint8_t *const key_usage = (const uint8_t *)"\x55\x1d\x0f";

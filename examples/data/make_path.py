@@ -3,9 +3,8 @@
 
 NAME.der    a certificate: `root`, `intermediate`, `server`, or a variant
 cases.txt   a case a line, with a tab between each two: the moment, the files, the anchor's first, the line that is to be printed, and the status
-
-usage: make_path.py FOLDER
 """
+import argparse
 import datetime
 import pathlib
 import sys
@@ -16,6 +15,9 @@ from cryptography.hazmat.primitives import hashes, serialization
 from cryptography.hazmat.primitives.asymmetric import dsa, ec, ed448, ed25519, padding, rsa, x25519
 from cryptography.x509.oid import ExtendedKeyUsageOID, ExtensionOID, NameOID
 
+sys.path.insert(0, str(pathlib.Path(__file__).resolve().parents[2] / "tools"))
+from common.der import NULL, bit_string, object_identifier, octet_string, sequence
+
 UTC = datetime.timezone.utc
 # 2025-01-01T00:00:00Z and 2035-01-01T00:00:00Z, which are the first and the last second of the validity, and 2030-01-01T00:00:00Z
 FIRST, LAST, NOW = 1_735_689_600, 2_051_222_400, 1_893_456_000
@@ -25,9 +27,9 @@ DATES = (datetime.datetime(2025, 1, 1, tzinfo=UTC), datetime.datetime(2035, 1, 1
 PAST = (datetime.datetime(2025, 1, 1, tzinfo=UTC), datetime.datetime(2026, 1, 1, tzinfo=UTC))
 SHA256 = hashes.SHA256()
 # How DER spells the AlgorithmIdentifiers of RSA with SHA-1, SHA-256 and SHA-384 (RFC 8017 A.2.4).
-RSA_SHA1, RSA_SHA256, RSA_SHA384 = (bytes.fromhex(f"300D06092A864886F70D0101{last}0500") for last in ("05", "0B", "0C"))
+RSA_SHA1, RSA_SHA256, RSA_SHA384 = (sequence(object_identifier(1, 2, 840, 113549, 1, 1, last), NULL) for last in (5, 11, 12))
 # of ECDSA with SHA-256 (RFC 5758 3.2)
-ECDSA_SHA256 = bytes.fromhex("300A06082A8648CE3D040302")
+ECDSA_SHA256 = sequence(object_identifier(1, 2, 840, 10045, 4, 3, 2))
 TAKEN = "rsa_sha256 rsa_sha384 rsa_sha512 pss_sha256 pss_sha384 pss_sha512 ecdsa_sha256 ecdsa_sha384 ecdsa_sha512 ed25519".split()
 OTHERS = "rsa_sha224 rsa_sha3 rsa_1024 pss_salt_20 pss_mask_sha512 ecdsa_sha224 ecdsa_p224 ed448 dsa".split()
 
@@ -202,16 +204,9 @@ def der(certificate):
     return certificate.public_bytes(serialization.Encoding.DER)
 
 
-def element(tag, content):
-    """The DER of an element."""
-    size = len(content)
-    octets = size.to_bytes((size.bit_length() + 7) // 8, "big")
-    return bytes([tag]) + (bytes([size]) if size < 128 else bytes([0x80 + len(octets)]) + octets) + content
-
-
 def joined(part, algorithm, bits):
     """The DER of a certificate, of its three parts."""
-    return element(0x30, part + algorithm + element(0x03, b"\0" + bits))
+    return sequence(part, algorithm, bit_string(bits))
 
 
 def spoilt(data):
@@ -273,13 +268,13 @@ class Maker:
         front = bytes.fromhex("0382010F00")
         self.files["root_key_spoilt"] = replaced(self.files["root"], front + b"\x30", front + b"\x31")
         # Its algorithm has NULL for parameters (RFC 3279 2.3.1), and no OCTET STRING.
-        of_rsa = bytes.fromhex("06092A864886F70D010101")
-        self.files["root_key_with_parameters"] = replaced(self.files["root"], of_rsa + b"\x05\x00", of_rsa + b"\x04\x00")
+        of_rsa = object_identifier(1, 2, 840, 113549, 1, 1, 1)
+        self.files["root_key_with_parameters"] = replaced(self.files["root"], of_rsa + NULL, of_rsa + octet_string())
         # The same key, but for signatures of PSS alone (RFC 4055 1.2): without parameters, two octets shorter.
         usual, other = (bytes.fromhex(it) for it in ("30820122300D06092A864886F70D0101010500", "30820120300B06092A864886F70D01010A"))
         content = x509.load_der_x509_certificate(self.files["root"]).tbs_certificate_bytes[4:]
         assert content.count(usual) == 1
-        self.files["root_key_for_pss"] = joined(element(0x30, content.replace(usual, other)), RSA_SHA256, b"")
+        self.files["root_key_for_pss"] = joined(sequence(content.replace(usual, other)), RSA_SHA256, b"")
 
     def make_intermediates(self):
         constraints, usage = authority(0)
@@ -299,7 +294,7 @@ class Maker:
             self.add(f"intermediate_{name}", self.intermediate, self.root, extensions)
         self.add("intermediate_x25519", Party("Intermediate", x25519.X25519PrivateKey.generate()), self.root, authority(0))
         point = self.intermediate.key.public_key().public_bytes(serialization.Encoding.X962, serialization.PublicFormat.UncompressedPoint)
-        of_curves, of_none = bytes.fromhex("06072A8648CE3D0201"), bytes.fromhex("06072A8648CE3D0209")
+        of_curves, of_none = (object_identifier(1, 2, 840, 10045, 2, last) for last in (1, 9))
         self.files["intermediate_off_curve"] = replaced(self.files["intermediate"], point, spoilt(point))
         self.files["intermediate_unknown_key"] = replaced(self.files["intermediate"], of_curves, of_none)
 
@@ -309,7 +304,7 @@ class Maker:
         two = [(x509.UnrecognizedExtension(oid, b"\x05\x00"), False) for oid in oids]
         certificate = issue(self.intermediate, self.root, authority(0) + two)
         again = lambda old, new, *digest: signed_again(certificate, old, new, self.root.key, *digest)
-        self.files["intermediate_repeated"] = again(b"\x06\x03\x2a\x03\x05", b"\x06\x03\x2a\x03\x04")
+        self.files["intermediate_repeated"] = again(object_identifier(1, 2, 3, 5), object_identifier(1, 2, 3, 4))
         self.files["intermediate_printable"] = again(b"\x0c\x04Root", b"\x13\x04Root")
         self.files["intermediate_two_algorithms"] = again(RSA_SHA256, RSA_SHA384)
         self.files["intermediate_sha1"] = replaced(again(RSA_SHA256, RSA_SHA1, hashes.SHA1()), RSA_SHA256, RSA_SHA1)
@@ -405,7 +400,9 @@ class Maker:
 
 
 def main():
-    folder = pathlib.Path(sys.argv[1])
+    parser = argparse.ArgumentParser(description=__doc__, formatter_class=argparse.RawDescriptionHelpFormatter)
+    parser.add_argument("folder", metavar="FOLDER", type=pathlib.Path, help="where the files go")
+    folder = parser.parse_args().folder
     folder.mkdir(parents=True, exist_ok=True)
     maker = Maker()
     maker.make_path()

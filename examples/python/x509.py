@@ -113,7 +113,8 @@ class Library:
         return [(it.oid.of(data), bool(it.critical), it.value.of(data)) for it in entries]
 
     def general_names(self, data):
-        """Of each name of a GeneralNames the number of its kind, and the octets that it holds; of an otherName those of its type's identifier, and its value."""
+        """Of each name of a GeneralNames the number of its kind, and the octets that it holds; of an otherName those of its type's identifier, and
+        its value."""
         found = self.walk("x509_general_names_next", GeneralName, data)
         return [(it.kind, (it.type_id.of(data), it.value.of(data)) if it.kind == OTHER else it.content.of(data)) for it in found]
 

@@ -1,4 +1,4 @@
-//! Links with the C library, in the folder that `X509_LIBRARY` names (`tools/link_c_library.sh FOLDER`).
+//! Links with the C library, in the folder that `X509_LIBRARY` names (`tools/build/link_c_library.sh FOLDER`).
 use std::env;
 
 fn main() {

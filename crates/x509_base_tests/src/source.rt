@@ -13,7 +13,11 @@ pub(crate) struct Source {
 }
 
 impl Rng for Source {
-    ghost stream = { stream_of (record { next_u32 = λ s. (0, s); next_u64 = λ s. (0, s); fill_bytes = λ n s. (replicate n (if nat_lt s.fills s.zeros then 0 else 1), record { fills = (s.fills + 1) % 2 ^ 32; zeros = s.zeros }) }) };
+    ghost stream = { stream_of (record {
+      next_u32 = λ s. (0, s);
+      next_u64 = λ s. (0, s);
+      fill_bytes = λ n s. (replicate n (if nat_lt s.fills s.zeros then 0 else 1), record { fills = (s.fills + 1) % 2 ^ 32; zeros = s.zeros });
+    }) };
 
     fn next_u32(&mut self) -> u32 {
         0

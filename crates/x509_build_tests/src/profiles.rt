@@ -39,7 +39,10 @@ impl BuilderProfile for Picky {
 
     ghost subject_of = { λ profile. record { value = []; refuses = λ e. ⊥ } };
 
-    ghost extensions_of = { λ profile key issuer part. record { value = if profile.puts_in then (record { extn_id = 0x2A ∷ 3 ∷ 6 ∷ []; critical = false; extn_value = 0xAA ∷ [] } ∷ []) else []; refuses = λ e. (issuer.subject_public_key.octets ≡ 97 ∷ 98 ∷ 100 ∷ []) × (e ≡ Asn1 (record { kind = Failed })) } };
+    ghost extensions_of = { λ profile key issuer part. record {
+      value = if profile.puts_in then (record { extn_id = 0x2A ∷ 3 ∷ 6 ∷ []; critical = false; extn_value = 0xAA ∷ [] } ∷ []) else [];
+      refuses = λ e. (issuer.subject_public_key.octets ≡ 97 ∷ 98 ∷ 100 ∷ []) × (e ≡ Asn1 (record { kind = Failed }));
+    } };
 
     fn get_issuer(&self, alloc: Global, _subject: &Name) -> Result<Name> {
         if self.has_issuer {

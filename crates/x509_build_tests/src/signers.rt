@@ -51,7 +51,10 @@ impl Signer for Echo {
 
     ghost algorithm_of = { λ signer. record { oid = 0x2A ∷ 3 ∷ 4 ∷ []; parameters = None } };
 
-    ghost key_of = { λ signer. record { algorithm = record { oid = 0x2A ∷ 3 ∷ 4 ∷ []; parameters = None }; subject_public_key = parts_of 0 (97 ∷ 98 ∷ signer.last ∷ []) } };
+    ghost key_of = { λ signer. record {
+      algorithm = record { oid = 0x2A ∷ 3 ∷ 4 ∷ []; parameters = None };
+      subject_public_key = parts_of 0 (97 ∷ 98 ∷ signer.last ∷ []);
+    } };
 
     ghost signs = { λ signer message bits. bits ≡ parts_of 0 message };
 

@@ -151,7 +151,7 @@ def _library() -> ctypes.CDLL:
     if _loaded is None:
         found = os.environ.get("X509_LIBRARY") or ctypes.util.find_library("x509")
         if found is None:
-            raise ImportError("libx509.so isn't found: install it (tools/install_c.sh), or name it in X509_LIBRARY")
+            raise ImportError("libx509.so isn't found: install it (tools/build/install_c.sh), or name it in X509_LIBRARY")
         _loaded = ctypes.CDLL(found)
     return _loaded
 

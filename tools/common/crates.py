@@ -1,0 +1,43 @@
+"""The crates of the repository: what each stands on (crates.txt), and what its proofs cost (docs/GATE.md)."""
+import pathlib
+import re
+
+TOP = pathlib.Path(__file__).resolve().parents[2]
+
+
+def crates_below():
+    """The crates of the repository that each crate names."""
+    named = {}
+    for line in (TOP / "crates.txt").read_text(encoding="utf-8").splitlines():
+        name, colon, deps = line.partition("#")[0].partition(":")
+        if colon:
+            named[name.split()[0]] = deps.split()
+    return {name: [it for it in deps if it in named] for name, deps in named.items()}
+
+
+def path_of(name, named):
+    """The crate and all that it stands on."""
+    found, todo = set(), [name]
+    while todo:
+        crate = todo.pop()
+        if crate not in found:
+            found.add(crate)
+            todo += named[crate]
+    return found
+
+
+def costs():
+    """The processor seconds that the proofs of each crate took, as docs/GATE.md has them."""
+    text = (TOP / "docs" / "GATE.md").read_text(encoding="utf-8")
+    return {name: int(seconds) for name, seconds in re.findall(r"^\| `(x509_\w+)` \| (\d+) \|", text, re.M)}
+
+
+def cost_of(crates):
+    """The processor seconds of the proofs of these crates; a crate without a record has the mean of the others."""
+    known = costs()
+    mean = sum(known.values()) / max(1, len(known))
+    return sum(known.get(it, mean) for it in crates)
+
+
+def minutes_of(crates):
+    return max(1, round(cost_of(crates) / 60))

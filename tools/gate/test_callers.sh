@@ -1,0 +1,196 @@
+#!/usr/bin/env bash
+# Tries ./x509_tool, builds the C library and the callers of examples/, and runs them on a certificate, on bad input, on hostile payloads of
+# extensions and on paths, under valgrind and with sanitizers where these are there. What isn't installed is left out, with a line that says so. What
+# they print is compared with what Python's `cryptography` says (examples/data/make.py), and with what tools/robustness/hostile_payloads.py and
+# examples/data/make_path.py state by hand. Before that it checks the rows, the snippets of README.md and the names in docs/PROMISES.md.
+set -eu
+top=$(cd "$(dirname "${BASH_SOURCE[0]}")/../.." && pwd)
+gate=$top/tools/gate
+robustness=$top/tools/robustness
+folder=$(mktemp -d)
+trap 'rm -rf "$folder"' EXIT
+data=$top/examples/data
+files=("$data/certificate.der" "$data/list.der" "$data/request.der")
+rows=("$top/crates/x509_rows/stdin" "$top/crates/x509_rows/stdout")
+failed=0
+
+has() {
+    command -v "$1" >/dev/null || {
+        echo "left out, since $1 isn't installed: $2"
+        return 1
+    }
+}
+
+# usage: wants NAME STATUS FILE WORDS..: a run ends with a status, and prints what a file holds
+wants() {
+    local name=$1 status=$2 file=$3 ended=0
+    shift 3
+    "$@" >"$folder/printed" 2>"$folder/said" || ended=$?
+    if [ "$ended" != "$status" ] || ! cmp -s "$folder/printed" "$file"; then
+        echo "failed: $name: status $ended, and not $status, or other lines than $file:"
+        cat "$folder/printed" "$folder/said"
+        failed=1
+    elif [ -z "${quiet:-}" ]; then
+        echo "passed: $name"
+    fi
+}
+
+# usage: show NAME WORDS..: the caller prints the certificate, and refuses what is none
+show() {
+    local name=$1
+    shift
+    wants "$name, a certificate" 0 "$data/expected.txt" "$@" "$data/certificate.der"
+    wants "$name, nothing" 1 "$folder/refused.txt" "$@" "$folder/nothing"
+    wants "$name, one byte" 1 "$folder/refused.txt" "$@" "$folder/one"
+    wants "$name, a byte too few" 1 "$folder/refused.txt" "$@" "$folder/short"
+}
+
+# usage: hostile NAME WORDS..: the caller prints what is stated of each certificate with a hostile payload
+hostile() {
+    local name=$1 at before=$failed count=0
+    shift
+    [ -d "$folder/hostile" ] || return 0
+    failed=0
+    for at in "$folder"/hostile/*.der; do
+        quiet=1 wants "$name, $(basename "$at")" "$(cat "${at%.der}.status")" "${at%.der}.txt" "$@" "$at"
+        count=$((count + 1))
+    done
+    [ "$failed" != 0 ] || echo "passed: $name, $count certificates that are hostile or unusual"
+    failed=$((failed | before))
+}
+
+# usage: payloads NAME WORDS..: the caller prints what is stated of hostile payloads that nothing has checked, and of spoilt ones what that in Python does
+payloads() {
+    local name=$1
+    shift
+    [ -d "$folder/hostile" ] || return 0
+    wants "$name, hostile payloads" 0 "$folder/hostile/payloads.txt" "$@" "$folder/hostile/payloads"
+    wants "$name, spoilt payloads" 0 "$folder/hostile/spoilt.txt" "$@" "$folder/hostile/spoilt"
+}
+
+# usage: paths FOLDER NAME WORDS..: the checker of paths prints what is stated of each path of the folder
+paths() {
+    local cases=$folder/$1
+    shift
+    [ ! -d "$cases" ] || python3 -B "$robustness/check_paths.py" "$cases" "$@" || failed=1
+}
+
+# openssl takes the path as it should be
+accept_path() {
+    local name
+    for name in root intermediate server; do
+        openssl x509 -inform DER -in "$folder/paths/$name.der" -out "$folder/$name.pem"
+    done
+    echo "$folder/server.pem: OK" >"$folder/accepted.txt"
+    wants "openssl, the path as it should be" 0 "$folder/accepted.txt" openssl verify -x509_strict -partial_chain -attime 1893456000 \
+        -trusted "$folder/root.pem" -untrusted "$folder/intermediate.pem" "$folder/server.pem"
+}
+
+echo 'certificate: refused with 2' >"$folder/refused.txt"
+echo 'all calls answer as they should' >"$folder/calls.txt"
+: >"$folder/nothing"
+printf '0' >"$folder/one"
+head -c -1 "$data/certificate.der" >"$folder/short"
+
+if has python3 "hostile payloads, the rows, the snippets of README.md, the names in docs/PROMISES.md, and ./x509_tool"; then
+    python3 -B "$gate/make_rows.py" --check || failed=1
+    python3 -B "$gate/check_readme_snippets.py" || failed=1
+    python3 -B "$gate/check_promises.py" || failed=1
+    python3 -B "$gate/test_first_command.py" real || failed=1
+    python3 -B "$robustness/hostile_payloads.py" "$folder/hostile"
+    rules=("$data/certificate.der" "$data/list.der" "$folder/hostile/generalized_time_before_2050.der")
+    if python3 -c 'import cryptography' 2>"$folder/said"; then
+        python3 -B "$data/make_path.py" "$folder/paths"
+        ! has openssl "its answer to the path" || accept_path
+    else
+        echo "left out, since Python's cryptography isn't installed: paths"
+    fi
+fi
+
+has "${CC:-cc}" "all callers" || exit "$failed"
+"$top/tools/build/link_c_library.sh" "$folder"
+if [ -d "$folder/hostile" ]; then
+    python3 -B "$top/examples/python/payloads.py" "$folder/libx509.so" "$folder/hostile/spoilt" >"$folder/hostile/spoilt.txt"
+fi
+[ ! -d "$folder/paths" ] || python3 -B "$robustness/spoil_paths.py" "$folder/paths" "$folder/spoilt" "$folder/libx509.so" || failed=1
+
+compiler=("${CC:-cc}" -std=c11 -Wall -Wextra -Werror -O1 -g -I "$top/include")
+callers=(show calls rules payloads)
+printf '%s\n' '#include <openssl/evp.h>' 'int main(void) { return EVP_DigestVerifyInit_ex == NULL; }' >"$folder/tried.c"
+if "${CC:-cc}" "$folder/tried.c" -lcrypto -o "$folder/tried" 2>"$folder/said"; then
+    callers+=(path)
+else
+    echo "left out, since libcrypto 3 with its headers isn't installed: paths in C"
+fi
+
+# usage: compile SUFFIX FLAGS..: the callers in C
+compile() {
+    local suffix=$1 name libraries
+    shift
+    for name in "${callers[@]}"; do
+        libraries=("$folder/libx509_c.a" "$folder/liblibc_c.a")
+        [ "$name" != path ] || libraries+=(-lcrypto)
+        "${compiler[@]}" "$@" "$top/examples/c/$name.c" "${libraries[@]}" -o "$folder/$name$suffix"
+    done
+}
+
+# usage: run_c NAME SUFFIX WORDS..: the callers in C, behind these words
+run_c() {
+    local name=$1 suffix=$2
+    shift 2
+    show "$name" "$@" "$folder/show$suffix"
+    wants "$name, each call" 0 "$folder/calls.txt" "$@" "$folder/calls$suffix" "${files[@]}"
+    hostile "$name" "$@" "$folder/show$suffix"
+    payloads "$name" "$@" "$folder/payloads$suffix"
+    [ -z "${rules:-}" ] || wants "$name, the rules of the header" 0 "$folder/calls.txt" "$@" "$folder/rules$suffix" "${rules[@]}"
+    [ ! -e "$folder/path$suffix" ] || paths paths "$name" "$@" "$folder/path$suffix"
+}
+
+# usage: run_spoilt NAME SUFFIX: the checker of paths in C says of spoilt paths what that in Python does
+run_spoilt() {
+    [ ! -e "$folder/path$2" ] || paths spoilt "$1, spoilt" "$folder/path$2"
+}
+
+compile ""
+run_c "C" ""
+run_spoilt "C" ""
+sanitizers=(-fsanitize=address,undefined -fno-sanitize-recover=all)
+if echo 'int main(void) { return 0; }' | "${CC:-cc}" -x c "${sanitizers[@]}" - -o "$folder/tried" 2>"$folder/said" && "$folder/tried" 2>"$folder/said"; then
+    compile "_sanitized" "${sanitizers[@]}"
+    run_c "C with sanitizers" "_sanitized"
+    run_spoilt "C with sanitizers" "_sanitized"
+else
+    echo "left out, since ${CC:-cc} lacks them: runs with AddressSanitizer and UBSan"
+fi
+"${compiler[@]}" "$robustness/refuse_memory.c" -Wl,--wrap=malloc,--wrap=realloc,--wrap=free \
+    "$folder/libx509_c.a" "$folder/liblibc_c.a" -o "$folder/refuse_memory"
+wants "C, each allocation refused, also of each row" 0 "$folder/calls.txt" "$folder/refuse_memory" "${files[@]}" "${rows[@]}"
+if has valgrind "runs that look for leaks and bad reads"; then
+    watched=(valgrind -q --error-exitcode=9 --leak-check=full)
+    run_c "C under valgrind" "" "${watched[@]}"
+    wants "C under valgrind, each allocation refused" 0 "$folder/calls.txt" "${watched[@]}" "$folder/refuse_memory" "${files[@]}"
+fi
+
+if has cargo "the caller in Rust"; then
+    X509_LIBRARY=$folder CARGO_TARGET_DIR=$folder/target cargo build -q --offline --manifest-path "$top/examples/rust/Cargo.toml"
+    show "Rust" "$folder/target/debug/show"
+    hostile "Rust" "$folder/target/debug/show"
+    payloads "Rust" "$folder/target/debug/payloads"
+    if X509_LIBRARY=$folder CARGO_TARGET_DIR=$folder/target cargo test -q --offline --manifest-path "$top/examples/rust/Cargo.toml" >"$folder/said" 2>&1; then
+        echo "passed: Rust, the tests of the wrapper"
+    else
+        echo "failed: Rust, the tests of the wrapper:"
+        cat "$folder/said"
+        failed=1
+    fi
+fi
+
+if has python3 "the caller in Python, and wide and deep values"; then
+    show "Python" python3 -B "$top/examples/python/show.py" "$folder/libx509.so"
+    hostile "Python" python3 -B "$top/examples/python/show.py" "$folder/libx509.so"
+    payloads "Python" python3 -B "$top/examples/python/payloads.py" "$folder/libx509.so"
+    paths paths "Python" python3 -B "$top/examples/python/path.py" "$folder/libx509.so"
+    python3 -B "$robustness/hostile_sizes.py" --rows "$folder"
+    wants "C, each allocation refused of wide and deep values" 0 "$folder/calls.txt" "$folder/refuse_memory" "${files[@]}" "$folder/rows" "$folder/answers"
+fi
+exit "$failed"

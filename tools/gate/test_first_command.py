@@ -1,0 +1,131 @@
+#!/usr/bin/env python3
+"""Tests `./x509_tool` and the tools behind it, in a copy of the scripts with a stand-in for `rt` that answers as `rt try`, `rt lib` and `rt run` do. With the
+word `real` it also runs the sources by `rt` itself, on a value, on bad input, and on input whose answer is over the limit of an unproved run.
+"""
+import argparse
+import os
+import pathlib
+import shutil
+import subprocess
+import sys
+import tempfile
+import time
+
+TOP = pathlib.Path(__file__).resolve().parents[2]
+BUILD, RUN = "tools/build/build_program.py", "tools/build/run_unproved.py"
+SCRIPTS = ("x509_tool", "crates.txt", "HANDLES", "docs/GATE.md", "tools/common/crates.py", BUILD, RUN)
+# Answers by the words that the test hands on: VERB in the first line, then what `rt` prints on each stream, and its status.
+STAND_IN = r"""#!/usr/bin/env python3
+import os, sys
+words = sys.argv[1:]
+crate = os.path.basename(os.getcwd())
+if words[0] == "try":
+    said = {
+        "good": ("0603550406\n", "checked: ended status=0\nrun=ended status=0 runners=1 proved=no\n", 0),
+        "bad": ("refused: Malformed\n", "checked: ended status=1\nrun=ended status=1 runners=1 proved=no\n", 1),
+        "told": ("", "said by the program\nchecked: ended status=2\nrun=ended status=2 runners=1 proved=no\n", 2),
+        "long": ("", "checked: no-answer: the program wrote more than 1048576 bytes\nrun=no-answer proved=no\n", 6),
+        "broken": ("", "error: src/main.rt:3:1: no such name\nrun=none proved=no\n", 1),
+    }[words[-1]]
+    if sys.stdin.read() != "input\n":
+        sys.exit(9)
+    sys.stdout.write(said[0])
+    sys.stderr.write(said[1])
+    sys.exit(said[2])
+if crate == os.environ.get("FAILS"):
+    print("not proved")
+    sys.exit(1)
+os.makedirs("out/rlib", exist_ok=True)
+if words[0] == "run":
+    with open("out/x509_tool", "w") as it:
+        it.write("#!/bin/sh\necho proved $*\nexit 5\n")
+    os.chmod("out/x509_tool", 0o755)
+"""
+failed = []
+
+
+def check(what, held, said=""):
+    print(f"{'passed' if held else 'failed'}: {what}")
+    if not held:
+        failed.append(what)
+        print(said)
+
+
+def run(words, top, given=b"input\n", **more):
+    return subprocess.run(words, cwd=top, input=given, capture_output=True, check=False, env={**os.environ, **more})
+
+
+def copy_of_scripts(folder):
+    """A repository of the scripts, with a source in each crate's folder."""
+    for file in SCRIPTS:
+        (folder / file).parent.mkdir(parents=True, exist_ok=True)
+        shutil.copy(TOP / file, folder / file)
+    for crate in os.listdir(TOP / "crates"):
+        source = folder / "crates" / crate / "src" / "lib.rt"
+        source.parent.mkdir(parents=True)
+        source.touch()
+    stand_in = folder / "bin" / "rt"
+    stand_in.parent.mkdir()
+    stand_in.write_text(STAND_IN, encoding="ascii")
+    stand_in.chmod(0o755)
+    return {"PATH": f"{stand_in.parent}:{os.environ['PATH']}"}
+
+
+def unproved(top, more):
+    """Without a program, or with one that is older than a source."""
+    for word, status, printed in (("good", 0, b"0603550406\n"), ("bad", 1, b"refused: Malformed\n")):
+        ended = run(["./x509_tool", word], top, **more)
+        one_line = ended.stderr.count(b"\n") == 1 and b"unproved" in ended.stderr
+        check(f"unproved, {word}", (ended.returncode, ended.stdout) == (status, printed) and one_line, ended)
+    ended = run(["./x509_tool", "told"], top, **more)
+    own = ended.stderr.splitlines()[1:]
+    check("unproved, what the program says on standard error", (ended.returncode, own) == (2, [b"said by the program"]), ended)
+    for word in ("long", "broken"):
+        ended = run(["./x509_tool", word], top, **more)
+        check(f"unproved, no answer: {word}", (ended.returncode, ended.stdout) == (3, b"") and b"no answer" in ended.stderr, ended)
+
+
+def built(top, more):
+    """The build, one that fails, and the program that it leaves."""
+    ended = run([BUILD, "x509_tool"], top, FAILS="x509_name", **more)
+    check("a crate that isn't proved ends the build", ended.returncode == 1 and b"not proved" in ended.stderr, ended)
+    check("and leaves no program", not (top / "crates/x509_tool/out/x509_tool").exists())
+    ended = run([BUILD, "x509_tool"], top, **more)
+    lines = ended.stderr.decode().splitlines()
+    check("the build tells each crate, and ends at all", ended.returncode == 0 and len(lines) > 20 and lines[-1].endswith("100%"), ended)
+    ended = run(["./x509_tool", "some", "words"], top, **more)
+    check("the proved program runs", (ended.returncode, ended.stdout, ended.stderr) == (5, b"proved some words\n", b""), ended)
+    later = time.time() + 5
+    os.utime(top / "crates/x509_name/src/lib.rt", (later, later))
+    ended = run(["./x509_tool", "good"], top, **more)
+    check("a source that is newer makes it stale", (ended.returncode, ended.stdout) == (0, b"0603550406\n"), ended)
+
+
+def real():
+    """By `rt` itself."""
+    tool = [TOP / RUN, "x509_tool", "reencode"]
+    for given, words, status, printed in ((b"0603550406\n", ["oid"], 0, b"0603550406\n"), (b"06035504\n", ["oid"], 1, b"refused: Malformed\n")):
+        ended = run(tool + words, TOP, given)
+        check(f"the sources answer {printed}", (ended.returncode, ended.stdout) == (status, printed), ended)
+    octets = b"04830F4240" + b"00" * 1_000_000 + b"\n"
+    ended = run(tool + ["any"], TOP, octets)
+    is_none = (ended.returncode, ended.stdout) == (3, b"") and b"no answer" in ended.stderr
+    check("an answer of 2 MB is none, and nothing is printed", is_none, ended.stderr[-300:])
+
+
+def main():
+    parser = argparse.ArgumentParser(description=__doc__)
+    parser.add_argument("real", nargs="?", choices=["real"], help="run the sources by `rt` itself too")
+    given = parser.parse_args()
+    with tempfile.TemporaryDirectory() as folder:
+        top = pathlib.Path(folder)
+        more = copy_of_scripts(top)
+        unproved(top, more)
+        built(top, more)
+    if given.real:
+        real()
+    return 1 if failed else 0
+
+
+if __name__ == "__main__":
+    sys.exit(main())
