@@ -4,7 +4,7 @@ use std::alloc::Global;
 use std::cmp::Ordering;
 use x509_der_frames::Standard;
 use x509_der_grammar::{Content, Error, Room, Spelled, Tag, TryClone};
-use x509_der_order::ValueOrd;
+use x509_der_order::{EncodingOrd, SetMember, SetOrd, ValueOrd};
 use x509_prim::{NamedNumber, cmp_named_numbers, put_named_number, read_named_number};
 
 /// The version of a certificate (RFC 5280 4.1.2.1). It is V1 where the field is absent. That a certificate has no field
@@ -98,6 +98,16 @@ impl ValueOrd for Version {
     }
 
     ghost ordered = { named_ordered Integer version_names (writes plain) };
+}
+
+impl SetOrd for Version {
+    ghost set_order = { ⟦<Version as EncodingOrd>⟧.encoding_order };
+}
+
+impl SetMember for Version {
+    ghost use Rattle.std.specs.Prelude.{refl};
+
+    ghost in_der_order = { refl };
 }
 
 impl Standard for Version {

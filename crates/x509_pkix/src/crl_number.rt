@@ -7,7 +7,7 @@ ghost use Rattle.x509_prim.specs.Integer.{integer_value, natural_below};
 use std::alloc::Global;
 use x509_der::{AssociatedOid, ObjectIdentifier};
 use x509_der_grammar::{Error, Newtype};
-use x509_der_order::NewtypeOrd;
+use x509_der_order::{EncodingOrd, NewtypeOrd, SetMember, SetOrd};
 use x509_ext_frame::{Criticality, Extension, Name, id_ce};
 use x509_prim::Uint;
 
@@ -127,6 +127,16 @@ impl Newtype for CrlNumber {
 
 impl NewtypeOrd for CrlNumber {}
 
+impl SetOrd for CrlNumber {
+    ghost set_order = { ⟦<CrlNumber as EncodingOrd>⟧.encoding_order };
+}
+
+impl SetMember for CrlNumber {
+    ghost use Rattle.std.specs.Prelude.{refl};
+
+    ghost in_der_order = { refl };
+}
+
 impl From<Uint> for CrlNumber {
     ghost from_gives = { λ number crl. crl.0 ≡ number };
 
@@ -225,6 +235,16 @@ impl Newtype for BaseCrlNumber {
 }
 
 impl NewtypeOrd for BaseCrlNumber {}
+
+impl SetOrd for BaseCrlNumber {
+    ghost set_order = { ⟦<BaseCrlNumber as EncodingOrd>⟧.encoding_order };
+}
+
+impl SetMember for BaseCrlNumber {
+    ghost use Rattle.std.specs.Prelude.{refl};
+
+    ghost in_der_order = { refl };
+}
 
 impl From<Uint> for BaseCrlNumber {
     ghost from_gives = { λ number base. base.0 ≡ number };

@@ -4,7 +4,7 @@ use bitflags::{Flag, Flags, bitflag_items};
 use std::alloc::Global;
 use std::cmp::Ordering;
 use x509_der_grammar::{Content, Error, Room, Spelled, Tag, TryClone};
-use x509_der_order::ValueOrd;
+use x509_der_order::{EncodingOrd, SetMember, SetOrd, ValueOrd};
 use x509_prim::{cmp_named_bits, put_named_bits, read_named_bits};
 
 /// A set of revocation reasons, of which bit n stands for the named bit n (RFC 5280 4.2.1.13). A bit from 9 on has no
@@ -138,6 +138,16 @@ impl ValueOrd for Reasons {
     }
 
     ghost ordered = { flag_ordered reason_set reason_names (writes (flag_writing reason_set reason_names)) };
+}
+
+impl SetOrd for Reasons {
+    ghost set_order = { ⟦<Reasons as EncodingOrd>⟧.encoding_order };
+}
+
+impl SetMember for Reasons {
+    ghost use Rattle.std.specs.Prelude.{refl};
+
+    ghost in_der_order = { refl };
 }
 
 impl TryClone for Reasons {

@@ -2,7 +2,7 @@
 
 use x509_der::{AssociatedOid, ObjectIdentifier};
 use x509_der_grammar::Newtype;
-use x509_der_order::NewtypeOrd;
+use x509_der_order::{EncodingOrd, NewtypeOrd, SetMember, SetOrd};
 use x509_ext_frame::{Criticality, Extension, Name, id_ce};
 
 /// The OID of [`InhibitAnyPolicy`], 2.5.29.54.
@@ -53,6 +53,16 @@ impl Newtype for InhibitAnyPolicy {
 }
 
 impl NewtypeOrd for InhibitAnyPolicy {}
+
+impl SetOrd for InhibitAnyPolicy {
+    ghost set_order = { ⟦<InhibitAnyPolicy as EncodingOrd>⟧.encoding_order };
+}
+
+impl SetMember for InhibitAnyPolicy {
+    ghost use Rattle.std.specs.Prelude.{refl};
+
+    ghost in_der_order = { refl };
+}
 
 impl From<u32> for InhibitAnyPolicy {
     ghost use Rattle.std.specs.Prelude.{◌≡◌};

@@ -1,6 +1,6 @@
 //! A type with one field, a list of OIDs.
 
-use x509_der::{Newtype, NewtypeOrd, ObjectIdentifier, SequenceOf};
+use x509_der::{EncodingOrd, Newtype, NewtypeOrd, ObjectIdentifier, SequenceOf, SetMember, SetOrd};
 
 /// What something may be used for.
 ///
@@ -27,3 +27,13 @@ impl Newtype for Purposes {
 }
 
 impl NewtypeOrd for Purposes {}
+
+impl SetOrd for Purposes {
+    ghost set_order = { ⟦<Purposes as EncodingOrd>⟧.encoding_order };
+}
+
+impl SetMember for Purposes {
+    ghost use Rattle.std.specs.Prelude.{refl};
+
+    ghost in_der_order = { refl };
+}
