@@ -25,25 +25,13 @@ use x509_prim::OctetString;
 
 /// Types of trusted platform modules (Trusted Computing Group).
 pub mod tcgtpm {
-    use x509_der::ObjectIdentifier;
+    use x509_der::{ObjectIdentifier, oid};
 
     /// A module of version 1.2: tcg-sv-tpm12, 2.23.133.1.0.
-    pub const TCG_SV_TPM_12: ObjectIdentifier = ObjectIdentifier {
-        len: 5,
-        octets: [
-            0x67, 0x81, 0x05, 0x01, 0x00, 0, 0, 0, 0, 0, 0, 0, 0, 0, 0, 0, 0, 0, 0, 0, 0, 0, 0, 0,
-            0, 0, 0, 0, 0, 0, 0, 0, 0, 0, 0, 0, 0, 0, 0,
-        ],
-    };
+    pub const TCG_SV_TPM_12: ObjectIdentifier = oid!(0x67, 0x81, 0x05, 0x01, 0x00);
 
     /// A module of version 2.0: tcg-sv-tpm20, 2.23.133.1.2.
-    pub const TCG_SV_TPM_20: ObjectIdentifier = ObjectIdentifier {
-        len: 5,
-        octets: [
-            0x67, 0x81, 0x05, 0x01, 0x02, 0, 0, 0, 0, 0, 0, 0, 0, 0, 0, 0, 0, 0, 0, 0, 0, 0, 0, 0,
-            0, 0, 0, 0, 0, 0, 0, 0, 0, 0, 0, 0, 0, 0, 0,
-        ],
-    };
+    pub const TCG_SV_TPM_20: ObjectIdentifier = oid!(0x67, 0x81, 0x05, 0x01, 0x02);
 }
 
 /// The version of a trusted platform module.

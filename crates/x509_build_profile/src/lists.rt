@@ -8,21 +8,21 @@ ghost use Rattle.x509_der_grammar.specs.Writing.{writes};
 use crate::Result;
 use std::alloc::Global;
 use x509_base::SubjectPublicKeyInfoRef;
-use x509_der::{AssociatedOid, ObjectIdentifier};
+use x509_der::{AssociatedOid, ObjectIdentifier, oid};
 use x509_der_frames::SequenceOf;
 use x509_der_grammar::{Encode, Error as DerError};
 use x509_ext::pkix::{
     AuthorityKeyIdentifier, BasicConstraints, ExtendedKeyUsage, KeyUsage, KeyUsages,
     SubjectAltName, SubjectKeyIdentifier,
 };
-use x509_ext_frame::{Criticality, Extension, ToExtension, id_pkix};
+use x509_ext_frame::{Criticality, Extension, ToExtension};
 use x509_name::name::Name;
 
 /// The purpose of TLS servers, id-kp-serverAuth, 1.3.6.1.5.5.7.3.1 (RFC 5280 4.2.1.12).
-const SERVER_AUTH: ObjectIdentifier = id_pkix!(3, 1);
+const SERVER_AUTH: ObjectIdentifier = oid!(0x2B, 0x06, 0x01, 0x05, 0x05, 0x07, 3, 1);
 
 /// The purpose of TLS clients, id-kp-clientAuth, 1.3.6.1.5.5.7.3.2 (RFC 5280 4.2.1.12).
-const CLIENT_AUTH: ObjectIdentifier = id_pkix!(3, 2);
+const CLIENT_AUTH: ObjectIdentifier = oid!(0x2B, 0x06, 0x01, 0x05, 0x05, 0x07, 3, 2);
 
 /// Puts the extension of a value behind those that stand, as critical as the value says (RFC 5280 4.2).
 fn push<T: AssociatedOid + Criticality + Encode>(

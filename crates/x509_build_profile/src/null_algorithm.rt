@@ -4,16 +4,10 @@ ghost use Rattle.std.specs.Prelude.{◌≡◌};
 ghost use Rattle.x509_build_profile.specs.Parts.{no_algorithm};
 
 use x509_base::AlgorithmIdentifier;
-use x509_der::ObjectIdentifier;
+use x509_der::{ObjectIdentifier, oid};
 
 /// 0.0.0, which names no algorithm.
-const NULL_OID: ObjectIdentifier = ObjectIdentifier {
-    len: 2,
-    octets: [
-        0, 0, 0, 0, 0, 0, 0, 0, 0, 0, 0, 0, 0, 0, 0, 0, 0, 0, 0, 0, 0, 0, 0, 0, 0, 0, 0, 0, 0, 0,
-        0, 0, 0, 0, 0, 0, 0, 0, 0,
-    ],
-};
+const NULL_OID: ObjectIdentifier = oid!(0, 0);
 
 /// 0.0.0 without parameters, which stands in a part until a signer's algorithm is known. It takes no memory.
 pub fn no_algorithm() -> AlgorithmIdentifier

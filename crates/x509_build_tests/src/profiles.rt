@@ -7,20 +7,14 @@ use std::alloc::Global;
 use x509_base::SubjectPublicKeyInfoRef;
 use x509_build_profile::{BuilderProfile, Error, Result};
 use x509_cert_certificate::TbsCertificate;
-use x509_der::ObjectIdentifier;
+use x509_der::{ObjectIdentifier, oid};
 use x509_der_grammar::ErrorKind;
 use x509_ext_frame::Extension;
 use x509_name::name::Name;
 use x509_prim::OctetString;
 
 /// 1.2.3.6.
-const PUT_IN: ObjectIdentifier = ObjectIdentifier {
-    len: 3,
-    octets: [
-        0x2A, 3, 6, 0, 0, 0, 0, 0, 0, 0, 0, 0, 0, 0, 0, 0, 0, 0, 0, 0, 0, 0, 0, 0, 0, 0, 0, 0, 0,
-        0, 0, 0, 0, 0, 0, 0, 0, 0, 0,
-    ],
-};
+const PUT_IN: ObjectIdentifier = oid!(0x2A, 3, 6);
 
 /// Issuer and subject are empty names. It adds one extension or none, 1.2.3.6 with the octet AA. It refuses the issuer
 /// key `abd` as failed, and where it has no issuer, that one as a missing attribute.

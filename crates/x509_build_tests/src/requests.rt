@@ -7,7 +7,7 @@ use std::test::*;
 use x509_build::request::RequestBuilder;
 use x509_build_profile::{Builder, Result};
 use x509_cert::request::attributes::{AsAttribute, ChallengePassword};
-use x509_der::{AssociatedOid, ObjectIdentifier};
+use x509_der::{AssociatedOid, ObjectIdentifier, oid};
 use x509_der_grammar::{Decode, Newtype};
 use x509_ext_frame::Extension;
 use x509_name::name::Name;
@@ -94,13 +94,7 @@ impl AssociatedOid for Asked {
 
     ghost OID = { pkcs_9 14 };
 
-    const OID: ObjectIdentifier = ObjectIdentifier {
-        len: 9,
-        octets: [
-            0x2A, 0x86, 0x48, 0x86, 0xF7, 0x0D, 0x01, 0x09, 14, 0, 0, 0, 0, 0, 0, 0, 0, 0, 0, 0, 0,
-            0, 0, 0, 0, 0, 0, 0, 0, 0, 0, 0, 0, 0, 0, 0, 0, 0, 0,
-        ],
-    };
+    const OID: ObjectIdentifier = oid!(0x2A, 0x86, 0x48, 0x86, 0xF7, 0x0D, 0x01, 0x09, 14);
 }
 
 impl Newtype for Asked {

@@ -4,17 +4,11 @@ use rand_core::CryptoRng;
 use std::alloc::Global;
 use x509_base::{AlgorithmIdentifier, SubjectPublicKeyInfo};
 use x509_build_profile::{KeyError, SignError, Signer};
-use x509_der::ObjectIdentifier;
+use x509_der::{ObjectIdentifier, oid};
 use x509_prim::BitString;
 
 /// 1.2.3.4.
-pub(crate) const ECHO: ObjectIdentifier = ObjectIdentifier {
-    len: 3,
-    octets: [
-        0x2A, 3, 4, 0, 0, 0, 0, 0, 0, 0, 0, 0, 0, 0, 0, 0, 0, 0, 0, 0, 0, 0, 0, 0, 0, 0, 0, 0, 0,
-        0, 0, 0, 0, 0, 0, 0, 0, 0, 0,
-    ],
-};
+pub(crate) const ECHO: ObjectIdentifier = oid!(0x2A, 3, 4);
 
 /// What a signer refuses.
 #[derive(Clone, Copy)]

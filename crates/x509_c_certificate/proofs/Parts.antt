@@ -46,12 +46,12 @@ version_is V1 = refl
 version_is V2 = (160, spelling version V2, refl, refl)
 version_is V3 = (160, spelling version V3, refl, refl)
 
-issuer_is : (id : Option BitParts) → IsField (is_some id) (optional_text (spelling (implicit 1 3 bit_string)) id)
+issuer_is : (id : Option BitParts) → IsField (is_some id) (optional_text (spelling (implicit 1 bit_string)) id)
 unfolding is_identifier is_universal
 issuer_is None = refl
 issuer_is (Some bits) = (129, bit_string.content bits, refl, refl)
 
-subject_is : (id : Option BitParts) → IsField (is_some id) (optional_text (spelling (implicit 2 3 bit_string)) id)
+subject_is : (id : Option BitParts) → IsField (is_some id) (optional_text (spelling (implicit 2 bit_string)) id)
 unfolding is_identifier is_universal
 subject_is None = refl
 subject_is (Some bits) = (130, bit_string.content bits, refl, refl)
@@ -59,10 +59,10 @@ subject_is (Some bits) = (130, bit_string.content bits, refl, refl)
 pub version_field : (v : Version) (b : Bool) → b ≡ not (is_first v) → IsField b (default_text version_default (spelling (explicit 0 version)) v)
 version_field v b is = rw is (version_is v)
 
-pub issuer_field : (id : Option BitParts) (b : Bool) → b ≡ is_some id → IsField b (optional_text (spelling (implicit 1 3 bit_string)) id)
+pub issuer_field : (id : Option BitParts) (b : Bool) → b ≡ is_some id → IsField b (optional_text (spelling (implicit 1 bit_string)) id)
 issuer_field id b is = rw is (issuer_is id)
 
-pub subject_field : (id : Option BitParts) (b : Bool) → b ≡ is_some id → IsField b (optional_text (spelling (implicit 2 3 bit_string)) id)
+pub subject_field : (id : Option BitParts) (b : Bool) → b ≡ is_some id → IsField b (optional_text (spelling (implicit 2 bit_string)) id)
 subject_field id b is = rw is (subject_is id)
 
 pub same_presence : {X : Type 0} (r : Option (Bor X)) (o : Option X) → option_copied r ≡ o → is_some r ≡ is_some o
@@ -95,7 +95,7 @@ module _ {P : Type 0} (check : List ℕ → Result Unit ErrorKind) (value : Cert
   abbrev pub part_text : List ℕ
   part_text =
       (version_text ++ (spelling (serial_number check) value.tbs_certificate.serial_number ++ (spelling algorithm_identifier value.tbs_certificate.signature ++ (spelling name value.tbs_certificate.issuer ++ spelling validity value.tbs_certificate.validity))))
-      ++ (spelling name value.tbs_certificate.subject ++ (spelling subject_public_key_info value.tbs_certificate.subject_public_key_info ++ (optional_text (spelling (implicit 1 3 bit_string)) value.tbs_certificate.issuer_unique_id ++ (optional_text (spelling (implicit 2 3 bit_string)) value.tbs_certificate.subject_unique_id ++ extensions_text))))
+      ++ (spelling name value.tbs_certificate.subject ++ (spelling subject_public_key_info value.tbs_certificate.subject_public_key_info ++ (optional_text (spelling (implicit 1 bit_string)) value.tbs_certificate.issuer_unique_id ++ (optional_text (spelling (implicit 2 bit_string)) value.tbs_certificate.subject_unique_id ++ extensions_text))))
 
   pub whole : bytes ≡ element 48 (element 48 part_text ++ behind_part)
   unfolding fields_octets certificate_fields tbs_certificate_fields
@@ -108,7 +108,7 @@ module _ {P : Type 0} (check : List ℕ → Result Unit ErrorKind) (value : Cert
   inside = append-nil (element 48 part_text ++ behind_part)
 
   -- the fields, one after the other
-  pub laid_out : (more : List ℕ) → part_text ++ more ≡ version_text ++ (spelling (serial_number check) value.tbs_certificate.serial_number ++ (spelling algorithm_identifier value.tbs_certificate.signature ++ (spelling name value.tbs_certificate.issuer ++ (spelling validity value.tbs_certificate.validity ++ (spelling name value.tbs_certificate.subject ++ (spelling subject_public_key_info value.tbs_certificate.subject_public_key_info ++ (optional_text (spelling (implicit 1 3 bit_string)) value.tbs_certificate.issuer_unique_id ++ (optional_text (spelling (implicit 2 3 bit_string)) value.tbs_certificate.subject_unique_id ++ (extensions_text ++ more)))))))))
+  pub laid_out : (more : List ℕ) → part_text ++ more ≡ version_text ++ (spelling (serial_number check) value.tbs_certificate.serial_number ++ (spelling algorithm_identifier value.tbs_certificate.signature ++ (spelling name value.tbs_certificate.issuer ++ (spelling validity value.tbs_certificate.validity ++ (spelling name value.tbs_certificate.subject ++ (spelling subject_public_key_info value.tbs_certificate.subject_public_key_info ++ (optional_text (spelling (implicit 1 bit_string)) value.tbs_certificate.issuer_unique_id ++ (optional_text (spelling (implicit 2 bit_string)) value.tbs_certificate.subject_unique_id ++ (extensions_text ++ more)))))))))
   laid_out more =
       one_after_the_other version_text (spelling (serial_number check) value.tbs_certificate.serial_number) (spelling algorithm_identifier value.tbs_certificate.signature) (spelling name value.tbs_certificate.issuer) (spelling validity value.tbs_certificate.validity)
-      (spelling name value.tbs_certificate.subject) (spelling subject_public_key_info value.tbs_certificate.subject_public_key_info) (optional_text (spelling (implicit 1 3 bit_string)) value.tbs_certificate.issuer_unique_id) (optional_text (spelling (implicit 2 3 bit_string)) value.tbs_certificate.subject_unique_id) extensions_text more
+      (spelling name value.tbs_certificate.subject) (spelling subject_public_key_info value.tbs_certificate.subject_public_key_info) (optional_text (spelling (implicit 1 bit_string)) value.tbs_certificate.issuer_unique_id) (optional_text (spelling (implicit 2 bit_string)) value.tbs_certificate.subject_unique_id) extensions_text more

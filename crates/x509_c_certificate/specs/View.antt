@@ -36,8 +36,8 @@ behind_part certificate = spelling algorithm_identifier certificate.signature_al
 
 abbrev pub behind_key : {P : Type 0} → CertificateInner P → List ℕ
 behind_key certificate =
-    optional_text (spelling (implicit 1 3 bit_string)) certificate.tbs_certificate.issuer_unique_id
-    ++ (optional_text (spelling (implicit 2 3 bit_string)) certificate.tbs_certificate.subject_unique_id
+    optional_text (spelling (implicit 1 bit_string)) certificate.tbs_certificate.issuer_unique_id
+    ++ (optional_text (spelling (implicit 2 bit_string)) certificate.tbs_certificate.subject_unique_id
     ++ (optional_text (spelling (explicit 3 extensions)) certificate.tbs_certificate.extensions ++ behind_part certificate))
 
 abbrev pub behind_subject : {P : Type 0} → CertificateInner P → List ℕ

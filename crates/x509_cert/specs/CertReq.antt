@@ -34,7 +34,7 @@ attributes_lawful : {R : ErrorKind → Type 0} → IsForm R attributes
 attributes_lawful = universal_lawful Set _ (set_lawful attribute attribute_cmp (universal_lawful Sequence attribute_contents attribute_contents_lawful))
 
 unfoldable pub cert_req_info_fields : Part (Version × (List (List AttributeTypeAndValue) × (SubjectPublicKeyInfo × List Attribute)))
-cert_req_info_fields = required version ⊗ (required name ⊗ (required subject_public_key_info ⊗ required (implicit 0 49 attributes)))
+cert_req_info_fields = required version ⊗ (required name ⊗ (required subject_public_key_info ⊗ required (implicit 0 attributes)))
 
 abbrev pub cert_req_info_contents : Contents CertReqInfo
 cert_req_info_contents = fields (λ i. (i.version, (i.subject, (i.public_key, i.attributes)))) (λ (version, (subject, (public_key, attributes))). record { version = version; subject = subject; public_key = public_key; attributes = attributes }) cert_req_info_fields

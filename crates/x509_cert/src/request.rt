@@ -3,7 +3,6 @@
 pub mod attributes;
 mod cert_req;
 mod extension_req;
-mod identifiers;
 mod look_up;
 mod version;
 

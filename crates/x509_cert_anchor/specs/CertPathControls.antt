@@ -35,8 +35,8 @@ Behind = Option CertPolicies × (Option NameConstraints × Option ℕ)
 
 unfoldable pub cert_path_controls_fields : {P : Type 0} → (List ℕ → Result Unit ErrorKind) → Part (Front P × Behind)
 cert_path_controls_fields check =
-    (required name ⊗ (optional (implicit 0 48 (certificate check)) ⊗ optional (implicit 1 48 certificate_policies)))
-    ⊗ (optional (implicit 2 3 cert_policies) ⊗ (optional (implicit 3 48 name_constraints) ⊗ optional (implicit 4 2 (natural (2 ^ 32)))))
+    (required name ⊗ (optional (implicit 0 (certificate check)) ⊗ optional (implicit 1 certificate_policies)))
+    ⊗ (optional (implicit 2 cert_policies) ⊗ (optional (implicit 3 name_constraints) ⊗ optional (implicit 4 (natural (2 ^ 32)))))
 
 abbrev pub cert_path_controls_contents : {P : Type 0} → (List ℕ → Result Unit ErrorKind) → Contents (CertPathControls P)
 cert_path_controls_contents check = fields

@@ -31,7 +31,7 @@ Behind P = Option (CertPathControls P) × (Option (List Extension) × Option (Li
 unfoldable pub trust_anchor_info_fields : {P : Type 0} → (List ℕ → Result Unit ErrorKind) → Part (Front × Behind P)
 trust_anchor_info_fields check =
     (defaulted version_default version ⊗ (required subject_public_key_info ⊗ (required octet_string ⊗ optional utf8_string)))
-    ⊗ (optional (cert_path_controls check) ⊗ (optional (explicit 1 extensions) ⊗ optional (implicit 2 12 utf8_string)))
+    ⊗ (optional (cert_path_controls check) ⊗ (optional (explicit 1 extensions) ⊗ optional (implicit 2 utf8_string)))
 
 abbrev pub trust_anchor_info_contents : {P : Type 0} → (List ℕ → Result Unit ErrorKind) → Contents (TrustAnchorInfo P)
 trust_anchor_info_contents check = fields

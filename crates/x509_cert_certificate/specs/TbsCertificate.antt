@@ -44,7 +44,7 @@ Behind = NameList × (SubjectPublicKeyInfo × (Option BitParts × (Option BitPar
 unfoldable pub tbs_certificate_fields : {P : Type 0} → (List ℕ → Result Unit ErrorKind) → Part (Front P × Behind)
 tbs_certificate_fields check =
     (defaulted version_default (explicit 0 version) ⊗ (required (serial_number check) ⊗ (required algorithm_identifier ⊗ (required name ⊗ required validity))))
-    ⊗ (required name ⊗ (required subject_public_key_info ⊗ (optional (implicit 1 3 bit_string) ⊗ (optional (implicit 2 3 bit_string) ⊗ optional (explicit 3 extensions)))))
+    ⊗ (required name ⊗ (required subject_public_key_info ⊗ (optional (implicit 1 bit_string) ⊗ (optional (implicit 2 bit_string) ⊗ optional (explicit 3 extensions)))))
 
 -- the check is that of the profile on the content octets of the serial number
 abbrev pub tbs_certificate_contents : {P : Type 0} → (List ℕ → Result Unit ErrorKind) → Contents (TbsCertificateInner P)

@@ -26,6 +26,23 @@ pub struct ObjectIdentifier {
     pub octets: [u8; 39],
 }
 
+/// The object identifier of these content octets (X.690 8.19), as a constant: `oid!(0x55, 0x1D, 15)` is 2.5.29.15.
+#[macro_export]
+macro_rules! oid {
+    (@padded [$($octet:literal)*] [] [$($zero:literal)*]) => {
+        [$($octet,)* $($zero),*]
+    };
+    (@padded [$($octet:literal)*] [$next:literal $($more:literal)*] [$zero:literal $($zeros:literal)*]) => {
+        $crate::oid!(@padded [$($octet)* $next] [$($more)*] [$($zeros)*])
+    };
+    ($($octet:literal),+) => {
+        $crate::ObjectIdentifier {
+            len: [$($octet),+].len() as u8,
+            octets: $crate::oid!(@padded [] [$($octet)+] [0 0 0 0 0 0 0 0 0 0 0 0 0 0 0 0 0 0 0 0 0 0 0 0 0 0 0 0 0 0 0 0 0 0 0 0 0 0 0]),
+        }
+    };
+}
+
 impl Model for ObjectIdentifier {
     ghost use Rattle.std.specs.Prelude.{List, ℕ, ◌-◌, ◌++◌, take, replicate, length};
     ghost use Rattle.x509_der.specs.ObjectIdentifier.{IsStored, front_length, padded};

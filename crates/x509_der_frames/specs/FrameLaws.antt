@@ -11,7 +11,7 @@ use Rattle.x509_der_order.specs.OutcomeLaws.{ok_is, bind_ok, bind_err, guard_ok}
 use Rattle.x509_der_order.specs.Element.{element, is_identifier, is_universal}
 use Rattle.x509_der_order.specs.ElementReading.{piece_at}
 use Rattle.x509_der_order.specs.ElementLaws.{piece_at-sound, piece_at-element, piece_at-refused}
-use Rattle.x509_der_order.specs.Form.{is_in, Form, spelling, IsForm, IsContents, HasTag, contents_of}
+use Rattle.x509_der_order.specs.Form.{is_in, Form, spelling, IsForm, IsContents, HasTag, contents_of, one_tag}
 use Rattle.x509_der_order.specs.FormLaws.{under_lawful, contents_of_lawful, whole_sound, whole_complete, whole_refused}
 use Rattle.x509_der_frames.specs.Frames.{explicit_contents, explicit, implicit_tag, implicit, Part, IsPart, BeginsIn, nothing, begins, IsClearOf, are_apart, field_at, required, optional_text, optional_at, optional, Default, IsDefault, default_of, default_at, defaulted, default_text, ◌⊗◌, end_at, fields, fields_octets, fields_good, fields_reading}
 
@@ -28,8 +28,8 @@ implicit_identifier n tag low = let lt : n < 31 = ltb-true n 31 low in grind (ar
 pub explicit_lawful : {X : Type 0} {R : ErrorKind → Type 0} (n : ℕ) (f : Form X) → ltb n 31 ≡ true → IsForm R f → IsForm R (explicit n f)
 explicit_lawful n f low h = under_lawful (160 + n) (explicit_contents f) (explicit_identifier n low) (record { sound = whole_sound f h; complete = whole_complete f h; refused = whole_refused f h })
 
-pub implicit_lawful : {X : Type 0} {R : ErrorKind → Type 0} (n tag : ℕ) (f : Form X) → ltb n 31 ≡ true → HasTag tag f → IsForm R f → IsForm R (implicit n tag f)
-implicit_lawful n tag f low fixed h = under_lawful (implicit_tag n tag) (contents_of tag f) (implicit_identifier n tag low) (contents_of_lawful tag f fixed h)
+pub implicit_lawful : {X : Type 0} {R : ErrorKind → Type 0} (n : ℕ) (f : Form X) → ltb n 31 ≡ true → HasTag (one_tag f) f → IsForm R f → IsForm R (implicit n f)
+implicit_lawful n f low fixed h = under_lawful (implicit_tag n (one_tag f)) (contents_of (one_tag f) f) (implicit_identifier n (one_tag f) low) (contents_of_lawful (one_tag f) f fixed h)
 
 -- ---- a field
 

@@ -4,7 +4,7 @@ use Rattle.x509_der_order.specs.error.ErrorKind.{ErrorKind}
 use Rattle.x509_der_order.specs.error.ErrorKind.TheVariants.{Malformed}
 use Rattle.x509_der_order.specs.Outcome.{◌>>=◌}
 use Rattle.x509_der_order.specs.ElementReading.{piece_at}
-use Rattle.x509_der_order.specs.Form.{is_in, is_empty, Form, spelling, Contents, contents_of, under, whole_reading}
+use Rattle.x509_der_order.specs.Form.{is_in, is_empty, Form, spelling, Contents, contents_of, one_tag, under, whole_reading}
 
 -- ---- tags of the context-specific class
 
@@ -19,9 +19,9 @@ explicit n form = under (160 + n) (explicit_contents form)
 abbrev pub implicit_tag : ℕ → ℕ → ℕ
 implicit_tag n tag = if nat_lt (tag % 64) 32 then 128 + n else 160 + n
 
--- [n]: the content of the value under this identifier octet (X.690 8.14.3)
-abbrev pub implicit : {X : Type 0} → ℕ → ℕ → Form X → Form X
-implicit n tag form = under (implicit_tag n tag) (contents_of tag form)
+-- [n]: the content of the value under this identifier octet, of a form with one of its own (X.690 8.14.3)
+abbrev pub implicit : {X : Type 0} → ℕ → Form X → Form X
+implicit n form = under (implicit_tag n (one_tag form)) (contents_of (one_tag form) form)
 
 -- ---- parts of a sequence
 

@@ -1,6 +1,7 @@
 //! Tags of the context-specific class.
 
 ghost use Rattle.std.specs.Prelude.{◌≡◌, ◌<◌, ◌+◌};
+ghost use Rattle.x509_der_order.specs.Form.{one_tag};
 ghost use Rattle.x509_der_order.specs.Tag.{constructed_bit, octet_of};
 ghost use Rattle.x509_der_frames.specs.Frames.{implicit_tag};
 
@@ -9,7 +10,7 @@ use x509_der_order::{FixedTag, Tag, TagNumber};
 /// The tag under [n], which is implicit, of a type with a tag of its own (X.690 8.14.3).
 pub fn implicit_identifier<T: FixedTag>(n: u8) -> Tag
     requires { n < 31 }
-    ensures { octet_of result ≡ implicit_tag n (octet_of T.TAG) }
+    ensures { octet_of result ≡ implicit_tag n (one_tag T.form) }
 {
     context(T::TAG.octet() % 64 >= 32, n)
 }

@@ -4,8 +4,7 @@
 
 ghost use Rattle.std.specs.Prelude.{◌≡◌, ◌+◌, ◌<◌};
 ghost use Rattle.x509_der_order.specs.Element.{element};
-ghost use Rattle.x509_der_order.specs.Form.{spelling};
-ghost use Rattle.x509_der_order.specs.Tag.{octet_of};
+ghost use Rattle.x509_der_order.specs.Form.{one_tag, spelling};
 ghost use Rattle.x509_der_order.specs.Writing.{Puts, writes};
 ghost use Rattle.x509_der_frames.specs.Frames.{implicit_tag, optional_text, default_text};
 ghost use Rattle.x509_der_frames.specs.FrameWriting.{optional_refusal, default_refusal};
@@ -103,7 +102,7 @@ pub struct Retagged<'a, T> {
 /// [n]x: a field under an implicit tag; n is 0 to 30.
 pub fn implicit<T: Encode + FixedTag>(n: u8, value: &T) -> Retagged<'_, T>
     requires { n < 31 }
-    ensures tag { result.tag ≡ implicit_tag n (octet_of T.TAG) }
+    ensures tag { result.tag ≡ implicit_tag n (one_tag T.form) }
     ensures value { result.value.now ≡ value.now }
 {
     Retagged {
@@ -193,7 +192,7 @@ pub fn optional<T: Encode>(value: &Option<T>) -> Option<&T>
 /// [n]x?: a field under an implicit tag that may be absent; n is 0 to 30.
 pub fn implicit_optional<T: Encode + FixedTag>(n: u8, value: &Option<T>) -> Option<Retagged<'_, T>>
     requires { n < 31 }
-    ensures text { optional_text (λ p. element p.tag (T.form.content (writes T.writing p.value.now).value)) result ≡ optional_text (λ v. element (implicit_tag n (octet_of T.TAG)) (T.form.content (writes T.writing v).value)) value.now }
+    ensures text { optional_text (λ p. element p.tag (T.form.content (writes T.writing p.value.now).value)) result ≡ optional_text (λ v. element (implicit_tag n (one_tag T.form)) (T.form.content (writes T.writing v).value)) value.now }
     ensures refusal { optional_refusal (λ p. (writes T.writing p.value.now).refusal) result ≡ optional_refusal (λ v. (writes T.writing v).refusal) value.now }
 {
     match value {
@@ -234,7 +233,7 @@ pub fn implicit_default<T: Encode + FixedTag + Standard>(
     value: &T,
 ) -> Option<Retagged<'_, T>>
     requires { n < 31 }
-    ensures text { optional_text (λ p. element p.tag (T.form.content (writes T.writing p.value.now).value)) result ≡ default_text T.default (λ v. element (implicit_tag n (octet_of T.TAG)) (T.form.content (writes T.writing v).value)) value.now }
+    ensures text { optional_text (λ p. element p.tag (T.form.content (writes T.writing p.value.now).value)) result ≡ default_text T.default (λ v. element (implicit_tag n (one_tag T.form)) (T.form.content (writes T.writing v).value)) value.now }
     ensures refusal { optional_refusal (λ p. (writes T.writing p.value.now).refusal) result ≡ default_refusal T.default (λ v. (writes T.writing v).refusal) value.now }
 {
     if value.is_standard() {

@@ -5,7 +5,7 @@
 ghost use Rattle.std.specs.Prelude.{◌≡◌, ◌<◌, IfErr, OnErr};
 ghost use Rattle.x509_der_order.specs.error.ErrorKind.TheVariants.{Malformed, Memory};
 ghost use Rattle.x509_der_order.specs.Outcome.{Gives, GivesBefore};
-ghost use Rattle.x509_der_order.specs.Tag.{octet_of};
+ghost use Rattle.x509_der_order.specs.Form.{one_tag};
 ghost use Rattle.x509_der_frames.specs.Frames.{optional, defaulted, explicit, implicit, implicit_tag, required, end_at};
 
 use crate::standard::Standard;
@@ -29,14 +29,22 @@ pub fn end(rest: &[u8]) -> Result<(), Error>
     }
 }
 
+/// The identifier octet of a type with one.
+#[inline(always)]
+fn own_octet<T: FixedTag>() -> u8
+    ensures { result ≡ one_tag T.form }
+{
+    T::TAG.octet()
+}
+
 /// The identifier octet under [n], which is an implicit tag, of a type with a tag of its own (X.690 8.14.3); n is 0 to
 /// 30.
 #[inline(always)]
 pub fn implicit_octet<T: FixedTag>(n: u8) -> u8
     requires { n < 31 }
-    ensures { result ≡ implicit_tag n (octet_of T.TAG) }
+    ensures { result ≡ implicit_tag n (one_tag T.form) }
 {
-    if T::TAG.octet() % 64 < 32 {
+    if own_octet::<T>() % 64 < 32 {
         0x80 + n
     } else {
         0xA0 + n
@@ -103,7 +111,7 @@ pub fn implicit_field<T: Decode + FixedTag>(
     rest: &mut &[u8],
 ) -> Result<T, Error>
     requires { n < 31 }
-    ensures exact { GivesBefore result rest.new.now ((required (implicit n (octet_of T.TAG) T.form)).reading rest.old.now) }
+    ensures exact { GivesBefore result rest.new.now ((required (implicit n T.form)).reading rest.old.now) }
     ensures unchanged { OnErr result (rest.new.now ≡ rest.old.now) }
     ensures memory { IfErr result (λ e. e.kind ≡ Memory → T.wants_memory) }
 {
@@ -111,7 +119,7 @@ pub fn implicit_field<T: Decode + FixedTag>(
     if piece.tag != implicit_octet::<T>(n) {
         return Err(ErrorKind::Malformed.into());
     }
-    let result = T::read(alloc, T::TAG.octet(), piece.content);
+    let result = T::read(alloc, own_octet::<T>(), piece.content);
     if result.is_ok() {
         *rest = piece.rest;
     }
@@ -172,7 +180,7 @@ pub fn optional_implicit<T: Decode + FixedTag>(
     rest: &mut &[u8],
 ) -> Result<Option<T>, Error>
     requires { n < 31 }
-    ensures exact { GivesBefore result rest.new.now ((optional (implicit n (octet_of T.TAG) T.form)).reading rest.old.now) }
+    ensures exact { GivesBefore result rest.new.now ((optional (implicit n T.form)).reading rest.old.now) }
     ensures unchanged { OnErr result (rest.new.now ≡ rest.old.now) }
     ensures memory { IfErr result (λ e. e.kind ≡ Memory → T.wants_memory) }
 {
@@ -256,7 +264,7 @@ pub fn default_implicit<T: Decode + FixedTag + Standard>(
     rest: &mut &[u8],
 ) -> Result<T, Error>
     requires { n < 31 }
-    ensures exact { GivesBefore result rest.new.now ((defaulted T.default (implicit n (octet_of T.TAG) T.form)).reading rest.old.now) }
+    ensures exact { GivesBefore result rest.new.now ((defaulted T.default (implicit n T.form)).reading rest.old.now) }
     ensures unchanged { OnErr result (rest.new.now ≡ rest.old.now) }
     ensures memory { IfErr result (λ e. e.kind ≡ Memory → T.wants_memory) }
 {

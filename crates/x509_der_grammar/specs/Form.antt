@@ -44,6 +44,14 @@ pub record IsForm {X : Type 0} (R : ErrorKind → Type 0) (form : Form X) : Type
 abbrev pub HasTag : {X : Type 0} → ℕ → Form X → Type 0
 HasTag {X} tag form = (value : X) → form.tag value ≡ tag
 
+-- the identifier octet of a form all values of which have one and the same
+abbrev pub one_of : List ℕ → ℕ
+one_of [] = 0
+one_of (tag ∷ tags) = tag
+
+abbrev pub one_tag : {X : Type 0} → Form X → ℕ
+one_tag form = one_of form.starts
+
 -- ---- a content under one identifier
 
 -- The content octets of a type all of whose values have one identifier.

@@ -172,9 +172,6 @@ u8_lawful = natural_lawful (2 ^ 8) (omega arith)
 pub u16_contents_lawful : {R : ErrorKind → Type 0} → IsContents R (natural_contents (2 ^ 16))
 u16_contents_lawful = natural_contents_lawful (2 ^ 16) (omega arith)
 
-pub u16_lawful : {R : ErrorKind → Type 0} → IsForm R (natural (2 ^ 16))
-u16_lawful = natural_lawful (2 ^ 16) (omega arith)
-
 pub u32_contents_lawful : {R : ErrorKind → Type 0} → IsContents R (natural_contents (2 ^ 32))
 u32_contents_lawful = natural_contents_lawful (2 ^ 32) (omega arith)
 
@@ -184,11 +181,5 @@ u32_lawful = natural_lawful (2 ^ 32) (omega arith)
 pub u64_contents_lawful : {R : ErrorKind → Type 0} → IsContents R (natural_contents (2 ^ 64))
 u64_contents_lawful = natural_contents_lawful (2 ^ 64) (omega arith)
 
-pub u64_lawful : {R : ErrorKind → Type 0} → IsForm R (natural (2 ^ 64))
-u64_lawful = natural_lawful (2 ^ 64) (omega arith)
-
 pub u128_contents_lawful : {R : ErrorKind → Type 0} → IsContents R (natural_contents (2 ^ 128))
 u128_contents_lawful = natural_contents_lawful (2 ^ 128) (omega arith)
-
-pub u128_lawful : {R : ErrorKind → Type 0} → IsForm R (natural (2 ^ 128))
-u128_lawful = natural_lawful (2 ^ 128) (omega arith)

@@ -87,6 +87,8 @@ impl<T: Content> FixedTag for T {
     const TAG: Tag = T::IDENTIFIER;
 
     ghost fixed = { λ value. refl };
+
+    ghost starts_so = { refl };
 }
 
 impl<T: Content> Decode for T {

@@ -55,8 +55,9 @@ impl<T: Grammar> Tagged for T {
 
 /// A type whose values have one identifier. Each type with [`Content`](crate::Content) is one.
 pub trait FixedTag: Decode + Encode {
+    ghost use Rattle.std.specs.Prelude.{◌≡◌};
     ghost use Rattle.x509_der_element.specs.declared.tag.Tag.{Tag};
-    ghost use Rattle.x509_der_grammar.specs.Form.{HasTag};
+    ghost use Rattle.x509_der_grammar.specs.Form.{HasTag, one_tag};
     ghost use Rattle.x509_der_element.specs.Tag.{octet_of};
 
     ghost TAG: { Tag };
@@ -65,4 +66,6 @@ pub trait FixedTag: Decode + Encode {
     const TAG: Tag;
 
     ghost fixed: { HasTag (octet_of TAG) Self.form };
+
+    ghost starts_so: { one_tag Self.form ≡ octet_of TAG };
 }

@@ -41,7 +41,7 @@ serial_number_lawful = universal_lawful Integer (serial_number_contents rfc5280_
 -- ---- the grammar
 
 unfoldable pub authority_key_identifier_fields : Part (Option (List ℕ) × (Option (List GeneralName) × Option (List ℕ)))
-authority_key_identifier_fields = optional (implicit 0 4 octet_string) ⊗ (optional (implicit 1 48 general_names) ⊗ optional (implicit 2 2 (serial_number rfc5280_serial_number)))
+authority_key_identifier_fields = optional (implicit 0 octet_string) ⊗ (optional (implicit 1 general_names) ⊗ optional (implicit 2 (serial_number rfc5280_serial_number)))
 
 abbrev pub authority_key_identifier_contents : Contents AuthorityKeyIdentifier
 authority_key_identifier_contents = fields (λ a. (a.key_identifier, (a.authority_cert_issuer, a.authority_cert_serial_number))) (λ (key_identifier, (authority_cert_issuer, authority_cert_serial_number)). record { key_identifier = key_identifier; authority_cert_issuer = authority_cert_issuer; authority_cert_serial_number = authority_cert_serial_number }) authority_key_identifier_fields

@@ -11,7 +11,7 @@ use Rattle.x509_ext.specs.declared.pkix.private_key_usage_period.PrivateKeyUsage
 use Rattle.x509_der_element.specs.declared.tag.Tag.TheVariants.{Sequence}
 
 unfoldable pub private_key_usage_period_fields : Part (Option CivilTime × Option CivilTime)
-private_key_usage_period_fields = optional (implicit 0 24 generalized_time) ⊗ optional (implicit 1 24 generalized_time)
+private_key_usage_period_fields = optional (implicit 0 generalized_time) ⊗ optional (implicit 1 generalized_time)
 
 abbrev pub private_key_usage_period_contents : Contents PrivateKeyUsagePeriod
 private_key_usage_period_contents = fields (λ p. (p.not_before, p.not_after)) (λ (not_before, not_after). record { not_before = not_before; not_after = not_after }) private_key_usage_period_fields

@@ -11,7 +11,7 @@ use Rattle.x509_ext_name.specs.declared.distribution_point_name.DistributionPoin
 use Rattle.x509_ext_name.specs.declared.distribution_point_name.DistributionPointName.TheVariants.{FullName, NameRelativeToCRLIssuer}
 
 abbrev pub distribution_point_name_cases : Cases DistributionPointName
-distribution_point_name_cases = FullName holds implicit 0 48 general_names ∥ NameRelativeToCRLIssuer holds implicit 1 49 relative_distinguished_name ∥ none
+distribution_point_name_cases = FullName holds implicit 0 general_names ∥ NameRelativeToCRLIssuer holds implicit 1 relative_distinguished_name ∥ none
 
 abbrev pub distribution_point_name_case : (v : DistributionPointName) → CaseOf distribution_point_name_cases v
 distribution_point_name_case (FullName names) = (0, (names, refl))

@@ -24,14 +24,14 @@ use Rattle.x509_ext_name.specs.declared.general_name.IpAddress.TheVariants as ve
 
 abbrev pub general_name_cases : Cases GeneralName
 general_name_cases =
-    OtherName holds implicit 0 48 other_name
-    ∥ Rfc822Name holds implicit 1 22 ia5_string
-    ∥ DnsName holds implicit 2 22 ia5_string
+    OtherName holds implicit 0 other_name
+    ∥ Rfc822Name holds implicit 1 ia5_string
+    ∥ DnsName holds implicit 2 ia5_string
     ∥ DirectoryName holds explicit 4 name
-    ∥ EdiPartyName holds implicit 5 48 edi_party_name
-    ∥ UniformResourceIdentifier holds implicit 6 22 ia5_string
-    ∥ IpAddress holds implicit 7 4 octet_string
-    ∥ RegisteredId holds implicit 8 6 object_identifier
+    ∥ EdiPartyName holds implicit 5 edi_party_name
+    ∥ UniformResourceIdentifier holds implicit 6 ia5_string
+    ∥ IpAddress holds implicit 7 octet_string
+    ∥ RegisteredId holds implicit 8 object_identifier
     ∥ none
 
 abbrev pub general_name_case : (v : GeneralName) → CaseOf general_name_cases v

@@ -4,14 +4,15 @@ ghost use Rattle.x509_ext_name.specs.HardwareModuleName.{ReadsHardwareModule};
 
 use crate::other_name::OtherName;
 use std::alloc::Global;
-use x509_der::ObjectIdentifier;
+use x509_der::{ObjectIdentifier, oid};
 use x509_der_frames::{PutPart, end, field};
 use x509_der_grammar::{Content, Error, Room, Spelled, Tag, TryClone};
-use x509_ext_frame::id_pkix;
 use x509_prim::OctetString;
 
 /// The `type_id` of an [`OtherName`] that is a [`HardwareModuleName`], 1.3.6.1.5.5.7.8.4 (RFC 4108 5).
-pub const ID_ON_HARDWARE_MODULE_NAME: ObjectIdentifier = id_pkix!(8, 4);
+pub const ID_ON_HARDWARE_MODULE_NAME: ObjectIdentifier = oid!(
+    0x2B, 0x06, 0x01, 0x05, 0x05, 0x07, 8, 4
+);
 
 /// The name of a hardware module (RFC 4108 5).
 ///

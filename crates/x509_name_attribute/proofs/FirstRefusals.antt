@@ -1,7 +1,6 @@
 -- Parts that are read one after the other: what is read of them, and which refusal comes first.
-use Rattle.std.proofs.Common.{◌+◌, ◌<◌, ◌≡◌, ℕ, List, [], ◌∷◌, ◌++◌, length, map, take, drop, get_or, refl, sym, ap, ◌∙◌, arith, inl, inr, subst, add-one, drop-cons, append_assoc, append-nil, ◌≤◌, length-append}
+use Rattle.std.proofs.Common.{◌+◌, ◌≡◌, List, [], ◌∷◌, ◌++◌, map, refl, sym, ap, ◌∙◌, inl, inr, subst, append_assoc}
 use Rattle.std.specs.List.{AllByRecursion, AllZip}
-use Rattle.std.proofs.lemmas.List.{take_more, take_all, take-append-drop}
 use Rattle.x509_der_element.specs.declared.error.ErrorKind.{ErrorKind}
 use Rattle.x509_name_attribute.specs.Refusals.{FirstRefused}
 
@@ -24,12 +23,6 @@ one_of_each reads one (x ∷ parts) (y ∷ ys) (z ∷ zs) p q =
 pub zip_map : {X Y : Type 0} (reads : X → Y → Type 0) (P : Y → Type 0) (written : Y → X) → ((y : Y) → P y → reads (written y) y) → (ys : List Y) → AllByRecursion P ys → AllZip reads (map written ys) ys
 zip_map reads P written again [] h = tt
 zip_map reads P written again (y ∷ ys) h = (again y h.0, zip_map reads P written again ys h.1)
-
-pub zip_length : {X Y : Type 0} (reads : X → Y → Type 0) (parts : List X) (ys : List Y) → AllZip reads parts ys → length parts ≡ length ys
-zip_length reads [] [] h = refl
-zip_length reads [] (y ∷ ys) h = absurd h
-zip_length reads (x ∷ parts) [] h = absurd h
-zip_length reads (x ∷ parts) (y ∷ ys) h = let tail = zip_length reads parts ys h.1 in omega arith
 
 -- one part more
 pub zip_push : {X Y : Type 0} (reads : X → Y → Type 0) (parts : List X) (ys : List Y) (part : X) (y : Y) → AllZip reads parts ys → reads part y → AllZip reads (parts ++ part ∷ []) (ys ++ y ∷ [])
@@ -65,23 +58,6 @@ refused_behind reads refused [] ys part rest kind p q = inl q
 refused_behind reads refused (a ∷ done) [] part rest kind p q = absurd p
 refused_behind reads refused (a ∷ done) (b ∷ ys) part rest kind p q = inr ((b, p.0), refused_behind reads refused done ys part rest kind p.1 q)
 
--- ---- a loop over parts by their index
-
-module _ {X Y : Type 0} (reads : X → Y → Type 0) (parts : List X) (past : X) (ys : List Y) (i : ℕ) (lt : i < length parts) (so_far : AllZip reads (take i parts) ys) where
-  -- the part at the index reads
-  pub zip_more : (y : Y) → reads (get_or parts i past) y → AllZip reads (take (i + 1) parts) (ys ++ y ∷ [])
-  zip_more y q = rw (take_more parts i past lt) (zip_push reads (take i parts) ys (get_or parts i past) y so_far q)
-
-  -- or is refused
-  pub part_refused : (refused : X → ErrorKind → Type 0) (kind : ErrorKind) → refused (get_or parts i past) kind → FirstRefused reads refused parts kind
-  part_refused refused kind q =
-      let split : take i parts ++ get_or parts i past ∷ drop (i + 1) parts ≡ parts =
-      ap (λ (t : List X). take i parts ++ t) (rw add-one (sym (drop-cons parts i past lt))) ∙ take-append-drop i parts in
-      subst (λ (t : List X). FirstRefused reads refused t kind) split (refused_behind reads refused (take i parts) ys (get_or parts i past) (drop (i + 1) parts) kind so_far q)
-
-pub zip_end : {X Y : Type 0} (reads : X → Y → Type 0) (parts : List X) (ys : List Y) (i : ℕ) → length parts ≤ i → AllZip reads (take i parts) ys → AllZip reads parts ys
-zip_end {X = X} reads parts ys i ge so_far = subst (λ (t : List X). AllZip reads t ys) (take_all i parts ge) so_far
-
 -- ---- a loop over an iterator that gives the parts
 
 -- the parts in front of those that are left read as the values
@@ -89,9 +65,6 @@ pub record ReadSoFar {X Y : Type 0} (reads : X → Y → Type 0) (all left : Lis
   pub done : List X
   pub parts : done ++ left ≡ all
   pub are : AllZip reads done values
-
-pub read_none : {X Y : Type 0} (reads : X → Y → Type 0) (all left : List X) → left ≡ all → ReadSoFar reads all left []
-read_none reads all left none = record { done = []; parts = none; are = tt }
 
 module _ {X Y : Type 0} (reads : X → Y → Type 0) (all left rest : List X) (values : List Y) (part : X) (so_far : ReadSoFar reads all left values) (gives : left ≡ part ∷ rest) where
   opened : so_far.done ++ part ∷ rest ≡ all
@@ -109,14 +82,3 @@ module _ {X Y : Type 0} (reads : X → Y → Type 0) (all left rest : List X) (v
   pub read_refused : (refused : X → ErrorKind → Type 0) (kind : ErrorKind) → refused part kind → FirstRefused reads refused all kind
   read_refused refused kind q =
       subst (λ (t : List X). FirstRefused reads refused t kind) opened (refused_behind reads refused so_far.done values part rest kind so_far.are q)
-
--- all parts read
-pub read_all : {X Y : Type 0} (reads : X → Y → Type 0) (all left : List X) (values : List Y) → ReadSoFar reads all left values → left ≡ [] → AllZip reads all values
-read_all {X = X} reads all left values so_far none =
-    let parts : so_far.done ≡ all = sym (append-nil so_far.done) ∙ ap (λ (t : List X). so_far.done ++ t) (sym none) ∙ so_far.parts in
-    subst (λ (t : List X). AllZip reads t values) parts so_far.are
-
--- as many values as parts are done
-pub read_count : {X Y : Type 0} (reads : X → Y → Type 0) (all left : List X) (values : List Y) → ReadSoFar reads all left values → length values + length left ≡ length all
-read_count reads all left values so_far =
-    omega (arith, zip_length reads so_far.done values so_far.are, length-append so_far.done left, ap length so_far.parts)

@@ -1,10 +1,10 @@
 -- Parts written one after the other with a separator between, and what holds of each of them.
-use Rattle.std.proofs.Common.{◌+◌, ◌<◌, ◌≤◌, ◌≡◌, ◌≢◌, ℕ, List, [], ◌∷◌, ◌++◌, length, get_or, map, reverse, take, refl, sym, ap, ◌∙◌, arith, subst, append_assoc, length-append}
+use Rattle.std.proofs.Common.{◌+◌, ◌<◌, ◌≡◌, ◌≢◌, ℕ, List, [], ◌∷◌, ◌++◌, length, get_or, map, reverse, take, refl, sym, ap, ◌∙◌, arith, subst, append_assoc, length-append}
 use Rattle.std.specs.List.{AllByRecursion, join_with_byte}
 use Rattle.std.specs.Fmt.{HasWritten}
 use Rattle.std.specs.declared.fmt.Formatter.{Formatter}
 use Rattle.std.proofs.Output.{has_written_append, has_written_of_eq}
-use Rattle.std.proofs.lemmas.List.{take_more, take_all, map_push, length-map, length-take, reverse-append}
+use Rattle.std.proofs.lemmas.List.{take_more, map_push, length-map, length-take, reverse-append}
 
 -- ---- what holds of each
 
@@ -53,9 +53,6 @@ module _ {X : Type 0} (separator : ℕ) (text : X → List ℕ) (xs : List X) (i
   join_next some =
       let count : 0 < length (map text (take i xs)) = omega (arith, length-map (take i xs) text, length-take i xs) in
       sym (join_push separator (map text (take i xs)) (text (get_or xs i past)) count) ∙ ap (join_with_byte separator) (sym mapped)
-
-pub join_end : {X : Type 0} (separator : ℕ) (text : X → List ℕ) (xs : List X) (i : ℕ) → length xs ≤ i → join_with_byte separator (map text (take i xs)) ≡ join_with_byte separator (map text xs)
-join_end {X = X} separator text xs i ge = ap (λ (t : List X). join_with_byte separator (map text t)) (take_all i xs ge)
 
 -- the same of what a formatter has written; the value at the index is x
 module _ {W X : Type 0} (took : W → List ℕ → W → Type 0) (separator : ℕ) (text : X → List ℕ) (xs : List X) (i : ℕ) (x : X) (lt : i < length xs) (at : x ≡ get_or xs i x) (f g h : Formatter W) (so_far : HasWritten took f (join_with_byte separator (map text (take i xs))) g) where

@@ -1,18 +1,13 @@
 -- The parts of a text that are read from the left: all of them read, or the first that doesn't.
-use Rattle.std.proofs.Common.{◌⊎◌, ◌≡◌, ℕ, false, List, [], ◌∷◌, inl, inr}
-use Rattle.std.specs.List.{AllZip}
+use Rattle.std.proofs.Common.{◌⊎◌, ◌≡◌, ℕ, false, List, ◌∷◌, inl, inr}
 use Rattle.x509_der_element.specs.declared.error.ErrorKind.{ErrorKind}
 use Rattle.x509_name_attribute.specs.Parts.{Joined}
 use Rattle.x509_name_attribute.specs.Cutting.{cut}
 use Rattle.x509_name_attribute.specs.Refusals.{FirstRefused}
 use Rattle.x509_name_attribute.proofs.Cuts.{cut_is_joined}
-use Rattle.x509_name_attribute.proofs.FirstRefusals.{ReadSoFar, read_all, read_refused}
+use Rattle.x509_name_attribute.proofs.FirstRefusals.{ReadSoFar, read_refused}
 
 module _ {Y : Type 0} (reads : List ℕ → Y → Type 0) (separator : ℕ) (text : List ℕ) (left : List (List ℕ)) (values : List Y) (so_far : ReadSoFar reads (cut separator text false) left values) where
-  -- no part is left
-  pub parts_read : left ≡ [] → (parts : List (List ℕ)) × Joined separator parts text × AllZip reads parts values
-  parts_read none = (cut separator text false, cut_is_joined separator text, read_all reads _ left values so_far none)
-
   -- the next part is refused, or something else is the reason
   pub parts_refused : (part : List ℕ) (rest : List (List ℕ)) → left ≡ part ∷ rest → (refused : List ℕ → ErrorKind → Type 0) (kind : ErrorKind) (other : Type 0)
       → other ⊎ refused part kind → other ⊎ ((parts : List (List ℕ)) × Joined separator parts text × FirstRefused reads refused parts kind)

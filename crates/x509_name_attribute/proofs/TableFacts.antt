@@ -105,9 +105,6 @@ module _ (text : List ℕ) (key : Key) (found : key_named text ≡ Some key) whe
   pub identifier_of_key : is_object_identifier key.octets ≡ true
   identifier_of_key = found_agrees (is_named text) (λ k. is_object_identifier k.octets) (λ k. true) keys key found_by_name are_identifiers
 
-  pub key_of_named : key_of key.octets ≡ Some key
-  key_of_named = found_agrees (is_named text) (λ k. key_of k.octets) Some keys key found_by_name octets_again
-
   same_letter : (name : List ℕ) → begins_with_letter name ≡ true → str_eq_ignore_ascii_case name text ≡ true → begins_with_letter text ≡ true
   unfolding begins_with_letter
   same_letter name begins same =

@@ -93,9 +93,3 @@ pub whole_escaped : (separator : ℕ) (bytes : List ℕ) → IsSeparator separat
 unfolding escaped
 whole_escaped separator [] s = refl
 whole_escaped separator (byte ∷ bytes) s = Whole-append separator _ _ (whole_of separator byte _ s (front_special byte)) (whole_further separator bytes s)
-
-pub whole_escaped_plus : (bytes : List ℕ) → Whole 43 (escaped bytes)
-whole_escaped_plus bytes = whole_escaped 43 bytes plus
-
-pub whole_escaped_comma : (bytes : List ℕ) → Whole 44 (escaped bytes)
-whole_escaped_comma bytes = whole_escaped 44 bytes comma

@@ -22,7 +22,7 @@ use Rattle.x509_pkix.specs.declared.distribution_points.CrlDistributionPoints.{C
 use Rattle.x509_pkix.specs.declared.distribution_points.FreshestCrl.{FreshestCrl}
 
 unfoldable pub distribution_point_fields : Part (Option DistributionPointName × (Option Reasons × Option (List GeneralName)))
-distribution_point_fields = optional (explicit 0 distribution_point_name) ⊗ (optional (implicit 1 3 reasons) ⊗ optional (implicit 2 48 general_names))
+distribution_point_fields = optional (explicit 0 distribution_point_name) ⊗ (optional (implicit 1 reasons) ⊗ optional (implicit 2 general_names))
 
 abbrev pub distribution_point_contents : Contents DistributionPoint
 distribution_point_contents = fields (λ d. (d.distribution_point, (d.reasons, d.crl_issuer))) (λ (distribution_point, (reasons, crl_issuer)). record { distribution_point = distribution_point; reasons = reasons; crl_issuer = crl_issuer }) distribution_point_fields

@@ -16,7 +16,7 @@ use Rattle.x509_ext_name.specs.declared.general_name.GeneralName.{GeneralName}
 use Rattle.x509_pkix.specs.declared.general_subtree.GeneralSubtree.{GeneralSubtree}
 
 unfoldable pub general_subtree_fields : Part (GeneralName × (ℕ × Option ℕ))
-general_subtree_fields = required general_name ⊗ (defaulted zero_default (implicit 0 2 (natural (2 ^ 32))) ⊗ optional (implicit 1 2 (natural (2 ^ 32))))
+general_subtree_fields = required general_name ⊗ (defaulted zero_default (implicit 0 (natural (2 ^ 32))) ⊗ optional (implicit 1 (natural (2 ^ 32))))
 
 abbrev pub general_subtree_contents : Contents GeneralSubtree
 general_subtree_contents = fields (λ s. (s.base, (s.minimum, s.maximum))) (λ (base, (minimum, maximum)). record { base = base; minimum = minimum; maximum = maximum }) general_subtree_fields

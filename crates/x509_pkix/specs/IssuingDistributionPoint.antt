@@ -19,12 +19,12 @@ use Rattle.x509_der_element.specs.declared.tag.Tag.TheVariants.{Sequence}
 
 -- [n]BOOLEAN=FALSE
 abbrev said_or_not : ℕ → Part Bool
-said_or_not n = defaulted boolean_default (implicit n 1 boolean)
+said_or_not n = defaulted boolean_default (implicit n boolean)
 
 unfoldable pub issuing_distribution_point_fields : Part ((Option DistributionPointName × (Bool × Bool)) × (Option Reasons × (Bool × Bool)))
 issuing_distribution_point_fields =
     (optional (explicit 0 distribution_point_name) ⊗ (said_or_not 1 ⊗ said_or_not 2))
-    ⊗ (optional (implicit 3 3 reasons) ⊗ (said_or_not 4 ⊗ said_or_not 5))
+    ⊗ (optional (implicit 3 reasons) ⊗ (said_or_not 4 ⊗ said_or_not 5))
 
 abbrev pub issuing_distribution_point_contents : Contents IssuingDistributionPoint
 issuing_distribution_point_contents = fields

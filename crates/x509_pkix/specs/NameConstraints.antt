@@ -11,7 +11,7 @@ use Rattle.x509_pkix.specs.declared.general_subtree.GeneralSubtree.{GeneralSubtr
 use Rattle.x509_pkix.specs.declared.name_constraints.NameConstraints.{NameConstraints}
 
 unfoldable pub name_constraints_fields : Part (Option (List GeneralSubtree) × Option (List GeneralSubtree))
-name_constraints_fields = optional (implicit 0 48 general_subtrees) ⊗ optional (implicit 1 48 general_subtrees)
+name_constraints_fields = optional (implicit 0 general_subtrees) ⊗ optional (implicit 1 general_subtrees)
 
 abbrev pub name_constraints_contents : Contents NameConstraints
 name_constraints_contents = fields (λ n. (n.permitted_subtrees, n.excluded_subtrees)) (λ (permitted_subtrees, excluded_subtrees). record { permitted_subtrees = permitted_subtrees; excluded_subtrees = excluded_subtrees }) name_constraints_fields

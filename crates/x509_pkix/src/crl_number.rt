@@ -5,10 +5,10 @@ ghost use Rattle.x509_der_grammar.specs.Natural.{natural_octets};
 ghost use Rattle.x509_prim.specs.Integer.{integer_value, natural_below};
 
 use std::alloc::Global;
-use x509_der::{AssociatedOid, ObjectIdentifier};
+use x509_der::{AssociatedOid, ObjectIdentifier, oid};
 use x509_der_grammar::{Error, Newtype};
 use x509_der_order::{EncodingOrd, NewtypeOrd, SetMember, SetOrd};
-use x509_ext_frame::{Criticality, Extension, Name, id_ce};
+use x509_ext_frame::{Always, FixedCriticality, Never};
 use x509_prim::Uint;
 
 /// The CRL number, which rises from each CRL of an issuer to its next (RFC 5280 5.2.3). Its OID is 2.5.29.20, and it
@@ -96,17 +96,11 @@ impl AssociatedOid for CrlNumber {
 
     ghost OID = { id_ce 20 };
 
-    const OID: ObjectIdentifier = id_ce!(20);
+    const OID: ObjectIdentifier = oid!(0x55, 0x1D, 20);
 }
 
-impl Criticality for CrlNumber {
-    ghost use Rattle.std.specs.Prelude.{false};
-
-    ghost is_critical = { λ crl subject extensions. false };
-
-    fn criticality(&self, _subject: &Name, _extensions: &[Extension]) -> bool {
-        false
-    }
+impl FixedCriticality for CrlNumber {
+    type Critical = Never;
 }
 
 impl Newtype for CrlNumber {
@@ -205,17 +199,11 @@ impl AssociatedOid for BaseCrlNumber {
 
     ghost OID = { id_ce 27 };
 
-    const OID: ObjectIdentifier = id_ce!(27);
+    const OID: ObjectIdentifier = oid!(0x55, 0x1D, 27);
 }
 
-impl Criticality for BaseCrlNumber {
-    ghost use Rattle.std.specs.Prelude.{true};
-
-    ghost is_critical = { λ base subject extensions. true };
-
-    fn criticality(&self, _subject: &Name, _extensions: &[Extension]) -> bool {
-        true
-    }
+impl FixedCriticality for BaseCrlNumber {
+    type Critical = Always;
 }
 
 impl Newtype for BaseCrlNumber {

@@ -1,9 +1,9 @@
 //! CRL reason codes.
 
 use std::alloc::Global;
-use x509_der::{AssociatedOid, ObjectIdentifier};
+use x509_der::{AssociatedOid, ObjectIdentifier, oid};
 use x509_der_grammar::{Content, Error, Room, Spelled, Tag, TryClone};
-use x509_ext_frame::{Criticality, Extension, Name, id_ce};
+use x509_ext_frame::{FixedCriticality, Never};
 use x509_prim::{NamedNumber, put_named_number, read_named_number};
 
 /// The reason for which a certificate was revoked (RFC 5280 5.3.1). Its OID is 2.5.29.21, and it isn't critical.
@@ -115,17 +115,11 @@ impl AssociatedOid for CrlReason {
 
     ghost OID = { id_ce 21 };
 
-    const OID: ObjectIdentifier = id_ce!(21);
+    const OID: ObjectIdentifier = oid!(0x55, 0x1D, 21);
 }
 
-impl Criticality for CrlReason {
-    ghost use Rattle.std.specs.Prelude.{false};
-
-    ghost is_critical = { λ reason subject extensions. false };
-
-    fn criticality(&self, _subject: &Name, _extensions: &[Extension]) -> bool {
-        false
-    }
+impl FixedCriticality for CrlReason {
+    type Critical = Never;
 }
 
 impl TryClone for CrlReason {

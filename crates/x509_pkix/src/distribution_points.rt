@@ -4,10 +4,10 @@ ghost use Rattle.std.specs.Prelude.{◌≡◌, []};
 
 use crate::distribution_point::DistributionPoint;
 use std::alloc::Global;
-use x509_der::{AssociatedOid, ObjectIdentifier};
+use x509_der::{AssociatedOid, ObjectIdentifier, oid};
 use x509_der_frames::SequenceOf;
 use x509_der_grammar::Newtype;
-use x509_ext_frame::{Criticality, Extension, Name, id_ce};
+use x509_ext_frame::{FixedCriticality, Never};
 
 /// The CRL distribution points: where the CRLs are found that would revoke the certificate (RFC 5280 4.2.1.13). Its OID
 /// is 2.5.29.31, and it isn't critical. An empty sequence is decoded and encoded too.
@@ -32,17 +32,11 @@ impl AssociatedOid for CrlDistributionPoints {
 
     ghost OID = { id_ce 31 };
 
-    const OID: ObjectIdentifier = id_ce!(31);
+    const OID: ObjectIdentifier = oid!(0x55, 0x1D, 31);
 }
 
-impl Criticality for CrlDistributionPoints {
-    ghost use Rattle.std.specs.Prelude.{false};
-
-    ghost is_critical = { λ places subject extensions. false };
-
-    fn criticality(&self, _subject: &Name, _extensions: &[Extension]) -> bool {
-        false
-    }
+impl FixedCriticality for CrlDistributionPoints {
+    type Critical = Never;
 }
 
 impl Newtype for CrlDistributionPoints {
@@ -122,17 +116,11 @@ impl AssociatedOid for FreshestCrl {
 
     ghost OID = { id_ce 46 };
 
-    const OID: ObjectIdentifier = id_ce!(46);
+    const OID: ObjectIdentifier = oid!(0x55, 0x1D, 46);
 }
 
-impl Criticality for FreshestCrl {
-    ghost use Rattle.std.specs.Prelude.{false};
-
-    ghost is_critical = { λ places subject extensions. false };
-
-    fn criticality(&self, _subject: &Name, _extensions: &[Extension]) -> bool {
-        false
-    }
+impl FixedCriticality for FreshestCrl {
+    type Critical = Never;
 }
 
 impl Newtype for FreshestCrl {

@@ -2,13 +2,13 @@
 
 use crate::ReasonFlags;
 use std::alloc::Global;
-use x509_der::{AssociatedOid, ObjectIdentifier};
+use x509_der::{AssociatedOid, ObjectIdentifier, oid};
 use x509_der_frames::{
     PutPart, default_implicit, end, explicit_optional, implicit_default, implicit_optional,
     option_has_spelling, optional_explicit, optional_implicit,
 };
 use x509_der_grammar::{Content, Encode, Error, Room, Spelled, Tag, TryClone};
-use x509_ext_frame::{Criticality, Extension, Name, id_ce};
+use x509_ext_frame::{Always, FixedCriticality};
 use x509_ext_name::DistributionPointName;
 
 /// The issuing distribution point: where the CRL is found, and which certificates it covers (RFC 5280 5.2.5). Its OID
@@ -63,17 +63,11 @@ impl AssociatedOid for IssuingDistributionPoint {
 
     ghost OID = { id_ce 28 };
 
-    const OID: ObjectIdentifier = id_ce!(28);
+    const OID: ObjectIdentifier = oid!(0x55, 0x1D, 28);
 }
 
-impl Criticality for IssuingDistributionPoint {
-    ghost use Rattle.std.specs.Prelude.{true};
-
-    ghost is_critical = { λ point subject extensions. true };
-
-    fn criticality(&self, _subject: &Name, _extensions: &[Extension]) -> bool {
-        true
-    }
+impl FixedCriticality for IssuingDistributionPoint {
+    type Critical = Always;
 }
 
 impl TryClone for IssuingDistributionPoint {

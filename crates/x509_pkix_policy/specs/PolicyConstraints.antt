@@ -9,7 +9,7 @@ use Rattle.x509_pkix_policy.specs.declared.policy_constraints.PolicyConstraints.
 use Rattle.x509_der_element.specs.declared.tag.Tag.TheVariants.{Sequence}
 
 unfoldable pub policy_constraints_fields : Part (Option ℕ × Option ℕ)
-policy_constraints_fields = optional (implicit 0 2 (natural (2 ^ 32))) ⊗ optional (implicit 1 2 (natural (2 ^ 32)))
+policy_constraints_fields = optional (implicit 0 (natural (2 ^ 32))) ⊗ optional (implicit 1 (natural (2 ^ 32)))
 
 abbrev pub policy_constraints_contents : Contents PolicyConstraints
 policy_constraints_contents = fields (λ c. (c.require_explicit_policy, c.inhibit_policy_mapping)) (λ (require_explicit_policy, inhibit_policy_mapping). record { require_explicit_policy = require_explicit_policy; inhibit_policy_mapping = inhibit_policy_mapping }) policy_constraints_fields

@@ -1,10 +1,10 @@
 //! Certificate policies.
 
 use crate::policy_information::PolicyInformation;
-use x509_der::{AssociatedOid, ObjectIdentifier};
+use x509_der::{AssociatedOid, ObjectIdentifier, oid};
 use x509_der_frames::SequenceOf;
 use x509_der_grammar::Newtype;
-use x509_ext_frame::{Criticality, Extension, Name, id_ce};
+use x509_ext_frame::{FixedCriticality, Never};
 
 /// The policies under which the certificate was issued and for which it may be used (RFC 5280 4.2.1.4). Its OID is
 /// 2.5.29.32, and it isn't critical unless the caller says so. An empty sequence is decoded and encoded too.
@@ -20,17 +20,11 @@ impl AssociatedOid for CertificatePolicies {
 
     ghost OID = { id_ce 32 };
 
-    const OID: ObjectIdentifier = id_ce!(32);
+    const OID: ObjectIdentifier = oid!(0x55, 0x1D, 32);
 }
 
-impl Criticality for CertificatePolicies {
-    ghost use Rattle.std.specs.Prelude.{false};
-
-    ghost is_critical = { λ policies subject extensions. false };
-
-    fn criticality(&self, _subject: &Name, _extensions: &[Extension]) -> bool {
-        false
-    }
+impl FixedCriticality for CertificatePolicies {
+    type Critical = Never;
 }
 
 impl Newtype for CertificatePolicies {

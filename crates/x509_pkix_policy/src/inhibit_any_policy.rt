@@ -1,12 +1,12 @@
 //! Inhibit anyPolicy.
 
-use x509_der::{AssociatedOid, ObjectIdentifier};
+use x509_der::{AssociatedOid, ObjectIdentifier, oid};
 use x509_der_grammar::Newtype;
 use x509_der_order::{EncodingOrd, NewtypeOrd, SetMember, SetOrd};
-use x509_ext_frame::{Criticality, Extension, Name, id_ce};
+use x509_ext_frame::{Always, FixedCriticality};
 
 /// The OID of [`InhibitAnyPolicy`], 2.5.29.54.
-pub const ID_CE_INHIBIT_ANY_POLICY: ObjectIdentifier = id_ce!(54);
+pub const ID_CE_INHIBIT_ANY_POLICY: ObjectIdentifier = oid!(0x55, 0x1D, 54);
 
 /// After how many further certificates of a path anyPolicy doesn't count as a match for other policies any more (RFC
 /// 5280 4.2.1.14). Its OID is 2.5.29.54, and it is critical.
@@ -26,14 +26,8 @@ impl AssociatedOid for InhibitAnyPolicy {
     const OID: ObjectIdentifier = ID_CE_INHIBIT_ANY_POLICY;
 }
 
-impl Criticality for InhibitAnyPolicy {
-    ghost use Rattle.std.specs.Prelude.{true};
-
-    ghost is_critical = { λ inhibit subject extensions. true };
-
-    fn criticality(&self, _subject: &Name, _extensions: &[Extension]) -> bool {
-        true
-    }
+impl FixedCriticality for InhibitAnyPolicy {
+    type Critical = Always;
 }
 
 impl Newtype for InhibitAnyPolicy {

@@ -1,10 +1,10 @@
 //! Policy constraints.
 
 use std::alloc::Global;
-use x509_der::{AssociatedOid, ObjectIdentifier};
+use x509_der::{AssociatedOid, ObjectIdentifier, oid};
 use x509_der_frames::{PutPart, end, implicit_optional, option_has_spelling, optional_implicit};
 use x509_der_grammar::{Content, Error, Room, Spelled, Tag, TryClone};
-use x509_ext_frame::{Criticality, Extension, Name, id_ce};
+use x509_ext_frame::{Always, FixedCriticality};
 
 /// Policy constraints: after how many further certificates of a path policies have to be acceptable, or mappings aren't
 /// followed any more (RFC 5280 4.2.1.11). Its OID is 2.5.29.36, and it is critical.
@@ -29,17 +29,11 @@ impl AssociatedOid for PolicyConstraints {
 
     ghost OID = { id_ce 36 };
 
-    const OID: ObjectIdentifier = id_ce!(36);
+    const OID: ObjectIdentifier = oid!(0x55, 0x1D, 36);
 }
 
-impl Criticality for PolicyConstraints {
-    ghost use Rattle.std.specs.Prelude.{true};
-
-    ghost is_critical = { λ constraints subject extensions. true };
-
-    fn criticality(&self, _subject: &Name, _extensions: &[Extension]) -> bool {
-        true
-    }
+impl FixedCriticality for PolicyConstraints {
+    type Critical = Always;
 }
 
 impl TryClone for PolicyConstraints {

@@ -1,10 +1,10 @@
 //! Policy mappings.
 
 use std::alloc::Global;
-use x509_der::{AssociatedOid, ObjectIdentifier};
+use x509_der::{AssociatedOid, ObjectIdentifier, oid};
 use x509_der_frames::{PutPart, SequenceOf, end, field};
 use x509_der_grammar::{Content, Error, Newtype, Room, Spelled, Tag, TryClone};
-use x509_ext_frame::{Criticality, Extension, Name, id_ce};
+use x509_ext_frame::{Always, FixedCriticality};
 
 /// A policy of the issuer, and a policy of the subject that the issuer considers equivalent (RFC 5280 4.2.1.5).
 ///
@@ -90,17 +90,11 @@ impl AssociatedOid for PolicyMappings {
 
     ghost OID = { id_ce 33 };
 
-    const OID: ObjectIdentifier = id_ce!(33);
+    const OID: ObjectIdentifier = oid!(0x55, 0x1D, 33);
 }
 
-impl Criticality for PolicyMappings {
-    ghost use Rattle.std.specs.Prelude.{true};
-
-    ghost is_critical = { λ mappings subject extensions. true };
-
-    fn criticality(&self, _subject: &Name, _extensions: &[Extension]) -> bool {
-        true
-    }
+impl FixedCriticality for PolicyMappings {
+    type Critical = Always;
 }
 
 impl Newtype for PolicyMappings {

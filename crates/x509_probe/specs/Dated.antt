@@ -19,7 +19,7 @@ use Rattle.x509_probe.specs.declared.dated.Dated.{Dated}
 use Rattle.x509_probe.specs.declared.dated.Enclosing.{Enclosing}
 
 unfoldable pub dated_fields : {P : Type 0} → Part (List ℕ × (Validity P × Option (List ℕ)))
-dated_fields = required object_identifier ⊗ (required validity ⊗ optional (implicit 0 4 octet_string))
+dated_fields = required object_identifier ⊗ (required validity ⊗ optional (implicit 0 octet_string))
 
 abbrev pub dated_contents : {P : Type 0} → Contents (Dated P)
 dated_contents = fields (λ d. (d.name, (d.validity, d.note))) (λ (name, (validity, note)). record { name = name; validity = validity; note = note }) dated_fields
@@ -39,7 +39,7 @@ unfolding dated_fields fields_good
 dated_stable writing stable = with_field_stable _ _ writing (λ d v. refl) (λ d u v. refl) (λ d g. g.1.0) (λ d v g h. (g.0, (h, g.1.1))) stable
 
 unfoldable pub enclosing_fields : {P : Type 0} → Part (Option (Dated P) × Bool)
-enclosing_fields = optional (implicit 1 48 dated) ⊗ defaulted boolean_default boolean
+enclosing_fields = optional (implicit 1 dated) ⊗ defaulted boolean_default boolean
 
 abbrev pub enclosing_contents : {P : Type 0} → Contents (Enclosing P)
 enclosing_contents = fields (λ e. (e.kept, e.last)) (λ (kept, last). record { kept = kept; last = last }) enclosing_fields

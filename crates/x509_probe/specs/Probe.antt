@@ -14,7 +14,7 @@ use Rattle.x509_prim.specs.OctetString.{octet_string, octet_string_lawful}
 use Rattle.x509_probe.specs.declared.probe.Probe.{Probe}
 
 unfoldable pub probe_fields : Part (ℕ × (Option (List ℕ) × (Bool × List ℕ)))
-probe_fields = defaulted zero_default (explicit 0 (natural (2 ^ 8))) ⊗ (optional (implicit 1 4 octet_string) ⊗ (defaulted boolean_default boolean ⊗ required object_identifier))
+probe_fields = defaulted zero_default (explicit 0 (natural (2 ^ 8))) ⊗ (optional (implicit 1 octet_string) ⊗ (defaulted boolean_default boolean ⊗ required object_identifier))
 
 abbrev pub probe_contents : Contents Probe
 probe_contents = fields (λ p. (p.a, (p.b, (p.c, p.d)))) (λ (a, (b, (c, d))). record { a = a; b = b; c = c; d = d }) probe_fields

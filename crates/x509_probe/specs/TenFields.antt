@@ -27,8 +27,8 @@ Behind = Option BitParts × (Option (List ℕ) × (Number × (Probe × Option Pr
 
 unfoldable pub ten_fields_parts : Part (Front × Behind)
 ten_fields_parts =
-    (defaulted zero_default (explicit 0 (natural (2 ^ 8))) ⊗ (required object_identifier ⊗ (required number ⊗ (required (universal Sequence (list_of probe)) ⊗ optional (implicit 1 3 bit_string)))))
-    ⊗ (optional (implicit 2 3 bit_string) ⊗ (optional (explicit 3 octet_string) ⊗ (required (explicit 4 number) ⊗ (required (implicit 5 48 probe) ⊗ optional probe))))
+    (defaulted zero_default (explicit 0 (natural (2 ^ 8))) ⊗ (required object_identifier ⊗ (required number ⊗ (required (universal Sequence (list_of probe)) ⊗ optional (implicit 1 bit_string)))))
+    ⊗ (optional (implicit 2 bit_string) ⊗ (optional (explicit 3 octet_string) ⊗ (required (explicit 4 number) ⊗ (required (implicit 5 probe) ⊗ optional probe))))
 
 abbrev pub ten_fields_contents : Contents TenFields
 ten_fields_contents = fields

@@ -12,21 +12,17 @@ ghost use Rattle.x509_sct_tls.specs.Numbers.{uint16};
 use crate::error::Error;
 use crate::serialized::SerializedSct;
 use std::alloc::Global;
-use x509_der::{AssociatedOid, ObjectIdentifier};
+use x509_der::{AssociatedOid, ObjectIdentifier, oid};
 use x509_der_grammar::Newtype;
 use x509_der_order::NewtypeOrd;
-use x509_ext_frame::{Criticality, Extension, Name};
+use x509_ext_frame::{FixedCriticality, Never};
 use x509_prim::OctetString;
 use x509_sct_tls::{read_list, serialize_list};
 
 // 1.3.6.1.4.1.11129.2.4.2 (RFC 6962 section 3.3)
-const EMBEDDED_TIMESTAMPS: ObjectIdentifier = ObjectIdentifier {
-    len: 10,
-    octets: [
-        0x2B, 0x06, 0x01, 0x04, 0x01, 0xD6, 0x79, 0x02, 0x04, 0x02, 0, 0, 0, 0, 0, 0, 0, 0, 0, 0,
-        0, 0, 0, 0, 0, 0, 0, 0, 0, 0, 0, 0, 0, 0, 0, 0, 0, 0, 0,
-    ],
-};
+const EMBEDDED_TIMESTAMPS: ObjectIdentifier = oid!(
+    0x2B, 0x06, 0x01, 0x04, 0x01, 0xD6, 0x79, 0x02, 0x04, 0x02
+);
 
 /// The list of a certificate's SCTs, as octets that are to be a list in TLS (RFC 6962 section 3.3). Its OID is
 /// 1.3.6.1.4.1.11129.2.4.2, and it isn't critical. The octets are decoded and encoded as they are;
@@ -78,14 +74,8 @@ impl AssociatedOid for SignedCertificateTimestampList {
     const OID: ObjectIdentifier = EMBEDDED_TIMESTAMPS;
 }
 
-impl Criticality for SignedCertificateTimestampList {
-    ghost use Rattle.std.specs.Prelude.{false};
-
-    ghost is_critical = { λ list subject extensions. false };
-
-    fn criticality(&self, _subject: &Name, _extensions: &[Extension]) -> bool {
-        false
-    }
+impl FixedCriticality for SignedCertificateTimestampList {
+    type Critical = Never;
 }
 
 impl Newtype for SignedCertificateTimestampList {

@@ -1,18 +1,12 @@
 //! The poison extension of precertificates.
 
 use std::alloc::Global;
-use x509_der::{AssociatedOid, ObjectIdentifier};
+use x509_der::{AssociatedOid, ObjectIdentifier, oid};
 use x509_der_grammar::{Content, Error, ErrorKind, Room, Tag, TryClone};
-use x509_ext_frame::{Criticality, Extension, Name};
+use x509_ext_frame::{Always, FixedCriticality};
 
 // 1.3.6.1.4.1.11129.2.4.3 (RFC 6962 section 3.1)
-const POISON: ObjectIdentifier = ObjectIdentifier {
-    len: 10,
-    octets: [
-        0x2B, 0x06, 0x01, 0x04, 0x01, 0xD6, 0x79, 0x02, 0x04, 0x03, 0, 0, 0, 0, 0, 0, 0, 0, 0, 0,
-        0, 0, 0, 0, 0, 0, 0, 0, 0, 0, 0, 0, 0, 0, 0, 0, 0, 0, 0,
-    ],
-};
+const POISON: ObjectIdentifier = oid!(0x2B, 0x06, 0x01, 0x04, 0x01, 0xD6, 0x79, 0x02, 0x04, 0x03);
 
 /// The poison extension: it makes a certificate a precertificate, which is submitted to a log and which no one may
 /// accept as a certificate (RFC 6962 section 3.1). Its OID is 1.3.6.1.4.1.11129.2.4.3, and it is critical.
@@ -31,14 +25,8 @@ impl AssociatedOid for CtPrecertificatePoison {
     const OID: ObjectIdentifier = POISON;
 }
 
-impl Criticality for CtPrecertificatePoison {
-    ghost use Rattle.std.specs.Prelude.{true};
-
-    ghost is_critical = { λ poison subject extensions. true };
-
-    fn criticality(&self, _subject: &Name, _extensions: &[Extension]) -> bool {
-        true
-    }
+impl FixedCriticality for CtPrecertificatePoison {
+    type Critical = Always;
 }
 
 impl Content for CtPrecertificatePoison {

@@ -3,9 +3,8 @@
 ghost use Rattle.x509_cert.specs.Attributes.{MakesAttribute};
 ghost use Rattle.x509_der_grammar.specs.Writing.{writes};
 
-use crate::request::identifiers::pkcs_9;
 use std::alloc::Global;
-use x509_der::{AssociatedOid, ObjectIdentifier, SetOfVec};
+use x509_der::{AssociatedOid, ObjectIdentifier, SetOfVec, oid};
 use x509_der_frames::Any;
 use x509_der_grammar::{Decode, Encode, Error, Grammar, Room, Spelled, Tag, Tagged, TryClone};
 use x509_name_attribute::{Attribute, DirectoryString};
@@ -55,7 +54,7 @@ impl AssociatedOid for ChallengePassword {
 
     ghost OID = { pkcs_9 7 };
 
-    const OID: ObjectIdentifier = pkcs_9!(7);
+    const OID: ObjectIdentifier = oid!(0x2A, 0x86, 0x48, 0x86, 0xF7, 0x0D, 0x01, 0x09, 7);
 }
 
 impl Grammar for ChallengePassword {

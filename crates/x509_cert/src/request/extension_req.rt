@@ -9,10 +9,9 @@ ghost use Rattle.x509_der_grammar.specs.Writing.{plain, writes};
 ghost use Rattle.x509_ext_frame.specs.Extension.{extensions};
 
 use crate::request::attributes::attribute_of;
-use crate::request::identifiers::pkcs_9;
 use std::alloc::Global;
 use x509_cert_extension::{FilterExtensions, filter_extensions, get_extension};
-use x509_der::{AssociatedOid, ObjectIdentifier};
+use x509_der::{AssociatedOid, ObjectIdentifier, oid};
 use x509_der_grammar::{Decode, Error, Newtype};
 use x509_ext_frame::Extensions;
 use x509_name_attribute::Attribute;
@@ -76,7 +75,7 @@ pub fn extension_req_attribute(alloc: Global, req: ExtensionReq) -> Result<Attri
 impl AssociatedOid for ExtensionReq {
     ghost OID = { pkcs_9 14 };
 
-    const OID: ObjectIdentifier = pkcs_9!(14);
+    const OID: ObjectIdentifier = oid!(0x2A, 0x86, 0x48, 0x86, 0xF7, 0x0D, 0x01, 0x09, 14);
 }
 
 impl Newtype for ExtensionReq {

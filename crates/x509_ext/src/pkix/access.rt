@@ -3,11 +3,11 @@
 ghost use Rattle.std.specs.Prelude.{◌≡◌, []};
 
 use std::alloc::Global;
-use x509_der::{AssociatedOid, ObjectIdentifier};
+use x509_der::{AssociatedOid, ObjectIdentifier, oid};
 use x509_der_frames::{PutPart, SequenceOf, end, field};
 use x509_der_grammar::{Content, Error, Newtype, Room, Spelled, Tag, TryClone};
-use x509_ext_frame::{Criticality, Extension, id_pkix};
-use x509_ext_name::{GeneralName, Name};
+use x509_ext_frame::{FixedCriticality, Never};
+use x509_ext_name::GeneralName;
 
 /// Information that can be accessed about the issuer or the subject: by which method, and where (RFC 5280 4.2.2.1).
 ///
@@ -96,17 +96,11 @@ impl AssociatedOid for AuthorityInfoAccessSyntax {
 
     ghost OID = { id_pkix 1 1 };
 
-    const OID: ObjectIdentifier = id_pkix!(1, 1);
+    const OID: ObjectIdentifier = oid!(0x2B, 0x06, 0x01, 0x05, 0x05, 0x07, 1, 1);
 }
 
-impl Criticality for AuthorityInfoAccessSyntax {
-    ghost use Rattle.std.specs.Prelude.{false};
-
-    ghost is_critical = { λ access subject extensions. false };
-
-    fn criticality(&self, _subject: &Name, _extensions: &[Extension]) -> bool {
-        false
-    }
+impl FixedCriticality for AuthorityInfoAccessSyntax {
+    type Critical = Never;
 }
 
 impl Newtype for AuthorityInfoAccessSyntax {
@@ -186,17 +180,11 @@ impl AssociatedOid for SubjectInfoAccessSyntax {
 
     ghost OID = { id_pkix 1 11 };
 
-    const OID: ObjectIdentifier = id_pkix!(1, 11);
+    const OID: ObjectIdentifier = oid!(0x2B, 0x06, 0x01, 0x05, 0x05, 0x07, 1, 11);
 }
 
-impl Criticality for SubjectInfoAccessSyntax {
-    ghost use Rattle.std.specs.Prelude.{false};
-
-    ghost is_critical = { λ access subject extensions. false };
-
-    fn criticality(&self, _subject: &Name, _extensions: &[Extension]) -> bool {
-        false
-    }
+impl FixedCriticality for SubjectInfoAccessSyntax {
+    type Critical = Never;
 }
 
 impl Newtype for SubjectInfoAccessSyntax {

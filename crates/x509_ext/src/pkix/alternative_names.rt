@@ -3,14 +3,14 @@
 ghost use Rattle.std.specs.Prelude.{◌≡◌, []};
 
 use std::alloc::Global;
-use x509_der::{AssociatedOid, ObjectIdentifier};
+use x509_der::{AssociatedOid, ObjectIdentifier, oid};
 use x509_der_frames::SequenceOf;
 use x509_der_grammar::Newtype;
-use x509_ext_frame::{Criticality, Extension, id_ce};
+use x509_ext_frame::{Criticality, Extension, FixedCriticality, Never};
 use x509_ext_name::{GeneralNames, Name};
 
 /// The OID of [`SubjectAltName`], 2.5.29.17.
-pub const ID_CE_SUBJECT_ALT_NAME: ObjectIdentifier = id_ce!(17);
+pub const ID_CE_SUBJECT_ALT_NAME: ObjectIdentifier = oid!(0x55, 0x1D, 17);
 
 /// The subject alternative name, SAN (RFC 5280 4.2.1.6). Its OID is 2.5.29.17. It is critical exactly where the subject
 /// is the empty name. An empty sequence is decoded and encoded too.
@@ -103,7 +103,7 @@ impl AsMut<GeneralNames> for SubjectAltName {
 }
 
 /// The OID of [`IssuerAltName`], 2.5.29.18.
-pub const ID_CE_ISSUER_ALT_NAME: ObjectIdentifier = id_ce!(18);
+pub const ID_CE_ISSUER_ALT_NAME: ObjectIdentifier = oid!(0x55, 0x1D, 18);
 
 /// The issuer alternative name, IAN (RFC 5280 4.2.1.7). Its OID is 2.5.29.18, and it isn't critical. An empty sequence
 /// is decoded and encoded too.
@@ -131,14 +131,8 @@ impl AssociatedOid for IssuerAltName {
     const OID: ObjectIdentifier = ID_CE_ISSUER_ALT_NAME;
 }
 
-impl Criticality for IssuerAltName {
-    ghost use Rattle.std.specs.Prelude.{false};
-
-    ghost is_critical = { λ alternative subject extensions. false };
-
-    fn criticality(&self, _subject: &Name, _extensions: &[Extension]) -> bool {
-        false
-    }
+impl FixedCriticality for IssuerAltName {
+    type Critical = Never;
 }
 
 impl Newtype for IssuerAltName {

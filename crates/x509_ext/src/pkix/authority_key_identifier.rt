@@ -6,11 +6,11 @@ ghost use Rattle.std.specs.Prelude.{◌≡◌, Some, None, IsOkAnd};
 use crate::pkix::key_identifier;
 use std::alloc::Global;
 use x509_base::{SerialNumber, SubjectPublicKeyInfoRef};
-use x509_der::{AssociatedOid, ObjectIdentifier};
+use x509_der::{AssociatedOid, ObjectIdentifier, oid};
 use x509_der_frames::{PutPart, end, implicit_optional, option_has_spelling, optional_implicit};
 use x509_der_grammar::{Content, Error, Room, Spelled, Tag, TryClone};
-use x509_ext_frame::{Criticality, Extension, id_ce};
-use x509_ext_name::{GeneralNames, Name};
+use x509_ext_frame::{FixedCriticality, Never};
+use x509_ext_name::GeneralNames;
 use x509_prim::OctetString;
 
 /// The authority key identifier, AKI: it tells which key signed the certificate (RFC 5280 4.2.1.1). Its OID is
@@ -83,17 +83,11 @@ impl AssociatedOid for AuthorityKeyIdentifier {
 
     ghost OID = { id_ce 35 };
 
-    const OID: ObjectIdentifier = id_ce!(35);
+    const OID: ObjectIdentifier = oid!(0x55, 0x1D, 35);
 }
 
-impl Criticality for AuthorityKeyIdentifier {
-    ghost use Rattle.std.specs.Prelude.{false};
-
-    ghost is_critical = { λ identifier subject extensions. false };
-
-    fn criticality(&self, _subject: &Name, _extensions: &[Extension]) -> bool {
-        false
-    }
+impl FixedCriticality for AuthorityKeyIdentifier {
+    type Critical = Never;
 }
 
 impl TryClone for AuthorityKeyIdentifier {

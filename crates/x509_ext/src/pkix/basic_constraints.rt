@@ -1,12 +1,12 @@
 //! Basic constraints.
 
 use std::alloc::Global;
-use x509_der::{AssociatedOid, ObjectIdentifier};
+use x509_der::{AssociatedOid, ObjectIdentifier, oid};
 use x509_der_frames::{
     PutPart, default_field, defaulted, end, option_has_spelling, optional, optional_field,
 };
 use x509_der_grammar::{Content, Error, Room, Spelled, Tag, TryClone};
-use x509_ext_frame::{Criticality, Extension, Name, id_ce};
+use x509_ext_frame::{Always, FixedCriticality};
 
 /// Basic constraints: whether the subject is a certification authority, and how many more may stand below it (RFC 5280
 /// 4.2.1.9). Its OID is 2.5.29.19, and it is critical.
@@ -30,17 +30,11 @@ impl AssociatedOid for BasicConstraints {
 
     ghost OID = { id_ce 19 };
 
-    const OID: ObjectIdentifier = id_ce!(19);
+    const OID: ObjectIdentifier = oid!(0x55, 0x1D, 19);
 }
 
-impl Criticality for BasicConstraints {
-    ghost use Rattle.std.specs.Prelude.{true};
-
-    ghost is_critical = { λ constraints subject extensions. true };
-
-    fn criticality(&self, _subject: &Name, _extensions: &[Extension]) -> bool {
-        true
-    }
+impl FixedCriticality for BasicConstraints {
+    type Critical = Always;
 }
 
 impl TryClone for BasicConstraints {

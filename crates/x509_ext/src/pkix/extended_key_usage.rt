@@ -1,10 +1,10 @@
 //! Extended key usage.
 
-use x509_der::{AssociatedOid, ObjectIdentifier};
+use x509_der::{AssociatedOid, ObjectIdentifier, oid};
 use x509_der_frames::SequenceOf;
 use x509_der_grammar::Newtype;
 use x509_der_order::NewtypeOrd;
-use x509_ext_frame::{Criticality, Extension, Name, id_ce};
+use x509_ext_frame::{FixedCriticality, Never};
 
 /// Extended key usage: the purposes for which the key may be used (RFC 5280 4.2.1.12). Its OID is 2.5.29.37, and it
 /// isn't critical unless the caller says so. An empty sequence is decoded and encoded too.
@@ -21,17 +21,11 @@ impl AssociatedOid for ExtendedKeyUsage {
 
     ghost OID = { id_ce 37 };
 
-    const OID: ObjectIdentifier = id_ce!(37);
+    const OID: ObjectIdentifier = oid!(0x55, 0x1D, 37);
 }
 
-impl Criticality for ExtendedKeyUsage {
-    ghost use Rattle.std.specs.Prelude.{false};
-
-    ghost is_critical = { λ usage subject extensions. false };
-
-    fn criticality(&self, _subject: &Name, _extensions: &[Extension]) -> bool {
-        false
-    }
+impl FixedCriticality for ExtendedKeyUsage {
+    type Critical = Never;
 }
 
 impl Newtype for ExtendedKeyUsage {

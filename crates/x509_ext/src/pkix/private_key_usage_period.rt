@@ -2,10 +2,10 @@
 
 use std::alloc::Global;
 use x509_base_time::GeneralizedTime;
-use x509_der::{AssociatedOid, ObjectIdentifier};
+use x509_der::{AssociatedOid, ObjectIdentifier, oid};
 use x509_der_frames::{PutPart, end, implicit_optional, option_has_spelling, optional_implicit};
 use x509_der_grammar::{Content, Error, Room, Spelled, Tag, TryClone};
-use x509_ext_frame::{Criticality, Extension, Name, id_ce};
+use x509_ext_frame::{FixedCriticality, Never};
 
 /// The period in which the private key may sign, where that isn't the validity of its certificate (X.509 9.2.2.5). Its
 /// times are encoded as they are, under any profile. Its OID is 2.5.29.16 (RFC 5280 appendix A.2), and it isn't
@@ -30,17 +30,11 @@ impl AssociatedOid for PrivateKeyUsagePeriod {
 
     ghost OID = { id_ce 16 };
 
-    const OID: ObjectIdentifier = id_ce!(16);
+    const OID: ObjectIdentifier = oid!(0x55, 0x1D, 16);
 }
 
-impl Criticality for PrivateKeyUsagePeriod {
-    ghost use Rattle.std.specs.Prelude.{false};
-
-    ghost is_critical = { λ period subject extensions. false };
-
-    fn criticality(&self, _subject: &Name, _extensions: &[Extension]) -> bool {
-        false
-    }
+impl FixedCriticality for PrivateKeyUsagePeriod {
+    type Critical = Never;
 }
 
 impl TryClone for PrivateKeyUsagePeriod {

@@ -3,15 +3,14 @@
 ghost use Rattle.std.specs.Prelude.{◌≡◌, []};
 
 use std::alloc::Global;
-use x509_der::{AssociatedOid, ObjectIdentifier};
+use x509_der::{AssociatedOid, ObjectIdentifier, oid};
 use x509_der_frames::SequenceOf;
 use x509_der_grammar::Newtype;
-use x509_ext_frame::{Criticality, Extension, id_ce};
-use x509_ext_name::Name;
+use x509_ext_frame::{FixedCriticality, Never};
 use x509_name_attribute::Attribute;
 
 /// The OID of [`SubjectDirectoryAttributes`], 2.5.29.9.
-pub const ID_CE_SUBJECT_DIRECTORY_ATTRIBUTES: ObjectIdentifier = id_ce!(9);
+pub const ID_CE_SUBJECT_DIRECTORY_ATTRIBUTES: ObjectIdentifier = oid!(0x55, 0x1D, 9);
 
 /// Attributes of the subject, such as its nationality (RFC 5280 4.2.1.8). Its OID is 2.5.29.9, and it isn't critical.
 /// An empty sequence is decoded and encoded too.
@@ -39,14 +38,8 @@ impl AssociatedOid for SubjectDirectoryAttributes {
     const OID: ObjectIdentifier = ID_CE_SUBJECT_DIRECTORY_ATTRIBUTES;
 }
 
-impl Criticality for SubjectDirectoryAttributes {
-    ghost use Rattle.std.specs.Prelude.{false};
-
-    ghost is_critical = { λ subject_attributes subject extensions. false };
-
-    fn criticality(&self, _subject: &Name, _extensions: &[Extension]) -> bool {
-        false
-    }
+impl FixedCriticality for SubjectDirectoryAttributes {
+    type Critical = Never;
 }
 
 impl Newtype for SubjectDirectoryAttributes {

@@ -6,14 +6,14 @@ ghost use Rattle.std.specs.Prelude.{◌≡◌, IsOkAnd};
 use sha1::Sha1;
 use std::alloc::Global;
 use x509_base::SubjectPublicKeyInfoRef;
-use x509_der::{AssociatedOid, ObjectIdentifier};
+use x509_der::{AssociatedOid, ObjectIdentifier, oid};
 use x509_der_grammar::{Error, Newtype};
 use x509_der_order::NewtypeOrd;
-use x509_ext_frame::{Criticality, Extension, Name, id_ce};
+use x509_ext_frame::{FixedCriticality, Never};
 use x509_prim::OctetString;
 
 /// The OID of [`SubjectKeyIdentifier`], 2.5.29.14.
-pub const ID_CE_SUBJECT_KEY_IDENTIFIER: ObjectIdentifier = id_ce!(14);
+pub const ID_CE_SUBJECT_KEY_IDENTIFIER: ObjectIdentifier = oid!(0x55, 0x1D, 14);
 
 /// The subject key identifier, SKI: it tells which key the certificate has (RFC 5280 4.2.1.2). Its OID is 2.5.29.14,
 /// and it isn't critical.
@@ -61,14 +61,8 @@ impl AssociatedOid for SubjectKeyIdentifier {
     const OID: ObjectIdentifier = ID_CE_SUBJECT_KEY_IDENTIFIER;
 }
 
-impl Criticality for SubjectKeyIdentifier {
-    ghost use Rattle.std.specs.Prelude.{false};
-
-    ghost is_critical = { λ identifier subject extensions. false };
-
-    fn criticality(&self, _subject: &Name, _extensions: &[Extension]) -> bool {
-        false
-    }
+impl FixedCriticality for SubjectKeyIdentifier {
+    type Critical = Never;
 }
 
 impl Newtype for SubjectKeyIdentifier {
