@@ -3,7 +3,7 @@
 use x509_der::{AssociatedOid, ObjectIdentifier};
 use x509_der_frames::SequenceOf;
 use x509_der_grammar::Newtype;
-use x509_der_order::NewtypeOrd;
+use x509_der_order::{EncodingOrd, NewtypeOrd, SetMember, SetOrd};
 use x509_ext_frame::{Criticality, Extension, Name, id_ce};
 
 /// For what purposes the key may be used (RFC 5280 4.2.1.12). Its identifier is 2.5.29.37, and it isn't critical where
@@ -51,6 +51,16 @@ impl Newtype for ExtendedKeyUsage {
 }
 
 impl NewtypeOrd for ExtendedKeyUsage {}
+
+impl SetOrd for ExtendedKeyUsage {
+    ghost set_order = { ⟦<ExtendedKeyUsage as EncodingOrd>⟧.encoding_order };
+}
+
+impl SetMember for ExtendedKeyUsage {
+    ghost use Rattle.std.specs.Prelude.{refl};
+
+    ghost in_der_order = { refl };
+}
 
 impl From<SequenceOf<ObjectIdentifier>> for ExtendedKeyUsage {
     ghost use Rattle.std.specs.Prelude.{◌≡◌};
