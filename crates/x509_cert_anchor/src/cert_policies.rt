@@ -4,7 +4,7 @@ use bitflags::{Flag, Flags, bitflag_items};
 use std::alloc::Global;
 use std::cmp::Ordering;
 use x509_der_grammar::{Content, Error, Room, Spelled, Tag, TryClone};
-use x509_der_order::ValueOrd;
+use x509_der_order::{EncodingOrd, SetMember, SetOrd, ValueOrd};
 use x509_prim::{cmp_named_bits, put_named_bits, read_named_bits};
 
 /// Flags about policies on the paths from a trust anchor; bit n stands for the named bit n (RFC 5914 2.5). A bit from 3
@@ -111,6 +111,16 @@ impl ValueOrd for CertPolicies {
     }
 
     ghost ordered = { flag_ordered cert_policies_set cert_policies_names (writes (flag_writing cert_policies_set cert_policies_names)) };
+}
+
+impl SetOrd for CertPolicies {
+    ghost set_order = { ⟦<CertPolicies as EncodingOrd>⟧.encoding_order };
+}
+
+impl SetMember for CertPolicies {
+    ghost use Rattle.std.specs.Prelude.{refl};
+
+    ghost in_der_order = { refl };
 }
 
 impl TryClone for CertPolicies {

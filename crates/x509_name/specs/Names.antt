@@ -1,5 +1,5 @@
 -- What names are made of (RFC 5280 4.1.2.4, appendix A.1). An empty set or sequence is one too.
-use Rattle.std.specs.Prelude.{◌≡◌, Bool, List, refl}
+use Rattle.std.specs.Prelude.{◌≡◌, Bool, List}
 use Rattle.std.specs.Bool.{Decides}
 use Rattle.std.specs.Cmp.{IsEquivalence, IsTotalOrder}
 use Rattle.std.specs.Cmp.Lexicographic.{pointwise, pointwise_decides, lists_equiv}
@@ -8,11 +8,9 @@ use Rattle.x509_der_element.specs.declared.error.ErrorKind.{ErrorKind}
 use Rattle.x509_der_element.specs.declared.tag.Tag.TheVariants.{Sequence, Set}
 use Rattle.x509_der_grammar.specs.Form.{Form, Contents, IsForm, IsContents, universal, spelling}
 use Rattle.x509_der_grammar.specs.FormLaws.{universal_lawful}
-use Rattle.x509_der_grammar.specs.Round.{same, round_contents, round_lawful}
 use Rattle.x509_der_grammar.specs.Writing.{plain, writes}
 use Rattle.x509_der.specs.Order.{Order, IsOrder, IsDerOrder, HasEncoding, der_order}
 use Rattle.x509_der.specs.Ordered.{by_members, der_lawful}
-use Rattle.x509_der.specs.RoundOrder.{round_ordered}
 use Rattle.x509_der.specs.List.{list_of}
 use Rattle.x509_der.specs.ListLaws.{list_lawful}
 use Rattle.x509_der.specs.ListOrder.{list_ordered}
@@ -27,33 +25,30 @@ abbrev pub attribute_set : Contents (List AttributeTypeAndValue)
 attribute_set = set_of attribute_type_and_value type_and_value_cmp
 
 abbrev pub relative_distinguished_name : Form (List AttributeTypeAndValue)
-relative_distinguished_name = universal Set (round_contents same attribute_set)
+relative_distinguished_name = universal Set attribute_set
 
 -- RDNSequence: SEQUENCE OF RelativeDistinguishedName
 abbrev pub rdn_list : Contents (List (List AttributeTypeAndValue))
 rdn_list = list_of relative_distinguished_name
 
-abbrev pub rdn_sequence_contents : Contents (List (List AttributeTypeAndValue))
-rdn_sequence_contents = round_contents same rdn_list
-
 abbrev pub rdn_sequence : Form (List (List AttributeTypeAndValue))
-rdn_sequence = universal Sequence rdn_sequence_contents
+rdn_sequence = universal Sequence rdn_list
 
 -- Name: a choice of one, RDNSequence
 abbrev pub name : Form (List (List AttributeTypeAndValue))
 name = rdn_sequence
 
-attribute_set_lawful : {R : ErrorKind → Type 0} → IsContents R attribute_set
+pub attribute_set_lawful : {R : ErrorKind → Type 0} → IsContents R attribute_set
 attribute_set_lawful = set_lawful attribute_type_and_value type_and_value_cmp (universal_lawful Sequence _ type_and_value_contents_lawful)
 
 pub rdn_lawful : {R : ErrorKind → Type 0} → IsForm R relative_distinguished_name
-rdn_lawful = universal_lawful Set _ (round_lawful same attribute_set attribute_set_lawful)
+rdn_lawful = universal_lawful Set _ attribute_set_lawful
 
-pub rdn_sequence_contents_lawful : {R : ErrorKind → Type 0} → IsContents R rdn_sequence_contents
-rdn_sequence_contents_lawful = round_lawful same rdn_list (list_lawful relative_distinguished_name rdn_lawful)
+pub rdn_list_lawful : {R : ErrorKind → Type 0} → IsContents R rdn_list
+rdn_list_lawful = list_lawful relative_distinguished_name rdn_lawful
 
 pub rdn_sequence_lawful : {R : ErrorKind → Type 0} → IsForm R rdn_sequence
-rdn_sequence_lawful = universal_lawful Sequence _ rdn_sequence_contents_lawful
+rdn_sequence_lawful = universal_lawful Sequence _ rdn_list_lawful
 
 -- ---- the byte order
 
@@ -65,11 +60,11 @@ rdn_order = by_members type_and_value_cmp
 abbrev pub rdn_sequence_order : Order (List (List AttributeTypeAndValue))
 rdn_sequence_order = by_members (der_order relative_distinguished_name (writes plain) rdn_order)
 
-rdn_ordered : IsOrder relative_distinguished_name (writes plain) rdn_order
-rdn_ordered = round_ordered same Set (universal Set attribute_set) (λ v. refl) plain rdn_order (set_ordered attribute_type_and_value plain type_and_value_order type_and_value_ordered)
+pub rdn_ordered : IsOrder relative_distinguished_name (writes plain) rdn_order
+rdn_ordered = set_ordered attribute_type_and_value plain type_and_value_order type_and_value_ordered
 
 pub rdn_sequence_ordered : IsOrder rdn_sequence (writes plain) rdn_sequence_order
-rdn_sequence_ordered = round_ordered same Sequence (universal Sequence rdn_list) (λ v. refl) plain rdn_sequence_order (list_ordered relative_distinguished_name plain rdn_order rdn_ordered)
+rdn_sequence_ordered = list_ordered relative_distinguished_name plain rdn_order rdn_ordered
 
 -- ---- equality
 

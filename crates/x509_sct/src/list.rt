@@ -14,7 +14,7 @@ use crate::serialized::SerializedSct;
 use std::alloc::Global;
 use x509_der::{AssociatedOid, ObjectIdentifier, oid};
 use x509_der_grammar::Newtype;
-use x509_der_order::NewtypeOrd;
+use x509_der_order::{EncodingOrd, NewtypeOrd, SetMember, SetOrd};
 use x509_ext_frame::{FixedCriticality, Never};
 use x509_prim::OctetString;
 use x509_sct_tls::{read_list, serialize_list};
@@ -95,6 +95,16 @@ impl Newtype for SignedCertificateTimestampList {
 }
 
 impl NewtypeOrd for SignedCertificateTimestampList {}
+
+impl SetOrd for SignedCertificateTimestampList {
+    ghost set_order = { ⟦<SignedCertificateTimestampList as EncodingOrd>⟧.encoding_order };
+}
+
+impl SetMember for SignedCertificateTimestampList {
+    ghost use Rattle.std.specs.Prelude.{refl};
+
+    ghost in_der_order = { refl };
+}
 
 impl From<OctetString> for SignedCertificateTimestampList {
     ghost from_gives = { λ octets list. list.0 ≡ octets };

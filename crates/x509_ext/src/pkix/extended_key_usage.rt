@@ -3,7 +3,7 @@
 use x509_der::{AssociatedOid, ObjectIdentifier, oid};
 use x509_der_frames::SequenceOf;
 use x509_der_grammar::Newtype;
-use x509_der_order::NewtypeOrd;
+use x509_der_order::{EncodingOrd, NewtypeOrd, SetMember, SetOrd};
 use x509_ext_frame::{FixedCriticality, Never};
 
 /// Extended key usage: the purposes for which the key may be used (RFC 5280 4.2.1.12). Its OID is 2.5.29.37, and it
@@ -45,6 +45,16 @@ impl Newtype for ExtendedKeyUsage {
 }
 
 impl NewtypeOrd for ExtendedKeyUsage {}
+
+impl SetOrd for ExtendedKeyUsage {
+    ghost set_order = { ⟦<ExtendedKeyUsage as EncodingOrd>⟧.encoding_order };
+}
+
+impl SetMember for ExtendedKeyUsage {
+    ghost use Rattle.std.specs.Prelude.{refl};
+
+    ghost in_der_order = { refl };
+}
 
 impl From<SequenceOf<ObjectIdentifier>> for ExtendedKeyUsage {
     ghost use Rattle.std.specs.Prelude.{◌≡◌};

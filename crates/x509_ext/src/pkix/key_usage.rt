@@ -8,7 +8,7 @@ use std::alloc::Global;
 use std::cmp::Ordering;
 use x509_der::{AssociatedOid, ObjectIdentifier, oid};
 use x509_der_grammar::{Content, Error, Newtype, Room, Spelled, Tag, TryClone};
-use x509_der_order::{NewtypeOrd, ValueOrd};
+use x509_der_order::{EncodingOrd, NewtypeOrd, SetMember, SetOrd, ValueOrd};
 use x509_ext_frame::{Always, FixedCriticality};
 use x509_prim::{cmp_named_bits, put_named_bits, read_named_bits};
 
@@ -127,6 +127,16 @@ impl ValueOrd for KeyUsages {
     }
 
     ghost ordered = { flag_ordered key_usage_set key_usage_names (writes (flag_writing key_usage_set key_usage_names)) };
+}
+
+impl SetOrd for KeyUsages {
+    ghost set_order = { ⟦<KeyUsages as EncodingOrd>⟧.encoding_order };
+}
+
+impl SetMember for KeyUsages {
+    ghost use Rattle.std.specs.Prelude.{refl};
+
+    ghost in_der_order = { refl };
 }
 
 impl TryClone for KeyUsages {
@@ -250,6 +260,16 @@ impl Newtype for KeyUsage {
 }
 
 impl NewtypeOrd for KeyUsage {}
+
+impl SetOrd for KeyUsage {
+    ghost set_order = { ⟦<KeyUsage as EncodingOrd>⟧.encoding_order };
+}
+
+impl SetMember for KeyUsage {
+    ghost use Rattle.std.specs.Prelude.{refl};
+
+    ghost in_der_order = { refl };
+}
 
 impl From<KeyUsages> for KeyUsage {
     ghost from_gives = { λ usages usage. usage.0 ≡ usages };

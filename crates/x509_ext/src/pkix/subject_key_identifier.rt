@@ -8,7 +8,7 @@ use std::alloc::Global;
 use x509_base::SubjectPublicKeyInfoRef;
 use x509_der::{AssociatedOid, ObjectIdentifier, oid};
 use x509_der_grammar::{Error, Newtype};
-use x509_der_order::NewtypeOrd;
+use x509_der_order::{EncodingOrd, NewtypeOrd, SetMember, SetOrd};
 use x509_ext_frame::{FixedCriticality, Never};
 use x509_prim::OctetString;
 
@@ -82,6 +82,16 @@ impl Newtype for SubjectKeyIdentifier {
 }
 
 impl NewtypeOrd for SubjectKeyIdentifier {}
+
+impl SetOrd for SubjectKeyIdentifier {
+    ghost set_order = { ⟦<SubjectKeyIdentifier as EncodingOrd>⟧.encoding_order };
+}
+
+impl SetMember for SubjectKeyIdentifier {
+    ghost use Rattle.std.specs.Prelude.{refl};
+
+    ghost in_der_order = { refl };
+}
 
 impl From<OctetString> for SubjectKeyIdentifier {
     ghost from_gives = { λ octets identifier. identifier.0 ≡ octets };

@@ -10,7 +10,7 @@ use std::alloc::Global;
 use std::cmp::Ordering;
 use std::hash::{Hash, Hasher};
 use std::marker::Model;
-use x509_der::{DerOrd, ValueOrd};
+use x509_der::{DerOrd, EncodingOrd, SetMember, SetOrd, ValueOrd};
 use x509_der_frames::members_have_spellings;
 use x509_der_grammar::{Content, Error, Room, Spelled, Tag, TryClone};
 
@@ -124,7 +124,7 @@ impl Content for Name {
     ghost use Rattle.x509_der_element.specs.declared.tag.Tag.TheVariants.{Sequence};
     ghost use Rattle.x509_name.specs.Names as grammar;
 
-    ghost contents = { grammar.rdn_sequence_contents };
+    ghost contents = { grammar.rdn_list };
 
     ghost IDENTIFIER = { Sequence };
 
@@ -138,7 +138,7 @@ impl Content for Name {
         self.0.write_content(room)
     }
 
-    ghost contents_lawful = { grammar.rdn_sequence_contents_lawful };
+    ghost contents_lawful = { grammar.rdn_list_lawful };
 }
 
 impl Spelled for Name {
@@ -157,6 +157,16 @@ impl ValueOrd for Name {
     }
 
     ghost ordered = { grammar.rdn_sequence_ordered };
+}
+
+impl SetOrd for Name {
+    ghost set_order = { ⟦<Name as EncodingOrd>⟧.encoding_order };
+}
+
+impl SetMember for Name {
+    ghost use Rattle.std.specs.Prelude.{refl};
+
+    ghost in_der_order = { refl };
 }
 
 impl PartialEq for Name {

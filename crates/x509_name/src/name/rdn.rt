@@ -13,8 +13,8 @@ use std::alloc::Global;
 use std::cmp::Ordering;
 use std::hash::{Hash, Hasher};
 use std::marker::Model;
-use x509_der::{DerOrd, NewtypeOrd, SetOfVec};
-use x509_der_grammar::{Error, Newtype};
+use x509_der::{DerOrd, EncodingOrd, SetMember, SetOfVec, SetOrd, ValueOrd};
+use x509_der_grammar::{Content, Error, Room, Spelled, Tag, TryClone};
 use x509_name_attribute::AttributeTypeAndValue;
 
 /// A relative distinguished name (RDN): a set of attributes (RFC 5280 4.1.2.4). Contracts see their list, in the byte
@@ -150,23 +150,61 @@ impl From<RelativeDistinguishedName> for SetOfVec<AttributeTypeAndValue> {
     }
 }
 
-impl Newtype for RelativeDistinguishedName {
-    ghost use Rattle.x509_der_grammar.specs.Round.{same};
-
-    type Inner = SetOfVec<AttributeTypeAndValue>;
-
-    ghost round = { same };
-
-    fn inner(&self) -> &SetOfVec<AttributeTypeAndValue> {
-        &self.0
-    }
-
-    fn from_inner(inner: SetOfVec<AttributeTypeAndValue>) -> RelativeDistinguishedName {
-        RelativeDistinguishedName(inner)
+impl TryClone for RelativeDistinguishedName {
+    fn try_clone(&self, alloc: Global) -> Result<RelativeDistinguishedName, Error> {
+        Ok(RelativeDistinguishedName(self.0.try_clone(alloc)?))
     }
 }
 
-impl NewtypeOrd for RelativeDistinguishedName {}
+impl Content for RelativeDistinguishedName {
+    ghost use Rattle.x509_der_element.specs.declared.tag.Tag.TheVariants.{Set};
+    ghost use Rattle.x509_name.specs.Names as grammar;
+
+    ghost contents = { grammar.attribute_set };
+
+    ghost IDENTIFIER = { Set };
+
+    const IDENTIFIER: Tag = Tag::Set;
+
+    #[inline(always)]
+    fn read_content(alloc: Global, octets: &[u8]) -> Result<RelativeDistinguishedName, Error> {
+        Ok(RelativeDistinguishedName(SetOfVec::read_content(alloc, octets)?))
+    }
+
+    fn write_content<R: Room>(&self, room: &mut R) -> Result<(), Error> {
+        self.0.write_content(room)
+    }
+
+    ghost contents_lawful = { grammar.attribute_set_lawful };
+}
+
+impl Spelled for RelativeDistinguishedName {
+    fn has_spelling(&self) {
+        self.0.has_spelling();
+    }
+}
+
+impl ValueOrd for RelativeDistinguishedName {
+    ghost use Rattle.x509_name.specs.Names as grammar;
+
+    ghost order = { grammar.rdn_order };
+
+    fn value_cmp(&self, other: &RelativeDistinguishedName) -> Ordering {
+        self.0.value_cmp(&other.0)
+    }
+
+    ghost ordered = { grammar.rdn_ordered };
+}
+
+impl SetOrd for RelativeDistinguishedName {
+    ghost set_order = { ⟦<RelativeDistinguishedName as EncodingOrd>⟧.encoding_order };
+}
+
+impl SetMember for RelativeDistinguishedName {
+    ghost use Rattle.std.specs.Prelude.{refl};
+
+    ghost in_der_order = { refl };
+}
 
 impl PartialEq for RelativeDistinguishedName {
     ghost use Rattle.std.specs.Cmp.{partial_equiv_from_equiv};

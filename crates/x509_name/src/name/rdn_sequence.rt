@@ -10,8 +10,9 @@ use std::alloc::Global;
 use std::cmp::Ordering;
 use std::hash::{Hash, Hasher};
 use std::marker::Model;
-use x509_der::{DerOrd, NewtypeOrd, SequenceOf};
-use x509_der_grammar::{Error, Newtype};
+use x509_der::{DerOrd, EncodingOrd, SequenceOf, SetMember, SetOrd, ValueOrd};
+use x509_der_frames::members_have_spellings;
+use x509_der_grammar::{Content, Error, Room, Spelled, Tag, TryClone};
 
 /// A sequence of relative distinguished names (RDNs), the most general first (RFC 5280 4.1.2.4). Contracts see their
 /// list. An empty sequence is decoded and encoded too.
@@ -146,23 +147,61 @@ impl AsMut<SequenceOf<RelativeDistinguishedName>> for RdnSequence {
     }
 }
 
-impl Newtype for RdnSequence {
-    ghost use Rattle.x509_der_grammar.specs.Round.{same};
-
-    type Inner = SequenceOf<RelativeDistinguishedName>;
-
-    ghost round = { same };
-
-    fn inner(&self) -> &SequenceOf<RelativeDistinguishedName> {
-        &self.0
-    }
-
-    fn from_inner(inner: SequenceOf<RelativeDistinguishedName>) -> RdnSequence {
-        RdnSequence(inner)
+impl TryClone for RdnSequence {
+    fn try_clone(&self, alloc: Global) -> Result<RdnSequence, Error> {
+        Ok(RdnSequence(self.0.try_clone(alloc)?))
     }
 }
 
-impl NewtypeOrd for RdnSequence {}
+impl Content for RdnSequence {
+    ghost use Rattle.x509_der_element.specs.declared.tag.Tag.TheVariants.{Sequence};
+    ghost use Rattle.x509_name.specs.Names as grammar;
+
+    ghost contents = { grammar.rdn_list };
+
+    ghost IDENTIFIER = { Sequence };
+
+    const IDENTIFIER: Tag = Tag::Sequence;
+
+    #[inline(always)]
+    fn read_content(alloc: Global, octets: &[u8]) -> Result<RdnSequence, Error> {
+        Ok(RdnSequence(SequenceOf::read_content(alloc, octets)?))
+    }
+
+    fn write_content<R: Room>(&self, room: &mut R) -> Result<(), Error> {
+        self.0.write_content(room)
+    }
+
+    ghost contents_lawful = { grammar.rdn_list_lawful };
+}
+
+impl Spelled for RdnSequence {
+    fn has_spelling(&self) {
+        members_have_spellings(self.0.as_slice());
+    }
+}
+
+impl ValueOrd for RdnSequence {
+    ghost use Rattle.x509_name.specs.Names as grammar;
+
+    ghost order = { grammar.rdn_sequence_order };
+
+    fn value_cmp(&self, other: &RdnSequence) -> Ordering {
+        self.0.value_cmp(&other.0)
+    }
+
+    ghost ordered = { grammar.rdn_sequence_ordered };
+}
+
+impl SetOrd for RdnSequence {
+    ghost set_order = { ⟦<RdnSequence as EncodingOrd>⟧.encoding_order };
+}
+
+impl SetMember for RdnSequence {
+    ghost use Rattle.std.specs.Prelude.{refl};
+
+    ghost in_der_order = { refl };
+}
 
 impl PartialEq for RdnSequence {
     ghost use Rattle.std.specs.Cmp.{partial_equiv_from_equiv};
