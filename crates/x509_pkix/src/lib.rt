@@ -1,6 +1,7 @@
 //! What extensions hold of policies, of constraints and of revocation (RFC 5280 4.2.1, 5.2, 5.3).
 #![tactic(auto)]
 
+mod certificate_issuer;
 mod crl_number;
 mod crl_reason;
 mod distribution_point;
@@ -33,6 +34,7 @@ pub mod constraints {
 
 /// CRLs.
 pub mod crl {
+    pub use crate::certificate_issuer::CertificateIssuer;
     pub use crate::crl_number::{BaseCrlNumber, CrlNumber};
     pub use crate::crl_reason::CrlReason;
     pub use crate::distribution_points::{CrlDistributionPoints, FreshestCrl};
@@ -46,6 +48,7 @@ pub mod crl {
     }
 }
 
+pub use certificate_issuer::CertificateIssuer;
 pub use crl_number::{BaseCrlNumber, CrlNumber};
 pub use crl_reason::CrlReason;
 pub use distribution_point::DistributionPoint;
