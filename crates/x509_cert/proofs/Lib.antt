@@ -1,2 +1,3 @@
 pub mod ArcsOfAttributes
+pub mod Issuing
 pub mod OneValue

@@ -1,6 +1,7 @@
 pub mod RevokedCert
 pub mod CertificateList
 pub mod Revoked
+pub mod Issuers
 pub mod AnySerial
 pub mod Version
 pub mod CertReq
