@@ -1,3 +1,4 @@
 pub mod ArcsOfAttributes
+pub mod Issuing
 pub mod OneValue
 pub mod Made

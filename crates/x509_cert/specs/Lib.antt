@@ -3,6 +3,7 @@ pub mod CertificateList
 pub mod Revoked
 pub mod Made
 pub mod Equality
+pub mod Issuers
 pub mod AnySerial
 pub mod Version
 pub mod CertReq

@@ -1,6 +1,7 @@
 //! Certificate revocation lists, CRLs (RFC 5280 5.1). Their times are encoded as they are, under every profile.
 
 mod certificate_list;
+mod issuers;
 mod revoked_cert;
 mod tbs_cert_list;
 

@@ -2,6 +2,7 @@
 use Rattle.std.specs.Prelude.{refl}
 use Rattle.x509_der_element.specs.Exact.{IsExact, exact_number, exact_bool, exact_octets, exact_list, exact_option, exact_both, exact_by, exact_bare}
 use Rattle.x509_ext_name.specs.Equality.{exact_general_name, exact_distribution_point_name}
+use Rattle.x509_pkix.specs.contracts.certificate_issuer.CertificateIssuerPartialEq.TheImpl as certificate_issuer_eq
 use Rattle.x509_pkix.specs.contracts.crl_number.BaseCrlNumberPartialEq.TheImpl as base_crl_number_eq
 use Rattle.x509_pkix.specs.contracts.crl_number.CrlNumberPartialEq.TheImpl as crl_number_eq
 use Rattle.x509_pkix.specs.contracts.crl_reason.CrlReason.{enum as reasons_of_entries}
@@ -13,6 +14,7 @@ use Rattle.x509_pkix.specs.contracts.general_subtree.GeneralSubtreePartialEq.The
 use Rattle.x509_pkix.specs.contracts.issuing_distribution_point.IssuingDistributionPointPartialEq.TheImpl as issuing_distribution_point_eq
 use Rattle.x509_pkix.specs.contracts.name_constraints.NameConstraintsPartialEq.TheImpl as name_constraints_eq
 use Rattle.x509_pkix.specs.contracts.reasons.ReasonsPartialEq.TheImpl as reasons_eq
+use Rattle.x509_pkix.specs.declared.certificate_issuer.CertificateIssuer.{CertificateIssuer}
 use Rattle.x509_pkix.specs.declared.crl_number.BaseCrlNumber.{BaseCrlNumber}
 use Rattle.x509_pkix.specs.declared.crl_number.CrlNumber.{CrlNumber}
 use Rattle.x509_pkix.specs.declared.distribution_point.DistributionPoint.{DistributionPoint}
@@ -64,3 +66,6 @@ exact_base_crl_number = exact_by (λ (b : BaseCrlNumber). b.0) (λ x. record { 0
 
 pub exact_crl_reason : IsExact crl_reason_eq.ghosts.eq
 exact_crl_reason = exact_bare reasons_of_entries tt
+
+pub exact_certificate_issuer : IsExact certificate_issuer_eq.ghosts.eq
+exact_certificate_issuer = exact_by (λ (i : CertificateIssuer). i.0) (λ x. record { 0 = x }) (λ i. refl) (exact_list exact_general_name)

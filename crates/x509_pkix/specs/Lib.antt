@@ -1,4 +1,5 @@
 pub mod CrlReason
+pub mod CertificateIssuer
 pub mod Reasons
 pub mod GeneralSubtree
 pub mod NameConstraints

@@ -3,6 +3,7 @@
 
 ghost use Rattle.std.specs.Prelude.{◌≡◌, ◌↔◌, true};
 ghost use Rattle.x509_der_grammar.specs.Writing.{IsStable};
+ghost use Rattle.x509_pkix.specs.declared.certificate_issuer.CertificateIssuer.{CertificateIssuer};
 ghost use Rattle.x509_pkix.specs.declared.crl_number.BaseCrlNumber.{BaseCrlNumber};
 ghost use Rattle.x509_pkix.specs.declared.crl_number.CrlNumber.{CrlNumber};
 ghost use Rattle.x509_pkix.specs.declared.crl_reason.CrlReason.{CrlReason};
@@ -14,6 +15,7 @@ ghost use Rattle.x509_pkix.specs.declared.issuing_distribution_point.IssuingDist
 ghost use Rattle.x509_pkix.specs.declared.name_constraints.NameConstraints.{NameConstraints};
 ghost use Rattle.x509_pkix.specs.declared.reasons.Reasons.{Reasons};
 
+use crate::certificate_issuer::CertificateIssuer;
 use crate::crl_number::{BaseCrlNumber, CrlNumber};
 use crate::crl_reason::CrlReason;
 use crate::distribution_point::DistributionPoint;
@@ -47,7 +49,7 @@ pub fn equality_of_name_constraints_is_exact()
 
 /// `==` of distribution points, of the extensions of CRLs and of those of their entries holds exactly of equal values:
 /// of sets of reasons, where they have the same bits.
-#[tactic(auto, using(crate::specs::Equality::exact_reasons, crate::specs::Equality::exact_distribution_point, crate::specs::Equality::exact_crl_distribution_points, crate::specs::Equality::exact_freshest_crl, crate::specs::Equality::exact_issuing_distribution_point, crate::specs::Equality::exact_crl_number, crate::specs::Equality::exact_base_crl_number, crate::specs::Equality::exact_crl_reason))]
+#[tactic(auto, using(crate::specs::Equality::exact_reasons, crate::specs::Equality::exact_distribution_point, crate::specs::Equality::exact_crl_distribution_points, crate::specs::Equality::exact_freshest_crl, crate::specs::Equality::exact_issuing_distribution_point, crate::specs::Equality::exact_crl_number, crate::specs::Equality::exact_base_crl_number, crate::specs::Equality::exact_crl_reason, crate::specs::Equality::exact_certificate_issuer))]
 pub fn equality_of_crl_extensions_is_exact()
     ensures reason_sets { (a b : Reasons) → (⟦<Reasons as PartialEq>⟧.eq a b ≡ true) ↔ (a ≡ b) }
     ensures points { (a b : DistributionPoint) → (⟦<DistributionPoint as PartialEq>⟧.eq a b ≡ true) ↔ (a ≡ b) }
@@ -57,4 +59,5 @@ pub fn equality_of_crl_extensions_is_exact()
     ensures numbers { (a b : CrlNumber) → (⟦<CrlNumber as PartialEq>⟧.eq a b ≡ true) ↔ (a ≡ b) }
     ensures base_numbers { (a b : BaseCrlNumber) → (⟦<BaseCrlNumber as PartialEq>⟧.eq a b ≡ true) ↔ (a ≡ b) }
     ensures reasons { (a b : CrlReason) → (⟦<CrlReason as PartialEq>⟧.eq a b ≡ true) ↔ (a ≡ b) }
+    ensures issuers { (a b : CertificateIssuer) → (⟦<CertificateIssuer as PartialEq>⟧.eq a b ≡ true) ↔ (a ≡ b) }
 {}

@@ -2,6 +2,7 @@
 //! are explained in `docs/MAP.md`.
 #![tactic(auto)]
 
+mod certificate_issuer;
 mod crl_number;
 mod crl_reason;
 mod distribution_point;
@@ -34,6 +35,7 @@ pub mod constraints {
 
 /// Extensions about CRLs.
 pub mod crl {
+    pub use crate::certificate_issuer::CertificateIssuer;
     pub use crate::crl_number::{BaseCrlNumber, CrlNumber};
     pub use crate::crl_reason::CrlReason;
     pub use crate::distribution_points::{CrlDistributionPoints, FreshestCrl};
@@ -47,6 +49,7 @@ pub mod crl {
     }
 }
 
+pub use certificate_issuer::CertificateIssuer;
 pub use crl_number::{BaseCrlNumber, CrlNumber};
 pub use crl_reason::CrlReason;
 pub use distribution_point::DistributionPoint;

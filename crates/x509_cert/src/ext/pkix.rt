@@ -8,7 +8,7 @@ pub use x509_ext::pkix::{
     SubjectInfoAccessSyntax, SubjectKeyIdentifier,
 };
 pub use x509_pkix::{
-    BaseCrlNumber, CrlDistributionPoints, CrlNumber, CrlReason, FreshestCrl,
+    BaseCrlNumber, CertificateIssuer, CrlDistributionPoints, CrlNumber, CrlReason, FreshestCrl,
     IssuingDistributionPoint, NameConstraints,
 };
 pub use x509_pkix_policy::{
@@ -43,7 +43,7 @@ pub mod constraints {
 /// Extensions about CRLs.
 pub mod crl {
     pub use x509_pkix::{
-        BaseCrlNumber, CrlDistributionPoints, CrlNumber, CrlReason, FreshestCrl,
+        BaseCrlNumber, CertificateIssuer, CrlDistributionPoints, CrlNumber, CrlReason, FreshestCrl,
         IssuingDistributionPoint,
     };
 

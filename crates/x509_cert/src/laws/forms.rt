@@ -17,6 +17,7 @@ ghost use Rattle.x509_ext.specs.KeyUsage.{key_usage};
 ghost use Rattle.x509_ext.specs.PrivateKeyUsagePeriod.{private_key_usage_period};
 ghost use Rattle.x509_ext.specs.SubjectDirectoryAttributes.{subject_directory_attributes};
 ghost use Rattle.x509_ext.specs.SubjectKeyIdentifier.{subject_key_identifier};
+ghost use Rattle.x509_pkix.specs.CertificateIssuer.{certificate_issuer};
 ghost use Rattle.x509_pkix.specs.CrlNumber.{base_crl_number, crl_number};
 ghost use Rattle.x509_pkix.specs.CrlReason.{crl_reason};
 ghost use Rattle.x509_pkix.specs.DistributionPoint.{crl_distribution_points, freshest_crl};
@@ -39,7 +40,7 @@ use x509_ext::pkix::{
     SubjectInfoAccessSyntax, SubjectKeyIdentifier,
 };
 use x509_pkix::{
-    BaseCrlNumber, CrlDistributionPoints, CrlNumber, CrlReason, FreshestCrl,
+    BaseCrlNumber, CertificateIssuer, CrlDistributionPoints, CrlNumber, CrlReason, FreshestCrl,
     IssuingDistributionPoint, NameConstraints,
 };
 use x509_pkix_policy::{CertificatePolicies, InhibitAnyPolicy, PolicyConstraints, PolicyMappings};
@@ -90,6 +91,7 @@ pub fn of_revocation()
     ensures crl_number { AreAlike ⟦<CrlNumber as Grammar>⟧.form crl_number }
     ensures base_crl_number { AreAlike ⟦<BaseCrlNumber as Grammar>⟧.form base_crl_number }
     ensures crl_reason { AreAlike ⟦<CrlReason as Grammar>⟧.form crl_reason }
+    ensures certificate_issuer { AreAlike ⟦<CertificateIssuer as Grammar>⟧.form certificate_issuer }
 {}
 
 /// The list of signed certificate timestamps (RFC 6962 3.3).

@@ -1,0 +1,101 @@
+//! The issuer of an entry in an indirect CRL.
+
+ghost use Rattle.std.specs.Prelude.{◌≡◌, []};
+
+use std::alloc::Global;
+use x509_der::{AssociatedOid, ObjectIdentifier};
+use x509_der_frames::SequenceOf;
+use x509_der_grammar::Newtype;
+use x509_ext_frame::{Criticality, Extension, Name, id_ce};
+use x509_ext_name::GeneralNames;
+
+/// Who issued the certificate of an entry in an indirect CRL, and those of the entries behind it up to the next that has this
+/// extension (RFC 5280 5.3.3). Its identifier is 2.5.29.29, and it is critical. A sequence without members is read and written
+/// too.
+///
+/// ```text
+/// CertificateIssuer ::= GeneralNames
+/// ```
+#[derive(Debug, Drop, PartialEq, Eq)]
+pub struct CertificateIssuer(pub GeneralNames);
+
+impl CertificateIssuer {
+    /// No names. It takes no memory.
+    pub fn new(alloc: Global) -> CertificateIssuer
+        ensures { result.0 ≡ [] }
+    {
+        CertificateIssuer(SequenceOf::new(alloc))
+    }
+}
+
+impl AssociatedOid for CertificateIssuer {
+    ghost use Rattle.x509_ext_frame.specs.Identifiers.{id_ce};
+
+    ghost OID = { id_ce 29 };
+
+    const OID: ObjectIdentifier = id_ce!(29);
+}
+
+impl Criticality for CertificateIssuer {
+    ghost use Rattle.std.specs.Prelude.{true};
+
+    ghost is_critical = { λ issuer subject extensions. true };
+
+    fn criticality(&self, _subject: &Name, _extensions: &[Extension]) -> bool {
+        true
+    }
+}
+
+impl Newtype for CertificateIssuer {
+    ghost use Rattle.x509_pkix.specs.CertificateIssuer.{certificate_issuer_round};
+
+    type Inner = GeneralNames;
+
+    ghost round = { certificate_issuer_round };
+
+    fn inner(&self) -> &GeneralNames {
+        &self.0
+    }
+
+    fn from_inner(inner: GeneralNames) -> CertificateIssuer {
+        CertificateIssuer(inner)
+    }
+}
+
+impl From<GeneralNames> for CertificateIssuer {
+    ghost from_gives = { λ names issuer. issuer.0 ≡ names };
+
+    fn from(names: GeneralNames) -> CertificateIssuer {
+        CertificateIssuer(names)
+    }
+}
+
+impl From<CertificateIssuer> for GeneralNames {
+    ghost from_gives = { λ issuer names. names ≡ issuer.0 };
+
+    fn from(issuer: CertificateIssuer) -> GeneralNames {
+        let CertificateIssuer(names) = issuer;
+        names
+    }
+}
+
+impl AsRef<GeneralNames> for CertificateIssuer {
+    fn as_ref(&self) -> &GeneralNames
+        ensures { result.now ≡ self.now.0 }
+    {
+        &self.0
+    }
+}
+
+impl AsMut<GeneralNames> for CertificateIssuer {
+    ghost use Rattle.std.specs.Borrow.{Lends, sem};
+    ghost use Rattle.x509_pkix.specs.Rows.{general_names_row};
+    ghost use Rattle.x509_pkix.specs.contracts.certificate_issuer.CertificateIssuer.{the_row};
+
+    fn as_mut(&mut self) -> &mut GeneralNames
+        ensures* writes_back { sem 𝓛 (Lends the_row general_names_row self.entry result (λ w. record { 0 = w })) }
+        ensures value { result.now ≡ self.old.0 }
+    {
+        &mut self.0
+    }
+}
