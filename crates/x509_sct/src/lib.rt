@@ -1,8 +1,9 @@
 //! Signed certificate timestamps (RFC 6962 sections 3.2 and 3.3): the extension that holds them, their serialized form,
-//! and what they say; and the poison of precertificates (section 3.1).
+//! what they say, and what their signatures are over; and the poison of precertificates (section 3.1).
 #![tactic(auto)]
 
 mod calls;
+mod entry;
 mod error;
 pub mod laws;
 mod list;
@@ -11,6 +12,7 @@ mod serialized;
 mod signed;
 mod timestamp;
 
+pub use entry::{PreCert, SignatureType, SignedEntry};
 pub use error::Error;
 pub use list::SignedCertificateTimestampList;
 pub use poison::CtPrecertificatePoison;
