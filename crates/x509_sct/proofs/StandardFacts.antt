@@ -1,16 +1,18 @@
 -- Worked timestamps and lists, computed from the definitions (RFC 6962 3.2, 3.3).
 use Rattle.std.proofs.Common.{◌≡◌, inl, inr, List, [], ◌∷◌, ◌++◌, refl, lit<}
 use Rattle.std.specs.Prelude.{ℕ, replicate}
-use Rattle.x509_sct_tls.specs.declared.error.TlsError.TheVariants.{EndOfStream, UnknownValue, TrailingData}
+use Rattle.x509_sct_tls.specs.declared.error.TlsError.TheVariants.{EndOfStream, UnknownValue, TrailingData, InvalidVectorLength}
 use Rattle.x509_sct_tls.specs.Form.{Spells, IsWholeFault}
 use Rattle.x509_sct_tls.specs.Lists.{ListFault}
-use Rattle.x509_sct_tls.specs.Numbers.{uint16}
+use Rattle.x509_sct_tls.specs.Numbers.{uint16, vector24}
+use Rattle.x509_sct.specs.declared.entry.SignatureType.TheVariants.{CertificateTimestamp}
 use Rattle.x509_sct.specs.declared.signed.DigitallySigned.{DigitallySigned}
 use Rattle.x509_sct.specs.declared.signed.HashAlgorithm.TheVariants as hashes
 use Rattle.x509_sct.specs.declared.signed.SignatureAlgorithm.TheVariants as signatures
 use Rattle.x509_sct.specs.declared.timestamp.SignedCertificateTimestamp.{SignedCertificateTimestamp}
 use Rattle.x509_sct.specs.declared.timestamp.Version.TheVariants.{V1}
 use Rattle.x509_sct.specs.DigitallySigned.{digitally_signed, hash_algorithm}
+use Rattle.x509_sct.specs.SignedInput.{signed_entry, signed_input}
 use Rattle.x509_sct.specs.Timestamp.{timestamp, timestamp_fields}
 use Rattle.x509_sct.specs.TimestampList.{serialized, IsTimestampList}
 
@@ -65,3 +67,20 @@ item_of_a_byte = ((lit< tt, tt), (lit< tt, refl))
 pub no_version : IsWholeFault timestamp (0x41 ∷ []) (UnknownValue 65)
 unfolding timestamp_fields
 no_version = inl (inl (elim [ V1 ↦ λ e. cc ], refl))
+
+-- what is signed of a certificate of the octets 30 and 00, with one octet of extensions
+pub certificate_is_signed : Spells signed_input (V1, (CertificateTimestamp, (1683095206506, (inl (0x30 ∷ 0x00 ∷ []), 0x07 ∷ []))))
+    (0x00 ∷ 0x00 ∷ 0x00 ∷ 0x00 ∷ 0x01 ∷ 0x87 ∷ 0xE0 ∷ 0x4A ∷ 0xBA ∷ 0x6A ∷ 0x00 ∷ 0x00 ∷ 0x00 ∷ 0x00 ∷ 0x02 ∷ 0x30 ∷ 0x00 ∷ 0x00 ∷ 0x01 ∷ 0x07 ∷ [])
+unfolding signed_input
+certificate_is_signed = ((tt, (tt, (lit< tt, ((lit< tt, (lit< tt, lit< tt)), lit< tt)))), refl)
+
+-- of a precertificate of the same octets, whose issuer's key has the hash of 32 octets 5A
+pub precertificate_is_signed : Spells signed_entry (inr (replicate 32 0x5A, 0x30 ∷ 0x00 ∷ [])) (0x00 ∷ 0x01 ∷ (replicate 32 0x5A ++ 0x00 ∷ 0x00 ∷ 0x02 ∷ 0x30 ∷ 0x00 ∷ []))
+precertificate_is_signed = ((lit< tt, (refl, (lit< tt, lit< tt))), refl)
+
+pub no_certificate : vector24.fault (0x00 ∷ 0x00 ∷ 0x00 ∷ []) InvalidVectorLength
+no_certificate = inr (record { value = []; rest = []; begins = (lit< tt, refl); behind = (refl, refl) })
+
+-- an entry of the type 256
+pub no_entry_type : signed_entry.fault (0x01 ∷ 0x00 ∷ []) (UnknownValue 256)
+no_entry_type = inr (record { value = 256; rest = []; begins = (lit< tt, refl); behind = refl })

@@ -4,6 +4,8 @@ use Rattle.x509_der_element.specs.Exact.{IsExact, exact_number, exact_octets, ex
 use Rattle.x509_der_element.specs.TagEquality.{exact_error}
 use Rattle.x509_sct_tls.specs.contracts.error.TlsError.{enum as tls_errors}
 use Rattle.x509_sct_tls.specs.contracts.error.TlsErrorPartialEq.TheImpl as tls_error_eq
+use Rattle.x509_sct.specs.contracts.entry.SignatureType.{enum as signature_types}
+use Rattle.x509_sct.specs.contracts.entry.SignatureTypePartialEq.TheImpl as signature_type_eq
 use Rattle.x509_sct.specs.contracts.error.Error.{enum as errors}
 use Rattle.x509_sct.specs.contracts.error.ErrorPartialEq.TheImpl as timestamp_error_eq
 use Rattle.x509_sct.specs.contracts.list.SignedCertificateTimestampListPartialEq.TheImpl as signed_certificate_timestamp_list_eq
@@ -45,6 +47,9 @@ exact_digitally_signed =
 
 pub exact_version : IsExact version_eq.ghosts.eq
 exact_version V1 V1 = (λ e. refl, λ e. refl)
+
+pub exact_signature_type : IsExact signature_type_eq.ghosts.eq
+exact_signature_type = exact_bare signature_types tt
 
 pub exact_log_id : IsExact log_id_eq.ghosts.eq
 exact_log_id = exact_by (λ (l : LogId). l.key_id) (λ key_id. record { key_id = key_id }) (λ l. refl) exact_octets

@@ -1,6 +1,7 @@
 pub mod DigitallySigned
 pub mod Timestamp
 pub mod TimestampList
+pub mod SignedInput
 pub mod Identifier
 pub mod Payload
 pub mod Poison

@@ -2,12 +2,14 @@
 
 ghost use Rattle.std.specs.Prelude.{◌≡◌, IfOk, IfErr};
 ghost use Rattle.x509_sct.specs.DigitallySigned.{digitally_signed, hash_algorithm, signature_algorithm, signature_and_hash};
+ghost use Rattle.x509_sct.specs.SignedInput.{signature_type};
 ghost use Rattle.x509_sct.specs.Timestamp.{log_id, timestamp, version};
 ghost use Rattle.x509_sct.specs.TimestampList.{serialized};
 ghost use Rattle.x509_sct_tls.specs.declared.error.TlsError.TheVariants.{Memory};
 ghost use Rattle.x509_sct_tls.specs.Answers.{AnswersFront};
 ghost use Rattle.x509_sct_tls.specs.Form.{Spells};
 
+use crate::entry::SignatureType;
 use crate::serialized::SerializedSct;
 use crate::signed::{
     DigitallySigned, HashAlgorithm, SignatureAlgorithm, SignatureAndHashAlgorithm,
@@ -63,6 +65,27 @@ impl LogId {
         ensures { AnswersFront (λ x. (x.0, x.1.now)) log_id ⊥ bytes.now result }
     {
         <LogId as Tls>::tls_deserialize_bytes(alloc, bytes)
+    }
+}
+
+impl SignatureType {
+    /// Its bytes. Memory may be refused, and nothing else.
+    pub fn tls_serialize(&self, alloc: Global) -> Result<Vec<u8>, TlsError>
+        ensures ok { IfOk result (λ bytes. Spells signature_type self.now bytes.items) }
+        ensures err { IfErr result (λ e. e ≡ Memory) }
+    {
+        Tls::tls_serialize(self, alloc)
+    }
+
+    /// What stands in front of the bytes, and what follows it; where none stands there, the first fault from the left.
+    /// It takes no memory.
+    pub fn tls_deserialize_bytes(
+        alloc: Global,
+        bytes: &[u8],
+    ) -> Result<(SignatureType, &[u8]), TlsError>
+        ensures { AnswersFront (λ x. (x.0, x.1.now)) signature_type ⊥ bytes.now result }
+    {
+        <SignatureType as Tls>::tls_deserialize_bytes(alloc, bytes)
     }
 }
 

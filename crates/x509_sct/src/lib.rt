@@ -1,9 +1,10 @@
 //! Signed certificate timestamps, SCTs (RFC 6962 sections 3.2 and 3.3): the extension that holds them, their encoding
-//! in TLS, and what they say; and the poison extension of precertificates (section 3.1). Words of our own, such as law,
-//! are explained in `docs/MAP.md`.
+//! in TLS, what they say, and what their signatures are over; and the poison extension of precertificates (section 3.1).
+//! Words of our own, such as law, are explained in `docs/MAP.md`.
 #![tactic(auto)]
 
 mod calls;
+mod entry;
 mod error;
 pub mod laws;
 mod list;
@@ -12,6 +13,7 @@ mod serialized;
 mod signed;
 mod timestamp;
 
+pub use entry::{PreCert, SignatureType, SignedEntry};
 pub use error::Error;
 pub use list::SignedCertificateTimestampList;
 pub use poison::CtPrecertificatePoison;

@@ -2,7 +2,7 @@
 
 use std::alloc::Global;
 use x509_der::{AssociatedOid, ObjectIdentifier, oid};
-use x509_der_grammar::{Content, Error, ErrorKind, Room, Tag, TryClone};
+use x509_der_grammar::{Content, Error, ErrorKind, Room, Spelled, Tag, TryClone};
 use x509_ext_frame::{Always, FixedCriticality};
 
 // 1.3.6.1.4.1.11129.2.4.3 (RFC 6962 section 3.1)
@@ -54,6 +54,10 @@ impl Content for CtPrecertificatePoison {
     }
 
     ghost contents_lawful = { grammar.poison_contents_lawful };
+}
+
+impl Spelled for CtPrecertificatePoison {
+    fn has_spelling(&self) {}
 }
 
 impl TryClone for CtPrecertificatePoison {

@@ -1,9 +1,10 @@
 -- The presentation language of TLS (RFC 5246 4): the bytes of a value are those of its fields, one after the other.
-use Rattle.std.specs.Prelude.{◌≡◌, ◌≢◌, ℕ, ◌*◌, ◌<◌, ◌^◌, ◌⊎◌, List, [], ◌∷◌, ◌++◌, length, get_or, Ok, Err}
-use Rattle.std.specs.Int.{Width, to_be_bytes}
+use Rattle.std.specs.Prelude.{◌≡◌, ◌≢◌, ℕ, zero, suc, ◌*◌, ◌<◌, ◌^◌, ◌⊎◌, List, [], ◌∷◌, ◌++◌, length, get_or, Ok, Err}
+use Rattle.std.proofs.Common.{inl, inr}
+use Rattle.std.specs.Int.{bytes_high_first}
 use Rattle.x509_sct_tls.specs.declared.error.TlsError.{TlsError}
-use Rattle.x509_sct_tls.specs.declared.error.TlsError.TheVariants.{EndOfStream, UnknownValue, TrailingData}
-use Rattle.x509_sct_tls.specs.FieldReading.{Reading, octets_at, number_at, name_at, counted_at, both_at, struct_at}
+use Rattle.x509_sct_tls.specs.declared.error.TlsError.TheVariants.{EndOfStream, UnknownValue, TrailingData, InvalidVectorLength}
+use Rattle.x509_sct_tls.specs.FieldReading.{Reading, octets_at, number_at, name_at, counted_at, filled_at, both_at, struct_at, select_at}
 
 -- The bytes of a value, the values that have bytes, and the first fault from the left of an input that begins with the
 -- bytes of no value. reading is a tool of the proofs, tied to the rest by the law IsForm.
@@ -49,8 +50,8 @@ abbrev pub fixed : ℕ → Form (List ℕ)
 fixed k = record { bytes = λ octets. octets; good = λ octets. length octets ≡ k; fault = IsShort k; reading = octets_at k }
 
 -- a number of k bytes, the most significant first (RFC 5246 4.1, 4.4)
-abbrev pub number : Width → ℕ → Form ℕ
-number w k = record { bytes = to_be_bytes w; good = λ n. n < 2 ^ (8 * k); fault = IsShort k; reading = number_at w k }
+abbrev pub number : ℕ → Form ℕ
+number k = record { bytes = bytes_high_first k; good = λ n. n < 2 ^ (8 * k); fault = IsShort k; reading = number_at k }
 
 -- no byte is there, or one that is the byte of no value
 abbrev pub IsUnnamed : {E : Type 0} → (E → ℕ) → List ℕ → TlsError → Type 0
@@ -72,6 +73,15 @@ counted count = record {
   reading = counted_at count.reading;
 }
 
+-- opaque T<1..>: a vector of at least one byte (RFC 5246 4.3)
+abbrev pub filled : Form (List ℕ) → Form (List ℕ)
+filled vector = record {
+  bytes = vector.bytes;
+  good = λ octets. (0 < length octets) × vector.good octets;
+  fault = λ input e. vector.fault input e ⊎ Behind vector (λ octets rest. (octets ≡ []) × (e ≡ InvalidVectorLength)) input;
+  reading = filled_at vector.reading;
+}
+
 -- a field and another behind it (RFC 5246 4.6)
 infixr 9 ◌⊗◌
 abbrev pub ◌⊗◌ : {X Y : Type 0} → Form X → Form Y → Form (X × Y)
@@ -89,6 +99,36 @@ struct to from fields = record {
   good = λ value. fields.good (to value);
   fault = fields.fault;
   reading = struct_at from fields.reading;
+}
+
+-- ---- select (number) { case 0: X; case 1: Y } (RFC 5246 4.6.1)
+
+-- the number of the case of a value, its bytes there, and the values that have bytes
+abbrev pub case_of : {X Y : Type 0} → X ⊎ Y → ℕ
+case_of (inl x) = 0
+case_of (inr y) = 1
+
+abbrev pub case_bytes : {X Y : Type 0} → Form X → Form Y → X ⊎ Y → List ℕ
+case_bytes first second (inl x) = first.bytes x
+case_bytes first second (inr y) = second.bytes y
+
+abbrev pub case_good : {X Y : Type 0} → Form X → Form Y → X ⊎ Y → Type 0
+case_good first second (inl x) = first.good x
+case_good first second (inr y) = second.good y
+
+-- the fault of what follows the number, or of a number that has no case
+abbrev pub CaseFault : {X Y : Type 0} → Form X → Form Y → TlsError → ℕ → List ℕ → Type 0
+CaseFault first second e zero rest = first.fault rest e
+CaseFault first second e (suc zero) rest = second.fault rest e
+CaseFault first second e (suc (suc n)) rest = e ≡ UnknownValue (suc (suc n))
+
+-- the number of the case, and the value that stands there
+abbrev pub select : {X Y : Type 0} → Form ℕ → Form X → Form Y → Form (X ⊎ Y)
+select number first second = record {
+  bytes = λ value. number.bytes (case_of value) ++ case_bytes first second value;
+  good = λ value. number.good (case_of value) × case_good first second value;
+  fault = λ input e. number.fault input e ⊎ Behind number (CaseFault first second e) input;
+  reading = select_at number.reading first.reading second.reading;
 }
 
 -- ---- an input that is to be one value and nothing more

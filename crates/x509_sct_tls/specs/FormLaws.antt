@@ -1,15 +1,15 @@
 -- The laws of the forms of fields.
-use Rattle.std.proofs.Common.{◌≡◌, ℕ, ◌<◌, ◌≤◌, ◌^◌, ◌*◌, false, inl, inr, List, [], ◌∷◌, ◌++◌, length, take, drop, Option, Some, None, Ok, Err, refl, sym, ap, subst, ◌∙◌, append_assoc, length-append, arith}
+use Rattle.std.proofs.Common.{◌≡◌, ℕ, zero, suc, ◌<◌, ◌≤◌, ◌^◌, ◌*◌, ◌⊎◌, false, inl, inr, List, [], ◌∷◌, ◌++◌, length, take, drop, Option, Some, None, Ok, Err, refl, sym, ap, subst, ◌∙◌, append_assoc, length-append, arith}
 use Rattle.std.specs.Prelude.{nat_lt, nat_eq}
-use Rattle.std.specs.Int.{Width, to_be_bytes, from_be_bytes}
+use Rattle.std.specs.Int.{bytes_high_first}
 use Rattle.std.proofs.lemmas.Bool.{cases_Bool, eqb-true, ltb-true, ltb-false, lt-ltb, le-ltb}
 use Rattle.std.proofs.lemmas.List.{take-append-drop, length-take-le}
 use Rattle.std.proofs.Math.Seq.{take-append_seam, drop-append_seam}
 use Rattle.x509_sct_tls.specs.declared.error.TlsError.{TlsError}
-use Rattle.x509_sct_tls.specs.declared.error.TlsError.TheVariants.{EndOfStream, UnknownValue}
+use Rattle.x509_sct_tls.specs.declared.error.TlsError.TheVariants.{EndOfStream, UnknownValue, InvalidVectorLength}
 use Rattle.x509_sct_tls.specs.Outcome.{◌>>=◌}
-use Rattle.x509_sct_tls.specs.FieldReading.{octets_at, number_at, name_of, named_or, name_at, counted_at, struct_at}
-use Rattle.x509_sct_tls.specs.Form.{Form, AreOctets, IsForm, IsShort, fixed, number, IsUnnamed, named, counted, ◌⊗◌, struct}
+use Rattle.x509_sct_tls.specs.FieldReading.{octets_at, number_of, number_at, name_of, named_or, name_at, counted_at, filled_or, filled_at, struct_at, case_at, select_at}
+use Rattle.x509_sct_tls.specs.Form.{Form, AreOctets, IsForm, IsShort, fixed, number, IsUnnamed, named, counted, filled, ◌⊗◌, struct, case_of, case_bytes, case_good, CaseFault, select}
 use Rattle.x509_sct_tls.specs.Steps.{ok_is, bind_ok, bind_err, octets_after, octets_front}
 
 -- ---- fields that have no fields
@@ -52,25 +52,25 @@ fixed_lawful k = record {
 }
 
 -- what holds of the numbers of k bytes
-pub record IsNumber (w : Width) (k : ℕ) : Type 0 where
-  pub size : (n : ℕ) → length (to_be_bytes w n) ≡ k
-  pub back : (octets : List ℕ) (n : ℕ) → length octets ≡ k → AreOctets octets → n ≡ from_be_bytes w octets → to_be_bytes w n ≡ octets
-  pub again : (n : ℕ) → n < 2 ^ (8 * k) → from_be_bytes w (to_be_bytes w n) ≡ n
-  pub below : (octets : List ℕ) → length octets ≡ k → AreOctets octets → from_be_bytes w octets < 2 ^ (8 * k)
+pub record IsNumber (k : ℕ) : Type 0 where
+  pub size : (n : ℕ) → length (bytes_high_first k n) ≡ k
+  pub back : (octets : List ℕ) (n : ℕ) → length octets ≡ k → AreOctets octets → n ≡ number_of k octets → bytes_high_first k n ≡ octets
+  pub again : (n : ℕ) → n < 2 ^ (8 * k) → number_of k (bytes_high_first k n) ≡ n
+  pub below : (octets : List ℕ) → length octets ≡ k → AreOctets octets → number_of k octets < 2 ^ (8 * k)
 
-pub number_lawful : (w : Width) (k : ℕ) → IsNumber w k → IsForm (number w k)
+pub number_lawful : (k : ℕ) → IsNumber k → IsForm (number k)
 unfolding number_at
-number_lawful w k is = record {
+number_lawful k is = record {
   sound = λ input n rest o e.
-      let b = bind_ok (octets_at k input) (λ x. Ok (from_be_bytes w x.0, x.1)) (n, rest) e in
+      let b = bind_ok (octets_at k input) (λ x. Ok (number_of k x.0, x.1)) (n, rest) e in
       let t = taken k input b.0.0 b.0.1 b.1 in
       let f : AreOctets b.0.0 = octets_front b.0.0 b.0.1 (subst AreOctets t.1 o) in
-      subst (λ (y : ℕ × List ℕ). (y.0 < 2 ^ (8 * k)) × (input ≡ to_be_bytes w y.0 ++ y.1)) (ok_is (from_be_bytes w b.0.0, b.0.1) (n, rest) b.2)
-      (is.below b.0.0 t.0 f, t.1 ∙ ap (λ (y : List ℕ). y ++ b.0.1) (sym (is.back b.0.0 (from_be_bytes w b.0.0) t.0 f refl)));
+      subst (λ (y : ℕ × List ℕ). (y.0 < 2 ^ (8 * k)) × (input ≡ bytes_high_first k y.0 ++ y.1)) (ok_is (number_of k b.0.0, b.0.1) (n, rest) b.2)
+      (is.below b.0.0 t.0 f, t.1 ∙ ap (λ (y : List ℕ). y ++ b.0.1) (sym (is.back b.0.0 (number_of k b.0.0) t.0 f refl)));
   complete = λ n rest good.
-      let r : octets_at k (to_be_bytes w n ++ rest) ≡ Ok (to_be_bytes w n, rest) = subst (λ j. octets_at j (to_be_bytes w n ++ rest) ≡ Ok (to_be_bytes w n, rest)) (is.size n) (retaken (to_be_bytes w n) rest) in
+      let r : octets_at k (bytes_high_first k n ++ rest) ≡ Ok (bytes_high_first k n, rest) = subst (λ j. octets_at j (bytes_high_first k n ++ rest) ≡ Ok (bytes_high_first k n, rest)) (is.size n) (retaken (bytes_high_first k n) rest) in
       rw (r, is.again n good) refl;
-  faulty = λ input e o h. elim (bind_err (octets_at k input) (λ x. Ok (from_be_bytes w x.0, x.1)) e h) [ inl j ↦ short k input e j | inr j ↦ absurd (let l = j.2 in cc) ];
+  faulty = λ input e o h. elim (bind_err (octets_at k input) (λ x. Ok (number_of k x.0, x.1)) e h) [ inl j ↦ short k input e j | inr j ↦ absurd (let l = j.2 in cc) ];
   first = λ input e h. rw (short_is k input e h) refl;
 }
 
@@ -197,4 +197,88 @@ struct_lawful {X} {Y} to from p back there h = record {
   complete = λ y rest g. rw (h.complete (to y) rest g, back y) refl;
   faulty = λ input e o r. elim (bind_err (p.reading input) (λ x. Ok (from x.0, x.1)) e r) [ inl j ↦ h.faulty input e o j | inr j ↦ absurd (let l = j.2 in cc) ];
   first = λ input e f. rw (h.first input e f) refl;
+}
+
+-- ---- vectors of at least one byte
+
+-- what holds of the vector that was read holds of the one that is given, which has a byte
+filled_ok : (P : List ℕ × List ℕ → Type 0) (octets rest x after : List ℕ) → filled_or (octets, rest) ≡ Ok (x, after) → P (octets, rest) → (0 < length x) × P (x, after)
+filled_ok P [] rest x after e h = absurd (let k = e in cc)
+filled_ok P (octet ∷ octets) rest x after e h = subst (λ (y : List ℕ × List ℕ). (0 < length y.0) × P y) (ok_is (octet ∷ octets, rest) (x, after) e) (omega arith, h)
+
+filled_err : (octets rest : List ℕ) (e : TlsError) → filled_or (octets, rest) ≡ Err e → (octets ≡ []) × (e ≡ InvalidVectorLength)
+filled_err [] rest e h = (refl, let k : InvalidVectorLength ≡ e = cc in sym k)
+filled_err (octet ∷ octets) rest e h = absurd (let k = h in cc)
+
+filled_back : (octets rest : List ℕ) → 0 < length octets → filled_or (octets, rest) ≡ Ok (octets, rest)
+filled_back [] rest h = absurd (omega arith)
+filled_back (octet ∷ octets) rest h = refl
+
+pub filled_lawful : (vector : Form (List ℕ)) → IsForm vector → IsForm (filled vector)
+unfolding filled_at
+filled_lawful vector is = record {
+  sound = λ input x rest o e.
+      let b = bind_ok (vector.reading input) filled_or (x, rest) e in
+      let f = filled_ok (λ y. vector.good y.0 × (input ≡ vector.bytes y.0 ++ y.1)) b.0.0 b.0.1 x rest b.2 (is.sound input b.0.0 b.0.1 o b.1) in
+      ((f.0, f.1.0), f.1.1);
+  complete = λ x rest good. rw (is.complete x rest good.1) (filled_back x rest good.0);
+  faulty = λ input e o h.
+      elim (bind_err (vector.reading input) filled_or e h) [
+        | inl j ↦ inl (is.faulty input e o j)
+        | inr j ↦ inr (record { value = j.0.0; rest = j.0.1; begins = is.sound input j.0.0 j.0.1 o j.1; behind = filled_err j.0.0 j.0.1 e j.2 })
+      ];
+  first = λ input e. elim [
+    | inl j ↦ rw (is.first input e j) refl
+    | inr j ↦ rw (j.begins.1, is.complete j.value j.rest j.begins.0, j.behind.0, j.behind.1) refl
+  ];
+}
+
+-- ---- cases that a number tells
+
+case_sound : {X Y : Type 0} (p : Form X) (q : Form Y) → IsForm p → IsForm q → (n : ℕ) (input : List ℕ) (v : X ⊎ Y) (rest : List ℕ) → AreOctets input
+    → case_at p.reading q.reading (n, input) ≡ Ok (v, rest) → (n ≡ case_of v) × (case_good p q v × (input ≡ case_bytes p q v ++ rest))
+case_sound {X} {Y} p q hp hq zero input v rest o e =
+    let a = bind_ok (p.reading input) (λ x. Ok (inl x.0, x.1)) (v, rest) e in
+    subst (λ (z : (X ⊎ Y) × List ℕ). (0 ≡ case_of z.0) × (case_good p q z.0 × (input ≡ case_bytes p q z.0 ++ z.1))) (ok_is (inl a.0.0, a.0.1) (v, rest) a.2) (refl, hp.sound input a.0.0 a.0.1 o a.1)
+case_sound {X} {Y} p q hp hq (suc zero) input v rest o e =
+    let a = bind_ok (q.reading input) (λ y. Ok (inr y.0, y.1)) (v, rest) e in
+    subst (λ (z : (X ⊎ Y) × List ℕ). (1 ≡ case_of z.0) × (case_good p q z.0 × (input ≡ case_bytes p q z.0 ++ z.1))) (ok_is (inr a.0.0, a.0.1) (v, rest) a.2) (refl, hq.sound input a.0.0 a.0.1 o a.1)
+case_sound p q hp hq (suc (suc n)) input v rest o e = absurd (let k = e in cc)
+
+case_back : {X Y : Type 0} (p : Form X) (q : Form Y) → IsForm p → IsForm q → (v : X ⊎ Y) (rest : List ℕ) → case_good p q v → case_at p.reading q.reading (case_of v, case_bytes p q v ++ rest) ≡ Ok (v, rest)
+case_back p q hp hq (inl x) rest g = rw (hp.complete x rest g) refl
+case_back p q hp hq (inr y) rest g = rw (hq.complete y rest g) refl
+
+case_faulty : {X Y : Type 0} (p : Form X) (q : Form Y) → IsForm p → IsForm q → (n : ℕ) (input : List ℕ) (e : TlsError) → AreOctets input → case_at p.reading q.reading (n, input) ≡ Err e → CaseFault p q e n input
+case_faulty p q hp hq zero input e o h = elim (bind_err (p.reading input) (λ x. Ok (inl x.0, x.1)) e h) [ inl j ↦ hp.faulty input e o j | inr j ↦ absurd (let k = j.2 in cc) ]
+case_faulty p q hp hq (suc zero) input e o h = elim (bind_err (q.reading input) (λ y. Ok (inr y.0, y.1)) e h) [ inl j ↦ hq.faulty input e o j | inr j ↦ absurd (let k = j.2 in cc) ]
+case_faulty p q hp hq (suc (suc n)) input e o h = let k : UnknownValue (suc (suc n)) ≡ e = cc in sym k
+
+case_first : {X Y : Type 0} (p : Form X) (q : Form Y) → IsForm p → IsForm q → (n : ℕ) (input : List ℕ) (e : TlsError) → CaseFault p q e n input → case_at p.reading q.reading (n, input) ≡ Err e
+case_first p q hp hq zero input e f = rw (hp.first input e f) refl
+case_first p q hp hq (suc zero) input e f = rw (hq.first input e f) refl
+case_first p q hp hq (suc (suc n)) input e f = rw f refl
+
+pub select_lawful : {X Y : Type 0} (number : Form ℕ) (p : Form X) (q : Form Y) → IsForm number → IsForm p → IsForm q → IsForm (select number p q)
+unfolding select_at
+select_lawful {X} {Y} number p q is hp hq = record {
+  sound = λ input v rest o e.
+      let a = bind_ok (number.reading input) (case_at p.reading q.reading) (v, rest) e in
+      let s = is.sound input a.0.0 a.0.1 o a.1 in
+      let t = case_sound p q hp hq a.0.0 a.0.1 v rest (octets_after input (number.bytes a.0.0) a.0.1 s.1 o) a.2 in
+      let front : input ≡ number.bytes a.0.0 ++ a.0.1 = s.1 in
+      let whole : input ≡ (number.bytes a.0.0 ++ case_bytes p q v) ++ rest = front ∙ ap (λ (y : List ℕ). number.bytes a.0.0 ++ y) t.1.1 ∙ sym (append_assoc (number.bytes a.0.0) (case_bytes p q v) rest) in
+      subst (λ n. (number.good n × case_good p q v) × (input ≡ (number.bytes n ++ case_bytes p q v) ++ rest)) t.0 ((s.0, t.1.0), whole);
+  complete = λ v rest g. rw (append_assoc (number.bytes (case_of v)) (case_bytes p q v) rest, is.complete (case_of v) (case_bytes p q v ++ rest) g.0) (case_back p q hp hq v rest g.1);
+  faulty = λ input e o h.
+      elim (bind_err (number.reading input) (case_at p.reading q.reading) e h) [
+        | inl j ↦ inl (is.faulty input e o j)
+        | inr j ↦
+            let s = is.sound input j.0.0 j.0.1 o j.1 in
+            inr (record { value = j.0.0; rest = j.0.1; begins = s; behind = case_faulty p q hp hq j.0.0 j.0.1 e (octets_after input (number.bytes j.0.0) j.0.1 s.1 o) j.2 })
+      ];
+  first = λ input e. elim [
+    | inl j ↦ rw (is.first input e j) refl
+    | inr j ↦ rw (j.begins.1, is.complete j.value j.rest j.begins.0) (case_first p q hp hq j.value j.rest e j.behind)
+  ];
 }

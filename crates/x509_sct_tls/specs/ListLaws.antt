@@ -8,7 +8,7 @@ use Rattle.x509_sct_tls.specs.Items.{joined, AreGood}
 use Rattle.x509_sct_tls.specs.ItemsLaws.{IsItems}
 use Rattle.x509_sct_tls.specs.Lists.{IsList, BodyFault, ListFault, body_reading, list_reading}
 use Rattle.x509_sct_tls.specs.AnswerLaws.{IsReading}
-use Rattle.x509_sct_tls.specs.Steps.{bind_ok, bind_err, octets_behind, octets_front}
+use Rattle.x509_sct_tls.specs.Steps.{ok_is, bind_ok, bind_err, octets_behind, octets_front}
 
 body_ok : {X : Type 0} (item : Form X) → IsItems item → (body rest : List ℕ) (vs : List X) → AreOctets body → body_reading item.reading (body, rest) ≡ Ok vs → (rest ≡ []) × (AreGood item vs × (body ≡ joined item vs))
 body_ok item h body [] vs o e = (refl, h.sound body vs o e)
@@ -34,13 +34,20 @@ list_sound {X} count item is h input o vs e =
     let body : a.0.0 ≡ joined item vs = b.1.1 in
     (b.1.0, (rw (← body) s.0, rw (← body) whole))
 
+pub list_complete : {X : Type 0} (count : Form ℕ) (item : Form X) → IsForm (counted count) → IsItems item → (input : List ℕ) (vs : List X) → IsList count item vs input → list_reading count.reading item.reading input ≡ Ok vs
+unfolding list_reading
+list_complete {X} count item is h input vs t =
+    let d : (counted count).reading input ≡ Ok (joined item vs, []) = ap (counted count).reading (t.1.1 ∙ sym (append-nil (count.bytes (length (joined item vs)) ++ joined item vs))) ∙ is.complete (joined item vs) [] t.1.0 in
+    rw d (h.complete vs t.0)
+
+pub one_list : {X : Type 0} (count : Form ℕ) (item : Form X) → IsForm (counted count) → IsItems item → (vs ws : List X) (input : List ℕ) → IsList count item vs input → IsList count item ws input → vs ≡ ws
+one_list count item is h vs ws input s t = ok_is vs ws (sym (list_complete count item is h input vs s) ∙ list_complete count item is h input ws t)
+
 pub list_lawful : {X : Type 0} (count : Form ℕ) (item : Form X) → IsForm (counted count) → IsItems item → (input : List ℕ) → AreOctets input → IsReading (λ vs. IsList count item vs input) (ListFault count item input) (list_reading count.reading item.reading input)
 unfolding list_reading
 list_lawful {X} count item is h input o = record {
   sound = list_sound count item is h input o;
-  complete = λ vs t.
-      let d : (counted count).reading input ≡ Ok (joined item vs, []) = ap (counted count).reading (t.1.1 ∙ sym (append-nil (count.bytes (length (joined item vs)) ++ joined item vs))) ∙ is.complete (joined item vs) [] t.1.0 in
-      rw d (h.complete vs t.0);
+  complete = list_complete count item is h input;
   faulty = λ e r.
       elim (bind_err ((counted count).reading input) (body_reading item.reading) e r) [
         | inl j ↦ inl (is.faulty input e o j)

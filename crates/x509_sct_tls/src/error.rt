@@ -12,15 +12,16 @@ pub enum TlsError {
     #[error("EndOfStream")]
     EndOfStream,
 
-    /// A byte that has no name, where one with a name is needed.
+    /// A number that has no name, where one with a name is needed.
     #[error("UnknownValue({0})")]
-    UnknownValue(u8),
+    UnknownValue(u16),
 
     /// Bytes follow the value, which was to be all of them.
     #[error("TrailingData")]
     TrailingData,
 
-    /// A vector would be longer than [`TlsByteVecU16::MAX_LEN`](crate::TlsByteVecU16::MAX_LEN).
+    /// A vector would have more bytes than its length can say, as more than
+    /// [`TlsByteVecU16::MAX_LEN`](crate::TlsByteVecU16::MAX_LEN), or none where it is to have one.
     #[error("InvalidVectorLength")]
     InvalidVectorLength,
 

@@ -3,8 +3,11 @@
 ghost use Rattle.std.specs.Prelude.{◌≡◌, ◌↔◌, ◌++◌, ◌⊎◌, List, ℕ, true};
 ghost use Rattle.x509_sct_tls.specs.declared.error.TlsError.{TlsError};
 ghost use Rattle.x509_sct_tls.specs.Form.{AreOctets, Begins};
+ghost use Rattle.x509_sct_tls.specs.Lists.{IsList};
+ghost use Rattle.x509_sct_tls.specs.Numbers.{uint16};
 
 use crate::error::TlsError;
+use crate::list::TlsItem;
 use crate::tls::Tls;
 use crate::vector::TlsByteVecU16;
 
@@ -22,6 +25,12 @@ pub fn a_value_or_a_fault<T: Tls>()
 pub fn one_fault<T: Tls>()
     ensures none { (input : List ℕ) (v : T) (rest : List ℕ) (e : TlsError) → Begins T.form v rest input → T.form.fault input e → ⊥ }
     ensures one { (input : List ℕ) (d e : TlsError) → T.form.fault input d → T.form.fault input e → d ≡ e }
+{}
+
+/// No two lists have the same bytes, and no list has two.
+pub fn one_list<T: TlsItem>()
+    ensures items { (items others : List T) (bytes : List ℕ) → IsList uint16 T.form items bytes → IsList uint16 T.form others bytes → items ≡ others }
+    ensures bytes { (items : List T) (bytes others : List ℕ) → IsList uint16 T.form items bytes → IsList uint16 T.form items others → bytes ≡ others }
 {}
 
 /// `==` holds exactly of vectors of the same bytes, and of errors of the same kind.

@@ -15,4 +15,4 @@ pub use error::TlsError;
 pub use list::{TlsItem, read_list, serialize_list};
 pub use named::NamedByte;
 pub use tls::{Tls, read_whole};
-pub use vector::{TlsByteVecU16, serialize_vector};
+pub use vector::{TlsByteVecU16, put_vector24, serialize_vector, vector24_len};

@@ -41,7 +41,7 @@ impl<T: NamedByte> Tls for T {
         let (octet, rest) = take_octet(bytes)?;
         match T::from_byte(octet) {
             Some(value) => Ok((value, rest)),
-            None => Err(TlsError::UnknownValue(octet)),
+            None => Err(TlsError::UnknownValue(octet.into())),
         }
     }
 

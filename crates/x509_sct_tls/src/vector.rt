@@ -1,12 +1,12 @@
 //! Vectors of bytes.
 
-ghost use Rattle.std.specs.Prelude.{◌≡◌, ◌<◌, ◌≤◌, ◌⊎◌, length, bytes_eq, IfOk, IfErr};
+ghost use Rattle.std.specs.Prelude.{◌≡◌, ◌<◌, ◌≤◌, ◌⊎◌, ◌++◌, length, bytes_eq, IfOk, IfErr, OnOk};
 ghost use Rattle.std.specs.Cmp.{partial_equiv_from_equiv};
 ghost use Rattle.std.specs.Cmp.Lexicographic.{nat_list_eq_equiv};
 ghost use Rattle.x509_sct_tls.specs.declared.error.TlsError.TheVariants.{InvalidVectorLength, Memory};
 ghost use Rattle.x509_sct_tls.specs.Answers.{AnswersFront};
 ghost use Rattle.x509_sct_tls.specs.Form.{Spells};
-ghost use Rattle.x509_sct_tls.specs.Numbers.{vector16};
+ghost use Rattle.x509_sct_tls.specs.Numbers.{vector16, vector24};
 
 use crate::error::TlsError;
 use crate::octets::take_octets;
@@ -123,6 +123,35 @@ pub fn serialize_vector<T: Tls>(alloc: Global, value: &T) -> Result<TlsByteVecU1
     check_len(value.tls_len())?;
     let octets = value.tls_serialize(alloc)?;
     Ok(TlsByteVecU16 { octets })
+}
+
+/// How many bytes the vector of the bytes has, `opaque<1..2^24-1>` (RFC 5246 section 4.3): three, which say how many there
+/// are, and these.
+///
+/// # Errors
+///
+/// `InvalidVectorLength` exactly where there are none, or more than 16,777,215.
+pub fn vector24_len(octets: &[u8]) -> Result<usize, TlsError>
+    ensures ok { IfOk result (λ len. vector24.good octets.now × (len ≡ length (vector24.bytes octets.now))) }
+    ensures short { IfOk result (λ len. len ≤ 16777218) }
+    ensures err { IfErr result (λ e. (e ≡ InvalidVectorLength) × (vector24.good octets.now → ⊥)) }
+{
+    let len = octets.len();
+    if len == 0 || len > 16_777_215 {
+        return Err(TlsError::InvalidVectorLength);
+    }
+    Ok(3 + len)
+}
+
+/// Puts the vector of the bytes, `opaque<1..2^24-1>` (RFC 5246 section 4.3), behind those that stand: as many as
+/// [`vector24_len`] says. Memory may be refused; part of the vector may stand then.
+pub fn put_vector24(octets: &[u8], out: &mut Vec<u8>) -> Result<(), AllocError>
+    requires { vector24.good octets.now }
+    ensures { OnOk result (out.new.items ≡ out.old.items ++ vector24.bytes octets.now) }
+{
+    let [_, a, b, c] = (octets.len() as u32).to_be_bytes();
+    out.extend_from_slice(&[a, b, c])?;
+    out.extend_from_slice(octets)
 }
 
 #[tactic(auto, unfolding(crate::specs::FieldReading::octets_at, crate::specs::FieldReading::counted_at))]
