@@ -1,7 +1,10 @@
-//! The bytes that a signature is over, as they stand in what was signed.
+//! The bytes that a signature is over, as they stand in what was signed, and the fields of a certificate.
 #![tactic(auto)]
 
+mod certificate_slices;
 pub mod laws;
+mod lent;
 mod slice;
 
+pub use certificate_slices::{CertificateSlices, TbsCertificateSlices};
 pub use slice::signed_slice;
