@@ -1,1 +1,2 @@
 pub mod SignedParts
+pub mod Fronts

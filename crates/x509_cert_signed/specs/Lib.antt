@@ -1,2 +1,5 @@
 pub mod Signed
 pub mod SignedLaws
+pub mod Elements
+pub mod ElementParts
+pub mod ElementPartsLaws

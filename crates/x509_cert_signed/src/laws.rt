@@ -1,6 +1,7 @@
-//! What holds of signed bytes. Each law is a function with an empty body, whose contract is the law.
+//! What holds of signed bytes and of lent elements. Each law is a function with an empty body, whose contract is the law.
 
 ghost use Rattle.std.specs.Prelude.{◌≡◌, ◌↔◌, ◌++◌, List, ℕ, None};
+ghost use Rattle.x509_cert_signed.specs.Elements.{CertificateElements, HasCertificateElements, HasTbsElements, TbsElements};
 ghost use Rattle.x509_cert_signed.specs.Signed.{IsSignedPart};
 ghost use Rattle.x509_der_grammar.specs.Form.{Spells, spelling};
 ghost use Rattle.x509_der_grammar.specs.Writing.{IsStable, writes, written_spelling};
@@ -10,6 +11,18 @@ use x509_der_grammar::{Encode, Grammar};
 /// Bytes have at most one signed part.
 pub fn one_signed_part()
     ensures { (bytes s t : List ℕ) → IsSignedPart bytes s → IsSignedPart bytes t → s ≡ t }
+{}
+
+/// Bytes have the elements of one certificate at most, and those of one signed part.
+pub fn one_set_of_elements()
+    ensures signed { (bytes : List ℕ) (d e : TbsElements) → HasTbsElements bytes d → HasTbsElements bytes e → d ≡ e }
+    ensures whole { (bytes : List ℕ) (d e : CertificateElements) → HasCertificateElements bytes d → HasCertificateElements bytes e → d ≡ e }
+{}
+
+/// The signed part of a certificate that [`CertificateSlices`](crate::CertificateSlices) lends is the one that
+/// [`signed_slice`](crate::signed_slice) lends.
+pub fn the_signed_part_is_lent()
+    ensures { (bytes : List ℕ) (e : CertificateElements) → HasCertificateElements bytes e → IsSignedPart bytes e.tbs_certificate }
 {}
 
 /// Where the content of a SEQUENCE begins with the bytes of one, these are the signed part, and spell its value.
