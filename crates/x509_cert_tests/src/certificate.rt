@@ -15,7 +15,7 @@ pub(crate) const WHOLE: &[u8] =
 const DIGEST: &[u8] = &[0x3F, 0x15, 0x28, 0x83, 0x6F, 0x06, 0x84, 0x5A];
 
 /// A certificate with a date of 2002 that RFC 5280 spells otherwise (4.1.2.5).
-const LONG: &[u8] =
+pub(crate) const LONG: &[u8] =
     b"\x30\x48\x30\x3C\x02\x01\x01\x30\x05\x06\x03\x2A\x03\x04\x30\x00\x30\x20\x18\x0F20020101120100Z\x17\x0D301231083000Z\x30\x00\x30\x0A\x30\x05\x06\x03\x2A\x03\x04\x03\x01\x00\x30\x05\x06\x03\x2A\x03\x04\x03\x01\x00";
 
 /// Whether the name is spelled so.
