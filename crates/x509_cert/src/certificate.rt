@@ -6,4 +6,4 @@ pub use x509_cert_certificate::{
 };
 pub use x509_cert_digest::CertDigest;
 pub use x509_cert_extension::FilterExtensions;
-pub use x509_cert_signed::signed_slice;
+pub use x509_cert_signed::{CertificateSlices, TbsCertificateSlices, signed_slice};

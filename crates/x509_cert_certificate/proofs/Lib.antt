@@ -1,3 +1,4 @@
 pub mod Respelled
 pub mod Serials
 pub mod SignedParts
+pub mod Spellings

@@ -3,6 +3,7 @@ pub mod TbsCertificate
 pub mod Without
 pub mod Certificate
 pub mod Respelling
+pub mod Spellings
 pub mod Equality
 pub use Rattle.x509_cert_extension.specs.Names
 pub use Rattle.x509_cert_extension.specs.Extension

@@ -12,9 +12,11 @@ ghost use Rattle.x509_base_time.specs.Validity.{validity};
 ghost use Rattle.x509_base_time.specs.declared.profile.Raw as raw;
 ghost use Rattle.x509_base_time.specs.declared.profile.Rfc5280 as rfc5280;
 ghost use Rattle.x509_cert_certificate.specs.Respelling.{HasRfc5280Dates, Stays, any_certificate, any_certificates, any_tbs_certificate};
+ghost use Rattle.x509_cert_certificate.specs.Spellings.{certificate_spellings, tbs_spellings};
 ghost use Rattle.x509_cert_certificate.specs.declared.certificate.CertificateInner as whole;
 ghost use Rattle.x509_cert_certificate.specs.declared.tbs_certificate.TbsCertificateInner.{TbsCertificateInner};
 ghost use Rattle.x509_cert_certificate.specs.declared.version.Version.{Version};
+ghost use Rattle.x509_cert_signed.specs.Elements.{CertificateElements, HasCertificateElements, HasTbsElements};
 ghost use Rattle.x509_cert_signed.specs.Signed.{IsSignedPart};
 ghost use Rattle.x509_der_grammar.specs.Form.{Spells, spelling};
 ghost use Rattle.x509_der_element.specs.Element.{limit};
@@ -75,6 +77,14 @@ pub fn certificates_written_alike_are_respelled_alike<P: Profile>()
 pub fn signed_bytes_spell_the_signed_part<P: Profile>()
     ensures found { (v : whole.CertificateInner P) (bytes : List ℕ) → Spells ⟦<CertificateInner<P> as Grammar>⟧.form v bytes → IsSignedPart bytes (spelling ⟦<TbsCertificateInner<P> as Grammar>⟧.form v.tbs_certificate) }
     ensures spells { (v : whole.CertificateInner P) (bytes signed : List ℕ) → Spells ⟦<CertificateInner<P> as Grammar>⟧.form v bytes → IsSignedPart bytes signed → Spells ⟦<TbsCertificateInner<P> as Grammar>⟧.form v.tbs_certificate signed }
+{}
+
+/// Where bytes spell a certificate, they have the elements that [`CertificateSlices::from_der`](x509_cert_signed::CertificateSlices::from_der) lends, which are the spellings
+/// of its fields. So they have where they spell a signed part.
+pub fn slices_are_the_spellings_of_the_fields<P: Profile>()
+    ensures signed { (v : TbsCertificateInner P) (bytes : List ℕ) → Spells ⟦<TbsCertificateInner<P> as Grammar>⟧.form v bytes → HasTbsElements bytes (tbs_spellings v) }
+    ensures whole { (v : whole.CertificateInner P) (bytes : List ℕ) → Spells ⟦<CertificateInner<P> as Grammar>⟧.form v bytes → HasCertificateElements bytes (certificate_spellings v) }
+    ensures only { (v : whole.CertificateInner P) (bytes : List ℕ) (e : CertificateElements) → Spells ⟦<CertificateInner<P> as Grammar>⟧.form v bytes → HasCertificateElements bytes e → e ≡ certificate_spellings v }
 {}
 
 /// Under [`Raw`] encoding that part gives the signed bytes.

@@ -60,9 +60,9 @@ is_element : (tag : ℕ) (x : Option (List ℕ)) → IfSome (option_map (element
 is_element tag None = tt
 is_element tag (Some content) = (content, refl)
 
-optional_octets : (tag : ℕ) (x : Option (List ℕ)) → optional_text (λ bytes. bytes) (option_map (element tag) x) ≡ optional_text (element tag) x
-optional_octets tag None = refl
-optional_octets tag (Some content) = refl
+optional_joins : (tag : ℕ) (x : Option (List ℕ)) → optional_text (λ bytes. bytes) (option_map (element tag) x) ≡ optional_text (element tag) x
+optional_joins tag None = refl
+optional_joins tag (Some content) = refl
 
 explicit_octets : (n tag : ℕ) (x : Option (List ℕ)) → optional_text (element (160 + n)) (option_map (element tag) x) ≡ optional_text (λ content. element (160 + n) (element tag content)) x
 explicit_octets n tag None = refl
@@ -74,7 +74,7 @@ lent_lawful tag is = seen_lawful _ _ _ _ (λ x. refl) (λ x g. (x, refl)) (λ y 
 
 pub lent_optional_lawful : (tag : ℕ) → is_identifier tag ≡ true → IsPart Never (lent_optional tag)
 unfolding lent_optional
-lent_optional_lawful tag is = seen_lawful _ _ _ _ (optional_octets tag) (λ x g. is_element tag x) (some_element tag) (optional_lawful (any_element tag) (element_lawful tag is))
+lent_optional_lawful tag is = seen_lawful _ _ _ _ (optional_joins tag) (λ x g. is_element tag x) (some_element tag) (optional_lawful (any_element tag) (element_lawful tag is))
 
 pub lent_explicit_lawful : (n tag : ℕ) → ltb n 31 ≡ true → is_identifier tag ≡ true → IsPart Never (lent_explicit n tag)
 unfolding lent_explicit

@@ -21,3 +21,5 @@ mod paths;
 mod program;
 #[cfg(test)]
 mod requests;
+#[cfg(test)]
+mod slices;
