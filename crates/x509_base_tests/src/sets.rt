@@ -6,7 +6,7 @@ use std::test::*;
 use x509_base::AlgorithmIdentifier;
 use x509_der::{DerOrd, Error, ErrorKind, ObjectIdentifier, SetOfVec, ValueOrd, cmp_members};
 use x509_der_grammar::Decode;
-use x509_probe::Digests;
+use x509_probe::{Digests, Purposes};
 
 /// The set of all numbers below 300, put in out of order.
 fn many(rt: &HostRuntime) -> Result<SetOfVec<u32>, Error> {
@@ -69,6 +69,23 @@ fn shown(rt: HostRuntime) -> Result<(), Fail> {
 fn object_identifiers(rt: HostRuntime) -> Result<(), Fail> {
     let sorted = [0x31, 10, 6, 3, 0x55, 4, 3, 6, 3, 0x55, 4, 6];
     assert!(rt; stays::<SetOfVec<ObjectIdentifier>>(&rt, &sorted)?);
+    Ok(())
+}
+
+/// A type with one field, a list of object identifiers.
+#[test]
+fn members_that_are_lists(rt: HostRuntime) -> Result<(), Fail> {
+    let sorted = [
+        0x31, 0x0E, 0x30, 0x05, 0x06, 0x03, 0x55, 0x04, 0x03, 0x30, 0x05, 0x06, 0x03, 0x55, 0x04,
+        0x06,
+    ];
+    let unsorted = [
+        0x31, 0x0E, 0x30, 0x05, 0x06, 0x03, 0x55, 0x04, 0x06, 0x30, 0x05, 0x06, 0x03, 0x55, 0x04,
+        0x03,
+    ];
+    assert!(rt; stays::<SetOfVec<Purposes>>(&rt, &sorted)?);
+    let read: Result<SetOfVec<Purposes>, Error> = SetOfVec::from_der(rt.alloc(), &unsorted);
+    assert!(rt; is_refused(read, ErrorKind::Malformed));
     Ok(())
 }
 

@@ -2,8 +2,9 @@
 
 use crate::calls::{is_refused, makes, prints, shows, stays};
 use std::test::*;
-use x509_der::{Any, FromAny};
+use x509_der::{Any, FromAny, ObjectIdentifier};
 use x509_der_grammar::{AnyRef, Error, ErrorKind, Tag, TryClone};
+use x509_prim::OctetString;
 use x509_prim_text::{
     Alphabet, BmpString, Ia5StringRef, PrintableString, PrintableStringRef, RestrictedString,
     RestrictedStringRef, TeletexStringRef, Utf8String, Utf8StringRef, Visible, VisibleString,
@@ -158,5 +159,32 @@ fn are_copied(rt: &HostRuntime, utf8: &[u8], bmp: &[u8]) -> Result<bool, Error> 
 fn texts_out_of_elements(rt: HostRuntime) -> Result<(), Fail> {
     assert!(rt; is_copied::<Visible>(&rt, Tag::VisibleString, b"more than twenty four letters")?);
     assert!(rt; are_copied(&rt, "ä".as_bytes(), &[0x20, 0xAC])?);
+    Ok(())
+}
+
+/// Whether the contents of the two elements are the octets of the values in them.
+fn are_given(rt: &HostRuntime, identifier: &[u8], octets: &[u8]) -> Result<bool, Error> {
+    let any = Any::new(rt.alloc(), Tag::ObjectIdentifier, identifier)?;
+    let same = ObjectIdentifier::from_any(rt.alloc(), &any)?.as_bytes() == identifier;
+    let any = Any::new(rt.alloc(), Tag::OctetString, octets)?;
+    Ok(same && OctetString::from_any(rt.alloc(), &any)?.as_bytes() == octets)
+}
+
+/// Whether an element of that identifier and content is an object identifier's.
+fn is_identifier(rt: &HostRuntime, tag: Tag, content: &[u8]) -> Result<bool, Error> {
+    let any = Any::new(rt.alloc(), tag, content)?;
+    match ObjectIdentifier::from_any(rt.alloc(), &any) {
+        Ok(identifier) => Ok(identifier.as_bytes() == content),
+        Err(e) if e.kind() == ErrorKind::Malformed => Ok(false),
+        Err(e) => Err(e),
+    }
+}
+
+#[test]
+fn values_out_of_elements(rt: HostRuntime) -> Result<(), Fail> {
+    assert!(rt; are_given(&rt, &[0x2B, 0x06, 0x01], b"more than twenty four octets")?);
+    assert!(rt; is_identifier(&rt, Tag::ObjectIdentifier, &[0x55, 0x04, 0x03])?);
+    assert!(rt; !is_identifier(&rt, Tag::OctetString, &[0x55, 0x04, 0x03])?);
+    assert!(rt; !is_identifier(&rt, Tag::ObjectIdentifier, &[0x55, 0x80, 0x03])?);
     Ok(())
 }

@@ -18,6 +18,8 @@ mod names;
 #[cfg(test)]
 mod revocation;
 #[cfg(test)]
+mod sets;
+#[cfg(test)]
 mod texts;
 #[cfg(test)]
 mod timestamps;
