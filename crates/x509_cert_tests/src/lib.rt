@@ -12,6 +12,8 @@ mod example;
 #[cfg(test)]
 mod fakes;
 #[cfg(test)]
+mod issuers;
+#[cfg(test)]
 mod look_ups;
 #[cfg(test)]
 mod path_checks;

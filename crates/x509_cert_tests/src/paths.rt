@@ -310,6 +310,7 @@ fn constraints_on_names(
 fn extensions_of_lists(
     it: &(
         pkix::BaseCrlNumber,
+        pkix::CertificateIssuer,
         pkix::CrlDistributionPoints,
         pkix::CrlNumber,
         pkix::CrlReason,
@@ -318,6 +319,7 @@ fn extensions_of_lists(
     ),
 ) -> &(
     x509_pkix::BaseCrlNumber,
+    x509_pkix::CertificateIssuer,
     x509_pkix::CrlDistributionPoints,
     x509_pkix::CrlNumber,
     x509_pkix::CrlReason,
@@ -331,6 +333,7 @@ fn extensions_of_lists(
 fn module_of_lists(
     it: &(
         pkix::crl::BaseCrlNumber,
+        pkix::crl::CertificateIssuer,
         pkix::crl::CrlDistributionPoints,
         pkix::crl::CrlNumber,
         pkix::crl::CrlReason,
@@ -339,6 +342,7 @@ fn module_of_lists(
     ),
 ) -> &(
     pkix::BaseCrlNumber,
+    pkix::CertificateIssuer,
     pkix::CrlDistributionPoints,
     pkix::CrlNumber,
     pkix::CrlReason,

@@ -13,7 +13,7 @@ use x509_ext::pkix::{
 use x509_ext_frame::{Criticality, Extension, ToExtension};
 use x509_name::name::Name;
 use x509_pkix::{
-    BaseCrlNumber, CrlDistributionPoints, CrlNumber, CrlReason, FreshestCrl,
+    BaseCrlNumber, CertificateIssuer, CrlDistributionPoints, CrlNumber, CrlReason, FreshestCrl,
     IssuingDistributionPoint, NameConstraints, Reasons,
 };
 use x509_pkix_policy::{
@@ -112,7 +112,7 @@ fn of_constraints(rt: HostRuntime) -> Result<(), Fail> {
     Ok(())
 }
 
-/// Numbers, a reason, and points with names: in full, by reasons, and relative to an issuer.
+/// Numbers, a reason, an issuer, and points with names: in full, by reasons, and relative to an issuer.
 #[test]
 fn of_lists(rt: HostRuntime) -> Result<(), Fail> {
     let one = [0x02, 0x01, 0x01];
@@ -122,6 +122,9 @@ fn of_lists(rt: HostRuntime) -> Result<(), Fail> {
     let relative = [0x30, 0x04, 0xA0, 0x02, 0xA1, 0x00];
     assert!(rt; is_payload::<CrlNumber>(&rt, &one, "2.5.29.20", false)?);
     assert!(rt; is_payload::<CrlReason>(&rt, &[0x0A, 0x01, 0x01], "2.5.29.21", false)?);
+    assert!(rt;
+        is_payload::<CertificateIssuer>(&rt, &[0x30, 0x03, 0x86, 0x01, 0x61], "2.5.29.29", true)?
+    );
     assert!(rt; is_payload::<BaseCrlNumber>(&rt, &one, "2.5.29.27", true)?);
     assert!(rt; is_payload::<IssuingDistributionPoint>(&rt, &relative, "2.5.29.28", true)?);
     assert!(rt; is_payload::<CrlDistributionPoints>(&rt, &in_full, "2.5.29.31", false)?);

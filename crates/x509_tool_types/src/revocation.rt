@@ -3,7 +3,7 @@
 use std::alloc::Global;
 use std::marker::PhantomData;
 use x509_der_grammar::Error;
-use x509_pkix::{BaseCrlNumber, CrlNumber, CrlReason, Reasons};
+use x509_pkix::{BaseCrlNumber, CertificateIssuer, CrlNumber, CrlReason, Reasons};
 use x509_tool_table::{Reencode, Table};
 
 /// The extensions of CRLs, in front of another table.
@@ -17,6 +17,7 @@ impl<T: Table> Table for Revocation<T> {
     ghost use Rattle.x509_tool_table.specs.Table.{named, ◌otherwise◌};
 
     ghost table = { named (codes "BaseCrlNumber") ⟦<BaseCrlNumber as Reencode>⟧.reencodes otherwise
+        named (codes "CertificateIssuer") ⟦<CertificateIssuer as Reencode>⟧.reencodes otherwise
         named (codes "CrlNumber") ⟦<CrlNumber as Reencode>⟧.reencodes otherwise
         named (codes "CrlReason") ⟦<CrlReason as Reencode>⟧.reencodes otherwise
         named (codes "Reasons") ⟦<Reasons as Reencode>⟧.reencodes otherwise
@@ -25,6 +26,7 @@ impl<T: Table> Table for Revocation<T> {
     fn reencode(alloc: Global, name: &str, bytes: &[u8]) -> Result<Vec<u8>, Error> {
         match name {
             "BaseCrlNumber" => BaseCrlNumber::reencode_as(alloc, bytes),
+            "CertificateIssuer" => CertificateIssuer::reencode_as(alloc, bytes),
             "CrlNumber" => CrlNumber::reencode_as(alloc, bytes),
             "CrlReason" => CrlReason::reencode_as(alloc, bytes),
             "Reasons" => Reasons::reencode_as(alloc, bytes),
