@@ -210,6 +210,145 @@ x509_status x509_general_names_under_next(uint32_t number, const uint8_t *value,
  * Answers X509_OK, X509_OVERLENGTH, X509_MALFORMED, X509_ABSENT. */
 x509_status x509_extended_key_usage_next(const uint8_t *value, size_t len, size_t *at, x509_span *found);
 
+/* Reads a SubjectKeyIdentifier (2.5.29.14), and says where its octets stand, of which there may be none.
+ * Answers X509_OK, X509_MEMORY, X509_OVERLENGTH, X509_MALFORMED. */
+x509_status x509_subject_key_identifier(const uint8_t *value, size_t len, x509_span *found);
+
+/* Of what is left out both numbers are 0. What is there stands behind the first byte, also where it has no octets. */
+typedef struct {
+    x509_span key_identifier; /* the octets of the key's identifier */
+    x509_span issuer;         /* the names of the issuer, a whole element, for x509_general_names_under_next with the number 1 */
+    x509_span serial_number;  /* the content octets of the serial number, at most 21 */
+} x509_authority_key_identifier_view;
+
+/* Reads an AuthorityKeyIdentifier (2.5.29.35), and says where its parts stand. X509_MALFORMED also where the serial number has more than 21 content octets.
+ * Answers X509_OK, X509_MEMORY, X509_OVERLENGTH, X509_MALFORMED. */
+x509_status x509_authority_key_identifier(const uint8_t *value, size_t len, x509_authority_key_identifier_view *view);
+
+typedef struct {
+    x509_span method;           /* the content octets of the identifier of the means, as of 1.3.6.1.5.5.7.48.1 for OCSP */
+    x509_general_name location; /* where */
+} x509_access;
+
+/* The descriptions of an AuthorityInfoAccess (1.3.6.1.5.5.7.1.1) or a SubjectInfoAccess (1.3.6.1.5.5.7.1.11), one after the other.
+ * Answers X509_OK, X509_MEMORY, X509_OVERLENGTH, X509_MALFORMED, X509_ABSENT. */
+x509_status x509_access_next(const uint8_t *value, size_t len, size_t *at, x509_access *found);
+
+typedef struct {
+    x509_span identifier; /* the content octets of the policy's identifier */
+    x509_span qualifiers; /* what qualifies it, a whole SEQUENCE, for x509_policy_qualifiers_next; 0 and 0 where nothing does */
+} x509_policy;
+
+/* The policies of a CertificatePolicies (2.5.29.32), one after the other. A policy may come twice.
+ * Answers X509_OK, X509_MEMORY, X509_OVERLENGTH, X509_MALFORMED, X509_ABSENT. */
+x509_status x509_certificate_policies_next(const uint8_t *value, size_t len, size_t *at, x509_policy *found);
+
+typedef struct {
+    x509_span identifier; /* the content octets of the qualifier's identifier, as of 1.3.6.1.5.5.7.2.1 for the address of a practice statement */
+    x509_span qualifier;  /* a whole element, which isn't looked into; 0 and 0 where it is left out */
+} x509_policy_qualifier;
+
+/* What qualifies a policy, one after the other.
+ * Answers X509_OK, X509_MEMORY, X509_OVERLENGTH, X509_MALFORMED, X509_ABSENT. */
+x509_status x509_policy_qualifiers_next(const uint8_t *value, size_t len, size_t *at, x509_policy_qualifier *found);
+
+typedef struct {
+    x509_span issuer_policy;  /* the content octets of the identifier in the issuer's domain */
+    x509_span subject_policy; /* those of the identifier in the subject's domain */
+} x509_policy_mapping;
+
+/* The pairs of a PolicyMappings (2.5.29.33), one after the other. It takes no memory.
+ * Answers X509_OK, X509_OVERLENGTH, X509_MALFORMED, X509_ABSENT. */
+x509_status x509_policy_mappings_next(const uint8_t *value, size_t len, size_t *at, x509_policy_mapping *found);
+
+typedef struct {
+    uint32_t has_require_explicit_policy; /* 1 where an explicit policy is asked for, else 0 */
+    uint32_t require_explicit_policy;     /* after how many more certificates; 0 where it isn't asked for */
+    uint32_t has_inhibit_policy_mapping;  /* 1 where policies aren't to be mapped any more, else 0 */
+    uint32_t inhibit_policy_mapping;      /* after how many more certificates; 0 where they may be mapped */
+} x509_policy_constraints_view;
+
+/* Reads a PolicyConstraints (2.5.29.36), and says what it asks for. X509_MALFORMED also for a number above 4,294,967,295. It takes no memory.
+ * Answers X509_OK, X509_OVERLENGTH, X509_MALFORMED. */
+x509_status x509_policy_constraints(const uint8_t *value, size_t len, x509_policy_constraints_view *view);
+
+/* Reads an InhibitAnyPolicy (2.5.29.54), and says after how many more certificates any policy isn't taken. X509_MALFORMED also for a number above 4,294,967,295.
+ * It takes no memory.
+ * Answers X509_OK, X509_OVERLENGTH, X509_MALFORMED. */
+x509_status x509_inhibit_any_policy(const uint8_t *value, size_t len, uint32_t *certificates);
+
+/* Reasons for which certificates are revoked, as sets (RFC 5280 4.2.1.13): the named bit n as 1 << n. */
+#define X509_REASONS_UNUSED 0x001
+#define X509_REASONS_KEY_COMPROMISE 0x002
+#define X509_REASONS_CA_COMPROMISE 0x004
+#define X509_REASONS_AFFILIATION_CHANGED 0x008
+#define X509_REASONS_SUPERSEDED 0x010
+#define X509_REASONS_CESSATION_OF_OPERATION 0x020
+#define X509_REASONS_CERTIFICATE_HOLD 0x040
+#define X509_REASONS_PRIVILEGE_WITHDRAWN 0x080
+#define X509_REASONS_AA_COMPROMISE 0x100
+
+/* Of what is left out both numbers of a span are 0. */
+typedef struct {
+    x509_span full_name;     /* the names of the point, a whole element, for x509_general_names_under_next with the number 0 */
+    x509_span relative_name; /* its name relative to the issuer of the CRL, a whole element, for x509_relative_name_under_next with the number 1 */
+    uint32_t has_reasons;    /* 1 where it is said for which reasons certificates are revoked there, else 0 */
+    uint32_t reasons;        /* a sum of the numbers above; 0 where it isn't said, which means all */
+    x509_span crl_issuer;    /* the names of the issuer of the CRL, a whole element, for x509_general_names_under_next with the number 2 */
+} x509_distribution_point;
+
+/* The points of a CRLDistributionPoints (2.5.29.31) or a FreshestCRL (2.5.29.46), one after the other.
+ * Answers X509_OK, X509_MEMORY, X509_OVERLENGTH, X509_MALFORMED, X509_ABSENT. */
+x509_status x509_distribution_points_next(const uint8_t *value, size_t len, size_t *at, x509_distribution_point *found);
+
+/* The spans are as those of x509_distribution_point; what is said or not is 1 or 0. */
+typedef struct {
+    x509_span full_name;
+    x509_span relative_name;
+    uint32_t only_contains_user_certs;
+    uint32_t only_contains_ca_certs;
+    uint32_t has_only_some_reasons;
+    uint32_t only_some_reasons; /* a sum of the numbers above; 0 where none are said, which means all */
+    uint32_t indirect_crl;
+    uint32_t only_contains_attribute_certs;
+} x509_issuing_distribution_point_view;
+
+/* Reads an IssuingDistributionPoint (2.5.29.28), and says of what certificates the CRL speaks.
+ * Answers X509_OK, X509_MEMORY, X509_OVERLENGTH, X509_MALFORMED. */
+x509_status x509_issuing_distribution_point(const uint8_t *value, size_t len, x509_issuing_distribution_point_view *view);
+
+/* Reads a CRLNumber (2.5.29.20), or the BaseCRLNumber of a delta CRL (2.5.29.27), and says where the content octets of its INTEGER stand: the number, the most
+ * significant octet first, behind a 00 where the first bit would be 1. X509_MALFORMED also for a number below 0.
+ * Answers X509_OK, X509_MEMORY, X509_OVERLENGTH, X509_MALFORMED. */
+x509_status x509_crl_number(const uint8_t *value, size_t len, x509_span *found);
+x509_status x509_base_crl_number(const uint8_t *value, size_t len, x509_span *found);
+
+/* Reads the reason code of an entry of a CRL (2.5.29.21), and says its number (RFC 5280 5.3.1): 0 to 10, but not 7. It takes no memory.
+ * Answers X509_OK, X509_OVERLENGTH, X509_MALFORMED. */
+x509_status x509_crl_reason(const uint8_t *value, size_t len, uint32_t *reason);
+
+/* Of what is left out both numbers are 0. */
+typedef struct {
+    x509_span permitted; /* the permitted subtrees, a whole element, for x509_subtrees_under_next with the number 0 */
+    x509_span excluded;  /* the excluded subtrees, a whole element, for x509_subtrees_under_next with the number 1 */
+} x509_name_constraints_view;
+
+/* Reads a NameConstraints (2.5.29.30), and says where its subtrees stand.
+ * Answers X509_OK, X509_MEMORY, X509_OVERLENGTH, X509_MALFORMED. */
+x509_status x509_name_constraints(const uint8_t *value, size_t len, x509_name_constraints_view *view);
+
+typedef struct {
+    x509_general_name base; /* the name at the root; of an address the octets of a mask stand behind it */
+    uint32_t minimum;       /* how far below the root the subtree begins: 0 in certificates of RFC 5280, which isn't looked at here */
+    uint32_t has_maximum;   /* 1 where it ends somewhere, which RFC 5280 doesn't allow, else 0 */
+    uint32_t maximum;       /* where; 0 where it doesn't */
+} x509_subtree;
+
+/* The subtrees of a list of them under an implicit tag [number] of the context-specific class, one after the other. X509_MALFORMED also where the number is above 30,
+ * and for a minimum or maximum above 4,294,967,295.
+ * Answers X509_OK, X509_MEMORY, X509_OVERLENGTH, X509_MALFORMED, X509_ABSENT. */
+x509_status x509_subtrees_under_next(uint32_t number, const uint8_t *value, size_t len, size_t *at, x509_subtree *found);
+
 /* Writes the dotted text of the OID with these content octets, such as "2.5.29.15" (no zero at the end). X509_MALFORMED where no OID has them (X.690 8.19),
  * where there are more than 39, or where a subidentifier is above 4,294,967,295. Buffers are as said under whole values.
  * Answers X509_OK, X509_ROOM, X509_MEMORY, X509_MALFORMED. */
@@ -218,6 +357,59 @@ x509_status x509_oid_text(const uint8_t *oid, size_t oid_len, uint8_t *out, size
 /* Writes the content octets of the OID with this dotted text, at most 39. X509_FAILED where it is a bad text, that of no OID. It takes no memory.
  * Answers X509_OK, X509_ROOM, X509_FAILED. */
 x509_status x509_oid_from_text(const uint8_t *text, size_t len, uint8_t *out, size_t room, size_t *written);
+
+/* ---- names
+ *
+ * A Name is a list of relative names, and each of these a set of attributes; these calls walk over both, as those under payloads do over lists. */
+
+/* The relative names of a Name, one after the other: where each stands, a whole element. A relative name with two equal attributes, or with attributes out
+ * of order, is X509_MALFORMED.
+ * Answers X509_OK, X509_MEMORY, X509_OVERLENGTH, X509_MALFORMED, X509_ABSENT. */
+x509_status x509_name_next(const uint8_t *name, size_t len, size_t *at, x509_span *found);
+
+typedef struct {
+    x509_span oid;     /* the content octets of the identifier of its type, as "\x55\x04\x03" for 2.5.4.3, CN */
+    uint32_t tag;      /* the identifier octet of its value, as 0x0c for UTF8String */
+    x509_span element; /* its value, a whole element */
+    x509_span content; /* the content octets of its value, which aren't looked at: in a UTF8String they needn't be UTF-8 */
+} x509_attribute;
+
+/* The attributes of a relative name, one after the other. Their places are offsets in `rdn`. Whether they are in order, and all different, isn't looked at here, but by
+ * x509_name_next.
+ * Answers X509_OK, X509_MEMORY, X509_OVERLENGTH, X509_MALFORMED, X509_ABSENT. */
+x509_status x509_relative_name_next(const uint8_t *rdn, size_t len, size_t *at, x509_attribute *found);
+
+/* The same of a relative name under an implicit tag [number] of the context-specific class, as within a distribution point. X509_MALFORMED also where the number
+ * is above 30.
+ * Answers X509_OK, X509_MEMORY, X509_OVERLENGTH, X509_MALFORMED, X509_ABSENT. */
+x509_status x509_relative_name_under_next(uint32_t number, const uint8_t *rdn, size_t len, size_t *at, x509_attribute *found);
+
+/* ---- texts; rooms are as said under whole values */
+
+/* Reads a serial number under RFC 5280, as `serial_number` of x509_certificate, and says where the content octets of its INTEGER stand. X509_MALFORMED also where there
+ * are more than 21.
+ * Answers X509_OK, X509_MEMORY, X509_OVERLENGTH, X509_MALFORMED. */
+x509_status x509_serial_number(const uint8_t *in, size_t len, x509_span *found);
+
+/* Writes these content octets of an INTEGER in hex, as "00:FF" (no zero at the end): of a serial number, or of the number of a CRL. X509_MALFORMED where they are none's
+ * (X.690 8.3): no octets, or more than there need to be.
+ * Answers X509_OK, X509_ROOM, X509_MEMORY, X509_MALFORMED. */
+x509_status x509_serial_text(const uint8_t *content, size_t len, uint8_t *out, size_t room, size_t *written);
+
+/* Writes the text of a moment, in seconds since 1970-01-01T00:00:00Z: 20 bytes, as "2026-01-02T03:04:05Z" (no zero at the end). X509_VALUE after 9999-12-31T23:59:59Z.
+ * Answers X509_OK, X509_ROOM, X509_MEMORY, X509_VALUE. */
+x509_status x509_time_text(uint64_t moment, uint8_t *out, size_t room, size_t *written);
+
+/* Writes what a status means, in a few words of ASCII (no zero at the end), as "malformed" of X509_MALFORMED. X509_FAILED where it is none of the numbers above. It takes no memory.
+ * Answers X509_OK, X509_ROOM, X509_FAILED. */
+x509_status x509_status_text(x509_status status, uint8_t *out, size_t room, size_t *written);
+
+/* The version of this header, and that of the library that is linked, as one number: 65,536 * MAJOR + 256 * MINOR + PATCH. */
+#define X509_VERSION_MAJOR 0
+#define X509_VERSION_MINOR 1
+#define X509_VERSION_PATCH 0
+#define X509_VERSION 0x000100
+uint32_t x509_version(void);
 
 /* ---- paths */
 

@@ -266,6 +266,202 @@ static void lists(void)
     WANT(x509_crl_lookup(list, list_len, (const uint8_t *)"\x02\x01\x03", 3, &revocation) == X509_OK && revocation.reason == -1);
 }
 
+static int is_at(x509_span span, size_t place, size_t len)
+{
+    return span.place == place && span.len == len;
+}
+
+/* A value that stands in the source, with its length. */
+#define BYTES(text) (const uint8_t *)(text), sizeof(text) - 1
+
+static void attributes(void)
+{
+    x509_span rdn = {7, 7};
+    size_t at = 0;
+    WANT(x509_name_next(NAME, sizeof NAME, &at, &rdn) == X509_OK && is_at(rdn, 2, 12) && at == 14);
+    WANT(x509_name_next(NAME, sizeof NAME, &at, &rdn) == X509_ABSENT && is_at(rdn, 2, 12) && at == 14);
+    at = 3;
+    WANT(x509_name_next(NAME, sizeof NAME, &at, &rdn) == X509_MALFORMED && is_at(rdn, 2, 12) && at == 3);
+    at = 0;
+    WANT(x509_name_next(NAME, 13, &at, &rdn) == X509_MALFORMED && at == 0);
+    WANT(x509_name_next(BYTES("\x30\x00"), &at, &rdn) == X509_ABSENT && at == 0);
+    /* two equal attributes */
+    WANT(x509_name_next(BYTES("\x30\x16\x31\x14\x30\x08\x06\x03\x55\x04\x03\x0c\x01\x61\x30\x08\x06\x03\x55\x04\x03\x0c\x01\x61"), &at, &rdn) == X509_MALFORMED);
+
+    x509_attribute found = {{7, 7}, 7, {7, 7}, {7, 7}};
+    WANT(x509_relative_name_next(NAME, sizeof NAME, &at, &found) == X509_MALFORMED && found.tag == 7 && at == 0);
+    WANT(x509_relative_name_next(NAME + 2, 12, &at, &found) == X509_OK && at == 12);
+    WANT(is_at(found.oid, 6, 3) && found.tag == 0x0c && is_at(found.element, 9, 3) && is_at(found.content, 11, 1));
+    WANT(x509_relative_name_next(NAME + 2, 12, &at, &found) == X509_ABSENT && at == 12);
+    const char under[] = "\xa1\x0a\x30\x08\x06\x03\x55\x04\x03\x0c\x01\x61";
+    at = 0;
+    WANT(x509_relative_name_under_next(0, BYTES(under), &at, &found) == X509_MALFORMED && at == 0);
+    WANT(x509_relative_name_under_next(31, BYTES(under), &at, &found) == X509_MALFORMED && at == 0);
+    WANT(x509_relative_name_under_next(1, BYTES(under), &at, &found) == X509_OK && at == 12 && is_at(found.content, 11, 1));
+    WANT(x509_relative_name_under_next(1, BYTES(under), &at, &found) == X509_ABSENT && at == 12);
+}
+
+static void key_identifiers(void)
+{
+    x509_span octets = {7, 7};
+    WANT(x509_subject_key_identifier(BYTES("\x04\x02\xab\xcd"), &octets) == X509_OK && is_at(octets, 2, 2));
+    WANT(x509_subject_key_identifier(BYTES("\x04\x00"), &octets) == X509_OK && is_at(octets, 2, 0));
+    WANT(x509_subject_key_identifier(BYTES("\x04\x02\xab"), &octets) == X509_MALFORMED && is_at(octets, 2, 0));
+
+    x509_authority_key_identifier_view view = {{7, 7}, {7, 7}, {7, 7}};
+    WANT(x509_authority_key_identifier(BYTES("\x30\x02\x83\x00"), &view) == X509_MALFORMED && is_at(view.issuer, 7, 7));
+    WANT(x509_authority_key_identifier(BYTES("\x30\x0c\x80\x02\xab\xcd\xa1\x03\x82\x01\x61\x82\x01\x05"), &view) == X509_OK);
+    WANT(is_at(view.key_identifier, 4, 2) && is_at(view.issuer, 6, 5) && is_at(view.serial_number, 13, 1));
+    WANT(x509_authority_key_identifier(BYTES("\x30\x04\x80\x02\xab\xcd"), &view) == X509_OK);
+    WANT(is_at(view.key_identifier, 4, 2) && is_at(view.issuer, 0, 0) && is_at(view.serial_number, 0, 0));
+    WANT(x509_authority_key_identifier(BYTES("\x30\x00"), &view) == X509_OK && is_at(view.key_identifier, 0, 0));
+}
+
+static void accesses(void)
+{
+    /* by OCSP, at a:b */
+    const char value[] = "\x30\x11\x30\x0f\x06\x08\x2b\x06\x01\x05\x05\x07\x30\x01\x86\x03\x61\x3a\x62";
+    x509_access found;
+    size_t at = 0;
+    WANT(x509_access_next(BYTES(value), &at, &found) == X509_OK && at == 19);
+    WANT(is_at(found.method, 6, 8) && found.location.kind == X509_GENERAL_NAME_URI);
+    WANT(is_at(found.location.element, 14, 5) && is_at(found.location.content, 16, 3) && is_at(found.location.type_id, 0, 0));
+    WANT(x509_access_next(BYTES(value), &at, &found) == X509_ABSENT && at == 19 && is_at(found.method, 6, 8));
+    at = 0;
+    WANT(x509_access_next(BYTES("\x30\x02\x30\x00"), &at, &found) == X509_MALFORMED && at == 0 && is_at(found.method, 6, 8));
+}
+
+static void policies(void)
+{
+    /* any policy, with the identifier of a practice statement and no address; and any policy alone */
+    const char value[] = "\x30\x1e\x30\x14\x06\x04\x55\x1d\x20\x00\x30\x0c\x30\x0a\x06\x08\x2b\x06\x01\x05\x05\x07\x02\x01\x30\x06\x06\x04\x55\x1d\x20\x00";
+    x509_policy policy;
+    size_t at = 0;
+    WANT(x509_certificate_policies_next(BYTES(value), &at, &policy) == X509_OK && at == 24);
+    WANT(is_at(policy.identifier, 6, 4) && is_at(policy.qualifiers, 10, 14));
+    WANT(x509_certificate_policies_next(BYTES(value), &at, &policy) == X509_OK && at == 32);
+    WANT(is_at(policy.identifier, 28, 4) && is_at(policy.qualifiers, 0, 0));
+    WANT(x509_certificate_policies_next(BYTES(value), &at, &policy) == X509_ABSENT && at == 32);
+    x509_policy_qualifier qualifier;
+    at = 0;
+    WANT(x509_policy_qualifiers_next((const uint8_t *)value + 10, 14, &at, &qualifier) == X509_OK && at == 14);
+    WANT(is_at(qualifier.identifier, 6, 8) && is_at(qualifier.qualifier, 0, 0));
+    at = 0;
+    WANT(x509_policy_qualifiers_next(BYTES("\x30\x08\x30\x06\x06\x01\x2a\x16\x01\x61"), &at, &qualifier) == X509_OK && at == 10);
+    WANT(is_at(qualifier.identifier, 6, 1) && is_at(qualifier.qualifier, 7, 3));
+
+    x509_policy_mapping mapping;
+    at = 0;
+    WANT(x509_policy_mappings_next(BYTES("\x30\x0c\x30\x0a\x06\x03\x55\x1d\x20\x06\x03\x55\x1d\x21"), &at, &mapping) == X509_OK && at == 14);
+    WANT(is_at(mapping.issuer_policy, 6, 3) && is_at(mapping.subject_policy, 11, 3));
+    at = 0;
+    WANT(x509_policy_mappings_next(BYTES("\x30\x07\x30\x05\x06\x03\x55\x1d\x20"), &at, &mapping) == X509_MALFORMED && at == 0 && mapping.issuer_policy.place == 6);
+
+    x509_policy_constraints_view constraints = {7, 7, 7, 7};
+    WANT(x509_policy_constraints(BYTES("\x30\x03\x82\x01\x03"), &constraints) == X509_MALFORMED && constraints.require_explicit_policy == 7);
+    WANT(x509_policy_constraints(BYTES("\x30\x06\x80\x01\x03\x81\x01\x00"), &constraints) == X509_OK);
+    WANT(constraints.has_require_explicit_policy == 1 && constraints.require_explicit_policy == 3);
+    WANT(constraints.has_inhibit_policy_mapping == 1 && constraints.inhibit_policy_mapping == 0);
+    WANT(x509_policy_constraints(BYTES("\x30\x03\x81\x01\x05"), &constraints) == X509_OK);
+    WANT(constraints.has_require_explicit_policy == 0 && constraints.require_explicit_policy == 0 && constraints.inhibit_policy_mapping == 5);
+    uint32_t certificates = 77;
+    WANT(x509_inhibit_any_policy(BYTES("\x02\x01\xff"), &certificates) == X509_MALFORMED && certificates == 77);
+    WANT(x509_inhibit_any_policy(BYTES("\x02\x05\x00\xff\xff\xff\xff"), &certificates) == X509_OK && certificates == 4294967295);
+    WANT(x509_inhibit_any_policy(BYTES("\x02\x05\x01\x00\x00\x00\x00"), &certificates) == X509_MALFORMED && certificates == 4294967295);
+}
+
+static void points(void)
+{
+    x509_distribution_point point;
+    size_t at = 0;
+    /* the URI a, for keys that aren't secret, from the issuer b */
+    WANT(x509_distribution_points_next(BYTES("\x30\x12\x30\x10\xa0\x05\xa0\x03\x86\x01\x61\x81\x02\x06\x40\xa2\x03\x82\x01\x62"), &at, &point) == X509_OK && at == 20);
+    WANT(is_at(point.full_name, 6, 5) && is_at(point.relative_name, 0, 0) && is_at(point.crl_issuer, 15, 5));
+    WANT(point.has_reasons == 1 && point.reasons == X509_REASONS_KEY_COMPROMISE);
+    /* CN=a below the issuer's name */
+    at = 0;
+    WANT(x509_distribution_points_next(BYTES("\x30\x10\x30\x0e\xa0\x0c\xa1\x0a\x30\x08\x06\x03\x55\x04\x03\x0c\x01\x61"), &at, &point) == X509_OK && at == 18);
+    WANT(is_at(point.full_name, 0, 0) && is_at(point.relative_name, 6, 12) && is_at(point.crl_issuer, 0, 0));
+    WANT(point.has_reasons == 0 && point.reasons == 0);
+    at = 0;
+    WANT(x509_distribution_points_next(BYTES("\x30\x06\x30\x04\x81\x02\x00\x40"), &at, &point) == X509_MALFORMED && at == 0 && is_at(point.relative_name, 6, 12));
+
+    x509_issuing_distribution_point_view view;
+    WANT(x509_issuing_distribution_point(BYTES("\x30\x11\xa0\x05\xa0\x03\x86\x01\x61\x81\x01\xff\x83\x02\x06\x40\x84\x01\xff"), &view) == X509_OK);
+    WANT(is_at(view.full_name, 4, 5) && is_at(view.relative_name, 0, 0) && view.only_contains_user_certs == 1 && view.only_contains_ca_certs == 0);
+    WANT(view.has_only_some_reasons == 1 && view.only_some_reasons == X509_REASONS_KEY_COMPROMISE);
+    WANT(view.indirect_crl == 1 && view.only_contains_attribute_certs == 0);
+    WANT(x509_issuing_distribution_point(BYTES("\x30\x03\x81\x01\x00"), &view) == X509_MALFORMED && view.indirect_crl == 1);
+    WANT(x509_issuing_distribution_point(BYTES("\x30\x06\x82\x01\xff\x85\x01\xff"), &view) == X509_OK);
+    WANT(view.only_contains_ca_certs == 1 && view.only_contains_attribute_certs == 1 && view.only_contains_user_certs == 0 && view.has_only_some_reasons == 0);
+
+    x509_span number = {7, 7};
+    WANT(x509_crl_number(BYTES("\x02\x01\xff"), &number) == X509_MALFORMED && is_at(number, 7, 7));
+    WANT(x509_crl_number(BYTES("\x02\x02\x01\x00"), &number) == X509_OK && is_at(number, 2, 2));
+    WANT(x509_base_crl_number(BYTES("\x02\x01\x05"), &number) == X509_OK && is_at(number, 2, 1));
+    uint32_t reason = 77;
+    WANT(x509_crl_reason(BYTES("\x0a\x01\x07"), &reason) == X509_MALFORMED && reason == 77);
+    WANT(x509_crl_reason(BYTES("\x0a\x01\x0a"), &reason) == X509_OK && reason == 10);
+}
+
+static void subtrees(void)
+{
+    /* the names below the DNS name a, but none from two to three steps below b */
+    const char value[] = "\x30\x14\xa0\x05\x30\x03\x82\x01\x61\xa1\x0b\x30\x09\x82\x01\x62\x80\x01\x02\x81\x01\x03";
+    x509_name_constraints_view view = {{7, 7}, {7, 7}};
+    WANT(x509_name_constraints(BYTES("\x30\x02\xa2\x00"), &view) == X509_MALFORMED && is_at(view.permitted, 7, 7));
+    WANT(x509_name_constraints(BYTES(value), &view) == X509_OK && is_at(view.permitted, 2, 7) && is_at(view.excluded, 9, 13));
+    x509_subtree found;
+    size_t at = 0;
+    WANT(x509_subtrees_under_next(0, (const uint8_t *)value + 2, 7, &at, &found) == X509_OK && at == 7);
+    WANT(found.base.kind == X509_GENERAL_NAME_DNS && is_at(found.base.element, 4, 3) && is_at(found.base.content, 6, 1));
+    WANT(found.minimum == 0 && found.has_maximum == 0 && found.maximum == 0);
+    WANT(x509_subtrees_under_next(0, (const uint8_t *)value + 2, 7, &at, &found) == X509_ABSENT && at == 7);
+    at = 0;
+    WANT(x509_subtrees_under_next(1, (const uint8_t *)value + 9, 13, &at, &found) == X509_OK && at == 13);
+    WANT(is_at(found.base.content, 6, 1) && found.minimum == 2 && found.has_maximum == 1 && found.maximum == 3);
+    WANT(x509_subtrees_under_next(31, (const uint8_t *)value + 9, 13, &at, &found) == X509_MALFORMED && at == 13 && found.minimum == 2);
+    WANT(x509_name_constraints(BYTES("\x30\x00"), &view) == X509_OK && is_at(view.permitted, 0, 0) && is_at(view.excluded, 0, 0));
+}
+
+static int is_written(const char *text)
+{
+    return written == strlen(text) && memcmp(room, text, written) == 0;
+}
+
+static void texts(void)
+{
+    x509_span number = {7, 7};
+    WANT(x509_serial_number(BYTES("\x02\x02\x00\x01"), &number) == X509_MALFORMED && is_at(number, 7, 7));
+    WANT(x509_serial_number(BYTES("\x02\x03\x12\x34\xab"), &number) == X509_OK && is_at(number, 2, 3));
+    written = 77;
+    WANT(x509_serial_text(BYTES(""), room, sizeof room, &written) == X509_MALFORMED && written == 77);
+    WANT(x509_serial_text(BYTES("\x00\x01"), room, sizeof room, &written) == X509_MALFORMED && written == 77);
+    WANT(x509_serial_text(BYTES("\x12\x34\xab"), room, 7, &written) == X509_ROOM && written == 8);
+    WANT(x509_serial_text(BYTES("\x12\x34\xab"), room, 8, &written) == X509_OK && is_written("12:34:AB"));
+    WANT(x509_serial_text(BYTES("\x00\xff"), room, sizeof room, &written) == X509_OK && is_written("00:FF"));
+
+    WANT(x509_time_text(0, room, 19, &written) == X509_ROOM && written == 20);
+    WANT(x509_time_text(0, room, 20, &written) == X509_OK && is_written("1970-01-01T00:00:00Z"));
+    WANT(x509_time_text(1767323045, room, sizeof room, &written) == X509_OK && is_written("2026-01-02T03:04:05Z"));
+    WANT(x509_time_text(253402300799, room, sizeof room, &written) == X509_OK && is_written("9999-12-31T23:59:59Z"));
+    written = 77;
+    WANT(x509_time_text(253402300800, room, sizeof room, &written) == X509_VALUE && written == 77);
+    WANT(x509_time_text(UINT64_MAX, room, sizeof room, &written) == X509_VALUE && written == 77);
+
+    WANT(x509_status_text(X509_OK, room, sizeof room, &written) == X509_OK && is_written("done"));
+    WANT(x509_status_text(X509_MEMORY, room, sizeof room, &written) == X509_OK && is_written("out of memory"));
+    WANT(x509_status_text(X509_ROOM, room, sizeof room, &written) == X509_OK && is_written("the room is too small"));
+    WANT(x509_status_text(X509_OVERLENGTH, room, sizeof room, &written) == X509_OK && is_written("too long"));
+    WANT(x509_status_text(X509_MALFORMED, room, 8, &written) == X509_ROOM && written == 9);
+    WANT(x509_status_text(X509_MALFORMED, room, 9, &written) == X509_OK && is_written("malformed"));
+    WANT(x509_status_text(X509_FAULT, room, sizeof room, &written) == X509_OK && is_written("the path has a fault"));
+    written = 77;
+    WANT(x509_status_text(9, room, sizeof room, &written) == X509_FAILED && written == 77);
+    WANT(x509_status_text(-3, room, sizeof room, &written) == X509_FAILED && written == 77);
+    WANT(x509_version() == X509_VERSION && X509_VERSION == (X509_VERSION_MAJOR << 16 | X509_VERSION_MINOR << 8 | X509_VERSION_PATCH));
+}
+
 int main(int argc, char **argv)
 {
     if (argc != 4)
@@ -282,6 +478,13 @@ int main(int argc, char **argv)
     paths();
     certificates();
     lists();
+    attributes();
+    key_identifiers();
+    accesses();
+    policies();
+    points();
+    subtrees();
+    texts();
     if (failures == 0)
         printf("all calls answer as they should\n");
     return failures != 0;

@@ -85,6 +85,55 @@ static void no_pointers(void)
     WANT(x509_name_from_text(NULL, 0, NULL, 0, &written) == X509_ROOM && written == 2);
     WANT(x509_name_from_text(NULL, 0, room, 2, &written) == X509_OK && written == 2 && memcmp(room, "\x30\x00", 2) == 0);
     WANT(x509_name_from_text((const uint8_t *)"CN=a", 4, NULL, 0, &written) == X509_ROOM && written == 14);
+    written = 77;
+    WANT(x509_serial_text(NULL, 0, NULL, 0, &written) == X509_MALFORMED && written == 77);
+    WANT(x509_serial_text((const uint8_t *)"\x05", 1, NULL, 0, &written) == X509_ROOM && written == 2);
+    WANT(x509_time_text(MOMENT, NULL, 0, &written) == X509_ROOM && written == 20);
+    WANT(x509_status_text(X509_OK, NULL, 0, &written) == X509_ROOM && written == 4);
+}
+
+/* What the calls on payloads and names fill in, with what stands in it before. */
+static x509_attribute attribute;
+static x509_authority_key_identifier_view authority;
+static x509_access access_found;
+static x509_policy policy;
+static x509_policy_qualifier qualifier;
+static x509_policy_mapping mapping;
+static x509_policy_constraints_view constraints;
+static x509_distribution_point point;
+static x509_issuing_distribution_point_view issuing;
+static x509_name_constraints_view names;
+static x509_subtree subtree;
+static uint32_t number = 7;
+
+/* Each call on a payload or a name, with these bytes, gives that status, and fills in nothing. */
+static void refused_values(const uint8_t *bytes, size_t len, x509_status status)
+{
+    size_t at = 0;
+    part = (x509_span){7, 7};
+    WANT(x509_name_next(bytes, len, &at, &part) == status);
+    WANT(x509_relative_name_next(bytes, len, &at, &attribute) == status);
+    WANT(x509_relative_name_under_next(1, bytes, len, &at, &attribute) == status);
+    WANT(x509_subject_key_identifier(bytes, len, &part) == status);
+    WANT(x509_authority_key_identifier(bytes, len, &authority) == status);
+    WANT(x509_access_next(bytes, len, &at, &access_found) == status);
+    WANT(x509_certificate_policies_next(bytes, len, &at, &policy) == status);
+    WANT(x509_policy_qualifiers_next(bytes, len, &at, &qualifier) == status);
+    WANT(x509_policy_mappings_next(bytes, len, &at, &mapping) == status);
+    WANT(x509_policy_constraints(bytes, len, &constraints) == status);
+    WANT(x509_inhibit_any_policy(bytes, len, &number) == status);
+    WANT(x509_distribution_points_next(bytes, len, &at, &point) == status);
+    WANT(x509_issuing_distribution_point(bytes, len, &issuing) == status);
+    WANT(x509_crl_number(bytes, len, &part) == status);
+    WANT(x509_base_crl_number(bytes, len, &part) == status);
+    WANT(x509_crl_reason(bytes, len, &number) == status);
+    WANT(x509_name_constraints(bytes, len, &names) == status);
+    WANT(x509_subtrees_under_next(0, bytes, len, &at, &subtree) == status);
+    WANT(x509_serial_number(bytes, len, &part) == status);
+    WANT(at == 0 && part.place == 7 && part.len == 7 && number == 7 && attribute.tag == 0 && authority.issuer.len == 0);
+    WANT(access_found.location.kind == 0 && policy.identifier.len == 0 && qualifier.identifier.len == 0 && mapping.subject_policy.len == 0);
+    WANT(constraints.has_require_explicit_policy == 0 && point.has_reasons == 0 && issuing.full_name.len == 0 && names.excluded.len == 0);
+    WANT(subtree.base.element.len == 0);
 }
 
 /* Each span is a whole element; behind the signed SEQUENCE stands nothing. */
@@ -182,6 +231,7 @@ static void overlong(void)
     WANT(x509_reencode(CERTIFICATE, 11, X509_RAW, bytes, len, room, sizeof room, &written) == X509_OVERLENGTH);
     WANT(x509_name_text(bytes, len, room, sizeof room, &written) == X509_OVERLENGTH);
     WANT(x509_signed_slice(bytes, len, &part) == X509_MALFORMED);
+    refused_values(bytes, len, X509_OVERLENGTH);
     free(bytes);
 }
 
@@ -193,6 +243,7 @@ int main(int argc, char **argv)
     list_len = read_file(argv[2], list);
     respelled_len = read_file(argv[3], respelled);
     no_pointers();
+    refused_values(NULL, 0, X509_MALFORMED);
     parts();
     respelled_dates();
     overlong();

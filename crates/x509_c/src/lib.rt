@@ -5,6 +5,12 @@
 
 mod certificate;
 mod list;
+mod name;
+mod party;
 mod path;
 mod payload;
+mod point;
+mod policy;
+mod subtree;
+mod text;
 mod whole;

@@ -14,12 +14,12 @@ ghost use Rattle.x509_der_element.specs.declared.error.ErrorKind.TheVariants.{Ma
 
 use std::alloc::Global;
 use x509_c_payload::{
-    BasicConstraintsView, ExtensionEntry, GeneralNameView, basic_constraints, extensions_next,
-    general_names_next, general_names_under_next, identifiers_next, key_usage, oid_from_text,
-    oid_text,
+    BasicConstraintsView, ExtensionEntry, GeneralNameView, identifiers_next, member_next,
+    member_under_next, oid_from_text, oid_text, payload, read_number,
 };
 use x509_c_place::Span;
 use x509_der::ObjectIdentifier;
+use x509_der_element::Tag;
 use x509_der_grammar::{Decode, Grammar};
 use x509_ext::Extension;
 use x509_ext::pkix::name::GeneralName;
@@ -35,7 +35,7 @@ pub extern "C" fn x509_extensions_next(
 ) -> i32
     ensures { Tells (λ status. Steps ⟦<Extension as Grammar>⟧.form ⟦<Extension as Grammar>⟧.refuses ⟦<Extension as Decode>⟧.wants_memory 48 input.now at.old at.new (λ extension behind span. IsExtensionEntry input.now extension behind found.new) (found.new ≡ found.old) status) result }
 {
-    extensions_next(alloc, input, at, found).code()
+    member_next::<ExtensionEntry>(alloc, Tag::Sequence, input, at, found).code()
 }
 
 /// Decodes a KeyUsage, and fills in its bits.
@@ -43,7 +43,7 @@ pub extern "C" fn x509_extensions_next(
 pub extern "C" fn x509_key_usage(alloc: Global, input: &[u8], uses: &mut u32) -> i32
     ensures { Tells (λ status. Reads ⟦<KeyUsage as Grammar>⟧.form ⟦<KeyUsage as Grammar>⟧.refuses input.now (λ usage. uses.new ≡ usage.0.0) (uses.new ≡ uses.old) status × (status ≡ Refused Memory → ⊥)) result }
 {
-    key_usage(alloc, input, uses).code()
+    read_number::<KeyUsage>(alloc, input, uses).code()
 }
 
 /// Decodes a BasicConstraints, and fills in what it says.
@@ -55,7 +55,7 @@ pub extern "C" fn x509_basic_constraints(
 ) -> i32
     ensures { Tells (λ status. Reads ⟦<BasicConstraints as Grammar>⟧.form ⟦<BasicConstraints as Grammar>⟧.refuses input.now (λ constraints. IsBasicConstraints constraints view.new) (view.new ≡ view.old) status × (status ≡ Refused Memory → ⊥)) result }
 {
-    basic_constraints(alloc, input, view).code()
+    payload::<BasicConstraintsView>(alloc, input, view).code()
 }
 
 /// Fills in the next name of a list of general names.
@@ -68,7 +68,7 @@ pub extern "C" fn x509_general_names_next(
 ) -> i32
     ensures { Tells (λ status. Steps ⟦<GeneralName as Grammar>⟧.form ⟦<GeneralName as Grammar>⟧.refuses ⟦<GeneralName as Decode>⟧.wants_memory 48 input.now at.old at.new (λ name behind span. IsGeneralName input.now name behind found.new) (found.new ≡ found.old) status) result }
 {
-    general_names_next(alloc, input, at, found).code()
+    member_next::<GeneralNameView>(alloc, Tag::Sequence, input, at, found).code()
 }
 
 /// Fills in the next name of a list of general names under an implicit tag.
@@ -83,7 +83,7 @@ pub extern "C" fn x509_general_names_under_next(
     ensures { Tells (λ status. (number ≤ 30 → Steps ⟦<GeneralName as Grammar>⟧.form ⟦<GeneralName as Grammar>⟧.refuses ⟦<GeneralName as Decode>⟧.wants_memory (160 + number) input.now at.old at.new (λ name behind span. IsGeneralName input.now name behind found.new) (found.new ≡ found.old) status)
         × (30 < number → (status ≡ Refused Malformed) × (at.new ≡ at.old) × (found.new ≡ found.old))) result }
 {
-    general_names_under_next(alloc, number, input, at, found).code()
+    member_under_next::<GeneralNameView>(alloc, number, input, at, found).code()
 }
 
 /// Fills in where the content octets of the next OID of a list of OIDs stand.

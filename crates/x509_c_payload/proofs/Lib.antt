@@ -1,6 +1,10 @@
 pub mod Walks
 pub mod Members
 pub mod Octets
+pub mod Optional
 pub mod Fields
 pub mod Texts
 pub mod Names
+pub mod Refusals
+pub mod Serials
+pub mod PointNames

@@ -1,5 +1,6 @@
 -- A general name in a list of them, by its place (RFC 5280 4.2.1.6).
 use Rattle.std.specs.Prelude.{◌≡◌, ℕ, List, ◌++◌}
+use Rattle.x509_c_payload.specs.Optional.{IsNowhere}
 use Rattle.x509_c_payload.specs.declared.general_name.GeneralNameView.{GeneralNameView}
 use Rattle.x509_c_place.specs.Place.{IsAt}
 use Rattle.x509_c_place.specs.declared.span.Span.{Span}
@@ -34,10 +35,6 @@ held (EdiPartyName party) = edi_party_name.content party
 held (UniformResourceIdentifier text) = text
 held (IpAddress octets) = octets
 held (RegisteredId oid) = oid
-
--- both numbers are 0
-abbrev pub IsNowhere : Span → Type 0
-IsNowhere span = span ≡ record { place = 0; len = 0 }
 
 -- where the type of an otherName stands, and its value, behind which those octets stand; of other names nowhere
 abbrev pub IsOther : GeneralName → List ℕ → List ℕ → Span → Span → Type 0

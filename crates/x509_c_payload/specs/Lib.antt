@@ -1,5 +1,14 @@
 pub mod Cursor
+pub mod Optional
 pub mod Extensions
 pub mod BasicConstraints
 pub mod Identifiers
 pub mod GeneralNames
+pub mod Attributes
+pub mod KeyIdentifiers
+pub mod Access
+pub mod Policies
+pub mod Points
+pub mod Subtrees
+pub mod Texts
+pub mod StatusTexts

@@ -1,22 +1,11 @@
 //! General names, one after the other.
 
-ghost use Rattle.std.specs.Prelude.{◌≡◌, ◌≤◌, ◌<◌, ◌+◌, ◌++◌, drop, length, List, ℕ, MatchOption};
-ghost use Rattle.x509_c_payload.specs.Cursor.{Steps};
-ghost use Rattle.x509_c_payload.specs.GeneralNames.{IsGeneralName, IsOther, held, kind_of};
-ghost use Rattle.x509_c_place.specs.Place.{IsAt};
-ghost use Rattle.x509_c_status.specs.declared.status.Status.TheVariants.{Refused};
-ghost use Rattle.x509_der_element.specs.Tag.{octet_of};
-ghost use Rattle.x509_der_element.specs.declared.error.ErrorKind.TheVariants.{Malformed};
-ghost use Rattle.x509_der_grammar.specs.Form.{spelling};
-ghost use Rattle.x509_ext_name.specs.GeneralName.{general_name};
+ghost use Rattle.std.specs.Prelude.{◌≡◌, ◌≤◌, ◌++◌, drop, length, List, ℕ};
+ghost use Rattle.x509_c_payload.specs.GeneralNames.{IsOther, held, kind_of};
 
-use crate::cursor::next;
-use crate::walk::{content_at, step_content};
-use std::alloc::Global;
-use x509_c_place::{Span, enter};
-use x509_c_status::Status;
-use x509_der_element::{ErrorKind, Tag, TagNumber};
-use x509_der_grammar::{Decode, Grammar};
+use crate::calls::View;
+use crate::walk::{NOWHERE, content_at, step_content};
+use x509_c_place::{Span, enter, step};
 use x509_ext_name::GeneralName;
 
 /// A general name (RFC 5280 4.2.1.6), by its place in the bytes of a list of general names.
@@ -56,9 +45,6 @@ fn kind_of(name: &GeneralName) -> u32
     }
 }
 
-/// Nowhere.
-const NOWHERE: Span = Span { place: 0, len: 0 };
-
 /// Where the type and the value of an otherName stand whose content begins at the place.
 fn other_at(input: &[u8], place: usize, name: &GeneralName) -> (Span, Span)
     requires { place ≤ length input.now }
@@ -80,93 +66,24 @@ fn other_at(input: &[u8], place: usize, name: &GeneralName) -> (Span, Span)
     }
 }
 
-/// The general name whose element stands there.
-pub(crate) fn name_at(input: &[u8], element: Span, name: &GeneralName) -> GeneralNameView
-    requires { element.place ≤ length input.now }
-    ensures { (behind : List ℕ) → IsAt (spelling general_name name.now) behind input.now element → IsGeneralName input.now name.now behind result }
-{
-    let content = content_at(input, element.place);
-    let (type_id, value) = other_at(input, content.place, name);
-    GeneralNameView {
-        kind: kind_of(name),
-        element,
-        content,
-        type_id,
-        value,
-    }
-}
+impl View for GeneralNameView {
+    ghost use Rattle.x509_c_payload.specs.GeneralNames.{IsGeneralName};
 
-/// Fills in the next name of a list of general names under a tag, which the bytes are, and moves the place behind it.
-#[tactic(auto, unfolding(crate::specs::Cursor::Steps))]
-fn names_in(
-    alloc: Global,
-    list: Tag,
-    input: &[u8],
-    at: &mut usize,
-    found: &mut GeneralNameView,
-) -> Status
-    ensures { Steps ⟦<GeneralName as Grammar>⟧.form ⟦<GeneralName as Grammar>⟧.refuses ⟦<GeneralName as Decode>⟧.wants_memory (octet_of list) input.now at.old at.new (λ name behind span. IsGeneralName input.now name behind found.new) (found.new ≡ found.old) result }
-{
-    match next::<GeneralName>(alloc, list, input, at) {
-        Ok(Some((name, span))) => {
-            *found = name_at(input, span, &name);
-            Status::Done
+    type Value = GeneralName;
+
+    ghost shows = { IsGeneralName };
+
+    fn view(input: &[u8], place: usize, value: &GeneralName) -> GeneralNameView {
+        let mut at = place;
+        let element = step(input, &mut at, true);
+        let content = content_at(input, place);
+        let (type_id, other) = other_at(input, content.place, value);
+        GeneralNameView {
+            kind: kind_of(value),
+            element,
+            content,
+            type_id,
+            value: other,
         }
-        Ok(None) => Status::Absent,
-        Err(e) => Status::Refused(e),
     }
-}
-
-/// Fills in the next name of a list of general names, which the bytes are (RFC 5280 4.2.1.6), and moves the place
-/// behind it.
-///
-/// # Errors
-///
-/// [`Status::Absent`] at the end of the list. Else those of [`next`]. `at` and `found` are unchanged then.
-pub fn general_names_next(
-    alloc: Global,
-    input: &[u8],
-    at: &mut usize,
-    found: &mut GeneralNameView,
-) -> Status
-    ensures { Steps ⟦<GeneralName as Grammar>⟧.form ⟦<GeneralName as Grammar>⟧.refuses ⟦<GeneralName as Decode>⟧.wants_memory 48 input.now at.old at.new (λ name behind span. IsGeneralName input.now name behind found.new) (found.new ≡ found.old) result }
-{
-    names_in(alloc, Tag::Sequence, input, at, found)
-}
-
-/// The tag \[n\] of a list; there is none above 30.
-fn implicit_list(number: u32) -> Option<Tag>
-    ensures { MatchOption result (30 < number) (λ tag. (number ≤ 30) × (octet_of tag ≡ 160 + number)) }
-{
-    if number > 30 {
-        return None;
-    }
-    match TagNumber::new(number as u8) {
-        Ok(number) => Some(Tag::ContextSpecific {
-            constructed: true,
-            number,
-        }),
-        Err(_) => None,
-    }
-}
-
-/// The same of a list under the implicit tag \[n\], such as the issuer's names in an AKI (RFC 5280 4.2.1.1).
-///
-/// # Errors
-///
-/// `Malformed` where n is above 30. Else those of [`general_names_next`]. `at` and `found` are unchanged then.
-pub fn general_names_under_next(
-    alloc: Global,
-    number: u32,
-    input: &[u8],
-    at: &mut usize,
-    found: &mut GeneralNameView,
-) -> Status
-    ensures stepped { number ≤ 30 → Steps ⟦<GeneralName as Grammar>⟧.form ⟦<GeneralName as Grammar>⟧.refuses ⟦<GeneralName as Decode>⟧.wants_memory (160 + number) input.now at.old at.new (λ name behind span. IsGeneralName input.now name behind found.new) (found.new ≡ found.old) result }
-    ensures none { 30 < number → (result ≡ Refused Malformed) × (at.new ≡ at.old) × (found.new ≡ found.old) }
-{
-    let Some(list) = implicit_list(number) else {
-        return Status::Refused(ErrorKind::Malformed);
-    };
-    names_in(alloc, list, input, at, found)
 }

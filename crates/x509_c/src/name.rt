@@ -1,0 +1,58 @@
+//! What names hold.
+
+ghost use Rattle.std.specs.Prelude.{◌≡◌, ◌≤◌, ◌<◌, ◌+◌};
+ghost use Rattle.x509_c_payload.specs.Attributes.{IsAttribute};
+ghost use Rattle.x509_c_payload.specs.Cursor.{Steps};
+ghost use Rattle.x509_c_status.specs.Status.{Tells};
+ghost use Rattle.x509_c_status.specs.declared.status.Status.TheVariants.{Refused};
+ghost use Rattle.x509_der_element.specs.declared.error.ErrorKind.TheVariants.{Malformed};
+ghost use Rattle.x509_name.specs.Names.{relative_distinguished_name};
+
+use std::alloc::Global;
+use x509_c_payload::{AttributeView, element_next, member_next, member_under_next};
+use x509_c_place::Span;
+use x509_der_element::Tag;
+use x509_der_grammar::{Decode, Grammar};
+use x509_name::name::RelativeDistinguishedName;
+use x509_name_attribute::AttributeTypeAndValue;
+
+/// Fills in where the next relative distinguished name of a name stands.
+#[unsafe(no_mangle)]
+pub extern "C" fn x509_name_next(
+    alloc: Global,
+    input: &[u8],
+    at: &mut usize,
+    found: &mut Span,
+) -> i32
+    ensures { Tells (λ status. Steps relative_distinguished_name (λ e. ⊥) Unit 48 input.now at.old at.new (λ rdn behind span. found.new ≡ span) (found.new ≡ found.old) status) result }
+{
+    element_next::<RelativeDistinguishedName>(alloc, Tag::Sequence, input, at, found).code()
+}
+
+/// Fills in the next attribute of a relative distinguished name.
+#[unsafe(no_mangle)]
+pub extern "C" fn x509_relative_name_next(
+    alloc: Global,
+    input: &[u8],
+    at: &mut usize,
+    found: &mut AttributeView,
+) -> i32
+    ensures { Tells (λ status. Steps ⟦<AttributeTypeAndValue as Grammar>⟧.form ⟦<AttributeTypeAndValue as Grammar>⟧.refuses ⟦<AttributeTypeAndValue as Decode>⟧.wants_memory 49 input.now at.old at.new (λ attribute behind span. IsAttribute input.now attribute behind found.new) (found.new ≡ found.old) status) result }
+{
+    member_next::<AttributeView>(alloc, Tag::Set, input, at, found).code()
+}
+
+/// Fills in the next attribute of a relative distinguished name under an implicit tag.
+#[unsafe(no_mangle)]
+pub extern "C" fn x509_relative_name_under_next(
+    alloc: Global,
+    number: u32,
+    input: &[u8],
+    at: &mut usize,
+    found: &mut AttributeView,
+) -> i32
+    ensures { Tells (λ status. (number ≤ 30 → Steps ⟦<AttributeTypeAndValue as Grammar>⟧.form ⟦<AttributeTypeAndValue as Grammar>⟧.refuses ⟦<AttributeTypeAndValue as Decode>⟧.wants_memory (160 + number) input.now at.old at.new (λ attribute behind span. IsAttribute input.now attribute behind found.new) (found.new ≡ found.old) status)
+        × (30 < number → (status ≡ Refused Malformed) × (at.new ≡ at.old) × (found.new ≡ found.old))) result }
+{
+    member_under_next::<AttributeView>(alloc, number, input, at, found).code()
+}

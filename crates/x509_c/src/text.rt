@@ -1,0 +1,67 @@
+//! Texts of serial numbers, of times and of statuses, and the version.
+
+ghost use Rattle.std.specs.Prelude.{◌≡◌, []};
+ghost use Rattle.x509_c_payload.specs.StatusTexts.{IsStatusText};
+ghost use Rattle.x509_c_payload.specs.Texts.{IsSerialText, IsTimeText};
+ghost use Rattle.x509_c_place.specs.Place.{IsAt};
+ghost use Rattle.x509_c_status.specs.Calls.{Reads};
+ghost use Rattle.x509_c_status.specs.Status.{Fills, Tells};
+ghost use Rattle.x509_c_status.specs.declared.status.Status.TheVariants.{Refused};
+ghost use Rattle.x509_der_element.specs.declared.error.ErrorKind.TheVariants.{Memory};
+
+use std::alloc::Global;
+use x509_base::SerialNumber;
+use x509_base_time::Rfc5280;
+use x509_c_payload::{content, serial_text, status_text, time_text};
+use x509_c_place::Span;
+use x509_der_grammar::Grammar;
+
+/// Reads a serial number under the rules of RFC 5280, and fills in where its content octets stand.
+#[unsafe(no_mangle)]
+pub extern "C" fn x509_serial_number(alloc: Global, input: &[u8], found: &mut Span) -> i32
+    ensures { Tells (λ status. Reads ⟦<SerialNumber<Rfc5280> as Grammar>⟧.form ⟦<SerialNumber<Rfc5280> as Grammar>⟧.refuses input.now (λ serial. IsAt serial [] input.now found.new) (found.new ≡ found.old) status) result }
+{
+    content::<SerialNumber<Rfc5280>>(alloc, input, found).code()
+}
+
+/// Puts the hex text of the serial number with these content octets at the front of the room.
+#[unsafe(no_mangle)]
+pub extern "C" fn x509_serial_text(
+    alloc: Global,
+    content: &[u8],
+    room: &mut [u8],
+    written: &mut usize,
+) -> i32
+    ensures { Tells (λ status. Fills (λ answer. IsSerialText content.now answer) room.old room.new written.old written.new status) result }
+{
+    serial_text(alloc, content, room, written).code()
+}
+
+/// Puts the text of a moment, in seconds since 1970-01-01T00:00:00Z, at the front of the room.
+#[unsafe(no_mangle)]
+pub extern "C" fn x509_time_text(
+    alloc: Global,
+    moment: u64,
+    room: &mut [u8],
+    written: &mut usize,
+) -> i32
+    ensures { Tells (λ status. Fills (λ answer. IsTimeText moment answer) room.old room.new written.old written.new status) result }
+{
+    time_text(alloc, moment, room, written).code()
+}
+
+/// Puts what the status with that number means at the front of the room.
+#[unsafe(no_mangle)]
+pub extern "C" fn x509_status_text(code: i32, room: &mut [u8], written: &mut usize) -> i32
+    ensures { Tells (λ status. Fills (λ answer. IsStatusText code answer) room.old room.new written.old written.new status × (status ≡ Refused Memory → ⊥)) result }
+{
+    status_text(code, room, written).code()
+}
+
+/// The version of the library: 65,536 times the first number, 256 times the second, and the third.
+#[unsafe(no_mangle)]
+pub extern "C" fn x509_version() -> u32
+    ensures { result ≡ 256 }
+{
+    0x0000_0100
+}
