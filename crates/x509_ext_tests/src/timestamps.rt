@@ -5,9 +5,9 @@ use std::test::*;
 use x509_der_grammar::{Decode, Error as DerError, ErrorKind};
 use x509_prim::OctetString;
 use x509_sct::{
-    CtPrecertificatePoison, DigitallySigned, Error, HashAlgorithm, LogId, SerializedSct,
-    SignatureAlgorithm, SignatureAndHashAlgorithm, SignedCertificateTimestamp,
-    SignedCertificateTimestampList, TlsByteVecU16, TlsError, Version,
+    CtPrecertificatePoison, DigitallySigned, Error, HashAlgorithm, LogId, PreCert, SerializedSct,
+    SignatureAlgorithm, SignatureAndHashAlgorithm, SignatureType, SignedCertificateTimestamp,
+    SignedCertificateTimestampList, SignedEntry, TlsByteVecU16, TlsError, Version,
 };
 use x509_sct_tls::NamedByte;
 
@@ -187,6 +187,56 @@ fn refusals(rt: HostRuntime) -> Result<(), Fail> {
     Ok(())
 }
 
+/// Whether a log signs these bytes of the timestamp in [`ONE`], with two octets of extensions, for that entry.
+fn is_signed(rt: &HostRuntime, entry: &SignedEntry<'_>, bytes: &[u8]) -> Result<bool, TlsError> {
+    let input = timestamp(rt, 2)?.signed_input(rt.alloc(), entry)?;
+    Ok(input.as_slice() == bytes)
+}
+
+/// A certificate of four octets (RFC 6962 section 3.2).
+#[test]
+fn signed_certificate(rt: HostRuntime) -> Result<(), Fail> {
+    let bytes = [
+        0x00, 0x00, 0x00, 0x00, 0x01, 0x87, 0xE0, 0x4A, 0xBA, 0x6A, 0x00, 0x00, 0x00, 0x00, 0x04,
+        0x30, 0x02, 0x05, 0x00, 0x00, 0x02, 0x00, 0x00,
+    ];
+    let entry = SignedEntry::X509(&[0x30, 0x02, 0x05, 0x00]);
+    assert!(rt; is_signed(&rt, &entry, &bytes)?);
+    Ok(())
+}
+
+/// A precertificate of four octets, whose issuer's key has the hash of 32 octets 5A (RFC 6962 section 3.2).
+#[test]
+fn signed_precertificate(rt: HostRuntime) -> Result<(), Fail> {
+    let bytes = [
+        0x00, 0x00, 0x00, 0x00, 0x01, 0x87, 0xE0, 0x4A, 0xBA, 0x6A, 0x00, 0x01, 0x5A, 0x5A, 0x5A,
+        0x5A, 0x5A, 0x5A, 0x5A, 0x5A, 0x5A, 0x5A, 0x5A, 0x5A, 0x5A, 0x5A, 0x5A, 0x5A, 0x5A, 0x5A,
+        0x5A, 0x5A, 0x5A, 0x5A, 0x5A, 0x5A, 0x5A, 0x5A, 0x5A, 0x5A, 0x5A, 0x5A, 0x5A, 0x5A, 0x00,
+        0x00, 0x04, 0x30, 0x02, 0x05, 0x00, 0x00, 0x02, 0x00, 0x00,
+    ];
+    let entry = SignedEntry::Precert(PreCert {
+        issuer_key_hash: [0x5A; 32],
+        tbs_certificate: &[0x30, 0x02, 0x05, 0x00],
+    });
+    assert!(rt; is_signed(&rt, &entry, &bytes)?);
+    Ok(())
+}
+
+/// Whether a certificate is too short or too long for a log to sign it.
+fn is_unsigned(rt: &HostRuntime, certificate: &[u8]) -> Result<bool, TlsError> {
+    let entry = SignedEntry::X509(certificate);
+    let refusal = timestamp(rt, 0)?.signed_input(rt.alloc(), &entry).err();
+    Ok(refusal == Some(TlsError::InvalidVectorLength))
+}
+
+/// No octets, and one more than three bytes can count.
+#[test]
+fn unsigned_certificates(rt: HostRuntime) -> Result<(), Fail> {
+    let long = vec![in rt.alloc(); 0; 16_777_216]?;
+    assert!(rt; is_unsigned(&rt, &[])? && is_unsigned(&rt, long.as_slice())?);
+    Ok(())
+}
+
 /// The bytes of the hash algorithms, in the order of their names.
 fn hashes() -> [u8; 8] {
     [
@@ -213,11 +263,13 @@ fn signatures() -> [u8; 6] {
     ]
 }
 
-/// RFC 5246 section 7.4.1.4.1, RFC 8422 section 5.1.3.
+/// RFC 5246 section 7.4.1.4.1, RFC 8422 section 5.1.3; RFC 6962 section 3.2.
 #[test]
 fn algorithms(rt: HostRuntime) {
     assert!(rt; hashes() == [0, 1, 2, 3, 4, 5, 6, 8]);
     assert!(rt; signatures() == [0, 1, 2, 3, 7, 8]);
+    let [timestamp, tree] = [SignatureType::CertificateTimestamp, SignatureType::TreeHash];
+    assert!(rt; timestamp.byte() == 0 && tree.byte() == 1);
 }
 
 /// Whether the list of no timestamps makes the extension that is written so.

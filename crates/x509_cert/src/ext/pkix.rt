@@ -17,7 +17,8 @@ pub use x509_pkix_policy::{
 };
 pub use x509_sct::{
     CtPrecertificatePoison, Error, HashAlgorithm, SerializedSct, SignatureAlgorithm,
-    SignatureAndHashAlgorithm, SignedCertificateTimestamp, SignedCertificateTimestampList, Version,
+    SignatureAndHashAlgorithm, SignedCertificateTimestamp, SignedCertificateTimestampList,
+    SignedEntry, Version,
 };
 
 /// Certificate policies.
@@ -65,8 +66,9 @@ pub mod name {
 /// Signed certificate timestamps (RFC 6962).
 pub mod sct {
     pub use x509_sct::{
-        CtPrecertificatePoison, DigitallySigned, Error, HashAlgorithm, LogId, SerializedSct,
-        SignatureAlgorithm, SignatureAndHashAlgorithm, SignedCertificateTimestamp,
-        SignedCertificateTimestampList, Tls, TlsByteVecU16, TlsError, Version,
+        CtPrecertificatePoison, DigitallySigned, Error, HashAlgorithm, LogId, PreCert,
+        SerializedSct, SignatureAlgorithm, SignatureAndHashAlgorithm, SignatureType,
+        SignedCertificateTimestamp, SignedCertificateTimestampList, SignedEntry, Tls,
+        TlsByteVecU16, TlsError, Version,
     };
 }
