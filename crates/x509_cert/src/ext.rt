@@ -5,4 +5,6 @@ pub mod pkix;
 pub use x509_cert_extension::{
     FilterExtensions, filter_extensions, get_extension, has_repeated_extension, members,
 };
-pub use x509_ext_frame::{Criticality, Extension, Extensions, ToExtension};
+pub use x509_ext_frame::{
+    Always, Criticality, Extension, Extensions, FixedCriticality, Never, ToExtension,
+};

@@ -4,4 +4,6 @@
 pub mod laws;
 pub mod pkix;
 
-pub use x509_ext_frame::{Criticality, Extension, Extensions, ToExtension};
+pub use x509_ext_frame::{
+    Always, Criticality, Extension, Extensions, FixedCriticality, Never, ToExtension,
+};

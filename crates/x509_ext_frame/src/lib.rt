@@ -2,11 +2,13 @@
 //! payloads.
 #![tactic(auto)]
 
+mod criticality;
 mod extension;
 mod identifiers;
 pub mod laws;
 mod to_extension;
 
+pub use criticality::{Always, Criticality, FixedAnswer, FixedCriticality, Never};
 pub use extension::{Extension, Extensions};
-pub use to_extension::{Criticality, ToExtension};
+pub use to_extension::ToExtension;
 pub use x509_name::name::{Name, ObjectIdentifier, RelativeDistinguishedName};

@@ -3,25 +3,12 @@
 ghost use Rattle.x509_der_grammar.specs.Writing.{writes};
 ghost use Rattle.x509_ext_frame.specs.ToExtension.{Makes};
 
+use crate::criticality::Criticality;
 use crate::extension::Extension;
 use std::alloc::Global;
 use x509_der_grammar::{Encode, Error};
 use x509_name::name::{AssociatedOid, Name, ObjectIdentifier};
 use x509_prim::OctetString;
-
-/// A payload that says whether its extension is critical, where the caller does not (RFC 5280 4.2).
-pub trait Criticality {
-    ghost use Rattle.std.specs.Prelude.{◌≡◌, Bool, List};
-    ghost use Rattle.x509_name.specs.AttributeTypeAndValue.{AttributeTypeAndValue};
-    ghost use Rattle.x509_ext_frame.specs.declared.extension.Extension.{Extension};
-
-    /// Whether it is, under that subject and behind those extensions.
-    ghost is_critical: { Self → List (List AttributeTypeAndValue) → List Extension → Bool };
-
-    /// Whether the extension is critical in a certificate of that subject, behind those extensions.
-    fn criticality(&self, subject: &Name, extensions: &[Extension]) -> bool
-        ensures { result ≡ is_critical self.now subject.now extensions.now };
-}
 
 /// What an extension can be made of: an extension, or a payload with or without an identifier and a criticality.
 pub trait ToExtension: Sized {

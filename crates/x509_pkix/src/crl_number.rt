@@ -8,7 +8,7 @@ use std::alloc::Global;
 use x509_der::{AssociatedOid, ObjectIdentifier};
 use x509_der_grammar::{Error, Newtype};
 use x509_der_order::NewtypeOrd;
-use x509_ext_frame::{Criticality, Extension, Name, id_ce};
+use x509_ext_frame::{Always, FixedCriticality, Never, id_ce};
 use x509_prim::Uint;
 
 /// The number of a list, which rises from each list of an authority to its next (RFC 5280 5.2.3). Its identifier is
@@ -79,14 +79,8 @@ impl AssociatedOid for CrlNumber {
     const OID: ObjectIdentifier = id_ce!(20);
 }
 
-impl Criticality for CrlNumber {
-    ghost use Rattle.std.specs.Prelude.{false};
-
-    ghost is_critical = { λ crl subject extensions. false };
-
-    fn criticality(&self, _subject: &Name, _extensions: &[Extension]) -> bool {
-        false
-    }
+impl FixedCriticality for CrlNumber {
+    type Critical = Never;
 }
 
 impl Newtype for CrlNumber {
@@ -178,14 +172,8 @@ impl AssociatedOid for BaseCrlNumber {
     const OID: ObjectIdentifier = id_ce!(27);
 }
 
-impl Criticality for BaseCrlNumber {
-    ghost use Rattle.std.specs.Prelude.{true};
-
-    ghost is_critical = { λ base subject extensions. true };
-
-    fn criticality(&self, _subject: &Name, _extensions: &[Extension]) -> bool {
-        true
-    }
+impl FixedCriticality for BaseCrlNumber {
+    type Critical = Always;
 }
 
 impl Newtype for BaseCrlNumber {

@@ -3,7 +3,7 @@
 use std::alloc::Global;
 use x509_der::{AssociatedOid, ObjectIdentifier};
 use x509_der_grammar::{Content, Error, Room, Spelled, Tag, TryClone};
-use x509_ext_frame::{Criticality, Extension, Name, id_ce};
+use x509_ext_frame::{FixedCriticality, Never, id_ce};
 use x509_prim::{NamedNumber, put_named_number, read_named_number};
 
 /// Why a certificate was revoked (RFC 5280 5.3.1). Its identifier is 2.5.29.21, and it isn't critical. Reasons are
@@ -118,14 +118,8 @@ impl AssociatedOid for CrlReason {
     const OID: ObjectIdentifier = id_ce!(21);
 }
 
-impl Criticality for CrlReason {
-    ghost use Rattle.std.specs.Prelude.{false};
-
-    ghost is_critical = { λ reason subject extensions. false };
-
-    fn criticality(&self, _subject: &Name, _extensions: &[Extension]) -> bool {
-        false
-    }
+impl FixedCriticality for CrlReason {
+    type Critical = Never;
 }
 
 impl TryClone for CrlReason {

@@ -7,7 +7,7 @@ use std::alloc::Global;
 use x509_der::{AssociatedOid, ObjectIdentifier};
 use x509_der_frames::SequenceOf;
 use x509_der_grammar::Newtype;
-use x509_ext_frame::{Criticality, Extension, Name, id_ce};
+use x509_ext_frame::{FixedCriticality, Never, id_ce};
 
 /// Where the lists are found that would revoke a certificate (RFC 5280 4.2.1.13). Its identifier is 2.5.29.31, and it isn't
 /// critical. A sequence without members is read and written too.
@@ -35,14 +35,8 @@ impl AssociatedOid for CrlDistributionPoints {
     const OID: ObjectIdentifier = id_ce!(31);
 }
 
-impl Criticality for CrlDistributionPoints {
-    ghost use Rattle.std.specs.Prelude.{false};
-
-    ghost is_critical = { λ places subject extensions. false };
-
-    fn criticality(&self, _subject: &Name, _extensions: &[Extension]) -> bool {
-        false
-    }
+impl FixedCriticality for CrlDistributionPoints {
+    type Critical = Never;
 }
 
 impl Newtype for CrlDistributionPoints {
@@ -125,14 +119,8 @@ impl AssociatedOid for FreshestCrl {
     const OID: ObjectIdentifier = id_ce!(46);
 }
 
-impl Criticality for FreshestCrl {
-    ghost use Rattle.std.specs.Prelude.{false};
-
-    ghost is_critical = { λ places subject extensions. false };
-
-    fn criticality(&self, _subject: &Name, _extensions: &[Extension]) -> bool {
-        false
-    }
+impl FixedCriticality for FreshestCrl {
+    type Critical = Never;
 }
 
 impl Newtype for FreshestCrl {

@@ -8,7 +8,7 @@ use x509_der_frames::{
     option_has_spelling, optional_explicit, optional_implicit,
 };
 use x509_der_grammar::{Content, Encode, Error, Room, Spelled, Tag, TryClone};
-use x509_ext_frame::{Criticality, Extension, Name, id_ce};
+use x509_ext_frame::{Always, FixedCriticality, id_ce};
 use x509_ext_name::DistributionPointName;
 
 /// Where a CRL is found, and of what certificates it speaks (RFC 5280 5.2.5). Its identifier is
@@ -66,14 +66,8 @@ impl AssociatedOid for IssuingDistributionPoint {
     const OID: ObjectIdentifier = id_ce!(28);
 }
 
-impl Criticality for IssuingDistributionPoint {
-    ghost use Rattle.std.specs.Prelude.{true};
-
-    ghost is_critical = { λ point subject extensions. true };
-
-    fn criticality(&self, _subject: &Name, _extensions: &[Extension]) -> bool {
-        true
-    }
+impl FixedCriticality for IssuingDistributionPoint {
+    type Critical = Always;
 }
 
 impl TryClone for IssuingDistributionPoint {

@@ -5,7 +5,7 @@ use std::alloc::Global;
 use x509_der::{AssociatedOid, ObjectIdentifier};
 use x509_der_frames::{PutPart, end, implicit_optional, option_has_spelling, optional_implicit};
 use x509_der_grammar::{Content, Error, Room, Spelled, Tag, TryClone};
-use x509_ext_frame::{Criticality, Extension, Name, id_ce};
+use x509_ext_frame::{Always, FixedCriticality, id_ce};
 
 /// What names the subjects of the certificates below an authority may have (RFC 5280 4.2.1.10). Its identifier is
 /// 2.5.29.30, and it is critical.
@@ -41,14 +41,8 @@ impl AssociatedOid for NameConstraints {
     const OID: ObjectIdentifier = id_ce!(30);
 }
 
-impl Criticality for NameConstraints {
-    ghost use Rattle.std.specs.Prelude.{true};
-
-    ghost is_critical = { λ constraints subject extensions. true };
-
-    fn criticality(&self, _subject: &Name, _extensions: &[Extension]) -> bool {
-        true
-    }
+impl FixedCriticality for NameConstraints {
+    type Critical = Always;
 }
 
 impl TryClone for NameConstraints {

@@ -4,7 +4,7 @@ use crate::policy_information::PolicyInformation;
 use x509_der::{AssociatedOid, ObjectIdentifier};
 use x509_der_frames::SequenceOf;
 use x509_der_grammar::Newtype;
-use x509_ext_frame::{Criticality, Extension, Name, id_ce};
+use x509_ext_frame::{FixedCriticality, Never, id_ce};
 
 /// The policies under which the certificate was issued and for which it may be used (RFC 5280 4.2.1.4). Its identifier is
 /// 2.5.29.32, and it isn't critical where the caller doesn't say so. A sequence without members is read and written too.
@@ -23,14 +23,8 @@ impl AssociatedOid for CertificatePolicies {
     const OID: ObjectIdentifier = id_ce!(32);
 }
 
-impl Criticality for CertificatePolicies {
-    ghost use Rattle.std.specs.Prelude.{false};
-
-    ghost is_critical = { λ policies subject extensions. false };
-
-    fn criticality(&self, _subject: &Name, _extensions: &[Extension]) -> bool {
-        false
-    }
+impl FixedCriticality for CertificatePolicies {
+    type Critical = Never;
 }
 
 impl Newtype for CertificatePolicies {

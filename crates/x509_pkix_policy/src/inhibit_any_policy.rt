@@ -3,7 +3,7 @@
 use x509_der::{AssociatedOid, ObjectIdentifier};
 use x509_der_grammar::Newtype;
 use x509_der_order::NewtypeOrd;
-use x509_ext_frame::{Criticality, Extension, Name, id_ce};
+use x509_ext_frame::{Always, FixedCriticality, id_ce};
 
 /// The identifier of [`InhibitAnyPolicy`], 2.5.29.54.
 pub const ID_CE_INHIBIT_ANY_POLICY: ObjectIdentifier = id_ce!(54);
@@ -26,14 +26,8 @@ impl AssociatedOid for InhibitAnyPolicy {
     const OID: ObjectIdentifier = ID_CE_INHIBIT_ANY_POLICY;
 }
 
-impl Criticality for InhibitAnyPolicy {
-    ghost use Rattle.std.specs.Prelude.{true};
-
-    ghost is_critical = { λ inhibit subject extensions. true };
-
-    fn criticality(&self, _subject: &Name, _extensions: &[Extension]) -> bool {
-        true
-    }
+impl FixedCriticality for InhibitAnyPolicy {
+    type Critical = Always;
 }
 
 impl Newtype for InhibitAnyPolicy {

@@ -4,7 +4,7 @@ use std::alloc::Global;
 use x509_der::{AssociatedOid, ObjectIdentifier};
 use x509_der_frames::{PutPart, end, implicit_optional, option_has_spelling, optional_implicit};
 use x509_der_grammar::{Content, Error, Room, Spelled, Tag, TryClone};
-use x509_ext_frame::{Criticality, Extension, Name, id_ce};
+use x509_ext_frame::{Always, FixedCriticality, id_ce};
 
 /// After how many further certificates of a path policies have to be acceptable, or mappings aren't followed any more
 /// (RFC 5280 4.2.1.11). Its identifier is 2.5.29.36, and it is critical.
@@ -32,14 +32,8 @@ impl AssociatedOid for PolicyConstraints {
     const OID: ObjectIdentifier = id_ce!(36);
 }
 
-impl Criticality for PolicyConstraints {
-    ghost use Rattle.std.specs.Prelude.{true};
-
-    ghost is_critical = { λ constraints subject extensions. true };
-
-    fn criticality(&self, _subject: &Name, _extensions: &[Extension]) -> bool {
-        true
-    }
+impl FixedCriticality for PolicyConstraints {
+    type Critical = Always;
 }
 
 impl TryClone for PolicyConstraints {

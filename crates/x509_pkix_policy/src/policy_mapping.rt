@@ -4,7 +4,7 @@ use std::alloc::Global;
 use x509_der::{AssociatedOid, ObjectIdentifier};
 use x509_der_frames::{PutPart, SequenceOf, end, field};
 use x509_der_grammar::{Content, Error, Newtype, Room, Spelled, Tag, TryClone};
-use x509_ext_frame::{Criticality, Extension, Name, id_ce};
+use x509_ext_frame::{Always, FixedCriticality, id_ce};
 
 /// A policy of the issuer, and one of the subject that the issuer takes for it (RFC 5280 4.2.1.5).
 ///
@@ -93,14 +93,8 @@ impl AssociatedOid for PolicyMappings {
     const OID: ObjectIdentifier = id_ce!(33);
 }
 
-impl Criticality for PolicyMappings {
-    ghost use Rattle.std.specs.Prelude.{true};
-
-    ghost is_critical = { λ mappings subject extensions. true };
-
-    fn criticality(&self, _subject: &Name, _extensions: &[Extension]) -> bool {
-        true
-    }
+impl FixedCriticality for PolicyMappings {
+    type Critical = Always;
 }
 
 impl Newtype for PolicyMappings {

@@ -15,7 +15,7 @@ use std::alloc::Global;
 use x509_der::{AssociatedOid, ObjectIdentifier};
 use x509_der_grammar::Newtype;
 use x509_der_order::NewtypeOrd;
-use x509_ext_frame::{Criticality, Extension, Name};
+use x509_ext_frame::{FixedCriticality, Never};
 use x509_prim::OctetString;
 use x509_sct_tls::{read_list, serialize_list};
 
@@ -73,14 +73,8 @@ impl AssociatedOid for SignedCertificateTimestampList {
     const OID: ObjectIdentifier = EMBEDDED_TIMESTAMPS;
 }
 
-impl Criticality for SignedCertificateTimestampList {
-    ghost use Rattle.std.specs.Prelude.{false};
-
-    ghost is_critical = { λ list subject extensions. false };
-
-    fn criticality(&self, _subject: &Name, _extensions: &[Extension]) -> bool {
-        false
-    }
+impl FixedCriticality for SignedCertificateTimestampList {
+    type Critical = Never;
 }
 
 impl Newtype for SignedCertificateTimestampList {

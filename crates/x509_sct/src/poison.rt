@@ -3,7 +3,7 @@
 use std::alloc::Global;
 use x509_der::{AssociatedOid, ObjectIdentifier};
 use x509_der_grammar::{Content, Error, ErrorKind, Room, Tag, TryClone};
-use x509_ext_frame::{Criticality, Extension, Name};
+use x509_ext_frame::{Always, FixedCriticality};
 
 // 1.3.6.1.4.1.11129.2.4.3 (RFC 6962 section 3.1)
 const POISON: ObjectIdentifier = ObjectIdentifier {
@@ -31,14 +31,8 @@ impl AssociatedOid for CtPrecertificatePoison {
     const OID: ObjectIdentifier = POISON;
 }
 
-impl Criticality for CtPrecertificatePoison {
-    ghost use Rattle.std.specs.Prelude.{true};
-
-    ghost is_critical = { λ poison subject extensions. true };
-
-    fn criticality(&self, _subject: &Name, _extensions: &[Extension]) -> bool {
-        true
-    }
+impl FixedCriticality for CtPrecertificatePoison {
+    type Critical = Always;
 }
 
 impl Content for CtPrecertificatePoison {

@@ -6,8 +6,8 @@ use std::alloc::Global;
 use x509_der::{AssociatedOid, ObjectIdentifier};
 use x509_der_frames::{PutPart, SequenceOf, end, field};
 use x509_der_grammar::{Content, Error, Newtype, Room, Spelled, Tag, TryClone};
-use x509_ext_frame::{Criticality, Extension, id_pkix};
-use x509_ext_name::{GeneralName, Name};
+use x509_ext_frame::{FixedCriticality, Never, id_pkix};
+use x509_ext_name::GeneralName;
 
 /// By which means something is found out, and where (RFC 5280 4.2.2.1).
 ///
@@ -98,14 +98,8 @@ impl AssociatedOid for AuthorityInfoAccessSyntax {
     const OID: ObjectIdentifier = id_pkix!(1, 1);
 }
 
-impl Criticality for AuthorityInfoAccessSyntax {
-    ghost use Rattle.std.specs.Prelude.{false};
-
-    ghost is_critical = { λ access subject extensions. false };
-
-    fn criticality(&self, _subject: &Name, _extensions: &[Extension]) -> bool {
-        false
-    }
+impl FixedCriticality for AuthorityInfoAccessSyntax {
+    type Critical = Never;
 }
 
 impl Newtype for AuthorityInfoAccessSyntax {
@@ -188,14 +182,8 @@ impl AssociatedOid for SubjectInfoAccessSyntax {
     const OID: ObjectIdentifier = id_pkix!(1, 11);
 }
 
-impl Criticality for SubjectInfoAccessSyntax {
-    ghost use Rattle.std.specs.Prelude.{false};
-
-    ghost is_critical = { λ access subject extensions. false };
-
-    fn criticality(&self, _subject: &Name, _extensions: &[Extension]) -> bool {
-        false
-    }
+impl FixedCriticality for SubjectInfoAccessSyntax {
+    type Critical = Never;
 }
 
 impl Newtype for SubjectInfoAccessSyntax {

@@ -6,7 +6,7 @@ use std::alloc::Global;
 use x509_der::{AssociatedOid, ObjectIdentifier};
 use x509_der_frames::SequenceOf;
 use x509_der_grammar::Newtype;
-use x509_ext_frame::{Criticality, Extension, id_ce};
+use x509_ext_frame::{Criticality, Extension, FixedCriticality, Never, id_ce};
 use x509_ext_name::{GeneralNames, Name};
 
 /// The identifier of [`SubjectAltName`], 2.5.29.17.
@@ -131,14 +131,8 @@ impl AssociatedOid for IssuerAltName {
     const OID: ObjectIdentifier = ID_CE_ISSUER_ALT_NAME;
 }
 
-impl Criticality for IssuerAltName {
-    ghost use Rattle.std.specs.Prelude.{false};
-
-    ghost is_critical = { λ alternative subject extensions. false };
-
-    fn criticality(&self, _subject: &Name, _extensions: &[Extension]) -> bool {
-        false
-    }
+impl FixedCriticality for IssuerAltName {
+    type Critical = Never;
 }
 
 impl Newtype for IssuerAltName {

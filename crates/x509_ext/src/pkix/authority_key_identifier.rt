@@ -9,8 +9,8 @@ use x509_base::{SerialNumber, SubjectPublicKeyInfoRef};
 use x509_der::{AssociatedOid, ObjectIdentifier};
 use x509_der_frames::{PutPart, end, implicit_optional, option_has_spelling, optional_implicit};
 use x509_der_grammar::{Content, Error, Room, Spelled, Tag, TryClone};
-use x509_ext_frame::{Criticality, Extension, id_ce};
-use x509_ext_name::{GeneralNames, Name};
+use x509_ext_frame::{FixedCriticality, Never, id_ce};
+use x509_ext_name::GeneralNames;
 use x509_prim::OctetString;
 
 /// By what the key that signed a certificate is told from others (RFC 5280 4.2.1.1). Its identifier is 2.5.29.35, and it
@@ -82,14 +82,8 @@ impl AssociatedOid for AuthorityKeyIdentifier {
     const OID: ObjectIdentifier = id_ce!(35);
 }
 
-impl Criticality for AuthorityKeyIdentifier {
-    ghost use Rattle.std.specs.Prelude.{false};
-
-    ghost is_critical = { λ identifier subject extensions. false };
-
-    fn criticality(&self, _subject: &Name, _extensions: &[Extension]) -> bool {
-        false
-    }
+impl FixedCriticality for AuthorityKeyIdentifier {
+    type Critical = Never;
 }
 
 impl TryClone for AuthorityKeyIdentifier {

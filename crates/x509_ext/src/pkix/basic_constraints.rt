@@ -6,7 +6,7 @@ use x509_der_frames::{
     PutPart, default_field, defaulted, end, option_has_spelling, optional, optional_field,
 };
 use x509_der_grammar::{Content, Error, Room, Spelled, Tag, TryClone};
-use x509_ext_frame::{Criticality, Extension, Name, id_ce};
+use x509_ext_frame::{Always, FixedCriticality, id_ce};
 
 /// Whether a certificate is that of an authority, and how many more authorities may stand below it (RFC 5280 4.2.1.9).
 /// Its identifier is 2.5.29.19, and it is critical.
@@ -34,14 +34,8 @@ impl AssociatedOid for BasicConstraints {
     const OID: ObjectIdentifier = id_ce!(19);
 }
 
-impl Criticality for BasicConstraints {
-    ghost use Rattle.std.specs.Prelude.{true};
-
-    ghost is_critical = { λ constraints subject extensions. true };
-
-    fn criticality(&self, _subject: &Name, _extensions: &[Extension]) -> bool {
-        true
-    }
+impl FixedCriticality for BasicConstraints {
+    type Critical = Always;
 }
 
 impl TryClone for BasicConstraints {

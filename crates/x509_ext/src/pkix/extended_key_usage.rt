@@ -4,7 +4,7 @@ use x509_der::{AssociatedOid, ObjectIdentifier};
 use x509_der_frames::SequenceOf;
 use x509_der_grammar::Newtype;
 use x509_der_order::NewtypeOrd;
-use x509_ext_frame::{Criticality, Extension, Name, id_ce};
+use x509_ext_frame::{FixedCriticality, Never, id_ce};
 
 /// For what purposes the key may be used (RFC 5280 4.2.1.12). Its identifier is 2.5.29.37, and it isn't critical where
 /// the caller doesn't say so. A sequence without members is read and written too.
@@ -24,14 +24,8 @@ impl AssociatedOid for ExtendedKeyUsage {
     const OID: ObjectIdentifier = id_ce!(37);
 }
 
-impl Criticality for ExtendedKeyUsage {
-    ghost use Rattle.std.specs.Prelude.{false};
-
-    ghost is_critical = { λ usage subject extensions. false };
-
-    fn criticality(&self, _subject: &Name, _extensions: &[Extension]) -> bool {
-        false
-    }
+impl FixedCriticality for ExtendedKeyUsage {
+    type Critical = Never;
 }
 
 impl Newtype for ExtendedKeyUsage {

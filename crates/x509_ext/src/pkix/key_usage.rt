@@ -9,7 +9,7 @@ use std::cmp::Ordering;
 use x509_der::{AssociatedOid, ObjectIdentifier};
 use x509_der_grammar::{Content, Error, Newtype, Room, Spelled, Tag, TryClone};
 use x509_der_order::{NewtypeOrd, ValueOrd};
-use x509_ext_frame::{Criticality, Extension, Name, id_ce};
+use x509_ext_frame::{Always, FixedCriticality, id_ce};
 use x509_prim::{cmp_named_bits, put_named_bits, read_named_bits};
 
 /// A set of uses of a key, of which bit n stands for the named bit n (RFC 5280 4.2.1.3). A bit from 9 on has no name: it
@@ -228,14 +228,8 @@ impl AssociatedOid for KeyUsage {
     const OID: ObjectIdentifier = id_ce!(15);
 }
 
-impl Criticality for KeyUsage {
-    ghost use Rattle.std.specs.Prelude.{true};
-
-    ghost is_critical = { λ usage subject extensions. true };
-
-    fn criticality(&self, _subject: &Name, _extensions: &[Extension]) -> bool {
-        true
-    }
+impl FixedCriticality for KeyUsage {
+    type Critical = Always;
 }
 
 impl Newtype for KeyUsage {

@@ -5,7 +5,7 @@ use x509_base_time::GeneralizedTime;
 use x509_der::{AssociatedOid, ObjectIdentifier};
 use x509_der_frames::{PutPart, end, implicit_optional, option_has_spelling, optional_implicit};
 use x509_der_grammar::{Content, Error, Room, Spelled, Tag, TryClone};
-use x509_ext_frame::{Criticality, Extension, Name, id_ce};
+use x509_ext_frame::{FixedCriticality, Never, id_ce};
 
 /// From when and until when the private key may sign, where that differs from when its certificate holds (X.509
 /// 9.2.2.5). Its times are written as they are, under any profile. Its identifier is 2.5.29.16 (RFC 5280 appendix A.2),
@@ -33,14 +33,8 @@ impl AssociatedOid for PrivateKeyUsagePeriod {
     const OID: ObjectIdentifier = id_ce!(16);
 }
 
-impl Criticality for PrivateKeyUsagePeriod {
-    ghost use Rattle.std.specs.Prelude.{false};
-
-    ghost is_critical = { λ period subject extensions. false };
-
-    fn criticality(&self, _subject: &Name, _extensions: &[Extension]) -> bool {
-        false
-    }
+impl FixedCriticality for PrivateKeyUsagePeriod {
+    type Critical = Never;
 }
 
 impl TryClone for PrivateKeyUsagePeriod {

@@ -6,8 +6,7 @@ use std::alloc::Global;
 use x509_der::{AssociatedOid, ObjectIdentifier};
 use x509_der_frames::SequenceOf;
 use x509_der_grammar::Newtype;
-use x509_ext_frame::{Criticality, Extension, id_ce};
-use x509_ext_name::Name;
+use x509_ext_frame::{FixedCriticality, Never, id_ce};
 use x509_name_attribute::Attribute;
 
 /// The identifier of [`SubjectDirectoryAttributes`], 2.5.29.9.
@@ -39,14 +38,8 @@ impl AssociatedOid for SubjectDirectoryAttributes {
     const OID: ObjectIdentifier = ID_CE_SUBJECT_DIRECTORY_ATTRIBUTES;
 }
 
-impl Criticality for SubjectDirectoryAttributes {
-    ghost use Rattle.std.specs.Prelude.{false};
-
-    ghost is_critical = { λ subject_attributes subject extensions. false };
-
-    fn criticality(&self, _subject: &Name, _extensions: &[Extension]) -> bool {
-        false
-    }
+impl FixedCriticality for SubjectDirectoryAttributes {
+    type Critical = Never;
 }
 
 impl Newtype for SubjectDirectoryAttributes {

@@ -9,7 +9,7 @@ use x509_base::SubjectPublicKeyInfoRef;
 use x509_der::{AssociatedOid, ObjectIdentifier};
 use x509_der_grammar::{Error, Newtype};
 use x509_der_order::NewtypeOrd;
-use x509_ext_frame::{Criticality, Extension, Name, id_ce};
+use x509_ext_frame::{FixedCriticality, Never, id_ce};
 use x509_prim::OctetString;
 
 /// The identifier of [`SubjectKeyIdentifier`], 2.5.29.14.
@@ -54,14 +54,8 @@ impl AssociatedOid for SubjectKeyIdentifier {
     const OID: ObjectIdentifier = ID_CE_SUBJECT_KEY_IDENTIFIER;
 }
 
-impl Criticality for SubjectKeyIdentifier {
-    ghost use Rattle.std.specs.Prelude.{false};
-
-    ghost is_critical = { λ identifier subject extensions. false };
-
-    fn criticality(&self, _subject: &Name, _extensions: &[Extension]) -> bool {
-        false
-    }
+impl FixedCriticality for SubjectKeyIdentifier {
+    type Critical = Never;
 }
 
 impl Newtype for SubjectKeyIdentifier {
