@@ -1,8 +1,7 @@
 -- Cutting bytes from their front.
-use Rattle.std.proofs.Common.{◌≡◌, ◌∙◌, ℕ, ◌+◌, ◌<◌, ◌≤◌, List, [], ◌∷◌, ◌++◌, length, map, take, drop, get_or, sum, refl, sym, ap, append_assoc, append-nil, length-append, arith}
-use Rattle.std.proofs.Math.Seq.{take-append_seam}
-use Rattle.std.proofs.lemmas.List.{map_push, take_all}
-use Rattle.std.proofs.lemmas.List.Concat.{flat_map-append, length-flat_map}
+use Rattle.std.proofs.Common.{◌≡◌, ◌∙◌, ℕ, ◌+◌, ◌<◌, ◌≤◌, List, ◌++◌, length, map, take, get_or, sum, sym, ap, length-append, arith}
+use Rattle.std.proofs.lemmas.List.{take_all}
+use Rattle.std.proofs.lemmas.List.Concat.{length-flat_map}
 use Rattle.std.proofs.lemmas.List.Sums.{sum-map, sum_by_more_le}
 use Rattle.std.specs.List.{flat_map}
 use Rattle.x509_c_path.specs.Pieces.{AreCut}
@@ -33,10 +32,3 @@ module _ (bytes lens : List ℕ) (i : ℕ) (pieces : List (List ℕ)) (rest : Li
   -- no cut where some bytes are left
   pub too_many : length lens ≤ i → 0 < length rest → (others : List (List ℕ)) → AreCut bytes lens others → ⊥
   too_many past some others cut = omega (arith, cut_off, all_of others cut, ap sum (take_all i lens past))
-
-  pub whole_cut : length lens ≤ i → length rest ≡ 0 → AreCut bytes lens pieces
-  whole_cut past none = (so_far.lengths ∙ take_all i lens past, ended rest none ∙ so_far.whole)
-    where
-      ended : (more : List ℕ) → length more ≡ 0 → joined pieces ≡ joined pieces ++ more
-      ended [] e = sym (append-nil (joined pieces))
-      ended (x ∷ more) e = absurd (omega arith)

@@ -78,8 +78,5 @@ certificate_list_lawful check = universal_lawful Sequence (certificate_list_cont
 
 -- ---- under Rfc5280
 
-abbrev pub rfc5280_tbs_cert_list : Form (TbsCertList Rfc5280)
-rfc5280_tbs_cert_list = tbs_cert_list rfc5280_serial_number
-
 abbrev pub rfc5280_certificate_list : Form (CertificateList Rfc5280)
 rfc5280_certificate_list = certificate_list rfc5280_serial_number

@@ -1,9 +1,9 @@
 -- Going down a path.
-use Rattle.std.proofs.Common.{◌≡◌, ◌≢◌, ◌↔◌, ◌∙◌, ℕ, zero, suc, ◌+◌, ◌<◌, ◌≤◌, ◌==◌, inl, inr, Bool, true, false, List, [], ◌∷◌, ◌++◌, length, drop, take, add-one, slice_get, get_or, map, Option, Some, None, Result, Err, Ok, refl, sym, ap, subst, arith}
+use Rattle.std.proofs.Common.{◌≡◌, ◌≢◌, ◌↔◌, ◌∙◌, ℕ, zero, suc, ◌+◌, ◌<◌, ◌≤◌, ◌==◌, inl, inr, Bool, false, List, [], ◌∷◌, ◌++◌, length, drop, slice_get, get_or, map, Option, Some, None, Result, Err, Ok, refl, sym, ap, subst, arith}
 use Rattle.std.proofs.Math.Nat.{eq-or-lt_of_le}
-use Rattle.std.proofs.Math.Seq.{drop-cons, take-suc}
+use Rattle.std.proofs.Math.Seq.{drop-cons}
 use Rattle.std.proofs.lemmas.Bool.{true≢false, cases_lt}
-use Rattle.std.proofs.lemmas.List.{length-map, length-drop, map_push}
+use Rattle.std.proofs.lemmas.List.{length-map, length-drop}
 use Rattle.std.proofs.lemmas.Option.{slice_get_within, slice_get-get_or, slice_get-map, get_or_from_slice_get}
 use Rattle.std.specs.Option.{option_map}
 use Rattle.x509_cert.specs.base.declared.subject_public_key_info.SubjectPublicKeyInfo.{SubjectPublicKeyInfo}
@@ -41,18 +41,8 @@ pub some_left : {X Y : Type 0} (v : X → Y) (xs : List X) → false ≡ (length
 some_left v [] h none = true≢false (sym h)
 some_left v (x ∷ xs) h none = cc
 
-pub none_left : {X Y : Type 0} (v : X → Y) (xs : List X) → true ≡ (length xs == 0) → map v xs ≡ []
-none_left v [] h = refl
-none_left v (x ∷ xs) h = absurd (true≢false (h ∙ grind arith))
-
 pub counted : {X Y : Type 0} (v : X → Y) (xs : List X) (i : ℕ) → (i + 1 == length xs) ≡ (i + 1 == length (map v xs))
 counted v xs i = ap (λ n. i + 1 == n) (sym (length-map xs v))
-
--- one more is lent
-pub lent_more : {X Y : Type 0} (f : X → List ℕ) (g : Y → List ℕ) (xs : List X) (x : X) (ys : List Y) (i : ℕ) (y : Y) → map f xs ≡ map g (take i ys) → i < length ys → y ≡ get_or ys i y → f x ≡ g y → map f (xs ++ x ∷ []) ≡ map g (take (i + 1) ys)
-lent_more f g xs x ys i y so_far within is same =
-    let front : take (i + 1) ys ≡ take i ys ++ y ∷ [] = ap (λ n. take n ys) (add-one i) ∙ take-suc ys i y within ∙ ap (λ z. take i ys ++ z ∷ []) (sym is) in
-    map_push f xs x ∙ ap (λ zs. zs ++ f x ∷ []) so_far ∙ ap (λ z. map g (take i ys) ++ z ∷ []) same ∙ sym (map_push g (take i ys) y) ∙ sym (ap (map g) front)
 
 -- an input is the last where none follows
 is_empty-last : (rest : List (List ℕ)) → (length rest == 0) ≡ is_empty rest

@@ -1,5 +1,5 @@
 -- Words of arguments one after the other.
-use Rattle.std.proofs.Common.{◌≡◌, ℕ, ◌+◌, List, [], ◌∷◌, ◌++◌, map, Option, Some, None, refl, sym, subst, append_assoc, append-nil}
+use Rattle.std.proofs.Common.{◌≡◌, ℕ, ◌+◌, List, [], ◌∷◌, ◌++◌, map, Option, Some, None, sym, subst, append_assoc, append-nil}
 use Rattle.std.proofs.lemmas.List.{map_push}
 use Rattle.x509_tool_run.specs.Words.{AreGiven, AreWords, word_of}
 
@@ -8,9 +8,6 @@ pub record WordsUpTo (gives : ℕ → Option (List ℕ) → Type 0) (place : ℕ
   pub arguments : List (List ℕ)
   pub given : (rest : List (List ℕ)) → AreGiven gives place rest → AreGiven gives 1 (arguments ++ rest)
   pub words_of : words ≡ map word_of arguments
-
-pub no_words : {gives : ℕ → Option (List ℕ) → Type 0} → WordsUpTo gives 1 []
-no_words = record { arguments = []; given = λ rest is. is; words_of = refl }
 
 pub one_more : {gives : ℕ → Option (List ℕ) → Type 0} (place : ℕ) (words : List (List ℕ)) (argument word : List ℕ) → WordsUpTo gives place words → gives place (Some argument) → word ≡ word_of argument → WordsUpTo gives (place + 1) (words ++ word ∷ [])
 one_more {gives} place words argument word h is said = record {
