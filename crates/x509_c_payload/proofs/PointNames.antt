@@ -15,11 +15,11 @@ use Rattle.x509_ext_name.specs.declared.distribution_point_name.DistributionPoin
 use Rattle.x509_ext_name.specs.declared.general_name.GeneralName.{GeneralName}
 use Rattle.x509_name_attribute.specs.declared.type_and_value.AttributeTypeAndValue.{AttributeTypeAndValue}
 
-full_is : (names : List GeneralName) → spelling distribution_point_name (FullName names) ≡ spelling (implicit 0 48 general_names) names
+full_is : (names : List GeneralName) → spelling distribution_point_name (FullName names) ≡ spelling (implicit 0 general_names) names
 unfolding choice_tag choice_content
 full_is names = refl
 
-relative_is : (rdn : List AttributeTypeAndValue) → spelling distribution_point_name (NameRelativeToCRLIssuer rdn) ≡ spelling (implicit 1 49 relative_distinguished_name) rdn
+relative_is : (rdn : List AttributeTypeAndValue) → spelling distribution_point_name (NameRelativeToCRLIssuer rdn) ≡ spelling (implicit 1 relative_distinguished_name) rdn
 unfolding choice_tag choice_content
 relative_is rdn = refl
 

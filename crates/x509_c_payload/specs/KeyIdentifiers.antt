@@ -11,13 +11,13 @@ use Rattle.x509_ext_name.specs.GeneralName.{general_names}
 
 -- what stands behind the identifier of the key, and behind the names
 abbrev pub serial_text : AuthorityKeyIdentifier → List ℕ
-serial_text identifier = optional_text (spelling (implicit 2 2 (serial_number rfc5280_serial_number))) identifier.authority_cert_serial_number
+serial_text identifier = optional_text (spelling (implicit 2 (serial_number rfc5280_serial_number))) identifier.authority_cert_serial_number
 
 abbrev pub issuer_text : AuthorityKeyIdentifier → List ℕ
-issuer_text identifier = optional_text (spelling (implicit 1 48 general_names)) identifier.authority_cert_issuer
+issuer_text identifier = optional_text (spelling (implicit 1 general_names)) identifier.authority_cert_issuer
 
 -- what the view says of an identifier in these bytes, behind which those others stand
 pub record IsAuthorityKeyIdentifier (bytes : List ℕ) (identifier : AuthorityKeyIdentifier) (behind : List ℕ) (view : AuthorityKeyIdentifierView) : Type 0 where
   pub key_identifier : IsPerhapsAt (λ octets. octets) identifier.key_identifier (issuer_text identifier ++ (serial_text identifier ++ behind)) bytes view.key_identifier
-  pub issuer : IsPerhapsAt (spelling (implicit 1 48 general_names)) identifier.authority_cert_issuer (serial_text identifier ++ behind) bytes view.issuer
+  pub issuer : IsPerhapsAt (spelling (implicit 1 general_names)) identifier.authority_cert_issuer (serial_text identifier ++ behind) bytes view.issuer
   pub serial_number : IsPerhapsAt (λ content. content) identifier.authority_cert_serial_number behind bytes view.serial_number

@@ -27,8 +27,8 @@ name_text name = optional_text (spelling (explicit 0 distribution_point_name)) n
 -- where the full names stand, and the name relative to the issuer, with those octets behind them: of one of the two, or of both, nowhere
 abbrev pub IsPointName : Option DistributionPointName → List ℕ → List ℕ → Span → Span → Type 0
 IsPointName None behind bytes full relative = IsNowhere full × IsNowhere relative
-IsPointName (Some (FullName names)) behind bytes full relative = IsAt (spelling (implicit 0 48 general_names) names) behind bytes full × IsNowhere relative
-IsPointName (Some (NameRelativeToCRLIssuer rdn)) behind bytes full relative = IsNowhere full × IsAt (spelling (implicit 1 49 relative_distinguished_name) rdn) behind bytes relative
+IsPointName (Some (FullName names)) behind bytes full relative = IsAt (spelling (implicit 0 general_names) names) behind bytes full × IsNowhere relative
+IsPointName (Some (NameRelativeToCRLIssuer rdn)) behind bytes full relative = IsNowhere full × IsAt (spelling (implicit 1 relative_distinguished_name) rdn) behind bytes relative
 
 -- reasons as a number
 abbrev pub bits_of : Option Reasons → Option ℕ
@@ -37,26 +37,26 @@ bits_of (Some set) = Some set.0
 
 -- what stands behind the name of a point, and behind its reasons
 abbrev pub issuer_text : DistributionPoint → List ℕ
-issuer_text point = optional_text (spelling (implicit 2 48 general_names)) point.crl_issuer
+issuer_text point = optional_text (spelling (implicit 2 general_names)) point.crl_issuer
 
 abbrev pub reasons_text : DistributionPoint → List ℕ
-reasons_text point = optional_text (spelling (implicit 1 3 reasons)) point.reasons
+reasons_text point = optional_text (spelling (implicit 1 reasons)) point.reasons
 
 -- what the view says of a point in these bytes, behind which those others stand
 pub record IsPoint (bytes : List ℕ) (point : DistributionPoint) (behind : List ℕ) (view : DistributionPointView) : Type 0 where
   pub name : IsPointName point.distribution_point (reasons_text point ++ (issuer_text point ++ behind)) bytes view.full_name view.relative_name
   pub reasons : IsNumber (bits_of point.reasons) view.has_reasons view.reasons
-  pub crl_issuer : IsPerhapsAt (spelling (implicit 2 48 general_names)) point.crl_issuer behind bytes view.crl_issuer
+  pub crl_issuer : IsPerhapsAt (spelling (implicit 2 general_names)) point.crl_issuer behind bytes view.crl_issuer
 
 -- [n]BOOLEAN=FALSE, as it is written
 abbrev pub said_text : ℕ → Bool → List ℕ
-said_text n is_said = default_text boolean_default (spelling (implicit n 1 boolean)) is_said
+said_text n is_said = default_text boolean_default (spelling (implicit n boolean)) is_said
 
 -- what stands behind the name of an issuing point: of what certificates the CRL speaks
 abbrev pub scope_text : IssuingDistributionPoint → List ℕ
 scope_text point =
     (said_text 1 point.only_contains_user_certs ++ said_text 2 point.only_contains_ca_certs)
-    ++ (optional_text (spelling (implicit 3 3 reasons)) point.only_some_reasons ++ (said_text 4 point.indirect_crl ++ said_text 5 point.only_contains_attribute_certs))
+    ++ (optional_text (spelling (implicit 3 reasons)) point.only_some_reasons ++ (said_text 4 point.indirect_crl ++ said_text 5 point.only_contains_attribute_certs))
 
 -- the same of an issuing point
 pub record IsIssuingPoint (bytes : List ℕ) (point : IssuingDistributionPoint) (behind : List ℕ) (view : IssuingDistributionPointView) : Type 0 where

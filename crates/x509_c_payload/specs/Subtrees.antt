@@ -14,12 +14,12 @@ use Rattle.x509_pkix.specs.declared.name_constraints.NameConstraints.{NameConstr
 
 -- what the view says of constraints in these bytes, behind which those others stand
 pub record AreNameConstraints (bytes : List ℕ) (constraints : NameConstraints) (behind : List ℕ) (view : NameConstraintsView) : Type 0 where
-  pub permitted : IsPerhapsAt (spelling (implicit 0 48 general_subtrees)) constraints.permitted_subtrees (optional_text (spelling (implicit 1 48 general_subtrees)) constraints.excluded_subtrees ++ behind) bytes view.permitted
-  pub excluded : IsPerhapsAt (spelling (implicit 1 48 general_subtrees)) constraints.excluded_subtrees behind bytes view.excluded
+  pub permitted : IsPerhapsAt (spelling (implicit 0 general_subtrees)) constraints.permitted_subtrees (optional_text (spelling (implicit 1 general_subtrees)) constraints.excluded_subtrees ++ behind) bytes view.permitted
+  pub excluded : IsPerhapsAt (spelling (implicit 1 general_subtrees)) constraints.excluded_subtrees behind bytes view.excluded
 
 -- how deep a subtree is, as it is written behind its root
 abbrev pub depth_text : GeneralSubtree → List ℕ
-depth_text subtree = default_text zero_default (spelling (implicit 0 2 (natural (2 ^ 32)))) subtree.minimum ++ optional_text (spelling (implicit 1 2 (natural (2 ^ 32)))) subtree.maximum
+depth_text subtree = default_text zero_default (spelling (implicit 0 (natural (2 ^ 32)))) subtree.minimum ++ optional_text (spelling (implicit 1 (natural (2 ^ 32)))) subtree.maximum
 
 -- the same of a subtree
 pub record IsSubtree (bytes : List ℕ) (subtree : GeneralSubtree) (behind : List ℕ) (view : SubtreeView) : Type 0 where

@@ -54,7 +54,7 @@ module _ {P : Type 0} (check : List ℕ → Result Unit ErrorKind) where
   pub tbs_found : (value : TbsCertificateInner P) (bytes : List ℕ) → Spells (tbs_certificate check) value bytes → HasTbsElements bytes (tbs_spellings value)
   unfolding tbs_certificate_fields fields_octets
   tbs_found value bytes spells = record {
-    whole = spells.1 ∙ rw (version_text value.version, field_text (implicit 1 3 bit_string) value.issuer_unique_id, field_text (implicit 2 3 bit_string) value.subject_unique_id, inside_text 3 extensions value.extensions) refl;
+    whole = spells.1 ∙ rw (version_text value.version, field_text (implicit 1 bit_string) value.issuer_unique_id, field_text (implicit 2 bit_string) value.subject_unique_id, inside_text 3 extensions value.extensions) refl;
     within = spells.2;
     version = version_is_element value.version;
     serial_number = ((serial_number check).content value.serial_number, refl);
@@ -63,8 +63,8 @@ module _ {P : Type 0} (check : List ℕ → Result Unit ErrorKind) where
     validity = (validity.content value.validity, refl);
     subject = (name.content value.subject, refl);
     subject_public_key_info = (subject_public_key_info.content value.subject_public_key_info, refl);
-    issuer_unique_id = is_element 0x81 (implicit 1 3 bit_string) (λ v. refl) value.issuer_unique_id;
-    subject_unique_id = is_element 0x82 (implicit 2 3 bit_string) (λ v. refl) value.subject_unique_id;
+    issuer_unique_id = is_element 0x81 (implicit 1 bit_string) (λ v. refl) value.issuer_unique_id;
+    subject_unique_id = is_element 0x82 (implicit 2 bit_string) (λ v. refl) value.subject_unique_id;
     extensions = is_element 0x30 extensions (λ v. refl) value.extensions;
   }
 

@@ -25,8 +25,8 @@ tbs_spellings t = record {
   validity = spelling validity t.validity;
   subject = spelling name t.subject;
   subject_public_key_info = spelling subject_public_key_info t.subject_public_key_info;
-  issuer_unique_id = option_map (spelling (implicit 1 3 bit_string)) t.issuer_unique_id;
-  subject_unique_id = option_map (spelling (implicit 2 3 bit_string)) t.subject_unique_id;
+  issuer_unique_id = option_map (spelling (implicit 1 bit_string)) t.issuer_unique_id;
+  subject_unique_id = option_map (spelling (implicit 2 bit_string)) t.subject_unique_id;
   extensions = option_map (spelling extensions) t.extensions;
 }
 

@@ -3,14 +3,14 @@
 ghost use Rattle.std.specs.Prelude.{◌≡◌, []};
 
 use std::alloc::Global;
-use x509_der::{AssociatedOid, ObjectIdentifier};
+use x509_der::{AssociatedOid, ObjectIdentifier, oid};
 use x509_der_frames::SequenceOf;
 use x509_der_grammar::Newtype;
-use x509_ext_frame::{Criticality, Extension, Name, id_ce};
+use x509_ext_frame::{Always, FixedCriticality};
 use x509_ext_name::GeneralNames;
 
-/// Who issued the certificate of an entry in an indirect CRL, and those of the entries behind it up to the next that has this
-/// extension (RFC 5280 5.3.3). Its identifier is 2.5.29.29, and it is critical. A sequence without members is read and written
+/// The issuer of the certificate of an entry in an indirect CRL, and of those of the entries after it up to the next that
+/// has this extension (RFC 5280 5.3.3). Its OID is 2.5.29.29, and it is critical. An empty sequence is decoded and encoded
 /// too.
 ///
 /// ```text
@@ -33,17 +33,11 @@ impl AssociatedOid for CertificateIssuer {
 
     ghost OID = { id_ce 29 };
 
-    const OID: ObjectIdentifier = id_ce!(29);
+    const OID: ObjectIdentifier = oid!(0x55, 0x1D, 29);
 }
 
-impl Criticality for CertificateIssuer {
-    ghost use Rattle.std.specs.Prelude.{true};
-
-    ghost is_critical = { λ issuer subject extensions. true };
-
-    fn criticality(&self, _subject: &Name, _extensions: &[Extension]) -> bool {
-        true
-    }
+impl FixedCriticality for CertificateIssuer {
+    type Critical = Always;
 }
 
 impl Newtype for CertificateIssuer {

@@ -15,10 +15,10 @@ pub returns : goal.returns
 unfolding fields_octets authority_key_identifier_fields
 returns c = λ behind e.
     let it = c.args.value.now in
-    let first = optional_text (spelling (implicit 0 4 octet_string)) it.key_identifier in
+    let first = optional_text (spelling (implicit 0 octet_string)) it.key_identifier in
     let inside = c.enter.ensures.stands 48 (authority_key_identifier.content it) behind is_sequence e in
     let laid_out = append_assoc first (issuer_text it ++ serial_text it) behind ∙ ap (λ x. first ++ x) (append_assoc (issuer_text it) (serial_text it) behind) in
-    let key = content_at (implicit 0 4 octet_string) (λ v. is_implicit_0) it.key_identifier _ (issuer_text it ++ (serial_text it ++ behind)) _ _ _ _ c.is_some.ensures (inside.1 ∙ laid_out) c.step_optional_content.ensures.there c.step_optional_content.ensures.absent in
-    let issuer = element_at (implicit 1 48 general_names) (λ v. is_list_1) it.authority_cert_issuer _ (serial_text it ++ behind) _ _ _ _ c.is_some-2.ensures key.1 c.step_optional.ensures.there c.step_optional.ensures.absent in
-    let serial = content_at (implicit 2 2 (serial_number rfc5280_serial_number)) (λ v. is_implicit_2) it.authority_cert_serial_number _ behind _ _ _ _ c.is_some-3.ensures issuer.1 c.step_optional_content-2.ensures.there c.step_optional_content-2.ensures.absent in
+    let key = content_at (implicit 0 octet_string) (λ v. is_implicit_0) it.key_identifier _ (issuer_text it ++ (serial_text it ++ behind)) _ _ _ _ c.is_some.ensures (inside.1 ∙ laid_out) c.step_optional_content.ensures.there c.step_optional_content.ensures.absent in
+    let issuer = element_at (implicit 1 general_names) (λ v. is_list_1) it.authority_cert_issuer _ (serial_text it ++ behind) _ _ _ _ c.is_some-2.ensures key.1 c.step_optional.ensures.there c.step_optional.ensures.absent in
+    let serial = content_at (implicit 2 (serial_number rfc5280_serial_number)) (λ v. is_implicit_2) it.authority_cert_serial_number _ behind _ _ _ _ c.is_some-3.ensures issuer.1 c.step_optional_content-2.ensures.there c.step_optional_content-2.ensures.absent in
     record { key_identifier = key.0; issuer = issuer.0; serial_number = serial.0 }

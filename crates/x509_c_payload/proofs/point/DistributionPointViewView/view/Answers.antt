@@ -16,6 +16,6 @@ returns c = λ behind e.
     let inside = c.enter.ensures.stands 48 (distribution_point.content it) behind is_sequence e in
     let laid_out = append_assoc name (reasons_text it ++ issuer_text it) behind ∙ ap (λ x. name ++ x) (append_assoc (reasons_text it) (issuer_text it) behind) in
     let names = c.step_name.ensures.stands (reasons_text it ++ (issuer_text it ++ behind)) (inside.1 ∙ laid_out) in
-    let some = c.step.ensures.stands (reasons_text it) (issuer_text it ++ behind) (is_field (implicit 1 3 reasons) (λ v. is_implicit_1) it.reasons _ c.is_some.ensures) names.1 in
-    let issuer = element_at (implicit 2 48 general_names) (λ v. is_list_2) it.crl_issuer _ behind _ _ _ _ c.is_some-2.ensures some.1 c.step_optional.ensures.there c.step_optional.ensures.absent in
+    let some = c.step.ensures.stands (reasons_text it) (issuer_text it ++ behind) (is_field (implicit 1 reasons) (λ v. is_implicit_1) it.reasons _ c.is_some.ensures) names.1 in
+    let issuer = element_at (implicit 2 general_names) (λ v. is_list_2) it.crl_issuer _ behind _ _ _ _ c.is_some-2.ensures some.1 c.step_optional.ensures.there c.step_optional.ensures.absent in
     record { name = names.0; reasons = c.reason_bits-has_reasons.ensures; crl_issuer = issuer.0 }

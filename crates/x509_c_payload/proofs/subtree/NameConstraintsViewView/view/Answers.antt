@@ -11,9 +11,9 @@ pub returns : goal.returns
 unfolding fields_octets name_constraints_fields
 returns c = λ behind e.
     let it = c.args.value.now in
-    let first = optional_text (spelling (implicit 0 48 general_subtrees)) it.permitted_subtrees in
-    let second = optional_text (spelling (implicit 1 48 general_subtrees)) it.excluded_subtrees in
+    let first = optional_text (spelling (implicit 0 general_subtrees)) it.permitted_subtrees in
+    let second = optional_text (spelling (implicit 1 general_subtrees)) it.excluded_subtrees in
     let inside = c.enter.ensures.stands 48 (name_constraints.content it) behind is_sequence e in
-    let permitted = element_at (implicit 0 48 general_subtrees) (λ v. is_explicit_0) it.permitted_subtrees _ (second ++ behind) _ _ _ _ c.is_some.ensures (inside.1 ∙ append_assoc first second behind) c.step_optional.ensures.there c.step_optional.ensures.absent in
-    let excluded = element_at (implicit 1 48 general_subtrees) (λ v. is_list_1) it.excluded_subtrees _ behind _ _ _ _ c.is_some-2.ensures permitted.1 c.step_optional-2.ensures.there c.step_optional-2.ensures.absent in
+    let permitted = element_at (implicit 0 general_subtrees) (λ v. is_explicit_0) it.permitted_subtrees _ (second ++ behind) _ _ _ _ c.is_some.ensures (inside.1 ∙ append_assoc first second behind) c.step_optional.ensures.there c.step_optional.ensures.absent in
+    let excluded = element_at (implicit 1 general_subtrees) (λ v. is_list_1) it.excluded_subtrees _ behind _ _ _ _ c.is_some-2.ensures permitted.1 c.step_optional-2.ensures.there c.step_optional-2.ensures.absent in
     record { permitted = permitted.0; excluded = excluded.0 }
