@@ -545,3 +545,61 @@ pub(crate) fn path_check(
         status => accepted(status, None),
     }
 }
+
+#[cfg(test)]
+mod tests {
+    use super::*;
+
+    #[test]
+    fn spans_outside_of_the_bytes() {
+        let of = |place, len| Span { place, len }.of(b"abcd");
+        assert_eq!(of(1, 3), Ok(&b"bcd"[..]));
+        assert_eq!(of(4, 0), Ok(&b""[..]));
+        for (place, len) in [
+            (0, 5),
+            (5, 0),
+            (4, 1),
+            (usize::MAX, 1),
+            (1, usize::MAX),
+            (usize::MAX, usize::MAX),
+        ] {
+            assert_eq!(of(place, len), Err(Error::Unexpected));
+        }
+        assert_eq!(Span::default().part(b"abcd"), Ok(None));
+        assert_eq!(Span { place: 2, len: 0 }.part(b"abcd"), Ok(Some(&b""[..])));
+    }
+
+    unsafe extern "C" fn stays(_: *const u8, _: usize, _: *mut usize, _: *mut Span) -> c_int {
+        OK
+    }
+
+    #[test]
+    fn a_walk_that_does_not_move_on_ends() {
+        static STAYS: Walk<Span> = Walk(Next::Plain(stays));
+        let mut members = STAYS.over(b"");
+        assert_eq!(members.next(), Some(Err(Error::Unexpected)));
+        assert_eq!(members.next(), None);
+    }
+
+    unsafe extern "C" fn unknown(_: *const u8, _: usize, _: *mut u32) -> c_int {
+        99
+    }
+
+    unsafe extern "C" fn too_long(
+        _: *const u8,
+        _: usize,
+        _: *mut u8,
+        _: usize,
+        written: *mut usize,
+    ) -> c_int {
+        // SAFETY: `fill` lends it.
+        unsafe { *written = usize::MAX };
+        ROOM
+    }
+
+    #[test]
+    fn what_the_header_rules_out() {
+        assert_eq!(View(unknown).of(b""), Err(Error::Unexpected));
+        assert_eq!(Fill(too_long).of(b""), Err(Error::Memory));
+    }
+}

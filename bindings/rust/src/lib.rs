@@ -73,3 +73,8 @@ pub enum Profile {
 pub fn reencode(kind: &str, profile: Profile, der: &[u8]) -> Result<Vec<u8>, Error> {
     ffi::reencode(kind, profile as u32, der)
 }
+
+/// The examples of `README.md`.
+#[cfg(doctest)]
+#[doc = include_str!("../README.md")]
+struct Readme;

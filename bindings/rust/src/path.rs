@@ -150,8 +150,9 @@ fn is_signed(
 /// ```
 ///
 /// # Errors
-/// [`PathError::Fault`] where a certificate has a fault: the lowest place with one, and the first there, in the order of [`FaultReason`]. The verifier is asked
-/// of the certificates in front of it, and of the one with the fault where the signature's comes first; of one with bits that aren't whole octets it isn't asked.
+/// [`PathError::Fault`] where a certificate has a fault: the lowest place with one, and the first there, in the order of [`FaultReason`]. The verifier is
+/// asked of the certificates in front of it, and of the one with the fault where the signature's comes first. It isn't asked where the bits aren't whole
+/// octets: such a signature isn't accepted.
 ///
 /// [`PathError::Refused`] with [`Error::Absent`] where the path is empty, with [`Error::Value`] where the moment is before 1970 or after 9999, and
 /// with [`Error::Memory`].
