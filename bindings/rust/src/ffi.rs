@@ -251,6 +251,7 @@ extern "C" {
     fn x509_path_check(anchor: *const u8, anchor_len: usize, path: *const u8, path_len: usize, lens: *const usize, count: usize, moment: u64, fault: *mut PathFault) -> c_int;
     fn x509_crl_walk(input: *const u8, len: usize, entries: *mut usize) -> c_int;
     fn x509_crl_lookup(input: *const u8, len: usize, serial_number: *const u8, serial_number_len: usize, revocation: *mut Revocation) -> c_int;
+    fn x509_version() -> u32;
 }
 
 fn error(status: c_int) -> Error {
@@ -478,6 +479,12 @@ pub(crate) fn time_text(moment: u64) -> Result<String, Error> {
         unsafe { x509_time_text(moment, out, room, written) }
     })?;
     String::from_utf8(text).map_err(|_| Error::Unexpected)
+}
+
+/// The version of the library that is linked.
+pub(crate) fn version() -> u32 {
+    // SAFETY: the call takes nothing and touches nothing.
+    unsafe { x509_version() }
 }
 
 /// The extension of a certificate with the content octets of an identifier.

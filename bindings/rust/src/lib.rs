@@ -74,6 +74,12 @@ pub fn reencode(kind: &str, profile: Profile, der: &[u8]) -> Result<Vec<u8>, Err
     ffi::reencode(kind, profile as u32, der)
 }
 
+/// The version of the C library that is linked: major, minor and patch.
+pub fn library_version() -> (u32, u32, u32) {
+    let number = ffi::version();
+    (number >> 16, number >> 8 & 0xff, number & 0xff)
+}
+
 /// The examples of `README.md`.
 #[cfg(doctest)]
 #[doc = include_str!("../README.md")]

@@ -133,3 +133,17 @@ fn statuses_are_those_of_the_header() {
         assert!(forms.iter().any(|form| HEADER.contains(form)), "{name}");
     }
 }
+
+#[test]
+fn the_version_is_that_of_the_header() {
+    assert!(
+        HEADER.contains("\nuint32_t x509_version(void);")
+            && DECLARED.contains("    fn x509_version() -> u32;")
+    );
+    let number = |part: &str| -> u32 {
+        let found = between(HEADER, &format!("\n#define X509_VERSION_{part} "), "\n");
+        found[0].parse().expect("a number")
+    };
+    let told = (number("MAJOR"), number("MINOR"), number("PATCH"));
+    assert_eq!(x509_rattle::library_version(), told);
+}
