@@ -291,26 +291,41 @@ impl<T: Default> View<T> {
 pub(crate) struct Fill(FillCall);
 
 impl Fill {
+    /// Refused as [`of`](Fill::of) is.
+    pub(crate) fn check(&self, data: &[u8]) -> Result<(), Error> {
+        wanted(&self.over(data)).map(|_| ())
+    }
+
     pub(crate) fn of(&self, data: &[u8]) -> Result<Vec<u8>, Error> {
-        fill(|out, room, written| {
-            // SAFETY: the header lets the call read `data`, which is lent for it, and write to `out[0..room)` and `written`, which `fill` owns.
-            unsafe { self.0(data.as_ptr(), data.len(), out, room, written) }
-        })
+        fill(self.over(data))
     }
 
     /// The text that the call writes, which is UTF-8.
     pub(crate) fn text_of(&self, data: &[u8]) -> Result<String, Error> {
         String::from_utf8(self.of(data)?).map_err(|_| Error::Unexpected)
     }
+
+    fn over<'a>(&'a self, data: &'a [u8]) -> impl Fn(*mut u8, usize, *mut usize) -> c_int + 'a {
+        |out, room, written| {
+            // SAFETY: the header lets the call read `data`, which is lent for it, and write to `out[0..room)` and `written`, which `wanted` and
+            // `fill` own.
+            unsafe { self.0(data.as_ptr(), data.len(), out, room, written) }
+        }
+    }
 }
 
-/// What a call writes that is given a room, its length, and where to say how much it wrote: by a first call that asks for the room.
-fn fill(write: impl Fn(*mut u8, usize, *mut usize) -> c_int) -> Result<Vec<u8>, Error> {
+/// How many bytes a call writes that is given a room, its length, and where to say how much it wrote.
+fn wanted(write: &impl Fn(*mut u8, usize, *mut usize) -> c_int) -> Result<usize, Error> {
     let mut written = 0;
     match write(ptr::null_mut(), 0, &mut written) {
-        OK | ROOM => {}
-        status => return Err(error(status)),
+        OK | ROOM => Ok(written),
+        status => Err(error(status)),
     }
+}
+
+/// What such a call writes.
+fn fill(write: impl Fn(*mut u8, usize, *mut usize) -> c_int) -> Result<Vec<u8>, Error> {
+    let mut written = wanted(&write)?;
     let mut out = Vec::new();
     out.try_reserve_exact(written).map_err(|_| Error::Memory)?;
     out.resize(written, 0);
@@ -457,7 +472,8 @@ pub(crate) static RELATIVE_NAME_UNDER_1: Walk<Attribute> =
 
 pub(crate) fn reencode(kind: &str, profile: u32, data: &[u8]) -> Result<Vec<u8>, Error> {
     fill(|out, room, written| {
-        // SAFETY: the header lets the call read `kind` and `data`, which are lent for it, and write to `out[0..room)` and `written`, which `fill` owns.
+        // SAFETY: the header lets the call read `kind` and `data`, which are lent for it, and write to `out[0..room)` and `written`, which `wanted`
+        // and `fill` own.
         unsafe {
             x509_reencode(
                 kind.as_ptr(),
@@ -475,7 +491,7 @@ pub(crate) fn reencode(kind: &str, profile: u32, data: &[u8]) -> Result<Vec<u8>,
 
 pub(crate) fn time_text(moment: u64) -> Result<String, Error> {
     let text = fill(|out, room, written| {
-        // SAFETY: the header lets the call write to `out[0..room)` and `written`, which `fill` owns.
+        // SAFETY: the header lets the call write to `out[0..room)` and `written`, which `wanted` and `fill` own.
         unsafe { x509_time_text(moment, out, room, written) }
     })?;
     String::from_utf8(text).map_err(|_| Error::Unexpected)

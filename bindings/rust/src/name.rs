@@ -18,7 +18,7 @@ impl<'a> NameRef<'a> {
     /// # Errors
     /// [`Error::Malformed`] or [`Error::Overlength`] where they are none; [`Error::Memory`].
     pub fn from_der(der: &'a [u8]) -> Result<NameRef<'a>, Error> {
-        ffi::NAME_TEXT.of(der)?;
+        ffi::NAME_TEXT.check(der)?;
         Ok(NameRef { der })
     }
 

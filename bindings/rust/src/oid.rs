@@ -32,7 +32,7 @@ impl ObjectIdentifier {
     /// [`Error::Malformed`] where they are none's (X.690 8.19), where there are more than 39, or where a subidentifier is above 4,294,967,295;
     /// [`Error::Memory`].
     pub fn from_bytes(content: &[u8]) -> Result<ObjectIdentifier, Error> {
-        ffi::OID_TEXT.of(content)?;
+        ffi::OID_TEXT.check(content)?;
         ObjectIdentifier::found(content)
     }
 
