@@ -1,0 +1,67 @@
+//! Finds the C library: in the folder that `X509_LIBRARY` names, or else by `pkg-config`.
+use std::env;
+use std::path::Path;
+use std::process::{exit, Command};
+
+const MISSING: &str = "the C library x509 isn't found.
+Install it by `tools/install_c.sh PREFIX`, and say where it is by one of
+  X509_LIBRARY=PREFIX/lib              a folder of libx509.a, or of libx509_c.a and liblibc_c.a
+  PKG_CONFIG_PATH=PREFIX/lib/pkgconfig a folder of x509.pc, for the program pkg-config";
+
+/// The names of the archives that stand in the folder.
+fn archives(folder: &Path) -> Option<&'static [&'static str]> {
+    let forms: [&[&str]; 2] = [&["x509"], &["x509_c", "libc_c"]];
+    let is_there = |name: &&str| folder.join(format!("lib{name}.a")).is_file();
+    forms.into_iter().find(|names| names.iter().all(is_there))
+}
+
+fn link(folder: &Path, kind: &str, names: &[&str]) {
+    println!("cargo:rustc-link-search=native={}", folder.display());
+    for name in names {
+        println!("cargo:rustc-link-lib={kind}={name}");
+    }
+}
+
+/// The folder of the library, as `pkg-config` says.
+fn installed() -> Option<String> {
+    let program = env::var_os("PKG_CONFIG").unwrap_or_else(|| "pkg-config".into());
+    let asked = Command::new(program)
+        .args(["--variable=libdir", "x509"])
+        .output()
+        .ok()?;
+    let folder = String::from_utf8(asked.stdout).ok()?.trim().to_owned();
+    (asked.status.success() && !folder.is_empty()).then_some(folder)
+}
+
+fn main() {
+    for name in [
+        "X509_LIBRARY",
+        "PKG_CONFIG",
+        "PKG_CONFIG_PATH",
+        "PKG_CONFIG_LIBDIR",
+    ] {
+        println!("cargo:rerun-if-env-changed={name}");
+    }
+    if env::var_os("DOCS_RS").is_some() {
+        return;
+    }
+    if let Some(folder) = env::var_os("X509_LIBRARY") {
+        let folder = Path::new(&folder);
+        let Some(names) = archives(folder) else {
+            eprintln!(
+                "X509_LIBRARY is {}, where no such archives stand: {MISSING}",
+                folder.display()
+            );
+            exit(1);
+        };
+        return link(folder, "static", names);
+    }
+    let Some(folder) = installed() else {
+        eprintln!("{MISSING}");
+        exit(1);
+    };
+    match archives(Path::new(&folder)) {
+        Some(names) => link(Path::new(&folder), "static", names),
+        None => link(Path::new(&folder), "dylib", &["x509"]),
+    }
+}

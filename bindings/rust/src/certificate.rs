@@ -1,0 +1,443 @@
+//! Certificates (RFC 5280 4.1).
+use crate::error::Error;
+use crate::extension::{
+    BasicConstraints, Extension, ExtensionValue, Extensions, KeyUsage, SubjectAltName,
+};
+use crate::ffi::{self, Span};
+use crate::integer::Integer;
+use crate::name::NameRef;
+use crate::oid::ObjectIdentifier;
+use crate::time::moment;
+use std::fmt;
+use std::hash::{Hash, Hasher};
+use std::time::SystemTime;
+
+/// The version of a certificate (RFC 5280 4.1.2.1).
+#[derive(Clone, Copy, Debug, PartialEq, Eq, PartialOrd, Ord, Hash)]
+pub enum Version {
+    /// 1
+    V1,
+    /// 2
+    V2,
+    /// 3
+    V3,
+}
+
+/// From when on a certificate holds, and until when: the first second and the last (RFC 5280 4.1.2.5).
+#[derive(Clone, Copy, Debug, PartialEq, Eq, Hash)]
+pub struct Validity {
+    /// The first second.
+    pub not_before: SystemTime,
+
+    /// The last second.
+    pub not_after: SystemTime,
+}
+
+/// What is to be verified of a certificate: that these bits are a signature of the signed part, by that algorithm, for the key of the certificate above.
+#[derive(Clone, Copy, Debug, PartialEq, Eq, Hash)]
+pub struct Signature<'a> {
+    /// What is signed: a whole TBSCertificate.
+    pub signed_part: &'a [u8],
+
+    /// A whole AlgorithmIdentifier.
+    pub algorithm: &'a [u8],
+
+    /// The octets of the signature's bits.
+    pub bits: &'a [u8],
+
+    /// How many bits of the last of these octets are unused, 0 to 7.
+    pub unused_bits: u32,
+}
+
+/// Where the parts of a certificate stand in its bytes.
+#[derive(Clone, Copy)]
+struct Parts {
+    version: Version,
+    serial_number: Span,
+    issuer: Span,
+    subject: Span,
+    subject_public_key_info: Span,
+    extensions: Span,
+    validity: Validity,
+}
+
+impl Parts {
+    /// Those of a certificate, each within its bytes.
+    fn of(der: &[u8]) -> Result<Parts, Error> {
+        let view = ffi::CERTIFICATE.of(der)?;
+        for span in [
+            view.issuer,
+            view.subject,
+            view.subject_public_key_info,
+            view.extensions,
+        ] {
+            span.of(der)?;
+        }
+        let content = ffi::SERIAL_NUMBER.of(view.serial_number.of(der)?)?;
+        let place = view.serial_number.place.checked_add(content.place);
+        let serial_number = Span {
+            place: place.ok_or(Error::Unexpected)?,
+            len: content.len,
+        };
+        serial_number.of(der)?;
+        Ok(Parts {
+            version: match view.version {
+                1 => Version::V1,
+                2 => Version::V2,
+                3 => Version::V3,
+                _ => return Err(Error::Unexpected),
+            },
+            serial_number,
+            issuer: view.issuer,
+            subject: view.subject,
+            subject_public_key_info: view.subject_public_key_info,
+            extensions: view.extensions,
+            validity: Validity {
+                not_before: moment(view.not_before)?,
+                not_after: moment(view.not_after)?,
+            },
+        })
+    }
+}
+
+/// A certificate, by its bytes, which are borrowed. Certificates are equal byte for byte.
+#[derive(Clone, Copy)]
+pub struct CertificateRef<'a> {
+    der: &'a [u8],
+    parts: Parts,
+}
+
+impl<'a> CertificateRef<'a> {
+    /// The certificate that the bytes are, under the rules of RFC 5280. What its extensions hold isn't looked at.
+    ///
+    /// # Errors
+    /// [`Error::Malformed`] or [`Error::Overlength`] where they are none, or bytes stand behind it; [`Error::Memory`].
+    pub fn from_der(der: &'a [u8]) -> Result<CertificateRef<'a>, Error> {
+        let parts = Parts::of(der)?;
+        Ok(CertificateRef { der, parts })
+    }
+
+    /// A part, which [`Parts::of`] has found within the bytes.
+    fn part(&self, span: Span) -> &'a [u8] {
+        span.of(self.der).unwrap_or_default()
+    }
+
+    /// Its DER.
+    pub fn as_der(&self) -> &'a [u8] {
+        self.der
+    }
+
+    /// Its version.
+    pub fn version(&self) -> Version {
+        self.parts.version
+    }
+
+    /// Its serial number.
+    pub fn serial_number(&self) -> Integer<'a> {
+        Integer(self.part(self.parts.serial_number))
+    }
+
+    /// The name of its issuer.
+    pub fn issuer(&self) -> NameRef<'a> {
+        NameRef::found(self.part(self.parts.issuer))
+    }
+
+    /// The name of its subject.
+    pub fn subject(&self) -> NameRef<'a> {
+        NameRef::found(self.part(self.parts.subject))
+    }
+
+    /// From when on it holds, and until when.
+    pub fn validity(&self) -> Validity {
+        self.parts.validity
+    }
+
+    /// The key and its algorithm: a whole SubjectPublicKeyInfo.
+    pub fn subject_public_key_info(&self) -> &'a [u8] {
+        self.part(self.parts.subject_public_key_info)
+    }
+
+    /// Its extensions, in order.
+    pub fn extensions(&self) -> Extensions<'a> {
+        Extensions::new(self.part(self.parts.extensions))
+    }
+
+    /// Its extension with an identifier.
+    ///
+    /// # Errors
+    /// [`Error::Repeated`] where there are two or more; [`Error::Memory`].
+    pub fn extension(&self, oid: ObjectIdentifier) -> Result<Option<Extension<'a>>, Error> {
+        let Some(found) = ffi::certificate_extension(self.der, oid.as_bytes())? else {
+            return Ok(None);
+        };
+        Ok(Some(Extension::new(
+            oid,
+            found.critical == 1,
+            found.value.of(self.der)?,
+        )))
+    }
+
+    /// What its extension of a type holds, and whether that is critical.
+    ///
+    /// ```
+    /// use x509_rattle::extension::KeyUsage;
+    /// use x509_rattle::CertificateRef;
+    ///
+    /// # let der = include_bytes!("../../../examples/data/certificate.der");
+    /// let certificate = CertificateRef::from_der(der)?;
+    /// let (critical, usage) = certificate.get::<KeyUsage>()?.expect("it has one");
+    /// assert!(critical && usage.digital_signature());
+    /// # Ok::<(), x509_rattle::Error>(())
+    /// ```
+    ///
+    /// # Errors
+    /// [`Error::Repeated`] where there are two or more; [`Error::Malformed`] or [`Error::Overlength`] where it can't be read; [`Error::Memory`].
+    pub fn get<T: ExtensionValue<'a>>(&self) -> Result<Option<(bool, T)>, Error> {
+        let Some(found) = self.extension(T::OID)? else {
+            return Ok(None);
+        };
+        Ok(Some((found.critical(), T::from_der(found.value())?)))
+    }
+
+    /// What the key may be used for.
+    ///
+    /// # Errors
+    /// As of [`get`](CertificateRef::get).
+    pub fn key_usage(&self) -> Result<Option<KeyUsage>, Error> {
+        Ok(self.get()?.map(|(_, found)| found))
+    }
+
+    /// Whether the key may sign certificates, and how many authorities may follow.
+    ///
+    /// # Errors
+    /// As of [`get`](CertificateRef::get).
+    pub fn basic_constraints(&self) -> Result<Option<BasicConstraints>, Error> {
+        Ok(self.get()?.map(|(_, found)| found))
+    }
+
+    /// Further names of the subject.
+    ///
+    /// # Errors
+    /// As of [`get`](CertificateRef::get).
+    pub fn subject_alt_name(&self) -> Result<Option<SubjectAltName<'a>>, Error> {
+        Ok(self.get()?.map(|(_, found)| found))
+    }
+
+    /// The bytes that the signature is over, as they stand in the DER: a whole TBSCertificate.
+    ///
+    /// # Errors
+    /// None but [`Error::Unexpected`].
+    pub fn tbs_certificate(&self) -> Result<&'a [u8], Error> {
+        ffi::SIGNED_SLICE.of(self.der)?.of(self.der)
+    }
+
+    /// What is to be verified of it.
+    ///
+    /// # Errors
+    /// [`Error::Memory`].
+    pub fn signature(&self) -> Result<Signature<'a>, Error> {
+        let view = ffi::CERTIFICATE_SIGNATURE.of(self.der)?;
+        Ok(Signature {
+            signed_part: view.signed_part.of(self.der)?,
+            algorithm: view.algorithm.of(self.der)?,
+            bits: view.bits.of(self.der)?,
+            unused_bits: view.unused_bits,
+        })
+    }
+
+    /// Its DER with the dates as RFC 5280 4.1.2.5 spells them. Where that isn't how they stood, the signature doesn't hold of these bytes.
+    ///
+    /// # Errors
+    /// [`Error::Memory`].
+    pub fn canonical_der(&self) -> Result<Vec<u8>, Error> {
+        ffi::CERTIFICATE_REENCODE.of(self.der)
+    }
+
+    /// The certificate, with bytes of its own.
+    pub fn to_owned(&self) -> Certificate {
+        Certificate {
+            der: self.der.to_vec(),
+            parts: self.parts,
+        }
+    }
+}
+
+impl PartialEq for CertificateRef<'_> {
+    fn eq(&self, other: &Self) -> bool {
+        self.der == other.der
+    }
+}
+
+impl Eq for CertificateRef<'_> {}
+
+impl Hash for CertificateRef<'_> {
+    fn hash<H: Hasher>(&self, state: &mut H) {
+        self.der.hash(state);
+    }
+}
+
+impl AsRef<[u8]> for CertificateRef<'_> {
+    fn as_ref(&self) -> &[u8] {
+        self.der
+    }
+}
+
+impl fmt::Debug for CertificateRef<'_> {
+    fn fmt(&self, f: &mut fmt::Formatter<'_>) -> fmt::Result {
+        f.debug_struct("Certificate")
+            .field("serial_number", &self.serial_number())
+            .field("issuer", &self.issuer())
+            .field("subject", &self.subject())
+            .finish_non_exhaustive()
+    }
+}
+
+impl<'a> TryFrom<&'a [u8]> for CertificateRef<'a> {
+    type Error = Error;
+
+    fn try_from(der: &'a [u8]) -> Result<CertificateRef<'a>, Error> {
+        CertificateRef::from_der(der)
+    }
+}
+
+/// A certificate that has bytes of its own. All that it says it says by [`to_ref`](Certificate::to_ref).
+///
+/// ```
+/// use x509_rattle::Certificate;
+///
+/// # let der = include_bytes!("../../../examples/data/certificate.der").to_vec();
+/// let certificate = Certificate::from_der(der)?;
+/// assert_eq!(certificate.subject().to_string(), "CN=www.example.org,O=Beispiel\\, Söhne & Co,C=DE");
+/// for extension in certificate.extensions() {
+///     let extension = extension?;
+///     println!("{} {:?}", extension.oid(), extension.parsed()?);
+/// }
+/// # Ok::<(), x509_rattle::Error>(())
+/// ```
+#[derive(Clone)]
+pub struct Certificate {
+    der: Vec<u8>,
+    parts: Parts,
+}
+
+impl Certificate {
+    /// The certificate that the bytes are, under the rules of RFC 5280.
+    ///
+    /// # Errors
+    /// As of [`CertificateRef::from_der`].
+    pub fn from_der(der: Vec<u8>) -> Result<Certificate, Error> {
+        let parts = Parts::of(&der)?;
+        Ok(Certificate { der, parts })
+    }
+
+    /// The same certificate, borrowed, with all that it says.
+    pub fn to_ref(&self) -> CertificateRef<'_> {
+        CertificateRef {
+            der: &self.der,
+            parts: self.parts,
+        }
+    }
+
+    /// Its DER.
+    pub fn as_der(&self) -> &[u8] {
+        &self.der
+    }
+
+    /// Its DER, taken out.
+    pub fn into_der(self) -> Vec<u8> {
+        self.der
+    }
+
+    /// Its version.
+    pub fn version(&self) -> Version {
+        self.to_ref().version()
+    }
+
+    /// Its serial number.
+    pub fn serial_number(&self) -> Integer<'_> {
+        self.to_ref().serial_number()
+    }
+
+    /// The name of its issuer.
+    pub fn issuer(&self) -> NameRef<'_> {
+        self.to_ref().issuer()
+    }
+
+    /// The name of its subject.
+    pub fn subject(&self) -> NameRef<'_> {
+        self.to_ref().subject()
+    }
+
+    /// From when on it holds, and until when.
+    pub fn validity(&self) -> Validity {
+        self.to_ref().validity()
+    }
+
+    /// The key and its algorithm: a whole SubjectPublicKeyInfo.
+    pub fn subject_public_key_info(&self) -> &[u8] {
+        self.to_ref().subject_public_key_info()
+    }
+
+    /// Its extensions, in order.
+    pub fn extensions(&self) -> Extensions<'_> {
+        self.to_ref().extensions()
+    }
+
+    /// Its extension with an identifier.
+    ///
+    /// # Errors
+    /// As of [`CertificateRef::extension`].
+    pub fn extension(&self, oid: ObjectIdentifier) -> Result<Option<Extension<'_>>, Error> {
+        self.to_ref().extension(oid)
+    }
+
+    /// What its extension of a type holds, and whether that is critical.
+    ///
+    /// # Errors
+    /// As of [`CertificateRef::get`].
+    pub fn get<'a, T: ExtensionValue<'a>>(&'a self) -> Result<Option<(bool, T)>, Error> {
+        self.to_ref().get()
+    }
+
+    /// What is to be verified of it.
+    ///
+    /// # Errors
+    /// [`Error::Memory`].
+    pub fn signature(&self) -> Result<Signature<'_>, Error> {
+        self.to_ref().signature()
+    }
+}
+
+impl PartialEq for Certificate {
+    fn eq(&self, other: &Self) -> bool {
+        self.der == other.der
+    }
+}
+
+impl Eq for Certificate {}
+
+impl Hash for Certificate {
+    fn hash<H: Hasher>(&self, state: &mut H) {
+        self.der.hash(state);
+    }
+}
+
+impl AsRef<[u8]> for Certificate {
+    fn as_ref(&self) -> &[u8] {
+        &self.der
+    }
+}
+
+impl fmt::Debug for Certificate {
+    fn fmt(&self, f: &mut fmt::Formatter<'_>) -> fmt::Result {
+        self.to_ref().fmt(f)
+    }
+}
+
+impl TryFrom<Vec<u8>> for Certificate {
+    type Error = Error;
+
+    fn try_from(der: Vec<u8>) -> Result<Certificate, Error> {
+        Certificate::from_der(der)
+    }
+}

@@ -1,0 +1,628 @@
+//! The calls of `include/x509.h`, and safe ways to make them. All that is unsafe stands here.
+//!
+//! The structs have the names and the fields of the header, and the calls its arguments (`in` is `input` here); `tests/header.rs` compares them.
+use crate::error::Error;
+use std::ffi::c_int;
+use std::fmt;
+use std::ptr;
+
+const OK: c_int = 0;
+const MEMORY: c_int = -1;
+const ROOM: c_int = -2;
+const OVERLENGTH: c_int = 1;
+const MALFORMED: c_int = 2;
+const FAILED: c_int = 3;
+const SET_DUPLICATE: c_int = 4;
+const VALUE: c_int = 5;
+const ABSENT: c_int = 6;
+const REPEATED: c_int = 7;
+const FAULT: c_int = 8;
+
+#[repr(C)]
+#[derive(Clone, Copy, Debug, Default, PartialEq, Eq, Hash)]
+pub(crate) struct Span {
+    pub(crate) place: usize,
+    pub(crate) len: usize,
+}
+
+impl Span {
+    /// The part of the bytes that a call filled this in for.
+    pub(crate) fn of(self, data: &[u8]) -> Result<&[u8], Error> {
+        let end = self.place.checked_add(self.len).ok_or(Error::Unexpected)?;
+        data.get(self.place..end).ok_or(Error::Unexpected)
+    }
+
+    /// The part, where both numbers aren't 0.
+    pub(crate) fn part(self, data: &[u8]) -> Result<Option<&[u8]>, Error> {
+        if self == Span::default() {
+            return Ok(None);
+        }
+        self.of(data).map(Some)
+    }
+}
+
+#[repr(C)]
+#[derive(Clone, Copy, Debug, Default)]
+pub(crate) struct Certificate {
+    pub(crate) version: u32,
+    pub(crate) serial_number: Span,
+    pub(crate) issuer: Span,
+    pub(crate) subject: Span,
+    pub(crate) subject_public_key_info: Span,
+    pub(crate) extensions: Span,
+    pub(crate) not_before: u64,
+    pub(crate) not_after: u64,
+}
+
+#[repr(C)]
+#[derive(Clone, Copy, Debug, Default)]
+pub(crate) struct Extension {
+    pub(crate) critical: u32,
+    pub(crate) value: Span,
+}
+
+#[repr(C)]
+#[derive(Clone, Copy, Debug, Default)]
+pub(crate) struct ExtensionEntry {
+    pub(crate) oid: Span,
+    pub(crate) critical: u32,
+    pub(crate) value: Span,
+}
+
+#[repr(C)]
+#[derive(Clone, Copy, Debug, Default)]
+pub(crate) struct BasicConstraintsView {
+    pub(crate) ca: u32,
+    pub(crate) has_path_len: u32,
+    pub(crate) path_len: u32,
+}
+
+#[repr(C)]
+#[derive(Clone, Copy, Debug, Default)]
+pub(crate) struct GeneralName {
+    pub(crate) kind: u32,
+    pub(crate) element: Span,
+    pub(crate) content: Span,
+    pub(crate) type_id: Span,
+    pub(crate) value: Span,
+}
+
+#[repr(C)]
+#[derive(Clone, Copy, Debug, Default)]
+pub(crate) struct AuthorityKeyIdentifierView {
+    pub(crate) key_identifier: Span,
+    pub(crate) issuer: Span,
+    pub(crate) serial_number: Span,
+}
+
+#[repr(C)]
+#[derive(Clone, Copy, Debug, Default)]
+pub(crate) struct Access {
+    pub(crate) method: Span,
+    pub(crate) location: GeneralName,
+}
+
+#[repr(C)]
+#[derive(Clone, Copy, Debug, Default)]
+pub(crate) struct Policy {
+    pub(crate) identifier: Span,
+    pub(crate) qualifiers: Span,
+}
+
+#[repr(C)]
+#[derive(Clone, Copy, Debug, Default)]
+pub(crate) struct PolicyQualifier {
+    pub(crate) identifier: Span,
+    pub(crate) qualifier: Span,
+}
+
+#[repr(C)]
+#[derive(Clone, Copy, Debug, Default)]
+pub(crate) struct PolicyMapping {
+    pub(crate) issuer_policy: Span,
+    pub(crate) subject_policy: Span,
+}
+
+#[repr(C)]
+#[derive(Clone, Copy, Debug, Default)]
+pub(crate) struct PolicyConstraintsView {
+    pub(crate) has_require_explicit_policy: u32,
+    pub(crate) require_explicit_policy: u32,
+    pub(crate) has_inhibit_policy_mapping: u32,
+    pub(crate) inhibit_policy_mapping: u32,
+}
+
+#[repr(C)]
+#[derive(Clone, Copy, Debug, Default)]
+pub(crate) struct DistributionPoint {
+    pub(crate) full_name: Span,
+    pub(crate) relative_name: Span,
+    pub(crate) has_reasons: u32,
+    pub(crate) reasons: u32,
+    pub(crate) crl_issuer: Span,
+}
+
+#[repr(C)]
+#[derive(Clone, Copy, Debug, Default)]
+pub(crate) struct IssuingDistributionPointView {
+    pub(crate) full_name: Span,
+    pub(crate) relative_name: Span,
+    pub(crate) only_contains_user_certs: u32,
+    pub(crate) only_contains_ca_certs: u32,
+    pub(crate) has_only_some_reasons: u32,
+    pub(crate) only_some_reasons: u32,
+    pub(crate) indirect_crl: u32,
+    pub(crate) only_contains_attribute_certs: u32,
+}
+
+#[repr(C)]
+#[derive(Clone, Copy, Debug, Default)]
+pub(crate) struct NameConstraintsView {
+    pub(crate) permitted: Span,
+    pub(crate) excluded: Span,
+}
+
+#[repr(C)]
+#[derive(Clone, Copy, Debug, Default)]
+pub(crate) struct Subtree {
+    pub(crate) base: GeneralName,
+    pub(crate) minimum: u32,
+    pub(crate) has_maximum: u32,
+    pub(crate) maximum: u32,
+}
+
+#[repr(C)]
+#[derive(Clone, Copy, Debug, Default)]
+pub(crate) struct Attribute {
+    pub(crate) oid: Span,
+    pub(crate) tag: u32,
+    pub(crate) element: Span,
+    pub(crate) content: Span,
+}
+
+#[repr(C)]
+#[derive(Clone, Copy, Debug, Default)]
+pub(crate) struct Signature {
+    pub(crate) signed_part: Span,
+    pub(crate) algorithm: Span,
+    pub(crate) bits: Span,
+    pub(crate) unused_bits: u32,
+}
+
+#[repr(C)]
+#[derive(Clone, Copy, Debug, Default)]
+pub(crate) struct PathFault {
+    pub(crate) place: usize,
+    pub(crate) reason: u32,
+}
+
+#[repr(C)]
+#[derive(Clone, Copy, Debug, Default)]
+pub(crate) struct Revocation {
+    pub(crate) date: u64,
+    pub(crate) reason: i32,
+}
+
+/// Bytes go in as a pointer and a length.
+type ViewCall<T> = unsafe extern "C" fn(*const u8, usize, *mut T) -> c_int;
+type FillCall = unsafe extern "C" fn(*const u8, usize, *mut u8, usize, *mut usize) -> c_int;
+type NextCall<T> = unsafe extern "C" fn(*const u8, usize, *mut usize, *mut T) -> c_int;
+type NextUnderCall<T> = unsafe extern "C" fn(u32, *const u8, usize, *mut usize, *mut T) -> c_int;
+
+#[rustfmt::skip]
+extern "C" {
+    fn x509_reencode(name: *const u8, name_len: usize, profile: u32, input: *const u8, len: usize, out: *mut u8, room: usize, written: *mut usize) -> c_int;
+    fn x509_certificate_reencode(input: *const u8, len: usize, out: *mut u8, room: usize, written: *mut usize) -> c_int;
+    fn x509_name_text(input: *const u8, len: usize, out: *mut u8, room: usize, written: *mut usize) -> c_int;
+    fn x509_name_from_text(text: *const u8, len: usize, out: *mut u8, room: usize, written: *mut usize) -> c_int;
+    fn x509_signed_slice(input: *const u8, len: usize, part: *mut Span) -> c_int;
+    fn x509_certificate_view(input: *const u8, len: usize, view: *mut Certificate) -> c_int;
+    fn x509_certificate_extension(input: *const u8, len: usize, oid: *const u8, oid_len: usize, found: *mut Extension) -> c_int;
+    fn x509_extensions_next(value: *const u8, len: usize, at: *mut usize, found: *mut ExtensionEntry) -> c_int;
+    fn x509_key_usage(value: *const u8, len: usize, uses: *mut u32) -> c_int;
+    fn x509_basic_constraints(value: *const u8, len: usize, view: *mut BasicConstraintsView) -> c_int;
+    fn x509_general_names_next(value: *const u8, len: usize, at: *mut usize, found: *mut GeneralName) -> c_int;
+    fn x509_general_names_under_next(number: u32, value: *const u8, len: usize, at: *mut usize, found: *mut GeneralName) -> c_int;
+    fn x509_extended_key_usage_next(value: *const u8, len: usize, at: *mut usize, found: *mut Span) -> c_int;
+    fn x509_subject_key_identifier(value: *const u8, len: usize, found: *mut Span) -> c_int;
+    fn x509_authority_key_identifier(value: *const u8, len: usize, view: *mut AuthorityKeyIdentifierView) -> c_int;
+    fn x509_access_next(value: *const u8, len: usize, at: *mut usize, found: *mut Access) -> c_int;
+    fn x509_certificate_policies_next(value: *const u8, len: usize, at: *mut usize, found: *mut Policy) -> c_int;
+    fn x509_policy_qualifiers_next(value: *const u8, len: usize, at: *mut usize, found: *mut PolicyQualifier) -> c_int;
+    fn x509_policy_mappings_next(value: *const u8, len: usize, at: *mut usize, found: *mut PolicyMapping) -> c_int;
+    fn x509_policy_constraints(value: *const u8, len: usize, view: *mut PolicyConstraintsView) -> c_int;
+    fn x509_inhibit_any_policy(value: *const u8, len: usize, certificates: *mut u32) -> c_int;
+    fn x509_distribution_points_next(value: *const u8, len: usize, at: *mut usize, found: *mut DistributionPoint) -> c_int;
+    fn x509_issuing_distribution_point(value: *const u8, len: usize, view: *mut IssuingDistributionPointView) -> c_int;
+    fn x509_crl_number(value: *const u8, len: usize, found: *mut Span) -> c_int;
+    fn x509_base_crl_number(value: *const u8, len: usize, found: *mut Span) -> c_int;
+    fn x509_crl_reason(value: *const u8, len: usize, reason: *mut u32) -> c_int;
+    fn x509_name_constraints(value: *const u8, len: usize, view: *mut NameConstraintsView) -> c_int;
+    fn x509_subtrees_under_next(number: u32, value: *const u8, len: usize, at: *mut usize, found: *mut Subtree) -> c_int;
+    fn x509_oid_text(oid: *const u8, oid_len: usize, out: *mut u8, room: usize, written: *mut usize) -> c_int;
+    fn x509_oid_from_text(text: *const u8, len: usize, out: *mut u8, room: usize, written: *mut usize) -> c_int;
+    fn x509_name_next(name: *const u8, len: usize, at: *mut usize, found: *mut Span) -> c_int;
+    fn x509_relative_name_next(rdn: *const u8, len: usize, at: *mut usize, found: *mut Attribute) -> c_int;
+    fn x509_relative_name_under_next(number: u32, rdn: *const u8, len: usize, at: *mut usize, found: *mut Attribute) -> c_int;
+    fn x509_serial_number(input: *const u8, len: usize, found: *mut Span) -> c_int;
+    fn x509_serial_text(content: *const u8, len: usize, out: *mut u8, room: usize, written: *mut usize) -> c_int;
+    fn x509_time_text(moment: u64, out: *mut u8, room: usize, written: *mut usize) -> c_int;
+    fn x509_certificate_signature(input: *const u8, len: usize, signature: *mut Signature) -> c_int;
+    fn x509_path_check(anchor: *const u8, anchor_len: usize, path: *const u8, path_len: usize, lens: *const usize, count: usize, moment: u64, fault: *mut PathFault) -> c_int;
+    fn x509_crl_walk(input: *const u8, len: usize, entries: *mut usize) -> c_int;
+    fn x509_crl_lookup(input: *const u8, len: usize, serial_number: *const u8, serial_number_len: usize, revocation: *mut Revocation) -> c_int;
+    fn x509_version() -> u32;
+}
+
+fn error(status: c_int) -> Error {
+    match status {
+        MEMORY => Error::Memory,
+        OVERLENGTH => Error::Overlength,
+        MALFORMED => Error::Malformed,
+        FAILED => Error::Failed,
+        SET_DUPLICATE => Error::SetDuplicate,
+        VALUE => Error::Value,
+        ABSENT => Error::Absent,
+        REPEATED => Error::Repeated,
+        _ => Error::Unexpected,
+    }
+}
+
+fn accepted<T>(status: c_int, found: T) -> Result<T, Error> {
+    match status {
+        OK => Ok(found),
+        status => Err(error(status)),
+    }
+}
+
+/// A call that fills in what it says of bytes. Only this module makes one.
+pub(crate) struct View<T>(ViewCall<T>);
+
+impl<T: Default> View<T> {
+    pub(crate) fn of(&self, data: &[u8]) -> Result<T, Error> {
+        let mut found = T::default();
+        // SAFETY: the header lets the call read `data`, which is lent for it, and fill in `found`, which is of the struct that it takes.
+        let status = unsafe { self.0(data.as_ptr(), data.len(), &mut found) };
+        accepted(status, found)
+    }
+}
+
+/// A call that writes bytes of bytes. Only this module makes one.
+pub(crate) struct Fill(FillCall);
+
+impl Fill {
+    /// Refused as [`of`](Fill::of) is.
+    pub(crate) fn check(&self, data: &[u8]) -> Result<(), Error> {
+        wanted(&self.over(data)).map(|_| ())
+    }
+
+    pub(crate) fn of(&self, data: &[u8]) -> Result<Vec<u8>, Error> {
+        fill(self.over(data))
+    }
+
+    /// The text that the call writes, which is UTF-8.
+    pub(crate) fn text_of(&self, data: &[u8]) -> Result<String, Error> {
+        String::from_utf8(self.of(data)?).map_err(|_| Error::Unexpected)
+    }
+
+    fn over<'a>(&'a self, data: &'a [u8]) -> impl Fn(*mut u8, usize, *mut usize) -> c_int + 'a {
+        |out, room, written| {
+            // SAFETY: the header lets the call read `data`, which is lent for it, and write to `out[0..room)` and `written`, which `wanted` and
+            // `fill` own.
+            unsafe { self.0(data.as_ptr(), data.len(), out, room, written) }
+        }
+    }
+}
+
+/// How many bytes a call writes that is given a room, its length, and where to say how much it wrote.
+fn wanted(write: &impl Fn(*mut u8, usize, *mut usize) -> c_int) -> Result<usize, Error> {
+    let mut written = 0;
+    match write(ptr::null_mut(), 0, &mut written) {
+        OK | ROOM => Ok(written),
+        status => Err(error(status)),
+    }
+}
+
+/// What such a call writes.
+fn fill(write: impl Fn(*mut u8, usize, *mut usize) -> c_int) -> Result<Vec<u8>, Error> {
+    let mut written = wanted(&write)?;
+    let mut out = Vec::new();
+    out.try_reserve_exact(written).map_err(|_| Error::Memory)?;
+    out.resize(written, 0);
+    let status = write(out.as_mut_ptr(), out.len(), &mut written);
+    out.truncate(written);
+    accepted(status, out)
+}
+
+enum Next<T> {
+    Plain(NextCall<T>),
+    Under(u32, NextUnderCall<T>),
+}
+
+/// A call that walks over the members of a list. Only this module makes one.
+pub(crate) struct Walk<T: 'static>(Next<T>);
+
+impl<T: Default> Walk<T> {
+    fn next(&self, data: &[u8], at: &mut usize) -> Result<Option<T>, Error> {
+        let mut found = T::default();
+        let status = match self.0 {
+            // SAFETY: the header lets the call read `data`, which is lent for it, read and write `at`, of any value, and fill in `found`, which is
+            // of the struct that it takes.
+            Next::Plain(call) => unsafe { call(data.as_ptr(), data.len(), at, &mut found) },
+            // SAFETY: the same, and any number may go in.
+            Next::Under(number, call) => unsafe {
+                call(number, data.as_ptr(), data.len(), at, &mut found)
+            },
+        };
+        match status {
+            ABSENT => Ok(None),
+            status => accepted(status, Some(found)),
+        }
+    }
+
+    pub(crate) const fn over<'a>(&'static self, data: &'a [u8]) -> Members<'a, T> {
+        Members {
+            walk: self,
+            data,
+            at: 0,
+            is_over: false,
+        }
+    }
+}
+
+/// The members of a list. After one that can't be read nothing comes.
+pub(crate) struct Members<'a, T: 'static> {
+    walk: &'static Walk<T>,
+    pub(crate) data: &'a [u8],
+    at: usize,
+    is_over: bool,
+}
+
+impl<T> Members<'_, T> {
+    /// Without any members, whatever the bytes.
+    pub(crate) fn ended(mut self) -> Self {
+        self.is_over = true;
+        self
+    }
+}
+
+impl<T> Clone for Members<'_, T> {
+    fn clone(&self) -> Self {
+        Members { ..*self }
+    }
+}
+
+impl<T> fmt::Debug for Members<'_, T> {
+    fn fmt(&self, f: &mut fmt::Formatter<'_>) -> fmt::Result {
+        f.debug_struct("Members")
+            .field("at", &self.at)
+            .field("is_over", &self.is_over)
+            .finish_non_exhaustive()
+    }
+}
+
+impl<T: Default> Iterator for Members<'_, T> {
+    type Item = Result<T, Error>;
+
+    fn next(&mut self) -> Option<Self::Item> {
+        if self.is_over {
+            return None;
+        }
+        let last = self.at;
+        let found = match self.walk.next(self.data, &mut self.at) {
+            // the header says that each step moves on; a list without an end is none
+            Ok(Some(_)) if self.at <= last => Err(Error::Unexpected),
+            found => found,
+        };
+        self.is_over = !matches!(found, Ok(Some(_)));
+        found.transpose()
+    }
+}
+
+pub(crate) const CERTIFICATE: View<Certificate> = View(x509_certificate_view);
+pub(crate) const CERTIFICATE_SIGNATURE: View<Signature> = View(x509_certificate_signature);
+pub(crate) const SIGNED_SLICE: View<Span> = View(x509_signed_slice);
+pub(crate) const SERIAL_NUMBER: View<Span> = View(x509_serial_number);
+pub(crate) const CRL_WALK: View<usize> = View(x509_crl_walk);
+pub(crate) const KEY_USAGE: View<u32> = View(x509_key_usage);
+pub(crate) const BASIC_CONSTRAINTS: View<BasicConstraintsView> = View(x509_basic_constraints);
+pub(crate) const SUBJECT_KEY_IDENTIFIER: View<Span> = View(x509_subject_key_identifier);
+pub(crate) const AUTHORITY_KEY_IDENTIFIER: View<AuthorityKeyIdentifierView> =
+    View(x509_authority_key_identifier);
+pub(crate) const POLICY_CONSTRAINTS: View<PolicyConstraintsView> = View(x509_policy_constraints);
+pub(crate) const INHIBIT_ANY_POLICY: View<u32> = View(x509_inhibit_any_policy);
+pub(crate) const ISSUING_DISTRIBUTION_POINT: View<IssuingDistributionPointView> =
+    View(x509_issuing_distribution_point);
+pub(crate) const CRL_NUMBER: View<Span> = View(x509_crl_number);
+pub(crate) const BASE_CRL_NUMBER: View<Span> = View(x509_base_crl_number);
+pub(crate) const CRL_REASON: View<u32> = View(x509_crl_reason);
+pub(crate) const NAME_CONSTRAINTS: View<NameConstraintsView> = View(x509_name_constraints);
+
+pub(crate) const CERTIFICATE_REENCODE: Fill = Fill(x509_certificate_reencode);
+pub(crate) const NAME_TEXT: Fill = Fill(x509_name_text);
+pub(crate) const NAME_FROM_TEXT: Fill = Fill(x509_name_from_text);
+pub(crate) const OID_TEXT: Fill = Fill(x509_oid_text);
+pub(crate) const OID_FROM_TEXT: Fill = Fill(x509_oid_from_text);
+pub(crate) const SERIAL_TEXT: Fill = Fill(x509_serial_text);
+
+pub(crate) static EXTENSIONS: Walk<ExtensionEntry> = Walk(Next::Plain(x509_extensions_next));
+pub(crate) static GENERAL_NAMES: Walk<GeneralName> = Walk(Next::Plain(x509_general_names_next));
+pub(crate) static GENERAL_NAMES_UNDER_0: Walk<GeneralName> =
+    Walk(Next::Under(0, x509_general_names_under_next));
+pub(crate) static GENERAL_NAMES_UNDER_1: Walk<GeneralName> =
+    Walk(Next::Under(1, x509_general_names_under_next));
+pub(crate) static GENERAL_NAMES_UNDER_2: Walk<GeneralName> =
+    Walk(Next::Under(2, x509_general_names_under_next));
+pub(crate) static EXTENDED_KEY_USAGE: Walk<Span> = Walk(Next::Plain(x509_extended_key_usage_next));
+pub(crate) static ACCESS: Walk<Access> = Walk(Next::Plain(x509_access_next));
+pub(crate) static CERTIFICATE_POLICIES: Walk<Policy> =
+    Walk(Next::Plain(x509_certificate_policies_next));
+pub(crate) static POLICY_QUALIFIERS: Walk<PolicyQualifier> =
+    Walk(Next::Plain(x509_policy_qualifiers_next));
+pub(crate) static POLICY_MAPPINGS: Walk<PolicyMapping> =
+    Walk(Next::Plain(x509_policy_mappings_next));
+pub(crate) static DISTRIBUTION_POINTS: Walk<DistributionPoint> =
+    Walk(Next::Plain(x509_distribution_points_next));
+pub(crate) static SUBTREES_UNDER_0: Walk<Subtree> = Walk(Next::Under(0, x509_subtrees_under_next));
+pub(crate) static SUBTREES_UNDER_1: Walk<Subtree> = Walk(Next::Under(1, x509_subtrees_under_next));
+pub(crate) static NAME: Walk<Span> = Walk(Next::Plain(x509_name_next));
+pub(crate) static RELATIVE_NAME: Walk<Attribute> = Walk(Next::Plain(x509_relative_name_next));
+pub(crate) static RELATIVE_NAME_UNDER_1: Walk<Attribute> =
+    Walk(Next::Under(1, x509_relative_name_under_next));
+
+pub(crate) fn reencode(kind: &str, profile: u32, data: &[u8]) -> Result<Vec<u8>, Error> {
+    fill(|out, room, written| {
+        // SAFETY: the header lets the call read `kind` and `data`, which are lent for it, and write to `out[0..room)` and `written`, which `wanted`
+        // and `fill` own.
+        unsafe {
+            x509_reencode(
+                kind.as_ptr(),
+                kind.len(),
+                profile,
+                data.as_ptr(),
+                data.len(),
+                out,
+                room,
+                written,
+            )
+        }
+    })
+}
+
+pub(crate) fn time_text(moment: u64) -> Result<String, Error> {
+    let text = fill(|out, room, written| {
+        // SAFETY: the header lets the call write to `out[0..room)` and `written`, which `wanted` and `fill` own.
+        unsafe { x509_time_text(moment, out, room, written) }
+    })?;
+    String::from_utf8(text).map_err(|_| Error::Unexpected)
+}
+
+/// The version of the library that is linked.
+pub(crate) fn version() -> u32 {
+    // SAFETY: the call takes nothing and touches nothing.
+    unsafe { x509_version() }
+}
+
+/// The extension of a certificate with the content octets of an identifier.
+pub(crate) fn certificate_extension(data: &[u8], oid: &[u8]) -> Result<Option<Extension>, Error> {
+    let mut found = Extension::default();
+    // SAFETY: the header lets the call read `data` and `oid`, which are lent for it, and fill in `found`.
+    let status = unsafe {
+        x509_certificate_extension(
+            data.as_ptr(),
+            data.len(),
+            oid.as_ptr(),
+            oid.len(),
+            &mut found,
+        )
+    };
+    match status {
+        ABSENT => Ok(None),
+        status => accepted(status, Some(found)),
+    }
+}
+
+/// What the first entry of a CRL with a serial number, the DER of an INTEGER, says.
+pub(crate) fn crl_lookup(data: &[u8], serial_number: &[u8]) -> Result<Option<Revocation>, Error> {
+    let mut found = Revocation::default();
+    // SAFETY: the header lets the call read `data` and `serial_number`, which are lent for it, and fill in `found`.
+    let status = unsafe {
+        x509_crl_lookup(
+            data.as_ptr(),
+            data.len(),
+            serial_number.as_ptr(),
+            serial_number.len(),
+            &mut found,
+        )
+    };
+    match status {
+        ABSENT => Ok(None),
+        status => accepted(status, Some(found)),
+    }
+}
+
+/// The first fault of a path, but those of signatures.
+pub(crate) fn path_check(
+    anchor: &[u8],
+    path: &[&[u8]],
+    moment: u64,
+) -> Result<Option<PathFault>, Error> {
+    let joined = path.concat();
+    let lens: Vec<usize> = path.iter().map(|data| data.len()).collect();
+    let mut fault = PathFault::default();
+    // SAFETY: the header lets the call read the three slices, which are lent for it, `lens` of as many numbers as it is told, and fill in `fault`.
+    let status = unsafe {
+        x509_path_check(
+            anchor.as_ptr(),
+            anchor.len(),
+            joined.as_ptr(),
+            joined.len(),
+            lens.as_ptr(),
+            lens.len(),
+            moment,
+            &mut fault,
+        )
+    };
+    match status {
+        FAULT => Ok(Some(fault)),
+        status => accepted(status, None),
+    }
+}
+
+#[cfg(test)]
+mod tests {
+    use super::*;
+
+    #[test]
+    fn spans_outside_of_the_bytes() {
+        let of = |place, len| Span { place, len }.of(b"abcd");
+        assert_eq!(of(1, 3), Ok(&b"bcd"[..]));
+        assert_eq!(of(4, 0), Ok(&b""[..]));
+        for (place, len) in [
+            (0, 5),
+            (5, 0),
+            (4, 1),
+            (usize::MAX, 1),
+            (1, usize::MAX),
+            (usize::MAX, usize::MAX),
+        ] {
+            assert_eq!(of(place, len), Err(Error::Unexpected));
+        }
+        assert_eq!(Span::default().part(b"abcd"), Ok(None));
+        assert_eq!(Span { place: 2, len: 0 }.part(b"abcd"), Ok(Some(&b""[..])));
+    }
+
+    unsafe extern "C" fn stays(_: *const u8, _: usize, _: *mut usize, _: *mut Span) -> c_int {
+        OK
+    }
+
+    #[test]
+    fn a_walk_that_does_not_move_on_ends() {
+        static STAYS: Walk<Span> = Walk(Next::Plain(stays));
+        let mut members = STAYS.over(b"");
+        assert_eq!(members.next(), Some(Err(Error::Unexpected)));
+        assert_eq!(members.next(), None);
+    }
+
+    unsafe extern "C" fn unknown(_: *const u8, _: usize, _: *mut u32) -> c_int {
+        99
+    }
+
+    unsafe extern "C" fn too_long(
+        _: *const u8,
+        _: usize,
+        _: *mut u8,
+        _: usize,
+        written: *mut usize,
+    ) -> c_int {
+        // SAFETY: `fill` lends it.
+        unsafe { *written = usize::MAX };
+        ROOM
+    }
+
+    #[test]
+    fn what_the_header_rules_out() {
+        assert_eq!(View(unknown).of(b""), Err(Error::Unexpected));
+        assert_eq!(Fill(too_long).of(b""), Err(Error::Memory));
+    }
+}

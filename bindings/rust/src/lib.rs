@@ -1,0 +1,86 @@
+//! X.509 certificates, CRLs and names in strict DER (RFC 5280), over the C library of `include/x509.h`, whose answers are proved.
+//!
+//! All bytes are taken apart by the C library; nothing here parses DER. Whatever goes in, calls answer an [`Error`] and don't panic.
+//!
+//! ```
+//! use x509_rattle::extension::ParsedExtension;
+//! use x509_rattle::{oid, time_text, CertificateRef, GeneralName};
+//!
+//! # let der = include_bytes!("../../../examples/data/certificate.der");
+//! let certificate = CertificateRef::from_der(der)?;
+//! println!("{} until {}", certificate.subject(), time_text(certificate.validity().not_after)?);
+//! if let Some(extension) = certificate.extension(oid::extension::SUBJECT_ALT_NAME)? {
+//!     let ParsedExtension::SubjectAltName(names) = extension.parsed()? else {
+//!         unreachable!("that is what the identifier stands for")
+//!     };
+//!     assert!(names.0.contains(&GeneralName::DnsName("www.example.org")));
+//! }
+//! # Ok::<(), x509_rattle::Error>(())
+//! ```
+#![deny(unsafe_code)]
+#![warn(missing_docs, missing_debug_implementations)]
+
+mod certificate;
+mod crl;
+mod error;
+pub mod extension;
+#[allow(unsafe_code)]
+mod ffi;
+mod general_name;
+mod integer;
+mod name;
+pub mod oid;
+mod path;
+mod time;
+
+pub use certificate::{Certificate, CertificateRef, Signature, Validity, Version};
+pub use crl::{Crl, Revocation};
+pub use error::Error;
+pub use extension::{Extension, Extensions, ParsedExtension};
+pub use general_name::{GeneralName, GeneralNames};
+pub use integer::Integer;
+pub use name::{
+    AttributeTypeAndValue, Attributes, Name, NameAttributes, NameRef, Rdns,
+    RelativeDistinguishedName,
+};
+pub use oid::ObjectIdentifier;
+pub use path::{check_path, FaultReason, PathError, PathFault, Verifier};
+pub use time::time_text;
+
+/// The rules under which a value is read.
+#[derive(Clone, Copy, Debug, PartialEq, Eq, Hash)]
+pub enum Profile {
+    /// Those of RFC 5280.
+    Rfc5280 = 0,
+
+    /// None beyond the grammar.
+    Raw = 1,
+}
+
+/// Reads a value of the type with that name, as `Certificate` or `Name`, under a profile, and writes it again: the same bytes, but for dates of a
+/// validity that RFC 5280 spells otherwise, under [`Profile::Rfc5280`].
+///
+/// ```
+/// use x509_rattle::{reencode, Error, Profile};
+///
+/// assert_eq!(reencode("Name", Profile::Raw, b"\x30\x00")?, b"\x30\x00");
+/// assert_eq!(reencode("Nothing", Profile::Raw, b"\x30\x00"), Err(Error::Failed));
+/// # Ok::<(), Error>(())
+/// ```
+///
+/// # Errors
+/// [`Error::Failed`] where there is no such type; [`Error::Malformed`] or [`Error::Overlength`] where the bytes are no value of it; [`Error::Memory`].
+pub fn reencode(kind: &str, profile: Profile, der: &[u8]) -> Result<Vec<u8>, Error> {
+    ffi::reencode(kind, profile as u32, der)
+}
+
+/// The version of the C library that is linked: major, minor and patch.
+pub fn library_version() -> (u32, u32, u32) {
+    let number = ffi::version();
+    (number >> 16, number >> 8 & 0xff, number & 0xff)
+}
+
+/// The examples of `README.md`.
+#[cfg(doctest)]
+#[doc = include_str!("../README.md")]
+struct Readme;

@@ -1,0 +1,353 @@
+//! Names of certificates (RFC 5280 4.1.2.4), and their texts (RFC 4514).
+use crate::error::{write_text, Error};
+use crate::ffi::{self, Members};
+use crate::oid::ObjectIdentifier;
+use std::borrow::Cow;
+use std::fmt;
+use std::str::FromStr;
+
+/// A distinguished name, by its DER. Names are equal byte for byte, as they are compared in a path.
+#[derive(Clone, Copy, PartialEq, Eq, Hash)]
+pub struct NameRef<'a> {
+    der: &'a [u8],
+}
+
+impl<'a> NameRef<'a> {
+    /// The name that the bytes are.
+    ///
+    /// # Errors
+    /// [`Error::Malformed`] or [`Error::Overlength`] where they are none; [`Error::Memory`].
+    pub fn from_der(der: &'a [u8]) -> Result<NameRef<'a>, Error> {
+        ffi::NAME_TEXT.check(der)?;
+        Ok(NameRef { der })
+    }
+
+    /// The name that bytes are that the library has looked at.
+    pub(crate) fn found(der: &'a [u8]) -> NameRef<'a> {
+        NameRef { der }
+    }
+
+    /// Its DER.
+    pub fn as_der(&self) -> &'a [u8] {
+        self.der
+    }
+
+    /// Its text, the last relative name first, which [`Display`](fmt::Display) writes too.
+    ///
+    /// # Errors
+    /// [`Error::Memory`]; [`Error::Overlength`] where the text is too long.
+    pub fn to_rfc4514(&self) -> Result<String, Error> {
+        ffi::NAME_TEXT.text_of(self.der)
+    }
+
+    /// Its relative names, in the order of the DER.
+    pub fn rdns(&self) -> Rdns<'a> {
+        Rdns(ffi::NAME.over(self.der))
+    }
+
+    /// The attributes of all its relative names.
+    pub fn attributes(&self) -> NameAttributes<'a> {
+        NameAttributes {
+            rdns: self.rdns(),
+            rdn: None,
+        }
+    }
+
+    /// The attributes of a type.
+    pub fn attributes_for(
+        &self,
+        oid: ObjectIdentifier,
+    ) -> impl Iterator<Item = Result<AttributeTypeAndValue<'a>, Error>> + 'a {
+        self.attributes()
+            .filter(move |found| !matches!(found, Ok(it) if it.oid != oid))
+    }
+
+    /// The name, with bytes of its own.
+    pub fn to_owned(&self) -> Name {
+        Name {
+            der: self.der.to_vec(),
+        }
+    }
+}
+
+impl fmt::Display for NameRef<'_> {
+    /// The text of RFC 4514. Where [`to_rfc4514`](NameRef::to_rfc4514) is refused, the error in angle brackets, as `<out of memory>`.
+    fn fmt(&self, f: &mut fmt::Formatter<'_>) -> fmt::Result {
+        write_text(self.to_rfc4514(), f)
+    }
+}
+
+impl fmt::Debug for NameRef<'_> {
+    fn fmt(&self, f: &mut fmt::Formatter<'_>) -> fmt::Result {
+        write!(f, "Name({self})")
+    }
+}
+
+impl<'a> TryFrom<&'a [u8]> for NameRef<'a> {
+    type Error = Error;
+
+    fn try_from(der: &'a [u8]) -> Result<NameRef<'a>, Error> {
+        NameRef::from_der(der)
+    }
+}
+
+/// A distinguished name that has bytes of its own.
+///
+/// ```
+/// use x509_rattle::{oid, Name};
+///
+/// let name: Name = "CN=www.example.org,C=DE".parse()?;
+/// assert_eq!(name.to_string(), "CN=www.example.org,C=DE");
+/// for attribute in name.to_ref().attributes_for(oid::attribute::COMMON_NAME) {
+///     assert_eq!(attribute?.text().as_deref(), Some("www.example.org"));
+/// }
+/// # Ok::<(), x509_rattle::Error>(())
+/// ```
+#[derive(Clone, PartialEq, Eq, Hash)]
+pub struct Name {
+    der: Vec<u8>,
+}
+
+impl Name {
+    /// The name that the bytes are.
+    ///
+    /// # Errors
+    /// As of [`NameRef::from_der`].
+    pub fn from_der(der: Vec<u8>) -> Result<Name, Error> {
+        NameRef::from_der(&der)?;
+        Ok(Name { der })
+    }
+
+    /// The same name, borrowed, with all that it says.
+    pub fn to_ref(&self) -> NameRef<'_> {
+        NameRef { der: &self.der }
+    }
+
+    /// Its DER.
+    pub fn as_der(&self) -> &[u8] {
+        &self.der
+    }
+}
+
+impl FromStr for Name {
+    type Err = Error;
+
+    /// The name that a text of RFC 4514 reads as. [`Error::Failed`] where it is no such text, [`Error::SetDuplicate`] where an attribute is said
+    /// twice in one relative name, [`Error::Overlength`] where what it says is too long; [`Error::Memory`].
+    fn from_str(text: &str) -> Result<Name, Error> {
+        let der = ffi::NAME_FROM_TEXT.of(text.as_bytes())?;
+        Ok(Name { der })
+    }
+}
+
+impl fmt::Display for Name {
+    /// The text of RFC 4514. Where [`to_rfc4514`](NameRef::to_rfc4514) is refused, the error in angle brackets, as `<out of memory>`.
+    fn fmt(&self, f: &mut fmt::Formatter<'_>) -> fmt::Result {
+        self.to_ref().fmt(f)
+    }
+}
+
+impl fmt::Debug for Name {
+    fn fmt(&self, f: &mut fmt::Formatter<'_>) -> fmt::Result {
+        fmt::Debug::fmt(&self.to_ref(), f)
+    }
+}
+
+impl PartialEq<NameRef<'_>> for Name {
+    fn eq(&self, other: &NameRef<'_>) -> bool {
+        self.der == other.der
+    }
+}
+
+impl PartialEq<Name> for NameRef<'_> {
+    fn eq(&self, other: &Name) -> bool {
+        self.der == other.der
+    }
+}
+
+/// The relative names of a name. After one that can't be read nothing comes.
+#[derive(Clone, Debug)]
+pub struct Rdns<'a>(Members<'a, ffi::Span>);
+
+impl<'a> Iterator for Rdns<'a> {
+    type Item = Result<RelativeDistinguishedName<'a>, Error>;
+
+    fn next(&mut self) -> Option<Self::Item> {
+        let found = self.0.next()?;
+        let data = self.0.data;
+        let of = |der| RelativeDistinguishedName {
+            walk: &ffi::RELATIVE_NAME,
+            der,
+        };
+        Some(found.and_then(|span| span.of(data)).map(of))
+    }
+}
+
+/// One or more attributes that stand together.
+#[derive(Clone, Copy)]
+pub struct RelativeDistinguishedName<'a> {
+    walk: &'static ffi::Walk<ffi::Attribute>,
+    der: &'a [u8],
+}
+
+impl<'a> RelativeDistinguishedName<'a> {
+    /// That of a distribution point, under its tag (RFC 5280 4.2.1.13), if each attribute can be read.
+    pub(crate) fn of_point(der: &'a [u8]) -> Result<RelativeDistinguishedName<'a>, Error> {
+        let made = RelativeDistinguishedName {
+            walk: &ffi::RELATIVE_NAME_UNDER_1,
+            der,
+        };
+        made.attributes().try_for_each(|found| found.map(|_| ()))?;
+        Ok(made)
+    }
+
+    /// Its DER, a whole element; that of a distribution point has the tag \[1\].
+    pub fn as_der(&self) -> &'a [u8] {
+        self.der
+    }
+
+    /// Its attributes, in the order of the DER.
+    pub fn attributes(&self) -> Attributes<'a> {
+        Attributes(self.walk.over(self.der))
+    }
+}
+
+impl PartialEq for RelativeDistinguishedName<'_> {
+    fn eq(&self, other: &Self) -> bool {
+        self.der == other.der
+    }
+}
+
+impl Eq for RelativeDistinguishedName<'_> {}
+
+impl fmt::Debug for RelativeDistinguishedName<'_> {
+    fn fmt(&self, f: &mut fmt::Formatter<'_>) -> fmt::Result {
+        f.debug_list().entries(self.attributes()).finish()
+    }
+}
+
+/// The attributes of a relative name. After one that can't be read nothing comes.
+#[derive(Clone, Debug)]
+pub struct Attributes<'a>(Members<'a, ffi::Attribute>);
+
+impl<'a> Iterator for Attributes<'a> {
+    type Item = Result<AttributeTypeAndValue<'a>, Error>;
+
+    fn next(&mut self) -> Option<Self::Item> {
+        let found = self.0.next()?;
+        Some(found.and_then(|view| AttributeTypeAndValue::found(&view, self.0.data)))
+    }
+}
+
+/// The attributes of a name. After one that can't be read nothing comes.
+#[derive(Clone, Debug)]
+pub struct NameAttributes<'a> {
+    rdns: Rdns<'a>,
+    rdn: Option<Attributes<'a>>,
+}
+
+impl<'a> Iterator for NameAttributes<'a> {
+    type Item = Result<AttributeTypeAndValue<'a>, Error>;
+
+    fn next(&mut self) -> Option<Self::Item> {
+        loop {
+            match self.rdn.as_mut().and_then(Iterator::next) {
+                Some(Err(error)) => {
+                    self.rdns = Rdns(self.rdns.0.clone().ended());
+                    return Some(Err(error));
+                }
+                Some(found) => return Some(found),
+                None => {}
+            }
+            match self.rdns.next()? {
+                Ok(rdn) => self.rdn = Some(rdn.attributes()),
+                Err(error) => return Some(Err(error)),
+            }
+        }
+    }
+}
+
+/// An attribute of a name.
+#[derive(Clone, Copy, Debug, PartialEq, Eq, Hash)]
+pub struct AttributeTypeAndValue<'a> {
+    /// Its type.
+    pub oid: ObjectIdentifier,
+
+    /// The identifier octet of its value, as 0x0C for UTF8String.
+    pub tag: u8,
+
+    /// Its value, a whole element.
+    pub value: &'a [u8],
+
+    /// The content octets of its value, which nothing has looked at.
+    pub content: &'a [u8],
+}
+
+impl<'a> AttributeTypeAndValue<'a> {
+    fn found(view: &ffi::Attribute, data: &'a [u8]) -> Result<AttributeTypeAndValue<'a>, Error> {
+        Ok(AttributeTypeAndValue {
+            oid: ObjectIdentifier::found(view.oid.of(data)?)?,
+            tag: u8::try_from(view.tag).map_err(|_| Error::Unexpected)?,
+            value: view.element.of(data)?,
+            content: view.content.of(data)?,
+        })
+    }
+
+    /// The text of the value. `None` where its type has none, or its octets are none (X.690 8.23; of a TeletexString as ISO 8859-1).
+    pub fn text(&self) -> Option<Cow<'a, str>> {
+        match self.tag {
+            0x0c => std::str::from_utf8(self.content).ok().map(Cow::from),
+            0x12 | 0x13 | 0x16 | 0x1a if self.content.is_ascii() => {
+                std::str::from_utf8(self.content).ok().map(Cow::from)
+            }
+            0x14 => Some(self.content.iter().copied().map(char::from).collect()),
+            0x1e => utf16(self.content).map(Cow::from),
+            _ => None,
+        }
+    }
+}
+
+/// A text of UTF-16, the most significant octet first.
+fn utf16(octets: &[u8]) -> Option<String> {
+    let pairs = octets.chunks(2);
+    let units: Option<Vec<u16>> = pairs
+        .map(|pair| pair.try_into().ok().map(u16::from_be_bytes))
+        .collect();
+    String::from_utf16(&units?).ok()
+}
+
+#[cfg(test)]
+mod tests {
+    use super::*;
+
+    fn text(tag: u8, content: &[u8]) -> Option<String> {
+        let oid = crate::oid::attribute::COMMON_NAME;
+        let attribute = AttributeTypeAndValue {
+            oid,
+            tag,
+            value: &[],
+            content,
+        };
+        attribute.text().map(Cow::into_owned)
+    }
+
+    #[test]
+    fn a_name_without_a_text() {
+        let name = NameRef::found(b"\xff");
+        assert_eq!(name.to_rfc4514(), Err(Error::Malformed));
+        assert_eq!(name.to_string(), "<not the DER of such a value>");
+    }
+
+    #[test]
+    fn texts_of_values() {
+        assert_eq!(text(0x0c, "Söhne".as_bytes()).as_deref(), Some("Söhne"));
+        assert_eq!(text(0x0c, b"\xff"), None);
+        assert_eq!(text(0x13, b"DE").as_deref(), Some("DE"));
+        assert_eq!(text(0x13, "ö".as_bytes()), None);
+        assert_eq!(text(0x14, b"\xf6").as_deref(), Some("ö"));
+        assert_eq!(text(0x1e, b"\x00\xf6\x20\xac").as_deref(), Some("ö€"));
+        assert_eq!(text(0x1e, b"\x00"), None);
+        assert_eq!(text(0x1e, b"\xd8\x00"), None);
+        assert_eq!(text(0x02, b"\x01"), None);
+    }
+}
