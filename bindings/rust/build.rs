@@ -4,7 +4,7 @@ use std::path::Path;
 use std::process::{exit, Command};
 
 const MISSING: &str = "the C library x509 isn't found.
-Install it by `tools/install_c.sh PREFIX`, and say where it is by one of
+Install it by `tools/build/install_c.sh PREFIX`, and say where it is by one of
   X509_LIBRARY=PREFIX/lib              a folder of libx509.a, or of libx509_c.a and liblibc_c.a
   PKG_CONFIG_PATH=PREFIX/lib/pkgconfig a folder of x509.pc, for the program pkg-config";
 

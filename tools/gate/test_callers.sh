@@ -171,18 +171,27 @@ if has valgrind "runs that look for leaks and bad reads"; then
     wants "C under valgrind, each allocation refused" 0 "$folder/calls.txt" "${watched[@]}" "$folder/refuse_memory" "${files[@]}"
 fi
 
+# usage: run_tests NAME WORDS..: a run of tests passes
+run_tests() {
+    local name=$1
+    shift
+    if "$@" >"$folder/said" 2>&1; then
+        echo "passed: $name"
+    else
+        echo "failed: $name:"
+        cat "$folder/said"
+        failed=1
+    fi
+}
+
 if has cargo "the caller in Rust"; then
     X509_LIBRARY=$folder CARGO_TARGET_DIR=$folder/target cargo build -q --offline --manifest-path "$top/examples/rust/Cargo.toml"
     show "Rust" "$folder/target/debug/show"
     hostile "Rust" "$folder/target/debug/show"
     payloads "Rust" "$folder/target/debug/payloads"
-    if X509_LIBRARY=$folder CARGO_TARGET_DIR=$folder/target cargo test -q --offline --manifest-path "$top/examples/rust/Cargo.toml" >"$folder/said" 2>&1; then
-        echo "passed: Rust, the tests of the wrapper"
-    else
-        echo "failed: Rust, the tests of the wrapper:"
-        cat "$folder/said"
-        failed=1
-    fi
+    export X509_LIBRARY=$folder CARGO_TARGET_DIR=$folder/target
+    run_tests "Rust, the tests of the wrapper" cargo test -q --offline --manifest-path "$top/examples/rust/Cargo.toml"
+    run_tests "Rust, the tests of the crate" cargo test -q --offline --manifest-path "$top/bindings/rust/Cargo.toml"
 fi
 
 if has python3 "the caller in Python, and wide and deep values"; then
@@ -190,7 +199,10 @@ if has python3 "the caller in Python, and wide and deep values"; then
     hostile "Python" python3 -B "$top/examples/python/show.py" "$folder/libx509.so"
     payloads "Python" python3 -B "$top/examples/python/payloads.py" "$folder/libx509.so"
     paths paths "Python" python3 -B "$top/examples/python/path.py" "$folder/libx509.so"
+    run_tests "Python, the tests of the package, beside cryptography" env X509_LIBRARY="$folder/libx509.so" PYTHONPATH="$top/bindings/python/src" \
+        python3 -B -m unittest discover -s "$top/bindings/python/tests"
     python3 -B "$robustness/hostile_sizes.py" --rows "$folder"
     wants "C, each allocation refused of wide and deep values" 0 "$folder/calls.txt" "$folder/refuse_memory" "${files[@]}" "$folder/rows" "$folder/answers"
 fi
+"$top/tools/gate/test_install.sh" || failed=1
 exit "$failed"
