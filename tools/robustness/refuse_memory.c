@@ -72,7 +72,7 @@ static void wrong(const char *what, long number)
 
 /* ---- each call */
 
-enum { CALLS = 13 };
+enum { CALLS = 20 };
 
 static uint8_t certificate[65536], list[65536], request[65536], room[65536];
 static size_t certificate_len, list_len, request_len;
@@ -81,10 +81,19 @@ static x509_extension extension;
 static x509_revocation revocation;
 static x509_signature signature;
 static x509_path_fault fault;
-static size_t count;
+static x509_span part;
+static x509_authority_key_identifier_view authority;
+static x509_policy policy;
+static x509_distribution_point point;
+static x509_name_constraints_view names;
+static size_t count, at;
+
+/* A value that stands in the source, with its length. */
+#define BYTES(text) (const uint8_t *)(text), sizeof(text) - 1
 
 static x509_status call(int number)
 {
+    at = 0;
     switch (number) {
     case 0:
         return x509_certificate_check(certificate, certificate_len);
@@ -110,6 +119,20 @@ static x509_status call(int number)
         return x509_request_check(request, request_len);
     case 11:
         return x509_certificate_signature(certificate, certificate_len, &signature);
+    case 12:
+        return x509_name_next(BYTES("\x30\x0c\x31\x0a\x30\x08\x06\x03\x55\x04\x03\x0c\x01\x61"), &at, &part);
+    case 13:
+        return x509_authority_key_identifier(BYTES("\x30\x0c\x80\x02\xab\xcd\xa1\x03\x82\x01\x61\x82\x01\x05"), &authority);
+    case 14:
+        return x509_certificate_policies_next(BYTES("\x30\x12\x30\x10\x06\x04\x55\x1d\x20\x00\x30\x08\x30\x06\x06\x01\x2a\x16\x01\x61"), &at, &policy);
+    case 15:
+        return x509_distribution_points_next(BYTES("\x30\x0b\x30\x09\xa0\x07\xa0\x05\x86\x03\x61\x3a\x62"), &at, &point);
+    case 16:
+        return x509_name_constraints(BYTES("\x30\x07\xa0\x05\x30\x03\x82\x01\x61"), &names);
+    case 17:
+        return x509_serial_text(BYTES("\x12\x34\xab"), room, sizeof room, &count);
+    case 18:
+        return x509_time_text(1767323045, room, sizeof room, &count);
     default:
         /* in the first second of the validity */
         return x509_path_check(certificate, certificate_len, certificate, certificate_len, &certificate_len, 1, 1767323045, &fault);
@@ -124,6 +147,11 @@ static int holds(int number, long from, long to)
     const x509_revocation old_revocation = revocation;
     const x509_signature old_signature = signature;
     const x509_path_fault old_fault = fault;
+    const x509_span old_part = part;
+    const x509_authority_key_identifier_view old_authority = authority;
+    const x509_policy old_policy = policy;
+    const x509_distribution_point old_point = point;
+    const x509_name_constraints_view old_names = names;
     const size_t old_count = count;
     const long old_standing = standing;
     refuse(from, to);
@@ -136,7 +164,10 @@ static int holds(int number, long from, long to)
         return !was_refused || to != LONG_MAX;
     return was_refused && status == X509_MEMORY && memcmp(&view, &old_view, sizeof view) == 0 &&
            memcmp(&extension, &old_extension, sizeof extension) == 0 && memcmp(&revocation, &old_revocation, sizeof revocation) == 0 &&
-           memcmp(&signature, &old_signature, sizeof signature) == 0 && memcmp(&fault, &old_fault, sizeof fault) == 0 && count == old_count;
+           memcmp(&signature, &old_signature, sizeof signature) == 0 && memcmp(&fault, &old_fault, sizeof fault) == 0 &&
+           memcmp(&part, &old_part, sizeof part) == 0 && memcmp(&authority, &old_authority, sizeof authority) == 0 &&
+           memcmp(&policy, &old_policy, sizeof policy) == 0 && memcmp(&point, &old_point, sizeof point) == 0 &&
+           memcmp(&names, &old_names, sizeof names) == 0 && count == old_count && at == 0;
 }
 
 static void refuse_call(int number)

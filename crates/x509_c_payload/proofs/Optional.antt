@@ -1,5 +1,5 @@
 -- Fields that may be left out: where they stand, and what stands behind them.
-use Rattle.std.proofs.Common.{◌≡◌, ℕ, Bool, true, false, List, [], ◌++◌, drop, Option, Some, None, is_some, refl, ap, ◌∙◌}
+use Rattle.std.proofs.Common.{◌≡◌, ℕ, Bool, true, false, List, ◌++◌, drop, Option, Some, None, is_some, refl, ap, ◌∙◌}
 use Rattle.x509_c_payload.specs.Optional.{IsNowhere, IsPerhapsAt}
 use Rattle.x509_c_place.specs.Place.{IsAt, IsField}
 use Rattle.x509_c_place.specs.declared.span.Span.{Span}

@@ -1,5 +1,5 @@
 -- Reading the content octets of an INTEGER as a serial number.
-use Rattle.std.proofs.Common.{◌≡◌, ◌⊎◌, ℕ, Bool, true, false, List, Result, Ok, Err, refl, sym, ◌∙◌, subst, inl, inr}
+use Rattle.std.proofs.Common.{◌≡◌, ◌⊎◌, ℕ, true, false, List, Ok, Err, refl, sym, ◌∙◌, subst, inl, inr}
 use Rattle.std.proofs.lemmas.Bool.{cases_Bool}
 use Rattle.x509_base.specs.Serial.{serial_number, serial_number_lawful}
 use Rattle.x509_der_element.specs.Outcome.{IsRefusal}
