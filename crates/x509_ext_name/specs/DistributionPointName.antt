@@ -22,9 +22,9 @@ distribution_point_name = choice distribution_point_name_cases distribution_poin
 
 pub distribution_point_name_lawful : {R : ErrorKind → Type 0} → IsForm R distribution_point_name
 distribution_point_name_lawful = choice_lawful distribution_point_name_cases distribution_point_name_case refl (
-  (implicit_lawful 0 48 _ refl (λ v. refl) general_names_lawful, λ x. refl),
+  (implicit_lawful 0 _ refl (λ v. refl) general_names_lawful, λ x. refl),
   (
-    (implicit_lawful 1 49 _ refl (λ v. refl) rdn_lawful, λ x. refl),
+    (implicit_lawful 1 _ refl (λ v. refl) rdn_lawful, λ x. refl),
     tt,
   ),
 )

@@ -49,21 +49,21 @@ general_name = choice general_name_cases general_name_case
 
 pub general_name_lawful : {R : ErrorKind → Type 0} → IsForm R general_name
 general_name_lawful = choice_lawful general_name_cases general_name_case refl (
-  (implicit_lawful 0 48 _ refl (λ v. refl) other_name_lawful, λ x. refl),
+  (implicit_lawful 0 _ refl (λ v. refl) other_name_lawful, λ x. refl),
   (
-    (implicit_lawful 1 22 _ refl (λ v. refl) ia5_string_lawful, λ x. refl),
+    (implicit_lawful 1 _ refl (λ v. refl) ia5_string_lawful, λ x. refl),
     (
-      (implicit_lawful 2 22 _ refl (λ v. refl) ia5_string_lawful, λ x. refl),
+      (implicit_lawful 2 _ refl (λ v. refl) ia5_string_lawful, λ x. refl),
       (
         (explicit_lawful 4 _ refl rdn_sequence_lawful, λ x. refl),
         (
-          (implicit_lawful 5 48 _ refl (λ v. refl) edi_party_name_lawful, λ x. refl),
+          (implicit_lawful 5 _ refl (λ v. refl) edi_party_name_lawful, λ x. refl),
           (
-            (implicit_lawful 6 22 _ refl (λ v. refl) ia5_string_lawful, λ x. refl),
+            (implicit_lawful 6 _ refl (λ v. refl) ia5_string_lawful, λ x. refl),
             (
-              (implicit_lawful 7 4 _ refl (λ v. refl) octet_string_lawful, λ x. refl),
+              (implicit_lawful 7 _ refl (λ v. refl) octet_string_lawful, λ x. refl),
               (
-                (implicit_lawful 8 6 _ refl (λ v. refl) object_identifier_lawful, λ x. refl),
+                (implicit_lawful 8 _ refl (λ v. refl) object_identifier_lawful, λ x. refl),
                 tt,
               ),
             ),
