@@ -400,10 +400,6 @@ x509_status x509_serial_text(const uint8_t *content, size_t len, uint8_t *out, s
  * Answers X509_OK, X509_ROOM, X509_MEMORY, X509_VALUE. */
 x509_status x509_time_text(uint64_t moment, uint8_t *out, size_t room, size_t *written);
 
-/* Writes what a status means, in a few words of ASCII (no zero at the end), as "malformed" of X509_MALFORMED. X509_FAILED where it is none of the numbers above. It takes no memory.
- * Answers X509_OK, X509_ROOM, X509_FAILED. */
-x509_status x509_status_text(x509_status status, uint8_t *out, size_t room, size_t *written);
-
 /* The version of this header, and that of the library that is linked, as one number: 65,536 * MAJOR + 256 * MINOR + PATCH. */
 #define X509_VERSION_MAJOR 0
 #define X509_VERSION_MINOR 1

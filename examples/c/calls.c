@@ -449,16 +449,6 @@ static void texts(void)
     WANT(x509_time_text(253402300800, room, sizeof room, &written) == X509_VALUE && written == 77);
     WANT(x509_time_text(UINT64_MAX, room, sizeof room, &written) == X509_VALUE && written == 77);
 
-    WANT(x509_status_text(X509_OK, room, sizeof room, &written) == X509_OK && is_written("done"));
-    WANT(x509_status_text(X509_MEMORY, room, sizeof room, &written) == X509_OK && is_written("out of memory"));
-    WANT(x509_status_text(X509_ROOM, room, sizeof room, &written) == X509_OK && is_written("the room is too small"));
-    WANT(x509_status_text(X509_OVERLENGTH, room, sizeof room, &written) == X509_OK && is_written("too long"));
-    WANT(x509_status_text(X509_MALFORMED, room, 8, &written) == X509_ROOM && written == 9);
-    WANT(x509_status_text(X509_MALFORMED, room, 9, &written) == X509_OK && is_written("malformed"));
-    WANT(x509_status_text(X509_FAULT, room, sizeof room, &written) == X509_OK && is_written("the path has a fault"));
-    written = 77;
-    WANT(x509_status_text(9, room, sizeof room, &written) == X509_FAILED && written == 77);
-    WANT(x509_status_text(-3, room, sizeof room, &written) == X509_FAILED && written == 77);
     WANT(x509_version() == X509_VERSION && X509_VERSION == (X509_VERSION_MAJOR << 16 | X509_VERSION_MINOR << 8 | X509_VERSION_PATCH));
 }
 

@@ -1,18 +1,15 @@
-//! Texts of serial numbers, of times and of statuses, and the version.
+//! Texts of serial numbers and of times, and the version.
 
 ghost use Rattle.std.specs.Prelude.{◌≡◌, []};
-ghost use Rattle.x509_c_payload.specs.StatusTexts.{IsStatusText};
 ghost use Rattle.x509_c_payload.specs.Texts.{IsSerialText, IsTimeText};
 ghost use Rattle.x509_c_place.specs.Place.{IsAt};
 ghost use Rattle.x509_c_status.specs.Calls.{Reads};
 ghost use Rattle.x509_c_status.specs.Status.{Fills, Tells};
-ghost use Rattle.x509_c_status.specs.declared.status.Status.TheVariants.{Refused};
-ghost use Rattle.x509_der_element.specs.declared.error.ErrorKind.TheVariants.{Memory};
 
 use std::alloc::Global;
 use x509_base::SerialNumber;
 use x509_base_time::Rfc5280;
-use x509_c_payload::{content, serial_text, status_text, time_text};
+use x509_c_payload::{content, serial_text, time_text};
 use x509_c_place::Span;
 use x509_der_grammar::Grammar;
 
@@ -48,14 +45,6 @@ pub extern "C" fn x509_time_text(
     ensures { Tells (λ status. Fills (λ answer. IsTimeText moment answer) room.old room.new written.old written.new status) result }
 {
     time_text(alloc, moment, room, written).code()
-}
-
-/// Puts what the status with that number means at the front of the room.
-#[unsafe(no_mangle)]
-pub extern "C" fn x509_status_text(code: i32, room: &mut [u8], written: &mut usize) -> i32
-    ensures { Tells (λ status. Fills (λ answer. IsStatusText code answer) room.old room.new written.old written.new status × (status ≡ Refused Memory → ⊥)) result }
-{
-    status_text(code, room, written).code()
 }
 
 /// The version of the library: 65,536 times the first number, 256 times the second, and the third.
