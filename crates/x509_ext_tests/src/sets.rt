@@ -1,30 +1,12 @@
-//! Sets of flags, of types round one value, and of names.
+//! Sets of flags, of types with one field, and of names.
 
-use crate::calls::{is_refused, is_written};
+use crate::calls::{is_refused, is_written, stays};
 use std::test::*;
-use x509_der::{SetMember, SetOfVec};
+use x509_der::SetOfVec;
 use x509_der_grammar::{Decode, Error, ErrorKind};
 use x509_ext::pkix::KeyUsages;
 use x509_name::name::{Name, RdnSequence, RelativeDistinguishedName};
 use x509_pkix_policy::InhibitAnyPolicy;
-
-/// Whether the set of the members is written so, and equals the one that is read.
-fn is_set<T: Decode + SetMember + PartialEq + Drop>(
-    rt: &HostRuntime,
-    members: Vec<T>,
-    bytes: &[u8],
-) -> Result<bool, Error> {
-    let set = SetOfVec::try_from_vec(members)?;
-    let read: SetOfVec<T> = SetOfVec::from_der(rt.alloc(), bytes)?;
-    Ok(read == set && is_written(rt, &set, bytes)?)
-}
-
-/// Whether a set refuses a member that equals one that is there.
-fn is_once<T: SetMember + Drop>(rt: &HostRuntime, member: T, equal: T) -> Result<bool, Error> {
-    let mut set = SetOfVec::new(rt.alloc());
-    set.insert(member)?;
-    Ok(is_refused(set.insert(equal), ErrorKind::SetDuplicate))
-}
 
 /// By their encodings: bits 5 and 6, then bit 0, then bit 8, which takes an octet more.
 #[test]
@@ -38,14 +20,15 @@ fn flags(rt: HostRuntime) -> Result<(), Fail> {
     let sorted = [
         0x31, 0x0D, 0x03, 0x02, 0x01, 0x06, 0x03, 0x02, 0x07, 0x80, 0x03, 0x03, 0x07, 0x00, 0x80,
     ];
-    assert!(rt; is_set(&rt, usages, &sorted)?);
-    assert!(rt; is_once(&rt, signs, signs)?);
+    let mut set = SetOfVec::try_from_vec(usages)?;
+    assert!(rt; is_written(&rt, &set, &sorted)?);
+    assert!(rt; is_refused(set.insert(signs), ErrorKind::SetDuplicate));
     Ok(())
 }
 
 /// A shorter number stands before a longer one.
 #[test]
-fn types_round_one_value(rt: HostRuntime) -> Result<(), Fail> {
+fn types_with_one_field(rt: HostRuntime) -> Result<(), Fail> {
     let numbers = vec![in rt.alloc();
         InhibitAnyPolicy(300),
         InhibitAnyPolicy(5),
@@ -54,8 +37,9 @@ fn types_round_one_value(rt: HostRuntime) -> Result<(), Fail> {
     let sorted = [
         0x31, 0x0B, 0x02, 0x01, 0x05, 0x02, 0x02, 0x00, 0xC8, 0x02, 0x02, 0x01, 0x2C,
     ];
-    assert!(rt; is_set(&rt, numbers, &sorted)?);
-    assert!(rt; is_once(&rt, InhibitAnyPolicy(5), InhibitAnyPolicy(5))?);
+    let mut set = SetOfVec::try_from_vec(numbers)?;
+    assert!(rt; is_written(&rt, &set, &sorted)?);
+    assert!(rt; is_refused(set.insert(InhibitAnyPolicy(5)), ErrorKind::SetDuplicate));
     Ok(())
 }
 
@@ -69,42 +53,45 @@ const UNSORTED_NAMES: &[u8] =
 
 /// Whether the set of the names is that one.
 fn are_names(rt: &HostRuntime) -> Result<bool, Error> {
-    let empty = Name::new(rt.alloc());
     let first = Name::from_str(rt.alloc(), "CN=a")?;
     let second = Name::from_str(rt.alloc(), "CN=b")?;
-    is_set(rt, vec![in rt.alloc(); second, empty, first]?, NAMES)
+    let names = vec![in rt.alloc(); second, Name::new(rt.alloc()), first]?;
+    is_written(rt, &SetOfVec::try_from_vec(names)?, NAMES)
 }
 
-/// The same of sequences of relative distinguished names.
+/// The same of sequences of RDNs.
 fn are_sequences(rt: &HostRuntime) -> Result<bool, Error> {
-    let empty = RdnSequence::new(rt.alloc());
     let first = RdnSequence::from_str(rt.alloc(), "CN=a")?;
     let second = RdnSequence::from_str(rt.alloc(), "CN=b")?;
-    is_set(rt, vec![in rt.alloc(); second, first, empty]?, NAMES)
+    let names = vec![in rt.alloc(); second, first, RdnSequence::new(rt.alloc())]?;
+    is_written(rt, &SetOfVec::try_from_vec(names)?, NAMES)
 }
 
-/// Whether the set of the empty relative distinguished name, CN=a and CN=b is written so.
+/// The empty RDN, CN=a and CN=b.
+const RDNS: &[u8] =
+    b"\x31\x1A\x31\x00\x31\x0A\x30\x08\x06\x03\x55\x04\x03\x0C\x01a\x31\x0A\x30\x08\x06\x03\x55\x04\x03\x0C\x01b";
+
+/// Whether the set of the RDNs is that one.
 fn are_rdns(rt: &HostRuntime) -> Result<bool, Error> {
-    let empty = RelativeDistinguishedName::new(rt.alloc());
     let first = RelativeDistinguishedName::from_str(rt.alloc(), "CN=a")?;
     let second = RelativeDistinguishedName::from_str(rt.alloc(), "CN=b")?;
-    is_set(
-        rt,
-        vec![in rt.alloc(); second, empty, first]?,
-        b"\x31\x1A\x31\x00\x31\x0A\x30\x08\x06\x03\x55\x04\x03\x0C\x01a\x31\x0A\x30\x08\x06\x03\x55\x04\x03\x0C\x01b",
-    )
+    let names = vec![in rt.alloc(); second, RelativeDistinguishedName::new(rt.alloc()), first]?;
+    is_written(rt, &SetOfVec::try_from_vec(names)?, RDNS)
 }
 
 /// Whether a set refuses the name twice.
-fn is_one_name(rt: &HostRuntime, text: &str) -> Result<bool, Error> {
-    let name = Name::from_str(rt.alloc(), text)?;
-    is_once(rt, name, Name::from_str(rt.alloc(), text)?)
+fn is_one_name(rt: &HostRuntime) -> Result<bool, Error> {
+    let mut set = SetOfVec::new(rt.alloc());
+    set.insert(Name::from_str(rt.alloc(), "CN=a")?)?;
+    let equal = Name::from_str(rt.alloc(), "CN=a")?;
+    Ok(is_refused(set.insert(equal), ErrorKind::SetDuplicate))
 }
 
 #[test]
 fn names(rt: HostRuntime) -> Result<(), Fail> {
     assert!(rt; are_names(&rt)? && are_sequences(&rt)? && are_rdns(&rt)?);
-    assert!(rt; is_one_name(&rt, "CN=a")?);
+    assert!(rt; is_one_name(&rt)?);
+    assert!(rt; stays::<SetOfVec<Name>>(&rt, NAMES)?);
     let unsorted: Result<SetOfVec<Name>, Error> = SetOfVec::from_der(rt.alloc(), UNSORTED_NAMES);
     assert!(rt; is_refused(unsorted, ErrorKind::Malformed));
     Ok(())
