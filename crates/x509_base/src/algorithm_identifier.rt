@@ -3,7 +3,9 @@
 use std::alloc::Global;
 use std::cmp::Ordering;
 use x509_der::ObjectIdentifier;
-use x509_der_frames::{Any, PutPart, end, field, option_has_spelling, optional, optional_field};
+use x509_der_frames::{
+    Any, PutPart, end, option_has_spelling, optional, read_field, read_optional,
+};
 use x509_der_grammar::{Content, Error, Room, Spelled, Tag, TryClone};
 use x509_der_order::{DerOrd, EncodingOrd, SetMember, SetOrd, ValueOrd, cmp_optional};
 
@@ -48,15 +50,15 @@ impl Content for AlgorithmIdentifier {
     #[inline(always)]
     fn read_content(alloc: Global, octets: &[u8]) -> Result<AlgorithmIdentifier, Error> {
         let mut rest = octets;
-        let oid = field::<ObjectIdentifier>(alloc, &mut rest)?;
-        let parameters = optional_field::<Any>(alloc, &mut rest)?;
+        let oid = read_field::<ObjectIdentifier>(alloc, &mut rest)?;
+        let parameters = read_optional::<Any>(alloc, &mut rest)?;
         end(rest)?;
         Ok(AlgorithmIdentifier { oid, parameters })
     }
 
     fn write_content<R: Room>(&self, room: &mut R) -> Result<(), Error> {
         let parts = (&self.oid, optional(&self.parameters));
-        parts.put_text(room)
+        parts.put_part(room)
     }
 
     ghost contents_lawful = { grammar.algorithm_identifier_contents_lawful };

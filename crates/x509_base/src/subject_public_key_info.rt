@@ -6,7 +6,7 @@ use crate::algorithm_identifier::AlgorithmIdentifier;
 use crate::subject_public_key_info_ref::SubjectPublicKeyInfoRef;
 use std::alloc::Global;
 use std::cmp::Ordering;
-use x509_der_frames::{PutPart, end, field};
+use x509_der_frames::{PutPart, end, read_field};
 use x509_der_grammar::{Content, Error, Room, Spelled, Tag, TryClone};
 use x509_der_order::{DerOrd, EncodingOrd, SetMember, SetOrd, ValueOrd};
 use x509_prim::BitString;
@@ -62,8 +62,8 @@ impl Content for SubjectPublicKeyInfo {
 
     fn read_content(alloc: Global, octets: &[u8]) -> Result<SubjectPublicKeyInfo, Error> {
         let mut rest = octets;
-        let algorithm = field::<AlgorithmIdentifier>(alloc, &mut rest)?;
-        let subject_public_key = field::<BitString>(alloc, &mut rest)?;
+        let algorithm = read_field::<AlgorithmIdentifier>(alloc, &mut rest)?;
+        let subject_public_key = read_field::<BitString>(alloc, &mut rest)?;
         end(rest)?;
         Ok(SubjectPublicKeyInfo {
             algorithm,
@@ -73,7 +73,7 @@ impl Content for SubjectPublicKeyInfo {
 
     fn write_content<R: Room>(&self, room: &mut R) -> Result<(), Error> {
         let parts = (&self.algorithm, &self.subject_public_key);
-        parts.put_text(room)
+        parts.put_part(room)
     }
 
     ghost contents_lawful = { grammar.subject_public_key_info_contents_lawful };

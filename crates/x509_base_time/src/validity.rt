@@ -13,7 +13,7 @@ use crate::time::Time;
 use std::alloc::Global;
 use std::marker::PhantomData;
 use std::time::Duration;
-use x509_der_frames::{PutPart, end, field};
+use x509_der_frames::{PutPart, end, read_field};
 use x509_der_grammar::{Content, Error, ErrorKind, Room, Spelled, Tag, TryClone};
 
 /// The validity of a certificate: the two dates between which it is valid, both included (RFC 5280 4.1.2.5). They are
@@ -133,8 +133,8 @@ impl<P: Profile> Content for Validity<P> {
 
     fn read_content(alloc: Global, octets: &[u8]) -> Result<Validity<P>, Error> {
         let mut rest = octets;
-        let not_before = field::<Time>(alloc, &mut rest)?;
-        let not_after = field::<Time>(alloc, &mut rest)?;
+        let not_before = read_field::<Time>(alloc, &mut rest)?;
+        let not_after = read_field::<Time>(alloc, &mut rest)?;
         end(rest)?;
         Ok(Validity::new(not_before, not_after))
     }
@@ -143,7 +143,7 @@ impl<P: Profile> Content for Validity<P> {
         let not_before = P::time_encoding(self.not_before)?;
         let not_after = P::time_encoding(self.not_after)?;
         let parts = (&not_before, &not_after);
-        parts.put_text(room)
+        parts.put_part(room)
     }
 
     ghost contents_lawful = { grammar.validity_contents_lawful };

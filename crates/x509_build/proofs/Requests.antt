@@ -22,8 +22,8 @@ use Rattle.x509_der_element.specs.declared.tag.Tag.TheVariants.{Sequence}
 use Rattle.x509_der_frames.specs.declared.any.Any.{Any}
 use Rattle.x509_der_grammar.specs.Writing.{plain, writes, IsWritable}
 use Rattle.x509_der_order.specs.Ordered.{der_lawful}
-use Rattle.x509_ext_frame.specs.Extension.{extensions}
-use Rattle.x509_ext_frame.specs.declared.extension.Extension.{Extension}
+use Rattle.x509_extension.specs.Extension.{extensions}
+use Rattle.x509_extension.specs.declared.extension.Extension.{Extension}
 use Rattle.x509_name_attribute.specs.Attribute.{attribute, attribute_cmp, attribute_order, attribute_ordered}
 use Rattle.x509_name_attribute.specs.declared.attribute.Attribute.{Attribute}
 

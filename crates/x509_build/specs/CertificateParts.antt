@@ -11,7 +11,7 @@ use Rattle.x509_cert_certificate.specs.TbsCertificate.{NameList}
 use Rattle.x509_cert_certificate.specs.declared.tbs_certificate.TbsCertificateInner.{TbsCertificateInner}
 use Rattle.x509_cert_certificate.specs.declared.version.Version.{Version}
 use Rattle.x509_cert_certificate.specs.declared.version.Version.TheVariants.{V1, V3}
-use Rattle.x509_ext_frame.specs.declared.extension.Extension.{Extension}
+use Rattle.x509_extension.specs.declared.extension.Extension.{Extension}
 use Rattle.x509_build.specs.declared.certificate_builder.CertificateBuilder.{CertificateBuilder}
 
 abbrev pub TbsCertificate : Type 0

@@ -16,9 +16,9 @@ use Rattle.x509_cert.specs.declared.crl.tbs_cert_list.TbsCertList.{TbsCertList}
 use Rattle.x509_der_element.specs.declared.error.Error.{Error}
 use Rattle.x509_der_element.specs.declared.error.ErrorKind.TheVariants.{Memory}
 use Rattle.x509_der_grammar.specs.Writing.{plain, writes}
-use Rattle.x509_ext_frame.specs.Identifiers.{id_ce}
-use Rattle.x509_ext_frame.specs.ToExtension.{Makes}
-use Rattle.x509_ext_frame.specs.declared.extension.Extension.{Extension}
+use Rattle.x509_extension.specs.Identifiers.{id_ce}
+use Rattle.x509_extension.specs.ToExtension.{Makes}
+use Rattle.x509_extension.specs.declared.extension.Extension.{Extension}
 use Rattle.x509_ext.specs.declared.pkix.subject_key_identifier.SubjectKeyIdentifier.{SubjectKeyIdentifier}
 use Rattle.x509_ext.specs.AuthorityKeyIdentifier.{authority_key_identifier}
 use Rattle.x509_ext.specs.declared.pkix.authority_key_identifier.AuthorityKeyIdentifier.{AuthorityKeyIdentifier}

@@ -13,8 +13,8 @@ use Rattle.x509_der_element.specs.Element.{limit}
 use Rattle.x509_der_element.specs.declared.error.ErrorKind.TheVariants.{SetDuplicate}
 use Rattle.x509_der_element.specs.declared.tag.Tag.TheVariants.{Sequence}
 use Rattle.x509_der_grammar.specs.Writing.{plain, writes, IsUnwritable}
-use Rattle.x509_ext_frame.specs.Extension.{extensions}
-use Rattle.x509_ext_frame.specs.declared.extension.Extension.{Extension}
+use Rattle.x509_extension.specs.Extension.{extensions}
+use Rattle.x509_extension.specs.declared.extension.Extension.{Extension}
 use Rattle.x509_name_attribute.specs.Attribute.{attribute_cmp}
 use Rattle.x509_name_attribute.specs.declared.attribute.Attribute.{Attribute}
 use Rattle.x509_name_attribute.specs.declared.type_and_value.AttributeTypeAndValue.{AttributeTypeAndValue}

@@ -7,7 +7,7 @@ ghost use Rattle.x509_build_profile.specs.Answer.{Gives};
 ghost use Rattle.x509_build_profile.specs.Refusals.{LacksMemory};
 ghost use Rattle.x509_der_element.specs.declared.error.Error.{Error};
 ghost use Rattle.x509_der_element.specs.declared.error.ErrorKind.TheVariants.{Memory};
-ghost use Rattle.x509_ext_frame.specs.declared.extension.Extension.{Extension};
+ghost use Rattle.x509_extension.specs.declared.extension.Extension.{Extension};
 
 use std::alloc::Global;
 use x509_base::{AlgorithmIdentifier, SerialNumber, SubjectPublicKeyInfo};
@@ -15,7 +15,7 @@ use x509_base_time::{Profile, Rfc5280, Validity};
 use x509_build_profile::{Builder, BuilderProfile, Result, Signer, no_algorithm};
 use x509_cert_certificate::{Certificate, TbsCertificate, Version};
 use x509_der_grammar::{Encode, Error, TryClone};
-use x509_ext_frame::{Extension, Extensions, ToExtension};
+use x509_extension::{Extension, Extensions, ToExtension};
 use x509_prim::BitString;
 
 /// A builder of a certificate (RFC 5280 4.1), made of what the caller hands in and of what a profile adds.

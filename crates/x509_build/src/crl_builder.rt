@@ -10,12 +10,12 @@ ghost use Rattle.x509_build.specs.ListParts.{RefusesStart, Starts, members};
 ghost use Rattle.x509_build_profile.specs.declared.error.Error.TheVariants.{Asn1};
 ghost use Rattle.x509_build_profile.specs.Refusals.{LacksMemory};
 ghost use Rattle.x509_cert.specs.declared.crl.revoked_cert.RevokedCert.{RevokedCert};
-ghost use Rattle.x509_cert_extension.specs.LookUp as look_up;
-ghost use Rattle.x509_cert_extension.specs.LookUp.{Finds, with_oid};
+ghost use Rattle.x509_extension.specs.LookUp as look_up;
+ghost use Rattle.x509_extension.specs.LookUp.{Finds, with_oid};
 ghost use Rattle.x509_der_element.specs.declared.error.Error.{Error};
 ghost use Rattle.x509_der_element.specs.declared.error.ErrorKind.TheVariants.{Memory, Value};
-ghost use Rattle.x509_ext_frame.specs.Identifiers.{id_ce};
-ghost use Rattle.x509_ext_frame.specs.declared.extension.Extension.{Extension};
+ghost use Rattle.x509_extension.specs.Identifiers.{id_ce};
+ghost use Rattle.x509_extension.specs.declared.extension.Extension.{Extension};
 
 use crate::extensions::{issuer_key, list_extensions};
 use std::alloc::Global;
@@ -27,7 +27,7 @@ use x509_cert_certificate::{Certificate, Version};
 use x509_der_frames::SequenceOf;
 use x509_der_grammar::{Decode, Encode, Error, Grammar, TryClone};
 use x509_ext::pkix::SubjectKeyIdentifier;
-use x509_ext_frame::{Extensions, ToExtension};
+use x509_extension::{Extensions, ToExtension};
 use x509_pkix::CrlNumber;
 use x509_prim::BitString;
 

@@ -13,9 +13,9 @@ use Rattle.x509_der_frames.specs.List.{list_of}
 use Rattle.x509_der_grammar.specs.Form.{Form, universal}
 use Rattle.x509_der_grammar.specs.Writing.{Written, plain, writes, written_spelling, IsWritable, IsUnwritable}
 use Rattle.x509_der.specs.ObjectIdentifierForm.{object_identifier}
-use Rattle.x509_ext_frame.specs.Identifiers.{id_ce, id_pkix}
-use Rattle.x509_ext_frame.specs.ToExtension.{extension_of, held_length}
-use Rattle.x509_ext_frame.specs.declared.extension.Extension.{Extension}
+use Rattle.x509_extension.specs.Identifiers.{id_ce, id_pkix}
+use Rattle.x509_extension.specs.ToExtension.{extension_of, held_length}
+use Rattle.x509_extension.specs.declared.extension.Extension.{Extension}
 use Rattle.x509_ext.specs.BasicConstraints.{basic_constraints}
 use Rattle.x509_ext.specs.KeyUsage.{key_usage_names}
 use Rattle.x509_ext_name.specs.GeneralName.{general_names}

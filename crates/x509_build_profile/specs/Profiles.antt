@@ -13,7 +13,7 @@ use Rattle.x509_build_profile.specs.declared.cabf.tls.Subordinate.{Subordinate}
 use Rattle.x509_build_profile.specs.declared.cabf.tls.Subscriber.{Subscriber}
 use Rattle.x509_build_profile.specs.declared.devid.DevId.{DevId}
 use Rattle.x509_build_profile.specs.Answer.{Answer}
-use Rattle.x509_ext_frame.specs.declared.extension.Extension.{Extension}
+use Rattle.x509_extension.specs.declared.extension.Extension.{Extension}
 use Rattle.x509_ext.specs.declared.pkix.alternative_names.SubjectAltName.{SubjectAltName}
 use Rattle.x509_name_attribute.specs.declared.type_and_value.AttributeTypeAndValue.{AttributeTypeAndValue}
 

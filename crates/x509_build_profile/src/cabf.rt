@@ -13,7 +13,7 @@ use std::alloc::Global;
 use x509_base::SubjectPublicKeyInfoRef;
 use x509_cert_certificate::TbsCertificate;
 use x509_der_grammar::{Error as DerError, TryClone};
-use x509_ext_frame::Extension;
+use x509_extension::Extension;
 use x509_name::name::Name;
 
 /// The profile of a root certification authority (Baseline Requirements 7.1.2.1). Its certificates have their subject

@@ -16,10 +16,10 @@ use x509_der::ObjectIdentifier;
 use x509_der_frames::SequenceOf;
 use x509_der_grammar::{Error as DerError, ErrorKind, TryClone};
 use x509_ext::pkix::{KeyUsages, SubjectAltName};
-use x509_ext_frame::Extension;
 use x509_ext_name::{
     GeneralName, GeneralNames, HardwareModuleName, ID_ON_HARDWARE_MODULE_NAME, OtherName,
 };
+use x509_extension::Extension;
 use x509_name::name::Name;
 use x509_prim::OctetString;
 

@@ -15,7 +15,7 @@ use x509_ext::pkix::{
     AuthorityKeyIdentifier, BasicConstraints, ExtendedKeyUsage, KeyUsage, KeyUsages,
     SubjectAltName, SubjectKeyIdentifier,
 };
-use x509_ext_frame::{Criticality, Extension, ToExtension};
+use x509_extension::{Criticality, Extension, ToExtension};
 use x509_name::name::Name;
 
 /// The purpose of TLS servers, id-kp-serverAuth, 1.3.6.1.5.5.7.3.1 (RFC 5280 4.2.1.12).

@@ -10,7 +10,7 @@ use x509_base_time::Validity;
 use x509_build::CertificateBuilder;
 use x509_build_profile::{Builder, BuilderProfile, Result};
 use x509_der_grammar::Decode;
-use x509_ext_frame::Extension;
+use x509_extension::Extension;
 use x509_pkix::Reasons;
 
 /// From 2010-01-01T08:30:00Z to 2030-12-31T08:30:00Z, with each year in four digits. Certificates have two (RFC 5280 4.1.2.5).

@@ -9,7 +9,7 @@ use x509_build_profile::{BuilderProfile, Error, Result};
 use x509_cert_certificate::TbsCertificate;
 use x509_der::{ObjectIdentifier, oid};
 use x509_der_grammar::ErrorKind;
-use x509_ext_frame::Extension;
+use x509_extension::Extension;
 use x509_name::name::Name;
 use x509_prim::OctetString;
 

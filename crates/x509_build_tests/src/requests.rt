@@ -9,7 +9,7 @@ use x509_build_profile::{Builder, Result};
 use x509_cert::request::attributes::{AsAttribute, ChallengePassword};
 use x509_der::{AssociatedOid, ObjectIdentifier, oid};
 use x509_der_grammar::{Decode, Newtype};
-use x509_ext_frame::Extension;
+use x509_extension::Extension;
 use x509_name::name::Name;
 use x509_name_attribute::DirectoryString;
 use x509_pkix::Reasons;

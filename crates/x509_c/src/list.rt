@@ -5,7 +5,7 @@ ghost use Rattle.x509_c_crl.specs.Revoked.{LooksUp};
 ghost use Rattle.x509_c_status.specs.Calls.{Reads};
 ghost use Rattle.x509_c_status.specs.Status.{Tells};
 ghost use Rattle.x509_cert.specs.Revoked.{entries};
-ghost use Rattle.x509_cert_extension.specs.LookUp.{Finds, members, with_oid};
+ghost use Rattle.x509_extension.specs.LookUp.{Finds, members, with_oid};
 
 use std::alloc::Global;
 use x509_base::SerialNumber;

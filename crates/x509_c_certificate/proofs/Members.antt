@@ -6,16 +6,16 @@ use Rattle.x509_c_certificate.specs.declared.extension.ExtensionView.{ExtensionV
 use Rattle.x509_c_place.specs.Place.{IsAt, IsField}
 use Rattle.x509_c_place.specs.declared.span.Span.{Span}
 use Rattle.x509_c_status.specs.declared.status.Status.TheVariants.{Absent}
-use Rattle.x509_cert_extension.specs.LookUp.{members, with_oid}
+use Rattle.x509_extension.specs.LookUp.{members, with_oid}
 use Rattle.x509_der_element.specs.Element.{element, is_identifier, is_universal}
 use Rattle.x509_der_frames.specs.DefaultValues.{boolean_default}
-use Rattle.x509_der_frames.specs.Frames.{default_text, fields_octets}
+use Rattle.x509_der_frames.specs.Frames.{default_octets, fields_octets}
 use Rattle.x509_der_frames.specs.List.{joined}
 use Rattle.x509_der_grammar.specs.Boolean.{boolean}
 use Rattle.x509_der_grammar.specs.Form.{spelling}
 use Rattle.x509_der.specs.ObjectIdentifierForm.{object_identifier}
-use Rattle.x509_ext_frame.specs.Extension.{extension, extensions, extension_fields}
-use Rattle.x509_ext_frame.specs.declared.extension.Extension.{Extension}
+use Rattle.x509_extension.specs.Extension.{extension, extensions, extension_fields}
+use Rattle.x509_extension.specs.declared.extension.Extension.{Extension}
 
 pub is_oid : is_identifier 6 ≡ true
 unfolding is_identifier is_universal
@@ -31,7 +31,7 @@ abbrev pub oid_text : Extension → List ℕ
 oid_text e = spelling object_identifier e.extn_id
 
 abbrev pub critical_text : Extension → List ℕ
-critical_text e = default_text boolean_default (spelling boolean) e.critical
+critical_text e = default_octets boolean_default (spelling boolean) e.critical
 
 abbrev pub value_text : Extension → List ℕ
 value_text e = element 4 e.extn_value
@@ -44,8 +44,8 @@ pub laid_out : (e : Extension) (behind : List ℕ) → extension.content e ++ be
 laid_out e behind =
     ap (λ x. x ++ behind) (content_is e) ∙ append_assoc (oid_text e) (critical_text e ++ value_text e) behind ∙ ap (λ x. oid_text e ++ x) (append_assoc (critical_text e) (value_text e) behind)
 
-pub critical_field : (b : Bool) → IsField b (default_text boolean_default (spelling boolean) b)
-unfolding default_text is_identifier is_universal
+pub critical_field : (b : Bool) → IsField b (default_octets boolean_default (spelling boolean) b)
+unfolding default_octets is_identifier is_universal
 critical_field true = (1, boolean.content true, refl, refl)
 critical_field false = refl
 

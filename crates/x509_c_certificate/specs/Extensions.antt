@@ -7,13 +7,13 @@ use Rattle.x509_tool_table.specs.Reencoding.{IsRefused}
 use Rattle.x509_c_status.specs.declared.status.Status.{Status}
 use Rattle.x509_c_status.specs.declared.status.Status.TheVariants.{Done, Absent, Repeated, Refused}
 use Rattle.x509_cert_certificate.specs.declared.certificate.CertificateInner.{CertificateInner}
-use Rattle.x509_cert_extension.specs.LookUp.{members, with_oid}
+use Rattle.x509_extension.specs.LookUp.{members, with_oid}
 use Rattle.x509_der_element.specs.declared.error.ErrorKind.{ErrorKind}
 use Rattle.x509_der_element.specs.declared.error.ErrorKind.TheVariants.{Memory}
 use Rattle.x509_der_frames.specs.List.{joined}
 use Rattle.x509_der_grammar.specs.Form.{Form, Spells, spelling}
-use Rattle.x509_ext_frame.specs.Extension as grammar
-use Rattle.x509_ext_frame.specs.declared.extension.Extension.{Extension}
+use Rattle.x509_extension.specs.Extension as grammar
+use Rattle.x509_extension.specs.declared.extension.Extension.{Extension}
 
 abbrev pub flag : Bool → ℕ
 flag true = 1

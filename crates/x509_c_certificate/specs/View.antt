@@ -13,9 +13,9 @@ use Rattle.x509_cert_certificate.specs.Respelling.{no_check}
 use Rattle.x509_cert_certificate.specs.declared.certificate.CertificateInner.{CertificateInner}
 use Rattle.x509_cert_certificate.specs.declared.version.Version.{Version}
 use Rattle.x509_cert_certificate.specs.declared.version.Version.TheVariants.{V1, V2, V3}
-use Rattle.x509_der_frames.specs.Frames.{explicit, implicit, optional_text}
+use Rattle.x509_der_frames.specs.Frames.{explicit, implicit, optional_octets}
 use Rattle.x509_der_grammar.specs.Form.{Form, spelling}
-use Rattle.x509_ext_frame.specs.Extension.{extensions}
+use Rattle.x509_extension.specs.Extension.{extensions}
 use Rattle.x509_name.specs.Names.{name}
 use Rattle.x509_prim.specs.BitString.{bit_string}
 
@@ -36,9 +36,9 @@ behind_part certificate = spelling algorithm_identifier certificate.signature_al
 
 abbrev pub behind_key : {P : Type 0} → CertificateInner P → List ℕ
 behind_key certificate =
-    optional_text (spelling (implicit 1 bit_string)) certificate.tbs_certificate.issuer_unique_id
-    ++ (optional_text (spelling (implicit 2 bit_string)) certificate.tbs_certificate.subject_unique_id
-    ++ (optional_text (spelling (explicit 3 extensions)) certificate.tbs_certificate.extensions ++ behind_part certificate))
+    optional_octets (spelling (implicit 1 bit_string)) certificate.tbs_certificate.issuer_unique_id
+    ++ (optional_octets (spelling (implicit 2 bit_string)) certificate.tbs_certificate.subject_unique_id
+    ++ (optional_octets (spelling (explicit 3 extensions)) certificate.tbs_certificate.extensions ++ behind_part certificate))
 
 abbrev pub behind_subject : {P : Type 0} → CertificateInner P → List ℕ
 behind_subject certificate = spelling subject_public_key_info certificate.tbs_certificate.subject_public_key_info ++ behind_key certificate

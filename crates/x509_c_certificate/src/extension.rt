@@ -2,11 +2,11 @@
 
 ghost use Rattle.std.specs.Prelude.{◌≡◌, ◌≤◌, ◌++◌, ◌∷◌, [], drop, length, List, ℕ, IfSome, MatchOption};
 ghost use Rattle.x509_c_certificate.specs.Extensions.{FindsExtension, IsExtensionAt, LooksUpExtension, flag};
-ghost use Rattle.x509_cert_extension.specs.LookUp.{with_oid};
+ghost use Rattle.x509_extension.specs.LookUp.{with_oid};
 ghost use Rattle.x509_der_frames.specs.List.{joined};
 ghost use Rattle.x509_der_grammar.specs.Form.{spelling};
-ghost use Rattle.x509_ext_frame.specs.Extension as grammar;
-ghost use Rattle.x509_ext_frame.specs.declared.extension.Extension.{Extension};
+ghost use Rattle.x509_extension.specs.Extension as grammar;
+ghost use Rattle.x509_extension.specs.declared.extension.Extension.{Extension};
 
 use crate::view::view_of;
 use std::alloc::Global;
@@ -15,7 +15,7 @@ use x509_c_place::{Span, enter, step};
 use x509_c_status::{Status, read};
 use x509_cert_certificate::CertificateInner;
 use x509_der_grammar::Grammar;
-use x509_ext_frame::Extension;
+use x509_extension::Extension;
 
 /// An extension, by its place in the bytes of a certificate.
 #[derive(Clone, Copy, Debug, PartialEq, Eq)]

@@ -3,7 +3,7 @@
 ghost use Rattle.std.specs.Prelude.{◌≡◌};
 ghost use Rattle.x509_c_crl.specs.Revoked.{LooksUp, Revokes, Tells, reason_number};
 ghost use Rattle.x509_cert.specs.Revoked.{entries};
-ghost use Rattle.x509_cert_extension.specs.LookUp.{Finds, members, with_oid};
+ghost use Rattle.x509_extension.specs.LookUp.{Finds, members, with_oid};
 
 use std::alloc::Global;
 use x509_base::SerialNumber;

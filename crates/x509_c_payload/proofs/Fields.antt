@@ -5,11 +5,11 @@ use Rattle.x509_c_place.specs.Place.{IsField}
 use Rattle.x509_der.specs.ObjectIdentifierForm.{object_identifier}
 use Rattle.x509_der_element.specs.Element.{element, is_identifier, is_universal}
 use Rattle.x509_der_frames.specs.DefaultValues.{boolean_default}
-use Rattle.x509_der_frames.specs.Frames.{default_text, fields_octets}
+use Rattle.x509_der_frames.specs.Frames.{default_octets, fields_octets}
 use Rattle.x509_der_grammar.specs.Boolean.{boolean}
 use Rattle.x509_der_grammar.specs.Form.{spelling}
-use Rattle.x509_ext_frame.specs.Extension.{extension, extension_fields}
-use Rattle.x509_ext_frame.specs.declared.extension.Extension.{Extension}
+use Rattle.x509_extension.specs.Extension.{extension, extension_fields}
+use Rattle.x509_extension.specs.declared.extension.Extension.{Extension}
 
 content_is : (e : Extension) → extension.content e ≡ spelling object_identifier e.extn_id ++ (critical_text e ++ element 4 e.extn_value)
 unfolding fields_octets extension_fields
@@ -20,7 +20,7 @@ laid_out e behind =
     ap (λ x. x ++ behind) (content_is e) ∙ append_assoc (spelling object_identifier e.extn_id) (critical_text e ++ element 4 e.extn_value) behind
     ∙ ap (λ x. spelling object_identifier e.extn_id ++ x) (append_assoc (critical_text e) (element 4 e.extn_value) behind)
 
-pub critical_field : (b : Bool) → IsField b (default_text boolean_default (spelling boolean) b)
-unfolding default_text is_identifier is_universal
+pub critical_field : (b : Bool) → IsField b (default_octets boolean_default (spelling boolean) b)
+unfolding default_octets is_identifier is_universal
 critical_field true = (1, boolean.content true, refl, refl)
 critical_field false = refl

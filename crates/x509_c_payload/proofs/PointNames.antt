@@ -7,7 +7,7 @@ use Rattle.x509_c_place.specs.declared.span.Span.{Span}
 use Rattle.x509_der_frames.specs.Cases.{choice_tag, choice_content}
 use Rattle.x509_der_frames.specs.Frames.{implicit}
 use Rattle.x509_der_grammar.specs.Form.{spelling}
-use Rattle.x509_ext_frame.specs.Names.{relative_distinguished_name}
+use Rattle.x509_extension.specs.Names.{relative_distinguished_name}
 use Rattle.x509_ext_name.specs.DistributionPointName.{distribution_point_name}
 use Rattle.x509_ext_name.specs.GeneralName.{general_names}
 use Rattle.x509_ext_name.specs.declared.distribution_point_name.DistributionPointName.{DistributionPointName}

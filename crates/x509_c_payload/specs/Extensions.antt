@@ -4,10 +4,10 @@ use Rattle.x509_c_payload.specs.declared.extension.ExtensionEntry.{ExtensionEntr
 use Rattle.x509_c_place.specs.Place.{IsAt}
 use Rattle.x509_der_element.specs.Element.{element}
 use Rattle.x509_der_frames.specs.DefaultValues.{boolean_default}
-use Rattle.x509_der_frames.specs.Frames.{default_text}
+use Rattle.x509_der_frames.specs.Frames.{default_octets}
 use Rattle.x509_der_grammar.specs.Boolean.{boolean}
 use Rattle.x509_der_grammar.specs.Form.{spelling}
-use Rattle.x509_ext_frame.specs.declared.extension.Extension.{Extension}
+use Rattle.x509_extension.specs.declared.extension.Extension.{Extension}
 
 abbrev pub flag : Bool → ℕ
 flag true = 1
@@ -15,7 +15,7 @@ flag false = 0
 
 -- whether it is critical as it is written: nothing where it isn't
 abbrev pub critical_text : Extension → List ℕ
-critical_text extension = default_text boolean_default (spelling boolean) extension.critical
+critical_text extension = default_octets boolean_default (spelling boolean) extension.critical
 
 -- what the entry says of an extension in these bytes, behind which those others stand
 pub record IsExtensionEntry (bytes : List ℕ) (extension : Extension) (behind : List ℕ) (entry : ExtensionEntry) : Type 0 where

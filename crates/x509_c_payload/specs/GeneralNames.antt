@@ -7,7 +7,7 @@ use Rattle.x509_c_place.specs.declared.span.Span.{Span}
 use Rattle.x509_der_frames.specs.Any.{any}
 use Rattle.x509_der_frames.specs.Frames.{explicit}
 use Rattle.x509_der_grammar.specs.Form.{spelling}
-use Rattle.x509_ext_frame.specs.Names.{name}
+use Rattle.x509_extension.specs.Names.{name}
 use Rattle.x509_ext_name.specs.EdiPartyName.{edi_party_name}
 use Rattle.x509_ext_name.specs.GeneralName.{general_name}
 use Rattle.x509_ext_name.specs.OtherName.{other_name}

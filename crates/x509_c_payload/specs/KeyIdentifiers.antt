@@ -4,17 +4,17 @@ use Rattle.x509_base.specs.Serial.{serial_number}
 use Rattle.x509_base_time.specs.Profiles.{rfc5280_serial_number}
 use Rattle.x509_c_payload.specs.Optional.{IsPerhapsAt}
 use Rattle.x509_c_payload.specs.declared.key_identifier.AuthorityKeyIdentifierView.{AuthorityKeyIdentifierView}
-use Rattle.x509_der_frames.specs.Frames.{implicit, optional_text}
+use Rattle.x509_der_frames.specs.Frames.{implicit, optional_octets}
 use Rattle.x509_der_grammar.specs.Form.{spelling}
 use Rattle.x509_ext.specs.declared.pkix.authority_key_identifier.AuthorityKeyIdentifier.{AuthorityKeyIdentifier}
 use Rattle.x509_ext_name.specs.GeneralName.{general_names}
 
 -- what stands behind the identifier of the key, and behind the names
 abbrev pub serial_text : AuthorityKeyIdentifier → List ℕ
-serial_text identifier = optional_text (spelling (implicit 2 (serial_number rfc5280_serial_number))) identifier.authority_cert_serial_number
+serial_text identifier = optional_octets (spelling (implicit 2 (serial_number rfc5280_serial_number))) identifier.authority_cert_serial_number
 
 abbrev pub issuer_text : AuthorityKeyIdentifier → List ℕ
-issuer_text identifier = optional_text (spelling (implicit 1 general_names)) identifier.authority_cert_issuer
+issuer_text identifier = optional_octets (spelling (implicit 1 general_names)) identifier.authority_cert_issuer
 
 -- what the view says of an identifier in these bytes, behind which those others stand
 pub record IsAuthorityKeyIdentifier (bytes : List ℕ) (identifier : AuthorityKeyIdentifier) (behind : List ℕ) (view : AuthorityKeyIdentifierView) : Type 0 where

@@ -7,10 +7,10 @@ use Rattle.x509_c_payload.specs.declared.point.IssuingDistributionPointView.{Iss
 use Rattle.x509_c_place.specs.Place.{IsAt}
 use Rattle.x509_c_place.specs.declared.span.Span.{Span}
 use Rattle.x509_der_frames.specs.DefaultValues.{boolean_default}
-use Rattle.x509_der_frames.specs.Frames.{explicit, implicit, optional_text, default_text}
+use Rattle.x509_der_frames.specs.Frames.{explicit, implicit, optional_octets, default_octets}
 use Rattle.x509_der_grammar.specs.Boolean.{boolean}
 use Rattle.x509_der_grammar.specs.Form.{spelling}
-use Rattle.x509_ext_frame.specs.Names.{relative_distinguished_name}
+use Rattle.x509_extension.specs.Names.{relative_distinguished_name}
 use Rattle.x509_ext_name.specs.DistributionPointName.{distribution_point_name}
 use Rattle.x509_ext_name.specs.GeneralName.{general_names}
 use Rattle.x509_ext_name.specs.declared.distribution_point_name.DistributionPointName.{DistributionPointName}
@@ -22,7 +22,7 @@ use Rattle.x509_pkix.specs.Reasons.{reasons}
 
 -- the name of a point as it is written
 abbrev pub name_text : Option DistributionPointName → List ℕ
-name_text name = optional_text (spelling (explicit 0 distribution_point_name)) name
+name_text name = optional_octets (spelling (explicit 0 distribution_point_name)) name
 
 -- where the full names stand, and the name relative to the issuer, with those octets behind them: of one of the two, or of both, nowhere
 abbrev pub IsPointName : Option DistributionPointName → List ℕ → List ℕ → Span → Span → Type 0
@@ -37,10 +37,10 @@ bits_of (Some set) = Some set.0
 
 -- what stands behind the name of a point, and behind its reasons
 abbrev pub issuer_text : DistributionPoint → List ℕ
-issuer_text point = optional_text (spelling (implicit 2 general_names)) point.crl_issuer
+issuer_text point = optional_octets (spelling (implicit 2 general_names)) point.crl_issuer
 
 abbrev pub reasons_text : DistributionPoint → List ℕ
-reasons_text point = optional_text (spelling (implicit 1 reasons)) point.reasons
+reasons_text point = optional_octets (spelling (implicit 1 reasons)) point.reasons
 
 -- what the view says of a point in these bytes, behind which those others stand
 pub record IsPoint (bytes : List ℕ) (point : DistributionPoint) (behind : List ℕ) (view : DistributionPointView) : Type 0 where
@@ -50,13 +50,13 @@ pub record IsPoint (bytes : List ℕ) (point : DistributionPoint) (behind : List
 
 -- [n]BOOLEAN=FALSE, as it is written
 abbrev pub said_text : ℕ → Bool → List ℕ
-said_text n is_said = default_text boolean_default (spelling (implicit n boolean)) is_said
+said_text n is_said = default_octets boolean_default (spelling (implicit n boolean)) is_said
 
 -- what stands behind the name of an issuing point: of what certificates the CRL speaks
 abbrev pub scope_text : IssuingDistributionPoint → List ℕ
 scope_text point =
     (said_text 1 point.only_contains_user_certs ++ said_text 2 point.only_contains_ca_certs)
-    ++ (optional_text (spelling (implicit 3 reasons)) point.only_some_reasons ++ (said_text 4 point.indirect_crl ++ said_text 5 point.only_contains_attribute_certs))
+    ++ (optional_octets (spelling (implicit 3 reasons)) point.only_some_reasons ++ (said_text 4 point.indirect_crl ++ said_text 5 point.only_contains_attribute_certs))
 
 -- the same of an issuing point
 pub record IsIssuingPoint (bytes : List ℕ) (point : IssuingDistributionPoint) (behind : List ℕ) (view : IssuingDistributionPointView) : Type 0 where

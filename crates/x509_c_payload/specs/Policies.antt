@@ -9,7 +9,7 @@ use Rattle.x509_c_place.specs.Place.{IsAt}
 use Rattle.x509_der.specs.ObjectIdentifierForm.{object_identifier}
 use Rattle.x509_der_element.specs.declared.tag.Tag.TheVariants.{Sequence}
 use Rattle.x509_der_frames.specs.Any.{any}
-use Rattle.x509_der_frames.specs.Frames.{optional_text}
+use Rattle.x509_der_frames.specs.Frames.{optional_octets}
 use Rattle.x509_der_frames.specs.List.{list_of}
 use Rattle.x509_der_grammar.specs.Form.{Form, spelling, universal}
 use Rattle.x509_pkix_policy.specs.PolicyQualifierInfo.{policy_qualifier_info}
@@ -24,12 +24,12 @@ policy_qualifiers = universal Sequence (list_of policy_qualifier_info)
 
 -- what the view says of a policy in these bytes, behind which those others stand
 pub record IsPolicy (bytes : List ℕ) (policy : PolicyInformation) (behind : List ℕ) (view : PolicyView) : Type 0 where
-  pub identifier : IsAt policy.policy_identifier (optional_text (spelling policy_qualifiers) policy.policy_qualifiers ++ behind) bytes view.identifier
+  pub identifier : IsAt policy.policy_identifier (optional_octets (spelling policy_qualifiers) policy.policy_qualifiers ++ behind) bytes view.identifier
   pub qualifiers : IsPerhapsAt (spelling policy_qualifiers) policy.policy_qualifiers behind bytes view.qualifiers
 
 -- the same of what qualifies a policy
 pub record IsQualifier (bytes : List ℕ) (info : PolicyQualifierInfo) (behind : List ℕ) (view : QualifierView) : Type 0 where
-  pub identifier : IsAt info.policy_qualifier_id (optional_text (spelling any) info.qualifier ++ behind) bytes view.identifier
+  pub identifier : IsAt info.policy_qualifier_id (optional_octets (spelling any) info.qualifier ++ behind) bytes view.identifier
   pub qualifier : IsPerhapsAt (spelling any) info.qualifier behind bytes view.qualifier
 
 -- the same of how a policy maps

@@ -5,7 +5,7 @@ use Rattle.x509_c_payload.specs.Optional.{IsPerhapsAt, IsNumber}
 use Rattle.x509_c_payload.specs.declared.subtree.NameConstraintsView.{NameConstraintsView}
 use Rattle.x509_c_payload.specs.declared.subtree.SubtreeView.{SubtreeView}
 use Rattle.x509_der_frames.specs.DefaultValues.{zero_default}
-use Rattle.x509_der_frames.specs.Frames.{implicit, optional_text, default_text}
+use Rattle.x509_der_frames.specs.Frames.{implicit, optional_octets, default_octets}
 use Rattle.x509_der_grammar.specs.Form.{spelling}
 use Rattle.x509_der_grammar.specs.Natural.{natural}
 use Rattle.x509_pkix.specs.GeneralSubtree.{general_subtrees}
@@ -14,12 +14,12 @@ use Rattle.x509_pkix.specs.declared.name_constraints.NameConstraints.{NameConstr
 
 -- what the view says of constraints in these bytes, behind which those others stand
 pub record AreNameConstraints (bytes : List ℕ) (constraints : NameConstraints) (behind : List ℕ) (view : NameConstraintsView) : Type 0 where
-  pub permitted : IsPerhapsAt (spelling (implicit 0 general_subtrees)) constraints.permitted_subtrees (optional_text (spelling (implicit 1 general_subtrees)) constraints.excluded_subtrees ++ behind) bytes view.permitted
+  pub permitted : IsPerhapsAt (spelling (implicit 0 general_subtrees)) constraints.permitted_subtrees (optional_octets (spelling (implicit 1 general_subtrees)) constraints.excluded_subtrees ++ behind) bytes view.permitted
   pub excluded : IsPerhapsAt (spelling (implicit 1 general_subtrees)) constraints.excluded_subtrees behind bytes view.excluded
 
 -- how deep a subtree is, as it is written behind its root
 abbrev pub depth_text : GeneralSubtree → List ℕ
-depth_text subtree = default_text zero_default (spelling (implicit 0 (natural (2 ^ 32)))) subtree.minimum ++ optional_text (spelling (implicit 1 (natural (2 ^ 32)))) subtree.maximum
+depth_text subtree = default_octets zero_default (spelling (implicit 0 (natural (2 ^ 32)))) subtree.minimum ++ optional_octets (spelling (implicit 1 (natural (2 ^ 32)))) subtree.maximum
 
 -- the same of a subtree
 pub record IsSubtree (bytes : List ℕ) (subtree : GeneralSubtree) (behind : List ℕ) (view : SubtreeView) : Type 0 where

@@ -8,7 +8,7 @@ ghost use Rattle.x509_der_element.specs.Tag.{octet_of};
 use std::alloc::Global;
 use x509_c_place::Span;
 use x509_der_element::{ErrorKind, Length, Tag, split_element};
-use x509_der_frames::field;
+use x509_der_frames::read_field;
 use x509_der_grammar::Decode;
 
 /// What is left of the content of the list from the place on.
@@ -58,7 +58,7 @@ pub fn next<T: Decode>(
         return Ok(None);
     }
     let place = input.len() - rest.len();
-    let value = match field::<T>(alloc, &mut rest) {
+    let value = match read_field::<T>(alloc, &mut rest) {
         Ok(value) => value,
         Err(e) => return Err(e.kind()),
     };

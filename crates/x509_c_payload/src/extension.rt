@@ -6,7 +6,7 @@ ghost use Rattle.x509_c_payload.specs.Extensions.{flag};
 use crate::calls::View;
 use crate::walk::step_content;
 use x509_c_place::{Span, enter, step};
-use x509_ext_frame::Extension;
+use x509_extension::Extension;
 
 /// An extension (RFC 5280 4.2), by its place in the bytes of a list of extensions.
 #[derive(Clone, Copy, Debug, PartialEq, Eq)]

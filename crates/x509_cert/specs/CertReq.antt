@@ -20,7 +20,7 @@ use Rattle.x509_der.specs.SetLaws.{set_lawful}
 use Rattle.x509_name_attribute.specs.Attribute.{attribute, attribute_cmp, attribute_contents, attribute_contents_lawful}
 use Rattle.x509_name_attribute.specs.declared.attribute.Attribute.{Attribute}
 use Rattle.x509_name_attribute.specs.declared.type_and_value.AttributeTypeAndValue.{AttributeTypeAndValue}
-use Rattle.x509_cert_extension.specs.Names.{name, rdn_sequence_lawful}
+use Rattle.x509_extension.specs.Names.{name, rdn_sequence_lawful}
 use Rattle.x509_prim.specs.BitString.{BitParts, bit_string}
 use Rattle.x509_prim.specs.BitStringLaws.{bit_string_lawful}
 

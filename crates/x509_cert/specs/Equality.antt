@@ -19,8 +19,8 @@ use Rattle.x509_cert.specs.declared.request.version.Version.TheVariants.{V1}
 use Rattle.x509_cert_certificate.specs.Equality.{exact_version}
 use Rattle.x509_cert_certificate.specs.contracts.version.VersionPartialEq.TheImpl as version_eq
 use Rattle.x509_der_element.specs.Exact.{IsExact, exact_octets, exact_list, exact_option, exact_both, exact_by}
-use Rattle.x509_ext_frame.specs.Equality.{exact_extension}
-use Rattle.x509_ext_frame.specs.contracts.extension.ExtensionPartialEq.TheImpl as extension_eq
+use Rattle.x509_extension.specs.Equality.{exact_extension}
+use Rattle.x509_extension.specs.contracts.extension.ExtensionPartialEq.TheImpl as extension_eq
 use Rattle.x509_ext_name.specs.Equality.{exact_directory_string}
 use Rattle.x509_name.specs.Names.{rdn_sequence_eq, rdn_sequence_decides}
 use Rattle.x509_name_attribute.specs.Attribute.{attribute_eq, attribute_decides}

@@ -5,7 +5,7 @@ use Rattle.x509_cert.specs.declared.crl.revoked_cert.RevokedCert.{RevokedCert}
 use Rattle.x509_cert_certificate.specs.LookUp.{Finds, members, with_oid}
 use Rattle.x509_cert_certificate.specs.extension.Extension.{Extension}
 use Rattle.x509_der_element.specs.declared.error.Error.{Error}
-use Rattle.x509_ext_frame.specs.Identifiers.{id_ce}
+use Rattle.x509_extension.specs.Identifiers.{id_ce}
 use Rattle.x509_ext_name.specs.declared.general_name.GeneralName.{GeneralName}
 use Rattle.x509_ext_name.specs.declared.general_name.GeneralName.TheVariants.{DirectoryName}
 use Rattle.x509_name.specs.Names.{rdn_sequence_eq}

@@ -24,13 +24,12 @@ pub use Rattle.x509_base_time.specs as base_time
 pub use Rattle.x509_base.specs as base
 pub use Rattle.x509_name_attribute.specs as name_attribute
 pub use Rattle.x509_name.specs as name
-pub use Rattle.x509_ext_frame.specs as ext_frame
+pub use Rattle.x509_extension.specs as extension
 pub use Rattle.x509_ext_name.specs as ext_name
 pub use Rattle.x509_ext.specs as ext
 pub use Rattle.x509_sct.specs as sct
 pub use Rattle.x509_pkix_policy.specs as pkix_policy
 pub use Rattle.x509_pkix.specs as pkix
-pub use Rattle.x509_cert_extension.specs as cert_extension
 pub use Rattle.x509_cert_signed.specs as cert_signed
 pub use Rattle.x509_cert_certificate.specs as cert_certificate
 pub use Rattle.x509_cert_anchor.specs as cert_anchor

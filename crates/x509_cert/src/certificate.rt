@@ -5,5 +5,5 @@ pub use x509_cert_certificate::{
     Certificate, CertificateInner, PkiPath, TbsCertificate, TbsCertificateInner, Version,
 };
 pub use x509_cert_digest::CertDigest;
-pub use x509_cert_extension::FilterExtensions;
 pub use x509_cert_signed::{CertificateSlices, TbsCertificateSlices, signed_slice};
+pub use x509_extension::FilterExtensions;

@@ -2,9 +2,7 @@
 
 pub mod pkix;
 
-pub use x509_cert_extension::{
-    FilterExtensions, filter_extensions, get_extension, has_repeated_extension, members,
-};
-pub use x509_ext_frame::{
-    Always, Criticality, Extension, Extensions, FixedCriticality, Never, ToExtension,
+pub use x509_extension::{
+    Always, Criticality, Extension, Extensions, FilterExtensions, FixedCriticality, Never,
+    ToExtension, filter_extensions, get_extension, has_repeated_extension, members,
 };

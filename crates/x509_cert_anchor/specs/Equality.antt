@@ -12,8 +12,8 @@ use Rattle.x509_cert_anchor.specs.declared.trust_anchor_info.TrustAnchorInfo.{Tr
 use Rattle.x509_cert_anchor.specs.declared.version.Version.TheVariants.{V1}
 use Rattle.x509_cert_certificate.specs.Equality.{certificate_eq, exact_certificate}
 use Rattle.x509_der_element.specs.Exact.{IsExact, exact_number, exact_octets, exact_list, exact_option, exact_both, exact_by}
-use Rattle.x509_ext_frame.specs.Equality.{exact_extension}
-use Rattle.x509_ext_frame.specs.contracts.extension.ExtensionPartialEq.TheImpl as extension_eq
+use Rattle.x509_extension.specs.Equality.{exact_extension}
+use Rattle.x509_extension.specs.contracts.extension.ExtensionPartialEq.TheImpl as extension_eq
 use Rattle.x509_name.specs.Names.{rdn_sequence_eq, rdn_sequence_decides}
 use Rattle.x509_pkix.specs.Equality.{exact_name_constraints}
 use Rattle.x509_pkix.specs.contracts.name_constraints.NameConstraintsPartialEq.TheImpl as name_constraints_eq

@@ -12,8 +12,8 @@ use Rattle.x509_der_grammar.specs.Form.{Form, IsForm, Contents, IsContents, univ
 use Rattle.x509_der_grammar.specs.FormLaws.{universal_lawful}
 use Rattle.x509_der_grammar.specs.StableLaws.{with_field_stable, in_option_stable}
 use Rattle.x509_der_grammar.specs.Writing.{Writing, with_field, in_option, IsStable}
-use Rattle.x509_ext_frame.specs.Extension.{extensions, extensions_lawful}
-use Rattle.x509_ext_frame.specs.declared.extension.Extension.{Extension}
+use Rattle.x509_extension.specs.Extension.{extensions, extensions_lawful}
+use Rattle.x509_extension.specs.declared.extension.Extension.{Extension}
 use Rattle.x509_prim.specs.OctetString.{octet_string, octet_string_lawful}
 use Rattle.x509_prim_text.specs.Texts.{utf8_string, utf8_string_lawful}
 use Rattle.x509_cert_anchor.specs.CertPathControls.{cert_path_controls, cert_path_controls_lawful}

@@ -29,7 +29,7 @@ version_lawful = named_lawful Integer version_names
 
 -- V1, which is each version
 abbrev pub version_default : Default Version
-version_default = record { standard = V1; is_standard = λ version. true }
+version_default = record { default_value = V1; is_default = λ version. true }
 
 only_one : (version : Version) → version ≡ V1
 only_one V1 = refl

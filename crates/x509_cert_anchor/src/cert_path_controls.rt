@@ -5,7 +5,7 @@ use std::alloc::Global;
 use x509_base_time::{Profile, Rfc5280};
 use x509_cert_certificate::CertificateInner;
 use x509_der_frames::{
-    PutPart, end, field, implicit_optional, option_has_spelling, optional_implicit,
+    PutPart, end, option_has_spelling, optional_implicit, read_field, read_optional_implicit,
 };
 use x509_der_grammar::{Content, Encode, Error, Room, Spelled, Tag, TryClone};
 use x509_name::name::Name;
@@ -89,12 +89,12 @@ impl<P: Profile> Content for CertPathControls<P> {
 
     fn read_content(alloc: Global, octets: &[u8]) -> Result<CertPathControls<P>, Error> {
         let mut rest = octets;
-        let ta_name = field::<Name>(alloc, &mut rest)?;
-        let certificate = optional_implicit::<CertificateInner<P>>(alloc, 0, &mut rest)?;
-        let policy_set = optional_implicit::<CertificatePolicies>(alloc, 1, &mut rest)?;
-        let policy_flags = optional_implicit::<CertPolicyFlags>(alloc, 2, &mut rest)?;
-        let name_constr = optional_implicit::<NameConstraints>(alloc, 3, &mut rest)?;
-        let path_len_constraint = optional_implicit::<u32>(alloc, 4, &mut rest)?;
+        let ta_name = read_field::<Name>(alloc, &mut rest)?;
+        let certificate = read_optional_implicit::<CertificateInner<P>>(alloc, 0, &mut rest)?;
+        let policy_set = read_optional_implicit::<CertificatePolicies>(alloc, 1, &mut rest)?;
+        let policy_flags = read_optional_implicit::<CertPolicyFlags>(alloc, 2, &mut rest)?;
+        let name_constr = read_optional_implicit::<NameConstraints>(alloc, 3, &mut rest)?;
+        let path_len_constraint = read_optional_implicit::<u32>(alloc, 4, &mut rest)?;
         end(rest)?;
         Ok(CertPathControls {
             ta_name,
@@ -110,18 +110,18 @@ impl<P: Profile> Content for CertPathControls<P> {
         let front = (
             &self.ta_name,
             (
-                implicit_optional(0, &self.certificate),
-                implicit_optional(1, &self.policy_set),
+                optional_implicit(0, &self.certificate),
+                optional_implicit(1, &self.policy_set),
             ),
         );
         let behind = (
-            implicit_optional(2, &self.policy_flags),
+            optional_implicit(2, &self.policy_flags),
             (
-                implicit_optional(3, &self.name_constr),
-                implicit_optional(4, &self.path_len_constraint),
+                optional_implicit(3, &self.name_constr),
+                optional_implicit(4, &self.path_len_constraint),
             ),
         );
-        (front, behind).put_text(room)
+        (front, behind).put_part(room)
     }
 
     ghost contents_lawful = { grammar.cert_path_controls_contents_lawful P.serial_check };

@@ -6,11 +6,11 @@ use std::alloc::Global;
 use x509_base::SubjectPublicKeyInfo;
 use x509_base_time::{Profile, Rfc5280};
 use x509_der_frames::{
-    PutPart, default_field, defaulted, end, explicit_optional, field, implicit_optional,
-    option_has_spelling, optional, optional_explicit, optional_field, optional_implicit,
+    PutPart, defaulted, end, option_has_spelling, optional, optional_explicit, optional_implicit,
+    read_defaulted, read_field, read_optional, read_optional_explicit, read_optional_implicit,
 };
 use x509_der_grammar::{Content, Encode, Error, Room, Spelled, Tag, TryClone};
-use x509_ext_frame::Extensions;
+use x509_extension::Extensions;
 use x509_prim::OctetString;
 use x509_prim_text::Utf8String;
 
@@ -97,13 +97,13 @@ impl<P: Profile> Content for TrustAnchorInfo<P> {
 
     fn read_content(alloc: Global, octets: &[u8]) -> Result<TrustAnchorInfo<P>, Error> {
         let mut rest = octets;
-        let version = default_field::<Version>(alloc, &mut rest)?;
-        let pub_key = field::<SubjectPublicKeyInfo>(alloc, &mut rest)?;
-        let key_id = field::<OctetString>(alloc, &mut rest)?;
-        let ta_title = optional_field::<Utf8String>(alloc, &mut rest)?;
-        let cert_path = optional_field::<CertPathControls<P>>(alloc, &mut rest)?;
-        let extensions = optional_explicit::<Extensions>(alloc, 1, &mut rest)?;
-        let ta_title_lang_tag = optional_implicit::<Utf8String>(alloc, 2, &mut rest)?;
+        let version = read_defaulted::<Version>(alloc, &mut rest)?;
+        let pub_key = read_field::<SubjectPublicKeyInfo>(alloc, &mut rest)?;
+        let key_id = read_field::<OctetString>(alloc, &mut rest)?;
+        let ta_title = read_optional::<Utf8String>(alloc, &mut rest)?;
+        let cert_path = read_optional::<CertPathControls<P>>(alloc, &mut rest)?;
+        let extensions = read_optional_explicit::<Extensions>(alloc, 1, &mut rest)?;
+        let ta_title_lang_tag = read_optional_implicit::<Utf8String>(alloc, 2, &mut rest)?;
         end(rest)?;
         Ok(TrustAnchorInfo {
             version,
@@ -124,11 +124,11 @@ impl<P: Profile> Content for TrustAnchorInfo<P> {
         let behind = (
             optional(&self.cert_path),
             (
-                explicit_optional(1, &self.extensions),
-                implicit_optional(2, &self.ta_title_lang_tag),
+                optional_explicit(1, &self.extensions),
+                optional_implicit(2, &self.ta_title_lang_tag),
             ),
         );
-        (front, behind).put_text(room)
+        (front, behind).put_part(room)
     }
 
     ghost contents_lawful = { grammar.trust_anchor_info_contents_lawful P.serial_check };

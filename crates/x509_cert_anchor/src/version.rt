@@ -1,7 +1,7 @@
 //! The version of the description of a trust anchor.
 
 use std::alloc::Global;
-use x509_der_frames::Standard;
+use x509_der_frames::DefaultValue;
 use x509_der_grammar::{Content, Error, Room, Spelled, Tag, TryClone};
 use x509_prim::{NamedNumber, put_named_number, read_named_number};
 
@@ -76,16 +76,16 @@ impl Spelled for Version {
 }
 
 /// V1.
-impl Standard for Version {
+impl DefaultValue for Version {
     ghost use Rattle.x509_cert_anchor.specs.Version.{version_default, version_default_lawful};
 
     ghost default = { version_default };
 
-    fn standard() -> Version {
+    fn default_value() -> Version {
         Version::V1
     }
 
-    fn is_standard(&self) -> bool {
+    fn is_default(&self) -> bool {
         match self {
             Version::V1 => true,
         }

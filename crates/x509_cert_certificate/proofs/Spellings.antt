@@ -13,20 +13,20 @@ use Rattle.x509_cert_certificate.specs.declared.tbs_certificate.TbsCertificateIn
 use Rattle.x509_cert_certificate.specs.declared.version.Version.{Version}
 use Rattle.x509_cert_certificate.specs.declared.version.Version.TheVariants.{V1, V2, V3}
 use Rattle.x509_cert_certificate.proofs.SignedParts.{stands}
-use Rattle.x509_cert_extension.specs.Extension.{extensions}
-use Rattle.x509_cert_extension.specs.Names.{name}
+use Rattle.x509_extension.specs.Extension.{extensions}
+use Rattle.x509_extension.specs.Names.{name}
 use Rattle.x509_cert_signed.specs.Elements.{IsElement, HasTbsElements, CertificateElements, HasCertificateElements}
 use Rattle.x509_cert_signed.specs.ElementPartsLaws.{one_certificate}
 use Rattle.x509_der_element.specs.Element.{element}
 use Rattle.x509_der_element.specs.declared.error.ErrorKind.{ErrorKind}
-use Rattle.x509_der_frames.specs.Frames.{explicit, implicit, optional_text, default_text, fields_octets}
+use Rattle.x509_der_frames.specs.Frames.{explicit, implicit, optional_octets, default_octets, fields_octets}
 use Rattle.x509_der_grammar.specs.Form.{Form, HasTag, Spells, spelling}
 use Rattle.x509_prim.specs.BitString.{bit_string}
 
 -- ---- fields that may be left out
 
-version_text : (v : Version) → default_text version_default (spelling (explicit 0 version)) v ≡ optional_text (element 0xA0) (if is_first v then None else Some (spelling version v))
-unfolding default_text
+version_text : (v : Version) → default_octets version_default (spelling (explicit 0 version)) v ≡ optional_octets (element 0xA0) (if is_first v then None else Some (spelling version v))
+unfolding default_octets
 version_text V1 = refl
 version_text V2 = refl
 version_text V3 = refl
@@ -36,11 +36,11 @@ version_is_element V1 = tt
 version_is_element V2 = (version.content V2, refl)
 version_is_element V3 = (version.content V3, refl)
 
-field_text : {X : Type 0} (form : Form X) (value : Option X) → optional_text (spelling form) value ≡ optional_text (λ bytes. bytes) (option_map (spelling form) value)
+field_text : {X : Type 0} (form : Form X) (value : Option X) → optional_octets (spelling form) value ≡ optional_octets (λ bytes. bytes) (option_map (spelling form) value)
 field_text form None = refl
 field_text form (Some value) = refl
 
-inside_text : {X : Type 0} (n : ℕ) (form : Form X) (value : Option X) → optional_text (spelling (explicit n form)) value ≡ optional_text (element (160 + n)) (option_map (spelling form) value)
+inside_text : {X : Type 0} (n : ℕ) (form : Form X) (value : Option X) → optional_octets (spelling (explicit n form)) value ≡ optional_octets (element (160 + n)) (option_map (spelling form) value)
 inside_text n form None = refl
 inside_text n form (Some value) = refl
 

@@ -8,10 +8,10 @@ use Rattle.x509_base.specs.contracts.subject_public_key_info.SubjectPublicKeyInf
 use Rattle.x509_base_time.specs.Equality.{exact_validity}
 use Rattle.x509_base_time.specs.contracts.time.TimePartialEq.TheImpl as time_eq
 use Rattle.x509_base_time.specs.declared.validity.Validity.{Validity}
-use Rattle.x509_ext_frame.specs.Equality.{exact_extension}
-use Rattle.x509_cert_extension.specs.Names.{rdn_sequence_eq, rdn_sequence_decides}
+use Rattle.x509_extension.specs.Equality.{exact_extension}
+use Rattle.x509_extension.specs.Names.{rdn_sequence_eq, rdn_sequence_decides}
 use Rattle.x509_der_element.specs.Exact.{IsExact, exact_octets, exact_list, exact_option, exact_both, exact_by, exact_bare}
-use Rattle.x509_ext_frame.specs.contracts.extension.ExtensionPartialEq.TheImpl as extension_eq
+use Rattle.x509_extension.specs.contracts.extension.ExtensionPartialEq.TheImpl as extension_eq
 use Rattle.x509_prim.specs.Equality.{exact_bit_string}
 use Rattle.x509_prim.specs.contracts.bit_string.BitStringPartialEq.TheImpl as bit_string_eq
 use Rattle.x509_cert_certificate.specs.contracts.version.Version.{enum as versions}

@@ -5,8 +5,8 @@ pub mod Certificate
 pub mod Respelling
 pub mod Spellings
 pub mod Equality
-pub use Rattle.x509_cert_extension.specs.Names
-pub use Rattle.x509_cert_extension.specs.Extension
-pub use Rattle.x509_cert_extension.specs.extension
-pub use Rattle.x509_cert_extension.specs.Filter
-pub use Rattle.x509_cert_extension.specs.LookUp
+pub use Rattle.x509_extension.specs.Names
+pub use Rattle.x509_extension.specs.Extension
+pub use Rattle.x509_extension.specs.declared.extension
+pub use Rattle.x509_extension.specs.Filter
+pub use Rattle.x509_extension.specs.LookUp

@@ -8,8 +8,8 @@ use Rattle.x509_cert_certificate.specs.Respelling.{any_tbs_certificate, no_check
 use Rattle.x509_cert_certificate.specs.Version.{version, is_first}
 use Rattle.x509_cert_certificate.specs.declared.certificate.CertificateInner.{CertificateInner}
 use Rattle.x509_cert_certificate.specs.declared.tbs_certificate.TbsCertificateInner.{TbsCertificateInner}
-use Rattle.x509_cert_extension.specs.Extension.{extensions}
-use Rattle.x509_cert_extension.specs.Names.{name}
+use Rattle.x509_extension.specs.Extension.{extensions}
+use Rattle.x509_extension.specs.Names.{name}
 use Rattle.x509_cert_signed.specs.Elements.{TbsElements, CertificateElements}
 use Rattle.x509_der_frames.specs.Frames.{implicit}
 use Rattle.x509_der_grammar.specs.Form.{spelling}

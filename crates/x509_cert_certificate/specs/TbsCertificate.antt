@@ -20,10 +20,10 @@ use Rattle.x509_base.specs.AlgorithmIdentifier.{algorithm_identifier, algorithm_
 use Rattle.x509_base.specs.SubjectPublicKeyInfo.{subject_public_key_info, subject_public_key_info_lawful}
 use Rattle.x509_base.specs.declared.algorithm_identifier.AlgorithmIdentifier.{AlgorithmIdentifier}
 use Rattle.x509_base.specs.declared.subject_public_key_info.SubjectPublicKeyInfo.{SubjectPublicKeyInfo}
-use Rattle.x509_cert_extension.specs.type_and_value.AttributeTypeAndValue.{AttributeTypeAndValue}
-use Rattle.x509_cert_extension.specs.Names.{name, rdn_sequence_lawful}
-use Rattle.x509_cert_extension.specs.Extension.{extensions, extensions_lawful}
-use Rattle.x509_cert_extension.specs.extension.Extension.{Extension}
+use Rattle.x509_extension.specs.type_and_value.AttributeTypeAndValue.{AttributeTypeAndValue}
+use Rattle.x509_extension.specs.Names.{name, rdn_sequence_lawful}
+use Rattle.x509_extension.specs.Extension.{extensions, extensions_lawful}
+use Rattle.x509_extension.specs.declared.extension.Extension.{Extension}
 use Rattle.x509_cert_certificate.specs.Version.{version, version_lawful, version_default, version_default_lawful}
 use Rattle.x509_cert_certificate.specs.declared.version.Version.{Version}
 use Rattle.x509_cert_certificate.specs.declared.tbs_certificate.TbsCertificateInner.{TbsCertificateInner}

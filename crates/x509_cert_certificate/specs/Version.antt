@@ -39,7 +39,7 @@ is_first V2 = false
 is_first V3 = false
 
 abbrev pub version_default : Default Version
-version_default = record { standard = V1; is_standard = is_first }
+version_default = record { default_value = V1; is_default = is_first }
 
 pub version_default_lawful : IsDefault version_default
 version_default_lawful = record { same = refl; only = elim [ V1 ↦ (λ e. refl) | V2 ↦ (λ e. absurd cc) | V3 ↦ (λ e. absurd cc) ] }

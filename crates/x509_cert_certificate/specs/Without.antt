@@ -1,6 +1,6 @@
 -- Extensions without those of a type (RFC 6962 3.2).
 use Rattle.std.specs.Prelude.{ℕ, List, [], ◌∷◌, filter, not, bytes_eq, Option, Some, None}
-use Rattle.x509_cert_extension.specs.extension.Extension.{Extension}
+use Rattle.x509_extension.specs.declared.extension.Extension.{Extension}
 
 -- those whose identifier has other content octets, in their order
 abbrev pub without_oid : List ℕ → List Extension → List Extension

@@ -10,7 +10,7 @@ use std::alloc::Global;
 use x509_base::AlgorithmIdentifier;
 use x509_base_time::{Profile, Rfc5280};
 use x509_cert_digest::{CertDigest, hash};
-use x509_der_frames::{PutPart, SequenceOf, end, field};
+use x509_der_frames::{PutPart, SequenceOf, end, read_field};
 use x509_der_grammar::{Content, Encode, Error, Grammar, Room, Spelled, Tag, TryClone};
 use x509_prim::BitString;
 
@@ -139,9 +139,9 @@ impl<P: Profile> Content for CertificateInner<P> {
 
     fn read_content(alloc: Global, octets: &[u8]) -> Result<CertificateInner<P>, Error> {
         let mut rest = octets;
-        let tbs_certificate = field::<TbsCertificateInner<P>>(alloc, &mut rest)?;
-        let signature_algorithm = field::<AlgorithmIdentifier>(alloc, &mut rest)?;
-        let signature = field::<BitString>(alloc, &mut rest)?;
+        let tbs_certificate = read_field::<TbsCertificateInner<P>>(alloc, &mut rest)?;
+        let signature_algorithm = read_field::<AlgorithmIdentifier>(alloc, &mut rest)?;
+        let signature = read_field::<BitString>(alloc, &mut rest)?;
         end(rest)?;
         Ok(CertificateInner {
             tbs_certificate,
@@ -155,7 +155,7 @@ impl<P: Profile> Content for CertificateInner<P> {
             &self.tbs_certificate,
             (&self.signature_algorithm, &self.signature),
         );
-        parts.put_text(room)
+        parts.put_part(room)
     }
 
     ghost contents_lawful = { grammar.certificate_contents_lawful P.serial_check };

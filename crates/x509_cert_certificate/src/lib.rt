@@ -9,6 +9,6 @@ mod version;
 pub use certificate::{Certificate, CertificateInner, PkiPath};
 pub use tbs_certificate::{TbsCertificate, TbsCertificateInner};
 pub use version::Version;
-pub use x509_cert_extension::{
+pub use x509_extension::{
     Extension, Extensions, FilterExtensions, Name, filter_extensions, get_extension, members,
 };

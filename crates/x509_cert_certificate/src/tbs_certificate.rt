@@ -3,22 +3,22 @@
 ghost use Rattle.std.specs.Option.{option_copied};
 ghost use Rattle.std.specs.Prelude.{◌≡◌};
 ghost use Rattle.x509_cert_certificate.specs.Without.{where_any, without_oid};
-ghost use Rattle.x509_cert_extension.specs.Filter.{extensions_left};
-ghost use Rattle.x509_cert_extension.specs.LookUp.{Finds, members, with_oid};
+ghost use Rattle.x509_extension.specs.Filter.{extensions_left};
+ghost use Rattle.x509_extension.specs.LookUp.{Finds, members, with_oid};
 
 use crate::version::Version;
 use std::alloc::Global;
 use x509_base::{AlgorithmIdentifier, SerialNumber, SubjectPublicKeyInfo};
 use x509_base_time::{Profile, Rfc5280, Validity};
-use x509_cert_extension::{
-    Extension, Extensions, FilterExtensions, Name, filter_extensions, get_extension, members,
-};
 use x509_der::{AssociatedOid, ObjectIdentifier};
 use x509_der_frames::{
-    PutPart, default_explicit, end, explicit_default, explicit_optional, field, implicit_optional,
-    option_has_spelling, optional_explicit, optional_implicit,
+    PutPart, defaulted_explicit, end, option_has_spelling, optional_explicit, optional_implicit,
+    read_defaulted_explicit, read_field, read_optional_explicit, read_optional_implicit,
 };
 use x509_der_grammar::{Content, Decode, Encode, Error, Room, Spelled, Tag, TryClone};
+use x509_extension::{
+    Extension, Extensions, FilterExtensions, Name, filter_extensions, get_extension, members,
+};
 use x509_prim::BitString;
 
 /// The signed part of a certificate under the profile [`Rfc5280`].
@@ -311,16 +311,16 @@ impl<P: Profile> Content for TbsCertificateInner<P> {
     #[inline(never)]
     fn read_content(alloc: Global, octets: &[u8]) -> Result<TbsCertificateInner<P>, Error> {
         let mut rest = octets;
-        let version = default_explicit::<Version>(alloc, 0, &mut rest)?;
-        let serial_number = field::<SerialNumber<P>>(alloc, &mut rest)?;
-        let signature = field::<AlgorithmIdentifier>(alloc, &mut rest)?;
-        let issuer = field::<Name>(alloc, &mut rest)?;
-        let validity = field::<Validity<P>>(alloc, &mut rest)?;
-        let subject = field::<Name>(alloc, &mut rest)?;
-        let subject_public_key_info = field::<SubjectPublicKeyInfo>(alloc, &mut rest)?;
-        let issuer_unique_id = optional_implicit::<BitString>(alloc, 1, &mut rest)?;
-        let subject_unique_id = optional_implicit::<BitString>(alloc, 2, &mut rest)?;
-        let extensions = optional_explicit::<Extensions>(alloc, 3, &mut rest)?;
+        let version = read_defaulted_explicit::<Version>(alloc, 0, &mut rest)?;
+        let serial_number = read_field::<SerialNumber<P>>(alloc, &mut rest)?;
+        let signature = read_field::<AlgorithmIdentifier>(alloc, &mut rest)?;
+        let issuer = read_field::<Name>(alloc, &mut rest)?;
+        let validity = read_field::<Validity<P>>(alloc, &mut rest)?;
+        let subject = read_field::<Name>(alloc, &mut rest)?;
+        let subject_public_key_info = read_field::<SubjectPublicKeyInfo>(alloc, &mut rest)?;
+        let issuer_unique_id = read_optional_implicit::<BitString>(alloc, 1, &mut rest)?;
+        let subject_unique_id = read_optional_implicit::<BitString>(alloc, 2, &mut rest)?;
+        let extensions = read_optional_explicit::<Extensions>(alloc, 3, &mut rest)?;
         end(rest)?;
         Ok(TbsCertificateInner {
             version,
@@ -338,7 +338,7 @@ impl<P: Profile> Content for TbsCertificateInner<P> {
 
     fn write_content<R: Room>(&self, room: &mut R) -> Result<(), Error> {
         let front = (
-            explicit_default(0, &self.version),
+            defaulted_explicit(0, &self.version),
             (
                 &self.serial_number,
                 (&self.signature, (&self.issuer, &self.validity)),
@@ -349,15 +349,15 @@ impl<P: Profile> Content for TbsCertificateInner<P> {
             (
                 &self.subject_public_key_info,
                 (
-                    implicit_optional(1, &self.issuer_unique_id),
+                    optional_implicit(1, &self.issuer_unique_id),
                     (
-                        implicit_optional(2, &self.subject_unique_id),
-                        explicit_optional(3, &self.extensions),
+                        optional_implicit(2, &self.subject_unique_id),
+                        optional_explicit(3, &self.extensions),
                     ),
                 ),
             ),
         );
-        (front, behind).put_text(room)
+        (front, behind).put_part(room)
     }
 
     ghost contents_lawful = { grammar.tbs_certificate_contents_lawful P.serial_check };

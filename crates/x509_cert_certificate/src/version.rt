@@ -2,7 +2,7 @@
 
 use std::alloc::Global;
 use std::cmp::Ordering;
-use x509_der_frames::Standard;
+use x509_der_frames::DefaultValue;
 use x509_der_grammar::{Content, Error, Room, Spelled, Tag, TryClone};
 use x509_der_order::{EncodingOrd, SetMember, SetOrd, ValueOrd};
 use x509_prim::{NamedNumber, cmp_named_numbers, put_named_number, read_named_number};
@@ -110,16 +110,16 @@ impl SetMember for Version {
     ghost in_der_order = { refl };
 }
 
-impl Standard for Version {
+impl DefaultValue for Version {
     ghost use Rattle.x509_cert_certificate.specs.Version.{version_default, version_default_lawful};
 
     ghost default = { version_default };
 
-    fn standard() -> Version {
+    fn default_value() -> Version {
         Version::V1
     }
 
-    fn is_standard(&self) -> bool {
+    fn is_default(&self) -> bool {
         match self {
             Version::V1 => true,
             Version::V2 | Version::V3 => false,

@@ -3,7 +3,7 @@ use Rattle.std.specs.Prelude.{ℕ, ◌+◌, List, Option, IfSome, Result, Ok, op
 use Rattle.x509_der_element.specs.declared.error.ErrorKind.{ErrorKind}
 use Rattle.x509_der_element.specs.Element.{element}
 use Rattle.x509_der_element.specs.Outcome.{◌>>=◌}
-use Rattle.x509_der_frames.specs.Frames.{explicit, Part, required, optional, optional_text, ◌⊗◌, fields}
+use Rattle.x509_der_frames.specs.Frames.{explicit, Part, required, optional, optional_octets, ◌⊗◌, fields}
 use Rattle.x509_der_grammar.specs.Form.{Form, Contents, under, whole_reading}
 use Rattle.x509_cert_signed.specs.Elements.{IsElement, TbsElements, CertificateElements}
 
@@ -35,11 +35,11 @@ lent_inside n tag = seen_as (element tag) (element (160 + n)) (IsElement tag) (r
 
 -- an element that may be left out
 unfoldable pub lent_optional : ℕ → Part (Option (List ℕ))
-lent_optional tag = seen_as (option_map (element tag)) (optional_text (λ bytes. bytes)) (λ found. IfSome found (IsElement tag)) (optional (any_element tag))
+lent_optional tag = seen_as (option_map (element tag)) (optional_octets (λ bytes. bytes)) (λ found. IfSome found (IsElement tag)) (optional (any_element tag))
 
 -- the same inside an explicit tag
 unfoldable pub lent_explicit : ℕ → ℕ → Part (Option (List ℕ))
-lent_explicit n tag = seen_as (option_map (element tag)) (optional_text (element (160 + n))) (λ found. IfSome found (IsElement tag)) (optional (explicit n (any_element tag)))
+lent_explicit n tag = seen_as (option_map (element tag)) (optional_octets (element (160 + n))) (λ found. IfSome found (IsElement tag)) (optional (explicit n (any_element tag)))
 
 -- ---- the signed part
 

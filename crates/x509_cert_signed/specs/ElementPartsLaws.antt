@@ -8,7 +8,7 @@ use Rattle.x509_der_element.specs.declared.error.ErrorKind.{ErrorKind}
 use Rattle.x509_der_element.specs.declared.error.ErrorKind.TheVariants.{Malformed}
 use Rattle.x509_der_grammar.specs.Form.{IsForm, Contents, IsContents, whole_reading}
 use Rattle.x509_der_grammar.specs.FormLaws.{under_lawful, whole_sound, whole_complete}
-use Rattle.x509_der_frames.specs.Frames.{Part, IsPart, BeginsIn, explicit, optional_text, fields_octets, fields_good}
+use Rattle.x509_der_frames.specs.Frames.{Part, IsPart, BeginsIn, explicit, optional_octets, fields_octets, fields_good}
 use Rattle.x509_der_frames.specs.FrameLaws.{fields_lawful, pair_lawful, required_lawful, optional_lawful, explicit_lawful}
 use Rattle.x509_cert_signed.specs.declared.certificate_slices.CertificateSlices.{CertificateSlices}
 use Rattle.x509_cert_signed.specs.declared.certificate_slices.TbsCertificateSlices.{TbsCertificateSlices}
@@ -60,11 +60,11 @@ is_element : (tag : ℕ) (x : Option (List ℕ)) → IfSome (option_map (element
 is_element tag None = tt
 is_element tag (Some content) = (content, refl)
 
-optional_joins : (tag : ℕ) (x : Option (List ℕ)) → optional_text (λ bytes. bytes) (option_map (element tag) x) ≡ optional_text (element tag) x
+optional_joins : (tag : ℕ) (x : Option (List ℕ)) → optional_octets (λ bytes. bytes) (option_map (element tag) x) ≡ optional_octets (element tag) x
 optional_joins tag None = refl
 optional_joins tag (Some content) = refl
 
-explicit_octets : (n tag : ℕ) (x : Option (List ℕ)) → optional_text (element (160 + n)) (option_map (element tag) x) ≡ optional_text (λ content. element (160 + n) (element tag content)) x
+explicit_octets : (n tag : ℕ) (x : Option (List ℕ)) → optional_octets (element (160 + n)) (option_map (element tag) x) ≡ optional_octets (λ content. element (160 + n) (element tag content)) x
 explicit_octets n tag None = refl
 explicit_octets n tag (Some content) = refl
 

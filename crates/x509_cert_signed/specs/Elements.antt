@@ -3,7 +3,7 @@ use Rattle.std.specs.Prelude.{◌≡◌, ◌≤◌, ℕ, List, ◌++◌, length,
 use Rattle.x509_cert_signed.specs.declared.certificate_slices.CertificateSlices.{CertificateSlices}
 use Rattle.x509_cert_signed.specs.declared.certificate_slices.TbsCertificateSlices.{TbsCertificateSlices}
 use Rattle.x509_der_element.specs.Element.{element, limit}
-use Rattle.x509_der_frames.specs.Frames.{optional_text}
+use Rattle.x509_der_frames.specs.Frames.{optional_octets}
 
 -- an element with this identifier octet, of any content (X.690 8.1.1)
 abbrev pub IsElement : ℕ → List ℕ → Type 0
@@ -26,11 +26,11 @@ pub record TbsElements : Type 0 where
 
 -- the fields up to the validity, one after the other; the version stands in an element A0 (X.690 8.14.2)
 abbrev pub front_octets : TbsElements → List ℕ
-front_octets e = optional_text (element 0xA0) e.version ++ (e.serial_number ++ (e.signature ++ (e.issuer ++ e.validity)))
+front_octets e = optional_octets (element 0xA0) e.version ++ (e.serial_number ++ (e.signature ++ (e.issuer ++ e.validity)))
 
 -- the fields from the subject on; the extensions stand in an element A3
 abbrev pub behind_octets : TbsElements → List ℕ
-behind_octets e = e.subject ++ (e.subject_public_key_info ++ (optional_text (λ x. x) e.issuer_unique_id ++ (optional_text (λ x. x) e.subject_unique_id ++ optional_text (element 0xA3) e.extensions)))
+behind_octets e = e.subject ++ (e.subject_public_key_info ++ (optional_octets (λ x. x) e.issuer_unique_id ++ (optional_octets (λ x. x) e.subject_unique_id ++ optional_octets (element 0xA3) e.extensions)))
 
 -- The bytes are one SEQUENCE of these elements, which have the identifier octets of RFC 5280 4.1.
 pub record HasTbsElements (bytes : List ℕ) (e : TbsElements) : Type 0 where

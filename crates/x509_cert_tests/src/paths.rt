@@ -191,8 +191,8 @@ fn strings_of_asn1(
 fn extensions(
     it: &(ext::Extension, ext::Extensions),
 ) -> &(
-    x509_ext_frame::Extension,
-    SequenceOf<x509_ext_frame::Extension>,
+    x509_extension::Extension,
+    SequenceOf<x509_extension::Extension>,
 ) {
     it
 }
@@ -535,7 +535,7 @@ where
 /// Wants the traits of extensions, of profiles and of digests.
 fn wants_traits<T, P, D>()
 where
-    T: x509_ext_frame::Criticality + x509_ext_frame::ToExtension,
+    T: x509_extension::Criticality + x509_extension::ToExtension,
     P: x509_base_time::Profile,
     D: x509_cert_digest::CertDigest,
 {}

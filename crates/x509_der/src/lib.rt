@@ -20,12 +20,12 @@ pub use associated::AssociatedOid;
 pub use identifier::ObjectIdentifier;
 pub use set::SetOfVec;
 pub use x509_der_frames::{
-    Any, FromAny, PutPart, Retagged, SequenceOf, Standard, Wrapped, clone_members,
-    default_explicit, default_field, default_implicit, defaulted, end, explicit, explicit_default,
-    explicit_field, explicit_identifier, explicit_optional, field, implicit, implicit_default,
-    implicit_field, implicit_identifier, implicit_octet, implicit_optional, members_have_spellings,
-    option_has_spelling, optional, optional_explicit, optional_field, optional_implicit,
-    put_members, read_further, read_members,
+    Any, DefaultValue, FromAny, PutPart, Retagged, SequenceOf, Wrapped, clone_members, defaulted,
+    defaulted_explicit, defaulted_implicit, end, explicit, explicit_identifier, implicit,
+    implicit_identifier, implicit_octet, members_have_spellings, option_has_spelling, optional,
+    optional_explicit, optional_implicit, put_members, read_defaulted, read_defaulted_explicit,
+    read_defaulted_implicit, read_explicit, read_field, read_further, read_implicit, read_members,
+    read_optional, read_optional_explicit, read_optional_implicit,
 };
 pub use x509_der_grammar::{
     AnyRef, Bytes, Content, Counting, Decode, Encode, Error, ErrorKind, Fixed, FixedTag, Grammar,

@@ -8,7 +8,7 @@ ghost use Rattle.x509_der_frames.specs.List.{list_reading};
 use std::alloc::Global;
 use std::marker::Model;
 use std::mem;
-use x509_der_frames::{clone_members, field, read_further};
+use x509_der_frames::{clone_members, read_field, read_further};
 use x509_der_grammar::{Decode, Error, ErrorKind, TryClone};
 
 #[derive(Drop)]
@@ -149,7 +149,7 @@ impl<T: Decode + Drop> Members<T> {
             return Ok(Members::new(alloc));
         }
         let mut rest = bytes;
-        let first = field::<T>(alloc, &mut rest)?;
+        let first = read_field::<T>(alloc, &mut rest)?;
         if rest.is_empty() {
             return Ok(Members {
                 kept: Kept::One([first], alloc),

@@ -5,14 +5,14 @@ use Rattle.x509_der_frames.specs.Frames.{Default, IsDefault}
 
 -- FALSE
 abbrev pub boolean_default : Default Bool
-boolean_default = record { standard = false; is_standard = not }
+boolean_default = record { default_value = false; is_default = not }
 
 pub boolean_default_lawful : IsDefault boolean_default
 boolean_default_lawful = record { same = refl; only = elim [ true ↦ (λ e. absurd cc) | false ↦ (λ e. refl) ] }
 
 -- 0
 abbrev pub zero_default : Default ℕ
-zero_default = record { standard = 0; is_standard = λ n. nat_eq n 0 }
+zero_default = record { default_value = 0; is_default = λ n. nat_eq n 0 }
 
 pub zero_default_lawful : IsDefault zero_default
 zero_default_lawful = record { same = refl; only = λ n e. eqb-true n 0 e }

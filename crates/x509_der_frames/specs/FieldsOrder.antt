@@ -12,7 +12,7 @@ use Rattle.x509_der_order.specs.Writing.{plain, writes}
 use Rattle.x509_der_order.specs.Order.{HasEncoding, Order, IsOrder, IsDerOrder, bytes_cmp, der_order}
 use Rattle.x509_der_order.specs.OrderLaws.{part_length, then_both, joined_cmp, nothing_first, nothing_last}
 use Rattle.x509_der_order.specs.Ordered.{der_lawful, by_fields, by_fields_lawful}
-use Rattle.x509_der_frames.specs.Frames.{required, optional, optional_text, ◌⊗◌, fields, fields_octets, fields_good}
+use Rattle.x509_der_frames.specs.Frames.{required, optional, optional_octets, ◌⊗◌, fields, fields_octets, fields_good}
 
 -- by the element of the first field, then by that of the second
 abbrev pub by_two : {X A B : Type 0} → (X → A × B) → Form A → Order A → Form B → Order B → Order X
@@ -43,7 +43,7 @@ module _ {X : Type 0} {Has : X → Type 0} {text : X → List ℕ} {order : Orde
   behind_nothing : (x : X) → bytes_cmp (text x) [] ≡ Greater
   behind_nothing x = subst (λ (bytes : List ℕ). bytes_cmp bytes [] ≡ Greater) (append-nil (text x)) (nothing_last (text x) [] (o.elements x))
 
-  optional_agrees : (x y : Option X) → IfSome x Has → IfSome y Has → option_cmp order x y ≡ bytes_cmp (optional_text text x) (optional_text text y)
+  optional_agrees : (x y : Option X) → IfSome x Has → IfSome y Has → option_cmp order x y ≡ bytes_cmp (optional_octets text x) (optional_octets text y)
   optional_agrees None None p q = refl
   optional_agrees None (Some y) p q = sym (before_element y)
   optional_agrees (Some x) None p q = sym (behind_nothing x)
@@ -55,7 +55,7 @@ module _ {X : Type 0} {Has : X → Type 0} {text : X → List ℕ} {order : Orde
   optional_exact (Some x) None e = absurd cc
   optional_exact (Some x) (Some y) e = ap Some (o.exact x y e)
 
-optional_has : {X : Type 0} (form : Form X) (x : Option X) → IfSome x form.good → length (optional_text (spelling form) x) ≤ limit → IfSome x (HasEncoding form (writes plain))
+optional_has : {X : Type 0} (form : Form X) (x : Option X) → IfSome x form.good → length (optional_octets (spelling form) x) ≤ limit → IfSome x (HasEncoding form (writes plain))
 optional_has form None good le = tt
 optional_has form (Some x) good le = (good, refl, le)
 
@@ -68,10 +68,10 @@ last_optional_ordered to from f order_f g order_g back h k =
     record {
       total = then_total (on_total (λ x. (to x).0) a.total) (on_total (λ x. (to x).1) (options_total b.total));
       agrees = λ x y p q.
-          let l = part_length 48 (spelling f (to x).0) (optional_text (spelling g) (to x).1) limit p.2 in
-          let r = part_length 48 (spelling f (to y).0) (optional_text (spelling g) (to y).1) limit q.2 in
+          let l = part_length 48 (spelling f (to x).0) (optional_octets (spelling g) (to x).1) limit p.2 in
+          let r = part_length 48 (spelling f (to y).0) (optional_octets (spelling g) (to y).1) limit q.2 in
           rw (a.agrees (to x).0 (to y).0 (p.0.0, refl, l.0) (q.0.0, refl, r.0), optional_agrees b (to x).1 (to y).1 (optional_has g (to x).1 p.0.1 l.1) (optional_has g (to y).1 q.0.1 r.1))
-          (sym (joined_cmp (spelling f (to x).0) (spelling f (to y).0) (a.elements (to x).0) (a.elements (to y).0) (optional_text (spelling g) (to x).1) (optional_text (spelling g) (to y).1)));
+          (sym (joined_cmp (spelling f (to x).0) (spelling f (to y).0) (a.elements (to x).0) (a.elements (to y).0) (optional_octets (spelling g) (to x).1) (optional_octets (spelling g) (to y).1)));
       exact = λ x y p e.
           let ties = then_both _ _ e in
           sym (back x) ∙ ap from (both (to x) (to y) (a.exact (to x).0 (to y).0 ties.0) (optional_exact b (to x).1 (to y).1 ties.1)) ∙ back y;

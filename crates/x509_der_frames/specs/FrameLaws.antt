@@ -13,7 +13,7 @@ use Rattle.x509_der_order.specs.ElementReading.{piece_at}
 use Rattle.x509_der_order.specs.ElementLaws.{piece_at-sound, piece_at-element, piece_at-refused}
 use Rattle.x509_der_order.specs.Form.{is_in, Form, spelling, IsForm, IsContents, HasTag, contents_of, one_tag}
 use Rattle.x509_der_order.specs.FormLaws.{under_lawful, contents_of_lawful, whole_sound, whole_complete, whole_refused}
-use Rattle.x509_der_frames.specs.Frames.{explicit_contents, explicit, implicit_tag, implicit, Part, IsPart, BeginsIn, nothing, begins, IsClearOf, are_apart, field_at, required, optional_text, optional_at, optional, Default, IsDefault, default_of, default_at, defaulted, default_text, ◌⊗◌, end_at, fields, fields_octets, fields_good, fields_reading}
+use Rattle.x509_der_frames.specs.Frames.{explicit_contents, explicit, implicit_tag, implicit, Part, IsPart, BeginsIn, nothing, begins, IsClearOf, are_apart, field_at, required, optional_octets, optional_at, optional, Default, IsDefault, default_of, default_at, defaulted, default_octets, ◌⊗◌, end_at, fields, fields_octets, fields_good, fields_reading}
 
 -- ---- tags
 
@@ -77,20 +77,20 @@ required_lawful f h = record {
 
 -- ---- an optional field
 
-optional_sound : {X : Type 0} {R : ErrorKind → Type 0} (f : Form X) (h : IsForm R f) (bytes : List ℕ) (v : Option X) (rest : List ℕ) → optional_at f.starts f.reading bytes ≡ Ok (v, rest) → IfSome v f.good × (bytes ≡ optional_text (spelling f) v ++ rest)
+optional_sound : {X : Type 0} {R : ErrorKind → Type 0} (f : Form X) (h : IsForm R f) (bytes : List ℕ) (v : Option X) (rest : List ℕ) → optional_at f.starts f.reading bytes ≡ Ok (v, rest) → IfSome v f.good × (bytes ≡ optional_octets (spelling f) v ++ rest)
 unfolding optional_at
 optional_sound {X} f h [] v rest e =
-    subst (λ (x : Option X × List ℕ). IfSome x.0 f.good × ([] ≡ optional_text (spelling f) x.0 ++ x.1)) (ok_is (None, []) (v, rest) e) (tt, refl)
+    subst (λ (x : Option X × List ℕ). IfSome x.0 f.good × ([] ≡ optional_octets (spelling f) x.0 ++ x.1)) (ok_is (None, []) (v, rest) e) (tt, refl)
 optional_sound {X} f h (t ∷ bytes) v rest e =
     elim (cases_Bool (is_in t f.starts)) [
       | inl there ↦
           let e2 = rw there at e in
           let b = bind_ok (field_at f.reading (t ∷ bytes)) (λ x. Ok (Some x.0, x.1)) (v, rest) e2 in
           let s = field_sound f h (t ∷ bytes) b.0.0 b.0.1 b.1 in
-          subst (λ (x : Option X × List ℕ). IfSome x.0 f.good × (t ∷ bytes ≡ optional_text (spelling f) x.0 ++ x.1)) (ok_is (Some b.0.0, b.0.1) (v, rest) b.2) s
+          subst (λ (x : Option X × List ℕ). IfSome x.0 f.good × (t ∷ bytes ≡ optional_octets (spelling f) x.0 ++ x.1)) (ok_is (Some b.0.0, b.0.1) (v, rest) b.2) s
       | inr absent ↦
           let e2 = rw absent at e in
-          subst (λ (x : Option X × List ℕ). IfSome x.0 f.good × (t ∷ bytes ≡ optional_text (spelling f) x.0 ++ x.1)) (ok_is (None, t ∷ bytes) (v, rest) e2) (tt, refl)
+          subst (λ (x : Option X × List ℕ). IfSome x.0 f.good × (t ∷ bytes ≡ optional_octets (spelling f) x.0 ++ x.1)) (ok_is (None, t ∷ bytes) (v, rest) e2) (tt, refl)
     ]
 
 pub optional_none : {X : Type 0} (starts : List ℕ) (read : ℕ → List ℕ → Result X ErrorKind) (rest : List ℕ) → IsClearOf starts rest → optional_at starts read rest ≡ Ok (None, rest)
@@ -102,7 +102,7 @@ optional_some : {X : Type 0} (starts : List ℕ) (read : ℕ → List ℕ → Re
 unfolding optional_at element
 optional_some starts read t c rest so = rw so refl
 
-optional_complete : {X : Type 0} {R : ErrorKind → Type 0} (f : Form X) (h : IsForm R f) (v : Option X) (rest : List ℕ) → IfSome v f.good → IsClearOf f.starts rest → optional_at f.starts f.reading (optional_text (spelling f) v ++ rest) ≡ Ok (v, rest)
+optional_complete : {X : Type 0} {R : ErrorKind → Type 0} (f : Form X) (h : IsForm R f) (v : Option X) (rest : List ℕ) → IfSome v f.good → IsClearOf f.starts rest → optional_at f.starts f.reading (optional_octets (spelling f) v ++ rest) ≡ Ok (v, rest)
 optional_complete f h None rest g clear = optional_none f.starts f.reading rest clear
 optional_complete f h (Some v) rest g clear = optional_some f.starts f.reading (f.tag v) (f.content v) rest (h.tagged v g).0 ∙ rw (field_complete f h v rest g) refl
 
@@ -120,7 +120,7 @@ optional_refused f h (t ∷ bytes) e r =
       | inr absent ↦ absurd (let e2 = rw absent at r in cc)
     ]
 
-optional_front : {X : Type 0} {R : ErrorKind → Type 0} (f : Form X) (h : IsForm R f) (v : Option X) → IfSome v f.good → BeginsIn f.starts (optional_text (spelling f) v)
+optional_front : {X : Type 0} {R : ErrorKind → Type 0} (f : Form X) (h : IsForm R f) (v : Option X) → IfSome v f.good → BeginsIn f.starts (optional_octets (spelling f) v)
 optional_front f h None g = nothing
 optional_front f h (Some v) g = form_front f h v g
 
@@ -134,19 +134,19 @@ optional_lawful f h = record {
 
 -- ---- a field with a default
 
-default_of-sound : {X : Type 0} (d : Default X) (v : Option X) (rest : List ℕ) (x : X) (after : List ℕ) → default_of d (v, rest) ≡ Ok (x, after) → (rest ≡ after) × (((v ≡ None) × (x ≡ d.standard)) ⊎ ((v ≡ Some x) × (d.is_standard x ≡ false)))
+default_of-sound : {X : Type 0} (d : Default X) (v : Option X) (rest : List ℕ) (x : X) (after : List ℕ) → default_of d (v, rest) ≡ Ok (x, after) → (rest ≡ after) × (((v ≡ None) × (x ≡ d.default_value)) ⊎ ((v ≡ Some x) × (d.is_default x ≡ false)))
 default_of-sound {X} d None rest x after e =
-    let same = ok_is (d.standard, rest) (x, after) e in
+    let same = ok_is (d.default_value, rest) (x, after) e in
     (ap (λ (p : X × List ℕ). p.1) same, inl (refl, sym (ap (λ (p : X × List ℕ). p.0) same)))
 default_of-sound {X} d (Some v) rest x after e =
-    let g = guard_ok (d.is_standard v) Malformed (Ok (v, rest)) (x, after) e in
+    let g = guard_ok (d.is_default v) Malformed (Ok (v, rest)) (x, after) e in
     let same = ok_is (v, rest) (x, after) g.1 in
     let is : v ≡ x = ap (λ (p : X × List ℕ). p.0) same in
     let some : X → Option X = λ w. Some w in
-    (ap (λ (p : X × List ℕ). p.1) same, inr (ap some is, subst (λ (w : X). d.is_standard w ≡ false) is g.0))
+    (ap (λ (p : X × List ℕ). p.1) same, inr (ap some is, subst (λ (w : X). d.is_default w ≡ false) is g.0))
 
-default_sound : {X : Type 0} {R : ErrorKind → Type 0} (d : Default X) (k : IsDefault d) (f : Form X) (h : IsForm R f) (bytes : List ℕ) (v : X) (rest : List ℕ) → default_at d f.starts f.reading bytes ≡ Ok (v, rest) → ((d.is_standard v ≡ true) ⊎ f.good v) × (bytes ≡ default_text d (spelling f) v ++ rest)
-unfolding default_at default_text
+default_sound : {X : Type 0} {R : ErrorKind → Type 0} (d : Default X) (k : IsDefault d) (f : Form X) (h : IsForm R f) (bytes : List ℕ) (v : X) (rest : List ℕ) → default_at d f.starts f.reading bytes ≡ Ok (v, rest) → ((d.is_default v ≡ true) ⊎ f.good v) × (bytes ≡ default_octets d (spelling f) v ++ rest)
+unfolding default_at default_octets
 default_sound {X} d k f h bytes v rest e =
     let b = bind_ok (optional_at f.starts f.reading bytes) (default_of d) (v, rest) e in
     let o = optional_sound f h bytes b.0.0 b.0.1 b.1 in
@@ -155,29 +155,29 @@ default_sound {X} d k f h bytes v rest e =
     elim s.1 [
       | inl absent ↦
           let none : b.0.0 ≡ None = absent.0 in
-          let standard : d.is_standard v ≡ true = rw absent.1 k.same in
-          (inl standard, rw standard (o.1 ∙ rw (none, rest-is) refl))
+          let default_value : d.is_default v ≡ true = rw absent.1 k.same in
+          (inl default_value, rw default_value (o.1 ∙ rw (none, rest-is) refl))
       | inr there ↦
           let some : b.0.0 ≡ Some v = there.0 in
-          let other : d.is_standard v ≡ false = there.1 in
+          let other : d.is_default v ≡ false = there.1 in
           (inr (subst (λ (w : Option X). IfSome w f.good) some o.0), rw other (o.1 ∙ rw (some, rest-is) refl))
     ]
 
-default_good : {X : Type 0} (d : Default X) (f : Form X) (v : X) → (d.is_standard v ≡ true) ⊎ f.good v → d.is_standard v ≡ false → f.good v
-default_good d f v (inl standard) other = absurd (true≢false (sym standard ∙ other))
+default_good : {X : Type 0} (d : Default X) (f : Form X) (v : X) → (d.is_default v ≡ true) ⊎ f.good v → d.is_default v ≡ false → f.good v
+default_good d f v (inl default_value) other = absurd (true≢false (sym default_value ∙ other))
 default_good d f v (inr g) other = g
 
-default_complete : {X : Type 0} {R : ErrorKind → Type 0} (d : Default X) (k : IsDefault d) (f : Form X) (h : IsForm R f) (v : X) (rest : List ℕ) → (d.is_standard v ≡ true) ⊎ f.good v → IsClearOf f.starts rest → default_at d f.starts f.reading (default_text d (spelling f) v ++ rest) ≡ Ok (v, rest)
-unfolding default_at default_text
+default_complete : {X : Type 0} {R : ErrorKind → Type 0} (d : Default X) (k : IsDefault d) (f : Form X) (h : IsForm R f) (v : X) (rest : List ℕ) → (d.is_default v ≡ true) ⊎ f.good v → IsClearOf f.starts rest → default_at d f.starts f.reading (default_octets d (spelling f) v ++ rest) ≡ Ok (v, rest)
+unfolding default_at default_octets
 default_complete d k f h v rest g clear =
-    elim (cases_Bool (d.is_standard v)) [
-      | inl standard ↦ rw (standard, optional_none f.starts f.reading rest clear, sym (k.only v standard)) refl
+    elim (cases_Bool (d.is_default v)) [
+      | inl default_value ↦ rw (default_value, optional_none f.starts f.reading rest clear, sym (k.only v default_value)) refl
       | inr other ↦ rw (other, optional_complete f h (Some v) rest (default_good d f v g other) clear, other) refl
     ]
 
 default_of-refused : {X : Type 0} (d : Default X) (x : Option X × List ℕ) (e : ErrorKind) → default_of d x ≡ Err e → e ≡ Malformed
 default_of-refused d (None, rest) e h = absurd cc
-default_of-refused d (Some v, rest) e h = elim (cases_Bool (d.is_standard v)) [ inl standard ↦ (let x = rw standard at h in cc) | inr other ↦ absurd (let x = rw other at h in cc) ]
+default_of-refused d (Some v, rest) e h = elim (cases_Bool (d.is_default v)) [ inl default_value ↦ (let x = rw default_value at h in cc) | inr other ↦ absurd (let x = rw other at h in cc) ]
 
 default_refused : {X : Type 0} {R : ErrorKind → Type 0} (d : Default X) (f : Form X) (h : IsForm R f) (bytes : List ℕ) (e : ErrorKind) → default_at d f.starts f.reading bytes ≡ Err e → (e ≡ Malformed) ⊎ R e
 unfolding default_at
@@ -187,11 +187,11 @@ default_refused d f h bytes e r =
       | inr k ↦ inl (default_of-refused d k.0 e k.2)
     ]
 
-default_front : {X : Type 0} {R : ErrorKind → Type 0} (d : Default X) (f : Form X) (h : IsForm R f) (v : X) → (d.is_standard v ≡ true) ⊎ f.good v → BeginsIn f.starts (default_text d (spelling f) v)
-unfolding default_text
+default_front : {X : Type 0} {R : ErrorKind → Type 0} (d : Default X) (f : Form X) (h : IsForm R f) (v : X) → (d.is_default v ≡ true) ⊎ f.good v → BeginsIn f.starts (default_octets d (spelling f) v)
+unfolding default_octets
 default_front d f h v g =
-    elim (cases_Bool (d.is_standard v)) [
-      | inl standard ↦ rw standard nothing
+    elim (cases_Bool (d.is_default v)) [
+      | inl default_value ↦ rw default_value nothing
       | inr other ↦ rw other (form_front f h v (default_good d f v g other))
     ]
 

@@ -3,14 +3,14 @@ use Rattle.std.specs.Prelude.{◌≡◌, ℕ, List, [], Option, Some, None, Resu
 use Rattle.x509_der_order.specs.error.ErrorKind.{ErrorKind}
 use Rattle.x509_der_order.specs.Writing.{Writing, Kind, IsKind, Puts, plain, respelling, writes, in_option}
 use Rattle.x509_der_order.specs.WritingLaws.{puts_nothing}
-use Rattle.x509_der_frames.specs.Frames.{Default, optional_text}
+use Rattle.x509_der_frames.specs.Frames.{Default, optional_octets}
 
 abbrev pub optional_refusal : {X : Type 0} → (X → Option ErrorKind) → Option X → Option ErrorKind
 optional_refusal refusal None = None
 optional_refusal refusal (Some value) = refusal value
 
 abbrev pub default_refusal : {X : Type 0} → Default X → (X → Option ErrorKind) → X → Option ErrorKind
-default_refusal default refusal value = if default.is_standard value then None else refusal value
+default_refusal default refusal value = if default.is_default value then None else refusal value
 
 --- a part that is left out puts nothing
 pub puts_left_out : {R : Type 0} (k : Kind R) → IsKind k → (x : R) → Puts k [] None (Ok tt) x x
@@ -18,7 +18,7 @@ puts_left_out k h x = puts_nothing k h x
 
 -- ---- a part that may be left out, where it is written otherwise than it is
 
-pub text_in_option : {X : Type 0} (text : X → List ℕ) (w : Writing X) (value : Option X) → optional_text text (writes (in_option w) value).value ≡ optional_text (λ x. text (writes w x).value) value
+pub text_in_option : {X : Type 0} (text : X → List ℕ) (w : Writing X) (value : Option X) → optional_octets text (writes (in_option w) value).value ≡ optional_octets (λ x. text (writes w x).value) value
 text_in_option text plain None = refl
 text_in_option text plain (Some x) = refl
 text_in_option text (respelling by) None = refl

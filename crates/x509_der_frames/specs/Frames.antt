@@ -64,9 +64,9 @@ field_at read bytes = piece_at bytes >>= λ piece. read piece.tag piece.content 
 abbrev pub required : {X : Type 0} → Form X → Part X
 required form = record { text = spelling form; good = form.good; starts = form.starts; avoids = []; reading = field_at form.reading }
 
-abbrev pub optional_text : {X : Type 0} → (X → List ℕ) → Option X → List ℕ
-optional_text text None = []
-optional_text text (Some value) = text value
+abbrev pub optional_octets : {X : Type 0} → (X → List ℕ) → Option X → List ℕ
+optional_octets text None = []
+optional_octets text (Some value) = text value
 
 unfoldable pub optional_at : {X : Type 0} → List ℕ → (ℕ → List ℕ → Result X ErrorKind) → List ℕ → Result (Option X × List ℕ) ErrorKind
 optional_at starts read [] = Ok (None, [])
@@ -74,23 +74,23 @@ optional_at starts read (tag ∷ bytes) = if is_in tag starts then (field_at rea
 
 -- x?: nothing, or the element of the value (X.690 8.9.3)
 abbrev pub optional : {X : Type 0} → Form X → Part (Option X)
-optional form = record { text = optional_text (spelling form); good = λ value. IfSome value form.good; starts = form.starts; avoids = form.starts; reading = optional_at form.starts form.reading }
+optional form = record { text = optional_octets (spelling form); good = λ value. IfSome value form.good; starts = form.starts; avoids = form.starts; reading = optional_at form.starts form.reading }
 
 -- the value that a field has where it is left out
 pub record Default (X : Type 0) : Type 0 where
-  pub standard : X
-  pub is_standard : X → Bool
+  pub default_value : X
+  pub is_default : X → Bool
 
 pub record IsDefault {X : Type 0} (default : Default X) : Type 0 where
-  pub same : default.is_standard default.standard ≡ true
-  pub only : (value : X) → default.is_standard value ≡ true → value ≡ default.standard
+  pub same : default.is_default default.default_value ≡ true
+  pub only : (value : X) → default.is_default value ≡ true → value ≡ default.default_value
 
-unfoldable pub default_text : {X : Type 0} → Default X → (X → List ℕ) → X → List ℕ
-default_text default text value = if default.is_standard value then [] else text value
+unfoldable pub default_octets : {X : Type 0} → Default X → (X → List ℕ) → X → List ℕ
+default_octets default text value = if default.is_default value then [] else text value
 
 abbrev pub default_of : {X : Type 0} → Default X → Option X × List ℕ → Result (X × List ℕ) ErrorKind
-default_of default (None, rest) = Ok (default.standard, rest)
-default_of default (Some value, rest) = if default.is_standard value then Err Malformed else Ok (value, rest)
+default_of default (None, rest) = Ok (default.default_value, rest)
+default_of default (Some value, rest) = if default.is_default value then Err Malformed else Ok (value, rest)
 
 unfoldable pub default_at : {X : Type 0} → Default X → List ℕ → (ℕ → List ℕ → Result X ErrorKind) → List ℕ → Result (X × List ℕ) ErrorKind
 default_at default starts read bytes = optional_at starts read bytes >>= default_of default
@@ -98,8 +98,8 @@ default_at default starts read bytes = optional_at starts read bytes >>= default
 -- x=d: nothing exactly where the value is d, and else its element (X.690 11.5)
 abbrev pub defaulted : {X : Type 0} → Default X → Form X → Part X
 defaulted default form = record {
-  text = default_text default (spelling form);
-  good = λ value. (default.is_standard value ≡ true) ⊎ form.good value;
+  text = default_octets default (spelling form);
+  good = λ value. (default.is_default value ≡ true) ⊎ form.good value;
   starts = form.starts;
   avoids = form.starts;
   reading = default_at default form.starts form.reading;

@@ -1,97 +1,97 @@
 //! The defaults of BOOLEAN and INTEGER fields.
 
-use crate::standard::Standard;
+use crate::default_value::DefaultValue;
 
-impl Standard for bool {
+impl DefaultValue for bool {
     ghost use Rattle.x509_der_frames.specs.DefaultValues.{boolean_default, boolean_default_lawful};
 
     ghost default = { boolean_default };
 
-    fn standard() -> bool {
+    fn default_value() -> bool {
         false
     }
 
-    fn is_standard(&self) -> bool {
+    fn is_default(&self) -> bool {
         !*self
     }
 
     ghost default_lawful = { boolean_default_lawful };
 }
 
-impl Standard for u8 {
+impl DefaultValue for u8 {
     ghost use Rattle.x509_der_frames.specs.DefaultValues.{zero_default, zero_default_lawful};
 
     ghost default = { zero_default };
 
-    fn standard() -> u8 {
+    fn default_value() -> u8 {
         0
     }
 
-    fn is_standard(&self) -> bool {
+    fn is_default(&self) -> bool {
         *self == 0
     }
 
     ghost default_lawful = { zero_default_lawful };
 }
 
-impl Standard for u16 {
+impl DefaultValue for u16 {
     ghost use Rattle.x509_der_frames.specs.DefaultValues.{zero_default, zero_default_lawful};
 
     ghost default = { zero_default };
 
-    fn standard() -> u16 {
+    fn default_value() -> u16 {
         0
     }
 
-    fn is_standard(&self) -> bool {
+    fn is_default(&self) -> bool {
         *self == 0
     }
 
     ghost default_lawful = { zero_default_lawful };
 }
 
-impl Standard for u32 {
+impl DefaultValue for u32 {
     ghost use Rattle.x509_der_frames.specs.DefaultValues.{zero_default, zero_default_lawful};
 
     ghost default = { zero_default };
 
-    fn standard() -> u32 {
+    fn default_value() -> u32 {
         0
     }
 
-    fn is_standard(&self) -> bool {
+    fn is_default(&self) -> bool {
         *self == 0
     }
 
     ghost default_lawful = { zero_default_lawful };
 }
 
-impl Standard for u64 {
+impl DefaultValue for u64 {
     ghost use Rattle.x509_der_frames.specs.DefaultValues.{zero_default, zero_default_lawful};
 
     ghost default = { zero_default };
 
-    fn standard() -> u64 {
+    fn default_value() -> u64 {
         0
     }
 
-    fn is_standard(&self) -> bool {
+    fn is_default(&self) -> bool {
         *self == 0
     }
 
     ghost default_lawful = { zero_default_lawful };
 }
 
-impl Standard for u128 {
+impl DefaultValue for u128 {
     ghost use Rattle.x509_der_frames.specs.DefaultValues.{zero_default, zero_default_lawful};
 
     ghost default = { zero_default };
 
-    fn standard() -> u128 {
+    fn default_value() -> u128 {
         0
     }
 
-    fn is_standard(&self) -> bool {
+    fn is_default(&self) -> bool {
         *self == 0
     }
 

@@ -1,7 +1,7 @@
 //! What holds of the fields of a sequence, and which lists and elements are equal. Each law is a function with an empty body, whose contract is the law.
 
 ghost use Rattle.std.specs.Prelude.{◌≡◌, ◌↔◌, ◌++◌, List, ℕ, Option, IfSome, true};
-ghost use Rattle.x509_der_frames.specs.Frames.{optional_text, IsClearOf};
+ghost use Rattle.x509_der_frames.specs.Frames.{optional_octets, IsClearOf};
 ghost use Rattle.x509_der_frames.specs.declared.any.Any.{Any};
 ghost use Rattle.x509_der_order.specs.Exact.{IsExact};
 ghost use Rattle.x509_der_order.specs.Form.{spelling};
@@ -14,7 +14,7 @@ use x509_der_order::{Decode, Encode, Grammar};
 /// The next identifier octet decides whether an optional field is there (X.690 8.9.3): where what follows doesn't begin
 /// as the field may, bytes are those of one value of the field, or of none, and of one rest.
 pub fn the_next_octet_decides_an_optional_field<T: Grammar>()
-    ensures { (v w : Option T) (x y : List ℕ) → IfSome v T.form.good → IfSome w T.form.good → IsClearOf T.form.starts x → IsClearOf T.form.starts y → optional_text (spelling T.form) v ++ x ≡ optional_text (spelling T.form) w ++ y → (v ≡ w) × (x ≡ y) }
+    ensures { (v w : Option T) (x y : List ℕ) → IfSome v T.form.good → IfSome w T.form.good → IsClearOf T.form.starts x → IsClearOf T.form.starts y → optional_octets (spelling T.form) v ++ x ≡ optional_octets (spelling T.form) w ++ y → (v ≡ w) × (x ≡ y) }
 {}
 
 /// `==` of elements that aren't decoded further holds exactly of equal values.

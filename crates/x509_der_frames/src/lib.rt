@@ -7,6 +7,7 @@
 #![tactic(auto)]
 
 mod any;
+mod default_value;
 mod default_values;
 mod identifiers;
 pub mod laws;
@@ -14,19 +15,19 @@ mod list;
 mod part;
 mod reading;
 mod spelled;
-mod standard;
 
 pub use any::{Any, FromAny};
+pub use default_value::DefaultValue;
 pub use identifiers::{explicit_identifier, implicit_identifier};
 pub use list::{SequenceOf, clone_members, put_members, read_further, read_members};
 pub use part::{
-    PutPart, Retagged, Wrapped, defaulted, explicit, explicit_default, explicit_optional, implicit,
-    implicit_default, implicit_optional, optional,
+    PutPart, Retagged, Wrapped, defaulted, defaulted_explicit, defaulted_implicit, explicit,
+    implicit, optional, optional_explicit, optional_implicit,
 };
 pub use reading::{
-    default_explicit, default_field, default_implicit, end, explicit_field, field, implicit_field,
-    implicit_octet, optional_explicit, optional_field, optional_implicit,
+    end, implicit_octet, read_defaulted, read_defaulted_explicit, read_defaulted_implicit,
+    read_explicit, read_field, read_implicit, read_optional, read_optional_explicit,
+    read_optional_implicit,
 };
 pub use spelled::{members_have_spellings, option_has_spelling};
-pub use standard::Standard;
 pub use x509_der_order::{AnyRef, Bytes, Content, Error, ErrorKind, Grammar, Room, Tag, TryClone};

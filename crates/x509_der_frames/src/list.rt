@@ -9,7 +9,7 @@ ghost use Rattle.x509_der_order.specs.Outcome.{GivesBy};
 ghost use Rattle.x509_der_order.specs.Writing.{Puts, writes};
 ghost use Rattle.x509_der_frames.specs.List.{list_reading, with_front, members_text, members_refusal};
 
-use crate::reading::field;
+use crate::reading::read_field;
 use std::alloc::Global;
 use std::cmp::Ordering;
 use std::hash::{Hash, Hasher};
@@ -251,7 +251,7 @@ fn read_behind<T: Decode + Drop>(
 {
     let mut rest = bytes;
     while !rest.is_empty() {
-        let item = field::<T>(alloc, &mut rest)?;
+        let item = read_field::<T>(alloc, &mut rest)?;
         items.push(item)?;
     }
     Ok(items)

@@ -6,11 +6,11 @@ ghost use Rattle.std.specs.Prelude.{◌≡◌, ◌+◌, ◌<◌};
 ghost use Rattle.x509_der_order.specs.Element.{element};
 ghost use Rattle.x509_der_order.specs.Form.{one_tag, spelling};
 ghost use Rattle.x509_der_order.specs.Writing.{Puts, writes};
-ghost use Rattle.x509_der_frames.specs.Frames.{implicit_tag, optional_text, default_text};
+ghost use Rattle.x509_der_frames.specs.Frames.{implicit_tag, optional_octets, default_octets};
 ghost use Rattle.x509_der_frames.specs.FrameWriting.{optional_refusal, default_refusal};
 
+use crate::default_value::DefaultValue;
 use crate::reading::implicit_octet;
-use crate::standard::Standard;
 use x509_der_order::{Encode, Error, FixedTag, Room, put_header};
 
 /// A part of a sequence, as it is encoded.
@@ -29,7 +29,7 @@ pub trait PutPart {
     ///
     /// The error of a value that can't be encoded; `Overlength` where there is no place in the room; `Memory` when out
     /// of memory, only for a room that takes memory.
-    fn put_text<R: Room>(&self, room: &mut R) -> Result<(), Error>
+    fn put_part<R: Room>(&self, room: &mut R) -> Result<(), Error>
         ensures { Puts R.kind (text self.now) (refusal self.now) result room.old room.new };
 }
 
@@ -43,9 +43,9 @@ impl<A: PutPart, B: PutPart> PutPart for (A, B) {
     ghost refusal = { λ p. first (B.refusal p.1) (A.refusal p.0) };
 
     #[inline(always)]
-    fn put_text<R: Room>(&self, room: &mut R) -> Result<(), Error> {
-        self.1.put_text(room)?;
-        self.0.put_text(room)
+    fn put_part<R: Room>(&self, room: &mut R) -> Result<(), Error> {
+        self.1.put_part(room)?;
+        self.0.put_part(room)
     }
 }
 
@@ -55,7 +55,7 @@ fn put_in_element<P: PutPart, R: Room>(part: &P, tag: u8, room: &mut R) -> Resul
     ensures { Puts R.kind (element tag (P.text part.now)) (P.refusal part.now) result room.old room.new }
 {
     let before = room.len();
-    part.put_text(room)?;
+    part.put_part(room)?;
     let len = room.len() - before;
     put_header(tag, len as u32, room)
 }
@@ -72,7 +72,7 @@ impl<T: Encode> PutPart for Contents<'_, T> {
     ghost refusal = { λ v. (writes T.writing v.0.now).refusal };
 
     #[inline(always)]
-    fn put_text<R: Room>(&self, room: &mut R) -> Result<(), Error> {
+    fn put_part<R: Room>(&self, room: &mut R) -> Result<(), Error> {
         self.0.put_content(room)
     }
 }
@@ -87,7 +87,7 @@ impl<T: Encode> PutPart for &T {
     ghost refusal = { λ v. (writes T.writing v.now).refusal };
 
     #[inline(always)]
-    fn put_text<R: Room>(&self, room: &mut R) -> Result<(), Error> {
+    fn put_part<R: Room>(&self, room: &mut R) -> Result<(), Error> {
         self.put_element(room)
     }
 }
@@ -120,7 +120,7 @@ impl<T: Encode> PutPart for Retagged<'_, T> {
     ghost refusal = { λ p. (writes T.writing p.value.now).refusal };
 
     #[inline(always)]
-    fn put_text<R: Room>(&self, room: &mut R) -> Result<(), Error> {
+    fn put_part<R: Room>(&self, room: &mut R) -> Result<(), Error> {
         put_in_element(&Contents(self.value), self.tag, room)
     }
 }
@@ -154,33 +154,33 @@ impl<T: Encode> PutPart for Wrapped<'_, T> {
     ghost refusal = { λ p. (writes T.writing p.value.now).refusal };
 
     #[inline(always)]
-    fn put_text<R: Room>(&self, room: &mut R) -> Result<(), Error> {
+    fn put_part<R: Room>(&self, room: &mut R) -> Result<(), Error> {
         put_in_element(&self.value, self.tag, room)
     }
 }
 
 /// A part that may be absent.
 impl<P: PutPart> PutPart for Option<P> {
-    ghost use Rattle.x509_der_frames.specs.Frames.{optional_text};
+    ghost use Rattle.x509_der_frames.specs.Frames.{optional_octets};
     ghost use Rattle.x509_der_frames.specs.FrameWriting.{optional_refusal};
 
-    ghost text = { optional_text P.text };
+    ghost text = { optional_octets P.text };
 
     ghost refusal = { optional_refusal P.refusal };
 
     #[tactic(auto, using(crate::specs::FrameWriting::puts_left_out))]
     #[inline(always)]
-    fn put_text<R: Room>(&self, room: &mut R) -> Result<(), Error> {
+    fn put_part<R: Room>(&self, room: &mut R) -> Result<(), Error> {
         match self {
             None => Ok(()),
-            Some(part) => part.put_text(room),
+            Some(part) => part.put_part(room),
         }
     }
 }
 
 /// x?: a field that may be absent.
 pub fn optional<T: Encode>(value: &Option<T>) -> Option<&T>
-    ensures text { optional_text (λ p. spelling T.form (writes T.writing p.now).value) result ≡ optional_text (λ v. spelling T.form (writes T.writing v).value) value.now }
+    ensures text { optional_octets (λ p. spelling T.form (writes T.writing p.now).value) result ≡ optional_octets (λ v. spelling T.form (writes T.writing v).value) value.now }
     ensures refusal { optional_refusal (λ p. (writes T.writing p.now).refusal) result ≡ optional_refusal (λ v. (writes T.writing v).refusal) value.now }
 {
     match value {
@@ -190,9 +190,9 @@ pub fn optional<T: Encode>(value: &Option<T>) -> Option<&T>
 }
 
 /// [n]x?: a field under an implicit tag that may be absent; n is 0 to 30.
-pub fn implicit_optional<T: Encode + FixedTag>(n: u8, value: &Option<T>) -> Option<Retagged<'_, T>>
+pub fn optional_implicit<T: Encode + FixedTag>(n: u8, value: &Option<T>) -> Option<Retagged<'_, T>>
     requires { n < 31 }
-    ensures text { optional_text (λ p. element p.tag (T.form.content (writes T.writing p.value.now).value)) result ≡ optional_text (λ v. element (implicit_tag n (one_tag T.form)) (T.form.content (writes T.writing v).value)) value.now }
+    ensures text { optional_octets (λ p. element p.tag (T.form.content (writes T.writing p.value.now).value)) result ≡ optional_octets (λ v. element (implicit_tag n (one_tag T.form)) (T.form.content (writes T.writing v).value)) value.now }
     ensures refusal { optional_refusal (λ p. (writes T.writing p.value.now).refusal) result ≡ optional_refusal (λ v. (writes T.writing v).refusal) value.now }
 {
     match value {
@@ -202,9 +202,9 @@ pub fn implicit_optional<T: Encode + FixedTag>(n: u8, value: &Option<T>) -> Opti
 }
 
 /// {n}x?: a field under an explicit tag that may be absent; n is 0 to 30.
-pub fn explicit_optional<T: Encode>(n: u8, value: &Option<T>) -> Option<Wrapped<'_, T>>
+pub fn optional_explicit<T: Encode>(n: u8, value: &Option<T>) -> Option<Wrapped<'_, T>>
     requires { n < 31 }
-    ensures text { optional_text (λ p. element p.tag (spelling T.form (writes T.writing p.value.now).value)) result ≡ optional_text (λ v. element (160 + n) (spelling T.form (writes T.writing v).value)) value.now }
+    ensures text { optional_octets (λ p. element p.tag (spelling T.form (writes T.writing p.value.now).value)) result ≡ optional_octets (λ v. element (160 + n) (spelling T.form (writes T.writing v).value)) value.now }
     ensures refusal { optional_refusal (λ p. (writes T.writing p.value.now).refusal) result ≡ optional_refusal (λ v. (writes T.writing v).refusal) value.now }
 {
     match value {
@@ -214,12 +214,12 @@ pub fn explicit_optional<T: Encode>(n: u8, value: &Option<T>) -> Option<Wrapped<
 }
 
 /// x=d: a field with a default.
-#[tactic(auto, unfolding(crate::specs::Frames::default_text))]
-pub fn defaulted<T: Encode + Standard>(value: &T) -> Option<&T>
-    ensures text { optional_text (λ p. spelling T.form (writes T.writing p.now).value) result ≡ default_text T.default (λ v. spelling T.form (writes T.writing v).value) value.now }
+#[tactic(auto, unfolding(crate::specs::Frames::default_octets))]
+pub fn defaulted<T: Encode + DefaultValue>(value: &T) -> Option<&T>
+    ensures text { optional_octets (λ p. spelling T.form (writes T.writing p.now).value) result ≡ default_octets T.default (λ v. spelling T.form (writes T.writing v).value) value.now }
     ensures refusal { optional_refusal (λ p. (writes T.writing p.now).refusal) result ≡ default_refusal T.default (λ v. (writes T.writing v).refusal) value.now }
 {
-    if value.is_standard() {
+    if value.is_default() {
         None
     } else {
         Some(value)
@@ -227,16 +227,16 @@ pub fn defaulted<T: Encode + Standard>(value: &T) -> Option<&T>
 }
 
 /// [n]x=d: a field under an implicit tag with a default; n is 0 to 30.
-#[tactic(auto, unfolding(crate::specs::Frames::default_text))]
-pub fn implicit_default<T: Encode + FixedTag + Standard>(
+#[tactic(auto, unfolding(crate::specs::Frames::default_octets))]
+pub fn defaulted_implicit<T: Encode + FixedTag + DefaultValue>(
     n: u8,
     value: &T,
 ) -> Option<Retagged<'_, T>>
     requires { n < 31 }
-    ensures text { optional_text (λ p. element p.tag (T.form.content (writes T.writing p.value.now).value)) result ≡ default_text T.default (λ v. element (implicit_tag n (one_tag T.form)) (T.form.content (writes T.writing v).value)) value.now }
+    ensures text { optional_octets (λ p. element p.tag (T.form.content (writes T.writing p.value.now).value)) result ≡ default_octets T.default (λ v. element (implicit_tag n (one_tag T.form)) (T.form.content (writes T.writing v).value)) value.now }
     ensures refusal { optional_refusal (λ p. (writes T.writing p.value.now).refusal) result ≡ default_refusal T.default (λ v. (writes T.writing v).refusal) value.now }
 {
-    if value.is_standard() {
+    if value.is_default() {
         None
     } else {
         Some(implicit(n, value))
@@ -244,13 +244,13 @@ pub fn implicit_default<T: Encode + FixedTag + Standard>(
 }
 
 /// {n}x=d: a field under an explicit tag with a default; n is 0 to 30.
-#[tactic(auto, unfolding(crate::specs::Frames::default_text))]
-pub fn explicit_default<T: Encode + Standard>(n: u8, value: &T) -> Option<Wrapped<'_, T>>
+#[tactic(auto, unfolding(crate::specs::Frames::default_octets))]
+pub fn defaulted_explicit<T: Encode + DefaultValue>(n: u8, value: &T) -> Option<Wrapped<'_, T>>
     requires { n < 31 }
-    ensures text { optional_text (λ p. element p.tag (spelling T.form (writes T.writing p.value.now).value)) result ≡ default_text T.default (λ v. element (160 + n) (spelling T.form (writes T.writing v).value)) value.now }
+    ensures text { optional_octets (λ p. element p.tag (spelling T.form (writes T.writing p.value.now).value)) result ≡ default_octets T.default (λ v. element (160 + n) (spelling T.form (writes T.writing v).value)) value.now }
     ensures refusal { optional_refusal (λ p. (writes T.writing p.value.now).refusal) result ≡ default_refusal T.default (λ v. (writes T.writing v).refusal) value.now }
 {
-    if value.is_standard() {
+    if value.is_default() {
         None
     } else {
         Some(explicit(n, value))

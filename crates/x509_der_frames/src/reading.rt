@@ -8,7 +8,7 @@ ghost use Rattle.x509_der_order.specs.Outcome.{Gives, GivesBefore};
 ghost use Rattle.x509_der_order.specs.Form.{one_tag};
 ghost use Rattle.x509_der_frames.specs.Frames.{optional, defaulted, explicit, implicit, implicit_tag, required, end_at};
 
-use crate::standard::Standard;
+use crate::default_value::DefaultValue;
 use std::alloc::Global;
 use x509_der_order::{Decode, Error, ErrorKind, FixedTag, read_whole, split_element, split_usual};
 
@@ -59,7 +59,7 @@ pub fn implicit_octet<T: FixedTag>(n: u8) -> u8
 /// out of memory, only where decoding the type may take memory. On an error `rest` is unchanged.
 #[tactic(auto, unfolding(crate::specs::Frames::field_at))]
 #[inline(always)]
-pub fn field<T: Decode>(alloc: Global, rest: &mut &[u8]) -> Result<T, Error>
+pub fn read_field<T: Decode>(alloc: Global, rest: &mut &[u8]) -> Result<T, Error>
     ensures exact { GivesBefore result rest.new.now ((required T.form).reading rest.old.now) }
     ensures unchanged { OnErr result (rest.new.now ≡ rest.old.now) }
     ensures memory { IfErr result (λ e. e.kind ≡ Memory → T.wants_memory) }
@@ -77,10 +77,10 @@ pub fn field<T: Decode>(alloc: Global, rest: &mut &[u8]) -> Result<T, Error>
 ///
 /// # Errors
 ///
-/// As [`field`].
+/// As [`read_field`].
 #[tactic(auto, unfolding(crate::specs::Frames::field_at))]
 #[inline(always)]
-pub fn explicit_field<T: Decode>(alloc: Global, n: u8, rest: &mut &[u8]) -> Result<T, Error>
+pub fn read_explicit<T: Decode>(alloc: Global, n: u8, rest: &mut &[u8]) -> Result<T, Error>
     requires { n < 31 }
     ensures exact { GivesBefore result rest.new.now ((required (explicit n T.form)).reading rest.old.now) }
     ensures unchanged { OnErr result (rest.new.now ≡ rest.old.now) }
@@ -102,10 +102,10 @@ pub fn explicit_field<T: Decode>(alloc: Global, n: u8, rest: &mut &[u8]) -> Resu
 ///
 /// # Errors
 ///
-/// As [`field`].
+/// As [`read_field`].
 #[tactic(auto, unfolding(crate::specs::Frames::field_at))]
 #[inline(always)]
-pub fn implicit_field<T: Decode + FixedTag>(
+pub fn read_implicit<T: Decode + FixedTag>(
     alloc: Global,
     n: u8,
     rest: &mut &[u8],
@@ -130,16 +130,16 @@ pub fn implicit_field<T: Decode + FixedTag>(
 ///
 /// # Errors
 ///
-/// As [`field`], where it is there.
+/// As [`read_field`], where it is there.
 #[tactic(auto, unfolding(crate::specs::Frames::optional_at))]
 #[inline(always)]
-pub fn optional_field<T: Decode>(alloc: Global, rest: &mut &[u8]) -> Result<Option<T>, Error>
+pub fn read_optional<T: Decode>(alloc: Global, rest: &mut &[u8]) -> Result<Option<T>, Error>
     ensures exact { GivesBefore result rest.new.now ((optional T.form).reading rest.old.now) }
     ensures unchanged { OnErr result (rest.new.now ≡ rest.old.now) }
     ensures memory { IfErr result (λ e. e.kind ≡ Memory → T.wants_memory) }
 {
     match *rest {
-        [octet, ..] if T::is_start(*octet) => Ok(Some(field::<T>(alloc, rest)?)),
+        [octet, ..] if T::is_start(*octet) => Ok(Some(read_field::<T>(alloc, rest)?)),
         _ => Ok(None),
     }
 }
@@ -148,10 +148,10 @@ pub fn optional_field<T: Decode>(alloc: Global, rest: &mut &[u8]) -> Result<Opti
 ///
 /// # Errors
 ///
-/// As [`field`], where it is there.
+/// As [`read_field`], where it is there.
 #[tactic(auto, unfolding(crate::specs::Frames::optional_at))]
 #[inline(always)]
-pub fn optional_explicit<T: Decode>(
+pub fn read_optional_explicit<T: Decode>(
     alloc: Global,
     n: u8,
     rest: &mut &[u8],
@@ -162,7 +162,7 @@ pub fn optional_explicit<T: Decode>(
     ensures memory { IfErr result (λ e. e.kind ≡ Memory → T.wants_memory) }
 {
     match *rest {
-        [octet, ..] if *octet == 0xA0 + n => Ok(Some(explicit_field::<T>(alloc, n, rest)?)),
+        [octet, ..] if *octet == 0xA0 + n => Ok(Some(read_explicit::<T>(alloc, n, rest)?)),
         _ => Ok(None),
     }
 }
@@ -171,10 +171,10 @@ pub fn optional_explicit<T: Decode>(
 ///
 /// # Errors
 ///
-/// As [`field`], where it is there.
+/// As [`read_field`], where it is there.
 #[tactic(auto, unfolding(crate::specs::Frames::optional_at))]
 #[inline(always)]
-pub fn optional_implicit<T: Decode + FixedTag>(
+pub fn read_optional_implicit<T: Decode + FixedTag>(
     alloc: Global,
     n: u8,
     rest: &mut &[u8],
@@ -185,7 +185,7 @@ pub fn optional_implicit<T: Decode + FixedTag>(
     ensures memory { IfErr result (λ e. e.kind ≡ Memory → T.wants_memory) }
 {
     match *rest {
-        [octet, ..] if *octet == implicit_octet::<T>(n) => Ok(Some(implicit_field::<T>(
+        [octet, ..] if *octet == implicit_octet::<T>(n) => Ok(Some(read_implicit::<T>(
             alloc, n, rest,
         )?)),
         _ => Ok(None),
@@ -196,20 +196,20 @@ pub fn optional_implicit<T: Decode + FixedTag>(
 ///
 /// # Errors
 ///
-/// As [`field`], where it is there; `Malformed` too where it is there with its default.
+/// As [`read_field`], where it is there; `Malformed` too where it is there with its default.
 #[tactic(auto, unfolding(crate::specs::Frames::default_at))]
 #[inline(always)]
-pub fn default_field<T: Decode + Standard>(alloc: Global, rest: &mut &[u8]) -> Result<T, Error>
+pub fn read_defaulted<T: Decode + DefaultValue>(alloc: Global, rest: &mut &[u8]) -> Result<T, Error>
     ensures exact { GivesBefore result rest.new.now ((defaulted T.default T.form).reading rest.old.now) }
     ensures unchanged { OnErr result (rest.new.now ≡ rest.old.now) }
     ensures memory { IfErr result (λ e. e.kind ≡ Memory → T.wants_memory) }
 {
     let mut ahead = *rest;
-    let found = optional_field::<T>(alloc, &mut ahead)?;
+    let found = read_optional::<T>(alloc, &mut ahead)?;
     let value = match found {
-        None => T::standard(),
+        None => T::default_value(),
         Some(value) => {
-            if value.is_standard() {
+            if value.is_default() {
                 return Err(ErrorKind::Malformed.into());
             }
             value
@@ -223,10 +223,10 @@ pub fn default_field<T: Decode + Standard>(alloc: Global, rest: &mut &[u8]) -> R
 ///
 /// # Errors
 ///
-/// As [`default_field`].
+/// As [`read_defaulted`].
 #[tactic(auto, unfolding(crate::specs::Frames::default_at))]
 #[inline(always)]
-pub fn default_explicit<T: Decode + Standard>(
+pub fn read_defaulted_explicit<T: Decode + DefaultValue>(
     alloc: Global,
     n: u8,
     rest: &mut &[u8],
@@ -237,11 +237,11 @@ pub fn default_explicit<T: Decode + Standard>(
     ensures memory { IfErr result (λ e. e.kind ≡ Memory → T.wants_memory) }
 {
     let mut ahead = *rest;
-    let found = optional_explicit::<T>(alloc, n, &mut ahead)?;
+    let found = read_optional_explicit::<T>(alloc, n, &mut ahead)?;
     let value = match found {
-        None => T::standard(),
+        None => T::default_value(),
         Some(value) => {
-            if value.is_standard() {
+            if value.is_default() {
                 return Err(ErrorKind::Malformed.into());
             }
             value
@@ -255,10 +255,10 @@ pub fn default_explicit<T: Decode + Standard>(
 ///
 /// # Errors
 ///
-/// As [`default_field`].
+/// As [`read_defaulted`].
 #[tactic(auto, unfolding(crate::specs::Frames::default_at))]
 #[inline(always)]
-pub fn default_implicit<T: Decode + FixedTag + Standard>(
+pub fn read_defaulted_implicit<T: Decode + FixedTag + DefaultValue>(
     alloc: Global,
     n: u8,
     rest: &mut &[u8],
@@ -269,11 +269,11 @@ pub fn default_implicit<T: Decode + FixedTag + Standard>(
     ensures memory { IfErr result (λ e. e.kind ≡ Memory → T.wants_memory) }
 {
     let mut ahead = *rest;
-    let found = optional_implicit::<T>(alloc, n, &mut ahead)?;
+    let found = read_optional_implicit::<T>(alloc, n, &mut ahead)?;
     let value = match found {
-        None => T::standard(),
+        None => T::default_value(),
         Some(value) => {
-            if value.is_standard() {
+            if value.is_default() {
                 return Err(ErrorKind::Malformed.into());
             }
             value

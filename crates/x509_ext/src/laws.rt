@@ -24,10 +24,10 @@ use crate::pkix::{
     SubjectDirectoryAttributes, SubjectInfoAccessSyntax, SubjectKeyIdentifier,
 };
 use x509_der_grammar::{Encode, Grammar};
-pub use x509_ext_frame::laws::{
+pub use x509_ext_name::laws::equality_of_general_names_is_exact;
+pub use x509_extension::laws::{
     equality_of_extensions_is_exact, identifiers_of_extensions, identifiers_of_pkix,
 };
-pub use x509_ext_name::laws::equality_of_general_names_is_exact;
 
 /// A named bit is set where it is a one in the bit string (X.680 22.7).
 #[tactic(auto, using(crate::proofs::Bits::named_bit))]

@@ -5,6 +5,6 @@
 pub mod laws;
 pub mod pkix;
 
-pub use x509_ext_frame::{
+pub use x509_extension::{
     Always, Criticality, Extension, Extensions, FixedCriticality, Never, ToExtension,
 };

@@ -5,7 +5,7 @@ use Rattle.x509_der_grammar.specs.Form.{Form, IsForm}
 use Rattle.x509_der_frames.specs.Cases.{Cases, ◌∥◌, ◌holds◌, none, CaseOf, choice, choice_lawful}
 use Rattle.x509_der_frames.specs.Frames.{implicit}
 use Rattle.x509_der_frames.specs.FrameLaws.{implicit_lawful}
-use Rattle.x509_ext_frame.specs.Names.{relative_distinguished_name, rdn_lawful}
+use Rattle.x509_extension.specs.Names.{relative_distinguished_name, rdn_lawful}
 use Rattle.x509_ext_name.specs.GeneralName.{general_names, general_names_lawful}
 use Rattle.x509_ext_name.specs.declared.distribution_point_name.DistributionPointName.{DistributionPointName}
 use Rattle.x509_ext_name.specs.declared.distribution_point_name.DistributionPointName.TheVariants.{FullName, NameRelativeToCRLIssuer}

@@ -2,7 +2,7 @@
 use Rattle.std.specs.Prelude.{refl}
 use Rattle.x509_der_element.specs.Exact.{IsExact, exact_octets, exact_list, exact_option, exact_both, exact_last, exact_by, exact_cases}
 use Rattle.x509_der_frames.specs.Equality.{exact_any}
-use Rattle.x509_ext_frame.specs.Names.{rdn_decides, rdn_sequence_decides}
+use Rattle.x509_extension.specs.Names.{rdn_decides, rdn_sequence_decides}
 use Rattle.x509_name_attribute.specs.contracts.directory_string.DirectoryString.{enum as strings}
 use Rattle.x509_name_attribute.specs.contracts.directory_string.DirectoryStringPartialEq.TheImpl as directory_string_eq
 use Rattle.x509_ext_name.specs.contracts.distribution_point_name.DistributionPointName.{enum as places}

@@ -12,7 +12,7 @@ use Rattle.x509_der_frames.specs.FrameLaws.{implicit_lawful, explicit_lawful}
 use Rattle.x509_der_frames.specs.List.{list_of}
 use Rattle.x509_der_frames.specs.ListLaws.{list_lawful}
 use Rattle.x509_der.specs.ObjectIdentifierForm.{object_identifier, object_identifier_lawful}
-use Rattle.x509_ext_frame.specs.Names.{name, rdn_sequence_lawful}
+use Rattle.x509_extension.specs.Names.{name, rdn_sequence_lawful}
 use Rattle.x509_prim.specs.OctetString.{octet_string, octet_string_lawful}
 use Rattle.x509_prim_text.specs.Texts.{ia5_string, ia5_string_lawful}
 use Rattle.x509_ext_name.specs.EdiPartyName.{edi_party_name, edi_party_name_lawful}

@@ -12,7 +12,7 @@ use Rattle.x509_der_frames.specs.PartRules.{part_rules}
 use Rattle.x509_der_frames.specs.declared.any.Any.{Any}
 use Rattle.x509_der.specs.ObjectIdentifierForm.{object_identifier, object_identifier_lawful}
 use Rattle.x509_prim.specs.OctetString.{octet_string, octet_string_lawful}
-use Rattle.x509_ext_frame.specs.Identifiers.{id_pkix}
+use Rattle.x509_extension.specs.Identifiers.{id_pkix}
 use Rattle.x509_ext_name.specs.declared.hardware_module_name.HardwareModuleName.{HardwareModuleName}
 use Rattle.x509_ext_name.specs.declared.other_name.OtherName.{OtherName}
 

@@ -6,7 +6,7 @@ use x509_der_frames::implicit_identifier;
 use x509_der_grammar::{
     Content, Decode, Encode, Error, ErrorKind, Grammar, Room, Spelled, Tag, TryClone,
 };
-use x509_ext_frame::RelativeDistinguishedName;
+use x509_extension::RelativeDistinguishedName;
 
 /// The name of a CRL distribution point (RFC 5280 4.2.1.13).
 ///

@@ -2,8 +2,8 @@
 
 use std::alloc::Global;
 use x509_der_frames::{
-    PutPart, end, explicit, explicit_field, explicit_optional, option_has_spelling,
-    optional_explicit,
+    PutPart, end, explicit, option_has_spelling, optional_explicit, read_explicit,
+    read_optional_explicit,
 };
 use x509_der_grammar::{Content, Error, Room, Spelled, Tag, TryClone};
 use x509_name_attribute::DirectoryString;
@@ -56,8 +56,8 @@ impl Content for EdiPartyName {
 
     fn read_content(alloc: Global, octets: &[u8]) -> Result<EdiPartyName, Error> {
         let mut rest = octets;
-        let name_assigner = optional_explicit::<DirectoryString>(alloc, 0, &mut rest)?;
-        let party_name = explicit_field::<DirectoryString>(alloc, 1, &mut rest)?;
+        let name_assigner = read_optional_explicit::<DirectoryString>(alloc, 0, &mut rest)?;
+        let party_name = read_explicit::<DirectoryString>(alloc, 1, &mut rest)?;
         end(rest)?;
         Ok(EdiPartyName {
             name_assigner,
@@ -67,10 +67,10 @@ impl Content for EdiPartyName {
 
     fn write_content<R: Room>(&self, room: &mut R) -> Result<(), Error> {
         let parts = (
-            explicit_optional(0, &self.name_assigner),
+            optional_explicit(0, &self.name_assigner),
             explicit(1, &self.party_name),
         );
-        parts.put_text(room)
+        parts.put_part(room)
     }
 
     ghost contents_lawful = { grammar.edi_party_name_contents_lawful };

@@ -12,7 +12,7 @@ use x509_der_frames::{SequenceOf, explicit_identifier, implicit_identifier};
 use x509_der_grammar::{
     Content, Decode, Encode, Error, ErrorKind, Grammar, Room, Spelled, Tag, TryClone, read_whole,
 };
-use x509_ext_frame::Name;
+use x509_extension::Name;
 use x509_prim::OctetString;
 use x509_prim_text::Ia5String;
 

@@ -5,7 +5,7 @@ ghost use Rattle.x509_ext_name.specs.HardwareModuleName.{ReadsHardwareModule};
 use crate::other_name::OtherName;
 use std::alloc::Global;
 use x509_der::{ObjectIdentifier, oid};
-use x509_der_frames::{PutPart, end, field};
+use x509_der_frames::{PutPart, end, read_field};
 use x509_der_grammar::{Content, Error, Room, Spelled, Tag, TryClone};
 use x509_prim::OctetString;
 
@@ -73,8 +73,8 @@ impl Content for HardwareModuleName {
 
     fn read_content(alloc: Global, octets: &[u8]) -> Result<HardwareModuleName, Error> {
         let mut rest = octets;
-        let hw_type = field::<ObjectIdentifier>(alloc, &mut rest)?;
-        let hw_serial_num = field::<OctetString>(alloc, &mut rest)?;
+        let hw_type = read_field::<ObjectIdentifier>(alloc, &mut rest)?;
+        let hw_serial_num = read_field::<OctetString>(alloc, &mut rest)?;
         end(rest)?;
         Ok(HardwareModuleName {
             hw_type,
@@ -84,7 +84,7 @@ impl Content for HardwareModuleName {
 
     fn write_content<R: Room>(&self, room: &mut R) -> Result<(), Error> {
         let parts = (&self.hw_type, &self.hw_serial_num);
-        parts.put_text(room)
+        parts.put_part(room)
     }
 
     ghost contents_lawful = { grammar.hardware_module_name_contents_lawful };

@@ -13,4 +13,4 @@ pub use edi_party_name::EdiPartyName;
 pub use general_name::{GeneralName, GeneralNames, IpAddress};
 pub use hardware_module_name::{HardwareModuleName, ID_ON_HARDWARE_MODULE_NAME};
 pub use other_name::OtherName;
-pub use x509_ext_frame::Name;
+pub use x509_extension::Name;

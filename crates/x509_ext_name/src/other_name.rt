@@ -9,7 +9,7 @@ ghost use Rattle.x509_ext_name.specs.HardwareModuleName.{IsModuleIn, hardware_mo
 use crate::hardware_module_name::{HardwareModuleName, ID_ON_HARDWARE_MODULE_NAME};
 use std::alloc::Global;
 use x509_der::ObjectIdentifier;
-use x509_der_frames::{Any, PutPart, end, explicit, explicit_field, field};
+use x509_der_frames::{Any, PutPart, end, explicit, read_explicit, read_field};
 use x509_der_grammar::{Content, Error, Room, Spelled, Tag, TryClone};
 
 /// A name whose type is given by an OID (RFC 5280 4.2.1.6).
@@ -71,15 +71,15 @@ impl Content for OtherName {
 
     fn read_content(alloc: Global, octets: &[u8]) -> Result<OtherName, Error> {
         let mut rest = octets;
-        let type_id = field::<ObjectIdentifier>(alloc, &mut rest)?;
-        let value = explicit_field::<Any>(alloc, 0, &mut rest)?;
+        let type_id = read_field::<ObjectIdentifier>(alloc, &mut rest)?;
+        let value = read_explicit::<Any>(alloc, 0, &mut rest)?;
         end(rest)?;
         Ok(OtherName { type_id, value })
     }
 
     fn write_content<R: Room>(&self, room: &mut R) -> Result<(), Error> {
         let parts = (&self.type_id, explicit(0, &self.value));
-        parts.put_text(room)
+        parts.put_part(room)
     }
 
     ghost contents_lawful = { grammar.other_name_contents_lawful };

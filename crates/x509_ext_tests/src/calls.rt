@@ -2,7 +2,7 @@
 
 use std::fmt::Display;
 use x509_der_grammar::{Decode, Encode, Error, ErrorKind, TryClone};
-use x509_ext_frame::ToExtension;
+use x509_extension::ToExtension;
 use x509_name::name::Name;
 
 /// Whether the bytes are read, and a copy that equals the value is written as they were.

@@ -10,7 +10,7 @@ use x509_ext::pkix::{
     IssuerAltName, KeyUsage, KeyUsages, PrivateKeyUsagePeriod, SubjectAltName,
     SubjectDirectoryAttributes, SubjectInfoAccessSyntax, SubjectKeyIdentifier,
 };
-use x509_ext_frame::{Criticality, Extension, ToExtension};
+use x509_extension::{Criticality, Extension, ToExtension};
 use x509_name::name::Name;
 use x509_pkix::{
     BaseCrlNumber, CertificateIssuer, CrlDistributionPoints, CrlNumber, CrlReason, FreshestCrl,

@@ -4,7 +4,7 @@ use crate::type_and_value::{AttributeType, AttributeValue};
 use std::alloc::Global;
 use std::cmp::Ordering;
 use x509_der::{DerOrd, SetMember, SetOfVec, SetOrd, ValueOrd};
-use x509_der_frames::{PutPart, end, field};
+use x509_der_frames::{PutPart, end, read_field};
 use x509_der_grammar::{Content, Error, Room, Spelled, Tag, TryClone};
 
 /// An attribute: its type, and a set of values (RFC 2986 4.1). An empty set is decoded and encoded too.
@@ -48,15 +48,15 @@ impl Content for Attribute {
 
     fn read_content(alloc: Global, octets: &[u8]) -> Result<Attribute, Error> {
         let mut rest = octets;
-        let oid = field::<AttributeType>(alloc, &mut rest)?;
-        let values = field::<SetOfVec<AttributeValue>>(alloc, &mut rest)?;
+        let oid = read_field::<AttributeType>(alloc, &mut rest)?;
+        let values = read_field::<SetOfVec<AttributeValue>>(alloc, &mut rest)?;
         end(rest)?;
         Ok(Attribute { oid, values })
     }
 
     fn write_content<R: Room>(&self, room: &mut R) -> Result<(), Error> {
         let parts = (&self.oid, &self.values);
-        parts.put_text(room)
+        parts.put_part(room)
     }
 
     ghost contents_lawful = { grammar.attribute_contents_lawful };

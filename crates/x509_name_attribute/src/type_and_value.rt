@@ -11,7 +11,7 @@ use std::cmp::Ordering;
 use std::fmt;
 use std::hash::{Hash, Hasher};
 use x509_der::{DerOrd, SetMember, SetOrd, ValueOrd};
-use x509_der_frames::{Any, PutPart, end, field};
+use x509_der_frames::{Any, PutPart, end, read_field};
 use x509_der_grammar::{Content, Encode, Error, Room, Spelled, Tag, TryClone};
 
 /// The type of an attribute (RFC 5280 4.1.2.4).
@@ -99,15 +99,15 @@ impl Content for AttributeTypeAndValue {
     #[inline(always)]
     fn read_content(alloc: Global, octets: &[u8]) -> Result<AttributeTypeAndValue, Error> {
         let mut rest = octets;
-        let oid = field::<AttributeType>(alloc, &mut rest)?;
-        let value = field::<AttributeValue>(alloc, &mut rest)?;
+        let oid = read_field::<AttributeType>(alloc, &mut rest)?;
+        let value = read_field::<AttributeValue>(alloc, &mut rest)?;
         end(rest)?;
         Ok(AttributeTypeAndValue { oid, value })
     }
 
     fn write_content<R: Room>(&self, room: &mut R) -> Result<(), Error> {
         let parts = (&self.oid, &self.value);
-        parts.put_text(room)
+        parts.put_part(room)
     }
 
     ghost contents_lawful = { grammar.type_and_value_contents_lawful };

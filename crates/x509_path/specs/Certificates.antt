@@ -10,15 +10,15 @@ use Rattle.x509_cert.specs.base_time.declared.validity.Validity.{Validity}
 use Rattle.x509_cert.specs.base.declared.algorithm_identifier.AlgorithmIdentifier.{AlgorithmIdentifier}
 use Rattle.x509_cert.specs.base.declared.subject_public_key_info.SubjectPublicKeyInfo.{SubjectPublicKeyInfo}
 use Rattle.x509_cert.specs.name.Names.{rdn_sequence_eq}
-use Rattle.x509_cert.specs.ext_frame.Identifiers.{id_ce}
-use Rattle.x509_cert.specs.ext_frame.declared.extension.Extension.{Extension}
+use Rattle.x509_cert.specs.extension.Identifiers.{id_ce}
+use Rattle.x509_cert.specs.extension.declared.extension.Extension.{Extension}
 use Rattle.x509_cert.specs.ext.AlternativeNames.{subject_alt_name}
 use Rattle.x509_cert.specs.ext.BasicConstraints.{basic_constraints}
 use Rattle.x509_cert.specs.ext.ExtendedKeyUsage.{extended_key_usage}
 use Rattle.x509_cert.specs.ext.KeyUsage.{key_usage, has_bit}
 use Rattle.x509_cert.specs.ext.declared.pkix.basic_constraints.BasicConstraints.{BasicConstraints}
 use Rattle.x509_cert.specs.ext.declared.pkix.key_usage.KeyUsage.{KeyUsage}
-use Rattle.x509_cert.specs.cert_extension.LookUp.{members, with_oid}
+use Rattle.x509_cert.specs.extension.LookUp.{members, with_oid}
 use Rattle.x509_cert.specs.cert_signed.Signed.{IsSignedPart}
 use Rattle.x509_cert.specs.cert_certificate.declared.certificate.CertificateInner.{CertificateInner}
 

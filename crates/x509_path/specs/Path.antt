@@ -5,7 +5,7 @@ use Rattle.std.specs.List.{All}
 use Rattle.x509_cert.specs.der_grammar.Form.{Spells}
 use Rattle.x509_cert.specs.base_time.CivilTime.{CivilTime}
 use Rattle.x509_cert.specs.cert_certificate.Certificate.{rfc5280_certificate}
-use Rattle.x509_cert.specs.cert_extension.LookUp.{IsRepeated}
+use Rattle.x509_cert.specs.extension.LookUp.{IsRepeated}
 use Rattle.x509_path.specs.Certificates as certificates
 use Rattle.x509_path.specs.Certificates.{Accepting, Certificate, extensions_of}
 use Rattle.x509_path.specs.declared.anchor.Anchor.{Anchor}

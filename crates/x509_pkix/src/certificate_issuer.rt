@@ -6,8 +6,8 @@ use std::alloc::Global;
 use x509_der::{AssociatedOid, ObjectIdentifier, oid};
 use x509_der_frames::SequenceOf;
 use x509_der_grammar::Newtype;
-use x509_ext_frame::{Always, FixedCriticality};
 use x509_ext_name::GeneralNames;
+use x509_extension::{Always, FixedCriticality};
 
 /// The issuer of the certificate of an entry in an indirect CRL, and of those of the entries after it up to the next that
 /// has this extension (RFC 5280 5.3.3). Its OID is 2.5.29.29, and it is critical. An empty sequence is decoded and encoded
@@ -29,7 +29,7 @@ impl CertificateIssuer {
 }
 
 impl AssociatedOid for CertificateIssuer {
-    ghost use Rattle.x509_ext_frame.specs.Identifiers.{id_ce};
+    ghost use Rattle.x509_extension.specs.Identifiers.{id_ce};
 
     ghost OID = { id_ce 29 };
 

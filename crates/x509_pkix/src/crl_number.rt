@@ -8,7 +8,7 @@ use std::alloc::Global;
 use x509_der::{AssociatedOid, ObjectIdentifier, oid};
 use x509_der_grammar::{Error, Newtype};
 use x509_der_order::{EncodingOrd, NewtypeOrd, SetMember, SetOrd};
-use x509_ext_frame::{Always, FixedCriticality, Never};
+use x509_extension::{Always, FixedCriticality, Never};
 use x509_prim::Uint;
 
 /// The CRL number, which rises from each CRL of an issuer to its next (RFC 5280 5.2.3). Its OID is 2.5.29.20, and it
@@ -92,7 +92,7 @@ impl CrlNumber {
 }
 
 impl AssociatedOid for CrlNumber {
-    ghost use Rattle.x509_ext_frame.specs.Identifiers.{id_ce};
+    ghost use Rattle.x509_extension.specs.Identifiers.{id_ce};
 
     ghost OID = { id_ce 20 };
 
@@ -195,7 +195,7 @@ impl BaseCrlNumber {
 }
 
 impl AssociatedOid for BaseCrlNumber {
-    ghost use Rattle.x509_ext_frame.specs.Identifiers.{id_ce};
+    ghost use Rattle.x509_extension.specs.Identifiers.{id_ce};
 
     ghost OID = { id_ce 27 };
 

@@ -3,7 +3,7 @@
 use std::alloc::Global;
 use x509_der::{AssociatedOid, ObjectIdentifier, oid};
 use x509_der_grammar::{Content, Error, Room, Spelled, Tag, TryClone};
-use x509_ext_frame::{FixedCriticality, Never};
+use x509_extension::{FixedCriticality, Never};
 use x509_prim::{NamedNumber, put_named_number, read_named_number};
 
 /// The reason for which a certificate was revoked (RFC 5280 5.3.1). Its OID is 2.5.29.21, and it isn't critical.
@@ -111,7 +111,7 @@ impl Spelled for CrlReason {
 }
 
 impl AssociatedOid for CrlReason {
-    ghost use Rattle.x509_ext_frame.specs.Identifiers.{id_ce};
+    ghost use Rattle.x509_extension.specs.Identifiers.{id_ce};
 
     ghost OID = { id_ce 21 };
 

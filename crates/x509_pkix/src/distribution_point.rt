@@ -3,8 +3,8 @@
 use crate::ReasonFlags;
 use std::alloc::Global;
 use x509_der_frames::{
-    PutPart, end, explicit_optional, implicit_optional, option_has_spelling, optional_explicit,
-    optional_implicit,
+    PutPart, end, option_has_spelling, optional_explicit, optional_implicit,
+    read_optional_explicit, read_optional_implicit,
 };
 use x509_der_grammar::{Content, Encode, Error, Room, Spelled, Tag, TryClone};
 use x509_ext_name::{DistributionPointName, GeneralNames};
@@ -65,9 +65,11 @@ impl Content for DistributionPoint {
 
     fn read_content(alloc: Global, octets: &[u8]) -> Result<DistributionPoint, Error> {
         let mut rest = octets;
-        let distribution_point = optional_explicit::<DistributionPointName>(alloc, 0, &mut rest)?;
-        let reasons = optional_implicit::<ReasonFlags>(alloc, 1, &mut rest)?;
-        let crl_issuer = optional_implicit::<GeneralNames>(alloc, 2, &mut rest)?;
+        let distribution_point = read_optional_explicit::<DistributionPointName>(
+            alloc, 0, &mut rest,
+        )?;
+        let reasons = read_optional_implicit::<ReasonFlags>(alloc, 1, &mut rest)?;
+        let crl_issuer = read_optional_implicit::<GeneralNames>(alloc, 2, &mut rest)?;
         end(rest)?;
         Ok(DistributionPoint {
             distribution_point,
@@ -78,13 +80,13 @@ impl Content for DistributionPoint {
 
     fn write_content<R: Room>(&self, room: &mut R) -> Result<(), Error> {
         let parts = (
-            explicit_optional(0, &self.distribution_point),
+            optional_explicit(0, &self.distribution_point),
             (
-                implicit_optional(1, &self.reasons),
-                implicit_optional(2, &self.crl_issuer),
+                optional_implicit(1, &self.reasons),
+                optional_implicit(2, &self.crl_issuer),
             ),
         );
-        parts.put_text(room)
+        parts.put_part(room)
     }
 
     ghost contents_lawful = { grammar.distribution_point_contents_lawful };

@@ -7,7 +7,7 @@ use std::alloc::Global;
 use x509_der::{AssociatedOid, ObjectIdentifier, oid};
 use x509_der_frames::SequenceOf;
 use x509_der_grammar::Newtype;
-use x509_ext_frame::{FixedCriticality, Never};
+use x509_extension::{FixedCriticality, Never};
 
 /// The CRL distribution points: where the CRLs are found that would revoke the certificate (RFC 5280 4.2.1.13). Its OID
 /// is 2.5.29.31, and it isn't critical. An empty sequence is decoded and encoded too.
@@ -28,7 +28,7 @@ impl CrlDistributionPoints {
 }
 
 impl AssociatedOid for CrlDistributionPoints {
-    ghost use Rattle.x509_ext_frame.specs.Identifiers.{id_ce};
+    ghost use Rattle.x509_extension.specs.Identifiers.{id_ce};
 
     ghost OID = { id_ce 31 };
 
@@ -112,7 +112,7 @@ impl FreshestCrl {
 }
 
 impl AssociatedOid for FreshestCrl {
-    ghost use Rattle.x509_ext_frame.specs.Identifiers.{id_ce};
+    ghost use Rattle.x509_extension.specs.Identifiers.{id_ce};
 
     ghost OID = { id_ce 46 };
 

@@ -2,8 +2,8 @@
 
 use std::alloc::Global;
 use x509_der_frames::{
-    PutPart, SequenceOf, default_implicit, end, field, implicit_default, implicit_optional,
-    option_has_spelling, optional_implicit,
+    PutPart, SequenceOf, defaulted_implicit, end, option_has_spelling, optional_implicit,
+    read_defaulted_implicit, read_field, read_optional_implicit,
 };
 use x509_der_grammar::{Content, Error, Room, Spelled, Tag, TryClone};
 use x509_ext_name::GeneralName;
@@ -59,9 +59,9 @@ impl Content for GeneralSubtree {
 
     fn read_content(alloc: Global, octets: &[u8]) -> Result<GeneralSubtree, Error> {
         let mut rest = octets;
-        let base = field::<GeneralName>(alloc, &mut rest)?;
-        let minimum = default_implicit::<u32>(alloc, 0, &mut rest)?;
-        let maximum = optional_implicit::<u32>(alloc, 1, &mut rest)?;
+        let base = read_field::<GeneralName>(alloc, &mut rest)?;
+        let minimum = read_defaulted_implicit::<u32>(alloc, 0, &mut rest)?;
+        let maximum = read_optional_implicit::<u32>(alloc, 1, &mut rest)?;
         end(rest)?;
         Ok(GeneralSubtree {
             base,
@@ -74,11 +74,11 @@ impl Content for GeneralSubtree {
         let parts = (
             &self.base,
             (
-                implicit_default(0, &self.minimum),
-                implicit_optional(1, &self.maximum),
+                defaulted_implicit(0, &self.minimum),
+                optional_implicit(1, &self.maximum),
             ),
         );
-        parts.put_text(room)
+        parts.put_part(room)
     }
 
     ghost contents_lawful = { grammar.general_subtree_contents_lawful };

@@ -4,12 +4,12 @@ use crate::ReasonFlags;
 use std::alloc::Global;
 use x509_der::{AssociatedOid, ObjectIdentifier, oid};
 use x509_der_frames::{
-    PutPart, default_implicit, end, explicit_optional, implicit_default, implicit_optional,
-    option_has_spelling, optional_explicit, optional_implicit,
+    PutPart, defaulted_implicit, end, option_has_spelling, optional_explicit, optional_implicit,
+    read_defaulted_implicit, read_optional_explicit, read_optional_implicit,
 };
 use x509_der_grammar::{Content, Encode, Error, Room, Spelled, Tag, TryClone};
-use x509_ext_frame::{Always, FixedCriticality};
 use x509_ext_name::DistributionPointName;
+use x509_extension::{Always, FixedCriticality};
 
 /// The issuing distribution point: where the CRL is found, and which certificates it covers (RFC 5280 5.2.5). Its OID
 /// is 2.5.29.28, and it is critical. That at most one of the three `only_contains` is true, as RFC 5280 wants it, isn't
@@ -59,7 +59,7 @@ impl Drop for IssuingDistributionPoint {
 }
 
 impl AssociatedOid for IssuingDistributionPoint {
-    ghost use Rattle.x509_ext_frame.specs.Identifiers.{id_ce};
+    ghost use Rattle.x509_extension.specs.Identifiers.{id_ce};
 
     ghost OID = { id_ce 28 };
 
@@ -98,12 +98,14 @@ impl Content for IssuingDistributionPoint {
 
     fn read_content(alloc: Global, octets: &[u8]) -> Result<IssuingDistributionPoint, Error> {
         let mut rest = octets;
-        let distribution_point = optional_explicit::<DistributionPointName>(alloc, 0, &mut rest)?;
-        let only_contains_user_certs = default_implicit::<bool>(alloc, 1, &mut rest)?;
-        let only_contains_ca_certs = default_implicit::<bool>(alloc, 2, &mut rest)?;
-        let only_some_reasons = optional_implicit::<ReasonFlags>(alloc, 3, &mut rest)?;
-        let indirect_crl = default_implicit::<bool>(alloc, 4, &mut rest)?;
-        let only_contains_attribute_certs = default_implicit::<bool>(alloc, 5, &mut rest)?;
+        let distribution_point = read_optional_explicit::<DistributionPointName>(
+            alloc, 0, &mut rest,
+        )?;
+        let only_contains_user_certs = read_defaulted_implicit::<bool>(alloc, 1, &mut rest)?;
+        let only_contains_ca_certs = read_defaulted_implicit::<bool>(alloc, 2, &mut rest)?;
+        let only_some_reasons = read_optional_implicit::<ReasonFlags>(alloc, 3, &mut rest)?;
+        let indirect_crl = read_defaulted_implicit::<bool>(alloc, 4, &mut rest)?;
+        let only_contains_attribute_certs = read_defaulted_implicit::<bool>(alloc, 5, &mut rest)?;
         end(rest)?;
         Ok(IssuingDistributionPoint {
             distribution_point,
@@ -117,20 +119,20 @@ impl Content for IssuingDistributionPoint {
 
     fn write_content<R: Room>(&self, room: &mut R) -> Result<(), Error> {
         let front = (
-            explicit_optional(0, &self.distribution_point),
+            optional_explicit(0, &self.distribution_point),
             (
-                implicit_default(1, &self.only_contains_user_certs),
-                implicit_default(2, &self.only_contains_ca_certs),
+                defaulted_implicit(1, &self.only_contains_user_certs),
+                defaulted_implicit(2, &self.only_contains_ca_certs),
             ),
         );
         let behind = (
-            implicit_optional(3, &self.only_some_reasons),
+            optional_implicit(3, &self.only_some_reasons),
             (
-                implicit_default(4, &self.indirect_crl),
-                implicit_default(5, &self.only_contains_attribute_certs),
+                defaulted_implicit(4, &self.indirect_crl),
+                defaulted_implicit(5, &self.only_contains_attribute_certs),
             ),
         );
-        (front, behind).put_text(room)
+        (front, behind).put_part(room)
     }
 
     ghost contents_lawful = { grammar.issuing_distribution_point_contents_lawful };

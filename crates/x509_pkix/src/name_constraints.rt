@@ -3,9 +3,11 @@
 use crate::general_subtree::GeneralSubtrees;
 use std::alloc::Global;
 use x509_der::{AssociatedOid, ObjectIdentifier, oid};
-use x509_der_frames::{PutPart, end, implicit_optional, option_has_spelling, optional_implicit};
+use x509_der_frames::{
+    PutPart, end, option_has_spelling, optional_implicit, read_optional_implicit,
+};
 use x509_der_grammar::{Content, Error, Room, Spelled, Tag, TryClone};
-use x509_ext_frame::{Always, FixedCriticality};
+use x509_extension::{Always, FixedCriticality};
 
 /// Name constraints: which names the subjects of the certificates below an authority may have (RFC 5280 4.2.1.10). Its
 /// OID is 2.5.29.30, and it is critical.
@@ -34,7 +36,7 @@ impl Drop for NameConstraints {
 }
 
 impl AssociatedOid for NameConstraints {
-    ghost use Rattle.x509_ext_frame.specs.Identifiers.{id_ce};
+    ghost use Rattle.x509_extension.specs.Identifiers.{id_ce};
 
     ghost OID = { id_ce 30 };
 
@@ -67,8 +69,8 @@ impl Content for NameConstraints {
 
     fn read_content(alloc: Global, octets: &[u8]) -> Result<NameConstraints, Error> {
         let mut rest = octets;
-        let permitted_subtrees = optional_implicit::<GeneralSubtrees>(alloc, 0, &mut rest)?;
-        let excluded_subtrees = optional_implicit::<GeneralSubtrees>(alloc, 1, &mut rest)?;
+        let permitted_subtrees = read_optional_implicit::<GeneralSubtrees>(alloc, 0, &mut rest)?;
+        let excluded_subtrees = read_optional_implicit::<GeneralSubtrees>(alloc, 1, &mut rest)?;
         end(rest)?;
         Ok(NameConstraints {
             permitted_subtrees,
@@ -78,10 +80,10 @@ impl Content for NameConstraints {
 
     fn write_content<R: Room>(&self, room: &mut R) -> Result<(), Error> {
         let parts = (
-            implicit_optional(0, &self.permitted_subtrees),
-            implicit_optional(1, &self.excluded_subtrees),
+            optional_implicit(0, &self.permitted_subtrees),
+            optional_implicit(1, &self.excluded_subtrees),
         );
-        parts.put_text(room)
+        parts.put_part(room)
     }
 
     ghost contents_lawful = { grammar.name_constraints_contents_lawful };

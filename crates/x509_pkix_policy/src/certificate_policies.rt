@@ -4,7 +4,7 @@ use crate::policy_information::PolicyInformation;
 use x509_der::{AssociatedOid, ObjectIdentifier, oid};
 use x509_der_frames::SequenceOf;
 use x509_der_grammar::Newtype;
-use x509_ext_frame::{FixedCriticality, Never};
+use x509_extension::{FixedCriticality, Never};
 
 /// The policies under which the certificate was issued and for which it may be used (RFC 5280 4.2.1.4). Its OID is
 /// 2.5.29.32, and it isn't critical unless the caller says so. An empty sequence is decoded and encoded too.
@@ -16,7 +16,7 @@ use x509_ext_frame::{FixedCriticality, Never};
 pub struct CertificatePolicies(pub SequenceOf<PolicyInformation>);
 
 impl AssociatedOid for CertificatePolicies {
-    ghost use Rattle.x509_ext_frame.specs.Identifiers.{id_ce};
+    ghost use Rattle.x509_extension.specs.Identifiers.{id_ce};
 
     ghost OID = { id_ce 32 };
 

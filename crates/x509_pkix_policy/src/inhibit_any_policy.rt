@@ -3,7 +3,7 @@
 use x509_der::{AssociatedOid, ObjectIdentifier, oid};
 use x509_der_grammar::Newtype;
 use x509_der_order::{EncodingOrd, NewtypeOrd, SetMember, SetOrd};
-use x509_ext_frame::{Always, FixedCriticality};
+use x509_extension::{Always, FixedCriticality};
 
 /// The OID of [`InhibitAnyPolicy`], 2.5.29.54.
 pub const ID_CE_INHIBIT_ANY_POLICY: ObjectIdentifier = oid!(0x55, 0x1D, 54);
@@ -19,7 +19,7 @@ pub const ID_CE_INHIBIT_ANY_POLICY: ObjectIdentifier = oid!(0x55, 0x1D, 54);
 pub struct InhibitAnyPolicy(pub u32);
 
 impl AssociatedOid for InhibitAnyPolicy {
-    ghost use Rattle.x509_ext_frame.specs.Identifiers.{id_ce};
+    ghost use Rattle.x509_extension.specs.Identifiers.{id_ce};
 
     ghost OID = { id_ce 54 };
 

@@ -2,9 +2,11 @@
 
 use std::alloc::Global;
 use x509_der::{AssociatedOid, ObjectIdentifier, oid};
-use x509_der_frames::{PutPart, end, implicit_optional, option_has_spelling, optional_implicit};
+use x509_der_frames::{
+    PutPart, end, option_has_spelling, optional_implicit, read_optional_implicit,
+};
 use x509_der_grammar::{Content, Error, Room, Spelled, Tag, TryClone};
-use x509_ext_frame::{Always, FixedCriticality};
+use x509_extension::{Always, FixedCriticality};
 
 /// Policy constraints: after how many further certificates of a path policies have to be acceptable, or mappings aren't
 /// followed any more (RFC 5280 4.2.1.11). Its OID is 2.5.29.36, and it is critical.
@@ -25,7 +27,7 @@ pub struct PolicyConstraints {
 }
 
 impl AssociatedOid for PolicyConstraints {
-    ghost use Rattle.x509_ext_frame.specs.Identifiers.{id_ce};
+    ghost use Rattle.x509_extension.specs.Identifiers.{id_ce};
 
     ghost OID = { id_ce 36 };
 
@@ -64,8 +66,8 @@ impl Content for PolicyConstraints {
 
     fn read_content(alloc: Global, octets: &[u8]) -> Result<PolicyConstraints, Error> {
         let mut rest = octets;
-        let require_explicit_policy = optional_implicit::<u32>(alloc, 0, &mut rest)?;
-        let inhibit_policy_mapping = optional_implicit::<u32>(alloc, 1, &mut rest)?;
+        let require_explicit_policy = read_optional_implicit::<u32>(alloc, 0, &mut rest)?;
+        let inhibit_policy_mapping = read_optional_implicit::<u32>(alloc, 1, &mut rest)?;
         end(rest)?;
         Ok(PolicyConstraints {
             require_explicit_policy,
@@ -75,10 +77,10 @@ impl Content for PolicyConstraints {
 
     fn write_content<R: Room>(&self, room: &mut R) -> Result<(), Error> {
         let parts = (
-            implicit_optional(0, &self.require_explicit_policy),
-            implicit_optional(1, &self.inhibit_policy_mapping),
+            optional_implicit(0, &self.require_explicit_policy),
+            optional_implicit(1, &self.inhibit_policy_mapping),
         );
-        parts.put_text(room)
+        parts.put_part(room)
     }
 
     ghost contents_lawful = { grammar.policy_constraints_contents_lawful };

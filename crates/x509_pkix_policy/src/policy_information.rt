@@ -3,7 +3,7 @@
 use std::alloc::Global;
 use x509_der::ObjectIdentifier;
 use x509_der_frames::{
-    Any, PutPart, SequenceOf, end, field, option_has_spelling, optional, optional_field,
+    Any, PutPart, SequenceOf, end, option_has_spelling, optional, read_field, read_optional,
 };
 use x509_der_grammar::{Content, Error, Room, Spelled, Tag, TryClone};
 
@@ -55,10 +55,8 @@ impl Content for PolicyInformation {
 
     fn read_content(alloc: Global, octets: &[u8]) -> Result<PolicyInformation, Error> {
         let mut rest = octets;
-        let policy_identifier = field::<ObjectIdentifier>(alloc, &mut rest)?;
-        let policy_qualifiers = optional_field::<SequenceOf<PolicyQualifierInfo>>(
-            alloc, &mut rest,
-        )?;
+        let policy_identifier = read_field::<ObjectIdentifier>(alloc, &mut rest)?;
+        let policy_qualifiers = read_optional::<SequenceOf<PolicyQualifierInfo>>(alloc, &mut rest)?;
         end(rest)?;
         Ok(PolicyInformation {
             policy_identifier,
@@ -68,7 +66,7 @@ impl Content for PolicyInformation {
 
     fn write_content<R: Room>(&self, room: &mut R) -> Result<(), Error> {
         let parts = (&self.policy_identifier, optional(&self.policy_qualifiers));
-        parts.put_text(room)
+        parts.put_part(room)
     }
 
     ghost contents_lawful = { grammar.policy_information_contents_lawful };
@@ -129,8 +127,8 @@ impl Content for PolicyQualifierInfo {
 
     fn read_content(alloc: Global, octets: &[u8]) -> Result<PolicyQualifierInfo, Error> {
         let mut rest = octets;
-        let policy_qualifier_id = field::<ObjectIdentifier>(alloc, &mut rest)?;
-        let qualifier = optional_field::<Any>(alloc, &mut rest)?;
+        let policy_qualifier_id = read_field::<ObjectIdentifier>(alloc, &mut rest)?;
+        let qualifier = read_optional::<Any>(alloc, &mut rest)?;
         end(rest)?;
         Ok(PolicyQualifierInfo {
             policy_qualifier_id,
@@ -140,7 +138,7 @@ impl Content for PolicyQualifierInfo {
 
     fn write_content<R: Room>(&self, room: &mut R) -> Result<(), Error> {
         let parts = (&self.policy_qualifier_id, optional(&self.qualifier));
-        parts.put_text(room)
+        parts.put_part(room)
     }
 
     ghost contents_lawful = { grammar.policy_qualifier_info_contents_lawful };

@@ -2,9 +2,9 @@
 
 use std::alloc::Global;
 use x509_der::{AssociatedOid, ObjectIdentifier, oid};
-use x509_der_frames::{PutPart, SequenceOf, end, field};
+use x509_der_frames::{PutPart, SequenceOf, end, read_field};
 use x509_der_grammar::{Content, Error, Newtype, Room, Spelled, Tag, TryClone};
-use x509_ext_frame::{Always, FixedCriticality};
+use x509_extension::{Always, FixedCriticality};
 
 /// A policy of the issuer, and a policy of the subject that the issuer considers equivalent (RFC 5280 4.2.1.5).
 ///
@@ -51,8 +51,8 @@ impl Content for PolicyMapping {
 
     fn read_content(alloc: Global, octets: &[u8]) -> Result<PolicyMapping, Error> {
         let mut rest = octets;
-        let issuer_domain_policy = field::<ObjectIdentifier>(alloc, &mut rest)?;
-        let subject_domain_policy = field::<ObjectIdentifier>(alloc, &mut rest)?;
+        let issuer_domain_policy = read_field::<ObjectIdentifier>(alloc, &mut rest)?;
+        let subject_domain_policy = read_field::<ObjectIdentifier>(alloc, &mut rest)?;
         end(rest)?;
         Ok(PolicyMapping {
             issuer_domain_policy,
@@ -62,7 +62,7 @@ impl Content for PolicyMapping {
 
     fn write_content<R: Room>(&self, room: &mut R) -> Result<(), Error> {
         let parts = (&self.issuer_domain_policy, &self.subject_domain_policy);
-        parts.put_text(room)
+        parts.put_part(room)
     }
 
     ghost contents_lawful = { grammar.policy_mapping_contents_lawful };
@@ -86,7 +86,7 @@ impl Spelled for PolicyMapping {
 pub struct PolicyMappings(pub SequenceOf<PolicyMapping>);
 
 impl AssociatedOid for PolicyMappings {
-    ghost use Rattle.x509_ext_frame.specs.Identifiers.{id_ce};
+    ghost use Rattle.x509_extension.specs.Identifiers.{id_ce};
 
     ghost OID = { id_ce 33 };
 

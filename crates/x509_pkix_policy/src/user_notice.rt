@@ -3,7 +3,7 @@
 use crate::display_text::DisplayText;
 use std::alloc::Global;
 use x509_der_frames::{
-    PutPart, SequenceOf, end, field, option_has_spelling, optional, optional_field,
+    PutPart, SequenceOf, end, option_has_spelling, optional, read_field, read_optional,
 };
 use x509_der_grammar::{Content, Error, Room, Spelled, Tag, TryClone};
 use x509_prim::Uint;
@@ -55,8 +55,8 @@ impl Content for UserNotice {
 
     fn read_content(alloc: Global, octets: &[u8]) -> Result<UserNotice, Error> {
         let mut rest = octets;
-        let notice_ref = optional_field::<NoticeReference>(alloc, &mut rest)?;
-        let explicit_text = optional_field::<DisplayText>(alloc, &mut rest)?;
+        let notice_ref = read_optional::<NoticeReference>(alloc, &mut rest)?;
+        let explicit_text = read_optional::<DisplayText>(alloc, &mut rest)?;
         end(rest)?;
         Ok(UserNotice {
             notice_ref,
@@ -66,7 +66,7 @@ impl Content for UserNotice {
 
     fn write_content<R: Room>(&self, room: &mut R) -> Result<(), Error> {
         let parts = (optional(&self.notice_ref), optional(&self.explicit_text));
-        parts.put_text(room)
+        parts.put_part(room)
     }
 
     ghost contents_lawful = { grammar.user_notice_contents_lawful };
@@ -127,8 +127,8 @@ impl Content for NoticeReference {
 
     fn read_content(alloc: Global, octets: &[u8]) -> Result<NoticeReference, Error> {
         let mut rest = octets;
-        let organization = field::<DisplayText>(alloc, &mut rest)?;
-        let notice_numbers = optional_field::<SequenceOf<Uint>>(alloc, &mut rest)?;
+        let organization = read_field::<DisplayText>(alloc, &mut rest)?;
+        let notice_numbers = read_optional::<SequenceOf<Uint>>(alloc, &mut rest)?;
         end(rest)?;
         Ok(NoticeReference {
             organization,
@@ -138,7 +138,7 @@ impl Content for NoticeReference {
 
     fn write_content<R: Room>(&self, room: &mut R) -> Result<(), Error> {
         let parts = (&self.organization, optional(&self.notice_numbers));
-        parts.put_text(room)
+        parts.put_part(room)
     }
 
     ghost contents_lawful = { grammar.notice_reference_contents_lawful };

@@ -3,8 +3,8 @@
 use std::alloc::Global;
 use x509_base::{Profile, Rfc5280, Validity};
 use x509_der::{
-    Content, Encode, Error, ObjectIdentifier, PutPart, Room, Tag, default_field, defaulted, end,
-    field, implicit_optional, optional_implicit,
+    Content, Encode, Error, ObjectIdentifier, PutPart, Room, Tag, defaulted, end,
+    optional_implicit, read_defaulted, read_field, read_optional_implicit,
 };
 use x509_prim::OctetString;
 
@@ -54,9 +54,9 @@ impl<P: Profile> Content for Dated<P> {
 
     fn read_content(alloc: Global, octets: &[u8]) -> Result<Dated<P>, Error> {
         let mut rest = octets;
-        let name = field::<ObjectIdentifier>(alloc, &mut rest)?;
-        let validity = field::<Validity<P>>(alloc, &mut rest)?;
-        let note = optional_implicit::<OctetString>(alloc, 0, &mut rest)?;
+        let name = read_field::<ObjectIdentifier>(alloc, &mut rest)?;
+        let validity = read_field::<Validity<P>>(alloc, &mut rest)?;
+        let note = read_optional_implicit::<OctetString>(alloc, 0, &mut rest)?;
         end(rest)?;
         Ok(Dated {
             name,
@@ -68,9 +68,9 @@ impl<P: Profile> Content for Dated<P> {
     fn write_content<R: Room>(&self, room: &mut R) -> Result<(), Error> {
         let parts = (
             &self.name,
-            (&self.validity, implicit_optional(0, &self.note)),
+            (&self.validity, optional_implicit(0, &self.note)),
         );
-        parts.put_text(room)
+        parts.put_part(room)
     }
 
     ghost contents_lawful = { grammar.dated_contents_lawful };
@@ -114,15 +114,15 @@ impl<P: Profile> Content for Enclosing<P> {
 
     fn read_content(alloc: Global, octets: &[u8]) -> Result<Enclosing<P>, Error> {
         let mut rest = octets;
-        let kept = optional_implicit::<Dated<P>>(alloc, 1, &mut rest)?;
-        let last = default_field::<bool>(alloc, &mut rest)?;
+        let kept = read_optional_implicit::<Dated<P>>(alloc, 1, &mut rest)?;
+        let last = read_defaulted::<bool>(alloc, &mut rest)?;
         end(rest)?;
         Ok(Enclosing { kept, last })
     }
 
     fn write_content<R: Room>(&self, room: &mut R) -> Result<(), Error> {
-        let parts = (implicit_optional(1, &self.kept), defaulted(&self.last));
-        parts.put_text(room)
+        let parts = (optional_implicit(1, &self.kept), defaulted(&self.last));
+        parts.put_part(room)
     }
 
     ghost contents_lawful = { grammar.enclosing_contents_lawful };

@@ -4,7 +4,7 @@ use std::alloc::Global;
 use std::cmp::Ordering;
 use x509_der::{
     Any, Content, DerOrd, EncodingOrd, Error, ObjectIdentifier, PutPart, Room, SetMember, SetOrd,
-    Tag, ValueOrd, end, field,
+    Tag, ValueOrd, end, read_field,
 };
 
 /// Two required fields.
@@ -36,15 +36,15 @@ impl Content for Pair {
 
     fn read_content(alloc: Global, octets: &[u8]) -> Result<Pair, Error> {
         let mut rest = octets;
-        let id = field::<ObjectIdentifier>(alloc, &mut rest)?;
-        let value = field::<Any>(alloc, &mut rest)?;
+        let id = read_field::<ObjectIdentifier>(alloc, &mut rest)?;
+        let value = read_field::<Any>(alloc, &mut rest)?;
         end(rest)?;
         Ok(Pair { id, value })
     }
 
     fn write_content<R: Room>(&self, room: &mut R) -> Result<(), Error> {
         let parts = (&self.id, &self.value);
-        parts.put_text(room)
+        parts.put_part(room)
     }
 
     ghost contents_lawful = { grammar.pair_contents_lawful };

@@ -2,8 +2,8 @@
 
 use std::alloc::Global;
 use x509_der::{
-    Content, Error, ObjectIdentifier, PutPart, Room, Tag, default_explicit, default_field,
-    defaulted, end, explicit_default, field, implicit_optional, optional_implicit,
+    Content, Error, ObjectIdentifier, PutPart, Room, Tag, defaulted, defaulted_explicit, end,
+    optional_implicit, read_defaulted, read_defaulted_explicit, read_field, read_optional_implicit,
 };
 use x509_prim::OctetString;
 
@@ -44,20 +44,20 @@ impl Content for Probe {
 
     fn read_content(alloc: Global, octets: &[u8]) -> Result<Probe, Error> {
         let mut rest = octets;
-        let a = default_explicit::<u8>(alloc, 0, &mut rest)?;
-        let b = optional_implicit::<OctetString>(alloc, 1, &mut rest)?;
-        let c = default_field::<bool>(alloc, &mut rest)?;
-        let d = field::<ObjectIdentifier>(alloc, &mut rest)?;
+        let a = read_defaulted_explicit::<u8>(alloc, 0, &mut rest)?;
+        let b = read_optional_implicit::<OctetString>(alloc, 1, &mut rest)?;
+        let c = read_defaulted::<bool>(alloc, &mut rest)?;
+        let d = read_field::<ObjectIdentifier>(alloc, &mut rest)?;
         end(rest)?;
         Ok(Probe { a, b, c, d })
     }
 
     fn write_content<R: Room>(&self, room: &mut R) -> Result<(), Error> {
         let parts = (
-            explicit_default(0, &self.a),
-            (implicit_optional(1, &self.b), (defaulted(&self.c), &self.d)),
+            defaulted_explicit(0, &self.a),
+            (optional_implicit(1, &self.b), (defaulted(&self.c), &self.d)),
         );
-        parts.put_text(room)
+        parts.put_part(room)
     }
 
     ghost contents_lawful = { grammar.probe_contents_lawful };

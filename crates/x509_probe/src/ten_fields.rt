@@ -4,9 +4,10 @@ use crate::number::Number;
 use crate::probe::Probe;
 use std::alloc::Global;
 use x509_der::{
-    Content, Error, ObjectIdentifier, PutPart, Room, SequenceOf, Tag, default_explicit, end,
-    explicit, explicit_default, explicit_field, explicit_optional, field, implicit, implicit_field,
-    implicit_optional, optional, optional_explicit, optional_field, optional_implicit,
+    Content, Error, ObjectIdentifier, PutPart, Room, SequenceOf, Tag, defaulted_explicit, end,
+    explicit, implicit, optional, optional_explicit, optional_implicit, read_defaulted_explicit,
+    read_explicit, read_field, read_implicit, read_optional, read_optional_explicit,
+    read_optional_implicit,
 };
 use x509_prim::{BitString, OctetString};
 
@@ -71,16 +72,16 @@ impl Content for TenFields {
 
     fn read_content(alloc: Global, octets: &[u8]) -> Result<TenFields, Error> {
         let mut rest = octets;
-        let version = default_explicit::<u8>(alloc, 0, &mut rest)?;
-        let name = field::<ObjectIdentifier>(alloc, &mut rest)?;
-        let number = field::<Number>(alloc, &mut rest)?;
-        let probes = field::<SequenceOf<Probe>>(alloc, &mut rest)?;
-        let bits = optional_implicit::<BitString>(alloc, 1, &mut rest)?;
-        let further_bits = optional_implicit::<BitString>(alloc, 2, &mut rest)?;
-        let wrapped = optional_explicit::<OctetString>(alloc, 3, &mut rest)?;
-        let inner = explicit_field::<Number>(alloc, 4, &mut rest)?;
-        let retagged = implicit_field::<Probe>(alloc, 5, &mut rest)?;
-        let last = optional_field::<Probe>(alloc, &mut rest)?;
+        let version = read_defaulted_explicit::<u8>(alloc, 0, &mut rest)?;
+        let name = read_field::<ObjectIdentifier>(alloc, &mut rest)?;
+        let number = read_field::<Number>(alloc, &mut rest)?;
+        let probes = read_field::<SequenceOf<Probe>>(alloc, &mut rest)?;
+        let bits = read_optional_implicit::<BitString>(alloc, 1, &mut rest)?;
+        let further_bits = read_optional_implicit::<BitString>(alloc, 2, &mut rest)?;
+        let wrapped = read_optional_explicit::<OctetString>(alloc, 3, &mut rest)?;
+        let inner = read_explicit::<Number>(alloc, 4, &mut rest)?;
+        let retagged = read_implicit::<Probe>(alloc, 5, &mut rest)?;
+        let last = read_optional::<Probe>(alloc, &mut rest)?;
         end(rest)?;
         Ok(TenFields {
             version,
@@ -98,26 +99,26 @@ impl Content for TenFields {
 
     fn write_content<R: Room>(&self, room: &mut R) -> Result<(), Error> {
         let front = (
-            explicit_default(0, &self.version),
+            defaulted_explicit(0, &self.version),
             (
                 &self.name,
                 (
                     &self.number,
-                    (&self.probes, implicit_optional(1, &self.bits)),
+                    (&self.probes, optional_implicit(1, &self.bits)),
                 ),
             ),
         );
         let behind = (
-            implicit_optional(2, &self.further_bits),
+            optional_implicit(2, &self.further_bits),
             (
-                explicit_optional(3, &self.wrapped),
+                optional_explicit(3, &self.wrapped),
                 (
                     explicit(4, &self.inner),
                     (implicit(5, &self.retagged), optional(&self.last)),
                 ),
             ),
         );
-        (front, behind).put_text(room)
+        (front, behind).put_part(room)
     }
 
     ghost contents_lawful = { grammar.ten_fields_contents_lawful };

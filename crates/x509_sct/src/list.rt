@@ -15,7 +15,7 @@ use std::alloc::Global;
 use x509_der::{AssociatedOid, ObjectIdentifier, oid};
 use x509_der_grammar::Newtype;
 use x509_der_order::{EncodingOrd, NewtypeOrd, SetMember, SetOrd};
-use x509_ext_frame::{FixedCriticality, Never};
+use x509_extension::{FixedCriticality, Never};
 use x509_prim::OctetString;
 use x509_sct_tls::{read_list, serialize_list};
 

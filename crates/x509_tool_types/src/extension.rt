@@ -6,7 +6,7 @@ use x509_der_grammar::Error;
 use x509_ext::pkix::{
     BasicConstraints, ExtendedKeyUsage, KeyUsage, PrivateKeyUsagePeriod, SubjectKeyIdentifier,
 };
-use x509_ext_frame::{Extension, Extensions};
+use x509_extension::{Extension, Extensions};
 use x509_tool_table::{Reencode, Table};
 
 /// Extensions and those about keys, in front of another table.

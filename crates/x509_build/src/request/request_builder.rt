@@ -10,7 +10,7 @@ ghost use Rattle.x509_cert.specs.Attributes.{MakesAttribute};
 ghost use Rattle.x509_der_element.specs.declared.error.Error.{Error};
 ghost use Rattle.x509_der_element.specs.declared.error.ErrorKind.TheVariants.{Memory, SetDuplicate};
 ghost use Rattle.x509_der_grammar.specs.Writing.{writes};
-ghost use Rattle.x509_ext_frame.specs.declared.extension.Extension.{Extension};
+ghost use Rattle.x509_extension.specs.declared.extension.Extension.{Extension};
 ghost use Rattle.x509_name_attribute.specs.Attribute.{attribute_cmp};
 ghost use Rattle.x509_name_attribute.specs.declared.attribute.Attribute.{Attribute};
 
@@ -20,7 +20,7 @@ use x509_build_profile::{Builder, Result, Signer, no_algorithm};
 use x509_cert::request::attributes::AsAttribute;
 use x509_cert::request::{CertReq, CertReqInfo, ExtensionReq, Version, extension_req_attribute};
 use x509_der_grammar::{Encode, Error, TryClone};
-use x509_ext_frame::ToExtension;
+use x509_extension::ToExtension;
 use x509_name::name::Name;
 use x509_name_attribute::{Attribute, Attributes};
 use x509_prim::BitString;

@@ -8,7 +8,7 @@ use crate::crl::tbs_cert_list::TbsCertList;
 use std::alloc::Global;
 use x509_base::{AlgorithmIdentifier, SerialNumber};
 use x509_base_time::{Profile, Rfc5280};
-use x509_der_frames::{PutPart, end, field};
+use x509_der_frames::{PutPart, end, read_field};
 use x509_der_grammar::{Content, Error, Room, Spelled, Tag, TryClone};
 use x509_prim::BitString;
 
@@ -114,9 +114,9 @@ impl<P: Profile> Content for CertificateList<P> {
 
     fn read_content(alloc: Global, octets: &[u8]) -> Result<CertificateList<P>, Error> {
         let mut rest = octets;
-        let tbs_cert_list = field::<TbsCertList<P>>(alloc, &mut rest)?;
-        let signature_algorithm = field::<AlgorithmIdentifier>(alloc, &mut rest)?;
-        let signature = field::<BitString>(alloc, &mut rest)?;
+        let tbs_cert_list = read_field::<TbsCertList<P>>(alloc, &mut rest)?;
+        let signature_algorithm = read_field::<AlgorithmIdentifier>(alloc, &mut rest)?;
+        let signature = read_field::<BitString>(alloc, &mut rest)?;
         end(rest)?;
         Ok(CertificateList {
             tbs_cert_list,
@@ -130,7 +130,7 @@ impl<P: Profile> Content for CertificateList<P> {
             &self.tbs_cert_list,
             (&self.signature_algorithm, &self.signature),
         );
-        parts.put_text(room)
+        parts.put_part(room)
     }
 
     ghost contents_lawful = { grammar.certificate_list_contents_lawful P.serial_check };

@@ -11,7 +11,7 @@ use x509_cert_certificate::{
     Extensions, FilterExtensions, filter_extensions, get_extension, members,
 };
 use x509_der::AssociatedOid;
-use x509_der_frames::{PutPart, end, field, option_has_spelling, optional, optional_field};
+use x509_der_frames::{PutPart, end, option_has_spelling, optional, read_field, read_optional};
 use x509_der_grammar::{Content, Decode, Error, Room, Spelled, Tag, TryClone};
 
 /// An entry of a CRL: a certificate that was revoked (RFC 5280 5.1.2.6). Decoding asks the profile whether the serial
@@ -100,9 +100,9 @@ impl<P: Profile> Content for RevokedCert<P> {
     #[inline(always)]
     fn read_content(alloc: Global, octets: &[u8]) -> Result<RevokedCert<P>, Error> {
         let mut rest = octets;
-        let serial_number = field::<SerialNumber<P>>(alloc, &mut rest)?;
-        let revocation_date = field::<Time>(alloc, &mut rest)?;
-        let crl_entry_extensions = optional_field::<Extensions>(alloc, &mut rest)?;
+        let serial_number = read_field::<SerialNumber<P>>(alloc, &mut rest)?;
+        let revocation_date = read_field::<Time>(alloc, &mut rest)?;
+        let crl_entry_extensions = read_optional::<Extensions>(alloc, &mut rest)?;
         end(rest)?;
         Ok(RevokedCert {
             serial_number,
@@ -116,7 +116,7 @@ impl<P: Profile> Content for RevokedCert<P> {
             &self.serial_number,
             (&self.revocation_date, optional(&self.crl_entry_extensions)),
         );
-        parts.put_text(room)
+        parts.put_part(room)
     }
 
     ghost contents_lawful = { grammar.revoked_cert_contents_lawful P.serial_check };

@@ -14,8 +14,8 @@ use x509_cert_certificate::{
 };
 use x509_der::AssociatedOid;
 use x509_der_frames::{
-    PutPart, SequenceOf, end, explicit_optional, field, option_has_spelling, optional,
-    optional_explicit, optional_field,
+    PutPart, SequenceOf, end, option_has_spelling, optional, optional_explicit, read_field,
+    read_optional, read_optional_explicit,
 };
 use x509_der_grammar::{Content, Decode, Error, Room, Spelled, Tag, TryClone};
 
@@ -139,13 +139,13 @@ impl<P: Profile> Content for TbsCertList<P> {
 
     fn read_content(alloc: Global, octets: &[u8]) -> Result<TbsCertList<P>, Error> {
         let mut rest = octets;
-        let version = optional_field::<Version>(alloc, &mut rest)?;
-        let signature = field::<AlgorithmIdentifier>(alloc, &mut rest)?;
-        let issuer = field::<Name>(alloc, &mut rest)?;
-        let this_update = field::<Time>(alloc, &mut rest)?;
-        let next_update = optional_field::<Time>(alloc, &mut rest)?;
-        let revoked_certificates = optional_field::<SequenceOf<RevokedCert<P>>>(alloc, &mut rest)?;
-        let crl_extensions = optional_explicit::<Extensions>(alloc, 0, &mut rest)?;
+        let version = read_optional::<Version>(alloc, &mut rest)?;
+        let signature = read_field::<AlgorithmIdentifier>(alloc, &mut rest)?;
+        let issuer = read_field::<Name>(alloc, &mut rest)?;
+        let this_update = read_field::<Time>(alloc, &mut rest)?;
+        let next_update = read_optional::<Time>(alloc, &mut rest)?;
+        let revoked_certificates = read_optional::<SequenceOf<RevokedCert<P>>>(alloc, &mut rest)?;
+        let crl_extensions = read_optional_explicit::<Extensions>(alloc, 0, &mut rest)?;
         end(rest)?;
         Ok(TbsCertList {
             version,
@@ -167,10 +167,10 @@ impl<P: Profile> Content for TbsCertList<P> {
             optional(&self.next_update),
             (
                 optional(&self.revoked_certificates),
-                explicit_optional(0, &self.crl_extensions),
+                optional_explicit(0, &self.crl_extensions),
             ),
         );
-        (front, behind).put_text(room)
+        (front, behind).put_part(room)
     }
 
     ghost contents_lawful = { grammar.tbs_cert_list_contents_lawful P.serial_check };

@@ -14,10 +14,10 @@ use crate::request::look_up::get_attribute;
 use crate::request::version::Version;
 use std::alloc::Global;
 use x509_base::{AlgorithmIdentifier, SubjectPublicKeyInfo};
-use x509_cert_extension::Name;
 use x509_der::AssociatedOid;
-use x509_der_frames::{PutPart, end, field, implicit, implicit_field};
+use x509_der_frames::{PutPart, end, implicit, read_field, read_implicit};
 use x509_der_grammar::{Content, Decode, Error, Grammar, Room, Spelled, Tag, TryClone};
+use x509_extension::Name;
 use x509_name_attribute::Attributes;
 use x509_prim::BitString;
 
@@ -80,10 +80,10 @@ impl Content for CertReqInfo {
 
     fn read_content(alloc: Global, octets: &[u8]) -> Result<CertReqInfo, Error> {
         let mut rest = octets;
-        let version = field::<Version>(alloc, &mut rest)?;
-        let subject = field::<Name>(alloc, &mut rest)?;
-        let public_key = field::<SubjectPublicKeyInfo>(alloc, &mut rest)?;
-        let attributes = implicit_field::<Attributes>(alloc, 0, &mut rest)?;
+        let version = read_field::<Version>(alloc, &mut rest)?;
+        let subject = read_field::<Name>(alloc, &mut rest)?;
+        let public_key = read_field::<SubjectPublicKeyInfo>(alloc, &mut rest)?;
+        let attributes = read_implicit::<Attributes>(alloc, 0, &mut rest)?;
         end(rest)?;
         Ok(CertReqInfo {
             version,
@@ -101,7 +101,7 @@ impl Content for CertReqInfo {
                 (&self.public_key, implicit(0, &self.attributes)),
             ),
         );
-        parts.put_text(room)
+        parts.put_part(room)
     }
 
     ghost contents_lawful = { grammar.cert_req_info_contents_lawful };
@@ -229,9 +229,9 @@ impl Content for CertReq {
 
     fn read_content(alloc: Global, octets: &[u8]) -> Result<CertReq, Error> {
         let mut rest = octets;
-        let info = field::<CertReqInfo>(alloc, &mut rest)?;
-        let algorithm = field::<AlgorithmIdentifier>(alloc, &mut rest)?;
-        let signature = field::<BitString>(alloc, &mut rest)?;
+        let info = read_field::<CertReqInfo>(alloc, &mut rest)?;
+        let algorithm = read_field::<AlgorithmIdentifier>(alloc, &mut rest)?;
+        let signature = read_field::<BitString>(alloc, &mut rest)?;
         end(rest)?;
         Ok(CertReq {
             info,
@@ -242,7 +242,7 @@ impl Content for CertReq {
 
     fn write_content<R: Room>(&self, room: &mut R) -> Result<(), Error> {
         let parts = (&self.info, (&self.algorithm, &self.signature));
-        parts.put_text(room)
+        parts.put_part(room)
     }
 
     ghost contents_lawful = { grammar.cert_req_contents_lawful };

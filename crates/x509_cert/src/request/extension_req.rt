@@ -1,19 +1,18 @@
 //! The extensions that a CSR asks for.
 
 ghost use Rattle.std.specs.Prelude.{◌≡◌, []};
-ghost use Rattle.x509_cert_extension.specs.Filter.{extensions_left};
-ghost use Rattle.x509_cert_extension.specs.LookUp.{Finds, with_oid};
+ghost use Rattle.x509_extension.specs.Filter.{extensions_left};
+ghost use Rattle.x509_extension.specs.LookUp.{Finds, with_oid};
 ghost use Rattle.x509_cert.specs.Attributes.{MakesAttribute};
 ghost use Rattle.x509_cert.specs.Identifiers.{pkcs_9};
 ghost use Rattle.x509_der_grammar.specs.Writing.{plain, writes};
-ghost use Rattle.x509_ext_frame.specs.Extension.{extensions};
+ghost use Rattle.x509_extension.specs.Extension.{extensions};
 
 use crate::request::attributes::attribute_of;
 use std::alloc::Global;
-use x509_cert_extension::{FilterExtensions, filter_extensions, get_extension};
 use x509_der::{AssociatedOid, ObjectIdentifier, oid};
 use x509_der_grammar::{Decode, Error, Newtype};
-use x509_ext_frame::Extensions;
+use x509_extension::{Extensions, FilterExtensions, filter_extensions, get_extension};
 use x509_name_attribute::Attribute;
 
 /// The extensions that a CSR asks for, as the value of an attribute (RFC 2985 5.4.2, RFC 5272 3.1). Its OID is

@@ -4,10 +4,10 @@ ghost use Rattle.std.specs.Prelude.{◌≡◌, []};
 
 use std::alloc::Global;
 use x509_der::{AssociatedOid, ObjectIdentifier, oid};
-use x509_der_frames::{PutPart, SequenceOf, end, field};
+use x509_der_frames::{PutPart, SequenceOf, end, read_field};
 use x509_der_grammar::{Content, Error, Newtype, Room, Spelled, Tag, TryClone};
-use x509_ext_frame::{FixedCriticality, Never};
 use x509_ext_name::GeneralName;
+use x509_extension::{FixedCriticality, Never};
 
 /// Information that can be accessed about the issuer or the subject: by which method, and where (RFC 5280 4.2.2.1).
 ///
@@ -47,8 +47,8 @@ impl Content for AccessDescription {
 
     fn read_content(alloc: Global, octets: &[u8]) -> Result<AccessDescription, Error> {
         let mut rest = octets;
-        let access_method = field::<ObjectIdentifier>(alloc, &mut rest)?;
-        let access_location = field::<GeneralName>(alloc, &mut rest)?;
+        let access_method = read_field::<ObjectIdentifier>(alloc, &mut rest)?;
+        let access_location = read_field::<GeneralName>(alloc, &mut rest)?;
         end(rest)?;
         Ok(AccessDescription {
             access_method,
@@ -58,7 +58,7 @@ impl Content for AccessDescription {
 
     fn write_content<R: Room>(&self, room: &mut R) -> Result<(), Error> {
         let parts = (&self.access_method, &self.access_location);
-        parts.put_text(room)
+        parts.put_part(room)
     }
 
     ghost contents_lawful = { grammar.access_description_contents_lawful };
@@ -92,7 +92,7 @@ impl AuthorityInfoAccessSyntax {
 }
 
 impl AssociatedOid for AuthorityInfoAccessSyntax {
-    ghost use Rattle.x509_ext_frame.specs.Identifiers.{id_pkix};
+    ghost use Rattle.x509_extension.specs.Identifiers.{id_pkix};
 
     ghost OID = { id_pkix 1 1 };
 
@@ -176,7 +176,7 @@ impl SubjectInfoAccessSyntax {
 }
 
 impl AssociatedOid for SubjectInfoAccessSyntax {
-    ghost use Rattle.x509_ext_frame.specs.Identifiers.{id_pkix};
+    ghost use Rattle.x509_extension.specs.Identifiers.{id_pkix};
 
     ghost OID = { id_pkix 1 11 };
 

@@ -7,10 +7,12 @@ use crate::pkix::key_identifier;
 use std::alloc::Global;
 use x509_base::{SerialNumber, SubjectPublicKeyInfoRef};
 use x509_der::{AssociatedOid, ObjectIdentifier, oid};
-use x509_der_frames::{PutPart, end, implicit_optional, option_has_spelling, optional_implicit};
+use x509_der_frames::{
+    PutPart, end, option_has_spelling, optional_implicit, read_optional_implicit,
+};
 use x509_der_grammar::{Content, Error, Room, Spelled, Tag, TryClone};
-use x509_ext_frame::{FixedCriticality, Never};
 use x509_ext_name::GeneralNames;
+use x509_extension::{FixedCriticality, Never};
 use x509_prim::OctetString;
 
 /// The authority key identifier, AKI: it tells which key signed the certificate (RFC 5280 4.2.1.1). Its OID is
@@ -79,7 +81,7 @@ impl Default for AuthorityKeyIdentifier {
 }
 
 impl AssociatedOid for AuthorityKeyIdentifier {
-    ghost use Rattle.x509_ext_frame.specs.Identifiers.{id_ce};
+    ghost use Rattle.x509_extension.specs.Identifiers.{id_ce};
 
     ghost OID = { id_ce 35 };
 
@@ -113,9 +115,11 @@ impl Content for AuthorityKeyIdentifier {
 
     fn read_content(alloc: Global, octets: &[u8]) -> Result<AuthorityKeyIdentifier, Error> {
         let mut rest = octets;
-        let key_identifier = optional_implicit::<OctetString>(alloc, 0, &mut rest)?;
-        let authority_cert_issuer = optional_implicit::<GeneralNames>(alloc, 1, &mut rest)?;
-        let authority_cert_serial_number = optional_implicit::<SerialNumber>(alloc, 2, &mut rest)?;
+        let key_identifier = read_optional_implicit::<OctetString>(alloc, 0, &mut rest)?;
+        let authority_cert_issuer = read_optional_implicit::<GeneralNames>(alloc, 1, &mut rest)?;
+        let authority_cert_serial_number = read_optional_implicit::<SerialNumber>(
+            alloc, 2, &mut rest,
+        )?;
         end(rest)?;
         Ok(AuthorityKeyIdentifier {
             key_identifier,
@@ -126,13 +130,13 @@ impl Content for AuthorityKeyIdentifier {
 
     fn write_content<R: Room>(&self, room: &mut R) -> Result<(), Error> {
         let parts = (
-            implicit_optional(0, &self.key_identifier),
+            optional_implicit(0, &self.key_identifier),
             (
-                implicit_optional(1, &self.authority_cert_issuer),
-                implicit_optional(2, &self.authority_cert_serial_number),
+                optional_implicit(1, &self.authority_cert_issuer),
+                optional_implicit(2, &self.authority_cert_serial_number),
             ),
         );
-        parts.put_text(room)
+        parts.put_part(room)
     }
 
     ghost contents_lawful = { grammar.authority_key_identifier_contents_lawful };

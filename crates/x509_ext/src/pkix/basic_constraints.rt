@@ -3,10 +3,10 @@
 use std::alloc::Global;
 use x509_der::{AssociatedOid, ObjectIdentifier, oid};
 use x509_der_frames::{
-    PutPart, default_field, defaulted, end, option_has_spelling, optional, optional_field,
+    PutPart, defaulted, end, option_has_spelling, optional, read_defaulted, read_optional,
 };
 use x509_der_grammar::{Content, Error, Room, Spelled, Tag, TryClone};
-use x509_ext_frame::{Always, FixedCriticality};
+use x509_extension::{Always, FixedCriticality};
 
 /// Basic constraints: whether the subject is a certification authority, and how many more may stand below it (RFC 5280
 /// 4.2.1.9). Its OID is 2.5.29.19, and it is critical.
@@ -26,7 +26,7 @@ pub struct BasicConstraints {
 }
 
 impl AssociatedOid for BasicConstraints {
-    ghost use Rattle.x509_ext_frame.specs.Identifiers.{id_ce};
+    ghost use Rattle.x509_extension.specs.Identifiers.{id_ce};
 
     ghost OID = { id_ce 19 };
 
@@ -65,8 +65,8 @@ impl Content for BasicConstraints {
 
     fn read_content(alloc: Global, octets: &[u8]) -> Result<BasicConstraints, Error> {
         let mut rest = octets;
-        let ca = default_field::<bool>(alloc, &mut rest)?;
-        let path_len_constraint = optional_field::<u8>(alloc, &mut rest)?;
+        let ca = read_defaulted::<bool>(alloc, &mut rest)?;
+        let path_len_constraint = read_optional::<u8>(alloc, &mut rest)?;
         end(rest)?;
         Ok(BasicConstraints {
             ca,
@@ -76,7 +76,7 @@ impl Content for BasicConstraints {
 
     fn write_content<R: Room>(&self, room: &mut R) -> Result<(), Error> {
         let parts = (defaulted(&self.ca), optional(&self.path_len_constraint));
-        parts.put_text(room)
+        parts.put_part(room)
     }
 
     ghost contents_lawful = { grammar.basic_constraints_contents_lawful };

@@ -9,7 +9,7 @@ use std::cmp::Ordering;
 use x509_der::{AssociatedOid, ObjectIdentifier, oid};
 use x509_der_grammar::{Content, Error, Newtype, Room, Spelled, Tag, TryClone};
 use x509_der_order::{EncodingOrd, NewtypeOrd, SetMember, SetOrd, ValueOrd};
-use x509_ext_frame::{Always, FixedCriticality};
+use x509_extension::{Always, FixedCriticality};
 use x509_prim::{cmp_named_bits, put_named_bits, read_named_bits};
 
 /// A set of key usages, of which bit n stands for the named bit n (RFC 5280 4.2.1.3). A bit from 9 on has no name:
@@ -232,7 +232,7 @@ impl KeyUsage {
 }
 
 impl AssociatedOid for KeyUsage {
-    ghost use Rattle.x509_ext_frame.specs.Identifiers.{id_ce};
+    ghost use Rattle.x509_extension.specs.Identifiers.{id_ce};
 
     ghost OID = { id_ce 15 };
 

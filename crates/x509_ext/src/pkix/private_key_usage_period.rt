@@ -3,9 +3,11 @@
 use std::alloc::Global;
 use x509_base_time::GeneralizedTime;
 use x509_der::{AssociatedOid, ObjectIdentifier, oid};
-use x509_der_frames::{PutPart, end, implicit_optional, option_has_spelling, optional_implicit};
+use x509_der_frames::{
+    PutPart, end, option_has_spelling, optional_implicit, read_optional_implicit,
+};
 use x509_der_grammar::{Content, Error, Room, Spelled, Tag, TryClone};
-use x509_ext_frame::{FixedCriticality, Never};
+use x509_extension::{FixedCriticality, Never};
 
 /// The period in which the private key may sign, where that isn't the validity of its certificate (X.509 9.2.2.5). Its
 /// times are encoded as they are, under any profile. Its OID is 2.5.29.16 (RFC 5280 appendix A.2), and it isn't
@@ -26,7 +28,7 @@ pub struct PrivateKeyUsagePeriod {
 }
 
 impl AssociatedOid for PrivateKeyUsagePeriod {
-    ghost use Rattle.x509_ext_frame.specs.Identifiers.{id_ce};
+    ghost use Rattle.x509_extension.specs.Identifiers.{id_ce};
 
     ghost OID = { id_ce 16 };
 
@@ -65,8 +67,8 @@ impl Content for PrivateKeyUsagePeriod {
 
     fn read_content(alloc: Global, octets: &[u8]) -> Result<PrivateKeyUsagePeriod, Error> {
         let mut rest = octets;
-        let not_before = optional_implicit::<GeneralizedTime>(alloc, 0, &mut rest)?;
-        let not_after = optional_implicit::<GeneralizedTime>(alloc, 1, &mut rest)?;
+        let not_before = read_optional_implicit::<GeneralizedTime>(alloc, 0, &mut rest)?;
+        let not_after = read_optional_implicit::<GeneralizedTime>(alloc, 1, &mut rest)?;
         end(rest)?;
         Ok(PrivateKeyUsagePeriod {
             not_before,
@@ -76,10 +78,10 @@ impl Content for PrivateKeyUsagePeriod {
 
     fn write_content<R: Room>(&self, room: &mut R) -> Result<(), Error> {
         let parts = (
-            implicit_optional(0, &self.not_before),
-            implicit_optional(1, &self.not_after),
+            optional_implicit(0, &self.not_before),
+            optional_implicit(1, &self.not_after),
         );
-        parts.put_text(room)
+        parts.put_part(room)
     }
 
     ghost contents_lawful = { grammar.private_key_usage_period_contents_lawful };

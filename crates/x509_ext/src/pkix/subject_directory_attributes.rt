@@ -6,7 +6,7 @@ use std::alloc::Global;
 use x509_der::{AssociatedOid, ObjectIdentifier, oid};
 use x509_der_frames::SequenceOf;
 use x509_der_grammar::Newtype;
-use x509_ext_frame::{FixedCriticality, Never};
+use x509_extension::{FixedCriticality, Never};
 use x509_name_attribute::Attribute;
 
 /// The OID of [`SubjectDirectoryAttributes`], 2.5.29.9.
@@ -31,7 +31,7 @@ impl SubjectDirectoryAttributes {
 }
 
 impl AssociatedOid for SubjectDirectoryAttributes {
-    ghost use Rattle.x509_ext_frame.specs.Identifiers.{id_ce};
+    ghost use Rattle.x509_extension.specs.Identifiers.{id_ce};
 
     ghost OID = { id_ce 9 };
 

@@ -9,7 +9,7 @@ use x509_base::SubjectPublicKeyInfoRef;
 use x509_der::{AssociatedOid, ObjectIdentifier, oid};
 use x509_der_grammar::{Error, Newtype};
 use x509_der_order::{EncodingOrd, NewtypeOrd, SetMember, SetOrd};
-use x509_ext_frame::{FixedCriticality, Never};
+use x509_extension::{FixedCriticality, Never};
 use x509_prim::OctetString;
 
 /// The OID of [`SubjectKeyIdentifier`], 2.5.29.14.
@@ -54,7 +54,7 @@ impl SubjectKeyIdentifier {
 }
 
 impl AssociatedOid for SubjectKeyIdentifier {
-    ghost use Rattle.x509_ext_frame.specs.Identifiers.{id_ce};
+    ghost use Rattle.x509_extension.specs.Identifiers.{id_ce};
 
     ghost OID = { id_ce 14 };
 

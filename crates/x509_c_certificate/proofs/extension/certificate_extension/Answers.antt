@@ -1,5 +1,5 @@
 use Rattle.std.proofs.Common.{◌≡◌, Some, inl, sym, ap, ◌∙◌}
-use Rattle.x509_cert_extension.specs.LookUp.{members}
+use Rattle.x509_extension.specs.LookUp.{members}
 use Rattle.x509_c_certificate.specs.Extensions.{LooksUpExtension}
 use Rattle.x509_c_certificate.proofs.Members.{absent, some_stand}
 use Rattle.x509_c_certificate.proofs.Parts.{is_sequence}

@@ -1,5 +1,5 @@
 use Rattle.std.proofs.Common.{◌≡◌, ◌++◌, ◌∷◌, [], false, bytes_eq, refl, sym, ◌∙◌}
-use Rattle.x509_ext_frame.specs.Extension.{extension}
+use Rattle.x509_extension.specs.Extension.{extension}
 use Rattle.x509_c_certificate.proofs.Members.{first_stands, passed, split_first, one_further}
 use Rattle.x509_c_certificate.proofs.Parts.{is_sequence}
 use Rattle.x509_c_certificate.proofs.extension.find.Goals as goal

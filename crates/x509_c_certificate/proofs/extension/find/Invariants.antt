@@ -1,9 +1,9 @@
 use Rattle.std.proofs.Common.{◌≡◌, ◌≤◌, ◌++◌, ℕ, List, length, drop}
-use Rattle.x509_cert_extension.specs.LookUp.{with_oid}
+use Rattle.x509_extension.specs.LookUp.{with_oid}
 use Rattle.x509_der_frames.specs.List.{joined}
 use Rattle.x509_der_grammar.specs.Form.{spelling}
-use Rattle.x509_ext_frame.specs.Extension.{extension}
-use Rattle.x509_ext_frame.specs.declared.extension.Extension.{Extension}
+use Rattle.x509_extension.specs.Extension.{extension}
+use Rattle.x509_extension.specs.declared.extension.Extension.{Extension}
 use Rattle.x509_c_certificate.proofs.extension.find.Given as goal
 
 -- what was passed has another identifier, and the others are the rest and stand at the place that was reached

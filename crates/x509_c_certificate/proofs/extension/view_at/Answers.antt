@@ -1,6 +1,6 @@
 use Rattle.std.proofs.Common.{◌++◌, refl, ◌∙◌}
 use Rattle.x509_der.specs.ObjectIdentifierForm.{object_identifier}
-use Rattle.x509_ext_frame.specs.Extension.{extension}
+use Rattle.x509_extension.specs.Extension.{extension}
 use Rattle.x509_c_certificate.proofs.Members.{is_oid, is_octets, oid_text, critical_text, value_text, laid_out, critical_field}
 use Rattle.x509_c_certificate.proofs.Parts.{is_sequence}
 use Rattle.x509_c_certificate.proofs.extension.view_at.Goals as goal

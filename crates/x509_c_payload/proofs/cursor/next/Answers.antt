@@ -16,4 +16,4 @@ pub overflow_sub-result : goal.overflow_sub-result
 overflow_sub-result g c = goes_on g.T.Grammar.form g.met.T.Grammar.lawful _ _ _ _ c.in_ok-rest.ensures.ok _ _ c.in-Ok.ensures.exact
 
 pub returns-clause-found : goal.returns-clause-found
-returns-clause-found g c = (c.field.new.rest.now, is_next g.T.Grammar.form g.met.T.Grammar.lawful _ _ _ _ c.in_ok-rest.ensures.ok _ _ c.in-Ok.ensures.exact)
+returns-clause-found g c = (c.read_field.new.rest.now, is_next g.T.Grammar.form g.met.T.Grammar.lawful _ _ _ _ c.in_ok-rest.ensures.ok _ _ c.in-Ok.ensures.exact)

@@ -13,10 +13,10 @@ returns-in_err-item g c =
     record { exact = rw (p.1, p.2) (ends_refused c.in_err-item.field-0.0.kind r c.loop-rest.items.items c.loop-rest.rest.now (with_front c.args.items.items (list_reading r c.args.bytes.now)) c.in_err-item.ensures.exact more c.loop-rest.invariant) }
 
 pub loop-rest-smaller : goal.loop-rest-smaller
-loop-rest-smaller g c = field_shorter g.T.Grammar.form.reading c.loop-rest.rest.now c.in_ok-item.item c.field.new.rest.now c.in_ok-item.ensures.exact
+loop-rest-smaller g c = field_shorter g.T.Grammar.form.reading c.loop-rest.rest.now c.in_ok-item.item c.read_field.new.rest.now c.in_ok-item.ensures.exact
 
 pub loop-rest-preserved : goal.loop-rest-preserved
-loop-rest-preserved g c = rw c.in_ok-push.ensures.items (goes_on g.T.Grammar.form.reading c.loop-rest.items.items c.loop-rest.rest.now c.field.new.rest.now c.in_ok-item.item (with_front c.args.items.items (list_reading g.T.Grammar.form.reading c.args.bytes.now)) c.in_ok-item.ensures.exact c.loop-rest.invariant)
+loop-rest-preserved g c = rw c.in_ok-push.ensures.items (goes_on g.T.Grammar.form.reading c.loop-rest.items.items c.loop-rest.rest.now c.read_field.new.rest.now c.in_ok-item.item (with_front c.args.items.items (list_reading g.T.Grammar.form.reading c.args.bytes.now)) c.in_ok-item.ensures.exact c.loop-rest.invariant)
 
 pub returns : goal.returns
 returns g c =

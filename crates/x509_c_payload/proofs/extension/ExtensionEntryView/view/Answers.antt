@@ -2,7 +2,7 @@ use Rattle.std.proofs.Common.{◌∙◌}
 use Rattle.x509_c_payload.proofs.Fields.{laid_out, critical_field}
 use Rattle.x509_c_payload.proofs.Octets.{is_octets, is_oid, is_sequence}
 use Rattle.x509_c_payload.proofs.extension.ExtensionEntryView.view.Goals as goal
-use Rattle.x509_ext_frame.specs.Extension.{extension}
+use Rattle.x509_extension.specs.Extension.{extension}
 
 pub returns : goal.returns
 returns c = λ behind e.

@@ -5,7 +5,7 @@ use Rattle.x509_c_payload.proofs.Octets.{is_implicit_0, is_implicit_2, is_list_1
 use Rattle.x509_c_payload.proofs.Optional.{content_at, element_at}
 use Rattle.x509_c_payload.proofs.key_identifier.AuthorityKeyIdentifierViewView.view.Goals as goal
 use Rattle.x509_c_payload.specs.KeyIdentifiers.{issuer_text, serial_text}
-use Rattle.x509_der_frames.specs.Frames.{fields_octets, implicit, optional_text}
+use Rattle.x509_der_frames.specs.Frames.{fields_octets, implicit, optional_octets}
 use Rattle.x509_der_grammar.specs.Form.{spelling}
 use Rattle.x509_ext.specs.AuthorityKeyIdentifier.{authority_key_identifier, authority_key_identifier_fields}
 use Rattle.x509_ext_name.specs.GeneralName.{general_names}
@@ -15,7 +15,7 @@ pub returns : goal.returns
 unfolding fields_octets authority_key_identifier_fields
 returns c = λ behind e.
     let it = c.args.value.now in
-    let first = optional_text (spelling (implicit 0 octet_string)) it.key_identifier in
+    let first = optional_octets (spelling (implicit 0 octet_string)) it.key_identifier in
     let inside = c.enter.ensures.stands 48 (authority_key_identifier.content it) behind is_sequence e in
     let laid_out = append_assoc first (issuer_text it ++ serial_text it) behind ∙ ap (λ x. first ++ x) (append_assoc (issuer_text it) (serial_text it) behind) in
     let key = content_at (implicit 0 octet_string) (λ v. is_implicit_0) it.key_identifier _ (issuer_text it ++ (serial_text it ++ behind)) _ _ _ _ c.is_some.ensures (inside.1 ∙ laid_out) c.step_optional_content.ensures.there c.step_optional_content.ensures.absent in

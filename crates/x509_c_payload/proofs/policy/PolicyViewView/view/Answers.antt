@@ -4,7 +4,7 @@ use Rattle.x509_c_payload.proofs.Optional.{element_at}
 use Rattle.x509_c_payload.proofs.policy.PolicyViewView.view.Goals as goal
 use Rattle.x509_c_payload.specs.Policies.{policy_qualifiers}
 use Rattle.x509_der.specs.ObjectIdentifierForm.{object_identifier}
-use Rattle.x509_der_frames.specs.Frames.{fields_octets, optional_text}
+use Rattle.x509_der_frames.specs.Frames.{fields_octets, optional_octets}
 use Rattle.x509_der_grammar.specs.Form.{spelling}
 use Rattle.x509_pkix_policy.specs.PolicyInformation.{policy_information, policy_information_fields}
 
@@ -12,7 +12,7 @@ pub returns : goal.returns
 unfolding fields_octets policy_information_fields
 returns c = λ behind e.
     let it = c.args.value.now in
-    let rest = optional_text (spelling policy_qualifiers) it.policy_qualifiers in
+    let rest = optional_octets (spelling policy_qualifiers) it.policy_qualifiers in
     let inside = c.enter.ensures.stands 48 (policy_information.content it) behind is_sequence e in
     let identifier = c.step_content.ensures.stands 6 it.policy_identifier (rest ++ behind) is_oid (inside.1 ∙ append_assoc (spelling object_identifier it.policy_identifier) rest behind) in
     let qualifiers = element_at policy_qualifiers (λ v. is_sequence) it.policy_qualifiers _ behind _ _ _ _ c.is_some.ensures identifier.1 c.step_optional.ensures.there c.step_optional.ensures.absent in

@@ -7,7 +7,7 @@ use Rattle.x509_cert_anchor.proofs.cert_path_controls.CertPathControlsContent.wr
 pub returns : goal.returns
 unfolding fields_octets cert_path_controls_fields
 returns g c =
-    let texts = rw (c.implicit_optional.ensures.text, c.implicit_optional-2.ensures.text, c.implicit_optional-3.ensures.text, c.implicit_optional-4.ensures.text, c.implicit_optional-5.ensures.text) at c.put_text.ensures in
-    let refusals = rw (c.implicit_optional.ensures.refusal, c.implicit_optional-2.ensures.refusal, c.implicit_optional-3.ensures.refusal, c.implicit_optional-4.ensures.refusal, c.implicit_optional-5.ensures.refusal) at texts in
+    let texts = rw (c.optional_implicit.ensures.text, c.optional_implicit-2.ensures.text, c.optional_implicit-3.ensures.text, c.optional_implicit-4.ensures.text, c.optional_implicit-5.ensures.text) at c.put_part.ensures in
+    let refusals = rw (c.optional_implicit.ensures.refusal, c.optional_implicit-2.ensures.refusal, c.optional_implicit-3.ensures.refusal, c.optional_implicit-4.ensures.refusal, c.optional_implicit-5.ensures.refusal) at texts in
     let known = simp (never_refused, before_none) at refusals in
     rw (text_in_option, text_in_option, refusal_in_option, refusal_in_option) known

@@ -17,16 +17,16 @@ returns-in_err-first g c =
 
 pub returns-then-is_empty-2 : goal.returns-then-is_empty-2
 returns-then-is_empty-2 g c =
-    let none : length c.field.new.rest.now ≡ 0 = grind (arith, nat_tests) in
-    record { exact = one_read g.T.Grammar.form.reading c.args.bytes.now c.field.new.rest.now c.in_ok-first.first c.in_ok-first.ensures.exact none }
+    let none : length c.read_field.new.rest.now ≡ 0 = grind (arith, nat_tests) in
+    record { exact = one_read g.T.Grammar.form.reading c.args.bytes.now c.read_field.new.rest.now c.in_ok-first.first c.in_ok-first.ensures.exact none }
 
 pub returns-in_err-read_further : goal.returns-in_err-read_further
 returns-in_err-read_further g c =
     let p = err_from_is_err_and c.from_residual-in_err-read_further.result c.from_residual-in_err-read_further.ensures.1 in
-    let read = first_read g.T.Grammar.form.reading c.args.bytes.now c.field.new.rest.now c.in_ok-first.first c.in_ok-first.ensures.exact in
+    let read = first_read g.T.Grammar.form.reading c.args.bytes.now c.read_field.new.rest.now c.in_ok-first.first c.in_ok-first.ensures.exact in
     record { exact = rw (p.1, p.2) (rw read at c.in_err-read_further.ensures.exact) }
 
 pub returns : goal.returns
 returns g c =
-    let read = first_read g.T.Grammar.form.reading c.args.bytes.now c.field.new.rest.now c.in_ok-first.first c.in_ok-first.ensures.exact in
+    let read = first_read g.T.Grammar.form.reading c.args.bytes.now c.read_field.new.rest.now c.in_ok-first.first c.in_ok-first.ensures.exact in
     record { exact = rw c.from_vec.ensures (rw read at c.in_ok-read_further.ensures.exact) }

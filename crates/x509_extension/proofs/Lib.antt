@@ -1,0 +1,2 @@
+pub mod ArcsOfExtensions
+pub mod Repeats
