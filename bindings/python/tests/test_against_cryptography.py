@@ -7,6 +7,7 @@ from __future__ import annotations
 
 import datetime
 import glob
+import hashlib
 import pathlib
 import unittest
 import warnings
@@ -58,14 +59,23 @@ class AgainstCryptography(unittest.TestCase):
     def names(self, our: ours.Name, their: theirs.Name) -> None:
         self.assertEqual(our.public_bytes(), their.public_bytes())
         self.assertEqual([(it.oid.dotted_string, it.value) for it in our], [(it.oid.dotted_string, it.value) for it in their])
-        self.assertEqual(ours.Name.from_rfc4514_string(our.rfc4514_string()), our)
+        # a text doesn't say whether a value was a PrintableString or a UTF8String, so the bytes may differ
+        text = our.rfc4514_string()
+        self.assertEqual(ours.Name.from_rfc4514_string(text).rfc4514_string(), text)
 
     def extensions(self, our: ours.Extensions, their: theirs.Extensions) -> None:
         self.assertEqual([(it.oid.dotted_string, it.critical) for it in our], [(it.oid.dotted_string, it.critical) for it in their])
         for one, other in zip(our, their):
             compare = getattr(self, "of_" + type(other.value).__name__, None)
-            if compare is not None:
-                compare(one.value, other.value)
+            if compare is None:
+                continue
+            try:
+                held = one.value
+            except ours.X509Error:
+                # `cryptography` takes a few values that are not DER, as a KeyUsage that ends with zero bits (X.690 11.2.2), and writes other bytes for them
+                self.assertNotEqual(one.data, other.value.public_bytes())
+                continue
+            compare(held, other.value)
 
     def of_KeyUsage(self, our: ours.KeyUsage, their: theirs.KeyUsage) -> None:
         for name in "digital_signature content_commitment key_encipherment data_encipherment key_agreement key_cert_sign crl_sign".split():
@@ -125,11 +135,9 @@ class AgainstCryptography(unittest.TestCase):
         self.compare((DATA / "certificate.der").read_bytes())
 
     def test_store(self) -> None:
-        refused = []
         for data in store():
-            with self.subTest(sha256=__import__("hashlib").sha256(data).hexdigest()):
+            with self.subTest(sha256=hashlib.sha256(data).hexdigest()):
                 self.compare(data)
-        self.assertEqual(refused, [])
 
     def test_crl(self) -> None:
         data = (DATA / "list.der").read_bytes()
