@@ -120,7 +120,10 @@ static x509_status call(int number)
     case 11:
         return x509_certificate_signature(certificate, certificate_len, &signature);
     case 12:
-        return x509_name_next(BYTES("\x30\x0c\x31\x0a\x30\x08\x06\x03\x55\x04\x03\x0c\x01\x61"), &at, &part);
+        /* a value of 30 octets, as up to 24 take no memory */
+        return x509_name_next(BYTES("\x30\x29\x31\x27\x30\x25\x06\x03\x55\x04\x03\x0c\x1e"
+                                    "aaaaaaaaaaaaaaaaaaaaaaaaaaaaaa"),
+                              &at, &part);
     case 13:
         return x509_authority_key_identifier(BYTES("\x30\x0c\x80\x02\xab\xcd\xa1\x03\x82\x01\x61\x82\x01\x05"), &authority);
     case 14:
