@@ -1,7 +1,7 @@
-"""The rows of crates/x509_rows: each line of `stdin` is a type's name, a profile and the hex of an encoding, and its answer is that line of `stdout`."""
+"""The rows of crates/x509_test_rows: each line of `stdin` is a type's name, a profile and the hex of an encoding, and its answer is that line of `stdout`."""
 from .crates import TOP
 
-ROWS = TOP / "crates" / "x509_rows"
+ROWS = TOP / "crates" / "x509_test_rows"
 MALFORMED = "refused: Malformed"
 # headers of an indefinite length, of lengths that claim too much, and of one cut off
 HEADERS = ["30800000", "3084FFFFFFFF", "30850100000000", "3081FF"]

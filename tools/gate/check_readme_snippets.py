@@ -14,8 +14,8 @@ ENTRIES = (
     "x509_build/src/certificate_builder.rt",
     "x509_cert/src/crl/certificate_list.rt",
     "x509_cert/src/request/cert_req.rt",
-    "x509_cert_certificate/src/certificate.rt",
-    "x509_cert_signed/src/slice.rt",
+    "x509_cert/src/certificate/certificate.rt",
+    "x509_cert/src/signed/slice.rt",
     "x509_name/src/name/name.rt",
 )
 

@@ -1,5 +1,5 @@
 #!/usr/bin/env python3
-"""Makes `stdin` and `stdout` of crates/x509_rows from the labelled rows in its folder `rows`, whose README.md says what these look like."""
+"""Makes `stdin` and `stdout` of crates/x509_test_rows from the labelled rows in its folder `rows`, whose README.md says what these look like."""
 import argparse
 import json
 import pathlib
@@ -50,7 +50,7 @@ def main():
         return 0
     others = [name for name, text in made.items() if (ROWS / name).read_bytes() != text.encode()]
     for name in others:
-        print(f"failed: crates/x509_rows/{name} isn't what tools/gate/make_rows.py makes")
+        print(f"failed: crates/x509_test_rows/{name} isn't what tools/gate/make_rows.py makes")
     if not others:
         print(f"passed: {len(found):,} rows are those that are labelled")
     return int(bool(others))

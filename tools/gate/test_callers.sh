@@ -11,7 +11,7 @@ folder=$(mktemp -d)
 trap 'rm -rf "$folder"' EXIT
 data=$top/examples/data
 files=("$data/certificate.der" "$data/list.der" "$data/request.der")
-rows=("$top/crates/x509_rows/stdin" "$top/crates/x509_rows/stdout")
+rows=("$top/crates/x509_test_rows/stdin" "$top/crates/x509_test_rows/stdout")
 failed=0
 
 has() {

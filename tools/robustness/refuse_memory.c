@@ -1,7 +1,7 @@
 /* Refuses each allocation of each call of x509.h that takes memory in turn, alone and with all behind it: the call answers X509_MEMORY then, or what it
  * answers with all memory, what it is to fill in stays as it was when it is refused, and no block of memory stays behind.
  *
- * With ROWS and ANSWERS, crates/x509_rows/stdin and stdout, it does so with x509_reencode over each row; with all memory the row has to give its answer.
+ * With ROWS and ANSWERS, crates/x509_test_rows/stdin and stdout, it does so with x509_reencode over each row; with all memory the row has to give its answer.
  * Of a row that asks for more than 400 allocations 400 are refused, spread evenly. What was counted goes to standard error.
  *
  * Link with -Wl,--wrap=malloc,--wrap=realloc,--wrap=free.

@@ -1,7 +1,7 @@
 #!/usr/bin/env python3
 """Asks the program of rows about spoilt encodings, by the million.
 
-The vectors are the rows of `crates/x509_rows/stdin` whose answer in `stdout` is their own bytes. Each is spoilt in three ways,
+The vectors are the rows of `crates/x509_test_rows/stdin` whose answer in `stdout` is their own bytes. Each is spoilt in three ways,
 and each spoilt row is read under the profile that keeps dates as they are (`raw`):
 - cut at each length below its own: `refused: Malformed`, since no spelling begins another;
 - followed by one byte 00: `refused: Malformed`, for the same reason;
@@ -97,7 +97,7 @@ def share():
 def main():
     parser = argparse.ArgumentParser(description=__doc__, formatter_class=argparse.RawDescriptionHelpFormatter)
     either = parser.add_mutually_exclusive_group(required=True)
-    either.add_argument("program", metavar="PROGRAM", nargs="?", type=pathlib.Path, help="crates/x509_rows/out/x509_rows")
+    either.add_argument("program", metavar="PROGRAM", nargs="?", type=pathlib.Path, help="crates/x509_test_rows/out/x509_test_rows")
     either.add_argument("--share", action="store_true", help="print the fixed share")
     parser.add_argument("--seconds", type=int, help="go no further after so long, and say where it stopped")
     given = parser.parse_args()

@@ -6,7 +6,7 @@ use Rattle.std.proofs.lemmas.List.{length-take}
 use Rattle.std.proofs.Math.Seq.{take-append_seam}
 use Rattle.std.proofs.lemmas.Slice.{take-put_mid}
 use borrow.Rule.Slice.PartMut.{put_mid}
-use Rattle.x509_der_element.specs.declared.error.Error.{Error}
+use Rattle.x509_der.specs.declared.error.Error.{Error}
 use Rattle.x509_base.specs.Serial.{number_content}
 use Rattle.x509_prim.proofs.NumberTypes.{length_content}
 use Rattle.rand_core.specs.Stream.{Stream, fill_bytes}

@@ -1,2 +1,9 @@
+pub mod Dates
+pub mod CalendarLemmas
+pub mod MomentLemmas
+pub mod DigitLemmas
+pub mod ReadingLemmas
+pub mod OrderLemmas
+pub mod StandardFacts
 pub mod Draws
 pub mod Texts

@@ -1,17 +1,17 @@
 -- AlgorithmIdentifier: oid: OBJECT IDENTIFIER, parameters: ANY? (RFC 5280 4.1.1.2)
 use Rattle.std.specs.Prelude.{ℕ, List, Option, refl}
-use Rattle.x509_der_element.specs.declared.error.ErrorKind.{ErrorKind}
-use Rattle.x509_der_element.specs.declared.tag.Tag.TheVariants.{Sequence}
-use Rattle.x509_der_grammar.specs.Form.{Form, IsForm, Contents, IsContents, universal}
-use Rattle.x509_der_grammar.specs.FormLaws.{universal_lawful}
-use Rattle.x509_der_grammar.specs.Writing.{plain, writes}
-use Rattle.x509_der_order.specs.Order.{Order, IsOrder}
-use Rattle.x509_der_order.specs.Ordered.{by_bytes}
-use Rattle.x509_der_frames.specs.declared.any.Any.{Any}
-use Rattle.x509_der_frames.specs.Any.{any, any_lawful, any_ordered}
-use Rattle.x509_der_frames.specs.Frames.{Part, required, optional, ◌⊗◌, fields}
-use Rattle.x509_der_frames.specs.PartRules.{part_rules}
-use Rattle.x509_der_frames.specs.FieldsOrder.{by_last_optional, last_optional_ordered}
+use Rattle.x509_der.specs.declared.error.ErrorKind.{ErrorKind}
+use Rattle.x509_der.specs.declared.tag.Tag.TheVariants.{Sequence}
+use Rattle.x509_der.specs.Form.{Form, IsForm, Contents, IsContents, universal}
+use Rattle.x509_der.specs.FormLaws.{universal_lawful}
+use Rattle.x509_der.specs.Writing.{plain, writes}
+use Rattle.x509_der.specs.Order.{Order, IsOrder}
+use Rattle.x509_der.specs.Ordered.{by_bytes}
+use Rattle.x509_der.specs.declared.any.Any.{Any}
+use Rattle.x509_der.specs.Any.{any, any_lawful, any_ordered}
+use Rattle.x509_der.specs.Frames.{Part, required, optional, ◌⊗◌, fields}
+use Rattle.x509_der.specs.PartRules.{part_rules}
+use Rattle.x509_der.specs.FieldsOrder.{by_last_optional, last_optional_ordered}
 use Rattle.x509_der.specs.ObjectIdentifierForm.{object_identifier, object_identifier_lawful, object_identifier_ordered}
 use Rattle.x509_base.specs.declared.algorithm_identifier.AlgorithmIdentifier.{AlgorithmIdentifier}
 

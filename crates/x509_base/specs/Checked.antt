@@ -1,10 +1,10 @@
 -- A content whose octets pass a check, made in reading after the octets were read.
 use Rattle.std.specs.Prelude.{◌≡◌, ℕ, List, Result, Ok, Err}
 use Rattle.std.proofs.Common.{refl, subst, inl, inr}
-use Rattle.x509_der_element.specs.declared.error.ErrorKind.{ErrorKind}
-use Rattle.x509_der_grammar.specs.Form.{Contents, IsContents}
-use Rattle.x509_der_element.specs.Outcome.{◌>>=◌}
-use Rattle.x509_der_element.specs.OutcomeLaws.{ok_is, bind_ok, bind_err, not_refused}
+use Rattle.x509_der.specs.declared.error.ErrorKind.{ErrorKind}
+use Rattle.x509_der.specs.Form.{Contents, IsContents}
+use Rattle.x509_der.specs.Outcome.{◌>>=◌}
+use Rattle.x509_der.specs.OutcomeLaws.{ok_is, bind_ok, bind_err, not_refused}
 
 -- what reading gives, unless the check refuses the octets
 unfoldable pub checked_reading : {X : Type 0} → (List ℕ → Result Unit ErrorKind) → (List ℕ → Result X ErrorKind) → List ℕ → Result X ErrorKind

@@ -8,8 +8,8 @@ use Rattle.x509_base.specs.contracts.subject_public_key_info_ref.SubjectPublicKe
 use Rattle.x509_base.specs.declared.algorithm_identifier.AlgorithmIdentifier.{AlgorithmIdentifier}
 use Rattle.x509_base.specs.declared.subject_public_key_info.SubjectPublicKeyInfo.{SubjectPublicKeyInfo}
 use Rattle.x509_base.specs.declared.subject_public_key_info_ref.SubjectPublicKeyInfoRef.{SubjectPublicKeyInfoRef}
-use Rattle.x509_der_element.specs.Exact.{IsExact, exact_octets, exact_option, exact_both, exact_by}
-use Rattle.x509_der_frames.specs.Equality.{exact_any}
+use Rattle.x509_der.specs.Exact.{IsExact, exact_octets, exact_option, exact_both, exact_by}
+use Rattle.x509_der.specs.Equality.{exact_any}
 use Rattle.x509_prim.specs.Equality.{exact_bit_string}
 use Rattle.x509_prim.specs.contracts.bit_string.BitStringPartialEq.TheImpl as bit_string_eq
 

@@ -1,3 +1,14 @@
+pub mod Time
+pub mod Profiles
+pub mod Validity
+pub mod TimeEquality
+pub mod TimeOrder
+pub mod CivilTime
+pub mod Moment
+pub mod TimeText
+pub mod TimeReading
+pub mod TimeLaws
+pub mod TimeForms
 pub mod Checked
 pub mod Serial
 pub mod Fills
@@ -6,10 +17,3 @@ pub mod AlgorithmIdentifier
 pub mod KeyAlgorithms
 pub mod SubjectPublicKeyInfo
 pub mod Equality
-pub use Rattle.x509_base_time.specs.CivilTime
-pub use Rattle.x509_base_time.specs.TimeText
-pub use Rattle.x509_base_time.specs.TimeReading
-pub use Rattle.x509_base_time.specs.TimeForms
-pub use Rattle.x509_base_time.specs.Time
-pub use Rattle.x509_base_time.specs.Profiles
-pub use Rattle.x509_base_time.specs.Validity

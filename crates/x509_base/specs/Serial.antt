@@ -2,10 +2,10 @@
 use Rattle.std.specs.Prelude.{ℕ, ◌/◌, ◌%◌, List, [], ◌∷◌, map, true, Result}
 use Rattle.std.specs.Fmt.{digit_glyph}
 use Rattle.std.specs.List.{join_with_byte}
-use Rattle.x509_der_element.specs.declared.error.ErrorKind.{ErrorKind}
-use Rattle.x509_der_element.specs.declared.tag.Tag.TheVariants as tags
-use Rattle.x509_der_grammar.specs.Form.{Form, IsForm, Contents, IsContents, universal}
-use Rattle.x509_der_grammar.specs.FormLaws.{universal_lawful}
+use Rattle.x509_der.specs.declared.error.ErrorKind.{ErrorKind}
+use Rattle.x509_der.specs.declared.tag.Tag.TheVariants as tags
+use Rattle.x509_der.specs.Form.{Form, IsForm, Contents, IsContents, universal}
+use Rattle.x509_der.specs.FormLaws.{universal_lawful}
 use Rattle.x509_prim.specs.Integer.{integer_contents, with_sign, without_zeros}
 use Rattle.x509_prim.specs.IntegerLaws.{integer_contents_lawful}
 use Rattle.x509_base.specs.Checked.{checked, CheckRefuses, checked_lawful}

@@ -5,12 +5,12 @@ use Rattle.std.specs.Cmp.{IsTotalOrder, Equal-is}
 use Rattle.std.specs.declared.cmp.Ordering.TheVariants.{Equal}
 use Rattle.std.proofs.Common.{sym, ◌∙◌}
 use Rattle.std.specs.Cmp.Lexicographic.{bytes_decides}
-use Rattle.x509_der_element.specs.declared.error.ErrorKind.{ErrorKind}
-use Rattle.x509_der_grammar.specs.Writing.{Written, plain, writes}
-use Rattle.x509_der_order.specs.Order.{Order, IsOrder, IsDerOrder, HasEncoding, der_order}
-use Rattle.x509_der_order.specs.Ordered.{by_bytes, by_bytes_lawful, der_lawful}
-use Rattle.x509_der_order.specs.OrderEquality.{order_ties}
-use Rattle.x509_der_grammar.specs.Form.{spelling}
+use Rattle.x509_der.specs.declared.error.ErrorKind.{ErrorKind}
+use Rattle.x509_der.specs.Writing.{Written, plain, writes}
+use Rattle.x509_der.specs.Order.{Order, IsOrder, IsDerOrder, HasEncoding, der_order}
+use Rattle.x509_der.specs.Ordered.{by_bytes, by_bytes_lawful, der_lawful}
+use Rattle.x509_der.specs.OrderEquality.{order_ties}
+use Rattle.x509_der.specs.Form.{spelling}
 use Rattle.x509_base.specs.Serial.{serial_number}
 
 pub serial_ordered : (check : List ℕ → Result Unit ErrorKind) (write : List ℕ → Written (List ℕ)) → IsOrder (serial_number check) write (by_bytes (serial_number check))

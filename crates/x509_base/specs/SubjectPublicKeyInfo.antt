@@ -1,15 +1,15 @@
 -- SubjectPublicKeyInfo: algorithm: AlgorithmIdentifier, subject_public_key: BIT STRING (RFC 5280 4.1.2.7)
 use Rattle.std.specs.Prelude.{refl}
-use Rattle.x509_der_element.specs.declared.error.ErrorKind.{ErrorKind}
-use Rattle.x509_der_element.specs.declared.tag.Tag.TheVariants.{Sequence}
-use Rattle.x509_der_grammar.specs.Form.{Form, IsForm, Contents, IsContents, universal}
-use Rattle.x509_der_grammar.specs.FormLaws.{universal_lawful}
-use Rattle.x509_der_grammar.specs.Writing.{plain, writes}
-use Rattle.x509_der_order.specs.Order.{Order, IsOrder}
-use Rattle.x509_der_order.specs.Ordered.{by_bytes, by_bytes_lawful}
-use Rattle.x509_der_frames.specs.Frames.{Part, required, ◌⊗◌, fields}
-use Rattle.x509_der_frames.specs.PartRules.{part_rules}
-use Rattle.x509_der_frames.specs.FieldsOrder.{by_two, two_ordered}
+use Rattle.x509_der.specs.declared.error.ErrorKind.{ErrorKind}
+use Rattle.x509_der.specs.declared.tag.Tag.TheVariants.{Sequence}
+use Rattle.x509_der.specs.Form.{Form, IsForm, Contents, IsContents, universal}
+use Rattle.x509_der.specs.FormLaws.{universal_lawful}
+use Rattle.x509_der.specs.Writing.{plain, writes}
+use Rattle.x509_der.specs.Order.{Order, IsOrder}
+use Rattle.x509_der.specs.Ordered.{by_bytes, by_bytes_lawful}
+use Rattle.x509_der.specs.Frames.{Part, required, ◌⊗◌, fields}
+use Rattle.x509_der.specs.PartRules.{part_rules}
+use Rattle.x509_der.specs.FieldsOrder.{by_two, two_ordered}
 use Rattle.x509_prim.specs.BitString.{BitParts, bit_string}
 use Rattle.x509_prim.specs.BitStringLaws.{bit_string_lawful, one_bit_string}
 use Rattle.x509_base.specs.AlgorithmIdentifier.{algorithm_identifier, algorithm_identifier_lawful, algorithm_identifier_order, algorithm_identifier_ordered}

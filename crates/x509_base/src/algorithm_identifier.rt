@@ -2,12 +2,11 @@
 
 use std::alloc::Global;
 use std::cmp::Ordering;
-use x509_der::ObjectIdentifier;
-use x509_der_frames::{
-    Any, PutPart, end, option_has_spelling, optional, read_field, read_optional,
+use x509_der::{
+    Any, Content, DerOrd, EncodingOrd, Error, ObjectIdentifier, PutPart, Room, SetMember, SetOrd,
+    Spelled, Tag, TryClone, ValueOrd, cmp_optional, end, option_has_spelling, optional, read_field,
+    read_optional,
 };
-use x509_der_grammar::{Content, Error, Room, Spelled, Tag, TryClone};
-use x509_der_order::{DerOrd, EncodingOrd, SetMember, SetOrd, ValueOrd, cmp_optional};
 
 /// An algorithm, by its OID, and the parameters with which it is used (RFC 5280 4.1.1.2).
 ///
@@ -36,9 +35,9 @@ impl Drop for AlgorithmIdentifier {
     }
 }
 
-#[tactic(auto, unfolding(crate::specs::AlgorithmIdentifier::algorithm_identifier_fields, x509_der_frames::specs::Frames::fields_reading, x509_der_frames::specs::Frames::fields_octets))]
+#[tactic(auto, unfolding(crate::specs::AlgorithmIdentifier::algorithm_identifier_fields, x509_der::specs::Frames::fields_reading, x509_der::specs::Frames::fields_octets))]
 impl Content for AlgorithmIdentifier {
-    ghost use Rattle.x509_der_element.specs.declared.tag.Tag.TheVariants.{Sequence};
+    ghost use Rattle.x509_der.specs.declared.tag.Tag.TheVariants.{Sequence};
     ghost use Rattle.x509_base.specs.AlgorithmIdentifier as grammar;
 
     ghost contents = { grammar.algorithm_identifier_contents };
@@ -88,7 +87,7 @@ impl SetMember for AlgorithmIdentifier {
     ghost in_der_order = { refl };
 }
 
-#[tactic(auto, unfolding(crate::specs::AlgorithmIdentifier::algorithm_identifier_fields, x509_der_frames::specs::Frames::fields_good))]
+#[tactic(auto, unfolding(crate::specs::AlgorithmIdentifier::algorithm_identifier_fields, x509_der::specs::Frames::fields_good))]
 impl Spelled for AlgorithmIdentifier {
     fn has_spelling(&self) {
         self.oid.has_spelling();

@@ -1,15 +1,15 @@
 //! Serial numbers from a source of random bytes.
 
 ghost use Rattle.std.specs.Prelude.{◌≡◌, ◌<◌, ℕ, List, true, false, ◌++◌, length, IfOk, IfErr, IsErrAnd, OnOk};
-ghost use Rattle.x509_der_element.specs.declared.error.ErrorKind.TheVariants as errors;
+ghost use Rattle.x509_der.specs.declared.error.ErrorKind.TheVariants as errors;
 ghost use Rattle.x509_base.specs.Fills.{are_lengths, Draws, GivesZeros};
 ghost use Rattle.x509_base.specs.Serial.{number_content};
 
+use crate::Profile;
 use crate::serial_number::SerialNumber;
 use rand_core::{CryptoRng, Rng};
 use std::alloc::Global;
-use x509_base_time::Profile;
-use x509_der_grammar::{Error, ErrorKind};
+use x509_der::{Error, ErrorKind};
 
 /// How often a source is asked before it is taken to give only zeros.
 const MOST_FILLS: u32 = 64;

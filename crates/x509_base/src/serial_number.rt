@@ -6,19 +6,21 @@ ghost use Rattle.std.specs.Hash as fed;
 ghost use Rattle.std.specs.Cmp.{partial_equiv_from_equiv};
 ghost use Rattle.std.specs.Cmp.Lexicographic.{nat_list_eq_equiv};
 ghost use Rattle.std.specs.Cmp.Rules.{hashing};
-ghost use Rattle.x509_der_element.specs.declared.error.ErrorKind.TheVariants as errors;
-ghost use Rattle.x509_der_grammar.specs.Natural.{natural_octets};
+ghost use Rattle.x509_der.specs.declared.error.ErrorKind.TheVariants as errors;
+ghost use Rattle.x509_der.specs.Natural.{natural_octets};
 ghost use Rattle.x509_prim.specs.Integer.{integer_value, is_integer, natural_below, number, with_sign};
 ghost use Rattle.x509_base.specs.Serial.{number_content};
 
+use crate::{Profile, Rfc5280};
 use std::alloc::Global;
 use std::cmp::Ordering;
 use std::fmt;
 use std::hash::{Hash, Hasher};
 use std::marker::{Model, PhantomData};
-use x509_base_time::{Profile, Rfc5280};
-use x509_der_grammar::{Content, Error, ErrorKind, Room, Spelled, Tag, TryClone};
-use x509_der_order::{DerOrd, EncodingOrd, SetMember, SetOrd, ValueOrd};
+use x509_der::{
+    Content, DerOrd, EncodingOrd, Error, ErrorKind, Room, SetMember, SetOrd, Spelled, Tag,
+    TryClone, ValueOrd,
+};
 use x509_prim::{Int, Uint, strip_zeros};
 
 /// The serial number that the issuer of a certificate gave it (RFC 5280 4.1.2.2). Decoding asks the profile whether the
@@ -180,7 +182,7 @@ impl<P: Profile> From<SerialNumber<P>> for Int {
 impl<P: Profile> Content for SerialNumber<P> {
     ghost use Rattle.x509_base.specs.Checked.{CheckRefuses};
     ghost use Rattle.x509_base.specs.Serial.{serial_number_contents, serial_number_contents_lawful};
-    ghost use Rattle.x509_der_element.specs.declared.tag.Tag.TheVariants as tags;
+    ghost use Rattle.x509_der.specs.declared.tag.Tag.TheVariants as tags;
 
     ghost contents = { serial_number_contents P.serial_check };
 
@@ -235,8 +237,8 @@ impl<P: Profile> Eq for SerialNumber<P> {
 }
 
 impl<P: Profile> ValueOrd for SerialNumber<P> {
-    ghost use Rattle.x509_der_grammar.specs.Writing.{plain, writes};
-    ghost use Rattle.x509_der_order.specs.Ordered.{by_bytes};
+    ghost use Rattle.x509_der.specs.Writing.{plain, writes};
+    ghost use Rattle.x509_der.specs.Ordered.{by_bytes};
     ghost use Rattle.x509_base.specs.Serial.{serial_number};
     ghost use Rattle.x509_base.specs.SerialOrder.{serial_ordered};
 

@@ -6,9 +6,10 @@ use crate::algorithm_identifier::AlgorithmIdentifier;
 use crate::subject_public_key_info_ref::SubjectPublicKeyInfoRef;
 use std::alloc::Global;
 use std::cmp::Ordering;
-use x509_der_frames::{PutPart, end, read_field};
-use x509_der_grammar::{Content, Error, Room, Spelled, Tag, TryClone};
-use x509_der_order::{DerOrd, EncodingOrd, SetMember, SetOrd, ValueOrd};
+use x509_der::{
+    Content, DerOrd, EncodingOrd, Error, PutPart, Room, SetMember, SetOrd, Spelled, Tag, TryClone,
+    ValueOrd, end, read_field,
+};
 use x509_prim::BitString;
 
 /// A public key, and the algorithm with which it is used (RFC 5280 4.1.2.7).
@@ -49,9 +50,9 @@ impl Drop for SubjectPublicKeyInfo {
     }
 }
 
-#[tactic(auto, unfolding(crate::specs::SubjectPublicKeyInfo::subject_public_key_info_fields, x509_der_frames::specs::Frames::fields_reading, x509_der_frames::specs::Frames::fields_octets))]
+#[tactic(auto, unfolding(crate::specs::SubjectPublicKeyInfo::subject_public_key_info_fields, x509_der::specs::Frames::fields_reading, x509_der::specs::Frames::fields_octets))]
 impl Content for SubjectPublicKeyInfo {
-    ghost use Rattle.x509_der_element.specs.declared.tag.Tag.TheVariants.{Sequence};
+    ghost use Rattle.x509_der.specs.declared.tag.Tag.TheVariants.{Sequence};
     ghost use Rattle.x509_base.specs.SubjectPublicKeyInfo as grammar;
 
     ghost contents = { grammar.subject_public_key_info_contents };
@@ -103,7 +104,7 @@ impl SetMember for SubjectPublicKeyInfo {
     ghost in_der_order = { refl };
 }
 
-#[tactic(auto, unfolding(crate::specs::SubjectPublicKeyInfo::subject_public_key_info_fields, x509_der_frames::specs::Frames::fields_good))]
+#[tactic(auto, unfolding(crate::specs::SubjectPublicKeyInfo::subject_public_key_info_fields, x509_der::specs::Frames::fields_good))]
 impl Spelled for SubjectPublicKeyInfo {
     fn has_spelling(&self) {
         self.algorithm.has_spelling();

@@ -5,7 +5,7 @@ ghost use Rattle.x509_base.specs.KeyAlgorithms.{ec_public_key, rsa_encryption};
 
 use crate::algorithm_identifier::AlgorithmIdentifier;
 use std::alloc::Global;
-use x509_der_grammar::{Error, TryClone};
+use x509_der::{Error, TryClone};
 use x509_prim::BitString;
 
 /// The content octets of rsaEncryption, 1.2.840.113549.1.1.1 (RFC 3279 2.3.1).
@@ -43,7 +43,7 @@ impl SubjectPublicKeyInfoRef<'_> {
 
 impl TryClone for SubjectPublicKeyInfoRef<'_> {
     ghost use Rattle.std.specs.Prelude.{◌≡◌, IfOk, IfErr, IsOk};
-    ghost use Rattle.x509_der_element.specs.declared.error.ErrorKind.TheVariants.{Memory};
+    ghost use Rattle.x509_der.specs.declared.error.ErrorKind.TheVariants.{Memory};
 
     fn try_clone(&self, _alloc: Global) -> Result<Self, Error>
         ensures ok { IfOk result (λ copy. copy ≡ self.now) }

@@ -2,7 +2,7 @@
 
 use std::fmt::{Debug, Display};
 use std::test::Fail;
-use x509_der_grammar::{Decode, Encode, Error, ErrorKind, TryClone};
+use x509_der::{Decode, Encode, Error, ErrorKind, TryClone};
 
 /// Whether the bytes are read, and a copy that equals the value is written as they were.
 pub(crate) fn stays<T: Decode + Encode + TryClone + PartialEq + Drop>(

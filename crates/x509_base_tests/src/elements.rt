@@ -2,7 +2,7 @@
 
 use crate::calls::{makes, prints, shows};
 use std::test::*;
-use x509_der_element::{AnyRef, Bytes, Error, ErrorKind, Length, Tag, TagNumber, take_element};
+use x509_der::{AnyRef, Bytes, Error, ErrorKind, Length, Tag, TagNumber, take_element};
 
 #[test]
 fn errors(rt: HostRuntime) -> Result<(), Fail> {

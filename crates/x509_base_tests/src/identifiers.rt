@@ -2,8 +2,7 @@
 
 use crate::calls::{is_refused, prints};
 use std::test::*;
-use x509_der::ObjectIdentifier;
-use x509_der_grammar::{Encode, ErrorKind};
+use x509_der::{Encode, ErrorKind, ObjectIdentifier};
 
 /// Whether the content and the text are those of one OID.
 fn agree(rt: &HostRuntime, content: &[u8], text: &str) -> Result<bool, Fail> {

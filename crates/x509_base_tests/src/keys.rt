@@ -3,8 +3,7 @@
 use crate::calls::stays;
 use std::test::*;
 use x509_base::{AlgorithmIdentifier, SubjectPublicKeyInfo};
-use x509_der::ObjectIdentifier;
-use x509_der_grammar::{Decode, TryClone};
+use x509_der::{Decode, ObjectIdentifier, TryClone};
 
 /// A key of eight bits.
 const KEY: &[u8] = &[

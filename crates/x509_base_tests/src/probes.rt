@@ -2,7 +2,7 @@
 
 use crate::calls::becomes;
 use std::test::*;
-use x509_probe::{Enclosing, Moment, Pair, Purposes, TenFields};
+use x509_test_types::{Enclosing, Moment, Pair, Purposes, TenFields};
 
 /// No optional field, then each of them.
 const TEN_FIELDS: [&[u8]; 2] = [

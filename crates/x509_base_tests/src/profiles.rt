@@ -2,9 +2,8 @@
 
 use crate::calls::{becomes, is_refused};
 use std::test::Fail;
-use x509_base::SerialNumber;
-use x509_base_time::{GeneralizedTime, Profile, Time, Validity};
-use x509_der_grammar::{Decode, Error, ErrorKind};
+use x509_base::{GeneralizedTime, Profile, SerialNumber, Time, Validity};
+use x509_der::{Decode, Error, ErrorKind};
 
 /// A profile that refuses serial numbers below 0, and spells each date as GeneralizedTime.
 #[derive(Clone, Copy, Debug, Default, PartialEq, Eq, PartialOrd, Ord)]
@@ -12,9 +11,9 @@ struct FourDigits;
 
 impl Profile for FourDigits {
     ghost use Rattle.std.specs.Prelude.{Ok, Err, if◌then◌else◌};
-    ghost use Rattle.x509_base_time.specs.Time.{date_time_of};
-    ghost use Rattle.x509_base_time.specs.declared.time.Time.TheVariants.{GeneralTime};
-    ghost use Rattle.x509_der_element.specs.declared.error.ErrorKind.TheVariants.{Failed};
+    ghost use Rattle.x509_base.specs.Time.{date_time_of};
+    ghost use Rattle.x509_base.specs.declared.time.Time.TheVariants.{GeneralTime};
+    ghost use Rattle.x509_der.specs.declared.error.ErrorKind.TheVariants.{Failed};
     ghost use Rattle.x509_prim.specs.Integer.{is_negative};
 
     ghost serial_check = { λ content. if is_negative content then Err Failed else Ok tt };

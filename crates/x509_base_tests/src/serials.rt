@@ -3,9 +3,8 @@
 use crate::calls::{is_refused, makes, prints, stays};
 use crate::source::Source;
 use std::test::Fail;
-use x509_base::SerialNumber;
-use x509_base_time::{Raw, Rfc5280};
-use x509_der_grammar::{Error, ErrorKind};
+use x509_base::{Raw, Rfc5280, SerialNumber};
+use x509_der::{Error, ErrorKind};
 
 /// Whether the number of the octets is printed so.
 fn has_text(rt: &HostRuntime, octets: &[u8], text: &str) -> Result<bool, Fail> {

@@ -4,9 +4,10 @@ use crate::calls::{is_refused, makes, stays};
 use std::cmp::Ordering;
 use std::test::*;
 use x509_base::AlgorithmIdentifier;
-use x509_der::{DerOrd, Error, ErrorKind, ObjectIdentifier, SetOfVec, ValueOrd, cmp_members};
-use x509_der_grammar::Decode;
-use x509_probe::{Digests, Purposes};
+use x509_der::{
+    Decode, DerOrd, Error, ErrorKind, ObjectIdentifier, SetOfVec, ValueOrd, cmp_members,
+};
+use x509_test_types::{Digests, Purposes};
 
 /// The set of all numbers below 300, put in out of order.
 fn many(rt: &HostRuntime) -> Result<SetOfVec<u32>, Error> {

@@ -2,7 +2,7 @@
 
 use crate::calls::{makes, stays};
 use std::test::*;
-use x509_der_grammar::{Decode, Encode, Error};
+use x509_der::{Decode, Encode, Error};
 use x509_prim::{BitString, Int, OctetString, Uint};
 
 #[test]

@@ -2,13 +2,11 @@
 
 use crate::calls::{is_refused, makes, prints, shows, stays};
 use std::test::*;
-use x509_der::{Any, FromAny, ObjectIdentifier};
-use x509_der_grammar::{AnyRef, Error, ErrorKind, Tag, TryClone};
-use x509_prim::OctetString;
-use x509_prim_text::{
-    Alphabet, BmpString, Ia5StringRef, PrintableString, PrintableStringRef, RestrictedString,
-    RestrictedStringRef, TeletexStringRef, Utf8String, Utf8StringRef, Visible, VisibleString,
-    VisibleStringRef,
+use x509_der::{Any, AnyRef, Error, ErrorKind, FromAny, ObjectIdentifier, Tag, TryClone};
+use x509_prim::{
+    Alphabet, BmpString, Ia5StringRef, OctetString, PrintableString, PrintableStringRef,
+    RestrictedString, RestrictedStringRef, TeletexStringRef, Utf8String, Utf8StringRef, Visible,
+    VisibleString, VisibleStringRef,
 };
 
 #[test]

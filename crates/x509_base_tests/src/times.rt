@@ -4,8 +4,8 @@ use crate::calls::prints;
 use std::str::FromStr;
 use std::test::Fail;
 use std::time::Duration;
-use x509_base_time::{DateTime, GeneralizedTime, Rfc5280, Time, UtcTime, Validity};
-use x509_der_grammar::Encode;
+use x509_base::{DateTime, GeneralizedTime, Rfc5280, Time, UtcTime, Validity};
+use x509_der::Encode;
 
 /// Whether the date-time has this text and stands so long after 1970, and each of the three gives the others.
 fn is_at(rt: &HostRuntime, date_time: DateTime, text: &str, seconds: u64) -> Result<bool, Fail> {

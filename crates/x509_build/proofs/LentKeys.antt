@@ -2,7 +2,7 @@
 use Rattle.std.proofs.Common.{◌≡◌, subst}
 use Rattle.x509_base.specs.declared.algorithm_identifier.AlgorithmIdentifier.{AlgorithmIdentifier}
 use Rattle.x509_base.specs.declared.subject_public_key_info.SubjectPublicKeyInfo.{SubjectPublicKeyInfo}
-use Rattle.x509_build_profile.specs.Answer.{key_lent}
+use Rattle.x509_build.specs.Answer.{key_lent}
 use Rattle.x509_prim.specs.BitString.{BitParts}
 
 pub lent_key : (F : SubjectPublicKeyInfo → Type 0) (key : SubjectPublicKeyInfo) (algorithm : AlgorithmIdentifier) (bits : BitParts) → algorithm ≡ key.algorithm → bits ≡ key.subject_public_key → F (key_lent algorithm bits) → F key

@@ -1,3 +1,6 @@
+mod OrderFacts
+mod DomainFacts
+mod ModuleFacts
 pub mod Places
 pub mod Requests
 pub mod LentKeys

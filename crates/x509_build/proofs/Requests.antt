@@ -2,30 +2,30 @@
 use Rattle.std.proofs.Common.{◌≡◌, ◌⊎◌, inl, inr, arith, List, [], ◌∷◌, Contains, Ok, Err, IsErrAnd, OnOk, Result, ap, sym, ◌∙◌, subst}
 use Rattle.std.specs.BTreeSet.{insert_key}
 use Rattle.std.specs.List.Sorted.{IsStrictlySortedBy, IsPermutation}
-use Rattle.x509_build_profile.specs.declared.error.Error.TheVariants.{Asn1, PublicKey, Signature, NonUniqueRdn, NonUniqueATV, InvalidAttribute, MissingAttributes, UnsupportedKind}
-use Rattle.x509_build_profile.specs.declared.error.Error as builder
+use Rattle.x509_build.specs.declared.error.Error.TheVariants.{Asn1, PublicKey, Signature, NonUniqueRdn, NonUniqueATV, InvalidAttribute, MissingAttributes, UnsupportedKind}
+use Rattle.x509_build.specs.declared.error.Error as builder
 use Rattle.x509_build.proofs.Places.{in_place}
 use Rattle.x509_base.specs.declared.subject_public_key_info.SubjectPublicKeyInfo.{SubjectPublicKeyInfo}
 use Rattle.x509_build.specs.RequestParts.{NameList, extension_request, next_part, part_of, RefusesRequest}
-use Rattle.x509_build_profile.specs.Answer.{Gives, IsRefused}
-use Rattle.x509_build_profile.specs.Refusals.{LacksMemory}
+use Rattle.x509_build.specs.Answer.{Gives, IsRefused}
+use Rattle.x509_build.specs.Refusals.{LacksMemory}
 use Rattle.x509_cert.specs.Attributes.{HoldsAlone}
 use Rattle.x509_cert.specs.Identifiers.{pkcs_9}
 use Rattle.x509_cert.specs.declared.request.cert_req.CertReqInfo.{CertReqInfo}
-use Rattle.x509_der_element.specs.Element.{limit}
-use Rattle.x509_der_element.specs.FrontLaws.{element_is}
-use Rattle.x509_der_element.specs.Tag.{octet_of}
-use Rattle.x509_der_element.specs.TagReading.{same_tag}
-use Rattle.x509_der_element.specs.declared.error.Error.{Error}
-use Rattle.x509_der_element.specs.declared.error.ErrorKind.TheVariants.{Memory, SetDuplicate}
-use Rattle.x509_der_element.specs.declared.tag.Tag.TheVariants.{Sequence}
-use Rattle.x509_der_frames.specs.declared.any.Any.{Any}
-use Rattle.x509_der_grammar.specs.Writing.{plain, writes, IsWritable}
-use Rattle.x509_der_order.specs.Ordered.{der_lawful}
-use Rattle.x509_extension.specs.Extension.{extensions}
-use Rattle.x509_extension.specs.declared.extension.Extension.{Extension}
-use Rattle.x509_name_attribute.specs.Attribute.{attribute, attribute_cmp, attribute_order, attribute_ordered}
-use Rattle.x509_name_attribute.specs.declared.attribute.Attribute.{Attribute}
+use Rattle.x509_der.specs.Element.{limit}
+use Rattle.x509_der.specs.FrontLaws.{element_is}
+use Rattle.x509_der.specs.Tag.{octet_of}
+use Rattle.x509_der.specs.TagReading.{same_tag}
+use Rattle.x509_der.specs.declared.error.Error.{Error}
+use Rattle.x509_der.specs.declared.error.ErrorKind.TheVariants.{Memory, SetDuplicate}
+use Rattle.x509_der.specs.declared.tag.Tag.TheVariants.{Sequence}
+use Rattle.x509_der.specs.declared.any.Any.{Any}
+use Rattle.x509_der.specs.Writing.{plain, writes, IsWritable}
+use Rattle.x509_der.specs.Ordered.{der_lawful}
+use Rattle.x509_ext.specs.Extension.{extensions}
+use Rattle.x509_ext.specs.declared.extension.Extension.{Extension}
+use Rattle.x509_name.specs.Attribute.{attribute, attribute_cmp, attribute_order, attribute_ordered}
+use Rattle.x509_name.specs.declared.attr.attribute.Attribute.{Attribute}
 
 -- what a set says when it takes a member
 pub added : (answer : Result Unit Error) (old new : List Attribute) (item : Attribute) → IsStrictlySortedBy attribute_cmp old → OnOk answer (IsPermutation (item ∷ old) new) → IsStrictlySortedBy attribute_cmp new → (Contains old item → IsErrAnd answer (λ e. e.kind ≡ SetDuplicate)) → OnOk answer ((¬ Contains old item) × (new ≡ insert_key attribute_cmp old item))

@@ -2,16 +2,16 @@
 use Rattle.std.specs.Prelude.{◌⊎◌, ℕ, List, [], ◌∷◌, ◌++◌, Option, Some, None}
 use Rattle.x509_base.specs.declared.algorithm_identifier.AlgorithmIdentifier.{AlgorithmIdentifier}
 use Rattle.x509_base.specs.declared.subject_public_key_info.SubjectPublicKeyInfo.{SubjectPublicKeyInfo}
-use Rattle.x509_base_time.specs.Profiles.{rfc5280_time}
-use Rattle.x509_base_time.specs.declared.profile.Rfc5280.{Rfc5280}
-use Rattle.x509_base_time.specs.declared.validity.Validity.{Validity}
-use Rattle.x509_build_profile.specs.Answer.{Answer, IsRefused}
-use Rattle.x509_build_profile.specs.Parts.{no_algorithm}
-use Rattle.x509_cert_certificate.specs.TbsCertificate.{NameList}
-use Rattle.x509_cert_certificate.specs.declared.tbs_certificate.TbsCertificateInner.{TbsCertificateInner}
-use Rattle.x509_cert_certificate.specs.declared.version.Version.{Version}
-use Rattle.x509_cert_certificate.specs.declared.version.Version.TheVariants.{V1, V3}
-use Rattle.x509_extension.specs.declared.extension.Extension.{Extension}
+use Rattle.x509_base.specs.Profiles.{rfc5280_time}
+use Rattle.x509_base.specs.declared.profile.Rfc5280.{Rfc5280}
+use Rattle.x509_base.specs.declared.validity.Validity.{Validity}
+use Rattle.x509_build.specs.Answer.{Answer, IsRefused}
+use Rattle.x509_build.specs.Parts.{no_algorithm}
+use Rattle.x509_cert.specs.TbsCertificate.{NameList}
+use Rattle.x509_cert.specs.declared.certificate.tbs_certificate.TbsCertificateInner.{TbsCertificateInner}
+use Rattle.x509_cert.specs.declared.certificate.version.Version.{Version}
+use Rattle.x509_cert.specs.declared.certificate.version.Version.TheVariants.{V1, V3}
+use Rattle.x509_ext.specs.declared.extension.Extension.{Extension}
 use Rattle.x509_build.specs.declared.certificate_builder.CertificateBuilder.{CertificateBuilder}
 
 abbrev pub TbsCertificate : Type 0

@@ -1,3 +1,13 @@
+pub mod Order
+pub mod CaNaming
+pub mod Answer
+pub mod Refusals
+pub mod Parts
+pub mod Making
+pub mod Usages
+pub mod Domain
+pub mod Modules
+pub mod Profiles
 pub mod RequestParts
 pub mod ListParts
 pub mod CertificateParts

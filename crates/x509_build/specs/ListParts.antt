@@ -2,23 +2,23 @@
 use Rattle.sha1.specs.Sha1.{sha1}
 use Rattle.std.specs.Prelude.{◌≡◌, ◌⊎◌, ◌<◌, ℕ, Bool, false, List, [], ◌∷◌, Option, Some, None, Result, Ok, Err}
 use Rattle.x509_base.specs.declared.algorithm_identifier.AlgorithmIdentifier.{AlgorithmIdentifier}
-use Rattle.x509_base_time.specs.declared.profile.Rfc5280.{Rfc5280}
-use Rattle.x509_base_time.specs.declared.time.Time.{Time}
+use Rattle.x509_base.specs.declared.profile.Rfc5280.{Rfc5280}
+use Rattle.x509_base.specs.declared.time.Time.{Time}
 use Rattle.x509_build.specs.declared.crl_builder.CrlBuilder.{CrlBuilder}
-use Rattle.x509_build_profile.specs.declared.error.Error as builder
-use Rattle.x509_build_profile.specs.declared.error.Error.TheVariants.{Asn1}
-use Rattle.x509_build_profile.specs.Answer.{Answer}
-use Rattle.x509_build_profile.specs.Parts.{no_algorithm}
-use Rattle.x509_cert_certificate.specs.TbsCertificate.{NameList}
-use Rattle.x509_cert_certificate.specs.declared.tbs_certificate.TbsCertificateInner.{TbsCertificateInner}
-use Rattle.x509_cert_certificate.specs.declared.version.Version.TheVariants.{V2}
+use Rattle.x509_build.specs.declared.error.Error as builder
+use Rattle.x509_build.specs.declared.error.Error.TheVariants.{Asn1}
+use Rattle.x509_build.specs.Answer.{Answer}
+use Rattle.x509_build.specs.Parts.{no_algorithm}
+use Rattle.x509_cert.specs.TbsCertificate.{NameList}
+use Rattle.x509_cert.specs.declared.certificate.tbs_certificate.TbsCertificateInner.{TbsCertificateInner}
+use Rattle.x509_cert.specs.declared.certificate.version.Version.TheVariants.{V2}
 use Rattle.x509_cert.specs.declared.crl.tbs_cert_list.TbsCertList.{TbsCertList}
-use Rattle.x509_der_element.specs.declared.error.Error.{Error}
-use Rattle.x509_der_element.specs.declared.error.ErrorKind.TheVariants.{Memory}
-use Rattle.x509_der_grammar.specs.Writing.{plain, writes}
-use Rattle.x509_extension.specs.Identifiers.{id_ce}
-use Rattle.x509_extension.specs.ToExtension.{Makes}
-use Rattle.x509_extension.specs.declared.extension.Extension.{Extension}
+use Rattle.x509_der.specs.declared.error.Error.{Error}
+use Rattle.x509_der.specs.declared.error.ErrorKind.TheVariants.{Memory}
+use Rattle.x509_der.specs.Writing.{plain, writes}
+use Rattle.x509_ext.specs.Identifiers.{id_ce}
+use Rattle.x509_ext.specs.ToExtension.{Makes}
+use Rattle.x509_ext.specs.declared.extension.Extension.{Extension}
 use Rattle.x509_ext.specs.declared.pkix.subject_key_identifier.SubjectKeyIdentifier.{SubjectKeyIdentifier}
 use Rattle.x509_ext.specs.AuthorityKeyIdentifier.{authority_key_identifier}
 use Rattle.x509_ext.specs.declared.pkix.authority_key_identifier.AuthorityKeyIdentifier.{AuthorityKeyIdentifier}

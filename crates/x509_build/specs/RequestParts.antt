@@ -2,22 +2,22 @@
 use Rattle.std.specs.BTreeSet.{insert_key}
 use Rattle.std.specs.Prelude.{◌≡◌, ◌⊎◌, List, [], ◌∷◌, Contains}
 use Rattle.x509_base.specs.declared.subject_public_key_info.SubjectPublicKeyInfo.{SubjectPublicKeyInfo}
-use Rattle.x509_build_profile.specs.declared.error.Error.{Error}
-use Rattle.x509_build_profile.specs.declared.error.Error.TheVariants.{Asn1}
-use Rattle.x509_build_profile.specs.Answer.{Answer}
-use Rattle.x509_build_profile.specs.Parts.{no_algorithm}
+use Rattle.x509_build.specs.declared.error.Error.{Error}
+use Rattle.x509_build.specs.declared.error.Error.TheVariants.{Asn1}
+use Rattle.x509_build.specs.Answer.{Answer}
+use Rattle.x509_build.specs.Parts.{no_algorithm}
 use Rattle.x509_cert.specs.Identifiers.{pkcs_9}
 use Rattle.x509_cert.specs.declared.request.cert_req.CertReqInfo.{CertReqInfo}
 use Rattle.x509_cert.specs.declared.request.version.Version.TheVariants.{V1}
-use Rattle.x509_der_element.specs.Element.{limit}
-use Rattle.x509_der_element.specs.declared.error.ErrorKind.TheVariants.{SetDuplicate}
-use Rattle.x509_der_element.specs.declared.tag.Tag.TheVariants.{Sequence}
-use Rattle.x509_der_grammar.specs.Writing.{plain, writes, IsUnwritable}
-use Rattle.x509_extension.specs.Extension.{extensions}
-use Rattle.x509_extension.specs.declared.extension.Extension.{Extension}
-use Rattle.x509_name_attribute.specs.Attribute.{attribute_cmp}
-use Rattle.x509_name_attribute.specs.declared.attribute.Attribute.{Attribute}
-use Rattle.x509_name_attribute.specs.declared.type_and_value.AttributeTypeAndValue.{AttributeTypeAndValue}
+use Rattle.x509_der.specs.Element.{limit}
+use Rattle.x509_der.specs.declared.error.ErrorKind.TheVariants.{SetDuplicate}
+use Rattle.x509_der.specs.declared.tag.Tag.TheVariants.{Sequence}
+use Rattle.x509_der.specs.Writing.{plain, writes, IsUnwritable}
+use Rattle.x509_ext.specs.Extension.{extensions}
+use Rattle.x509_ext.specs.declared.extension.Extension.{Extension}
+use Rattle.x509_name.specs.Attribute.{attribute_cmp}
+use Rattle.x509_name.specs.declared.attr.attribute.Attribute.{Attribute}
+use Rattle.x509_name.specs.declared.attr.type_and_value.AttributeTypeAndValue.{AttributeTypeAndValue}
 use Rattle.x509_prim.specs.BitString.{parts_of}
 
 abbrev pub NameList : Type 0

@@ -2,20 +2,23 @@
 
 ghost use Rattle.std.specs.Prelude.{◌≡◌, ◌⊎◌, [], ◌∷◌, ◌++◌, Ok, Err, IfOk, IfErr, OnOk, OnErr};
 ghost use Rattle.x509_build.specs.CertificateParts.{bare_part, new_builder, next_part, part_with};
-ghost use Rattle.x509_build_profile.specs.declared.error.Error.TheVariants.{Asn1};
-ghost use Rattle.x509_build_profile.specs.Answer.{Gives};
-ghost use Rattle.x509_build_profile.specs.Refusals.{LacksMemory};
-ghost use Rattle.x509_der_element.specs.declared.error.Error.{Error};
-ghost use Rattle.x509_der_element.specs.declared.error.ErrorKind.TheVariants.{Memory};
-ghost use Rattle.x509_extension.specs.declared.extension.Extension.{Extension};
+ghost use Rattle.x509_build.specs.declared.error.Error.TheVariants.{Asn1};
+ghost use Rattle.x509_build.specs.Answer.{Gives};
+ghost use Rattle.x509_build.specs.Refusals.{LacksMemory};
+ghost use Rattle.x509_der.specs.declared.error.Error.{Error};
+ghost use Rattle.x509_der.specs.declared.error.ErrorKind.TheVariants.{Memory};
+ghost use Rattle.x509_ext.specs.declared.extension.Extension.{Extension};
 
+use crate::profile::BuilderProfile;
+use crate::profile::null_algorithm::no_algorithm;
+use crate::{Builder, Result, Signer};
 use std::alloc::Global;
-use x509_base::{AlgorithmIdentifier, SerialNumber, SubjectPublicKeyInfo};
-use x509_base_time::{Profile, Rfc5280, Validity};
-use x509_build_profile::{Builder, BuilderProfile, Result, Signer, no_algorithm};
-use x509_cert_certificate::{Certificate, TbsCertificate, Version};
-use x509_der_grammar::{Encode, Error, TryClone};
-use x509_extension::{Extension, Extensions, ToExtension};
+use x509_base::{
+    AlgorithmIdentifier, Profile, Rfc5280, SerialNumber, SubjectPublicKeyInfo, Validity,
+};
+use x509_cert::certificate::{Certificate, TbsCertificate, Version};
+use x509_der::{Encode, Error, TryClone};
+use x509_ext::{Extension, Extensions, ToExtension};
 use x509_prim::BitString;
 
 /// A builder of a certificate (RFC 5280 4.1), made of what the caller hands in and of what a profile adds.
@@ -195,7 +198,7 @@ fn part_with(part: TbsCertificate, extensions: Vec<Extension>) -> TbsCertificate
 impl<P: BuilderProfile> Builder for CertificateBuilder<P> {
     ghost use Rattle.std.specs.Prelude.{◌≡◌, IfOk, IfErr};
     ghost use Rattle.x509_build.specs.CertificateParts as parts;
-    ghost use Rattle.x509_build_profile.specs.Refusals.{LacksMemory};
+    ghost use Rattle.x509_build.specs.Refusals.{LacksMemory};
 
     type Output = Certificate;
 

@@ -3,32 +3,31 @@
 ghost use Rattle.std.specs.Duration.{as_nanos};
 ghost use Rattle.std.specs.Iterator.{Drains, IsFinite};
 ghost use Rattle.std.specs.Prelude.{◌≡◌, ◌⊎◌, ◌<◌, ◌≤◌, [], ◌∷◌, ◌++◌, List, Some, None, Ok, Err, IfOk, IfErr, OnOk, OnErr};
-ghost use Rattle.x509_base_time.specs.CivilTime.{last_date_time, unix_seconds, whole_seconds};
-ghost use Rattle.x509_base_time.specs.Time.{IsTimeAt};
-ghost use Rattle.x509_base_time.specs.declared.time.Time.{Time};
+ghost use Rattle.x509_base.specs.CivilTime.{last_date_time, unix_seconds, whole_seconds};
+ghost use Rattle.x509_base.specs.Time.{IsTimeAt};
+ghost use Rattle.x509_base.specs.declared.time.Time.{Time};
 ghost use Rattle.x509_build.specs.ListParts.{RefusesStart, Starts, members};
-ghost use Rattle.x509_build_profile.specs.declared.error.Error.TheVariants.{Asn1};
-ghost use Rattle.x509_build_profile.specs.Refusals.{LacksMemory};
+ghost use Rattle.x509_build.specs.declared.error.Error.TheVariants.{Asn1};
+ghost use Rattle.x509_build.specs.Refusals.{LacksMemory};
 ghost use Rattle.x509_cert.specs.declared.crl.revoked_cert.RevokedCert.{RevokedCert};
-ghost use Rattle.x509_extension.specs.LookUp as look_up;
-ghost use Rattle.x509_extension.specs.LookUp.{Finds, with_oid};
-ghost use Rattle.x509_der_element.specs.declared.error.Error.{Error};
-ghost use Rattle.x509_der_element.specs.declared.error.ErrorKind.TheVariants.{Memory, Value};
-ghost use Rattle.x509_extension.specs.Identifiers.{id_ce};
-ghost use Rattle.x509_extension.specs.declared.extension.Extension.{Extension};
+ghost use Rattle.x509_ext.specs.LookUp as look_up;
+ghost use Rattle.x509_ext.specs.LookUp.{Finds, with_oid};
+ghost use Rattle.x509_der.specs.declared.error.Error.{Error};
+ghost use Rattle.x509_der.specs.declared.error.ErrorKind.TheVariants.{Memory, Value};
+ghost use Rattle.x509_ext.specs.Identifiers.{id_ce};
+ghost use Rattle.x509_ext.specs.declared.extension.Extension.{Extension};
 
 use crate::extensions::{issuer_key, list_extensions};
+use crate::profile::null_algorithm::no_algorithm;
+use crate::{Builder, Result, Signer};
 use std::alloc::Global;
 use std::time::Duration;
-use x509_base_time::{DateTime, Profile, Rfc5280, Time};
-use x509_build_profile::{Builder, Result, Signer, no_algorithm};
+use x509_base::{DateTime, Profile, Rfc5280, Time};
+use x509_cert::certificate::{Certificate, Version};
 use x509_cert::crl::{CertificateList, RevokedCert, TbsCertList};
-use x509_cert_certificate::{Certificate, Version};
-use x509_der_frames::SequenceOf;
-use x509_der_grammar::{Decode, Encode, Error, Grammar, TryClone};
-use x509_ext::pkix::SubjectKeyIdentifier;
-use x509_extension::{Extensions, ToExtension};
-use x509_pkix::CrlNumber;
+use x509_der::{Decode, Encode, Error, Grammar, SequenceOf, TryClone};
+use x509_ext::pkix::{CrlNumber, SubjectKeyIdentifier};
+use x509_ext::{Extensions, ToExtension};
 use x509_prim::BitString;
 
 /// A builder of a CRL (RFC 5280 5.1).
@@ -70,7 +69,7 @@ impl<P: Profile> CrlBuilder<P> {
     ///
     /// # Errors
     ///
-    /// `Asn1` of the error of [`get_extension`](x509_cert_certificate::TbsCertificateInner::get_extension) for the SKI,
+    /// `Asn1` of the error of [`get_extension`](x509_cert::certificate::TbsCertificateInner::get_extension) for the SKI,
     /// or of the error of encoding the CRL number or the AKI. `Asn1` of `Memory` when out of memory.
     pub fn new_with_this_update(
         alloc: Global,
@@ -187,7 +186,7 @@ impl<P: Profile> Drop for CrlBuilder<P> {
 impl<P: Profile> Builder for CrlBuilder<P> {
     ghost use Rattle.std.specs.Prelude.{◌≡◌, IfOk, IfErr};
     ghost use Rattle.x509_build.specs.ListParts as parts;
-    ghost use Rattle.x509_build_profile.specs.Refusals.{LacksMemory};
+    ghost use Rattle.x509_build.specs.Refusals.{LacksMemory};
 
     type Output = CertificateList<P>;
 

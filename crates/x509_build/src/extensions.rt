@@ -2,17 +2,16 @@
 
 ghost use Rattle.std.specs.Prelude.{◌≡◌, ◌⊎◌, Ok, Err, IfOk, IfErr};
 ghost use Rattle.x509_build.specs.ListParts.{IdentifiesKey, MakesExtensions, key_octets};
-ghost use Rattle.x509_extension.specs.LookUp.{Finds, members, with_oid};
-ghost use Rattle.x509_der_element.specs.declared.error.ErrorKind.TheVariants.{Memory};
-ghost use Rattle.x509_extension.specs.Identifiers.{id_ce};
+ghost use Rattle.x509_ext.specs.LookUp.{Finds, members, with_oid};
+ghost use Rattle.x509_der.specs.declared.error.ErrorKind.TheVariants.{Memory};
+ghost use Rattle.x509_ext.specs.Identifiers.{id_ce};
 
 use std::alloc::Global;
-use x509_cert_certificate::Certificate;
-use x509_der_grammar::{Decode, Error, Grammar};
-use x509_ext::pkix::{AuthorityKeyIdentifier, SubjectKeyIdentifier, key_identifier};
-use x509_extension::{Extensions, ToExtension};
+use x509_cert::certificate::Certificate;
+use x509_der::{Decode, Error, Grammar};
+use x509_ext::pkix::{AuthorityKeyIdentifier, CrlNumber, SubjectKeyIdentifier, key_identifier};
+use x509_ext::{Extensions, ToExtension};
 use x509_name::name::Name;
-use x509_pkix::CrlNumber;
 use x509_prim::OctetString;
 
 /// The identifier of a certificate's key: its SKI, and where it has none, the SHA-1 digest of the key.

@@ -6,13 +6,19 @@
 //! of our own are explained in `docs/MAP.md`.
 #![tactic(auto)]
 
+mod builder;
 mod certificate_builder;
 mod crl_builder;
+mod error;
 mod extensions;
 pub mod laws;
 pub mod profile;
 pub mod request;
+mod signer;
 
+pub use builder::Builder;
 pub use certificate_builder::CertificateBuilder;
 pub use crl_builder::CrlBuilder;
-pub use x509_build_profile::{Builder, BuilderProfile, Error, KeyError, Result, SignError, Signer};
+pub use error::{Error, KeyError, Result, SignError};
+pub use profile::BuilderProfile;
+pub use signer::Signer;

@@ -4,10 +4,10 @@ use crate::calls::is_answer;
 use crate::certificates::{builder, part};
 use crate::signers::ABC;
 use std::test::*;
-use x509_build_profile::cabf::Root;
-use x509_build_profile::cabf::tls::Subordinate;
-use x509_build_profile::{Builder, Result};
-use x509_der_grammar::Encode;
+use x509_build::profile::cabf::Root;
+use x509_build::profile::cabf::tls::Subordinate;
+use x509_build::{Builder, Result};
+use x509_der::Encode;
 use x509_name::name::Name;
 
 /// The certificate of the root `CN=R,O=T,C=US`, for the key `abc`, that signs OCSP responses, signed with its part.

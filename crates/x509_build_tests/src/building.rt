@@ -5,8 +5,8 @@ use crate::signers::{ABC, Echo, Refused};
 use crate::source::Zeros;
 use crate::{certificates, lists, requests};
 use std::test::*;
-use x509_build_profile::{Builder, Error, KeyError, Result, SignError};
-use x509_der_grammar::Encode;
+use x509_build::{Builder, Error, KeyError, Result, SignError};
+use x509_der::Encode;
 use x509_prim::BitString;
 
 /// The encoding of what the builder makes with the signer `abc` that refuses that.

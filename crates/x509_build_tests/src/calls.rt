@@ -1,6 +1,6 @@
 //! What tests ask of answers.
 
-use x509_build_profile::{Error, Result};
+use x509_build::{Error, Result};
 
 /// Whether the error prints as this text.
 pub(crate) fn prints(rt: &HostRuntime, error: &Error, text: &str) -> bool {

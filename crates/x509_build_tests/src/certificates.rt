@@ -5,13 +5,12 @@ use crate::profiles::Picky;
 use crate::signers::{ABC, ABD, ECHO};
 use bitflags::Flags;
 use std::test::*;
-use x509_base::{SerialNumber, SubjectPublicKeyInfo};
-use x509_base_time::Validity;
-use x509_build::CertificateBuilder;
-use x509_build_profile::{Builder, BuilderProfile, Result};
-use x509_der_grammar::Decode;
-use x509_extension::Extension;
-use x509_pkix::Reasons;
+use x509_base::{SerialNumber, SubjectPublicKeyInfo, Validity};
+use x509_build::profile::BuilderProfile;
+use x509_build::{Builder, CertificateBuilder, Result};
+use x509_der::Decode;
+use x509_ext::Extension;
+use x509_ext::pkix::crl::dp::Reasons;
 
 /// From 2010-01-01T08:30:00Z to 2030-12-31T08:30:00Z, with each year in four digits. Certificates have two (RFC 5280 4.1.2.5).
 const DATES: &[u8] = b"\x30\x22\x18\x0F20100101083000Z\x18\x0F20301231083000Z";

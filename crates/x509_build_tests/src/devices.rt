@@ -4,10 +4,10 @@ use crate::calls::is_answer;
 use crate::certificates::part;
 use crate::signers::ECHO;
 use std::test::*;
-use x509_build_profile::Result;
-use x509_build_profile::devid::{DevId, TpmVersion};
-use x509_der_grammar::Decode;
-use x509_ext_name::GeneralNames;
+use x509_build::Result;
+use x509_build::profile::devid::{DevId, TpmVersion};
+use x509_der::Decode;
+use x509_ext::pkix::name::GeneralNames;
 use x509_name::name::Name;
 use x509_prim::OctetString;
 

@@ -4,14 +4,12 @@ use crate::calls::is_answer;
 use crate::signers::{ABC, Echo, Refused};
 use std::test::*;
 use std::time::Duration;
-use x509_base_time::Time;
-use x509_build::CrlBuilder;
-use x509_build_profile::{Builder, Result};
+use x509_base::Time;
+use x509_build::{Builder, CrlBuilder, Result};
+use x509_cert::certificate::Certificate;
 use x509_cert::crl::RevokedCert;
-use x509_cert_certificate::Certificate;
-use x509_der_frames::SequenceOf;
-use x509_der_grammar::Decode;
-use x509_pkix::{BaseCrlNumber, CrlNumber};
+use x509_der::{Decode, SequenceOf};
+use x509_ext::pkix::{BaseCrlNumber, CrlNumber};
 use x509_prim::Uint;
 
 /// The certificate with an empty subject, for an empty key.

@@ -2,8 +2,8 @@
 
 use crate::calls::is_refused;
 use std::test::*;
-use x509_build_profile::Result;
-use x509_build_profile::cabf::{Root, check_names_encoding};
+use x509_build::Result;
+use x509_build::profile::cabf::{Root, check_names_encoding};
 use x509_name::name::Name;
 
 /// Each type of the order, in it.

@@ -19,14 +19,14 @@ fn profiles(
         devid::TpmVersion,
     ),
 ) -> &(
-    x509_build_profile::cabf::Root,
-    x509_build_profile::cabf::tls::CertificateType,
-    x509_build_profile::cabf::tls::DomainValidated,
-    x509_build_profile::cabf::tls::Subordinate,
-    x509_build_profile::cabf::tls::Subscriber,
-    x509_build_profile::cabf::tls::Tls12Options,
-    x509_build_profile::devid::DevId,
-    x509_build_profile::devid::TpmVersion,
+    x509_build::profile::cabf::Root,
+    x509_build::profile::cabf::tls::CertificateType,
+    x509_build::profile::cabf::tls::DomainValidated,
+    x509_build::profile::cabf::tls::Subordinate,
+    x509_build::profile::cabf::tls::Subscriber,
+    x509_build::profile::cabf::tls::Tls12Options,
+    x509_build::profile::devid::DevId,
+    x509_build::profile::devid::TpmVersion,
 ) {
     it
 }
@@ -39,9 +39,9 @@ fn refusals(
         x509_build::SignError,
     ),
 ) -> &(
-    x509_build_profile::Error,
-    x509_build_profile::KeyError,
-    x509_build_profile::SignError,
+    x509_build::Error,
+    x509_build::KeyError,
+    x509_build::SignError,
 ) {
     it
 }
@@ -55,9 +55,9 @@ fn checks(name: &Name) -> x509_build::Result<()> {
 /// Wants the traits of builders, of profiles and of signers.
 fn wants_traits<B, P, S>()
 where
-    B: x509_build_profile::Builder,
-    P: x509_build_profile::BuilderProfile,
-    S: x509_build_profile::Signer,
+    B: x509_build::Builder,
+    P: x509_build::profile::BuilderProfile,
+    S: x509_build::Signer,
 {}
 
 /// The traits of builders, of profiles and of signers.

@@ -1,15 +1,15 @@
 //! A profile whose answers are known.
 
 ghost use Rattle.std.specs.Prelude.{◌≡◌, [], ◌∷◌, false, IfOk, IfErr};
-ghost use Rattle.x509_der_element.specs.declared.error.ErrorKind.TheVariants.{Memory};
+ghost use Rattle.x509_der.specs.declared.error.ErrorKind.TheVariants.{Memory};
 
 use std::alloc::Global;
 use x509_base::SubjectPublicKeyInfoRef;
-use x509_build_profile::{BuilderProfile, Error, Result};
-use x509_cert_certificate::TbsCertificate;
-use x509_der::{ObjectIdentifier, oid};
-use x509_der_grammar::ErrorKind;
-use x509_extension::Extension;
+use x509_build::profile::BuilderProfile;
+use x509_build::{Error, Result};
+use x509_cert::certificate::TbsCertificate;
+use x509_der::{ErrorKind, ObjectIdentifier, oid};
+use x509_ext::Extension;
 use x509_name::name::Name;
 use x509_prim::OctetString;
 
@@ -26,8 +26,8 @@ pub(crate) struct Picky {
 
 impl BuilderProfile for Picky {
     ghost use Rattle.std.specs.Prelude.{◌≡◌, [], ◌∷◌, false, if◌then◌else◌};
-    ghost use Rattle.x509_build_profile.specs.declared.error.Error.TheVariants.{Asn1, MissingAttributes};
-    ghost use Rattle.x509_der_element.specs.declared.error.ErrorKind.TheVariants.{Failed};
+    ghost use Rattle.x509_build.specs.declared.error.Error.TheVariants.{Asn1, MissingAttributes};
+    ghost use Rattle.x509_der.specs.declared.error.ErrorKind.TheVariants.{Failed};
 
     ghost issuer_of = { λ profile subject. record { value = []; refuses = λ e. (profile.has_issuer ≡ false) × (e ≡ MissingAttributes) } };
 
@@ -68,7 +68,7 @@ impl BuilderProfile for Picky {
 }
 
 /// The extension of [`Picky`].
-fn one_extension(alloc: Global) -> std::result::Result<Vec<Extension>, x509_der_grammar::Error>
+fn one_extension(alloc: Global) -> std::result::Result<Vec<Extension>, x509_der::Error>
     ensures ok { IfOk result (λ extensions. extensions.items ≡ record { extn_id = 0x2A ∷ 3 ∷ 6 ∷ []; critical = false; extn_value = 0xAA ∷ [] } ∷ []) }
     ensures err { IfErr result (λ e. e.kind ≡ Memory) }
 {

@@ -5,15 +5,13 @@ use crate::signers::{ABC, ECHO, Echo, Refused};
 use bitflags::Flags;
 use std::test::*;
 use x509_build::request::RequestBuilder;
-use x509_build_profile::{Builder, Result};
+use x509_build::{Builder, Result};
 use x509_cert::request::attributes::{AsAttribute, ChallengePassword};
-use x509_der::{AssociatedOid, ObjectIdentifier, oid};
-use x509_der_grammar::{Decode, Newtype};
-use x509_extension::Extension;
-use x509_name::name::Name;
-use x509_name_attribute::DirectoryString;
-use x509_pkix::Reasons;
-use x509_prim_text::Utf8String;
+use x509_der::{AssociatedOid, Decode, Newtype, ObjectIdentifier, oid};
+use x509_ext::Extension;
+use x509_ext::pkix::crl::dp::Reasons;
+use x509_name::name::{DirectoryString, Name};
+use x509_prim::Utf8String;
 
 /// The CSR with an empty subject, for the key `abc`, that asks for no extensions, signed with its part.
 pub(crate) const SIGNED: &[u8] =

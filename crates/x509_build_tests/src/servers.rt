@@ -3,10 +3,10 @@
 use crate::calls::is_answer;
 use crate::certificates::part;
 use std::test::*;
-use x509_build_profile::Result;
-use x509_build_profile::cabf::tls::{CertificateType, Subscriber, Tls12Options};
-use x509_der_grammar::TryClone;
-use x509_ext_name::GeneralNames;
+use x509_build::Result;
+use x509_build::profile::cabf::tls::{CertificateType, Subscriber, Tls12Options};
+use x509_der::TryClone;
+use x509_ext::pkix::name::GeneralNames;
 use x509_name::name::Name;
 
 /// An RSA key and an elliptic curve key, of one octet each.

@@ -3,7 +3,7 @@
 use rand_core::CryptoRng;
 use std::alloc::Global;
 use x509_base::{AlgorithmIdentifier, SubjectPublicKeyInfo};
-use x509_build_profile::{KeyError, SignError, Signer};
+use x509_build::{KeyError, SignError, Signer};
 use x509_der::{ObjectIdentifier, oid};
 use x509_prim::BitString;
 

@@ -1,20 +1,20 @@
 //! What a certificate says.
 
 ghost use Rattle.std.specs.Prelude.{◌≡◌};
-ghost use Rattle.x509_c_certificate.specs.Extensions.{LooksUpExtension};
-ghost use Rattle.x509_c_certificate.specs.Signature.{IsSignature};
-ghost use Rattle.x509_c_certificate.specs.View.{IsView};
-ghost use Rattle.x509_c_status.specs.Calls.{Reads};
-ghost use Rattle.x509_c_status.specs.Status.{Tells};
+ghost use Rattle.x509_c_calls.specs.Extensions.{LooksUpExtension};
+ghost use Rattle.x509_c_calls.specs.Signature.{IsSignature};
+ghost use Rattle.x509_c_calls.specs.View.{IsView};
+ghost use Rattle.x509_c_calls.specs.Calls.{Reads};
+ghost use Rattle.x509_c_calls.specs.Status.{Tells};
 
 use std::alloc::Global;
-use x509_base_time::Rfc5280;
-use x509_c_certificate::{
+use x509_base::Rfc5280;
+use x509_c_calls::{
     CertificateView, ExtensionView, SignatureView, certificate_extension, certificate_signature,
     certificate_view,
 };
-use x509_cert_certificate::CertificateInner;
-use x509_der_grammar::Grammar;
+use x509_cert::certificate::CertificateInner;
+use x509_der::Grammar;
 
 /// Decodes a certificate under the rules of RFC 5280, and fills in what it says and where its parts stand.
 #[unsafe(no_mangle)]

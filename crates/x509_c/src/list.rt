@@ -1,20 +1,18 @@
 //! What a CRL says.
 
 ghost use Rattle.std.specs.Prelude.{◌≡◌, length};
-ghost use Rattle.x509_c_crl.specs.Revoked.{LooksUp};
-ghost use Rattle.x509_c_status.specs.Calls.{Reads};
-ghost use Rattle.x509_c_status.specs.Status.{Tells};
+ghost use Rattle.x509_c_calls.specs.Revoked.{LooksUp};
+ghost use Rattle.x509_c_calls.specs.Calls.{Reads};
+ghost use Rattle.x509_c_calls.specs.Status.{Tells};
 ghost use Rattle.x509_cert.specs.Revoked.{entries};
-ghost use Rattle.x509_extension.specs.LookUp.{Finds, members, with_oid};
+ghost use Rattle.x509_ext.specs.LookUp.{Finds, members, with_oid};
 
 use std::alloc::Global;
-use x509_base::SerialNumber;
-use x509_base_time::Rfc5280;
-use x509_c_crl::{Revocation, crl_lookup, crl_walk};
+use x509_base::{Rfc5280, SerialNumber};
+use x509_c_calls::{Revocation, crl_lookup, crl_walk};
 use x509_cert::crl::CertificateList;
-use x509_der::AssociatedOid;
-use x509_der_grammar::{Decode, Grammar};
-use x509_pkix::CrlReason;
+use x509_der::{AssociatedOid, Decode, Grammar};
+use x509_ext::pkix::CrlReason;
 
 /// Decodes a CRL under the rules of RFC 5280, and says how many entries it has.
 #[unsafe(no_mangle)]

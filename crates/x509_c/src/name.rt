@@ -1,20 +1,18 @@
 //! What names hold.
 
 ghost use Rattle.std.specs.Prelude.{◌≡◌, ◌≤◌, ◌<◌, ◌+◌};
-ghost use Rattle.x509_c_payload.specs.Attributes.{IsAttribute};
-ghost use Rattle.x509_c_payload.specs.Cursor.{Steps};
-ghost use Rattle.x509_c_status.specs.Status.{Tells};
-ghost use Rattle.x509_c_status.specs.declared.status.Status.TheVariants.{Refused};
-ghost use Rattle.x509_der_element.specs.declared.error.ErrorKind.TheVariants.{Malformed};
+ghost use Rattle.x509_c_calls.specs.Attributes.{IsAttribute};
+ghost use Rattle.x509_c_calls.specs.Cursor.{Steps};
+ghost use Rattle.x509_c_calls.specs.Status.{Tells};
+ghost use Rattle.x509_c_calls.specs.declared.status.status.Status.TheVariants.{Refused};
+ghost use Rattle.x509_der.specs.declared.error.ErrorKind.TheVariants.{Malformed};
 ghost use Rattle.x509_name.specs.Names.{relative_distinguished_name};
 
 use std::alloc::Global;
-use x509_c_payload::{AttributeView, element_next, member_next, member_under_next};
-use x509_c_place::Span;
-use x509_der_element::Tag;
-use x509_der_grammar::{Decode, Grammar};
+use x509_c_calls::{AttributeView, Span, element_next, member_next, member_under_next};
+use x509_der::{Decode, Grammar, Tag};
+use x509_name::attr::AttributeTypeAndValue;
 use x509_name::name::RelativeDistinguishedName;
-use x509_name_attribute::AttributeTypeAndValue;
 
 /// Fills in where the next relative distinguished name of a name stands.
 #[unsafe(no_mangle)]

@@ -1,18 +1,16 @@
 //! What extensions say of the keys of the subject and of the issuer, and where more is found out about them.
 
 ghost use Rattle.std.specs.Prelude.{◌≡◌, []};
-ghost use Rattle.x509_c_payload.specs.Access.{IsAccess};
-ghost use Rattle.x509_c_payload.specs.Cursor.{Steps};
-ghost use Rattle.x509_c_payload.specs.KeyIdentifiers.{IsAuthorityKeyIdentifier};
-ghost use Rattle.x509_c_place.specs.Place.{IsAt};
-ghost use Rattle.x509_c_status.specs.Calls.{Reads};
-ghost use Rattle.x509_c_status.specs.Status.{Tells};
+ghost use Rattle.x509_c_calls.specs.Access.{IsAccess};
+ghost use Rattle.x509_c_calls.specs.Cursor.{Steps};
+ghost use Rattle.x509_c_calls.specs.KeyIdentifiers.{IsAuthorityKeyIdentifier};
+ghost use Rattle.x509_c_calls.specs.Place.{IsAt};
+ghost use Rattle.x509_c_calls.specs.Calls.{Reads};
+ghost use Rattle.x509_c_calls.specs.Status.{Tells};
 
 use std::alloc::Global;
-use x509_c_payload::{AccessView, AuthorityKeyIdentifierView, content, member_next, payload};
-use x509_c_place::Span;
-use x509_der_element::Tag;
-use x509_der_grammar::{Decode, Grammar};
+use x509_c_calls::{AccessView, AuthorityKeyIdentifierView, Span, content, member_next, payload};
+use x509_der::{Decode, Grammar, Tag};
 use x509_ext::pkix::{AccessDescription, AuthorityKeyIdentifier, SubjectKeyIdentifier};
 
 /// Reads a SubjectKeyIdentifier, and fills in where its octets stand.

@@ -1,13 +1,13 @@
 //! Checking a path of certificates.
 
-ghost use Rattle.x509_c_path.specs.Paths.{ChecksPath};
-ghost use Rattle.x509_c_status.specs.Status.{Tells};
+ghost use Rattle.x509_c_calls.specs.Paths.{ChecksPath};
+ghost use Rattle.x509_c_calls.specs.Status.{Tells};
 
 use std::alloc::Global;
-use x509_base_time::Rfc5280;
-use x509_c_path::{Fault, path_check};
-use x509_cert_certificate::CertificateInner;
-use x509_der_grammar::Grammar;
+use x509_base::Rfc5280;
+use x509_c_calls::{Fault, path_check};
+use x509_cert::certificate::CertificateInner;
+use x509_der::Grammar;
 
 /// Checks a path of certificates at a time, in seconds since 1970-01-01T00:00:00Z, under the subject and the key of an
 /// anchor's certificate, apart from the signatures, and fills in its first fault.

@@ -1,26 +1,23 @@
 //! What the values of extensions hold.
 
 ghost use Rattle.std.specs.Prelude.{◌≡◌, ◌≤◌, ◌<◌, ◌+◌};
-ghost use Rattle.x509_c_payload.specs.BasicConstraints.{IsBasicConstraints};
-ghost use Rattle.x509_c_payload.specs.Cursor.{Steps};
-ghost use Rattle.x509_c_payload.specs.Extensions.{IsExtensionEntry};
-ghost use Rattle.x509_c_payload.specs.GeneralNames.{IsGeneralName};
-ghost use Rattle.x509_c_payload.specs.Identifiers.{IsDotted, IsIdentified};
-ghost use Rattle.x509_c_place.specs.Place.{IsAt};
-ghost use Rattle.x509_c_status.specs.Calls.{Reads};
-ghost use Rattle.x509_c_status.specs.Status.{Fills, Tells};
-ghost use Rattle.x509_c_status.specs.declared.status.Status.TheVariants.{Refused};
-ghost use Rattle.x509_der_element.specs.declared.error.ErrorKind.TheVariants.{Malformed, Memory};
+ghost use Rattle.x509_c_calls.specs.BasicConstraints.{IsBasicConstraints};
+ghost use Rattle.x509_c_calls.specs.Cursor.{Steps};
+ghost use Rattle.x509_c_calls.specs.PayloadExtensions.{IsExtensionEntry};
+ghost use Rattle.x509_c_calls.specs.GeneralNames.{IsGeneralName};
+ghost use Rattle.x509_c_calls.specs.Identifiers.{IsDotted, IsIdentified};
+ghost use Rattle.x509_c_calls.specs.Place.{IsAt};
+ghost use Rattle.x509_c_calls.specs.Calls.{Reads};
+ghost use Rattle.x509_c_calls.specs.Status.{Fills, Tells};
+ghost use Rattle.x509_c_calls.specs.declared.status.status.Status.TheVariants.{Refused};
+ghost use Rattle.x509_der.specs.declared.error.ErrorKind.TheVariants.{Malformed, Memory};
 
 use std::alloc::Global;
-use x509_c_payload::{
-    BasicConstraintsView, ExtensionEntry, GeneralNameView, identifiers_next, member_next,
+use x509_c_calls::{
+    BasicConstraintsView, ExtensionEntry, GeneralNameView, Span, identifiers_next, member_next,
     member_under_next, oid_from_text, oid_text, payload, read_number,
 };
-use x509_c_place::Span;
-use x509_der::ObjectIdentifier;
-use x509_der_element::Tag;
-use x509_der_grammar::{Decode, Grammar};
+use x509_der::{Decode, Grammar, ObjectIdentifier, Tag};
 use x509_ext::Extension;
 use x509_ext::pkix::name::GeneralName;
 use x509_ext::pkix::{BasicConstraints, KeyUsage};

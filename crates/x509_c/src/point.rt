@@ -1,23 +1,23 @@
 //! What extensions say of CRLs: where they are found, of what they speak, their numbers, and why a certificate was revoked.
 
 ghost use Rattle.std.specs.Prelude.{◌≡◌, []};
-ghost use Rattle.x509_c_payload.specs.Cursor.{Steps};
-ghost use Rattle.x509_c_payload.specs.Points.{IsIssuingPoint, IsPoint};
-ghost use Rattle.x509_c_place.specs.Place.{IsAt};
-ghost use Rattle.x509_c_status.specs.Calls.{Reads};
-ghost use Rattle.x509_c_status.specs.Status.{Tells};
-ghost use Rattle.x509_c_status.specs.declared.status.Status.TheVariants.{Refused};
-ghost use Rattle.x509_der_element.specs.declared.error.ErrorKind.TheVariants.{Memory};
-ghost use Rattle.x509_pkix.specs.CrlReason.{crl_reason_number};
+ghost use Rattle.x509_c_calls.specs.Cursor.{Steps};
+ghost use Rattle.x509_c_calls.specs.Points.{IsIssuingPoint, IsPoint};
+ghost use Rattle.x509_c_calls.specs.Place.{IsAt};
+ghost use Rattle.x509_c_calls.specs.Calls.{Reads};
+ghost use Rattle.x509_c_calls.specs.Status.{Tells};
+ghost use Rattle.x509_c_calls.specs.declared.status.status.Status.TheVariants.{Refused};
+ghost use Rattle.x509_der.specs.declared.error.ErrorKind.TheVariants.{Memory};
+ghost use Rattle.x509_ext.specs.CrlReason.{crl_reason_number};
 
 use std::alloc::Global;
-use x509_c_payload::{
-    DistributionPointView, IssuingDistributionPointView, content, member_next, payload, read_number,
+use x509_c_calls::{
+    DistributionPointView, IssuingDistributionPointView, Span, content, member_next, payload,
+    read_number,
 };
-use x509_c_place::Span;
-use x509_der_element::Tag;
-use x509_der_grammar::{Decode, Grammar};
-use x509_pkix::{BaseCrlNumber, CrlNumber, CrlReason, DistributionPoint, IssuingDistributionPoint};
+use x509_der::{Decode, Grammar, Tag};
+use x509_ext::pkix::crl::dp::DistributionPoint;
+use x509_ext::pkix::{BaseCrlNumber, CrlNumber, CrlReason, IssuingDistributionPoint};
 
 /// Fills in the next place where CRLs are found.
 #[unsafe(no_mangle)]

@@ -1,23 +1,21 @@
 //! What extensions say of policies.
 
 ghost use Rattle.std.specs.Prelude.{◌≡◌};
-ghost use Rattle.x509_c_payload.specs.Cursor.{Steps};
-ghost use Rattle.x509_c_payload.specs.Policies.{IsMapping, IsPolicy, IsPolicyConstraints, IsQualifier};
-ghost use Rattle.x509_c_status.specs.Calls.{Reads};
-ghost use Rattle.x509_c_status.specs.Status.{Tells};
-ghost use Rattle.x509_c_status.specs.declared.status.Status.TheVariants.{Refused};
-ghost use Rattle.x509_der_element.specs.declared.error.ErrorKind.TheVariants.{Memory};
+ghost use Rattle.x509_c_calls.specs.Cursor.{Steps};
+ghost use Rattle.x509_c_calls.specs.Policies.{IsMapping, IsPolicy, IsPolicyConstraints, IsQualifier};
+ghost use Rattle.x509_c_calls.specs.Calls.{Reads};
+ghost use Rattle.x509_c_calls.specs.Status.{Tells};
+ghost use Rattle.x509_c_calls.specs.declared.status.status.Status.TheVariants.{Refused};
+ghost use Rattle.x509_der.specs.declared.error.ErrorKind.TheVariants.{Memory};
 
 use std::alloc::Global;
-use x509_c_payload::{
+use x509_c_calls::{
     MappingView, PolicyConstraintsView, PolicyView, QualifierView, member_next, payload,
     read_number,
 };
-use x509_der_element::Tag;
-use x509_der_grammar::{Decode, Grammar};
-use x509_pkix_policy::{
-    InhibitAnyPolicy, PolicyConstraints, PolicyInformation, PolicyMapping, PolicyQualifierInfo,
-};
+use x509_der::{Decode, Grammar, Tag};
+use x509_ext::pkix::certpolicy::{PolicyInformation, PolicyQualifierInfo};
+use x509_ext::pkix::{InhibitAnyPolicy, PolicyConstraints, PolicyMapping};
 
 /// Fills in the next policy of a CertificatePolicies.
 #[unsafe(no_mangle)]

@@ -1,17 +1,18 @@
 //! What an extension asks of names.
 
 ghost use Rattle.std.specs.Prelude.{◌≡◌, ◌≤◌, ◌<◌, ◌+◌, []};
-ghost use Rattle.x509_c_payload.specs.Cursor.{Steps};
-ghost use Rattle.x509_c_payload.specs.Subtrees.{AreNameConstraints, IsSubtree};
-ghost use Rattle.x509_c_status.specs.Calls.{Reads};
-ghost use Rattle.x509_c_status.specs.Status.{Tells};
-ghost use Rattle.x509_c_status.specs.declared.status.Status.TheVariants.{Refused};
-ghost use Rattle.x509_der_element.specs.declared.error.ErrorKind.TheVariants.{Malformed};
+ghost use Rattle.x509_c_calls.specs.Cursor.{Steps};
+ghost use Rattle.x509_c_calls.specs.Subtrees.{AreNameConstraints, IsSubtree};
+ghost use Rattle.x509_c_calls.specs.Calls.{Reads};
+ghost use Rattle.x509_c_calls.specs.Status.{Tells};
+ghost use Rattle.x509_c_calls.specs.declared.status.status.Status.TheVariants.{Refused};
+ghost use Rattle.x509_der.specs.declared.error.ErrorKind.TheVariants.{Malformed};
 
 use std::alloc::Global;
-use x509_c_payload::{NameConstraintsView, SubtreeView, member_under_next, payload};
-use x509_der_grammar::{Decode, Grammar};
-use x509_pkix::{GeneralSubtree, NameConstraints};
+use x509_c_calls::{NameConstraintsView, SubtreeView, member_under_next, payload};
+use x509_der::{Decode, Grammar};
+use x509_ext::pkix::NameConstraints;
+use x509_ext::pkix::constraints::name::GeneralSubtree;
 
 /// Reads a NameConstraints, and fills in where its subtrees stand.
 #[unsafe(no_mangle)]

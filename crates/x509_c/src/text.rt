@@ -1,17 +1,15 @@
 //! Texts of serial numbers and of times, and the version.
 
 ghost use Rattle.std.specs.Prelude.{◌≡◌, []};
-ghost use Rattle.x509_c_payload.specs.Texts.{IsSerialText, IsTimeText};
-ghost use Rattle.x509_c_place.specs.Place.{IsAt};
-ghost use Rattle.x509_c_status.specs.Calls.{Reads};
-ghost use Rattle.x509_c_status.specs.Status.{Fills, Tells};
+ghost use Rattle.x509_c_calls.specs.Texts.{IsSerialText, IsTimeText};
+ghost use Rattle.x509_c_calls.specs.Place.{IsAt};
+ghost use Rattle.x509_c_calls.specs.Calls.{Reads};
+ghost use Rattle.x509_c_calls.specs.Status.{Fills, Tells};
 
 use std::alloc::Global;
-use x509_base::SerialNumber;
-use x509_base_time::Rfc5280;
-use x509_c_payload::{content, serial_text, time_text};
-use x509_c_place::Span;
-use x509_der_grammar::Grammar;
+use x509_base::{Rfc5280, SerialNumber};
+use x509_c_calls::{Span, content, serial_text, time_text};
+use x509_der::Grammar;
 
 /// Reads a serial number under the rules of RFC 5280, and fills in where its content octets stand.
 #[unsafe(no_mangle)]

@@ -1,23 +1,23 @@
 //! Values that are decoded, or decoded and encoded, as a whole.
 
 ghost use Rattle.std.specs.Str.{is_utf8};
-ghost use Rattle.x509_c_named.specs.Named.{IsNamedAnswer, IsTextAnswer, profile_of};
-ghost use Rattle.x509_c_place.specs.SignedPlace.{IsSignedAt};
-ghost use Rattle.x509_c_status.specs.Calls.{Checks};
-ghost use Rattle.x509_c_status.specs.Status.{Fills, Tells};
-ghost use Rattle.x509_tool_table.specs.Reencoding.{Reencodes};
+ghost use Rattle.x509_c_calls.specs.Named.{IsNamedAnswer, IsTextAnswer, profile_of};
+ghost use Rattle.x509_c_calls.specs.SignedPlace.{IsSignedAt};
+ghost use Rattle.x509_c_calls.specs.Calls.{Checks};
+ghost use Rattle.x509_c_calls.specs.Status.{Fills, Tells};
+ghost use Rattle.x509_types.specs.Reencoding.{Reencodes};
 
 use std::alloc::Global;
-use x509_base_time::Rfc5280;
-use x509_c_named::{name_from_text, name_text, reencode_named};
-use x509_c_place::{Span, signed_place};
-use x509_c_status::{check, reencode};
+use x509_base::Rfc5280;
+use x509_c_calls::{
+    Span, check, name_from_text, name_text, reencode, reencode_named, signed_place,
+};
+use x509_cert::certificate::CertificateInner;
 use x509_cert::crl::CertificateList;
 use x509_cert::request::CertReq;
-use x509_cert_certificate::CertificateInner;
-use x509_der_grammar::{Encode, Grammar};
+use x509_der::{Encode, Grammar};
 use x509_tool_run::{Codec, NameCodec};
-use x509_tool_types::Types;
+use x509_types::Types;
 
 /// Decodes a value of the type with that name under the profile with that number, and encodes it at the front of the
 /// buffer.

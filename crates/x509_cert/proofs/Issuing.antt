@@ -4,11 +4,11 @@ use Rattle.std.proofs.lemmas.Bool.{true≢false}
 use Rattle.std.specs.Prelude.{IsErrAnd, MatchBool}
 use Rattle.x509_cert.specs.Issuers.{FindsIssued, FindsIssuer, NamesIssuer, is_issued, is_issuer, issuer_behind, issuers, last_issuers, or_else}
 use Rattle.x509_cert.specs.declared.crl.revoked_cert.RevokedCert.{RevokedCert}
-use Rattle.x509_cert_certificate.specs.extension.Extension.{Extension}
-use Rattle.x509_der_element.specs.declared.error.Error.{Error}
-use Rattle.x509_ext_name.specs.declared.general_name.GeneralName.{GeneralName}
-use Rattle.x509_name_attribute.specs.declared.type_and_value.AttributeTypeAndValue.{AttributeTypeAndValue}
-use Rattle.x509_pkix.specs.declared.certificate_issuer.CertificateIssuer.{CertificateIssuer}
+use Rattle.x509_ext.specs.declared.extension.Extension.{Extension}
+use Rattle.x509_der.specs.declared.error.Error.{Error}
+use Rattle.x509_ext.specs.declared.pkix.name.general_name.GeneralName.{GeneralName}
+use Rattle.x509_name.specs.declared.attr.type_and_value.AttributeTypeAndValue.{AttributeTypeAndValue}
+use Rattle.x509_ext.specs.declared.pkix.certificate_issuer.CertificateIssuer.{CertificateIssuer}
 
 -- ---- the last issuer
 

@@ -1,3 +1,13 @@
+pub mod SignedParts
+pub mod Fronts
+pub mod Respelled
+pub mod Serials
+pub mod CertificateSignedPart
+pub mod Spellings
+pub mod AnchorMade
+pub mod Refusals
+pub mod AnchorRespelled
+pub mod Unchanged
 pub mod ArcsOfAttributes
 pub mod Issuing
 pub mod OneValue

@@ -1,14 +1,14 @@
 -- Look-ups among the attributes of a CSR: those of a type, and what the one value of the one is decoded to (RFC 2986 4.1).
 use Rattle.std.specs.Prelude.{◌≡◌, ◌⊎◌, ℕ, List, [], ◌∷◌, filter, bytes_eq, Option, Some, None, Result, Ok, Err, IfOk, IfErr, IsErrAnd}
-use Rattle.x509_der_element.specs.Outcome.{Gives}
-use Rattle.x509_der_element.specs.Tag.{octet_of}
-use Rattle.x509_der_element.specs.declared.error.Error.{Error}
-use Rattle.x509_der_element.specs.declared.error.ErrorKind.{ErrorKind}
-use Rattle.x509_der_element.specs.declared.error.ErrorKind.TheVariants.{Memory, Malformed, Failed}
-use Rattle.x509_der_frames.specs.Any as elements
-use Rattle.x509_der_frames.specs.declared.any.Any.{Any}
-use Rattle.x509_der_grammar.specs.Form.{Form, spelling}
-use Rattle.x509_name_attribute.specs.declared.attribute.Attribute.{Attribute}
+use Rattle.x509_der.specs.Outcome.{Gives}
+use Rattle.x509_der.specs.Tag.{octet_of}
+use Rattle.x509_der.specs.declared.error.Error.{Error}
+use Rattle.x509_der.specs.declared.error.ErrorKind.{ErrorKind}
+use Rattle.x509_der.specs.declared.error.ErrorKind.TheVariants.{Memory, Malformed, Failed}
+use Rattle.x509_der.specs.Any as elements
+use Rattle.x509_der.specs.declared.any.Any.{Any}
+use Rattle.x509_der.specs.Form.{Form, spelling}
+use Rattle.x509_name.specs.declared.attr.attribute.Attribute.{Attribute}
 
 -- those whose type has these content octets, in their order
 abbrev pub with_type : List ℕ → List Attribute → List Attribute

@@ -1,13 +1,13 @@
 -- Attributes that are made of their values.
 use Rattle.std.specs.Prelude.{◌≡◌, ◌⊎◌, ℕ, List, [], ◌∷◌, Result, Ok, Err}
-use Rattle.x509_der_element.specs.Element.{limit}
-use Rattle.x509_der_element.specs.declared.error.Error.{Error}
-use Rattle.x509_der_element.specs.declared.error.ErrorKind.TheVariants.{Memory}
-use Rattle.x509_der_frames.specs.Any.{any}
-use Rattle.x509_der_frames.specs.declared.any.Any.{Any}
-use Rattle.x509_der_grammar.specs.Form.{Form, spelling}
-use Rattle.x509_der_grammar.specs.Writing.{Written, IsWritable, IsUnwritable, written_spelling}
-use Rattle.x509_name_attribute.specs.declared.attribute.Attribute.{Attribute}
+use Rattle.x509_der.specs.Element.{limit}
+use Rattle.x509_der.specs.declared.error.Error.{Error}
+use Rattle.x509_der.specs.declared.error.ErrorKind.TheVariants.{Memory}
+use Rattle.x509_der.specs.Any.{any}
+use Rattle.x509_der.specs.declared.any.Any.{Any}
+use Rattle.x509_der.specs.Form.{Form, spelling}
+use Rattle.x509_der.specs.Writing.{Written, IsWritable, IsUnwritable, written_spelling}
+use Rattle.x509_name.specs.declared.attr.attribute.Attribute.{Attribute}
 
 -- the attribute of that type with one value, whose element is what is written
 pub record HoldsAlone {X : Type 0} (oid : List ℕ) (form : Form X) (written : Written X) (attribute : Attribute) : Type 0 where

@@ -5,22 +5,22 @@ use Rattle.x509_base.specs.AlgorithmIdentifier.{algorithm_identifier, algorithm_
 use Rattle.x509_base.specs.SubjectPublicKeyInfo.{subject_public_key_info, subject_public_key_info_lawful}
 use Rattle.x509_base.specs.declared.algorithm_identifier.AlgorithmIdentifier.{AlgorithmIdentifier}
 use Rattle.x509_base.specs.declared.subject_public_key_info.SubjectPublicKeyInfo.{SubjectPublicKeyInfo}
-use Rattle.x509_cert.specs.Version.{version, version_lawful}
+use Rattle.x509_cert.specs.RequestVersion.{version, version_lawful}
 use Rattle.x509_cert.specs.declared.request.cert_req.CertReq.{CertReq}
 use Rattle.x509_cert.specs.declared.request.cert_req.CertReqInfo.{CertReqInfo}
 use Rattle.x509_cert.specs.declared.request.version.Version.{Version}
-use Rattle.x509_der_element.specs.declared.error.ErrorKind.{ErrorKind}
-use Rattle.x509_der_element.specs.declared.tag.Tag.TheVariants.{Sequence, Set}
-use Rattle.x509_der_frames.specs.Frames.{implicit, Part, required, ◌⊗◌, fields}
-use Rattle.x509_der_frames.specs.PartRules.{part_rules}
-use Rattle.x509_der_grammar.specs.Form.{Form, IsForm, Contents, IsContents, universal}
-use Rattle.x509_der_grammar.specs.FormLaws.{universal_lawful}
+use Rattle.x509_der.specs.declared.error.ErrorKind.{ErrorKind}
+use Rattle.x509_der.specs.declared.tag.Tag.TheVariants.{Sequence, Set}
+use Rattle.x509_der.specs.Frames.{implicit, Part, required, ◌⊗◌, fields}
+use Rattle.x509_der.specs.PartRules.{part_rules}
+use Rattle.x509_der.specs.Form.{Form, IsForm, Contents, IsContents, universal}
+use Rattle.x509_der.specs.FormLaws.{universal_lawful}
 use Rattle.x509_der.specs.Set.{set_of}
 use Rattle.x509_der.specs.SetLaws.{set_lawful}
-use Rattle.x509_name_attribute.specs.Attribute.{attribute, attribute_cmp, attribute_contents, attribute_contents_lawful}
-use Rattle.x509_name_attribute.specs.declared.attribute.Attribute.{Attribute}
-use Rattle.x509_name_attribute.specs.declared.type_and_value.AttributeTypeAndValue.{AttributeTypeAndValue}
-use Rattle.x509_extension.specs.Names.{name, rdn_sequence_lawful}
+use Rattle.x509_name.specs.Attribute.{attribute, attribute_cmp, attribute_contents, attribute_contents_lawful}
+use Rattle.x509_name.specs.declared.attr.attribute.Attribute.{Attribute}
+use Rattle.x509_name.specs.declared.attr.type_and_value.AttributeTypeAndValue.{AttributeTypeAndValue}
+use Rattle.x509_name.specs.Names.{name, rdn_sequence_lawful}
 use Rattle.x509_prim.specs.BitString.{BitParts, bit_string}
 use Rattle.x509_prim.specs.BitStringLaws.{bit_string_lawful}
 

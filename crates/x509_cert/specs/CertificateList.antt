@@ -5,29 +5,29 @@ use Rattle.std.specs.Prelude.{ℕ, List, Option, Result}
 use Rattle.x509_base.specs.AlgorithmIdentifier.{algorithm_identifier, algorithm_identifier_lawful}
 use Rattle.x509_base.specs.declared.algorithm_identifier.AlgorithmIdentifier.{AlgorithmIdentifier}
 use Rattle.x509_base.specs.Checked.{CheckRefuses}
-use Rattle.x509_base_time.specs.Time.{time, time_lawful}
-use Rattle.x509_base_time.specs.declared.time.Time.{Time}
-use Rattle.x509_cert_certificate.specs.Version.{version, version_lawful}
-use Rattle.x509_cert_certificate.specs.declared.version.Version.{Version}
+use Rattle.x509_base.specs.Time.{time, time_lawful}
+use Rattle.x509_base.specs.declared.time.Time.{Time}
+use Rattle.x509_cert.specs.Version.{version, version_lawful}
+use Rattle.x509_cert.specs.declared.certificate.version.Version.{Version}
 use Rattle.x509_cert.specs.RevokedCert.{revoked_cert, revoked_cert_lawful}
 use Rattle.x509_cert.specs.declared.crl.certificate_list.CertificateList.{CertificateList}
 use Rattle.x509_cert.specs.declared.crl.revoked_cert.RevokedCert.{RevokedCert}
 use Rattle.x509_cert.specs.declared.crl.tbs_cert_list.TbsCertList.{TbsCertList}
-use Rattle.x509_der_element.specs.declared.error.ErrorKind.{ErrorKind}
-use Rattle.x509_der_element.specs.declared.tag.Tag.TheVariants.{Sequence}
-use Rattle.x509_der_frames.specs.Frames.{explicit, Part, required, optional, ◌⊗◌, fields}
-use Rattle.x509_der_frames.specs.List.{list_of}
-use Rattle.x509_der_frames.specs.PartRules.{part_rules}
-use Rattle.x509_der_grammar.specs.Form.{Form, IsForm, Contents, IsContents, universal}
-use Rattle.x509_der_grammar.specs.FormLaws.{universal_lawful}
-use Rattle.x509_cert_certificate.specs.Extension.{extensions, extensions_lawful}
-use Rattle.x509_cert_certificate.specs.extension.Extension.{Extension}
-use Rattle.x509_name_attribute.specs.declared.type_and_value.AttributeTypeAndValue.{AttributeTypeAndValue}
-use Rattle.x509_cert_certificate.specs.Names.{name, rdn_sequence_lawful}
+use Rattle.x509_der.specs.declared.error.ErrorKind.{ErrorKind}
+use Rattle.x509_der.specs.declared.tag.Tag.TheVariants.{Sequence}
+use Rattle.x509_der.specs.Frames.{explicit, Part, required, optional, ◌⊗◌, fields}
+use Rattle.x509_der.specs.List.{list_of}
+use Rattle.x509_der.specs.PartRules.{part_rules}
+use Rattle.x509_der.specs.Form.{Form, IsForm, Contents, IsContents, universal}
+use Rattle.x509_der.specs.FormLaws.{universal_lawful}
+use Rattle.x509_ext.specs.Extension.{extensions, extensions_lawful}
+use Rattle.x509_ext.specs.declared.extension.Extension.{Extension}
+use Rattle.x509_name.specs.declared.attr.type_and_value.AttributeTypeAndValue.{AttributeTypeAndValue}
+use Rattle.x509_name.specs.Names.{name, rdn_sequence_lawful}
 use Rattle.x509_prim.specs.BitString.{BitParts, bit_string}
 use Rattle.x509_prim.specs.BitStringLaws.{bit_string_lawful}
-use Rattle.x509_base_time.specs.Profiles.{rfc5280_serial_number}
-use Rattle.x509_base_time.specs.declared.profile.Rfc5280.{Rfc5280}
+use Rattle.x509_base.specs.Profiles.{rfc5280_serial_number}
+use Rattle.x509_base.specs.declared.profile.Rfc5280.{Rfc5280}
 
 -- ---- what is signed
 

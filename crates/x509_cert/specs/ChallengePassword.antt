@@ -2,12 +2,12 @@
 use Rattle.std.specs.Prelude.{◌≡◌, Ok, refl}
 use Rattle.std.proofs.Common.{ap, inl, inr}
 use Rattle.x509_cert.specs.declared.request.attributes.ChallengePassword.{ChallengePassword}
-use Rattle.x509_der_element.specs.Outcome.{◌>>=◌}
-use Rattle.x509_der_element.specs.OutcomeLaws.{bind_ok, bind_err, ok_is, not_refused}
-use Rattle.x509_der_element.specs.declared.error.ErrorKind.{ErrorKind}
-use Rattle.x509_der_grammar.specs.Form.{Form, IsForm}
-use Rattle.x509_name_attribute.specs.DirectoryString.{directory_string, directory_string_lawful}
-use Rattle.x509_name_attribute.specs.declared.directory_string.DirectoryString.{DirectoryString}
+use Rattle.x509_der.specs.Outcome.{◌>>=◌}
+use Rattle.x509_der.specs.OutcomeLaws.{bind_ok, bind_err, ok_is, not_refused}
+use Rattle.x509_der.specs.declared.error.ErrorKind.{ErrorKind}
+use Rattle.x509_der.specs.Form.{Form, IsForm}
+use Rattle.x509_name.specs.DirectoryString.{directory_string, directory_string_lawful}
+use Rattle.x509_name.specs.declared.name.directory_string.DirectoryString.{DirectoryString}
 
 abbrev pub password_of : DirectoryString → ChallengePassword
 password_of string = record { 0 = string }

@@ -2,16 +2,16 @@
 use Rattle.std.specs.Prelude.{◌≡◌, ◌⊎◌, ◌&&◌, ℕ, Bool, List, [], ◌∷◌, Option, Some, None, Result, Ok, Err, MatchBool, bytes_eq, false}
 use Rattle.std.specs.List.{list_any}
 use Rattle.x509_cert.specs.declared.crl.revoked_cert.RevokedCert.{RevokedCert}
-use Rattle.x509_cert_certificate.specs.LookUp.{Finds, members, with_oid}
-use Rattle.x509_cert_certificate.specs.extension.Extension.{Extension}
-use Rattle.x509_der_element.specs.declared.error.Error.{Error}
-use Rattle.x509_extension.specs.Identifiers.{id_ce}
-use Rattle.x509_ext_name.specs.declared.general_name.GeneralName.{GeneralName}
-use Rattle.x509_ext_name.specs.declared.general_name.GeneralName.TheVariants.{DirectoryName}
+use Rattle.x509_ext.specs.LookUp.{Finds, members, with_oid}
+use Rattle.x509_ext.specs.declared.extension.Extension.{Extension}
+use Rattle.x509_der.specs.declared.error.Error.{Error}
+use Rattle.x509_ext.specs.Identifiers.{id_ce}
+use Rattle.x509_ext.specs.declared.pkix.name.general_name.GeneralName.{GeneralName}
+use Rattle.x509_ext.specs.declared.pkix.name.general_name.GeneralName.TheVariants.{DirectoryName}
 use Rattle.x509_name.specs.Names.{rdn_sequence_eq}
-use Rattle.x509_name_attribute.specs.declared.type_and_value.AttributeTypeAndValue.{AttributeTypeAndValue}
-use Rattle.x509_pkix.specs.CertificateIssuer.{certificate_issuer}
-use Rattle.x509_pkix.specs.declared.certificate_issuer.CertificateIssuer.{CertificateIssuer}
+use Rattle.x509_name.specs.declared.attr.type_and_value.AttributeTypeAndValue.{AttributeTypeAndValue}
+use Rattle.x509_ext.specs.CertificateIssuer.{certificate_issuer}
+use Rattle.x509_ext.specs.declared.pkix.certificate_issuer.CertificateIssuer.{CertificateIssuer}
 
 -- the extensions of an entry that name its issuer
 abbrev pub issuers : {P : Type 0} → RevokedCert P → List Extension

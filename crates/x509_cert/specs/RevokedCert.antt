@@ -2,17 +2,17 @@
 use Rattle.std.specs.Prelude.{ℕ, List, Option, Result}
 use Rattle.x509_base.specs.Checked.{CheckRefuses}
 use Rattle.x509_base.specs.Serial.{serial_number, serial_number_lawful}
-use Rattle.x509_base_time.specs.Time.{time, time_lawful}
-use Rattle.x509_base_time.specs.declared.time.Time.{Time}
+use Rattle.x509_base.specs.Time.{time, time_lawful}
+use Rattle.x509_base.specs.declared.time.Time.{Time}
 use Rattle.x509_cert.specs.declared.crl.revoked_cert.RevokedCert.{RevokedCert}
-use Rattle.x509_der_element.specs.declared.error.ErrorKind.{ErrorKind}
-use Rattle.x509_der_element.specs.declared.tag.Tag.TheVariants.{Sequence}
-use Rattle.x509_der_frames.specs.Frames.{Part, required, optional, ◌⊗◌, fields}
-use Rattle.x509_der_frames.specs.PartRules.{part_rules}
-use Rattle.x509_der_grammar.specs.Form.{Form, IsForm, Contents, IsContents, universal}
-use Rattle.x509_der_grammar.specs.FormLaws.{universal_lawful}
-use Rattle.x509_cert_certificate.specs.Extension.{extensions, extensions_lawful}
-use Rattle.x509_cert_certificate.specs.extension.Extension.{Extension}
+use Rattle.x509_der.specs.declared.error.ErrorKind.{ErrorKind}
+use Rattle.x509_der.specs.declared.tag.Tag.TheVariants.{Sequence}
+use Rattle.x509_der.specs.Frames.{Part, required, optional, ◌⊗◌, fields}
+use Rattle.x509_der.specs.PartRules.{part_rules}
+use Rattle.x509_der.specs.Form.{Form, IsForm, Contents, IsContents, universal}
+use Rattle.x509_der.specs.FormLaws.{universal_lawful}
+use Rattle.x509_ext.specs.Extension.{extensions, extensions_lawful}
+use Rattle.x509_ext.specs.declared.extension.Extension.{Extension}
 
 unfoldable pub revoked_cert_fields : (List ℕ → Result Unit ErrorKind) → Part (List ℕ × (Time × Option (List Extension)))
 revoked_cert_fields check = required (serial_number check) ⊗ (required time ⊗ optional extensions)

@@ -2,7 +2,7 @@
 
 pub mod pkix;
 
-pub use x509_extension::{
+pub use x509_ext::{
     Always, Criticality, Extension, Extensions, FilterExtensions, FixedCriticality, Never,
     ToExtension, filter_extensions, get_extension, has_repeated_extension, members,
 };

@@ -21,38 +21,37 @@ ghost use Rattle.x509_cert.specs.declared.request.cert_req.CertReq.{CertReq};
 ghost use Rattle.x509_cert.specs.declared.request.cert_req.CertReqInfo.{CertReqInfo};
 ghost use Rattle.x509_cert.specs.declared.request.extension_req.ExtensionReq.{ExtensionReq};
 ghost use Rattle.x509_cert.specs.declared.request.version.Version as request_version;
-ghost use Rattle.x509_cert_signed.specs.Signed.{IsSignedPart};
+ghost use Rattle.x509_cert.specs.Signed.{IsSignedPart};
 ghost use Rattle.x509_der.specs.Arcs.{content_of};
-ghost use Rattle.x509_der_element.specs.Element.{limit};
-ghost use Rattle.x509_der_grammar.specs.Form.{Spells, spelling};
-ghost use Rattle.x509_der_grammar.specs.Writing.{writes, written_spelling};
-ghost use Rattle.x509_name_attribute.specs.DirectoryString.{directory_string};
+ghost use Rattle.x509_der.specs.Element.{limit};
+ghost use Rattle.x509_der.specs.Form.{Spells, spelling};
+ghost use Rattle.x509_der.specs.Writing.{writes, written_spelling};
+ghost use Rattle.x509_name.specs.DirectoryString.{directory_string};
 
-use crate::crl::{CertificateList, RevokedCert, TbsCertList};
-use crate::request::attributes::ChallengePassword;
-use crate::request::{CertReq, CertReqInfo, ExtensionReq, Version};
-pub use x509_base::laws as base;
-use x509_base_time::{Profile, Raw, Rfc5280};
-pub use x509_cert_certificate::laws::{
+pub use crate::certificate::laws::{
     certificates_written_alike_are_respelled_alike, dates_are_written_once,
     equality_of_certificates_is_exact, raw_certificates_are_read_as_meant, raw_certificates_stay,
     raw_dates_are_written_once, raw_signed_bytes_are_written_again,
     rfc5280_certificates_are_read_as_meant, rfc5280_dates_are_written_once,
     rfc5280_signed_bytes_are_written_again, signed_bytes_spell_the_signed_part,
 };
-pub use x509_cert_signed::laws::{
+use crate::crl::{CertificateList, RevokedCert, TbsCertList};
+use crate::request::attributes::ChallengePassword;
+use crate::request::{CertReq, CertReqInfo, ExtensionReq, Version};
+pub use crate::signed::laws::{
     one_signed_part, signed_bytes_are_written_again, what_stands_in_front_is_signed,
 };
+pub use x509_base::laws as base;
+use x509_base::{Profile, Raw, Rfc5280};
 pub use x509_der::laws as der;
-pub use x509_der_grammar::laws::{
+pub use x509_der::laws::{
     no_spelling_begins_another, one_spelling, one_value, plain_writing_is_stable,
     what_is_written_alike_is_respelled_alike, what_is_written_of_a_value_is_read_as_meant,
     what_was_written_reads_as_respelled, writing_again_gives_the_same,
 };
-use x509_der_grammar::{Encode, Grammar, Spelled};
-pub use x509_ext::laws as ext;
+use x509_der::{Encode, Grammar, Spelled};
+pub use x509_ext::{laws as ext, laws as pkix};
 pub use x509_name::laws as name;
-pub use x509_pkix::laws as pkix;
 pub use x509_prim::laws as prim;
 pub use x509_sct::laws as sct;
 
@@ -72,7 +71,7 @@ pub fn lists_written_alike_are_one<P: Profile>()
     ensures list { (v w : CertificateList P) → any_certificate_list.good v → any_certificate_list.good w → written_spelling (certificate_list P.serial_check) (writes ⟦<CertificateList<P> as Encode>⟧.writing v) ≡ written_spelling (certificate_list P.serial_check) (writes ⟦<CertificateList<P> as Encode>⟧.writing w) → v ≡ w }
 {}
 
-/// Bytes that are the encoding of a CRL have a signed part, which [`signed_slice`](x509_cert_signed::signed_slice)
+/// Bytes that are the encoding of a CRL have a signed part, which [`signed_slice`](crate::signed_slice)
 /// answers: it is the encoding of what is signed, and under every profile encoding that gives it again.
 pub fn lists_have_a_signed_part<P: Profile>()
     ensures signed { (list : CertificateList P) (bytes : List ℕ) → Spells (certificate_list P.serial_check) list bytes → IsSignedPart bytes (spelling (tbs_cert_list P.serial_check) list.tbs_cert_list) }
@@ -117,7 +116,7 @@ pub fn requests_stay()
     ensures extensions { (req : ExtensionReq) → writes ⟦<ExtensionReq as Encode>⟧.writing req ≡ record { value = req; refusal = None } }
 {}
 
-/// Bytes that are the encoding of a CSR have a signed part, which [`signed_slice`](x509_cert_signed::signed_slice)
+/// Bytes that are the encoding of a CSR have a signed part, which [`signed_slice`](crate::signed_slice)
 /// answers: it is the encoding of what is signed, and encoding that gives it again.
 pub fn requests_have_a_signed_part()
     ensures signed { (request : CertReq) (bytes : List ℕ) → Spells cert_req request bytes → IsSignedPart bytes (spelling cert_req_info request.info) }
@@ -148,7 +147,7 @@ pub fn passwords_are_texts()
 
 /// What holds of trust anchors.
 pub mod anchor {
-    pub use x509_cert_anchor::laws::{
+    pub use crate::anchor::laws::{
         anchors_written_alike_are_respelled_alike, dates_are_written_once,
         equality_of_anchors_is_exact, equality_of_policy_flags_is_exact,
         policy_flags_are_written_once, raw_anchors_are_read_as_meant, raw_anchors_stay,

@@ -11,14 +11,16 @@ pub mod attr;
 pub mod certificate;
 pub mod crl;
 pub mod der;
+mod digest;
 pub mod ext;
 pub mod laws;
 pub mod name;
 pub mod request;
 pub mod serial_number;
+mod signed;
 pub mod spki;
 pub mod time;
 
+pub use certificate::{Certificate, PkiPath, TbsCertificate, Version};
+pub use signed::slice::signed_slice;
 pub use x509_base::{AlgorithmIdentifier, SubjectPublicKeyInfo};
-pub use x509_cert_certificate::{Certificate, PkiPath, TbsCertificate, Version};
-pub use x509_cert_signed::signed_slice;

@@ -2,9 +2,9 @@
 
 use sha2::Sha256;
 use std::test::*;
-use x509_cert_certificate::{Certificate, TbsCertificate};
-use x509_cert_signed::signed_slice;
-use x509_der_grammar::{Decode, Encode};
+use x509_cert::certificate::{Certificate, TbsCertificate};
+use x509_cert::signed_slice;
+use x509_der::{Decode, Encode};
 use x509_name::name::Name;
 
 /// A certificate with each field, of US for DE.

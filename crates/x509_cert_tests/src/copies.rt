@@ -3,10 +3,10 @@
 use crate::certificate::WHOLE;
 use std::test::*;
 use x509_base::SerialNumber;
+use x509_cert::anchor::TrustAnchorChoice;
 use x509_cert::crl::CertificateList;
 use x509_cert::request::CertReq;
-use x509_cert_anchor::TrustAnchorChoice;
-use x509_der_grammar::{Decode, Encode, Error, TryClone};
+use x509_der::{Decode, Encode, Error, TryClone};
 
 /// A CRL with one entry; both have a key identifier.
 const LIST: &[u8] =

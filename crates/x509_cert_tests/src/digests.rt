@@ -3,7 +3,7 @@
 use sha1::Sha1;
 use sha2::{Sha224, Sha256, Sha384, Sha512, Sha512_224, Sha512_256};
 use std::test::*;
-use x509_cert_digest::CertDigest;
+use x509_cert::certificate::CertDigest;
 
 /// Whether the digest of the message `abc` begins so, and has that length (FIPS 180-4).
 fn begins<D: CertDigest>(rt: &HostRuntime, front: &[u8], len: usize) -> bool {

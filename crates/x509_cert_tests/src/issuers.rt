@@ -3,7 +3,7 @@
 use std::test::*;
 use x509_base::SerialNumber;
 use x509_cert::crl::CertificateList;
-use x509_der_grammar::{Decode, Encode, Error, ErrorKind};
+use x509_der::{Decode, Encode, Error, ErrorKind};
 use x509_name::name::Name;
 
 /// A list of an issuer with the empty name, of four entries: 5; 6, which DE issued; 5; and 5, which US issued, with a DNS name beside it.

@@ -1,9 +1,9 @@
 //! Look-ups among extensions of which two are of a kind (RFC 5280 4.2).
 
 use std::test::*;
-use x509_der_grammar::{Decode, ErrorKind};
+use x509_der::{Decode, ErrorKind};
 use x509_ext::pkix::KeyUsage;
-use x509_extension::{Extension, Extensions, filter_extensions, get_extension};
+use x509_ext::{Extension, Extensions, filter_extensions, get_extension};
 
 /// Key usages in two extensions, the first of which holds a NULL.
 const USAGES: &[u8] = &[

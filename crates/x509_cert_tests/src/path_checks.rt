@@ -3,10 +3,9 @@
 use std::alloc::Global;
 use std::str::FromStr;
 use std::test::*;
-use x509_base::{AlgorithmIdentifier, SubjectPublicKeyInfo};
-use x509_base_time::DateTime;
+use x509_base::{AlgorithmIdentifier, DateTime, SubjectPublicKeyInfo};
 use x509_cert::Certificate;
-use x509_der_grammar::Decode;
+use x509_der::Decode;
 use x509_path::{Anchor, PathFault, PathReason, Verifier, check_path};
 use x509_prim::BitString;
 

@@ -3,15 +3,14 @@
 
 use bitflags::Flags;
 use std::test::*;
-use x509_base_time::{DateTime, GeneralizedTime, Raw, Rfc5280, Time, UtcTime, Validity};
+use x509_base::{DateTime, GeneralizedTime, Raw, Rfc5280, Time, UtcTime, Validity};
+use x509_cert::certificate::{CertificateInner, TbsCertificateInner};
 use x509_cert::ext::pkix;
 use x509_cert::{anchor, attr, certificate, crl, der, ext, name, request};
-use x509_cert_certificate::{CertificateInner, TbsCertificateInner};
-use x509_der::{ObjectIdentifier, SetOfVec};
-use x509_der_frames::{Any, SequenceOf};
-use x509_prim::{BitString, Int, OctetString, Uint};
-use x509_prim_text::{
-    BmpString, Ia5String, PrintableString, TeletexString, Utf8String, VisibleString,
+use x509_der::{Any, ObjectIdentifier, SequenceOf, SetOfVec};
+use x509_prim::{
+    BitString, BmpString, Ia5String, Int, OctetString, PrintableString, TeletexString, Uint,
+    Utf8String, VisibleString,
 };
 
 /// Certificates, from the root.
@@ -28,7 +27,7 @@ fn root(
     CertificateInner<Rfc5280>,
     SequenceOf<CertificateInner<Rfc5280>>,
     TbsCertificateInner<Rfc5280>,
-    x509_cert_certificate::Version,
+    x509_cert::certificate::Version,
     x509_base::AlgorithmIdentifier,
     x509_base::SubjectPublicKeyInfo,
 ) {
@@ -53,7 +52,7 @@ fn certificates(
     SequenceOf<CertificateInner<Rfc5280>>,
     TbsCertificateInner<Rfc5280>,
     TbsCertificateInner<Rfc5280>,
-    x509_cert_certificate::Version,
+    x509_cert::certificate::Version,
     Rfc5280,
     Raw,
 ) {
@@ -71,11 +70,11 @@ fn anchors(
         anchor::CertificateInner,
     ),
 ) -> &(
-    x509_cert_anchor::CertPathControls<Rfc5280>,
-    x509_cert_anchor::CertPolicies,
-    x509_cert_anchor::CertPolicies,
-    x509_cert_anchor::TrustAnchorChoice<Rfc5280>,
-    x509_cert_anchor::TrustAnchorInfo<Rfc5280>,
+    x509_cert::anchor::CertPathControls<Rfc5280>,
+    x509_cert::anchor::CertPolicies,
+    x509_cert::anchor::CertPolicies,
+    x509_cert::anchor::TrustAnchorChoice<Rfc5280>,
+    x509_cert::anchor::TrustAnchorInfo<Rfc5280>,
     CertificateInner<Rfc5280>,
 ) {
     it
@@ -96,11 +95,11 @@ fn attributes(
         attr::Attributes,
     ),
 ) -> &(
-    x509_name_attribute::Attribute,
+    x509_name::attr::Attribute,
     ObjectIdentifier,
-    x509_name_attribute::AttributeTypeAndValue,
+    x509_name::attr::AttributeTypeAndValue,
     Any,
-    SetOfVec<x509_name_attribute::Attribute>,
+    SetOfVec<x509_name::attr::Attribute>,
 ) {
     it
 }
@@ -127,12 +126,12 @@ fn ders(
         der::TagNumber,
     ),
 ) -> &(
-    x509_der_element::Error,
-    x509_der_element::ErrorKind,
-    x509_der_element::Header,
-    x509_der_element::Length,
-    x509_der_element::Tag,
-    x509_der_element::TagNumber,
+    x509_der::Error,
+    x509_der::ErrorKind,
+    x509_der::Header,
+    x509_der::Length,
+    x509_der::Tag,
+    x509_der::TagNumber,
 ) {
     it
 }
@@ -190,10 +189,7 @@ fn strings_of_asn1(
 /// How extensions stand in certificates.
 fn extensions(
     it: &(ext::Extension, ext::Extensions),
-) -> &(
-    x509_extension::Extension,
-    SequenceOf<x509_extension::Extension>,
-) {
+) -> &(x509_ext::Extension, SequenceOf<x509_ext::Extension>) {
     it
 }
 
@@ -254,12 +250,12 @@ fn policies(
         pkix::PolicyMappings,
     ),
 ) -> &(
-    x509_pkix_policy::CertificatePolicies,
-    x509_pkix_policy::InhibitAnyPolicy,
-    x509_pkix_policy::PolicyConstraints,
-    x509_pkix_policy::PolicyConstraints,
-    x509_pkix_policy::PolicyMapping,
-    x509_pkix_policy::PolicyMappings,
+    x509_ext::pkix::CertificatePolicies,
+    x509_ext::pkix::InhibitAnyPolicy,
+    x509_ext::pkix::PolicyConstraints,
+    x509_ext::pkix::PolicyConstraints,
+    x509_ext::pkix::PolicyMapping,
+    x509_ext::pkix::PolicyMappings,
 ) {
     it
 }
@@ -276,13 +272,13 @@ fn parts_of_policies(
         pkix::certpolicy::UserNotice,
     ),
 ) -> &(
-    x509_pkix_policy::CertificatePolicies,
-    x509_pkix_policy::CpsUri,
-    x509_pkix_policy::DisplayText,
-    x509_pkix_policy::NoticeReference,
-    x509_pkix_policy::PolicyInformation,
-    x509_pkix_policy::PolicyQualifierInfo,
-    x509_pkix_policy::UserNotice,
+    x509_ext::pkix::CertificatePolicies,
+    x509_ext::pkix::certpolicy::CpsUri,
+    x509_ext::pkix::certpolicy::DisplayText,
+    x509_ext::pkix::certpolicy::NoticeReference,
+    x509_ext::pkix::certpolicy::PolicyInformation,
+    x509_ext::pkix::certpolicy::PolicyQualifierInfo,
+    x509_ext::pkix::certpolicy::UserNotice,
 ) {
     it
 }
@@ -297,11 +293,11 @@ fn constraints_on_names(
         pkix::constraints::name::GeneralSubtrees,
     ),
 ) -> &(
-    x509_pkix::NameConstraints,
-    x509_pkix::NameConstraints,
-    x509_pkix::NameConstraints,
-    x509_pkix::GeneralSubtree,
-    SequenceOf<x509_pkix::GeneralSubtree>,
+    x509_ext::pkix::NameConstraints,
+    x509_ext::pkix::NameConstraints,
+    x509_ext::pkix::NameConstraints,
+    x509_ext::pkix::constraints::name::GeneralSubtree,
+    SequenceOf<x509_ext::pkix::constraints::name::GeneralSubtree>,
 ) {
     it
 }
@@ -318,13 +314,13 @@ fn extensions_of_lists(
         pkix::IssuingDistributionPoint,
     ),
 ) -> &(
-    x509_pkix::BaseCrlNumber,
-    x509_pkix::CertificateIssuer,
-    x509_pkix::CrlDistributionPoints,
-    x509_pkix::CrlNumber,
-    x509_pkix::CrlReason,
-    x509_pkix::FreshestCrl,
-    x509_pkix::IssuingDistributionPoint,
+    x509_ext::pkix::BaseCrlNumber,
+    x509_ext::pkix::CertificateIssuer,
+    x509_ext::pkix::CrlDistributionPoints,
+    x509_ext::pkix::CrlNumber,
+    x509_ext::pkix::CrlReason,
+    x509_ext::pkix::FreshestCrl,
+    x509_ext::pkix::IssuingDistributionPoint,
 ) {
     it
 }
@@ -361,10 +357,10 @@ fn points(
         pkix::crl::dp::Reasons,
     ),
 ) -> &(
-    x509_pkix::DistributionPoint,
-    x509_pkix::IssuingDistributionPoint,
-    x509_pkix::ReasonFlags,
-    x509_pkix::Reasons,
+    x509_ext::pkix::crl::dp::DistributionPoint,
+    x509_ext::pkix::IssuingDistributionPoint,
+    x509_ext::pkix::crl::dp::ReasonFlags,
+    x509_ext::pkix::crl::dp::Reasons,
 ) {
     it
 }
@@ -382,14 +378,14 @@ fn general_names(
         pkix::name::OtherName,
     ),
 ) -> &(
-    x509_name_attribute::DirectoryString,
-    x509_ext_name::DistributionPointName,
-    x509_ext_name::EdiPartyName,
-    x509_ext_name::GeneralName,
-    SequenceOf<x509_ext_name::GeneralName>,
-    x509_ext_name::HardwareModuleName,
-    x509_ext_name::IpAddress,
-    x509_ext_name::OtherName,
+    x509_name::name::DirectoryString,
+    x509_ext::pkix::name::DistributionPointName,
+    x509_ext::pkix::name::EdiPartyName,
+    x509_ext::pkix::name::GeneralName,
+    SequenceOf<x509_ext::pkix::name::GeneralName>,
+    x509_ext::pkix::name::HardwareModuleName,
+    x509_ext::pkix::name::IpAddress,
+    x509_ext::pkix::name::OtherName,
 ) {
     it
 }
@@ -508,13 +504,13 @@ fn parts_of_certificates(
 fn wants_der<'a, T>()
 where
     T: x509_der::AssociatedOid
-        + x509_der_frames::FromAny<'a>
-        + x509_der_grammar::Decode
-        + x509_der_grammar::Encode
-        + x509_der_grammar::FixedTag
-        + x509_der_grammar::TryClone
-        + x509_der_order::DerOrd
-        + x509_der_order::ValueOrd,
+        + x509_der::FromAny<'a>
+        + x509_der::Decode
+        + x509_der::Encode
+        + x509_der::FixedTag
+        + x509_der::TryClone
+        + x509_der::DerOrd
+        + x509_der::ValueOrd,
 {}
 
 /// The traits of decoding and encoding.
@@ -535,9 +531,9 @@ where
 /// Wants the traits of extensions, of profiles and of digests.
 fn wants_traits<T, P, D>()
 where
-    T: x509_extension::Criticality + x509_extension::ToExtension,
-    P: x509_base_time::Profile,
-    D: x509_cert_digest::CertDigest,
+    T: x509_ext::Criticality + x509_ext::ToExtension,
+    P: x509_base::Profile,
+    D: x509_cert::certificate::CertDigest,
 {}
 
 /// The traits of extensions, of profiles and of digests.

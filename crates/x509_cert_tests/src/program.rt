@@ -4,9 +4,9 @@ use crate::fakes::{FakeEnv, FakeReader, FakeWriter, Lapse};
 use std::alloc::{AllocError, Global};
 use std::io;
 use std::test::*;
-use x509_der_element::ErrorKind;
+use x509_der::ErrorKind;
 use x509_tool_run::{Refusal, run, words};
-use x509_tool_types::Types;
+use x509_types::Types;
 
 /// The program's arguments, what is read and what goes wrong, and the status and the text that the run ends with.
 type Run = (

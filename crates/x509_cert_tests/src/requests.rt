@@ -4,9 +4,10 @@ use crate::copies::REQUEST;
 use std::test::*;
 use x509_cert::request::attributes::{AsAttribute, ChallengePassword};
 use x509_cert::request::{CertReq, ExtensionReq, extension_req_attribute, get_attribute};
-use x509_der_grammar::{Decode, Encode, Error};
-use x509_name_attribute::{Attribute, Attributes, DirectoryString};
-use x509_prim_text::Utf8String;
+use x509_der::{Decode, Encode, Error};
+use x509_name::attr::{Attribute, Attributes};
+use x509_name::name::DirectoryString;
+use x509_prim::Utf8String;
 
 #[test]
 fn a_request(rt: HostRuntime) -> Result<(), Fail> {

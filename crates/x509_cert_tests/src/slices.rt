@@ -3,7 +3,7 @@
 use crate::certificate::{LONG, WHOLE};
 use std::test::*;
 use x509_cert::certificate::{CertificateSlices, TbsCertificateSlices};
-use x509_der_element::ErrorKind;
+use x509_der::ErrorKind;
 
 /// A signed part of which no element has anything in it but the number.
 const BARE: &[u8] = &[

@@ -9,7 +9,7 @@ use Rattle.std.specs.declared.cmp.Ordering.{Ordering}
 use Rattle.std.specs.declared.cmp.Ordering.TheVariants.{Less, Equal, Greater}
 use Rattle.std.proofs.lemmas.Cmp.{tied_itself}
 use Rattle.std.proofs.lemmas.List.Sorted.{list_any-IsPermutation}
-use Rattle.x509_der_order.specs.Order.{bytes_cmp, IsDerOrder}
+use Rattle.x509_der.specs.Order.{bytes_cmp, IsDerOrder}
 use Rattle.x509_der.proofs.RisingLists.{turned}
 
 module _ {X : Type 0} {R : X → X → Ordering} (o : IsTotalOrder R) (exact : (x y : X) → R x y ≡ Equal → x ≡ y) where

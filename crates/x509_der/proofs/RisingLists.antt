@@ -1,5 +1,5 @@
 -- Places in a list whose members rise.
-use Rattle.std.proofs.Common.{◌≡◌, Bool, ℕ, ◌≤◌, ◌<◌, ◌-◌, ◌+◌, List, [], ◌∷◌, length, refl, sym, ap, ◌∙◌, subst, arith, true, false, slice_index_or}
+use Rattle.std.proofs.Common.{◌≡◌, Bool, ℕ, ◌≤◌, ◌<◌, ◌-◌, ◌+◌, List, [], ◌∷◌, length, refl, sym, ap, ◌∙◌, subst, arith, true, false, slice_index_or, inl, inr}
 use Rattle.std.specs.Prelude.{Contains, Err}
 use Rattle.std.specs.List.{insert, IsDistinct}
 use Rattle.std.specs.List.Sorted.{IsStrictlySortedBy, IsSortedBy, IsPartitionPoint, IsBinarySearchResult, IsPermutation}
@@ -13,7 +13,6 @@ use Rattle.std.proofs.lemmas.List.Sorted.{searchable_from_sorted, IsPermutation-
 use Rattle.std.proofs.lemmas.List.Edits.{length-insert, get_or-insert_below, get_or-insert_at, get_or-insert_above}
 use Rattle.std.proofs.lemmas.Map.Keys.{Less-from_sorted, sorted_from_all_adjacent, apart_from_distinct, IsDistinct-from_apart, IsDistinct-IsPermutation, IsDistinct-from_sorted}
 use Rattle.std.proofs.lemmas.List.{get_or_default}
-use Rattle.std.proofs.Common.{inl, inr}
 use Rattle.x509_der.specs.Set.{AreDistinct}
 use Rattle.x509_der.specs.SetLaws.{is_less}
 

@@ -1,7 +1,7 @@
 -- The order that a set names is that of the encodings of its members.
 use Rattle.std.proofs.Common.{◌≡◌, List, sym, subst}
 use Rattle.std.specs.List.Sorted.{IsStrictlySortedBy}
-use Rattle.x509_der_order.specs.Order.{Order}
+use Rattle.x509_der.specs.Order.{Order}
 
 module _ {X : Type 0} (named order : Order X) (same : named ≡ order) (members : List X) where
   pub as_named : IsStrictlySortedBy order members → IsStrictlySortedBy named members

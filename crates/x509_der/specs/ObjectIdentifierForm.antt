@@ -1,15 +1,15 @@
 -- OBJECT IDENTIFIER, as its content octets (X.690 8.19).
 use Rattle.std.specs.Prelude.{◌≡◌, ℕ, true, List, Result, Ok, Err, if◌then◌else◌, refl}
 use Rattle.std.proofs.Common.{inl, inr, sym}
-use Rattle.x509_der_order.specs.error.ErrorKind.{ErrorKind}
-use Rattle.x509_der_order.specs.error.ErrorKind.TheVariants.{Malformed}
-use Rattle.x509_der_order.specs.tag.Tag.TheVariants.{ObjectIdentifier}
-use Rattle.x509_der_order.specs.Form.{Form, IsForm, Contents, IsContents, universal}
-use Rattle.x509_der_order.specs.FormLaws.{universal_lawful}
-use Rattle.x509_der_order.specs.OutcomeLaws.{ok_is, test_ok, test_err}
-use Rattle.x509_der_order.specs.Writing.{Written}
-use Rattle.x509_der_order.specs.Order.{IsOrder}
-use Rattle.x509_der_order.specs.Ordered.{by_bytes, by_bytes_lawful}
+use Rattle.x509_der.specs.declared.error.ErrorKind.{ErrorKind}
+use Rattle.x509_der.specs.declared.error.ErrorKind.TheVariants.{Malformed}
+use Rattle.x509_der.specs.declared.tag.Tag.TheVariants.{ObjectIdentifier}
+use Rattle.x509_der.specs.Form.{Form, IsForm, Contents, IsContents, universal}
+use Rattle.x509_der.specs.FormLaws.{universal_lawful}
+use Rattle.x509_der.specs.OutcomeLaws.{ok_is, test_ok, test_err}
+use Rattle.x509_der.specs.Writing.{Written}
+use Rattle.x509_der.specs.Order.{IsOrder}
+use Rattle.x509_der.specs.Ordered.{by_bytes, by_bytes_lawful}
 use Rattle.x509_der.specs.Arcs.{AreArcs, content_of}
 use Rattle.x509_der.specs.ArcLaws.{content_of-arcs_of, content_of-passes}
 use Rattle.x509_der.specs.ObjectIdentifier.{is_object_identifier, arcs_of}

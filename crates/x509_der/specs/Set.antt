@@ -3,12 +3,12 @@
 use Rattle.std.specs.Prelude.{◌≡◌, ◌<◌, ℕ, Bool, true, ◌&&◌, List, [], ◌∷◌, length, get_or, Result, Ok, Err, if◌then◌else◌}
 use Rattle.std.specs.List.Sorted.{IsStrictlySortedBy}
 use Rattle.std.specs.Ordering.{is_lt}
-use Rattle.x509_der_element.specs.declared.error.ErrorKind.{ErrorKind}
-use Rattle.x509_der_element.specs.declared.error.ErrorKind.TheVariants.{Malformed}
-use Rattle.x509_der_element.specs.Outcome.{◌>>=◌}
-use Rattle.x509_der_grammar.specs.Form.{Form, Contents, spelling}
-use Rattle.x509_der_order.specs.Order.{Order}
-use Rattle.x509_der_frames.specs.List.{joined, all_good, list_reading}
+use Rattle.x509_der.specs.declared.error.ErrorKind.{ErrorKind}
+use Rattle.x509_der.specs.declared.error.ErrorKind.TheVariants.{Malformed}
+use Rattle.x509_der.specs.Outcome.{◌>>=◌}
+use Rattle.x509_der.specs.Form.{Form, Contents, spelling}
+use Rattle.x509_der.specs.Order.{Order}
+use Rattle.x509_der.specs.List.{joined, all_good, list_reading}
 
 -- the members have spellings, and each is below all that follow it
 unfoldable pub set_good : {X : Type 0} → Order X → (X → Type 0) → List X → Type 0

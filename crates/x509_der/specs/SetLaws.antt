@@ -7,17 +7,17 @@ use Rattle.std.specs.declared.cmp.Ordering.{Ordering}
 use Rattle.std.specs.declared.cmp.Ordering.TheVariants.{Less, Equal, Greater}
 use Rattle.std.proofs.Common.{inl, inr, sym, subst, ◌∙◌}
 use Rattle.std.proofs.lemmas.Bool.{and_parts, cases_Bool, true≢false}
-use Rattle.x509_der_element.specs.declared.error.ErrorKind.{ErrorKind}
-use Rattle.x509_der_element.specs.declared.error.ErrorKind.TheVariants.{Malformed}
-use Rattle.x509_der_element.specs.OutcomeLaws.{ok_is, bind_ok, bind_err, test_ok, test_err}
-use Rattle.x509_der_element.specs.declared.tag.Tag.TheVariants.{Set}
-use Rattle.x509_der_grammar.specs.Form.{Form, IsForm, IsContents, universal, spelling}
-use Rattle.x509_der_grammar.specs.Writing.{Writing, writes}
-use Rattle.x509_der_order.specs.Order.{Order, IsOrder, der_order}
-use Rattle.x509_der_order.specs.Ordered.{der_lawful, by_members, by_members_lawful}
-use Rattle.x509_der_frames.specs.List.{joined, all_good, list_reading, members_writing}
-use Rattle.x509_der_frames.specs.ListLaws.{list_lawful}
-use Rattle.x509_der_frames.specs.ListOrder.{members_have_encodings}
+use Rattle.x509_der.specs.declared.error.ErrorKind.{ErrorKind}
+use Rattle.x509_der.specs.declared.error.ErrorKind.TheVariants.{Malformed}
+use Rattle.x509_der.specs.OutcomeLaws.{ok_is, bind_ok, bind_err, test_ok, test_err}
+use Rattle.x509_der.specs.declared.tag.Tag.TheVariants.{Set}
+use Rattle.x509_der.specs.Form.{Form, IsForm, IsContents, universal, spelling}
+use Rattle.x509_der.specs.Writing.{Writing, writes}
+use Rattle.x509_der.specs.Order.{Order, IsOrder, der_order}
+use Rattle.x509_der.specs.Ordered.{der_lawful, by_members, by_members_lawful}
+use Rattle.x509_der.specs.List.{joined, all_good, list_reading, members_writing}
+use Rattle.x509_der.specs.ListLaws.{list_lawful}
+use Rattle.x509_der.specs.ListOrder.{members_have_encodings}
 use Rattle.x509_der.specs.Set.{is_below_all, is_rising, set_good, if_rising, set_reading, set_of}
 
 pub is_less : (o : Ordering) → is_lt o ≡ true → o ≡ Less

@@ -1,107 +1,114 @@
-//! Content octets of OIDs that are made of arcs, without allocation.
+//! Types with one identifier.
 
-ghost use Rattle.std.specs.Prelude.{◌≡◌, ℕ, ◌+◌, ◌<◌, ◌≤◌, List, [], ◌∷◌, ◌++◌, length, take, Some, IfSome, IfNone, OnSome};
-ghost use Rattle.std.specs.List.{flat_map};
-ghost use Rattle.std.specs.Int.Digits.{digits_of};
-ghost use Rattle.x509_der.specs.Arcs.{AreArcs, content_limit, content_of, high_octets, subidentifier};
+use crate::decode::{Decode, expect_tag};
+use crate::encode::Encode;
+use crate::grammar::{FixedTag, Grammar};
+use crate::room::Room;
+use crate::{Error, Tag};
+use std::alloc::Global;
 
-use std::marker::Model;
+/// A type of which each value is a content under one identifier (X.690 8.1). From it come [`Grammar`], [`FixedTag`],
+/// [`Decode`] and [`Encode`].
+pub trait Content: Sized {
+    ghost use Rattle.std.specs.Prelude.{◌≡◌, IfErr};
+    ghost use Rattle.x509_der.specs.Outcome.{Gives};
+    ghost use Rattle.x509_der.specs.declared.error.ErrorKind.{ErrorKind};
+    ghost use Rattle.x509_der.specs.declared.error.ErrorKind.TheVariants.{Memory};
+    ghost use Rattle.x509_der.specs.declared.tag.Tag.{Tag};
+    ghost use Rattle.x509_der.specs.Form.{Contents, IsContents};
+    ghost use Rattle.x509_der.specs.Writing.{Writing, plain, writes, Puts};
 
-/// The most content octets that an OID has here.
-pub const MAX_OCTETS: usize = 39;
+    ghost contents: { Contents Self };
 
-/// Up to [`MAX_OCTETS`] octets.
-#[derive(Drop)]
-pub struct ContentOctets {
-    len: usize,
-    octets: [u8; MAX_OCTETS],
+    /// The errors of decoding besides `Malformed`.
+    ghost refusals: { ErrorKind → Type 0 } = { λ _. ⊥ };
+
+    /// Whether decoding may take memory.
+    ghost takes_memory: { Type 0 } = { Unit };
+
+    /// How values are encoded.
+    ghost written_as: { Writing Self } = { plain };
+
+    ghost IDENTIFIER: { Tag };
+
+    /// The identifier.
+    const IDENTIFIER: Tag;
+
+    /// The value of the content octets.
+    ///
+    /// # Errors
+    ///
+    /// `Malformed`, or an error of the type's own, exactly where they are the content octets of no value. `Memory` when
+    /// out of memory, only where decoding the type may take memory.
+    fn read_content(alloc: Global, octets: &[u8]) -> Result<Self, Error>
+        ensures exact { Gives result (contents.reading octets.now) }
+        ensures memory { IfErr result (λ e. e.kind ≡ Memory → takes_memory) };
+
+    /// Puts the content octets in front of the bytes that stand in the room.
+    ///
+    /// # Errors
+    ///
+    /// The error of a value that can't be encoded; `Overlength` where there is no place in the room; `Memory` when out
+    /// of memory, only for a room that takes memory.
+    fn write_content<R: Room>(&self, room: &mut R) -> Result<(), Error>
+        ensures { Puts R.kind (contents.octets (writes written_as self.now).value) (writes written_as self.now).refusal result room.old room.new };
+
+    ghost contents_lawful: { IsContents refusals contents };
 }
 
-impl Model for ContentOctets {
-    ghost Value = { List ℕ };
+impl<T: Content> Grammar for T {
+    ghost use Rattle.x509_der.specs.Form.{universal};
+    ghost use Rattle.x509_der.specs.FormLaws.{universal_lawful};
 
-    ghost view = { λ c. take c.len c.octets };
+    ghost form = { universal T.IDENTIFIER T.contents };
 
-    ghost invariant = { λ c. c.len ≤ content_limit };
+    ghost refuses = { T.refusals };
+
+    fn identifier(&self) -> Tag {
+        T::IDENTIFIER
+    }
+
+    fn is_start(octet: u8) -> bool {
+        octet == T::IDENTIFIER.octet()
+    }
+
+    fn usual() -> Tag {
+        T::IDENTIFIER
+    }
+
+    ghost lawful = { universal_lawful T.IDENTIFIER T.contents T.contents_lawful };
 }
 
-impl ContentOctets {
-    /// The content octets of arcs, where they are within the limits.
-    pub fn of_arcs(arcs: &[u32]) -> Option<ContentOctets>
-        ensures found { IfSome result (λ content. AreArcs arcs.now × (content ≡ content_of arcs.now)) }
-        ensures only { AreArcs arcs.now → result ≡ Some (content_of arcs.now) }
-    {
-        let [first, second, others @ ..] = arcs else {
-            return None;
-        };
-        if *first > 2 || (*first < 2 && *second > 39) {
-            return None;
-        }
-        let mut content = ContentOctets::new();
-        content.push(second.checked_add(40 * *first)?)?;
-        content.push_all(others)?;
-        // Of every value, and what the clauses want of this one.
-        prove!(content.len <= MAX_OCTETS);
-        Some(content)
+impl<T: Content> FixedTag for T {
+    ghost use Rattle.std.specs.Prelude.{refl};
+
+    ghost TAG = { T.IDENTIFIER };
+
+    const TAG: Tag = T::IDENTIFIER;
+
+    ghost fixed = { λ value. refl };
+
+    ghost starts_so = { refl };
+}
+
+impl<T: Content> Decode for T {
+    ghost wants_memory = { T.takes_memory };
+
+    #[inline(always)]
+    fn read(alloc: Global, tag: u8, content: &[u8]) -> Result<T, Error> {
+        expect_tag(tag, T::IDENTIFIER)?;
+        T::read_content(alloc, content)
+    }
+}
+
+impl<T: Content> Encode for T {
+    ghost use Rattle.std.specs.Prelude.{refl};
+
+    ghost writing = { T.written_as };
+
+    fn put_content<R: Room>(&self, room: &mut R) -> Result<(), Error> {
+        self.write_content(room)
     }
 
-    fn new() -> ContentOctets
-        ensures { result ≡ [] }
-    {
-        ContentOctets {
-            len: 0,
-            octets: [0; MAX_OCTETS],
-        }
-    }
-
-    /// The octets.
-    pub fn as_slice(&self) -> &[u8]
-        ensures { result.now ≡ self.now }
-    {
-        &self.octets[..self.len]
-    }
-
-    // Puts a subidentifier at the end, or answers `None` where there is no room for it.
-    fn push(&mut self, n: u32) -> Option<()>
-        ensures some { OnSome result (self.new ≡ self.old ++ subidentifier n) }
-        ensures none { IfNone result (content_limit < length self.old + length (subidentifier n)) }
-    {
-        self.push_high(n / 128)?;
-        self.push_octet((n % 128) as u8)
-    }
-
-    // Puts subidentifiers at the end, or answers `None` where there is no room for them.
-    fn push_all(&mut self, numbers: &[u32]) -> Option<()>
-        ensures some { OnSome result (self.new ≡ self.old ++ flat_map subidentifier numbers.now) }
-        ensures none { IfNone result (content_limit < length self.old + length (flat_map subidentifier numbers.now)) }
-    {
-        for number in numbers {
-            self.push(*number)?;
-        }
-        Some(())
-    }
-
-    // The digits of n in base 128, each with the high bit set.
-    fn push_high(&mut self, n: u32) -> Option<()>
-        ensures some { OnSome result (self.new ≡ self.old ++ high_octets (digits_of 128 n)) }
-        ensures none { IfNone result (content_limit < length self.old + length (digits_of 128 n)) }
-    {
-        if n == 0 {
-            return Some(());
-        }
-        self.push_high(n / 128)?;
-        self.push_octet(128 + (n % 128) as u8)
-    }
-
-    fn push_octet(&mut self, octet: u8) -> Option<()>
-        ensures some { OnSome result (self.new ≡ self.old ++ octet ∷ []) }
-        ensures none { IfNone result (length self.old ≡ content_limit) }
-    {
-        if self.len == MAX_OCTETS {
-            return None;
-        }
-        self.octets[self.len] = octet;
-        self.len += 1;
-        Some(())
-    }
+    ghost same_tag = { λ value. refl };
 }

@@ -5,21 +5,25 @@ ghost use Rattle.std.specs.Option.{option_copied};
 ghost use Rattle.std.specs.List.Sorted.{IsStrictlySortedBy, IsPermutation};
 ghost use Rattle.std.specs.Iterator.Adapters.{IterYieldsInOrder, IterYieldsInReverse};
 ghost use Rattle.std.specs.Slice.Iter.{iter_rest};
-ghost use Rattle.x509_der_grammar.specs.Writing.{writes};
-ghost use Rattle.x509_der_element.specs.declared.error.ErrorKind.TheVariants as errors;
-ghost use Rattle.x509_der_order.specs.Order.{der_order};
+ghost use Rattle.x509_der.specs.Writing.{writes};
+ghost use Rattle.x509_der.specs.declared.error.ErrorKind.TheVariants as errors;
+ghost use Rattle.x509_der.specs.Order.{der_order};
 ghost use Rattle.x509_der.specs.Set.{AreDistinct};
 
-use crate::members::Members;
-use crate::places::{is_rising, place};
+use crate::set::members::Members;
+use crate::set::places::{is_rising, place};
+use crate::{
+    Content, Decode, DerOrd, Error, ErrorKind, Room, SetMember, SetOrd, Spelled, Tag, TryClone,
+    ValueOrd, cmp_members, members_have_spellings, put_members,
+};
 use std::alloc::Global;
 use std::cmp::Ordering;
 use std::hash::{Hash, Hasher};
 use std::marker::Model;
 use std::{fmt, slice};
-use x509_der_frames::{members_have_spellings, put_members};
-use x509_der_grammar::{Content, Decode, Error, ErrorKind, Room, Spelled, Tag, TryClone};
-use x509_der_order::{DerOrd, SetMember, SetOrd, ValueOrd, cmp_members};
+
+mod members;
+mod places;
 
 /// SET OF: the members, no two of them equal, in the byte order of their encodings (X.690 11.6). Contracts see their
 /// list.
@@ -163,10 +167,10 @@ impl<T: SetMember> SetOfVec<T> {
 }
 
 impl<T: Decode + SetMember + Drop> Content for SetOfVec<T> {
-    ghost use Rattle.x509_der_element.specs.declared.tag.Tag.TheVariants.{Set};
-    ghost use Rattle.x509_der_frames.specs.List.{members_writing};
-    ghost use Rattle.x509_der_grammar.specs.Writing.{writes};
-    ghost use Rattle.x509_der_order.specs.Order.{der_order};
+    ghost use Rattle.x509_der.specs.declared.tag.Tag.TheVariants.{Set};
+    ghost use Rattle.x509_der.specs.List.{members_writing};
+    ghost use Rattle.x509_der.specs.Writing.{writes};
+    ghost use Rattle.x509_der.specs.Order.{der_order};
     ghost use Rattle.x509_der.specs.Set.{set_of};
     ghost use Rattle.x509_der.specs.SetLaws.{set_lawful};
 
@@ -190,7 +194,7 @@ impl<T: Decode + SetMember + Drop> Content for SetOfVec<T> {
         Ok(SetOfVec { members })
     }
 
-    #[tactic(auto, using(x509_der_frames::specs::ListWriting::puts_list))]
+    #[tactic(auto, using(crate::specs::ListWriting::puts_list))]
     fn write_content<R: Room>(&self, room: &mut R) -> Result<(), Error> {
         put_members(self.as_slice(), room)
     }
@@ -210,9 +214,9 @@ impl<T: Decode + SetMember + Spelled + Drop> Spelled for SetOfVec<T> {
 }
 
 impl<T: Decode + SetMember + Drop> ValueOrd for SetOfVec<T> {
-    ghost use Rattle.x509_der_grammar.specs.Writing.{writes};
-    ghost use Rattle.x509_der_order.specs.Order.{der_order};
-    ghost use Rattle.x509_der_order.specs.Ordered.{by_members};
+    ghost use Rattle.x509_der.specs.Writing.{writes};
+    ghost use Rattle.x509_der.specs.Order.{der_order};
+    ghost use Rattle.x509_der.specs.Ordered.{by_members};
     ghost use Rattle.x509_der.specs.SetLaws.{set_ordered};
 
     ghost order = { by_members (der_order T.form (writes T.writing) T.order) };

@@ -1,1 +1,4 @@
+pub mod ArcsOfExtensions
+pub mod Repeats
 pub mod Bits
+pub mod Refusals

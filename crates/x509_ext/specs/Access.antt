@@ -1,17 +1,17 @@
 -- AccessDescription: access_method: OBJECT IDENTIFIER, access_location: GeneralName (RFC 5280 4.2.2.1)
 -- AuthorityInfoAccessSyntax and SubjectInfoAccessSyntax: list AccessDescription (RFC 5280 4.2.2.1, 4.2.2.2)
 use Rattle.std.specs.Prelude.{ℕ, List, refl}
-use Rattle.x509_der_element.specs.declared.error.ErrorKind.{ErrorKind}
-use Rattle.x509_der_grammar.specs.Form.{Form, Contents, IsContents, universal}
-use Rattle.x509_der_frames.specs.Frames.{Part, required, ◌⊗◌, fields}
-use Rattle.x509_der_frames.specs.PartRules.{part_rules}
+use Rattle.x509_der.specs.declared.error.ErrorKind.{ErrorKind}
+use Rattle.x509_der.specs.Form.{Form, Contents, IsContents, universal}
+use Rattle.x509_der.specs.Frames.{Part, required, ◌⊗◌, fields}
+use Rattle.x509_der.specs.PartRules.{part_rules}
 use Rattle.x509_der.specs.ObjectIdentifierForm.{object_identifier, object_identifier_lawful}
-use Rattle.x509_ext_name.specs.GeneralName.{general_name, general_name_lawful}
-use Rattle.x509_ext_name.specs.declared.general_name.GeneralName.{GeneralName}
+use Rattle.x509_ext.specs.GeneralName.{general_name, general_name_lawful}
+use Rattle.x509_ext.specs.declared.pkix.name.general_name.GeneralName.{GeneralName}
 use Rattle.x509_ext.specs.declared.pkix.access.AccessDescription.{AccessDescription}
-use Rattle.x509_der_element.specs.declared.tag.Tag.TheVariants.{Sequence}
-use Rattle.x509_der_frames.specs.List.{list_of}
-use Rattle.x509_der_grammar.specs.Round.{Round, rounded}
+use Rattle.x509_der.specs.declared.tag.Tag.TheVariants.{Sequence}
+use Rattle.x509_der.specs.List.{list_of}
+use Rattle.x509_der.specs.Round.{Round, rounded}
 use Rattle.x509_ext.specs.declared.pkix.access.AuthorityInfoAccessSyntax.{AuthorityInfoAccessSyntax}
 use Rattle.x509_ext.specs.declared.pkix.access.SubjectInfoAccessSyntax.{SubjectInfoAccessSyntax}
 

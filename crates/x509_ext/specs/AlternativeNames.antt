@@ -1,11 +1,11 @@
 -- SubjectAltName and IssuerAltName: list GeneralName (RFC 5280 4.2.1.6, 4.2.1.7), and when the former is critical.
 use Rattle.std.specs.Prelude.{Bool, true, false, List, [], ◌∷◌, refl}
-use Rattle.x509_name_attribute.specs.declared.type_and_value.AttributeTypeAndValue.{AttributeTypeAndValue}
-use Rattle.x509_der_element.specs.declared.tag.Tag.TheVariants.{Sequence}
-use Rattle.x509_der_grammar.specs.Form.{Form}
-use Rattle.x509_der_grammar.specs.Round.{Round, rounded}
-use Rattle.x509_ext_name.specs.GeneralName.{general_names}
-use Rattle.x509_ext_name.specs.declared.general_name.GeneralName.{GeneralName}
+use Rattle.x509_name.specs.declared.attr.type_and_value.AttributeTypeAndValue.{AttributeTypeAndValue}
+use Rattle.x509_der.specs.declared.tag.Tag.TheVariants.{Sequence}
+use Rattle.x509_der.specs.Form.{Form}
+use Rattle.x509_der.specs.Round.{Round, rounded}
+use Rattle.x509_ext.specs.GeneralName.{general_names}
+use Rattle.x509_ext.specs.declared.pkix.name.general_name.GeneralName.{GeneralName}
 use Rattle.x509_ext.specs.declared.pkix.alternative_names.SubjectAltName.{SubjectAltName}
 use Rattle.x509_ext.specs.declared.pkix.alternative_names.IssuerAltName.{IssuerAltName}
 

@@ -4,16 +4,16 @@ use Rattle.std.specs.Prelude.{◌≡◌, ℕ, nat_lt, List, length, Option, Err}
 use Rattle.std.proofs.Common.{inl, inr}
 use Rattle.std.proofs.lemmas.Bool.{cases_Bool}
 use Rattle.x509_base.specs.Serial.{serial_number, serial_number_contents, serial_number_contents_lawful}
-use Rattle.x509_base_time.specs.Profiles.{rfc5280_serial_number}
-use Rattle.x509_der_element.specs.declared.error.ErrorKind.{ErrorKind}
-use Rattle.x509_der_element.specs.declared.error.ErrorKind.TheVariants.{Malformed}
-use Rattle.x509_der_element.specs.declared.tag.Tag.TheVariants.{Integer, Sequence}
-use Rattle.x509_der_grammar.specs.Form.{Form, IsForm, Contents, IsContents, universal}
-use Rattle.x509_der_grammar.specs.FormLaws.{universal_lawful}
-use Rattle.x509_der_frames.specs.Frames.{Part, implicit, optional, ◌⊗◌, fields}
-use Rattle.x509_der_frames.specs.PartRules.{part_rules}
-use Rattle.x509_ext_name.specs.GeneralName.{general_names, general_names_lawful}
-use Rattle.x509_ext_name.specs.declared.general_name.GeneralName.{GeneralName}
+use Rattle.x509_base.specs.Profiles.{rfc5280_serial_number}
+use Rattle.x509_der.specs.declared.error.ErrorKind.{ErrorKind}
+use Rattle.x509_der.specs.declared.error.ErrorKind.TheVariants.{Malformed}
+use Rattle.x509_der.specs.declared.tag.Tag.TheVariants.{Integer, Sequence}
+use Rattle.x509_der.specs.Form.{Form, IsForm, Contents, IsContents, universal}
+use Rattle.x509_der.specs.FormLaws.{universal_lawful}
+use Rattle.x509_der.specs.Frames.{Part, implicit, optional, ◌⊗◌, fields}
+use Rattle.x509_der.specs.PartRules.{part_rules}
+use Rattle.x509_ext.specs.GeneralName.{general_names, general_names_lawful}
+use Rattle.x509_ext.specs.declared.pkix.name.general_name.GeneralName.{GeneralName}
 use Rattle.x509_prim.specs.OctetString.{octet_string, octet_string_lawful}
 use Rattle.x509_ext.specs.declared.pkix.authority_key_identifier.AuthorityKeyIdentifier.{AuthorityKeyIdentifier}
 

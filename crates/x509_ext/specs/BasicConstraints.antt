@@ -1,13 +1,13 @@
 -- BasicConstraints: ca: BOOLEAN=FALSE, path_len_constraint: u8? (RFC 5280 4.2.1.9)
 use Rattle.std.specs.Prelude.{ℕ, ◌^◌, Bool, Option}
-use Rattle.x509_der_element.specs.declared.error.ErrorKind.{ErrorKind}
-use Rattle.x509_der_element.specs.declared.tag.Tag.TheVariants.{Sequence}
-use Rattle.x509_der_grammar.specs.Form.{Form, Contents, IsContents, universal}
-use Rattle.x509_der_grammar.specs.Boolean.{boolean}
-use Rattle.x509_der_grammar.specs.Natural.{natural}
-use Rattle.x509_der_frames.specs.Frames.{Part, optional, defaulted, ◌⊗◌, fields}
-use Rattle.x509_der_frames.specs.DefaultValues.{boolean_default}
-use Rattle.x509_der_frames.specs.PartRules.{part_rules}
+use Rattle.x509_der.specs.declared.error.ErrorKind.{ErrorKind}
+use Rattle.x509_der.specs.declared.tag.Tag.TheVariants.{Sequence}
+use Rattle.x509_der.specs.Form.{Form, Contents, IsContents, universal}
+use Rattle.x509_der.specs.Boolean.{boolean}
+use Rattle.x509_der.specs.Natural.{natural}
+use Rattle.x509_der.specs.Frames.{Part, optional, defaulted, ◌⊗◌, fields}
+use Rattle.x509_der.specs.DefaultValues.{boolean_default}
+use Rattle.x509_der.specs.PartRules.{part_rules}
 use Rattle.x509_ext.specs.declared.pkix.basic_constraints.BasicConstraints.{BasicConstraints}
 
 unfoldable pub basic_constraints_fields : Part (Bool × Option ℕ)

@@ -1,9 +1,9 @@
 -- ExtendedKeyUsage: list OBJECT IDENTIFIER (RFC 5280 4.2.1.12)
 use Rattle.std.specs.Prelude.{ℕ, List, refl}
-use Rattle.x509_der_element.specs.declared.tag.Tag.TheVariants.{Sequence}
-use Rattle.x509_der_frames.specs.List.{list_of}
-use Rattle.x509_der_grammar.specs.Form.{Form, universal}
-use Rattle.x509_der_grammar.specs.Round.{Round, rounded}
+use Rattle.x509_der.specs.declared.tag.Tag.TheVariants.{Sequence}
+use Rattle.x509_der.specs.List.{list_of}
+use Rattle.x509_der.specs.Form.{Form, universal}
+use Rattle.x509_der.specs.Round.{Round, rounded}
 use Rattle.x509_der.specs.ObjectIdentifierForm.{object_identifier}
 use Rattle.x509_ext.specs.declared.pkix.extended_key_usage.ExtendedKeyUsage.{ExtendedKeyUsage}
 

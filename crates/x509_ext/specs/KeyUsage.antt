@@ -1,11 +1,11 @@
 -- KeyUsage: what a key may be used for, as named bits (RFC 5280 4.2.1.3)
 use Rattle.std.specs.Prelude.{ℕ, ◌^◌, ◌==◌, Bool, List, [], ◌∷◌, codes, refl}
 use Rattle.std.specs.Int.RustNames.{bit_and}
-use Rattle.x509_der_grammar.specs.Round.{Round, rounded}
+use Rattle.x509_der.specs.Round.{Round, rounded}
 use Rattle.x509_ext.specs.declared.pkix.key_usage.KeyUsages.{KeyUsages}
 use Rattle.x509_ext.specs.declared.pkix.key_usage.KeyUsage.{KeyUsage}
-use Rattle.x509_der_element.specs.declared.tag.Tag.TheVariants.{BitString}
-use Rattle.x509_der_grammar.specs.Form.{Form}
+use Rattle.x509_der.specs.declared.tag.Tag.TheVariants.{BitString}
+use Rattle.x509_der.specs.Form.{Form}
 use Rattle.x509_prim.specs.NamedBits.{flag_bits}
 
 -- the named bits 0 to 8, each as the set of it alone

@@ -1,11 +1,11 @@
 -- SubjectDirectoryAttributes: list Attribute (RFC 5280 4.2.1.8)
 use Rattle.std.specs.Prelude.{List, refl}
-use Rattle.x509_der_element.specs.declared.tag.Tag.TheVariants.{Sequence}
-use Rattle.x509_der_frames.specs.List.{list_of}
-use Rattle.x509_der_grammar.specs.Form.{Form, universal}
-use Rattle.x509_der_grammar.specs.Round.{Round, rounded}
-use Rattle.x509_name_attribute.specs.Attribute.{attribute}
-use Rattle.x509_name_attribute.specs.declared.attribute.Attribute.{Attribute}
+use Rattle.x509_der.specs.declared.tag.Tag.TheVariants.{Sequence}
+use Rattle.x509_der.specs.List.{list_of}
+use Rattle.x509_der.specs.Form.{Form, universal}
+use Rattle.x509_der.specs.Round.{Round, rounded}
+use Rattle.x509_name.specs.Attribute.{attribute}
+use Rattle.x509_name.specs.declared.attr.attribute.Attribute.{Attribute}
 use Rattle.x509_ext.specs.declared.pkix.subject_directory_attributes.SubjectDirectoryAttributes.{SubjectDirectoryAttributes}
 
 abbrev pub subject_directory_attributes_round : Round SubjectDirectoryAttributes (List Attribute)

@@ -1,8 +1,8 @@
 -- SubjectKeyIdentifier: OCTET STRING (RFC 5280 4.2.1.2)
 use Rattle.std.specs.Prelude.{ℕ, List, refl}
-use Rattle.x509_der_element.specs.declared.tag.Tag.TheVariants as tags
-use Rattle.x509_der_grammar.specs.Form.{Form}
-use Rattle.x509_der_grammar.specs.Round.{Round, rounded}
+use Rattle.x509_der.specs.declared.tag.Tag.TheVariants as tags
+use Rattle.x509_der.specs.Form.{Form}
+use Rattle.x509_der.specs.Round.{Round, rounded}
 use Rattle.x509_prim.specs.OctetString.{octet_string}
 use Rattle.x509_ext.specs.declared.pkix.subject_key_identifier.SubjectKeyIdentifier.{SubjectKeyIdentifier}
 

@@ -1,8 +1,8 @@
 //! What the tests ask.
 
 use std::fmt::Display;
-use x509_der_grammar::{Decode, Encode, Error, ErrorKind, TryClone};
-use x509_extension::ToExtension;
+use x509_der::{Decode, Encode, Error, ErrorKind, TryClone};
+use x509_ext::ToExtension;
 use x509_name::name::Name;
 
 /// Whether the bytes are read, and a copy that equals the value is written as they were.

@@ -2,9 +2,8 @@
 
 use crate::calls::{is_refused, stays};
 use std::test::*;
-use x509_der_frames::Any;
-use x509_der_grammar::{Decode, Error, ErrorKind, Tag};
-use x509_name_attribute::DirectoryString;
+use x509_der::{Any, Decode, Error, ErrorKind, Tag};
+use x509_name::name::DirectoryString;
 
 /// Whether the string of the bytes has the text, and so has a copy of the text.
 fn has_text(rt: &HostRuntime, bytes: &[u8], text: &str) -> Result<bool, Error> {

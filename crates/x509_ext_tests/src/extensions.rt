@@ -3,22 +3,18 @@
 use crate::calls::{is_made, is_refused, stays};
 use bitflags::Flags;
 use std::test::*;
-use x509_der::{AssociatedOid, ObjectIdentifier};
-use x509_der_grammar::{Decode, Encode, Error, ErrorKind, TryClone};
+use x509_der::{AssociatedOid, Decode, Encode, Error, ErrorKind, ObjectIdentifier, TryClone};
+use x509_ext::pkix::certpolicy::UserNotice;
+use x509_ext::pkix::crl::dp::Reasons;
 use x509_ext::pkix::{
-    AuthorityInfoAccessSyntax, AuthorityKeyIdentifier, BasicConstraints, ExtendedKeyUsage,
-    IssuerAltName, KeyUsage, KeyUsages, PrivateKeyUsagePeriod, SubjectAltName,
-    SubjectDirectoryAttributes, SubjectInfoAccessSyntax, SubjectKeyIdentifier,
+    AuthorityInfoAccessSyntax, AuthorityKeyIdentifier, BaseCrlNumber, BasicConstraints,
+    CertificateIssuer, CertificatePolicies, CrlDistributionPoints, CrlNumber, CrlReason,
+    ExtendedKeyUsage, FreshestCrl, InhibitAnyPolicy, IssuerAltName, IssuingDistributionPoint,
+    KeyUsage, KeyUsages, NameConstraints, PolicyConstraints, PolicyMappings, PrivateKeyUsagePeriod,
+    SubjectAltName, SubjectDirectoryAttributes, SubjectInfoAccessSyntax, SubjectKeyIdentifier,
 };
-use x509_extension::{Criticality, Extension, ToExtension};
+use x509_ext::{Criticality, Extension, ToExtension};
 use x509_name::name::Name;
-use x509_pkix::{
-    BaseCrlNumber, CertificateIssuer, CrlDistributionPoints, CrlNumber, CrlReason, FreshestCrl,
-    IssuingDistributionPoint, NameConstraints, Reasons,
-};
-use x509_pkix_policy::{
-    CertificatePolicies, InhibitAnyPolicy, PolicyConstraints, PolicyMappings, UserNotice,
-};
 
 /// The list of no members.
 const EMPTY: &[u8] = &[0x30, 0x00];

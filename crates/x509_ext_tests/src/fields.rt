@@ -1,12 +1,12 @@
 //! Fields that look alike: which of them stands where.
 
 use std::test::*;
-use x509_base_time::GeneralizedTime;
-use x509_der::ObjectIdentifier;
-use x509_der_grammar::{Decode, Error};
-use x509_ext::pkix::PrivateKeyUsagePeriod;
-use x509_pkix::{IssuingDistributionPoint, NameConstraints};
-use x509_pkix_policy::{PolicyConstraints, PolicyMapping};
+use x509_base::GeneralizedTime;
+use x509_der::{Decode, Error, ObjectIdentifier};
+use x509_ext::pkix::{
+    IssuingDistributionPoint, NameConstraints, PolicyConstraints, PolicyMapping,
+    PrivateKeyUsagePeriod,
+};
 
 /// Whether the period begins at that time and has no end (RFC 3280 4.2.1.4).
 fn begins(rt: &HostRuntime, bytes: &[u8], at: &[u8]) -> Result<bool, Error> {

@@ -2,9 +2,8 @@
 
 use crate::calls::{is_refused, is_written, stays};
 use std::test::*;
-use x509_der::ObjectIdentifier;
-use x509_der_grammar::{Decode, Error, ErrorKind};
-use x509_ext_name::{GeneralName, HardwareModuleName, IpAddress, OtherName};
+use x509_der::{Decode, Error, ErrorKind, ObjectIdentifier};
+use x509_ext::pkix::name::{GeneralName, HardwareModuleName, IpAddress, OtherName};
 use x509_prim::OctetString;
 
 /// The number of the case.

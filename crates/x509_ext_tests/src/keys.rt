@@ -4,7 +4,7 @@ use crate::calls::is_written;
 use bitflags::Flags;
 use std::test::*;
 use x509_base::SubjectPublicKeyInfo;
-use x509_der_grammar::{Decode, Error};
+use x509_der::{Decode, Error};
 use x509_ext::pkix::{AuthorityKeyIdentifier, KeyUsage, KeyUsages, SubjectKeyIdentifier};
 
 /// The answers of the nine predicates, that of the named bit 0 first.

@@ -2,12 +2,11 @@
 
 use crate::calls::{is_refused, is_written, prints};
 use std::test::*;
-use x509_der::SequenceOf;
-use x509_der_grammar::{Error, ErrorKind};
+use x509_der::{Error, ErrorKind, SequenceOf};
+use x509_name::attr::AttributeTypeAndValue;
 use x509_name::name::attribute_types::ORGANIZATIONAL_UNIT_NAME;
-use x509_name::name::{Name, RdnSequence, RelativeDistinguishedName};
-use x509_name_attribute::{AttributeTypeAndValue, DirectoryString};
-use x509_prim_text::Utf8StringRef;
+use x509_name::name::{DirectoryString, Name, RdnSequence, RelativeDistinguishedName};
+use x509_prim::Utf8StringRef;
 
 /// The organization 123 and the common name JOHN SMITH, in this order since the first is shorter.
 const BOTH: &[u8] =

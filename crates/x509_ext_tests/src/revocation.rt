@@ -3,8 +3,9 @@
 use crate::calls::is_written;
 use bitflags::Flags;
 use std::test::*;
-use x509_der_grammar::{Decode, Error};
-use x509_pkix::{CrlNumber, CrlReason, Reasons};
+use x509_der::{Decode, Error};
+use x509_ext::pkix::crl::dp::Reasons;
+use x509_ext::pkix::{CrlNumber, CrlReason};
 
 /// Whether the number is written as these bytes.
 fn is_number(

@@ -2,11 +2,9 @@
 
 use crate::calls::{is_refused, is_written, stays};
 use std::test::*;
-use x509_der::SetOfVec;
-use x509_der_grammar::{Decode, Error, ErrorKind};
-use x509_ext::pkix::KeyUsages;
+use x509_der::{Decode, Error, ErrorKind, SetOfVec};
+use x509_ext::pkix::{InhibitAnyPolicy, KeyUsages};
 use x509_name::name::{Name, RdnSequence, RelativeDistinguishedName};
-use x509_pkix_policy::InhibitAnyPolicy;
 
 /// By their encodings: bits 5 and 6, then bit 0, then bit 8, which takes an octet more.
 #[test]

@@ -3,9 +3,9 @@
 
 use crate::calls::{is_refused, prints};
 use std::test::*;
-use x509_der_grammar::{Error, ErrorKind};
+use x509_der::{Error, ErrorKind};
+use x509_name::attr::AttributeTypeAndValue;
 use x509_name::name::{Name, RdnSequence, RelativeDistinguishedName};
-use x509_name_attribute::AttributeTypeAndValue;
 
 /// A text that prints back, and the encoding of its name.
 struct Row {

@@ -2,7 +2,7 @@
 
 use crate::calls::{is_made, is_written, prints};
 use std::test::*;
-use x509_der_grammar::{Decode, Error as DerError, ErrorKind};
+use x509_der::{Decode, Error as DerError, ErrorKind};
 use x509_prim::OctetString;
 use x509_sct::{
     CtPrecertificatePoison, DigitallySigned, Error, HashAlgorithm, LogId, PreCert, SerializedSct,

@@ -4,9 +4,8 @@
 use crate::calls::prints;
 use crate::texts::prints_back;
 use std::test::*;
-use x509_der::ObjectIdentifier;
-use x509_der_grammar::{Error, Tag};
-use x509_name_attribute::AttributeTypeAndValue;
+use x509_der::{Error, ObjectIdentifier, Tag};
+use x509_name::attr::AttributeTypeAndValue;
 
 /// The types whose values are read as UTF8String from a text without a number sign: of each a text with the name that is
 /// printed, one with the name in full, and the identifier (RFC 4519 section 2, RFC 5280 appendix A.1, X.520).

@@ -1,11 +1,11 @@
 -- What a reader of a name's text answers, from what was read of its parts.
 use Rattle.std.proofs.Common.{◌≡◌, ◌≢◌, ◌⊎◌, false, eqb, ℕ, List, [], ◌∷◌, length, inl, inr}
-use Rattle.x509_der_element.specs.declared.error.ErrorKind.{ErrorKind}
-use Rattle.x509_der_element.specs.declared.error.ErrorKind.TheVariants.{Memory}
-use Rattle.x509_name_attribute.specs.Attributes.{AttributeRefused}
-use Rattle.x509_name_attribute.specs.Parts.{Joined}
-use Rattle.x509_name_attribute.specs.Refusals.{FirstRefused}
-use Rattle.x509_name_attribute.specs.Text.{Reads}
+use Rattle.x509_der.specs.declared.error.ErrorKind.{ErrorKind}
+use Rattle.x509_der.specs.declared.error.ErrorKind.TheVariants.{Memory}
+use Rattle.x509_name.specs.Attributes.{AttributeRefused}
+use Rattle.x509_name.specs.Parts.{Joined}
+use Rattle.x509_name.specs.Refusals.{FirstRefused}
+use Rattle.x509_name.specs.Text.{Reads}
 use Rattle.x509_name.specs.NameText.{RdnReads, RdnRefused, NameRefused}
 
 pub some_text : (text : List ℕ) → false ≡ eqb (length text) 0 → text ≢ []

@@ -4,23 +4,23 @@ use Rattle.std.specs.List.{AllByRecursion, AllZip, join_with_byte}
 use Rattle.std.specs.List.Sorted.{IsPermutation}
 use Rattle.std.proofs.lemmas.List.{reverse-reverse}
 use Rattle.std.proofs.lemmas.List.Sorted.{IsPermutation-refl, IsPermutation-sym, IsPermutation-trans}
-use Rattle.x509_der_element.specs.declared.error.ErrorKind.{ErrorKind}
-use Rattle.x509_der_element.specs.declared.error.ErrorKind.TheVariants.{SetDuplicate}
+use Rattle.x509_der.specs.declared.error.ErrorKind.{ErrorKind}
+use Rattle.x509_der.specs.declared.error.ErrorKind.TheVariants.{SetDuplicate}
 use Rattle.x509_der.specs.Set.{AreDistinct}
 use Rattle.x509_der.proofs.OneSet.{one_set}
 use Rattle.x509_der.proofs.RisingLists.{distinct_from_rising}
-use Rattle.x509_name_attribute.specs.TypeAndValue.{types_and_values_lawful}
-use Rattle.x509_name_attribute.specs.declared.type_and_value.AttributeTypeAndValue.{AttributeTypeAndValue}
-use Rattle.x509_name_attribute.specs.Attributes.{attribute_text, AttributeRefused, ReadsBack}
-use Rattle.x509_name_attribute.specs.Parts.{Joined}
-use Rattle.x509_name_attribute.specs.Refusals.{FirstRefused}
-use Rattle.x509_name_attribute.proofs.Cuts.{one_cut}
-use Rattle.x509_name_attribute.proofs.FirstRefusals.{one_of_each, zip_map, zip_apart, refused_once}
-use Rattle.x509_name_attribute.proofs.WholeTexts.{Whole, Whole-join, join_whole}
-use Rattle.x509_name_attribute.proofs.AttributeLaws.{attribute_again, one_attribute, reads_apart, one_refusal}
-use Rattle.x509_name_attribute.proofs.Joins.{all_reverse, some_map, some_join}
-use Rattle.x509_name_attribute.proofs.WholeAttributes.{whole_attribute_plus, whole_attribute_comma, some_attribute}
-use Rattle.x509_name_attribute.specs.Text.{Reads}
+use Rattle.x509_name.specs.TypeAndValue.{types_and_values_lawful}
+use Rattle.x509_name.specs.declared.attr.type_and_value.AttributeTypeAndValue.{AttributeTypeAndValue}
+use Rattle.x509_name.specs.Attributes.{attribute_text, AttributeRefused, ReadsBack}
+use Rattle.x509_name.specs.Parts.{Joined}
+use Rattle.x509_name.specs.Refusals.{FirstRefused}
+use Rattle.x509_name.proofs.Cuts.{one_cut}
+use Rattle.x509_name.proofs.FirstRefusals.{one_of_each, zip_map, zip_apart, refused_once}
+use Rattle.x509_name.proofs.WholeTexts.{Whole, Whole-join, join_whole}
+use Rattle.x509_name.proofs.AttributeLaws.{attribute_again, one_attribute, reads_apart, one_refusal}
+use Rattle.x509_name.proofs.Joins.{all_reverse, some_map, some_join}
+use Rattle.x509_name.proofs.WholeAttributes.{whole_attribute_plus, whole_attribute_comma, some_attribute}
+use Rattle.x509_name.specs.Text.{Reads}
 use Rattle.x509_name.specs.NameText.{rdn_text, name_text, RdnReads, NameReads, RdnRefused, NameRefused, RdnReadsBack, NameReadsBack}
 
 -- ---- lists

@@ -1,7 +1,7 @@
 -- What the iterators over names and their parts have still to give.
 use Rattle.std.specs.Prelude.{List, ◌++◌}
 use Rattle.std.specs.List.{flat_map}
-use Rattle.x509_name_attribute.specs.declared.type_and_value.AttributeTypeAndValue.{AttributeTypeAndValue}
+use Rattle.x509_name.specs.declared.attr.type_and_value.AttributeTypeAndValue.{AttributeTypeAndValue}
 use Rattle.x509_name.specs.declared.name.iterators.NameIter.{NameIter}
 use Rattle.x509_name.specs.declared.name.iterators.RdnIter.{RdnIter}
 use Rattle.x509_name.specs.declared.name.iterators.RdnSequenceIter.{RdnSequenceIter}

@@ -1,11 +1,11 @@
 -- Look-ups in names: the first attribute of a type, in the order of the encoding.
 use Rattle.std.specs.Prelude.{◌≡◌, ℕ, List, [], ◌∷◌, Option, Some, None, Result, Ok, Err, bytes_eq, if◌then◌else◌}
-use Rattle.x509_der_element.specs.declared.error.Error.{Error}
+use Rattle.x509_der.specs.declared.error.Error.{Error}
 use Rattle.x509_der.specs.Arcs.{content_of}
-use Rattle.x509_der.specs.any.Any.{Any}
-use Rattle.x509_name_attribute.specs.declared.type_and_value.AttributeTypeAndValue.{AttributeTypeAndValue}
-use Rattle.x509_name_attribute.specs.DirectoryString.{ReadsDirectoryString}
-use Rattle.x509_name_attribute.specs.declared.directory_string.DirectoryString.{DirectoryString}
+use Rattle.x509_der.specs.declared.any.Any.{Any}
+use Rattle.x509_name.specs.declared.attr.type_and_value.AttributeTypeAndValue.{AttributeTypeAndValue}
+use Rattle.x509_name.specs.DirectoryString.{ReadsDirectoryString}
+use Rattle.x509_name.specs.declared.name.directory_string.DirectoryString.{DirectoryString}
 use Rattle.x509_name.specs.Iterators.{members_of}
 
 -- the value of the first attribute whose type has these content octets

@@ -2,16 +2,16 @@
 use Rattle.std.specs.Prelude.{◌≡◌, ◌≢◌, ◌⊎◌, ℕ, List, [], ◌∷◌, map, reverse}
 use Rattle.std.specs.List.{AllByRecursion, AllZip, join_with_byte}
 use Rattle.std.specs.List.Sorted.{IsStrictlySortedBy, IsPermutation}
-use Rattle.x509_der_element.specs.declared.error.ErrorKind.{ErrorKind}
-use Rattle.x509_der_element.specs.declared.error.ErrorKind.TheVariants.{SetDuplicate}
+use Rattle.x509_der.specs.declared.error.ErrorKind.{ErrorKind}
+use Rattle.x509_der.specs.declared.error.ErrorKind.TheVariants.{SetDuplicate}
 use Rattle.x509_der.specs.Set.{AreDistinct}
-use Rattle.x509_name_attribute.specs.Text.{Reads}
-use Rattle.x509_name_attribute.specs.TypeAndValue.{type_and_value_cmp}
-use Rattle.x509_name_attribute.specs.declared.type_and_value.AttributeTypeAndValue.{AttributeTypeAndValue}
-use Rattle.x509_name_attribute.specs.Attributes.{attribute_text, AttributeRefused, ReadsBack}
-use Rattle.x509_name_attribute.specs.Encodings.{SaysEncoding, EncodingRefused}
-use Rattle.x509_name_attribute.specs.Parts.{Joined}
-use Rattle.x509_name_attribute.specs.Refusals.{FirstRefused}
+use Rattle.x509_name.specs.Text.{Reads}
+use Rattle.x509_name.specs.TypeAndValue.{type_and_value_cmp}
+use Rattle.x509_name.specs.declared.attr.type_and_value.AttributeTypeAndValue.{AttributeTypeAndValue}
+use Rattle.x509_name.specs.Attributes.{attribute_text, AttributeRefused, ReadsBack}
+use Rattle.x509_name.specs.Encodings.{SaysEncoding, EncodingRefused}
+use Rattle.x509_name.specs.Parts.{Joined}
+use Rattle.x509_name.specs.Refusals.{FirstRefused}
 use Rattle.x509_name.specs.Names.{rdn_sequence}
 
 -- ---- what is printed

@@ -4,11 +4,11 @@ use Rattle.std.specs.Bool.{Decides}
 use Rattle.std.specs.Cmp.{IsEquivalence, IsTotalOrder}
 use Rattle.std.specs.Cmp.Lexicographic.{pointwise, pointwise_decides, lists_equiv}
 use Rattle.std.specs.Ordering.{eq_by_cmp}
-use Rattle.x509_der_element.specs.declared.error.ErrorKind.{ErrorKind}
-use Rattle.x509_der_element.specs.declared.tag.Tag.TheVariants.{Sequence, Set}
-use Rattle.x509_der_grammar.specs.Form.{Form, Contents, IsForm, IsContents, universal, spelling}
-use Rattle.x509_der_grammar.specs.FormLaws.{universal_lawful}
-use Rattle.x509_der_grammar.specs.Writing.{plain, writes}
+use Rattle.x509_der.specs.declared.error.ErrorKind.{ErrorKind}
+use Rattle.x509_der.specs.declared.tag.Tag.TheVariants.{Sequence, Set}
+use Rattle.x509_der.specs.Form.{Form, Contents, IsForm, IsContents, universal, spelling}
+use Rattle.x509_der.specs.FormLaws.{universal_lawful}
+use Rattle.x509_der.specs.Writing.{plain, writes}
 use Rattle.x509_der.specs.Order.{Order, IsOrder, IsDerOrder, HasEncoding, der_order}
 use Rattle.x509_der.specs.Ordered.{by_members, der_lawful}
 use Rattle.x509_der.specs.List.{list_of}
@@ -17,8 +17,8 @@ use Rattle.x509_der.specs.ListOrder.{list_ordered}
 use Rattle.x509_der.specs.Set.{set_of}
 use Rattle.x509_der.specs.SetLaws.{set_lawful, set_ordered}
 use Rattle.x509_der.specs.OrderEquality.{order_ties}
-use Rattle.x509_name_attribute.specs.TypeAndValue.{attribute_type_and_value, type_and_value_contents_lawful, type_and_value_order, type_and_value_ordered, type_and_value_cmp, type_and_value_eq, type_and_value_equivalence, type_and_value_decides}
-use Rattle.x509_name_attribute.specs.declared.type_and_value.AttributeTypeAndValue.{AttributeTypeAndValue}
+use Rattle.x509_name.specs.TypeAndValue.{attribute_type_and_value, type_and_value_contents_lawful, type_and_value_order, type_and_value_ordered, type_and_value_cmp, type_and_value_eq, type_and_value_equivalence, type_and_value_decides}
+use Rattle.x509_name.specs.declared.attr.type_and_value.AttributeTypeAndValue.{AttributeTypeAndValue}
 
 -- RelativeDistinguishedName: SET OF AttributeTypeAndValue
 abbrev pub attribute_set : Contents (List AttributeTypeAndValue)

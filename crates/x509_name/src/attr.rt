@@ -1,5 +1,7 @@
-//! Attributes.
+//! Attributes: a type with a value, as names have them, and a type with a set of values, as CSRs have them.
 
-pub use x509_name_attribute::{
-    Attribute, AttributeType, AttributeTypeAndValue, AttributeValue, Attributes,
-};
+pub(crate) mod attribute;
+pub(crate) mod type_and_value;
+
+pub use attribute::{Attribute, Attributes};
+pub use type_and_value::{AttributeType, AttributeTypeAndValue, AttributeValue};

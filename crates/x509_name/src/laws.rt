@@ -1,24 +1,102 @@
 //! What holds of all attributes, names and their texts. Each law is a function whose contract is the law.
 
 ghost use Rattle.std.specs.List.Sorted.{IsStrictlySortedBy, IsPermutation};
-ghost use Rattle.std.specs.Prelude.{◌≡◌, ◌↔◌, List, ℕ, true};
+ghost use Rattle.std.specs.Prelude.{◌≡◌, ◌↔◌, List, ℕ, true, ◌≢◌, ◌∷◌};
+ghost use Rattle.x509_der.specs.Form.{Spells};
 ghost use Rattle.x509_der.specs.Order.{bytes_cmp};
-ghost use Rattle.x509_der_element.specs.declared.error.ErrorKind.{ErrorKind};
-ghost use Rattle.x509_der_grammar.specs.Form.{Spells};
+ghost use Rattle.x509_der.specs.declared.any.Any.{Any};
+ghost use Rattle.x509_der.specs.declared.error.ErrorKind.{ErrorKind};
+ghost use Rattle.x509_name.specs.AttributeNames as standard;
+ghost use Rattle.x509_name.specs.Attributes.{AttributeReads, AttributeRefused, ReadsBack, attribute_text};
+ghost use Rattle.x509_name.specs.DirectoryString.{directory_string};
+ghost use Rattle.x509_name.specs.Escapes.{Unescapes, escaped};
+ghost use Rattle.x509_name.specs.Keys.{keys};
 ghost use Rattle.x509_name.specs.NameText as texts;
 ghost use Rattle.x509_name.specs.Names.{name, rdn_sequence, relative_distinguished_name};
-ghost use Rattle.x509_name_attribute.specs.TypeAndValue.{type_and_value_cmp};
-ghost use Rattle.x509_name_attribute.specs.declared.type_and_value.AttributeTypeAndValue.{AttributeTypeAndValue};
+ghost use Rattle.x509_name.specs.Parts.{Joined};
+ghost use Rattle.x509_name.specs.TextRef.{octets_of};
+ghost use Rattle.x509_name.specs.TypeAndValue.{type_and_value_cmp};
+ghost use Rattle.x509_name.specs.declared.attr.type_and_value.AttributeTypeAndValue.{AttributeTypeAndValue};
+ghost use Rattle.x509_name.specs.declared.name.directory_string.DirectoryString.{DirectoryString};
+ghost use Rattle.x509_name.specs.declared.name.text_ref.TextRef.{TextRef};
 
+use crate::attr::AttributeTypeAndValue;
+use crate::attr::attribute::Attribute;
+use crate::name::directory_string::DirectoryString;
+use crate::name::text_ref::TextRef;
 use crate::name::{Name, RdnSequence, RelativeDistinguishedName};
-use x509_der::laws::{encodings_in_order, members_make_the_set};
-use x509_der_grammar::laws::one_value;
-use x509_name_attribute::AttributeTypeAndValue;
-pub use x509_name_attribute::laws::{
-    attribute_again, attribute_names, bytes_determine_the_directory_string,
-    equal_directory_strings_are_one_value, equality_is_exact, one_attribute, one_attribute_refusal,
-    one_attribute_text, one_cut, one_reading, read_again,
-};
+use x509_der::laws::{encodings_in_order, members_make_the_set, one_value};
+
+/// `==` holds exactly of equal values.
+#[tactic(auto, using(crate::specs::TypeAndValue::type_and_value_decides, crate::specs::Attribute::attribute_decides))]
+pub fn equality_is_exact()
+    ensures pairs { (a b : AttributeTypeAndValue) → (⟦<AttributeTypeAndValue as PartialEq>⟧.eq a b ≡ true) ↔ (a ≡ b) }
+    ensures attributes { (a b : Attribute) → (⟦<Attribute as PartialEq>⟧.eq a b ≡ true) ↔ (a ≡ b) }
+{}
+
+/// The table of attribute names is that of the standards: each row's two names, the OID's content octets, and its tag
+/// (RFC 4514 section 3, RFC 4519 section 2, RFC 2985 5.2.1, RFC 5280 4.1.2.4).
+#[tactic(auto, using(crate::proofs::TableFacts::as_the_standards_say))]
+pub fn attribute_names()
+    ensures { keys ≡ standard.attribute_names }
+{}
+
+/// A text stands for at most one list of bytes.
+pub fn one_reading()
+    ensures { (text bytes others : List ℕ) → Unescapes text bytes → Unescapes text others → bytes ≡ others }
+{}
+
+/// What is printed of bytes stands for them, and doesn't begin with a number sign.
+pub fn read_again()
+    ensures unescapes { (bytes : List ℕ) → Unescapes (escaped bytes) bytes }
+    ensures front { (bytes rest : List ℕ) → escaped bytes ≢ 35 ∷ rest }
+{}
+
+/// A text is split in at most one way.
+pub fn one_cut()
+    ensures { (separator : ℕ) (text : List ℕ) (parts others : List (List ℕ))
+        → Joined separator parts text → Joined separator others text → parts ≡ others }
+{}
+
+/// A text reads as at most one attribute.
+pub fn one_attribute()
+    ensures { (text octets others : List ℕ) (value other : Any) → AttributeReads text octets value
+        → AttributeReads text others other → (octets ≡ others) × (value ≡ other) }
+{}
+
+/// What is printed of an attribute that reads back reads as that attribute.
+pub fn attribute_again()
+    ensures { (octets : List ℕ) (value : Any) → ReadsBack octets value
+        → AttributeReads (attribute_text octets value) octets value }
+{}
+
+/// Two attributes that read back never print alike.
+pub fn one_attribute_text()
+    ensures { (octets others : List ℕ) (value other : Any) → ReadsBack octets value → ReadsBack others other
+        → attribute_text octets value ≡ attribute_text others other → (octets ≡ others) × (value ≡ other) }
+{}
+
+/// A text that reads as an attribute has no error, and a text has at most one error.
+pub fn one_attribute_refusal()
+    ensures apart { (text octets : List ℕ) (value : Any) (kind : ErrorKind) → AttributeReads text octets value
+        → AttributeRefused text kind → ⊥ }
+    ensures once { (text : List ℕ) (kind other : ErrorKind) → AttributeRefused text kind
+        → AttributeRefused text other → kind ≡ other }
+{}
+
+/// The encoding of a DirectoryString determines it, with its case of the choice.
+pub fn bytes_determine_the_directory_string()
+    ensures { (v w : DirectoryString) (b : List ℕ) → Spells directory_string v b → Spells directory_string w b → v ≡ w }
+{
+    one_value::<DirectoryString>();
+}
+
+/// `==` holds exactly of equal texts of one case of the choice, and of a borrowed or owned text exactly where the
+/// octets are equal.
+pub fn equal_directory_strings_are_one_value<'a>()
+    ensures strings { (a b : DirectoryString) → (⟦<DirectoryString as PartialEq>⟧.eq a b ≡ true) ↔ (a ≡ b) }
+    ensures texts { (a b : TextRef) → (⟦<TextRef<'a> as PartialEq>⟧.eq a b ≡ true) ↔ (octets_of a ≡ octets_of b) }
+{}
 
 /// The bytes of a name determine it.
 pub fn bytes_determine_the_name()

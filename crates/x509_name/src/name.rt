@@ -1,16 +1,18 @@
-//! Relative distinguished names (RDNs), sequences of them, and names.
+//! Relative distinguished names (RDNs), sequences of them, and names; DirectoryString, a text of a name.
 
 pub mod attribute_types;
+pub(crate) mod directory_string;
 mod iterators;
 mod look_up;
 mod name;
 mod rdn;
 mod rdn_sequence;
 mod text;
+pub(crate) mod text_ref;
 
+pub use directory_string::DirectoryString;
 pub use iterators::{NameIter, RdnIter, RdnSequenceIter};
 pub use name::Name;
 pub use rdn::RelativeDistinguishedName;
 pub use rdn_sequence::{DistinguishedName, RdnSequence};
-pub use x509_der::{AssociatedOid, ObjectIdentifier};
-pub use x509_name_attribute::{DirectoryString, TextRef};
+pub use text_ref::TextRef;

@@ -1,6 +1,14 @@
 //! What the texts of names are made of: the table of attribute names, escapes, and the splitting at separators.
 
-pub use x509_name_attribute::{
-    KEYS, Key, Parts, Row, TextType, count_parts, key_named, key_of, read_attribute, tag_for,
-    unescape, write_attribute, write_escaped,
-};
+pub(crate) mod attributes;
+pub(crate) mod escapes;
+pub(crate) mod hex_text;
+pub(crate) mod keys;
+pub(crate) mod parts;
+pub(crate) mod printing;
+
+pub use attributes::{read_attribute, write_attribute};
+pub use escapes::unescape;
+pub use keys::{KEYS, Key, Row, TextType, key_named, key_of, tag_for};
+pub use parts::{Parts, count_parts};
+pub use printing::write_escaped;

@@ -4,11 +4,11 @@ use Rattle.std.proofs.lemmas.Bool.{true≢false}
 use Rattle.std.specs.List.{All}
 use Rattle.std.specs.Bool.{IsTrue}
 use Rattle.std.specs.Prelude.{◌↔◌}
-use Rattle.x509_cert.specs.base_time.CivilTime.{CivilTime}
-use Rattle.x509_cert.specs.cert_certificate.Certificate.{rfc5280_certificate}
-use Rattle.x509_cert.specs.der_element.declared.error.ErrorKind.{ErrorKind}
-use Rattle.x509_cert.specs.der_element.declared.error.ErrorKind.TheVariants as kinds
-use Rattle.x509_cert.specs.der_grammar.Form.{Spells}
+use Rattle.x509_cert.specs.base.CivilTime.{CivilTime}
+use Rattle.x509_cert.specs.Certificate.{rfc5280_certificate}
+use Rattle.x509_cert.specs.der.declared.error.ErrorKind.{ErrorKind}
+use Rattle.x509_cert.specs.der.declared.error.ErrorKind.TheVariants as kinds
+use Rattle.x509_cert.specs.der.Form.{Spells}
 use Rattle.x509_path.specs.Certificates.{Accepting, Certificate}
 use Rattle.x509_path.specs.Path.{Breaks, IsFault, IsFirst, IsUnreadable, Standing, reasons}
 use Rattle.x509_path.specs.Room.{Judges}

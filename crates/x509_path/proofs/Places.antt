@@ -7,12 +7,12 @@ use Rattle.std.proofs.lemmas.List.{length-map, length-drop}
 use Rattle.std.proofs.lemmas.Option.{slice_get_within, slice_get-get_or, slice_get-map, get_or_from_slice_get}
 use Rattle.std.specs.Option.{option_map}
 use Rattle.x509_cert.specs.base.declared.subject_public_key_info.SubjectPublicKeyInfo.{SubjectPublicKeyInfo}
-use Rattle.x509_cert.specs.base_time.CivilTime.{CivilTime}
-use Rattle.x509_cert.specs.name.type_and_value.AttributeTypeAndValue.{AttributeTypeAndValue}
-use Rattle.x509_cert.specs.base_time.Profiles.{rfc5280_serial_number}
-use Rattle.x509_cert.specs.cert_certificate.Certificate.{certificate_lawful, rfc5280_certificate}
-use Rattle.x509_cert.specs.der_grammar.Form.{Spells}
-use Rattle.x509_cert.specs.der_grammar.SpellingLaws.{values}
+use Rattle.x509_cert.specs.base.CivilTime.{CivilTime}
+use Rattle.x509_cert.specs.name.declared.attr.type_and_value.AttributeTypeAndValue.{AttributeTypeAndValue}
+use Rattle.x509_cert.specs.base.Profiles.{rfc5280_serial_number}
+use Rattle.x509_cert.specs.Certificate.{certificate_lawful, rfc5280_certificate}
+use Rattle.x509_cert.specs.der.Form.{Spells}
+use Rattle.x509_cert.specs.der.SpellingLaws.{values}
 use Rattle.x509_path.specs.Certificates.{Accepting, Certificate}
 use Rattle.x509_path.specs.Path.{Answers, Breaks, HasFault, HasFaultBehind, IsFault, IsFirst, IsFirstFault, PathHolds, Standing, is_empty, subject_of}
 use Rattle.x509_path.specs.Room.{IsOver, Judges, Leaves, anchor_behind, standing}

@@ -1,10 +1,10 @@
 -- Tools of the proofs: how many certificates may still follow, and what is said of one certificate.
 use Rattle.std.specs.Prelude.{◌≡◌, ◌<◌, ◌-◌, ◌⊎◌, ◌↔◌, ℕ, Bool, min, List, ◌++◌, Option, Some, None, Result, Ok, Err, if◌then◌else◌}
-use Rattle.x509_cert.specs.base_time.CivilTime.{CivilTime}
-use Rattle.x509_cert.specs.der_grammar.Form.{Spells}
+use Rattle.x509_cert.specs.base.CivilTime.{CivilTime}
+use Rattle.x509_cert.specs.der.Form.{Spells}
 use Rattle.x509_cert.specs.base.declared.subject_public_key_info.SubjectPublicKeyInfo.{SubjectPublicKeyInfo}
-use Rattle.x509_cert.specs.name.type_and_value.AttributeTypeAndValue.{AttributeTypeAndValue}
-use Rattle.x509_cert.specs.cert_certificate.Certificate.{rfc5280_certificate}
+use Rattle.x509_cert.specs.name.declared.attr.type_and_value.AttributeTypeAndValue.{AttributeTypeAndValue}
+use Rattle.x509_cert.specs.Certificate.{rfc5280_certificate}
 use Rattle.x509_path.specs.Certificates.{Accepting, Certificate, count_not_self_issued, IsTooLong}
 use Rattle.x509_path.specs.Path.{Standing, Breaks, IsFault, IsFirst, subject_of}
 use Rattle.x509_path.specs.declared.anchor.Anchor.{Anchor}

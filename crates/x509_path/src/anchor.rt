@@ -17,7 +17,7 @@ pub struct Anchor {
 
 impl Anchor {
     ghost use Rattle.std.specs.Prelude.{◌≡◌, IfOk, IfErr};
-    ghost use Rattle.x509_cert.specs.der_element.declared.error.ErrorKind.TheVariants.{Memory};
+    ghost use Rattle.x509_cert.specs.der.declared.error.ErrorKind.TheVariants.{Memory};
     ghost use Rattle.x509_path.specs.Path.{subject_of};
 
     /// The subject and the public key of a certificate. The caller trusts it: nothing else of it is checked.

@@ -1,7 +1,7 @@
 //! The extensions of a certificate that say where it may stand in a path.
 
 ghost use Rattle.std.specs.Prelude.{◌≡◌, ◌↔◌, Some, IfOk, IfErr, IsTrue, ℕ};
-ghost use Rattle.x509_cert.specs.extension.LookUp.{IsRepeated, members};
+ghost use Rattle.x509_cert.specs.ext.LookUp.{IsRepeated, members};
 ghost use Rattle.x509_path.specs.Certificates as certificates;
 ghost use Rattle.x509_path.specs.declared.fault.PathFault.TheVariants.{Memory};
 

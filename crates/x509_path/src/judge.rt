@@ -1,7 +1,7 @@
 //! The checks of one certificate of a path.
 
 ghost use Rattle.std.specs.Prelude.{◌≡◌, ◌≢◌, ◌↔◌, ◌∷◌, ◌++◌, [], List, IfOk, IfErr, IsTrue};
-ghost use Rattle.x509_cert.specs.der_element.declared.error.ErrorKind.TheVariants as kinds;
+ghost use Rattle.x509_cert.specs.der.declared.error.ErrorKind.TheVariants as kinds;
 ghost use Rattle.x509_path.specs.Certificates as certificates;
 ghost use Rattle.x509_path.specs.Path.{Breaks};
 ghost use Rattle.x509_path.specs.Room.{IsOver, Judges, Leaves, anchor_behind, narrowed, standing};

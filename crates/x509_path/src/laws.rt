@@ -1,7 +1,7 @@
 //! What holds of all paths. Each law is a function with an empty body, whose contract is the law.
 
 ghost use Rattle.std.specs.Prelude.{◌≡◌, ◌⊎◌, ◌↔◌, List, ℕ, Result, Ok, Err};
-ghost use Rattle.x509_cert.specs.base_time.CivilTime.{CivilTime};
+ghost use Rattle.x509_cert.specs.base.CivilTime.{CivilTime};
 ghost use Rattle.x509_path.specs.Certificates.{Accepting, accept_all};
 ghost use Rattle.x509_path.specs.Path.{Answers, HasFault, IsFirstFault, PathHolds};
 ghost use Rattle.x509_path.specs.declared.anchor.Anchor.{Anchor};

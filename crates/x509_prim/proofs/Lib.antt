@@ -1,3 +1,6 @@
+pub mod Ascii
+pub mod Plane
+pub mod Copies
 pub mod LastOctets
 pub mod Bits
 pub mod Naturals

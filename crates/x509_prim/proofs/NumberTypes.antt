@@ -6,8 +6,8 @@ use Rattle.std.proofs.Math.Nat.{pow-le-pow_right}
 use Rattle.std.proofs.Math.Arith.{mod-mul}
 use Rattle.std.proofs.lemmas.Bool.{cases_Bool, lt-ltb, le-leb}
 use Rattle.std.proofs.lemmas.Bool.Decides.{nat_tests}
-use Rattle.x509_der_grammar.specs.Natural.{natural_octets, natural_reading, number_after, are_octets, is_shortest}
-use Rattle.x509_der_grammar.specs.NaturalLaws.{natural_contents_lawful}
+use Rattle.x509_der.specs.Natural.{natural_octets, natural_reading, number_after, are_octets, is_shortest}
+use Rattle.x509_der.specs.NaturalLaws.{natural_contents_lawful}
 use Rattle.x509_prim.specs.Integer.{is_integer, is_unsigned, number, with_sign, without_zeros}
 use Rattle.x509_prim.proofs.Naturals.{number-content, is_unsigned-content}
 

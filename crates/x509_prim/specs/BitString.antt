@@ -2,10 +2,10 @@
 use Rattle.std.specs.Prelude.{◌≡◌, ℕ, ◌<◌, ◌%◌, ◌^◌, Bool, true, false, ◌&&◌, ◌||◌, nat_eq, nat_lt, List, [], ◌∷◌, ◌++◌, replicate, Result, Ok, Err, if◌then◌else◌}
 use Rattle.std.specs.Int.{bit_at}
 use Rattle.std.specs.List.{flat_map}
-use Rattle.x509_der_element.specs.declared.error.ErrorKind.{ErrorKind}
-use Rattle.x509_der_element.specs.declared.error.ErrorKind.TheVariants.{Malformed}
-use Rattle.x509_der_element.specs.declared.tag.Tag.TheVariants as tags
-use Rattle.x509_der_order.specs.Form.{Form, Contents, universal}
+use Rattle.x509_der.specs.declared.error.ErrorKind.{ErrorKind}
+use Rattle.x509_der.specs.declared.error.ErrorKind.TheVariants.{Malformed}
+use Rattle.x509_der.specs.declared.tag.Tag.TheVariants as tags
+use Rattle.x509_der.specs.Form.{Form, Contents, universal}
 
 -- the octets in which the bits stand, and how many bits of the last octet are unused
 pub record BitParts : Type 0 where

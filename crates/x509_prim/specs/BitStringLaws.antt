@@ -1,11 +1,11 @@
 -- The contents of bit strings are read as they are written.
 use Rattle.std.proofs.Common.{◌≡◌, ℕ, true, List, [], ◌∷◌, Ok, Err, refl, sym, ap, subst, inl, inr}
-use Rattle.x509_der_element.specs.declared.error.ErrorKind.{ErrorKind}
-use Rattle.x509_der_element.specs.declared.error.ErrorKind.TheVariants.{Malformed}
-use Rattle.x509_der_element.specs.declared.tag.Tag.TheVariants as tags
-use Rattle.x509_der_order.specs.Form.{IsForm, IsContents}
-use Rattle.x509_der_order.specs.FormLaws.{universal_lawful}
-use Rattle.x509_der_element.specs.OutcomeLaws.{ok_is, test_ok, test_err}
+use Rattle.x509_der.specs.declared.error.ErrorKind.{ErrorKind}
+use Rattle.x509_der.specs.declared.error.ErrorKind.TheVariants.{Malformed}
+use Rattle.x509_der.specs.declared.tag.Tag.TheVariants as tags
+use Rattle.x509_der.specs.Form.{IsForm, IsContents}
+use Rattle.x509_der.specs.FormLaws.{universal_lawful}
+use Rattle.x509_der.specs.OutcomeLaws.{ok_is, test_ok, test_err}
 use Rattle.x509_prim.specs.BitString.{BitParts, parts_of, is_padded, bit_string_reading, bit_string_contents, bit_string}
 
 bit_string_sound : (bytes : List ℕ) (parts : BitParts) → bit_string_reading bytes ≡ Ok parts → (is_padded parts ≡ true) × (bytes ≡ parts.unused ∷ parts.octets)

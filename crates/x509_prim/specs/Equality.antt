@@ -1,6 +1,6 @@
 -- Equality of bit strings is exact.
 use Rattle.std.specs.Prelude.{refl}
-use Rattle.x509_der_element.specs.Exact.{IsExact, exact_number, exact_octets, exact_both, exact_by}
+use Rattle.x509_der.specs.Exact.{IsExact, exact_number, exact_octets, exact_both, exact_by}
 use Rattle.x509_prim.specs.BitString.{BitParts}
 use Rattle.x509_prim.specs.contracts.bit_string.BitStringPartialEq.TheImpl as bit_string_eq
 

@@ -1,8 +1,8 @@
 -- INTEGER: a whole number as a two's complement number in octets, as few as there can be (X.690 8.3).
 use Rattle.std.specs.Prelude.{ℕ, ◌+◌, ◌-◌, ◌*◌, Bool, true, false, ◌&&◌, not, nat_eq, nat_lt, nat_le, List, [], ◌∷◌, ℤ, pos, negsuc, map, fold, Option, Some, None, if◌then◌else◌}
-use Rattle.x509_der_element.specs.declared.tag.Tag.TheVariants as tags
-use Rattle.x509_der_grammar.specs.Form.{Form, Contents, universal}
-use Rattle.x509_der_grammar.specs.Tested.{tested_contents}
+use Rattle.x509_der.specs.declared.tag.Tag.TheVariants as tags
+use Rattle.x509_der.specs.Form.{Form, Contents, universal}
+use Rattle.x509_der.specs.Tested.{tested_contents}
 
 -- ---- contents
 

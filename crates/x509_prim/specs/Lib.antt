@@ -1,3 +1,8 @@
+pub mod Text
+pub mod Alphabet
+pub mod Bmp
+pub mod Borrowed
+pub mod Texts
 pub mod OctetString
 pub mod BitString
 pub mod BitStringLaws
@@ -12,7 +17,3 @@ pub mod SetBits
 pub mod SetOrder
 pub mod Names
 pub mod NamesLaws
-pub use Rattle.x509_prim_text.specs.Alphabet
-pub use Rattle.x509_prim_text.specs.Bmp
-pub use Rattle.x509_prim_text.specs.Borrowed
-pub use Rattle.x509_prim_text.specs.Text

@@ -4,12 +4,12 @@ use Rattle.std.specs.Prelude.{◌≡◌, ℕ, ◌+◌, ◌*◌, ◌/◌, ◌%◌
 use Rattle.std.specs.Int.{bit_at}
 use Rattle.std.specs.Int.RustNames.{bit_and}
 use Rattle.bitflags.specs.Sets.{known_bits}
-use Rattle.x509_der_element.specs.declared.error.ErrorKind.{ErrorKind}
-use Rattle.x509_der_element.specs.declared.error.ErrorKind.TheVariants.{Malformed, Value}
-use Rattle.x509_der_element.specs.declared.tag.Tag.TheVariants.{BitString}
-use Rattle.x509_der_grammar.specs.Form.{Form, Contents, universal}
-use Rattle.x509_der_grammar.specs.Round.{Round, round_contents, round_writing}
-use Rattle.x509_der_grammar.specs.Writing.{Written, Writing, respelling}
+use Rattle.x509_der.specs.declared.error.ErrorKind.{ErrorKind}
+use Rattle.x509_der.specs.declared.error.ErrorKind.TheVariants.{Malformed, Value}
+use Rattle.x509_der.specs.declared.tag.Tag.TheVariants.{BitString}
+use Rattle.x509_der.specs.Form.{Form, Contents, universal}
+use Rattle.x509_der.specs.Round.{Round, round_contents, round_writing}
+use Rattle.x509_der.specs.Writing.{Written, Writing, respelling}
 
 -- ---- contents
 

@@ -3,16 +3,16 @@ use Rattle.std.proofs.Common.{◌≡◌, ℕ, ◌+◌, ◌*◌, ◌/◌, ◌%◌
 use Rattle.std.proofs.lemmas.Bool.{and_parts, cases_lt, eqb-true, eq-eqb, ne_eqb, ltb-true, lt-ltb, le-ltb}
 use Rattle.std.proofs.lemmas.Bool.Decides.{nat_tests}
 use Rattle.std.specs.Prelude.{Option, Result}
-use Rattle.x509_der_element.specs.declared.error.ErrorKind.{ErrorKind}
-use Rattle.x509_der_element.specs.declared.error.ErrorKind.TheVariants.{Memory, Overlength, Malformed, Failed, SetDuplicate, Value}
-use Rattle.x509_der_element.specs.declared.tag.Tag.TheVariants.{BitString}
-use Rattle.x509_der_grammar.specs.Form.{IsForm, IsContents}
-use Rattle.x509_der_grammar.specs.FormLaws.{universal_lawful}
-use Rattle.x509_der_grammar.specs.Round.{Round, round_lawful, round_stable}
-use Rattle.x509_der_grammar.specs.Writing.{respelling, IsStable}
-use Rattle.x509_der_element.specs.declared.error.Error.{Error}
-use Rattle.x509_der_element.specs.Outcome.{◌>>=◌, IsRefusal, GivesBy, Gives}
-use Rattle.x509_der_element.specs.OutcomeLaws.{ok_is, test_ok, test_err}
+use Rattle.x509_der.specs.declared.error.ErrorKind.{ErrorKind}
+use Rattle.x509_der.specs.declared.error.ErrorKind.TheVariants.{Memory, Overlength, Malformed, Failed, SetDuplicate, Value}
+use Rattle.x509_der.specs.declared.tag.Tag.TheVariants.{BitString}
+use Rattle.x509_der.specs.Form.{IsForm, IsContents}
+use Rattle.x509_der.specs.FormLaws.{universal_lawful}
+use Rattle.x509_der.specs.Round.{Round, round_lawful, round_stable}
+use Rattle.x509_der.specs.Writing.{respelling, IsStable}
+use Rattle.x509_der.specs.declared.error.Error.{Error}
+use Rattle.x509_der.specs.Outcome.{◌>>=◌, IsRefusal, GivesBy, Gives}
+use Rattle.x509_der.specs.OutcomeLaws.{ok_is, test_ok, test_err}
 use Rattle.x509_prim.specs.NamedBits.{turned, unused_after, set_octets, ends, set_at, has_names, named, named_reading, named_contents, named_written, flag_contents, flag_bits, flag_writing}
 use Rattle.x509_prim.specs.Below.{all_below, all_below-at}
 

@@ -2,12 +2,12 @@
 -- 20.5). The content octets are those of the number as an INTEGER (X.690 8.3, 8.4).
 use Rattle.std.specs.Prelude.{◌≡◌, ℕ, ◌^◌, true, nat_eq, nat_lt, List, [], ◌∷◌, Option, Some, None, Result, Ok, Err, if◌then◌else◌}
 use Rattle.std.specs.List.{list_all}
-use Rattle.x509_der_element.specs.declared.error.ErrorKind.{ErrorKind}
-use Rattle.x509_der_element.specs.declared.error.ErrorKind.TheVariants.{Malformed}
-use Rattle.x509_der_element.specs.declared.tag.Tag.{Tag}
-use Rattle.x509_der_element.specs.Outcome.{◌>>=◌}
-use Rattle.x509_der_grammar.specs.Form.{Form, Contents, universal}
-use Rattle.x509_der_grammar.specs.Natural.{natural_octets, natural_reading}
+use Rattle.x509_der.specs.declared.error.ErrorKind.{ErrorKind}
+use Rattle.x509_der.specs.declared.error.ErrorKind.TheVariants.{Malformed}
+use Rattle.x509_der.specs.declared.tag.Tag.{Tag}
+use Rattle.x509_der.specs.Outcome.{◌>>=◌}
+use Rattle.x509_der.specs.Form.{Form, Contents, universal}
+use Rattle.x509_der.specs.Natural.{natural_octets, natural_reading}
 
 -- ---- names
 

@@ -3,17 +3,17 @@ use Rattle.std.specs.Prelude.{◌≡◌, ℕ, ◌^◌, ◌<◌, Bool, true, nat_
 use Rattle.std.specs.List.{list_all}
 use Rattle.std.proofs.Common.{sym, ap, subst, ◌∙◌, inl, inr}
 use Rattle.std.proofs.lemmas.Bool.{cases_Bool, and_parts, eqb-true, ltb-true}
-use Rattle.x509_der_element.specs.declared.error.ErrorKind.{ErrorKind}
-use Rattle.x509_der_element.specs.declared.error.ErrorKind.TheVariants.{Malformed}
-use Rattle.x509_der_element.specs.declared.tag.Tag.{Tag}
-use Rattle.x509_der_element.specs.OutcomeLaws.{ok_is, bind_ok, bind_err}
-use Rattle.x509_der_grammar.specs.Form.{IsForm, IsContents}
-use Rattle.x509_der_grammar.specs.FormLaws.{universal_lawful}
-use Rattle.x509_der_grammar.specs.Natural.{natural_contents, natural_octets, natural_reading}
-use Rattle.x509_der_grammar.specs.NaturalLaws.{u8_contents_lawful}
-use Rattle.x509_der_grammar.specs.Writing.{Written}
-use Rattle.x509_der_order.specs.Order.{Order, IsOrder}
-use Rattle.x509_der_order.specs.Ordered.{by_bytes, by_bytes_lawful}
+use Rattle.x509_der.specs.declared.error.ErrorKind.{ErrorKind}
+use Rattle.x509_der.specs.declared.error.ErrorKind.TheVariants.{Malformed}
+use Rattle.x509_der.specs.declared.tag.Tag.{Tag}
+use Rattle.x509_der.specs.OutcomeLaws.{ok_is, bind_ok, bind_err}
+use Rattle.x509_der.specs.Form.{IsForm, IsContents}
+use Rattle.x509_der.specs.FormLaws.{universal_lawful}
+use Rattle.x509_der.specs.Natural.{natural_contents, natural_octets, natural_reading}
+use Rattle.x509_der.specs.NaturalLaws.{u8_contents_lawful}
+use Rattle.x509_der.specs.Writing.{Written}
+use Rattle.x509_der.specs.Order.{Order, IsOrder}
+use Rattle.x509_der.specs.Ordered.{by_bytes, by_bytes_lawful}
 use Rattle.x509_prim.specs.Names.{with_number, Names, named, value_or_malformed, named_reading, named_contents, named_form}
 
 -- ---- names

@@ -1,10 +1,10 @@
 -- OCTET STRING: any octets, as they are (X.690 8.7).
 use Rattle.std.specs.Prelude.{ℕ, List, Ok, refl}
-use Rattle.x509_der_element.specs.declared.error.ErrorKind.{ErrorKind}
-use Rattle.x509_der_element.specs.declared.tag.Tag.TheVariants as tags
-use Rattle.x509_der_order.specs.Form.{Form, IsForm, Contents, IsContents, universal}
-use Rattle.x509_der_order.specs.FormLaws.{universal_lawful}
-use Rattle.x509_der_element.specs.OutcomeLaws.{ok_is}
+use Rattle.x509_der.specs.declared.error.ErrorKind.{ErrorKind}
+use Rattle.x509_der.specs.declared.tag.Tag.TheVariants as tags
+use Rattle.x509_der.specs.Form.{Form, IsForm, Contents, IsContents, universal}
+use Rattle.x509_der.specs.FormLaws.{universal_lawful}
+use Rattle.x509_der.specs.OutcomeLaws.{ok_is}
 
 -- a value is the list of its octets
 abbrev pub octet_string_contents : Contents (List ℕ)

@@ -5,11 +5,11 @@ use Rattle.std.proofs.Common.{refl, sym, ap, ◌∙◌, arith, inl, inr}
 use Rattle.std.proofs.lemmas.Bool.{cases_lt, ne_eqb, lt-ltb, le-ltb}
 use Rattle.std.proofs.lemmas.Cmp.{nat_cmp_total}
 use Rattle.std.proofs.lemmas.Map.Lookups.{exact_unsigned}
-use Rattle.x509_der_grammar.specs.Round.{Round}
-use Rattle.x509_der_grammar.specs.Writing.{Written}
-use Rattle.x509_der_order.specs.Order.{bytes_cmp, Order, IsOrder}
-use Rattle.x509_der_order.specs.OrderLaws.{then_assoc, then_equal, less_from, greater_from}
-use Rattle.x509_der_order.specs.Ordered.{by_key, by_key_lawful}
+use Rattle.x509_der.specs.Round.{Round}
+use Rattle.x509_der.specs.Writing.{Written}
+use Rattle.x509_der.specs.Order.{bytes_cmp, Order, IsOrder}
+use Rattle.x509_der.specs.OrderLaws.{then_assoc, then_equal, less_from, greater_from}
+use Rattle.x509_der.specs.Ordered.{by_key, by_key_lawful}
 use Rattle.x509_prim.specs.NamedBits.{turned, unused_after, set_octets, set_at, flag_bits}
 use Rattle.x509_prim.specs.NamedBitsLaws.{turned_octet, set_octets-one, set_octets-two, set_at-complete}
 

@@ -1,11 +1,11 @@
 -- Up to 24 octets fit into an OCTET STRING and take no memory, so that it is never refused.
 use Rattle.std.specs.Prelude.{◌≡◌, ℕ, ◌<◌, ◌≤◌, ◌⊎◌, List, length, Result, Ok, Err, IfOk, IfErr, IsOkAnd}
 use Rattle.std.proofs.Common.{arith, inl, inr}
-use Rattle.x509_der_element.specs.declared.error.Error.{Error}
-use Rattle.x509_der_element.specs.declared.error.ErrorKind.TheVariants.{Memory, Overlength}
-use Rattle.x509_der_element.specs.ContentLaws.{content_fits}
-use Rattle.x509_der_element.specs.Element.{limit}
-use Rattle.x509_der_order.specs.Form.{spelling}
+use Rattle.x509_der.specs.declared.error.Error.{Error}
+use Rattle.x509_der.specs.declared.error.ErrorKind.TheVariants.{Memory, Overlength}
+use Rattle.x509_der.specs.ContentLaws.{content_fits}
+use Rattle.x509_der.specs.Element.{limit}
+use Rattle.x509_der.specs.Form.{spelling}
 use Rattle.x509_prim.specs.OctetString.{octet_string}
 
 pub short_octets_are_held : (octets : List ℕ) (result : Result (List ℕ) Error) → length octets ≤ 24

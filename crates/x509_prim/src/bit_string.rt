@@ -1,14 +1,14 @@
 //! BIT STRING.
 
 ghost use Rattle.std.specs.Prelude.{◌≡◌, ◌<◌, ◌⊎◌, length, true, false, IfOk, IfErr, IfSome, IfNone};
-ghost use Rattle.x509_der_element.specs.declared.error.ErrorKind.TheVariants as errors;
+ghost use Rattle.x509_der.specs.declared.error.ErrorKind.TheVariants as errors;
 ghost use Rattle.x509_prim.specs.BitString as grammar;
 
 use std::alloc::Global;
 use std::cmp::Ordering;
 use std::fmt;
 use std::marker::Model;
-use x509_der_order::{
+use x509_der::{
     Bytes, Content, EncodingOrd, Error, ErrorKind, Room, SetMember, SetOrd, Spelled, Tag, TryClone,
     ValueOrd,
 };
@@ -113,7 +113,7 @@ impl BitString {
 
 #[tactic(auto, unfolding(crate::specs::BitString::bit_string_reading))]
 impl Content for BitString {
-    ghost use Rattle.x509_der_element.specs.declared.tag.Tag.TheVariants as tags;
+    ghost use Rattle.x509_der.specs.declared.tag.Tag.TheVariants as tags;
     ghost use Rattle.x509_prim.specs.BitString.{bit_string_contents};
     ghost use Rattle.x509_prim.specs.BitStringLaws.{bit_string_contents_lawful};
 
@@ -151,8 +151,8 @@ impl Spelled for BitString {
 }
 
 impl ValueOrd for BitString {
-    ghost use Rattle.x509_der_order.specs.Writing.{plain, writes};
-    ghost use Rattle.x509_der_order.specs.Ordered.{by_bytes, by_bytes_lawful};
+    ghost use Rattle.x509_der.specs.Writing.{plain, writes};
+    ghost use Rattle.x509_der.specs.Ordered.{by_bytes, by_bytes_lawful};
     ghost use Rattle.x509_prim.specs.BitString.{bit_string};
     ghost use Rattle.x509_prim.specs.BitStringLaws.{one_bit_string};
 

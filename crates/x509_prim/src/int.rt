@@ -6,7 +6,7 @@ ghost use Rattle.std.specs.Hash as fed;
 ghost use Rattle.std.specs.Cmp.{partial_equiv_from_equiv};
 ghost use Rattle.std.specs.Cmp.Lexicographic.{nat_list_eq_equiv};
 ghost use Rattle.std.specs.Cmp.Rules.{hashing};
-ghost use Rattle.x509_der_element.specs.declared.error.ErrorKind.TheVariants as errors;
+ghost use Rattle.x509_der.specs.declared.error.ErrorKind.TheVariants as errors;
 ghost use Rattle.x509_prim.specs.Integer.{integer_value, is_integer, natural_below};
 
 use crate::content::{check_integer, natural_u64, natural_u128};
@@ -16,8 +16,10 @@ use std::cmp::Ordering;
 use std::fmt;
 use std::hash::{Hash, Hasher};
 use std::marker::Model;
-use x509_der_grammar::{Bytes, Content, Error, ErrorKind, Room, Spelled, Tag, TryClone};
-use x509_der_order::{EncodingOrd, SetMember, SetOrd, ValueOrd};
+use x509_der::{
+    Bytes, Content, EncodingOrd, Error, ErrorKind, Room, SetMember, SetOrd, Spelled, Tag, TryClone,
+    ValueOrd,
+};
 
 /// INTEGER: a whole number of any size (X.690 8.3). Contracts see its content octets.
 #[derive(Drop)]
@@ -88,9 +90,9 @@ impl From<Uint> for Int {
     }
 }
 
-#[tactic(auto, unfolding(x509_der_grammar::specs::Tested::tested_reading))]
+#[tactic(auto, unfolding(x509_der::specs::Tested::tested_reading))]
 impl Content for Int {
-    ghost use Rattle.x509_der_element.specs.declared.tag.Tag.TheVariants as tags;
+    ghost use Rattle.x509_der.specs.declared.tag.Tag.TheVariants as tags;
     ghost use Rattle.x509_prim.specs.Integer.{integer_contents};
     ghost use Rattle.x509_prim.specs.IntegerLaws.{integer_contents_lawful};
 
@@ -124,8 +126,8 @@ impl Spelled for Int {
 
 impl ValueOrd for Int {
     ghost use Rattle.x509_prim.specs.Integer.{integer};
-    ghost use Rattle.x509_der_grammar.specs.Writing.{plain, writes};
-    ghost use Rattle.x509_der_order.specs.Ordered.{by_bytes, by_bytes_lawful};
+    ghost use Rattle.x509_der.specs.Writing.{plain, writes};
+    ghost use Rattle.x509_der.specs.Ordered.{by_bytes, by_bytes_lawful};
 
     ghost order = { by_bytes integer };
 

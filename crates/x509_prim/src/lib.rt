@@ -9,24 +9,54 @@
 //! of its names, and calls [`read_named_number`] and [`put_named_number`].
 #![tactic(auto)]
 
+mod alphabet;
 mod bit_string;
+mod bmp;
 mod content;
 mod int;
 pub mod laws;
 mod named_bits;
 mod named_number;
 mod octet_string;
+mod restricted;
+mod restricted_ref;
+mod text;
 mod uint;
+mod utf8;
 
+pub use alphabet::{Alphabet, Ia5, Printable, Teletex, Visible};
 pub use bit_string::BitString;
+pub use bmp::BmpString;
 pub use content::strip_zeros;
 pub use int::Int;
 pub use named_bits::{cmp_named_bits, put_named_bits, read_named_bits};
 pub use named_number::{NamedNumber, cmp_named_numbers, put_named_number, read_named_number};
 pub use octet_string::OctetString;
+pub use restricted::RestrictedString;
+pub use restricted_ref::{RestrictedStringRef, text_of};
 pub use uint::Uint;
-pub use x509_prim_text::{
-    Alphabet, BmpString, Ia5, Ia5String, Ia5StringRef, Printable, PrintableString,
-    PrintableStringRef, RestrictedString, RestrictedStringRef, Teletex, TeletexString,
-    TeletexStringRef, Utf8String, Utf8StringRef, Visible, VisibleString, VisibleStringRef,
-};
+pub use utf8::{Utf8String, Utf8StringRef, utf8_text};
+
+/// PrintableString (X.680 41.4): letters, digits, space and `' ( ) + , - . / : = ?`.
+pub type PrintableString = RestrictedString<Printable>;
+
+/// IA5String (X.680 41.1): the characters up to 7F.
+pub type Ia5String = RestrictedString<Ia5>;
+
+/// TeletexString (X.680 41.1), of which only the characters up to 7F are accepted.
+pub type TeletexString = RestrictedString<Teletex>;
+
+/// VisibleString (X.680 41.1): the graphic characters of ISO 646 and the space, 20 to 7E.
+pub type VisibleString = RestrictedString<Visible>;
+
+/// A borrowed PrintableString.
+pub type PrintableStringRef<'a> = RestrictedStringRef<'a, Printable>;
+
+/// A borrowed IA5String.
+pub type Ia5StringRef<'a> = RestrictedStringRef<'a, Ia5>;
+
+/// A borrowed TeletexString.
+pub type TeletexStringRef<'a> = RestrictedStringRef<'a, Teletex>;
+
+/// A borrowed VisibleString.
+pub type VisibleStringRef<'a> = RestrictedStringRef<'a, Visible>;

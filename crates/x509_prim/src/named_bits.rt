@@ -1,16 +1,16 @@
 //! Sets of named bits (X.680 22.7).
 
 ghost use Rattle.std.specs.Prelude.{◌≡◌, Some, None, IfErr};
-ghost use Rattle.x509_der_element.specs.declared.error.ErrorKind.TheVariants.{Malformed};
-ghost use Rattle.x509_der_element.specs.Outcome.{GivesBy};
-ghost use Rattle.x509_der_grammar.specs.Writing.{Puts};
-ghost use Rattle.x509_der_order.specs.Order.{bytes_cmp};
+ghost use Rattle.x509_der.specs.declared.error.ErrorKind.TheVariants.{Malformed};
+ghost use Rattle.x509_der.specs.Outcome.{GivesBy};
+ghost use Rattle.x509_der.specs.Writing.{Puts};
+ghost use Rattle.x509_der.specs.Order.{bytes_cmp};
 ghost use Rattle.x509_prim.specs.NamedBits as grammar;
 ghost use Rattle.x509_prim.specs.SetOrder.{set_order, unused_of};
 
 use bitflags::Flags;
 use std::cmp::Ordering;
-use x509_der_grammar::{Error, ErrorKind, Room};
+use x509_der::{Error, ErrorKind, Room};
 
 /// The octet of eight named bits, of which the first is the highest bit; or these bits of such an octet.
 #[tactic(auto, unfolding(crate::specs::NamedBits::turned))]

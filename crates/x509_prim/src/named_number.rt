@@ -1,16 +1,15 @@
 //! Numbers with names (X.680 19.5, 20.5).
 
 ghost use Rattle.std.specs.Prelude.{◌≡◌, ◌^◌, None, IfErr};
-ghost use Rattle.x509_der_element.specs.declared.error.ErrorKind.TheVariants.{Malformed};
-ghost use Rattle.x509_der_element.specs.Outcome.{Gives};
-ghost use Rattle.x509_der_grammar.specs.Natural.{natural_octets, natural_reading};
-ghost use Rattle.x509_der_grammar.specs.Writing.{Puts};
-ghost use Rattle.x509_der_order.specs.Order.{bytes_cmp};
+ghost use Rattle.x509_der.specs.declared.error.ErrorKind.TheVariants.{Malformed};
+ghost use Rattle.x509_der.specs.Outcome.{Gives};
+ghost use Rattle.x509_der.specs.Natural.{natural_octets, natural_reading};
+ghost use Rattle.x509_der.specs.Writing.{Puts};
+ghost use Rattle.x509_der.specs.Order.{bytes_cmp};
 ghost use Rattle.x509_prim.specs.Names.{named_reading};
 
 use std::cmp::Ordering;
-use x509_der_grammar::{Error, ErrorKind, Room, put_natural, read_natural};
-use x509_der_order::cmp_naturals;
+use x509_der::{Error, ErrorKind, Room, cmp_naturals, put_natural, read_natural};
 
 /// A type of which each value is a number with a name.
 pub trait NamedNumber: Sized {
@@ -30,7 +29,7 @@ pub trait NamedNumber: Sized {
 }
 
 /// The number of the content octets of an INTEGER; `Malformed` where it isn't from 0 to 255 (X.690 8.3).
-#[tactic(auto, unfolding(x509_der_grammar::specs::Natural::natural_reading))]
+#[tactic(auto, unfolding(x509_der::specs::Natural::natural_reading))]
 fn read_number(octets: &[u8]) -> Result<u8, Error>
     ensures exact { Gives result (natural_reading (2 ^ 8) octets.now) }
     ensures err { IfErr result (λ e. e.kind ≡ Malformed) }

@@ -6,9 +6,9 @@ ghost use Rattle.std.specs.Hash as fed;
 ghost use Rattle.std.specs.Cmp.{partial_equiv_from_equiv};
 ghost use Rattle.std.specs.Cmp.Lexicographic.{nat_list_eq_equiv};
 ghost use Rattle.std.specs.Cmp.Rules.{hashing};
-ghost use Rattle.x509_der_element.specs.declared.error.ErrorKind.TheVariants as errors;
-ghost use Rattle.x509_der_element.specs.Element.{limit};
-ghost use Rattle.x509_der_order.specs.Form.{spelling};
+ghost use Rattle.x509_der.specs.declared.error.ErrorKind.TheVariants as errors;
+ghost use Rattle.x509_der.specs.Element.{limit};
+ghost use Rattle.x509_der.specs.Form.{spelling};
 ghost use Rattle.x509_prim.specs.OctetString.{octet_string};
 
 use std::alloc::Global;
@@ -16,10 +16,9 @@ use std::cmp::Ordering;
 use std::fmt;
 use std::hash::{Hash, Hasher};
 use std::marker::Model;
-use x509_der_frames::{Any, FromAny};
-use x509_der_order::{
-    Bytes, Content, EncodingOrd, Error, Room, SetMember, SetOrd, Spelled, Tag, TryClone, ValueOrd,
-    check_content,
+use x509_der::{
+    Any, Bytes, Content, EncodingOrd, Error, FromAny, Room, SetMember, SetOrd, Spelled, Tag,
+    TryClone, ValueOrd, check_content,
 };
 
 /// OCTET STRING: any octets (X.690 8.7). Contracts see their list.
@@ -41,7 +40,7 @@ impl OctetString {
     ///
     /// # Errors
     ///
-    /// `Overlength` exactly where their element would be longer than [`Length::MAX`](x509_der_order::Length::MAX). Else
+    /// `Overlength` exactly where their element would be longer than [`Length::MAX`](x509_der::Length::MAX). Else
     /// `Memory` when out of memory, only for more than 24 octets.
     pub fn new(alloc: Global, octets: &[u8]) -> Result<OctetString, Error>
         ensures ok { IfOk result (λ string. (string ≡ octets.now) × (length (spelling octet_string octets.now) ≤ limit)) }
@@ -57,7 +56,7 @@ impl OctetString {
     ///
     /// # Errors
     ///
-    /// `Overlength` exactly where their element would be longer than [`Length::MAX`](x509_der_order::Length::MAX).
+    /// `Overlength` exactly where their element would be longer than [`Length::MAX`](x509_der::Length::MAX).
     pub fn from_vec(octets: Vec<u8>) -> Result<OctetString, Error>
         ensures ok { IfOk result (λ string. (string ≡ octets.items) × (length (spelling octet_string octets.items) ≤ limit)) }
         ensures err { IfErr result (λ e. (e.kind ≡ errors.Overlength) × (limit < length (spelling octet_string octets.items))) }
@@ -90,7 +89,7 @@ impl OctetString {
 }
 
 impl Content for OctetString {
-    ghost use Rattle.x509_der_element.specs.declared.tag.Tag.TheVariants as tags;
+    ghost use Rattle.x509_der.specs.declared.tag.Tag.TheVariants as tags;
     ghost use Rattle.x509_prim.specs.OctetString.{octet_string_contents, octet_string_contents_lawful};
 
     ghost contents = { octet_string_contents };
@@ -120,7 +119,7 @@ impl Spelled for OctetString {
 /// The octet string whose element it is; `Malformed` exactly where it is the element of none. `Memory` when out of
 /// memory, only for more than 24 octets.
 impl FromAny<'_> for OctetString {
-    ghost use Rattle.x509_der_frames.specs.ReadsElement.{ReadsElement};
+    ghost use Rattle.x509_der.specs.ReadsElement.{ReadsElement};
     ghost use Rattle.x509_prim.specs.OctetString.{octet_string};
 
     ghost from_any_gives = { ReadsElement octet_string (Unit {0}) };
@@ -132,8 +131,8 @@ impl FromAny<'_> for OctetString {
 
 impl ValueOrd for OctetString {
     ghost use Rattle.x509_prim.specs.OctetString.{octet_string};
-    ghost use Rattle.x509_der_order.specs.Writing.{plain, writes};
-    ghost use Rattle.x509_der_order.specs.Ordered.{by_bytes, by_bytes_lawful};
+    ghost use Rattle.x509_der.specs.Writing.{plain, writes};
+    ghost use Rattle.x509_der.specs.Ordered.{by_bytes, by_bytes_lawful};
 
     ghost order = { by_bytes octet_string };
 

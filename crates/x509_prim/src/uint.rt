@@ -6,8 +6,8 @@ ghost use Rattle.std.specs.Hash as fed;
 ghost use Rattle.std.specs.Cmp.{partial_equiv_from_equiv};
 ghost use Rattle.std.specs.Cmp.Lexicographic.{nat_list_eq_equiv};
 ghost use Rattle.std.specs.Cmp.Rules.{hashing};
-ghost use Rattle.x509_der_element.specs.declared.error.ErrorKind.TheVariants as errors;
-ghost use Rattle.x509_der_grammar.specs.Natural.{natural_octets};
+ghost use Rattle.x509_der.specs.declared.error.ErrorKind.TheVariants as errors;
+ghost use Rattle.x509_der.specs.Natural.{natural_octets};
 ghost use Rattle.x509_prim.specs.Integer.{integer_value, is_unsigned, natural_below, number, with_sign, without_zeros};
 
 use crate::content::{check_unsigned, is_signed, natural_u64, natural_u128, strip_zeros};
@@ -16,8 +16,10 @@ use std::cmp::Ordering;
 use std::fmt;
 use std::hash::{Hash, Hasher};
 use std::marker::Model;
-use x509_der_grammar::{Bytes, Content, Error, ErrorKind, Room, Spelled, Tag, TryClone};
-use x509_der_order::{EncodingOrd, SetMember, SetOrd, ValueOrd};
+use x509_der::{
+    Bytes, Content, EncodingOrd, Error, ErrorKind, Room, SetMember, SetOrd, Spelled, Tag, TryClone,
+    ValueOrd,
+};
 
 /// How many octets [`Bytes`] keep inside the value.
 const SHORT: usize = 24;
@@ -123,9 +125,9 @@ fn signed_content(alloc: Global, octets: &[u8]) -> Result<Bytes, Error>
     Ok(Bytes::from(content))
 }
 
-#[tactic(auto, unfolding(x509_der_grammar::specs::Tested::tested_reading))]
+#[tactic(auto, unfolding(x509_der::specs::Tested::tested_reading))]
 impl Content for Uint {
-    ghost use Rattle.x509_der_element.specs.declared.tag.Tag.TheVariants as tags;
+    ghost use Rattle.x509_der.specs.declared.tag.Tag.TheVariants as tags;
     ghost use Rattle.x509_prim.specs.Integer.{unsigned_integer_contents};
     ghost use Rattle.x509_prim.specs.IntegerLaws.{unsigned_integer_contents_lawful};
 
@@ -159,8 +161,8 @@ impl Spelled for Uint {
 
 impl ValueOrd for Uint {
     ghost use Rattle.x509_prim.specs.Integer.{unsigned_integer};
-    ghost use Rattle.x509_der_grammar.specs.Writing.{plain, writes};
-    ghost use Rattle.x509_der_order.specs.Ordered.{by_bytes, by_bytes_lawful};
+    ghost use Rattle.x509_der.specs.Writing.{plain, writes};
+    ghost use Rattle.x509_der.specs.Ordered.{by_bytes, by_bytes_lawful};
 
     ghost order = { by_bytes unsigned_integer };
 

@@ -1,7 +1,7 @@
 -- Equality of signed certificate timestamps, and of what stands in them, is exact.
 use Rattle.std.specs.Prelude.{refl}
-use Rattle.x509_der_element.specs.Exact.{IsExact, exact_number, exact_octets, exact_unit, exact_both, exact_last, exact_by, exact_cases, exact_bare}
-use Rattle.x509_der_element.specs.TagEquality.{exact_error}
+use Rattle.x509_der.specs.Exact.{IsExact, exact_number, exact_octets, exact_unit, exact_both, exact_last, exact_by, exact_cases, exact_bare}
+use Rattle.x509_der.specs.TagEquality.{exact_error}
 use Rattle.x509_sct_tls.specs.contracts.error.TlsError.{enum as tls_errors}
 use Rattle.x509_sct_tls.specs.contracts.error.TlsErrorPartialEq.TheImpl as tls_error_eq
 use Rattle.x509_sct.specs.contracts.entry.SignatureType.{enum as signature_types}

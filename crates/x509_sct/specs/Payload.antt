@@ -1,8 +1,8 @@
 -- SignedCertificateTimestampList: OCTET STRING (RFC 6962 3.3), whose octets are to be those of `IsTimestampList`
 use Rattle.std.specs.Prelude.{ℕ, List, refl}
-use Rattle.x509_der_element.specs.declared.tag.Tag.TheVariants as tags
-use Rattle.x509_der_grammar.specs.Form.{Form}
-use Rattle.x509_der_grammar.specs.Round.{Round, rounded}
+use Rattle.x509_der.specs.declared.tag.Tag.TheVariants as tags
+use Rattle.x509_der.specs.Form.{Form}
+use Rattle.x509_der.specs.Round.{Round, rounded}
 use Rattle.x509_prim.specs.OctetString.{octet_string}
 use Rattle.x509_sct.specs.declared.list.SignedCertificateTimestampList.{SignedCertificateTimestampList}
 

@@ -1,10 +1,10 @@
 -- CtPrecertificatePoison: NULL (RFC 6962 3.1), whose content is empty (X.690 8.8)
 use Rattle.std.specs.Prelude.{◌≡◌, ℕ, List, [], ◌∷◌, Result, Ok, Err, refl}
 use Rattle.std.proofs.Common.{inl}
-use Rattle.x509_der_element.specs.declared.error.ErrorKind.{ErrorKind}
-use Rattle.x509_der_element.specs.declared.error.ErrorKind.TheVariants.{Malformed}
-use Rattle.x509_der_element.specs.declared.tag.Tag.TheVariants.{Null}
-use Rattle.x509_der_grammar.specs.Form.{Form, Contents, IsContents, universal}
+use Rattle.x509_der.specs.declared.error.ErrorKind.{ErrorKind}
+use Rattle.x509_der.specs.declared.error.ErrorKind.TheVariants.{Malformed}
+use Rattle.x509_der.specs.declared.tag.Tag.TheVariants.{Null}
+use Rattle.x509_der.specs.Form.{Form, Contents, IsContents, universal}
 use Rattle.x509_sct.specs.declared.poison.CtPrecertificatePoison.{CtPrecertificatePoison}
 
 abbrev pub the_poison : CtPrecertificatePoison

@@ -3,7 +3,7 @@
 ghost use Rattle.std.specs.Prelude.{◌≡◌};
 ghost use Rattle.x509_sct.specs.declared.error.Error.TheVariants.{Der, Tls};
 
-use x509_der_grammar::Error as DerError;
+use x509_der::Error as DerError;
 use x509_sct_tls::TlsError;
 
 /// Why a call on timestamps was refused.

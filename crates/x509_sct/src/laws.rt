@@ -2,7 +2,7 @@
 
 ghost use Rattle.std.specs.Prelude.{◌≡◌, ◌↔◌, List, [], ◌∷◌, ℕ, true};
 ghost use Rattle.x509_der.specs.Arcs.{content_of};
-ghost use Rattle.x509_der_grammar.specs.Form.{Spells as IsDer, spelling};
+ghost use Rattle.x509_der.specs.Form.{Spells as IsDer, spelling};
 ghost use Rattle.x509_sct.specs.Identifier.{embedded_timestamps, precertificate_poison};
 ghost use Rattle.x509_sct.specs.SignedInput.{entry_of, signed_input, signed_of};
 ghost use Rattle.x509_sct.specs.Timestamp.{timestamp};
@@ -29,7 +29,7 @@ use crate::signed::{
     DigitallySigned, HashAlgorithm, SignatureAlgorithm, SignatureAndHashAlgorithm,
 };
 use crate::timestamp::{LogId, SignedCertificateTimestamp, Version};
-use x509_der_grammar::Grammar;
+use x509_der::Grammar;
 pub use x509_sct_tls::laws as sct_tls;
 
 /// The OID of the list is 1.3.6.1.4.1.11129.2.4.2 (RFC 6962 section 3.3).

@@ -12,10 +12,10 @@ ghost use Rattle.x509_sct_tls.specs.Numbers.{uint16};
 use crate::error::Error;
 use crate::serialized::SerializedSct;
 use std::alloc::Global;
-use x509_der::{AssociatedOid, ObjectIdentifier, oid};
-use x509_der_grammar::Newtype;
-use x509_der_order::{EncodingOrd, NewtypeOrd, SetMember, SetOrd};
-use x509_extension::{FixedCriticality, Never};
+use x509_der::{
+    AssociatedOid, EncodingOrd, Newtype, NewtypeOrd, ObjectIdentifier, SetMember, SetOrd, oid,
+};
+use x509_ext::{FixedCriticality, Never};
 use x509_prim::OctetString;
 use x509_sct_tls::{read_list, serialize_list};
 

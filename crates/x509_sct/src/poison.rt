@@ -1,9 +1,10 @@
 //! The poison extension of precertificates.
 
 use std::alloc::Global;
-use x509_der::{AssociatedOid, ObjectIdentifier, oid};
-use x509_der_grammar::{Content, Error, ErrorKind, Room, Spelled, Tag, TryClone};
-use x509_extension::{Always, FixedCriticality};
+use x509_der::{
+    AssociatedOid, Content, Error, ErrorKind, ObjectIdentifier, Room, Spelled, Tag, TryClone, oid,
+};
+use x509_ext::{Always, FixedCriticality};
 
 // 1.3.6.1.4.1.11129.2.4.3 (RFC 6962 section 3.1)
 const POISON: ObjectIdentifier = oid!(0x2B, 0x06, 0x01, 0x04, 0x01, 0xD6, 0x79, 0x02, 0x04, 0x03);
@@ -30,7 +31,7 @@ impl FixedCriticality for CtPrecertificatePoison {
 }
 
 impl Content for CtPrecertificatePoison {
-    ghost use Rattle.x509_der_element.specs.declared.tag.Tag.TheVariants.{Null};
+    ghost use Rattle.x509_der.specs.declared.tag.Tag.TheVariants.{Null};
     ghost use Rattle.x509_sct.specs.Poison as grammar;
 
     ghost contents = { grammar.poison_contents };

@@ -1,14 +1,14 @@
 //! Signed certificate timestamps (SCTs).
 
 ghost use Rattle.std.specs.Prelude.{◌≡◌, ◌↔◌, ◌≤◌, ◌/◌, IsOk, Ok, IfOk, IfErr};
-ghost use Rattle.x509_base_time.specs.CivilTime.{CivilTime, last_date_time, IsDateTime, unix_seconds};
-ghost use Rattle.x509_der_element.specs.declared.error.ErrorKind.TheVariants.{Value};
+ghost use Rattle.x509_base.specs.CivilTime.{CivilTime, last_date_time, IsDateTime, unix_seconds};
+ghost use Rattle.x509_der.specs.declared.error.ErrorKind.TheVariants.{Value};
 
 use crate::signed::DigitallySigned;
 use std::alloc::{AllocError, Global};
 use std::time::Duration;
-use x509_base_time::DateTime;
-use x509_der_grammar::Error;
+use x509_base::DateTime;
+use x509_der::Error;
 use x509_sct_tls::{NamedByte, Tls, TlsByteVecU16, TlsError};
 
 /// The version of a timestamp (RFC 6962 section 3.2).

@@ -3,7 +3,7 @@
 
 use std::process::ExitCode;
 use x509_tool_run::{refuse_memory, run, words};
-use x509_tool_types::Types;
+use x509_types::Types;
 
 fn main(rt: HostRuntime) -> ExitCode {
     let alloc = rt.alloc();

@@ -3,7 +3,7 @@ use Rattle.std.proofs.Common.{◌≡◌, ℕ, List, Option, Result, Ok, Err, Mat
 use Rattle.std.specs.Str.{IsUtf8, is_utf8}
 use Rattle.std.proofs.lemmas.Bool.{cases_Bool}
 use Rattle.std.proofs.lemmas.Str.{is_utf8-from_IsUtf8, IsUtf8-from_is_utf8}
-use Rattle.x509_der_element.specs.declared.error.ErrorKind.TheVariants.{Memory, Failed}
+use Rattle.x509_der.specs.declared.error.ErrorKind.TheVariants.{Memory, Failed}
 use Rattle.x509_tool_run.specs.declared.refusal.Refusal.{Refusal}
 use Rattle.x509_tool_run.specs.declared.refusal.Refusal.TheVariants.{Because}
 use Rattle.x509_tool_run.specs.Input.{Whole, IsRead}

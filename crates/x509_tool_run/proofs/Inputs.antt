@@ -1,7 +1,7 @@
 -- How reading ends.
 use Rattle.std.proofs.Common.{◌≡◌, ℕ, List, Option, Result, Ok, Err, sym, subst}
 use Rattle.std.specs.Result.{IsErrAnd}
-use Rattle.x509_der_element.specs.declared.error.ErrorKind.TheVariants.{Memory}
+use Rattle.x509_der.specs.declared.error.ErrorKind.TheVariants.{Memory}
 use Rattle.x509_tool_run.specs.declared.refusal.Refusal.{Refusal}
 use Rattle.x509_tool_run.specs.declared.refusal.Refusal.TheVariants.{Because}
 use Rattle.x509_tool_run.specs.Input.{Unkept, IsRead, EndsReading}

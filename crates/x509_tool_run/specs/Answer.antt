@@ -4,8 +4,8 @@ use Rattle.std.specs.Io.BufRead.{strip_last}
 use Rattle.std.specs.Str.{is_utf8}
 use Rattle.hex.specs.Hex.{decode_of, encode_upper}
 use Rattle.hex.specs.declared.error.FromHexError.{FromHexError}
-use Rattle.x509_der_element.specs.declared.error.ErrorKind.{ErrorKind}
-use Rattle.x509_der_element.specs.declared.error.ErrorKind.TheVariants.{Memory, Overlength, Malformed, Failed, SetDuplicate, Value}
+use Rattle.x509_der.specs.declared.error.ErrorKind.{ErrorKind}
+use Rattle.x509_der.specs.declared.error.ErrorKind.TheVariants.{Memory, Overlength, Malformed, Failed, SetDuplicate, Value}
 use Rattle.x509_tool_run.specs.declared.command.ProfileName.{ProfileName}
 use Rattle.x509_tool_run.specs.declared.command.Command.{Command}
 use Rattle.x509_tool_run.specs.declared.command.Command.TheVariants.{Reencode, Name, EncodeName}

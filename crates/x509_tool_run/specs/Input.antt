@@ -1,6 +1,6 @@
 -- What comes from a reader, and how it ends.
 use Rattle.std.specs.Prelude.{◌<◌, ◌≤◌, ℕ, List, [], length, Option, Some, None, Result, Ok, Err}
-use Rattle.x509_der_element.specs.declared.error.ErrorKind.TheVariants.{Memory, Overlength, Malformed, Failed, SetDuplicate, Value}
+use Rattle.x509_der.specs.declared.error.ErrorKind.TheVariants.{Memory, Overlength, Malformed, Failed, SetDuplicate, Value}
 use Rattle.x509_tool_run.specs.declared.refusal.Refusal.{Refusal}
 use Rattle.x509_tool_run.specs.declared.refusal.Refusal.TheVariants.{Read, Because}
 use Rattle.x509_tool_run.specs.Transfer.{Moves}

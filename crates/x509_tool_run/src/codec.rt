@@ -1,13 +1,13 @@
 //! Decoding bytes and encoding the value again, names as texts, and paths of certificates.
 
 ghost use Rattle.std.specs.Prelude.{◌≡◌, ◌⊎◌, ℕ, List, Result, Ok, Err, MatchResult};
-ghost use Rattle.x509_der_element.specs.declared.error.ErrorKind.{ErrorKind};
-ghost use Rattle.x509_der_element.specs.declared.error.ErrorKind.TheVariants.{Memory};
+ghost use Rattle.x509_der.specs.declared.error.ErrorKind.{ErrorKind};
+ghost use Rattle.x509_der.specs.declared.error.ErrorKind.TheVariants.{Memory};
 ghost use Rattle.x509_tool_run.specs.declared.command.ProfileName.{ProfileName};
 
 use crate::command::ProfileName;
 use std::alloc::Global;
-use x509_der_element::Error;
+use x509_der::Error;
 
 /// The decoders and encoders of the types that have a name.
 pub trait Codec {

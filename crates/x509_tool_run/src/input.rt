@@ -7,7 +7,7 @@ ghost use Rattle.x509_tool_run.specs.Input.{EndsReading};
 use crate::refusal::Refusal;
 use std::alloc::Global;
 use std::io;
-use x509_der_element::ErrorKind;
+use x509_der::ErrorKind;
 
 /// The most bytes that an input has, a final line feed among them.
 pub const INPUT_LIMIT: usize = 16_777_216;

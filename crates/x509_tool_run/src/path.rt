@@ -2,7 +2,7 @@
 
 ghost use Rattle.std.specs.Prelude.{◌≡◌, ◌⊎◌, ℕ, List, map, string_bytes, Option, Some, None, Ok, Err, MatchResult, IfOk, IfErr};
 ghost use Rattle.std.specs.Option.{option_map};
-ghost use Rattle.x509_der_element.specs.declared.error.ErrorKind.TheVariants.{Memory, Failed};
+ghost use Rattle.x509_der.specs.declared.error.ErrorKind.TheVariants.{Memory, Failed};
 ghost use Rattle.x509_tool_run.specs.declared.refusal.Refusal.TheVariants.{Because};
 ghost use Rattle.x509_tool_run.specs.Answer.{as_line};
 ghost use Rattle.x509_tool_run.specs.Path.{IsPathLine, decode_all, fault_line, fault_text, texts_of};
@@ -13,7 +13,7 @@ use crate::input::{Source, read_input};
 use crate::program::{bytes_of, line_of};
 use crate::refusal::Refusal;
 use std::alloc::{AllocError, Global};
-use x509_der_element::ErrorKind;
+use x509_der::ErrorKind;
 
 /// The texts between single spaces.
 fn texts_of(alloc: Global, line: &[u8]) -> Result<Vec<&[u8]>, AllocError>

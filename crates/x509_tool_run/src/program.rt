@@ -3,7 +3,7 @@
 ghost use Rattle.std.specs.Prelude.{◌≡◌, ◌⊎◌, ℕ, List, map, string_bytes, Ok, Err, None, MatchResult, IfSome, IsErr};
 ghost use Rattle.std.specs.Str.{is_utf8};
 ghost use Rattle.hex.specs.Hex.{decode_of, encode_upper};
-ghost use Rattle.x509_der_element.specs.declared.error.ErrorKind.TheVariants.{Memory, Failed};
+ghost use Rattle.x509_der.specs.declared.error.ErrorKind.TheVariants.{Memory, Failed};
 ghost use Rattle.x509_tool_run.specs.declared.refusal.Refusal.TheVariants.{Because};
 ghost use Rattle.x509_tool_run.specs.Command.{command_of, moment_of, type_name};
 ghost use Rattle.x509_tool_run.specs.Answer.{IsFromHex, IsFromText, IsLine, IsLineAnswer, IsReencoded, IsShown, as_line, codecs_of, line_of, text_of, usage};
@@ -17,7 +17,7 @@ use crate::path::read_and_check;
 use crate::refusal::Refusal;
 use hex::FromHexError;
 use std::alloc::Global;
-use x509_der_element::ErrorKind;
+use x509_der::ErrorKind;
 
 const USAGE: &[u8] =
     b"usage: x509_tool reencode TYPE [rfc5280|raw] | name | encode-name | path MOMENT\n";

@@ -2,27 +2,28 @@
 
 ghost use Rattle.std.specs.BTreeSet.{insert_key};
 ghost use Rattle.std.specs.Prelude.{◌≡◌, ◌⊎◌, [], ◌∷◌, ◌++◌, Contains, Ok, Err, IfErr, IfOk, IsOkAnd, OnOk, OnErr};
-ghost use Rattle.x509_build_profile.specs.declared.error.Error.TheVariants.{Asn1};
+ghost use Rattle.x509_build.specs.declared.error.Error.TheVariants.{Asn1};
 ghost use Rattle.x509_build.specs.RequestParts.{first_part, next_part};
-ghost use Rattle.x509_build_profile.specs.Answer.{Gives};
-ghost use Rattle.x509_build_profile.specs.Refusals.{LacksMemory};
+ghost use Rattle.x509_build.specs.Answer.{Gives};
+ghost use Rattle.x509_build.specs.Refusals.{LacksMemory};
 ghost use Rattle.x509_cert.specs.Attributes.{MakesAttribute};
-ghost use Rattle.x509_der_element.specs.declared.error.Error.{Error};
-ghost use Rattle.x509_der_element.specs.declared.error.ErrorKind.TheVariants.{Memory, SetDuplicate};
-ghost use Rattle.x509_der_grammar.specs.Writing.{writes};
-ghost use Rattle.x509_extension.specs.declared.extension.Extension.{Extension};
-ghost use Rattle.x509_name_attribute.specs.Attribute.{attribute_cmp};
-ghost use Rattle.x509_name_attribute.specs.declared.attribute.Attribute.{Attribute};
+ghost use Rattle.x509_der.specs.declared.error.Error.{Error};
+ghost use Rattle.x509_der.specs.declared.error.ErrorKind.TheVariants.{Memory, SetDuplicate};
+ghost use Rattle.x509_der.specs.Writing.{writes};
+ghost use Rattle.x509_ext.specs.declared.extension.Extension.{Extension};
+ghost use Rattle.x509_name.specs.Attribute.{attribute_cmp};
+ghost use Rattle.x509_name.specs.declared.attr.attribute.Attribute.{Attribute};
 
+use crate::profile::null_algorithm::no_algorithm;
+use crate::{Builder, Result, Signer};
 use std::alloc::Global;
 use x509_base::SubjectPublicKeyInfo;
-use x509_build_profile::{Builder, Result, Signer, no_algorithm};
 use x509_cert::request::attributes::AsAttribute;
 use x509_cert::request::{CertReq, CertReqInfo, ExtensionReq, Version, extension_req_attribute};
-use x509_der_grammar::{Encode, Error, TryClone};
-use x509_extension::ToExtension;
+use x509_der::{Encode, Error, TryClone};
+use x509_ext::ToExtension;
+use x509_name::attr::{Attribute, Attributes};
 use x509_name::name::Name;
-use x509_name_attribute::{Attribute, Attributes};
 use x509_prim::BitString;
 
 /// A builder of a PKCS #10 request (CSR, RFC 2986 4).

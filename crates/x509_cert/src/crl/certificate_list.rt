@@ -6,10 +6,8 @@ ghost use Rattle.x509_cert.specs.Revoked.{IsFirstWith, entries, with_serial};
 use crate::crl::revoked_cert::RevokedCert;
 use crate::crl::tbs_cert_list::TbsCertList;
 use std::alloc::Global;
-use x509_base::{AlgorithmIdentifier, SerialNumber};
-use x509_base_time::{Profile, Rfc5280};
-use x509_der_frames::{PutPart, end, read_field};
-use x509_der_grammar::{Content, Error, Room, Spelled, Tag, TryClone};
+use x509_base::{AlgorithmIdentifier, Profile, Rfc5280, SerialNumber};
+use x509_der::{Content, Error, PutPart, Room, Spelled, Tag, TryClone, end, read_field};
 use x509_prim::BitString;
 
 /// A certificate revocation list (CRL) with its signature (RFC 5280 5.1). Neither the signature nor that both algorithm
@@ -98,11 +96,11 @@ impl<P: Profile> TryClone for CertificateList<P> {
     }
 }
 
-#[tactic(auto, unfolding(crate::specs::CertificateList::certificate_list_fields, x509_der_frames::specs::Frames::fields_reading, x509_der_frames::specs::Frames::fields_octets))]
+#[tactic(auto, unfolding(crate::specs::CertificateList::certificate_list_fields, x509_der::specs::Frames::fields_reading, x509_der::specs::Frames::fields_octets))]
 impl<P: Profile> Content for CertificateList<P> {
     ghost use Rattle.x509_base.specs.Checked.{CheckRefuses};
     ghost use Rattle.x509_cert.specs.CertificateList as grammar;
-    ghost use Rattle.x509_der_element.specs.declared.tag.Tag.TheVariants.{Sequence};
+    ghost use Rattle.x509_der.specs.declared.tag.Tag.TheVariants.{Sequence};
 
     ghost contents = { grammar.certificate_list_contents P.serial_check };
 
@@ -136,7 +134,7 @@ impl<P: Profile> Content for CertificateList<P> {
     ghost contents_lawful = { grammar.certificate_list_contents_lawful P.serial_check };
 }
 
-#[tactic(auto, unfolding(crate::specs::CertificateList::certificate_list_fields, x509_der_frames::specs::Frames::fields_good))]
+#[tactic(auto, unfolding(crate::specs::CertificateList::certificate_list_fields, x509_der::specs::Frames::fields_good))]
 impl<P: Profile> Spelled for CertificateList<P> {
     ghost use Rattle.std.specs.Prelude.{Ok};
     ghost use Rattle.x509_cert.specs.Made.{MadeList};

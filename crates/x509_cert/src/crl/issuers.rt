@@ -10,12 +10,11 @@ ghost use Rattle.x509_cert.specs.Revoked.{entries};
 use crate::crl::certificate_list::CertificateList;
 use crate::crl::revoked_cert::RevokedCert;
 use std::alloc::Global;
-use x509_base::SerialNumber;
-use x509_base_time::Profile;
-use x509_cert_certificate::Name;
-use x509_der_grammar::Error;
-use x509_ext_name::{GeneralName, GeneralNames};
-use x509_pkix::CertificateIssuer;
+use x509_base::{Profile, SerialNumber};
+use x509_der::Error;
+use x509_ext::pkix::CertificateIssuer;
+use x509_ext::pkix::name::{GeneralName, GeneralNames};
+use x509_name::name::Name;
 
 impl<P: Profile> CertificateList<P> {
     /// Who issued the certificate of the entry at the index: what the last entry up to there that has the extension
@@ -25,7 +24,7 @@ impl<P: Profile> CertificateList<P> {
     /// # Errors
     ///
     /// As of [`RevokedCert::get_extension`] on that entry: `Failed` where it has the extension twice or more, else as of
-    /// [`from_der`](x509_der_grammar::Decode::from_der) on the octets of the one. The other entries' extensions aren't read.
+    /// [`from_der`](x509_der::Decode::from_der) on the octets of the one. The other entries' extensions aren't read.
     pub fn issuer_of(&self, alloc: Global, index: usize) -> Result<Option<CertificateIssuer>, Error>
         ensures { NamesIssuer (last_issuers (take (index + 1) (entries self.now.tbs_cert_list.revoked_certificates))) result }
     {
@@ -48,7 +47,7 @@ impl<P: Profile> CertificateList<P> {
     /// # Errors
     ///
     /// As of [`RevokedCert::get_extension`] on the first entry, up to the one that is looked for, whose [`CertificateIssuer`] is
-    /// refused: `Failed` where it has the extension twice or more, else as of [`from_der`](x509_der_grammar::Decode::from_der) on the
+    /// refused: `Failed` where it has the extension twice or more, else as of [`from_der`](x509_der::Decode::from_der) on the
     /// octets of the one.
     pub fn find_issued(
         &self,

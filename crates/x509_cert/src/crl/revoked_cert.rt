@@ -1,18 +1,16 @@
 //! An entry of a CRL.
 
 ghost use Rattle.std.specs.Prelude.{◌≡◌};
-ghost use Rattle.x509_cert_certificate.specs.Filter.{extensions_left};
-ghost use Rattle.x509_cert_certificate.specs.LookUp.{Finds, members, with_oid};
+ghost use Rattle.x509_ext.specs.Filter.{extensions_left};
+ghost use Rattle.x509_ext.specs.LookUp.{Finds, members, with_oid};
 
 use std::alloc::Global;
-use x509_base::SerialNumber;
-use x509_base_time::{Profile, Rfc5280, Time};
-use x509_cert_certificate::{
-    Extensions, FilterExtensions, filter_extensions, get_extension, members,
+use x509_base::{Profile, Rfc5280, SerialNumber, Time};
+use x509_der::{
+    AssociatedOid, Content, Decode, Error, PutPart, Room, Spelled, Tag, TryClone, end,
+    option_has_spelling, optional, read_field, read_optional,
 };
-use x509_der::AssociatedOid;
-use x509_der_frames::{PutPart, end, option_has_spelling, optional, read_field, read_optional};
-use x509_der_grammar::{Content, Decode, Error, Room, Spelled, Tag, TryClone};
+use x509_ext::{Extensions, FilterExtensions, filter_extensions, get_extension, members};
 
 /// An entry of a CRL: a certificate that was revoked (RFC 5280 5.1.2.6). Decoding asks the profile whether the serial
 /// number is allowed. The date is encoded as it is.
@@ -83,11 +81,11 @@ impl<P: Profile> TryClone for RevokedCert<P> {
     }
 }
 
-#[tactic(auto, unfolding(crate::specs::RevokedCert::revoked_cert_fields, x509_der_frames::specs::Frames::fields_reading, x509_der_frames::specs::Frames::fields_octets))]
+#[tactic(auto, unfolding(crate::specs::RevokedCert::revoked_cert_fields, x509_der::specs::Frames::fields_reading, x509_der::specs::Frames::fields_octets))]
 impl<P: Profile> Content for RevokedCert<P> {
     ghost use Rattle.x509_base.specs.Checked.{CheckRefuses};
     ghost use Rattle.x509_cert.specs.RevokedCert as grammar;
-    ghost use Rattle.x509_der_element.specs.declared.tag.Tag.TheVariants.{Sequence};
+    ghost use Rattle.x509_der.specs.declared.tag.Tag.TheVariants.{Sequence};
 
     ghost contents = { grammar.revoked_cert_contents P.serial_check };
 
@@ -122,7 +120,7 @@ impl<P: Profile> Content for RevokedCert<P> {
     ghost contents_lawful = { grammar.revoked_cert_contents_lawful P.serial_check };
 }
 
-#[tactic(auto, unfolding(crate::specs::RevokedCert::revoked_cert_fields, x509_der_frames::specs::Frames::fields_good))]
+#[tactic(auto, unfolding(crate::specs::RevokedCert::revoked_cert_fields, x509_der::specs::Frames::fields_good))]
 impl<P: Profile> Spelled for RevokedCert<P> {
     ghost use Rattle.std.specs.Prelude.{Ok};
     ghost use Rattle.x509_cert.specs.Made.{MadeEntry};

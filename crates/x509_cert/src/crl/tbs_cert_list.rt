@@ -2,22 +2,20 @@
 
 ghost use Rattle.std.specs.Prelude.{◌≡◌};
 ghost use Rattle.x509_cert.specs.Revoked.{entries};
-ghost use Rattle.x509_cert_certificate.specs.Filter.{extensions_left};
-ghost use Rattle.x509_cert_certificate.specs.LookUp.{Finds, members, with_oid};
+ghost use Rattle.x509_ext.specs.Filter.{extensions_left};
+ghost use Rattle.x509_ext.specs.LookUp.{Finds, members, with_oid};
 
+use crate::certificate::Version;
 use crate::crl::revoked_cert::RevokedCert;
 use std::alloc::Global;
-use x509_base::AlgorithmIdentifier;
-use x509_base_time::{Profile, Rfc5280, Time};
-use x509_cert_certificate::{
-    Extensions, FilterExtensions, Name, Version, filter_extensions, get_extension, members,
+use x509_base::{AlgorithmIdentifier, Profile, Rfc5280, Time};
+use x509_der::{
+    AssociatedOid, Content, Decode, Error, PutPart, Room, SequenceOf, Spelled, Tag, TryClone, end,
+    option_has_spelling, optional, optional_explicit, read_field, read_optional,
+    read_optional_explicit,
 };
-use x509_der::AssociatedOid;
-use x509_der_frames::{
-    PutPart, SequenceOf, end, option_has_spelling, optional, optional_explicit, read_field,
-    read_optional, read_optional_explicit,
-};
-use x509_der_grammar::{Content, Decode, Error, Room, Spelled, Tag, TryClone};
+use x509_ext::{Extensions, FilterExtensions, filter_extensions, get_extension, members};
+use x509_name::name::Name;
 
 /// The part of a CRL that is signed (RFC 5280 5.1.2). Times are encoded as they are. These rules of RFC
 /// 5280 aren't checked: that a version which is there is v2, that it is there where there are extensions, and that the list of
@@ -123,11 +121,11 @@ impl<P: Profile> TryClone for TbsCertList<P> {
     }
 }
 
-#[tactic(auto, unfolding(crate::specs::CertificateList::tbs_cert_list_fields, x509_der_frames::specs::Frames::fields_reading, x509_der_frames::specs::Frames::fields_octets))]
+#[tactic(auto, unfolding(crate::specs::CertificateList::tbs_cert_list_fields, x509_der::specs::Frames::fields_reading, x509_der::specs::Frames::fields_octets))]
 impl<P: Profile> Content for TbsCertList<P> {
     ghost use Rattle.x509_base.specs.Checked.{CheckRefuses};
     ghost use Rattle.x509_cert.specs.CertificateList as grammar;
-    ghost use Rattle.x509_der_element.specs.declared.tag.Tag.TheVariants.{Sequence};
+    ghost use Rattle.x509_der.specs.declared.tag.Tag.TheVariants.{Sequence};
 
     ghost contents = { grammar.tbs_cert_list_contents P.serial_check };
 
@@ -176,7 +174,7 @@ impl<P: Profile> Content for TbsCertList<P> {
     ghost contents_lawful = { grammar.tbs_cert_list_contents_lawful P.serial_check };
 }
 
-#[tactic(auto, unfolding(crate::specs::CertificateList::tbs_cert_list_fields, x509_der_frames::specs::Frames::fields_good))]
+#[tactic(auto, unfolding(crate::specs::CertificateList::tbs_cert_list_fields, x509_der::specs::Frames::fields_good))]
 impl<P: Profile> Spelled for TbsCertList<P> {
     ghost use Rattle.std.specs.Prelude.{Ok};
     ghost use Rattle.x509_cert.specs.Made.{MadeList};

@@ -1,19 +1,13 @@
 //! The extensions of RFC 5280 and RFC 6962: the types of their values.
 
 pub use x509_ext::pkix::{
-    AccessDescription, AuthorityInfoAccessSyntax, AuthorityKeyIdentifier, BasicConstraints,
-    ExtendedKeyUsage, ID_CE_ISSUER_ALT_NAME, ID_CE_SUBJECT_ALT_NAME,
-    ID_CE_SUBJECT_DIRECTORY_ATTRIBUTES, ID_CE_SUBJECT_KEY_IDENTIFIER, IssuerAltName, KeyUsage,
-    KeyUsages, PrivateKeyUsagePeriod, SubjectAltName, SubjectDirectoryAttributes,
-    SubjectInfoAccessSyntax, SubjectKeyIdentifier,
-};
-pub use x509_pkix::{
-    BaseCrlNumber, CertificateIssuer, CrlDistributionPoints, CrlNumber, CrlReason, FreshestCrl,
-    IssuingDistributionPoint, NameConstraints,
-};
-pub use x509_pkix_policy::{
-    CertificatePolicies, ID_CE_INHIBIT_ANY_POLICY, InhibitAnyPolicy, PolicyConstraints,
-    PolicyMapping, PolicyMappings,
+    AccessDescription, AuthorityInfoAccessSyntax, AuthorityKeyIdentifier, BaseCrlNumber,
+    BasicConstraints, CertificateIssuer, CertificatePolicies, CrlDistributionPoints, CrlNumber,
+    CrlReason, ExtendedKeyUsage, FreshestCrl, ID_CE_INHIBIT_ANY_POLICY, ID_CE_ISSUER_ALT_NAME,
+    ID_CE_SUBJECT_ALT_NAME, ID_CE_SUBJECT_DIRECTORY_ATTRIBUTES, ID_CE_SUBJECT_KEY_IDENTIFIER,
+    InhibitAnyPolicy, IssuerAltName, IssuingDistributionPoint, KeyUsage, KeyUsages,
+    NameConstraints, PolicyConstraints, PolicyMapping, PolicyMappings, PrivateKeyUsagePeriod,
+    SubjectAltName, SubjectDirectoryAttributes, SubjectInfoAccessSyntax, SubjectKeyIdentifier,
 };
 pub use x509_sct::{
     CtPrecertificatePoison, Error, HashAlgorithm, SerializedSct, SignatureAlgorithm,
@@ -23,44 +17,44 @@ pub use x509_sct::{
 
 /// Certificate policies.
 pub mod certpolicy {
-    pub use x509_pkix_policy::{
-        CertificatePolicies, CpsUri, DisplayText, NoticeReference, PolicyInformation,
-        PolicyQualifierInfo, UserNotice,
+    pub use x509_ext::pkix::CertificatePolicies;
+    pub use x509_ext::pkix::certpolicy::{
+        CpsUri, DisplayText, NoticeReference, PolicyInformation, PolicyQualifierInfo, UserNotice,
     };
 }
 
 /// Basic, name and policy constraints: what limits the certificates that may follow in a path.
 pub mod constraints {
-    pub use x509_ext::pkix::BasicConstraints;
-    pub use x509_pkix::NameConstraints;
-    pub use x509_pkix_policy::PolicyConstraints;
+    pub use x509_ext::pkix::{BasicConstraints, NameConstraints, PolicyConstraints};
 
     /// Name constraints.
     pub mod name {
-        pub use x509_pkix::{GeneralSubtree, GeneralSubtrees, NameConstraints};
+        pub use x509_ext::pkix::NameConstraints;
+        pub use x509_ext::pkix::constraints::name::{GeneralSubtree, GeneralSubtrees};
     }
 }
 
 /// Extensions about CRLs.
 pub mod crl {
-    pub use x509_pkix::{
+    pub use x509_ext::pkix::{
         BaseCrlNumber, CertificateIssuer, CrlDistributionPoints, CrlNumber, CrlReason, FreshestCrl,
         IssuingDistributionPoint,
     };
 
     /// CRL distribution points: where CRLs are found.
     pub mod dp {
-        pub use x509_pkix::{DistributionPoint, IssuingDistributionPoint, ReasonFlags, Reasons};
+        pub use x509_ext::pkix::IssuingDistributionPoint;
+        pub use x509_ext::pkix::crl::dp::{DistributionPoint, ReasonFlags, Reasons};
     }
 }
 
 /// General names.
 pub mod name {
-    pub use x509_ext_name::{
+    pub use x509_ext::pkix::name::{
         DistributionPointName, EdiPartyName, GeneralName, GeneralNames, HardwareModuleName,
         ID_ON_HARDWARE_MODULE_NAME, IpAddress, OtherName,
     };
-    pub use x509_name_attribute::{DirectoryString, TextRef};
+    pub use x509_name::name::{DirectoryString, TextRef};
 }
 
 /// Signed certificate timestamps (RFC 6962).

@@ -5,9 +5,9 @@
 ghost use Rattle.x509_cert.specs.CertReq.{cert_req};
 ghost use Rattle.x509_cert.specs.CertificateList.{rfc5280_certificate_list};
 ghost use Rattle.x509_cert.specs.Forms.{AreAlike};
-ghost use Rattle.x509_cert_anchor.specs.TrustAnchorChoice.{rfc5280_trust_anchor_choice};
-ghost use Rattle.x509_cert_certificate.specs.Certificate.{rfc5280_certificate};
-ghost use Rattle.x509_cert_certificate.specs.TbsCertificate.{rfc5280_tbs_certificate};
+ghost use Rattle.x509_cert.specs.TrustAnchorChoice.{rfc5280_trust_anchor_choice};
+ghost use Rattle.x509_cert.specs.Certificate.{rfc5280_certificate};
+ghost use Rattle.x509_cert.specs.TbsCertificate.{rfc5280_tbs_certificate};
 ghost use Rattle.x509_ext.specs.Access.{authority_info_access_syntax, subject_info_access_syntax};
 ghost use Rattle.x509_ext.specs.AlternativeNames.{issuer_alt_name, subject_alt_name};
 ghost use Rattle.x509_ext.specs.AuthorityKeyIdentifier.{authority_key_identifier};
@@ -17,33 +17,30 @@ ghost use Rattle.x509_ext.specs.KeyUsage.{key_usage};
 ghost use Rattle.x509_ext.specs.PrivateKeyUsagePeriod.{private_key_usage_period};
 ghost use Rattle.x509_ext.specs.SubjectDirectoryAttributes.{subject_directory_attributes};
 ghost use Rattle.x509_ext.specs.SubjectKeyIdentifier.{subject_key_identifier};
-ghost use Rattle.x509_pkix.specs.CertificateIssuer.{certificate_issuer};
-ghost use Rattle.x509_pkix.specs.CrlNumber.{base_crl_number, crl_number};
-ghost use Rattle.x509_pkix.specs.CrlReason.{crl_reason};
-ghost use Rattle.x509_pkix.specs.DistributionPoint.{crl_distribution_points, freshest_crl};
-ghost use Rattle.x509_pkix.specs.IssuingDistributionPoint.{issuing_distribution_point};
-ghost use Rattle.x509_pkix.specs.NameConstraints.{name_constraints};
-ghost use Rattle.x509_pkix_policy.specs.CertificatePolicies.{certificate_policies};
-ghost use Rattle.x509_pkix_policy.specs.InhibitAnyPolicy.{inhibit_any_policy};
-ghost use Rattle.x509_pkix_policy.specs.PolicyConstraints.{policy_constraints};
-ghost use Rattle.x509_pkix_policy.specs.PolicyMapping.{policy_mappings};
+ghost use Rattle.x509_ext.specs.CertificateIssuer.{certificate_issuer};
+ghost use Rattle.x509_ext.specs.CrlNumber.{base_crl_number, crl_number};
+ghost use Rattle.x509_ext.specs.CrlReason.{crl_reason};
+ghost use Rattle.x509_ext.specs.DistributionPoint.{crl_distribution_points, freshest_crl};
+ghost use Rattle.x509_ext.specs.IssuingDistributionPoint.{issuing_distribution_point};
+ghost use Rattle.x509_ext.specs.NameConstraints.{name_constraints};
+ghost use Rattle.x509_ext.specs.CertificatePolicies.{certificate_policies};
+ghost use Rattle.x509_ext.specs.InhibitAnyPolicy.{inhibit_any_policy};
+ghost use Rattle.x509_ext.specs.PolicyConstraints.{policy_constraints};
+ghost use Rattle.x509_ext.specs.PolicyMapping.{policy_mappings};
 ghost use Rattle.x509_sct.specs.Payload.{signed_certificate_timestamp_list};
 
 use crate::anchor::TrustAnchorChoice;
+use crate::certificate::{Certificate, TbsCertificate};
 use crate::crl::CertificateList;
 use crate::request::CertReq;
-use x509_cert_certificate::{Certificate, TbsCertificate};
-use x509_der_grammar::Grammar;
+use x509_der::Grammar;
 use x509_ext::pkix::{
-    AuthorityInfoAccessSyntax, AuthorityKeyIdentifier, BasicConstraints, ExtendedKeyUsage,
-    IssuerAltName, KeyUsage, PrivateKeyUsagePeriod, SubjectAltName, SubjectDirectoryAttributes,
-    SubjectInfoAccessSyntax, SubjectKeyIdentifier,
+    AuthorityInfoAccessSyntax, AuthorityKeyIdentifier, BaseCrlNumber, BasicConstraints,
+    CertificateIssuer, CertificatePolicies, CrlDistributionPoints, CrlNumber, CrlReason,
+    ExtendedKeyUsage, FreshestCrl, InhibitAnyPolicy, IssuerAltName, IssuingDistributionPoint,
+    KeyUsage, NameConstraints, PolicyConstraints, PolicyMappings, PrivateKeyUsagePeriod,
+    SubjectAltName, SubjectDirectoryAttributes, SubjectInfoAccessSyntax, SubjectKeyIdentifier,
 };
-use x509_pkix::{
-    BaseCrlNumber, CertificateIssuer, CrlDistributionPoints, CrlNumber, CrlReason, FreshestCrl,
-    IssuingDistributionPoint, NameConstraints,
-};
-use x509_pkix_policy::{CertificatePolicies, InhibitAnyPolicy, PolicyConstraints, PolicyMappings};
 use x509_sct::SignedCertificateTimestampList;
 
 /// Certificates and their signed parts, CRLs, CSRs and trust anchors, under the rules of RFC 5280.

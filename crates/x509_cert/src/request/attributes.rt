@@ -1,18 +1,20 @@
 //! The attributes of CSRs, and how they are made of their values.
 
 ghost use Rattle.x509_cert.specs.Attributes.{MakesAttribute};
-ghost use Rattle.x509_der_grammar.specs.Writing.{writes};
+ghost use Rattle.x509_der.specs.Writing.{writes};
 
 use std::alloc::Global;
-use x509_der::{AssociatedOid, ObjectIdentifier, SetOfVec, oid};
-use x509_der_frames::Any;
-use x509_der_grammar::{Decode, Encode, Error, Grammar, Room, Spelled, Tag, Tagged, TryClone};
-use x509_name_attribute::{Attribute, DirectoryString};
+use x509_der::{
+    Any, AssociatedOid, Decode, Encode, Error, Grammar, ObjectIdentifier, Room, SetOfVec, Spelled,
+    Tag, Tagged, TryClone, oid,
+};
+use x509_name::attr::Attribute;
+use x509_name::name::DirectoryString;
 
 /// A value that an attribute of a CSR may have. The type of the attribute is the OID of the value's type.
 pub trait AsAttribute: AssociatedOid + Tagged + Encode {
     ghost use Rattle.x509_cert.specs.Attributes.{MakesAttribute};
-    ghost use Rattle.x509_der_grammar.specs.Writing.{writes};
+    ghost use Rattle.x509_der.specs.Writing.{writes};
 
     /// The attribute whose one value is the encoding of this value.
     ///

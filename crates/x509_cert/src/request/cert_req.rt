@@ -5,20 +5,21 @@ ghost use Rattle.x509_cert.specs.AttributeLookUp.{FindsValue, with_type};
 ghost use Rattle.x509_cert.specs.CertReq.{cert_req};
 ghost use Rattle.x509_cert.specs.Identifiers.{pkcs_9};
 ghost use Rattle.x509_cert.specs.declared.request.cert_req.CertReq.{CertReq};
-ghost use Rattle.x509_der_element.specs.Element.{limit};
-ghost use Rattle.x509_der_element.specs.declared.error.ErrorKind.TheVariants as errors;
-ghost use Rattle.x509_der_grammar.specs.Form.{Spells};
+ghost use Rattle.x509_der.specs.Element.{limit};
+ghost use Rattle.x509_der.specs.declared.error.ErrorKind.TheVariants as errors;
+ghost use Rattle.x509_der.specs.Form.{Spells};
 
 use crate::request::extension_req::ExtensionReq;
 use crate::request::look_up::get_attribute;
 use crate::request::version::Version;
 use std::alloc::Global;
 use x509_base::{AlgorithmIdentifier, SubjectPublicKeyInfo};
-use x509_der::AssociatedOid;
-use x509_der_frames::{PutPart, end, implicit, read_field, read_implicit};
-use x509_der_grammar::{Content, Decode, Error, Grammar, Room, Spelled, Tag, TryClone};
-use x509_extension::Name;
-use x509_name_attribute::Attributes;
+use x509_der::{
+    AssociatedOid, Content, Decode, Error, Grammar, PutPart, Room, Spelled, Tag, TryClone, end,
+    implicit, read_field, read_implicit,
+};
+use x509_name::attr::Attributes;
+use x509_name::name::Name;
 use x509_prim::BitString;
 
 /// The part of a CSR that is signed: the subject, its public key and attributes (RFC 2986 4.1).
@@ -67,10 +68,10 @@ impl TryClone for CertReqInfo {
     }
 }
 
-#[tactic(auto, unfolding(crate::specs::CertReq::cert_req_info_fields, x509_der_frames::specs::Frames::fields_reading, x509_der_frames::specs::Frames::fields_octets))]
+#[tactic(auto, unfolding(crate::specs::CertReq::cert_req_info_fields, x509_der::specs::Frames::fields_reading, x509_der::specs::Frames::fields_octets))]
 impl Content for CertReqInfo {
     ghost use Rattle.x509_cert.specs.CertReq as grammar;
-    ghost use Rattle.x509_der_element.specs.declared.tag.Tag.TheVariants.{Sequence};
+    ghost use Rattle.x509_der.specs.declared.tag.Tag.TheVariants.{Sequence};
 
     ghost contents = { grammar.cert_req_info_contents };
 
@@ -107,7 +108,7 @@ impl Content for CertReqInfo {
     ghost contents_lawful = { grammar.cert_req_info_contents_lawful };
 }
 
-#[tactic(auto, unfolding(crate::specs::CertReq::cert_req_info_fields, x509_der_frames::specs::Frames::fields_good))]
+#[tactic(auto, unfolding(crate::specs::CertReq::cert_req_info_fields, x509_der::specs::Frames::fields_good))]
 impl Spelled for CertReqInfo {
     fn has_spelling(&self) {
         self.version.has_spelling();
@@ -165,7 +166,7 @@ impl CertReq {
     ///
     /// # Errors
     ///
-    /// `Overlength` exactly where the bytes are more than [`Length::MAX`](x509_der_grammar::Length::MAX). Within that
+    /// `Overlength` exactly where the bytes are more than [`Length::MAX`](x509_der::Length::MAX). Within that
     /// length `Malformed` exactly where they are the encoding of no CSR. `Memory` when out of memory.
     pub fn try_from_bytes(alloc: Global, bytes: &[u8]) -> Result<CertReq, Error>
         ensures found { IfOk result (λ request. Spells cert_req request bytes.now) }
@@ -216,10 +217,10 @@ impl TryClone for CertReq {
     }
 }
 
-#[tactic(auto, unfolding(crate::specs::CertReq::cert_req_fields, x509_der_frames::specs::Frames::fields_reading, x509_der_frames::specs::Frames::fields_octets))]
+#[tactic(auto, unfolding(crate::specs::CertReq::cert_req_fields, x509_der::specs::Frames::fields_reading, x509_der::specs::Frames::fields_octets))]
 impl Content for CertReq {
     ghost use Rattle.x509_cert.specs.CertReq as grammar;
-    ghost use Rattle.x509_der_element.specs.declared.tag.Tag.TheVariants.{Sequence};
+    ghost use Rattle.x509_der.specs.declared.tag.Tag.TheVariants.{Sequence};
 
     ghost contents = { grammar.cert_req_contents };
 
@@ -248,7 +249,7 @@ impl Content for CertReq {
     ghost contents_lawful = { grammar.cert_req_contents_lawful };
 }
 
-#[tactic(auto, unfolding(crate::specs::CertReq::cert_req_fields, x509_der_frames::specs::Frames::fields_good))]
+#[tactic(auto, unfolding(crate::specs::CertReq::cert_req_fields, x509_der::specs::Frames::fields_good))]
 impl Spelled for CertReq {
     fn has_spelling(&self) {
         self.info.has_spelling();

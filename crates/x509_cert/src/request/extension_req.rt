@@ -1,19 +1,18 @@
 //! The extensions that a CSR asks for.
 
 ghost use Rattle.std.specs.Prelude.{◌≡◌, []};
-ghost use Rattle.x509_extension.specs.Filter.{extensions_left};
-ghost use Rattle.x509_extension.specs.LookUp.{Finds, with_oid};
+ghost use Rattle.x509_ext.specs.Filter.{extensions_left};
+ghost use Rattle.x509_ext.specs.LookUp.{Finds, with_oid};
 ghost use Rattle.x509_cert.specs.Attributes.{MakesAttribute};
 ghost use Rattle.x509_cert.specs.Identifiers.{pkcs_9};
-ghost use Rattle.x509_der_grammar.specs.Writing.{plain, writes};
-ghost use Rattle.x509_extension.specs.Extension.{extensions};
+ghost use Rattle.x509_der.specs.Writing.{plain, writes};
+ghost use Rattle.x509_ext.specs.Extension.{extensions};
 
 use crate::request::attributes::attribute_of;
 use std::alloc::Global;
-use x509_der::{AssociatedOid, ObjectIdentifier, oid};
-use x509_der_grammar::{Decode, Error, Newtype};
-use x509_extension::{Extensions, FilterExtensions, filter_extensions, get_extension};
-use x509_name_attribute::Attribute;
+use x509_der::{AssociatedOid, Decode, Error, Newtype, ObjectIdentifier, oid};
+use x509_ext::{Extensions, FilterExtensions, filter_extensions, get_extension};
+use x509_name::attr::Attribute;
 
 /// The extensions that a CSR asks for, as the value of an attribute (RFC 2985 5.4.2, RFC 5272 3.1). Its OID is
 /// 1.2.840.113549.1.9.14. An empty sequence is decoded and encoded too.
@@ -63,7 +62,7 @@ impl ExtensionReq {
 ///
 /// # Errors
 ///
-/// `Overlength` exactly where that encoding is longer than [`Length::MAX`](x509_der_grammar::Length::MAX). `Memory`
+/// `Overlength` exactly where that encoding is longer than [`Length::MAX`](x509_der::Length::MAX). `Memory`
 /// when out of memory.
 pub fn extension_req_attribute(alloc: Global, req: ExtensionReq) -> Result<Attribute, Error>
     ensures { MakesAttribute (pkcs_9 14) extensions (writes plain req.0) result }

@@ -4,9 +4,8 @@ ghost use Rattle.std.specs.Prelude.{◌≡◌, [], ◌∷◌, MatchOption};
 ghost use Rattle.x509_cert.specs.AttributeLookUp.{DecodesAlone, FindsValue, with_type};
 
 use std::alloc::Global;
-use x509_der::{AssociatedOid, ObjectIdentifier};
-use x509_der_grammar::{Decode, Error, ErrorKind};
-use x509_name_attribute::{Attribute, Attributes};
+use x509_der::{AssociatedOid, Decode, Error, ErrorKind, ObjectIdentifier};
+use x509_name::attr::{Attribute, Attributes};
 
 /// The first attribute of the type, and those that follow it.
 fn split_first_with(
@@ -41,7 +40,7 @@ fn only_value<T: Decode>(alloc: Global, attribute: &Attribute) -> Result<T, Erro
 /// # Errors
 ///
 /// `Failed` where two or more attributes have the OID, and where the only one has no value, or two or more, whatever
-/// they are. Where it has one value, the errors of [`Any::decode_as`](x509_der_frames::Any::decode_as) on that.
+/// they are. Where it has one value, the errors of [`Any::decode_as`](x509_der::Any::decode_as) on that.
 pub fn get_attribute<T: AssociatedOid + Decode>(
     alloc: Global,
     attributes: &Attributes,

@@ -1,7 +1,7 @@
 //! The version of a CSR.
 
 use std::alloc::Global;
-use x509_der_grammar::{Content, Error, Room, Spelled, Tag, TryClone};
+use x509_der::{Content, Error, Room, Spelled, Tag, TryClone};
 use x509_prim::{NamedNumber, put_named_number, read_named_number};
 
 /// The version of a CSR, of which there is one (RFC 2986 4.1).
@@ -17,7 +17,7 @@ pub enum Version {
 }
 
 impl NamedNumber for Version {
-    ghost use Rattle.x509_cert.specs.Version.{version_names};
+    ghost use Rattle.x509_cert.specs.RequestVersion.{version_names};
 
     ghost names = { version_names };
 
@@ -34,8 +34,8 @@ impl NamedNumber for Version {
 }
 
 impl Content for Version {
-    ghost use Rattle.x509_cert.specs.Version.{version_names};
-    ghost use Rattle.x509_der_element.specs.declared.tag.Tag.TheVariants.{Integer};
+    ghost use Rattle.x509_cert.specs.RequestVersion.{version_names};
+    ghost use Rattle.x509_der.specs.declared.tag.Tag.TheVariants.{Integer};
     ghost use Rattle.x509_prim.specs.Names.{named_contents};
     ghost use Rattle.x509_prim.specs.NamesLaws.{named_contents_lawful};
 

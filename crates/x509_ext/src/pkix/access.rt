@@ -2,12 +2,13 @@
 
 ghost use Rattle.std.specs.Prelude.{◌≡◌, []};
 
+use crate::pkix::name::GeneralName;
+use crate::{FixedCriticality, Never};
 use std::alloc::Global;
-use x509_der::{AssociatedOid, ObjectIdentifier, oid};
-use x509_der_frames::{PutPart, SequenceOf, end, read_field};
-use x509_der_grammar::{Content, Error, Newtype, Room, Spelled, Tag, TryClone};
-use x509_ext_name::GeneralName;
-use x509_extension::{FixedCriticality, Never};
+use x509_der::{
+    AssociatedOid, Content, Error, Newtype, ObjectIdentifier, PutPart, Room, SequenceOf, Spelled,
+    Tag, TryClone, end, oid, read_field,
+};
 
 /// Information that can be accessed about the issuer or the subject: by which method, and where (RFC 5280 4.2.2.1).
 ///
@@ -34,9 +35,9 @@ impl TryClone for AccessDescription {
     }
 }
 
-#[tactic(auto, unfolding(crate::specs::Access::access_description_fields, x509_der_frames::specs::Frames::fields_reading, x509_der_frames::specs::Frames::fields_octets))]
+#[tactic(auto, unfolding(crate::specs::Access::access_description_fields, x509_der::specs::Frames::fields_reading, x509_der::specs::Frames::fields_octets))]
 impl Content for AccessDescription {
-    ghost use Rattle.x509_der_element.specs.declared.tag.Tag.TheVariants.{Sequence};
+    ghost use Rattle.x509_der.specs.declared.tag.Tag.TheVariants.{Sequence};
     ghost use Rattle.x509_ext.specs.Access as grammar;
 
     ghost contents = { grammar.access_description_contents };
@@ -64,7 +65,7 @@ impl Content for AccessDescription {
     ghost contents_lawful = { grammar.access_description_contents_lawful };
 }
 
-#[tactic(auto, unfolding(crate::specs::Access::access_description_fields, x509_der_frames::specs::Frames::fields_good))]
+#[tactic(auto, unfolding(crate::specs::Access::access_description_fields, x509_der::specs::Frames::fields_good))]
 impl Spelled for AccessDescription {
     fn has_spelling(&self) {
         self.access_method.has_spelling();
@@ -92,7 +93,7 @@ impl AuthorityInfoAccessSyntax {
 }
 
 impl AssociatedOid for AuthorityInfoAccessSyntax {
-    ghost use Rattle.x509_extension.specs.Identifiers.{id_pkix};
+    ghost use Rattle.x509_ext.specs.Identifiers.{id_pkix};
 
     ghost OID = { id_pkix 1 1 };
 
@@ -176,7 +177,7 @@ impl SubjectInfoAccessSyntax {
 }
 
 impl AssociatedOid for SubjectInfoAccessSyntax {
-    ghost use Rattle.x509_extension.specs.Identifiers.{id_pkix};
+    ghost use Rattle.x509_ext.specs.Identifiers.{id_pkix};
 
     ghost OID = { id_pkix 1 11 };
 

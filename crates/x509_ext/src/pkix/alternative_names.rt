@@ -2,12 +2,11 @@
 
 ghost use Rattle.std.specs.Prelude.{◌≡◌, []};
 
+use crate::pkix::name::GeneralNames;
+use crate::{Criticality, Extension, FixedCriticality, Never};
 use std::alloc::Global;
-use x509_der::{AssociatedOid, ObjectIdentifier, oid};
-use x509_der_frames::SequenceOf;
-use x509_der_grammar::Newtype;
-use x509_ext_name::{GeneralNames, Name};
-use x509_extension::{Criticality, Extension, FixedCriticality, Never};
+use x509_der::{AssociatedOid, Newtype, ObjectIdentifier, SequenceOf, oid};
+use x509_name::name::Name;
 
 /// The OID of [`SubjectAltName`], 2.5.29.17.
 pub const ID_CE_SUBJECT_ALT_NAME: ObjectIdentifier = oid!(0x55, 0x1D, 17);
@@ -31,7 +30,7 @@ impl SubjectAltName {
 }
 
 impl AssociatedOid for SubjectAltName {
-    ghost use Rattle.x509_extension.specs.Identifiers.{id_ce};
+    ghost use Rattle.x509_ext.specs.Identifiers.{id_ce};
 
     ghost OID = { id_ce 17 };
 
@@ -124,7 +123,7 @@ impl IssuerAltName {
 }
 
 impl AssociatedOid for IssuerAltName {
-    ghost use Rattle.x509_extension.specs.Identifiers.{id_ce};
+    ghost use Rattle.x509_ext.specs.Identifiers.{id_ce};
 
     ghost OID = { id_ce 18 };
 

@@ -4,15 +4,14 @@ ghost use Rattle.sha1.specs.Sha1.{sha1};
 ghost use Rattle.std.specs.Prelude.{◌≡◌, Some, None, IsOkAnd};
 
 use crate::pkix::key_identifier;
+use crate::pkix::name::GeneralNames;
+use crate::{FixedCriticality, Never};
 use std::alloc::Global;
 use x509_base::{SerialNumber, SubjectPublicKeyInfoRef};
-use x509_der::{AssociatedOid, ObjectIdentifier, oid};
-use x509_der_frames::{
-    PutPart, end, option_has_spelling, optional_implicit, read_optional_implicit,
+use x509_der::{
+    AssociatedOid, Content, Error, ObjectIdentifier, PutPart, Room, Spelled, Tag, TryClone, end,
+    oid, option_has_spelling, optional_implicit, read_optional_implicit,
 };
-use x509_der_grammar::{Content, Error, Room, Spelled, Tag, TryClone};
-use x509_ext_name::GeneralNames;
-use x509_extension::{FixedCriticality, Never};
 use x509_prim::OctetString;
 
 /// The authority key identifier, AKI: it tells which key signed the certificate (RFC 5280 4.2.1.1). Its OID is
@@ -81,7 +80,7 @@ impl Default for AuthorityKeyIdentifier {
 }
 
 impl AssociatedOid for AuthorityKeyIdentifier {
-    ghost use Rattle.x509_extension.specs.Identifiers.{id_ce};
+    ghost use Rattle.x509_ext.specs.Identifiers.{id_ce};
 
     ghost OID = { id_ce 35 };
 
@@ -102,9 +101,9 @@ impl TryClone for AuthorityKeyIdentifier {
     }
 }
 
-#[tactic(auto, unfolding(crate::specs::AuthorityKeyIdentifier::authority_key_identifier_fields, x509_der_frames::specs::Frames::fields_reading, x509_der_frames::specs::Frames::fields_octets))]
+#[tactic(auto, unfolding(crate::specs::AuthorityKeyIdentifier::authority_key_identifier_fields, x509_der::specs::Frames::fields_reading, x509_der::specs::Frames::fields_octets))]
 impl Content for AuthorityKeyIdentifier {
-    ghost use Rattle.x509_der_element.specs.declared.tag.Tag.TheVariants.{Sequence};
+    ghost use Rattle.x509_der.specs.declared.tag.Tag.TheVariants.{Sequence};
     ghost use Rattle.x509_ext.specs.AuthorityKeyIdentifier as grammar;
 
     ghost contents = { grammar.authority_key_identifier_contents };
@@ -142,10 +141,10 @@ impl Content for AuthorityKeyIdentifier {
     ghost contents_lawful = { grammar.authority_key_identifier_contents_lawful };
 }
 
-#[tactic(auto, unfolding(crate::specs::AuthorityKeyIdentifier::authority_key_identifier_fields, x509_der_frames::specs::Frames::fields_good))]
+#[tactic(auto, unfolding(crate::specs::AuthorityKeyIdentifier::authority_key_identifier_fields, x509_der::specs::Frames::fields_good))]
 impl Spelled for AuthorityKeyIdentifier {
     ghost use Rattle.std.specs.Prelude.{◌≡◌, ℕ, List, Some, Ok};
-    ghost use Rattle.x509_base_time.specs.Profiles.{rfc5280_serial_number};
+    ghost use Rattle.x509_base.specs.Profiles.{rfc5280_serial_number};
 
     ghost premise = { λ key. (serial : List ℕ) → key.authority_cert_serial_number ≡ Some serial → rfc5280_serial_number serial ≡ Ok tt };
 

@@ -1,12 +1,11 @@
 //! Basic constraints.
 
+use crate::{Always, FixedCriticality};
 use std::alloc::Global;
-use x509_der::{AssociatedOid, ObjectIdentifier, oid};
-use x509_der_frames::{
-    PutPart, defaulted, end, option_has_spelling, optional, read_defaulted, read_optional,
+use x509_der::{
+    AssociatedOid, Content, Error, ObjectIdentifier, PutPart, Room, Spelled, Tag, TryClone,
+    defaulted, end, oid, option_has_spelling, optional, read_defaulted, read_optional,
 };
-use x509_der_grammar::{Content, Error, Room, Spelled, Tag, TryClone};
-use x509_extension::{Always, FixedCriticality};
 
 /// Basic constraints: whether the subject is a certification authority, and how many more may stand below it (RFC 5280
 /// 4.2.1.9). Its OID is 2.5.29.19, and it is critical.
@@ -26,7 +25,7 @@ pub struct BasicConstraints {
 }
 
 impl AssociatedOid for BasicConstraints {
-    ghost use Rattle.x509_extension.specs.Identifiers.{id_ce};
+    ghost use Rattle.x509_ext.specs.Identifiers.{id_ce};
 
     ghost OID = { id_ce 19 };
 
@@ -50,9 +49,9 @@ impl TryClone for BasicConstraints {
     }
 }
 
-#[tactic(auto, unfolding(crate::specs::BasicConstraints::basic_constraints_fields, x509_der_frames::specs::Frames::fields_reading, x509_der_frames::specs::Frames::fields_octets))]
+#[tactic(auto, unfolding(crate::specs::BasicConstraints::basic_constraints_fields, x509_der::specs::Frames::fields_reading, x509_der::specs::Frames::fields_octets))]
 impl Content for BasicConstraints {
-    ghost use Rattle.x509_der_element.specs.declared.tag.Tag.TheVariants.{Sequence};
+    ghost use Rattle.x509_der.specs.declared.tag.Tag.TheVariants.{Sequence};
     ghost use Rattle.x509_ext.specs.BasicConstraints as grammar;
 
     ghost contents = { grammar.basic_constraints_contents };
@@ -82,7 +81,7 @@ impl Content for BasicConstraints {
     ghost contents_lawful = { grammar.basic_constraints_contents_lawful };
 }
 
-#[tactic(auto, unfolding(crate::specs::BasicConstraints::basic_constraints_fields, x509_der_frames::specs::Frames::fields_good))]
+#[tactic(auto, unfolding(crate::specs::BasicConstraints::basic_constraints_fields, x509_der::specs::Frames::fields_good))]
 impl Spelled for BasicConstraints {
     fn has_spelling(&self) {
         self.ca.has_spelling();

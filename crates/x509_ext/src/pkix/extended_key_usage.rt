@@ -1,10 +1,10 @@
 //! Extended key usage.
 
-use x509_der::{AssociatedOid, ObjectIdentifier, oid};
-use x509_der_frames::SequenceOf;
-use x509_der_grammar::Newtype;
-use x509_der_order::{EncodingOrd, NewtypeOrd, SetMember, SetOrd};
-use x509_extension::{FixedCriticality, Never};
+use crate::{FixedCriticality, Never};
+use x509_der::{
+    AssociatedOid, EncodingOrd, Newtype, NewtypeOrd, ObjectIdentifier, SequenceOf, SetMember,
+    SetOrd, oid,
+};
 
 /// Extended key usage: the purposes for which the key may be used (RFC 5280 4.2.1.12). Its OID is 2.5.29.37, and it
 /// isn't critical unless the caller says so. An empty sequence is decoded and encoded too.
@@ -17,7 +17,7 @@ use x509_extension::{FixedCriticality, Never};
 pub struct ExtendedKeyUsage(pub SequenceOf<ObjectIdentifier>);
 
 impl AssociatedOid for ExtendedKeyUsage {
-    ghost use Rattle.x509_extension.specs.Identifiers.{id_ce};
+    ghost use Rattle.x509_ext.specs.Identifiers.{id_ce};
 
     ghost OID = { id_ce 37 };
 
@@ -90,7 +90,7 @@ impl AsRef<SequenceOf<ObjectIdentifier>> for ExtendedKeyUsage {
 impl AsMut<SequenceOf<ObjectIdentifier>> for ExtendedKeyUsage {
     ghost use Rattle.std.specs.Borrow.{Lends, sem};
     ghost use Rattle.std.specs.Prelude.{◌≡◌};
-    ghost use Rattle.x509_ext.specs.Rows.{identifier_list_row};
+    ghost use Rattle.x509_ext.specs.KeyRows.{identifier_list_row};
     ghost use Rattle.x509_ext.specs.contracts.pkix.extended_key_usage.ExtendedKeyUsage.{the_row};
 
     fn as_mut(&mut self) -> &mut SequenceOf<ObjectIdentifier>

@@ -3,13 +3,14 @@
 ghost use Rattle.std.specs.Prelude.{◌≡◌};
 ghost use Rattle.x509_ext.specs.KeyUsage.{has_bit};
 
+use crate::{Always, FixedCriticality};
 use bitflags::{Flag, Flags, bitflag_items};
 use std::alloc::Global;
 use std::cmp::Ordering;
-use x509_der::{AssociatedOid, ObjectIdentifier, oid};
-use x509_der_grammar::{Content, Error, Newtype, Room, Spelled, Tag, TryClone};
-use x509_der_order::{EncodingOrd, NewtypeOrd, SetMember, SetOrd, ValueOrd};
-use x509_extension::{Always, FixedCriticality};
+use x509_der::{
+    AssociatedOid, Content, EncodingOrd, Error, Newtype, NewtypeOrd, ObjectIdentifier, Room,
+    SetMember, SetOrd, Spelled, Tag, TryClone, ValueOrd, oid,
+};
 use x509_prim::{cmp_named_bits, put_named_bits, read_named_bits};
 
 /// A set of key usages, of which bit n stands for the named bit n (RFC 5280 4.2.1.3). A bit from 9 on has no name:
@@ -76,7 +77,7 @@ impl Flags for KeyUsages {
 
 #[tactic(auto, using(x509_prim::specs::NamedBitsLaws::flag_is_read))]
 impl Content for KeyUsages {
-    ghost use Rattle.x509_der_element.specs.declared.tag.Tag.TheVariants.{BitString};
+    ghost use Rattle.x509_der.specs.declared.tag.Tag.TheVariants.{BitString};
     ghost use Rattle.x509_ext.specs.KeyUsage.{key_usage_names, key_usage_set};
     ghost use Rattle.x509_prim.specs.NamedBits.{flag_contents, flag_writing};
     ghost use Rattle.x509_prim.specs.NamedBitsLaws.{flag_contents_lawful};
@@ -115,7 +116,7 @@ impl Spelled for KeyUsages {
 }
 
 impl ValueOrd for KeyUsages {
-    ghost use Rattle.x509_der_grammar.specs.Writing.{writes};
+    ghost use Rattle.x509_der.specs.Writing.{writes};
     ghost use Rattle.x509_ext.specs.KeyUsage.{key_usage_names, key_usage_set};
     ghost use Rattle.x509_prim.specs.NamedBits.{flag_writing};
     ghost use Rattle.x509_prim.specs.SetOrder.{flag_order, flag_ordered};
@@ -232,7 +233,7 @@ impl KeyUsage {
 }
 
 impl AssociatedOid for KeyUsage {
-    ghost use Rattle.x509_extension.specs.Identifiers.{id_ce};
+    ghost use Rattle.x509_ext.specs.Identifiers.{id_ce};
 
     ghost OID = { id_ce 15 };
 

@@ -1,13 +1,12 @@
 //! The private key usage period.
 
+use crate::{FixedCriticality, Never};
 use std::alloc::Global;
-use x509_base_time::GeneralizedTime;
-use x509_der::{AssociatedOid, ObjectIdentifier, oid};
-use x509_der_frames::{
-    PutPart, end, option_has_spelling, optional_implicit, read_optional_implicit,
+use x509_base::GeneralizedTime;
+use x509_der::{
+    AssociatedOid, Content, Error, ObjectIdentifier, PutPart, Room, Spelled, Tag, TryClone, end,
+    oid, option_has_spelling, optional_implicit, read_optional_implicit,
 };
-use x509_der_grammar::{Content, Error, Room, Spelled, Tag, TryClone};
-use x509_extension::{FixedCriticality, Never};
 
 /// The period in which the private key may sign, where that isn't the validity of its certificate (X.509 9.2.2.5). Its
 /// times are encoded as they are, under any profile. Its OID is 2.5.29.16 (RFC 5280 appendix A.2), and it isn't
@@ -28,7 +27,7 @@ pub struct PrivateKeyUsagePeriod {
 }
 
 impl AssociatedOid for PrivateKeyUsagePeriod {
-    ghost use Rattle.x509_extension.specs.Identifiers.{id_ce};
+    ghost use Rattle.x509_ext.specs.Identifiers.{id_ce};
 
     ghost OID = { id_ce 16 };
 
@@ -52,9 +51,9 @@ impl TryClone for PrivateKeyUsagePeriod {
     }
 }
 
-#[tactic(auto, unfolding(crate::specs::PrivateKeyUsagePeriod::private_key_usage_period_fields, x509_der_frames::specs::Frames::fields_reading, x509_der_frames::specs::Frames::fields_octets))]
+#[tactic(auto, unfolding(crate::specs::PrivateKeyUsagePeriod::private_key_usage_period_fields, x509_der::specs::Frames::fields_reading, x509_der::specs::Frames::fields_octets))]
 impl Content for PrivateKeyUsagePeriod {
-    ghost use Rattle.x509_der_element.specs.declared.tag.Tag.TheVariants.{Sequence};
+    ghost use Rattle.x509_der.specs.declared.tag.Tag.TheVariants.{Sequence};
     ghost use Rattle.x509_ext.specs.PrivateKeyUsagePeriod as grammar;
 
     ghost contents = { grammar.private_key_usage_period_contents };
@@ -87,7 +86,7 @@ impl Content for PrivateKeyUsagePeriod {
     ghost contents_lawful = { grammar.private_key_usage_period_contents_lawful };
 }
 
-#[tactic(auto, unfolding(crate::specs::PrivateKeyUsagePeriod::private_key_usage_period_fields, x509_der_frames::specs::Frames::fields_good))]
+#[tactic(auto, unfolding(crate::specs::PrivateKeyUsagePeriod::private_key_usage_period_fields, x509_der::specs::Frames::fields_good))]
 impl Spelled for PrivateKeyUsagePeriod {
     fn has_spelling(&self) {
         option_has_spelling(&self.not_before);

@@ -2,12 +2,10 @@
 
 ghost use Rattle.std.specs.Prelude.{◌≡◌, []};
 
+use crate::{FixedCriticality, Never};
 use std::alloc::Global;
-use x509_der::{AssociatedOid, ObjectIdentifier, oid};
-use x509_der_frames::SequenceOf;
-use x509_der_grammar::Newtype;
-use x509_extension::{FixedCriticality, Never};
-use x509_name_attribute::Attribute;
+use x509_der::{AssociatedOid, Newtype, ObjectIdentifier, SequenceOf, oid};
+use x509_name::attr::Attribute;
 
 /// The OID of [`SubjectDirectoryAttributes`], 2.5.29.9.
 pub const ID_CE_SUBJECT_DIRECTORY_ATTRIBUTES: ObjectIdentifier = oid!(0x55, 0x1D, 9);
@@ -31,7 +29,7 @@ impl SubjectDirectoryAttributes {
 }
 
 impl AssociatedOid for SubjectDirectoryAttributes {
-    ghost use Rattle.x509_extension.specs.Identifiers.{id_ce};
+    ghost use Rattle.x509_ext.specs.Identifiers.{id_ce};
 
     ghost OID = { id_ce 9 };
 

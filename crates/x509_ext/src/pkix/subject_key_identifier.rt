@@ -3,13 +3,14 @@
 ghost use Rattle.sha1.specs.Sha1.{sha1};
 ghost use Rattle.std.specs.Prelude.{◌≡◌, IsOkAnd};
 
+use crate::{FixedCriticality, Never};
 use sha1::Sha1;
 use std::alloc::Global;
 use x509_base::SubjectPublicKeyInfoRef;
-use x509_der::{AssociatedOid, ObjectIdentifier, oid};
-use x509_der_grammar::{Error, Newtype};
-use x509_der_order::{EncodingOrd, NewtypeOrd, SetMember, SetOrd};
-use x509_extension::{FixedCriticality, Never};
+use x509_der::{
+    AssociatedOid, EncodingOrd, Error, Newtype, NewtypeOrd, ObjectIdentifier, SetMember, SetOrd,
+    oid,
+};
 use x509_prim::OctetString;
 
 /// The OID of [`SubjectKeyIdentifier`], 2.5.29.14.
@@ -54,7 +55,7 @@ impl SubjectKeyIdentifier {
 }
 
 impl AssociatedOid for SubjectKeyIdentifier {
-    ghost use Rattle.x509_extension.specs.Identifiers.{id_ce};
+    ghost use Rattle.x509_ext.specs.Identifiers.{id_ce};
 
     ghost OID = { id_ce 14 };
 

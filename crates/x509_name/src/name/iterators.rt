@@ -4,8 +4,8 @@ ghost use Rattle.std.specs.Prelude.{◌≡◌};
 ghost use Rattle.std.specs.Iterator.{YieldsFirstRef, YieldsLastRef, item_count};
 ghost use Rattle.x509_name.specs.Iterators.{attributes_left, members_of, rdn_left, rdns_left};
 
+use crate::attr::AttributeTypeAndValue;
 use crate::name::rdn::RelativeDistinguishedName;
-use x509_name_attribute::AttributeTypeAndValue;
 
 /// An iterator over the attributes of a name, RDN after RDN.
 #[derive(Clone, Copy, Debug)]

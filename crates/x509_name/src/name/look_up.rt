@@ -3,22 +3,22 @@
 ghost use Rattle.std.specs.Prelude.{◌≡◌};
 ghost use Rattle.std.specs.List.{list_all};
 ghost use Rattle.std.specs.Option.{option_copied};
-ghost use Rattle.x509_der_element.specs.declared.tag.Tag.TheVariants as tags;
+ghost use Rattle.x509_der.specs.declared.tag.Tag.TheVariants as tags;
 ghost use Rattle.x509_name.specs.Iterators.{members_of};
 ghost use Rattle.x509_name.specs.LookUp as types;
 ghost use Rattle.x509_name.specs.LookUp.{LooksUp, LooksUpString, first_of_type};
-ghost use Rattle.x509_name_attribute.specs.Alphabet.{is_ia5, is_printable};
-ghost use Rattle.x509_name_attribute.specs.Borrowed.{BorrowsTextFrom};
+ghost use Rattle.x509_prim.specs.Alphabet.{is_ia5, is_printable};
+ghost use Rattle.x509_prim.specs.Borrowed.{BorrowsTextFrom};
 
+use crate::name::DirectoryString;
 use crate::name::attribute_types::{
     COMMON_NAME, COUNTRY_NAME, EMAIL_ADDRESS, LOCALITY_NAME, ORGANIZATION_NAME,
     ORGANIZATIONAL_UNIT_NAME, STATE_OR_PROVINCE_NAME,
 };
 use crate::name::name::Name;
 use std::alloc::Global;
-use x509_der::{Any, FromAny, ObjectIdentifier};
-use x509_der_grammar::Error;
-use x509_name_attribute::{DirectoryString, Ia5StringRef, PrintableStringRef};
+use x509_der::{Any, Error, FromAny, ObjectIdentifier};
+use x509_prim::{Ia5StringRef, PrintableStringRef};
 
 impl Name {
     /// The value of the first attribute of the type, in the order of the encoding.

@@ -10,9 +10,10 @@ use std::alloc::Global;
 use std::cmp::Ordering;
 use std::hash::{Hash, Hasher};
 use std::marker::Model;
-use x509_der::{DerOrd, EncodingOrd, SetMember, SetOrd, ValueOrd};
-use x509_der_frames::members_have_spellings;
-use x509_der_grammar::{Content, Error, Room, Spelled, Tag, TryClone};
+use x509_der::{
+    Content, DerOrd, EncodingOrd, Error, Room, SetMember, SetOrd, Spelled, Tag, TryClone, ValueOrd,
+    members_have_spellings,
+};
 
 /// The name of an issuer or a subject: a sequence of relative distinguished names, RDNs (RFC 5280 4.1.2.4). Contracts
 /// see the list of its RDNs.
@@ -32,7 +33,7 @@ pub struct Name(RdnSequence);
 
 impl Model for Name {
     ghost use Rattle.std.specs.Prelude.{List};
-    ghost use Rattle.x509_name_attribute.specs.declared.type_and_value.AttributeTypeAndValue.{AttributeTypeAndValue};
+    ghost use Rattle.x509_name.specs.declared.attr.type_and_value.AttributeTypeAndValue.{AttributeTypeAndValue};
 
     ghost Value = { List (List AttributeTypeAndValue) };
 
@@ -121,7 +122,7 @@ impl TryClone for Name {
 }
 
 impl Content for Name {
-    ghost use Rattle.x509_der_element.specs.declared.tag.Tag.TheVariants.{Sequence};
+    ghost use Rattle.x509_der.specs.declared.tag.Tag.TheVariants.{Sequence};
     ghost use Rattle.x509_name.specs.Names as grammar;
 
     ghost contents = { grammar.rdn_list };

@@ -3,19 +3,21 @@
 ghost use Rattle.std.specs.Prelude.{◌≡◌, ◌↔◌, ◌⊎◌, [], ◌∷◌, length, IsTrue, Contains, IfOk, IfErr, OnOk, OnErr, IsErrAnd, slice_get};
 ghost use Rattle.std.specs.Option.{option_copied};
 ghost use Rattle.std.specs.List.Sorted.{IsStrictlySortedBy, IsPermutation};
-ghost use Rattle.x509_der_element.specs.declared.error.ErrorKind.TheVariants as errors;
+ghost use Rattle.x509_der.specs.declared.error.ErrorKind.TheVariants as errors;
 ghost use Rattle.x509_der.specs.Set.{AreDistinct};
-ghost use Rattle.x509_name_attribute.specs.TypeAndValue.{type_and_value_cmp};
+ghost use Rattle.x509_name.specs.TypeAndValue.{type_and_value_cmp};
 ghost use Rattle.x509_name.specs.Iterators.{rdn_left};
 
+use crate::attr::AttributeTypeAndValue;
 use crate::name::iterators::RdnIter;
 use std::alloc::Global;
 use std::cmp::Ordering;
 use std::hash::{Hash, Hasher};
 use std::marker::Model;
-use x509_der::{DerOrd, EncodingOrd, SetMember, SetOfVec, SetOrd, ValueOrd};
-use x509_der_grammar::{Content, Error, Room, Spelled, Tag, TryClone};
-use x509_name_attribute::AttributeTypeAndValue;
+use x509_der::{
+    Content, DerOrd, EncodingOrd, Error, Room, SetMember, SetOfVec, SetOrd, Spelled, Tag, TryClone,
+    ValueOrd,
+};
 
 /// A relative distinguished name (RDN): a set of attributes (RFC 5280 4.1.2.4). Contracts see their list, in the byte
 /// order of their encodings. An empty set is decoded and encoded too.
@@ -28,7 +30,7 @@ pub struct RelativeDistinguishedName(SetOfVec<AttributeTypeAndValue>);
 
 impl Model for RelativeDistinguishedName {
     ghost use Rattle.std.specs.Prelude.{List};
-    ghost use Rattle.x509_name_attribute.specs.declared.type_and_value.AttributeTypeAndValue.{AttributeTypeAndValue};
+    ghost use Rattle.x509_name.specs.declared.attr.type_and_value.AttributeTypeAndValue.{AttributeTypeAndValue};
 
     ghost Value = { List AttributeTypeAndValue };
 
@@ -157,7 +159,7 @@ impl TryClone for RelativeDistinguishedName {
 }
 
 impl Content for RelativeDistinguishedName {
-    ghost use Rattle.x509_der_element.specs.declared.tag.Tag.TheVariants.{Set};
+    ghost use Rattle.x509_der.specs.declared.tag.Tag.TheVariants.{Set};
     ghost use Rattle.x509_name.specs.Names as grammar;
 
     ghost contents = { grammar.attribute_set };

@@ -1,7 +1,7 @@
 //! Sequences of RDNs.
 
 ghost use Rattle.std.specs.Prelude.{◌≡◌, ◌↔◌, ◌++◌, [], ◌∷◌, length, IsTrue, IfErr, OnOk, OnErr};
-ghost use Rattle.x509_der_element.specs.declared.error.ErrorKind.TheVariants.{Memory};
+ghost use Rattle.x509_der.specs.declared.error.ErrorKind.TheVariants.{Memory};
 ghost use Rattle.x509_name.specs.Iterators.{rdns_left};
 
 use crate::name::iterators::RdnSequenceIter;
@@ -10,9 +10,10 @@ use std::alloc::Global;
 use std::cmp::Ordering;
 use std::hash::{Hash, Hasher};
 use std::marker::Model;
-use x509_der::{DerOrd, EncodingOrd, SequenceOf, SetMember, SetOrd, ValueOrd};
-use x509_der_frames::members_have_spellings;
-use x509_der_grammar::{Content, Error, Room, Spelled, Tag, TryClone};
+use x509_der::{
+    Content, DerOrd, EncodingOrd, Error, Room, SequenceOf, SetMember, SetOrd, Spelled, Tag,
+    TryClone, ValueOrd, members_have_spellings,
+};
 
 /// A sequence of relative distinguished names (RDNs), the most general first (RFC 5280 4.1.2.4). Contracts see their
 /// list. An empty sequence is decoded and encoded too.
@@ -28,7 +29,7 @@ pub type DistinguishedName = RdnSequence;
 
 impl Model for RdnSequence {
     ghost use Rattle.std.specs.Prelude.{List};
-    ghost use Rattle.x509_name_attribute.specs.declared.type_and_value.AttributeTypeAndValue.{AttributeTypeAndValue};
+    ghost use Rattle.x509_name.specs.declared.attr.type_and_value.AttributeTypeAndValue.{AttributeTypeAndValue};
 
     ghost Value = { List (List AttributeTypeAndValue) };
 
@@ -154,7 +155,7 @@ impl TryClone for RdnSequence {
 }
 
 impl Content for RdnSequence {
-    ghost use Rattle.x509_der_element.specs.declared.tag.Tag.TheVariants.{Sequence};
+    ghost use Rattle.x509_der.specs.declared.tag.Tag.TheVariants.{Sequence};
     ghost use Rattle.x509_name.specs.Names as grammar;
 
     ghost contents = { grammar.rdn_list };

@@ -2,20 +2,19 @@
 
 ghost use Rattle.std.specs.Prelude.{◌≡◌, ◌⊎◌, IfOk, IfErr};
 ghost use Rattle.std.specs.Fmt.{WritesOnOk};
-ghost use Rattle.x509_der_element.specs.declared.error.ErrorKind.TheVariants as errors;
-ghost use Rattle.x509_name_attribute.specs.Text.{Reads};
+ghost use Rattle.x509_der.specs.declared.error.ErrorKind.TheVariants as errors;
+ghost use Rattle.x509_name.specs.Text.{Reads};
 ghost use Rattle.x509_name.specs.NameText as texts;
-ghost use Rattle.x509_name_attribute.specs.Attributes.{AttributeRefused};
+ghost use Rattle.x509_name.specs.Attributes.{AttributeRefused};
 
+use crate::attr::AttributeTypeAndValue;
 use crate::name::name::Name;
 use crate::name::rdn::RelativeDistinguishedName;
 use crate::name::rdn_sequence::RdnSequence;
+use crate::text::{Parts, count_parts, read_attribute, write_attribute};
 use std::alloc::Global;
 use std::fmt;
-use x509_der_grammar::{Encode, Error};
-use x509_name_attribute::{
-    AttributeTypeAndValue, Parts, count_parts, read_attribute, write_attribute,
-};
+use x509_der::{Encode, Error};
 
 // The attribute that a part says.
 fn read_one(alloc: Global, part: &[u8]) -> Result<AttributeTypeAndValue, Error>
@@ -135,7 +134,7 @@ impl RdnSequence {
     /// # Errors
     ///
     /// Those of `from_str`; where the text is read, `Overlength` exactly where the encoding is longer than
-    /// [`Length::MAX`](x509_der_grammar::Length::MAX). `Memory` when out of memory.
+    /// [`Length::MAX`](x509_der::Length::MAX). `Memory` when out of memory.
     pub fn encode_from_string(alloc: Global, text: &str) -> Result<Vec<u8>, Error>
         ensures ok { IfOk result (λ bytes. texts.NameEncodes text.now bytes.items) }
         ensures err { IfErr result (λ e. (e.kind ≡ errors.Memory) ⊎ texts.NameNotEncoded text.now e.kind) }

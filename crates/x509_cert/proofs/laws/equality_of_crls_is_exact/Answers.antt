@@ -1,5 +1,5 @@
 use Rattle.x509_cert.proofs.laws.equality_of_crls_is_exact.Goals as goal
-use Rattle.x509_cert.specs.Equality.{exact_revoked_cert, exact_tbs_cert_list, exact_certificate_list}
+use Rattle.x509_cert.specs.ListEquality.{exact_revoked_cert, exact_tbs_cert_list, exact_certificate_list}
 
 pub returns-clause-entry : goal.returns-clause-entry
 returns-clause-entry g c = exact_revoked_cert

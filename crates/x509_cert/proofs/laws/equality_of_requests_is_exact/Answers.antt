@@ -1,5 +1,5 @@
 use Rattle.x509_cert.proofs.laws.equality_of_requests_is_exact.Goals as goal
-use Rattle.x509_cert.specs.Equality.{exact_request_version, exact_cert_req_info, exact_cert_req, exact_extension_req, exact_challenge_password}
+use Rattle.x509_cert.specs.ListEquality.{exact_request_version, exact_cert_req_info, exact_cert_req, exact_extension_req, exact_challenge_password}
 
 pub returns-clause-versions : goal.returns-clause-versions
 returns-clause-versions g = exact_request_version

@@ -1,6 +1,6 @@
 use Rattle.std.proofs.lemmas.List.Elements.{recursion_from_All}
-use Rattle.x509_der_grammar.specs.Writing.{writes}
-use Rattle.x509_der_order.specs.Ordered.{der_lawful}
+use Rattle.x509_der.specs.Writing.{writes}
+use Rattle.x509_der.specs.Ordered.{der_lawful}
 use Rattle.x509_der.proofs.OneSet.{texts_rise}
 use Rattle.x509_der.proofs.laws.encodings_rise.Goals as goal
 

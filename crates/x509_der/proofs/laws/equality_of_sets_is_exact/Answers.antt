@@ -1,4 +1,4 @@
-use Rattle.x509_der_element.specs.Exact.{exact_list}
+use Rattle.x509_der.specs.Exact.{exact_list}
 use Rattle.x509_der.proofs.laws.equality_of_sets_is_exact.Goals as goal
 
 pub returns : goal.returns

@@ -1,5 +1,5 @@
-use Rattle.x509_der_grammar.specs.Writing.{writes}
-use Rattle.x509_der_order.specs.Ordered.{der_lawful}
+use Rattle.x509_der.specs.Writing.{writes}
+use Rattle.x509_der.specs.Ordered.{der_lawful}
 use Rattle.x509_der.proofs.OneSet.{one_set}
 use Rattle.x509_der.proofs.laws.members_make_the_set.Goals as goal
 

@@ -1,6 +1,6 @@
 use Rattle.std.proofs.lemmas.List.Sorted.{IsPermutation-insert}
-use Rattle.x509_der_order.specs.Ordered.{der_lawful}
-use Rattle.x509_der_grammar.specs.Writing.{writes}
+use Rattle.x509_der.specs.Ordered.{der_lawful}
+use Rattle.x509_der.specs.Writing.{writes}
 use Rattle.x509_der.proofs.RisingLists.{searched, put_sorted, absent}
 use Rattle.x509_der.proofs.set.put.Goals as goal
 

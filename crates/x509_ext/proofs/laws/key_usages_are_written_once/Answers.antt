@@ -1,4 +1,4 @@
-use Rattle.x509_der_grammar.specs.Round.{round_stable}
+use Rattle.x509_der.specs.Round.{round_stable}
 use Rattle.x509_ext.specs.KeyUsage.{key_usage_names, key_usage_round, key_usage_set}
 use Rattle.x509_prim.specs.NamedBitsLaws.{flag_stable}
 use Rattle.x509_ext.proofs.laws.key_usages_are_written_once.Goals as goal

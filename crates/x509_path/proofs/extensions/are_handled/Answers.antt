@@ -2,7 +2,7 @@ use Rattle.std.proofs.Common.{◌≡◌, ◌∙◌, true, refl, sym, subst}
 use Rattle.std.proofs.lemmas.Bool.{true≢false}
 use Rattle.std.proofs.lemmas.List.Elements.{All-more}
 use Rattle.std.proofs.lemmas.List.{take_all}
-use Rattle.x509_cert.specs.extension.declared.extension.Extension.{Extension}
+use Rattle.x509_cert.specs.ext.declared.extension.Extension.{Extension}
 use Rattle.x509_path.specs.Certificates.{AreHandled, IsKnown}
 use Rattle.x509_path.proofs.extensions.are_handled.Goals as goal
 use Rattle.x509_path.proofs.extensions.are_handled.Goals.{else-extension-via-then-extension+in_ok-is_known+else-not-branch, else-extension-via-else-extension}

@@ -1,5 +1,5 @@
 use Rattle.std.proofs.Common.{◌≡◌, ◌↔◌, ◌∙◌, ap, subst, IsTrue}
-use Rattle.x509_cert.specs.extension.LookUp.{members}
+use Rattle.x509_cert.specs.ext.LookUp.{members}
 use Rattle.x509_path.specs.Certificates.{AreHandled, extensions_of}
 use Rattle.x509_path.proofs.Judged.{differ}
 use Rattle.x509_path.proofs.judge.breaks.Goals as goal

@@ -1,6 +1,6 @@
 use Rattle.std.proofs.Common.{subst}
 use Rattle.x509_base.specs.declared.subject_public_key_info.SubjectPublicKeyInfo.{SubjectPublicKeyInfo}
-use Rattle.x509_build_profile.specs.Answer.{Gives, key_lent}
+use Rattle.x509_build.specs.Answer.{Gives, key_lent}
 use Rattle.x509_build.proofs.LentKeys.{lent_key}
 use Rattle.x509_build.proofs.certificate_builder.CertificateBuilder.of_profile.Goals as goal
 

@@ -2,7 +2,7 @@
 use Rattle.std.proofs.Common.{◌≡◌, List, [], ◌∷◌, ap}
 use Rattle.x509_cert.proofs.OneValue.{one_value}
 use Rattle.x509_cert.proofs.request.attributes.attribute_of.Goals as goal
-use Rattle.x509_der_frames.specs.declared.any.Any.{Any}
+use Rattle.x509_der.specs.declared.any.Any.{Any}
 
 pub returns : goal.returns
 returns g c =

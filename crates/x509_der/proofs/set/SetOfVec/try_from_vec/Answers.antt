@@ -2,9 +2,9 @@ use Rattle.std.proofs.Common.{rules, sym, ◌∙◌}
 use Rattle.std.proofs.lemmas.List.Sorted.{ranks_by}
 use Rattle.std.proofs.lemmas.Fn.{always_returns_same}
 use Rattle.std.specs.Ordering.{is_lt}
-use Rattle.x509_der_grammar.specs.Writing.{writes}
-use Rattle.x509_der_order.specs.Order.{der_order}
-use Rattle.x509_der_order.specs.Ordered.{der_lawful}
+use Rattle.x509_der.specs.Writing.{writes}
+use Rattle.x509_der.specs.Order.{der_order}
+use Rattle.x509_der.specs.Ordered.{der_lawful}
 use Rattle.x509_der.proofs.SetOrders.{as_named}
 use Rattle.x509_der.proofs.RisingLists.{distinct_from_rising, rising_from_distinct}
 use Rattle.x509_der.specs.SetLaws.{sorted_from_rising, not_sorted}

@@ -1,7 +1,7 @@
 use Rattle.std.proofs.Common.{◌≡◌, true, false, sym, ◌∙◌, refl}
 use Rattle.x509_der.specs.Set.{is_rising, set_reading}
-use Rattle.x509_der_grammar.specs.Writing.{writes}
-use Rattle.x509_der_order.specs.Order.{der_order}
+use Rattle.x509_der.specs.Writing.{writes}
+use Rattle.x509_der.specs.Order.{der_order}
 use Rattle.x509_der.specs.SetLaws.{sorted_from_rising}
 use Rattle.x509_der.proofs.SetOrders.{as_named}
 use Rattle.x509_der.proofs.set.SetOfVecContent.read_content.Goals as goal

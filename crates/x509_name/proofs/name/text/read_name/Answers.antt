@@ -1,6 +1,6 @@
 use Rattle.std.proofs.lemmas.Result.{err_from_is_err_and}
-use Rattle.x509_name_attribute.proofs.FirstRefusals.{read_more}
-use Rattle.x509_name_attribute.proofs.PartsRead.{parts_refused}
+use Rattle.x509_name.proofs.FirstRefusals.{read_more}
+use Rattle.x509_name.proofs.PartsRead.{parts_refused}
 use Rattle.x509_name.specs.NameText.{RdnReads, RdnRefused}
 use Rattle.x509_name.proofs.NameReading.{some_text, name_refused}
 use Rattle.x509_name.proofs.name.text.read_name.Goals as goal

@@ -1,6 +1,6 @@
 use Rattle.std.proofs.Common.{false}
-use Rattle.x509_name_attribute.specs.Cutting.{cut, parts_left}
-use Rattle.x509_name_attribute.proofs.FirstRefusals.{ReadSoFar}
+use Rattle.x509_name.specs.Cutting.{cut, parts_left}
+use Rattle.x509_name.proofs.FirstRefusals.{ReadSoFar}
 use Rattle.x509_name.specs.NameText.{RdnReads}
 use Rattle.x509_name.proofs.name.text.read_name.Given as goal
 

@@ -1,8 +1,8 @@
 use Rattle.std.proofs.lemmas.Result.{err_from_is_err_and}
-use Rattle.x509_name_attribute.specs.Attributes.{AttributeRefused}
-use Rattle.x509_name_attribute.proofs.FirstRefusals.{read_more}
-use Rattle.x509_name_attribute.proofs.PartsRead.{parts_refused}
-use Rattle.x509_name_attribute.specs.Text.{Reads}
+use Rattle.x509_name.specs.Attributes.{AttributeRefused}
+use Rattle.x509_name.proofs.FirstRefusals.{read_more}
+use Rattle.x509_name.proofs.PartsRead.{parts_refused}
+use Rattle.x509_name.specs.Text.{Reads}
 use Rattle.x509_name.proofs.NameReading.{rdn_refused}
 use Rattle.x509_name.proofs.name.text.read_rdn.Goals as goal
 

@@ -1,7 +1,7 @@
 use Rattle.std.proofs.Common.{false}
-use Rattle.x509_name_attribute.specs.Cutting.{cut, parts_left}
-use Rattle.x509_name_attribute.proofs.FirstRefusals.{ReadSoFar}
-use Rattle.x509_name_attribute.specs.Text.{Reads}
+use Rattle.x509_name.specs.Cutting.{cut, parts_left}
+use Rattle.x509_name.proofs.FirstRefusals.{ReadSoFar}
+use Rattle.x509_name.specs.Text.{Reads}
 use Rattle.x509_name.proofs.name.text.read_rdn.Given as goal
 
 abbrev pub invariant-loop-part : goal.invariant-loop-part

@@ -1,6 +1,6 @@
 use Rattle.std.proofs.Common.{◌<◌, length, reverse, arith, refl, true}
 use Rattle.std.proofs.lemmas.List.{length-reverse}
-use Rattle.x509_name_attribute.proofs.Joins.{written_first, written_next}
+use Rattle.x509_name.proofs.Joins.{written_first, written_next}
 use Rattle.x509_name.specs.NameText.{rdn_text}
 use Rattle.x509_name.proofs.NameWriting.{at_reverse}
 use Rattle.x509_name.proofs.name.text.write_name.Goals as goal

@@ -1,7 +1,7 @@
 use Rattle.std.proofs.Common.{arith, refl, true}
-use Rattle.x509_name_attribute.specs.Attributes.{attribute_text}
-use Rattle.x509_name_attribute.proofs.Joins.{written_first, written_next}
-use Rattle.x509_name_attribute.specs.declared.type_and_value.AttributeTypeAndValue.{AttributeTypeAndValue}
+use Rattle.x509_name.specs.Attributes.{attribute_text}
+use Rattle.x509_name.proofs.Joins.{written_first, written_next}
+use Rattle.x509_name.specs.declared.attr.type_and_value.AttributeTypeAndValue.{AttributeTypeAndValue}
 use Rattle.std.specs.Prelude.{ℕ, List}
 use Rattle.x509_name.proofs.name.text.write_rdn.Goals as goal
 use Rattle.x509_name.proofs.name.text.write_rdn.Goals.{then-i-gt0+in_ok-write_str, else-i-gt0}

@@ -1,7 +1,7 @@
 use Rattle.std.proofs.Common.{map, take}
 use Rattle.std.specs.List.{join_with_byte}
 use Rattle.std.specs.Fmt.{HasWritten, IsPlainFormatter}
-use Rattle.x509_name_attribute.specs.Attributes.{attribute_text}
+use Rattle.x509_name.specs.Attributes.{attribute_text}
 use Rattle.x509_name.proofs.name.text.write_rdn.Given as goal
 
 abbrev pub invariant-loop-i : goal.invariant-loop-i

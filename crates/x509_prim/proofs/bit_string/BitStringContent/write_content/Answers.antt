@@ -1,5 +1,5 @@
 use Rattle.std.proofs.Common.{◌∷◌, [], None}
-use Rattle.x509_der_order.specs.WritingLaws.{puts_after}
+use Rattle.x509_der.specs.WritingLaws.{puts_after}
 use Rattle.x509_prim.proofs.bit_string.BitStringContent.write_content.Goals as goal
 
 pub returns : goal.returns

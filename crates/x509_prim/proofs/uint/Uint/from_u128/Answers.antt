@@ -1,6 +1,6 @@
 use Rattle.std.proofs.Common.{◌≡◌, List, [], ℕ, ◌<◌, ◌⊎◌, length, Result, Ok, Err, IfOk, IfErr, IsOkAnd, inl, inr, ap, ◌∙◌, arith}
-use Rattle.x509_der_element.specs.declared.error.Error.{Error}
-use Rattle.x509_der_element.specs.declared.error.ErrorKind.TheVariants as errors
+use Rattle.x509_der.specs.declared.error.Error.{Error}
+use Rattle.x509_der.specs.declared.error.ErrorKind.TheVariants as errors
 use Rattle.x509_prim.specs.Integer.{with_sign, without_zeros}
 use Rattle.x509_prim.proofs.NumberTypes.{number_content, length_content}
 use Rattle.x509_prim.proofs.uint.Uint.from_u128.Goals as goal

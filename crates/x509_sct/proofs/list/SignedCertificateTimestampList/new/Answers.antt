@@ -1,5 +1,5 @@
 use Rattle.std.proofs.Common.{◌≤◌, length, ap, arith}
-use Rattle.x509_der_element.specs.ContentLaws.{content_fits}
+use Rattle.x509_der.specs.ContentLaws.{content_fits}
 use Rattle.x509_sct.proofs.list.SignedCertificateTimestampList.new.Goals as goal
 
 -- a list is never too long for an OCTET STRING

@@ -3,7 +3,7 @@ use Rattle.std.proofs.Common.{◌≡◌, List, Option, length}
 use Rattle.x509_cert.proofs.Issuing.{Stays}
 use Rattle.x509_cert.specs.Issuers.{is_issued, is_issuer}
 use Rattle.x509_cert.specs.Revoked.{entries}
-use Rattle.x509_ext_name.specs.declared.general_name.GeneralName.{GeneralName}
+use Rattle.x509_ext.specs.declared.pkix.name.general_name.GeneralName.{GeneralName}
 use Rattle.x509_cert.proofs.crl.certificate_list.CertificateList.find_issued.Given as goal
 
 abbrev pub invariant-loop-first : goal.invariant-loop-first

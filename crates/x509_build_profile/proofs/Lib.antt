@@ -1,3 +1,0 @@
-mod OrderFacts
-mod DomainFacts
-mod ModuleFacts

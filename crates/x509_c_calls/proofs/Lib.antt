@@ -1,0 +1,16 @@
+pub mod Standing
+pub mod NameTexts
+pub mod Parts
+pub mod Members
+pub mod Bits
+pub mod Cuts
+pub mod Walks
+pub mod PayloadMembers
+pub mod Octets
+pub mod Optional
+pub mod Fields
+pub mod Texts
+pub mod Names
+pub mod Refusals
+pub mod Serials
+pub mod PointNames

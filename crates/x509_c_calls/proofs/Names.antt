@@ -1,0 +1,43 @@
+-- What stands in the element of a general name.
+use Rattle.std.proofs.Common.{◌≡◌, ℕ, true, List, ◌++◌, refl, ap, ◌∙◌, append_assoc}
+use Rattle.x509_c_calls.specs.GeneralNames.{held}
+use Rattle.x509_der.specs.ObjectIdentifierForm.{object_identifier}
+use Rattle.x509_der.specs.Element.{is_identifier, is_universal}
+use Rattle.x509_der.specs.Any.{any}
+use Rattle.x509_der.specs.Cases.{choice_tag, choice_content}
+use Rattle.x509_der.specs.Frames.{explicit, fields_octets}
+use Rattle.x509_der.specs.Form.{spelling}
+use Rattle.x509_ext.specs.GeneralName.{general_name}
+use Rattle.x509_ext.specs.OtherName.{other_name, other_name_fields}
+use Rattle.x509_ext.specs.declared.pkix.name.general_name.GeneralName.{GeneralName}
+use Rattle.x509_ext.specs.declared.pkix.name.general_name.GeneralName.TheVariants.{OtherName, Rfc822Name, DnsName, DirectoryName, EdiPartyName, UniformResourceIdentifier, IpAddress, RegisteredId}
+use Rattle.x509_ext.specs.declared.pkix.name.other_name.OtherName as others
+
+pub content_is : (v : GeneralName) → general_name.content v ≡ held v
+unfolding choice_content
+content_is (OtherName other) = refl
+content_is (Rfc822Name text) = refl
+content_is (DnsName text) = refl
+content_is (DirectoryName rdns) = refl
+content_is (EdiPartyName party) = refl
+content_is (UniformResourceIdentifier text) = refl
+content_is (IpAddress octets) = refl
+content_is (RegisteredId oid) = refl
+
+pub is_name : (v : GeneralName) → is_identifier (general_name.tag v) ≡ true
+unfolding choice_tag is_identifier is_universal
+is_name (OtherName other) = refl
+is_name (Rfc822Name text) = refl
+is_name (DnsName text) = refl
+is_name (DirectoryName rdns) = refl
+is_name (EdiPartyName party) = refl
+is_name (UniformResourceIdentifier text) = refl
+is_name (IpAddress octets) = refl
+is_name (RegisteredId oid) = refl
+
+other_content : (o : others.OtherName) → other_name.content o ≡ spelling object_identifier o.type_id ++ spelling (explicit 0 any) o.value
+unfolding fields_octets other_name_fields
+other_content o = refl
+
+pub other_laid_out : (o : others.OtherName) (behind : List ℕ) → other_name.content o ++ behind ≡ spelling object_identifier o.type_id ++ (spelling (explicit 0 any) o.value ++ behind)
+other_laid_out o behind = ap (λ x. x ++ behind) (other_content o) ∙ append_assoc (spelling object_identifier o.type_id) (spelling (explicit 0 any) o.value) behind

@@ -1,0 +1,35 @@
+-- When a read is refused for memory.
+use Rattle.std.proofs.Common.{◌≡◌, ◌≤◌, ◌<◌, ◌⊎◌, ℕ, sym, ap, ◌∙◌, subst, inl, inr}
+use Rattle.std.proofs.lemmas.Bool.{cases_lt}
+use Rattle.x509_c_calls.specs.declared.status.status.Status.{Status}
+use Rattle.x509_c_calls.specs.declared.status.status.Status.TheVariants.{Done, NoRoom, Absent, Repeated, Faulty, Refused}
+use Rattle.x509_der.specs.Element.{limit}
+use Rattle.x509_der.specs.declared.error.ErrorKind.{ErrorKind}
+use Rattle.x509_der.specs.declared.error.ErrorKind.TheVariants.{Memory, Overlength, Malformed}
+
+abbrev kind_of : Status → ErrorKind
+kind_of Done = Malformed
+kind_of NoRoom = Malformed
+kind_of Absent = Malformed
+kind_of Repeated = Malformed
+kind_of Faulty = Malformed
+kind_of (Refused e) = e
+
+overlength_is_other : {Q : Type 0} → Overlength ≡ Memory → Q
+overlength_is_other e = absurd cc
+
+malformed_is_other : {Q : Type 0} → Malformed ≡ Memory → Q
+malformed_is_other e = absurd cc
+
+-- it is wanted, or the type refuses so
+pub memory_is : {W : Type 0} (R : ErrorKind → Type 0) (kind : ErrorKind) (status : Status) (n : ℕ) → status ≡ Refused kind → (limit < n → kind ≡ Overlength) → (n ≤ limit → ((kind ≡ Memory) × W) ⊎ ((kind ≡ Malformed) ⊎ R kind))
+    → status ≡ Refused Memory → W ⊎ R Memory
+memory_is R kind status n is long within memory =
+    let same : kind ≡ Memory = ap kind_of (sym is ∙ memory) in
+    elim (cases_lt limit n) [
+      | inl over ↦ overlength_is_other (sym (long over) ∙ same)
+      | inr fits ↦ elim (within fits) [
+        | inl wanted ↦ inl wanted.1
+        | inr other ↦ elim other [ inl malformed ↦ malformed_is_other (sym malformed ∙ same) | inr refused ↦ inr (subst R same refused) ]
+      ]
+    ]

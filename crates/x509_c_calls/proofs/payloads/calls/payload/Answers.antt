@@ -1,0 +1,5 @@
+use Rattle.x509_c_calls.proofs.Refusals.{memory_is}
+use Rattle.x509_c_calls.proofs.payloads.calls.payload.Goals as goal
+
+pub returns-in-Err-clause-memory : goal.returns-in-Err-clause-memory
+returns-in-Err-clause-memory g c = memory_is g.V.Value.Grammar.refuses _ _ _ c.into.ensures c.in-Err.ensures.overlength c.in-Err.ensures.refused

@@ -1,0 +1,19 @@
+use Rattle.std.proofs.Common.{◌++◌, ◌∙◌, append_assoc}
+use Rattle.x509_c_calls.proofs.Octets.{is_oid, is_sequence}
+use Rattle.x509_c_calls.proofs.Optional.{element_at}
+use Rattle.x509_c_calls.proofs.payloads.policy.PolicyViewView.view.Goals as goal
+use Rattle.x509_c_calls.specs.Policies.{policy_qualifiers}
+use Rattle.x509_der.specs.ObjectIdentifierForm.{object_identifier}
+use Rattle.x509_der.specs.Frames.{fields_octets, optional_octets}
+use Rattle.x509_der.specs.Form.{spelling}
+use Rattle.x509_ext.specs.PolicyInformation.{policy_information, policy_information_fields}
+
+pub returns : goal.returns
+unfolding fields_octets policy_information_fields
+returns c = λ behind e.
+    let it = c.args.value.now in
+    let rest = optional_octets (spelling policy_qualifiers) it.policy_qualifiers in
+    let inside = c.enter.ensures.stands 48 (policy_information.content it) behind is_sequence e in
+    let identifier = c.step_content.ensures.stands 6 it.policy_identifier (rest ++ behind) is_oid (inside.1 ∙ append_assoc (spelling object_identifier it.policy_identifier) rest behind) in
+    let qualifiers = element_at policy_qualifiers (λ v. is_sequence) it.policy_qualifiers _ behind _ _ _ _ c.is_some.ensures identifier.1 c.step_optional.ensures.there c.step_optional.ensures.absent in
+    record { identifier = identifier.0; qualifiers = qualifiers.0 }

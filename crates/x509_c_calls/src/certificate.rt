@@ -1,0 +1,11 @@
+//! What a certificate says, and where its parts stand in the bytes.
+
+mod extension;
+mod signature;
+mod view;
+mod whole;
+
+pub use extension::{ExtensionView, certificate_extension};
+pub use signature::{SignatureView, certificate_signature};
+pub use view::CertificateView;
+pub use whole::certificate_view;

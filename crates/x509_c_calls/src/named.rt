@@ -1,0 +1,8 @@
+//! The calls on types by their names, and on names as texts, over any codec of them.
+
+mod name;
+mod reencode;
+mod text;
+
+pub use name::{name_from_text, name_text};
+pub use reencode::reencode_named;

@@ -1,0 +1,34 @@
+//! What the values of extensions hold, and where: a walk over the members of a list, and what a member says.
+
+mod access;
+mod calls;
+mod constraints;
+mod cursor;
+mod extension;
+mod general_name;
+mod identifiers;
+mod key_identifier;
+mod name;
+mod number;
+mod point;
+mod policy;
+mod status_words;
+mod subtree;
+mod text;
+mod walk;
+
+pub use access::AccessView;
+pub use calls::{View, content, element_next, member_next, member_under_next, payload};
+pub use constraints::BasicConstraintsView;
+pub use cursor::next;
+pub use extension::ExtensionEntry;
+pub use general_name::GeneralNameView;
+pub use identifiers::{identifiers_next, oid_from_text, oid_text};
+pub use key_identifier::AuthorityKeyIdentifierView;
+pub use name::AttributeView;
+pub use number::{Numbered, read_number};
+pub use point::{DistributionPointView, IssuingDistributionPointView};
+pub use policy::{MappingView, PolicyConstraintsView, PolicyView, QualifierView};
+pub use status_words::status_text;
+pub use subtree::{NameConstraintsView, SubtreeView};
+pub use text::{serial_text, time_text};

@@ -1,0 +1,40 @@
+//! Texts of serial numbers and of times.
+
+ghost use Rattle.x509_c_calls.specs.Texts.{IsSerialText, IsTimeText};
+ghost use Rattle.x509_c_calls.specs.Status.{Fills};
+
+use crate::{Status, fill};
+use std::alloc::Global;
+use std::time::Duration;
+use x509_base::{DateTime, Raw, SerialNumber};
+use x509_der::{Decode, ErrorKind, Tag};
+
+/// Puts the hex text of the serial number that has these content octets at the front of the room, as `12:34:AB`. `Malformed` exactly where they are those of no INTEGER.
+#[tactic(auto, unfolding(crate::specs::Status::Fills))]
+pub fn serial_text(alloc: Global, content: &[u8], room: &mut [u8], written: &mut usize) -> Status
+    ensures { Fills (λ answer. IsSerialText content.now answer) room.old room.new written.old written.new result }
+{
+    let serial = match <SerialNumber<Raw> as Decode>::read(alloc, Tag::Integer.octet(), content) {
+        Ok(serial) => serial,
+        Err(e) => return e.into(),
+    };
+    match serial.to_string(alloc) {
+        Ok(text) => fill(text.as_str().as_bytes(), room, written),
+        Err(_) => Status::Refused(ErrorKind::Memory),
+    }
+}
+
+/// Puts the text of a moment, in seconds since 1970-01-01T00:00:00Z, at the front of the room, as `2026-01-02T03:04:05Z`. `Value` exactly after 9999-12-31T23:59:59Z.
+#[tactic(auto, unfolding(crate::specs::Status::Fills))]
+pub fn time_text(alloc: Global, moment: u64, room: &mut [u8], written: &mut usize) -> Status
+    ensures { Fills (λ answer. IsTimeText moment answer) room.old room.new written.old written.new result }
+{
+    let date_time = match DateTime::from_unix_duration(Duration::from_secs(moment)) {
+        Ok(date_time) => date_time,
+        Err(e) => return e.into(),
+    };
+    match date_time.to_string(alloc) {
+        Ok(text) => fill(text.as_str().as_bytes(), room, written),
+        Err(_) => Status::Refused(ErrorKind::Memory),
+    }
+}

@@ -1,0 +1,40 @@
+//! Decoding a value.
+
+ghost use Rattle.std.specs.Prelude.{◌≡◌, ◌⊎◌, MatchResult};
+ghost use Rattle.x509_c_calls.specs.Calls.{Checks};
+ghost use Rattle.x509_der.specs.declared.error.ErrorKind.TheVariants.{Memory};
+ghost use Rattle.x509_types.specs.Reencoding.{IsRefused};
+ghost use Rattle.x509_der.specs.Form.{Spells};
+
+use crate::status::status::Status;
+use std::alloc::Global;
+use x509_der::{Decode, ErrorKind};
+
+/// Decodes a value, and frees it: done exactly where the bytes are the encoding of one.
+///
+/// # Errors
+///
+/// As [`Decode::from_der`]; `Memory` when out of memory.
+#[tactic(auto, unfolding(crate::specs::Calls::Reads))]
+pub fn check<T: Decode + Drop>(alloc: Global, input: &[u8]) -> Status
+    ensures { Checks T.form T.refuses input.now result }
+{
+    match T::from_der(alloc, input) {
+        Ok(_) => Status::Done,
+        Err(e) => e.into(),
+    }
+}
+
+/// Decodes a value.
+///
+/// # Errors
+///
+/// As [`Decode::from_der`]; `Memory` when out of memory.
+pub fn read<T: Decode>(alloc: Global, input: &[u8]) -> Result<T, ErrorKind>
+    ensures { MatchResult result (λ value. Spells T.form value input.now) (λ e. (e ≡ Memory) ⊎ IsRefused T.form T.refuses input.now e) }
+{
+    match T::from_der(alloc, input) {
+        Ok(value) => Ok(value),
+        Err(e) => Err(e.kind()),
+    }
+}

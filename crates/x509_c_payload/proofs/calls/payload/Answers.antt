@@ -1,5 +1,0 @@
-use Rattle.x509_c_payload.proofs.Refusals.{memory_is}
-use Rattle.x509_c_payload.proofs.calls.payload.Goals as goal
-
-pub returns-in-Err-clause-memory : goal.returns-in-Err-clause-memory
-returns-in-Err-clause-memory g c = memory_is g.V.Value.Grammar.refuses _ _ _ c.into.ensures c.in-Err.ensures.overlength c.in-Err.ensures.refused

@@ -1,4 +1,0 @@
-pub mod Made
-pub mod Refusals
-pub mod Respelled
-pub mod Unchanged

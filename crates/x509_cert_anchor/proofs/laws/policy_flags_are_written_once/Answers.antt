@@ -1,5 +1,0 @@
-use Rattle.x509_cert_anchor.specs.CertPolicies.{cert_policies_stable}
-use Rattle.x509_cert_anchor.proofs.laws.policy_flags_are_written_once.Goals as goal
-
-pub returns : goal.returns
-returns c = cert_policies_stable

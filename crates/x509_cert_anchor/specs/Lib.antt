@@ -1,9 +1,0 @@
-pub mod Version
-pub mod CertPolicies
-pub mod TwoFields
-pub mod CertPathControls
-pub mod TrustAnchorInfo
-pub mod TrustAnchorChoice
-pub mod Respelling
-pub mod Equality
-pub mod Made

@@ -1,4 +1,0 @@
-pub mod Respelled
-pub mod Serials
-pub mod SignedParts
-pub mod Spellings

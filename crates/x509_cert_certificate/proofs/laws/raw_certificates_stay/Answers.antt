@@ -1,5 +1,0 @@
-use Rattle.x509_cert_certificate.proofs.Respelled.{lists_stay}
-use Rattle.x509_cert_certificate.proofs.laws.raw_certificates_stay.Goals as goal
-
-pub returns-clause-listed : goal.returns-clause-listed
-returns-clause-listed c = lists_stay

@@ -1,2 +1,0 @@
-pub mod SignedParts
-pub mod Fronts

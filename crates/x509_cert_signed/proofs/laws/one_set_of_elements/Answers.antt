@@ -1,5 +1,0 @@
-use Rattle.x509_cert_signed.specs.ElementPartsLaws.{one_tbs, one_certificate}
-use Rattle.x509_cert_signed.proofs.laws.one_set_of_elements.Goals as goal
-
-pub returns : goal.returns
-returns c = record { signed = one_tbs; whole = one_certificate }

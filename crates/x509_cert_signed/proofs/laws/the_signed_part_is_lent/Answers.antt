@@ -1,5 +1,0 @@
-use Rattle.x509_cert_signed.specs.ElementPartsLaws.{is_signed}
-use Rattle.x509_cert_signed.proofs.laws.the_signed_part_is_lent.Goals as goal
-
-pub returns : goal.returns
-returns c = is_signed

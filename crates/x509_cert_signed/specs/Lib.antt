@@ -1,5 +1,0 @@
-pub mod Signed
-pub mod SignedLaws
-pub mod Elements
-pub mod ElementParts
-pub mod ElementPartsLaws

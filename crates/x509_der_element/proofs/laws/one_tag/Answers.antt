@@ -1,5 +1,0 @@
-use Rattle.x509_der_element.specs.TagReading.{same_tag}
-use Rattle.x509_der_element.proofs.laws.one_tag.Goals as goal
-
-pub returns : goal.returns
-returns c = same_tag

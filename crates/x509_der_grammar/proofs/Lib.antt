@@ -1,3 +1,0 @@
-pub mod Answered
-pub mod Naturals
-pub mod Rests

@@ -1,5 +1,0 @@
-use Rattle.x509_der_grammar.specs.SpellingLaws.{values}
-use Rattle.x509_der_grammar.proofs.laws.one_value.Goals as goal
-
-pub returns : goal.returns
-returns g c = values g.T.Grammar.form g.met.T.Grammar.lawful

@@ -1,0 +1,11 @@
+-- What the types round one value keep, as the logic holds it, for the clauses on what a `&mut` lends.
+use denote.RattleType.{RattleType}
+use Rattle.x509_der.specs.contracts.list.SequenceOf as sequence
+use Rattle.x509_ext.specs.contracts.pkix.name.general_name.GeneralName as general_name
+use Rattle.x509_ext.specs.contracts.pkix.distribution_point.DistributionPoint as point
+
+abbrev pub point_list_row : RattleType
+point_list_row = sequence.the_row point.the_row
+
+abbrev pub general_names_row : RattleType
+general_names_row = sequence.the_row general_name.the_row

@@ -1,2 +1,0 @@
-pub mod ArcsOfExtensions
-pub mod Repeats

@@ -1,0 +1,133 @@
+-- The loop that prints a text: which bytes are escaped, and what is left to print.
+use Rattle.std.proofs.Common.{◌+◌, ◌-◌, ◌<◌, ◌≤◌, ◌≡◌, ℕ, Bool, true, false, ◌&&◌, ◌||◌, eqb, List, [], ◌∷◌, ◌++◌, length, get_or, take, drop, refl, sym, ap, ◌∙◌, arith, inl, inr, append_assoc, append-nil, add-one, drop-cons, length-drop}
+use Rattle.std.specs.Char.{encode_utf8}
+use Rattle.std.specs.List.{flat_map, slice_range}
+use Rattle.std.proofs.lemmas.Bool.{ne_eqb}
+use Rattle.std.proofs.lemmas.Str.{encode_ascii}
+use Rattle.std.proofs.lemmas.Bool.Decides.{nat_tests}
+use Rattle.std.proofs.lemmas.List.{drop_all, take_more, take_all, get_or-drop}
+use Rattle.x509_name.proofs.Printed.{bool_tells, or_false}
+use Rattle.x509_name.specs.Escapes.{Item, Plain, item_text, item_of, is_empty, is_control, is_always_escaped, items_of, further_items, escaped}
+
+-- what is printed of the bytes at the front, or of further ones
+abbrev pub items_from : Bool → List ℕ → List Item
+items_from true bytes = items_of bytes
+items_from false bytes = further_items bytes
+
+-- whether the place of a byte asks for an escape
+abbrev pub at_its_place : ℕ → Bool → Bool → Bool
+at_its_place byte is_first is_last = (eqb byte 32 && (is_first || is_last)) || (eqb byte 35 && is_first)
+
+place_first : (space sign is_last : Bool) → ((space && (true || is_last)) || (sign && true)) ≡ (space || sign)
+place_first true sign is_last = refl
+place_first false true is_last = refl
+place_first false false is_last = refl
+
+place_further : (space sign is_last : Bool) → ((space && (false || is_last)) || (sign && false)) ≡ (space && is_last)
+place_further true true true = refl
+place_further true false true = refl
+place_further true true false = refl
+place_further true false false = refl
+place_further false true is_last = refl
+place_further false false is_last = refl
+
+items_none : (is_first : Bool) → items_from is_first [] ≡ []
+items_none true = refl
+items_none false = refl
+
+items_next : (is_first : Bool) (byte : ℕ) (rest : List ℕ) → items_from is_first (byte ∷ rest) ≡ item_of (at_its_place byte is_first (is_empty rest)) byte ∷ further_items rest
+items_next true byte rest = ap (λ (t : Bool). item_of t byte ∷ further_items rest) (sym (place_first (eqb byte 32) (eqb byte 35) (is_empty rest)))
+items_next false byte rest = ap (λ (t : Bool). item_of t byte ∷ further_items rest) (sym (place_further (eqb byte 32) (eqb byte 35) (is_empty rest)))
+
+empty_is : (bytes : List ℕ) → is_empty bytes ≡ eqb (length bytes) 0
+empty_is [] = refl
+empty_is (byte ∷ bytes) = grind (arith, nat_tests)
+
+last_is : (text : List ℕ) (i : ℕ) → i < length text → is_empty (drop (i + 1) text) ≡ eqb (i + 1) (length text)
+last_is text i lt = empty_is (drop (i + 1) text) ∙ (let h = length-drop (i + 1) text in grind (arith, nat_tests))
+
+-- ---- one byte
+
+or_true : (b : Bool) → (b || true) ≡ true
+or_true true = refl
+or_true false = refl
+
+-- a byte with an escape that is no control stands behind a backslash
+pub escape_other : (byte : ℕ) → byte < 128 → is_control byte ≡ false → encode_utf8 92 ++ encode_utf8 byte ≡ item_text (item_of true byte)
+escape_other byte ascii other = rw (other, or_true (is_always_escaped byte), encode_ascii byte ascii, encode_ascii 92 (omega arith)) refl
+
+-- which bytes are escaped
+pub escaped_is : (byte : ℕ) (by_its_place : Bool) → (is_control byte || (is_always_escaped byte || by_its_place)) ≡ true → item_of by_its_place byte ≡ item_of true byte
+escaped_is byte by_its_place is =
+    elim (bool_tells (is_control byte)) [
+      | inl t ↦ rw t refl
+      | inr f ↦ let other : (is_always_escaped byte || by_its_place) ≡ true = rw f at is in rw (f, other, or_true (is_always_escaped byte)) refl
+    ]
+
+pub escaped_ascii : (byte : ℕ) (is_first is_last : Bool) → (is_control byte || (is_always_escaped byte || at_its_place byte is_first is_last)) ≡ true → byte < 128
+escaped_ascii byte is_first is_last is = grind (arith, nat_tests)
+
+pub escaped_not : (byte : ℕ) (by_its_place : Bool) → (is_control byte || (is_always_escaped byte || by_its_place)) ≡ false → item_of by_its_place byte ≡ Plain byte
+escaped_not byte by_its_place not =
+    let h = or_false (is_control byte) (is_always_escaped byte || by_its_place) not in
+    rw (h.0, h.1) refl
+
+-- ---- the loop
+
+range_more : (text : List ℕ) (start i : ℕ) → start ≤ i → i < length text → slice_range text start (i + 1) ≡ slice_range text start i ++ get_or text i 0 ∷ []
+range_more text start i le lt =
+    let next : i + 1 - start ≡ i - start + 1 = omega arith in
+    let at : start + (i - start) ≡ i = omega arith in
+    let len : i - start < length (drop start text) = omega (arith, length-drop start text) in
+    ap (λ (n : ℕ). take n (drop start text)) next ∙ take_more (drop start text) (i - start) 0 len
+    ∙ ap (λ (byte : ℕ). take (i - start) (drop start text) ++ byte ∷ []) (get_or-drop start text (i - start) 0 ∙ ap (λ (n : ℕ). get_or text n 0) at)
+
+range_none : (text : List ℕ) (i : ℕ) → slice_range text i i ≡ []
+range_none text i = let e : i - i ≡ 0 = omega arith in rw e refl
+
+further : (i : ℕ) (bytes : List ℕ) → items_from (eqb (i + 1) 0) bytes ≡ further_items bytes
+further i bytes = ap (λ (t : Bool). items_from t bytes) (ne_eqb (i + 1) 0 (λ e. omega arith))
+
+module _ (text done whole : List ℕ) (start i : ℕ) (lt : i < length text) (so_far : done ++ (slice_range text start i ++ flat_map item_text (items_from (eqb i 0) (drop i text))) ≡ whole) where
+  opened : (item : Item) → item_of (at_its_place (get_or text i 0) (eqb i 0) (eqb (i + 1) (length text))) (get_or text i 0) ≡ item
+      → done ++ (slice_range text start i ++ (item_text item ++ flat_map item_text (further_items (drop (i + 1) text)))) ≡ whole
+  opened item is =
+      let at : drop i text ≡ get_or text i 0 ∷ drop (i + 1) text = rw add-one (drop-cons text i 0 lt) in
+      let items : items_from (eqb i 0) (drop i text) ≡ item ∷ further_items (drop (i + 1) text) =
+      ap (items_from (eqb i 0)) at ∙ items_next (eqb i 0) (get_or text i 0) (drop (i + 1) text)
+      ∙ ap (λ (t : Bool). item_of (at_its_place (get_or text i 0) (eqb i 0) t) (get_or text i 0) ∷ further_items (drop (i + 1) text)) (last_is text i lt)
+      ∙ ap (λ (t : Item). t ∷ further_items (drop (i + 1) text)) is in
+      ap (λ (t : List Item). done ++ (slice_range text start i ++ flat_map item_text t)) (sym items) ∙ so_far
+
+  pub printed_escape : item_of (at_its_place (get_or text i 0) (eqb i 0) (eqb (i + 1) (length text))) (get_or text i 0) ≡ item_of true (get_or text i 0)
+      → (done ++ (slice_range text start i ++ item_text (item_of true (get_or text i 0)))) ++ (slice_range text (i + 1) (i + 1) ++ flat_map item_text (items_from (eqb (i + 1) 0) (drop (i + 1) text))) ≡ whole
+  printed_escape is =
+      let tail : List ℕ = flat_map item_text (further_items (drop (i + 1) text)) in
+      let front : List ℕ = slice_range text start i in
+      let escape : List ℕ = item_text (item_of true (get_or text i 0)) in
+      ap (λ (t : List Item). (done ++ (front ++ escape)) ++ (slice_range text (i + 1) (i + 1) ++ flat_map item_text t)) (further i (drop (i + 1) text))
+      ∙ ap (λ (t : List ℕ). (done ++ (front ++ escape)) ++ (t ++ tail)) (range_none text (i + 1))
+      ∙ append_assoc done (front ++ escape) tail
+      ∙ ap (λ (t : List ℕ). done ++ t) (append_assoc front escape tail)
+      ∙ opened (item_of true (get_or text i 0)) is
+
+  pub printed_plain : start ≤ i → item_of (at_its_place (get_or text i 0) (eqb i 0) (eqb (i + 1) (length text))) (get_or text i 0) ≡ Plain (get_or text i 0)
+      → done ++ (slice_range text start (i + 1) ++ flat_map item_text (items_from (eqb (i + 1) 0) (drop (i + 1) text))) ≡ whole
+  printed_plain before is =
+      let tail : List ℕ = flat_map item_text (further_items (drop (i + 1) text)) in
+      ap (λ (t : List Item). done ++ (slice_range text start (i + 1) ++ flat_map item_text t)) (further i (drop (i + 1) text))
+      ∙ ap (λ (t : List ℕ). done ++ (t ++ tail)) (range_more text start i before lt)
+      ∙ ap (λ (t : List ℕ). done ++ t) (append_assoc (slice_range text start i) (get_or text i 0 ∷ []) tail)
+      ∙ opened (Plain (get_or text i 0)) is
+
+pub printed_none : (text : List ℕ) → [] ++ ([] ++ flat_map item_text (items_of text)) ≡ escaped text
+unfolding escaped
+printed_none text = refl
+
+pub printed_end : (text done whole : List ℕ) (start i : ℕ) → length text ≤ i → i ≤ length text → done ++ (slice_range text start i ++ flat_map item_text (items_from (eqb i 0) (drop i text))) ≡ whole
+    → done ++ drop start text ≡ whole
+printed_end text done whole start i ge le so_far =
+    let none : items_from (eqb i 0) (drop i text) ≡ [] = ap (items_from (eqb i 0)) (drop_all i text ge) ∙ items_none (eqb i 0) in
+    let all : slice_range text start i ≡ drop start text = take_all (i - start) (drop start text) (omega (arith, length-drop start text)) in
+    ap (λ (t : List ℕ). done ++ t) (sym all ∙ sym (append-nil (slice_range text start i)))
+    ∙ ap (λ (t : List Item). done ++ (slice_range text start i ++ flat_map item_text t)) (sym none) ∙ so_far

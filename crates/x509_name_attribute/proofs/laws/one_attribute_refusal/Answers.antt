@@ -1,8 +1,0 @@
-use Rattle.x509_name_attribute.proofs.AttributeLaws.{reads_apart, one_refusal}
-use Rattle.x509_name_attribute.proofs.laws.one_attribute_refusal.Goals as goal
-
-pub returns-clause-apart : goal.returns-clause-apart
-returns-clause-apart c = reads_apart
-
-pub returns-clause-once : goal.returns-clause-once
-returns-clause-once c = one_refusal

@@ -1,5 +1,0 @@
-use Rattle.x509_name_attribute.proofs.AttributeLaws.{one_attribute_text}
-use Rattle.x509_name_attribute.proofs.laws.one_attribute_text.Goals as goal
-
-pub returns : goal.returns
-returns c = one_attribute_text

@@ -1,5 +1,0 @@
-use Rattle.x509_name_attribute.proofs.Cuts.{cut_is_joined}
-use Rattle.x509_name_attribute.proofs.parts.Parts.new.Goals as goal
-
-pub returns-clause-joined : goal.returns-clause-joined
-returns-clause-joined c = cut_is_joined _ _

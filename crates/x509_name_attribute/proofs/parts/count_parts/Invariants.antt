@@ -1,9 +1,0 @@
-use Rattle.std.proofs.Common.{◌≡◌, ◌+◌, ◌≤◌, false, length, drop}
-use Rattle.x509_name_attribute.specs.Cutting.{cut}
-use Rattle.x509_name_attribute.proofs.parts.count_parts.Given as goal
-
-abbrev pub invariant-loop-byte : goal.invariant-loop-byte
-invariant-loop-byte l = record {
-  bounded : l.count ≤ l.byte-index + 1;
-  so_far : l.count + length (cut l.separator (drop l.byte-index l.text) l.escaped) ≡ length (cut l.separator l.text false) + 1;
-}

@@ -1,2 +1,0 @@
-pub mod Reencoding
-pub mod Table

@@ -1,0 +1,5 @@
+pub mod Reencoding
+pub mod Table
+pub mod Naming
+pub mod NameAnswers
+pub mod Paths
