@@ -1,6 +1,6 @@
 //! What holds of all values, of certificates, of CRLs, of CSRs and of signed bytes. Each law is a function whose
 //! contract is the law. The laws of the layers below stand in a module for each layer: [`der`], [`prim`], [`base`]
-//! (times, serial numbers, algorithms and keys), [`name`], [`ext`], [`pkix`], [`sct`] and [`anchor`]. The forms by
+//! (times, serial numbers, algorithms and keys), [`name`], [`ext`], [`sct`] and [`anchor`]. The forms by
 //! which the types are decoded and encoded stand in [`forms`]; `docs/MAP.md` has the words of our own, such as form,
 //! spelling and good.
 
@@ -50,7 +50,7 @@ pub use x509_der::laws::{
     what_was_written_reads_as_respelled, writing_again_gives_the_same,
 };
 use x509_der::{Encode, Grammar, Spelled};
-pub use x509_ext::{laws as ext, laws as pkix};
+pub use x509_ext::laws as ext;
 pub use x509_name::laws as name;
 pub use x509_prim::laws as prim;
 pub use x509_sct::laws as sct;

@@ -4,12 +4,12 @@ use crate::calls::{is_made, is_written, prints};
 use std::test::*;
 use x509_der::{Decode, Error as DerError, ErrorKind};
 use x509_prim::OctetString;
+use x509_sct::tls::{NamedByte, TlsByteVecU16, TlsError};
 use x509_sct::{
     CtPrecertificatePoison, DigitallySigned, Error, HashAlgorithm, LogId, PreCert, SerializedSct,
     SignatureAlgorithm, SignatureAndHashAlgorithm, SignatureType, SignedCertificateTimestamp,
-    SignedCertificateTimestampList, SignedEntry, TlsByteVecU16, TlsError, Version,
+    SignedCertificateTimestampList, SignedEntry, Version,
 };
-use x509_sct_tls::NamedByte;
 
 /// A list of one timestamp: the log of 32 octets 2A, 1,683,095,206,506 milliseconds, no extensions, and the signature
 /// of the octets 0, 1 and 2 with SHA-256 and ECDSA.

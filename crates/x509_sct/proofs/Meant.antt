@@ -2,8 +2,8 @@
 use Rattle.std.proofs.Common.{◌≡◌, ℕ, ◌≤◌, List, [], ◌++◌, length, refl, sym, ap, ◌∙◌, arith}
 use Rattle.x509_der.specs.ContentLaws.{content_fits}
 use Rattle.x509_der.specs.Form.{Spells as IsDer, spelling}
-use Rattle.x509_sct_tls.specs.Form.{Form, IsForm, Spells}
-use Rattle.x509_sct_tls.specs.Uniqueness.{one_front}
+use Rattle.x509_sct.specs.Form.{Form, IsForm, Spells}
+use Rattle.x509_sct.specs.Uniqueness.{one_front}
 use Rattle.x509_sct.specs.Payload.{signed_certificate_timestamp_list}
 use Rattle.x509_sct.specs.TimestampList.{IsTimestampList}
 use Rattle.x509_sct.specs.declared.list.SignedCertificateTimestampList.{SignedCertificateTimestampList}

@@ -1,10 +1,10 @@
 -- Worked timestamps and lists, computed from the definitions (RFC 6962 3.2, 3.3).
 use Rattle.std.proofs.Common.{◌≡◌, inl, inr, List, [], ◌∷◌, ◌++◌, refl, lit<}
 use Rattle.std.specs.Prelude.{ℕ, replicate}
-use Rattle.x509_sct_tls.specs.declared.error.TlsError.TheVariants.{EndOfStream, UnknownValue, TrailingData, InvalidVectorLength}
-use Rattle.x509_sct_tls.specs.Form.{Spells, IsWholeFault}
-use Rattle.x509_sct_tls.specs.Lists.{ListFault}
-use Rattle.x509_sct_tls.specs.Numbers.{uint16, vector24}
+use Rattle.x509_sct.specs.declared.tls.error.TlsError.TheVariants.{EndOfStream, UnknownValue, TrailingData, InvalidVectorLength}
+use Rattle.x509_sct.specs.Form.{Spells, IsWholeFault}
+use Rattle.x509_sct.specs.Lists.{ListFault}
+use Rattle.x509_sct.specs.Numbers.{uint16, vector24}
 use Rattle.x509_sct.specs.declared.entry.SignatureType.TheVariants.{CertificateTimestamp}
 use Rattle.x509_sct.specs.declared.signed.DigitallySigned.{DigitallySigned}
 use Rattle.x509_sct.specs.declared.signed.HashAlgorithm.TheVariants as hashes

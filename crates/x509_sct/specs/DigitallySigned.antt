@@ -1,8 +1,8 @@
 -- Signatures and their algorithms (RFC 5246 4.7, 7.4.1.4.1).
 use Rattle.std.specs.Prelude.{ℕ, List, [], ◌∷◌, refl}
-use Rattle.x509_sct_tls.specs.Form.{Form, IsForm, named, ◌⊗◌, struct}
-use Rattle.x509_sct_tls.specs.FormLaws.{AreNamed, named_lawful, pair_lawful, struct_lawful}
-use Rattle.x509_sct_tls.specs.Numbers.{vector16, vector16_lawful}
+use Rattle.x509_sct.specs.Form.{Form, IsForm, named, ◌⊗◌, struct}
+use Rattle.x509_sct.specs.FormLaws.{AreNamed, named_lawful, pair_lawful, struct_lawful}
+use Rattle.x509_sct.specs.Numbers.{vector16, vector16_lawful}
 use Rattle.x509_sct.specs.declared.signed.HashAlgorithm.{HashAlgorithm}
 use Rattle.x509_sct.specs.declared.signed.HashAlgorithm.TheVariants as hashes
 use Rattle.x509_sct.specs.declared.signed.SignatureAlgorithm.{SignatureAlgorithm}

@@ -2,8 +2,8 @@
 use Rattle.std.specs.Prelude.{refl}
 use Rattle.x509_der.specs.Exact.{IsExact, exact_number, exact_octets, exact_unit, exact_both, exact_last, exact_by, exact_cases, exact_bare}
 use Rattle.x509_der.specs.TagEquality.{exact_error}
-use Rattle.x509_sct_tls.specs.contracts.error.TlsError.{enum as tls_errors}
-use Rattle.x509_sct_tls.specs.contracts.error.TlsErrorPartialEq.TheImpl as tls_error_eq
+use Rattle.x509_sct.specs.contracts.tls.error.TlsError.{enum as tls_errors}
+use Rattle.x509_sct.specs.contracts.tls.error.TlsErrorPartialEq.TheImpl as tls_error_eq
 use Rattle.x509_sct.specs.contracts.entry.SignatureType.{enum as signature_types}
 use Rattle.x509_sct.specs.contracts.entry.SignatureTypePartialEq.TheImpl as signature_type_eq
 use Rattle.x509_sct.specs.contracts.error.Error.{enum as errors}

@@ -1,3 +1,16 @@
+pub mod Outcome
+pub mod FieldReading
+pub mod Form
+pub mod Steps
+pub mod FormLaws
+pub mod Numbers
+pub mod Items
+pub mod ItemsLaws
+pub mod Lists
+pub mod Answers
+pub mod AnswerLaws
+pub mod ListLaws
+pub mod Uniqueness
 pub mod DigitallySigned
 pub mod Timestamp
 pub mod TimestampList
@@ -6,4 +19,3 @@ pub mod Identifier
 pub mod Payload
 pub mod Poison
 pub mod Equality
-pub use Rattle.x509_sct_tls.specs as sct_tls

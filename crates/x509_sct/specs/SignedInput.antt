@@ -1,9 +1,9 @@
 -- What the signature of a timestamp is over (RFC 6962 3.2).
 use Rattle.std.specs.Prelude.{ℕ, ◌⊎◌, List, [], ◌∷◌, refl}
 use Rattle.std.proofs.Common.{inl, inr}
-use Rattle.x509_sct_tls.specs.Form.{Form, IsForm, fixed, named, ◌⊗◌, select}
-use Rattle.x509_sct_tls.specs.FormLaws.{AreNamed, fixed_lawful, named_lawful, pair_lawful, select_lawful}
-use Rattle.x509_sct_tls.specs.Numbers.{uint16, uint16_lawful, uint64, uint64_lawful, vector16, vector16_lawful, vector24, vector24_lawful}
+use Rattle.x509_sct.specs.Form.{Form, IsForm, fixed, named, ◌⊗◌, select}
+use Rattle.x509_sct.specs.FormLaws.{AreNamed, fixed_lawful, named_lawful, pair_lawful, select_lawful}
+use Rattle.x509_sct.specs.Numbers.{uint16, uint16_lawful, uint64, uint64_lawful, vector16, vector16_lawful, vector24, vector24_lawful}
 use Rattle.x509_sct.specs.Timestamp.{version, versions_named}
 use Rattle.x509_sct.specs.declared.entry.SignatureType.{SignatureType}
 use Rattle.x509_sct.specs.declared.entry.SignatureType.TheVariants.{CertificateTimestamp, TreeHash}

@@ -1,8 +1,8 @@
 -- Signed certificate timestamps (RFC 6962 3.2).
 use Rattle.std.specs.Prelude.{ℕ, List, [], ◌∷◌, refl}
-use Rattle.x509_sct_tls.specs.Form.{Form, IsForm, fixed, named, ◌⊗◌, struct}
-use Rattle.x509_sct_tls.specs.FormLaws.{AreNamed, fixed_lawful, named_lawful, pair_lawful, struct_lawful}
-use Rattle.x509_sct_tls.specs.Numbers.{uint64, uint64_lawful, vector16, vector16_lawful}
+use Rattle.x509_sct.specs.Form.{Form, IsForm, fixed, named, ◌⊗◌, struct}
+use Rattle.x509_sct.specs.FormLaws.{AreNamed, fixed_lawful, named_lawful, pair_lawful, struct_lawful}
+use Rattle.x509_sct.specs.Numbers.{uint64, uint64_lawful, vector16, vector16_lawful}
 use Rattle.x509_sct.specs.DigitallySigned.{digitally_signed, digitally_signed_lawful}
 use Rattle.x509_sct.specs.declared.signed.DigitallySigned.{DigitallySigned}
 use Rattle.x509_sct.specs.declared.timestamp.Version.{Version}

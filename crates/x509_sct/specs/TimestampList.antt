@@ -1,11 +1,11 @@
 -- Serialized timestamps, and lists of them (RFC 6962 3.3).
 use Rattle.std.specs.Prelude.{ℕ, List, refl}
-use Rattle.x509_sct_tls.specs.Form.{Form, IsForm, struct}
-use Rattle.x509_sct_tls.specs.FormLaws.{struct_lawful}
-use Rattle.x509_sct_tls.specs.Numbers.{uint16, vector16, vector16_lawful, uint16_moves}
-use Rattle.x509_sct_tls.specs.Items.{Moves}
-use Rattle.x509_sct_tls.specs.ItemsLaws.{counted_moves, struct_moves}
-use Rattle.x509_sct_tls.specs.Lists.{IsList}
+use Rattle.x509_sct.specs.Form.{Form, IsForm, struct}
+use Rattle.x509_sct.specs.FormLaws.{struct_lawful}
+use Rattle.x509_sct.specs.Numbers.{uint16, vector16, vector16_lawful, uint16_moves}
+use Rattle.x509_sct.specs.Items.{Moves}
+use Rattle.x509_sct.specs.ItemsLaws.{counted_moves, struct_moves}
+use Rattle.x509_sct.specs.Lists.{IsList}
 use Rattle.x509_sct.specs.declared.serialized.SerializedSct.{SerializedSct}
 
 -- SerializedSCT: opaque<0..2^16-1>; one without bytes is read and written too

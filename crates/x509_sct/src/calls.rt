@@ -5,9 +5,9 @@ ghost use Rattle.x509_sct.specs.DigitallySigned.{digitally_signed, hash_algorith
 ghost use Rattle.x509_sct.specs.SignedInput.{signature_type};
 ghost use Rattle.x509_sct.specs.Timestamp.{log_id, timestamp, version};
 ghost use Rattle.x509_sct.specs.TimestampList.{serialized};
-ghost use Rattle.x509_sct_tls.specs.declared.error.TlsError.TheVariants.{Memory};
-ghost use Rattle.x509_sct_tls.specs.Answers.{AnswersFront};
-ghost use Rattle.x509_sct_tls.specs.Form.{Spells};
+ghost use Rattle.x509_sct.specs.declared.tls.error.TlsError.TheVariants.{Memory};
+ghost use Rattle.x509_sct.specs.Answers.{AnswersFront};
+ghost use Rattle.x509_sct.specs.Form.{Spells};
 
 use crate::entry::SignatureType;
 use crate::serialized::SerializedSct;
@@ -15,8 +15,8 @@ use crate::signed::{
     DigitallySigned, HashAlgorithm, SignatureAlgorithm, SignatureAndHashAlgorithm,
 };
 use crate::timestamp::{LogId, SignedCertificateTimestamp, Version};
+use crate::tls::{Tls, TlsError};
 use std::alloc::Global;
-use x509_sct_tls::{Tls, TlsError};
 
 impl Version {
     /// The encoding of the version in TLS.

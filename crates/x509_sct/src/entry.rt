@@ -2,13 +2,13 @@
 
 ghost use Rattle.std.specs.Prelude.{◌≡◌, ◌⊎◌, ◌++◌, IfOk, IfErr, OnOk};
 ghost use Rattle.x509_sct.specs.SignedInput.{certificate_of, entry_of, signed_entry, signed_input, signed_of};
-ghost use Rattle.x509_sct_tls.specs.declared.error.TlsError.TheVariants.{InvalidVectorLength, Memory};
-ghost use Rattle.x509_sct_tls.specs.Form.{Spells};
-ghost use Rattle.x509_sct_tls.specs.Numbers.{vector24};
+ghost use Rattle.x509_sct.specs.declared.tls.error.TlsError.TheVariants.{InvalidVectorLength, Memory};
+ghost use Rattle.x509_sct.specs.Form.{Spells};
+ghost use Rattle.x509_sct.specs.Numbers.{vector24};
 
 use crate::timestamp::SignedCertificateTimestamp;
+use crate::tls::{NamedByte, Tls, TlsError, put_vector24, vector24_len};
 use std::alloc::{AllocError, Global};
-use x509_sct_tls::{NamedByte, Tls, TlsError, put_vector24, vector24_len};
 
 /// What a log signs (RFC 6962 section 3.2).
 #[derive(Clone, Copy, Debug, PartialEq, Eq)]

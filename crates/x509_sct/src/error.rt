@@ -3,8 +3,8 @@
 ghost use Rattle.std.specs.Prelude.{◌≡◌};
 ghost use Rattle.x509_sct.specs.declared.error.Error.TheVariants.{Der, Tls};
 
+use crate::tls::TlsError;
 use x509_der::Error as DerError;
-use x509_sct_tls::TlsError;
 
 /// Why a call on timestamps was refused.
 #[derive(Clone, Copy, Debug, PartialEq, Eq, thiserror::Error)]

@@ -19,7 +19,7 @@ ghost use Rattle.x509_sct.specs.declared.signed.SignatureAndHashAlgorithm.{Signa
 ghost use Rattle.x509_sct.specs.declared.timestamp.LogId.{LogId};
 ghost use Rattle.x509_sct.specs.declared.timestamp.SignedCertificateTimestamp.{SignedCertificateTimestamp};
 ghost use Rattle.x509_sct.specs.declared.timestamp.Version.{Version};
-ghost use Rattle.x509_sct_tls.specs.Form.{Spells};
+ghost use Rattle.x509_sct.specs.Form.{Spells};
 
 use crate::entry::SignatureType;
 use crate::error::Error;
@@ -29,8 +29,8 @@ use crate::signed::{
     DigitallySigned, HashAlgorithm, SignatureAlgorithm, SignatureAndHashAlgorithm,
 };
 use crate::timestamp::{LogId, SignedCertificateTimestamp, Version};
+pub use crate::tls::laws as tls;
 use x509_der::Grammar;
-pub use x509_sct_tls::laws as sct_tls;
 
 /// The OID of the list is 1.3.6.1.4.1.11129.2.4.2 (RFC 6962 section 3.3).
 #[tactic(auto, unfolding(x509_der::specs::Arcs::subidentifier))]
@@ -52,7 +52,7 @@ pub fn timestamps_are_read_as_meant()
     ensures parsed { (list : SignedCertificateTimestampList) (made found : List SerializedSct) → IsTimestampList made list.0 → IsTimestampList found list.0 → found ≡ made }
     ensures timestamp { (made found : SignedCertificateTimestamp) (bytes : List ℕ) → Spells timestamp made bytes → Spells timestamp found bytes → found ≡ made }
 {
-    x509_sct_tls::laws::one_list::<SerializedSct>();
+    crate::tls::laws::one_list::<SerializedSct>();
 }
 
 /// The bytes that a log's signature is over tell the version, the time, the entry and the extensions.

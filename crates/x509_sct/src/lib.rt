@@ -1,5 +1,5 @@
 //! Signed certificate timestamps, SCTs (RFC 6962 sections 3.2 and 3.3): the extension that holds them, their encoding
-//! in TLS, what they say, and what their signatures are over; and the poison extension of precertificates (section 3.1).
+//! in [`tls`], what they say, and what their signatures are over; and the poison extension of precertificates (section 3.1).
 //! Words of our own, such as law, are explained in `docs/MAP.md`.
 #![tactic(auto)]
 
@@ -12,6 +12,7 @@ mod poison;
 mod serialized;
 mod signed;
 mod timestamp;
+pub mod tls;
 
 pub use entry::{PreCert, SignatureType, SignedEntry};
 pub use error::Error;
@@ -20,4 +21,4 @@ pub use poison::CtPrecertificatePoison;
 pub use serialized::SerializedSct;
 pub use signed::{DigitallySigned, HashAlgorithm, SignatureAlgorithm, SignatureAndHashAlgorithm};
 pub use timestamp::{LogId, SignedCertificateTimestamp, Version};
-pub use x509_sct_tls::{Tls, TlsByteVecU16, TlsError};
+pub use tls::{Tls, TlsByteVecU16, TlsError};

@@ -3,21 +3,21 @@
 ghost use Rattle.std.specs.Prelude.{◌≡◌, ◌<◌, ◌≤◌, ◌⊎◌, length, IfOk, IfErr};
 ghost use Rattle.x509_sct.specs.declared.error.Error.TheVariants as errors;
 ghost use Rattle.x509_sct.specs.TimestampList.{serialized, IsTimestampList};
-ghost use Rattle.x509_sct_tls.specs.declared.error.TlsError.TheVariants.{InvalidVectorLength, Memory};
-ghost use Rattle.x509_sct_tls.specs.Answers.{Answers};
-ghost use Rattle.x509_sct_tls.specs.Items.{joined};
-ghost use Rattle.x509_sct_tls.specs.Lists.{ListFault};
-ghost use Rattle.x509_sct_tls.specs.Numbers.{uint16};
+ghost use Rattle.x509_sct.specs.declared.tls.error.TlsError.TheVariants.{InvalidVectorLength, Memory};
+ghost use Rattle.x509_sct.specs.Answers.{Answers};
+ghost use Rattle.x509_sct.specs.Items.{joined};
+ghost use Rattle.x509_sct.specs.Lists.{ListFault};
+ghost use Rattle.x509_sct.specs.Numbers.{uint16};
 
 use crate::error::Error;
 use crate::serialized::SerializedSct;
+use crate::tls::{read_list, serialize_list};
 use std::alloc::Global;
 use x509_der::{
     AssociatedOid, EncodingOrd, Newtype, NewtypeOrd, ObjectIdentifier, SetMember, SetOrd, oid,
 };
 use x509_ext::{FixedCriticality, Never};
 use x509_prim::OctetString;
-use x509_sct_tls::{read_list, serialize_list};
 
 // 1.3.6.1.4.1.11129.2.4.2 (RFC 6962 section 3.3)
 const EMBEDDED_TIMESTAMPS: ObjectIdentifier = oid!(

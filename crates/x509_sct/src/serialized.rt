@@ -3,14 +3,14 @@
 ghost use Rattle.std.specs.Prelude.{◌≡◌, ◌<◌, ◌≤◌, ◌⊎◌, length, IfOk, IfErr};
 ghost use Rattle.x509_sct.specs.declared.error.Error.TheVariants as errors;
 ghost use Rattle.x509_sct.specs.Timestamp.{timestamp as form};
-ghost use Rattle.x509_sct_tls.specs.declared.error.TlsError.TheVariants.{InvalidVectorLength, Memory};
-ghost use Rattle.x509_sct_tls.specs.Answers.{Answers};
-ghost use Rattle.x509_sct_tls.specs.Form.{Spells, IsWholeFault};
+ghost use Rattle.x509_sct.specs.declared.tls.error.TlsError.TheVariants.{InvalidVectorLength, Memory};
+ghost use Rattle.x509_sct.specs.Answers.{Answers};
+ghost use Rattle.x509_sct.specs.Form.{Spells, IsWholeFault};
 
 use crate::error::Error;
 use crate::timestamp::SignedCertificateTimestamp;
+use crate::tls::{Tls, TlsByteVecU16, TlsError, TlsItem, read_whole, serialize_vector};
 use std::alloc::{AllocError, Global};
-use x509_sct_tls::{Tls, TlsByteVecU16, TlsError, TlsItem, read_whole, serialize_vector};
 
 /// The bytes of a timestamp, as a list holds them (RFC 6962 section 3.3). They needn't be those of a timestamp of a
 /// known version, and may be none.
@@ -52,7 +52,7 @@ impl SerializedSct {
     }
 }
 
-#[tactic(auto, unfolding(x509_sct_tls::specs::FieldReading::struct_at))]
+#[tactic(auto, unfolding(crate::specs::FieldReading::struct_at))]
 impl Tls for SerializedSct {
     ghost use Rattle.std.specs.Prelude.{◌≡◌, ◌≤◌, length};
     ghost use Rattle.x509_sct.specs.TimestampList as grammar;

@@ -1,7 +1,7 @@
 //! Signatures and their algorithms.
 
+use crate::tls::{NamedByte, Tls, TlsByteVecU16, TlsError};
 use std::alloc::{AllocError, Global};
-use x509_sct_tls::{NamedByte, Tls, TlsByteVecU16, TlsError};
 
 /// A hash algorithm (RFC 5246 section 7.4.1.4.1).
 #[derive(Clone, Copy, Debug, PartialEq, Eq)]
@@ -133,7 +133,7 @@ pub struct SignatureAndHashAlgorithm {
     pub signature: SignatureAlgorithm,
 }
 
-#[tactic(auto, unfolding(x509_sct_tls::specs::FieldReading::struct_at))]
+#[tactic(auto, unfolding(crate::specs::FieldReading::struct_at))]
 impl Tls for SignatureAndHashAlgorithm {
     ghost use Rattle.x509_sct.specs.DigitallySigned as grammar;
 
@@ -169,7 +169,7 @@ pub struct DigitallySigned {
     pub signature: TlsByteVecU16,
 }
 
-#[tactic(auto, unfolding(x509_sct_tls::specs::FieldReading::struct_at))]
+#[tactic(auto, unfolding(crate::specs::FieldReading::struct_at))]
 impl Tls for DigitallySigned {
     ghost use Rattle.std.specs.Prelude.{◌≡◌, ◌≤◌, length};
     ghost use Rattle.x509_sct.specs.DigitallySigned as grammar;

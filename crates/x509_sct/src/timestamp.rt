@@ -5,11 +5,11 @@ ghost use Rattle.x509_base.specs.CivilTime.{CivilTime, last_date_time, IsDateTim
 ghost use Rattle.x509_der.specs.declared.error.ErrorKind.TheVariants.{Value};
 
 use crate::signed::DigitallySigned;
+use crate::tls::{NamedByte, Tls, TlsByteVecU16, TlsError};
 use std::alloc::{AllocError, Global};
 use std::time::Duration;
 use x509_base::DateTime;
 use x509_der::Error;
-use x509_sct_tls::{NamedByte, Tls, TlsByteVecU16, TlsError};
 
 /// The version of a timestamp (RFC 6962 section 3.2).
 #[derive(Clone, Copy, Debug, PartialEq, Eq)]
@@ -50,7 +50,7 @@ pub struct LogId {
     pub key_id: [u8; 32],
 }
 
-#[tactic(auto, unfolding(x509_sct_tls::specs::FieldReading::struct_at))]
+#[tactic(auto, unfolding(crate::specs::FieldReading::struct_at))]
 impl Tls for LogId {
     ghost use Rattle.x509_sct.specs.Timestamp as grammar;
 
@@ -110,7 +110,7 @@ impl SignedCertificateTimestamp {
     }
 }
 
-#[tactic(auto, unfolding(x509_sct_tls::specs::FieldReading::struct_at, crate::specs::Timestamp::timestamp_fields))]
+#[tactic(auto, unfolding(crate::specs::FieldReading::struct_at, crate::specs::Timestamp::timestamp_fields))]
 impl Tls for SignedCertificateTimestamp {
     ghost use Rattle.x509_sct.specs.Timestamp as grammar;
 

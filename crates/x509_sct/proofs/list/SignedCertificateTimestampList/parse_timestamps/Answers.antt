@@ -1,6 +1,6 @@
 use Rattle.std.proofs.lemmas.Result.{err_from_is_err_and}
 use Rattle.x509_sct.specs.declared.error.Error.TheVariants as errors
-use Rattle.x509_sct_tls.specs.AnswerLaws.{hands_on, hands_on_fault}
+use Rattle.x509_sct.specs.AnswerLaws.{hands_on, hands_on_fault}
 use Rattle.x509_sct.proofs.list.SignedCertificateTimestampList.parse_timestamps.Goals as goal
 
 pub returns-in_err-read_list : goal.returns-in_err-read_list
