@@ -1,6 +1,6 @@
 -- CRLs that a program made, under the rules of RFC 5280.
 use Rattle.std.proofs.lemmas.List.Elements.{All-weaker}
-use Rattle.std.specs.Prelude.{◌≡◌, ℕ, ◌≤◌, List, length, Ok}
+use Rattle.std.specs.Prelude.{◌≡◌, ◌≤◌, length, Ok}
 use Rattle.x509_base.specs.Profiles.{rfc5280_serial_number}
 use Rattle.x509_cert.specs.Made.{MadeList}
 use Rattle.x509_cert.specs.declared.crl.tbs_cert_list.TbsCertList.{TbsCertList}

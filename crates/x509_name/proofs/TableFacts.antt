@@ -49,10 +49,6 @@ names_again : map (λ key. key_named key.name) keys ≡ map Some keys
 unfolding keys key_named
 names_again = refl
 
-octets_again : map (λ key. key_of key.octets) keys ≡ map Some keys
-unfolding keys key_of
-octets_again = refl
-
 -- the standards' table
 pub as_the_standards_say : keys ≡ attribute_names
 unfolding keys attribute_names subidentifier
