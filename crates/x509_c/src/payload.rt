@@ -1,6 +1,6 @@
 //! What the values of extensions hold.
 
-ghost use Rattle.std.specs.Prelude.{◌≡◌, ◌≤◌, ◌<◌, ◌+◌};
+ghost use Rattle.std.specs.Prelude.{◌≡◌, ◌≤◌, ◌<◌, ◌+◌, List, ℕ};
 ghost use Rattle.x509_c_calls.specs.BasicConstraints.{IsBasicConstraints};
 ghost use Rattle.x509_c_calls.specs.Cursor.{Steps};
 ghost use Rattle.x509_c_calls.specs.PayloadExtensions.{IsExtensionEntry};
@@ -10,6 +10,7 @@ ghost use Rattle.x509_c_calls.specs.Place.{IsAt};
 ghost use Rattle.x509_c_calls.specs.Calls.{Reads};
 ghost use Rattle.x509_c_calls.specs.Status.{Fills, Tells};
 ghost use Rattle.x509_c_calls.specs.declared.status.status.Status.TheVariants.{Refused};
+ghost use Rattle.x509_der.specs.Arcs.{AreArcs, content_of};
 ghost use Rattle.x509_der.specs.declared.error.ErrorKind.TheVariants.{Malformed, Memory};
 
 use std::alloc::Global;
@@ -104,7 +105,7 @@ pub extern "C" fn x509_oid_text(
     room: &mut [u8],
     written: &mut usize,
 ) -> i32
-    ensures { Tells (λ status. Fills (λ answer. IsDotted content.now answer) room.old room.new written.old written.new status) result }
+    ensures { Tells (λ status. Fills (λ answer. IsDotted content.now answer) room.old room.new written.old written.new status × (status ≡ Refused Memory → (arcs : List ℕ) × AreArcs arcs × (content.now ≡ content_of arcs))) result }
 {
     oid_text(alloc, content, room, written).code()
 }

@@ -1,10 +1,13 @@
 //! Texts of serial numbers and of times, and the version.
 
-ghost use Rattle.std.specs.Prelude.{◌≡◌, []};
+ghost use Rattle.std.specs.Prelude.{◌≡◌, ◌≤◌, []};
+ghost use Rattle.x509_base.specs.CivilTime.{last_date_time, unix_seconds};
 ghost use Rattle.x509_c_calls.specs.Texts.{IsSerialText, IsTimeText};
 ghost use Rattle.x509_c_calls.specs.Place.{IsAt};
 ghost use Rattle.x509_c_calls.specs.Calls.{Reads};
 ghost use Rattle.x509_c_calls.specs.Status.{Fills, Tells};
+ghost use Rattle.x509_c_calls.specs.declared.status.status.Status.TheVariants.{Refused};
+ghost use Rattle.x509_der.specs.declared.error.ErrorKind.TheVariants.{Memory};
 
 use std::alloc::Global;
 use x509_base::{Rfc5280, SerialNumber};
@@ -40,7 +43,7 @@ pub extern "C" fn x509_time_text(
     room: &mut [u8],
     written: &mut usize,
 ) -> i32
-    ensures { Tells (λ status. Fills (λ answer. IsTimeText moment answer) room.old room.new written.old written.new status) result }
+    ensures { Tells (λ status. Fills (λ answer. IsTimeText moment answer) room.old room.new written.old written.new status × (status ≡ Refused Memory → moment ≤ unix_seconds last_date_time)) result }
 {
     time_text(alloc, moment, room, written).code()
 }

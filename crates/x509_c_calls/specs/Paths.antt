@@ -1,5 +1,5 @@
 -- What a call leaves that checks a path of certificates apart from their signatures.
-use Rattle.std.specs.Prelude.{◌≡◌, ◌<◌, ◌⊎◌, ℕ, List, []}
+use Rattle.std.specs.Prelude.{◌≡◌, ◌<◌, ◌≤◌, ◌⊎◌, ℕ, List, []}
 use Rattle.x509_base.specs.CivilTime.{CivilTime, IsDateTime, last_date_time, unix_seconds}
 use Rattle.x509_c_calls.specs.Pieces.{AreCut}
 use Rattle.x509_c_calls.specs.declared.path.path.Fault.{Fault}
@@ -52,7 +52,7 @@ pub record Asked (anchor_bytes bytes lens : List ℕ) (seconds : ℕ) : Type 0 w
 -- why such a call is refused before the path is looked at
 abbrev pub IsRefusedCall : (ErrorKind → Type 0) → List ℕ → List ℕ → List ℕ → ℕ → ErrorKind → Type 0
 IsRefusedCall refuses anchor_bytes bytes lens seconds e =
-    (e ≡ kinds.Memory)
+    ((e ≡ kinds.Memory) × (seconds ≤ unix_seconds last_date_time))
     ⊎ (((e ≡ kinds.Value) × (unix_seconds last_date_time < seconds))
     ⊎ (((e ≡ kinds.Failed) × ((inputs : List (List ℕ)) → AreCut bytes lens inputs → ⊥))
     ⊎ IsRefused rfc5280_certificate refuses anchor_bytes e))

@@ -1,11 +1,12 @@
 //! OIDs: the purposes of an ExtendedKeyUsage one after the other, and OIDs as texts.
 
-ghost use Rattle.std.specs.Prelude.{◌≡◌};
+ghost use Rattle.std.specs.Prelude.{◌≡◌, List, ℕ};
 ghost use Rattle.x509_c_calls.specs.Cursor.{Steps};
 ghost use Rattle.x509_c_calls.specs.Identifiers.{IsDotted, IsIdentified};
 ghost use Rattle.x509_c_calls.specs.Place.{IsAt};
 ghost use Rattle.x509_c_calls.specs.Status.{Fills};
 ghost use Rattle.x509_c_calls.specs.declared.status.status.Status.TheVariants.{Refused};
+ghost use Rattle.x509_der.specs.Arcs.{AreArcs, content_of};
 ghost use Rattle.x509_der.specs.declared.error.ErrorKind.TheVariants.{Memory};
 
 use crate::payloads::cursor::next;
@@ -40,10 +41,11 @@ pub fn identifiers_next(alloc: Global, input: &[u8], at: &mut usize, found: &mut
 /// # Errors
 ///
 /// [`Status::NoRoom`] where the buffer is too small; then `written` is the needed length. `Malformed` exactly where no
-/// OID has the content octets. `Memory` when out of memory.
+/// OID has the content octets; else `Memory` when out of memory.
 #[tactic(auto, unfolding(crate::specs::Status::Fills))]
 pub fn oid_text(alloc: Global, content: &[u8], room: &mut [u8], written: &mut usize) -> Status
-    ensures { Fills (λ answer. IsDotted content.now answer) room.old room.new written.old written.new result }
+    ensures filled { Fills (λ answer. IsDotted content.now answer) room.old room.new written.old written.new result }
+    ensures memory { result ≡ Refused Memory → (arcs : List ℕ) × AreArcs arcs × (content.now ≡ content_of arcs) }
 {
     let oid = match ObjectIdentifier::from_bytes(content) {
         Ok(oid) => oid,

@@ -1,7 +1,11 @@
 //! Texts of serial numbers and of times.
 
+ghost use Rattle.std.specs.Prelude.{◌≡◌, ◌≤◌};
+ghost use Rattle.x509_base.specs.CivilTime.{last_date_time, unix_seconds};
 ghost use Rattle.x509_c_calls.specs.Texts.{IsSerialText, IsTimeText};
 ghost use Rattle.x509_c_calls.specs.Status.{Fills};
+ghost use Rattle.x509_c_calls.specs.declared.status.status.Status.TheVariants.{Refused};
+ghost use Rattle.x509_der.specs.declared.error.ErrorKind.TheVariants.{Memory};
 
 use crate::{Status, fill};
 use std::alloc::Global;
@@ -24,10 +28,11 @@ pub fn serial_text(alloc: Global, content: &[u8], room: &mut [u8], written: &mut
     }
 }
 
-/// Puts the text of a moment, in seconds since 1970-01-01T00:00:00Z, at the front of the room, as `2026-01-02T03:04:05Z`. `Value` exactly after 9999-12-31T23:59:59Z.
+/// Puts the text of a moment, in seconds since 1970-01-01T00:00:00Z, at the front of the room, as `2026-01-02T03:04:05Z`. `Value` exactly after 9999-12-31T23:59:59Z, and `Memory` only up to it.
 #[tactic(auto, unfolding(crate::specs::Status::Fills))]
 pub fn time_text(alloc: Global, moment: u64, room: &mut [u8], written: &mut usize) -> Status
-    ensures { Fills (λ answer. IsTimeText moment answer) room.old room.new written.old written.new result }
+    ensures filled { Fills (λ answer. IsTimeText moment answer) room.old room.new written.old written.new result }
+    ensures memory { result ≡ Refused Memory → moment ≤ unix_seconds last_date_time }
 {
     let date_time = match DateTime::from_unix_duration(Duration::from_secs(moment)) {
         Ok(date_time) => date_time,

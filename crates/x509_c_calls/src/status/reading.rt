@@ -1,7 +1,8 @@
 //! Decoding a value.
 
-ghost use Rattle.std.specs.Prelude.{◌≡◌, ◌⊎◌, MatchResult};
+ghost use Rattle.std.specs.Prelude.{◌≡◌, ◌≤◌, ◌⊎◌, length, MatchResult};
 ghost use Rattle.x509_c_calls.specs.Calls.{Checks};
+ghost use Rattle.x509_der.specs.Element.{limit};
 ghost use Rattle.x509_der.specs.declared.error.ErrorKind.TheVariants.{Memory};
 ghost use Rattle.x509_types.specs.Reencoding.{IsRefused};
 ghost use Rattle.x509_der.specs.Form.{Spells};
@@ -31,7 +32,7 @@ pub fn check<T: Decode + Drop>(alloc: Global, input: &[u8]) -> Status
 ///
 /// As [`Decode::from_der`]; `Memory` when out of memory.
 pub fn read<T: Decode>(alloc: Global, input: &[u8]) -> Result<T, ErrorKind>
-    ensures { MatchResult result (λ value. Spells T.form value input.now) (λ e. (e ≡ Memory) ⊎ IsRefused T.form T.refuses input.now e) }
+    ensures { MatchResult result (λ value. Spells T.form value input.now) (λ e. ((e ≡ Memory) × (length input.now ≤ limit)) ⊎ IsRefused T.form T.refuses input.now e) }
 {
     match T::from_der(alloc, input) {
         Ok(value) => Ok(value),

@@ -1,9 +1,15 @@
-use Rattle.std.proofs.Common.{◌≡◌, ◌∙◌, List, ℕ, Bor, inl, map, ap, sym, subst, arith}
-use Rattle.x509_base.specs.CivilTime.{unix_seconds}
+use Rattle.std.proofs.Common.{◌≡◌, ◌≤◌, ◌∙◌, refl, List, ℕ, Bor, inl, inr, map, ap, sym, subst, arith}
+use Rattle.x509_base.specs.CivilTime.{last_date_time, unix_seconds}
 use Rattle.x509_c_calls.specs.Paths.{Asked, ChecksPath, Tells}
 use Rattle.x509_c_calls.specs.Pieces.{AreCut}
 use Rattle.x509_path.specs.Path.{subject_of}
 use Rattle.x509_c_calls.proofs.path.path.path_check.Goals as goal
+
+pub returns-in-Err-read : goal.returns-in-Err-read
+unfolding ChecksPath
+returns-in-Err-read c =
+    let within : c.args.seconds ≤ unix_seconds last_date_time = omega (arith, c.in-Ok.ensures.succeeds.0 refl, c.from_secs.ensures) in
+    inr (c.in-Err-read.e, refl, refl, elim c.in-Err-read.ensures [ inl memory ↦ inl (memory.0, within) | inr refused ↦ inr (inr (inr refused)) ])
 
 pub returns-in-Ok-from_certificate : goal.returns-in-Ok-from_certificate
 unfolding ChecksPath
@@ -16,3 +22,9 @@ returns-in-Ok-from_certificate c =
     let told = subst (λ a. Tells c.in-Ok.moment a inputs c.args.fault.now c.tell.new.fault c.tell.result) c.in-Ok-from_certificate.ensures.ok
     (subst (λ xs. Tells c.in-Ok.moment c.in-Ok-from_certificate.anchor xs c.args.fault.now c.tell.new.fault c.tell.result) lent c.tell.ensures) in
     inl (asked, told)
+
+pub returns : goal.returns
+unfolding ChecksPath
+returns c =
+    let within : c.args.seconds ≤ unix_seconds last_date_time = omega (arith, c.in-Ok.ensures.succeeds.0 refl, c.from_secs.ensures) in
+    inr (c.in-Err-from_certificate.e.kind, c.into-in-Err-from_certificate.ensures, refl, inl (c.in-Err-from_certificate.ensures.err, within))
