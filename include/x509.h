@@ -243,6 +243,11 @@ typedef struct {
  * Answers X509_OK, X509_MEMORY, X509_OVERLENGTH, X509_MALFORMED, X509_ABSENT. */
 x509_status x509_certificate_policies_next(const uint8_t *value, size_t len, size_t *at, x509_policy *found);
 
+/* The same of a CertificatePolicies under an implicit tag [number] of the context-specific class, as within the constraints of a trust anchor.
+ * X509_MALFORMED also where the number is above 30.
+ * Answers X509_OK, X509_MEMORY, X509_OVERLENGTH, X509_MALFORMED, X509_ABSENT. */
+x509_status x509_certificate_policies_under_next(uint32_t number, const uint8_t *value, size_t len, size_t *at, x509_policy *found);
+
 typedef struct {
     x509_span identifier; /* the content octets of the qualifier's identifier, as of 1.3.6.1.5.5.7.2.1 for the address of a practice statement */
     x509_span qualifier;  /* a whole element, which isn't looked into; 0 and 0 where it is left out */
@@ -400,6 +405,11 @@ x509_status x509_serial_text(const uint8_t *content, size_t len, uint8_t *out, s
  * Answers X509_OK, X509_ROOM, X509_MEMORY, X509_VALUE. */
 x509_status x509_time_text(uint64_t moment, uint8_t *out, size_t room, size_t *written);
 
+/* Writes what a status means in a few words, such as "out of memory" (ASCII, no zero at the end). X509_FAILED where no status has the number. It takes
+ * no memory.
+ * Answers X509_OK, X509_ROOM, X509_FAILED. */
+x509_status x509_status_text(x509_status status, uint8_t *out, size_t room, size_t *written);
+
 /* The version of this header, and that of the library that is linked, as one number: 65,536 * MAJOR + 256 * MINOR + PATCH. */
 #define X509_VERSION_MAJOR 0
 #define X509_VERSION_MINOR 1
@@ -480,6 +490,207 @@ typedef struct {
  * Answers X509_OK, X509_MEMORY, X509_OVERLENGTH, X509_MALFORMED, X509_FAILED, X509_ABSENT. */
 x509_status x509_crl_lookup(const uint8_t *in, size_t len, const uint8_t *serial_number, size_t serial_number_len,
                             x509_revocation *revocation);
+
+/* The spans are whole elements; of what is left out both numbers are 0. What is said or not is 1 or 0. */
+typedef struct {
+    uint32_t version;          /* 1 where it is left out, as in a CRL of v1; else 1, 2 or 3, of which RFC 5280 5.1.2.1 wants 2 */
+    x509_span inner_algorithm; /* the algorithm within the signed part, which is to be that of `signature` (RFC 5280 5.1.1.2); that isn't checked */
+    x509_span issuer;          /* a Name */
+    uint64_t this_update;
+    uint32_t has_next_update;
+    uint64_t next_update; /* 0 where it is left out */
+    x509_span entries;    /* the SEQUENCE of entries, for x509_crl_entry_next */
+    x509_span extensions; /* the SEQUENCE of extensions, from its 30 on, within the tag [0]; for x509_extensions_next */
+    x509_signature signature;
+} x509_crl;
+
+/* Decodes a CRL of v1 or v2 under RFC 5280, and says what it holds and where. Answers as x509_crl_check. */
+x509_status x509_crl_view(const uint8_t *in, size_t len, x509_crl *view);
+
+typedef struct {
+    x509_span serial_number; /* an INTEGER, a whole element, as in the view of a certificate */
+    uint64_t date;           /* when it was revoked */
+    x509_span extensions;    /* the SEQUENCE of its extensions, for x509_extensions_next, such as a reason code (2.5.29.21); 0 and 0 where absent */
+} x509_crl_entry;
+
+/* The entries of a CRL, one after the other; `value` is `entries` of its view, and the walk is as said under values of extensions. All steps together
+ * take time in proportion to the bytes.
+ * Answers X509_OK, X509_MEMORY, X509_OVERLENGTH, X509_MALFORMED, X509_ABSENT. */
+x509_status x509_crl_entry_next(const uint8_t *value, size_t len, size_t *at, x509_crl_entry *found);
+
+/* ---- CSRs (PKCS #10 requests) */
+
+/* Each span is a whole element. */
+typedef struct {
+    uint32_t version;                  /* 1 */
+    x509_span subject;                 /* a Name */
+    x509_span subject_public_key_info; /* the public key and its algorithm, for x509_key_view */
+    x509_span attributes;              /* the attributes under the tag [0], for x509_request_attribute_next */
+    x509_signature signature;          /* what is to be verified, with the CSR's own key */
+} x509_request;
+
+/* Decodes a CSR, and says what it holds and where. Answers as x509_request_check. */
+x509_status x509_request_view(const uint8_t *in, size_t len, x509_request *view);
+
+typedef struct {
+    x509_span oid;    /* the content octets of the OID of its type, as of 1.2.840.113549.1.9.7 for a challenge password */
+    x509_span values; /* its values, a whole SET, for x509_attribute_value_next */
+} x509_request_attribute;
+
+/* The attributes of a CSR, one after the other; `value` is `attributes` of its view, and the walk is as said under values of extensions. Whether they
+ * are in order, and all different, isn't looked at here, but by x509_request_view.
+ * Answers X509_OK, X509_MEMORY, X509_OVERLENGTH, X509_MALFORMED, X509_ABSENT. */
+x509_status x509_request_attribute_next(const uint8_t *value, size_t len, size_t *at, x509_request_attribute *found);
+
+/* Decodes a CSR, and finds its attribute of a type, whose OID is given by its content octets. X509_ABSENT where there is none, X509_REPEATED where there
+ * are two or more. Else refused as x509_request_check is.
+ * Answers X509_OK, X509_MEMORY, X509_OVERLENGTH, X509_MALFORMED, X509_ABSENT, X509_REPEATED. */
+x509_status x509_request_attribute_find(const uint8_t *in, size_t len, const uint8_t *oid, size_t oid_len, x509_request_attribute *found);
+
+typedef struct {
+    uint32_t tag;      /* its identifier octet, as 0x0c for UTF8String */
+    x509_span element; /* the whole element */
+    x509_span content; /* its content octets, which aren't looked at */
+} x509_element;
+
+/* The values of an attribute, a SET, one after the other. Whether they are in order, and all different, isn't looked at.
+ * Answers X509_OK, X509_MEMORY, X509_OVERLENGTH, X509_MALFORMED, X509_ABSENT. */
+x509_status x509_attribute_value_next(const uint8_t *value, size_t len, size_t *at, x509_element *found);
+
+/* Decodes a CSR, and says where the extensions stand that it asks for (RFC 2985 5.4.2), a whole element, for x509_extensions_next: the one value of its
+ * one attribute of the type 1.2.840.113549.1.9.14. The value isn't decoded here. X509_ABSENT where there is no such attribute, X509_REPEATED where there
+ * are two or more, X509_FAILED where the only one has no value, or more than one. Else refused as x509_request_check is.
+ * Answers X509_OK, X509_MEMORY, X509_OVERLENGTH, X509_MALFORMED, X509_FAILED, X509_ABSENT, X509_REPEATED. */
+x509_status x509_request_extensions(const uint8_t *in, size_t len, x509_span *found);
+
+/* ---- keys and algorithms */
+
+/* Kinds of public keys, by the OID of their algorithm, and of elliptic curves by the name of the curve. */
+#define X509_KEY_OTHER 0
+#define X509_KEY_RSA 1     /* rsaEncryption (RFC 3279 2.3.1) */
+#define X509_KEY_RSA_PSS 2 /* id-RSASSA-PSS (RFC 4055 1.2) */
+#define X509_KEY_DSA 3     /* id-dsa (RFC 3279 2.3.2) */
+#define X509_KEY_EC_P256 4 /* id-ecPublicKey with secp256r1 (RFC 5480 2.1.1.1) */
+#define X509_KEY_EC_P384 5 /* with secp384r1 */
+#define X509_KEY_EC_P521 6 /* with secp521r1 */
+#define X509_KEY_EC_OTHER 7 /* with another curve, or with one that isn't named */
+#define X509_KEY_ED25519 8 /* RFC 8410 3 */
+#define X509_KEY_ED448 9
+#define X509_KEY_X25519 10
+#define X509_KEY_X448 11
+
+typedef struct {
+    uint32_t kind;        /* one of these numbers */
+    x509_span oid;        /* the content octets of the OID of its algorithm */
+    x509_span parameters; /* the parameters of its algorithm, a whole element, looked at for the name of a curve alone; 0 and 0 where absent */
+    x509_span bits;       /* the octets of the key: what its BIT STRING holds after the first octet */
+    uint32_t unused_bits; /* how many bits of the last of these octets are unused, 0 to 7 */
+} x509_key;
+
+/* Decodes a SubjectPublicKeyInfo, such as `subject_public_key_info` of x509_certificate, and says what it holds and where. The key isn't looked into.
+ * Answers X509_OK, X509_MEMORY, X509_OVERLENGTH, X509_MALFORMED. */
+x509_status x509_key_view(const uint8_t *in, size_t len, x509_key *view);
+
+/* Kinds of signature algorithms, by their OIDs. */
+#define X509_SIGNATURE_OTHER 0
+#define X509_SIGNATURE_RSA_SHA1 1 /* RFC 3279 2.2.1 */
+#define X509_SIGNATURE_RSA_SHA224 2 /* RFC 4055 5 */
+#define X509_SIGNATURE_RSA_SHA256 3
+#define X509_SIGNATURE_RSA_SHA384 4
+#define X509_SIGNATURE_RSA_SHA512 5
+#define X509_SIGNATURE_RSA_PSS 6  /* id-RSASSA-PSS (RFC 4055 3.1), of which the parameters name the hash */
+#define X509_SIGNATURE_DSA_SHA1 7 /* RFC 3279 2.2.2 */
+#define X509_SIGNATURE_DSA_SHA224 8 /* RFC 5758 3.1 */
+#define X509_SIGNATURE_DSA_SHA256 9
+#define X509_SIGNATURE_ECDSA_SHA1 10 /* RFC 3279 2.2.3 */
+#define X509_SIGNATURE_ECDSA_SHA224 11 /* RFC 5758 3.2 */
+#define X509_SIGNATURE_ECDSA_SHA256 12
+#define X509_SIGNATURE_ECDSA_SHA384 13
+#define X509_SIGNATURE_ECDSA_SHA512 14
+#define X509_SIGNATURE_ED25519 15 /* RFC 8410 3 */
+#define X509_SIGNATURE_ED448 16
+
+typedef struct {
+    uint32_t kind;        /* one of these numbers */
+    x509_span oid;        /* the content octets of its OID */
+    x509_span parameters; /* its parameters, a whole element, which isn't looked at; 0 and 0 where there are none */
+} x509_algorithm;
+
+/* Decodes an AlgorithmIdentifier, such as `algorithm` of x509_signature, and says what it holds and where.
+ * Answers X509_OK, X509_MEMORY, X509_OVERLENGTH, X509_MALFORMED. */
+x509_status x509_algorithm_view(const uint8_t *in, size_t len, x509_algorithm *view);
+
+/* ---- trust anchors (RFC 5914) */
+
+/* What a trust anchor is. */
+#define X509_ANCHOR_CERTIFICATE 0
+#define X509_ANCHOR_TBS_CERTIFICATE 1 /* a certificate without its signature */
+#define X509_ANCHOR_INFO 2            /* a TrustAnchorInfo: a key and what is asked of paths */
+
+/* Of what is left out both numbers are 0. The last four are of a TrustAnchorInfo alone. */
+typedef struct {
+    uint32_t kind;                     /* one of these numbers */
+    x509_span element;                 /* the Certificate, TBSCertificate or TrustAnchorInfo, a whole element, within its tag */
+    x509_span name;                    /* a whole Name: of the subject, or that in the constraints on paths */
+    x509_span subject_public_key_info; /* the public key and its algorithm, for x509_key_view */
+    x509_span extensions;              /* the SEQUENCE of extensions, for x509_extensions_next */
+    x509_span key_identifier;          /* the octets of the key identifier; of a certificate an extension holds it (2.5.29.14) */
+    x509_span title;                   /* the title, UTF-8 */
+    x509_span title_language;          /* the language of the title, as "en" */
+    x509_span controls;                /* the constraints on paths, a whole CertPathControls, for x509_path_controls_view */
+} x509_anchor;
+
+/* Decodes a TrustAnchorChoice (RFC 5914 3) under RFC 5280, and says what it holds and where.
+ * Answers X509_OK, X509_MEMORY, X509_OVERLENGTH, X509_MALFORMED. */
+x509_status x509_anchor_view(const uint8_t *in, size_t len, x509_anchor *view);
+
+/* Flags about policies (RFC 5914 2.5): the named bit n as 1 << n. */
+#define X509_POLICY_FLAGS_INHIBIT_POLICY_MAPPING 1
+#define X509_POLICY_FLAGS_REQUIRE_EXPLICIT_POLICY 2
+#define X509_POLICY_FLAGS_INHIBIT_ANY_POLICY 4
+
+/* Of what is left out both numbers of a span are 0. What is said or not is 1 or 0. */
+typedef struct {
+    x509_span name;        /* a whole Name */
+    x509_span certificate; /* a certificate of the anchor, a whole element under the tag [0]: with 30 in place of its first octet, a0, it is a Certificate */
+    x509_span policies;    /* the policies for which a path may be valid, a whole element, for x509_certificate_policies_under_next with the number 1 */
+    uint32_t has_policy_flags;
+    uint32_t policy_flags; /* a sum of the numbers above; 0 where there are none */
+    x509_span permitted;   /* the permitted subtrees of names, a whole element, for x509_subtrees_under_next with the number 0 */
+    x509_span excluded;    /* the excluded subtrees of names, a whole element, for x509_subtrees_under_next with the number 1 */
+    uint32_t has_path_len;
+    uint32_t path_len; /* how many intermediate certificates may follow at most; 0 where it isn't said */
+} x509_path_controls;
+
+/* Decodes a CertPathControls (RFC 5914 2.5) under RFC 5280, as `controls` of x509_anchor, and says what it holds and where.
+ * Answers X509_OK, X509_MEMORY, X509_OVERLENGTH, X509_MALFORMED. */
+x509_status x509_path_controls_view(const uint8_t *value, size_t len, x509_path_controls *view);
+
+/* ---- signed certificate timestamps, SCTs */
+
+/* The serialized timestamps of a SignedCertificateTimestampList (1.3.6.1.4.1.11129.2.4.2; RFC 6962 3.3), one after the other: where their octets stand,
+ * without the two that say how many they are. `*at` is 0 to begin; it is moved as said under values of extensions. What a timestamp says isn't looked
+ * at, so that those of an unknown version can be passed over. X509_MALFORMED where the bytes aren't an OCTET STRING that holds such a list, where `*at`
+ * is neither 0 nor a place in it, or where no serialized timestamp stands there. It takes no memory.
+ * Answers X509_OK, X509_MALFORMED, X509_ABSENT. */
+x509_status x509_timestamp_next(const uint8_t *value, size_t len, size_t *at, x509_span *found);
+
+/* The numbers of algorithms are those of TLS 1.2 (RFC 5246 7.4.1.4.1; RFC 8422 5.1.3): hashes 0 to 6 and 8 (intrinsic), such as 4 for SHA-256;
+ * signatures 0 to 3, 7 and 8, such as 3 for ECDSA. */
+typedef struct {
+    uint32_t version;             /* 0, which is v1 */
+    x509_span log_id;             /* the ID of the log, 32 octets */
+    uint64_t timestamp;           /* milliseconds since 1970-01-01T00:00:00Z */
+    x509_span extensions;         /* the octets of extensions, of which v1 has none */
+    uint32_t hash;                /* the hash algorithm of the signature */
+    uint32_t signature_algorithm; /* its signature algorithm */
+    x509_span signature;          /* its octets */
+} x509_timestamp;
+
+/* Decodes a serialized timestamp, as x509_timestamp_next finds it, and says what it holds and where; places are offsets in `in`. X509_MALFORMED where it
+ * isn't one of version 1, with known algorithms and nothing behind it.
+ * Answers X509_OK, X509_MEMORY, X509_MALFORMED. */
+x509_status x509_timestamp_view(const uint8_t *in, size_t len, x509_timestamp *view);
 
 #ifdef __cplusplus
 }

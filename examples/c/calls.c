@@ -274,6 +274,307 @@ static int is_at(x509_span span, size_t place, size_t len)
 /* A value that stands in the source, with its length. */
 #define BYTES(text) (const uint8_t *)(text), sizeof(text) - 1
 
+/* The places are those that `openssl asn1parse` tells of examples/data/list.der; what stands behind the entries is told from the end. */
+static void crl_parts(void)
+{
+    x509_crl view;
+    memset(&view, 7, sizeof view);
+    const x509_crl before = view;
+    WANT(x509_crl_view(nothing, 0, &view) == X509_MALFORMED && memcmp(&view, &before, sizeof view) == 0);
+    WANT(x509_crl_view(list, list_len - 1, &view) == X509_MALFORMED && x509_crl_view(certificate, certificate_len, &view) == X509_MALFORMED);
+    WANT(memcmp(&view, &before, sizeof view) == 0);
+    WANT(x509_crl_view(list, list_len, &view) == X509_OK && view.version == 2);
+    WANT(is_at(view.inner_algorithm, 10, 12) && is_at(view.issuer, 22, 73));
+    WANT(view.this_update == 1769904000 && view.has_next_update == 1 && view.next_update == 1772323200);
+    WANT(is_at(view.entries, 125, 83) && is_at(view.extensions, 0, 0));
+    WANT(is_at(view.signature.signed_part, 4, 204) && is_at(view.signature.algorithm, 208, 12));
+    WANT(is_at(view.signature.bits, 223, list_len - 223) && view.signature.unused_bits == 0);
+
+    const uint8_t *const entries = list + view.entries.place;
+    x509_crl_entry entry;
+    size_t at = 0;
+    WANT(x509_crl_entry_next(entries, view.entries.len, &at, &entry) == X509_OK && at == 22);
+    WANT(is_at(entry.serial_number, 4, 3) && entry.date == 1768903200 && is_at(entry.extensions, 0, 0));
+    WANT(x509_crl_entry_next(entries, view.entries.len, &at, &entry) == X509_OK && at == 63);
+    WANT(is_at(entry.serial_number, 24, 10) && entry.date == 1768903200 && is_at(entry.extensions, 49, 14));
+    x509_extension_entry extension;
+    uint32_t reason = 77;
+    size_t within = 0;
+    WANT(x509_extensions_next(entries + 49, 14, &within, &extension) == X509_OK && is_at(extension.value, 11, 3));
+    WANT(x509_crl_reason(entries + 49 + 11, 3, &reason) == X509_OK && reason == 1);
+    WANT(x509_crl_entry_next(entries, view.entries.len, &at, &entry) == X509_OK && at == 83 && is_at(entry.serial_number, 65, 3));
+    WANT(x509_crl_entry_next(entries, view.entries.len, &at, &entry) == X509_ABSENT && at == 83 && is_at(entry.serial_number, 65, 3));
+    at = 1;
+    WANT(x509_crl_entry_next(entries, view.entries.len, &at, &entry) == X509_MALFORMED && at == 1 && is_at(entry.serial_number, 65, 3));
+
+    /* A v1 list without entries, of the issuer CN=a; and a v2 list with an empty SEQUENCE of extensions, by hand. */
+    const char v1[] = "\x30\x2d\x30\x22\x30\x03\x06\x01\x2a\x30\x0c\x31\x0a\x30\x08\x06\x03\x55\x04\x03\x0c\x01\x61\x17\x0d" "700101000001Z"
+                      "\x30\x03\x06\x01\x2a\x03\x02\x04\xf0";
+    WANT(x509_crl_view(BYTES(v1), &view) == X509_OK && view.version == 1);
+    WANT(view.this_update == 1 && view.has_next_update == 0 && view.next_update == 0);
+    WANT(is_at(view.inner_algorithm, 4, 5) && is_at(view.issuer, 9, 14) && is_at(view.entries, 0, 0) && is_at(view.extensions, 0, 0));
+    WANT(is_at(view.signature.signed_part, 2, 36) && is_at(view.signature.algorithm, 38, 5));
+    WANT(is_at(view.signature.bits, 46, 1) && view.signature.unused_bits == 4);
+    const char v2[] = "\x30\x34\x30\x29\x02\x01\x01\x30\x03\x06\x01\x2a\x30\x0c\x31\x0a\x30\x08\x06\x03\x55\x04\x03\x0c\x01\x61\x17\x0d" "700101000001Z"
+                      "\xa0\x02\x30\x00\x30\x03\x06\x01\x2a\x03\x02\x04\xf0";
+    WANT(x509_crl_view(BYTES(v2), &view) == X509_OK && view.version == 2);
+    WANT(is_at(view.inner_algorithm, 7, 5) && is_at(view.entries, 0, 0) && is_at(view.extensions, 43, 2) && is_at(view.signature.signed_part, 2, 43));
+}
+
+/* The places are those that `openssl asn1parse` tells of examples/data/request.der. */
+static void requests(void)
+{
+    x509_request view;
+    memset(&view, 7, sizeof view);
+    const x509_request before = view;
+    WANT(x509_request_view(nothing, 0, &view) == X509_MALFORMED && memcmp(&view, &before, sizeof view) == 0);
+    WANT(x509_request_view(request, request_len - 1, &view) == X509_MALFORMED && x509_request_view(list, list_len, &view) == X509_MALFORMED);
+    WANT(memcmp(&view, &before, sizeof view) == 0);
+    WANT(x509_request_view(request, request_len, &view) == X509_OK && view.version == 1);
+    WANT(is_at(view.subject, 10, 73) && is_at(view.subject_public_key_info, 83, 91) && is_at(view.attributes, 174, 72));
+    WANT(is_at(view.signature.signed_part, 4, 242) && is_at(view.signature.algorithm, 246, 12));
+    WANT(is_at(view.signature.bits, 261, request_len - 261) && view.signature.unused_bits == 0);
+
+    const uint8_t *const attributes = request + view.attributes.place;
+    x509_request_attribute attribute = {{7, 7}, {7, 7}};
+    size_t at = 0;
+    WANT(x509_request_attribute_next(request + 4, 242, &at, &attribute) == X509_MALFORMED && at == 0 && is_at(attribute.oid, 7, 7));
+    WANT(x509_request_attribute_next(attributes, 72, &at, &attribute) == X509_OK && at == 27);
+    WANT(is_at(attribute.oid, 6, 9) && memcmp(attributes + 6, "\x2a\x86\x48\x86\xf7\x0d\x01\x09\x07", 9) == 0 && is_at(attribute.values, 15, 12));
+    x509_element value = {7, {7, 7}, {7, 7}};
+    size_t within = 0;
+    WANT(x509_attribute_value_next(attributes + 15, 12, &within, &value) == X509_OK && within == 12);
+    WANT(value.tag == 0x0c && is_at(value.element, 2, 10) && is_at(value.content, 4, 8) && memcmp(attributes + 15 + 4, "password", 8) == 0);
+    WANT(x509_attribute_value_next(attributes + 15, 12, &within, &value) == X509_ABSENT && within == 12 && value.tag == 0x0c);
+    WANT(x509_attribute_value_next(attributes + 15, 11, &within, &value) == X509_MALFORMED && within == 12 && value.tag == 0x0c);
+    WANT(x509_request_attribute_next(attributes, 72, &at, &attribute) == X509_OK && at == 72 && is_at(attribute.values, 40, 32));
+    WANT(x509_request_attribute_next(attributes, 72, &at, &attribute) == X509_ABSENT && at == 72 && is_at(attribute.values, 40, 32));
+
+    const uint8_t *const password = (const uint8_t *)"\x2a\x86\x48\x86\xf7\x0d\x01\x09\x07";
+    attribute = (x509_request_attribute){{7, 7}, {7, 7}};
+    WANT(x509_request_attribute_find(nothing, 0, password, 9, &attribute) == X509_MALFORMED && is_at(attribute.oid, 7, 7));
+    WANT(x509_request_attribute_find(request, request_len, password, 8, &attribute) == X509_ABSENT && is_at(attribute.oid, 7, 7));
+    WANT(x509_request_attribute_find(request, request_len, password, 9, &attribute) == X509_OK);
+    WANT(is_at(attribute.oid, 180, 9) && is_at(attribute.values, 189, 12));
+    x509_span asked = {7, 7};
+    WANT(x509_request_extensions(request, request_len - 1, &asked) == X509_MALFORMED && is_at(asked, 7, 7));
+    WANT(x509_request_extensions(request, request_len, &asked) == X509_OK && is_at(asked, 216, 30));
+    x509_extension_entry extension;
+    within = 0;
+    WANT(x509_extensions_next(request + 216, 30, &within, &extension) == X509_OK && within == 30);
+    WANT(is_at(extension.oid, 6, 3) && extension.critical == 0 && is_at(extension.value, 11, 19));
+}
+
+/* A CSR of the empty name with an empty key, and these attributes under the tag [0], which are fewer than 80 bytes. */
+static size_t request_with(const uint8_t *attributes, size_t len)
+{
+    const char front[] = "\x02\x01\x00\x30\x00\x30\x08\x30\x03\x06\x01\x2a\x03\x01\x00", behind[] = "\x30\x03\x06\x01\x2a\x03\x01\x00";
+    size_t at = 0;
+    room[at++] = 0x30;
+    room[at++] = (uint8_t)(2 + 15 + 2 + len + 8);
+    room[at++] = 0x30;
+    room[at++] = (uint8_t)(15 + 2 + len);
+    memcpy(room + at, front, 15);
+    at += 15;
+    room[at++] = 0xa0;
+    room[at++] = (uint8_t)len;
+    memcpy(room + at, attributes, len);
+    at += len;
+    memcpy(room + at, behind, 8);
+    return at + 8;
+}
+
+/* No attribute, one without a value, one with two values, and two that ask for extensions. */
+static void asked_extensions(void)
+{
+    const uint8_t *const oid = (const uint8_t *)"\x2a\x86\x48\x86\xf7\x0d\x01\x09\x0e";
+    x509_span asked = {7, 7};
+    x509_request_attribute attribute = {{7, 7}, {7, 7}};
+    size_t len = request_with(nothing, 0);
+    WANT(x509_request_extensions(room, len, &asked) == X509_ABSENT && is_at(asked, 7, 7));
+    WANT(x509_request_attribute_find(room, len, oid, 9, &attribute) == X509_ABSENT && is_at(attribute.values, 7, 7));
+    len = request_with(BYTES("\x30\x0d\x06\x09\x2a\x86\x48\x86\xf7\x0d\x01\x09\x0e\x31\x00"));
+    WANT(x509_request_extensions(room, len, &asked) == X509_FAILED && is_at(asked, 7, 7));
+    WANT(x509_request_attribute_find(room, len, oid, 9, &attribute) == X509_OK && is_at(attribute.oid, 25, 9) && is_at(attribute.values, 34, 2));
+    len = request_with(BYTES("\x30\x11\x06\x09\x2a\x86\x48\x86\xf7\x0d\x01\x09\x0e\x31\x04\x30\x00\x31\x00"));
+    WANT(x509_request_extensions(room, len, &asked) == X509_FAILED && is_at(asked, 7, 7));
+    len = request_with(BYTES("\x30\x0d\x06\x09\x2a\x86\x48\x86\xf7\x0d\x01\x09\x0e\x31\x00"
+                             "\x30\x0f\x06\x09\x2a\x86\x48\x86\xf7\x0d\x01\x09\x0e\x31\x02\x30\x00"));
+    WANT(x509_request_extensions(room, len, &asked) == X509_REPEATED && is_at(asked, 7, 7));
+    attribute = (x509_request_attribute){{7, 7}, {7, 7}};
+    WANT(x509_request_attribute_find(room, len, oid, 9, &attribute) == X509_REPEATED && is_at(attribute.values, 7, 7));
+    /* the value isn't decoded: here it is NULL */
+    len = request_with(BYTES("\x30\x0f\x06\x09\x2a\x86\x48\x86\xf7\x0d\x01\x09\x0e\x31\x02\x05\x00"));
+    WANT(x509_request_extensions(room, len, &asked) == X509_OK && is_at(asked, 36, 2));
+}
+
+/* A key with an algorithm, which is the whole AlgorithmIdentifier, and no bits: its kind. */
+static uint32_t key_kind(const uint8_t *algorithm, size_t len)
+{
+    x509_key key = {77, {7, 7}, {7, 7}, {7, 7}, 7};
+    room[0] = 0x30;
+    room[1] = (uint8_t)(len + 3);
+    memcpy(room + 2, algorithm, len);
+    memcpy(room + 2 + len, "\x03\x01\x00", 3);
+    WANT(x509_key_view(room, len + 5, &key) == X509_OK && key.unused_bits == 0 && is_at(key.bits, len + 5, 0));
+    return key.kind;
+}
+
+static uint32_t signature_kind(const uint8_t *algorithm, size_t len)
+{
+    x509_algorithm view = {77, {7, 7}, {7, 7}};
+    WANT(x509_algorithm_view(algorithm, len, &view) == X509_OK && view.oid.place == 4);
+    return view.kind;
+}
+
+/* The OIDs are those of RFC 3279, RFC 4055, RFC 5480, RFC 5758 and RFC 8410. */
+static void keys(void)
+{
+    x509_key key = {77, {7, 7}, {7, 7}, {7, 7}, 7};
+    WANT(x509_key_view(nothing, 0, &key) == X509_MALFORMED && key.kind == 77 && key.unused_bits == 7);
+    WANT(x509_key_view(request + 83, 90, &key) == X509_MALFORMED && key.kind == 77 && is_at(key.bits, 7, 7));
+    WANT(x509_key_view(request + 83, 91, &key) == X509_OK && key.kind == X509_KEY_EC_P256);
+    WANT(is_at(key.oid, 6, 7) && is_at(key.parameters, 13, 10) && is_at(key.bits, 26, 65) && key.unused_bits == 0);
+    WANT(key_kind(BYTES("\x30\x0d\x06\x09\x2a\x86\x48\x86\xf7\x0d\x01\x01\x01\x05\x00")) == X509_KEY_RSA);
+    WANT(key_kind(BYTES("\x30\x0b\x06\x09\x2a\x86\x48\x86\xf7\x0d\x01\x01\x0a")) == X509_KEY_RSA_PSS);
+    WANT(key_kind(BYTES("\x30\x09\x06\x07\x2a\x86\x48\xce\x38\x04\x01")) == X509_KEY_DSA);
+    WANT(key_kind(BYTES("\x30\x10\x06\x07\x2a\x86\x48\xce\x3d\x02\x01\x06\x05\x2b\x81\x04\x00\x22")) == X509_KEY_EC_P384);
+    WANT(key_kind(BYTES("\x30\x10\x06\x07\x2a\x86\x48\xce\x3d\x02\x01\x06\x05\x2b\x81\x04\x00\x23")) == X509_KEY_EC_P521);
+    WANT(key_kind(BYTES("\x30\x10\x06\x07\x2a\x86\x48\xce\x3d\x02\x01\x06\x05\x2b\x81\x04\x00\x0a")) == X509_KEY_EC_OTHER);
+    WANT(key_kind(BYTES("\x30\x10\x06\x07\x2a\x86\x48\xce\x3d\x02\x01\x04\x05\x2b\x81\x04\x00\x22")) == X509_KEY_EC_OTHER);
+    WANT(key_kind(BYTES("\x30\x09\x06\x07\x2a\x86\x48\xce\x3d\x02\x01")) == X509_KEY_EC_OTHER);
+    WANT(key_kind(BYTES("\x30\x05\x06\x03\x2b\x65\x70")) == X509_KEY_ED25519);
+    WANT(key_kind(BYTES("\x30\x05\x06\x03\x2b\x65\x71")) == X509_KEY_ED448);
+    WANT(key_kind(BYTES("\x30\x05\x06\x03\x2b\x65\x6e")) == X509_KEY_X25519);
+    WANT(key_kind(BYTES("\x30\x05\x06\x03\x2b\x65\x6f")) == X509_KEY_X448);
+    WANT(key_kind(BYTES("\x30\x05\x06\x03\x55\x04\x03")) == X509_KEY_OTHER);
+
+    x509_algorithm algorithm = {77, {7, 7}, {7, 7}};
+    WANT(x509_algorithm_view(BYTES("\x30\x00"), &algorithm) == X509_MALFORMED && algorithm.kind == 77 && is_at(algorithm.oid, 7, 7));
+    WANT(x509_algorithm_view(BYTES("\x30\x0d\x06\x09\x2a\x86\x48\x86\xf7\x0d\x01\x01\x0b\x05\x00"), &algorithm) == X509_OK);
+    WANT(algorithm.kind == X509_SIGNATURE_RSA_SHA256 && is_at(algorithm.oid, 4, 9) && is_at(algorithm.parameters, 13, 2));
+    WANT(x509_algorithm_view(list + 208, 12, &algorithm) == X509_OK && algorithm.kind == X509_SIGNATURE_ECDSA_SHA256);
+    WANT(is_at(algorithm.oid, 4, 8) && is_at(algorithm.parameters, 0, 0));
+    WANT(signature_kind(BYTES("\x30\x0b\x06\x09\x2a\x86\x48\x86\xf7\x0d\x01\x01\x05")) == X509_SIGNATURE_RSA_SHA1);
+    WANT(signature_kind(BYTES("\x30\x0b\x06\x09\x2a\x86\x48\x86\xf7\x0d\x01\x01\x0e")) == X509_SIGNATURE_RSA_SHA224);
+    WANT(signature_kind(BYTES("\x30\x0b\x06\x09\x2a\x86\x48\x86\xf7\x0d\x01\x01\x0c")) == X509_SIGNATURE_RSA_SHA384);
+    WANT(signature_kind(BYTES("\x30\x0b\x06\x09\x2a\x86\x48\x86\xf7\x0d\x01\x01\x0d")) == X509_SIGNATURE_RSA_SHA512);
+    WANT(signature_kind(BYTES("\x30\x0b\x06\x09\x2a\x86\x48\x86\xf7\x0d\x01\x01\x0a")) == X509_SIGNATURE_RSA_PSS);
+    WANT(signature_kind(BYTES("\x30\x09\x06\x07\x2a\x86\x48\xce\x38\x04\x03")) == X509_SIGNATURE_DSA_SHA1);
+    WANT(signature_kind(BYTES("\x30\x0b\x06\x09\x60\x86\x48\x01\x65\x03\x04\x03\x01")) == X509_SIGNATURE_DSA_SHA224);
+    WANT(signature_kind(BYTES("\x30\x0b\x06\x09\x60\x86\x48\x01\x65\x03\x04\x03\x02")) == X509_SIGNATURE_DSA_SHA256);
+    WANT(signature_kind(BYTES("\x30\x09\x06\x07\x2a\x86\x48\xce\x3d\x04\x01")) == X509_SIGNATURE_ECDSA_SHA1);
+    WANT(signature_kind(BYTES("\x30\x0a\x06\x08\x2a\x86\x48\xce\x3d\x04\x03\x01")) == X509_SIGNATURE_ECDSA_SHA224);
+    WANT(signature_kind(BYTES("\x30\x0a\x06\x08\x2a\x86\x48\xce\x3d\x04\x03\x03")) == X509_SIGNATURE_ECDSA_SHA384);
+    WANT(signature_kind(BYTES("\x30\x0a\x06\x08\x2a\x86\x48\xce\x3d\x04\x03\x04")) == X509_SIGNATURE_ECDSA_SHA512);
+    WANT(signature_kind(BYTES("\x30\x05\x06\x03\x2b\x65\x70")) == X509_SIGNATURE_ED25519);
+    WANT(signature_kind(BYTES("\x30\x05\x06\x03\x2b\x65\x71")) == X509_SIGNATURE_ED448);
+    WANT(signature_kind(BYTES("\x30\x0b\x06\x09\x2a\x86\x48\x86\xf7\x0d\x01\x01\x01")) == X509_SIGNATURE_OTHER);
+}
+
+/* A TrustAnchorInfo with each of its fields but a certificate, by hand (RFC 5914 2): the key is empty, the identifier abcd, the title "T" in "en", the
+ * name CN=a, any policy is allowed and a policy is required, the DNS names below a are permitted, and three certificates may follow. */
+static const char ANCHOR[] = "\xa2\x45\x30\x43\x30\x08\x30\x03\x06\x01\x2a\x03\x01\x00\x04\x02\xab\xcd\x0c\x01T"
+                             "\x30\x28\x30\x0c\x31\x0a\x30\x08\x06\x03\x55\x04\x03\x0c\x01\x61"
+                             "\xa1\x08\x30\x06\x06\x04\x55\x1d\x20\x00\x82\x02\x06\x40\xa3\x07\xa0\x05\x30\x03\x82\x01\x61\x84\x01\x03\xa1\x02\x30\x00\x82\x02" "en";
+
+static void anchors(void)
+{
+    x509_anchor anchor;
+    memset(&anchor, 7, sizeof anchor);
+    const x509_anchor before = anchor;
+    WANT(x509_anchor_view(nothing, 0, &anchor) == X509_MALFORMED && x509_anchor_view(certificate, certificate_len - 1, &anchor) == X509_MALFORMED);
+    WANT(x509_anchor_view(list, list_len, &anchor) == X509_MALFORMED && memcmp(&anchor, &before, sizeof anchor) == 0);
+    x509_certificate view;
+    WANT(x509_certificate_view(certificate, certificate_len, &view) == X509_OK);
+    WANT(x509_anchor_view(certificate, certificate_len, &anchor) == X509_OK && anchor.kind == X509_ANCHOR_CERTIFICATE);
+    WANT(is_at(anchor.element, 0, certificate_len) && is_at(anchor.name, view.subject.place, view.subject.len));
+    WANT(is_at(anchor.subject_public_key_info, view.subject_public_key_info.place, view.subject_public_key_info.len));
+    WANT(is_at(anchor.extensions, view.extensions.place, view.extensions.len) && is_at(anchor.key_identifier, 0, 0) && is_at(anchor.title, 0, 0));
+    WANT(is_at(anchor.title_language, 0, 0) && is_at(anchor.controls, 0, 0));
+
+    /* its TBSCertificate, of 256 bytes or more, under the tag [1] */
+    x509_span part;
+    WANT(x509_signed_slice(certificate, certificate_len, &part) == X509_OK);
+    memcpy(room, "\xa1\x82", 2);
+    room[2] = (uint8_t)(part.len >> 8);
+    room[3] = (uint8_t)part.len;
+    memcpy(room + 4, certificate + part.place, part.len);
+    WANT(x509_anchor_view(room, part.len + 4, &anchor) == X509_OK && anchor.kind == X509_ANCHOR_TBS_CERTIFICATE && is_at(anchor.element, 4, part.len));
+    WANT(is_at(anchor.name, view.subject.place - part.place + 4, view.subject.len));
+    WANT(is_at(anchor.subject_public_key_info, view.subject_public_key_info.place - part.place + 4, view.subject_public_key_info.len));
+    WANT(is_at(anchor.extensions, view.extensions.place - part.place + 4, view.extensions.len) && is_at(anchor.controls, 0, 0));
+
+    WANT(x509_anchor_view(BYTES(ANCHOR), &anchor) == X509_OK && anchor.kind == X509_ANCHOR_INFO && is_at(anchor.element, 2, 69));
+    WANT(is_at(anchor.subject_public_key_info, 4, 10) && is_at(anchor.key_identifier, 16, 2) && is_at(anchor.title, 20, 1));
+    WANT(is_at(anchor.controls, 21, 42) && is_at(anchor.name, 23, 14) && is_at(anchor.extensions, 65, 2) && is_at(anchor.title_language, 69, 2));
+    /* a key and its identifier alone */
+    WANT(x509_anchor_view(BYTES("\xa2\x10\x30\x0e\x30\x08\x30\x03\x06\x01\x2a\x03\x01\x00\x04\x02\xab\xcd"), &anchor) == X509_OK);
+    WANT(is_at(anchor.key_identifier, 16, 2) && is_at(anchor.name, 0, 0) && is_at(anchor.title, 0, 0) && is_at(anchor.controls, 0, 0));
+    WANT(is_at(anchor.extensions, 0, 0) && is_at(anchor.title_language, 0, 0));
+
+    x509_path_controls controls;
+    memset(&controls, 7, sizeof controls);
+    const x509_path_controls same = controls;
+    const uint8_t *const value = (const uint8_t *)ANCHOR + 21;
+    WANT(x509_path_controls_view(value, 41, &controls) == X509_MALFORMED && memcmp(&controls, &same, sizeof controls) == 0);
+    WANT(x509_path_controls_view(value, 42, &controls) == X509_OK && is_at(controls.name, 2, 14) && is_at(controls.certificate, 0, 0));
+    WANT(is_at(controls.policies, 16, 10) && controls.has_policy_flags == 1 && controls.policy_flags == X509_POLICY_FLAGS_REQUIRE_EXPLICIT_POLICY);
+    WANT(is_at(controls.permitted, 32, 7) && is_at(controls.excluded, 0, 0) && controls.has_path_len == 1 && controls.path_len == 3);
+    x509_policy policy;
+    x509_subtree subtree;
+    size_t at = 0;
+    WANT(x509_certificate_policies_under_next(0, value + 16, 10, &at, &policy) == X509_MALFORMED && at == 0);
+    WANT(x509_certificate_policies_under_next(31, value + 16, 10, &at, &policy) == X509_MALFORMED && at == 0);
+    WANT(x509_certificate_policies_under_next(1, value + 16, 10, &at, &policy) == X509_OK && at == 10 && is_at(policy.identifier, 6, 4));
+    WANT(x509_certificate_policies_under_next(1, value + 16, 10, &at, &policy) == X509_ABSENT && at == 10);
+    at = 0;
+    WANT(x509_subtrees_under_next(0, value + 32, 7, &at, &subtree) == X509_OK && subtree.base.kind == X509_GENERAL_NAME_DNS);
+    WANT(x509_path_controls_view(value + 2, 14, &controls) == X509_MALFORMED);
+    /* a name alone */
+    WANT(x509_path_controls_view(BYTES("\x30\x02\x30\x00"), &controls) == X509_OK && is_at(controls.name, 2, 2) && is_at(controls.policies, 0, 0));
+    WANT(controls.has_policy_flags == 0 && controls.policy_flags == 0 && is_at(controls.permitted, 0, 0));
+    WANT(controls.has_path_len == 0 && controls.path_len == 0);
+}
+
+/* A timestamp of version 1 at 1,700,000,000,123 ms, with one octet of extensions and a signature of two by ECDSA with SHA-256 (RFC 6962 3.2): 50 bytes. */
+#define LOG "\x01\x02\x03\x04\x05\x06\x07\x08\x09\x0a\x0b\x0c\x0d\x0e\x0f\x10\x11\x12\x13\x14\x15\x16\x17\x18\x19\x1a\x1b\x1c\x1d\x1e\x1f\x20"
+#define TIMESTAMP "\x00" LOG "\x00\x00\x01\x8b\xcf\xe5\x68\x7b\x00\x01\xee\x04\x03\x00\x02\xab\xcd"
+
+static void timestamps(void)
+{
+    /* behind it, one of an unknown version, and one without octets */
+    const char value[] = "\x04\x3b\x00\x39\x00\x32" TIMESTAMP "\x00\x01\x01\x00\x00";
+    x509_span found = {7, 7};
+    size_t at = 0;
+    WANT(x509_timestamp_next(nothing, 0, &at, &found) == X509_MALFORMED && at == 0 && is_at(found, 7, 7));
+    WANT(x509_timestamp_next(BYTES("\x04\x00"), &at, &found) == X509_MALFORMED);
+    WANT(x509_timestamp_next(BYTES("\x05\x02\x00\x00"), &at, &found) == X509_MALFORMED);
+    WANT(x509_timestamp_next(BYTES("\x04\x03\x00\x00\x00"), &at, &found) == X509_MALFORMED && at == 0 && is_at(found, 7, 7));
+    WANT(x509_timestamp_next(BYTES("\x04\x02\x00\x00\x00"), &at, &found) == X509_MALFORMED && at == 0 && is_at(found, 7, 7));
+    WANT(x509_timestamp_next(BYTES("\x04\x02\x00\x00"), &at, &found) == X509_ABSENT && at == 0 && is_at(found, 7, 7));
+    WANT(x509_timestamp_next(BYTES("\x04\x03\x00\x01\x00"), &at, &found) == X509_MALFORMED && at == 0 && is_at(found, 7, 7));
+    WANT(x509_timestamp_next(BYTES("\x04\x05\x00\x03\x00\x02\xab"), &at, &found) == X509_MALFORMED && at == 0 && is_at(found, 7, 7));
+    WANT(x509_timestamp_next(BYTES(value), &at, &found) == X509_OK && at == 56 && is_at(found, 6, 50));
+    WANT(x509_timestamp_next(BYTES(value), &at, &found) == X509_OK && at == 59 && is_at(found, 58, 1));
+    WANT(x509_timestamp_next(BYTES(value), &at, &found) == X509_OK && at == 61 && is_at(found, 61, 0));
+    WANT(x509_timestamp_next(BYTES(value), &at, &found) == X509_ABSENT && at == 61 && is_at(found, 61, 0));
+    at = 3;
+    WANT(x509_timestamp_next(BYTES(value), &at, &found) == X509_MALFORMED && at == 3 && is_at(found, 61, 0));
+    at = 62;
+    WANT(x509_timestamp_next(BYTES(value), &at, &found) == X509_MALFORMED && at == 62 && is_at(found, 61, 0));
+
+    x509_timestamp view;
+    memset(&view, 7, sizeof view);
+    const x509_timestamp before = view;
+    WANT(x509_timestamp_view(nothing, 0, &view) == X509_MALFORMED && x509_timestamp_view(BYTES("\x01"), &view) == X509_MALFORMED);
+    WANT(x509_timestamp_view(BYTES(TIMESTAMP "\x00"), &view) == X509_MALFORMED && x509_timestamp_view((const uint8_t *)TIMESTAMP, 49, &view) == X509_MALFORMED);
+    WANT(x509_timestamp_view(BYTES("\x00" LOG "\x00\x00\x01\x8b\xcf\xe5\x68\x7b\x00\x00\x09\x03\x00\x00"), &view) == X509_MALFORMED); /* no hash is 9 */
+    WANT(memcmp(&view, &before, sizeof view) == 0);
+    WANT(x509_timestamp_view(BYTES(TIMESTAMP), &view) == X509_OK && view.version == 0 && is_at(view.log_id, 1, 32));
+    WANT(view.timestamp == 1700000000123 && is_at(view.extensions, 43, 1) && view.hash == 4 && view.signature_algorithm == 3 && is_at(view.signature, 48, 2));
+}
+
 static void attributes(void)
 {
     x509_span rdn = {7, 7};
@@ -449,6 +750,19 @@ static void texts(void)
     WANT(x509_time_text(253402300800, room, sizeof room, &written) == X509_VALUE && written == 77);
     WANT(x509_time_text(UINT64_MAX, room, sizeof room, &written) == X509_VALUE && written == 77);
 
+    WANT(x509_status_text(X509_OK, room, 4, &written) == X509_OK && is_written("done"));
+    WANT(x509_status_text(X509_OK, room, 3, &written) == X509_ROOM && written == 4);
+    WANT(x509_status_text(X509_MEMORY, room, sizeof room, &written) == X509_OK && is_written("out of memory"));
+    WANT(x509_status_text(X509_ROOM, room, sizeof room, &written) == X509_OK && is_written("the room is too small"));
+    WANT(x509_status_text(X509_OVERLENGTH, room, sizeof room, &written) == X509_OK && is_written("too long"));
+    WANT(x509_status_text(X509_MALFORMED, room, sizeof room, &written) == X509_OK && is_written("malformed"));
+    WANT(x509_status_text(X509_FAULT, room, sizeof room, &written) == X509_OK && is_written("the path has a fault"));
+    written = 77;
+    WANT(x509_status_text(9, room, sizeof room, &written) == X509_FAILED && written == 77);
+    WANT(x509_status_text(-3, room, sizeof room, &written) == X509_FAILED && written == 77);
+    WANT(x509_status_text(INT32_MIN, room, sizeof room, &written) == X509_FAILED && written == 77);
+    WANT(x509_status_text(INT32_MAX, room, sizeof room, &written) == X509_FAILED && written == 77);
+
     WANT(x509_version() == X509_VERSION && X509_VERSION == (X509_VERSION_MAJOR << 16 | X509_VERSION_MINOR << 8 | X509_VERSION_PATCH));
 }
 
@@ -468,6 +782,12 @@ int main(int argc, char **argv)
     paths();
     certificates();
     lists();
+    crl_parts();
+    requests();
+    asked_extensions();
+    keys();
+    anchors();
+    timestamps();
     attributes();
     key_identifiers();
     accesses();

@@ -89,6 +89,7 @@ static void no_pointers(void)
     WANT(x509_serial_text(NULL, 0, NULL, 0, &written) == X509_MALFORMED && written == 77);
     WANT(x509_serial_text((const uint8_t *)"\x05", 1, NULL, 0, &written) == X509_ROOM && written == 2);
     WANT(x509_time_text(MOMENT, NULL, 0, &written) == X509_ROOM && written == 20);
+    WANT(x509_status_text(X509_OK, NULL, 0, &written) == X509_ROOM && written == 4);
 }
 
 /* What the calls on payloads and names fill in, with what stands in it before. */
@@ -103,6 +104,16 @@ static x509_distribution_point point;
 static x509_issuing_distribution_point_view issuing;
 static x509_name_constraints_view names;
 static x509_subtree subtree;
+static x509_crl crl;
+static x509_crl_entry entry;
+static x509_request request;
+static x509_request_attribute asked;
+static x509_element element;
+static x509_key key;
+static x509_algorithm algorithm;
+static x509_anchor anchor;
+static x509_path_controls controls;
+static x509_timestamp timestamp;
 static uint32_t number = 7;
 
 /* Each call on a payload or a name, with these bytes, gives that status, and fills in nothing. */
@@ -129,6 +140,23 @@ static void refused_values(const uint8_t *bytes, size_t len, x509_status status)
     WANT(x509_name_constraints(bytes, len, &names) == status);
     WANT(x509_subtrees_under_next(0, bytes, len, &at, &subtree) == status);
     WANT(x509_serial_number(bytes, len, &part) == status);
+    WANT(x509_crl_view(bytes, len, &crl) == status);
+    WANT(x509_crl_entry_next(bytes, len, &at, &entry) == status);
+    WANT(x509_request_view(bytes, len, &request) == status);
+    WANT(x509_request_attribute_next(bytes, len, &at, &asked) == status);
+    WANT(x509_request_attribute_find(bytes, len, OID, 3, &asked) == status);
+    WANT(x509_request_attribute_find(bytes, len, NULL, 0, &asked) == status);
+    WANT(x509_request_extensions(bytes, len, &part) == status);
+    WANT(x509_attribute_value_next(bytes, len, &at, &element) == status);
+    WANT(x509_key_view(bytes, len, &key) == status);
+    WANT(x509_algorithm_view(bytes, len, &algorithm) == status);
+    WANT(x509_anchor_view(bytes, len, &anchor) == status);
+    WANT(x509_path_controls_view(bytes, len, &controls) == status);
+    WANT(x509_certificate_policies_under_next(1, bytes, len, &at, &policy) == status);
+    WANT(x509_timestamp_next(bytes, len, &at, &part) == X509_MALFORMED);
+    WANT(x509_timestamp_view(bytes, len, &timestamp) == X509_MALFORMED);
+    WANT(crl.version == 0 && entry.serial_number.len == 0 && request.version == 0 && asked.oid.len == 0 && element.tag == 0);
+    WANT(key.oid.len == 0 && algorithm.oid.len == 0 && anchor.element.len == 0 && controls.name.len == 0 && timestamp.log_id.len == 0);
     WANT(at == 0 && part.place == 7 && part.len == 7 && number == 7 && attribute.tag == 0 && authority.issuer.len == 0);
     WANT(access_found.location.kind == 0 && policy.identifier.len == 0 && qualifier.identifier.len == 0 && mapping.subject_policy.len == 0);
     WANT(constraints.has_require_explicit_policy == 0 && point.has_reasons == 0 && issuing.full_name.len == 0 && names.excluded.len == 0);
@@ -206,6 +234,7 @@ static void early_dates(void)
     set_year(list, list_len, "69");
     WANT(x509_crl_check(list, list_len) == X509_MALFORMED);
     WANT(x509_crl_walk(list, list_len, &entries) == X509_MALFORMED);
+    WANT(x509_crl_view(list, list_len, &crl) == X509_MALFORMED && crl.version == 0);
     WANT(x509_crl_lookup(list, list_len, SERIAL, 3, &revocation) == X509_MALFORMED);
 }
 

@@ -72,7 +72,7 @@ static void wrong(const char *what, long number)
 
 /* ---- each call */
 
-enum { CALLS = 20 };
+enum { CALLS = 27 };
 
 static uint8_t certificate[65536], list[65536], request[65536], room[65536];
 static size_t certificate_len, list_len, request_len;
@@ -86,6 +86,12 @@ static x509_authority_key_identifier_view authority;
 static x509_policy policy;
 static x509_distribution_point point;
 static x509_name_constraints_view names;
+static x509_crl crl;
+static x509_crl_entry entry;
+static x509_request csr;
+static x509_key key;
+static x509_anchor anchor;
+static x509_timestamp timestamp;
 static size_t count, at;
 
 /* A value that stands in the source, with its length. */
@@ -136,6 +142,23 @@ static x509_status call(int number)
         return x509_serial_text(BYTES("\x12\x34\xab"), room, sizeof room, &count);
     case 18:
         return x509_time_text(1767323045, room, sizeof room, &count);
+    case 19:
+        return x509_crl_view(list, list_len, &crl);
+    case 20:
+        return x509_crl_entry_next(BYTES("\x30\x29\x30\x27\x02\x08\x12\x34\x56\x78\x90\xab\xcd\xef\x17\x0d"
+                                         "260120100000Z\x30\x0c\x30\x0a\x06\x03\x55\x1d\x15\x04\x03\x0a\x01\x01"),
+                                   &at, &entry);
+    case 21:
+        return x509_request_view(request, request_len, &csr);
+    case 22:
+        return x509_request_extensions(request, request_len, &part);
+    case 23:
+        return x509_key_view(certificate + view.subject_public_key_info.place, view.subject_public_key_info.len, &key);
+    case 24:
+        return x509_anchor_view(certificate, certificate_len, &anchor);
+    case 25:
+        /* of version 1, without extensions, with a signature of one octet */
+        return x509_timestamp_view(BYTES("\x00" "0123456789abcdef0123456789abcdef" "\x00\x00\x01\x8b\xcf\xe5\x68\x7b\x00\x00\x04\x03\x00\x01\xab"), &timestamp);
     default:
         /* in the first second of the validity */
         return x509_path_check(certificate, certificate_len, certificate, certificate_len, &certificate_len, 1, 1767323045, &fault);
@@ -155,6 +178,12 @@ static int holds(int number, long from, long to)
     const x509_policy old_policy = policy;
     const x509_distribution_point old_point = point;
     const x509_name_constraints_view old_names = names;
+    const x509_crl old_crl = crl;
+    const x509_crl_entry old_entry = entry;
+    const x509_request old_csr = csr;
+    const x509_key old_key = key;
+    const x509_anchor old_anchor = anchor;
+    const x509_timestamp old_timestamp = timestamp;
     const size_t old_count = count;
     const long old_standing = standing;
     refuse(from, to);
@@ -170,7 +199,9 @@ static int holds(int number, long from, long to)
            memcmp(&signature, &old_signature, sizeof signature) == 0 && memcmp(&fault, &old_fault, sizeof fault) == 0 &&
            memcmp(&part, &old_part, sizeof part) == 0 && memcmp(&authority, &old_authority, sizeof authority) == 0 &&
            memcmp(&policy, &old_policy, sizeof policy) == 0 && memcmp(&point, &old_point, sizeof point) == 0 &&
-           memcmp(&names, &old_names, sizeof names) == 0 && count == old_count && at == 0;
+           memcmp(&names, &old_names, sizeof names) == 0 && memcmp(&crl, &old_crl, sizeof crl) == 0 &&
+           memcmp(&entry, &old_entry, sizeof entry) == 0 && memcmp(&csr, &old_csr, sizeof csr) == 0 && memcmp(&key, &old_key, sizeof key) == 0 &&
+           memcmp(&anchor, &old_anchor, sizeof anchor) == 0 && memcmp(&timestamp, &old_timestamp, sizeof timestamp) == 0 && count == old_count && at == 0;
 }
 
 static void refuse_call(int number)

@@ -17,6 +17,7 @@ import x509_cert as ours
 try:
     from cryptography import x509 as theirs
     from cryptography.hazmat.primitives import hashes, serialization
+    from cryptography.hazmat.primitives.asymmetric import ec, ed25519
 except ImportError:  # the tests are left out then
     theirs = None  # type: ignore[assignment]
 
@@ -140,16 +141,122 @@ class AgainstCryptography(unittest.TestCase):
                 self.compare(data)
 
     def test_crl(self) -> None:
-        data = (DATA / "list.der").read_bytes()
+        self.compare_crl((DATA / "list.der").read_bytes())
+
+    def compare_crl(self, data: bytes) -> None:
         their = theirs.load_der_x509_crl(data)
         our = ours.load_der_x509_crl(data)
         self.assertEqual(len(our), len(their))
+        self.assertEqual(our.public_bytes(), data)
         self.assertEqual(our.tbs_certlist_bytes, their.tbs_certlist_bytes)
-        for entry in their:
+        self.assertEqual(our.signature, their.signature)
+        self.assertEqual(our.signature_algorithm_oid.dotted_string, their.signature_algorithm_oid.dotted_string)
+        self.assertEqual(our.fingerprint("sha256"), their.fingerprint(hashes.SHA256()))
+        self.assertEqual((our.last_update_utc, our.next_update_utc), (their.last_update_utc, their.next_update_utc))
+        self.names(our.issuer, their.issuer)
+        self.extensions(our.extensions, their.extensions)
+        for at, (one, entry) in enumerate(zip(our, their)):
+            self.assertEqual((one.serial_number, one.revocation_date_utc), (entry.serial_number, entry.revocation_date_utc))
+            self.extensions(one.extensions, entry.extensions)
+            self.assertEqual(our[at].serial_number, entry.serial_number)
+            self.assertEqual(our[at - len(our)].serial_number, entry.serial_number)
             found = our.get_revoked_certificate_by_serial_number(entry.serial_number)
             assert found is not None
-            self.assertEqual(found.revocation_date_utc, entry.revocation_date_utc)
+            self.assertEqual((found.revocation_date_utc, found.reason), (entry.revocation_date_utc, one.reason))
         self.assertIsNone(our.get_revoked_certificate_by_serial_number(2**100 + 12345))
+        with self.assertRaises(IndexError):
+            our[len(our)]
+
+    def of_CRLReason(self, our: ours.CRLReason, their: theirs.CRLReason) -> None:
+        self.assertEqual(our.reason.name, their.reason.name)
+
+    def of_PrecertificateSignedCertificateTimestamps(
+        self, our: ours.PrecertificateSignedCertificateTimestamps, their: theirs.PrecertificateSignedCertificateTimestamps
+    ) -> None:
+        self.assertEqual(len(our), len(their))
+        for one, other in zip(our, their):
+            self.assertEqual((one.log_id, one.timestamp), (other.log_id, other.timestamp))
+            self.assertEqual((one.signature, one.extension_bytes), (other.signature, other.extension_bytes))
+            self.assertEqual(one.signature_algorithm, other.signature_algorithm.value)
+
+    def test_crls_made(self) -> None:
+        key = ec.generate_private_key(ec.SECP256R1())
+        start = datetime.datetime(2026, 2, 1, tzinfo=datetime.timezone.utc)
+        name = theirs.Name([theirs.NameAttribute(theirs.NameOID.COMMON_NAME, "a")])
+        for count in (0, 1, 300):
+            builder = theirs.CertificateRevocationListBuilder().issuer_name(name).last_update(start).next_update(start + datetime.timedelta(days=count + 1))
+            builder = builder.add_extension(theirs.CRLNumber(count), critical=False)
+            for number in range(count):
+                entry = theirs.RevokedCertificateBuilder().serial_number(7**number).revocation_date(start - datetime.timedelta(hours=number))
+                if number % 3 == 0:
+                    entry = entry.add_extension(theirs.CRLReason(list(theirs.ReasonFlags)[number % 10]), critical=False)
+                if (7**number).bit_length() <= 159:
+                    builder = builder.add_revoked_certificate(entry.build())
+            with self.subTest(entries=count):
+                self.compare_crl(builder.sign(key, hashes.SHA256()).public_bytes(serialization.Encoding.DER))
+
+    def test_csr(self) -> None:
+        self.compare_csr((DATA / "request.der").read_bytes())
+
+    def compare_csr(self, data: bytes) -> None:
+        their = theirs.load_der_x509_csr(data)
+        our = ours.load_der_x509_csr(data)
+        self.assertEqual(our.public_bytes(), data)
+        self.assertEqual(our.tbs_certrequest_bytes, their.tbs_certrequest_bytes)
+        self.assertEqual(our.signature, their.signature)
+        self.assertEqual(our.signature_algorithm_oid.dotted_string, their.signature_algorithm_oid.dotted_string)
+        spki = their.public_key().public_bytes(serialization.Encoding.DER, serialization.PublicFormat.SubjectPublicKeyInfo)
+        self.assertEqual(our.public_key_bytes, spki)
+        self.names(our.subject, their.subject)
+        self.extensions(our.extensions, their.extensions)
+        self.assertEqual([(it.oid.dotted_string, it.value) for it in our.attributes], [(it.oid.dotted_string, it.value) for it in their.attributes])
+
+    def test_csrs_made(self) -> None:
+        builder = theirs.CertificateSigningRequestBuilder().subject_name(theirs.Name([]))
+        for key, algorithm in ((ed25519.Ed25519PrivateKey.generate(), None), (ec.generate_private_key(ec.SECP384R1()), hashes.SHA384())):
+            self.compare_csr(builder.sign(key, algorithm).public_bytes(serialization.Encoding.DER))
+            usage = theirs.KeyUsage(True, False, False, False, False, True, True, False, False)
+            more = builder.add_extension(usage, critical=True).add_extension(theirs.SubjectAlternativeName([theirs.DNSName("a.b")]), critical=False)
+            self.compare_csr(more.sign(key, algorithm).public_bytes(serialization.Encoding.DER))
+
+    def test_timestamps(self) -> None:
+        """Two timestamps of RFC 6962 3.2 by hand, as an extension of a certificate."""
+        one = b"\x00" + bytes(range(32)) + (1_700_000_000_123).to_bytes(8, "big") + b"\x00\x00" + b"\x04\x03\x00\x02\xab\xcd"
+        other = b"\x00" + bytes(range(32, 64)) + (5).to_bytes(8, "big") + b"\x00\x01\xee" + b"\x04\x01\x00\x01\xef"
+        listed = b"".join(len(it).to_bytes(2, "big") + it for it in (one, other))
+        listed = len(listed).to_bytes(2, "big") + listed
+        value = b"\x04" + bytes([len(listed)]) + listed
+        key = ec.generate_private_key(ec.SECP256R1())
+        start = datetime.datetime(2026, 1, 1, tzinfo=datetime.timezone.utc)
+        builder = theirs.CertificateBuilder().subject_name(theirs.Name([])).issuer_name(theirs.Name([])).public_key(key.public_key()).serial_number(5)
+        builder = builder.not_valid_before(start).not_valid_after(start + datetime.timedelta(days=1))
+        oid = theirs.ObjectIdentifier("1.3.6.1.4.1.11129.2.4.2")
+        data = builder.add_extension(theirs.UnrecognizedExtension(oid, value), critical=False).sign(key, hashes.SHA256())
+        self.compare(data.public_bytes(serialization.Encoding.DER))
+        held = ours.PrecertificateSignedCertificateTimestamps(value)
+        self.assertEqual([it.milliseconds for it in held], [1_700_000_000_123, 5])
+        self.assertEqual(held.serialized, [one, other])
+
+    def test_anchors(self) -> None:
+        data = (DATA / "certificate.der").read_bytes()
+        certificate = ours.load_der_x509_certificate(data)
+        part = certificate.tbs_certificate_bytes
+        tagged = b"\xa1\x82" + len(part).to_bytes(2, "big") + part
+        for anchor, kind, element in (
+            (ours.load_der_trust_anchor(data), ours.AnchorKind.certificate, data),
+            (ours.load_der_trust_anchor(tagged), ours.AnchorKind.tbs_certificate, part),
+        ):
+            self.assertEqual((anchor.kind, anchor.element), (kind, element))
+            self.assertEqual((anchor.name, anchor.public_key_bytes), (certificate.subject, certificate.public_key_bytes))
+            self.assertEqual([it.oid for it in anchor.extensions], [it.oid for it in certificate.extensions])
+            self.assertEqual((anchor.title, anchor.key_identifier, anchor.path_controls_bytes), (None, None, None))
+        key = certificate.public_key_bytes
+        fields = key + b"\x04\x02\xab\xcd" + b"\x0c\x02\xc3\xa9"
+        info = b"\x30" + bytes([len(fields)]) + fields
+        anchor = ours.load_der_trust_anchor(b"\xa2" + bytes([len(info)]) + info)
+        self.assertEqual((anchor.kind, anchor.element, anchor.name), (ours.AnchorKind.info, info, None))
+        self.assertEqual((anchor.public_key_bytes, anchor.key_identifier, anchor.title), (key, b"\xab\xcd", "é"))
+        self.assertEqual((len(anchor.extensions), anchor.path_controls_bytes), (0, None))
 
 
 class Refusals(unittest.TestCase):
@@ -170,6 +277,32 @@ class Refusals(unittest.TestCase):
                         extension.value
                 except ours.X509Error:
                     continue
+
+    def test_others_cut_and_changed(self) -> None:
+        def crl(data: bytes) -> None:
+            it = ours.load_der_x509_crl(data)
+            str(it.issuer), it.last_update_utc, it.next_update_utc, it.signature_algorithm_oid, len(it.extensions)
+            for at in range(len(it)):
+                try:
+                    it[at]
+                except ours.DuplicateExtension:
+                    continue
+
+        def csr(data: bytes) -> None:
+            it = ours.load_der_x509_csr(data)
+            str(it.subject), it.attributes, it.signature_algorithm_oid, it.public_key_bytes
+            len(it.extensions)
+
+        for name, read in (("list.der", crl), ("request.der", csr)):
+            data = (DATA / name).read_bytes()
+            for at in range(len(data)):
+                with self.assertRaises(ours.X509Error):
+                    read(data[:at])
+                for octet in (0x00, 0x7F, 0xFF):
+                    try:
+                        read(data[:at] + bytes([octet]) + data[at + 1 :])
+                    except ours.X509Error:
+                        continue
 
     def test_names(self) -> None:
         name = ours.Name.from_rfc4514_string("CN=a\\,b,O=c+OU=d")

@@ -33,10 +33,11 @@ pub struct Validity {
     pub not_after: SystemTime,
 }
 
-/// What is to be verified of a certificate: that these bits are a signature of the signed part, by that algorithm, for the key of the certificate above.
+/// What is to be verified of a certificate, a CRL or a CSR: that these bits are a signature of the signed part, by that algorithm, for the key of the certificate above, for
+/// that of the issuer, or for the CSR's own.
 #[derive(Clone, Copy, Debug, PartialEq, Eq, Hash)]
 pub struct Signature<'a> {
-    /// What is signed: a whole TBSCertificate.
+    /// What is signed: a whole TBSCertificate, TBSCertList or CertificationRequestInfo.
     pub signed_part: &'a [u8],
 
     /// A whole AlgorithmIdentifier.
@@ -47,6 +48,18 @@ pub struct Signature<'a> {
 
     /// How many bits of the last of these octets are unused, 0 to 7.
     pub unused_bits: u32,
+}
+
+impl<'a> Signature<'a> {
+    /// What a call has found of these bytes.
+    pub(crate) fn found(view: &ffi::Signature, der: &'a [u8]) -> Result<Signature<'a>, Error> {
+        Ok(Signature {
+            signed_part: view.signed_part.of(der)?,
+            algorithm: view.algorithm.of(der)?,
+            bits: view.bits.of(der)?,
+            unused_bits: view.unused_bits,
+        })
+    }
 }
 
 /// Where the parts of a certificate stand in its bytes.
@@ -236,13 +249,7 @@ impl<'a> CertificateRef<'a> {
     /// # Errors
     /// [`Error::Memory`].
     pub fn signature(&self) -> Result<Signature<'a>, Error> {
-        let view = ffi::CERTIFICATE_SIGNATURE.of(self.der)?;
-        Ok(Signature {
-            signed_part: view.signed_part.of(self.der)?,
-            algorithm: view.algorithm.of(self.der)?,
-            bits: view.bits.of(self.der)?,
-            unused_bits: view.unused_bits,
-        })
+        Signature::found(&ffi::CERTIFICATE_SIGNATURE.of(self.der)?, self.der)
     }
 
     /// Its DER with the dates as RFC 5280 4.1.2.5 spells them. Where that isn't how they stood, the signature doesn't hold of these bytes.

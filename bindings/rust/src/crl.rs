@@ -1,7 +1,10 @@
 //! CRLs (RFC 5280 5.1).
+use crate::certificate::Signature;
 use crate::error::Error;
-use crate::extension::CrlReason;
-use crate::ffi;
+use crate::extension::{CrlReason, ExtensionValue, Extensions};
+use crate::ffi::{self, Members};
+use crate::integer::Integer;
+use crate::name::NameRef;
 use crate::time::moment;
 use std::fmt;
 use std::hash::{Hash, Hasher};
@@ -18,6 +21,65 @@ pub struct Revocation {
 
     /// Why, where that is said.
     pub reason: Option<CrlReason>,
+}
+
+/// An entry of a CRL (RFC 5280 5.1.2.6).
+#[derive(Clone, Debug)]
+pub struct CrlEntry<'a> {
+    /// The serial number that the issuer gave the certificate.
+    pub serial_number: Integer<'a>,
+
+    /// When the certificate was revoked.
+    pub date: SystemTime,
+
+    extensions: &'a [u8],
+}
+
+impl<'a> CrlEntry<'a> {
+    fn found(view: &ffi::CrlEntry, data: &'a [u8]) -> Result<CrlEntry<'a>, Error> {
+        let element = view.serial_number.of(data)?;
+        Ok(CrlEntry {
+            serial_number: Integer(ffi::SERIAL_NUMBER.of(element)?.of(element)?),
+            date: moment(view.date)?,
+            extensions: view.extensions.of(data)?,
+        })
+    }
+
+    /// Its extensions, in order.
+    pub fn extensions(&self) -> Extensions<'a> {
+        Extensions::new(self.extensions)
+    }
+
+    /// Why the certificate was revoked, where that is said.
+    ///
+    /// # Errors
+    /// [`Error::Repeated`] where it is said twice; [`Error::Malformed`] where it can't be read; [`Error::Memory`].
+    pub fn reason(&self) -> Result<Option<CrlReason>, Error> {
+        let mut told = None;
+        for extension in self.extensions() {
+            let extension = extension?;
+            if extension.oid() == CrlReason::OID {
+                if told.is_some() {
+                    return Err(Error::Repeated);
+                }
+                told = Some(CrlReason::from_der(extension.value())?);
+            }
+        }
+        Ok(told)
+    }
+}
+
+/// The entries of a CRL, in order. After one that can't be read nothing comes.
+#[derive(Clone, Debug)]
+pub struct CrlEntries<'a>(Members<'a, ffi::CrlEntry>);
+
+impl<'a> Iterator for CrlEntries<'a> {
+    type Item = Result<CrlEntry<'a>, Error>;
+
+    fn next(&mut self) -> Option<Self::Item> {
+        let found = self.0.next()?;
+        Some(found.and_then(|view| CrlEntry::found(&view, self.0.data)))
+    }
 }
 
 /// A CRL, by its bytes. CRLs are equal byte for byte.
@@ -37,7 +99,8 @@ pub struct Revocation {
 #[derive(Clone)]
 pub struct Crl {
     der: Vec<u8>,
-    entries: usize,
+    view: ffi::Crl,
+    len: usize,
 }
 
 impl Crl {
@@ -46,8 +109,18 @@ impl Crl {
     /// # Errors
     /// [`Error::Malformed`] or [`Error::Overlength`] where they are none, or bytes stand behind it; [`Error::Memory`].
     pub fn from_der(der: Vec<u8>) -> Result<Crl, Error> {
-        let entries = ffi::CRL_WALK.of(&der)?;
-        Ok(Crl { der, entries })
+        let view = ffi::CRL.of(&der)?;
+        for span in [view.issuer, view.entries, view.extensions] {
+            span.of(&der)?;
+        }
+        Signature::found(&view.signature, &der)?;
+        let len = entries(view.entries.of(&der)?).count();
+        Ok(Crl { der, view, len })
+    }
+
+    /// A part, which [`from_der`](Crl::from_der) has found within the bytes.
+    fn part(&self, span: ffi::Span) -> &[u8] {
+        span.of(&self.der).unwrap_or_default()
     }
 
     /// Its DER.
@@ -62,12 +135,57 @@ impl Crl {
 
     /// How many entries it has.
     pub fn len(&self) -> usize {
-        self.entries
+        self.len
     }
 
     /// Whether it has no entry.
     pub fn is_empty(&self) -> bool {
-        self.entries == 0
+        self.len == 0
+    }
+
+    /// Its version: 1 or 2 as of RFC 5280 5.1.2.1, or 3.
+    pub fn version(&self) -> u32 {
+        self.view.version
+    }
+
+    /// The name of its issuer.
+    pub fn issuer(&self) -> NameRef<'_> {
+        NameRef::found(self.part(self.view.issuer))
+    }
+
+    /// When it was issued.
+    ///
+    /// # Errors
+    /// None but [`Error::Unexpected`].
+    pub fn this_update(&self) -> Result<SystemTime, Error> {
+        moment(self.view.this_update)
+    }
+
+    /// By when the next one will be issued, where that is said.
+    ///
+    /// # Errors
+    /// None but [`Error::Unexpected`].
+    pub fn next_update(&self) -> Result<Option<SystemTime>, Error> {
+        let is_said = self.view.has_next_update == 1;
+        is_said.then(|| moment(self.view.next_update)).transpose()
+    }
+
+    /// Its entries, in order.
+    pub fn entries(&self) -> CrlEntries<'_> {
+        CrlEntries(entries(self.part(self.view.entries)))
+    }
+
+    /// Its extensions, in order.
+    pub fn extensions(&self) -> Extensions<'_> {
+        Extensions::new(self.part(self.view.extensions))
+    }
+
+    /// What is to be verified of it.
+    ///
+    /// # Errors
+    /// None but [`Error::Unexpected`].
+    pub fn signature(&self) -> Result<Signature<'_>, Error> {
+        Signature::found(&self.view.signature, &self.der)
     }
 
     /// The bytes that the signature is over, as they stand in the DER: a whole TBSCertList.
@@ -100,6 +218,16 @@ impl Crl {
     }
 }
 
+/// The entries of a whole list of them; none of no bytes.
+fn entries(der: &[u8]) -> Members<'_, ffi::CrlEntry> {
+    let members = ffi::CRL_ENTRIES.over(der);
+    if der.is_empty() {
+        members.ended()
+    } else {
+        members
+    }
+}
+
 impl PartialEq for Crl {
     fn eq(&self, other: &Self) -> bool {
         self.der == other.der
@@ -123,7 +251,8 @@ impl AsRef<[u8]> for Crl {
 impl fmt::Debug for Crl {
     fn fmt(&self, f: &mut fmt::Formatter<'_>) -> fmt::Result {
         f.debug_struct("Crl")
-            .field("len", &self.entries)
+            .field("issuer", &self.issuer())
+            .field("len", &self.len)
             .finish_non_exhaustive()
     }
 }

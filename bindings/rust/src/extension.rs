@@ -6,6 +6,7 @@ mod keys;
 mod names;
 mod points;
 mod policies;
+mod timestamps;
 
 pub use access::{AccessDescription, AuthorityInfoAccess, SubjectInfoAccess};
 pub use crl::{BaseCrlNumber, CrlNumber, CrlReason};
@@ -20,6 +21,7 @@ pub use policies::{
     CertificatePolicies, InhibitAnyPolicy, PolicyConstraints, PolicyInformation, PolicyMapping,
     PolicyMappings, PolicyQualifierInfo,
 };
+pub use timestamps::{SignedCertificateTimestamp, SignedCertificateTimestamps};
 
 use crate::error::Error;
 use crate::ffi::{self, Members};
@@ -161,6 +163,7 @@ parsed! {
     CrlNumber(CrlNumber<'a>),
     BaseCrlNumber(BaseCrlNumber<'a>),
     CrlReason(CrlReason),
+    SignedCertificateTimestamps(SignedCertificateTimestamps<'a>),
 }
 
 /// A type that is a list, under its identifier.

@@ -203,6 +203,79 @@ pub(crate) struct Revocation {
     pub(crate) reason: i32,
 }
 
+#[repr(C)]
+#[derive(Clone, Copy, Debug, Default)]
+pub(crate) struct Crl {
+    pub(crate) version: u32,
+    pub(crate) inner_algorithm: Span,
+    pub(crate) issuer: Span,
+    pub(crate) this_update: u64,
+    pub(crate) has_next_update: u32,
+    pub(crate) next_update: u64,
+    pub(crate) entries: Span,
+    pub(crate) extensions: Span,
+    pub(crate) signature: Signature,
+}
+
+#[repr(C)]
+#[derive(Clone, Copy, Debug, Default)]
+pub(crate) struct CrlEntry {
+    pub(crate) serial_number: Span,
+    pub(crate) date: u64,
+    pub(crate) extensions: Span,
+}
+
+#[repr(C)]
+#[derive(Clone, Copy, Debug, Default)]
+pub(crate) struct Request {
+    pub(crate) version: u32,
+    pub(crate) subject: Span,
+    pub(crate) subject_public_key_info: Span,
+    pub(crate) attributes: Span,
+    pub(crate) signature: Signature,
+}
+
+#[repr(C)]
+#[derive(Clone, Copy, Debug, Default)]
+pub(crate) struct RequestAttribute {
+    pub(crate) oid: Span,
+    pub(crate) values: Span,
+}
+
+#[repr(C)]
+#[derive(Clone, Copy, Debug, Default)]
+pub(crate) struct Element {
+    pub(crate) tag: u32,
+    pub(crate) element: Span,
+    pub(crate) content: Span,
+}
+
+#[repr(C)]
+#[derive(Clone, Copy, Debug, Default)]
+pub(crate) struct Anchor {
+    pub(crate) kind: u32,
+    pub(crate) element: Span,
+    pub(crate) name: Span,
+    pub(crate) subject_public_key_info: Span,
+    pub(crate) extensions: Span,
+    pub(crate) key_identifier: Span,
+    pub(crate) title: Span,
+    pub(crate) title_language: Span,
+    pub(crate) controls: Span,
+}
+
+#[repr(C)]
+#[derive(Clone, Copy, Debug, Default)]
+pub(crate) struct Timestamp {
+    pub(crate) version: u32,
+    pub(crate) log_id: Span,
+    pub(crate) timestamp: u64,
+    pub(crate) extensions: Span,
+    pub(crate) hash: u32,
+    pub(crate) signature_algorithm: u32,
+    pub(crate) signature: Span,
+}
+
 /// Bytes go in as a pointer and a length.
 type ViewCall<T> = unsafe extern "C" fn(*const u8, usize, *mut T) -> c_int;
 type FillCall = unsafe extern "C" fn(*const u8, usize, *mut u8, usize, *mut usize) -> c_int;
@@ -249,8 +322,16 @@ extern "C" {
     fn x509_time_text(moment: u64, out: *mut u8, room: usize, written: *mut usize) -> c_int;
     fn x509_certificate_signature(input: *const u8, len: usize, signature: *mut Signature) -> c_int;
     fn x509_path_check(anchor: *const u8, anchor_len: usize, path: *const u8, path_len: usize, lens: *const usize, count: usize, moment: u64, fault: *mut PathFault) -> c_int;
-    fn x509_crl_walk(input: *const u8, len: usize, entries: *mut usize) -> c_int;
     fn x509_crl_lookup(input: *const u8, len: usize, serial_number: *const u8, serial_number_len: usize, revocation: *mut Revocation) -> c_int;
+    fn x509_crl_view(input: *const u8, len: usize, view: *mut Crl) -> c_int;
+    fn x509_crl_entry_next(value: *const u8, len: usize, at: *mut usize, found: *mut CrlEntry) -> c_int;
+    fn x509_request_view(input: *const u8, len: usize, view: *mut Request) -> c_int;
+    fn x509_request_attribute_next(value: *const u8, len: usize, at: *mut usize, found: *mut RequestAttribute) -> c_int;
+    fn x509_attribute_value_next(value: *const u8, len: usize, at: *mut usize, found: *mut Element) -> c_int;
+    fn x509_request_extensions(input: *const u8, len: usize, found: *mut Span) -> c_int;
+    fn x509_anchor_view(input: *const u8, len: usize, view: *mut Anchor) -> c_int;
+    fn x509_timestamp_next(value: *const u8, len: usize, at: *mut usize, found: *mut Span) -> c_int;
+    fn x509_timestamp_view(input: *const u8, len: usize, view: *mut Timestamp) -> c_int;
     fn x509_version() -> u32;
 }
 
@@ -423,7 +504,11 @@ pub(crate) const CERTIFICATE: View<Certificate> = View(x509_certificate_view);
 pub(crate) const CERTIFICATE_SIGNATURE: View<Signature> = View(x509_certificate_signature);
 pub(crate) const SIGNED_SLICE: View<Span> = View(x509_signed_slice);
 pub(crate) const SERIAL_NUMBER: View<Span> = View(x509_serial_number);
-pub(crate) const CRL_WALK: View<usize> = View(x509_crl_walk);
+pub(crate) const CRL: View<Crl> = View(x509_crl_view);
+pub(crate) const REQUEST: View<Request> = View(x509_request_view);
+pub(crate) const REQUEST_EXTENSIONS: View<Span> = View(x509_request_extensions);
+pub(crate) const ANCHOR: View<Anchor> = View(x509_anchor_view);
+pub(crate) const TIMESTAMP: View<Timestamp> = View(x509_timestamp_view);
 pub(crate) const KEY_USAGE: View<u32> = View(x509_key_usage);
 pub(crate) const BASIC_CONSTRAINTS: View<BasicConstraintsView> = View(x509_basic_constraints);
 pub(crate) const SUBJECT_KEY_IDENTIFIER: View<Span> = View(x509_subject_key_identifier);
@@ -465,6 +550,11 @@ pub(crate) static DISTRIBUTION_POINTS: Walk<DistributionPoint> =
     Walk(Next::Plain(x509_distribution_points_next));
 pub(crate) static SUBTREES_UNDER_0: Walk<Subtree> = Walk(Next::Under(0, x509_subtrees_under_next));
 pub(crate) static SUBTREES_UNDER_1: Walk<Subtree> = Walk(Next::Under(1, x509_subtrees_under_next));
+pub(crate) static CRL_ENTRIES: Walk<CrlEntry> = Walk(Next::Plain(x509_crl_entry_next));
+pub(crate) static REQUEST_ATTRIBUTES: Walk<RequestAttribute> =
+    Walk(Next::Plain(x509_request_attribute_next));
+pub(crate) static ATTRIBUTE_VALUES: Walk<Element> = Walk(Next::Plain(x509_attribute_value_next));
+pub(crate) static TIMESTAMPS: Walk<Span> = Walk(Next::Plain(x509_timestamp_next));
 pub(crate) static NAME: Walk<Span> = Walk(Next::Plain(x509_name_next));
 pub(crate) static RELATIVE_NAME: Walk<Attribute> = Walk(Next::Plain(x509_relative_name_next));
 pub(crate) static RELATIVE_NAME_UNDER_1: Walk<Attribute> =

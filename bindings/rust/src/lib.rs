@@ -20,8 +20,10 @@
 #![deny(unsafe_code)]
 #![warn(missing_docs, missing_debug_implementations)]
 
+mod anchor;
 mod certificate;
 mod crl;
+mod csr;
 mod error;
 pub mod extension;
 #[allow(unsafe_code)]
@@ -33,8 +35,10 @@ pub mod oid;
 mod path;
 mod time;
 
+pub use anchor::{AnchorKind, TrustAnchor};
 pub use certificate::{Certificate, CertificateRef, Signature, Validity, Version};
-pub use crl::{Crl, Revocation};
+pub use crl::{Crl, CrlEntries, CrlEntry, Revocation};
+pub use csr::{AttributeValue, AttributeValues, Csr, CsrAttribute, CsrAttributes};
 pub use error::Error;
 pub use extension::{Extension, Extensions, ParsedExtension};
 pub use general_name::{GeneralName, GeneralNames};

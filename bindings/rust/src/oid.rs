@@ -169,6 +169,8 @@ pub mod extension {
         AUTHORITY_INFO_ACCESS = "1.3.6.1.5.5.7.1.1", b"\x2b\x06\x01\x05\x05\x07\x01\x01";
         /// SubjectInfoAccess
         SUBJECT_INFO_ACCESS = "1.3.6.1.5.5.7.1.11", b"\x2b\x06\x01\x05\x05\x07\x01\x0b";
+        /// Signed certificate timestamps (RFC 6962 3.3)
+        SIGNED_CERTIFICATE_TIMESTAMPS = "1.3.6.1.4.1.11129.2.4.2", b"\x2b\x06\x01\x04\x01\xd6\x79\x02\x04\x02";
         /// What marks a precertificate (RFC 6962 3.1)
         PRECERT_POISON = "1.3.6.1.4.1.11129.2.4.3", b"\x2b\x06\x01\x04\x01\xd6\x79\x02\x04\x03";
     }

@@ -28,6 +28,53 @@ fn entries() {
     assert_eq!(found, revoked(Some(CrlReason::KeyCompromise)));
 }
 
+/// The moment that is some seconds after 2026-02-01T00:00:00Z.
+fn february(seconds: u64) -> std::time::SystemTime {
+    UNIX_EPOCH + Duration::from_secs(1_769_904_000 + seconds)
+}
+
+#[test]
+fn parts() {
+    let it = crl();
+    let certificate = Certificate::from_der(CERTIFICATE.to_vec()).expect("a certificate");
+    assert_eq!(it.version(), 2);
+    assert_eq!(it.issuer(), certificate.issuer());
+    assert_eq!(it.this_update(), Ok(february(0)));
+    assert_eq!(it.next_update(), Ok(Some(february(28 * 86_400))));
+    assert_eq!(it.extensions().count(), 0);
+    let signature = it.signature().expect("a signature");
+    assert_eq!(signature.signed_part, it.tbs_cert_list().expect("a part"));
+    // ECDSA with SHA-256 (RFC 5758 3.2)
+    assert_eq!(
+        signature.algorithm,
+        b"\x30\x0a\x06\x08\x2a\x86\x48\xce\x3d\x04\x03\x02"
+    );
+    assert!(DER.ends_with(signature.bits));
+    assert_eq!(signature.unused_bits, 0);
+}
+
+#[test]
+fn entries_one_after_the_other() {
+    let it = crl();
+    let found: Vec<_> = it.entries().map(|entry| entry.expect("an entry")).collect();
+    let numbers: Vec<_> = found
+        .iter()
+        .map(|entry| entry.serial_number.to_u128())
+        .collect();
+    assert_eq!(numbers, [Some(1), Some(0x1234_5678_90ab_cdef), Some(3)]);
+    let reasons: Vec<_> = found.iter().map(|entry| entry.reason()).collect();
+    assert_eq!(
+        reasons,
+        [Ok(None), Ok(Some(CrlReason::KeyCompromise)), Ok(None)]
+    );
+    for entry in &found {
+        let date = UNIX_EPOCH + Duration::from_secs(1_768_903_200);
+        assert_eq!(entry.date, date);
+    }
+    assert_eq!(found[1].extensions().count(), 1);
+    assert_eq!(found[0].extensions().count(), 0);
+}
+
 #[test]
 fn octets_that_are_no_serial_number() {
     let it = crl();

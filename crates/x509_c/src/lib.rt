@@ -3,7 +3,9 @@
 //! `docs/MAP.md`.
 #![tactic(auto)]
 
+mod anchor;
 mod certificate;
+mod key;
 mod list;
 mod name;
 mod party;
@@ -11,6 +13,8 @@ mod path;
 mod payload;
 mod point;
 mod policy;
+mod request;
 mod subtree;
 mod text;
+mod timestamp;
 mod whole;

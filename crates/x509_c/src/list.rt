@@ -1,7 +1,10 @@
 //! What a CRL says.
 
-ghost use Rattle.std.specs.Prelude.{◌≡◌, length};
+ghost use Rattle.std.specs.Prelude.{◌≡◌, [], length};
+ghost use Rattle.x509_c_calls.specs.CrlEntries.{IsEntry};
 ghost use Rattle.x509_c_calls.specs.Revoked.{LooksUp};
+ghost use Rattle.x509_c_calls.specs.CrlView.{IsCrl};
+ghost use Rattle.x509_c_calls.specs.Cursor.{Steps};
 ghost use Rattle.x509_c_calls.specs.Calls.{Reads};
 ghost use Rattle.x509_c_calls.specs.Status.{Tells};
 ghost use Rattle.x509_cert.specs.Revoked.{entries};
@@ -9,9 +12,9 @@ ghost use Rattle.x509_ext.specs.LookUp.{Finds, members, with_oid};
 
 use std::alloc::Global;
 use x509_base::{Rfc5280, SerialNumber};
-use x509_c_calls::{Revocation, crl_lookup, crl_walk};
-use x509_cert::crl::CertificateList;
-use x509_der::{AssociatedOid, Decode, Grammar};
+use x509_c_calls::{CrlEntryView, CrlView, Revocation, crl_lookup, crl_walk, member_next, payload};
+use x509_cert::crl::{CertificateList, RevokedCert};
+use x509_der::{AssociatedOid, Decode, Grammar, Tag};
 use x509_ext::pkix::CrlReason;
 
 /// Decodes a CRL under the rules of RFC 5280, and says how many entries it has.
@@ -33,4 +36,25 @@ pub extern "C" fn x509_crl_lookup(
     ensures { Tells (λ status. LooksUp ⟦<CertificateList<Rfc5280> as Grammar>⟧.form ⟦<CertificateList<Rfc5280> as Grammar>⟧.refuses ⟦<SerialNumber<Rfc5280> as Grammar>⟧.form ⟦<SerialNumber<Rfc5280> as Grammar>⟧.refuses (λ e found. Finds ⟦<CrlReason as Grammar>⟧.form ⟦<CrlReason as Grammar>⟧.refuses ⟦<CrlReason as Decode>⟧.wants_memory (with_oid ⟦<CrlReason as AssociatedOid>⟧.OID (members e.crl_entry_extensions)) found) input.now serial_number.now revocation.old revocation.new status) result }
 {
     crl_lookup(alloc, input, serial_number, revocation).code()
+}
+
+/// Decodes a CRL under the rules of RFC 5280, and fills in what it says and where its parts stand.
+#[unsafe(no_mangle)]
+pub extern "C" fn x509_crl_view(alloc: Global, input: &[u8], view: &mut CrlView) -> i32
+    ensures { Tells (λ status. Reads ⟦<CertificateList<Rfc5280> as Grammar>⟧.form ⟦<CertificateList<Rfc5280> as Grammar>⟧.refuses input.now (λ list. IsCrl input.now list [] view.new) (view.new ≡ view.old) status) result }
+{
+    payload::<CrlView>(alloc, input, view).code()
+}
+
+/// Fills in the next entry of a list of entries.
+#[unsafe(no_mangle)]
+pub extern "C" fn x509_crl_entry_next(
+    alloc: Global,
+    input: &[u8],
+    at: &mut usize,
+    found: &mut CrlEntryView,
+) -> i32
+    ensures { Tells (λ status. Steps ⟦<RevokedCert<Rfc5280> as Grammar>⟧.form ⟦<RevokedCert<Rfc5280> as Grammar>⟧.refuses ⟦<RevokedCert<Rfc5280> as Decode>⟧.wants_memory 48 input.now at.old at.new (λ entry behind span. IsEntry input.now entry behind found.new) (found.new ≡ found.old) status) result }
+{
+    member_next::<CrlEntryView>(alloc, Tag::Sequence, input, at, found).code()
 }

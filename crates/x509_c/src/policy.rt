@@ -1,17 +1,17 @@
 //! What extensions say of policies.
 
-ghost use Rattle.std.specs.Prelude.{◌≡◌};
+ghost use Rattle.std.specs.Prelude.{◌≡◌, ◌≤◌, ◌<◌, ◌+◌};
 ghost use Rattle.x509_c_calls.specs.Cursor.{Steps};
 ghost use Rattle.x509_c_calls.specs.Policies.{IsMapping, IsPolicy, IsPolicyConstraints, IsQualifier};
 ghost use Rattle.x509_c_calls.specs.Calls.{Reads};
 ghost use Rattle.x509_c_calls.specs.Status.{Tells};
 ghost use Rattle.x509_c_calls.specs.declared.status.status.Status.TheVariants.{Refused};
-ghost use Rattle.x509_der.specs.declared.error.ErrorKind.TheVariants.{Memory};
+ghost use Rattle.x509_der.specs.declared.error.ErrorKind.TheVariants.{Malformed, Memory};
 
 use std::alloc::Global;
 use x509_c_calls::{
-    MappingView, PolicyConstraintsView, PolicyView, QualifierView, member_next, payload,
-    read_number,
+    MappingView, PolicyConstraintsView, PolicyView, QualifierView, member_next, member_under_next,
+    payload, read_number,
 };
 use x509_der::{Decode, Grammar, Tag};
 use x509_ext::pkix::certpolicy::{PolicyInformation, PolicyQualifierInfo};
@@ -28,6 +28,21 @@ pub extern "C" fn x509_certificate_policies_next(
     ensures { Tells (λ status. Steps ⟦<PolicyInformation as Grammar>⟧.form ⟦<PolicyInformation as Grammar>⟧.refuses ⟦<PolicyInformation as Decode>⟧.wants_memory 48 input.now at.old at.new (λ policy behind span. IsPolicy input.now policy behind found.new) (found.new ≡ found.old) status) result }
 {
     member_next::<PolicyView>(alloc, Tag::Sequence, input, at, found).code()
+}
+
+/// Fills in the next policy of a CertificatePolicies under an implicit tag.
+#[unsafe(no_mangle)]
+pub extern "C" fn x509_certificate_policies_under_next(
+    alloc: Global,
+    number: u32,
+    input: &[u8],
+    at: &mut usize,
+    found: &mut PolicyView,
+) -> i32
+    ensures { Tells (λ status. (number ≤ 30 → Steps ⟦<PolicyInformation as Grammar>⟧.form ⟦<PolicyInformation as Grammar>⟧.refuses ⟦<PolicyInformation as Decode>⟧.wants_memory (160 + number) input.now at.old at.new (λ policy behind span. IsPolicy input.now policy behind found.new) (found.new ≡ found.old) status)
+        × (30 < number → (status ≡ Refused Malformed) × (at.new ≡ at.old) × (found.new ≡ found.old))) result }
+{
+    member_under_next::<PolicyView>(alloc, number, input, at, found).code()
 }
 
 /// Fills in what qualifies a policy next.

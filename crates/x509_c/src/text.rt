@@ -2,6 +2,7 @@
 
 ghost use Rattle.std.specs.Prelude.{◌≡◌, ◌≤◌, []};
 ghost use Rattle.x509_base.specs.CivilTime.{last_date_time, unix_seconds};
+ghost use Rattle.x509_c_calls.specs.StatusTexts.{IsStatusText};
 ghost use Rattle.x509_c_calls.specs.Texts.{IsSerialText, IsTimeText};
 ghost use Rattle.x509_c_calls.specs.Place.{IsAt};
 ghost use Rattle.x509_c_calls.specs.Calls.{Reads};
@@ -11,7 +12,7 @@ ghost use Rattle.x509_der.specs.declared.error.ErrorKind.TheVariants.{Memory};
 
 use std::alloc::Global;
 use x509_base::{Rfc5280, SerialNumber};
-use x509_c_calls::{Span, content, serial_text, time_text};
+use x509_c_calls::{Span, content, serial_text, status_text, time_text};
 use x509_der::Grammar;
 
 /// Reads a serial number under the rules of RFC 5280, and fills in where its content octets stand.
@@ -46,6 +47,14 @@ pub extern "C" fn x509_time_text(
     ensures { Tells (λ status. Fills (λ answer. IsTimeText moment answer) room.old room.new written.old written.new status × (status ≡ Refused Memory → moment ≤ unix_seconds last_date_time)) result }
 {
     time_text(alloc, moment, room, written).code()
+}
+
+/// Puts what the status with that number means, in a few words, at the front of the room.
+#[unsafe(no_mangle)]
+pub extern "C" fn x509_status_text(status: i32, room: &mut [u8], written: &mut usize) -> i32
+    ensures { Tells (λ answer. Fills (λ text. IsStatusText status text) room.old room.new written.old written.new answer × (answer ≡ Refused Memory → ⊥)) result }
+{
+    status_text(status, room, written).code()
 }
 
 /// The version of the library: 65,536 times the first number, 256 times the second, and the third.

@@ -1,3 +1,16 @@
+pub mod Kinds
+pub mod Algorithms
+pub mod Keys
+pub mod KeySigned
+pub mod RequestView
+pub mod RequestAttributes
+pub mod Asked
+pub mod SctWalk
+pub mod Timestamps
+pub mod AnchorParts
+pub mod Controls
+pub mod Infos
+pub mod Anchors
 pub mod Status
 pub mod Calls
 pub mod Place
@@ -7,6 +20,8 @@ pub mod View
 pub mod Extensions
 pub mod Signature
 pub mod Revoked
+pub mod CrlView
+pub mod CrlEntries
 pub mod Pieces
 pub mod Paths
 pub mod Cursor
@@ -16,6 +31,7 @@ pub mod BasicConstraints
 pub mod Identifiers
 pub mod GeneralNames
 pub mod Attributes
+pub mod Elements
 pub mod KeyIdentifiers
 pub mod Access
 pub mod Policies

@@ -7,5 +7,5 @@ mod whole;
 
 pub use extension::{ExtensionView, certificate_extension};
 pub use signature::{SignatureView, certificate_signature};
-pub use view::CertificateView;
+pub use view::{CertificateView, is_written, seconds};
 pub use whole::certificate_view;

@@ -2,27 +2,37 @@
 //! Words of our own are explained in `docs/MAP.md`.
 #![tactic(auto)]
 
+mod anchor;
 mod certificate;
 mod crl;
+mod key;
 mod named;
 mod path;
 mod payloads;
 mod place;
+mod request;
+mod sct;
 mod status;
 
+pub use anchor::{AnchorView, PathControlsView};
 pub use certificate::{
     CertificateView, ExtensionView, SignatureView, certificate_extension, certificate_signature,
-    certificate_view,
+    certificate_view, is_written, seconds,
 };
-pub use crl::{Revocation, crl_lookup, crl_walk};
+pub use crl::{CrlEntryView, CrlView, Revocation, crl_lookup, crl_walk};
+pub use key::{AlgorithmView, KeyKind, KeyView, SignatureKind, signature_at};
 pub use named::{name_from_text, name_text, reencode_named};
 pub use path::{Fault, path_check};
 pub use payloads::{
     AccessView, AttributeView, AuthorityKeyIdentifierView, BasicConstraintsView,
-    DistributionPointView, ExtensionEntry, GeneralNameView, IssuingDistributionPointView,
-    MappingView, NameConstraintsView, Numbered, PolicyConstraintsView, PolicyView, QualifierView,
-    SubtreeView, View, content, element_next, identifiers_next, member_next, member_under_next,
-    next, oid_from_text, oid_text, payload, read_number, serial_text, status_text, time_text,
+    DistributionPointView, ElementView, ExtensionEntry, GeneralNameView,
+    IssuingDistributionPointView, MappingView, NOWHERE, NameConstraintsView, Numbered,
+    PolicyConstraintsView, PolicyView, QualifierView, SubtreeView, View, bits_at, content,
+    content_at, element_next, identifiers_next, member_next, member_under_next, next,
+    oid_from_text, oid_text, optional_number, payload, read_number, serial_text, status_text,
+    step_content, step_optional, step_optional_content, time_text,
 };
 pub use place::{Span, enter, signed_place, signed_span, step};
+pub use request::{RequestAttributeView, RequestView, request_attribute, request_extensions};
+pub use sct::{TimestampView, timestamp_next, timestamp_view};
 pub use status::{Status, check, fill, read, reencode, write};

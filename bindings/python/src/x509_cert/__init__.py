@@ -8,7 +8,6 @@ from .certificate import (
     Certificate,
     CertificateRevocationList,
     PathFault,
-    ReasonFlags,
     RevokedCertificate,
     Verifier,
     Version,
@@ -25,6 +24,7 @@ from .extensions import (
     CertificatePolicies,
     CRLDistributionPoints,
     CRLNumber,
+    CRLReason,
     DistributionPoint,
     DuplicateExtension,
     ExtendedKeyUsage,
@@ -41,7 +41,10 @@ from .extensions import (
     PolicyInformation,
     PolicyMappings,
     PolicyQualifier,
+    PrecertificateSignedCertificateTimestamps,
     PrecertPoison,
+    ReasonFlags,
+    SignedCertificateTimestamp,
     SubjectAlternativeName,
     SubjectInformationAccess,
     SubjectKeyIdentifier,
@@ -61,5 +64,6 @@ from .general_name import (
 )
 from .name import Name, NameAttribute, RelativeDistinguishedName
 from .oid import AuthorityInformationAccessOID, ExtendedKeyUsageOID, ExtensionOID, NameOID, ObjectIdentifier
+from .request import AnchorKind, Attribute, CertificateSigningRequest, TrustAnchor, load_der_trust_anchor, load_der_x509_csr
 
 __all__ = [name for name in dir() if not name.startswith("_")]

@@ -133,6 +133,60 @@ class AttributeView(ctypes.Structure):
     _fields_ = [*_spans("oid"), *_numbers("tag"), *_spans("element", "content")]
 
 
+class CrlView(ctypes.Structure):
+    _fields_ = [
+        *_numbers("version"),
+        *_spans("inner_algorithm", "issuer"),
+        ("this_update", ctypes.c_uint64),
+        *_numbers("has_next_update"),
+        ("next_update", ctypes.c_uint64),
+        *_spans("entries", "extensions"),
+        ("signature", SignatureView),
+    ]
+
+
+class CrlEntryView(ctypes.Structure):
+    _fields_ = [*_spans("serial_number"), ("date", ctypes.c_uint64), *_spans("extensions")]
+
+
+class RequestView(ctypes.Structure):
+    _fields_ = [*_numbers("version"), *_spans("subject", "subject_public_key_info", "attributes"), ("signature", SignatureView)]
+
+
+class RequestAttributeView(ctypes.Structure):
+    _fields_ = _spans("oid", "values")
+
+
+class ElementView(ctypes.Structure):
+    _fields_ = [*_numbers("tag"), *_spans("element", "content")]
+
+
+class KeyView(ctypes.Structure):
+    _fields_ = [*_numbers("kind"), *_spans("oid", "parameters", "bits"), *_numbers("unused_bits")]
+
+
+class AlgorithmView(ctypes.Structure):
+    _fields_ = [*_numbers("kind"), *_spans("oid", "parameters")]
+
+
+class AnchorView(ctypes.Structure):
+    _fields_ = [
+        *_numbers("kind"),
+        *_spans("element", "name", "subject_public_key_info", "extensions", "key_identifier", "title", "title_language", "controls"),
+    ]
+
+
+class TimestampView(ctypes.Structure):
+    _fields_ = [
+        *_numbers("version"),
+        *_spans("log_id"),
+        ("timestamp", ctypes.c_uint64),
+        *_spans("extensions"),
+        *_numbers("hash", "signature_algorithm"),
+        *_spans("signature"),
+    ]
+
+
 class RevocationView(ctypes.Structure):
     _fields_ = [("date", ctypes.c_uint64), ("reason", ctypes.c_int32)]
 

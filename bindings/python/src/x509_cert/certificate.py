@@ -6,7 +6,8 @@ import ctypes
 import datetime
 import enum
 import hashlib
-from typing import Callable, Sequence
+import itertools
+from typing import Callable, Iterator, Sequence
 
 from ._library import (
     ABSENT,
@@ -14,25 +15,39 @@ from ._library import (
     OK,
     RAW,
     RFC5280,
+    AlgorithmView,
     CertificateView,
+    CrlEntryView,
+    CrlView,
     PathFaultView,
     RevocationView,
     SignatureView,
     Span,
     X509Error,
-    call,
     fill,
     status_of,
     view,
+    walk,
 )
-from .extensions import Extensions
+from .extensions import CRLReason, DuplicateExtension, Extensions, ReasonFlags
 from .name import Name
+from .oid import ObjectIdentifier
 
 _EPOCH = datetime.datetime(1970, 1, 1, tzinfo=datetime.timezone.utc)
 
 
 def _moment(seconds: int) -> datetime.datetime:
     return _EPOCH + datetime.timedelta(seconds=seconds)
+
+
+def _serial_number(element: bytes) -> int:
+    """The number that an INTEGER is, by its DER."""
+    return int.from_bytes(view("x509_serial_number", Span, element).of(element), "big", signed=True)
+
+
+def _algorithm_oid(data: bytes) -> ObjectIdentifier:
+    """The identifier of an AlgorithmIdentifier."""
+    return ObjectIdentifier.from_content(view("x509_algorithm_view", AlgorithmView, data).oid.of(data))
 
 
 class Version(enum.Enum):
@@ -64,8 +79,7 @@ class Certificate:
 
     @property
     def serial_number(self) -> int:
-        element = self._view.serial_number.of(self._data)
-        return int.from_bytes(view("x509_serial_number", Span, element).of(element), "big", signed=True)
+        return _serial_number(self._view.serial_number.of(self._data))
 
     @property
     def issuer(self) -> Name:
@@ -108,6 +122,11 @@ class Certificate:
         return self._signature.algorithm.of(self._data)
 
     @property
+    def signature_algorithm_oid(self) -> ObjectIdentifier:
+        """The identifier of the algorithm of the signature."""
+        return _algorithm_oid(self.signature_algorithm_bytes)
+
+    @property
     def _signature(self) -> SignatureView:
         return view("x509_certificate_signature", SignatureView, self._data)
 
@@ -130,29 +149,26 @@ def load_der_x509_certificate(data: bytes) -> Certificate:
     return Certificate(data)
 
 
-class ReasonFlags(enum.Enum):
-    """Why a certificate was revoked (RFC 5280 5.3.1)."""
-
-    unspecified = 0
-    key_compromise = 1
-    ca_compromise = 2
-    affiliation_changed = 3
-    superseded = 4
-    cessation_of_operation = 5
-    certificate_hold = 6
-    remove_from_crl = 8
-    privilege_withdrawn = 9
-    aa_compromise = 10
-
-
 class RevokedCertificate:
     """An entry of a CRL."""
 
-    def __init__(self, serial_number: int, revocation_date_utc: datetime.datetime, reason: ReasonFlags | None) -> None:
+    def __init__(
+        self, serial_number: int, revocation_date_utc: datetime.datetime, reason: ReasonFlags | None, extensions: Extensions | None = None
+    ) -> None:
         self.serial_number, self.revocation_date_utc, self.reason = serial_number, revocation_date_utc, reason
+        self.extensions = Extensions([]) if extensions is None else extensions
 
     def __repr__(self) -> str:
         return f"<RevokedCertificate(serial_number={self.serial_number}, {self.revocation_date_utc:%Y-%m-%dT%H:%M:%SZ}, {self.reason})>"
+
+
+def _entry(found: CrlEntryView, entries: bytes) -> RevokedCertificate:
+    extensions = Extensions.from_der(found.extensions.of(entries))
+    told = [it for it in extensions if it.oid == CRLReason.oid]
+    if len(told) > 1:
+        raise DuplicateExtension(CRLReason.oid)
+    reason = ReasonFlags(CRLReason(told[0].data).reason) if told else None
+    return RevokedCertificate(_serial_number(found.serial_number.of(entries)), _moment(int(found.date)), reason, extensions)
 
 
 class CertificateRevocationList:
@@ -160,18 +176,58 @@ class CertificateRevocationList:
 
     def __init__(self, data: bytes) -> None:
         self._data = bytes(data)
-        entries = ctypes.c_size_t()
-        call("x509_crl_walk", self._data, ctypes.byref(entries))
-        self._len = entries.value
+        self._view = view("x509_crl_view", CrlView, self._data)
+        self._entries = self._view.entries.of(self._data)
+        self._len = sum(1 for _ in self._walk())
+
+    def _walk(self) -> Iterator[CrlEntryView]:
+        return walk("x509_crl_entry_next", CrlEntryView, self._entries) if self._entries else iter(())
 
     def public_bytes(self) -> bytes:
         """The DER that it was read from."""
         return self._data
 
     @property
+    def issuer(self) -> Name:
+        return Name(self._view.issuer.of(self._data))
+
+    @property
+    def last_update_utc(self) -> datetime.datetime:
+        """When it was issued."""
+        return _moment(int(self._view.this_update))
+
+    @property
+    def next_update_utc(self) -> datetime.datetime | None:
+        """By when the next one will be issued, where that is said."""
+        return _moment(int(self._view.next_update)) if self._view.has_next_update else None
+
+    @property
+    def extensions(self) -> Extensions:
+        return Extensions.from_der(self._view.extensions.of(self._data))
+
+    @property
     def tbs_certlist_bytes(self) -> bytes:
         """The bytes that the signature is over, as they stand in the DER."""
-        return view("x509_signed_slice", Span, self._data).of(self._data)
+        return self._view.signature.signed_part.of(self._data)
+
+    @property
+    def signature(self) -> bytes:
+        """The octets of the signature's bits."""
+        return self._view.signature.bits.of(self._data)
+
+    @property
+    def signature_algorithm_bytes(self) -> bytes:
+        """The DER of the AlgorithmIdentifier of the signature."""
+        return self._view.signature.algorithm.of(self._data)
+
+    @property
+    def signature_algorithm_oid(self) -> ObjectIdentifier:
+        """The identifier of the algorithm of the signature."""
+        return _algorithm_oid(self.signature_algorithm_bytes)
+
+    def fingerprint(self, algorithm: str) -> bytes:
+        """The digest of the DER, by an algorithm of `hashlib`."""
+        return hashlib.new(algorithm, self._data).digest()
 
     def get_revoked_certificate_by_serial_number(self, serial_number: int) -> RevokedCertificate | None:
         """The first entry with the serial number. Its issuer isn't compared (RFC 5280 5.3.3)."""
@@ -185,11 +241,25 @@ class CertificateRevocationList:
             return None
         if status != OK:
             raise X509Error("x509_crl_lookup", status)
-        reason = None if found.reason < 0 else ReasonFlags(int(found.reason))
-        return RevokedCertificate(serial_number, _moment(int(found.date)), reason)
+        entry = next(it for it in self._walk() if it.serial_number.of(self._entries) == element)
+        return _entry(entry, self._entries)
+
+    def __iter__(self) -> Iterator[RevokedCertificate]:
+        return (_entry(it, self._entries) for it in self._walk())
+
+    def __getitem__(self, at: int) -> RevokedCertificate:
+        if not -self._len <= at < self._len:
+            raise IndexError(at)
+        return _entry(next(itertools.islice(self._walk(), at % self._len, None)), self._entries)
 
     def __len__(self) -> int:
         return self._len
+
+    def __eq__(self, other: object) -> bool:
+        return isinstance(other, CertificateRevocationList) and self._data == other._data
+
+    def __hash__(self) -> int:
+        return hash(self._data)
 
     def __repr__(self) -> str:
         return f"<CertificateRevocationList of {self._len} entries>"

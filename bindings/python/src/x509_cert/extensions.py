@@ -2,6 +2,8 @@
 
 from __future__ import annotations
 
+import datetime
+import enum
 from typing import ClassVar, Generic, Iterator, TypeVar
 
 from ._library import (
@@ -18,6 +20,7 @@ from ._library import (
     PolicyView,
     Span,
     SubtreeView,
+    TimestampView,
     number,
     view,
     walk,
@@ -372,6 +375,78 @@ class CRLNumber(ExtensionType):
         self.crl_number = int.from_bytes(view("x509_crl_number", Span, data).of(data), "big")
 
 
+class ReasonFlags(enum.Enum):
+    """Why a certificate was revoked (RFC 5280 5.3.1)."""
+
+    unspecified = 0
+    key_compromise = 1
+    ca_compromise = 2
+    affiliation_changed = 3
+    superseded = 4
+    cessation_of_operation = 5
+    certificate_hold = 6
+    remove_from_crl = 8
+    privilege_withdrawn = 9
+    aa_compromise = 10
+
+
+class CRLReason(ExtensionType):
+    """Why a certificate was revoked, of an entry of a CRL (RFC 5280 5.3.1)."""
+
+    oid = ExtensionOID.CRL_REASON
+
+    def __init__(self, data: bytes) -> None:
+        super().__init__(data)
+        self.reason = ReasonFlags(number("x509_crl_reason", data))
+
+
+class SignedCertificateTimestamp:
+    """A log's promise to have a certificate (RFC 6962 3.2), by its octets. An X509Error where they aren't a timestamp of version 1."""
+
+    def __init__(self, data: bytes) -> None:
+        self.data = bytes(data)
+        found = view("x509_timestamp_view", TimestampView, self.data)
+        self.log_id = found.log_id.of(self.data)
+        self.milliseconds = int(found.timestamp)
+        self.extension_bytes = found.extensions.of(self.data)
+        self.hash_algorithm, self.signature_algorithm = int(found.hash), int(found.signature_algorithm)
+        self.signature = found.signature.of(self.data)
+
+    @property
+    def timestamp(self) -> datetime.datetime:
+        """When the log had it, in UTC without a time zone, as of `cryptography`; an OverflowError after the year 9999."""
+        return datetime.datetime(1970, 1, 1) + datetime.timedelta(milliseconds=self.milliseconds)
+
+    def __eq__(self, other: object) -> bool:
+        return isinstance(other, SignedCertificateTimestamp) and self.data == other.data
+
+    def __hash__(self) -> int:
+        return hash(self.data)
+
+    def __repr__(self) -> str:
+        return f"<SignedCertificateTimestamp(log_id={self.log_id.hex()}, milliseconds={self.milliseconds})>"
+
+
+class PrecertificateSignedCertificateTimestamps(ExtensionType):
+    """The timestamps of a certificate (RFC 6962 3.3), of which those of an unknown version are passed over; `serialized` has the octets of all."""
+
+    oid = ExtensionOID.PRECERT_SIGNED_CERTIFICATE_TIMESTAMPS
+
+    def __init__(self, data: bytes) -> None:
+        super().__init__(data)
+        self.serialized = [it.of(data) for it in walk("x509_timestamp_next", Span, data)]
+        self.timestamps = [SignedCertificateTimestamp(it) for it in self.serialized if it[:1] == b"\x00"]
+
+    def __iter__(self) -> Iterator[SignedCertificateTimestamp]:
+        return iter(self.timestamps)
+
+    def __len__(self) -> int:
+        return len(self.timestamps)
+
+    def __getitem__(self, at: int) -> SignedCertificateTimestamp:
+        return self.timestamps[at]
+
+
 class PrecertPoison(ExtensionType):
     """What marks a precertificate (RFC 6962 3.1)."""
 
@@ -398,6 +473,8 @@ KINDS: dict[ObjectIdentifier, type[ExtensionType]] = {
         FreshestCRL,
         NameConstraints,
         CRLNumber,
+        CRLReason,
+        PrecertificateSignedCertificateTimestamps,
         PrecertPoison,
     )
 }

@@ -65,6 +65,7 @@ class ExtensionOID:
     INHIBIT_ANY_POLICY = ObjectIdentifier("2.5.29.54")
     AUTHORITY_INFORMATION_ACCESS = ObjectIdentifier("1.3.6.1.5.5.7.1.1")
     SUBJECT_INFORMATION_ACCESS = ObjectIdentifier("1.3.6.1.5.5.7.1.11")
+    PRECERT_SIGNED_CERTIFICATE_TIMESTAMPS = ObjectIdentifier("1.3.6.1.4.1.11129.2.4.2")
     PRECERT_POISON = ObjectIdentifier("1.3.6.1.4.1.11129.2.4.3")
 
 

@@ -56,7 +56,7 @@ fn version_number(version: Version) -> u32
 }
 
 /// Whether the version is encoded.
-fn is_written(version: Version) -> bool
+pub fn is_written(version: Version) -> bool
     ensures { result ≡ not (is_first version) }
 {
     match version {

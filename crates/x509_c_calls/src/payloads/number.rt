@@ -13,7 +13,7 @@ use x509_der::Decode;
 use x509_ext::pkix::{CrlReason, InhibitAnyPolicy, KeyUsage};
 
 /// 1 and the number, or 0 and 0 where it is left out.
-pub(crate) fn optional_number(number: Option<u32>) -> (u32, u32)
+pub fn optional_number(number: Option<u32>) -> (u32, u32)
     ensures { IsNumber number result.0 result.1 }
 {
     match number {

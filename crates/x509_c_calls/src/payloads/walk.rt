@@ -1,6 +1,6 @@
 //! Steps over elements of which the contents are known.
 
-ghost use Rattle.std.specs.Prelude.{◌≡◌, ◌≤◌, ◌++◌, true, false, drop, length, List, ℕ};
+ghost use Rattle.std.specs.Prelude.{◌≡◌, ◌≤◌, ◌∷◌, ◌++◌, true, false, drop, length, List, ℕ};
 ghost use Rattle.x509_c_calls.specs.Optional.{IsNowhere};
 ghost use Rattle.x509_c_calls.specs.Place.{IsAt};
 ghost use Rattle.x509_der.specs.Element.{element, is_identifier};
@@ -8,10 +8,10 @@ ghost use Rattle.x509_der.specs.Element.{element, is_identifier};
 use crate::{Span, enter, step};
 
 /// Nowhere.
-pub(crate) const NOWHERE: Span = Span { place: 0, len: 0 };
+pub const NOWHERE: Span = Span { place: 0, len: 0 };
 
 /// Steps over an element, and answers where its content stands.
-pub(crate) fn step_content(input: &[u8], at: &mut usize) -> Span
+pub fn step_content(input: &[u8], at: &mut usize) -> Span
     requires { at.old ≤ length input.now }
     ensures within { at.new ≤ length input.now }
     ensures stands { (tag : ℕ) (content more : List ℕ) → is_identifier tag ≡ true → drop at.old input.now ≡ element tag content ++ more → IsAt content more input.now result × (drop at.new input.now ≡ more) }
@@ -23,7 +23,7 @@ pub(crate) fn step_content(input: &[u8], at: &mut usize) -> Span
 }
 
 /// Where the content stands of the element that stands at the place.
-pub(crate) fn content_at(input: &[u8], place: usize) -> Span
+pub fn content_at(input: &[u8], place: usize) -> Span
     requires { place ≤ length input.now }
     ensures stands { (tag : ℕ) (content more : List ℕ) → is_identifier tag ≡ true → drop place input.now ≡ element tag content ++ more → IsAt content more input.now result }
     ensures within { result.place ≤ length input.now }
@@ -32,8 +32,23 @@ pub(crate) fn content_at(input: &[u8], place: usize) -> Span
     enter(input, &mut at)
 }
 
+/// Where the octets stand that hold the bits of a BIT STRING, which stands at the place: its content but for the first octet (X.690 8.6.2.2).
+pub fn bits_at(input: &[u8], place: usize) -> Span
+    requires { place ≤ length input.now }
+    ensures { (tag unused : ℕ) (octets more : List ℕ) → is_identifier tag ≡ true → drop place input.now ≡ element tag (unused ∷ octets) ++ more → IsAt octets more input.now result }
+{
+    let content = content_at(input, place);
+    if content.len == 0 {
+        return content;
+    }
+    Span {
+        place: content.place + 1,
+        len: content.len - 1,
+    }
+}
+
 /// Steps over an element that may be left out, and answers where it stands; nowhere where it is left out.
-pub(crate) fn step_optional(input: &[u8], at: &mut usize, is_there: bool) -> Span
+pub fn step_optional(input: &[u8], at: &mut usize, is_there: bool) -> Span
     requires { at.old ≤ length input.now }
     ensures within { at.new ≤ length input.now }
     ensures there { is_there ≡ true → (tag : ℕ) (content more : List ℕ) → is_identifier tag ≡ true → drop at.old input.now ≡ element tag content ++ more → IsAt (element tag content) more input.now result × (drop at.new input.now ≡ more) }
@@ -46,7 +61,7 @@ pub(crate) fn step_optional(input: &[u8], at: &mut usize, is_there: bool) -> Spa
 }
 
 /// The same, of the content of the element.
-pub(crate) fn step_optional_content(input: &[u8], at: &mut usize, is_there: bool) -> Span
+pub fn step_optional_content(input: &[u8], at: &mut usize, is_there: bool) -> Span
     requires { at.old ≤ length input.now }
     ensures within { at.new ≤ length input.now }
     ensures there { is_there ≡ true → (tag : ℕ) (content more : List ℕ) → is_identifier tag ≡ true → drop at.old input.now ≡ element tag content ++ more → IsAt content more input.now result × (drop at.new input.now ≡ more) }

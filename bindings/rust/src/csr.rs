@@ -1,0 +1,172 @@
+//! CSRs, PKCS #10 requests (RFC 2986).
+use crate::certificate::Signature;
+use crate::error::Error;
+use crate::extension::Extensions;
+use crate::ffi::{self, Members};
+use crate::name::NameRef;
+use crate::oid::ObjectIdentifier;
+use std::fmt;
+
+/// An attribute of a CSR (RFC 2986 4.1), as a challenge password.
+#[derive(Clone, Copy, Debug, PartialEq, Eq, Hash)]
+pub struct CsrAttribute<'a> {
+    /// Its type.
+    pub oid: ObjectIdentifier,
+
+    values: &'a [u8],
+}
+
+impl<'a> CsrAttribute<'a> {
+    /// Its values, in order. After one that can't be read nothing comes.
+    pub fn values(&self) -> AttributeValues<'a> {
+        AttributeValues(ffi::ATTRIBUTE_VALUES.over(self.values))
+    }
+}
+
+/// A value of an attribute: any element.
+#[derive(Clone, Copy, Debug, PartialEq, Eq, Hash)]
+pub struct AttributeValue<'a> {
+    /// Its identifier octet, as 0x0c for UTF8String.
+    pub tag: u8,
+
+    /// Its content octets.
+    pub content: &'a [u8],
+
+    /// The whole element.
+    pub der: &'a [u8],
+}
+
+/// The values of an attribute, in order.
+#[derive(Clone, Debug)]
+pub struct AttributeValues<'a>(Members<'a, ffi::Element>);
+
+impl<'a> Iterator for AttributeValues<'a> {
+    type Item = Result<AttributeValue<'a>, Error>;
+
+    fn next(&mut self) -> Option<Self::Item> {
+        let found = self.0.next()?;
+        let data = self.0.data;
+        Some(found.and_then(|view| {
+            Ok(AttributeValue {
+                tag: u8::try_from(view.tag).map_err(|_| Error::Unexpected)?,
+                content: view.content.of(data)?,
+                der: view.element.of(data)?,
+            })
+        }))
+    }
+}
+
+/// The attributes of a CSR, in order. After one that can't be read nothing comes.
+#[derive(Clone, Debug)]
+pub struct CsrAttributes<'a>(Members<'a, ffi::RequestAttribute>);
+
+impl<'a> Iterator for CsrAttributes<'a> {
+    type Item = Result<CsrAttribute<'a>, Error>;
+
+    fn next(&mut self) -> Option<Self::Item> {
+        let found = self.0.next()?;
+        let data = self.0.data;
+        Some(found.and_then(|view| {
+            Ok(CsrAttribute {
+                oid: ObjectIdentifier::found(view.oid.of(data)?)?,
+                values: view.values.of(data)?,
+            })
+        }))
+    }
+}
+
+/// A CSR, by its bytes, which are borrowed. CSRs are equal byte for byte.
+///
+/// ```
+/// use x509_rattle::extension::ParsedExtension;
+/// use x509_rattle::Csr;
+///
+/// # let der = include_bytes!("../../../examples/data/request.der");
+/// let csr = Csr::from_der(der)?;
+/// println!("{}", csr.subject());
+/// for extension in csr.extensions()? {
+///     assert!(matches!(extension?.parsed()?, ParsedExtension::SubjectAltName(_)));
+/// }
+/// # Ok::<(), x509_rattle::Error>(())
+/// ```
+#[derive(Clone, Copy)]
+pub struct Csr<'a> {
+    der: &'a [u8],
+    view: ffi::Request,
+}
+
+impl<'a> Csr<'a> {
+    /// The CSR that the bytes are.
+    ///
+    /// # Errors
+    /// [`Error::Malformed`] or [`Error::Overlength`] where they are none, or bytes stand behind it; [`Error::Memory`].
+    pub fn from_der(der: &'a [u8]) -> Result<Csr<'a>, Error> {
+        let view = ffi::REQUEST.of(der)?;
+        for span in [view.subject, view.subject_public_key_info, view.attributes] {
+            span.of(der)?;
+        }
+        Signature::found(&view.signature, der)?;
+        Ok(Csr { der, view })
+    }
+
+    /// A part, which [`from_der`](Csr::from_der) has found within the bytes.
+    fn part(&self, span: ffi::Span) -> &'a [u8] {
+        span.of(self.der).unwrap_or_default()
+    }
+
+    /// Its DER.
+    pub fn as_der(&self) -> &'a [u8] {
+        self.der
+    }
+
+    /// The name of the subject.
+    pub fn subject(&self) -> NameRef<'a> {
+        NameRef::found(self.part(self.view.subject))
+    }
+
+    /// The key and its algorithm: a whole SubjectPublicKeyInfo.
+    pub fn subject_public_key_info(&self) -> &'a [u8] {
+        self.part(self.view.subject_public_key_info)
+    }
+
+    /// Its attributes, in order.
+    pub fn attributes(&self) -> CsrAttributes<'a> {
+        CsrAttributes(ffi::REQUEST_ATTRIBUTES.over(self.part(self.view.attributes)))
+    }
+
+    /// The extensions that it asks for (RFC 2985 5.4.2), in order; none where no attribute asks for any.
+    ///
+    /// # Errors
+    /// [`Error::Repeated`] where two or more attributes ask for extensions, [`Error::Failed`] where the only one hasn't one value; [`Error::Memory`].
+    pub fn extensions(&self) -> Result<Extensions<'a>, Error> {
+        match ffi::REQUEST_EXTENSIONS.of(self.der) {
+            Ok(span) => Ok(Extensions::new(span.of(self.der)?)),
+            Err(Error::Absent) => Ok(Extensions::new(&[])),
+            Err(error) => Err(error),
+        }
+    }
+
+    /// What is to be verified of it, for its own key.
+    ///
+    /// # Errors
+    /// None but [`Error::Unexpected`].
+    pub fn signature(&self) -> Result<Signature<'a>, Error> {
+        Signature::found(&self.view.signature, self.der)
+    }
+}
+
+impl PartialEq for Csr<'_> {
+    fn eq(&self, other: &Self) -> bool {
+        self.der == other.der
+    }
+}
+
+impl Eq for Csr<'_> {}
+
+impl fmt::Debug for Csr<'_> {
+    fn fmt(&self, f: &mut fmt::Formatter<'_>) -> fmt::Result {
+        f.debug_struct("Csr")
+            .field("subject", &self.subject())
+            .finish_non_exhaustive()
+    }
+}

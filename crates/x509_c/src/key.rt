@@ -1,0 +1,28 @@
+//! What public keys and algorithms are.
+
+ghost use Rattle.std.specs.Prelude.{◌≡◌, []};
+ghost use Rattle.x509_c_calls.specs.Algorithms.{IsAlgorithm};
+ghost use Rattle.x509_c_calls.specs.Keys.{IsKey};
+ghost use Rattle.x509_c_calls.specs.Calls.{Reads};
+ghost use Rattle.x509_c_calls.specs.Status.{Tells};
+
+use std::alloc::Global;
+use x509_base::{AlgorithmIdentifier, SubjectPublicKeyInfo};
+use x509_c_calls::{AlgorithmView, KeyView, payload};
+use x509_der::Grammar;
+
+/// Decodes a SubjectPublicKeyInfo, and fills in of which kind the key is and where its parts stand.
+#[unsafe(no_mangle)]
+pub extern "C" fn x509_key_view(alloc: Global, input: &[u8], view: &mut KeyView) -> i32
+    ensures { Tells (λ status. Reads ⟦<SubjectPublicKeyInfo as Grammar>⟧.form ⟦<SubjectPublicKeyInfo as Grammar>⟧.refuses input.now (λ key. IsKey input.now key [] view.new) (view.new ≡ view.old) status) result }
+{
+    payload::<KeyView>(alloc, input, view).code()
+}
+
+/// Decodes an AlgorithmIdentifier, and fills in of which kind a signature algorithm is and where its parts stand.
+#[unsafe(no_mangle)]
+pub extern "C" fn x509_algorithm_view(alloc: Global, input: &[u8], view: &mut AlgorithmView) -> i32
+    ensures { Tells (λ status. Reads ⟦<AlgorithmIdentifier as Grammar>⟧.form ⟦<AlgorithmIdentifier as Grammar>⟧.refuses input.now (λ algorithm. IsAlgorithm input.now algorithm [] view.new) (view.new ≡ view.old) status) result }
+{
+    payload::<AlgorithmView>(alloc, input, view).code()
+}

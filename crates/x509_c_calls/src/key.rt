@@ -1,0 +1,11 @@
+//! Public keys, algorithms and signatures: of which kind they are, and where their parts stand.
+
+mod algorithm;
+mod key;
+mod kinds;
+mod signed;
+
+pub use algorithm::AlgorithmView;
+pub use key::KeyView;
+pub use kinds::{KeyKind, SignatureKind};
+pub use signed::signature_at;

@@ -1,0 +1,9 @@
+//! What a CSR (PKCS #10 request) says.
+
+mod attribute;
+mod look_up;
+mod view;
+
+pub use attribute::RequestAttributeView;
+pub use look_up::{request_attribute, request_extensions};
+pub use view::RequestView;

@@ -1,0 +1,7 @@
+//! The signed certificate timestamps (SCTs) of a certificate, one after the other, and what each says.
+
+mod timestamp;
+mod walk;
+
+pub use timestamp::{TimestampView, timestamp_view};
+pub use walk::timestamp_next;
