@@ -691,6 +691,39 @@ typedef struct {
  * isn't one of version 1, with known algorithms and nothing behind it.
  * Answers X509_OK, X509_MEMORY, X509_MALFORMED. */
 x509_status x509_timestamp_view(const uint8_t *in, size_t len, x509_timestamp *view);
+/* ---- building
+ *
+ * A CSR is built in two steps, since the private key stays with the caller: x509_build_request writes the bytes to be signed, the caller signs them, and x509_assemble puts them
+ * and the signature together, also those of a certificate or a CRL that were made elsewhere. That the signature is one of these bytes isn't checked.
+ *
+ * Names are whole Names, as x509_name_from_text writes them; keys are SubjectPublicKeyInfo and algorithms AlgorithmIdentifier, in DER. A list of extensions or
+ * attributes is given as the encodings of its members one after the other, as x509_extension_encode writes them; a length of 0 is the empty list. Where several inputs are bad, any of
+ * their answers may come. Rooms are as said under whole values. */
+
+/* Writes an extension: with an OID, given by its content octets, critical where `critical` isn't 0, and holding these bytes, the encoding of its value, which isn't
+ * decoded. X509_MALFORMED where no OID has the content octets.
+ * Answers X509_OK, X509_ROOM, X509_MEMORY, X509_OVERLENGTH, X509_MALFORMED. */
+x509_status x509_extension_encode(const uint8_t *oid, size_t oid_len, uint32_t critical, const uint8_t *value, size_t value_len,
+                                  uint8_t *out, size_t room, size_t *written);
+
+/* Writes an entry of a CRL: of the certificate with this serial number (the DER encoding of an INTEGER, as the view of a certificate has it), revoked at that time, with
+ * these extensions. X509_VALUE where the time is after 9999-12-31T23:59:59Z.
+ * Answers X509_OK, X509_ROOM, X509_MEMORY, X509_OVERLENGTH, X509_MALFORMED, X509_VALUE. */
+x509_status x509_crl_entry_encode(const uint8_t *serial_number, size_t serial_number_len, uint64_t date, const uint8_t *extensions, size_t extensions_len,
+                                  uint8_t *out, size_t room, size_t *written);
+
+/* Writes the bytes to be signed of a CSR (RFC 2986 4.1): for that subject and key, with these attributes, in any order, and with one that asks for these extensions, which stands
+ * there where there are none too. X509_SET_DUPLICATE where two attributes are equal.
+ * Answers X509_OK, X509_ROOM, X509_MEMORY, X509_OVERLENGTH, X509_MALFORMED, X509_SET_DUPLICATE. */
+x509_status x509_build_request(const uint8_t *subject, size_t subject_len, const uint8_t *key, size_t key_len, const uint8_t *attributes, size_t attributes_len,
+                               const uint8_t *extensions, size_t extensions_len, uint8_t *out, size_t room, size_t *written);
+
+/* Writes the certificate, the CRL or the CSR of a signed part, an algorithm and a signature (its octets, all bits of which are used): SEQUENCE { part, algorithm, BIT STRING }, in
+ * which the bytes of the part and of the algorithm stand as they are. X509_FAILED where the part is that of a certificate or of a CRL with another algorithm inside
+ * (RFC 5280 4.1.1.2, 5.1.1.2). X509_MALFORMED where the algorithm is no AlgorithmIdentifier, or the part none of the three kinds under RFC 5280.
+ * Answers X509_OK, X509_ROOM, X509_MEMORY, X509_OVERLENGTH, X509_MALFORMED, X509_FAILED. */
+x509_status x509_assemble(const uint8_t *part, size_t part_len, const uint8_t *algorithm, size_t algorithm_len, const uint8_t *signature, size_t signature_len,
+                          uint8_t *out, size_t room, size_t *written);
 
 #ifdef __cplusplus
 }

@@ -766,6 +766,89 @@ static void texts(void)
     WANT(x509_version() == X509_VERSION && X509_VERSION == (X509_VERSION_MAJOR << 16 | X509_VERSION_MINOR << 8 | X509_VERSION_PATCH));
 }
 
+/* The bytes that a call wrote are these. */
+static int wrote(x509_status status, const char *bytes, size_t len)
+{
+    return status == X509_OK && written == len && memcmp(room, bytes, len) == 0;
+}
+
+#define WROTE(status, bytes) wrote(status, bytes, sizeof(bytes) - 1)
+
+/* RFC 5280 4.1, 5.1.2.6 */
+static void members(void)
+{
+    WANT(WROTE(x509_extension_encode(BYTES("\x55\x1d\x0f"), 1, BYTES("\x03\x02\x05\xa0"), room, sizeof room, &written),
+               "\x30\x0e\x06\x03\x55\x1d\x0f\x01\x01\xff\x04\x04\x03\x02\x05\xa0"));
+    WANT(WROTE(x509_extension_encode(BYTES("\x55\x1d\x0f"), 0, BYTES("\x03\x02\x05\xa0"), room, sizeof room, &written),
+               "\x30\x0b\x06\x03\x55\x1d\x0f\x04\x04\x03\x02\x05\xa0"));
+    WANT(x509_extension_encode(BYTES("\x55\x1d\x0f"), 0, BYTES("\x03\x02\x05\xa0"), room, 12, &written) == X509_ROOM && written == 13);
+    written = 77;
+    WANT(x509_extension_encode(BYTES("\x80"), 0, BYTES("\x05\x00"), room, sizeof room, &written) == X509_MALFORMED && written == 77);
+    WANT(x509_extension_encode(nothing, 0, 0, nothing, 0, room, sizeof room, &written) == X509_MALFORMED && written == 77);
+    WANT(WROTE(x509_crl_entry_encode(BYTES("\x02\x01\x05"), 1767323045, nothing, 0, room, sizeof room, &written),
+               "\x30\x12\x02\x01\x05\x17\x0d" "260102030405Z"));
+    WANT(WROTE(x509_crl_entry_encode(BYTES("\x02\x01\x05"), 1767323045, BYTES("\x30\x0a\x06\x03\x55\x1d\x15\x04\x03\x0a\x01\x01"), room, sizeof room, &written),
+               "\x30\x20\x02\x01\x05\x17\x0d" "260102030405Z" "\x30\x0c\x30\x0a\x06\x03\x55\x1d\x15\x04\x03\x0a\x01\x01"));
+    written = 77;
+    WANT(x509_crl_entry_encode(BYTES("\x02\x01\x05"), 253402300800, nothing, 0, room, sizeof room, &written) == X509_VALUE && written == 77);
+    WANT(x509_crl_entry_encode(BYTES("\x02\x00"), 1767323045, nothing, 0, room, sizeof room, &written) == X509_MALFORMED);
+    WANT(x509_crl_entry_encode(BYTES("\x02\x01\x05"), 1767323045, BYTES("\x30\x00"), room, sizeof room, &written) == X509_MALFORMED && written == 77);
+}
+
+/* A CSR with an empty subject, for the key `abc` of the algorithm 1.2.3.4, that asks for no extensions (RFC 2986 4.1, RFC 2985 5.4.2). */
+#define KEY "\x30\x0d\x30\x05\x06\x03\x2a\x03\x04\x03\x04\x00" "abc"
+#define ALGORITHM "\x30\x05\x06\x03\x2a\x03\x04"
+#define REQUEST "\x30\x27\x02\x01\x00\x30\x00" KEY "\xa0\x11\x30\x0f\x06\x09\x2a\x86\x48\x86\xf7\x0d\x01\x09\x0e\x31\x02\x30\x00"
+
+static void requests(void)
+{
+    WANT(WROTE(x509_build_request(BYTES("\x30\x00"), BYTES(KEY), nothing, 0, nothing, 0, room, sizeof room, &written), REQUEST));
+    WANT(x509_build_request(BYTES("\x30\x00"), BYTES(KEY), nothing, 0, nothing, 0, nothing, 0, &written) == X509_ROOM && written == sizeof REQUEST - 1);
+    written = 77;
+    WANT(x509_build_request(nothing, 0, BYTES(KEY), nothing, 0, nothing, 0, room, sizeof room, &written) == X509_MALFORMED && written == 77);
+    WANT(x509_build_request(BYTES("\x30\x00"), BYTES("\x30\x00"), nothing, 0, nothing, 0, room, sizeof room, &written) == X509_MALFORMED);
+    WANT(x509_build_request(BYTES("\x30\x00"), BYTES(KEY), nothing, 0, BYTES("\x30\x00"), room, sizeof room, &written) == X509_MALFORMED);
+    /* the attribute 1.2.3 twice, and one that asks for extensions too */
+    WANT(x509_build_request(BYTES("\x30\x00"), BYTES(KEY), BYTES("\x30\x08\x06\x02\x2a\x03\x31\x02\x05\x00" "\x30\x08\x06\x02\x2a\x03\x31\x02\x05\x00"), nothing, 0,
+                            room, sizeof room, &written) == X509_SET_DUPLICATE && written == 77);
+    WANT(x509_build_request(BYTES("\x30\x00"), BYTES(KEY), BYTES("\x30\x0f\x06\x09\x2a\x86\x48\x86\xf7\x0d\x01\x09\x0e\x31\x02\x30\x00"), nothing, 0,
+                            room, sizeof room, &written) == X509_SET_DUPLICATE && written == 77);
+    WANT(WROTE(x509_assemble(BYTES(REQUEST), BYTES(ALGORITHM), nothing, 0, room, sizeof room, &written), "\x30\x33" REQUEST ALGORITHM "\x03\x01\x00"));
+    WANT(x509_request_check(room, written) == X509_OK);
+    WANT(WROTE(x509_assemble(BYTES(REQUEST), BYTES(ALGORITHM), BYTES("*"), room, sizeof room, &written), "\x30\x34" REQUEST ALGORITHM "\x03\x02\x00*"));
+}
+
+/* Whether what is signed, taken apart, is put together again as it was; and not with another algorithm, which `other` says. */
+static void reassembled(const uint8_t *whole, size_t len, x509_status other)
+{
+    x509_span part;
+    WANT(x509_signed_slice(whole, len, &part) == X509_OK);
+    const uint8_t *const signed_part = whole + part.place, *const algorithm = signed_part + part.len;
+    const size_t algorithm_len = 2u + algorithm[1];
+    const uint8_t *bits = algorithm + algorithm_len;
+    bits += bits[1] < 0x80 ? 3 : bits[1] == 0x81 ? 4 : 5; /* 03, the length, and 00 */
+    const size_t bits_len = (size_t)(whole + len - bits);
+    WANT(x509_assemble(signed_part, part.len, algorithm, algorithm_len, bits, bits_len, room, sizeof room, &written) == X509_OK);
+    WANT(written == len && memcmp(room, whole, len) == 0);
+    WANT(x509_assemble(signed_part, part.len, algorithm, algorithm_len, bits, bits_len, room, len - 1, &written) == X509_ROOM && written == len);
+    written = 77;
+    WANT(x509_assemble(signed_part, part.len, BYTES(ALGORITHM), bits, bits_len, room, sizeof room, &written) == other);
+    WANT(other == X509_OK || written == 77);
+    written = 77;
+    WANT(x509_assemble(signed_part, part.len - 1, algorithm, algorithm_len, bits, bits_len, room, sizeof room, &written) == X509_MALFORMED && written == 77);
+    WANT(x509_assemble(signed_part, part.len, algorithm, algorithm_len - 1, bits, bits_len, room, sizeof room, &written) == X509_MALFORMED && written == 77);
+}
+
+static void assembled(void)
+{
+    reassembled(certificate, certificate_len, X509_FAILED);
+    reassembled(list, list_len, X509_FAILED);
+    reassembled(request, request_len, X509_OK);
+    written = 77;
+    WANT(x509_assemble(nothing, 0, nothing, 0, nothing, 0, room, sizeof room, &written) == X509_MALFORMED && written == 77);
+    WANT(x509_assemble(NAME, sizeof NAME, BYTES(ALGORITHM), nothing, 0, room, sizeof room, &written) == X509_MALFORMED && written == 77);
+}
+
 int main(int argc, char **argv)
 {
     if (argc != 4)
@@ -777,6 +860,7 @@ int main(int argc, char **argv)
     types_by_name();
     names();
     signed_parts();
+    assembled();
     signatures();
     faults();
     paths();
@@ -795,6 +879,8 @@ int main(int argc, char **argv)
     points();
     subtrees();
     texts();
+    members();
+    requests();
     if (failures == 0)
         printf("all calls answer as they should\n");
     return failures != 0;

@@ -90,6 +90,11 @@ static void no_pointers(void)
     WANT(x509_serial_text((const uint8_t *)"\x05", 1, NULL, 0, &written) == X509_ROOM && written == 2);
     WANT(x509_time_text(MOMENT, NULL, 0, &written) == X509_ROOM && written == 20);
     WANT(x509_status_text(X509_OK, NULL, 0, &written) == X509_ROOM && written == 4);
+    written = 77;
+    WANT(x509_assemble(NULL, 0, NULL, 0, NULL, 0, NULL, 0, &written) == X509_MALFORMED && written == 77);
+    WANT(x509_extension_encode(NULL, 0, 0, NULL, 0, NULL, 0, &written) == X509_MALFORMED && written == 77);
+    WANT(x509_crl_entry_encode(NULL, 0, MOMENT, NULL, 0, NULL, 0, &written) == X509_MALFORMED && written == 77);
+    WANT(x509_build_request(NULL, 0, NULL, 0, NULL, 0, NULL, 0, NULL, 0, &written) == X509_MALFORMED && written == 77);
 }
 
 /* What the calls on payloads and names fill in, with what stands in it before. */

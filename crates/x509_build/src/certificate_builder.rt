@@ -9,6 +9,7 @@ ghost use Rattle.x509_der.specs.declared.error.Error.{Error};
 ghost use Rattle.x509_der.specs.declared.error.ErrorKind.TheVariants.{Memory};
 ghost use Rattle.x509_ext.specs.declared.extension.Extension.{Extension};
 
+use crate::extensions::followed_by;
 use crate::profile::BuilderProfile;
 use crate::profile::null_algorithm::no_algorithm;
 use crate::{Builder, Result, Signer};
@@ -110,6 +111,29 @@ impl<P: BuilderProfile> CertificateBuilder<P> {
         let made = extension.to_extension(alloc, self.tbs.subject(), self.extensions.as_slice())?;
         self.extensions.push(made)?;
         Ok(())
+    }
+
+    /// The builder, with these extensions, as they are, behind those that were added before. The profile's extensions
+    /// come behind all that are added.
+    ///
+    /// # Errors
+    ///
+    /// `Asn1` of `Memory` when out of memory, and nothing else; then the builder is dropped.
+    pub fn with_extensions(self, extensions: Extensions) -> Result<CertificateBuilder<P>>
+        ensures ok { IfOk result (λ builder. builder ≡ record self { extensions = self.extensions ++ extensions }) }
+        ensures err { IfErr result LacksMemory }
+    {
+        let CertificateBuilder {
+            profile,
+            tbs,
+            extensions: added,
+        } = self;
+        let extensions = followed_by(added, extensions)?;
+        Ok(CertificateBuilder {
+            profile,
+            tbs,
+            extensions,
+        })
     }
 
     /// The signed part with which the profile is asked: it has the signer's algorithm, and no extensions.

@@ -17,7 +17,7 @@ ghost use Rattle.x509_der.specs.declared.error.ErrorKind.TheVariants.{Memory, Va
 ghost use Rattle.x509_ext.specs.Identifiers.{id_ce};
 ghost use Rattle.x509_ext.specs.declared.extension.Extension.{Extension};
 
-use crate::extensions::{issuer_key, list_extensions};
+use crate::extensions::{followed_by, issuer_key, list_extensions};
 use crate::profile::null_algorithm::no_algorithm;
 use crate::{Builder, Result, Signer};
 use std::alloc::Global;
@@ -115,6 +115,30 @@ impl<P: Profile> CrlBuilder<P> {
         let made = extension.to_extension(alloc, &self.tbs.issuer, self.extensions.as_slice())?;
         self.extensions.push(made)?;
         Ok(())
+    }
+
+    /// The builder, with these extensions, as they are, behind the CRL number, the AKI and those that were added before.
+    /// The next [`finalize`](Builder::finalize) puts them into the signed part. That no OID stands there twice isn't
+    /// checked.
+    ///
+    /// # Errors
+    ///
+    /// `Asn1` of `Memory` when out of memory, and nothing else; then the builder is dropped.
+    pub fn with_extensions(self, extensions: Extensions) -> Result<CrlBuilder<P>>
+        ensures ok { IfOk result (λ builder. builder ≡ record self { extensions = self.extensions ++ extensions }) }
+        ensures err { IfErr result LacksMemory }
+    {
+        let CrlBuilder {
+            tbs,
+            extensions: added,
+            finalized,
+        } = self;
+        let extensions = followed_by(added, extensions)?;
+        Ok(CrlBuilder {
+            tbs,
+            extensions,
+            finalized,
+        })
     }
 
     /// The builder, with that time by which the next CRL will be issued, or with none. The next

@@ -1,6 +1,6 @@
-//! The extensions of a CRL.
+//! Lists of extensions, and the extensions of a CRL.
 
-ghost use Rattle.std.specs.Prelude.{◌≡◌, ◌⊎◌, Ok, Err, IfOk, IfErr};
+ghost use Rattle.std.specs.Prelude.{◌≡◌, ◌⊎◌, ◌++◌, Ok, Err, IfOk, IfErr};
 ghost use Rattle.x509_build.specs.ListParts.{IdentifiesKey, MakesExtensions, key_octets};
 ghost use Rattle.x509_ext.specs.LookUp.{Finds, members, with_oid};
 ghost use Rattle.x509_der.specs.declared.error.ErrorKind.TheVariants.{Memory};
@@ -44,4 +44,15 @@ pub(crate) fn list_extensions(
     };
     extensions.push((&issuer_key).to_extension(alloc, issuer, extensions.as_slice())?)?;
     Ok(extensions)
+}
+
+/// The extensions, followed by the others.
+pub(crate) fn followed_by(extensions: Extensions, others: Extensions) -> Result<Extensions, Error>
+    ensures ok { IfOk result (λ all. all ≡ extensions ++ others) }
+    ensures err { IfErr result (λ e. e.kind ≡ Memory) }
+{
+    let mut all = extensions.into_vec();
+    let mut behind = others.into_vec();
+    all.append(&mut behind)?;
+    Ok(Extensions::from(all))
 }

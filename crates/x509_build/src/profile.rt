@@ -11,3 +11,4 @@ pub(crate) mod null_algorithm;
 mod usages;
 
 pub use builder_profile::BuilderProfile;
+pub use null_algorithm::no_algorithm;

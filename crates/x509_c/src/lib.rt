@@ -4,6 +4,7 @@
 #![tactic(auto)]
 
 mod anchor;
+mod build;
 mod certificate;
 mod key;
 mod list;

@@ -5,6 +5,12 @@ pub mod RequestMembers
 pub mod SctWalks
 pub mod SctParts
 pub mod AnchorFields
+pub mod Filled
+pub mod Wholes
+pub mod Each
+pub mod BuildParts
+pub mod BuildEntries
+pub mod Exits
 pub mod Standing
 pub mod NameTexts
 pub mod Parts

@@ -11,6 +11,13 @@ pub mod AnchorParts
 pub mod Controls
 pub mod Infos
 pub mod Anchors
+pub mod BuildSigned
+pub mod Assembly
+pub mod Input
+pub mod Refusals
+pub mod Requests
+pub mod BuildMembers
+pub mod Lists
 pub mod Status
 pub mod Calls
 pub mod Place

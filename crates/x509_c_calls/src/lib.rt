@@ -3,6 +3,7 @@
 #![tactic(auto)]
 
 mod anchor;
+mod build;
 mod certificate;
 mod crl;
 mod key;
@@ -15,6 +16,7 @@ mod sct;
 mod status;
 
 pub use anchor::{AnchorView, PathControlsView};
+pub use build::{assemble, build_crl, build_request, entry_encode, extension_encode};
 pub use certificate::{
     CertificateView, ExtensionView, SignatureView, certificate_extension, certificate_signature,
     certificate_view, is_written, seconds,

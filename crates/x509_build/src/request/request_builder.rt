@@ -14,6 +14,7 @@ ghost use Rattle.x509_ext.specs.declared.extension.Extension.{Extension};
 ghost use Rattle.x509_name.specs.Attribute.{attribute_cmp};
 ghost use Rattle.x509_name.specs.declared.attr.attribute.Attribute.{Attribute};
 
+use crate::extensions::followed_by;
 use crate::profile::null_algorithm::no_algorithm;
 use crate::{Builder, Result, Signer};
 use std::alloc::Global;
@@ -21,7 +22,7 @@ use x509_base::SubjectPublicKeyInfo;
 use x509_cert::request::attributes::AsAttribute;
 use x509_cert::request::{CertReq, CertReqInfo, ExtensionReq, Version, extension_req_attribute};
 use x509_der::{Encode, Error, TryClone};
-use x509_ext::ToExtension;
+use x509_ext::{Extensions, ToExtension};
 use x509_name::attr::{Attribute, Attributes};
 use x509_name::name::Name;
 use x509_prim::BitString;
@@ -95,6 +96,38 @@ impl RequestBuilder {
         let made = attribute.to_attribute(alloc)?;
         add(&mut self.attributes, made)?;
         Ok(())
+    }
+
+    /// The builder, with these extensions, as they are, behind those that were added before.
+    ///
+    /// # Errors
+    ///
+    /// `Asn1` of `Memory` when out of memory, and nothing else; then the builder is dropped.
+    pub fn with_extensions(self, extensions: Extensions) -> Result<RequestBuilder>
+        ensures ok { IfOk result (λ builder. builder ≡ record self { extension_req = record { 0 = self.extension_req.0 ++ extensions } }) }
+        ensures err { IfErr result LacksMemory }
+    {
+        let RequestBuilder {
+            info,
+            attributes,
+            extension_req,
+        } = self;
+        let ExtensionReq(added) = extension_req;
+        let extensions = followed_by(added, extensions)?;
+        Ok(RequestBuilder {
+            info,
+            attributes,
+            extension_req: ExtensionReq(extensions),
+        })
+    }
+
+    /// The builder, with this set of attributes in place of those that were added before. It takes no memory.
+    pub fn with_attributes(self, attributes: Attributes) -> RequestBuilder
+        ensures { result ≡ record self { attributes = attributes } }
+    {
+        let mut builder = self;
+        builder.attributes = attributes;
+        builder
     }
 
     /// The signed part for a signer with that key.

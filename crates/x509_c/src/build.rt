@@ -1,0 +1,72 @@
+//! Building in two steps: the bytes to be signed, which the caller signs, and then the whole.
+
+ghost use Rattle.std.specs.Prelude.{nat_eq, not};
+ghost use Rattle.x509_c_calls.specs.Assembly.{Assembles};
+ghost use Rattle.x509_c_calls.specs.BuildMembers.{EncodesEntry, EncodesExtension};
+ghost use Rattle.x509_c_calls.specs.Requests.{BuildsRequest};
+ghost use Rattle.x509_c_calls.specs.Status.{Fills, Tells};
+
+use std::alloc::Global;
+use x509_c_calls::{assemble, build_request, entry_encode, extension_encode};
+
+/// Puts the certificate, the CRL or the CSR with this signed part, this algorithm and this signature at the front of the
+/// room.
+#[unsafe(no_mangle)]
+pub extern "C" fn x509_assemble(
+    alloc: Global,
+    part: &[u8],
+    algorithm: &[u8],
+    signature: &[u8],
+    room: &mut [u8],
+    written: &mut usize,
+) -> i32
+    ensures { Tells (λ status. Fills (Assembles part.now algorithm.now signature.now) room.old room.new written.old written.new status) result }
+{
+    assemble(alloc, part, algorithm, signature, room, written).code()
+}
+
+/// Puts the bytes to be signed of a CSR at the front of the room.
+#[unsafe(no_mangle)]
+pub extern "C" fn x509_build_request(
+    alloc: Global,
+    subject: &[u8],
+    key: &[u8],
+    attributes: &[u8],
+    extensions: &[u8],
+    room: &mut [u8],
+    written: &mut usize,
+) -> i32
+    ensures { Tells (λ status. Fills (BuildsRequest subject.now key.now attributes.now extensions.now) room.old room.new written.old written.new status) result }
+{
+    build_request(alloc, subject, key, attributes, extensions, room, written).code()
+}
+
+/// Puts the encoding of an extension at the front of the room. It is critical where `critical` isn't 0.
+#[unsafe(no_mangle)]
+pub extern "C" fn x509_extension_encode(
+    alloc: Global,
+    oid: &[u8],
+    critical: u32,
+    value: &[u8],
+    room: &mut [u8],
+    written: &mut usize,
+) -> i32
+    ensures { Tells (λ status. Fills (EncodesExtension oid.now (not (nat_eq critical 0)) value.now) room.old room.new written.old written.new status) result }
+{
+    extension_encode(alloc, oid, critical != 0, value, room, written).code()
+}
+
+/// Puts the encoding of an entry of a CRL at the front of the room.
+#[unsafe(no_mangle)]
+pub extern "C" fn x509_crl_entry_encode(
+    alloc: Global,
+    serial_number: &[u8],
+    date: u64,
+    extensions: &[u8],
+    room: &mut [u8],
+    written: &mut usize,
+) -> i32
+    ensures { Tells (λ status. Fills (EncodesEntry serial_number.now date extensions.now) room.old room.new written.old written.new status) result }
+{
+    entry_encode(alloc, serial_number, date, extensions, room, written).code()
+}

@@ -1,0 +1,15 @@
+//! What C calls to build: the bytes to be signed of CSRs, as the builder makes them for a signer elsewhere, encodings
+//! of extensions and of entries of CRLs, and the whole of a signed part, an algorithm and a signature.
+
+mod assembly;
+mod encode;
+mod input;
+mod list;
+mod request;
+mod signed;
+mod teller;
+
+pub use assembly::assemble;
+pub use encode::{entry_encode, extension_encode};
+pub use list::build_crl;
+pub use request::build_request;

@@ -1,0 +1,42 @@
+//! What the calls take.
+
+ghost use Rattle.std.specs.Prelude.{◌≡◌, ◌⊎◌, ◌<◌, MatchResult};
+ghost use Rattle.x509_base.specs.CivilTime.{last_date_time, unix_seconds};
+ghost use Rattle.x509_base.specs.Time.{IsTimeAt};
+ghost use Rattle.x509_c_calls.specs.Input.{RefusesEach, SpellEach};
+ghost use Rattle.x509_der.specs.declared.error.ErrorKind.TheVariants.{Memory, Value};
+
+use std::alloc::Global;
+use std::time::Duration;
+use x509_base::{DateTime, Time};
+use x509_der::{Decode, ErrorKind, read_members};
+
+/// The values whose encodings the bytes are, one after the other.
+///
+/// # Errors
+///
+/// `Malformed`, or an error of the type's own, exactly where the bytes are no such encodings. `Memory` when out of
+/// memory.
+pub(crate) fn read_each<T: Decode + Drop>(alloc: Global, bytes: &[u8]) -> Result<Vec<T>, ErrorKind>
+    ensures { MatchResult result (λ values. SpellEach T.form values.items bytes.now) (λ e. (e ≡ Memory) ⊎ RefusesEach T.form T.refuses bytes.now e) }
+{
+    match read_members::<T>(alloc, bytes) {
+        Ok(values) => Ok(values),
+        Err(e) => Err(e.kind()),
+    }
+}
+
+/// The time that many seconds after 1970-01-01T00:00:00Z: a UTCTime through 2049, else a GeneralizedTime (RFC 5280
+/// 4.1.2.5).
+///
+/// # Errors
+///
+/// `Value` exactly after 9999-12-31T23:59:59Z.
+pub(crate) fn time_at(seconds: u64) -> Result<Time, ErrorKind>
+    ensures { MatchResult result (λ time. IsTimeAt seconds time) (λ e. (e ≡ Value) × (unix_seconds last_date_time < seconds)) }
+{
+    match DateTime::from_unix_duration(Duration::from_secs(seconds)) {
+        Ok(moment) => Ok(Time::from(moment)),
+        Err(e) => Err(e.kind()),
+    }
+}

@@ -1,0 +1,90 @@
+//! Signers elsewhere, and why nothing is built for them.
+
+ghost use Rattle.std.specs.Prelude.{◌≡◌};
+ghost use Rattle.x509_c_calls.specs.Refusals.{FinalizesTo, kind_of};
+
+use rand_core::CryptoRng;
+use std::alloc::Global;
+use x509_base::{AlgorithmIdentifier, SubjectPublicKeyInfo};
+use x509_build::{Builder, Error, KeyError, SignError, Signer};
+use x509_der::{ErrorKind, TryClone};
+use x509_prim::BitString;
+
+/// A signer elsewhere: here are its algorithm and its public key, and it signs nothing.
+#[derive(Drop)]
+pub(crate) struct Teller {
+    pub(crate) algorithm: AlgorithmIdentifier,
+    pub(crate) key: SubjectPublicKeyInfo,
+}
+
+impl Signer for Teller {
+    ghost algorithm_of = { λ teller. teller.algorithm };
+
+    ghost key_of = { λ teller. teller.key };
+
+    ghost signs = { λ teller message bits. ⊥ };
+
+    ghost signs_with_rng = { λ teller message bits. ⊥ };
+
+    ghost may_refuse_algorithm = { λ teller. ⊥ };
+
+    ghost may_refuse_key = { λ teller. ⊥ };
+
+    ghost may_refuse_message = { λ teller message. Unit {0} };
+
+    fn algorithm(&self, alloc: Global) -> Result<AlgorithmIdentifier, KeyError> {
+        match self.algorithm.try_clone(alloc) {
+            Ok(algorithm) => Ok(algorithm),
+            Err(_) => Err(KeyError::Memory),
+        }
+    }
+
+    fn public_key(&self, alloc: Global) -> Result<SubjectPublicKeyInfo, KeyError> {
+        match self.key.try_clone(alloc) {
+            Ok(key) => Ok(key),
+            Err(_) => Err(KeyError::Memory),
+        }
+    }
+
+    fn try_sign(&self, _alloc: Global, _message: &[u8]) -> Result<BitString, SignError> {
+        Err(SignError::Refused)
+    }
+
+    fn try_sign_with_rng<R: CryptoRng>(
+        &self,
+        _alloc: Global,
+        _rng: &mut R,
+        _message: &[u8],
+    ) -> Result<BitString, SignError> {
+        Err(SignError::Refused)
+    }
+}
+
+/// The bytes to be signed, as the builder finalizes them for that signer.
+///
+/// # Errors
+///
+/// Those of [`Builder::finalize`].
+pub(crate) fn finalized<B: Builder>(
+    alloc: Global,
+    builder: B,
+    teller: &Teller,
+) -> Result<Vec<u8>, Error>
+    ensures { FinalizesTo (λ bytes. bytes.items) B.Signed.form B.Signed.writing (B.next builder teller.now.algorithm teller.now.key) result }
+{
+    let mut builder = builder;
+    builder.finalize(alloc, teller)
+}
+
+/// The kind of a builder's refusal: that of a value that can't be decoded or encoded, else `Failed`; `Memory` when out
+/// of memory.
+pub(crate) fn kind_of(refusal: &Error) -> ErrorKind
+    ensures { result ≡ kind_of refusal.now }
+{
+    match refusal {
+        Error::Asn1(e) => e.kind(),
+        Error::PublicKey(KeyError::Memory) => ErrorKind::Memory,
+        Error::Signature(SignError::Memory) => ErrorKind::Memory,
+        _ => ErrorKind::Failed,
+    }
+}
