@@ -1,0 +1,49 @@
+-- Lines of extensions, by the types of their values (RFC 5280 4.2, 5.2, 5.3; RFC 6962 3.3).
+use Rattle.std.specs.Prelude.{ℕ, List, [], ◌++◌, Option, codes, bytes_eq, if◌then◌else◌}
+use Rattle.std.specs.List.{flat_map}
+use Rattle.x509_cert.specs.ext.Access.{authority_info_access_syntax, subject_info_access_syntax}
+use Rattle.x509_cert.specs.ext.AlternativeNames.{subject_alt_name, issuer_alt_name}
+use Rattle.x509_cert.specs.ext.AuthorityKeyIdentifier.{authority_key_identifier}
+use Rattle.x509_cert.specs.ext.BasicConstraints.{basic_constraints}
+use Rattle.x509_cert.specs.ext.ExtendedKeyUsage.{extended_key_usage}
+use Rattle.x509_cert.specs.ext.PrivateKeyUsagePeriod.{private_key_usage_period}
+use Rattle.x509_cert.specs.ext.SubjectDirectoryAttributes.{subject_directory_attributes}
+use Rattle.x509_cert.specs.ext.SubjectKeyIdentifier.{subject_key_identifier}
+use Rattle.x509_cert.specs.ext.Identifiers.{id_ce, id_pkix}
+use Rattle.x509_cert.specs.ext.declared.extension.Extension.{Extension}
+use Rattle.x509_text.specs.declared.line.Place.{Place}
+use Rattle.x509_text.specs.GeneralNames as names
+use Rattle.x509_text.specs.Lines.{line, below}
+use Rattle.x509_text.specs.Names.{oid_text}
+use Rattle.x509_text.specs.Payloads.{octets_line, optional, payload_lines}
+use Rattle.x509_text.specs.Usages as usages
+
+-- the object identifier, and a word where it is critical
+abbrev pub extension_text : Extension → List ℕ
+extension_text e = oid_text e.extn_id ++ (if e.critical then codes ", critical" else [])
+
+-- the lines of the value with this identifier, among those that say where more is found; the octets where there is none
+unfoldable pub place_lines : Place → List ℕ → List ℕ → List ℕ
+place_lines at oid octets =
+    if bytes_eq oid (id_pkix 1 1) then payload_lines authority_info_access_syntax (λ at x. names.accesses_lines at x.0) at octets
+    else if bytes_eq oid (id_pkix 1 11) then payload_lines subject_info_access_syntax (λ at x. names.accesses_lines at x.0) at octets
+    else if bytes_eq oid (id_ce 18) then payload_lines issuer_alt_name (λ at x. names.names_lines at x.0) at octets
+    else if bytes_eq oid (id_ce 9) then payload_lines subject_directory_attributes (λ at x. usages.attributes_lines at x.0) at octets
+    else octets_line at (codes "unknown") octets
+
+-- the lines of the value of an extension with this identifier
+unfoldable pub value_lines : Place → List ℕ → List ℕ → List ℕ
+value_lines at oid octets =
+    if bytes_eq oid (id_ce 37) then payload_lines extended_key_usage (λ at x. usages.purposes_lines at x.0) at octets
+    else if bytes_eq oid (id_ce 19) then payload_lines basic_constraints usages.basic_constraints_lines at octets
+    else if bytes_eq oid (id_ce 17) then payload_lines subject_alt_name (λ at x. names.names_lines at x.0) at octets
+    else if bytes_eq oid (id_ce 14) then payload_lines subject_key_identifier usages.subject_key_lines at octets
+    else if bytes_eq oid (id_ce 35) then payload_lines authority_key_identifier usages.authority_key_lines at octets
+    else if bytes_eq oid (id_ce 16) then payload_lines private_key_usage_period usages.period_lines at octets
+    else place_lines at oid octets
+
+unfoldable pub extension_lines : Place → Extension → List ℕ
+extension_lines at e = line at (codes "extension") (extension_text e) ++ value_lines (below at) e.extn_id e.extn_value
+
+abbrev pub optional_extensions : Place → Option (List Extension) → List ℕ
+optional_extensions at extensions = optional (λ es. flat_map (extension_lines at) es) extensions

@@ -1,0 +1,10 @@
+pub mod Lines
+pub mod Names
+pub mod Payloads
+pub mod Values
+pub mod GeneralNames
+pub mod Usages
+pub mod Extensions
+pub mod Algorithms
+pub mod Certificates
+pub mod Objects

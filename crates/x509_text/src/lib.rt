@@ -1,0 +1,23 @@
+//! Certificates as text for people, or as JSON.
+//!
+//! What is printed of a value is a stated text of it: a line for each thing that is said, which is a label and a text. The definitions
+//! stand in `specs/`, a line of theirs for each line that is printed. No text that an object holds can end its line. Words of our own
+//! are explained in `docs/MAP.md`.
+#![tactic(auto)]
+
+mod algorithms;
+mod certificates;
+mod documents;
+mod extensions;
+mod general_names;
+mod line;
+mod names;
+mod objects;
+mod show;
+mod usages;
+mod values;
+
+pub use documents::certificate_text;
+pub use line::{Depth, Style};
+pub use names::{NAMES, Row, name_of};
+pub use objects::show_bytes;
