@@ -1,0 +1,12 @@
+use Rattle.std.proofs.Common.{◌∙◌}
+use Rattle.x509_check.proofs.Checks.{default_here, default_none_left, default_other, among_one, not_among_one}
+use Rattle.x509_check.proofs.field.check_defaulted_implicit.Goals as goal
+
+pub returns-in-len1-up-clause-exact : goal.returns-in-len1-up-clause-exact
+returns-in-len1-up-clause-exact g c = default_here _ _ _ c.check_other_implicit.result _ _ c.in-len1-up.len_at_least (among_one _ _ (c.if-octet-implicit_octet.true ∙ c.implicit_octet.ensures)) c.check_other_implicit.ensures.exact
+
+pub returns-in_default-clause-exact : goal.returns-in_default-clause-exact
+returns-in_default-clause-exact g c = default_none_left _ _ _ _ c.in_default.len_below
+
+pub returns-in_default-2-clause-exact : goal.returns-in_default-2-clause-exact
+returns-in_default-2-clause-exact g c = default_other _ _ _ _ (not_among_one _ _ (rw c.implicit_octet.ensures at c.if-octet-implicit_octet.false))

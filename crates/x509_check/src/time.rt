@@ -1,0 +1,42 @@
+//! Times and validity.
+
+use crate::check::Check;
+use crate::content::CheckContent;
+use crate::field::check_field;
+use x509_base::{GeneralizedTime, Profile, Time, UtcTime, Validity};
+use x509_der::{Error, Grammar, end};
+
+impl CheckContent for UtcTime {
+    fn check_content(octets: &[u8]) -> Result<(), Error> {
+        UtcTime::from_content(octets)?;
+        Ok(())
+    }
+}
+
+impl CheckContent for GeneralizedTime {
+    fn check_content(octets: &[u8]) -> Result<(), Error> {
+        GeneralizedTime::from_content(octets)?;
+        Ok(())
+    }
+}
+
+#[tactic(auto, unfolding(x509_der::specs::Choice::either_reading))]
+impl Check for Time {
+    fn check_element(tag: u8, content: &[u8]) -> Result<(), Error> {
+        if UtcTime::is_start(tag) {
+            UtcTime::pass_element(tag, content)
+        } else {
+            GeneralizedTime::pass_element(tag, content)
+        }
+    }
+}
+
+#[tactic(auto, unfolding(x509_base::specs::Validity::validity_fields, x509_der::specs::Frames::fields_reading))]
+impl<P: Profile> CheckContent for Validity<P> {
+    fn check_content(octets: &[u8]) -> Result<(), Error> {
+        let mut rest = octets;
+        check_field::<Time>(&mut rest)?;
+        check_field::<Time>(&mut rest)?;
+        end(rest)
+    }
+}
