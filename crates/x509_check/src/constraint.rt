@@ -5,10 +5,10 @@ use crate::field::{
     check_defaulted_implicit, check_field, check_optional_explicit, check_optional_implicit,
 };
 use x509_der::{Error, end};
-use x509_ext::pkix::{CrlReason, IssuingDistributionPoint, NameConstraints};
 use x509_ext::pkix::constraints::name::{GeneralSubtree, GeneralSubtrees};
 use x509_ext::pkix::crl::dp::{DistributionPoint, ReasonFlags, Reasons};
 use x509_ext::pkix::name::{DistributionPointName, GeneralName, GeneralNames};
+use x509_ext::pkix::{CrlReason, IssuingDistributionPoint, NameConstraints};
 use x509_prim::{read_named_bits, read_named_number};
 
 #[tactic(auto, unfolding(x509_ext::specs::DistributionPoint::distribution_point_fields, x509_der::specs::Frames::fields_reading))]

@@ -14,7 +14,9 @@ ghost use Rattle.x509_der.specs.Form.{one_tag, whole_reading};
 use crate::check::{Check, check_whole};
 use crate::content::PlainContent;
 use crate::element::next_element;
-use x509_der::{DefaultValue, Error, ErrorKind, FixedTag, Grammar, Tag, expect_tag, implicit_octet};
+use x509_der::{
+    DefaultValue, Error, ErrorKind, FixedTag, Grammar, Tag, expect_tag, implicit_octet,
+};
 
 /// The identifier octet of a type with one.
 #[inline(always)]

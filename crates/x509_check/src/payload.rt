@@ -4,10 +4,10 @@ use crate::content::CheckContent;
 use crate::field::{check_defaulted, check_field, check_optional, check_optional_implicit};
 use x509_base::{GeneralizedTime, SerialNumber};
 use x509_der::{Error, ErrorKind, ObjectIdentifier, end};
+use x509_ext::pkix::name::{GeneralName, GeneralNames};
 use x509_ext::pkix::{
     AccessDescription, AuthorityKeyIdentifier, BasicConstraints, KeyUsages, PrivateKeyUsagePeriod,
 };
-use x509_ext::pkix::name::{GeneralName, GeneralNames};
 use x509_prim::{OctetString, read_named_bits};
 use x509_sct::CtPrecertificatePoison;
 

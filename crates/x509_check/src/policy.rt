@@ -4,10 +4,10 @@ use crate::check::Check;
 use crate::content::CheckContent;
 use crate::field::{check_field, check_optional, check_optional_implicit};
 use x509_der::{Any, Error, Grammar, ObjectIdentifier, SequenceOf, end};
-use x509_ext::pkix::{PolicyConstraints, PolicyMapping};
 use x509_ext::pkix::certpolicy::{
     DisplayText, NoticeReference, PolicyInformation, PolicyQualifierInfo, UserNotice,
 };
+use x509_ext::pkix::{PolicyConstraints, PolicyMapping};
 use x509_prim::{BmpString, Ia5String, Uint, Utf8String, VisibleString};
 
 #[tactic(auto, unfolding(x509_ext::specs::PolicyConstraints::policy_constraints_fields, x509_der::specs::Frames::fields_reading))]

@@ -7,9 +7,9 @@ use crate::line::{Place, write_line};
 use crate::show::value_of;
 use crate::values::{oid_text, write_any, write_bits, write_oid};
 use std::alloc::{AllocError, Global};
-use x509_cert::{AlgorithmIdentifier, SubjectPublicKeyInfo};
 use x509_cert::der::ErrorKind;
 use x509_cert::der::asn1::{Any, ObjectIdentifier, SequenceOf, Uint};
+use x509_cert::{AlgorithmIdentifier, SubjectPublicKeyInfo};
 
 /// Writes the parameters of an algorithm, where there are any.
 fn write_parameters(

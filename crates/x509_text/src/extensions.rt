@@ -10,12 +10,12 @@ use crate::values::oid_text;
 use std::alloc::{AllocError, Global};
 use x509_cert::der::AssociatedOid;
 use x509_cert::der::asn1::ObjectIdentifier;
-use x509_cert::ext::{Extension, Extensions};
 use x509_cert::ext::pkix::{
     AuthorityInfoAccessSyntax, AuthorityKeyIdentifier, BasicConstraints, ExtendedKeyUsage,
     IssuerAltName, PrivateKeyUsagePeriod, SubjectAltName, SubjectDirectoryAttributes,
     SubjectInfoAccessSyntax, SubjectKeyIdentifier,
 };
+use x509_cert::ext::{Extension, Extensions};
 
 /// The text of an extension's OID, and whether it is critical.
 fn extension_text(alloc: Global, extension: &Extension) -> Result<String, AllocError>

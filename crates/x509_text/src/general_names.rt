@@ -7,12 +7,12 @@ use crate::line::{Place, write_line};
 use crate::show::{Show, show_each};
 use crate::values::{address_text, write_any, write_name, write_oid};
 use std::alloc::{AllocError, Global};
+use x509_cert::ext::pkix::name::{
+    DirectoryString, DistributionPointName, EdiPartyName, GeneralName, GeneralNames, OtherName,
+};
 use x509_cert::ext::pkix::{
     AccessDescription, AuthorityInfoAccessSyntax, CertificateIssuer, IssuerAltName, SubjectAltName,
     SubjectInfoAccessSyntax,
-};
-use x509_cert::ext::pkix::name::{
-    DirectoryString, DistributionPointName, EdiPartyName, GeneralName, GeneralNames, OtherName,
 };
 
 /// Writes a text of a name.

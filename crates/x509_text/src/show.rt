@@ -6,8 +6,8 @@ ghost use Rattle.x509_text.specs.Payloads as payloads;
 
 use crate::line::{Place, write_line};
 use std::alloc::{AllocError, Global};
-use x509_cert::der::{Decode, ErrorKind};
 use x509_cert::der::asn1::Any;
+use x509_cert::der::{Decode, ErrorKind};
 
 /// A value that is printed as lines.
 pub(crate) trait Show {
