@@ -800,7 +800,7 @@ static void members(void)
 #define ALGORITHM "\x30\x05\x06\x03\x2a\x03\x04"
 #define REQUEST "\x30\x27\x02\x01\x00\x30\x00" KEY "\xa0\x11\x30\x0f\x06\x09\x2a\x86\x48\x86\xf7\x0d\x01\x09\x0e\x31\x02\x30\x00"
 
-static void requests(void)
+static void built_requests(void)
 {
     WANT(WROTE(x509_build_request(BYTES("\x30\x00"), BYTES(KEY), nothing, 0, nothing, 0, room, sizeof room, &written), REQUEST));
     WANT(x509_build_request(BYTES("\x30\x00"), BYTES(KEY), nothing, 0, nothing, 0, nothing, 0, &written) == X509_ROOM && written == sizeof REQUEST - 1);
@@ -880,7 +880,7 @@ int main(int argc, char **argv)
     subtrees();
     texts();
     members();
-    requests();
+    built_requests();
     if (failures == 0)
         printf("all calls answer as they should\n");
     return failures != 0;
