@@ -1,0 +1,20 @@
+use Rattle.std.proofs.Common.{◌≡◌, ◌∙◌, ap, filter, map, subst, sym}
+use Rattle.x509_cert.specs.ext.LookUp.{members}
+use Rattle.x509_lint.specs.CrlExtension.{crl_extension_rules}
+use Rattle.x509_lint.specs.CrlField.{crl_field_rules}
+use Rattle.x509_lint.specs.Rules.{crl_breaks}
+use Rattle.x509_lint.specs.Values.{AreCrlValues, CrlParts}
+use Rattle.x509_lint.specs.declared.rule.Rule.TheVariants as rules
+use Rattle.x509_lint.proofs.Broken.{behind, filter-map}
+use Rattle.x509_lint.proofs.crl.lint_crl.Goals as goal
+
+pub returns-clause-ok : goal.returns-clause-ok
+returns-clause-ok c =
+    let parts : CrlParts = record { facts = c.in_ok-facts.facts; values = c.in_ok-values.values } in
+    let p = crl_breaks c.args.crl.now parts in
+    let none : c.add_broken.new.findings.items ≡ map rules.CrlField (filter (λ r. p (rules.CrlField r)) crl_field_rules) = rw c.new-findings.ensures.items at c.in_ok-add_broken.ensures in
+    let so = none ∙ sym (filter-map rules.CrlField p crl_field_rules) in (
+      parts,
+      (c.in_ok-facts.ensures.ok, subst (λ extensions. AreCrlValues extensions c.in_ok-values.values) (c.members.ensures ∙ ap members c.as_ref.ensures.value) c.in_ok-values.ensures.ok),
+      behind rules.CrlExtension p (map rules.CrlField crl_field_rules) crl_extension_rules _ _ so c.in_ok-add_broken-2.ensures,
+    )

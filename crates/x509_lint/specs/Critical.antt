@@ -1,0 +1,45 @@
+-- The rules on which extensions of a certificate are critical (RFC 5280 4.2.1, 4.2.2): what breaks each, their order, and how each is told.
+use Rattle.std.specs.Prelude.{◌&&◌, Bool, not, List, [], ◌∷◌, codes}
+use Rattle.x509_cert.specs.ext.Identifiers.{id_ce, id_pkix}
+use Rattle.x509_lint.specs.Words.{Certificate, extensions_of, has_critical, has_uncritical, is_empty}
+use Rattle.x509_lint.specs.declared.facts.CertificateFacts.{CertificateFacts}
+use Rattle.x509_lint.specs.declared.rule.critical.CriticalRule.{CriticalRule}
+use Rattle.x509_lint.specs.declared.rule.critical.CriticalRule.TheVariants.{AuthorityKeyIdentifierCritical, SubjectKeyIdentifierCritical, KeyUsageNotCritical, PolicyMappingsNotCritical, SubjectAltNameCritical, IssuerAltNameCritical, SubjectDirectoryAttributesCritical, NameConstraintsNotCritical, PolicyConstraintsNotCritical, CrlDistributionPointsCritical, InhibitAnyPolicyNotCritical, FreshestCrlCritical, AuthorityInfoAccessCritical, SubjectInfoAccessCritical}
+use Rattle.x509_lint.specs.Wording.{Wording, must, should}
+
+abbrev pub breaks_critical : Certificate → CertificateFacts → CriticalRule → Bool
+breaks_critical c facts AuthorityKeyIdentifierCritical = has_critical (id_ce 35) (extensions_of c)
+breaks_critical c facts SubjectKeyIdentifierCritical = has_critical (id_ce 14) (extensions_of c)
+breaks_critical c facts KeyUsageNotCritical = has_uncritical (id_ce 15) (extensions_of c)
+breaks_critical c facts PolicyMappingsNotCritical = has_uncritical (id_ce 33) (extensions_of c)
+breaks_critical c facts SubjectAltNameCritical = has_critical (id_ce 17) (extensions_of c) && not (is_empty c.tbs_certificate.subject)
+breaks_critical c facts IssuerAltNameCritical = has_critical (id_ce 18) (extensions_of c)
+breaks_critical c facts SubjectDirectoryAttributesCritical = has_critical (id_ce 9) (extensions_of c)
+breaks_critical c facts NameConstraintsNotCritical = has_uncritical (id_ce 30) (extensions_of c)
+breaks_critical c facts PolicyConstraintsNotCritical = has_uncritical (id_ce 36) (extensions_of c)
+breaks_critical c facts CrlDistributionPointsCritical = has_critical (id_ce 31) (extensions_of c)
+breaks_critical c facts InhibitAnyPolicyNotCritical = has_uncritical (id_ce 54) (extensions_of c)
+breaks_critical c facts FreshestCrlCritical = has_critical (id_ce 46) (extensions_of c)
+breaks_critical c facts AuthorityInfoAccessCritical = has_critical (id_pkix 1 1) (extensions_of c)
+breaks_critical c facts SubjectInfoAccessCritical = has_critical (id_pkix 1 11) (extensions_of c)
+
+-- ---- the order, and how each is told
+
+abbrev pub critical_rules : List CriticalRule
+critical_rules = AuthorityKeyIdentifierCritical ∷ SubjectKeyIdentifierCritical ∷ KeyUsageNotCritical ∷ PolicyMappingsNotCritical ∷ SubjectAltNameCritical ∷ IssuerAltNameCritical ∷ SubjectDirectoryAttributesCritical ∷ NameConstraintsNotCritical ∷ PolicyConstraintsNotCritical ∷ CrlDistributionPointsCritical ∷ InhibitAnyPolicyNotCritical ∷ FreshestCrlCritical ∷ AuthorityInfoAccessCritical ∷ SubjectInfoAccessCritical ∷ []
+
+abbrev pub critical_wording : CriticalRule → Wording
+critical_wording AuthorityKeyIdentifierCritical = must (codes "authority_key_identifier_critical") (codes "4.2.1.1")
+critical_wording SubjectKeyIdentifierCritical = must (codes "subject_key_identifier_critical") (codes "4.2.1.2")
+critical_wording KeyUsageNotCritical = should (codes "key_usage_not_critical") (codes "4.2.1.3")
+critical_wording PolicyMappingsNotCritical = should (codes "policy_mappings_not_critical") (codes "4.2.1.5")
+critical_wording SubjectAltNameCritical = should (codes "subject_alt_name_critical") (codes "4.2.1.6")
+critical_wording IssuerAltNameCritical = should (codes "issuer_alt_name_critical") (codes "4.2.1.7")
+critical_wording SubjectDirectoryAttributesCritical = must (codes "subject_directory_attributes_critical") (codes "4.2.1.8")
+critical_wording NameConstraintsNotCritical = must (codes "name_constraints_not_critical") (codes "4.2.1.10")
+critical_wording PolicyConstraintsNotCritical = must (codes "policy_constraints_not_critical") (codes "4.2.1.11")
+critical_wording CrlDistributionPointsCritical = should (codes "crl_distribution_points_critical") (codes "4.2.1.13")
+critical_wording InhibitAnyPolicyNotCritical = must (codes "inhibit_any_policy_not_critical") (codes "4.2.1.14")
+critical_wording FreshestCrlCritical = must (codes "freshest_crl_critical") (codes "4.2.1.15")
+critical_wording AuthorityInfoAccessCritical = must (codes "authority_info_access_critical") (codes "4.2.2.1")
+critical_wording SubjectInfoAccessCritical = must (codes "subject_info_access_critical") (codes "4.2.2.2")

@@ -1,0 +1,48 @@
+-- The rules on key identifiers, extended key usage and the private key usage period (RFC 5280 4.2.1.1, 4.2.1.12, A.2): what breaks each, their order, and how each is told.
+use Rattle.std.specs.Prelude.{◌&&◌, ◌||◌, Bool, not, ℕ, List, [], ◌∷◌, bytes_eq, codes, is_some}
+use Rattle.std.specs.List.{list_any}
+use Rattle.x509_cert.specs.ext.declared.pkix.authority_key_identifier.AuthorityKeyIdentifier.{AuthorityKeyIdentifier}
+use Rattle.x509_cert.specs.ext.Identifiers.{id_ce}
+use Rattle.x509_cert.specs.name.Names.{rdn_sequence_eq}
+use Rattle.x509_lint.specs.Words.{Certificate, extensions_of, has, has_critical, is_empty, passes}
+use Rattle.x509_lint.specs.declared.values.KeyValues.{KeyValues}
+use Rattle.x509_lint.specs.declared.rule.key.KeyRule.{KeyRule}
+use Rattle.x509_lint.specs.declared.rule.key.KeyRule.TheVariants.{AuthorityKeyIdentifierAbsent, AuthorityKeyIdentifierWithoutKey, AuthorityCertIssuerEmpty, AuthorityCertIssuerAndSerialApart, ExtendedKeyUsageEmpty, AnyExtendedKeyUsageCritical, PrivateKeyUsagePeriodEmpty}
+use Rattle.x509_lint.specs.Wording.{Wording, must, should}
+
+-- the content octets of 2.5.29.37.0, anyExtendedKeyUsage (RFC 5280 4.2.1.12)
+abbrev pub any_extended_key_usage : List ℕ
+any_extended_key_usage = 0x55 ∷ 0x1D ∷ 37 ∷ 0 ∷ []
+
+-- the issuer is the subject, as it is where a certificate may be self-signed
+abbrev pub is_self_issued : Certificate → Bool
+is_self_issued c = rdn_sequence_eq c.tbs_certificate.subject c.tbs_certificate.issuer
+
+-- one of the two is there, and the other isn't
+abbrev pub has_half_issuer : AuthorityKeyIdentifier → Bool
+has_half_issuer a =
+    (is_some a.authority_cert_issuer && not (is_some a.authority_cert_serial_number))
+    || (is_some a.authority_cert_serial_number && not (is_some a.authority_cert_issuer))
+
+abbrev pub breaks_key : Certificate → KeyValues → KeyRule → Bool
+breaks_key c v AuthorityKeyIdentifierAbsent = not (has (id_ce 35) (extensions_of c)) && not (is_self_issued c)
+breaks_key c v AuthorityKeyIdentifierWithoutKey = passes (λ a. not (is_some a.key_identifier)) v.authority_key_identifier
+breaks_key c v AuthorityCertIssuerEmpty = passes (λ a. passes is_empty a.authority_cert_issuer) v.authority_key_identifier
+breaks_key c v AuthorityCertIssuerAndSerialApart = passes has_half_issuer v.authority_key_identifier
+breaks_key c v ExtendedKeyUsageEmpty = passes (λ u. is_empty u.0) v.extended_key_usage
+breaks_key c v AnyExtendedKeyUsageCritical = passes (λ u. list_any (λ purpose. bytes_eq purpose any_extended_key_usage) u.0) v.extended_key_usage && has_critical (id_ce 37) (extensions_of c)
+breaks_key c v PrivateKeyUsagePeriodEmpty = passes (λ p. not (is_some p.not_before) && not (is_some p.not_after)) v.private_key_usage_period
+
+-- ---- the order, and how each is told
+
+abbrev pub key_rules : List KeyRule
+key_rules = AuthorityKeyIdentifierAbsent ∷ AuthorityKeyIdentifierWithoutKey ∷ AuthorityCertIssuerEmpty ∷ AuthorityCertIssuerAndSerialApart ∷ ExtendedKeyUsageEmpty ∷ AnyExtendedKeyUsageCritical ∷ PrivateKeyUsagePeriodEmpty ∷ []
+
+abbrev pub key_wording : KeyRule → Wording
+key_wording AuthorityKeyIdentifierAbsent = must (codes "authority_key_identifier_absent") (codes "4.2.1.1")
+key_wording AuthorityKeyIdentifierWithoutKey = must (codes "authority_key_identifier_without_key") (codes "4.2.1.1")
+key_wording AuthorityCertIssuerEmpty = must (codes "authority_cert_issuer_empty") (codes "4.2.1.1")
+key_wording AuthorityCertIssuerAndSerialApart = must (codes "authority_cert_issuer_and_serial_apart") (codes "4.2.1.1")
+key_wording ExtendedKeyUsageEmpty = must (codes "extended_key_usage_empty") (codes "4.2.1.12")
+key_wording AnyExtendedKeyUsageCritical = should (codes "any_extended_key_usage_critical") (codes "4.2.1.12")
+key_wording PrivateKeyUsagePeriodEmpty = must (codes "private_key_usage_period_empty") (codes "A.2")

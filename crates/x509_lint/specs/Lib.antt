@@ -1,0 +1,17 @@
+pub mod Wording
+pub mod Words
+pub mod Values
+pub mod Field
+pub mod Name
+pub mod List
+pub mod Critical
+pub mod Authority
+pub mod Key
+pub mod Alternative
+pub mod Policy
+pub mod Constraint
+pub mod Point
+pub mod CrlField
+pub mod CrlExtension
+pub mod Rules
+pub mod Report

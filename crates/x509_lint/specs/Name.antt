@@ -1,0 +1,59 @@
+-- The rules on the issuer and the subject of a certificate (RFC 5280 4.1.2.4, 4.1.2.6): what breaks each, their order, and how each is told.
+use Rattle.std.specs.Prelude.{◌&&◌, ◌||◌, ◌==◌, ℕ, Bool, true, false, not, nat_le, List, [], ◌∷◌, length, bytes_eq, codes}
+use Rattle.std.specs.List.{list_all, list_any}
+use Rattle.x509_cert.specs.der.declared.tag.Tag.{Tag}
+use Rattle.x509_cert.specs.der.declared.tag.Tag.TheVariants.{PrintableString}
+use Rattle.x509_cert.specs.der.declared.any.Any.{Any}
+use Rattle.x509_cert.specs.ext.Identifiers.{id_ce}
+use Rattle.x509_cert.specs.name.declared.attr.type_and_value.AttributeTypeAndValue.{AttributeTypeAndValue}
+use Rattle.x509_lint.specs.Words.{Certificate, extensions_of, has_critical, is_empty}
+use Rattle.x509_lint.specs.declared.facts.CertificateFacts.{CertificateFacts}
+use Rattle.x509_lint.specs.declared.rule.name.NameRule.{NameRule}
+use Rattle.x509_lint.specs.declared.rule.name.NameRule.TheVariants.{IssuerRdnEmpty, IssuerCountryNameInvalid, SubjectRdnEmpty, SubjectCountryNameInvalid, SubjectEmptyWithoutCriticalAltName}
+use Rattle.x509_lint.specs.Wording.{Wording, must}
+
+-- the content octets of 2.5.4.6, countryName (RFC 5280 A.1)
+abbrev pub country_name : List ℕ
+country_name = 0x55 ∷ 0x04 ∷ 0x06 ∷ []
+
+-- A to Z and a to z
+abbrev pub is_letter : ℕ → Bool
+is_letter octet = (nat_le 65 octet && nat_le octet 90) || (nat_le 97 octet && nat_le octet 122)
+
+abbrev pub is_printable : Tag → Bool
+is_printable PrintableString = true
+is_printable other = false
+
+-- a PrintableString of two letters (X520countryName, RFC 5280 A.1)
+abbrev pub is_country : Any → Bool
+is_country value = is_printable value.tag && (length value.value == 2) && list_all is_letter value.value
+
+-- a countryName whose value is none
+abbrev pub is_no_country : AttributeTypeAndValue → Bool
+is_no_country attribute = bytes_eq attribute.oid country_name && not (is_country attribute.value)
+
+abbrev pub has_no_country : List (List AttributeTypeAndValue) → Bool
+has_no_country rdns = list_any (λ rdn. list_any is_no_country rdn) rdns
+
+-- an RDN is SET SIZE (1..MAX) (RFC 5280 4.1.2.4)
+abbrev pub has_empty_rdn : List (List AttributeTypeAndValue) → Bool
+has_empty_rdn rdns = list_any (λ rdn. is_empty rdn) rdns
+
+abbrev pub breaks_name : Certificate → CertificateFacts → NameRule → Bool
+breaks_name c facts IssuerRdnEmpty = has_empty_rdn c.tbs_certificate.issuer
+breaks_name c facts IssuerCountryNameInvalid = has_no_country c.tbs_certificate.issuer
+breaks_name c facts SubjectRdnEmpty = has_empty_rdn c.tbs_certificate.subject
+breaks_name c facts SubjectCountryNameInvalid = has_no_country c.tbs_certificate.subject
+breaks_name c facts SubjectEmptyWithoutCriticalAltName = is_empty c.tbs_certificate.subject && not (has_critical (id_ce 17) (extensions_of c))
+
+-- ---- the order, and how each is told
+
+abbrev pub name_rules : List NameRule
+name_rules = IssuerRdnEmpty ∷ IssuerCountryNameInvalid ∷ SubjectRdnEmpty ∷ SubjectCountryNameInvalid ∷ SubjectEmptyWithoutCriticalAltName ∷ []
+
+abbrev pub name_wording : NameRule → Wording
+name_wording IssuerRdnEmpty = must (codes "issuer_rdn_empty") (codes "4.1.2.4")
+name_wording IssuerCountryNameInvalid = must (codes "issuer_country_name_invalid") (codes "A.1")
+name_wording SubjectRdnEmpty = must (codes "subject_rdn_empty") (codes "4.1.2.6")
+name_wording SubjectCountryNameInvalid = must (codes "subject_country_name_invalid") (codes "A.1")
+name_wording SubjectEmptyWithoutCriticalAltName = must (codes "subject_empty_without_critical_alt_name") (codes "4.1.2.6")

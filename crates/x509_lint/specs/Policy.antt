@@ -1,0 +1,35 @@
+-- The rules on certificate policies, policy mappings and policy constraints (RFC 5280 4.2.1.4, 4.2.1.5, 4.2.1.11): what breaks each, their order, and how each is told.
+use Rattle.std.specs.Prelude.{◌&&◌, ◌||◌, Bool, not, ℕ, List, [], ◌∷◌, bytes_eq, codes, is_some}
+use Rattle.std.specs.List.{list_any}
+use Rattle.x509_cert.specs.ext.declared.pkix.policy_mapping.PolicyMapping.{PolicyMapping}
+use Rattle.x509_lint.specs.Words.{Certificate, is_empty, passes}
+use Rattle.x509_lint.specs.declared.values.PolicyValues.{PolicyValues}
+use Rattle.x509_lint.specs.declared.rule.policy.PolicyRule.{PolicyRule}
+use Rattle.x509_lint.specs.declared.rule.policy.PolicyRule.TheVariants.{CertificatePoliciesEmpty, PolicyQualifiersEmpty, PolicyMappingsEmpty, PolicyMappingAnyPolicy, PolicyConstraintsEmpty}
+use Rattle.x509_lint.specs.Wording.{Wording, must}
+
+-- the content octets of 2.5.29.32.0, anyPolicy (RFC 5280 4.2.1.4)
+abbrev pub any_policy : List ℕ
+any_policy = 0x55 ∷ 0x1D ∷ 32 ∷ 0 ∷ []
+
+abbrev pub is_of_any_policy : PolicyMapping → Bool
+is_of_any_policy mapping = bytes_eq mapping.issuer_domain_policy any_policy || bytes_eq mapping.subject_domain_policy any_policy
+
+abbrev pub breaks_policy : Certificate → PolicyValues → PolicyRule → Bool
+breaks_policy c v CertificatePoliciesEmpty = passes (λ p. is_empty p.0) v.certificate_policies
+breaks_policy c v PolicyQualifiersEmpty = passes (λ p. list_any (λ policy. passes is_empty policy.policy_qualifiers) p.0) v.certificate_policies
+breaks_policy c v PolicyMappingsEmpty = passes (λ m. is_empty m.0) v.policy_mappings
+breaks_policy c v PolicyMappingAnyPolicy = passes (λ m. list_any is_of_any_policy m.0) v.policy_mappings
+breaks_policy c v PolicyConstraintsEmpty = passes (λ p. not (is_some p.require_explicit_policy) && not (is_some p.inhibit_policy_mapping)) v.policy_constraints
+
+-- ---- the order, and how each is told
+
+abbrev pub policy_rules : List PolicyRule
+policy_rules = CertificatePoliciesEmpty ∷ PolicyQualifiersEmpty ∷ PolicyMappingsEmpty ∷ PolicyMappingAnyPolicy ∷ PolicyConstraintsEmpty ∷ []
+
+abbrev pub policy_wording : PolicyRule → Wording
+policy_wording CertificatePoliciesEmpty = must (codes "certificate_policies_empty") (codes "4.2.1.4")
+policy_wording PolicyQualifiersEmpty = must (codes "policy_qualifiers_empty") (codes "4.2.1.4")
+policy_wording PolicyMappingsEmpty = must (codes "policy_mappings_empty") (codes "4.2.1.5")
+policy_wording PolicyMappingAnyPolicy = must (codes "policy_mapping_any_policy") (codes "4.2.1.5")
+policy_wording PolicyConstraintsEmpty = must (codes "policy_constraints_empty") (codes "4.2.1.11")

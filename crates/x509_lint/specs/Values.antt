@@ -1,0 +1,134 @@
+-- What rules look at, beside the object itself: the values of its extensions, and what is asked of it once.
+use Rattle.std.specs.Prelude.{◌≡◌, ◌≢◌, ◌↔◌, IsTrue, ℕ, List}
+use Rattle.std.specs.List.{All}
+use Rattle.x509_cert.specs.der.Form.{Form, Spells}
+use Rattle.x509_cert.specs.ext.Access.{authority_info_access_syntax, subject_info_access_syntax}
+use Rattle.x509_cert.specs.ext.AlternativeNames.{issuer_alt_name, subject_alt_name}
+use Rattle.x509_cert.specs.ext.AuthorityKeyIdentifier.{authority_key_identifier}
+use Rattle.x509_cert.specs.ext.BasicConstraints.{basic_constraints}
+use Rattle.x509_cert.specs.ext.ExtendedKeyUsage.{extended_key_usage}
+use Rattle.x509_cert.specs.ext.KeyUsage.{key_usage}
+use Rattle.x509_cert.specs.ext.PrivateKeyUsagePeriod.{private_key_usage_period}
+use Rattle.x509_cert.specs.ext.SubjectDirectoryAttributes.{subject_directory_attributes}
+use Rattle.x509_cert.specs.ext.SubjectKeyIdentifier.{subject_key_identifier}
+use Rattle.x509_cert.specs.ext.Identifiers.{id_ce, id_pkix}
+use Rattle.x509_cert.specs.ext.LookUp.{IsRepeated}
+use Rattle.x509_cert.specs.ext.declared.extension.Extension.{Extension}
+use Rattle.x509_cert.specs.ext.CrlNumber.{crl_number}
+use Rattle.x509_cert.specs.ext.DistributionPoint.{crl_distribution_points, freshest_crl}
+use Rattle.x509_cert.specs.ext.IssuingDistributionPoint.{issuing_distribution_point}
+use Rattle.x509_cert.specs.ext.NameConstraints.{name_constraints}
+use Rattle.x509_cert.specs.ext.CertificatePolicies.{certificate_policies}
+use Rattle.x509_cert.specs.ext.InhibitAnyPolicy.{inhibit_any_policy}
+use Rattle.x509_cert.specs.ext.PolicyConstraints.{policy_constraints}
+use Rattle.x509_cert.specs.ext.PolicyMapping.{policy_mappings}
+use Rattle.x509_lint.specs.Words.{Certificate, Crl, IsValue, crl_extensions_of, extensions_of}
+use Rattle.x509_lint.specs.declared.facts.CertificateFacts.{CertificateFacts}
+use Rattle.x509_lint.specs.declared.facts.CrlFacts.{CrlFacts}
+use Rattle.x509_lint.specs.declared.values.AlternativeValues.{AlternativeValues}
+use Rattle.x509_lint.specs.declared.values.AuthorityValues.{AuthorityValues}
+use Rattle.x509_lint.specs.declared.values.ConstraintValues.{ConstraintValues}
+use Rattle.x509_lint.specs.declared.values.CrlValues.{CrlValues}
+use Rattle.x509_lint.specs.declared.values.KeyValues.{KeyValues}
+use Rattle.x509_lint.specs.declared.values.PointValues.{PointValues}
+use Rattle.x509_lint.specs.declared.values.PolicyValues.{PolicyValues}
+
+-- ---- values of extensions
+
+abbrev pub AreAuthorityValues : List Extension → AuthorityValues → Type 0
+AreAuthorityValues extensions v = IsValue basic_constraints (id_ce 19) extensions v.basic_constraints × IsValue key_usage (id_ce 15) extensions v.key_usage
+
+abbrev pub AreKeyValues : List Extension → KeyValues → Type 0
+AreKeyValues extensions v =
+    IsValue authority_key_identifier (id_ce 35) extensions v.authority_key_identifier
+    × IsValue extended_key_usage (id_ce 37) extensions v.extended_key_usage
+    × IsValue private_key_usage_period (id_ce 16) extensions v.private_key_usage_period
+
+abbrev pub AreAlternativeValues : List Extension → AlternativeValues → Type 0
+AreAlternativeValues extensions v = IsValue subject_alt_name (id_ce 17) extensions v.subject_alt_name × IsValue issuer_alt_name (id_ce 18) extensions v.issuer_alt_name
+
+abbrev pub ArePolicyValues : List Extension → PolicyValues → Type 0
+ArePolicyValues extensions v =
+    IsValue certificate_policies (id_ce 32) extensions v.certificate_policies
+    × IsValue policy_mappings (id_ce 33) extensions v.policy_mappings
+    × IsValue policy_constraints (id_ce 36) extensions v.policy_constraints
+
+abbrev pub AreConstraintValues : List Extension → ConstraintValues → Type 0
+AreConstraintValues extensions v = IsValue name_constraints (id_ce 30) extensions v.name_constraints
+
+abbrev pub ArePointValues : List Extension → PointValues → Type 0
+ArePointValues extensions v =
+    IsValue subject_directory_attributes (id_ce 9) extensions v.subject_directory_attributes
+    × IsValue crl_distribution_points (id_ce 31) extensions v.crl_distribution_points
+    × IsValue freshest_crl (id_ce 46) extensions v.freshest_crl
+    × IsValue authority_info_access_syntax (id_pkix 1 1) extensions v.authority_info_access
+    × IsValue subject_info_access_syntax (id_pkix 1 11) extensions v.subject_info_access
+
+abbrev pub AreCrlValues : List Extension → CrlValues → Type 0
+AreCrlValues extensions v =
+    IsValue authority_key_identifier (id_ce 35) extensions v.authority_key_identifier
+    × IsValue crl_number (id_ce 20) extensions v.crl_number
+    × IsValue issuing_distribution_point (id_ce 28) extensions v.issuing_distribution_point
+
+-- ---- octets of extensions (RFC 5280 4.2)
+
+-- where the extension has the OID, its octets spell a value
+abbrev pub IsWellFormedAs : {T : Type 0} → Form T → List ℕ → Extension → Type 0
+IsWellFormedAs {T} form oid e = e.extn_id ≡ oid → (value : T) × Spells form value e.extn_value
+
+unfoldable pub AreKeysWellFormed : Extension → Type 0
+AreKeysWellFormed e =
+    IsWellFormedAs authority_key_identifier (id_ce 35) e × IsWellFormedAs subject_key_identifier (id_ce 14) e × IsWellFormedAs key_usage (id_ce 15) e
+    × IsWellFormedAs extended_key_usage (id_ce 37) e × IsWellFormedAs private_key_usage_period (id_ce 16) e × IsWellFormedAs basic_constraints (id_ce 19) e
+
+unfoldable pub AreNamesWellFormed : Extension → Type 0
+AreNamesWellFormed e =
+    IsWellFormedAs subject_alt_name (id_ce 17) e × IsWellFormedAs issuer_alt_name (id_ce 18) e × IsWellFormedAs subject_directory_attributes (id_ce 9) e
+    × IsWellFormedAs name_constraints (id_ce 30) e × IsWellFormedAs authority_info_access_syntax (id_pkix 1 1) e
+    × IsWellFormedAs subject_info_access_syntax (id_pkix 1 11) e
+
+unfoldable pub ArePoliciesWellFormed : Extension → Type 0
+ArePoliciesWellFormed e =
+    IsWellFormedAs certificate_policies (id_ce 32) e × IsWellFormedAs policy_mappings (id_ce 33) e × IsWellFormedAs policy_constraints (id_ce 36) e
+    × IsWellFormedAs inhibit_any_policy (id_ce 54) e × IsWellFormedAs crl_distribution_points (id_ce 31) e × IsWellFormedAs freshest_crl (id_ce 46) e
+
+-- where it has the OID of a type of RFC 5280, its octets spell a value of the type
+unfoldable pub IsWellFormed : Extension → Type 0
+IsWellFormed e = AreKeysWellFormed e × AreNamesWellFormed e × ArePoliciesWellFormed e
+
+-- ---- what is asked once
+
+abbrev pub AreCertificateFacts : Certificate → CertificateFacts → Type 0
+AreCertificateFacts c facts =
+    (IsTrue facts.algorithms_differ ↔ (c.tbs_certificate.signature ≢ c.signature_algorithm))
+    × (IsTrue facts.is_repeated ↔ IsRepeated (extensions_of c))
+    × (IsTrue facts.are_well_formed ↔ All IsWellFormed (extensions_of c))
+
+abbrev pub AreCrlFacts : Crl → CrlFacts → Type 0
+AreCrlFacts l facts =
+    (IsTrue facts.algorithms_differ ↔ (l.tbs_cert_list.signature ≢ l.signature_algorithm))
+    × (IsTrue facts.is_repeated ↔ IsRepeated (crl_extensions_of l))
+
+-- ---- all of it
+
+pub record CertificateParts : Type 0 where
+  pub facts : CertificateFacts
+  pub authority : AuthorityValues
+  pub key : KeyValues
+  pub alternative : AlternativeValues
+  pub policy : PolicyValues
+  pub constraint : ConstraintValues
+  pub point : PointValues
+
+abbrev pub AreCertificateParts : Certificate → CertificateParts → Type 0
+AreCertificateParts c parts =
+    AreCertificateFacts c parts.facts × AreAuthorityValues (extensions_of c) parts.authority × AreKeyValues (extensions_of c) parts.key
+    × AreAlternativeValues (extensions_of c) parts.alternative × ArePolicyValues (extensions_of c) parts.policy
+    × AreConstraintValues (extensions_of c) parts.constraint × ArePointValues (extensions_of c) parts.point
+
+pub record CrlParts : Type 0 where
+  pub facts : CrlFacts
+  pub values : CrlValues
+
+abbrev pub AreCrlParts : Crl → CrlParts → Type 0
+AreCrlParts l parts = AreCrlFacts l parts.facts × AreCrlValues (crl_extensions_of l) parts.values

@@ -1,0 +1,179 @@
+//! The rules on certificates.
+
+ghost use Rattle.std.specs.Prelude.{◌≡◌, ◌++◌, filter, map, IfErr, IfOk, OnOk};
+ghost use Rattle.x509_cert.specs.der.declared.error.ErrorKind.TheVariants.{Memory};
+ghost use Rattle.x509_lint.specs.Alternative as alternative_rules;
+ghost use Rattle.x509_lint.specs.Authority as authority_rules;
+ghost use Rattle.x509_lint.specs.Constraint as constraint_rules;
+ghost use Rattle.x509_lint.specs.Critical as critical_rules;
+ghost use Rattle.x509_lint.specs.Field as field_rules;
+ghost use Rattle.x509_lint.specs.Key as key_rules;
+ghost use Rattle.x509_lint.specs.List as list_rules;
+ghost use Rattle.x509_lint.specs.Name as name_rules;
+ghost use Rattle.x509_lint.specs.Point as point_rules;
+ghost use Rattle.x509_lint.specs.Policy as policy_rules;
+ghost use Rattle.x509_lint.specs.Rules.{AreFindings};
+ghost use Rattle.x509_lint.specs.Values.{AreAlternativeValues, AreAuthorityValues, AreCertificateFacts, AreConstraintValues, AreKeyValues, ArePointValues, ArePolicyValues};
+ghost use Rattle.x509_lint.specs.Words.{extensions_of};
+ghost use Rattle.x509_lint.specs.declared.facts.CertificateFacts.{CertificateFacts};
+ghost use Rattle.x509_lint.specs.declared.rule.Rule.TheVariants as rules;
+ghost use Rattle.x509_lint.specs.declared.values.AlternativeValues.{AlternativeValues};
+ghost use Rattle.x509_lint.specs.declared.values.AuthorityValues.{AuthorityValues};
+ghost use Rattle.x509_lint.specs.declared.values.ConstraintValues.{ConstraintValues};
+ghost use Rattle.x509_lint.specs.declared.values.KeyValues.{KeyValues};
+ghost use Rattle.x509_lint.specs.declared.values.PointValues.{PointValues};
+ghost use Rattle.x509_lint.specs.declared.values.PolicyValues.{PolicyValues};
+
+mod alternative;
+mod authority;
+mod constraint;
+mod critical;
+mod field;
+mod key;
+mod list;
+mod name;
+mod point;
+mod policy;
+
+use crate::extensions::extensions_of;
+use crate::facts::certificate_facts;
+use crate::group::add_broken;
+use crate::rule::Rule;
+use crate::rule::alternative::ALTERNATIVE_RULES;
+use crate::rule::authority::AUTHORITY_RULES;
+use crate::rule::constraint::CONSTRAINT_RULES;
+use crate::rule::critical::CRITICAL_RULES;
+use crate::rule::field::FIELD_RULES;
+use crate::rule::key::KEY_RULES;
+use crate::rule::list::LIST_RULES;
+use crate::rule::name::NAME_RULES;
+use crate::rule::point::POINT_RULES;
+use crate::rule::policy::POLICY_RULES;
+use crate::values::{
+    alternative_values, authority_values, constraint_values, key_values, point_values,
+    policy_values,
+};
+use std::alloc::Global;
+use x509_cert::certificate::{CertificateInner, Raw};
+use x509_cert::der::Error;
+
+/// Adds the rules on fields, names, the list of extensions and criticality that are broken.
+fn add_first(
+    alloc: Global,
+    certificate: &CertificateInner<Raw>,
+    findings: &mut Vec<Rule>,
+) -> Result<(), Error>
+    ensures ok { OnOk result ((facts : CertificateFacts) × AreCertificateFacts certificate.now facts × (findings.new.items ≡ findings.old.items ++ map rules.Field (filter (field_rules.breaks_field certificate.now facts) field_rules.field_rules) ++ map rules.Name (filter (name_rules.breaks_name certificate.now facts) name_rules.name_rules) ++ map rules.ExtensionList (filter (list_rules.breaks_list certificate.now facts) list_rules.list_rules) ++ map rules.Critical (filter (critical_rules.breaks_critical certificate.now facts) critical_rules.critical_rules))) }
+    ensures err { IfErr result (λ e. e.kind ≡ Memory) }
+{
+    let facts = certificate_facts(alloc, certificate)?;
+    add_broken(certificate, &facts, &FIELD_RULES, findings)?;
+    add_broken(certificate, &facts, &NAME_RULES, findings)?;
+    add_broken(certificate, &facts, &LIST_RULES, findings)?;
+    add_broken(certificate, &facts, &CRITICAL_RULES, findings)?;
+    Ok(())
+}
+
+fn add_authority(
+    alloc: Global,
+    certificate: &CertificateInner<Raw>,
+    findings: &mut Vec<Rule>,
+) -> Result<(), Error>
+    ensures ok { OnOk result ((values : AuthorityValues) × AreAuthorityValues (extensions_of certificate.now) values × (findings.new.items ≡ findings.old.items ++ map rules.Authority (filter (authority_rules.breaks_authority certificate.now values) authority_rules.authority_rules))) }
+    ensures err { IfErr result (λ e. e.kind ≡ Memory) }
+{
+    let values = authority_values(alloc, extensions_of(certificate))?;
+    add_broken(certificate, &values, &AUTHORITY_RULES, findings)?;
+    Ok(())
+}
+
+fn add_key(
+    alloc: Global,
+    certificate: &CertificateInner<Raw>,
+    findings: &mut Vec<Rule>,
+) -> Result<(), Error>
+    ensures ok { OnOk result ((values : KeyValues) × AreKeyValues (extensions_of certificate.now) values × (findings.new.items ≡ findings.old.items ++ map rules.Key (filter (key_rules.breaks_key certificate.now values) key_rules.key_rules))) }
+    ensures err { IfErr result (λ e. e.kind ≡ Memory) }
+{
+    let values = key_values(alloc, extensions_of(certificate))?;
+    add_broken(certificate, &values, &KEY_RULES, findings)?;
+    Ok(())
+}
+
+fn add_alternative(
+    alloc: Global,
+    certificate: &CertificateInner<Raw>,
+    findings: &mut Vec<Rule>,
+) -> Result<(), Error>
+    ensures ok { OnOk result ((values : AlternativeValues) × AreAlternativeValues (extensions_of certificate.now) values × (findings.new.items ≡ findings.old.items ++ map rules.Alternative (filter (alternative_rules.breaks_alternative certificate.now values) alternative_rules.alternative_rules))) }
+    ensures err { IfErr result (λ e. e.kind ≡ Memory) }
+{
+    let values = alternative_values(alloc, extensions_of(certificate))?;
+    add_broken(certificate, &values, &ALTERNATIVE_RULES, findings)?;
+    Ok(())
+}
+
+fn add_policy(
+    alloc: Global,
+    certificate: &CertificateInner<Raw>,
+    findings: &mut Vec<Rule>,
+) -> Result<(), Error>
+    ensures ok { OnOk result ((values : PolicyValues) × ArePolicyValues (extensions_of certificate.now) values × (findings.new.items ≡ findings.old.items ++ map rules.Policy (filter (policy_rules.breaks_policy certificate.now values) policy_rules.policy_rules))) }
+    ensures err { IfErr result (λ e. e.kind ≡ Memory) }
+{
+    let values = policy_values(alloc, extensions_of(certificate))?;
+    add_broken(certificate, &values, &POLICY_RULES, findings)?;
+    Ok(())
+}
+
+fn add_constraint(
+    alloc: Global,
+    certificate: &CertificateInner<Raw>,
+    findings: &mut Vec<Rule>,
+) -> Result<(), Error>
+    ensures ok { OnOk result ((values : ConstraintValues) × AreConstraintValues (extensions_of certificate.now) values × (findings.new.items ≡ findings.old.items ++ map rules.Constraint (filter (constraint_rules.breaks_constraint certificate.now values) constraint_rules.constraint_rules))) }
+    ensures err { IfErr result (λ e. e.kind ≡ Memory) }
+{
+    let values = constraint_values(alloc, extensions_of(certificate))?;
+    add_broken(certificate, &values, &CONSTRAINT_RULES, findings)?;
+    Ok(())
+}
+
+fn add_point(
+    alloc: Global,
+    certificate: &CertificateInner<Raw>,
+    findings: &mut Vec<Rule>,
+) -> Result<(), Error>
+    ensures ok { OnOk result ((values : PointValues) × ArePointValues (extensions_of certificate.now) values × (findings.new.items ≡ findings.old.items ++ map rules.Point (filter (point_rules.breaks_point certificate.now values) point_rules.point_rules))) }
+    ensures err { IfErr result (λ e. e.kind ≡ Memory) }
+{
+    let values = point_values(alloc, extensions_of(certificate))?;
+    add_broken(certificate, &values, &POINT_RULES, findings)?;
+    Ok(())
+}
+
+/// The rules of RFC 5280 4.1 and 4.2 that the certificate breaks, in the order of `certificate_rules` in
+/// `specs/Rules.antt`: those on its fields, on its names, on the list of its extensions and on which of these are
+/// critical, then those on what extensions say; in each of these by section. The profile [`Raw`] lets in serial numbers
+/// of any length.
+///
+/// # Errors
+///
+/// `Memory` when out of memory, and nothing else.
+pub fn lint_certificate(
+    alloc: Global,
+    certificate: &CertificateInner<Raw>,
+) -> Result<Vec<Rule>, Error>
+    ensures ok { IfOk result (λ findings. AreFindings certificate.now findings.items) }
+    ensures err { IfErr result (λ e. e.kind ≡ Memory) }
+{
+    let mut findings = Vec::new(alloc);
+    add_first(alloc, certificate, &mut findings)?;
+    add_authority(alloc, certificate, &mut findings)?;
+    add_key(alloc, certificate, &mut findings)?;
+    add_alternative(alloc, certificate, &mut findings)?;
+    add_policy(alloc, certificate, &mut findings)?;
+    add_constraint(alloc, certificate, &mut findings)?;
+    add_point(alloc, certificate, &mut findings)?;
+    Ok(findings)
+}

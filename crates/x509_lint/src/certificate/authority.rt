@@ -1,0 +1,94 @@
+//! The rules on what makes a certificate one of a certification authority.
+
+ghost use Rattle.std.specs.Prelude.{◌≡◌, ◌&&◌, not};
+ghost use Rattle.x509_cert.specs.ext.KeyUsage.{has_bit};
+ghost use Rattle.x509_lint.specs.Authority as grammar;
+ghost use Rattle.x509_lint.specs.Words.{passes};
+
+use crate::extensions::{has, has_uncritical};
+use crate::group::Group;
+use crate::rule::{AuthorityRule, Rule};
+use crate::values::AuthorityValues;
+use bitflags::Flags;
+use x509_cert::certificate::{CertificateInner, Raw};
+use x509_cert::ext::members;
+use x509_cert::ext::pkix::{BasicConstraints, KeyUsage, NameConstraints, SubjectKeyIdentifier};
+
+/// Whether cA is set.
+fn is_ca(constraints: &Option<BasicConstraints>) -> bool
+    ensures { result ≡ grammar.is_ca constraints.now }
+{
+    match constraints {
+        Some(constraints) => constraints.ca,
+        None => false,
+    }
+}
+
+fn has_path_len(constraints: &Option<BasicConstraints>) -> bool
+    ensures { result ≡ grammar.has_path_len constraints.now }
+{
+    match constraints {
+        Some(constraints) => constraints.path_len_constraint.is_some(),
+        None => false,
+    }
+}
+
+fn has_no_bit(usage: &Option<KeyUsage>) -> bool
+    ensures { result ≡ passes grammar.has_no_bit usage.now }
+{
+    match usage {
+        Some(usage) => usage.0.bits() == 0,
+        None => false,
+    }
+}
+
+fn has_key_cert_sign(usage: &Option<KeyUsage>) -> bool
+    ensures { result ≡ passes (λ u. has_bit u 5) usage.now }
+{
+    match usage {
+        Some(usage) => usage.key_cert_sign(),
+        None => false,
+    }
+}
+
+/// Whether some bit is set, and keyCertSign isn't.
+fn lacks_key_cert_sign(usage: &Option<KeyUsage>) -> bool
+    ensures { result ≡ passes (λ u. not (grammar.has_no_bit u) && not (has_bit u 5)) usage.now }
+{
+    match usage {
+        Some(usage) => usage.0.bits() != 0 && !usage.key_cert_sign(),
+        None => false,
+    }
+}
+
+impl Group<CertificateInner<Raw>, AuthorityValues> for AuthorityRule {
+    ghost use Rattle.x509_lint.specs.Authority.{breaks_authority};
+    ghost use Rattle.x509_lint.specs.declared.rule.Rule.TheVariants.{Authority};
+
+    ghost breaks = { breaks_authority };
+
+    ghost as_rule = { λ rule. Authority rule };
+
+    fn is_broken(&self, certificate: &CertificateInner<Raw>, values: &AuthorityValues) -> bool {
+        let extensions = members(certificate.tbs_certificate().extensions());
+        let is_ca = is_ca(&values.basic_constraints);
+        match self {
+            AuthorityRule::CaWithoutSubjectKeyIdentifier => is_ca
+                && !has::<SubjectKeyIdentifier>(extensions),
+            AuthorityRule::SubjectKeyIdentifierAbsent => !is_ca
+                && !has::<SubjectKeyIdentifier>(extensions),
+            AuthorityRule::CaWithoutKeyUsage => is_ca && !has::<KeyUsage>(extensions),
+            AuthorityRule::KeyUsageEmpty => has_no_bit(&values.key_usage),
+            AuthorityRule::CaWithoutKeyCertSign => is_ca && lacks_key_cert_sign(&values.key_usage),
+            AuthorityRule::KeyCertSignWithoutCa => !is_ca && has_key_cert_sign(&values.key_usage),
+            AuthorityRule::CaBasicConstraintsNotCritical => is_ca
+                && has_uncritical::<BasicConstraints>(extensions),
+            AuthorityRule::PathLenWithoutCa => !is_ca && has_path_len(&values.basic_constraints),
+            AuthorityRule::NameConstraintsInLeaf => !is_ca && has::<NameConstraints>(extensions),
+        }
+    }
+
+    fn to_rule(&self) -> Rule {
+        Rule::Authority(*self)
+    }
+}

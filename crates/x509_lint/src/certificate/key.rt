@@ -1,0 +1,123 @@
+//! The rules on key identifiers, extended key usage and the private key usage period of a certificate.
+
+ghost use Rattle.std.specs.List.{list_any};
+ghost use Rattle.std.specs.Prelude.{◌≡◌, ◌&&◌, bytes_eq, is_some, not};
+ghost use Rattle.x509_lint.specs.Key as grammar;
+ghost use Rattle.x509_lint.specs.Words.{is_empty, passes};
+
+use crate::extensions::{has, has_critical, is_empty_sequence};
+use crate::group::Group;
+use crate::rule::{KeyRule, Rule};
+use crate::values::KeyValues;
+use x509_cert::certificate::{CertificateInner, Raw};
+use x509_cert::der::asn1::ObjectIdentifier;
+use x509_cert::ext::members;
+use x509_cert::ext::pkix::{AuthorityKeyIdentifier, ExtendedKeyUsage, PrivateKeyUsagePeriod};
+use x509_der::oid;
+
+/// anyExtendedKeyUsage, 2.5.29.37.0 (RFC 5280 4.2.1.12).
+const ANY_EXTENDED_KEY_USAGE: ObjectIdentifier = oid!(0x55, 0x1D, 37, 0);
+
+/// Whether the issuer is the subject.
+fn is_self_issued(certificate: &CertificateInner<Raw>) -> bool
+    ensures { result ≡ grammar.is_self_issued certificate.now }
+{
+    let part = certificate.tbs_certificate();
+    part.subject() == part.issuer()
+}
+
+fn lacks_key_identifier(identifier: &Option<AuthorityKeyIdentifier>) -> bool
+    ensures { result ≡ passes (λ a. not (is_some a.key_identifier)) identifier.now }
+{
+    match identifier {
+        Some(identifier) => !identifier.key_identifier.is_some(),
+        None => false,
+    }
+}
+
+fn has_empty_issuer(identifier: &Option<AuthorityKeyIdentifier>) -> bool
+    ensures { result ≡ passes (λ a. passes is_empty a.authority_cert_issuer) identifier.now }
+{
+    match identifier {
+        Some(identifier) => is_empty_sequence(&identifier.authority_cert_issuer),
+        None => false,
+    }
+}
+
+fn has_half_issuer(identifier: &Option<AuthorityKeyIdentifier>) -> bool
+    ensures { result ≡ passes grammar.has_half_issuer identifier.now }
+{
+    let Some(identifier) = identifier else {
+        return false;
+    };
+    let has_issuer = identifier.authority_cert_issuer.is_some();
+    let has_serial = identifier.authority_cert_serial_number.is_some();
+    (has_issuer && !has_serial) || (has_serial && !has_issuer)
+}
+
+fn has_no_purpose(usage: &Option<ExtendedKeyUsage>) -> bool
+    ensures { result ≡ passes (λ u. is_empty u.0) usage.now }
+{
+    match usage {
+        Some(usage) => usage.0.as_slice().is_empty(),
+        None => false,
+    }
+}
+
+fn has_any_purpose(usage: &Option<ExtendedKeyUsage>) -> bool
+    ensures { result ≡ passes (λ u. list_any (λ purpose. bytes_eq purpose grammar.any_extended_key_usage) u.0) usage.now }
+{
+    match usage {
+        Some(usage) => is_any_among(usage.0.as_slice()),
+        None => false,
+    }
+}
+
+fn is_any_among(purposes: &[ObjectIdentifier]) -> bool
+    ensures { result ≡ list_any (λ purpose. bytes_eq purpose grammar.any_extended_key_usage) purposes.now }
+{
+    purposes
+        .iter()
+        .any(|purpose| *purpose == ANY_EXTENDED_KEY_USAGE)
+}
+
+fn has_no_date(period: &Option<PrivateKeyUsagePeriod>) -> bool
+    ensures { result ≡ passes (λ p. not (is_some p.not_before) && not (is_some p.not_after)) period.now }
+{
+    match period {
+        Some(period) => !period.not_before.is_some() && !period.not_after.is_some(),
+        None => false,
+    }
+}
+
+impl Group<CertificateInner<Raw>, KeyValues> for KeyRule {
+    ghost use Rattle.x509_lint.specs.Key.{breaks_key};
+    ghost use Rattle.x509_lint.specs.declared.rule.Rule.TheVariants.{Key};
+
+    ghost breaks = { breaks_key };
+
+    ghost as_rule = { λ rule. Key rule };
+
+    fn is_broken(&self, certificate: &CertificateInner<Raw>, values: &KeyValues) -> bool {
+        let extensions = members(certificate.tbs_certificate().extensions());
+        match self {
+            KeyRule::AuthorityKeyIdentifierAbsent => !has::<AuthorityKeyIdentifier>(extensions)
+                && !is_self_issued(certificate),
+            KeyRule::AuthorityKeyIdentifierWithoutKey => lacks_key_identifier(
+                &values.authority_key_identifier,
+            ),
+            KeyRule::AuthorityCertIssuerEmpty => has_empty_issuer(&values.authority_key_identifier),
+            KeyRule::AuthorityCertIssuerAndSerialApart => has_half_issuer(
+                &values.authority_key_identifier,
+            ),
+            KeyRule::ExtendedKeyUsageEmpty => has_no_purpose(&values.extended_key_usage),
+            KeyRule::AnyExtendedKeyUsageCritical => has_any_purpose(&values.extended_key_usage)
+                && has_critical::<ExtendedKeyUsage>(extensions),
+            KeyRule::PrivateKeyUsagePeriodEmpty => has_no_date(&values.private_key_usage_period),
+        }
+    }
+
+    fn to_rule(&self) -> Rule {
+        Rule::Key(*self)
+    }
+}

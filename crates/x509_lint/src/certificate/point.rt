@@ -1,0 +1,71 @@
+//! The rules on lists of attributes, of CRL distribution points and of access descriptions of a certificate.
+
+ghost use Rattle.std.specs.List.{list_any};
+ghost use Rattle.std.specs.Prelude.{◌≡◌};
+ghost use Rattle.x509_lint.specs.Point as grammar;
+
+use crate::group::Group;
+use crate::rule::{PointRule, Rule};
+use crate::values::PointValues;
+use x509_cert::certificate::{CertificateInner, Raw};
+use x509_cert::ext::pkix::crl::dp::DistributionPoint;
+
+/// Whether the point has neither a name nor a CRL issuer.
+fn is_empty_point(point: &DistributionPoint) -> bool
+    ensures { result ≡ grammar.is_empty_point point.now }
+{
+    !point.distribution_point.is_some() && !point.crl_issuer.is_some()
+}
+
+fn has_empty_point(points: &[DistributionPoint]) -> bool
+    ensures { result ≡ list_any grammar.is_empty_point points.now }
+{
+    points.iter().any(|point| is_empty_point(point))
+}
+
+impl Group<CertificateInner<Raw>, PointValues> for PointRule {
+    ghost use Rattle.x509_lint.specs.Point.{breaks_point};
+    ghost use Rattle.x509_lint.specs.declared.rule.Rule.TheVariants.{Point};
+
+    ghost breaks = { breaks_point };
+
+    ghost as_rule = { λ rule. Point rule };
+
+    fn is_broken(&self, _certificate: &CertificateInner<Raw>, values: &PointValues) -> bool {
+        match self {
+            PointRule::SubjectDirectoryAttributesEmpty =>
+                match &values.subject_directory_attributes {
+                    Some(list) => list.0.as_slice().is_empty(),
+                    None => false,
+                },
+            PointRule::CrlDistributionPointsEmpty => match &values.crl_distribution_points {
+                Some(list) => list.0.as_slice().is_empty(),
+                None => false,
+            },
+            PointRule::DistributionPointEmpty => match &values.crl_distribution_points {
+                Some(list) => has_empty_point(list.0.as_slice()),
+                None => false,
+            },
+            PointRule::FreshestCrlEmpty => match &values.freshest_crl {
+                Some(list) => list.0.as_slice().is_empty(),
+                None => false,
+            },
+            PointRule::FreshestCrlPointEmpty => match &values.freshest_crl {
+                Some(list) => has_empty_point(list.0.as_slice()),
+                None => false,
+            },
+            PointRule::AuthorityInfoAccessEmpty => match &values.authority_info_access {
+                Some(list) => list.0.as_slice().is_empty(),
+                None => false,
+            },
+            PointRule::SubjectInfoAccessEmpty => match &values.subject_info_access {
+                Some(list) => list.0.as_slice().is_empty(),
+                None => false,
+            },
+        }
+    }
+
+    fn to_rule(&self) -> Rule {
+        Rule::Point(*self)
+    }
+}

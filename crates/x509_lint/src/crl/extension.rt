@@ -1,0 +1,92 @@
+//! The rules on the extensions of a CRL.
+
+ghost use Rattle.std.specs.Prelude.{◌≡◌, is_some, not};
+ghost use Rattle.x509_lint.specs.CrlExtension as grammar;
+ghost use Rattle.x509_lint.specs.Words.{passes};
+
+use crate::extensions::{has, has_critical, has_uncritical};
+use crate::group::Group;
+use crate::rule::{CrlExtensionRule, Rule};
+use crate::values::CrlValues;
+use x509_cert::certificate::Raw;
+use x509_cert::crl::CertificateList;
+use x509_cert::ext::members;
+use x509_cert::ext::pkix::{
+    AuthorityKeyIdentifier, BaseCrlNumber, CrlNumber, FreshestCrl, IssuerAltName,
+    IssuingDistributionPoint,
+};
+
+fn lacks_key_identifier(identifier: &Option<AuthorityKeyIdentifier>) -> bool
+    ensures { result ≡ passes (λ a. not (is_some a.key_identifier)) identifier.now }
+{
+    match identifier {
+        Some(identifier) => !identifier.key_identifier.is_some(),
+        None => false,
+    }
+}
+
+fn is_too_long(number: &Option<CrlNumber>) -> bool
+    ensures { result ≡ passes grammar.is_long_number number.now }
+{
+    match number {
+        Some(number) => number.0.as_bytes().len() > 20,
+        None => false,
+    }
+}
+
+/// Whether each field is absent or has its default.
+fn is_empty_point(point: &Option<IssuingDistributionPoint>) -> bool
+    ensures { result ≡ passes grammar.is_empty_issuing_point point.now }
+{
+    let Some(point) = point else {
+        return false;
+    };
+    !point.distribution_point.is_some()
+        && !point.only_contains_user_certs
+        && !point.only_contains_ca_certs
+        && !point.only_some_reasons.is_some()
+        && !point.indirect_crl
+        && !point.only_contains_attribute_certs
+}
+
+impl Group<CertificateList<Raw>, CrlValues> for CrlExtensionRule {
+    ghost use Rattle.x509_lint.specs.CrlExtension.{breaks_crl_extension};
+    ghost use Rattle.x509_lint.specs.declared.rule.Rule.TheVariants.{CrlExtension};
+
+    ghost breaks = { breaks_crl_extension };
+
+    ghost as_rule = { λ rule. CrlExtension rule };
+
+    fn is_broken(&self, crl: &CertificateList<Raw>, values: &CrlValues) -> bool {
+        let extensions = members(crl.tbs_cert_list.crl_extensions.as_ref());
+        match self {
+            CrlExtensionRule::AuthorityKeyIdentifierAbsent => !has::<AuthorityKeyIdentifier>(
+                extensions,
+            ),
+            CrlExtensionRule::AuthorityKeyIdentifierWithoutKey => lacks_key_identifier(
+                &values.authority_key_identifier,
+            ),
+            CrlExtensionRule::AuthorityKeyIdentifierCritical => has_critical::<
+                AuthorityKeyIdentifier,
+            >(extensions),
+            CrlExtensionRule::IssuerAltNameCritical => has_critical::<IssuerAltName>(extensions),
+            CrlExtensionRule::CrlNumberAbsent => !has::<CrlNumber>(extensions),
+            CrlExtensionRule::CrlNumberCritical => has_critical::<CrlNumber>(extensions),
+            CrlExtensionRule::CrlNumberTooLong => is_too_long(&values.crl_number),
+            CrlExtensionRule::DeltaCrlIndicatorNotCritical => has_uncritical::<BaseCrlNumber>(
+                extensions,
+            ),
+            CrlExtensionRule::IssuingDistributionPointNotCritical => has_uncritical::<
+                IssuingDistributionPoint,
+            >(extensions),
+            CrlExtensionRule::IssuingDistributionPointEmpty => is_empty_point(
+                &values.issuing_distribution_point,
+            ),
+            CrlExtensionRule::FreshestCrlCritical => has_critical::<FreshestCrl>(extensions),
+        }
+    }
+
+    fn to_rule(&self) -> Rule {
+        Rule::CrlExtension(*self)
+    }
+}

@@ -1,0 +1,85 @@
+//! What is asked of an object once: what takes memory, or compares values as a whole.
+
+ghost use Rattle.std.specs.Prelude.{◌≡◌, ◌≢◌, ◌↔◌, IsTrue, IfOk, IfErr};
+ghost use Rattle.x509_cert.specs.der.declared.error.ErrorKind.TheVariants.{Memory};
+ghost use Rattle.x509_lint.specs.Values.{AreCertificateFacts, AreCrlFacts};
+
+use crate::extensions::{are_well_formed, extensions_of};
+use std::alloc::Global;
+use x509_cert::certificate::{CertificateInner, Raw};
+use x509_cert::crl::CertificateList;
+use x509_cert::der::Error;
+use x509_cert::ext::{has_repeated_extension, members};
+use x509_cert::laws::base::equality_of_keys_is_exact;
+
+/// What is asked of a certificate once.
+#[derive(Clone, Copy, Debug, PartialEq, Eq)]
+pub(crate) struct CertificateFacts {
+    /// The algorithm in the signed part isn't the one outside it.
+    pub(crate) algorithms_differ: bool,
+
+    /// Two extensions have one OID.
+    pub(crate) is_repeated: bool,
+
+    /// The octets of each extension are an encoding of the type that RFC 5280 has for its OID, where it has one.
+    pub(crate) are_well_formed: bool,
+}
+
+/// What is asked of a CRL once.
+#[derive(Clone, Copy, Debug, PartialEq, Eq)]
+pub(crate) struct CrlFacts {
+    /// The algorithm in the signed part isn't the one outside it.
+    pub(crate) algorithms_differ: bool,
+
+    /// Two extensions have one OID.
+    pub(crate) is_repeated: bool,
+}
+
+fn do_algorithms_differ(certificate: &CertificateInner<Raw>) -> bool
+    ensures { IsTrue result ↔ (certificate.now.tbs_certificate.signature ≢ certificate.now.signature_algorithm) }
+{
+    equality_of_keys_is_exact();
+    certificate.tbs_certificate().signature() != certificate.signature_algorithm()
+}
+
+fn do_crl_algorithms_differ(crl: &CertificateList<Raw>) -> bool
+    ensures { IsTrue result ↔ (crl.now.tbs_cert_list.signature ≢ crl.now.signature_algorithm) }
+{
+    equality_of_keys_is_exact();
+    crl.tbs_cert_list.signature != crl.signature_algorithm
+}
+
+/// The facts of a certificate.
+pub(crate) fn certificate_facts(
+    alloc: Global,
+    certificate: &CertificateInner<Raw>,
+) -> Result<CertificateFacts, Error>
+    ensures ok { IfOk result (AreCertificateFacts certificate.now) }
+    ensures err { IfErr result (λ e. e.kind ≡ Memory) }
+{
+    let extensions = extensions_of(certificate);
+    let algorithms_differ = do_algorithms_differ(certificate);
+    let is_repeated = has_repeated_extension(alloc, extensions)?;
+    let are_well_formed = are_well_formed(alloc, extensions)?;
+    Ok(CertificateFacts {
+        algorithms_differ,
+        is_repeated,
+        are_well_formed,
+    })
+}
+
+/// The facts of a CRL.
+pub(crate) fn crl_facts(alloc: Global, crl: &CertificateList<Raw>) -> Result<CrlFacts, Error>
+    ensures ok { IfOk result (AreCrlFacts crl.now) }
+    ensures err { IfErr result (λ e. e.kind ≡ Memory) }
+{
+    let algorithms_differ = do_crl_algorithms_differ(crl);
+    let is_repeated = has_repeated_extension(
+        alloc,
+        members(crl.tbs_cert_list.crl_extensions.as_ref()),
+    )?;
+    Ok(CrlFacts {
+        algorithms_differ,
+        is_repeated,
+    })
+}

@@ -1,0 +1,130 @@
+//! The rules of RFC 5280 that no grammar has.
+
+ghost use Rattle.std.specs.Prelude.{◌≡◌, Some};
+ghost use Rattle.x509_lint.specs.Rules.{rule_wording};
+ghost use Rattle.x509_lint.specs.Wording.{Says, wording_text};
+
+use crate::entry::{Entry, Severity};
+use std::fmt;
+
+pub(crate) mod alternative;
+pub(crate) mod authority;
+pub(crate) mod constraint;
+pub(crate) mod critical;
+pub(crate) mod crl_extension;
+pub(crate) mod crl_field;
+pub(crate) mod field;
+pub(crate) mod key;
+pub(crate) mod list;
+pub(crate) mod name;
+pub(crate) mod point;
+pub(crate) mod policy;
+
+pub use alternative::AlternativeRule;
+pub use authority::AuthorityRule;
+pub use constraint::ConstraintRule;
+pub use critical::CriticalRule;
+pub use crl_extension::CrlExtensionRule;
+pub use crl_field::CrlFieldRule;
+pub use field::FieldRule;
+pub use key::KeyRule;
+pub use list::ListRule;
+pub use name::NameRule;
+pub use point::PointRule;
+pub use policy::PolicyRule;
+
+/// A rule of RFC 5280 on certificates or CRLs. It is printed as `error serial_number_not_positive (RFC 5280 4.1.2.2)`.
+#[derive(Clone, Copy, Debug, PartialEq, Eq)]
+pub enum Rule {
+    /// On the fields of a certificate.
+    Field(FieldRule),
+
+    /// On the issuer and the subject of a certificate.
+    Name(NameRule),
+
+    /// On the extensions of a certificate as a list.
+    ExtensionList(ListRule),
+
+    /// On which extensions of a certificate are critical.
+    Critical(CriticalRule),
+
+    /// On what makes a certificate one of a certification authority.
+    Authority(AuthorityRule),
+
+    /// On key identifiers, extended key usage and the private key usage period of a certificate.
+    Key(KeyRule),
+
+    /// On the alternative names of the subject and the issuer of a certificate.
+    Alternative(AlternativeRule),
+
+    /// On certificate policies, policy mappings and policy constraints of a certificate.
+    Policy(PolicyRule),
+
+    /// On name constraints of a certificate.
+    Constraint(ConstraintRule),
+
+    /// On lists of attributes, of CRL distribution points and of access descriptions of a certificate.
+    Point(PointRule),
+
+    /// On the fields of a CRL.
+    CrlField(CrlFieldRule),
+
+    /// On the extensions of a CRL.
+    CrlExtension(CrlExtensionRule),
+}
+
+impl Rule {
+    /// How bad it is to break the rule, its name, and its section.
+    pub fn entry(self) -> Entry
+        ensures { Says result (rule_wording self) }
+    {
+        match self {
+            Rule::Field(rule) => rule.entry(),
+            Rule::Name(rule) => rule.entry(),
+            Rule::ExtensionList(rule) => rule.entry(),
+            Rule::Critical(rule) => rule.entry(),
+            Rule::Authority(rule) => rule.entry(),
+            Rule::Key(rule) => rule.entry(),
+            Rule::Alternative(rule) => rule.entry(),
+            Rule::Policy(rule) => rule.entry(),
+            Rule::Constraint(rule) => rule.entry(),
+            Rule::Point(rule) => rule.entry(),
+            Rule::CrlField(rule) => rule.entry(),
+            Rule::CrlExtension(rule) => rule.entry(),
+        }
+    }
+
+    /// How bad it is to break the rule.
+    pub fn severity(self) -> Severity
+        ensures { result ≡ (rule_wording self).severity }
+    {
+        self.entry().severity
+    }
+
+    /// The name of the rule, as `serial_number_not_positive`.
+    pub fn name(self) -> &'static str
+        ensures { result.now ≡ (rule_wording self).name }
+    {
+        self.entry().name
+    }
+
+    /// The section of RFC 5280, as `4.1.2.2`.
+    pub fn section(self) -> &'static str
+        ensures { result.now ≡ (rule_wording self).section }
+    {
+        self.entry().section
+    }
+}
+
+impl fmt::Display for Rule {
+    ghost output = { λ rule. Some (wording_text (rule_wording rule)) };
+
+    fn fmt<W: fmt::Write>(&self, f: &mut fmt::Formatter<W>) -> fmt::Result {
+        let Entry {
+            severity,
+            name,
+            section,
+        } = self.entry();
+        write!(f, "{severity} {name} (RFC 5280 {section})")
+    }
+}

@@ -1,0 +1,96 @@
+//! Rules on the extensions of a CRL (RFC 5280 5.2).
+
+ghost use Rattle.x509_lint.specs.CrlExtension.{crl_extension_wording};
+ghost use Rattle.x509_lint.specs.Wording.{Says};
+
+use crate::entry::{Entry, must, should};
+
+/// Rules on the extensions of a CRL (RFC 5280 5.2).
+#[derive(Clone, Copy, Debug, PartialEq, Eq)]
+pub enum CrlExtensionRule {
+    /// There is no AKI (RFC 5280 5.2.1, error).
+    AuthorityKeyIdentifierAbsent,
+
+    /// The AKI has no keyIdentifier (RFC 5280 5.2.1, error).
+    AuthorityKeyIdentifierWithoutKey,
+
+    /// An AKI is critical (RFC 5280 4.2.1.1, error).
+    AuthorityKeyIdentifierCritical,
+
+    /// An IAN is critical (RFC 5280 5.2.2, warning).
+    IssuerAltNameCritical,
+
+    /// There is no CRL number (RFC 5280 5.2.3, error).
+    CrlNumberAbsent,
+
+    /// A CRL number is critical (RFC 5280 5.2.3, error).
+    CrlNumberCritical,
+
+    /// The CRL number has more than 20 octets (RFC 5280 5.2.3, error).
+    CrlNumberTooLong,
+
+    /// A delta CRL indicator isn't critical (RFC 5280 5.2.4, error).
+    DeltaCrlIndicatorNotCritical,
+
+    /// An IssuingDistributionPoint isn't critical (RFC 5280 5.2.5, error).
+    IssuingDistributionPointNotCritical,
+
+    /// The IssuingDistributionPoint has no field: each is absent or the default (RFC 5280 5.2.5, error).
+    IssuingDistributionPointEmpty,
+
+    /// A FreshestCRL is critical (RFC 5280 5.2.6, error).
+    FreshestCrlCritical,
+}
+
+pub(crate) const CRL_EXTENSION_RULES: [CrlExtensionRule; 11] = [
+    CrlExtensionRule::AuthorityKeyIdentifierAbsent,
+    CrlExtensionRule::AuthorityKeyIdentifierWithoutKey,
+    CrlExtensionRule::AuthorityKeyIdentifierCritical,
+    CrlExtensionRule::IssuerAltNameCritical,
+    CrlExtensionRule::CrlNumberAbsent,
+    CrlExtensionRule::CrlNumberCritical,
+    CrlExtensionRule::CrlNumberTooLong,
+    CrlExtensionRule::DeltaCrlIndicatorNotCritical,
+    CrlExtensionRule::IssuingDistributionPointNotCritical,
+    CrlExtensionRule::IssuingDistributionPointEmpty,
+    CrlExtensionRule::FreshestCrlCritical,
+];
+
+impl CrlExtensionRule {
+    /// How bad it is to break the rule, its name, and its section.
+    pub fn entry(self) -> Entry
+        ensures { Says result (crl_extension_wording self) }
+    {
+        match self {
+            CrlExtensionRule::AuthorityKeyIdentifierAbsent => must(
+                "authority_key_identifier_absent",
+                "5.2.1",
+            ),
+            CrlExtensionRule::AuthorityKeyIdentifierWithoutKey => must(
+                "authority_key_identifier_without_key",
+                "5.2.1",
+            ),
+            CrlExtensionRule::AuthorityKeyIdentifierCritical => must(
+                "authority_key_identifier_critical",
+                "4.2.1.1",
+            ),
+            CrlExtensionRule::IssuerAltNameCritical => should("issuer_alt_name_critical", "5.2.2"),
+            CrlExtensionRule::CrlNumberAbsent => must("crl_number_absent", "5.2.3"),
+            CrlExtensionRule::CrlNumberCritical => must("crl_number_critical", "5.2.3"),
+            CrlExtensionRule::CrlNumberTooLong => must("crl_number_too_long", "5.2.3"),
+            CrlExtensionRule::DeltaCrlIndicatorNotCritical => must(
+                "delta_crl_indicator_not_critical",
+                "5.2.4",
+            ),
+            CrlExtensionRule::IssuingDistributionPointNotCritical => must(
+                "issuing_distribution_point_not_critical",
+                "5.2.5",
+            ),
+            CrlExtensionRule::IssuingDistributionPointEmpty => must(
+                "issuing_distribution_point_empty",
+                "5.2.5",
+            ),
+            CrlExtensionRule::FreshestCrlCritical => must("freshest_crl_critical", "5.2.6"),
+        }
+    }
+}

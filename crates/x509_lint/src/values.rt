@@ -1,0 +1,223 @@
+//! The values of extensions that rules look at. Each is `None` where there isn't one extension of the type that can be
+//! decoded.
+
+ghost use Rattle.std.specs.Prelude.{◌≡◌, IfOk, IfErr};
+ghost use Rattle.x509_cert.specs.der.declared.error.ErrorKind.TheVariants.{Memory};
+ghost use Rattle.x509_lint.specs.Values.{AreAlternativeValues, AreAuthorityValues, AreConstraintValues, AreCrlValues, AreKeyValues, ArePointValues, ArePolicyValues};
+
+use crate::extensions::payload;
+use std::alloc::Global;
+use x509_cert::der::Error;
+use x509_cert::ext::Extension;
+use x509_cert::ext::pkix::{
+    AuthorityInfoAccessSyntax, AuthorityKeyIdentifier, BasicConstraints, CertificatePolicies,
+    CrlDistributionPoints, CrlNumber, ExtendedKeyUsage, FreshestCrl, IssuerAltName,
+    IssuingDistributionPoint, KeyUsage, NameConstraints, PolicyConstraints, PolicyMappings,
+    PrivateKeyUsagePeriod, SubjectAltName, SubjectDirectoryAttributes, SubjectInfoAccessSyntax,
+};
+
+/// What makes a certificate one of a certification authority.
+#[derive(Debug)]
+pub(crate) struct AuthorityValues {
+    pub(crate) basic_constraints: Option<BasicConstraints>,
+    pub(crate) key_usage: Option<KeyUsage>,
+}
+
+impl Drop for AuthorityValues {
+    fn drop(self) {
+        let AuthorityValues {
+            basic_constraints: _,
+            key_usage: _,
+        } = self;
+    }
+}
+
+pub(crate) fn authority_values(
+    alloc: Global,
+    extensions: &[Extension],
+) -> Result<AuthorityValues, Error>
+    ensures ok { IfOk result (AreAuthorityValues extensions.now) }
+    ensures err { IfErr result (λ e. e.kind ≡ Memory) }
+{
+    Ok(AuthorityValues {
+        basic_constraints: payload(alloc, extensions)?,
+        key_usage: payload(alloc, extensions)?,
+    })
+}
+
+/// Key identifiers, extended key usage and the private key usage period.
+#[derive(Debug)]
+pub(crate) struct KeyValues {
+    pub(crate) authority_key_identifier: Option<AuthorityKeyIdentifier>,
+    pub(crate) extended_key_usage: Option<ExtendedKeyUsage>,
+    pub(crate) private_key_usage_period: Option<PrivateKeyUsagePeriod>,
+}
+
+impl Drop for KeyValues {
+    fn drop(self) {
+        let KeyValues {
+            authority_key_identifier: _,
+            extended_key_usage: _,
+            private_key_usage_period: _,
+        } = self;
+    }
+}
+
+pub(crate) fn key_values(alloc: Global, extensions: &[Extension]) -> Result<KeyValues, Error>
+    ensures ok { IfOk result (AreKeyValues extensions.now) }
+    ensures err { IfErr result (λ e. e.kind ≡ Memory) }
+{
+    Ok(KeyValues {
+        authority_key_identifier: payload(alloc, extensions)?,
+        extended_key_usage: payload(alloc, extensions)?,
+        private_key_usage_period: payload(alloc, extensions)?,
+    })
+}
+
+/// The alternative names of the subject and the issuer.
+#[derive(Debug)]
+pub(crate) struct AlternativeValues {
+    pub(crate) subject_alt_name: Option<SubjectAltName>,
+    pub(crate) issuer_alt_name: Option<IssuerAltName>,
+}
+
+impl Drop for AlternativeValues {
+    fn drop(self) {
+        let AlternativeValues {
+            subject_alt_name: _,
+            issuer_alt_name: _,
+        } = self;
+    }
+}
+
+pub(crate) fn alternative_values(
+    alloc: Global,
+    extensions: &[Extension],
+) -> Result<AlternativeValues, Error>
+    ensures ok { IfOk result (AreAlternativeValues extensions.now) }
+    ensures err { IfErr result (λ e. e.kind ≡ Memory) }
+{
+    Ok(AlternativeValues {
+        subject_alt_name: payload(alloc, extensions)?,
+        issuer_alt_name: payload(alloc, extensions)?,
+    })
+}
+
+/// Certificate policies, policy mappings and policy constraints.
+#[derive(Debug)]
+pub(crate) struct PolicyValues {
+    pub(crate) certificate_policies: Option<CertificatePolicies>,
+    pub(crate) policy_mappings: Option<PolicyMappings>,
+    pub(crate) policy_constraints: Option<PolicyConstraints>,
+}
+
+impl Drop for PolicyValues {
+    fn drop(self) {
+        let PolicyValues {
+            certificate_policies: _,
+            policy_mappings: _,
+            policy_constraints: _,
+        } = self;
+    }
+}
+
+pub(crate) fn policy_values(alloc: Global, extensions: &[Extension]) -> Result<PolicyValues, Error>
+    ensures ok { IfOk result (ArePolicyValues extensions.now) }
+    ensures err { IfErr result (λ e. e.kind ≡ Memory) }
+{
+    Ok(PolicyValues {
+        certificate_policies: payload(alloc, extensions)?,
+        policy_mappings: payload(alloc, extensions)?,
+        policy_constraints: payload(alloc, extensions)?,
+    })
+}
+
+/// Name constraints.
+#[derive(Debug)]
+pub(crate) struct ConstraintValues {
+    pub(crate) name_constraints: Option<NameConstraints>,
+}
+
+impl Drop for ConstraintValues {
+    fn drop(self) {
+        let ConstraintValues {
+            name_constraints: _,
+        } = self;
+    }
+}
+
+pub(crate) fn constraint_values(
+    alloc: Global,
+    extensions: &[Extension],
+) -> Result<ConstraintValues, Error>
+    ensures ok { IfOk result (AreConstraintValues extensions.now) }
+    ensures err { IfErr result (λ e. e.kind ≡ Memory) }
+{
+    Ok(ConstraintValues {
+        name_constraints: payload(alloc, extensions)?,
+    })
+}
+
+/// Lists of attributes, of CRL distribution points and of access descriptions.
+#[derive(Debug)]
+pub(crate) struct PointValues {
+    pub(crate) subject_directory_attributes: Option<SubjectDirectoryAttributes>,
+    pub(crate) crl_distribution_points: Option<CrlDistributionPoints>,
+    pub(crate) freshest_crl: Option<FreshestCrl>,
+    pub(crate) authority_info_access: Option<AuthorityInfoAccessSyntax>,
+    pub(crate) subject_info_access: Option<SubjectInfoAccessSyntax>,
+}
+
+impl Drop for PointValues {
+    fn drop(self) {
+        let PointValues {
+            subject_directory_attributes: _,
+            crl_distribution_points: _,
+            freshest_crl: _,
+            authority_info_access: _,
+            subject_info_access: _,
+        } = self;
+    }
+}
+
+pub(crate) fn point_values(alloc: Global, extensions: &[Extension]) -> Result<PointValues, Error>
+    ensures ok { IfOk result (ArePointValues extensions.now) }
+    ensures err { IfErr result (λ e. e.kind ≡ Memory) }
+{
+    Ok(PointValues {
+        subject_directory_attributes: payload(alloc, extensions)?,
+        crl_distribution_points: payload(alloc, extensions)?,
+        freshest_crl: payload(alloc, extensions)?,
+        authority_info_access: payload(alloc, extensions)?,
+        subject_info_access: payload(alloc, extensions)?,
+    })
+}
+
+/// The extensions of a CRL.
+#[derive(Debug)]
+pub(crate) struct CrlValues {
+    pub(crate) authority_key_identifier: Option<AuthorityKeyIdentifier>,
+    pub(crate) crl_number: Option<CrlNumber>,
+    pub(crate) issuing_distribution_point: Option<IssuingDistributionPoint>,
+}
+
+impl Drop for CrlValues {
+    fn drop(self) {
+        let CrlValues {
+            authority_key_identifier: _,
+            crl_number: _,
+            issuing_distribution_point: _,
+        } = self;
+    }
+}
+
+pub(crate) fn crl_values(alloc: Global, extensions: &[Extension]) -> Result<CrlValues, Error>
+    ensures ok { IfOk result (AreCrlValues extensions.now) }
+    ensures err { IfErr result (λ e. e.kind ≡ Memory) }
+{
+    Ok(CrlValues {
+        authority_key_identifier: payload(alloc, extensions)?,
+        crl_number: payload(alloc, extensions)?,
+        issuing_distribution_point: payload(alloc, extensions)?,
+    })
+}
