@@ -553,15 +553,11 @@ typedef struct {
     x509_span content; /* its content octets, which aren't looked at */
 } x509_element;
 
-/* The values of an attribute, a SET, one after the other. Whether they are in order, and all different, isn't looked at.
+/* The values of an attribute, a SET, one after the other. Those of 1.2.840.113549.1.9.14 are the extensions that a CSR asks for (RFC 2985 5.4.2): the one
+ * value is for x509_extensions_next.
+ * Whether they are in order, and all different, isn't looked at.
  * Answers X509_OK, X509_MEMORY, X509_OVERLENGTH, X509_MALFORMED, X509_ABSENT. */
 x509_status x509_attribute_value_next(const uint8_t *value, size_t len, size_t *at, x509_element *found);
-
-/* Decodes a CSR, and says where the extensions stand that it asks for (RFC 2985 5.4.2), a whole element, for x509_extensions_next: the one value of its
- * one attribute of the type 1.2.840.113549.1.9.14. The value isn't decoded here. X509_ABSENT where there is no such attribute, X509_REPEATED where there
- * are two or more, X509_FAILED where the only one has no value, or more than one. Else refused as x509_request_check is.
- * Answers X509_OK, X509_MEMORY, X509_OVERLENGTH, X509_MALFORMED, X509_FAILED, X509_ABSENT, X509_REPEATED. */
-x509_status x509_request_extensions(const uint8_t *in, size_t len, x509_span *found);
 
 /* ---- keys and algorithms */
 

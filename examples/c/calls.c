@@ -356,9 +356,11 @@ static void requests(void)
     WANT(x509_request_attribute_find(request, request_len, password, 8, &attribute) == X509_ABSENT && is_at(attribute.oid, 7, 7));
     WANT(x509_request_attribute_find(request, request_len, password, 9, &attribute) == X509_OK);
     WANT(is_at(attribute.oid, 180, 9) && is_at(attribute.values, 189, 12));
-    x509_span asked = {7, 7};
-    WANT(x509_request_extensions(request, request_len - 1, &asked) == X509_MALFORMED && is_at(asked, 7, 7));
-    WANT(x509_request_extensions(request, request_len, &asked) == X509_OK && is_at(asked, 216, 30));
+    WANT(x509_request_attribute_find(request, request_len, (const uint8_t *)"\x2a\x86\x48\x86\xf7\x0d\x01\x09\x0e", 9, &attribute) == X509_OK);
+    WANT(is_at(attribute.values, 214, 32));
+    x509_element asked;
+    within = 0;
+    WANT(x509_attribute_value_next(request + 214, 32, &within, &asked) == X509_OK && is_at(asked.element, 2, 30));
     x509_extension_entry extension;
     within = 0;
     WANT(x509_extensions_next(request + 216, 30, &within, &extension) == X509_OK && within == 30);
@@ -384,28 +386,19 @@ static size_t request_with(const uint8_t *attributes, size_t len)
     return at + 8;
 }
 
-/* No attribute, one without a value, one with two values, and two that ask for extensions. */
+/* No attribute, one without a value, and two that ask for extensions. */
 static void asked_extensions(void)
 {
     const uint8_t *const oid = (const uint8_t *)"\x2a\x86\x48\x86\xf7\x0d\x01\x09\x0e";
-    x509_span asked = {7, 7};
     x509_request_attribute attribute = {{7, 7}, {7, 7}};
     size_t len = request_with(nothing, 0);
-    WANT(x509_request_extensions(room, len, &asked) == X509_ABSENT && is_at(asked, 7, 7));
     WANT(x509_request_attribute_find(room, len, oid, 9, &attribute) == X509_ABSENT && is_at(attribute.values, 7, 7));
     len = request_with(BYTES("\x30\x0d\x06\x09\x2a\x86\x48\x86\xf7\x0d\x01\x09\x0e\x31\x00"));
-    WANT(x509_request_extensions(room, len, &asked) == X509_FAILED && is_at(asked, 7, 7));
     WANT(x509_request_attribute_find(room, len, oid, 9, &attribute) == X509_OK && is_at(attribute.oid, 25, 9) && is_at(attribute.values, 34, 2));
-    len = request_with(BYTES("\x30\x11\x06\x09\x2a\x86\x48\x86\xf7\x0d\x01\x09\x0e\x31\x04\x30\x00\x31\x00"));
-    WANT(x509_request_extensions(room, len, &asked) == X509_FAILED && is_at(asked, 7, 7));
     len = request_with(BYTES("\x30\x0d\x06\x09\x2a\x86\x48\x86\xf7\x0d\x01\x09\x0e\x31\x00"
                              "\x30\x0f\x06\x09\x2a\x86\x48\x86\xf7\x0d\x01\x09\x0e\x31\x02\x30\x00"));
-    WANT(x509_request_extensions(room, len, &asked) == X509_REPEATED && is_at(asked, 7, 7));
     attribute = (x509_request_attribute){{7, 7}, {7, 7}};
     WANT(x509_request_attribute_find(room, len, oid, 9, &attribute) == X509_REPEATED && is_at(attribute.values, 7, 7));
-    /* the value isn't decoded: here it is NULL */
-    len = request_with(BYTES("\x30\x0f\x06\x09\x2a\x86\x48\x86\xf7\x0d\x01\x09\x0e\x31\x02\x05\x00"));
-    WANT(x509_request_extensions(room, len, &asked) == X509_OK && is_at(asked, 36, 2));
 }
 
 /* A key with an algorithm, which is the whole AlgorithmIdentifier, and no bits: its kind. */

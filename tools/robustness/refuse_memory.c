@@ -82,6 +82,7 @@ static x509_revocation revocation;
 static x509_signature signature;
 static x509_path_fault fault;
 static x509_span part;
+static x509_request_attribute wanted;
 static x509_authority_key_identifier_view authority;
 static x509_policy policy;
 static x509_distribution_point point;
@@ -157,7 +158,7 @@ static x509_status call(int number)
     case 21:
         return x509_request_view(request, request_len, &csr);
     case 22:
-        return x509_request_extensions(request, request_len, &part);
+        return x509_request_attribute_find(request, request_len, (const uint8_t *)"\x2a\x86\x48\x86\xf7\x0d\x01\x09\x0e", 9, &wanted);
     case 23:
         return x509_key_view(certificate + view.subject_public_key_info.place, view.subject_public_key_info.len, &key);
     case 24:

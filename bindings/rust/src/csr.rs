@@ -7,6 +7,9 @@ use crate::name::NameRef;
 use crate::oid::ObjectIdentifier;
 use std::fmt;
 
+/// The content octets of 1.2.840.113549.1.9.14, extensionRequest (RFC 2985 5.4.2).
+const EXTENSION_REQUEST: &[u8] = b"\x2a\x86\x48\x86\xf7\x0d\x01\x09\x0e";
+
 /// An attribute of a CSR (RFC 2986 4.1), as a challenge password.
 #[derive(Clone, Copy, Debug, PartialEq, Eq, Hash)]
 pub struct CsrAttribute<'a> {
@@ -139,10 +142,20 @@ impl<'a> Csr<'a> {
     /// # Errors
     /// [`Error::Repeated`] where two or more attributes ask for extensions, [`Error::Failed`] where the only one hasn't one value; [`Error::Memory`].
     pub fn extensions(&self) -> Result<Extensions<'a>, Error> {
-        match ffi::REQUEST_EXTENSIONS.of(self.der) {
-            Ok(span) => Ok(Extensions::new(span.of(self.der)?)),
-            Err(Error::Absent) => Ok(Extensions::new(&[])),
-            Err(error) => Err(error),
+        let mut asked = None;
+        for attribute in self.attributes() {
+            let attribute = attribute?;
+            if attribute.oid.as_bytes() == EXTENSION_REQUEST && asked.replace(attribute).is_some() {
+                return Err(Error::Repeated);
+            }
+        }
+        let Some(attribute) = asked else {
+            return Ok(Extensions::new(&[]));
+        };
+        let mut values = attribute.values();
+        match (values.next(), values.next()) {
+            (Some(value), None) => Ok(Extensions::new(value?.der)),
+            _ => Err(Error::Failed),
         }
     }
 

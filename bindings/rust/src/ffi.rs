@@ -328,7 +328,6 @@ extern "C" {
     fn x509_request_view(input: *const u8, len: usize, view: *mut Request) -> c_int;
     fn x509_request_attribute_next(value: *const u8, len: usize, at: *mut usize, found: *mut RequestAttribute) -> c_int;
     fn x509_attribute_value_next(value: *const u8, len: usize, at: *mut usize, found: *mut Element) -> c_int;
-    fn x509_request_extensions(input: *const u8, len: usize, found: *mut Span) -> c_int;
     fn x509_anchor_view(input: *const u8, len: usize, view: *mut Anchor) -> c_int;
     fn x509_timestamp_next(value: *const u8, len: usize, at: *mut usize, found: *mut Span) -> c_int;
     fn x509_timestamp_view(input: *const u8, len: usize, view: *mut Timestamp) -> c_int;
@@ -506,7 +505,6 @@ pub(crate) const SIGNED_SLICE: View<Span> = View(x509_signed_slice);
 pub(crate) const SERIAL_NUMBER: View<Span> = View(x509_serial_number);
 pub(crate) const CRL: View<Crl> = View(x509_crl_view);
 pub(crate) const REQUEST: View<Request> = View(x509_request_view);
-pub(crate) const REQUEST_EXTENSIONS: View<Span> = View(x509_request_extensions);
 pub(crate) const ANCHOR: View<Anchor> = View(x509_anchor_view);
 pub(crate) const TIMESTAMP: View<Timestamp> = View(x509_timestamp_view);
 pub(crate) const KEY_USAGE: View<u32> = View(x509_key_usage);

@@ -4,7 +4,6 @@ pub mod Keys
 pub mod KeySigned
 pub mod RequestView
 pub mod RequestAttributes
-pub mod Asked
 pub mod SctWalk
 pub mod Timestamps
 pub mod AnchorParts

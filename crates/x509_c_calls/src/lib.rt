@@ -35,6 +35,6 @@ pub use payloads::{
     step_content, step_optional, step_optional_content, time_text,
 };
 pub use place::{Span, enter, signed_place, signed_span, step};
-pub use request::{RequestAttributeView, RequestView, request_attribute, request_extensions};
+pub use request::{RequestAttributeView, RequestView, request_attribute};
 pub use sct::{TimestampView, timestamp_next, timestamp_view};
 pub use status::{Status, check, fill, read, reencode, write};

@@ -5,5 +5,5 @@ mod look_up;
 mod view;
 
 pub use attribute::RequestAttributeView;
-pub use look_up::{request_attribute, request_extensions};
+pub use look_up::request_attribute;
 pub use view::RequestView;

@@ -2,15 +2,18 @@
 
 from __future__ import annotations
 
-import ctypes
 import enum
 from typing import Iterator
 
-from ._library import ABSENT, OK, AnchorView, ElementView, RequestAttributeView, RequestView, Span, X509Error, status_of, view, walk
+from ._library import FAILED, REPEATED, AnchorView, ElementView, RequestAttributeView, RequestView, X509Error, view, walk
 from .certificate import _algorithm_oid
 from .extensions import Extensions, _part
 from .name import Name
 from .oid import ObjectIdentifier
+
+
+# the content octets of 1.2.840.113549.1.9.14, extensionRequest (RFC 2985 5.4.2)
+_EXTENSION_REQUEST = b"\x2a\x86\x48\x86\xf7\x0d\x01\x09\x0e"
 
 
 class Attribute:
@@ -64,13 +67,20 @@ class CertificateSigningRequest:
     @property
     def extensions(self) -> Extensions:
         """The extensions that it asks for (RFC 2985 5.4.2). An X509Error where several attributes ask for some, or the one hasn't one value."""
-        found = Span()
-        status = status_of("x509_request_extensions", self._data, ctypes.byref(found))
-        if status == ABSENT:
+        data = self._view.attributes.of(self._data)
+        asked = [
+            found.values.of(data)
+            for found in walk("x509_request_attribute_next", RequestAttributeView, data)
+            if found.oid.of(data) == _EXTENSION_REQUEST
+        ]
+        if not asked:
             return Extensions([])
-        if status != OK:
-            raise X509Error("x509_request_extensions", status)
-        return Extensions.from_der(found.of(self._data))
+        if len(asked) > 1:
+            raise X509Error("x509_request_attribute_next", REPEATED)
+        values = list(walk("x509_attribute_value_next", ElementView, asked[0]))
+        if len(values) != 1:
+            raise X509Error("x509_attribute_value_next", FAILED)
+        return Extensions.from_der(values[0].element.of(asked[0]))
 
     @property
     def tbs_certrequest_bytes(self) -> bytes:

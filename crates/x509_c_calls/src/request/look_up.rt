@@ -1,28 +1,20 @@
-//! The attribute of a type, and the extensions that are asked for.
+//! The attribute of a type.
 
 ghost use Rattle.std.specs.Prelude.{◌≡◌, ◌≤◌, ◌++◌, ◌∷◌, [], drop, length, List, ℕ, IfSome, MatchOption};
 ghost use Rattle.x509_c_calls.specs.RequestAttributes.{FindsAttribute, LooksUpAttribute};
-ghost use Rattle.x509_c_calls.specs.Asked.{PicksValue, LooksUpExtensions};
 ghost use Rattle.x509_cert.specs.AttributeLookUp.{with_type};
-ghost use Rattle.x509_c_calls.specs.Place.{IsAt};
-ghost use Rattle.x509_cert.specs.Identifiers.{pkcs_9};
-ghost use Rattle.x509_der.specs.Any.{any};
-ghost use Rattle.x509_der.specs.declared.any.Any.{Any};
 ghost use Rattle.x509_der.specs.List.{joined};
-ghost use Rattle.x509_der.specs.Form.{Spells, spelling};
+ghost use Rattle.x509_der.specs.Form.{spelling};
 ghost use Rattle.x509_name.specs.Attribute as grammar;
 ghost use Rattle.x509_name.specs.declared.attr.attribute.Attribute.{Attribute};
 
 use crate::request::attribute::RequestAttributeView;
 use crate::request::view::RequestView;
-use crate::{Span, Status, View, enter, read, step};
+use crate::{Status, View, enter, read, step};
 use std::alloc::Global;
 use x509_cert::request::CertReq;
-use x509_der::{Any, ErrorKind, Grammar};
+use x509_der::Grammar;
 use x509_name::attr::Attribute;
-
-/// The content octets of 1.2.840.113549.1.9.14, extensionRequest (RFC 2985 5.4.2).
-const EXTENSION_REQUEST: [u8; 9] = [0x2A, 0x86, 0x48, 0x86, 0xF7, 0x0D, 0x01, 0x09, 0x0E];
 
 /// The first attribute of the type, with its place, and those that follow it. The bytes of the attributes begin at the
 /// place.
@@ -95,72 +87,4 @@ pub fn request_attribute(
     let mut at = RequestView::view(input, 0, &request).attributes.place;
     enter(input, &mut at);
     pick(input, at, request.info.attributes.as_slice(), oid, found)
-}
-
-/// Where the one value of a set of values stands, which stands at the place; `None` where there is none, or more than one.
-fn only_value(input: &[u8], place: usize, values: &[Any]) -> Option<Span>
-    requires { place ≤ length input.now }
-    ensures { MatchOption result ((value : Any) → values.now ≡ value ∷ [] → ⊥) (λ span. (value : Any) × (values.now ≡ value ∷ []) × ((behind : List ℕ) → drop place input.now ≡ spelling grammar.value_set values.now ++ behind → IsAt (spelling any value) behind input.now span)) }
-{
-    let [_value] = values else {
-        return None;
-    };
-    let mut at = place;
-    Some(enter(input, &mut at))
-}
-
-/// Fills in the one value of the one attribute of the type. The bytes of the attributes begin at the place.
-fn pick_value(
-    input: &[u8],
-    place: usize,
-    attributes: &[Attribute],
-    oid: &[u8],
-    found: &mut Span,
-) -> Status
-    requires { place ≤ length input.now }
-    ensures { (more : List ℕ) → drop place input.now ≡ joined (spelling grammar.attribute) attributes.now ++ more → PicksValue input.now attributes.now more (with_type oid.now attributes.now) found.old found.new result }
-{
-    let Some((at, attribute, others)) = find(input, place, attributes, oid) else {
-        return Status::Absent;
-    };
-    if find(input, at, others, oid).is_some() {
-        return Status::Repeated;
-    }
-    let mut inside = at;
-    enter(input, &mut inside);
-    step(input, &mut inside, true);
-    match only_value(input, inside, attribute.values.as_slice()) {
-        Some(value) => {
-            *found = value;
-            Status::Done
-        }
-        None => Status::Refused(ErrorKind::Failed),
-    }
-}
-
-/// Decodes a CSR, and fills in where the extensions stand that it asks for, a whole element (RFC 2985 5.4.2): the one value of its one
-/// attribute of the type 1.2.840.113549.1.9.14. The value isn't decoded.
-///
-/// # Errors
-///
-/// [`Status::Absent`] exactly where no attribute is of that type, [`Status::Repeated`] exactly where two or more are,
-/// `Failed` exactly where the only one has no value, or more than one. Else as [`request_attribute`]. `found` is
-/// unchanged then.
-#[tactic(auto, unfolding(crate::specs::Asked::LooksUpExtensions))]
-pub fn request_extensions(alloc: Global, input: &[u8], found: &mut Span) -> Status
-    ensures { LooksUpExtensions ⟦<CertReq as Grammar>⟧.form ⟦<CertReq as Grammar>⟧.refuses input.now found.old found.new result }
-{
-    let request = match read::<CertReq>(alloc, input) {
-        Ok(request) => request,
-        Err(e) => return Status::Refused(e),
-    };
-    let mut at = RequestView::view(input, 0, &request).attributes.place;
-    enter(input, &mut at);
-    pick_value(
-        input,
-        at,
-        request.info.attributes.as_slice(),
-        &EXTENSION_REQUEST,
-        found,
-    )
 }
