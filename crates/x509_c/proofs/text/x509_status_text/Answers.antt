@@ -5,4 +5,4 @@ use Rattle.x509_c.proofs.text.x509_status_text.Goals as goal
 pub returns : goal.returns
 returns c =
     let filled = rw (to_z-of_z w32 c.args.status c.ranges.status) at c.status_text.ensures.filled in
-    (c.status_text.result, c.code.ensures, filled, c.status_text.ensures.memory)
+    (c.status_text.result, c.code.ensures, (filled, c.status_text.ensures.memory))
