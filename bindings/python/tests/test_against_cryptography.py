@@ -187,11 +187,12 @@ class AgainstCryptography(unittest.TestCase):
             builder = theirs.CertificateRevocationListBuilder().issuer_name(name).last_update(start).next_update(start + datetime.timedelta(days=count + 1))
             builder = builder.add_extension(theirs.CRLNumber(count), critical=False)
             for number in range(count):
-                entry = theirs.RevokedCertificateBuilder().serial_number(7**number).revocation_date(start - datetime.timedelta(hours=number))
+                # of up to 155 bits
+                serial = 7 ** (number % 56) + number
+                entry = theirs.RevokedCertificateBuilder().serial_number(serial).revocation_date(start - datetime.timedelta(hours=number))
                 if number % 3 == 0:
                     entry = entry.add_extension(theirs.CRLReason(list(theirs.ReasonFlags)[number % 10]), critical=False)
-                if (7**number).bit_length() <= 159:
-                    builder = builder.add_revoked_certificate(entry.build())
+                builder = builder.add_revoked_certificate(entry.build())
             with self.subTest(entries=count):
                 self.compare_crl(builder.sign(key, hashes.SHA256()).public_bytes(serialization.Encoding.DER))
 
