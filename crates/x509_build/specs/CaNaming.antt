@@ -3,10 +3,10 @@ use Rattle.std.specs.Prelude.{◌≡◌, ◌⊎◌, ℕ, Bool, false, List, [], 
 use Rattle.std.specs.List.{list_any}
 use Rattle.x509_name.specs.declared.attr.type_and_value.AttributeTypeAndValue.{AttributeTypeAndValue}
 use Rattle.x509_name.specs.Iterators.{members_of}
-use Rattle.x509_name.specs.LookUp.{common_name, country_name, locality_name, state_or_province_name, organization_name}
+use Rattle.x509_name.specs.AttributeTypes.{common_name, country_name, locality_name, state_or_province_name, organization_name, postal_code, street_address}
 use Rattle.x509_build.specs.declared.error.Error.{Error}
 use Rattle.x509_build.specs.declared.error.Error.TheVariants.{InvalidAttribute, MissingAttributes}
-use Rattle.x509_build.specs.Order.{FirstBreak, has_type, postal_code, street_address}
+use Rattle.x509_build.specs.Order.{FirstBreak, has_type}
 
 -- The types that such a name may have. That each other type is refused is our own rule, which goes beyond 7.1.2.10.2: it calls
 -- attributes out of its table NOT RECOMMENDED.

@@ -2,7 +2,7 @@
 -- 7.1.2.7.2).
 use Rattle.std.specs.Prelude.{ℕ, Bool, true, false, List, [], ◌∷◌, filter, map, bytes_eq, not, ◌||◌}
 use Rattle.x509_name.specs.declared.attr.type_and_value.AttributeTypeAndValue.{AttributeTypeAndValue}
-use Rattle.x509_name.specs.LookUp.{common_name, country_name}
+use Rattle.x509_name.specs.AttributeTypes.{common_name, country_name}
 
 unfoldable pub is_domain_type : List ℕ → Bool
 is_domain_type oid = bytes_eq oid country_name || bytes_eq oid common_name

@@ -2,28 +2,12 @@
 -- first, and how.
 use Rattle.std.specs.Prelude.{◌≡◌, ◌<◌, ℕ, Bool, false, List, [], ◌∷◌, Option, Some, None, Result, Ok, Err, bytes_eq, nat_le, take, slice_get, option_and_then, if◌then◌else◌, ◌&&◌, not}
 use Rattle.std.specs.List.{list_any, position_from}
-use Rattle.x509_der.specs.Arcs.{content_of}
 use Rattle.x509_name.specs.declared.attr.type_and_value.AttributeTypeAndValue.{AttributeTypeAndValue}
-use Rattle.x509_name.specs.LookUp.{common_name, country_name, locality_name, state_or_province_name, organization_name, organizational_unit_name}
+use Rattle.x509_name.specs.AttributeTypes.{common_name, country_name, domain_component, given_name, locality_name, state_or_province_name, organization_name, organizational_unit_name, postal_code, street_address, surname}
 use Rattle.x509_build.specs.declared.error.Error.{Error}
 use Rattle.x509_build.specs.declared.error.Error.TheVariants.{NonUniqueRdn, NonUniqueATV, InvalidAttribute}
 
--- ---- types of attributes (RFC 4519 section 2)
-
-abbrev pub domain_component : List ℕ
-domain_component = content_of (0 ∷ 9 ∷ 2342 ∷ 19200300 ∷ 100 ∷ 1 ∷ 25 ∷ [])
-
-abbrev pub surname : List ℕ
-surname = content_of (2 ∷ 5 ∷ 4 ∷ 4 ∷ [])
-
-abbrev pub street_address : List ℕ
-street_address = content_of (2 ∷ 5 ∷ 4 ∷ 9 ∷ [])
-
-abbrev pub postal_code : List ℕ
-postal_code = content_of (2 ∷ 5 ∷ 4 ∷ 17 ∷ [])
-
-abbrev pub given_name : List ℕ
-given_name = content_of (2 ∷ 5 ∷ 4 ∷ 42 ∷ [])
+-- ---- the order of types
 
 -- the types whose order is fixed, in that order
 unfoldable pub ordered_types : List (List ℕ)

@@ -4,7 +4,7 @@ use crate::calls::{is_refused, is_written, prints};
 use std::test::*;
 use x509_der::{Error, ErrorKind, SequenceOf};
 use x509_name::attr::AttributeTypeAndValue;
-use x509_name::name::attribute_types::ORGANIZATIONAL_UNIT_NAME;
+use x509_name::attr::attribute_types::ORGANIZATIONAL_UNIT_NAME;
 use x509_name::name::{DirectoryString, Name, RdnSequence, RelativeDistinguishedName};
 use x509_prim::Utf8StringRef;
 

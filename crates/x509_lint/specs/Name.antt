@@ -5,16 +5,13 @@ use Rattle.x509_cert.specs.der.declared.tag.Tag.{Tag}
 use Rattle.x509_cert.specs.der.declared.tag.Tag.TheVariants.{PrintableString}
 use Rattle.x509_cert.specs.der.declared.any.Any.{Any}
 use Rattle.x509_cert.specs.ext.Identifiers.{id_ce}
+use Rattle.x509_cert.specs.name.AttributeTypes.{country_name}
 use Rattle.x509_cert.specs.name.declared.attr.type_and_value.AttributeTypeAndValue.{AttributeTypeAndValue}
 use Rattle.x509_lint.specs.Words.{Certificate, extensions_of, has_critical, is_empty}
 use Rattle.x509_lint.specs.declared.facts.CertificateFacts.{CertificateFacts}
 use Rattle.x509_lint.specs.declared.rule.name.NameRule.{NameRule}
 use Rattle.x509_lint.specs.declared.rule.name.NameRule.TheVariants.{IssuerRdnEmpty, IssuerCountryNameInvalid, SubjectRdnEmpty, SubjectCountryNameInvalid, SubjectEmptyWithoutCriticalAltName}
 use Rattle.x509_lint.specs.Wording.{Wording, must}
-
--- the content octets of 2.5.4.6, countryName (RFC 5280 A.1)
-abbrev pub country_name : List ℕ
-country_name = 0x55 ∷ 0x04 ∷ 0x06 ∷ []
 
 -- A to Z and a to z
 abbrev pub is_letter : ℕ → Bool

@@ -8,14 +8,11 @@ ghost use Rattle.x509_lint.specs.Name.{has_empty_rdn, has_no_country, is_country
 ghost use Rattle.x509_lint.specs.Words.{is_empty, passes};
 
 use x509_cert::attr::AttributeTypeAndValue;
+use x509_cert::attr::attribute_types::COUNTRY_NAME;
 use x509_cert::der::Tag;
-use x509_cert::der::asn1::{Any, ObjectIdentifier};
+use x509_cert::der::asn1::Any;
 use x509_cert::ext::pkix::name::GeneralName;
 use x509_cert::name::{Name, RdnSequence, RelativeDistinguishedName};
-use x509_der::oid;
-
-/// countryName, 2.5.4.6 (RFC 5280 A.1).
-const COUNTRY_NAME: ObjectIdentifier = oid!(0x55, 0x04, 0x06);
 
 fn is_letter(octet: u8) -> bool
     ensures { result ≡ is_letter octet }

@@ -21,7 +21,8 @@ use Rattle.x509_der.specs.ArcLaws.{content_of-arcs_of, small_arcs}
 use Rattle.x509_der.specs.ObjectIdentifier.{arcs_of}
 use Rattle.x509_der.specs.declared.any.Any.{Any}
 use Rattle.x509_name.specs.Escapes.{escaped}
-use Rattle.x509_name.specs.Keys.{Key, key_of, tag_for}
+use Rattle.x509_name.specs.AttributeNames.{Key}
+use Rattle.x509_name.specs.Keys.{key_of, tag_for}
 use Rattle.x509_name.specs.Attributes.{AttributeSays, AttributeReads, AttributeRefused, ReadsBack, ValueSays, attribute_text, begins_with_hash, is_text, printed_key, value_octets}
 use Rattle.x509_name.proofs.AttributeReading.{no_hash, one_type, said_parts}
 use Rattle.x509_name.proofs.AttributeTexts.{named_text, unnamed_text, other_text}

@@ -13,7 +13,8 @@ use Rattle.x509_der.specs.ArcLaws.{some_arcs, small_arcs}
 use Rattle.x509_der.proofs.TextLaws.{dotted_injective}
 use Rattle.x509_der.specs.declared.any.Any.{Any}
 use Rattle.x509_name.specs.Escapes.{Unescapes}
-use Rattle.x509_name.specs.Keys.{Key, KeySays, key_named, tag_for}
+use Rattle.x509_name.specs.AttributeNames.{Key}
+use Rattle.x509_name.specs.Keys.{KeySays, key_named, tag_for}
 use Rattle.x509_name.specs.Attributes.{IsCut, AttributeSays, AttributeReads, AttributeRefused, ValueSays, ValueReads, ValueRefused, ValueSaysTooMuch, SaysTooMuch, begins_with_hash, value_octets}
 use Rattle.x509_name.proofs.DottedTexts.{dotted_is_utf8}
 use Rattle.x509_name.proofs.TableFacts.{not_dotted}

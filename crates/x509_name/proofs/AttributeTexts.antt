@@ -5,7 +5,8 @@ use Rattle.x509_der.specs.Arcs.{dotted}
 use Rattle.x509_der.specs.ObjectIdentifier.{arcs_of}
 use Rattle.x509_der.specs.declared.any.Any.{Any}
 use Rattle.x509_name.specs.Escapes.{escaped}
-use Rattle.x509_name.specs.Keys.{Key, key_of}
+use Rattle.x509_name.specs.AttributeNames.{Key}
+use Rattle.x509_name.specs.Keys.{key_of}
 use Rattle.x509_name.specs.Attributes.{attribute_text, is_text, value_octets}
 
 module _ (octets : List ℕ) (value : Any) where

@@ -12,7 +12,8 @@ use Rattle.x509_der.specs.ArcLaws.{content_of-arcs_of, small_arcs}
 use Rattle.x509_der.specs.ObjectIdentifier.{arcs_of, is_object_identifier}
 use Rattle.x509_der.specs.declared.any.Any.{Any}
 use Rattle.x509_name.specs.Escapes.{escaped, is_always_escaped}
-use Rattle.x509_name.specs.Keys.{Key, key_of}
+use Rattle.x509_name.specs.AttributeNames.{Key}
+use Rattle.x509_name.specs.Keys.{key_of}
 use Rattle.x509_name.specs.Attributes.{ReadsBack, attribute_text, is_text, value_octets}
 use Rattle.x509_name.proofs.AttributeLaws.{capitals}
 use Rattle.x509_name.proofs.AttributeTexts.{named_text, unnamed_text, other_text}

@@ -14,7 +14,8 @@ use Rattle.x509_der.specs.ObjectIdentifier.{arcs_of, is_object_identifier}
 use Rattle.x509_der.specs.declared.any.Any.{Any}
 use Rattle.x509_prim.specs.Alphabet.{is_printable, is_ia5}
 use Rattle.x509_name.specs.Escapes.{Unescapes, escaped}
-use Rattle.x509_name.specs.Keys.{Key, key_of, KeySays, tag_for}
+use Rattle.x509_name.specs.AttributeNames.{Key}
+use Rattle.x509_name.specs.Keys.{key_of, KeySays, tag_for}
 
 -- the octets of the value's element
 abbrev pub value_octets : Any → List ℕ

@@ -4,34 +4,24 @@ use Rattle.std.specs.Str.{str_eq_ignore_ascii_case}
 use Rattle.x509_der.specs.declared.tag.Tag.{Tag}
 use Rattle.x509_der.specs.declared.tag.Tag.TheVariants.{PrintableString, Ia5String, Utf8String}
 use Rattle.x509_der.specs.Arcs.{AreArcs, content_of, dotted}
+use Rattle.x509_name.specs.AttributeNames.{Key, attribute_names}
 use Rattle.x509_name.specs.declared.text.keys.Key as found
 use Rattle.x509_name.specs.declared.text.keys.TextType.{TextType}
 use Rattle.x509_name.specs.declared.text.keys.TextType.TheVariants.{Printable, Ia5, Utf8}
-use Rattle.x509_name.specs.declared.text.keys.TheConstants.{KEYS}
 
 abbrev pub tag_of_type : TextType → Tag
 tag_of_type Printable = PrintableString
 tag_of_type Ia5 = Ia5String
 tag_of_type Utf8 = Utf8String
 
--- a type of attribute that has a name
-pub record Key : Type 0 where
-  pub name : List ℕ
-  pub full_name : List ℕ
-  pub octets : List ℕ
-  pub tag : Tag
-
 -- what a row of the table says
 abbrev pub row : List ℕ → List ℕ → List ℕ → TextType → Key
 row name full_name octets type = record { name = name; full_name = full_name; octets = octets; tag = tag_of_type type }
 
-unfoldable pub keys : List Key
-keys = map (λ r. row r.0.now r.1.now r.2.now r.3) KEYS
-
 -- what an answer says
 abbrev pub said : Option found.Key → Option Key
 said None = None
-said (Some key) = Some (record { name = key.name.now; full_name = key.full_name.now; octets = key.octets.now; tag = key.tag })
+said (Some key) = Some (record { name = key.name.now; full_name = key.full_name.now; octets = key.oid; tag = key.tag })
 
 -- the first that the test finds
 abbrev pub first_where : {X : Type 0} → (X → Bool) → List X → Option X
@@ -47,11 +37,11 @@ has_octets octets key = bytes_eq key.octets octets
 
 -- the row of a name
 unfoldable pub key_named : List ℕ → Option Key
-key_named name = first_where (is_named name) keys
+key_named name = first_where (is_named name) attribute_names
 
 -- the row of the object identifier with these content octets
 unfoldable pub key_of : List ℕ → Option Key
-key_of octets = first_where (has_octets octets) keys
+key_of octets = first_where (has_octets octets) attribute_names
 
 -- the key of an attribute names the type with these content octets: a name of the table, or the identifier's dotted text
 abbrev pub KeySays : List ℕ → List ℕ → Type 0

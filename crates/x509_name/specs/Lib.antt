@@ -2,8 +2,9 @@ pub mod Escapes
 pub mod Parts
 pub mod Cutting
 pub mod Reading
-pub mod Keys
+pub mod AttributeTypes
 pub mod AttributeNames
+pub mod Keys
 pub mod Attributes
 pub mod Refusals
 pub mod Encodings

@@ -1,7 +1,6 @@
 -- Look-ups in names: the first attribute of a type, in the order of the encoding.
 use Rattle.std.specs.Prelude.{◌≡◌, ℕ, List, [], ◌∷◌, Option, Some, None, Result, Ok, Err, bytes_eq, if◌then◌else◌}
 use Rattle.x509_der.specs.declared.error.Error.{Error}
-use Rattle.x509_der.specs.Arcs.{content_of}
 use Rattle.x509_der.specs.declared.any.Any.{Any}
 use Rattle.x509_name.specs.declared.attr.type_and_value.AttributeTypeAndValue.{AttributeTypeAndValue}
 use Rattle.x509_name.specs.DirectoryString.{ReadsDirectoryString}
@@ -23,26 +22,3 @@ LooksUp gives (Some any) (Err e) = gives any (Err e)
 -- the same of a name's attributes of a type as DirectoryString
 abbrev pub LooksUpString : List ℕ → List (List AttributeTypeAndValue) → Result (Option DirectoryString) Error → Type 0
 LooksUpString oid name answer = LooksUp ReadsDirectoryString (first_of_type oid (members_of name)) answer
-
--- ---- types of attributes (RFC 5280 appendix A.1)
-
-abbrev pub common_name : List ℕ
-common_name = content_of (2 ∷ 5 ∷ 4 ∷ 3 ∷ [])
-
-abbrev pub country_name : List ℕ
-country_name = content_of (2 ∷ 5 ∷ 4 ∷ 6 ∷ [])
-
-abbrev pub locality_name : List ℕ
-locality_name = content_of (2 ∷ 5 ∷ 4 ∷ 7 ∷ [])
-
-abbrev pub state_or_province_name : List ℕ
-state_or_province_name = content_of (2 ∷ 5 ∷ 4 ∷ 8 ∷ [])
-
-abbrev pub organization_name : List ℕ
-organization_name = content_of (2 ∷ 5 ∷ 4 ∷ 10 ∷ [])
-
-abbrev pub organizational_unit_name : List ℕ
-organizational_unit_name = content_of (2 ∷ 5 ∷ 4 ∷ 11 ∷ [])
-
-abbrev pub email_address : List ℕ
-email_address = content_of (1 ∷ 2 ∷ 840 ∷ 113549 ∷ 1 ∷ 9 ∷ 1 ∷ [])

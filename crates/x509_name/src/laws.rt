@@ -6,11 +6,9 @@ ghost use Rattle.x509_der.specs.Form.{Spells};
 ghost use Rattle.x509_der.specs.Order.{bytes_cmp};
 ghost use Rattle.x509_der.specs.declared.any.Any.{Any};
 ghost use Rattle.x509_der.specs.declared.error.ErrorKind.{ErrorKind};
-ghost use Rattle.x509_name.specs.AttributeNames as standard;
 ghost use Rattle.x509_name.specs.Attributes.{AttributeReads, AttributeRefused, ReadsBack, attribute_text};
 ghost use Rattle.x509_name.specs.DirectoryString.{directory_string};
 ghost use Rattle.x509_name.specs.Escapes.{Unescapes, escaped};
-ghost use Rattle.x509_name.specs.Keys.{keys};
 ghost use Rattle.x509_name.specs.NameText as texts;
 ghost use Rattle.x509_name.specs.Names.{name, rdn_sequence, relative_distinguished_name};
 ghost use Rattle.x509_name.specs.Parts.{Joined};
@@ -32,13 +30,6 @@ use x509_der::laws::{encodings_in_order, members_make_the_set, one_value};
 pub fn equality_is_exact()
     ensures pairs { (a b : AttributeTypeAndValue) → (⟦<AttributeTypeAndValue as PartialEq>⟧.eq a b ≡ true) ↔ (a ≡ b) }
     ensures attributes { (a b : Attribute) → (⟦<Attribute as PartialEq>⟧.eq a b ≡ true) ↔ (a ≡ b) }
-{}
-
-/// The table of attribute names is that of the standards: each row's two names, the OID's content octets, and its tag
-/// (RFC 4514 section 3, RFC 4519 section 2, RFC 2985 5.2.1, RFC 5280 4.1.2.4).
-#[tactic(auto, using(crate::proofs::TableFacts::as_the_standards_say))]
-pub fn attribute_names()
-    ensures { keys ≡ standard.attribute_names }
 {}
 
 /// A text stands for at most one list of bytes.

@@ -1,6 +1,5 @@
 //! Relative distinguished names (RDNs), sequences of them, and names; DirectoryString, a text of a name.
 
-pub mod attribute_types;
 pub(crate) mod directory_string;
 mod iterators;
 mod look_up;

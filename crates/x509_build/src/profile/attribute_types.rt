@@ -3,28 +3,11 @@
 ghost use Rattle.std.specs.Prelude.{◌≡◌, ◌<◌, IfSome};
 ghost use Rattle.x509_build.specs.Order.{place_of};
 
-use x509_der::{ObjectIdentifier, oid};
-use x509_name::name::attribute_types::{
-    COMMON_NAME, COUNTRY_NAME, LOCALITY_NAME, ORGANIZATION_NAME, ORGANIZATIONAL_UNIT_NAME,
-    STATE_OR_PROVINCE_NAME,
+use x509_der::ObjectIdentifier;
+use x509_name::attr::attribute_types::{
+    COMMON_NAME, COUNTRY_NAME, DOMAIN_COMPONENT, GIVEN_NAME, LOCALITY_NAME, ORGANIZATION_NAME,
+    ORGANIZATIONAL_UNIT_NAME, POSTAL_CODE, STATE_OR_PROVINCE_NAME, STREET_ADDRESS, SURNAME,
 };
-
-/// domainComponent, 0.9.2342.19200300.100.1.25 (RFC 4519 2.4).
-pub const DOMAIN_COMPONENT: ObjectIdentifier = oid!(
-    0x09, 0x92, 0x26, 0x89, 0x93, 0xF2, 0x2C, 0x64, 0x01, 0x19
-);
-
-/// surname, 2.5.4.4 (RFC 4519 2.32).
-pub const SURNAME: ObjectIdentifier = oid!(0x55, 0x04, 0x04);
-
-/// streetAddress, 2.5.4.9 (RFC 4519 2.34).
-pub const STREET_ADDRESS: ObjectIdentifier = oid!(0x55, 0x04, 0x09);
-
-/// postalCode, 2.5.4.17 (RFC 4519 2.24).
-pub const POSTAL_CODE: ObjectIdentifier = oid!(0x55, 0x04, 0x11);
-
-/// givenName, 2.5.4.42 (RFC 4519 2.12).
-pub const GIVEN_NAME: ObjectIdentifier = oid!(0x55, 0x04, 0x2A);
 
 /// The types whose order is fixed, in that order.
 pub const ORDER: [ObjectIdentifier; 11] = [

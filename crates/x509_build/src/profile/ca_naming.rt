@@ -7,7 +7,7 @@ use crate::profile::attribute_types::{POSTAL_CODE, STREET_ADDRESS};
 use crate::profile::encoding::{check_names_encoding, has_type};
 use crate::{Error, Result};
 use x509_der::ObjectIdentifier;
-use x509_name::name::attribute_types::{
+use x509_name::attr::attribute_types::{
     COMMON_NAME, COUNTRY_NAME, LOCALITY_NAME, ORGANIZATION_NAME, STATE_OR_PROVINCE_NAME,
 };
 use x509_name::name::{Name, RelativeDistinguishedName};

@@ -15,7 +15,7 @@ use x509_der::{
 ///     cA                 BOOLEAN DEFAULT FALSE,
 ///     pathLenConstraint  INTEGER (0..255) OPTIONAL }
 /// ```
-#[derive(Debug, Drop, PartialEq, Eq)]
+#[derive(Clone, Copy, Debug, PartialEq, Eq)]
 pub struct BasicConstraints {
     /// Whether the key may verify signatures of certificates.
     pub ca: bool,
@@ -42,10 +42,7 @@ impl TryClone for BasicConstraints {
     fn try_clone(&self, _alloc: Global) -> Result<BasicConstraints, Error>
         ensures { result ≡ Ok self.now }
     {
-        Ok(BasicConstraints {
-            ca: self.ca,
-            path_len_constraint: self.path_len_constraint,
-        })
+        Ok(*self)
     }
 }
 

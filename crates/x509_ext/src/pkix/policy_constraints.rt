@@ -16,7 +16,7 @@ use x509_der::{
 ///     inhibitPolicyMapping   [1] IMPLICIT SkipCerts OPTIONAL }
 /// SkipCerts ::= INTEGER (0..4294967295)
 /// ```
-#[derive(Debug, Drop, PartialEq, Eq)]
+#[derive(Clone, Copy, Debug, PartialEq, Eq)]
 pub struct PolicyConstraints {
     /// After how many certificates a policy has to be acceptable.
     pub require_explicit_policy: Option<u32>,
@@ -43,10 +43,7 @@ impl TryClone for PolicyConstraints {
     fn try_clone(&self, _alloc: Global) -> Result<PolicyConstraints, Error>
         ensures { result ≡ Ok self.now }
     {
-        Ok(PolicyConstraints {
-            require_explicit_policy: self.require_explicit_policy,
-            inhibit_policy_mapping: self.inhibit_policy_mapping,
-        })
+        Ok(*self)
     }
 }
 

@@ -5,16 +5,16 @@ ghost use Rattle.std.specs.List.{list_all};
 ghost use Rattle.std.specs.Option.{option_copied};
 ghost use Rattle.x509_der.specs.declared.tag.Tag.TheVariants as tags;
 ghost use Rattle.x509_name.specs.Iterators.{members_of};
-ghost use Rattle.x509_name.specs.LookUp as types;
+ghost use Rattle.x509_name.specs.AttributeTypes as types;
 ghost use Rattle.x509_name.specs.LookUp.{LooksUp, LooksUpString, first_of_type};
 ghost use Rattle.x509_prim.specs.Alphabet.{is_ia5, is_printable};
 ghost use Rattle.x509_prim.specs.Borrowed.{BorrowsTextFrom};
 
-use crate::name::DirectoryString;
-use crate::name::attribute_types::{
+use crate::attr::attribute_types::{
     COMMON_NAME, COUNTRY_NAME, EMAIL_ADDRESS, LOCALITY_NAME, ORGANIZATION_NAME,
     ORGANIZATIONAL_UNIT_NAME, STATE_OR_PROVINCE_NAME,
 };
+use crate::name::DirectoryString;
 use crate::name::name::Name;
 use std::alloc::Global;
 use x509_der::{Any, Error, FromAny, ObjectIdentifier};

@@ -37,7 +37,7 @@ fn read_key(key: &[u8]) -> Result<ObjectIdentifier, Error>
     ensures err { IfErr result (λ e. (e.kind ≡ errors.Failed) × ((octets : List ℕ) → KeySays key.now octets → ⊥)) }
 {
     if let Some(row) = key_named(key) {
-        return ObjectIdentifier::from_bytes(row.octets);
+        return Ok(row.oid);
     }
     match str::from_utf8(key) {
         Ok(dotted) => ObjectIdentifier::new(dotted),
@@ -81,7 +81,7 @@ fn read_value(alloc: Global, oid: &ObjectIdentifier, text: &[u8]) -> Result<Any,
         return read_element(alloc, digits);
     }
     let content = unescape(alloc, text)?;
-    Any::from_vec(tag_for(oid.as_bytes()), content)
+    Any::from_vec(tag_for(oid), content)
 }
 
 /// The attribute that a text says: a key, the first equals sign and the value. The key is a name of the table, without
@@ -135,7 +135,7 @@ pub fn write_attribute<W: fmt::Write>(
     ensures { WritesOnOk W.write_str_gives f.old result (attributes.attribute_text oid.now value.now) f.new }
 {
     if let Some(text) = printed_content(value) {
-        if let Some(key) = key_of(oid.as_bytes()) {
+        if let Some(key) = key_of(oid) {
             f.write_str(key.name)?;
             f.write_str("=")?;
             return write_escaped(f, text);

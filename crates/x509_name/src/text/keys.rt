@@ -3,7 +3,13 @@
 ghost use Rattle.std.specs.Prelude.{◌≡◌, map, Some};
 ghost use Rattle.x509_name.specs.Keys as keys;
 
-use x509_der::Tag;
+use crate::attr::attribute_types::{
+    COMMON_NAME, COUNTRY_NAME, DESCRIPTION, DN_QUALIFIER, DOMAIN_COMPONENT, EMAIL_ADDRESS,
+    GENERATION_QUALIFIER, GIVEN_NAME, INITIALS, LOCALITY_NAME, NAME, ORGANIZATION_NAME,
+    ORGANIZATIONAL_UNIT_NAME, POSTAL_CODE, PSEUDONYM, SERIAL_NUMBER, STATE_OR_PROVINCE_NAME,
+    STREET_ADDRESS, SURNAME, TITLE, USER_ID,
+};
+use x509_der::{ObjectIdentifier, Tag};
 
 /// The type of a value that is read from a text.
 #[derive(Clone, Copy, Debug, PartialEq, Eq)]
@@ -31,139 +37,54 @@ impl TextType {
     }
 }
 
-/// A row of the table: the name that is printed, the full name, the content octets of the OID, and the string type of a
-/// value that is read from a text.
+/// A row of the table: the name that is printed, the full name, the OID, and the string type of a value that is read from
+/// a text.
 // A tuple, since contracts can't name a constant of structs that borrow.
-pub type Row = (&'static str, &'static str, &'static [u8], TextType);
+pub type Row = (&'static str, &'static str, ObjectIdentifier, TextType);
 
 /// The attribute types that have a name. Both names are found without regard to ASCII case.
 pub const KEYS: [Row; 21] = [
-    (
-        "CN",
-        "commonName",
-        &[0x55, 0x04, 0x03], // 2.5.4.3
-        TextType::Utf8,
-    ),
-    (
-        "SN",
-        "surname",
-        &[0x55, 0x04, 0x04], // 2.5.4.4
-        TextType::Utf8,
-    ),
+    ("CN", "commonName", COMMON_NAME, TextType::Utf8),
+    ("SN", "surname", SURNAME, TextType::Utf8),
     (
         "SERIALNUMBER",
         "serialNumber",
-        &[0x55, 0x04, 0x05], // 2.5.4.5
+        SERIAL_NUMBER,
         TextType::Printable,
     ),
-    (
-        "C",
-        "countryName",
-        &[0x55, 0x04, 0x06], // 2.5.4.6
-        TextType::Printable,
-    ),
-    (
-        "L",
-        "localityName",
-        &[0x55, 0x04, 0x07], // 2.5.4.7
-        TextType::Utf8,
-    ),
+    ("C", "countryName", COUNTRY_NAME, TextType::Printable),
+    ("L", "localityName", LOCALITY_NAME, TextType::Utf8),
     (
         "ST",
         "stateOrProvinceName",
-        &[0x55, 0x04, 0x08], // 2.5.4.8
+        STATE_OR_PROVINCE_NAME,
         TextType::Utf8,
     ),
-    (
-        "STREET",
-        "streetAddress",
-        &[0x55, 0x04, 0x09], // 2.5.4.9
-        TextType::Utf8,
-    ),
-    (
-        "O",
-        "organizationName",
-        &[0x55, 0x04, 0x0A], // 2.5.4.10
-        TextType::Utf8,
-    ),
+    ("STREET", "streetAddress", STREET_ADDRESS, TextType::Utf8),
+    ("O", "organizationName", ORGANIZATION_NAME, TextType::Utf8),
     (
         "OU",
         "organizationalUnitName",
-        &[0x55, 0x04, 0x0B], // 2.5.4.11
+        ORGANIZATIONAL_UNIT_NAME,
         TextType::Utf8,
     ),
-    (
-        "TITLE",
-        "title",
-        &[0x55, 0x04, 0x0C], // 2.5.4.12
-        TextType::Utf8,
-    ),
-    (
-        "DESCRIPTION",
-        "description",
-        &[0x55, 0x04, 0x0D], // 2.5.4.13
-        TextType::Utf8,
-    ),
-    (
-        "POSTALCODE",
-        "postalCode",
-        &[0x55, 0x04, 0x11], // 2.5.4.17
-        TextType::Utf8,
-    ),
-    (
-        "NAME",
-        "name",
-        &[0x55, 0x04, 0x29], // 2.5.4.41
-        TextType::Utf8,
-    ),
-    (
-        "GIVENNAME",
-        "givenName",
-        &[0x55, 0x04, 0x2A], // 2.5.4.42
-        TextType::Utf8,
-    ),
-    (
-        "INITIALS",
-        "initials",
-        &[0x55, 0x04, 0x2B], // 2.5.4.43
-        TextType::Utf8,
-    ),
+    ("TITLE", "title", TITLE, TextType::Utf8),
+    ("DESCRIPTION", "description", DESCRIPTION, TextType::Utf8),
+    ("POSTALCODE", "postalCode", POSTAL_CODE, TextType::Utf8),
+    ("NAME", "name", NAME, TextType::Utf8),
+    ("GIVENNAME", "givenName", GIVEN_NAME, TextType::Utf8),
+    ("INITIALS", "initials", INITIALS, TextType::Utf8),
     (
         "GENERATIONQUALIFIER",
         "generationQualifier",
-        &[0x55, 0x04, 0x2C], // 2.5.4.44
+        GENERATION_QUALIFIER,
         TextType::Utf8,
     ),
-    (
-        "DNQUALIFIER",
-        "dnQualifier",
-        &[0x55, 0x04, 0x2E], // 2.5.4.46
-        TextType::Utf8,
-    ),
-    (
-        "PSEUDONYM",
-        "pseudonym",
-        &[0x55, 0x04, 0x41], // 2.5.4.65
-        TextType::Utf8,
-    ),
-    (
-        "UID",
-        "userId",
-        &[0x09, 0x92, 0x26, 0x89, 0x93, 0xF2, 0x2C, 0x64, 0x01, 0x01], // 0.9.2342.19200300.100.1.1
-        TextType::Utf8,
-    ),
-    (
-        "DC",
-        "domainComponent",
-        &[0x09, 0x92, 0x26, 0x89, 0x93, 0xF2, 0x2C, 0x64, 0x01, 0x19], // 0.9.2342.19200300.100.1.25
-        TextType::Ia5,
-    ),
-    (
-        "EMAILADDRESS",
-        "emailAddress",
-        &[0x2A, 0x86, 0x48, 0x86, 0xF7, 0x0D, 0x01, 0x09, 0x01], // 1.2.840.113549.1.9.1
-        TextType::Ia5,
-    ),
+    ("DNQUALIFIER", "dnQualifier", DN_QUALIFIER, TextType::Utf8),
+    ("PSEUDONYM", "pseudonym", PSEUDONYM, TextType::Utf8),
+    ("UID", "userId", USER_ID, TextType::Utf8),
+    ("DC", "domainComponent", DOMAIN_COMPONENT, TextType::Ia5),
+    ("EMAILADDRESS", "emailAddress", EMAIL_ADDRESS, TextType::Ia5),
 ];
 
 /// An attribute type that has a name.
@@ -175,8 +96,8 @@ pub struct Key {
     /// The full name.
     pub full_name: &'static str,
 
-    /// The content octets of the OID.
-    pub octets: &'static [u8],
+    /// The OID.
+    pub oid: ObjectIdentifier,
 
     /// The tag of a value that is read from a text.
     pub tag: Tag,
@@ -184,26 +105,26 @@ pub struct Key {
 
 impl Key {
     fn of_row(row: &Row) -> Key
-        ensures { keys.said (Some result) ≡ Some (keys.row row.now.0.now row.now.1.now row.now.2.now row.now.3) }
+        ensures { keys.said (Some result) ≡ Some (keys.row row.now.0.now row.now.1.now row.now.2 row.now.3) }
     {
         Key {
             name: row.0,
             full_name: row.1,
-            octets: row.2,
+            oid: row.2,
             tag: row.3.tag(),
         }
     }
 }
 
 fn is_named(row: &Row, name: &[u8]) -> bool
-    ensures { result ≡ keys.is_named name.now (keys.row row.now.0.now row.now.1.now row.now.2.now row.now.3) }
+    ensures { result ≡ keys.is_named name.now (keys.row row.now.0.now row.now.1.now row.now.2 row.now.3) }
 {
     row.0.as_bytes().eq_ignore_ascii_case(name) || row.1.as_bytes().eq_ignore_ascii_case(name)
 }
 
 // The first row of which the name is one.
 fn find_named(mut rows: &[Row], name: &[u8]) -> Option<Key>
-    ensures { keys.said result ≡ keys.first_where (keys.is_named name.now) (map (λ r. keys.row r.0.now r.1.now r.2.now r.3) rows.entry.now) }
+    ensures { keys.said result ≡ keys.first_where (keys.is_named name.now) (map (λ r. keys.row r.0.now r.1.now r.2 r.3) rows.entry.now) }
 {
     while let [row, rest @ ..] = rows {
         if is_named(row, name) {
@@ -214,12 +135,12 @@ fn find_named(mut rows: &[Row], name: &[u8]) -> Option<Key>
     None
 }
 
-// The first row with the content octets.
-fn find_octets(mut rows: &[Row], octets: &[u8]) -> Option<Key>
-    ensures { keys.said result ≡ keys.first_where (keys.has_octets octets.now) (map (λ r. keys.row r.0.now r.1.now r.2.now r.3) rows.entry.now) }
+// The first row with the OID.
+fn find_oid(mut rows: &[Row], oid: &ObjectIdentifier) -> Option<Key>
+    ensures { keys.said result ≡ keys.first_where (keys.has_octets oid.now) (map (λ r. keys.row r.0.now r.1.now r.2 r.3) rows.entry.now) }
 {
     while let [row, rest @ ..] = rows {
-        if row.2 == octets {
+        if row.2 == *oid {
             return Some(Key::of_row(row));
         }
         rows = rest;
@@ -228,26 +149,26 @@ fn find_octets(mut rows: &[Row], octets: &[u8]) -> Option<Key>
 }
 
 /// The attribute type with the name, without regard to ASCII case.
-#[tactic(auto, unfolding(crate::specs::Keys::key_named, crate::specs::Keys::keys))]
+#[tactic(auto, unfolding(crate::specs::Keys::key_named, crate::specs::AttributeNames::attribute_names, x509_der::specs::Arcs::subidentifier))]
 pub fn key_named(name: &[u8]) -> Option<Key>
     ensures { keys.said result ≡ keys.key_named name.now }
 {
     find_named(&KEYS, name)
 }
 
-/// The attribute type of the OID with the content octets, where it has a name.
-#[tactic(auto, unfolding(crate::specs::Keys::key_of, crate::specs::Keys::keys))]
-pub fn key_of(octets: &[u8]) -> Option<Key>
-    ensures { keys.said result ≡ keys.key_of octets.now }
+/// The attribute type of the OID, where it has a name.
+#[tactic(auto, unfolding(crate::specs::Keys::key_of, crate::specs::AttributeNames::attribute_names, x509_der::specs::Arcs::subidentifier))]
+pub fn key_of(oid: &ObjectIdentifier) -> Option<Key>
+    ensures { keys.said result ≡ keys.key_of oid.now }
 {
-    find_octets(&KEYS, octets)
+    find_oid(&KEYS, oid)
 }
 
 /// The tag of a value that is read from a text: UTF8String for a type without a name.
-pub fn tag_for(octets: &[u8]) -> Tag
-    ensures { result ≡ keys.tag_for octets.now }
+pub fn tag_for(oid: &ObjectIdentifier) -> Tag
+    ensures { result ≡ keys.tag_for oid.now }
 {
-    match key_of(octets) {
+    match key_of(oid) {
         Some(key) => key.tag,
         None => Tag::Utf8String,
     }

@@ -1,9 +1,8 @@
-use Rattle.std.proofs.Common.{◌≡◌, ap, ◌∙◌, ◌<◌, length, inr, subst}
+use Rattle.std.proofs.Common.{◌<◌, length, inr, subst}
 use Rattle.std.proofs.lemmas.Result.{err_from_is_err_and}
 use Rattle.x509_der.specs.Element.{element, limit}
 use Rattle.x509_der.specs.Tag.{octet_of}
 use Rattle.x509_der.specs.declared.tag.Tag.{Tag}
-use Rattle.x509_name.specs.Keys.{tag_for}
 use Rattle.x509_name.proofs.AttributeReading.{content_refused, too_long, weaker_err}
 use Rattle.x509_name.proofs.text.attributes.read_value.Goals as goal
 
@@ -14,8 +13,7 @@ returns-in_err-content-clause-err c =
 
 pub returns-clause-err : goal.returns-clause-err
 returns-clause-err c =
-    let tag : c.tag_for.result ≡ tag_for c.args.oid.now = c.tag_for.ensures ∙ ap tag_for c.as_bytes.ensures.octets in
     weaker_err _ _ c.from_vec.result (λ e long.
     inr (too_long c.args.oid.now c.args.text.now c.in_ok-content.content.items e.kind c.in_default.ensures c.in_ok-content.ensures.ok long.0
-    (subst (λ (t : Tag). limit < length (element (octet_of t) c.in_ok-content.content.items)) tag long.1)))
+    (subst (λ (t : Tag). limit < length (element (octet_of t) c.in_ok-content.content.items)) c.tag_for.ensures long.1)))
     c.from_vec.ensures.err
