@@ -5,7 +5,9 @@ use std::test::*;
 use x509_der::{Error, ErrorKind, SequenceOf};
 use x509_name::attr::AttributeTypeAndValue;
 use x509_name::attr::attribute_types::ORGANIZATIONAL_UNIT_NAME;
-use x509_name::name::{DirectoryString, Name, RdnSequence, RelativeDistinguishedName};
+use x509_name::name::{
+    DirectoryString, Name, RdnSequence, RdnSequenceIter, RelativeDistinguishedName,
+};
 use x509_prim::Utf8StringRef;
 
 /// The organization 123 and the common name JOHN SMITH, in this order since the first is shorter.
@@ -65,6 +67,35 @@ fn keys_in_order(rt: HostRuntime) -> Result<(), Fail> {
 #[test]
 fn sequences(rt: HostRuntime) -> Result<(), Fail> {
     assert!(rt; is_pushed(&rt, "CN=a")?);
+    Ok(())
+}
+
+/// Whether the RDN says before its first attribute that it has so many.
+fn has_attributes(rdn: &RelativeDistinguishedName, count: usize) -> bool {
+    rdn.iter().size_hint() == (count, Some(count))
+}
+
+/// Whether the iterator says that so many RDNs are left.
+fn has_left(rdns: &RdnSequenceIter<'_>, count: usize) -> bool {
+    rdns.size_hint() == (count, Some(count))
+}
+
+/// Whether the name of the text has two RDNs, the first of so many attributes, and its iterators say so.
+fn has_two(rt: &HostRuntime, text: &str, attributes: usize) -> Result<bool, Error> {
+    let name = Name::from_str(rt.alloc(), text)?;
+    let mut rdns = name.iter_rdn();
+    let is_whole = has_left(&rdns, 2);
+    let is_first = match rdns.next() {
+        Some(first) => has_attributes(first, attributes),
+        None => false,
+    };
+    Ok(is_whole && is_first && has_left(&rdns, 1))
+}
+
+#[test]
+fn hints_of_size(rt: HostRuntime) -> Result<(), Fail> {
+    assert!(rt; has_two(&rt, "CN=a,O=b", 1)?);
+    assert!(rt; has_two(&rt, "CN=a,O=b+OU=c", 2)?);
     Ok(())
 }
 

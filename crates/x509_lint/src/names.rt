@@ -43,6 +43,7 @@ fn is_country(value: &Any) -> bool
 }
 
 /// Whether the attribute is a countryName whose value is none.
+#[tactic(auto, unfolding(x509_der::specs::Arcs::subidentifier))]
 fn is_no_country(attribute: &AttributeTypeAndValue) -> bool
     ensures { result ≡ is_no_country attribute.now }
 {

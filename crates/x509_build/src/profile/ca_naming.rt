@@ -3,12 +3,12 @@
 ghost use Rattle.std.specs.Prelude.{◌≡◌};
 ghost use Rattle.x509_build.specs.CaNaming.{IsCaName, has_ca_types, is_ca_type};
 
-use crate::profile::attribute_types::{POSTAL_CODE, STREET_ADDRESS};
 use crate::profile::encoding::{check_names_encoding, has_type};
 use crate::{Error, Result};
 use x509_der::ObjectIdentifier;
 use x509_name::attr::attribute_types::{
-    COMMON_NAME, COUNTRY_NAME, LOCALITY_NAME, ORGANIZATION_NAME, STATE_OR_PROVINCE_NAME,
+    COMMON_NAME, COUNTRY_NAME, LOCALITY_NAME, ORGANIZATION_NAME, POSTAL_CODE,
+    STATE_OR_PROVINCE_NAME, STREET_ADDRESS,
 };
 use x509_name::name::{Name, RelativeDistinguishedName};
 

@@ -20,8 +20,8 @@ use x509_der::{Error as DerError, ObjectIdentifier, TryClone};
 use x509_ext::Extension;
 use x509_ext::pkix::KeyUsages;
 use x509_ext::pkix::name::GeneralNames;
-use x509_name::laws::attributes_make_the_rdn;
 use x509_name::attr::attribute_types::{COMMON_NAME, COUNTRY_NAME};
+use x509_name::laws::attributes_make_the_rdn;
 use x509_name::name::{Name, RdnSequence, RelativeDistinguishedName};
 
 /// The profile of a subordinate certification authority for TLS (Baseline Requirements 7.1.2.6).
