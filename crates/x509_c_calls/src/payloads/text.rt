@@ -6,18 +6,27 @@ ghost use Rattle.x509_c_calls.specs.Texts.{IsSerialText, IsTimeText};
 ghost use Rattle.x509_c_calls.specs.Status.{Fills};
 ghost use Rattle.x509_c_calls.specs.declared.status.status.Status.TheVariants.{Refused};
 ghost use Rattle.x509_der.specs.declared.error.ErrorKind.TheVariants.{Memory};
+ghost use Rattle.x509_prim.specs.Integer.{is_integer};
 
 use crate::{Status, fill};
 use std::alloc::Global;
 use std::time::Duration;
 use x509_base::{DateTime, Raw, SerialNumber};
 use x509_der::{Decode, ErrorKind, Tag};
+use x509_prim::Int;
 
-/// Puts the hex text of the serial number that has these content octets at the front of the room, as `12:34:AB`. `Malformed` exactly where they are those of no INTEGER.
+/// Puts the hex text of the serial number that has these content octets at the front of the room, as `12:34:AB`. `Malformed` exactly where they are those of no INTEGER, and `Memory` only
+/// where they are those of one.
 #[tactic(auto, unfolding(crate::specs::Status::Fills))]
 pub fn serial_text(alloc: Global, content: &[u8], room: &mut [u8], written: &mut usize) -> Status
-    ensures { Fills (λ answer. IsSerialText content.now answer) room.old room.new written.old written.new result }
+    ensures filled { Fills (λ answer. IsSerialText content.now answer) room.old room.new written.old written.new result }
+    ensures memory { result ≡ Refused Memory → is_integer content.now ≡ true }
 {
+    if let Err(e) = Int::new(alloc, content)
+        && e.kind() == ErrorKind::Value
+    {
+        return Status::Refused(ErrorKind::Malformed);
+    }
     let serial = match <SerialNumber<Raw> as Decode>::read(alloc, Tag::Integer.octet(), content) {
         Ok(serial) => serial,
         Err(e) => return e.into(),

@@ -1,7 +1,8 @@
 //! Decoding a value.
 
-ghost use Rattle.std.specs.Prelude.{◌≡◌, ◌≤◌, ◌⊎◌, length, MatchResult};
+ghost use Rattle.std.specs.Prelude.{◌≡◌, ◌≤◌, ◌⊎◌, length, IfErr, MatchResult};
 ghost use Rattle.x509_c_calls.specs.Calls.{Checks};
+ghost use Rattle.x509_c_calls.specs.declared.status.status.Status.TheVariants.{Refused};
 ghost use Rattle.x509_der.specs.Element.{limit};
 ghost use Rattle.x509_der.specs.declared.error.ErrorKind.TheVariants.{Memory};
 ghost use Rattle.x509_types.specs.Reencoding.{IsRefused};
@@ -15,10 +16,11 @@ use x509_der::{Decode, ErrorKind};
 ///
 /// # Errors
 ///
-/// As [`Decode::from_der`]; `Memory` when out of memory.
+/// As [`Decode::from_der`]; `Memory` when out of memory, only where decoding the type may take memory.
 #[tactic(auto, unfolding(crate::specs::Calls::Reads))]
 pub fn check<T: Decode + Drop>(alloc: Global, input: &[u8]) -> Status
-    ensures { Checks T.form T.refuses input.now result }
+    ensures read { Checks T.form T.refuses input.now result }
+    ensures memory { result ≡ Refused Memory → T.wants_memory ⊎ T.refuses Memory }
 {
     match T::from_der(alloc, input) {
         Ok(_) => Status::Done,
@@ -30,9 +32,10 @@ pub fn check<T: Decode + Drop>(alloc: Global, input: &[u8]) -> Status
 ///
 /// # Errors
 ///
-/// As [`Decode::from_der`]; `Memory` when out of memory.
+/// As [`Decode::from_der`]; `Memory` when out of memory, only where decoding the type may take memory.
 pub fn read<T: Decode>(alloc: Global, input: &[u8]) -> Result<T, ErrorKind>
-    ensures { MatchResult result (λ value. Spells T.form value input.now) (λ e. ((e ≡ Memory) × (length input.now ≤ limit)) ⊎ IsRefused T.form T.refuses input.now e) }
+    ensures found { MatchResult result (λ value. Spells T.form value input.now) (λ e. ((e ≡ Memory) × (length input.now ≤ limit)) ⊎ IsRefused T.form T.refuses input.now e) }
+    ensures memory { IfErr result (λ e. e ≡ Memory → T.wants_memory ⊎ T.refuses Memory) }
 {
     match T::from_der(alloc, input) {
         Ok(value) => Ok(value),
