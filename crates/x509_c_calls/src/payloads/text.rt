@@ -1,11 +1,11 @@
 //! Texts of serial numbers and of times.
 
-ghost use Rattle.std.specs.Prelude.{◌≡◌, ◌≤◌};
+ghost use Rattle.std.specs.Prelude.{◌≡◌, ◌≤◌, ◌⊎◌, true, false, IfOk, IfErr};
 ghost use Rattle.x509_base.specs.CivilTime.{last_date_time, unix_seconds};
 ghost use Rattle.x509_c_calls.specs.Texts.{IsSerialText, IsTimeText};
 ghost use Rattle.x509_c_calls.specs.Status.{Fills};
 ghost use Rattle.x509_c_calls.specs.declared.status.status.Status.TheVariants.{Refused};
-ghost use Rattle.x509_der.specs.declared.error.ErrorKind.TheVariants.{Memory};
+ghost use Rattle.x509_der.specs.declared.error.ErrorKind.TheVariants.{Malformed, Memory};
 ghost use Rattle.x509_prim.specs.Integer.{is_integer};
 
 use crate::{Status, fill};
@@ -15,6 +15,30 @@ use x509_base::{DateTime, Raw, SerialNumber};
 use x509_der::{Decode, ErrorKind, Tag};
 use x509_prim::Int;
 
+/// Checks that the octets are the content octets of an INTEGER: else `Malformed`, and `Memory` only where they are.
+fn check_integer(alloc: Global, content: &[u8]) -> Result<(), ErrorKind>
+    ensures ok { IfOk result (λ done. is_integer content.now ≡ true) }
+    ensures err { IfErr result (λ e. ((e ≡ Memory) × (is_integer content.now ≡ true)) ⊎ ((e ≡ Malformed) × (is_integer content.now ≡ false))) }
+{
+    match Int::new(alloc, content) {
+        Ok(_) => Ok(()),
+        Err(e) if e.kind() == ErrorKind::Value => Err(ErrorKind::Malformed),
+        Err(_) => Err(ErrorKind::Memory),
+    }
+}
+
+/// The serial number that has these content octets. Refused as by [`check_integer`].
+fn serial_number(alloc: Global, content: &[u8]) -> Result<SerialNumber<Raw>, ErrorKind>
+    ensures ok { IfOk result (λ serial. (serial ≡ content.now) × (is_integer content.now ≡ true)) }
+    ensures err { IfErr result (λ e. ((e ≡ Memory) × (is_integer content.now ≡ true)) ⊎ ((e ≡ Malformed) × (is_integer content.now ≡ false))) }
+{
+    check_integer(alloc, content)?;
+    match <SerialNumber<Raw> as Decode>::read(alloc, Tag::Integer.octet(), content) {
+        Ok(serial) => Ok(serial),
+        Err(e) => Err(e.kind()),
+    }
+}
+
 /// Puts the hex text of the serial number that has these content octets at the front of the room, as `12:34:AB`. `Malformed` exactly where they are those of no INTEGER, and `Memory` only
 /// where they are those of one.
 #[tactic(auto, unfolding(crate::specs::Status::Fills))]
@@ -22,14 +46,9 @@ pub fn serial_text(alloc: Global, content: &[u8], room: &mut [u8], written: &mut
     ensures filled { Fills (λ answer. IsSerialText content.now answer) room.old room.new written.old written.new result }
     ensures memory { result ≡ Refused Memory → is_integer content.now ≡ true }
 {
-    if let Err(e) = Int::new(alloc, content)
-        && e.kind() == ErrorKind::Value
-    {
-        return Status::Refused(ErrorKind::Malformed);
-    }
-    let serial = match <SerialNumber<Raw> as Decode>::read(alloc, Tag::Integer.octet(), content) {
+    let serial = match serial_number(alloc, content) {
         Ok(serial) => serial,
-        Err(e) => return e.into(),
+        Err(e) => return Status::Refused(e),
     };
     match serial.to_string(alloc) {
         Ok(text) => fill(text.as_str().as_bytes(), room, written),
