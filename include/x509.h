@@ -687,10 +687,11 @@ typedef struct {
  * isn't one of version 1, with known algorithms and nothing behind it.
  * Answers X509_OK, X509_MEMORY, X509_MALFORMED. */
 x509_status x509_timestamp_view(const uint8_t *in, size_t len, x509_timestamp *view);
+
 /* ---- building
  *
- * A CSR is built in two steps, since the private key stays with the caller: x509_build_request writes the bytes to be signed, the caller signs them, and x509_assemble puts them
- * and the signature together, also those of a certificate or a CRL that were made elsewhere. That the signature is one of these bytes isn't checked.
+ * A certificate, a CRL and a CSR are built in two steps, since the private key stays with the caller: x509_build_certificate, x509_build_crl and x509_build_request write the bytes to
+ * be signed, the caller signs them, and x509_assemble puts them and the signature together. That the signature is one of these bytes isn't checked.
  *
  * Names are whole Names, as x509_name_from_text writes them; keys are SubjectPublicKeyInfo and algorithms AlgorithmIdentifier, in DER. A list of extensions or
  * attributes is given as the encodings of its members one after the other, as x509_extension_encode writes them; a length of 0 is the empty list. Where several inputs are bad, any of
@@ -713,6 +714,25 @@ x509_status x509_crl_entry_encode(const uint8_t *serial_number, size_t serial_nu
  * Answers X509_OK, X509_ROOM, X509_MEMORY, X509_OVERLENGTH, X509_MALFORMED, X509_SET_DUPLICATE. */
 x509_status x509_build_request(const uint8_t *subject, size_t subject_len, const uint8_t *key, size_t key_len, const uint8_t *attributes, size_t attributes_len,
                                const uint8_t *extensions, size_t extensions_len, uint8_t *out, size_t room, size_t *written);
+
+/* Writes the bytes to be signed of a certificate (TBSCertificate, RFC 5280 4.1): with that serial number (the DER encoding of an INTEGER), for a signature by that algorithm, by that
+ * issuer, from the one moment to the other, which are UTCTime through 2049 and else GeneralizedTime, for that subject and key, and with these extensions in their order. It is of v3
+ * where there are extensions, else of v1, and has no unique identifiers. That the certificate keeps the further rules of RFC 5280 isn't looked at. X509_VALUE where a date is after
+ * 9999-12-31T23:59:59Z.
+ * Answers X509_OK, X509_ROOM, X509_MEMORY, X509_OVERLENGTH, X509_MALFORMED, X509_VALUE. */
+x509_status x509_build_certificate(const uint8_t *serial_number, size_t serial_number_len, const uint8_t *algorithm, size_t algorithm_len,
+                                   const uint8_t *issuer, size_t issuer_len, uint64_t not_before, uint64_t not_after, const uint8_t *subject, size_t subject_len,
+                                   const uint8_t *key, size_t key_len, const uint8_t *extensions, size_t extensions_len, uint8_t *out, size_t room, size_t *written);
+
+/* Writes the bytes to be signed of a CRL of v2 (TBSCertList, RFC 5280 5.1.2): issued at that time by the subject of the issuer's certificate, for a signature by that
+ * algorithm, with that next update where `has_next_update` isn't 0, with these entries, and with these extensions behind two: the CRL number, whose octets stand most
+ * significant first, and the AKI, which is the SKI in the issuer's certificate, and where that has none, the SHA-1 digest of its public key (RFC 5280 4.2.1.2).
+ * `issuer` is a certificate, and entries are given as extensions are, as x509_crl_entry_encode writes them. X509_FAILED where the issuer's certificate has two SKIs;
+ * X509_VALUE where the number has no octets, or a time is after 9999-12-31T23:59:59Z.
+ * Answers X509_OK, X509_ROOM, X509_MEMORY, X509_OVERLENGTH, X509_MALFORMED, X509_FAILED, X509_VALUE. */
+x509_status x509_build_crl(const uint8_t *issuer, size_t issuer_len, const uint8_t *algorithm, size_t algorithm_len, const uint8_t *number, size_t number_len,
+                           uint64_t this_update, uint32_t has_next_update, uint64_t next_update, const uint8_t *entries, size_t entries_len,
+                           const uint8_t *extensions, size_t extensions_len, uint8_t *out, size_t room, size_t *written);
 
 /* Writes the certificate, the CRL or the CSR of a signed part, an algorithm and a signature (its octets, all bits of which are used): SEQUENCE { part, algorithm, BIT STRING }, in
  * which the bytes of the part and of the algorithm stand as they are. X509_FAILED where the part is that of a certificate or of a CRL with another algorithm inside

@@ -811,6 +811,83 @@ static void built_requests(void)
     WANT(WROTE(x509_assemble(BYTES(REQUEST), BYTES(ALGORITHM), BYTES("*"), room, sizeof room, &written), "\x30\x34" REQUEST ALGORITHM "\x03\x02\x00*"));
 }
 
+/* CN=a, a moment in UTCTime and one a month later, and a certificate of CN=a with them, for that key, whose SKI is ab:cd, with a signature of no bits. */
+#define ISSUER "\x30\x0c\x31\x0a\x30\x08\x06\x03\x55\x04\x03\x0c\x01" "a"
+#define THIS_UPDATE "\x17\x0d" "260102030405Z"
+#define NEXT_UPDATE "\x17\x0d" "260202030405Z"
+#define SKI "\x30\x0b\x06\x03\x55\x1d\x0e\x04\x04\x04\x02\xab\xcd"
+#define VALIDITY "\x30\x1e" THIS_UPDATE NEXT_UPDATE
+#define CERTIFICATE_PART "\x30\x6b\xa0\x03\x02\x01\x02\x02\x01\x01" ALGORITHM ISSUER VALIDITY ISSUER KEY "\xa3\x0f\x30\x0d" SKI
+#define ISSUER_CERTIFICATE "\x30\x77" CERTIFICATE_PART ALGORITHM "\x03\x01\x00"
+/* The same part without extensions, of v1, and with the last moment of 9999 as its end. */
+#define BARE_PART "\x30\x55\x02\x01\x01" ALGORITHM ISSUER VALIDITY ISSUER KEY
+#define LONG_PART "\x30\x57\x02\x01\x01" ALGORITHM ISSUER "\x30\x20" THIS_UPDATE "\x18\x0f" "99991231235959Z" ISSUER KEY
+/* The number 7 and that AKI as extensions of a CRL, an entry, and the bytes to be signed of a CRL with them, and without the entry and the next update
+ * (RFC 5280 5.1.2, 5.2). */
+#define CRL_EXTENSIONS "\x30\x0a\x06\x03\x55\x1d\x14\x04\x03\x02\x01\x07" "\x30\x0d\x06\x03\x55\x1d\x23\x04\x06\x30\x04\x80\x02\xab\xcd"
+#define ENTRY "\x30\x12\x02\x01\x05" THIS_UPDATE
+#define CRL "\x30\x6b\x02\x01\x01" ALGORITHM ISSUER THIS_UPDATE NEXT_UPDATE "\x30\x14" ENTRY "\xa0\x1d\x30\x1b" CRL_EXTENSIONS
+#define EMPTY_CRL "\x30\x46\x02\x01\x01" ALGORITHM ISSUER THIS_UPDATE "\xa0\x1d\x30\x1b" CRL_EXTENSIONS
+/* The delta CRL indicator 3, critical (RFC 5280 5.2.4), and the bytes to be signed with it. */
+#define DELTA "\x30\x0d\x06\x03\x55\x1d\x1b\x01\x01\xff\x04\x03\x02\x01\x03"
+#define DELTA_CRL "\x30\x55\x02\x01\x01" ALGORITHM ISSUER THIS_UPDATE "\xa0\x2c\x30\x2a" CRL_EXTENSIONS DELTA
+
+enum { MOMENT = 1767323045, A_MONTH_LATER = 1770001445 };
+
+/* The bytes to be signed of a CRL by that issuer; it has a next update where that isn't 0. */
+static x509_status build_crl(const char *number, size_t number_len, uint64_t next_update, const char *entries, size_t entries_len, const char *extensions,
+                             size_t extensions_len)
+{
+    return x509_build_crl(BYTES(ISSUER_CERTIFICATE), BYTES(ALGORITHM), (const uint8_t *)number, number_len, MOMENT, next_update != 0, next_update,
+                          (const uint8_t *)entries, entries_len, (const uint8_t *)extensions, extensions_len, room, sizeof room, &written);
+}
+
+/* The bytes to be signed of the certificate of CN=a with that serial number, until then, and with these extensions. */
+static x509_status build_certificate(const char *number, size_t number_len, uint64_t not_after, const char *extensions, size_t extensions_len)
+{
+    return x509_build_certificate((const uint8_t *)number, number_len, BYTES(ALGORITHM), BYTES(ISSUER), MOMENT, not_after, BYTES(ISSUER), BYTES(KEY),
+                                  (const uint8_t *)extensions, extensions_len, room, sizeof room, &written);
+}
+
+static void built_certificates(void)
+{
+    WANT(WROTE(build_certificate("\x02\x01\x01", 3, A_MONTH_LATER, SKI, sizeof SKI - 1), CERTIFICATE_PART));
+    WANT(WROTE(build_certificate("\x02\x01\x01", 3, A_MONTH_LATER, "", 0), BARE_PART));
+    WANT(WROTE(build_certificate("\x02\x01\x01", 3, 253402300799, "", 0), LONG_PART));
+    WANT(WROTE(x509_assemble(BYTES(CERTIFICATE_PART), BYTES(ALGORITHM), nothing, 0, room, sizeof room, &written), ISSUER_CERTIFICATE));
+    WANT(x509_build_certificate(BYTES("\x02\x01\x01"), BYTES(ALGORITHM), BYTES(ISSUER), MOMENT, A_MONTH_LATER, BYTES(ISSUER), BYTES(KEY), nothing, 0, room, 3,
+                                &written) == X509_ROOM && written == sizeof BARE_PART - 1);
+    written = 77;
+    WANT(build_certificate("\x02\x01\x01", 3, 253402300800, "", 0) == X509_VALUE && written == 77);
+    WANT(build_certificate("\x02\x00", 2, A_MONTH_LATER, "", 0) == X509_MALFORMED && written == 77);
+    WANT(build_certificate("\x02\x01\x01", 3, A_MONTH_LATER, SKI, sizeof SKI - 2) == X509_MALFORMED && written == 77);
+    WANT(x509_build_certificate(BYTES("\x02\x01\x01"), BYTES(ALGORITHM), BYTES(KEY), MOMENT, A_MONTH_LATER, BYTES(ISSUER), BYTES(KEY), nothing, 0, room, sizeof room,
+                                &written) == X509_MALFORMED && written == 77);
+    WANT(x509_build_certificate(BYTES("\x02\x01\x01"), BYTES(ALGORITHM), BYTES(ISSUER), MOMENT, A_MONTH_LATER, BYTES(ISSUER), BYTES(ISSUER), nothing, 0, room,
+                                sizeof room, &written) == X509_MALFORMED && written == 77);
+}
+
+static void built_crls(void)
+{
+    const uint64_t too_late = 253402300800;
+    WANT(x509_certificate_check(BYTES(ISSUER_CERTIFICATE)) == X509_OK);
+    WANT(WROTE(build_crl("\x07", 1, A_MONTH_LATER, ENTRY, sizeof ENTRY - 1, "", 0), CRL));
+    WANT(WROTE(build_crl("\x00\x07", 2, 0, "", 0, "", 0), EMPTY_CRL));
+    WANT(WROTE(build_crl("\x07", 1, 0, "", 0, DELTA, sizeof DELTA - 1), DELTA_CRL));
+    WANT(WROTE(x509_assemble(BYTES(EMPTY_CRL), BYTES(ALGORITHM), nothing, 0, room, sizeof room, &written), "\x30\x52" EMPTY_CRL ALGORITHM "\x03\x01\x00"));
+    WANT(x509_crl_check(room, written) == X509_OK);
+    WANT(x509_build_crl(BYTES(ISSUER_CERTIFICATE), BYTES(ALGORITHM), BYTES("\x07"), MOMENT, 0, too_late, nothing, 0, nothing, 0, room, sizeof EMPTY_CRL - 2,
+                        &written) == X509_ROOM && written == sizeof EMPTY_CRL - 1);
+    written = 77;
+    WANT(build_crl("", 0, 0, "", 0, "", 0) == X509_VALUE && written == 77);
+    WANT(build_crl("\x07", 1, too_late, "", 0, "", 0) == X509_VALUE && written == 77);
+    WANT(build_crl("\x07", 1, 0, "\x30", 1, "", 0) == X509_MALFORMED && written == 77);
+    WANT(build_crl("\x07", 1, 0, "", 0, ENTRY, sizeof ENTRY - 1) == X509_MALFORMED && written == 77);
+    WANT(x509_build_crl(BYTES(ISSUER), BYTES(ALGORITHM), BYTES("\x07"), MOMENT, 0, 0, nothing, 0, nothing, 0, room, sizeof room, &written) == X509_MALFORMED);
+    WANT(x509_build_crl(BYTES(ISSUER_CERTIFICATE), BYTES("\x05\x00"), BYTES("\x07"), MOMENT, 0, 0, nothing, 0, nothing, 0, room, sizeof room, &written)
+         == X509_MALFORMED && written == 77);
+}
+
 /* Whether what is signed, taken apart, is put together again as it was; and not with another algorithm, which `other` says. */
 static void reassembled(const uint8_t *whole, size_t len, x509_status other)
 {
@@ -874,6 +951,8 @@ int main(int argc, char **argv)
     texts();
     members();
     built_requests();
+    built_certificates();
+    built_crls();
     if (failures == 0)
         printf("all calls answer as they should\n");
     return failures != 0;

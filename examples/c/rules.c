@@ -95,6 +95,8 @@ static void no_pointers(void)
     WANT(x509_extension_encode(NULL, 0, 0, NULL, 0, NULL, 0, &written) == X509_MALFORMED && written == 77);
     WANT(x509_crl_entry_encode(NULL, 0, MOMENT, NULL, 0, NULL, 0, &written) == X509_MALFORMED && written == 77);
     WANT(x509_build_request(NULL, 0, NULL, 0, NULL, 0, NULL, 0, NULL, 0, &written) == X509_MALFORMED && written == 77);
+    WANT(x509_build_certificate(NULL, 0, NULL, 0, NULL, 0, MOMENT, MOMENT, NULL, 0, NULL, 0, NULL, 0, NULL, 0, &written) == X509_MALFORMED && written == 77);
+    WANT(x509_build_crl(NULL, 0, NULL, 0, NULL, 0, MOMENT, 0, 0, NULL, 0, NULL, 0, NULL, 0, &written) == X509_MALFORMED && written == 77);
 }
 
 /* What the calls on payloads and names fill in, with what stands in it before. */

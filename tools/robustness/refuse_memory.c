@@ -72,7 +72,7 @@ static void wrong(const char *what, long number)
 
 /* ---- each call */
 
-enum { CALLS = 31 };
+enum { CALLS = 32 };
 
 static uint8_t certificate[65536], list[65536], request[65536], room[65536];
 static size_t certificate_len, list_len, request_len;
@@ -98,10 +98,11 @@ static size_t count, at;
 /* A value that stands in the source, with its length. */
 #define BYTES(text) (const uint8_t *)(text), sizeof(text) - 1
 
-/* A key `abc` of the algorithm 1.2.3.4, that algorithm, an extension, and the signed part of a CSR for the key. */
+/* A key `abc` of the algorithm 1.2.3.4, that algorithm, an extension, an entry of a CRL, and the signed part of a CSR for the key. */
 #define ALGORITHM "\x30\x05\x06\x03\x2a\x03\x04"
 #define KEY "\x30\x0d" ALGORITHM "\x03\x04\x00" "abc"
 #define EXTENSION "\x30\x08\x06\x02\x2a\x03\x04\x02\x05\x00"
+#define ENTRY "\x30\x12\x02\x01\x05\x17\x0d" "260102030405Z"
 #define REQUEST "\x30\x27\x02\x01\x00\x30\x00" KEY "\xa0\x11\x30\x0f\x06\x09\x2a\x86\x48\x86\xf7\x0d\x01\x09\x0e\x31\x02\x30\x00"
 
 static x509_status call(int number)
@@ -174,6 +175,9 @@ static x509_status call(int number)
         return x509_build_request(BYTES("\x30\x00"), BYTES(KEY), BYTES("\x30\x08\x06\x02\x2a\x03\x31\x02\x05\x00"), BYTES(EXTENSION), room, sizeof room, &count);
     case 29:
         return x509_assemble(BYTES(REQUEST), BYTES(ALGORITHM), BYTES("aaaaaaaaaaaaaaaaaaaaaaaaaaaaaa"), room, sizeof room, &count);
+    case 30:
+        return x509_build_crl(certificate, certificate_len, BYTES(ALGORITHM), BYTES("\x07"), 1767323045, 1, 1770001445, BYTES(ENTRY), BYTES(EXTENSION),
+                              room, sizeof room, &count);
     default:
         /* in the first second of the validity */
         return x509_path_check(certificate, certificate_len, certificate, certificate_len, &certificate_len, 1, 1767323045, &fault);

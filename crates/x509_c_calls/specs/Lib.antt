@@ -17,6 +17,7 @@ pub mod Refusals
 pub mod Requests
 pub mod BuildMembers
 pub mod Lists
+pub mod Certificates
 pub mod Status
 pub mod Calls
 pub mod Place

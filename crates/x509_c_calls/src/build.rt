@@ -1,7 +1,8 @@
-//! What C calls to build: the bytes to be signed of CSRs, as the builder makes them for a signer elsewhere, encodings
+//! What C calls to build: the bytes to be signed of certificates, CRLs and CSRs, for a signer elsewhere, encodings
 //! of extensions and of entries of CRLs, and the whole of a signed part, an algorithm and a signature.
 
 mod assembly;
+mod certificate;
 mod encode;
 mod input;
 mod list;
@@ -10,6 +11,7 @@ mod signed;
 mod teller;
 
 pub use assembly::assemble;
+pub use certificate::build_certificate;
 pub use encode::{entry_encode, extension_encode};
 pub use list::build_crl;
 pub use request::build_request;

@@ -16,7 +16,9 @@ mod sct;
 mod status;
 
 pub use anchor::{AnchorView, PathControlsView};
-pub use build::{assemble, build_crl, build_request, entry_encode, extension_encode};
+pub use build::{
+    assemble, build_certificate, build_crl, build_request, entry_encode, extension_encode,
+};
 pub use certificate::{
     CertificateView, ExtensionView, SignatureView, certificate_extension, certificate_signature,
     certificate_view, is_written, seconds,

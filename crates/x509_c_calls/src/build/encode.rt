@@ -1,18 +1,17 @@
 //! Encodings of extensions and of entries of CRLs.
 
 ghost use Rattle.std.specs.Prelude.{◌≡◌, ◌⊎◌, MatchResult};
-ghost use Rattle.x509_c_calls.specs.Input.{unless_empty};
 ghost use Rattle.x509_c_calls.specs.BuildMembers.{EncodesEntry, EncodesExtension, IsEntryOf, IsExtensionOf, RefusesEntry, RefusesExtension};
 ghost use Rattle.x509_c_calls.specs.Status.{Fills};
 ghost use Rattle.x509_der.specs.declared.error.ErrorKind.TheVariants.{Memory};
 
-use crate::build::input::{read_each, time_at};
+use crate::build::input::{read_each, time_at, unless_empty};
 use crate::{Status, read, write};
 use std::alloc::Global;
 use x509_base::{Rfc5280, SerialNumber};
 use x509_cert::crl::RevokedCert;
 use x509_der::{Error, ErrorKind, ObjectIdentifier};
-use x509_ext::{Extension, Extensions};
+use x509_ext::Extension;
 use x509_prim::OctetString;
 
 /// The extension with an OID of these content octets, which holds those octets.
@@ -68,17 +67,6 @@ fn entry_of(
         revocation_date,
         crl_entry_extensions: unless_empty(members),
     })
-}
-
-/// The extensions, unless there are none.
-fn unless_empty(members: Vec<Extension>) -> Option<Extensions>
-    ensures { result ≡ unless_empty members.items }
-{
-    if members.is_empty() {
-        None
-    } else {
-        Some(Extensions::from(members))
-    }
 }
 
 /// Puts the encoding of an entry of a CRL at the front of the buffer `room` (RFC 5280 5.1.2.6): of the certificate with that serial number, the encoding

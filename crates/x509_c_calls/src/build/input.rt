@@ -3,13 +3,14 @@
 ghost use Rattle.std.specs.Prelude.{◌≡◌, ◌⊎◌, ◌<◌, MatchResult};
 ghost use Rattle.x509_base.specs.CivilTime.{last_date_time, unix_seconds};
 ghost use Rattle.x509_base.specs.Time.{IsTimeAt};
-ghost use Rattle.x509_c_calls.specs.Input.{RefusesEach, SpellEach};
+ghost use Rattle.x509_c_calls.specs.Input.{RefusesEach, SpellEach, unless_empty};
 ghost use Rattle.x509_der.specs.declared.error.ErrorKind.TheVariants.{Memory, Value};
 
 use std::alloc::Global;
 use std::time::Duration;
 use x509_base::{DateTime, Time};
 use x509_der::{Decode, ErrorKind, read_members};
+use x509_ext::{Extension, Extensions};
 
 /// The values whose encodings the bytes are, one after the other.
 ///
@@ -38,5 +39,16 @@ pub(crate) fn time_at(seconds: u64) -> Result<Time, ErrorKind>
     match DateTime::from_unix_duration(Duration::from_secs(seconds)) {
         Ok(moment) => Ok(Time::from(moment)),
         Err(e) => Err(e.kind()),
+    }
+}
+
+/// The extensions, unless there are none.
+pub(crate) fn unless_empty(members: Vec<Extension>) -> Option<Extensions>
+    ensures { result ≡ unless_empty members.items }
+{
+    if members.is_empty() {
+        None
+    } else {
+        Some(Extensions::from(members))
     }
 }
