@@ -75,10 +75,10 @@ typedef struct {
 x509_status x509_reencode(const uint8_t *name, size_t name_len, uint32_t profile, const uint8_t *in, size_t len,
                           uint8_t *out, size_t room, size_t *written);
 
-/* Apart from X509_MEMORY, X509_OK exactly where the bytes are one certificate, CRL or CSR (PKCS #10 request), with nothing after it. The value
- * is decoded and freed. Certificates and CRLs are decoded under the rules of RFC 5280: a serial number has at most 21 content octets. Dates are
- * from 1970 on, as said above. Whether a date is past, signatures, trust, and the values of extensions aren't checked.
- * Answers X509_OK, X509_MEMORY, X509_OVERLENGTH, X509_MALFORMED. */
+/* X509_OK exactly where the bytes are one certificate, CRL or CSR (PKCS #10 request), with nothing after it. Certificates and CRLs are checked
+ * under the rules of RFC 5280: a serial number has at most 21 content octets. Dates are from 1970 on, as said above. Whether a date is past,
+ * signatures, trust, and the values of extensions aren't checked. No value is made, and no memory is taken.
+ * Answers X509_OK, X509_OVERLENGTH, X509_MALFORMED. */
 x509_status x509_certificate_check(const uint8_t *in, size_t len);
 x509_status x509_crl_check(const uint8_t *in, size_t len);
 x509_status x509_request_check(const uint8_t *in, size_t len);
@@ -118,7 +118,8 @@ typedef struct {
     uint64_t not_after;
 } x509_certificate;
 
-/* Decodes a certificate under RFC 5280, and says what it holds and where. Answers as x509_certificate_check. */
+/* Decodes a certificate under RFC 5280, and says what it holds and where.
+ * Answers X509_OK, X509_MEMORY, X509_OVERLENGTH, X509_MALFORMED. */
 x509_status x509_certificate_view(const uint8_t *in, size_t len, x509_certificate *view);
 
 typedef struct {
@@ -428,7 +429,8 @@ typedef struct {
     uint32_t unused_bits;  /* how many bits of the last of these octets are unused, 0 to 7 */
 } x509_signature;
 
-/* Decodes a certificate under RFC 5280, and says what is to be verified of it. Answers as x509_certificate_check. */
+/* Decodes a certificate under RFC 5280, and says what is to be verified of it.
+ * Answers X509_OK, X509_MEMORY, X509_OVERLENGTH, X509_MALFORMED. */
 x509_status x509_certificate_signature(const uint8_t *in, size_t len, x509_signature *signature);
 
 /* What is wrong with a certificate of a path. Of several faults of one certificate the one with the lowest number is reported. */
@@ -476,7 +478,8 @@ x509_status x509_path_check(const uint8_t *anchor, size_t anchor_len, const uint
 
 /* ---- CRLs */
 
-/* Decodes a CRL of v1 or v2 under RFC 5280, and says how many entries it has. Answers as x509_crl_check. */
+/* Decodes a CRL of v1 or v2 under RFC 5280, and says how many entries it has.
+ * Answers X509_OK, X509_MEMORY, X509_OVERLENGTH, X509_MALFORMED. */
 x509_status x509_crl_walk(const uint8_t *in, size_t len, size_t *entries);
 
 typedef struct {
@@ -504,7 +507,8 @@ typedef struct {
     x509_signature signature;
 } x509_crl;
 
-/* Decodes a CRL of v1 or v2 under RFC 5280, and says what it holds and where. Answers as x509_crl_check. */
+/* Decodes a CRL of v1 or v2 under RFC 5280, and says what it holds and where.
+ * Answers X509_OK, X509_MEMORY, X509_OVERLENGTH, X509_MALFORMED. */
 x509_status x509_crl_view(const uint8_t *in, size_t len, x509_crl *view);
 
 typedef struct {
@@ -529,7 +533,8 @@ typedef struct {
     x509_signature signature;          /* what is to be verified, with the CSR's own key */
 } x509_request;
 
-/* Decodes a CSR, and says what it holds and where. Answers as x509_request_check. */
+/* Decodes a CSR, and says what it holds and where.
+ * Answers X509_OK, X509_MEMORY, X509_OVERLENGTH, X509_MALFORMED. */
 x509_status x509_request_view(const uint8_t *in, size_t len, x509_request *view);
 
 typedef struct {

@@ -1,10 +1,13 @@
 //! Values that are decoded, or decoded and encoded, as a whole.
 
+ghost use Rattle.std.specs.Prelude.{◌≡◌};
 ghost use Rattle.std.specs.Str.{is_utf8};
 ghost use Rattle.x509_c_calls.specs.Named.{IsNamedAnswer, IsTextAnswer, profile_of};
 ghost use Rattle.x509_c_calls.specs.SignedPlace.{IsSignedAt};
 ghost use Rattle.x509_c_calls.specs.Calls.{Checks};
 ghost use Rattle.x509_c_calls.specs.Status.{Fills, Tells};
+ghost use Rattle.x509_c_calls.specs.declared.status.status.Status.TheVariants.{Refused};
+ghost use Rattle.x509_der.specs.declared.error.ErrorKind.TheVariants.{Memory};
 ghost use Rattle.x509_types.specs.Reencoding.{Reencodes};
 
 use std::alloc::Global;
@@ -35,12 +38,12 @@ pub extern "C" fn x509_reencode(
     reencode_named::<Types>(alloc, name, profile, input, room, written).code()
 }
 
-/// Decodes a certificate under the rules of RFC 5280, and frees it.
+/// Checks a certificate under the rules of RFC 5280. It takes no memory.
 #[unsafe(no_mangle)]
-pub extern "C" fn x509_certificate_check(alloc: Global, input: &[u8]) -> i32
-    ensures { Tells (λ status. Checks ⟦<CertificateInner<Rfc5280> as Grammar>⟧.form ⟦<CertificateInner<Rfc5280> as Grammar>⟧.refuses input.now status) result }
+pub extern "C" fn x509_certificate_check(input: &[u8]) -> i32
+    ensures { Tells (λ status. Checks ⟦<CertificateInner<Rfc5280> as Grammar>⟧.form ⟦<CertificateInner<Rfc5280> as Grammar>⟧.refuses input.now status × (status ≡ Refused Memory → ⊥)) result }
 {
-    check::<CertificateInner<Rfc5280>>(alloc, input).code()
+    check::<CertificateInner<Rfc5280>>(input).code()
 }
 
 /// Decodes a certificate under the rules of RFC 5280, and encodes it at the front of the buffer.
@@ -56,20 +59,20 @@ pub extern "C" fn x509_certificate_reencode(
     reencode::<CertificateInner<Rfc5280>>(alloc, input, room, written).code()
 }
 
-/// Decodes a CRL under the rules of RFC 5280, and frees it.
+/// Checks a CRL under the rules of RFC 5280. It takes no memory.
 #[unsafe(no_mangle)]
-pub extern "C" fn x509_crl_check(alloc: Global, input: &[u8]) -> i32
-    ensures { Tells (λ status. Checks ⟦<CertificateList<Rfc5280> as Grammar>⟧.form ⟦<CertificateList<Rfc5280> as Grammar>⟧.refuses input.now status) result }
+pub extern "C" fn x509_crl_check(input: &[u8]) -> i32
+    ensures { Tells (λ status. Checks ⟦<CertificateList<Rfc5280> as Grammar>⟧.form ⟦<CertificateList<Rfc5280> as Grammar>⟧.refuses input.now status × (status ≡ Refused Memory → ⊥)) result }
 {
-    check::<CertificateList<Rfc5280>>(alloc, input).code()
+    check::<CertificateList<Rfc5280>>(input).code()
 }
 
-/// Decodes a CSR, and frees it.
+/// Checks a CSR. It takes no memory.
 #[unsafe(no_mangle)]
-pub extern "C" fn x509_request_check(alloc: Global, input: &[u8]) -> i32
-    ensures { Tells (λ status. Checks ⟦<CertReq as Grammar>⟧.form ⟦<CertReq as Grammar>⟧.refuses input.now status) result }
+pub extern "C" fn x509_request_check(input: &[u8]) -> i32
+    ensures { Tells (λ status. Checks ⟦<CertReq as Grammar>⟧.form ⟦<CertReq as Grammar>⟧.refuses input.now status × (status ≡ Refused Memory → ⊥)) result }
 {
-    check::<CertReq>(alloc, input).code()
+    check::<CertReq>(input).code()
 }
 
 /// Decodes a name, and puts its text in UTF-8 at the front of the buffer.

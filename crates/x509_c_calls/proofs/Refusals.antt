@@ -1,6 +1,8 @@
 -- When a read is refused for memory.
-use Rattle.std.proofs.Common.{◌≡◌, ◌≤◌, ◌<◌, ◌⊎◌, ℕ, sym, ap, ◌∙◌, subst, inl, inr}
+use Rattle.std.proofs.Common.{◌≡◌, ◌≤◌, ◌<◌, ◌⊎◌, nat_lt, ℕ, Bool, true, false, length, Result, Ok, Err, if◌then◌else◌, sym, ap, ◌∙◌, subst, inl, inr}
 use Rattle.std.proofs.lemmas.Bool.{cases_lt}
+use Rattle.x509_base.specs.Checked.{CheckRefuses}
+use Rattle.x509_base.specs.Profiles.{rfc5280_serial_number}
 use Rattle.x509_c_calls.specs.declared.status.status.Status.{Status}
 use Rattle.x509_c_calls.specs.declared.status.status.Status.TheVariants.{Done, NoRoom, Absent, Repeated, Faulty, Refused}
 use Rattle.x509_der.specs.Element.{limit}
@@ -33,3 +35,14 @@ memory_is R kind status n is long within memory =
         | inr other ↦ elim other [ inl malformed ↦ malformed_is_other (sym malformed ∙ same) | inr refused ↦ inr (subst R same refused) ]
       ]
     ]
+
+-- the rules of RFC 5280 refuse no serial number for memory
+abbrev refused_where : Bool → Result Unit ErrorKind
+refused_where long = if long then Err Malformed else Ok tt
+
+not_for_memory : {Q : Type 0} (long : Bool) → refused_where long ≡ Err Memory → Q
+not_for_memory true e = absurd cc
+not_for_memory false e = absurd cc
+
+pub never_memory : {Q : Type 0} → CheckRefuses rfc5280_serial_number Memory → Q
+never_memory refuses = not_for_memory (nat_lt 21 (length refuses.0)) refuses.1

@@ -1,4 +1,4 @@
-//! Decoding a value.
+//! Checking the encoding of a value, and decoding it.
 
 ghost use Rattle.std.specs.Prelude.{◌≡◌, ◌≤◌, ◌⊎◌, length, IfErr, MatchResult};
 ghost use Rattle.x509_c_calls.specs.Calls.{Checks};
@@ -10,20 +10,21 @@ ghost use Rattle.x509_der.specs.Form.{Spells};
 
 use crate::status::status::Status;
 use std::alloc::Global;
+use x509_check::Check;
 use x509_der::{Decode, ErrorKind};
 
-/// Decodes a value, and frees it: done exactly where the bytes are the encoding of one.
+/// Checks bytes: done exactly where they are the encoding of a value. It takes no memory.
 ///
 /// # Errors
 ///
-/// As [`Decode::from_der`]; `Memory` when out of memory, only where decoding the type may take memory.
+/// As [`Check::check`].
 #[tactic(auto, unfolding(crate::specs::Calls::Reads))]
-pub fn check<T: Decode + Drop>(alloc: Global, input: &[u8]) -> Status
+pub fn check<T: Check>(input: &[u8]) -> Status
     ensures read { Checks T.form T.refuses input.now result }
-    ensures memory { result ≡ Refused Memory → T.wants_memory ⊎ T.refuses Memory }
+    ensures memory { result ≡ Refused Memory → T.refuses Memory }
 {
-    match T::from_der(alloc, input) {
-        Ok(_) => Status::Done,
+    match T::check(input) {
+        Ok(()) => Status::Done,
         Err(e) => e.into(),
     }
 }

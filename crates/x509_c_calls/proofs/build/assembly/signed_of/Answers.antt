@@ -11,4 +11,4 @@ narrowed (inr refused) = inr refused
 pub returns-in_err-part : goal.returns-in_err-part
 returns-in_err-part c =
     let p = err_from_is_err_and c.from_residual-in_err-part.result c.from_residual-in_err-part.ensures.1 in
-    rw (p.1, p.2) (memory_alone (λ e. ⊥) _ _ _ c.in_ok-check_part.ensures.ok (narrowed c.in_err-part.ensures))
+    rw (p.1, p.2) (memory_alone (λ e. ⊥) _ _ _ c.in_ok-check_part.ensures.ok (narrowed c.in_err-part.ensures.found))

@@ -7,13 +7,13 @@ use Rattle.x509_c_calls.proofs.certificate.extension.certificate_extension.Goals
 
 pub returns-in_default : goal.returns-in_default
 unfolding LooksUpExtension
-returns-in_default c = inl (c.in-Ok.certificate, c.in-Ok.ensures, absent _ _ _ _ _ (c.in_default.ensures ∙ ap (λ t. t.extensions) c.tbs_certificate.ensures))
+returns-in_default c = inl (c.in-Ok.certificate, c.in-Ok.ensures.found, absent _ _ _ _ _ (c.in_default.ensures ∙ ap (λ t. t.extensions) c.tbs_certificate.ensures))
 
 pub returns : goal.returns
 unfolding LooksUpExtension
 returns c =
     let list = c.as_slice.result.now in
     let some : Some list ≡ c.in-Ok.certificate.tbs_certificate.extensions = ap (λ l. Some l) c.as_slice.ensures ∙ c.in-Some.ensures ∙ ap (λ t. t.extensions) c.tbs_certificate.ensures in
-    let view = c.view_of-at.ensures c.in-Ok.ensures in
+    let view = c.view_of-at.ensures c.in-Ok.ensures.found in
     let inside = c.enter.ensures.stands 48 _ _ is_sequence (some_stand _ list _ _ _ some view.extensions) in
-    inl (c.in-Ok.certificate, c.in-Ok.ensures, rw (ap members (sym some)) (c.pick.ensures _ inside.1))
+    inl (c.in-Ok.certificate, c.in-Ok.ensures.found, rw (ap members (sym some)) (c.pick.ensures _ inside.1))

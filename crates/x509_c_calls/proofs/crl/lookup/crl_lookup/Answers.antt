@@ -9,8 +9,8 @@ refused_behind within found (inr refused) = inr (inr (found, refused))
 
 pub returns-in-Err-read : goal.returns-in-Err-read
 unfolding LooksUp
-returns-in-Err-read c = inr (c.in-Err-read.e, refl, refl, refused_behind c.in-Ok.ensures.2 (c.in-Ok.list, c.in-Ok.ensures) c.in-Err-read.ensures)
+returns-in-Err-read c = inr (c.in-Err-read.e, refl, refl, refused_behind c.in-Ok.ensures.found.2 (c.in-Ok.list, c.in-Ok.ensures.found) c.in-Err-read.ensures.found)
 
 pub returns : goal.returns
 unfolding LooksUp
-returns c = inl (record { list = c.in-Ok.list; number = _; list_spelled = c.in-Ok.ensures; number_spelled = c.in-Ok-read.ensures }, c.ask.ensures)
+returns c = inl (record { list = c.in-Ok.list; number = _; list_spelled = c.in-Ok.ensures.found; number_spelled = c.in-Ok-read.ensures.found }, c.ask.ensures)

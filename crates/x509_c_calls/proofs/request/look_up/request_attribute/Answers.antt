@@ -6,13 +6,13 @@ use Rattle.x509_c_calls.specs.RequestAttributes.{LooksUpAttribute}
 use Rattle.x509_c_calls.specs.RequestView.{behind_part}
 
 pub enter-requires : goal.enter-requires
-enter-requires c = (c.view-at.ensures [] (c.in-Ok.ensures.1 ∙ sym (append-nil _))).attributes.2
+enter-requires c = (c.view-at.ensures [] (c.in-Ok.ensures.found.1 ∙ sym (append-nil _))).attributes.2
 
 pub returns : goal.returns
 unfolding LooksUpAttribute
 returns c =
     let request = c.in-Ok.request in
-    let spells = c.in-Ok.ensures in
+    let spells = c.in-Ok.ensures.found in
     let view = c.view-at.ensures [] (spells.1 ∙ sym (append-nil _)) in
     let inside = c.enter.ensures.stands 160 _ (behind_part request []) is_explicit_0 view.attributes.0 in
     let picked = rw c.as_slice.ensures.members at c.pick.ensures in
