@@ -107,6 +107,19 @@ if has python3 "hostile payloads, the rows, the snippets of README.md, the names
     fi
 fi
 
+# usage: program NAME: proves and builds a program where it is missing or a source is newer
+program() {
+    local file=$top/crates/$1/out/$1 left_out=(-name out -o -name must-fail -o -name wrong-bodies)
+    if [ ! -e "$file" ] || [ -n "$(find "$top/crates" "$top/crates.txt" \( "${left_out[@]}" \) -prune -o -type f -newer "$file" -print -quit)" ]; then
+        "$top/tools/build/build_program.py" "$1" >&2
+    fi
+}
+
+if has python3 "certificates and CRLs that break a rule"; then
+    program x509_linter
+    python3 -B "$gate/test_linter.py" "$top/crates/x509_linter/out/x509_linter" || failed=1
+fi
+
 has "${CC:-cc}" "all callers" || exit "$failed"
 "$top/tools/build/link_c_library.sh" "$folder"
 if [ -d "$folder/hostile" ]; then

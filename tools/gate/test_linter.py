@@ -1,0 +1,412 @@
+#!/usr/bin/env python3
+"""Runs x509_linter over certificates and CRLs that break one rule of RFC 5280 each, and over ones that break none.
+
+What is to be printed of each is stated here by hand, from the sections of RFC 5280 that the lines name. With `--write FOLDER` the objects are
+written there too, as NAME.der.
+"""
+import argparse
+import pathlib
+import subprocess
+import sys
+
+sys.path.insert(0, str(pathlib.Path(__file__).resolve().parents[1]))
+from common.der import BIT_STRING, GENERALIZED_TIME, PRINTABLE_STRING, TRUE, UTC_TIME, UTF8_STRING
+from common.der import bit_string, context, element, integer, object_identifier, octet_string, sequence, set_of
+
+ECDSA_SHA256 = sequence(object_identifier(1, 2, 840, 10045, 4, 3, 2))
+ECDSA_SHA384 = sequence(object_identifier(1, 2, 840, 10045, 4, 3, 3))
+EC_P256 = sequence(object_identifier(1, 2, 840, 10045, 2, 1), object_identifier(1, 2, 840, 10045, 3, 1, 7))
+KEY = sequence(EC_P256, bit_string(b"\x04" + bytes(64)))
+SIGNATURE = bit_string(sequence(integer(1), integer(2)))
+
+
+def implicit(number, *contents):
+    """An element under a primitive context-specific tag of this number."""
+    return element(0x80 + number, *contents)
+
+
+def utc(text):
+    return element(UTC_TIME, text)
+
+
+def general(text):
+    return element(GENERALIZED_TIME, text)
+
+
+def rdn(*attributes):
+    """An RDN of attributes 2.5.4.N with these values."""
+    return set_of(*(sequence(object_identifier(2, 5, 4, number), value) for number, value in attributes))
+
+
+def common_name(text):
+    return sequence(rdn((3, element(UTF8_STRING, text))))
+
+
+ISSUER, SUBJECT = common_name(b"An authority"), common_name(b"A subject")
+DATES = sequence(utc(b"260102030405Z"), utc(b"270102030405Z"))
+
+
+# ---- extensions
+
+
+def extension(oid, payload, critical=False):
+    return sequence(oid, TRUE if critical else b"", octet_string(payload))
+
+
+def ce(number, payload, critical=False):
+    """An extension 2.5.29.N (RFC 5280 4.2.1)."""
+    return extension(object_identifier(2, 5, 29, number), payload, critical)
+
+
+def pe(number, payload, critical=False):
+    """An extension 1.3.6.1.5.5.7.1.N (RFC 5280 4.2.2)."""
+    return extension(object_identifier(1, 3, 6, 1, 5, 5, 7, 1, number), payload, critical)
+
+
+KEY_ID = implicit(0, b"authority")
+AKI = ce(35, sequence(KEY_ID))
+SKI = ce(14, octet_string(b"subject"))
+DIGITAL_SIGNATURE, KEY_CERT_SIGN = bit_string(b"\x80", 7), bit_string(b"\x06", 1)
+KU, CA_KU = ce(15, DIGITAL_SIGNATURE, True), ce(15, KEY_CERT_SIGN, True)
+CA_BC = ce(19, sequence(TRUE), True)
+LEAF, CA = (AKI, SKI, KU), (AKI, SKI, CA_KU, CA_BC)
+OTHER = extension(object_identifier(1, 2, 3), b"\x05\x00")
+
+DNS = implicit(2, b"example.org")
+NAMES = sequence(DNS)
+URI = implicit(6, b"http://example.org/list.crl")
+POINT = sequence(context(0, context(0, URI)))
+POLICY, ANY_POLICY = object_identifier(1, 2, 3, 4), object_identifier(2, 5, 29, 32, 0)
+ACCESS = sequence(sequence(object_identifier(1, 3, 6, 1, 5, 5, 7, 48, 2), URI))
+SUBTREES = context(0, sequence(DNS))
+ATTRIBUTES = sequence(sequence(object_identifier(1, 3, 6, 1, 5, 5, 7, 9, 4), set_of(element(PRINTABLE_STRING, b"DE"))))
+
+
+# ---- objects
+
+
+def certificate(
+    version=context(0, integer(2)),
+    serial=integer(1),
+    inner=ECDSA_SHA256,
+    issuer=ISSUER,
+    dates=DATES,
+    subject=SUBJECT,
+    unique=b"",
+    extensions=LEAF,
+    outer=ECDSA_SHA256,
+):
+    """A certificate (RFC 5280 4.1); with `extensions=None` it has none."""
+    behind = b"" if extensions is None else context(3, sequence(*extensions))
+    return sequence(sequence(version, serial, inner, issuer, dates, subject, KEY, unique, behind), outer, SIGNATURE)
+
+
+CRL_AKI, CRL_NUMBER = AKI, ce(20, integer(7))
+ENTRY = sequence(integer(5), utc(b"260101000000Z"))
+
+
+def crl(
+    version=integer(1),
+    inner=ECDSA_SHA256,
+    issuer=ISSUER,
+    this_update=utc(b"260102030405Z"),
+    next_update=utc(b"260202030405Z"),
+    entries=sequence(ENTRY),
+    extensions=(CRL_AKI, CRL_NUMBER),
+    outer=ECDSA_SHA256,
+):
+    """A CRL (RFC 5280 5.1); with `extensions=None` it has none."""
+    behind = b"" if extensions is None else context(0, sequence(*extensions))
+    return sequence(sequence(version, inner, issuer, this_update, next_update, entries, behind), outer, SIGNATURE)
+
+
+def leaf_with(*extensions):
+    return certificate(extensions=(*LEAF, *extensions))
+
+
+def ca_with(*extensions):
+    return certificate(extensions=(*CA, *extensions))
+
+
+def crl_with(*extensions):
+    return crl(extensions=(CRL_AKI, CRL_NUMBER, *extensions))
+
+
+def error(name, section):
+    return f"error {name} (RFC 5280 {section})"
+
+
+def warning(name, section):
+    return f"warning {name} (RFC 5280 {section})"
+
+
+NO_AKI = error("authority_key_identifier_absent", "4.2.1.1")
+NO_SKI = warning("subject_key_identifier_absent", "4.2.1.2")
+
+
+def field_rules():
+    """The fields of a certificate (RFC 5280 4.1)."""
+    yield certificate(outer=ECDSA_SHA384), [error("signature_algorithms_differ", "4.1.1.2")]
+    yield certificate(version=context(0, integer(1))), [error("extensions_without_v3", "4.1.2.1")]
+    yield certificate(version=b""), [error("extensions_without_v3", "4.1.2.1")]
+    yield certificate(serial=integer(0)), [error("serial_number_not_positive", "4.1.2.2")]
+    yield certificate(serial=element(2, b"\xff")), [error("serial_number_not_positive", "4.1.2.2")]
+    yield certificate(serial=integer(1 << 158)), []
+    yield certificate(serial=integer(1 << 159)), [error("serial_number_too_long", "4.1.2.2")]
+    yield certificate(issuer=sequence()), [error("issuer_empty", "4.1.2.4")]
+    yield certificate(dates=sequence(general(b"20491231235959Z"), general(b"20500101000000Z"))), [error("not_before_not_utc_time", "4.1.2.5")]
+    yield certificate(dates=sequence(utc(b"491231235958Z"), general(b"20491231235959Z"))), [error("not_after_not_utc_time", "4.1.2.5")]
+    yield certificate(dates=sequence(utc(b"260102030405Z"), utc(b"260102030404Z"))), [error("not_after_before_not_before", "4.1.2.5")]
+    yield certificate(dates=sequence(utc(b"260102030405Z"), utc(b"260102030405Z"))), []
+    yield certificate(unique=implicit(1, b"\0\1")), [error("unique_identifier_present", "4.1.2.8")]
+    yield certificate(version=b"", subject=ISSUER, unique=implicit(2, b"\0\1"), extensions=None), [
+        error("unique_identifier_in_v1", "4.1.2.8"),
+        error("unique_identifier_present", "4.1.2.8"),
+        NO_SKI,
+    ]
+
+
+def name_rules():
+    """The issuer and the subject of a certificate (RFC 5280 4.1.2.4, 4.1.2.6, A.1)."""
+    three, text = (6, element(PRINTABLE_STRING, b"DEU")), (6, element(UTF8_STRING, b"DE"))
+    yield certificate(issuer=sequence(rdn())), [error("issuer_rdn_empty", "4.1.2.4")]
+    yield certificate(issuer=sequence(rdn(three))), [error("issuer_country_name_invalid", "A.1")]
+    yield certificate(issuer=sequence(rdn(text))), [error("issuer_country_name_invalid", "A.1")]
+    yield certificate(subject=sequence(rdn())), [error("subject_rdn_empty", "4.1.2.6")]
+    yield certificate(subject=sequence(rdn(three))), [error("subject_country_name_invalid", "A.1")]
+    yield certificate(subject=sequence(rdn((6, element(PRINTABLE_STRING, b"De"))))), []
+    yield certificate(subject=sequence()), [error("subject_empty_without_critical_alt_name", "4.1.2.6")]
+    yield certificate(subject=sequence(), extensions=(*LEAF, ce(17, NAMES))), [error("subject_empty_without_critical_alt_name", "4.1.2.6")]
+    yield certificate(subject=sequence(), extensions=(*LEAF, ce(17, NAMES, True))), []
+
+
+def list_rules():
+    """The extensions of a certificate as a list (RFC 5280 4.1.2.9, 4.2)."""
+    yield certificate(subject=ISSUER, extensions=()), [error("extensions_empty", "4.1.2.9"), NO_SKI]
+    yield leaf_with(OTHER, OTHER), [error("extension_repeated", "4.2")]
+    yield leaf_with(OTHER), []
+    yield ca_with(ce(54, b"\x05\x00", True)), [error("extension_malformed", "4.2")]
+
+
+def critical_rules():
+    """Which extensions of a certificate are critical (RFC 5280 4.2.1, 4.2.2)."""
+    mappings = sequence(sequence(POLICY, object_identifier(1, 2, 3, 5)))
+    limits = sequence(implicit(0, b"\0"))
+    yield certificate(extensions=(ce(35, sequence(KEY_ID), True), SKI, KU)), [error("authority_key_identifier_critical", "4.2.1.1")]
+    yield certificate(extensions=(AKI, ce(14, octet_string(b"subject"), True), KU)), [error("subject_key_identifier_critical", "4.2.1.2")]
+    yield certificate(extensions=(AKI, SKI, ce(15, DIGITAL_SIGNATURE))), [warning("key_usage_not_critical", "4.2.1.3")]
+    yield ca_with(ce(33, mappings)), [warning("policy_mappings_not_critical", "4.2.1.5")]
+    yield leaf_with(ce(17, NAMES, True)), [warning("subject_alt_name_critical", "4.2.1.6")]
+    yield leaf_with(ce(18, NAMES, True)), [warning("issuer_alt_name_critical", "4.2.1.7")]
+    yield leaf_with(ce(9, ATTRIBUTES, True)), [error("subject_directory_attributes_critical", "4.2.1.8")]
+    yield ca_with(ce(30, sequence(SUBTREES))), [error("name_constraints_not_critical", "4.2.1.10")]
+    yield ca_with(ce(36, limits)), [error("policy_constraints_not_critical", "4.2.1.11")]
+    yield leaf_with(ce(31, sequence(POINT), True)), [warning("crl_distribution_points_critical", "4.2.1.13")]
+    yield ca_with(ce(54, integer(0))), [error("inhibit_any_policy_not_critical", "4.2.1.14")]
+    yield leaf_with(ce(46, sequence(POINT), True)), [error("freshest_crl_critical", "4.2.1.15")]
+    yield leaf_with(pe(1, ACCESS, True)), [error("authority_info_access_critical", "4.2.2.1")]
+    yield ca_with(pe(11, ACCESS, True)), [error("subject_info_access_critical", "4.2.2.2")]
+    yield ca_with(ce(33, mappings, True), ce(30, sequence(SUBTREES), True), ce(36, limits, True), ce(54, integer(0), True), pe(11, ACCESS)), []
+    yield leaf_with(ce(17, NAMES), ce(18, NAMES), ce(9, ATTRIBUTES), ce(31, sequence(POINT)), ce(46, sequence(POINT)), pe(1, ACCESS)), []
+
+
+def authority_rules():
+    """What makes a certificate one of a certification authority (RFC 5280 4.2.1.2, 4.2.1.3, 4.2.1.9, 4.2.1.10)."""
+    yield certificate(extensions=(AKI, CA_KU, CA_BC)), [error("ca_without_subject_key_identifier", "4.2.1.2")]
+    yield certificate(extensions=(AKI, KU)), [NO_SKI]
+    yield certificate(extensions=(AKI, SKI, CA_BC)), [error("ca_without_key_usage", "4.2.1.3")]
+    yield certificate(extensions=(AKI, SKI, ce(15, element(BIT_STRING, b"\0"), True))), [error("key_usage_empty", "4.2.1.3")]
+    yield certificate(extensions=(AKI, SKI, KU, CA_BC)), [error("ca_without_key_cert_sign", "4.2.1.3")]
+    yield certificate(extensions=(AKI, SKI, CA_KU)), [error("key_cert_sign_without_ca", "4.2.1.9")]
+    yield certificate(extensions=(AKI, SKI, CA_KU, ce(19, sequence(TRUE)))), [error("ca_basic_constraints_not_critical", "4.2.1.9")]
+    yield leaf_with(ce(19, sequence(integer(0)), True)), [error("path_len_without_ca", "4.2.1.9")]
+    yield leaf_with(ce(19, sequence())), []
+    yield leaf_with(ce(30, sequence(SUBTREES), True)), [error("name_constraints_in_leaf", "4.2.1.10")]
+
+
+def key_rules():
+    """Key identifiers, extended key usage and the private key usage period (RFC 5280 4.2.1.1, 4.2.1.12, A.2)."""
+    serial, any_purpose = implicit(2, b"\1"), object_identifier(2, 5, 29, 37, 0)
+    yield certificate(extensions=(SKI, KU)), [NO_AKI]
+    yield certificate(subject=ISSUER, extensions=(SKI, KU)), []
+    yield certificate(extensions=(ce(35, sequence()), SKI, KU)), [error("authority_key_identifier_without_key", "4.2.1.1")]
+    yield certificate(extensions=(ce(35, sequence(KEY_ID, context(1), serial)), SKI, KU)), [error("authority_cert_issuer_empty", "4.2.1.1")]
+    yield certificate(extensions=(ce(35, sequence(KEY_ID, serial)), SKI, KU)), [error("authority_cert_issuer_and_serial_apart", "4.2.1.1")]
+    yield certificate(extensions=(ce(35, sequence(KEY_ID, context(1, DNS))), SKI, KU)), [error("authority_cert_issuer_and_serial_apart", "4.2.1.1")]
+    yield certificate(extensions=(ce(35, sequence(KEY_ID, context(1, DNS), serial)), SKI, KU)), []
+    yield leaf_with(ce(37, sequence())), [error("extended_key_usage_empty", "4.2.1.12")]
+    yield leaf_with(ce(37, sequence(any_purpose), True)), [warning("any_extended_key_usage_critical", "4.2.1.12")]
+    yield leaf_with(ce(37, sequence(any_purpose))), []
+    yield leaf_with(ce(16, sequence())), [error("private_key_usage_period_empty", "A.2")]
+    yield leaf_with(ce(16, sequence(implicit(0, b"20260102030405Z")))), []
+
+
+def alternative_rules():
+    """The alternative names of the subject and the issuer (RFC 5280 4.2.1.6, 4.2.1.7)."""
+    for number, who, section in ((17, "subject", "4.2.1.6"), (18, "issuer", "4.2.1.7")):
+        def with_names(*names, number=number):
+            return leaf_with(ce(number, sequence(*names)))
+
+        yield with_names(), [error(f"{who}_alt_name_empty", section)]
+        for empty in (implicit(1), implicit(2), context(4, sequence()), implicit(6), implicit(7)):
+            yield with_names(DNS, empty), [error(f"{who}_alt_name_empty_name", section)]
+        for text in (b"-a.example", b"a-.example", b"a..example", b"a_b.example", b"a.example.", b"a" * 64, b"*", b"a.*.example", b".".join([b"a" * 63] * 4)):
+            yield with_names(implicit(2, text)), [error(f"{who}_alt_name_dns_name_invalid", section)]
+        for octets in (b"\1\2\3", b"\1\2\3\4\5", bytes(8), bytes(17)):
+            yield with_names(implicit(7, octets)), [error(f"{who}_alt_name_address_length", section)]
+        for text in (b"*.example", b"a", b"A-1.example", b"a" * 63, b".".join([b"a" * 63] * 3) + b"." + b"a" * 61):
+            yield with_names(implicit(2, text), implicit(7, bytes(4)), implicit(7, bytes(16))), []
+
+
+def policy_rules():
+    """Certificate policies, policy mappings and policy constraints (RFC 5280 4.2.1.4, 4.2.1.5, 4.2.1.11)."""
+    yield leaf_with(ce(32, sequence())), [error("certificate_policies_empty", "4.2.1.4")]
+    yield leaf_with(ce(32, sequence(sequence(POLICY), sequence(ANY_POLICY, sequence())))), [error("policy_qualifiers_empty", "4.2.1.4")]
+    yield leaf_with(ce(32, sequence(sequence(POLICY), sequence(ANY_POLICY)))), []
+    yield ca_with(ce(33, sequence(), True)), [error("policy_mappings_empty", "4.2.1.5")]
+    yield ca_with(ce(33, sequence(sequence(POLICY, ANY_POLICY)), True)), [error("policy_mapping_any_policy", "4.2.1.5")]
+    yield ca_with(ce(33, sequence(sequence(ANY_POLICY, POLICY)), True)), [error("policy_mapping_any_policy", "4.2.1.5")]
+    yield ca_with(ce(36, sequence(), True)), [error("policy_constraints_empty", "4.2.1.11")]
+
+
+def constraint_rules():
+    """Name constraints (RFC 5280 4.2.1.10)."""
+    yield ca_with(ce(30, sequence(), True)), [error("name_constraints_empty", "4.2.1.10")]
+    for number in (0, 1):
+        yield ca_with(ce(30, sequence(context(number)), True)), [error("name_constraints_subtrees_empty", "4.2.1.10")]
+        yield ca_with(ce(30, sequence(context(number, sequence(DNS, implicit(0, b"\1")))), True)), [error("name_constraints_minimum", "4.2.1.10")]
+        yield ca_with(ce(30, sequence(context(number, sequence(DNS, implicit(1, b"\1")))), True)), [error("name_constraints_maximum", "4.2.1.10")]
+
+
+def point_rules():
+    """Lists of attributes, of CRL distribution points and of access descriptions (RFC 5280 4.2.1.8, 4.2.1.13, 4.2.1.15, 4.2.2)."""
+    reasons, issuer = sequence(implicit(1, b"\6\x40")), sequence(context(2, context(4, ISSUER)))
+    yield leaf_with(ce(9, sequence())), [error("subject_directory_attributes_empty", "4.2.1.8")]
+    yield leaf_with(ce(31, sequence())), [error("crl_distribution_points_empty", "4.2.1.13")]
+    yield leaf_with(ce(31, sequence(POINT, reasons))), [error("distribution_point_empty", "4.2.1.13")]
+    yield leaf_with(ce(31, sequence(issuer))), []
+    yield leaf_with(ce(46, sequence())), [error("freshest_crl_empty", "4.2.1.15")]
+    yield leaf_with(ce(46, sequence(sequence()))), [error("freshest_crl_point_empty", "4.2.1.15")]
+    yield leaf_with(pe(1, sequence())), [error("authority_info_access_empty", "4.2.2.1")]
+    yield ca_with(pe(11, sequence())), [error("subject_info_access_empty", "4.2.2.2")]
+
+
+def crl_field_rules():
+    """The fields of a CRL (RFC 5280 5.1)."""
+    late = general(b"20500101000000Z")
+    without = [error("authority_key_identifier_absent", "5.2.1"), error("crl_number_absent", "5.2.3")]
+    reason = sequence(integer(5), utc(b"260101000000Z"), sequence(ce(21, element(10, b"\1"))))
+    yield crl(outer=ECDSA_SHA384), [error("signature_algorithms_differ", "5.1.1.2")]
+    yield crl(version=b""), [error("extensions_without_v2", "5.1.2.1")]
+    yield crl(version=b"", entries=sequence(reason), extensions=None), [error("extensions_without_v2", "5.1.2.1"), *without]
+    yield crl(issuer=sequence()), [error("issuer_empty", "5.1.2.3")]
+    yield crl(this_update=general(b"20491231235959Z"), next_update=late), [error("this_update_not_utc_time", "5.1.2.4")]
+    yield crl(next_update=b""), [error("next_update_absent", "5.1.2.5")]
+    yield crl(next_update=general(b"20491231235959Z")), [error("next_update_not_utc_time", "5.1.2.5")]
+    yield crl(next_update=utc(b"260102030404Z")), [error("next_update_before_this_update", "5.1.2.5")]
+    yield crl(next_update=late), []
+    yield crl(entries=sequence()), [error("revoked_certificates_empty", "5.1.2.6")]
+    yield crl(entries=b""), []
+    yield crl(entries=sequence(ENTRY, sequence(integer(6), general(b"20260101000000Z")))), [error("revocation_date_not_utc_time", "5.1.2.6")]
+    yield crl(extensions=()), [error("extensions_empty", "5.1.2.7"), *without]
+    yield crl(extensions=None), without
+    yield crl_with(OTHER, OTHER), [error("extension_repeated", "5.2")]
+    yield crl(entries=sequence(ENTRY, reason)), []
+    yield crl(entries=sequence(ENTRY, sequence(integer(6), utc(b"260101000000Z"), sequence()))), [error("entry_extensions_empty", "5.3")]
+
+
+def crl_extension_rules():
+    """The extensions of a CRL (RFC 5280 5.2)."""
+    indirect = sequence(implicit(4, b"\xff"))
+    yield crl(extensions=(CRL_NUMBER,)), [error("authority_key_identifier_absent", "5.2.1")]
+    yield crl(extensions=(ce(35, sequence()), CRL_NUMBER)), [error("authority_key_identifier_without_key", "5.2.1")]
+    yield crl(extensions=(ce(35, sequence(KEY_ID), True), CRL_NUMBER)), [error("authority_key_identifier_critical", "4.2.1.1")]
+    yield crl_with(ce(18, NAMES, True)), [warning("issuer_alt_name_critical", "5.2.2")]
+    yield crl(extensions=(CRL_AKI,)), [error("crl_number_absent", "5.2.3")]
+    yield crl(extensions=(CRL_AKI, ce(20, integer(7), True))), [error("crl_number_critical", "5.2.3")]
+    yield crl(extensions=(CRL_AKI, ce(20, integer((1 << 160) - 1)))), []
+    yield crl(extensions=(CRL_AKI, ce(20, integer(1 << 160)))), [error("crl_number_too_long", "5.2.3")]
+    yield crl_with(ce(27, integer(6))), [error("delta_crl_indicator_not_critical", "5.2.4")]
+    yield crl_with(ce(27, integer(6), True)), []
+    yield crl_with(ce(28, indirect)), [error("issuing_distribution_point_not_critical", "5.2.5")]
+    yield crl_with(ce(28, sequence(), True)), [error("issuing_distribution_point_empty", "5.2.5")]
+    yield crl_with(ce(28, indirect, True)), []
+    yield crl_with(ce(46, sequence(POINT), True)), [error("freshest_crl_critical", "5.2.6")]
+
+
+CERTIFICATE_RULES = (
+    field_rules,
+    name_rules,
+    list_rules,
+    critical_rules,
+    authority_rules,
+    key_rules,
+    alternative_rules,
+    policy_rules,
+    constraint_rules,
+    point_rules,
+)
+REFUSED = "refused: neither a certificate nor a CRL\n"
+USAGE = "usage: x509_linter, with a certificate or a CRL on standard input, DER or hex\n"
+
+
+def cases():
+    """For each object a name, its bytes, and the lines that are to be printed."""
+    yield "certificate", certificate(), []
+    yield "certificate of an authority", certificate(extensions=CA), []
+    yield "crl", crl(), []
+    for rules in CERTIFICATE_RULES:
+        for at, (data, findings) in enumerate(rules()):
+            yield f"{rules.__name__} {at}", data, [f"certificate: {it}\n" for it in findings]
+    for rules in (crl_field_rules, crl_extension_rules):
+        for at, (data, findings) in enumerate(rules()):
+            yield f"{rules.__name__} {at}", data, [f"crl: {it}\n" for it in findings]
+
+
+def runs():
+    """For each run a name, its words, its input, what it is to print, and its status."""
+    for name, data, lines in cases():
+        yield name, [], data, "".join(lines), int(any(": error " in it for it in lines))
+    odd, line = certificate(serial=integer(0)), "certificate: error serial_number_not_positive (RFC 5280 4.1.2.2)\n"
+    digits = odd.hex()
+    yield "hex", [], digits.encode(), line, 1
+    yield "upper-case hex", [], digits.upper().encode() + b"\r\n", line, 1
+    yield "hex in lines", [], "\n".join(digits[at : at + 60] for at in range(0, len(digits), 60)).encode() + b"\n", line, 1
+    for name, data in (
+        ("nothing", b""),
+        ("a line feed", b"\n"),
+        ("an octet", b"\x30"),
+        ("hex of an odd length", digits[:-1].encode()),
+        ("an octet too few", odd[:-1]),
+        ("an octet too many", odd + b"\0"),
+        ("a line feed behind DER", odd + b"\n"),
+        ("an element of another type", octet_string(odd)),
+        ("PEM", b"-----BEGIN CERTIFICATE-----\n"),
+    ):
+        yield name, [], data, REFUSED, 1
+    yield "an input of 16 MiB", [], b"\0" * 16777216, REFUSED, 1
+    yield "a longer input", [], b"\0" * 16777217, "refused: Overlength\n", 1
+    yield "a word", ["--help"], certificate(), USAGE, 2
+
+
+def main(program, folder):
+    failed = count = 0
+    for name, words, data, printed, status in runs():
+        ended = subprocess.run([program, *words], input=data, capture_output=True, check=False)
+        count += 1
+        if (ended.stdout.decode(), ended.returncode) != (printed, status):
+            failed += 1
+            print(f"failed: x509_linter, {name}: status {ended.returncode}, not {status}; it printed\n{ended.stdout.decode()}and not\n{printed}", end="")
+        if folder:
+            folder.mkdir(parents=True, exist_ok=True)
+            (folder / f"{name.replace(' ', '_')}.der").write_bytes(data)
+    print(f"{'failed' if failed else 'passed'}: x509_linter, {count} runs, {failed} of them not as stated")
+    return int(failed > 0)
+
+
+if __name__ == "__main__":
+    parser = argparse.ArgumentParser(description=__doc__, formatter_class=argparse.RawDescriptionHelpFormatter)
+    parser.add_argument("program", metavar="PROGRAM", help="the program, as crates/x509_linter/out/x509_linter")
+    parser.add_argument("--write", metavar="FOLDER", type=pathlib.Path, help="where the inputs are written")
+    given = parser.parse_args()
+    sys.exit(main(given.program, given.write))
