@@ -73,7 +73,7 @@ static void wrong(const char *what, long number)
 
 /* ---- each call */
 
-enum { CALLS = 32 };
+enum { CALLS = 33 };
 
 static uint8_t certificate[65536], list[65536], request[65536], room[65536];
 static size_t certificate_len, list_len, request_len;
@@ -179,6 +179,9 @@ static x509_status call(int number)
     case 30:
         return x509_build_crl(certificate, certificate_len, BYTES(ALGORITHM), BYTES("\x07"), 1767323045, 1, 1770001445, BYTES(ENTRY), BYTES(EXTENSION),
                               room, sizeof room, &count);
+    case 31:
+        return x509_build_certificate(BYTES("\x02\x01\x05"), BYTES(ALGORITHM), BYTES("\x30\x00"), 1767323045, 1770001445, BYTES("\x30\x00"), BYTES(KEY),
+                                      BYTES(EXTENSION), room, sizeof room, &count);
     default:
         /* in the first second of the validity */
         return x509_path_check(certificate, certificate_len, certificate, certificate_len, &certificate_len, 1, 1767323045, &fault);
