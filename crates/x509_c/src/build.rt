@@ -1,6 +1,6 @@
 //! Building in two steps: the bytes to be signed, which the caller signs, and then the whole.
 
-ghost use Rattle.std.specs.Prelude.{None, Some, if◌then◌else◌, nat_eq, not};
+ghost use Rattle.std.specs.Prelude.{◌≡◌, None, Some, if◌then◌else◌, nat_eq, not};
 ghost use Rattle.x509_c_calls.specs.Assembly.{Assembles};
 ghost use Rattle.x509_c_calls.specs.BuildMembers.{EncodesEntry, EncodesExtension};
 ghost use Rattle.x509_c_calls.specs.Certificates.{BuildsCertificate};
@@ -67,6 +67,13 @@ pub extern "C" fn x509_build_certificate(
     .code()
 }
 
+/// The time, where `is_told` isn't 0.
+fn where_told(is_told: u32, time: u64) -> Option<u64>
+    ensures { result ≡ (if nat_eq is_told 0 then None else Some time) }
+{
+    if is_told == 0 { None } else { Some(time) }
+}
+
 /// Puts the bytes to be signed of a CRL at the front of the room. It has a next update where `has_next_update` isn't 0.
 #[unsafe(no_mangle)]
 pub extern "C" fn x509_build_crl(
@@ -84,11 +91,7 @@ pub extern "C" fn x509_build_crl(
 ) -> i32
     ensures { Tells (λ status. Fills (BuildsList (λ part. Finds ⟦<SubjectKeyIdentifier as Grammar>⟧.form ⟦<SubjectKeyIdentifier as Decode>⟧.refuses ⟦<SubjectKeyIdentifier as Decode>⟧.wants_memory (with_oid (id_ce 14) (members part.extensions))) issuer.now algorithm.now number.now this_update (if nat_eq has_next_update 0 then None else Some next_update) entries.now extensions.now) room.old room.new written.old written.new status) result }
 {
-    let next_update = if has_next_update == 0 {
-        None
-    } else {
-        Some(next_update)
-    };
+    let next_update = where_told(has_next_update, next_update);
     build_crl(
         alloc,
         issuer,
