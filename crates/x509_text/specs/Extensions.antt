@@ -6,6 +6,13 @@ use Rattle.x509_cert.specs.ext.AlternativeNames.{subject_alt_name, issuer_alt_na
 use Rattle.x509_cert.specs.ext.AuthorityKeyIdentifier.{authority_key_identifier}
 use Rattle.x509_cert.specs.ext.BasicConstraints.{basic_constraints}
 use Rattle.x509_cert.specs.ext.ExtendedKeyUsage.{extended_key_usage}
+use Rattle.x509_cert.specs.ext.CertificatePolicies.{certificate_policies}
+use Rattle.x509_cert.specs.ext.DistributionPoint.{crl_distribution_points, freshest_crl}
+use Rattle.x509_cert.specs.ext.InhibitAnyPolicy.{inhibit_any_policy}
+use Rattle.x509_cert.specs.ext.KeyUsage.{key_usage}
+use Rattle.x509_cert.specs.ext.NameConstraints.{name_constraints}
+use Rattle.x509_cert.specs.ext.PolicyConstraints.{policy_constraints}
+use Rattle.x509_cert.specs.ext.PolicyMapping.{policy_mappings}
 use Rattle.x509_cert.specs.ext.PrivateKeyUsagePeriod.{private_key_usage_period}
 use Rattle.x509_cert.specs.ext.SubjectDirectoryAttributes.{subject_directory_attributes}
 use Rattle.x509_cert.specs.ext.SubjectKeyIdentifier.{subject_key_identifier}
@@ -16,25 +23,40 @@ use Rattle.x509_text.specs.GeneralNames as names
 use Rattle.x509_text.specs.Lines.{line, below}
 use Rattle.x509_text.specs.Names.{oid_text}
 use Rattle.x509_text.specs.Payloads.{octets_line, optional, payload_lines}
+use Rattle.x509_text.specs.Points as points
+use Rattle.x509_text.specs.Policies as policies
 use Rattle.x509_text.specs.Usages as usages
 
 -- the object identifier, and a word where it is critical
 abbrev pub extension_text : Extension → List ℕ
 extension_text e = oid_text e.extn_id ++ (if e.critical then codes ", critical" else [])
 
--- the lines of the value with this identifier, among those that say where more is found; the octets where there is none
+-- the lines of the value with this identifier, among those of policies and of limits; the octets where there is none
+unfoldable pub policy_value_lines : Place → List ℕ → List ℕ → List ℕ
+policy_value_lines at oid octets =
+    if bytes_eq oid (id_ce 32) then payload_lines certificate_policies (λ at x. policies.policies_lines at x.0) at octets
+    else if bytes_eq oid (id_ce 33) then payload_lines policy_mappings (λ at x. policies.mappings_lines at x.0) at octets
+    else if bytes_eq oid (id_ce 36) then payload_lines policy_constraints policies.policy_constraints_lines at octets
+    else if bytes_eq oid (id_ce 54) then payload_lines inhibit_any_policy policies.inhibit_any_policy_lines at octets
+    else if bytes_eq oid (id_ce 30) then payload_lines name_constraints policies.name_constraints_lines at octets
+    else octets_line at (codes "unknown") octets
+
+-- the lines of the value with this identifier, among those that say where more is found, or of the others
 unfoldable pub place_lines : Place → List ℕ → List ℕ → List ℕ
 place_lines at oid octets =
     if bytes_eq oid (id_pkix 1 1) then payload_lines authority_info_access_syntax (λ at x. names.accesses_lines at x.0) at octets
     else if bytes_eq oid (id_pkix 1 11) then payload_lines subject_info_access_syntax (λ at x. names.accesses_lines at x.0) at octets
+    else if bytes_eq oid (id_ce 31) then payload_lines crl_distribution_points (λ at x. points.points_lines at x.0) at octets
+    else if bytes_eq oid (id_ce 46) then payload_lines freshest_crl (λ at x. points.points_lines at x.0) at octets
     else if bytes_eq oid (id_ce 18) then payload_lines issuer_alt_name (λ at x. names.names_lines at x.0) at octets
     else if bytes_eq oid (id_ce 9) then payload_lines subject_directory_attributes (λ at x. usages.attributes_lines at x.0) at octets
-    else octets_line at (codes "unknown") octets
+    else policy_value_lines at oid octets
 
 -- the lines of the value of an extension with this identifier
 unfoldable pub value_lines : Place → List ℕ → List ℕ → List ℕ
 value_lines at oid octets =
-    if bytes_eq oid (id_ce 37) then payload_lines extended_key_usage (λ at x. usages.purposes_lines at x.0) at octets
+    if bytes_eq oid (id_ce 15) then payload_lines key_usage usages.key_usage_lines at octets
+    else if bytes_eq oid (id_ce 37) then payload_lines extended_key_usage (λ at x. usages.purposes_lines at x.0) at octets
     else if bytes_eq oid (id_ce 19) then payload_lines basic_constraints usages.basic_constraints_lines at octets
     else if bytes_eq oid (id_ce 17) then payload_lines subject_alt_name (λ at x. names.names_lines at x.0) at octets
     else if bytes_eq oid (id_ce 14) then payload_lines subject_key_identifier usages.subject_key_lines at octets

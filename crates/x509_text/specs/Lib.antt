@@ -4,6 +4,8 @@ pub mod Payloads
 pub mod Values
 pub mod GeneralNames
 pub mod Usages
+pub mod Points
+pub mod Policies
 pub mod Extensions
 pub mod Algorithms
 pub mod Certificates

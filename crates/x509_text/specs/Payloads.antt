@@ -1,5 +1,5 @@
 -- Values that may be left out, octets, and what octets are the encoding of.
-use Rattle.std.specs.Prelude.{ℕ, List, [], Bool, true, false, Option, Some, None, Result, Ok, Err, length, nat_le, codes, if◌then◌else◌}
+use Rattle.std.specs.Prelude.{ℕ, List, [], Option, Some, None, Result, Ok, Err, length, nat_le, codes, if◌then◌else◌}
 use Rattle.hex.specs.Hex.{encode_lower}
 use Rattle.x509_cert.specs.der.declared.error.ErrorKind.{ErrorKind}
 use Rattle.x509_cert.specs.der.Element.{limit}

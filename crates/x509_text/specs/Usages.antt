@@ -1,21 +1,47 @@
 -- Lines of what a key may be used for, and of key identifiers (RFC 5280 4.2.1).
-use Rattle.std.specs.Prelude.{ℕ, List, [], ◌++◌, Bool, true, false, Option, codes, if◌then◌else◌}
+use Rattle.std.specs.Prelude.{ℕ, List, ◌++◌, Bool, Option, codes, if◌then◌else◌}
 use Rattle.std.specs.List.{flat_map}
 use Rattle.x509_cert.specs.base.CivilTime.{CivilTime}
 use Rattle.x509_cert.specs.der.declared.any.Any.{Any}
 use Rattle.x509_cert.specs.ext.declared.pkix.authority_key_identifier.AuthorityKeyIdentifier.{AuthorityKeyIdentifier}
 use Rattle.x509_cert.specs.ext.declared.pkix.basic_constraints.BasicConstraints.{BasicConstraints}
+use Rattle.x509_cert.specs.ext.KeyUsage.{has_bit}
+use Rattle.x509_cert.specs.ext.declared.pkix.key_usage.KeyUsage.{KeyUsage}
 use Rattle.x509_cert.specs.ext.declared.pkix.private_key_usage_period.PrivateKeyUsagePeriod.{PrivateKeyUsagePeriod}
 use Rattle.x509_cert.specs.ext.declared.pkix.subject_key_identifier.SubjectKeyIdentifier.{SubjectKeyIdentifier}
 use Rattle.x509_cert.specs.name.declared.attr.attribute.Attribute.{Attribute}
 use Rattle.x509_text.specs.declared.line.Place.{Place}
 use Rattle.x509_text.specs.GeneralNames.{optional_names}
-use Rattle.x509_text.specs.Lines.{line, below}
+use Rattle.x509_text.specs.Lines.{line, line_where, below}
 use Rattle.x509_text.specs.Payloads.{octets_line, optional}
 use Rattle.x509_text.specs.Values.{any_line, moment_line, oid_line, optional_number, serial_line}
 
 abbrev pub yes_or_no : Bool → List ℕ
 yes_or_no is_so = if is_so then codes "yes" else codes "no"
+
+-- KeyUsage (RFC 5280 4.2.1.3): the name of each bit that is set
+abbrev pub usage_line : Place → List ℕ → Bool → List ℕ
+usage_line at name is_set = line_where at (codes "usage") name is_set
+
+-- those of the bits 0 to 4
+unfoldable pub first_usages : Place → KeyUsage → List ℕ
+first_usages at usage =
+    usage_line at (codes "digitalSignature") (has_bit usage 0)
+    ++ (usage_line at (codes "nonRepudiation") (has_bit usage 1)
+    ++ (usage_line at (codes "keyEncipherment") (has_bit usage 2)
+    ++ (usage_line at (codes "dataEncipherment") (has_bit usage 3)
+    ++ usage_line at (codes "keyAgreement") (has_bit usage 4))))
+
+-- those of the bits 5 to 8
+unfoldable pub last_usages : Place → KeyUsage → List ℕ
+last_usages at usage =
+    usage_line at (codes "keyCertSign") (has_bit usage 5)
+    ++ (usage_line at (codes "cRLSign") (has_bit usage 6)
+    ++ (usage_line at (codes "encipherOnly") (has_bit usage 7)
+    ++ usage_line at (codes "decipherOnly") (has_bit usage 8)))
+
+unfoldable pub key_usage_lines : Place → KeyUsage → List ℕ
+key_usage_lines at usage = first_usages at usage ++ last_usages at usage
 
 -- ExtendedKeyUsage (RFC 5280 4.2.1.12)
 abbrev pub purpose_line : Place → List ℕ → List ℕ

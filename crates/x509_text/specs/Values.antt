@@ -1,5 +1,5 @@
 -- Lines of simple values: numbers, object identifiers, names, dates, addresses, elements of any type.
-use Rattle.std.specs.Prelude.{ℕ, zero, suc, ◌/◌, ◌^◌, List, [], ◌∷◌, ◌++◌, Bool, true, false, ◌||◌, ◌&&◌, Option, Some, None, length, take, drop, nat_eq, codes, if◌then◌else◌}
+use Rattle.std.specs.Prelude.{ℕ, ◌/◌, ◌^◌, List, [], ◌∷◌, ◌++◌, Bool, true, false, ◌||◌, Option, Some, None, length, take, drop, nat_eq, codes, if◌then◌else◌}
 use Rattle.std.specs.Fmt.{decimal}
 use Rattle.std.specs.Net.Text as addresses
 use Rattle.std.specs.Net.Addr.{segments_of}

@@ -11,9 +11,10 @@ use std::alloc::{AllocError, Global};
 use x509_cert::der::AssociatedOid;
 use x509_cert::der::asn1::ObjectIdentifier;
 use x509_cert::ext::pkix::{
-    AuthorityInfoAccessSyntax, AuthorityKeyIdentifier, BasicConstraints, ExtendedKeyUsage,
-    IssuerAltName, PrivateKeyUsagePeriod, SubjectAltName, SubjectDirectoryAttributes,
-    SubjectInfoAccessSyntax, SubjectKeyIdentifier,
+    AuthorityInfoAccessSyntax, AuthorityKeyIdentifier, BasicConstraints, CertificatePolicies,
+    CrlDistributionPoints, ExtendedKeyUsage, FreshestCrl, InhibitAnyPolicy, IssuerAltName,
+    KeyUsage, NameConstraints, PolicyConstraints, PolicyMappings, PrivateKeyUsagePeriod,
+    SubjectAltName, SubjectDirectoryAttributes, SubjectInfoAccessSyntax, SubjectKeyIdentifier,
 };
 use x509_cert::ext::{Extension, Extensions};
 
@@ -26,6 +27,35 @@ fn extension_text(alloc: Global, extension: &Extension) -> Result<String, AllocE
         text.push_str(", critical")?;
     }
     Ok(text)
+}
+
+/// Writes the value of an extension of policies or of limits; the octets where it is of neither.
+#[tactic(auto, unfolding(crate::specs::Extensions::policy_value_lines))]
+fn write_policy_value(
+    alloc: Global,
+    at: Place,
+    oid: &ObjectIdentifier,
+    octets: &[u8],
+    out: &mut String,
+) -> Result<(), AllocError>
+    ensures { OnOk result (string_bytes out.new ≡ string_bytes out.old ++ payload.policy_value_lines at oid.now octets.now) }
+{
+    if *oid == CertificatePolicies::OID {
+        return show_payload::<CertificatePolicies>(alloc, at, octets, out);
+    }
+    if *oid == PolicyMappings::OID {
+        return show_payload::<PolicyMappings>(alloc, at, octets, out);
+    }
+    if *oid == PolicyConstraints::OID {
+        return show_payload::<PolicyConstraints>(alloc, at, octets, out);
+    }
+    if *oid == InhibitAnyPolicy::OID {
+        return show_payload::<InhibitAnyPolicy>(alloc, at, octets, out);
+    }
+    if *oid == NameConstraints::OID {
+        return show_payload::<NameConstraints>(alloc, at, octets, out);
+    }
+    write_octets(alloc, at, "unknown", octets, out)
 }
 
 /// Writes the value of an extension that says where more is found, or of one of the others.
@@ -45,13 +75,19 @@ fn write_place_value(
     if *oid == SubjectInfoAccessSyntax::OID {
         return show_payload::<SubjectInfoAccessSyntax>(alloc, at, octets, out);
     }
+    if *oid == CrlDistributionPoints::OID {
+        return show_payload::<CrlDistributionPoints>(alloc, at, octets, out);
+    }
+    if *oid == FreshestCrl::OID {
+        return show_payload::<FreshestCrl>(alloc, at, octets, out);
+    }
     if *oid == IssuerAltName::OID {
         return show_payload::<IssuerAltName>(alloc, at, octets, out);
     }
     if *oid == SubjectDirectoryAttributes::OID {
         return show_payload::<SubjectDirectoryAttributes>(alloc, at, octets, out);
     }
-    write_octets(alloc, at, "unknown", octets, out)
+    write_policy_value(alloc, at, oid, octets, out)
 }
 
 /// Writes the value of an extension with that OID.
@@ -65,6 +101,9 @@ fn write_value(
 ) -> Result<(), AllocError>
     ensures { OnOk result (string_bytes out.new ≡ string_bytes out.old ++ payload.value_lines at oid.now octets.now) }
 {
+    if *oid == KeyUsage::OID {
+        return show_payload::<KeyUsage>(alloc, at, octets, out);
+    }
     if *oid == ExtendedKeyUsage::OID {
         return show_payload::<ExtendedKeyUsage>(alloc, at, octets, out);
     }

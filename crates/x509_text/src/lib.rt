@@ -13,6 +13,8 @@ mod general_names;
 mod line;
 mod names;
 mod objects;
+mod points;
+mod policies;
 mod show;
 mod usages;
 mod values;

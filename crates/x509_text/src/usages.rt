@@ -4,14 +4,14 @@ ghost use Rattle.std.specs.Prelude.{◌≡◌, ◌++◌, OnOk, string_bytes};
 ghost use Rattle.x509_text.specs.Usages as usages;
 
 use crate::general_names::write_optional_names;
-use crate::line::{Place, write_line};
+use crate::line::{Place, write_line, write_where};
 use crate::show::{Show, show_each, write_octets};
 use crate::values::{write_any, write_moment, write_oid, write_optional_number, write_serial};
 use std::alloc::{AllocError, Global};
 use x509_cert::attr::Attribute;
 use x509_cert::der::asn1::{Any, GeneralizedTime, ObjectIdentifier, OctetString};
 use x509_cert::ext::pkix::{
-    AuthorityKeyIdentifier, BasicConstraints, ExtendedKeyUsage, PrivateKeyUsagePeriod,
+    AuthorityKeyIdentifier, BasicConstraints, ExtendedKeyUsage, KeyUsage, PrivateKeyUsagePeriod,
     SubjectDirectoryAttributes, SubjectKeyIdentifier,
 };
 use x509_cert::serial_number::SerialNumber;
@@ -21,6 +21,76 @@ pub(crate) fn yes_or_no(is_so: bool) -> &'static str
     ensures { result.now ≡ usages.yes_or_no is_so }
 {
     if is_so { "yes" } else { "no" }
+}
+
+/// Writes a usage where its bit is set.
+fn write_usage(
+    alloc: Global,
+    at: Place,
+    name: &str,
+    is_set: bool,
+    out: &mut String,
+) -> Result<(), AllocError>
+    ensures { OnOk result (string_bytes out.new ≡ string_bytes out.old ++ usages.usage_line at name.now is_set) }
+{
+    write_where(alloc, at, "usage", name, is_set, out)
+}
+
+/// Writes the usages of the bits 0 to 4.
+#[tactic(auto, unfolding(crate::specs::Usages::first_usages))]
+fn write_first_usages(
+    alloc: Global,
+    at: Place,
+    usage: KeyUsage,
+    out: &mut String,
+) -> Result<(), AllocError>
+    ensures { OnOk result (string_bytes out.new ≡ string_bytes out.old ++ usages.first_usages at usage) }
+{
+    write_usage(
+        alloc,
+        at,
+        "digitalSignature",
+        usage.digital_signature(),
+        out,
+    )?;
+    write_usage(alloc, at, "nonRepudiation", usage.non_repudiation(), out)?;
+    write_usage(alloc, at, "keyEncipherment", usage.key_encipherment(), out)?;
+    write_usage(
+        alloc,
+        at,
+        "dataEncipherment",
+        usage.data_encipherment(),
+        out,
+    )?;
+    write_usage(alloc, at, "keyAgreement", usage.key_agreement(), out)
+}
+
+/// Writes the usages of the bits 5 to 8.
+#[tactic(auto, unfolding(crate::specs::Usages::last_usages))]
+fn write_last_usages(
+    alloc: Global,
+    at: Place,
+    usage: KeyUsage,
+    out: &mut String,
+) -> Result<(), AllocError>
+    ensures { OnOk result (string_bytes out.new ≡ string_bytes out.old ++ usages.last_usages at usage) }
+{
+    write_usage(alloc, at, "keyCertSign", usage.key_cert_sign(), out)?;
+    write_usage(alloc, at, "cRLSign", usage.crl_sign(), out)?;
+    write_usage(alloc, at, "encipherOnly", usage.encipher_only(), out)?;
+    write_usage(alloc, at, "decipherOnly", usage.decipher_only(), out)
+}
+
+#[tactic(auto, unfolding(crate::specs::Usages::key_usage_lines))]
+impl Show for KeyUsage {
+    ghost use Rattle.x509_text.specs.Usages.{key_usage_lines};
+
+    ghost lines = { key_usage_lines };
+
+    fn show(&self, alloc: Global, at: Place, out: &mut String) -> Result<(), AllocError> {
+        write_first_usages(alloc, at, *self, out)?;
+        write_last_usages(alloc, at, *self, out)
+    }
 }
 
 impl Show for ObjectIdentifier {
