@@ -118,8 +118,8 @@ typedef struct {
     uint64_t not_after;
 } x509_certificate;
 
-/* Decodes a certificate under RFC 5280, and says what it holds and where.
- * Answers X509_OK, X509_MEMORY, X509_OVERLENGTH, X509_MALFORMED. */
+/* Checks a certificate under RFC 5280, and says what it holds and where. No memory is taken.
+ * Answers X509_OK, X509_OVERLENGTH, X509_MALFORMED. */
 x509_status x509_certificate_view(const uint8_t *in, size_t len, x509_certificate *view);
 
 typedef struct {

@@ -178,6 +178,8 @@ fi
 "${compiler[@]}" "$robustness/refuse_memory.c" -Wl,--wrap=malloc,--wrap=realloc,--wrap=free \
     "$folder/libx509_c.a" "$folder/liblibc_c.a" -o "$folder/refuse_memory"
 wants "C, each allocation refused, also of each row" 0 "$folder/calls.txt" "$folder/refuse_memory" "${files[@]}" "${rows[@]}"
+"${compiler[@]}" "$robustness/compare_checks.c" "$folder/libx509_c.a" "$folder/liblibc_c.a" -o "$folder/compare_checks"
+"$folder/compare_checks" "${rows[0]}" 1000000 1 "${files[@]}" || failed=1
 if has valgrind "runs that look for leaks and bad reads"; then
     watched=(valgrind -q --error-exitcode=9 --leak-check=full)
     run_c "C under valgrind" "" "${watched[@]}"

@@ -6,6 +6,8 @@ ghost use Rattle.x509_c_calls.specs.Signature.{IsSignature};
 ghost use Rattle.x509_c_calls.specs.View.{IsView};
 ghost use Rattle.x509_c_calls.specs.Calls.{Reads};
 ghost use Rattle.x509_c_calls.specs.Status.{Tells};
+ghost use Rattle.x509_c_calls.specs.declared.status.status.Status.TheVariants.{Refused};
+ghost use Rattle.x509_der.specs.declared.error.ErrorKind.TheVariants.{Memory};
 
 use std::alloc::Global;
 use x509_base::Rfc5280;
@@ -16,14 +18,15 @@ use x509_c_calls::{
 use x509_cert::certificate::CertificateInner;
 use x509_der::Grammar;
 
-/// Decodes a certificate under the rules of RFC 5280, and fills in what it says and where its parts stand.
+/// Checks a certificate under the rules of RFC 5280, and fills in what it says and where its parts stand. It takes no
+/// memory.
 #[unsafe(no_mangle)]
 pub extern "C" fn x509_certificate_view(
     alloc: Global,
     input: &[u8],
     view: &mut CertificateView,
 ) -> i32
-    ensures { Tells (λ status. Reads ⟦<CertificateInner<Rfc5280> as Grammar>⟧.form ⟦<CertificateInner<Rfc5280> as Grammar>⟧.refuses input.now (λ certificate. IsView input.now certificate view.new) (view.new ≡ view.old) status) result }
+    ensures { Tells (λ status. Reads ⟦<CertificateInner<Rfc5280> as Grammar>⟧.form ⟦<CertificateInner<Rfc5280> as Grammar>⟧.refuses input.now (λ certificate. IsView input.now certificate view.new) (view.new ≡ view.old) status × (status ≡ Refused Memory → ⊥)) result }
 {
     certificate_view(alloc, input, view).code()
 }

@@ -28,4 +28,5 @@ pub mod Texts
 pub mod Names
 pub mod Refusals
 pub mod Serials
+pub mod Lent
 pub mod PointNames

@@ -1,5 +1,5 @@
 -- Where the extensions of a certificate stand.
-use Rattle.std.proofs.Common.{◌≡◌, ℕ, Bool, true, false, List, [], ◌∷◌, ◌++◌, drop, Option, Some, None, bytes_eq, refl, sym, ap, ◌∙◌, append_assoc}
+use Rattle.std.proofs.Common.{◌≡◌, ℕ, Bool, true, false, List, [], ◌∷◌, ◌++◌, drop, Option, Some, None, bytes_eq, refl, sym, ap, ◌∙◌, append_assoc, ◌≤◌, length, arith}
 use Rattle.x509_c_calls.specs.Extensions.{FindsExtension}
 use Rattle.x509_c_calls.specs.View.{IsOptionAt}
 use Rattle.x509_c_calls.specs.declared.certificate.extension.ExtensionView.{ExtensionView}
@@ -74,3 +74,7 @@ absent bytes behind oid o view none = rw (sym none) (refl, refl)
 pub some_stand : (o : Option (List Extension)) (xs : List Extension) (behind bytes : List ℕ) (span : Span) → Some xs ≡ o → IsOptionAt extensions o behind bytes span → drop span.place bytes ≡ element 48 (joined (spelling extension) xs) ++ behind
 some_stand o xs behind bytes span some stands =
     let here : IsAt (spelling extensions xs) behind bytes span = rw (sym some) at stands in here.0
+
+pub place_within : (o : Option (List Extension)) (behind bytes : List ℕ) (span : Span) → IsOptionAt extensions o behind bytes span → span.place ≤ length bytes
+place_within None behind bytes span nowhere = rw nowhere (omega arith)
+place_within (Some xs) behind bytes span stands = stands.2

@@ -12,7 +12,7 @@ use crate::certificate::view::view_of;
 use crate::{Span, Status, enter, read, step};
 use std::alloc::Global;
 use x509_base::Rfc5280;
-use x509_cert::certificate::CertificateInner;
+use x509_cert::certificate::{CertificateInner, CertificateSlices};
 use x509_der::Grammar;
 use x509_ext::Extension;
 
@@ -121,7 +121,11 @@ pub fn certificate_extension(
     let Some(extensions) = certificate.tbs_certificate().extensions() else {
         return Status::Absent;
     };
-    let mut at = view_of(input, &certificate).extensions.place;
+    let slices = match CertificateSlices::from_der(input) {
+        Ok(slices) => slices,
+        Err(e) => return e.into(),
+    };
+    let mut at = view_of(alloc, input, &slices).extensions.place;
     enter(input, &mut at);
     pick(input, at, extensions.as_slice(), oid, found)
 }
