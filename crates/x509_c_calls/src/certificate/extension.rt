@@ -1,18 +1,19 @@
 //! The extension with an OID.
 
 ghost use Rattle.std.specs.Prelude.{◌≡◌, ◌≤◌, ◌++◌, ◌∷◌, [], drop, length, List, ℕ, IfSome, MatchOption};
+ghost use Rattle.x509_c_calls.specs.View.{IsOptionAt, behind_part};
 ghost use Rattle.x509_c_calls.specs.Extensions.{FindsExtension, IsExtensionAt, LooksUpExtension, flag};
 ghost use Rattle.x509_ext.specs.LookUp.{with_oid};
 ghost use Rattle.x509_der.specs.List.{joined};
-ghost use Rattle.x509_der.specs.Form.{spelling};
+ghost use Rattle.x509_der.specs.Form.{Spells, spelling};
 ghost use Rattle.x509_ext.specs.Extension as grammar;
 ghost use Rattle.x509_ext.specs.declared.extension.Extension.{Extension};
 
-use crate::certificate::view::view_of;
+use crate::certificate::view::{is_written, wrapped};
 use crate::{Span, Status, enter, read, step};
 use std::alloc::Global;
 use x509_base::Rfc5280;
-use x509_cert::certificate::{CertificateInner, CertificateSlices};
+use x509_cert::certificate::CertificateInner;
 use x509_der::Grammar;
 use x509_ext::Extension;
 
@@ -32,6 +33,27 @@ fn flag(is_set: bool) -> u32
     ensures { result ≡ flag is_set }
 {
     if is_set { 1 } else { 0 }
+}
+
+/// Where the list of extensions stands in the bytes, which are the certificate's encoding; both numbers are 0 where
+/// there is none.
+fn list_of(input: &[u8], certificate: &CertificateInner<Rfc5280>) -> Span
+    ensures { Spells ⟦<CertificateInner<Rfc5280> as Grammar>⟧.form certificate.now input.now → IsOptionAt grammar.extensions certificate.now.tbs_certificate.extensions (behind_part certificate.now) input.now result }
+{
+    let part = certificate.tbs_certificate();
+    let mut at = 0;
+    enter(input, &mut at);
+    enter(input, &mut at);
+    step(input, &mut at, is_written(part.version()));
+    step(input, &mut at, true);
+    step(input, &mut at, true);
+    step(input, &mut at, true);
+    step(input, &mut at, true);
+    step(input, &mut at, true);
+    step(input, &mut at, true);
+    step(input, &mut at, part.issuer_unique_id().is_some());
+    step(input, &mut at, part.subject_unique_id().is_some());
+    wrapped(input, at, part.extensions().is_some())
 }
 
 /// The first extension with the OID, with its place, and those that follow it. The bytes of the extensions begin at the
@@ -121,11 +143,7 @@ pub fn certificate_extension(
     let Some(extensions) = certificate.tbs_certificate().extensions() else {
         return Status::Absent;
     };
-    let slices = match CertificateSlices::from_der(input) {
-        Ok(slices) => slices,
-        Err(e) => return e.into(),
-    };
-    let mut at = view_of(alloc, input, &slices).extensions.place;
+    let mut at = list_of(input, &certificate).place;
     enter(input, &mut at);
     pick(input, at, extensions.as_slice(), oid, found)
 }

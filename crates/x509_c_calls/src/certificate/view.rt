@@ -83,7 +83,7 @@ pub fn seconds(time: &Time) -> u64
 }
 
 /// Where an element stands that stands alone in another; both numbers are 0 where it is absent.
-fn wrapped(input: &[u8], place: usize, is_there: bool) -> Span
+pub(crate) fn wrapped(input: &[u8], place: usize, is_there: bool) -> Span
     requires { place ≤ length input.now }
     ensures there { is_there ≡ true → (t u : ℕ) (content more : List ℕ) → is_identifier t ≡ true → is_identifier u ≡ true → drop place input.now ≡ element t (element u content) ++ more → IsAt (element u content) more input.now result }
     ensures absent { is_there ≡ false → result ≡ record { place = 0; len = 0 } }
