@@ -115,9 +115,13 @@ program() {
     fi
 }
 
-if has python3 "certificates and CRLs that break a rule"; then
+if has python3 "certificates and CRLs that break a rule, and x509_show beside openssl"; then
     program x509_linter
     python3 -B "$gate/test_linter.py" "$top/crates/x509_linter/out/x509_linter" || failed=1
+    if has openssl "x509_show beside openssl" && [ -d /etc/ssl/certs ]; then
+        program x509_show
+        python3 -B "$gate/compare_with_openssl.py" "$top/crates/x509_show/out/x509_show" || failed=1
+    fi
 fi
 
 has "${CC:-cc}" "all callers" || exit "$failed"
