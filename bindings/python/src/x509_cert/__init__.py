@@ -4,6 +4,7 @@ The names are those of `cryptography.x509` where both have the same thing. All b
 """
 
 from ._library import X509Error
+from .builder import CertificateBuilder, CertificateRevocationListBuilder, CertificateSigningRequestBuilder, Signer
 from .certificate import (
     Certificate,
     CertificateRevocationList,

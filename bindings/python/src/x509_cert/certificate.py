@@ -40,6 +40,24 @@ def _moment(seconds: int) -> datetime.datetime:
     return _EPOCH + datetime.timedelta(seconds=seconds)
 
 
+def _seconds(moment: datetime.datetime) -> int:
+    """The whole seconds since 1970-01-01T00:00:00Z."""
+    if moment.tzinfo is None:
+        raise ValueError("a moment has a time zone")
+    seconds = int((moment - _EPOCH).total_seconds() // 1)
+    if seconds < 0:
+        raise ValueError("a moment is from 1970 on")
+    return seconds
+
+
+def _serial_element(number: int) -> bytes:
+    """The DER of an INTEGER of at most 21 octets, which serial numbers have; a ValueError where it has more."""
+    size = (number + (number < 0)).bit_length() // 8 + 1
+    if size > 21:
+        raise ValueError("a serial number has at most 21 octets")
+    return bytes([2, size]) + number.to_bytes(size, "big", signed=True)
+
+
 def _serial_number(element: bytes) -> int:
     """The number that an INTEGER is, by its DER."""
     return int.from_bytes(view("x509_serial_number", Span, element).of(element), "big", signed=True)
@@ -231,10 +249,10 @@ class CertificateRevocationList:
 
     def get_revoked_certificate_by_serial_number(self, serial_number: int) -> RevokedCertificate | None:
         """The first entry with the serial number. Its issuer isn't compared (RFC 5280 5.3.3)."""
-        size = (serial_number + (serial_number < 0)).bit_length() // 8 + 1
-        if size > 21:
+        try:
+            element = _serial_element(serial_number)
+        except ValueError:
             return None
-        element = bytes([2, size]) + serial_number.to_bytes(size, "big", signed=True)
         found = RevocationView()
         status = status_of("x509_crl_lookup", self._data, element, ctypes.byref(found))
         if status == ABSENT:
@@ -299,11 +317,7 @@ def check_path(anchor: Certificate, path: Sequence[bytes], moment: datetime.date
     `verify(public_key, algorithm, message, signature)` says whether the bits are a signature of the message: it is given the DER of the key and of the
     algorithm. Policies, name constraints and revocation aren't looked at.
     """
-    if moment.tzinfo is None:
-        raise ValueError("a moment has a time zone")
-    seconds = int((moment - _EPOCH).total_seconds() // 1)
-    if seconds < 0:
-        raise ValueError("a moment is from 1970 on")
+    seconds = _seconds(moment)
     if not path:
         raise ValueError("a path has a certificate")
     fault = PathFaultView()
