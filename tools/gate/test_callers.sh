@@ -86,21 +86,6 @@ accept_path() {
         -trusted "$folder/root.pem" -untrusted "$folder/intermediate.pem" "$folder/server.pem"
 }
 
-# openssl takes what the authority of examples/python made, and refuses the server's certificate once it is revoked
-authority() {
-    local made=$folder/authority
-    env X509_LIBRARY="$folder/libx509.so" PYTHONPATH="$top/bindings/python/src" python3 -B "$top/examples/python/authority.py" "$made" || {
-        echo "failed: Python, an authority"
-        failed=1
-        return
-    }
-    local verify=(openssl verify -x509_strict -attime 1893456000 -CAfile "$made/root.pem" -untrusted "$made/intermediate.pem")
-    echo "$made/server.pem: OK" >"$folder/accepted.txt"
-    wants "openssl, the chain of an authority" 0 "$folder/accepted.txt" "${verify[@]}" "$made/server.pem"
-    wants "openssl, the chain under a CRL that is empty" 0 "$folder/accepted.txt" "${verify[@]}" -crl_check -CRLfile "$made/before.pem" "$made/server.pem"
-    wants "openssl, the chain once it is revoked" 2 "$folder/nothing" "${verify[@]}" -crl_check -CRLfile "$made/after.pem" "$made/server.pem"
-}
-
 echo 'certificate: refused with 2' >"$folder/refused.txt"
 echo 'all calls answer as they should' >"$folder/calls.txt"
 : >"$folder/nothing"
@@ -236,11 +221,6 @@ if has python3 "the caller in Python, and wide and deep values"; then
     hostile "Python" python3 -B "$top/examples/python/show.py" "$folder/libx509.so"
     payloads "Python" python3 -B "$top/examples/python/payloads.py" "$folder/libx509.so"
     paths paths "Python" python3 -B "$top/examples/python/path.py" "$folder/libx509.so"
-    if python3 -c 'import cryptography' 2>"$folder/said"; then
-        ! has openssl "the chain of an authority" || authority
-    else
-        echo "left out, since Python's cryptography isn't installed: an authority"
-    fi
     run_tests "Python, the tests of the package, beside cryptography" env X509_LIBRARY="$folder/libx509.so" PYTHONPATH="$top/bindings/python/src" \
         python3 -B -m unittest discover -s "$top/bindings/python/tests"
     python3 -B "$robustness/hostile_sizes.py" --rows "$folder"
