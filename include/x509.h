@@ -68,7 +68,7 @@ typedef struct {
  * the text of the empty name. On a status other than X509_OK and X509_ROOM, `*written` is unchanged. */
 
 /* Decodes a value of the type with that name, such as "Certificate" or "Name" (the names are those of the table in
- * crates/x509_tool_types/src; `name_len` bytes, no zero at the end), under a profile, and encodes it again. X509_FAILED where the type or the
+ * crates/x509_types/src; `name_len` bytes, no zero at the end), under a profile, and encodes it again. X509_FAILED where the type or the
  * profile is unknown. What was decoded is encoded as the same bytes, except that under the profile X509_RFC5280 a date of a validity that is a
  * GeneralizedTime before 2050 becomes a UTCTime, so that a signature over the bytes isn't valid for what is written.
  * Answers X509_OK, X509_ROOM, X509_MEMORY, X509_OVERLENGTH, X509_MALFORMED, X509_FAILED. */
