@@ -2,11 +2,11 @@
 //! follows it. x is a field, `{n}x` the same under an explicit tag of the number n, `[n]x` under an implicit one, `x?`
 //! may be absent, `x=d` has the default d. n is 0 to 30, the numbers that one identifier octet has (X.690 8.1.2.2).
 
-ghost use Rattle.std.specs.Prelude.{◌≡◌, ◌<◌, IfErr, OnErr};
+ghost use Rattle.std.specs.Prelude.{◌≡◌, ◌<◌, IfErr, List, MatchResult, OnErr, ℕ};
 ghost use Rattle.x509_der.specs.declared.error.ErrorKind.TheVariants.{Malformed, Memory};
 ghost use Rattle.x509_der.specs.Outcome.{Gives, GivesBefore};
 ghost use Rattle.x509_der.specs.Form.{one_tag};
-ghost use Rattle.x509_der.specs.Frames.{optional, defaulted, explicit, implicit, implicit_tag, required, end_at};
+ghost use Rattle.x509_der.specs.Frames.{optional, default_of, defaulted, explicit, implicit, implicit_tag, required, end_at};
 
 use crate::frames::default_value::DefaultValue;
 use crate::{Decode, Error, ErrorKind, FixedTag, read_whole, split_element, split_usual};
@@ -192,6 +192,27 @@ pub fn read_optional_implicit<T: Decode + FixedTag>(
     }
 }
 
+/// The value of a field with a default: what was found, or the default where it is absent.
+///
+/// # Errors
+///
+/// `Malformed` exactly where the default was found (X.690 11.5).
+#[inline(always)]
+fn or_default<T: DefaultValue>(found: Option<T>) -> Result<T, Error>
+    ensures exact { MatchResult result (λ value. (behind : List ℕ) → default_of T.default (found, behind) ≡ Ok (value, behind)) (λ e. (behind : List ℕ) → default_of T.default (found, behind) ≡ Err Malformed) }
+    ensures err { IfErr result (λ e. e.kind ≡ Malformed) }
+{
+    match found {
+        None => Ok(T::default_value()),
+        Some(value) => {
+            if value.is_default() {
+                return Err(ErrorKind::Malformed.into());
+            }
+            Ok(value)
+        }
+    }
+}
+
 /// x=d: a field that is absent exactly where it has its default (X.690 11.5).
 ///
 /// # Errors
@@ -206,15 +227,7 @@ pub fn read_defaulted<T: Decode + DefaultValue>(alloc: Global, rest: &mut &[u8])
 {
     let mut ahead = *rest;
     let found = read_optional::<T>(alloc, &mut ahead)?;
-    let value = match found {
-        None => T::default_value(),
-        Some(value) => {
-            if value.is_default() {
-                return Err(ErrorKind::Malformed.into());
-            }
-            value
-        }
-    };
+    let value = or_default(found)?;
     *rest = ahead;
     Ok(value)
 }
@@ -238,15 +251,7 @@ pub fn read_defaulted_explicit<T: Decode + DefaultValue>(
 {
     let mut ahead = *rest;
     let found = read_optional_explicit::<T>(alloc, n, &mut ahead)?;
-    let value = match found {
-        None => T::default_value(),
-        Some(value) => {
-            if value.is_default() {
-                return Err(ErrorKind::Malformed.into());
-            }
-            value
-        }
-    };
+    let value = or_default(found)?;
     *rest = ahead;
     Ok(value)
 }
@@ -270,15 +275,7 @@ pub fn read_defaulted_implicit<T: Decode + FixedTag + DefaultValue>(
 {
     let mut ahead = *rest;
     let found = read_optional_implicit::<T>(alloc, n, &mut ahead)?;
-    let value = match found {
-        None => T::default_value(),
-        Some(value) => {
-            if value.is_default() {
-                return Err(ErrorKind::Malformed.into());
-            }
-            value
-        }
-    };
+    let value = or_default(found)?;
     *rest = ahead;
     Ok(value)
 }
