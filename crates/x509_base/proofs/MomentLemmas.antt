@@ -1,16 +1,17 @@
 -- The library's date-times have the seconds since 1970 of what they show.
-use Rattle.std.proofs.Common.{◌≡◌, ℕ, ◌+◌, ◌*◌, ◌/◌, ◌%◌, ◌<◌, ◌≤◌, inl, refl, sym, ap, ◌∙◌, arith, ℤ, pos, negsuc, ◌+ℤ◌, ◌≤ℤ◌, unsigned_abs}
-use Rattle.std.proofs.lemmas.Int.{by_lt_z}
-use Rattle.jiff_core.specs.Date.{epoch_day, IsYmd}
-use Rattle.jiff_core.specs.DateTime.{civil_nanos, IsCivilNanos}
-use Rattle.jiff_core.specs.Time.{IsHms}
+use Rattle.std.proofs.Common.{◌≡◌, ℕ, ◌+◌, ◌*◌, ◌/◌, ◌%◌, ◌<◌, ◌≤◌, inl, refl, sym, ap, ◌∙◌, arith, ℤ, pos, negsuc, ◌≤ℤ◌, unsigned_abs}
+use Rattle.std.proofs.lemmas.Int.{by_lt_z, to_z_pos}
+use mir.Syntax.{w64}
+use mir.Val.{of_z, to_z}
+use Rattle.jiff_core.specs.Date.{epoch_day}
+use Rattle.jiff_core.specs.DateTime.{civil_nanos, civil_seconds, IsCivilNanos}
 use Rattle.jiff_core.specs.declared.civil.date.Date.{Date}
 use Rattle.jiff_core.specs.declared.civil.datetime.DateTime.{DateTime}
 use Rattle.jiff_core.proofs.SignedLemmas.{signed_arith}
 use Rattle.jiff_core.proofs.CalendarLemmas.{day_count-epoch, days_from_civil-day_count}
 use Rattle.jiff_core.proofs.DateLemmas.{epoch_day-lt, epoch_day_injective}
-use Rattle.jiff_core.proofs.DateTimeLemmas.{time_nanos_bound, time_nanos_injective, civil_nanos-parts, civil_nanos_range, civil_nanos_injective}
-use Rattle.x509_base.specs.CivilTime.{CivilTime, civil_time, IsDateTime, days_of_years, days_of_months, days_since_1970, unix_seconds}
+use Rattle.jiff_core.proofs.DateTimeLemmas.{time_nanos_bound, time_nanos_injective, civil_nanos-civil_seconds, civil_nanos-parts, civil_nanos_range, civil_nanos_injective}
+use Rattle.x509_base.specs.CivilTime.{CivilTime, IsDateTime, days_since_1970, unix_seconds}
 use Rattle.x509_base.specs.Moment.{shown_time}
 use Rattle.x509_base.proofs.CalendarLemmas.{days_in_month-library, days_since_1970-library}
 
@@ -37,29 +38,23 @@ unfolding unix_seconds
 civil_nanos-shown m low =
     omega (arith, signed_arith, civil_nanos-parts m, epoch_day-shown m low)
 
--- what shows these parts shows the date-time of these parts
-shown_time-parts : (m : DateTime) (c : CivilTime) → IsYmd (pos c.year) (pos c.month) (pos c.day) m.date → IsHms (pos c.hour) (pos c.minutes) (pos c.seconds) (pos 0) m.time → shown_time m ≡ c
-shown_time-parts m c date time =
-    let year : unsigned_abs m.date.year ≡ c.year = ap unsigned_abs date.0 in
-    let month : m.date.month ≡ c.month = ap unsigned_abs date.1 in
-    let day : m.date.day ≡ c.day = ap unsigned_abs date.2 in
-    let hour : m.time.hour ≡ c.hour = ap unsigned_abs time.0 in
-    let minute : m.time.minute ≡ c.minutes = ap unsigned_abs time.1 in
-    let second : m.time.second ≡ c.seconds = ap unsigned_abs time.2 in
-    λ i. record { year = year i; month = month i; day = day i; hour = hour i; minutes = minute i; seconds = second i }
-
--- and has its seconds
-pub civil_nanos-parts_of : (m : DateTime) (c : CivilTime) → 1970 ≤ c.year → IsYmd (pos c.year) (pos c.month) (pos c.day) m.date → IsHms (pos c.hour) (pos c.minutes) (pos c.seconds) (pos 0) m.time → civil_nanos m ≡ pos (unix_seconds c * 1_000_000_000)
-civil_nanos-parts_of m c low date time =
-    let fraction : m.time.subsec_nanosecond ≡ 0 = ap unsigned_abs time.3 in
-    let first : pos 1970 ≤ℤ m.date.year = rw date.0 (omega (arith, signed_arith)) in
-    let shown = shown_time-parts m c date time in
+-- a clock that shows these parts, and no fraction of a second, has the seconds of their date-time
+pub civil_nanos-clock : (m : DateTime) (c : CivilTime) → 1970 ≤ c.year → m.date.year ≡ pos c.year → m.date.month ≡ c.month → m.date.day ≡ c.day → m.time.hour ≡ c.hour → m.time.minute ≡ c.minutes → m.time.second ≡ c.seconds → m.time.subsec_nanosecond ≡ 0 → civil_nanos m ≡ pos (unix_seconds c * 1_000_000_000)
+civil_nanos-clock m c low year month day hour minute second fraction =
+    let first : pos 1970 ≤ℤ m.date.year = rw year (omega (arith, signed_arith)) in
+    let shown : shown_time m ≡ c = λ i. record { year = ap unsigned_abs year i; month = month i; day = day i; hour = hour i; minutes = minute i; seconds = second i } in
     let nanos = rw shown at (civil_nanos-shown m first) in
     omega (arith, signed_arith)
 
-pub unix_seconds-epoch : unix_seconds (civil_time 1970 1 1 0 0 0) ≡ 0
-unfolding unix_seconds days_of_years days_of_months
-unix_seconds-epoch = refl
+-- the whole seconds of a clock that shows no fraction of a second
+pub civil_seconds-whole : (m : DateTime) (n : ℕ) → civil_nanos m ≡ pos (n * 1_000_000_000) → civil_seconds m ≡ pos n
+civil_seconds-whole m n e = omega (arith, signed_arith, civil_nanos-civil_seconds m, m.time.subsec_in)
+
+-- which the library's numbers can tell
+pub second_as_number : (m : DateTime) (second : ℤ) (n : ℕ) → second ≡ civil_seconds m → civil_nanos m ≡ pos (n * 1_000_000_000) → to_z w64 (of_z w64 second) ≡ pos n
+second_as_number m second n value e =
+    let is : second ≡ pos n = value ∙ civil_seconds-whole m n e in
+    rw is (to_z_pos w64 n (omega (arith, signed_arith, civil_nanos_range m)))
 
 abbrev epoch_date : Date
 epoch_date =
@@ -103,7 +98,7 @@ civil_nanos-whole c h n e =
     rw same at (civil_nanos-plain_of c h (n % 1_000_000_000) (fraction_small n))
 
 -- so the library has it
-in_range : (c : CivilTime) (n : ℕ) → IsDateTime c → unix_seconds c ≡ n / 1_000_000_000 → IsCivilNanos (pos n)
+pub in_range : (c : CivilTime) (n : ℕ) → IsDateTime c → unix_seconds c ≡ n / 1_000_000_000 → IsCivilNanos (pos n)
 in_range c n h e =
     rw (civil_nanos-whole c h n e) at (civil_nanos_range (plain_of c h (n % 1_000_000_000) (fraction_small n)))
 
@@ -119,17 +114,9 @@ pub shown_time-whole : (m : DateTime) (n : ℕ) (c : CivilTime) → civil_nanos 
 shown_time-whole m n c is h e =
     same_shown m (plain_of c h (n % 1_000_000_000) (fraction_small n)) (is ∙ sym (civil_nanos-whole c h n e))
 
--- so many nanoseconds after the epoch
-pub after_epoch : (epoch later : ℤ) (n : ℕ) → epoch ≡ pos 0 → later ≡ epoch +ℤ pos n → later ≡ pos n
-after_epoch epoch later n e h = omega (arith, signed_arith)
+-- within its range alone
+pub in_range_only : (n : ℕ) → IsCivilNanos (pos n) → n / 1_000_000_000 ≤ 253_402_300_799
+in_range_only n e = omega (arith, signed_arith)
 
--- so the library has the moment that is so many nanoseconds after the epoch
-pub in_range_after : (epoch : ℤ) (c : CivilTime) (n : ℕ) → epoch ≡ pos 0 → IsDateTime c → unix_seconds c ≡ n / 1_000_000_000 → IsCivilNanos (epoch +ℤ pos n)
-in_range_after epoch c n e h s = omega (arith, signed_arith, in_range c n h s)
-
--- and only within its range
-pub in_range_only : (epoch : ℤ) (n : ℕ) → epoch ≡ pos 0 → IsCivilNanos (epoch +ℤ pos n) → n / 1_000_000_000 ≤ 253_402_300_799
-in_range_only epoch n e h = omega (arith, signed_arith)
-
-pub range_in : (epoch : ℤ) (n : ℕ) → epoch ≡ pos 0 → n / 1_000_000_000 ≤ 253_402_300_799 → IsCivilNanos (epoch +ℤ pos n)
-range_in epoch n e h = omega (arith, signed_arith)
+pub range_in : (n : ℕ) → n / 1_000_000_000 ≤ 253_402_300_799 → IsCivilNanos (pos n)
+range_in n h = omega (arith, signed_arith)

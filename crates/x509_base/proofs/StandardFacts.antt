@@ -3,7 +3,7 @@ use Rattle.std.proofs.Common.{◌≡◌, [], ◌∷◌, map, true, false, Ok, Er
 use Rattle.x509_der.specs.declared.error.ErrorKind.TheVariants.{Malformed}
 use Rattle.x509_base.specs.CivilTime.{civil_time, last_date_time, last_utc_time, is_leap_year, days_in_month, days_of_years, days_of_months, unix_seconds}
 use Rattle.x509_base.specs.TimeText.{date_time_text, generalized_time_octets, utc_time_octets}
-use Rattle.x509_base.specs.TimeReading.{generalized_time_reading, utc_time_reading}
+use Rattle.x509_base.specs.TimeReading.{two_digit_number, four_digit_number, generalized_time_reading, utc_time_reading}
 
 -- 1900 and 2100 are no leap years, 2000 and 2400 are
 pub leap_years : map is_leap_year (1900 ∷ 2000 ∷ 2023 ∷ 2024 ∷ 2100 ∷ 2400 ∷ []) ≡ false ∷ true ∷ false ∷ true ∷ false ∷ true ∷ []
@@ -42,5 +42,5 @@ pub known_readings : (generalized_time_reading (codes "20000229000000Z") ≡ Ok 
     × (generalized_time_reading (codes "21000229000000Z") ≡ Err Malformed) × (generalized_time_reading (codes "19691231235959Z") ≡ Err Malformed)
     × (utc_time_reading (codes "161231235960Z") ≡ Err Malformed) × (utc_time_reading (codes "500101000000Z") ≡ Err Malformed)
     × (utc_time_reading (codes "230229000000Z") ≡ Err Malformed) × (utc_time_reading (codes "700101000000Z") ≡ Ok (civil_time 1970 1 1 0 0 0))
-unfolding generalized_time_reading utc_time_reading generalized_time_octets utc_time_octets
+unfolding generalized_time_reading utc_time_reading generalized_time_octets utc_time_octets two_digit_number four_digit_number
 known_readings = (refl, refl, refl, refl, refl, refl, refl)

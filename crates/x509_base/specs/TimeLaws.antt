@@ -1,16 +1,16 @@
 -- Each content has one date-time, and each date-time one content.
-use Rattle.std.specs.Prelude.{◌≡◌, ℕ, ◌+◌, ◌*◌, ◌/◌, ◌%◌, ◌≤◌, ◌<◌, Bool, true, false, ◌&&◌, nat_eq, nat_le, List, Ok, Err, if◌then◌else◌, refl}
+use Rattle.std.specs.Prelude.{◌≡◌, ℕ, ◌+◌, ◌*◌, ◌/◌, ◌%◌, ◌≤◌, ◌<◌, Bool, true, false, ◌&&◌, nat_eq, nat_le, List, [], ◌∷◌, length, slice_index, Ok, Err, if◌then◌else◌, refl}
 use Rattle.std.specs.Bool.{Decides}
 use Rattle.std.specs.Cmp.Lexicographic.{pointwise, same_text, other_text}
 use Rattle.std.specs.Int.{IsInRange}
 use Rattle.std.proofs.Common.{arith, sym, ap, ◌∙◌, inl, inr}
-use Rattle.std.proofs.lemmas.Bool.{cases_Bool, and_parts}
+use Rattle.std.proofs.lemmas.Bool.{cases_Bool, cases_lt, and_parts}
 use Rattle.std.proofs.lemmas.Bool.Decides.{nat_tests, Decides-and, Decides-like}
 use Rattle.x509_der.specs.declared.error.ErrorKind.{ErrorKind}
 use Rattle.x509_der.specs.declared.error.ErrorKind.TheVariants.{Malformed}
 use Rattle.x509_base.specs.CivilTime.{CivilTime, days_in_month, IsDateTime}
-use Rattle.x509_base.specs.TimeText.{date_time_text, generalized_time_octets, utc_time_octets}
-use Rattle.x509_base.specs.TimeReading.{IsUtcTime, full_year, named_generalized_time, named_utc_time, named_by_text, is_in_range, is_date_time, is_utc_time, read_as, generalized_time_reading, utc_time_reading}
+use Rattle.x509_base.specs.TimeText.{two_digits, octets_from_month, date_time_text, generalized_time_octets, utc_time_octets}
+use Rattle.x509_base.specs.TimeReading.{IsUtcTime, two_digit_number, four_digit_number, full_year, time_from_month, named_generalized_time, named_utc_time, named_by_text, is_in_range, is_date_time, is_utc_time, read_as, generalized_time_reading, utc_time_reading}
 
 -- ---- the tests
 
@@ -32,11 +32,25 @@ is_utc_time-Decides c =
 
 -- ---- the digits name the number again
 
-number_again : (n : ℕ) → n < 100 → 10 * ((48 + n / 10) % 16) + (48 + n % 10) % 16 ≡ n
-number_again n h = omega arith
+number_again : (n : ℕ) → n < 100 → two_digit_number (48 + n / 10) (48 + n % 10) ≡ n
+unfolding two_digit_number
+number_again n h = grind (arith, nat_tests)
 
-long_number_again : (n : ℕ) → n < 10000 → 100 * (10 * ((48 + n / 100 / 10) % 16) + (48 + n / 100 % 10) % 16) + (10 * ((48 + n % 100 / 10) % 16) + (48 + n % 100 % 10) % 16) ≡ n
-long_number_again n h = omega (arith, number_again (n / 100) (omega arith), number_again (n % 100) (omega arith))
+of_low : (high low : ℕ) → low < 100 → four_digit_number high low ≡ 100 * high + low
+unfolding four_digit_number
+of_low high low h = grind (arith, nat_tests)
+
+long_number_again : (n : ℕ) → n < 10000 → four_digit_number (two_digit_number (48 + n / 100 / 10) (48 + n / 100 % 10)) (two_digit_number (48 + n % 100 / 10) (48 + n % 100 % 10)) ≡ n
+long_number_again n h = rw (number_again (n / 100) (omega arith), number_again (n % 100) (omega arith), of_low (n / 100) (n % 100) (omega arith)) (omega arith)
+
+-- ---- a number below 100 names its digits
+
+digits_again : (tens ones : ℕ) → two_digit_number tens ones < 100 → (48 + two_digit_number tens ones / 10 ≡ tens) × (48 + two_digit_number tens ones % 10 ≡ ones)
+unfolding two_digit_number
+digits_again tens ones h = (grind (arith, nat_tests), grind (arith, nat_tests))
+
+pub two_digits-number : (tens ones : ℕ) → two_digit_number tens ones < 100 → two_digits (two_digit_number tens ones) ≡ tens ∷ ones ∷ []
+two_digits-number tens ones h = let same = digits_again tens ones h in λ i. same.0 i ∷ same.1 i ∷ []
 
 full_year_again : (y : ℕ) → 1970 ≤ y → y ≤ 2049 → full_year (y % 100) ≡ y
 full_year_again y low high = grind (arith, nat_tests)
@@ -83,6 +97,63 @@ named_utc_time-octets c h =
       minutes = number_again c.minutes (omega arith) i;
       seconds = number_again c.seconds (omega arith) i;
     }
+
+-- ---- octets that name a good value, and end with Z, are its spelling
+
+no_number : (tens ones : ℕ) → 100 ≤ two_digit_number tens ones → two_digit_number tens ones ≡ 255
+unfolding two_digit_number
+no_number tens ones h = grind (arith, nat_tests)
+
+year_number : (tens ones : ℕ) → full_year (two_digit_number tens ones) ≤ 2049 → two_digit_number tens ones < 100
+year_number tens ones h =
+    elim (cases_lt (two_digit_number tens ones) 100) [ inl lt ↦ lt | inr ge ↦ absurd (let far : 2155 ≤ 2049 = rw (no_number tens ones ge) at h in omega arith) ]
+
+full_year_digits : (n : ℕ) → n < 100 → full_year n % 100 ≡ n
+full_year_digits n h = grind (arith, nat_tests)
+
+long_numbers : (high low : ℕ) → four_digit_number high low ≤ 9999 → (high < 100) × (low < 100) × (four_digit_number high low ≡ 100 * high + low)
+unfolding four_digit_number
+long_numbers high low h = (grind (arith, nat_tests), grind (arith, nat_tests), grind (arith, nat_tests))
+
+-- the eleven octets from the month on
+from_month_again : (year : ℕ) (bytes : List ℕ) → length bytes ≡ 11 → slice_index bytes 10 ≡ 90 → IsDateTime (time_from_month year bytes 0) → octets_from_month (time_from_month year bytes 0) ≡ bytes
+from_month_again year (a ∷ b ∷ c ∷ d ∷ e ∷ f ∷ g ∷ h ∷ k ∷ l ∷ z ∷ []) n is good =
+    let month = digits_again a b (omega arith) in
+    let day = digits_again c d (day_low (time_from_month year (a ∷ b ∷ c ∷ d ∷ e ∷ f ∷ g ∷ h ∷ k ∷ l ∷ z ∷ []) 0) good) in
+    let hour = digits_again e f (omega arith) in
+    let minutes = digits_again g h (omega arith) in
+    let seconds = digits_again k l (omega arith) in
+    let last = sym is in
+    λ i. month.0 i ∷ month.1 i ∷ day.0 i ∷ day.1 i ∷ hour.0 i ∷ hour.1 i ∷ minutes.0 i ∷ minutes.1 i ∷ seconds.0 i ∷ seconds.1 i ∷ last i ∷ []
+from_month_again year bytes n is good = absurd (cc)
+
+pub utc_time_octets-named : (bytes : List ℕ) → length bytes ≡ 13 → slice_index bytes 12 ≡ 90 → IsUtcTime (named_utc_time bytes) → utc_time_octets (named_utc_time bytes) ≡ bytes
+unfolding utc_time_octets
+utc_time_octets-named (a ∷ b ∷ rest) n is good =
+    let small = year_number a b good.1 in
+    let year = digits_again a b small in
+    let same = full_year_digits (two_digit_number a b) small in
+    let first = ap (λ (x : ℕ). 48 + x / 10) same ∙ year.0 in
+    let second = ap (λ (x : ℕ). 48 + x % 10) same ∙ year.1 in
+    let others = from_month_again (full_year (two_digit_number a b)) rest (omega arith) is good.0 in
+    λ i. first i ∷ second i ∷ others i
+utc_time_octets-named bytes n is good = absurd (cc)
+
+pub generalized_time_octets-named : (bytes : List ℕ) → length bytes ≡ 15 → slice_index bytes 14 ≡ 90 → IsDateTime (named_generalized_time bytes) → generalized_time_octets (named_generalized_time bytes) ≡ bytes
+unfolding generalized_time_octets
+generalized_time_octets-named (a ∷ b ∷ c ∷ d ∷ rest) n is good =
+    let numbers = long_numbers (two_digit_number a b) (two_digit_number c d) (omega arith) in
+    let high : four_digit_number (two_digit_number a b) (two_digit_number c d) / 100 ≡ two_digit_number a b = omega arith in
+    let low : four_digit_number (two_digit_number a b) (two_digit_number c d) % 100 ≡ two_digit_number c d = omega arith in
+    let century = digits_again a b numbers.0 in
+    let year = digits_again c d numbers.1 in
+    let first = ap (λ (x : ℕ). 48 + x / 10) high ∙ century.0 in
+    let second = ap (λ (x : ℕ). 48 + x % 10) high ∙ century.1 in
+    let third = ap (λ (x : ℕ). 48 + x / 10) low ∙ year.0 in
+    let fourth = ap (λ (x : ℕ). 48 + x % 10) low ∙ year.1 in
+    let others = from_month_again (four_digit_number (two_digit_number a b) (two_digit_number c d)) rest (omega arith) is good in
+    λ i. first i ∷ second i ∷ third i ∷ fourth i ∷ others i
+generalized_time_octets-named bytes n is good = absurd (cc)
 
 -- ---- reading
 

@@ -1,5 +1,5 @@
 -- What reading a text or a content of a date-time answers.
-use Rattle.std.specs.Prelude.{◌≡◌, ℕ, ◌+◌, ◌*◌, ◌%◌, ◌≤◌, Bool, ◌&&◌, nat_le, nat_lt, nat_eq, List, Result, Ok, Err, IfOk, IfErr, slice_index, if◌then◌else◌}
+use Rattle.std.specs.Prelude.{◌≡◌, ℕ, ◌+◌, ◌-◌, ◌*◌, ◌≤◌, Bool, ◌&&◌, nat_le, nat_lt, nat_eq, List, Result, Ok, Err, IfOk, IfErr, slice_index, if◌then◌else◌}
 use Rattle.std.specs.Cmp.Lexicographic.{pointwise}
 use Rattle.x509_der.specs.declared.error.Error.{Error}
 use Rattle.x509_der.specs.declared.error.ErrorKind.{ErrorKind}
@@ -19,13 +19,24 @@ IsUtcTime c = IsDateTime c × (c.year ≤ 2049)
 
 -- ---- reading as a function: what the digits at their places name, if it is good and spelled just so
 
--- the number of two places, where they are digits: the low four bits of a digit's code are its value
+abbrev pub is_digit : ℕ → Bool
+is_digit octet = nat_le 48 octet && nat_le octet 57
+
+-- the number of two digits; 255, which no part of a date-time is, where one of the octets is no digit
+unfoldable pub two_digit_number : ℕ → ℕ → ℕ
+two_digit_number tens ones = if is_digit tens && is_digit ones then 10 * (tens - 48) + (ones - 48) else 255
+
+-- the number of two such numbers; 25,500 and more, which no year is, where one of the octets is no digit
+unfoldable pub four_digit_number : ℕ → ℕ → ℕ
+four_digit_number high low = if nat_lt low 100 then 100 * high + low else 25500
+
+-- the number of two places
 abbrev pub number_at : List ℕ → ℕ → ℕ
-number_at bytes place = 10 * (slice_index bytes place % 16) + slice_index bytes (place + 1) % 16
+number_at bytes place = two_digit_number (slice_index bytes place) (slice_index bytes (place + 1))
 
 -- the number of four places
 abbrev pub long_number_at : List ℕ → ℕ → ℕ
-long_number_at bytes place = 100 * number_at bytes place + number_at bytes (place + 2)
+long_number_at bytes place = four_digit_number (number_at bytes place) (number_at bytes (place + 2))
 
 -- month, day, hour, minutes and seconds, one after the other
 abbrev pub time_from_month : ℕ → List ℕ → ℕ → CivilTime

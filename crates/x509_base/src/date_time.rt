@@ -10,7 +10,7 @@ ghost use Rattle.x509_base.specs.TimeReading.{Reads, time_from_month};
 ghost use Rattle.x509_der.specs.declared.error.ErrorKind.TheVariants.{Failed, Value};
 
 use crate::time::digits::{long_number_at, number_at, ones, tens};
-use jiff::civil;
+use jiff_core::civil;
 use std::fmt;
 use std::marker::Model;
 use std::str::FromStr;
@@ -108,7 +108,7 @@ impl DateTime {
             → result ≡ Ok d }
         ensures refused { IfErr result (λ e. e.kind ≡ Value) }
     {
-        let Ok(moment) = unix_epoch().checked_add(duration) else {
+        let Ok(moment) = civil::DateTime::from_nanosecond(duration.as_nanos() as i128) else {
             return Err(ErrorKind::Value.into());
         };
         Ok(DateTime::at(moment))
@@ -120,12 +120,12 @@ impl DateTime {
         ensures { result ≡ shown_time moment }
     {
         DateTime {
-            year: moment.year() as u16,
-            month: moment.month() as u8,
-            day: moment.day() as u8,
-            hour: moment.hour() as u8,
-            minutes: moment.minute() as u8,
-            seconds: moment.second() as u8,
+            year: moment.date.year as u16,
+            month: moment.date.month,
+            day: moment.date.day,
+            hour: moment.time.hour,
+            minutes: moment.time.minute,
+            seconds: moment.time.second,
         }
     }
 
@@ -133,23 +133,26 @@ impl DateTime {
     fn moment(&self) -> civil::DateTime
         ensures { civil_nanos result ≡ pos (unix_seconds self.now * 1_000_000_000) }
     {
-        civil::datetime(
-            self.year as i16,
-            self.month as i8,
-            self.day as i8,
-            self.hour as i8,
-            self.minutes as i8,
-            self.seconds as i8,
-            0,
-        )
+        civil::DateTime {
+            date: civil::Date {
+                year: self.year as i16,
+                month: self.month,
+                day: self.day,
+            },
+            time: civil::Time {
+                hour: self.hour,
+                minute: self.minutes,
+                second: self.seconds,
+                subsec_nanosecond: 0,
+            },
+        }
     }
 
     /// The time since 1970-01-01T00:00:00Z.
     pub fn unix_duration(&self) -> Duration
         ensures { as_nanos result ≡ unix_seconds self.now * 1_000_000_000 }
     {
-        let since = self.moment().duration_since(unix_epoch());
-        Duration::from_secs(since.as_secs() as u64)
+        Duration::from_secs(self.moment().to_second() as u64)
     }
 
     // The seconds since 1970-01-01T00:00:00Z.
@@ -250,13 +253,6 @@ pub(crate) fn from_month(year: u16, bytes: &[u8], place: usize) -> Result<DateTi
         number_at(bytes, place + 6),
         number_at(bytes, place + 8),
     )
-}
-
-// 1970-01-01T00:00:00
-fn unix_epoch() -> civil::DateTime
-    ensures { civil_nanos result ≡ pos 0 }
-{
-    civil::datetime(1970, 1, 1, 0, 0, 0, 0)
 }
 
 impl fmt::Display for DateTime {

@@ -112,17 +112,13 @@ impl GeneralizedTime {
         ensures reads { Reads IsDateTime generalized_time_octets Malformed content.now result }
         ensures answers { Answers result (generalized_time_reading content.now) }
     {
-        if content.len() != 15 {
+        if content.len() != 15 || content[14] != b'Z' {
             return Err(ErrorKind::Malformed.into());
         }
         let Ok(date_time) = from_month(long_number_at(content, 0), content, 4) else {
             return Err(ErrorKind::Malformed.into());
         };
-        let time = GeneralizedTime::from_date_time(date_time);
-        if time.content().as_slice() != content {
-            return Err(ErrorKind::Malformed.into());
-        }
-        Ok(time)
+        Ok(GeneralizedTime::from_date_time(date_time))
     }
 }
 

@@ -121,19 +121,16 @@ impl UtcTime {
         ensures reads { Reads IsUtcTime utc_time_octets Malformed content.now result }
         ensures answers { Answers result (utc_time_reading content.now) }
     {
-        if content.len() != 13 {
+        if content.len() != 13 || content[12] != b'Z' {
             return Err(ErrorKind::Malformed.into());
         }
         let Ok(date_time) = from_month(full_year(number_at(content, 0)), content, 2) else {
             return Err(ErrorKind::Malformed.into());
         };
-        let Ok(time) = UtcTime::from_date_time(date_time) else {
-            return Err(ErrorKind::Malformed.into());
-        };
-        if time.content().as_slice() != content {
-            return Err(ErrorKind::Malformed.into());
+        match UtcTime::from_date_time(date_time) {
+            Ok(time) => Ok(time),
+            Err(_) => Err(ErrorKind::Malformed.into()),
         }
-        Ok(time)
     }
 }
 

@@ -17,19 +17,30 @@ pub(crate) fn ones(number: u8) -> u8
     b'0' + number % 10
 }
 
-/// The number that two digits at a place say. That they are digits isn't checked.
+/// The number that two digits at a place say; 255 where one of the octets there is no digit.
+#[inline(always)]
+#[tactic(auto, unfolding(crate::specs::TimeReading::two_digit_number))]
 pub(crate) fn number_at(bytes: &[u8], place: usize) -> u8
     requires { place + 1 < length bytes.now }
     ensures { result ≡ reading.number_at bytes.now place }
 {
-    // The low four bits of a digit's code are its value.
-    10 * (bytes[place] % 16) + bytes[place + 1] % 16
+    match (bytes[place], bytes[place + 1]) {
+        (tens @ b'0'..=b'9', ones @ b'0'..=b'9') => 10 * (tens - b'0') + (ones - b'0'),
+        _ => 255,
+    }
 }
 
-/// The number that four digits at a place say.
+/// The number that four digits at a place say; one that no year is where one of the octets there is no digit.
+#[inline(always)]
+#[tactic(auto, unfolding(crate::specs::TimeReading::four_digit_number))]
 pub(crate) fn long_number_at(bytes: &[u8], place: usize) -> u16
     requires { place + 3 < length bytes.now }
     ensures { result ≡ reading.long_number_at bytes.now place }
 {
-    100 * number_at(bytes, place) as u16 + number_at(bytes, place + 2) as u16
+    let low = number_at(bytes, place + 2);
+    if low < 100 {
+        100 * number_at(bytes, place) as u16 + low as u16
+    } else {
+        25_500
+    }
 }
