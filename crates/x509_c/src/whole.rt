@@ -18,8 +18,8 @@ use x509_c_calls::{
 use x509_cert::certificate::CertificateInner;
 use x509_cert::crl::CertificateList;
 use x509_cert::request::CertReq;
+use x509_codec::{Codec, NameCodec};
 use x509_der::{Encode, Grammar};
-use x509_tool_run::{Codec, NameCodec};
 use x509_types::Types;
 
 /// Decodes a value of the type with that name under the profile with that number, and encodes it at the front of the

@@ -3,9 +3,9 @@ use Rattle.std.specs.Prelude.{◌≡◌, ℕ, List, Bool, true, false, nat_eq, O
 use Rattle.std.specs.Str.{is_utf8}
 use Rattle.x509_der.specs.declared.error.ErrorKind.{ErrorKind}
 use Rattle.x509_der.specs.declared.error.ErrorKind.TheVariants.{Failed}
-use Rattle.x509_tool_run.specs.Answer.{Reencoding, Step}
-use Rattle.x509_tool_run.specs.declared.command.ProfileName.{ProfileName}
-use Rattle.x509_tool_run.specs.declared.command.ProfileName.TheVariants.{Rfc5280, Raw}
+use Rattle.x509_codec.specs.Answers.{Reencoding, Step}
+use Rattle.x509_codec.specs.declared.profile_name.ProfileName.{ProfileName}
+use Rattle.x509_codec.specs.declared.profile_name.ProfileName.TheVariants.{Rfc5280, Raw}
 
 -- the profile with a number
 abbrev pub profile_of : ℕ → Option ProfileName

@@ -7,7 +7,8 @@ use Rattle.x509_der.specs.declared.error.ErrorKind.{ErrorKind}
 use Rattle.x509_der.specs.declared.error.ErrorKind.TheVariants.{Memory}
 use Rattle.x509_tool_run.specs.declared.refusal.Refusal.{Refusal}
 use Rattle.x509_tool_run.specs.declared.refusal.Refusal.TheVariants.{Because}
-use Rattle.x509_tool_run.specs.Answer.{Answer, Reencoding, text_of, as_line}
+use Rattle.x509_codec.specs.Answers.{Reencoding}
+use Rattle.x509_tool_run.specs.Answer.{Answer, text_of, as_line}
 use Rattle.x509_tool_run.specs.Program.{IsCutOff}
 use Rattle.x509_test_rows_run.specs.Row.{Lacks, AnswersKept, AnswersLine}
 use Rattle.x509_test_rows_run.specs.Lines.{AnswersFirst, AnswersSoFar, AnswersAll, Keeps, Said, Stands, Stopped}

@@ -1,8 +1,8 @@
 -- Which lines are rows.
 use Rattle.std.proofs.Common.{◌≡◌, ℕ, List, ◌∷◌, ◌++◌, None, sym, ◌∙◌, subst}
 use Rattle.std.specs.Str.{IsUtf8}
-use Rattle.x509_tool_run.specs.declared.command.ProfileName.{ProfileName}
-use Rattle.x509_tool_run.specs.Command.{profile_of}
+use Rattle.x509_codec.specs.declared.profile_name.ProfileName.{ProfileName}
+use Rattle.x509_codec.specs.ProfileNames.{profile_of}
 use Rattle.x509_test_rows_run.specs.Row.{Lacks, IsRow}
 use Rattle.x509_test_rows_run.proofs.Bytes.{no_cut, one_cut}
 

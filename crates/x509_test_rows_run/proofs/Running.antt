@@ -2,7 +2,8 @@
 use Rattle.std.proofs.Common.{◌≡◌, ℕ, List, [], ◌++◌, ◌⊎◌, inl, inr, Option, Some, Result, Ok, Err, IfOk, OnOk, OnErr, refl, sym, ◌∙◌, subst, append-nil}
 use Rattle.x509_der.specs.declared.error.ErrorKind.{ErrorKind}
 use Rattle.x509_tool_run.specs.declared.refusal.Refusal.{Refusal}
-use Rattle.x509_tool_run.specs.Answer.{Reencoding, text_of, as_line}
+use Rattle.x509_codec.specs.Answers.{Reencoding}
+use Rattle.x509_tool_run.specs.Answer.{text_of, as_line}
 use Rattle.x509_tool_run.specs.Transfer.{Moves}
 use Rattle.x509_tool_run.specs.Program.{IsWritten, IsCutOff}
 use Rattle.x509_test_rows_run.specs.Lines.{AnswersAll, Said, Stands, Stopped}

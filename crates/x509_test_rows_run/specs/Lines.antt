@@ -2,7 +2,8 @@
 use Rattle.std.specs.Prelude.{◌≡◌, ◌≢◌, ◌<◌, ◌≤◌, ◌⊎◌, ℕ, suc, zero, List, [], ◌++◌, length, Option, Some, None}
 use Rattle.x509_der.specs.declared.error.ErrorKind.{ErrorKind}
 use Rattle.x509_der.specs.declared.error.ErrorKind.TheVariants.{Memory, Overlength}
-use Rattle.x509_tool_run.specs.Answer.{Answer, Reencoding, text_of, as_line}
+use Rattle.x509_codec.specs.Answers.{Reencoding}
+use Rattle.x509_tool_run.specs.Answer.{Answer, text_of, as_line}
 use Rattle.x509_tool_run.specs.Program.{IsWritten, IsCutOff}
 use Rattle.x509_test_rows_run.specs.Row.{Lacks, AnswersLine, line_limit}
 

@@ -4,10 +4,11 @@ use Rattle.std.specs.List.{All}
 use Rattle.std.specs.Str.{IsUtf8}
 use Rattle.hex.specs.Hex.{decode_of}
 use Rattle.x509_der.specs.declared.error.ErrorKind.TheVariants.{Memory, Overlength, Failed}
-use Rattle.x509_tool_run.specs.declared.command.ProfileName.{ProfileName}
+use Rattle.x509_codec.specs.declared.profile_name.ProfileName.{ProfileName}
 use Rattle.x509_tool_run.specs.declared.refusal.Refusal.TheVariants.{Because}
-use Rattle.x509_tool_run.specs.Answer.{Answer, Reencoding, IsReencoded}
-use Rattle.x509_tool_run.specs.Command.{profile_of}
+use Rattle.x509_codec.specs.Answers.{Reencoding}
+use Rattle.x509_tool_run.specs.Answer.{Answer, IsReencoded}
+use Rattle.x509_codec.specs.ProfileNames.{profile_of}
 
 -- The most bytes of a line that is kept: 1,026 over the hex text of the longest encoding.
 abbrev pub line_limit : ℕ

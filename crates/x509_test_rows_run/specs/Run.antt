@@ -3,7 +3,8 @@ use Rattle.std.specs.Prelude.{◌≡◌, ◌⊎◌, ℕ, List, [], ◌++◌, Opt
 use Rattle.x509_der.specs.declared.error.ErrorKind.TheVariants.{Overlength}
 use Rattle.x509_tool_run.specs.declared.refusal.Refusal.{Refusal}
 use Rattle.x509_tool_run.specs.declared.refusal.Refusal.TheVariants.{Read, Because}
-use Rattle.x509_tool_run.specs.Answer.{Reencoding, text_of, as_line}
+use Rattle.x509_codec.specs.Answers.{Reencoding}
+use Rattle.x509_tool_run.specs.Answer.{text_of, as_line}
 use Rattle.x509_tool_run.specs.Program.{IsWritten, IsCutOff}
 use Rattle.x509_tool_run.specs.Transfer.{Moves}
 use Rattle.x509_test_rows_run.specs.Lines.{AnswersFirst, AnswersSoFar, AnswersAll}

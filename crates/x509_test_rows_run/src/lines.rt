@@ -10,7 +10,8 @@ use crate::line::Line;
 use crate::output::say;
 use crate::row::{answer_row, place_of};
 use std::alloc::Global;
-use x509_tool_run::{Codec, Refusal, Sink, WriteError};
+use x509_codec::Codec;
+use x509_tool_run::{Refusal, Sink, WriteError};
 
 /// The answer to the line at hand, and a line feed.
 fn answer_of<C: Codec>(alloc: Global, line: &Line) -> Result<String, Refusal>

@@ -9,8 +9,9 @@ use crate::line::Line;
 use crate::lines::{end_input, refuse, take_piece};
 use crate::output::flush;
 use std::alloc::Global;
+use x509_codec::Codec;
 use x509_der::ErrorKind;
-use x509_tool_run::{Codec, ReadError, Refusal, Sink, Source, WriteError};
+use x509_tool_run::{ReadError, Refusal, Sink, Source, WriteError};
 
 /// The most bytes of one read.
 const PIECE: usize = 8192;

@@ -5,13 +5,14 @@ ghost use Rattle.x509_der.specs.declared.error.ErrorKind.TheVariants.{Memory};
 ghost use Rattle.x509_tool_run.specs.declared.refusal.Refusal.TheVariants.{Because};
 ghost use Rattle.x509_tool_run.specs.Answer.{as_line, IsReencoded};
 ghost use Rattle.hex.specs.Hex.{decode_of};
-ghost use Rattle.x509_tool_run.specs.Command.{profile_of};
-ghost use Rattle.x509_tool_run.specs.declared.command.ProfileName.{ProfileName};
+ghost use Rattle.x509_codec.specs.ProfileNames.{profile_of};
+ghost use Rattle.x509_codec.specs.declared.profile_name.ProfileName.{ProfileName};
 ghost use Rattle.x509_test_rows_run.specs.Row.{Lacks, IsRow, AnswersKept};
 
 use std::alloc::Global;
+use x509_codec::{Codec, ProfileName};
 use x509_der::ErrorKind;
-use x509_tool_run::{Codec, ProfileName, Refusal, bytes_of};
+use x509_tool_run::{Refusal, bytes_of};
 
 /// A line of the form that is asked for.
 #[derive(Drop)]

@@ -6,7 +6,7 @@ use Rattle.hex.specs.Hex.{decode_of, encode_upper}
 use Rattle.hex.specs.declared.error.FromHexError.{FromHexError}
 use Rattle.x509_der.specs.declared.error.ErrorKind.{ErrorKind}
 use Rattle.x509_der.specs.declared.error.ErrorKind.TheVariants.{Memory, Overlength, Malformed, Failed, SetDuplicate, Value}
-use Rattle.x509_tool_run.specs.declared.command.ProfileName.{ProfileName}
+use Rattle.x509_codec.specs.Answers.{Reencoding, Step}
 use Rattle.x509_tool_run.specs.declared.command.Command.{Command}
 use Rattle.x509_tool_run.specs.declared.command.Command.TheVariants.{Reencode, Name, EncodeName}
 use Rattle.x509_tool_run.specs.declared.refusal.Refusal.{Refusal}
@@ -17,14 +17,6 @@ use Rattle.x509_tool_run.specs.Input.{Input, Whole, TooLong, Unreadable, Unkept}
 -- an answer: a text, or a refusal
 abbrev pub Answer : Type 0
 Answer = Result (List ℕ) Refusal
-
--- which answers re-encoding may give to bytes of the type with a name, under a profile
-abbrev pub Reencoding : Type 1
-Reencoding = List ℕ → ProfileName → List ℕ → Result (List ℕ) ErrorKind → Type 0
-
--- which answers may be given to bytes
-abbrev pub Step : Type 1
-Step = List ℕ → Result (List ℕ) ErrorKind → Type 0
 
 -- What the codecs may answer, memory aside: re-encoding, the text of a name's bytes, and the encoding of a name's text.
 pub record Codecs : Type 1 where

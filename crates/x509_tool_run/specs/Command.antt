@@ -3,8 +3,9 @@ use Rattle.std.specs.Prelude.{ℕ, List, [], ◌∷◌, Option, Some, None, code
 use Rattle.std.specs.Str.{bytes_eq}
 use Rattle.x509_tool_run.specs.declared.command.Kind.{Kind}
 use Rattle.x509_tool_run.specs.declared.command.Kind.TheVariants.{Anchor, Any, Certificate, Crl, Extensions, GeneralNames, Integer, Name, Oid, Rdn, Request, Serial, Time, Validity}
-use Rattle.x509_tool_run.specs.declared.command.ProfileName.{ProfileName}
-use Rattle.x509_tool_run.specs.declared.command.ProfileName.TheVariants.{Rfc5280, Raw}
+use Rattle.x509_codec.specs.ProfileNames.{profile_of}
+use Rattle.x509_codec.specs.declared.profile_name.ProfileName.{ProfileName}
+use Rattle.x509_codec.specs.declared.profile_name.ProfileName.TheVariants.{Rfc5280}
 use Rattle.x509_tool_run.specs.declared.command.Command.{Command}
 use Rattle.x509_tool_run.specs.declared.command.Command.TheVariants as commands
 
@@ -43,13 +44,6 @@ type_name Request = codes "CertReq"
 type_name Serial = codes "SerialNumber"
 type_name Time = codes "Time"
 type_name Validity = codes "Validity"
-
--- the profile that a word names
-abbrev pub profile_of : List ℕ → Option ProfileName
-profile_of word =
-    if bytes_eq word (codes "rfc5280") then Some Rfc5280
-    else if bytes_eq word (codes "raw") then Some Raw
-    else None
 
 -- a re-encoding, where both of its words are names
 abbrev pub reencoding_of : Option Kind → Option ProfileName → Option Command

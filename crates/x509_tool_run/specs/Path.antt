@@ -3,6 +3,7 @@ use Rattle.std.specs.Prelude.{◌≡◌, ℕ, List, [], ◌∷◌, ◌++◌, cod
 use Rattle.std.specs.List.{slice_split}
 use Rattle.hex.specs.Hex.{decode_of}
 use Rattle.hex.specs.declared.error.FromHexError.{FromHexError}
+use Rattle.x509_codec.specs.Answers.{PathStep}
 use Rattle.x509_der.specs.declared.error.ErrorKind.{ErrorKind}
 use Rattle.x509_der.specs.declared.error.ErrorKind.TheVariants.{Failed}
 use Rattle.x509_tool_run.specs.declared.refusal.Refusal.{Refusal}
@@ -12,11 +13,6 @@ use Rattle.x509_tool_run.specs.Answer.{as_line, text_of}
 -- what is said of a path: nothing where it holds, else its first fault; or a refusal
 abbrev pub Verdict : Type 0
 Verdict = Result (Option (List ℕ)) Refusal
-
--- What may be said, memory aside, at the moment of a text, of the bytes of an anchor's certificate and of those of a path
--- under it.
-abbrev pub PathStep : Type 1
-PathStep = List ℕ → List ℕ → List (List ℕ) → Result (Option (List ℕ)) ErrorKind → Type 0
 
 -- the texts between single spaces
 abbrev pub texts_of : List ℕ → List (List ℕ)

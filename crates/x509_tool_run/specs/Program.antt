@@ -3,7 +3,8 @@ use Rattle.std.specs.Prelude.{◌≡◌, ◌≢◌, ℕ, List, [], ◌++◌, Opt
 use Rattle.x509_tool_run.specs.Transfer.{Moves}
 use Rattle.x509_tool_run.specs.Input.{Input, IsRead}
 use Rattle.x509_tool_run.specs.Answer.{Answer, Codecs, IsAnswer, IsLineAnswer, text_of, status_of, as_line}
-use Rattle.x509_tool_run.specs.Path.{PathStep, Verdict, IsPathLine, verdict_text, verdict_status}
+use Rattle.x509_codec.specs.Answers.{PathStep}
+use Rattle.x509_tool_run.specs.Path.{Verdict, IsPathLine, verdict_text, verdict_status}
 use Rattle.x509_tool_run.specs.declared.command.Command.{Command}
 use Rattle.x509_tool_run.specs.declared.refusal.Refusal.{Refusal}
 

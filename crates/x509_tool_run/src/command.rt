@@ -2,7 +2,9 @@
 
 ghost use Rattle.std.specs.Option.{option_map};
 ghost use Rattle.std.specs.Prelude.{◌≡◌, map, string_bytes, ◌∷◌, []};
-ghost use Rattle.x509_tool_run.specs.Command.{kind_of, type_name, profile_of, name_command_of, command_of, moment_of};
+ghost use Rattle.x509_tool_run.specs.Command.{kind_of, type_name, name_command_of, command_of, moment_of};
+
+use x509_codec::ProfileName;
 
 /// A type whose encodings the program decodes.
 #[derive(Clone, Copy, Debug, PartialEq, Eq)]
@@ -48,16 +50,6 @@ pub enum Kind {
 
     /// The validity of a certificate.
     Validity,
-}
-
-/// The profile under which bytes are decoded and encoded.
-#[derive(Clone, Copy, Debug, PartialEq, Eq)]
-pub enum ProfileName {
-    /// The rules of RFC 5280.
-    Rfc5280,
-
-    /// No rules beyond the grammar.
-    Raw,
 }
 
 /// What the program is asked to do.
@@ -116,19 +108,6 @@ impl Kind {
             Kind::Serial => "SerialNumber",
             Kind::Time => "Time",
             Kind::Validity => "Validity",
-        }
-    }
-}
-
-impl ProfileName {
-    /// The profile that a word names.
-    pub fn from_word(word: &str) -> Option<ProfileName>
-        ensures { result ≡ profile_of word.now }
-    {
-        match word {
-            "rfc5280" => Some(ProfileName::Rfc5280),
-            "raw" => Some(ProfileName::Raw),
-            _ => None,
         }
     }
 }

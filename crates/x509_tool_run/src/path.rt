@@ -8,11 +8,11 @@ ghost use Rattle.x509_tool_run.specs.Answer.{as_line};
 ghost use Rattle.x509_tool_run.specs.Path.{IsPathLine, decode_all, fault_line, fault_text, texts_of};
 ghost use Rattle.x509_tool_run.specs.Program.{Answers};
 
-use crate::codec::PathCodec;
 use crate::input::{Source, read_input};
 use crate::program::{bytes_of, line_of};
 use crate::refusal::Refusal;
 use std::alloc::{AllocError, Global};
+use x509_codec::PathCodec;
 use x509_der::ErrorKind;
 
 /// The texts between single spaces.

@@ -9,14 +9,14 @@ ghost use Rattle.x509_tool_run.specs.Command.{command_of, moment_of, type_name};
 ghost use Rattle.x509_tool_run.specs.Answer.{IsFromHex, IsFromText, IsLine, IsLineAnswer, IsReencoded, IsShown, as_line, codecs_of, line_of, text_of, usage};
 ghost use Rattle.x509_tool_run.specs.Program.{Says, Answers, ChecksPath, Obeys};
 
-use crate::codec::{Codec, NameCodec, PathCodec};
-use crate::command::{Command, Kind, ProfileName, path_moment};
+use crate::command::{Command, Kind, path_moment};
 use crate::input::{Source, read_input};
 use crate::output::{Sink, WriteError, write_text};
 use crate::path::read_and_check;
 use crate::refusal::Refusal;
 use hex::FromHexError;
 use std::alloc::Global;
+use x509_codec::{Codec, NameCodec, PathCodec, ProfileName};
 use x509_der::ErrorKind;
 
 const USAGE: &[u8] =

@@ -4,8 +4,8 @@ use Rattle.std.specs.Str.{bytes_eq}
 use Rattle.x509_der.specs.declared.error.Error.{Error}
 use Rattle.x509_der.specs.declared.error.ErrorKind.{ErrorKind}
 use Rattle.x509_der.specs.declared.error.ErrorKind.TheVariants.{Memory, Failed}
-use Rattle.x509_tool_run.specs.declared.command.ProfileName.{ProfileName}
-use Rattle.x509_tool_run.specs.declared.command.ProfileName.TheVariants.{Rfc5280, Raw}
+use Rattle.x509_codec.specs.declared.profile_name.ProfileName.{ProfileName}
+use Rattle.x509_codec.specs.declared.profile_name.ProfileName.TheVariants.{Rfc5280, Raw}
 
 infixr 5 ◌otherwise◌
 -- which answers there may be, memory aside

@@ -1,4 +1,4 @@
-//! Times, validity, serial numbers and keys, in front of another table.
+//! Times, validity, serial numbers and keys: a part of the table.
 
 use crate::{Reencode, Table};
 use std::alloc::Global;
@@ -9,7 +9,7 @@ use x509_base::{
 };
 use x509_der::Error;
 
-/// Times, validity, serial numbers and keys, in front of another table.
+/// Times, validity, serial numbers and keys. Other names are looked up in the next part of the table.
 pub struct Base<P, T> {
     rest: PhantomData<(P, T)>,
 }

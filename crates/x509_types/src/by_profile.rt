@@ -3,8 +3,8 @@
 use crate::table::Table;
 use std::alloc::Global;
 use std::marker::PhantomData;
+use x509_codec::{Codec, ProfileName};
 use x509_der::Error;
-use x509_tool_run::{Codec, ProfileName};
 
 /// A table of types as they are decoded and encoded under the profile of RFC 5280, and one of them as they are under
 /// none.

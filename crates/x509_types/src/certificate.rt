@@ -1,4 +1,4 @@
-//! Certificates, CRLs and CSRs, in front of another table.
+//! Certificates, CRLs and CSRs: a part of the table.
 
 use crate::{Reencode, Table};
 use std::alloc::Global;
@@ -9,7 +9,7 @@ use x509_cert::crl::{CertificateList, RevokedCert, TbsCertList};
 use x509_cert::request::{CertReq, CertReqInfo, ExtensionReq};
 use x509_der::{Error, SequenceOf};
 
-/// Certificates, CRLs and CSRs, in front of another table.
+/// Certificates, CRLs and CSRs. Other names are looked up in the next part of the table.
 pub struct Certificates<P, T> {
     rest: PhantomData<(P, T)>,
 }

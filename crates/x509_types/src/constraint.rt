@@ -1,4 +1,4 @@
-//! Name constraints and CRL distribution points, in front of another table.
+//! Name constraints and CRL distribution points: a part of the table.
 
 use crate::{Reencode, Table};
 use std::alloc::Global;
@@ -10,7 +10,7 @@ use x509_ext::pkix::{
     CrlDistributionPoints, FreshestCrl, IssuingDistributionPoint, NameConstraints,
 };
 
-/// Name constraints and CRL distribution points, in front of another table.
+/// Name constraints and CRL distribution points. Other names are looked up in the next part of the table.
 pub struct Constraints<T> {
     rest: PhantomData<T>,
 }

@@ -1,4 +1,4 @@
-//! Extensions and those about keys, in front of another table.
+//! Extensions and those about keys: a part of the table.
 
 use crate::{Reencode, Table};
 use std::alloc::Global;
@@ -9,7 +9,7 @@ use x509_ext::pkix::{
 };
 use x509_ext::{Extension, Extensions};
 
-/// Extensions and those about keys, in front of another table.
+/// Extensions and those about keys. Other names are looked up in the next part of the table.
 pub struct Payloads<T> {
     rest: PhantomData<T>,
 }

@@ -1,4 +1,4 @@
-//! General names, in front of another table.
+//! General names: a part of the table.
 
 use crate::{Reencode, Table};
 use std::alloc::Global;
@@ -8,7 +8,7 @@ use x509_ext::pkix::name::{
     DistributionPointName, EdiPartyName, GeneralName, GeneralNames, HardwareModuleName, OtherName,
 };
 
-/// General names, in front of another table.
+/// General names. Other names are looked up in the next part of the table.
 pub struct GeneralNameTypes<T> {
     rest: PhantomData<T>,
 }

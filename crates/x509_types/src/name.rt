@@ -1,4 +1,4 @@
-//! Attributes and names, in front of another table.
+//! Attributes and names: a part of the table.
 
 ghost use Rattle.x509_types.specs.NameAnswers.{rdn_answers, rdn_sequence_answers};
 ghost use Rattle.x509_types.specs.Table.{IsAmong};
@@ -10,7 +10,7 @@ use x509_der::Error;
 use x509_name::attr::{Attribute, AttributeTypeAndValue};
 use x509_name::name::{DirectoryString, Name, RdnSequence, RelativeDistinguishedName};
 
-/// Attributes and names, in front of another table.
+/// Attributes and names. Other names are looked up in the next part of the table.
 pub struct Names<T> {
     rest: PhantomData<T>,
 }

@@ -1,11 +1,11 @@
-//! BOOLEAN and the INTEGERs of the language, with which a table ends.
+//! The last part of the table: BOOLEAN and the INTEGERs of the language's number types.
 
 use crate::reencode::Reencode;
 use crate::table::{Nothing, Table};
 use std::alloc::Global;
 use x509_der::Error;
 
-/// BOOLEAN and the INTEGERs of the language, with which a table ends.
+/// The last part of the table: BOOLEAN and the INTEGERs of the language's number types. Any other name is no type.
 pub struct Numbers;
 
 #[tactic(auto, using(crate::proofs::Rows::is_found, crate::proofs::Rows::is_passed))]

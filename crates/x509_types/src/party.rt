@@ -1,4 +1,4 @@
-//! The extensions about the subject and the issuer, in front of another table.
+//! The extensions about the subject and the issuer: a part of the table.
 
 use crate::{Reencode, Table};
 use std::alloc::Global;
@@ -9,7 +9,7 @@ use x509_ext::pkix::{
     SubjectAltName, SubjectDirectoryAttributes, SubjectInfoAccessSyntax,
 };
 
-/// The extensions about the subject and the issuer, in front of another table.
+/// The extensions about the subject and the issuer. Other names are looked up in the next part of the table.
 pub struct Parties<T> {
     rest: PhantomData<T>,
 }

@@ -14,10 +14,10 @@ use std::alloc::Global;
 use std::str::FromStr;
 use x509_base::{AlgorithmIdentifier, DateTime, SubjectPublicKeyInfo};
 use x509_cert::Certificate;
+use x509_codec::PathCodec;
 use x509_der::{Decode, Error, ErrorKind, Grammar};
 use x509_path::{Anchor, PathFault, Verifier, check_path};
 use x509_prim::BitString;
-use x509_tool_run::PathCodec;
 
 /// A verifier that accepts a message as its own signature, whatever the algorithm and the key.
 struct Echo;

@@ -1,4 +1,4 @@
-//! Policies, in front of another table.
+//! Policies: a part of the table.
 
 use crate::{Reencode, Table};
 use std::alloc::Global;
@@ -11,7 +11,7 @@ use x509_ext::pkix::{
     CertificatePolicies, InhibitAnyPolicy, PolicyConstraints, PolicyMapping, PolicyMappings,
 };
 
-/// Policies, in front of another table.
+/// Policies. Other names are looked up in the next part of the table.
 pub struct Policies<T> {
     rest: PhantomData<T>,
 }

@@ -1,4 +1,4 @@
-//! The primitive types, in front of another table.
+//! The primitive types: a part of the table.
 
 use crate::{Reencode, Table};
 use std::alloc::Global;
@@ -9,7 +9,7 @@ use x509_prim::{
     Utf8String, VisibleString,
 };
 
-/// The primitive types, in front of another table.
+/// The primitive types. Other names are looked up in the next part of the table.
 pub struct Primitives<T> {
     rest: PhantomData<T>,
 }

@@ -1,4 +1,4 @@
-//! The extensions of CRLs, in front of another table.
+//! The extensions of CRLs: a part of the table.
 
 use crate::{Reencode, Table};
 use std::alloc::Global;
@@ -7,7 +7,7 @@ use x509_der::Error;
 use x509_ext::pkix::crl::dp::Reasons;
 use x509_ext::pkix::{BaseCrlNumber, CertificateIssuer, CrlNumber, CrlReason};
 
-/// The extensions of CRLs, in front of another table.
+/// The extensions of CRLs. Other names are looked up in the next part of the table.
 pub struct Revocation<T> {
     rest: PhantomData<T>,
 }

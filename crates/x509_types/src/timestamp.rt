@@ -1,4 +1,4 @@
-//! Lists of signed certificate timestamps (SCTs), in front of another table.
+//! Lists of signed certificate timestamps (SCTs): a part of the table.
 
 use crate::{Reencode, Table};
 use std::alloc::Global;
@@ -6,7 +6,7 @@ use std::marker::PhantomData;
 use x509_der::Error;
 use x509_sct::SignedCertificateTimestampList;
 
-/// Lists of signed certificate timestamps (SCTs), in front of another table.
+/// Lists of signed certificate timestamps (SCTs). Other names are looked up in the next part of the table.
 pub struct Timestamps<T> {
     rest: PhantomData<T>,
 }

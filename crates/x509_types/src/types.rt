@@ -15,9 +15,9 @@ use crate::timestamp::Timestamps;
 use crate::{ByProfile, Numbers};
 use std::alloc::Global;
 use x509_base::{Raw, Rfc5280};
+use x509_codec::{Codec, NameCodec, ProfileName};
 use x509_der::{Decode, Error};
 use x509_name::name::{Name, RdnSequence};
-use x509_tool_run::{Codec, NameCodec, ProfileName};
 
 /// The types of this library.
 pub struct Types;

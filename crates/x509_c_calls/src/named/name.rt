@@ -10,8 +10,8 @@ ghost use Rattle.x509_der.specs.declared.error.ErrorKind.TheVariants.{Failed};
 use crate::named::text::text_of;
 use crate::{Status, fill};
 use std::alloc::Global;
+use x509_codec::NameCodec;
 use x509_der::ErrorKind;
-use x509_tool_run::NameCodec;
 
 /// Decodes a name, and puts its text in UTF-8 at the front of the buffer `room`.
 ///

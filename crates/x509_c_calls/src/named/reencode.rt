@@ -10,8 +10,8 @@ ghost use Rattle.x509_der.specs.declared.error.ErrorKind.TheVariants.{Failed};
 use crate::named::text::text_of;
 use crate::{Status, fill};
 use std::alloc::Global;
+use x509_codec::{Codec, ProfileName};
 use x509_der::ErrorKind;
-use x509_tool_run::{Codec, ProfileName};
 
 /// The profile with a number: 0 is RFC 5280, 1 is none.
 fn profile_of(number: u32) -> Option<ProfileName>

@@ -3,9 +3,9 @@
 ghost use Rattle.std.specs.Prelude.{◌≡◌, ◌⊎◌, ℕ, List, Result, Ok, Err, MatchResult};
 ghost use Rattle.x509_der.specs.declared.error.ErrorKind.{ErrorKind};
 ghost use Rattle.x509_der.specs.declared.error.ErrorKind.TheVariants.{Memory};
-ghost use Rattle.x509_tool_run.specs.declared.command.ProfileName.{ProfileName};
+ghost use Rattle.x509_codec.specs.declared.profile_name.ProfileName.{ProfileName};
 
-use crate::command::ProfileName;
+use crate::profile_name::ProfileName;
 use std::alloc::Global;
 use x509_der::Error;
 
@@ -34,7 +34,7 @@ pub trait Codec {
 /// The decoder of names to texts, and the encoder of names from texts.
 pub trait NameCodec {
     ghost use Rattle.std.specs.Prelude.{string_bytes};
-    ghost use Rattle.x509_tool_run.specs.Answer.{Step};
+    ghost use Rattle.x509_codec.specs.Answers.{Step};
 
     /// What the bytes of a name may give, apart from out of memory: the text of the name, or an error.
     ghost prints_name: { Step };
@@ -67,7 +67,7 @@ pub trait NameCodec {
 pub trait PathCodec {
     ghost use Rattle.std.specs.Prelude.{map, string_bytes};
     ghost use Rattle.std.specs.Option.{option_map};
-    ghost use Rattle.x509_tool_run.specs.Path.{PathStep};
+    ghost use Rattle.x509_codec.specs.Answers.{PathStep};
 
     /// What may be said of a path, apart from out of memory: nothing where it holds, else its first fault; or an error.
     ghost checks_path: { PathStep };

@@ -1,0 +1,2 @@
+pub mod ProfileNames
+pub mod Answers
