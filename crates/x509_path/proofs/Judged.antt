@@ -11,7 +11,7 @@ use Rattle.x509_cert.specs.der.declared.error.ErrorKind.TheVariants as kinds
 use Rattle.x509_cert.specs.der.Form.{Spells}
 use Rattle.x509_path.specs.Certificates.{Accepting, Certificate}
 use Rattle.x509_path.specs.Path.{Breaks, IsFault, IsFirst, IsUnreadable, Standing, reasons}
-use Rattle.x509_path.specs.Room.{Judges}
+use Rattle.x509_path.specs.PathLength.{Judges}
 use Rattle.x509_path.specs.declared.fault.PathFault.{PathFault}
 use Rattle.x509_path.specs.declared.fault.PathFault.TheVariants.{Memory, At}
 use Rattle.x509_path.specs.declared.fault.PathReason.{PathReason}

@@ -1,5 +1,5 @@
 pub mod Payloads
-pub mod Rooms
+pub mod PathLengths
 pub mod Firsts
 pub mod Places
 pub mod Judged

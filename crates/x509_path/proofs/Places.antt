@@ -15,14 +15,14 @@ use Rattle.x509_cert.specs.der.Form.{Spells}
 use Rattle.x509_cert.specs.der.SpellingLaws.{values}
 use Rattle.x509_path.specs.Certificates.{Accepting, Certificate}
 use Rattle.x509_path.specs.Path.{Answers, Breaks, HasFault, HasFaultBehind, IsFault, IsFirst, IsFirstFault, PathHolds, Standing, is_empty, subject_of}
-use Rattle.x509_path.specs.Room.{IsOver, Judges, Leaves, anchor_behind, standing}
+use Rattle.x509_path.specs.PathLength.{IsOver, Judges, Leaves, anchor_behind, standing}
 use Rattle.x509_path.specs.declared.anchor.Anchor.{Anchor}
 use Rattle.x509_path.specs.declared.fault.PathFault.{PathFault}
 use Rattle.x509_path.specs.declared.fault.PathFault.TheVariants.{Memory, Empty, At}
 use Rattle.x509_path.specs.declared.fault.PathReason.{PathReason}
 use Rattle.x509_path.specs.declared.fault.PathReason.TheVariants.{PathLen}
 use Rattle.x509_path.proofs.Firsts.{first_along}
-use Rattle.x509_path.proofs.Rooms.{free, too_long}
+use Rattle.x509_path.proofs.PathLengths.{free, too_long}
 
 pub one_certificate : (c d : Certificate) (bytes : List ℕ) → Spells rfc5280_certificate c bytes → Spells rfc5280_certificate d bytes → c ≡ d
 one_certificate c d bytes s t = values rfc5280_certificate (certificate_lawful rfc5280_serial_number) c d bytes s t
@@ -62,11 +62,11 @@ module _ (accepts : Accepting) (moment : CivilTime) where
   beyond above before (input ∷ inputs) (suc place) r past (c, spells, fault) = beyond (subject_of c) (before ++ c ∷ []) inputs place r (omega (arith, past)) fault
 
   module _ (anchor : Anchor) (inputs : List (List ℕ)) where
-    -- what holds before the input at a place is judged: the certificates so far leave that room, and what is left of the path stands behind
+    -- what holds before the input at a place is judged: the certificates so far leave that max_path_length, and what is left of the path stands behind
     -- them
-    pub record Passed (i : ℕ) (above : Option Certificate) (room : Option ℕ) : Type 0 where
+    pub record Passed (i : ℕ) (above : Option Certificate) (max_path_length : Option ℕ) : Type 0 where
       pub before : List Certificate
-      pub leaves : i < length inputs → Leaves before room
+      pub leaves : i < length inputs → Leaves before max_path_length
       pub left : (place p : ℕ) → place ≡ i + p → (r : PathReason) → HasFault accepts moment anchor inputs place r ↔ HasFaultBehind accepts moment (anchor_behind anchor above) before (drop i inputs) p r
       pub clean : (p : ℕ) → p < i → (r : PathReason) → HasFault accepts moment anchor inputs p r → ⊥
 
@@ -78,7 +78,7 @@ module _ (accepts : Accepting) (moment : CivilTime) where
       clean = λ p less. absurd (omega (arith, less));
     }
 
-    module _ (i : ℕ) (above : Option Certificate) (room : Option ℕ) (bytes : List ℕ) (passed : Passed i above room) (input : slice_get inputs i ≡ Some bytes) where
+    module _ (i : ℕ) (above : Option Certificate) (max_path_length : Option ℕ) (bytes : List ℕ) (passed : Passed i above max_path_length) (input : slice_get inputs i ≡ Some bytes) where
       within : i < length inputs
       within = slice_get_within inputs i bytes input
 
@@ -102,12 +102,12 @@ module _ (accepts : Accepting) (moment : CivilTime) where
       local r = subst (λ is_last. HasFault accepts moment anchor inputs i r ↔ At_last is_last r) (sym (last inputs i within)) (left i 0 (omega arith) r)
 
       -- what was said of the input where it was judged
-      pub judged : (name : List (List AttributeTypeAndValue)) (key : SubjectPublicKeyInfo) (left_room : Option ℕ) (is_last : Bool) (octets : List ℕ) (answer : Result Certificate PathFault)
-          → name ≡ (anchor_behind anchor above).name → key ≡ (anchor_behind anchor above).key → left_room ≡ room → is_last ≡ (i + 1 == length inputs) → octets ≡ bytes
-          → ((before : List Certificate) → Leaves before left_room → Judges accepts moment (standing name key before is_last) octets i answer)
+      pub judged : (name : List (List AttributeTypeAndValue)) (key : SubjectPublicKeyInfo) (left_length : Option ℕ) (is_last : Bool) (octets : List ℕ) (answer : Result Certificate PathFault)
+          → name ≡ (anchor_behind anchor above).name → key ≡ (anchor_behind anchor above).key → left_length ≡ max_path_length → is_last ≡ (i + 1 == length inputs) → octets ≡ bytes
+          → ((before : List Certificate) → Leaves before left_length → Judges accepts moment (standing name key before is_last) octets i answer)
           → Judges accepts moment here bytes i answer
-      judged name key left_room is_last octets answer names keys rooms lasts same said =
-          let leaves : Leaves passed.before left_room = subst (λ l. Leaves passed.before l) (sym rooms) (passed.leaves within) in
+      judged name key left_length is_last octets answer names keys lengths lasts same said =
+          let leaves : Leaves passed.before left_length = subst (λ l. Leaves passed.before l) (sym lengths) (passed.leaves within) in
           let a = said passed.before leaves in
           let b = subst (λ n. Judges accepts moment (standing n key passed.before is_last) octets i answer) names a in
           let c = subst (λ k. Judges accepts moment (standing (anchor_behind anchor above).name k passed.before is_last) octets i answer) keys b in
@@ -132,15 +132,15 @@ module _ (accepts : Accepting) (moment : CivilTime) where
       next : suc i ≡ i + 1
       next = omega arith
 
-      pub further : (c : Certificate) (next_room : Option ℕ) → Judges accepts moment here bytes i (Ok c)
-          → ((before : List Certificate) → Leaves before room → (IsOver room (c ∷ []) → ⊥) → Leaves (before ++ c ∷ []) next_room)
-          → Passed (i + 1) (Some c) next_room
-      further c next_room (spells, right) step = record {
+      pub further : (c : Certificate) (next_length : Option ℕ) → Judges accepts moment here bytes i (Ok c)
+          → ((before : List Certificate) → Leaves before max_path_length → (IsOver max_path_length (c ∷ []) → ⊥) → Leaves (before ++ c ∷ []) next_length)
+          → Passed (i + 1) (Some c) next_length
+      further c next_length (spells, right) step = record {
         before = passed.before ++ c ∷ [];
         leaves = λ more.
             let early : (i + 1 == length inputs) ≡ false = grind (arith, more) in
             let leaves = passed.leaves within in
-            step passed.before leaves (λ over. right PathLen (early, (too_long passed.before room c leaves).1 over));
+            step passed.before leaves (λ over. right PathLen (early, (too_long passed.before max_path_length c leaves).1 over));
         left = λ place p at r. (
           (λ h. let (d, other, fault) = (left place (suc p) (omega (arith, at)) r).0 h in
               subst (λ n. Behind n r c p) next (subst (λ x. Behind (suc i) r x p) (one_certificate d c bytes other spells) fault)),
@@ -152,8 +152,8 @@ module _ (accepts : Accepting) (moment : CivilTime) where
         ];
       }
 
-    pub done : (i : ℕ) (above : Option Certificate) (room : Option ℕ) → Passed i above room → length inputs ≤ i → inputs ≢ [] → PathHolds accepts moment anchor inputs
-    done i above room passed all some = (
+    pub done : (i : ℕ) (above : Option Certificate) (max_path_length : Option ℕ) → Passed i above max_path_length → length inputs ≤ i → inputs ≢ [] → PathHolds accepts moment anchor inputs
+    done i above max_path_length passed all some = (
       some,
       λ place r fault. elim (cases_lt place (length inputs)) [
         | inl less ↦ passed.clean place (omega (arith, less, all)) r fault

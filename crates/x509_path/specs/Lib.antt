@@ -1,4 +1,5 @@
 pub mod Certificates
 pub mod Path
 pub mod Fault
-pub mod Room
+pub mod PathLength
+pub mod Equality

@@ -4,7 +4,7 @@ ghost use Rattle.std.specs.Prelude.{◌≡◌, ◌≢◌, ◌↔◌, ◌∷◌, 
 ghost use Rattle.x509_cert.specs.der.declared.error.ErrorKind.TheVariants as kinds;
 ghost use Rattle.x509_path.specs.Certificates as certificates;
 ghost use Rattle.x509_path.specs.Path.{Breaks};
-ghost use Rattle.x509_path.specs.Room.{IsOver, Judges, Leaves, anchor_behind, narrowed, standing};
+ghost use Rattle.x509_path.specs.PathLength.{IsOver, Judges, Leaves, anchor_behind, narrowed, standing};
 ghost use Rattle.x509_path.specs.declared.fault.PathFault.TheVariants.{Memory, At};
 ghost use Rattle.x509_path.specs.declared.fault.PathReason.TheVariants as reasons;
 
@@ -45,7 +45,7 @@ pub(crate) struct Place<'a> {
     pub(crate) key: &'a SubjectPublicKeyInfo,
 
     /// How many certificates that aren't self-issued may follow, where that is limited.
-    pub(crate) room: Option<u8>,
+    pub(crate) max_path_length: Option<u8>,
 
     /// Whether it is the last.
     pub(crate) is_last: bool,
@@ -55,25 +55,25 @@ pub(crate) struct Place<'a> {
 pub(crate) fn place_below<'a>(
     anchor: &'a Anchor,
     above: &'a Option<Certificate>,
-    room: Option<u8>,
+    max_path_length: Option<u8>,
     is_last: bool,
 ) -> Place<'a>
     ensures name { result.name.now ≡ (anchor_behind anchor.now above.now).name }
     ensures key { result.key.now ≡ (anchor_behind anchor.now above.now).key }
-    ensures room { result.room ≡ room }
+    ensures max_path_length { result.max_path_length ≡ max_path_length }
     ensures is_last { result.is_last ≡ is_last }
 {
     match above {
         Some(certificate) => Place {
             name: certificate.tbs_certificate().subject(),
             key: certificate.tbs_certificate().subject_public_key_info(),
-            room,
+            max_path_length,
             is_last,
         },
         None => Place {
             name: &anchor.name,
             key: &anchor.key,
-            room,
+            max_path_length,
             is_last,
         },
     }
@@ -130,26 +130,26 @@ fn is_signed<V: Verifier>(
 }
 
 /// Whether a path length constraint above allows no such certificate here.
-fn is_over(room: Option<u8>, certificate: &Certificate) -> bool
-    ensures { IsTrue result ↔ IsOver room (certificate.now ∷ []) }
+fn is_over(max_path_length: Option<u8>, certificate: &Certificate) -> bool
+    ensures { IsTrue result ↔ IsOver max_path_length (certificate.now ∷ []) }
 {
-    match room {
-        Some(room) => room == 0 && !is_self_issued(certificate),
+    match max_path_length {
+        Some(max_path_length) => max_path_length == 0 && !is_self_issued(certificate),
         None => false,
     }
 }
 
 /// How many certificates may follow one that is allowed itself.
-fn narrow(room: Option<u8>, is_self_issued: bool, path_len: Option<u8>) -> Option<u8>
-    ensures { result ≡ narrowed room is_self_issued path_len }
+fn narrow(max_path_length: Option<u8>, is_self_issued: bool, path_len: Option<u8>) -> Option<u8>
+    ensures { result ≡ narrowed max_path_length is_self_issued path_len }
 {
-    let Some(room) = room else {
+    let Some(max_path_length) = max_path_length else {
         return path_len;
     };
     let left = if is_self_issued {
-        room
+        max_path_length
     } else {
-        room.saturating_sub(1)
+        max_path_length.saturating_sub(1)
     };
     match path_len {
         Some(path_len) => Some(path_len.min(left)),
@@ -158,16 +158,17 @@ fn narrow(room: Option<u8>, is_self_issued: bool, path_len: Option<u8>) -> Optio
 }
 
 /// How many certificates may follow the certificate, where it is allowed itself.
-pub(crate) fn room_behind(
+pub(crate) fn max_path_length_behind(
     alloc: Global,
-    room: Option<u8>,
+    max_path_length: Option<u8>,
     certificate: &Certificate,
 ) -> Result<Option<u8>, PathFault>
-    ensures ok { IfOk result (λ next. (before : List certificates.Certificate) → Leaves before room → (IsOver room (certificate.now ∷ []) → ⊥) → Leaves (before ++ certificate.now ∷ []) next) }
+    ensures ok { IfOk result (λ next. (before : List certificates.Certificate) → Leaves before max_path_length
+        → (IsOver max_path_length (certificate.now ∷ []) → ⊥) → Leaves (before ++ certificate.now ∷ []) next) }
     ensures err { IfErr result (λ e. e ≡ Memory) }
 {
     let path_len = path_len(alloc, certificate.tbs_certificate())?;
-    Ok(narrow(room, is_self_issued(certificate), path_len))
+    Ok(narrow(max_path_length, is_self_issued(certificate), path_len))
 }
 
 /// Whether the certificate of these bytes has that fault.
@@ -180,7 +181,9 @@ fn breaks<V: Verifier>(
     certificate: &Certificate,
     reason: PathReason,
 ) -> Result<bool, PathFault>
-    ensures ok { IfOk result (λ b. (before : List certificates.Certificate) → Leaves before place.now.room → IsTrue b ↔ Breaks (V.accepts verifier.now) moment (standing place.now.name.now place.now.key.now before place.now.is_last) bytes.now certificate.now reason) }
+    ensures ok { IfOk result (λ b. (before : List certificates.Certificate) → Leaves before place.now.max_path_length → IsTrue b
+        ↔ Breaks (V.accepts verifier.now) moment (standing place.now.name.now place.now.key.now before place.now.is_last) bytes.now certificate.now
+        reason) }
     ensures err { IfErr result (λ e. e ≡ Memory) }
 {
     let part = certificate.tbs_certificate();
@@ -194,7 +197,7 @@ fn breaks<V: Verifier>(
         PathReason::Critical => Ok(!are_handled(alloc, members(part.extensions()))?),
         PathReason::NotCa => Ok(!place.is_last && !is_ca(alloc, part)?),
         PathReason::KeyUsage => Ok(!place.is_last && lacks_key_cert_sign(alloc, part)?),
-        PathReason::PathLen => Ok(!place.is_last && is_over(place.room, certificate)),
+        PathReason::PathLen => Ok(!place.is_last && is_over(place.max_path_length, certificate)),
     }
 }
 
@@ -207,7 +210,8 @@ pub(crate) fn judge<V: Verifier>(
     bytes: &[u8],
     index: usize,
 ) -> Result<Certificate, PathFault>
-    ensures { (before : List certificates.Certificate) → Leaves before place.now.room → Judges (V.accepts verifier.now) moment (standing place.now.name.now place.now.key.now before place.now.is_last) bytes.now index result }
+    ensures { (before : List certificates.Certificate) → Leaves before place.now.max_path_length
+        → Judges (V.accepts verifier.now) moment (standing place.now.name.now place.now.key.now before place.now.is_last) bytes.now index result }
 {
     let certificate = match Certificate::from_der(alloc, bytes) {
         Ok(certificate) => certificate,

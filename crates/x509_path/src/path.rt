@@ -5,7 +5,7 @@ ghost use Rattle.x509_path.specs.Path.{Answers};
 
 use crate::anchor::Anchor;
 use crate::fault::PathFault;
-use crate::judge::{judge, place_below, room_behind};
+use crate::judge::{judge, max_path_length_behind, place_below};
 use crate::verifier::Verifier;
 use std::alloc::{AllocError, Global};
 use x509_cert::Certificate;
@@ -68,12 +68,12 @@ pub fn check_path_slices<V: Verifier>(
         return Err(PathFault::Empty);
     }
     let mut above: Option<Certificate> = None;
-    let mut room: Option<u8> = None;
+    let mut max_path_length: Option<u8> = None;
     for (index, bytes) in path.iter().enumerate() {
         let is_last = index + 1 == path.len();
-        let place = place_below(anchor, &above, room, is_last);
+        let place = place_below(anchor, &above, max_path_length, is_last);
         let certificate = judge(alloc, verifier, moment, &place, bytes, index)?;
-        room = room_behind(alloc, room, &certificate)?;
+        max_path_length = max_path_length_behind(alloc, max_path_length, &certificate)?;
         above = Some(certificate);
     }
     Ok(())

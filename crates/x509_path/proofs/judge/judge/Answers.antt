@@ -4,7 +4,7 @@ use Rattle.std.proofs.lemmas.List.{take_all}
 use Rattle.std.proofs.lemmas.List.Elements.{All-more}
 use Rattle.std.specs.List.{All}
 use Rattle.x509_path.specs.Path.{Breaks, reasons}
-use Rattle.x509_path.specs.Room.{standing}
+use Rattle.x509_path.specs.PathLength.{standing}
 use Rattle.x509_path.specs.declared.fault.PathReason.TheVariants.{Decode}
 use Rattle.x509_path.proofs.Judged.{first_wrong, none_wrong, refused}
 use Rattle.x509_path.proofs.judge.judge.Goals as goal

@@ -2,7 +2,7 @@ use Rattle.std.proofs.Common.{◌∙◌, List, [], ℕ, Bor, Ok, Err, map, get_o
 use Rattle.std.proofs.lemmas.List.{length-map}
 use Rattle.std.proofs.lemmas.Result.{err_from_is_err_and}
 use Rattle.x509_path.specs.Path.{Answers}
-use Rattle.x509_path.specs.Room.{Judges}
+use Rattle.x509_path.specs.PathLength.{Judges}
 use Rattle.x509_path.proofs.Places.{counted, done, further, given_at, here, judged, refused, some_left}
 use Rattle.x509_path.proofs.path.check_path_slices.Goals as goal
 
@@ -16,11 +16,11 @@ loop-index-preserved g c =
     let inputs = map (λ (input : Bor (List ℕ)). input.now) c.args.path.now in
     let bytes = (get_or c.args.path.now c.loop-index.index nothing).now in
     let input = given_at (λ (input : Bor (List ℕ)). input.now) c.args.path.now c.loop-index.index nothing c.loop-index-test.true in
-    let said : Judges accepts c.args.moment (here accepts c.args.moment c.args.anchor.now inputs c.loop-index.index c.loop-index.above c.loop-index.room bytes c.loop-index.invariant input) bytes c.loop-index.index (Ok c.in_ok-certificate.certificate) =
-    judged accepts c.args.moment c.args.anchor.now inputs c.loop-index.index c.loop-index.above c.loop-index.room bytes c.loop-index.invariant input
-    c.place_below-place.result.name.now c.place_below-place.result.key.now c.place_below-place.result.room c.place_below-place.result.is_last bytes (Ok c.in_ok-certificate.certificate)
-    c.place_below-place.ensures.name c.place_below-place.ensures.key c.place_below-place.ensures.room (c.place_below-place.ensures.is_last ∙ counted (λ (input : Bor (List ℕ)). input.now) c.args.path.now c.loop-index.index) refl c.in_ok-certificate.ensures in
-    further accepts c.args.moment c.args.anchor.now inputs c.loop-index.index c.loop-index.above c.loop-index.room bytes c.loop-index.invariant input c.in_ok-certificate.certificate c.in_ok-room.room said c.in_ok-room.ensures.ok
+    let said : Judges accepts c.args.moment (here accepts c.args.moment c.args.anchor.now inputs c.loop-index.index c.loop-index.above c.loop-index.max_path_length bytes c.loop-index.invariant input) bytes c.loop-index.index (Ok c.in_ok-certificate.certificate) =
+    judged accepts c.args.moment c.args.anchor.now inputs c.loop-index.index c.loop-index.above c.loop-index.max_path_length bytes c.loop-index.invariant input
+    c.place_below-place.result.name.now c.place_below-place.result.key.now c.place_below-place.result.max_path_length c.place_below-place.result.is_last bytes (Ok c.in_ok-certificate.certificate)
+    c.place_below-place.ensures.name c.place_below-place.ensures.key c.place_below-place.ensures.max_path_length (c.place_below-place.ensures.is_last ∙ counted (λ (input : Bor (List ℕ)). input.now) c.args.path.now c.loop-index.index) refl c.in_ok-certificate.ensures in
+    further accepts c.args.moment c.args.anchor.now inputs c.loop-index.index c.loop-index.above c.loop-index.max_path_length bytes c.loop-index.invariant input c.in_ok-certificate.certificate c.in_ok-max_path_length.max_path_length said c.in_ok-max_path_length.ensures.ok
 
 pub returns-in_err-certificate : goal.returns-in_err-certificate
 returns-in_err-certificate g c =
@@ -28,17 +28,17 @@ returns-in_err-certificate g c =
     let inputs = map (λ (input : Bor (List ℕ)). input.now) c.args.path.now in
     let bytes = (get_or c.args.path.now c.loop-index.index nothing).now in
     let input = given_at (λ (input : Bor (List ℕ)). input.now) c.args.path.now c.loop-index.index nothing c.loop-index-test.true in
-    let said : Judges accepts c.args.moment (here accepts c.args.moment c.args.anchor.now inputs c.loop-index.index c.loop-index.above c.loop-index.room bytes c.loop-index.invariant input) bytes c.loop-index.index (Err c.in_err-certificate.field-0.0) =
-    judged accepts c.args.moment c.args.anchor.now inputs c.loop-index.index c.loop-index.above c.loop-index.room bytes c.loop-index.invariant input
-    c.place_below-place.result.name.now c.place_below-place.result.key.now c.place_below-place.result.room c.place_below-place.result.is_last bytes (Err c.in_err-certificate.field-0.0)
-    c.place_below-place.ensures.name c.place_below-place.ensures.key c.place_below-place.ensures.room (c.place_below-place.ensures.is_last ∙ counted (λ (input : Bor (List ℕ)). input.now) c.args.path.now c.loop-index.index) refl c.in_err-certificate.ensures in
+    let said : Judges accepts c.args.moment (here accepts c.args.moment c.args.anchor.now inputs c.loop-index.index c.loop-index.above c.loop-index.max_path_length bytes c.loop-index.invariant input) bytes c.loop-index.index (Err c.in_err-certificate.field-0.0) =
+    judged accepts c.args.moment c.args.anchor.now inputs c.loop-index.index c.loop-index.above c.loop-index.max_path_length bytes c.loop-index.invariant input
+    c.place_below-place.result.name.now c.place_below-place.result.key.now c.place_below-place.result.max_path_length c.place_below-place.result.is_last bytes (Err c.in_err-certificate.field-0.0)
+    c.place_below-place.ensures.name c.place_below-place.ensures.key c.place_below-place.ensures.max_path_length (c.place_below-place.ensures.is_last ∙ counted (λ (input : Bor (List ℕ)). input.now) c.args.path.now c.loop-index.index) refl c.in_err-certificate.ensures in
     let answer : Answers accepts c.args.moment c.args.anchor.now inputs (Err c.in_err-certificate.field-0.0) =
-    refused accepts c.args.moment c.args.anchor.now inputs c.loop-index.index c.loop-index.above c.loop-index.room bytes c.loop-index.invariant input c.in_err-certificate.field-0.0
+    refused accepts c.args.moment c.args.anchor.now inputs c.loop-index.index c.loop-index.above c.loop-index.max_path_length bytes c.loop-index.invariant input c.in_err-certificate.field-0.0
     (some_left (λ (input : Bor (List ℕ)). input.now) c.args.path.now c.if-is_empty.ensures) said in
     let told = err_from_is_err_and c.from_residual.result c.from_residual.ensures.1 in
     rw (told.1, told.2) answer
 
 pub returns : goal.returns
 returns g c =
-    done (g.V.Verifier.accepts c.args.verifier.now) c.args.moment c.args.anchor.now (map (λ input. input.now) c.args.path.now) c.loop-index.index c.loop-index.above c.loop-index.room c.loop-index.invariant
+    done (g.V.Verifier.accepts c.args.verifier.now) c.args.moment c.args.anchor.now (map (λ input. input.now) c.args.path.now) c.loop-index.index c.loop-index.above c.loop-index.max_path_length c.loop-index.invariant
     (omega (arith, length-map c.args.path.now (λ input. input.now), c.loop-index-test.false)) (some_left (λ input. input.now) c.args.path.now c.if-is_empty.ensures)

@@ -1,4 +1,4 @@
--- Tools of the proofs: how many certificates may still follow, and what is said of one certificate.
+-- Tools of the proofs: max_path_length, how many certificates that aren't self-issued may still follow (RFC 5280 6.1.2 (k)), and what is said of one certificate.
 use Rattle.std.specs.Prelude.{◌≡◌, ◌<◌, ◌-◌, ◌⊎◌, ◌↔◌, ℕ, Bool, min, List, ◌++◌, Option, Some, None, Result, Ok, Err, if◌then◌else◌}
 use Rattle.x509_cert.specs.base.CivilTime.{CivilTime}
 use Rattle.x509_cert.specs.der.Form.{Spells}
@@ -15,17 +15,17 @@ use Rattle.x509_path.specs.declared.fault.PathReason.{PathReason}
 -- more of them aren't self-issued than may follow
 abbrev pub IsOver : Option ℕ → List Certificate → Type 0
 IsOver None behind = ⊥
-IsOver (Some room) behind = room < count_not_self_issued behind
+IsOver (Some max_path_length) behind = max_path_length < count_not_self_issued behind
 
--- the certificates leave that room to those behind them
+-- behind these certificates the max_path_length is this one
 abbrev pub Leaves : List Certificate → Option ℕ → Type 0
-Leaves before room = (behind : List Certificate) → IsTooLong (before ++ behind) ↔ (IsOver room behind ⊎ IsTooLong behind)
+Leaves before max_path_length = (behind : List Certificate) → IsTooLong (before ++ behind) ↔ (IsOver max_path_length behind ⊎ IsTooLong behind)
 
--- the room behind a certificate that has a path length, or none
+-- the max_path_length behind a certificate with that path length, or with none (RFC 5280 6.1.4 (l), (m))
 abbrev pub narrowed : Option ℕ → Bool → Option ℕ → Option ℕ
 narrowed None self_issued path_len = path_len
-narrowed (Some room) self_issued None = Some (if self_issued then room else room - 1)
-narrowed (Some room) self_issued (Some path_len) = Some (min path_len (if self_issued then room else room - 1))
+narrowed (Some max_path_length) self_issued None = Some (if self_issued then max_path_length else max_path_length - 1)
+narrowed (Some max_path_length) self_issued (Some path_len) = Some (min path_len (if self_issued then max_path_length else max_path_length - 1))
 
 -- the name and the key behind the last certificate, or those of the anchor
 abbrev pub anchor_behind : Anchor → Option Certificate → Anchor
