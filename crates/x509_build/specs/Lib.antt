@@ -9,5 +9,6 @@ pub mod Domain
 pub mod Modules
 pub mod Profiles
 pub mod RequestParts
-pub mod ListParts
+pub mod CrlParts
 pub mod CertificateParts
+pub mod Equality

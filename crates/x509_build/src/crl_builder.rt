@@ -6,7 +6,7 @@ ghost use Rattle.std.specs.Prelude.{◌≡◌, ◌⊎◌, ◌<◌, ◌≤◌, []
 ghost use Rattle.x509_base.specs.CivilTime.{last_date_time, unix_seconds, whole_seconds};
 ghost use Rattle.x509_base.specs.Time.{IsTimeAt};
 ghost use Rattle.x509_base.specs.declared.time.Time.{Time};
-ghost use Rattle.x509_build.specs.ListParts.{RefusesStart, Starts, members};
+ghost use Rattle.x509_build.specs.CrlParts.{RefusesStart, Starts, members};
 ghost use Rattle.x509_build.specs.declared.error.Error.TheVariants.{Asn1};
 ghost use Rattle.x509_build.specs.Refusals.{LacksMemory};
 ghost use Rattle.x509_cert.specs.declared.crl.revoked_cert.RevokedCert.{RevokedCert};
@@ -17,7 +17,7 @@ ghost use Rattle.x509_der.specs.declared.error.ErrorKind.TheVariants.{Memory, Va
 ghost use Rattle.x509_ext.specs.Identifiers.{id_ce};
 ghost use Rattle.x509_ext.specs.declared.extension.Extension.{Extension};
 
-use crate::extensions::{followed_by, issuer_key, list_extensions};
+use crate::extensions::{crl_extensions, followed_by, issuer_key};
 use crate::profile::null_algorithm::no_algorithm;
 use crate::{Builder, Result, Signer};
 use std::alloc::Global;
@@ -82,7 +82,7 @@ impl<P: Profile> CrlBuilder<P> {
     {
         let name = issuer.tbs_certificate().subject().try_clone(alloc)?;
         let identifier = issuer_key(alloc, issuer)?;
-        let extensions = list_extensions(alloc, &name, crl_number, identifier)?;
+        let extensions = crl_extensions(alloc, &name, crl_number, identifier)?;
         let tbs = TbsCertList {
             version: Some(Version::V2),
             signature: no_algorithm(),
@@ -209,7 +209,7 @@ impl<P: Profile> Drop for CrlBuilder<P> {
 
 impl<P: Profile> Builder for CrlBuilder<P> {
     ghost use Rattle.std.specs.Prelude.{◌≡◌, IfOk, IfErr};
-    ghost use Rattle.x509_build.specs.ListParts as parts;
+    ghost use Rattle.x509_build.specs.CrlParts as parts;
     ghost use Rattle.x509_build.specs.Refusals.{LacksMemory};
 
     type Output = CertificateList<P>;

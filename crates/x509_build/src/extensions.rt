@@ -1,7 +1,7 @@
 //! Lists of extensions, and the extensions of a CRL.
 
 ghost use Rattle.std.specs.Prelude.{◌≡◌, ◌⊎◌, ◌++◌, Ok, Err, IfOk, IfErr};
-ghost use Rattle.x509_build.specs.ListParts.{IdentifiesKey, MakesExtensions, key_octets};
+ghost use Rattle.x509_build.specs.CrlParts.{IdentifiesKey, MakesExtensions, key_octets};
 ghost use Rattle.x509_ext.specs.LookUp.{Finds, members, with_oid};
 ghost use Rattle.x509_der.specs.declared.error.ErrorKind.TheVariants.{Memory};
 ghost use Rattle.x509_ext.specs.Identifiers.{id_ce};
@@ -27,7 +27,7 @@ pub(crate) fn issuer_key(alloc: Global, issuer: &Certificate) -> Result<OctetStr
 }
 
 /// The extensions of a CRL with that number, signed by the key with that identifier.
-pub(crate) fn list_extensions(
+pub(crate) fn crl_extensions(
     alloc: Global,
     issuer: &Name,
     number: CrlNumber,

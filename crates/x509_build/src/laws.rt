@@ -1,6 +1,6 @@
 //! What holds of all that is built. Each law is a function whose contract is the law.
 
-ghost use Rattle.std.specs.Prelude.{◌≡◌, ℕ, List};
+ghost use Rattle.std.specs.Prelude.{◌≡◌, ◌↔◌, ℕ, List, true};
 ghost use Rattle.x509_base.specs.declared.algorithm_identifier.AlgorithmIdentifier.{AlgorithmIdentifier};
 ghost use Rattle.x509_base.specs.declared.subject_public_key_info.SubjectPublicKeyInfo.{SubjectPublicKeyInfo};
 ghost use Rattle.x509_build.specs.Answer.{IsSame};
@@ -8,14 +8,20 @@ ghost use Rattle.x509_build.specs.Parts.{Encodes};
 ghost use Rattle.x509_build.specs.declared.certificate_builder.CertificateBuilder as certificates;
 ghost use Rattle.x509_build.specs.declared.crl_builder.CrlBuilder as crls;
 ghost use Rattle.x509_build.specs.declared.request.request_builder.RequestBuilder as requests;
+ghost use Rattle.x509_build.specs.declared.profile.cabf.tls.CertificateType as types;
+ghost use Rattle.x509_build.specs.declared.profile.cabf.tls.DomainValidated as validated;
+ghost use Rattle.x509_der.specs.Form.{Spells};
+ghost use Rattle.x509_der.specs.Writing.{IsStable, writes};
 ghost use Rattle.x509_prim.specs.BitString.{BitParts};
 
 use crate::Builder;
 use crate::certificate_builder::CertificateBuilder;
 use crate::crl_builder::CrlBuilder;
 use crate::profile::BuilderProfile;
+use crate::profile::cabf::tls::{CertificateType, DomainValidated};
 use crate::request::RequestBuilder;
 use x509_base::Profile;
+use x509_der::{Encode, Spelled, laws};
 
 /// Where a builder becomes one that makes the same parts, as [`finalize`](Builder::finalize) does, what both answer for
 /// one signer are the same bytes.
@@ -29,4 +35,23 @@ pub fn the_algorithm_outside_is_the_signers<B: BuilderProfile, P: Profile>()
     ensures certificate { (builder : certificates.CertificateBuilder B) (algorithm : AlgorithmIdentifier) (key : SubjectPublicKeyInfo) (bits : BitParts) → ⟦<CertificateBuilder<B> as Builder>⟧.whole (⟦<CertificateBuilder<B> as Builder>⟧.next builder algorithm key).value algorithm bits ≡ record { tbs_certificate = (⟦<CertificateBuilder<B> as Builder>⟧.next builder algorithm key).value; signature_algorithm = algorithm; signature = bits } }
     ensures crl { (builder : crls.CrlBuilder P) (algorithm : AlgorithmIdentifier) (key : SubjectPublicKeyInfo) (bits : BitParts) → ⟦<CrlBuilder<P> as Builder>⟧.whole (⟦<CrlBuilder<P> as Builder>⟧.next builder algorithm key).value algorithm bits ≡ record { tbs_cert_list = (⟦<CrlBuilder<P> as Builder>⟧.next builder algorithm key).value; signature_algorithm = algorithm; signature = bits } }
     ensures request { (builder : requests.RequestBuilder) (algorithm : AlgorithmIdentifier) (key : SubjectPublicKeyInfo) (bits : BitParts) → ⟦<RequestBuilder as Builder>⟧.whole (⟦<RequestBuilder as Builder>⟧.next builder algorithm key).value algorithm bits ≡ record { info = (⟦<RequestBuilder as Builder>⟧.next builder algorithm key).value; algorithm = algorithm; signature = bits } }
+{}
+
+/// The bytes that [`finalize`](Builder::finalize) answers, which are those to be signed, decode to the part as it is
+/// spelled: an authority that signs what it made signs what it meant. The part is in hand once
+/// [`assemble`](Builder::assemble) or [`build`](Builder::build) has answered, as `certificate.tbs_certificate()`; the
+/// premise is that of [`Spelled`].
+pub fn what_is_signed_is_read_as_meant<T: Encode + Spelled, B: Builder<Signed = T>>(part: &T)
+    ensures { (builder : B) (algorithm : AlgorithmIdentifier) (key : SubjectPublicKeyInfo) (bytes : List ℕ) → (B.next builder algorithm key).value ≡ part.now
+        → Encodes T.form T.writing (B.next builder algorithm key) bytes → IsStable T.form.good T.writing → T.premise part.now
+        → Spells T.form (writes T.writing part.now).value bytes }
+{
+    laws::what_is_written_of_a_value_is_read_as_meant(part);
+}
+
+/// `==` of the kinds of subscribers holds exactly of equal values.
+#[tactic(auto, using(crate::specs::Equality::exact_certificate_type, crate::specs::Equality::exact_domain_validated))]
+pub fn equality_of_subscribers_is_exact()
+    ensures kinds { (a b : types.CertificateType) → (⟦<CertificateType as PartialEq>⟧.eq a b ≡ true) ↔ (a ≡ b) }
+    ensures domains { (a b : validated.DomainValidated) → (⟦<DomainValidated as PartialEq>⟧.eq a b ≡ true) ↔ (a ≡ b) }
 {}

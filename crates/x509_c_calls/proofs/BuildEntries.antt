@@ -7,7 +7,7 @@ use Rattle.std.specs.Iterator.{Drains}
 use Rattle.std.specs.declared.vec.IntoIter.{IntoIter}
 use Rattle.std.specs.Vec.Iter.{into_iter_items, into_iter_len, into_iter_steps}
 use Rattle.x509_base.specs.declared.profile.Rfc5280.{Rfc5280}
-use Rattle.x509_build.specs.ListParts.{members}
+use Rattle.x509_build.specs.CrlParts.{members}
 use Rattle.x509_build.specs.declared.crl_builder.CrlBuilder.{CrlBuilder}
 use Rattle.x509_c_calls.specs.Input.{unless_empty}
 use Rattle.x509_cert.specs.declared.crl.revoked_cert.RevokedCert.{RevokedCert}

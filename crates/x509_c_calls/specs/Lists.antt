@@ -7,7 +7,7 @@ use Rattle.x509_base.specs.Profiles.{rfc5280_serial_number}
 use Rattle.x509_base.specs.Time.{IsTimeAt}
 use Rattle.x509_base.specs.declared.profile.Rfc5280.{Rfc5280}
 use Rattle.x509_base.specs.declared.time.Time.{Time}
-use Rattle.x509_build.specs.ListParts.{RefusesStart, Starts, next_part}
+use Rattle.x509_build.specs.CrlParts.{RefusesStart, Starts, next_part}
 use Rattle.x509_build.specs.declared.crl_builder.CrlBuilder.{CrlBuilder}
 use Rattle.x509_build.specs.Answer.{Answer}
 use Rattle.x509_build.specs.Parts.{Encodes, PartRefuses}

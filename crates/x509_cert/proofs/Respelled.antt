@@ -30,8 +30,8 @@ members_stay (respelling by) kept xs = let each = members_kept by kept xs in rw 
 -- ---- certificates
 
 -- where each date stays as it is
-pub lists_stay : {P : Type 0} → Stays (members_writing (certificate_writing (tbs_certificate_writing (respelling (respelled_validity {P = P} (λ time. Ok time))))))
-lists_stay = members_stay (certificate_writing (tbs_certificate_writing (respelling (respelled_validity (λ time. Ok time))))) (λ v. refl)
+pub crls_stay : {P : Type 0} → Stays (members_writing (certificate_writing (tbs_certificate_writing (respelling (respelled_validity {P = P} (λ time. Ok time))))))
+crls_stay = members_stay (certificate_writing (tbs_certificate_writing (respelling (respelled_validity (λ time. Ok time))))) (λ v. refl)
 
 module _ {P : Type 0} (check : List ℕ → Result Unit ErrorKind) (writing : Writing (Validity P)) (stable : IsStable (validity {P = P}).good writing) where
   pub tbs_certificates_alike : RespellsAlike (tbs_certificate check) (any_tbs_certificate {P = P}).good (tbs_certificate_writing writing)

@@ -58,14 +58,14 @@ pub use x509_sct::laws as sct;
 pub mod forms;
 
 /// Under every profile CRLs are encoded as they are, with their times: what is encoded is what they are decoded from.
-pub fn lists_stay<P: Profile>()
+pub fn crls_stay<P: Profile>()
     ensures entry { (entry : RevokedCert P) → writes ⟦<RevokedCert<P> as Encode>⟧.writing entry ≡ record { value = entry; refusal = None } }
     ensures signed { (signed : TbsCertList P) → writes ⟦<TbsCertList<P> as Encode>⟧.writing signed ≡ record { value = signed; refusal = None } }
     ensures list { (list : CertificateList P) → writes ⟦<CertificateList<P> as Encode>⟧.writing list ≡ record { value = list; refusal = None } }
 {}
 
 /// Two values with the same encoding are equal, also where the profile refuses their serial numbers in decoding.
-pub fn lists_written_alike_are_one<P: Profile>()
+pub fn crls_written_alike_are_one<P: Profile>()
     ensures entry { (v w : RevokedCert P) → any_revoked_cert.good v → any_revoked_cert.good w → written_spelling (revoked_cert P.serial_check) (writes ⟦<RevokedCert<P> as Encode>⟧.writing v) ≡ written_spelling (revoked_cert P.serial_check) (writes ⟦<RevokedCert<P> as Encode>⟧.writing w) → v ≡ w }
     ensures signed { (v w : TbsCertList P) → any_tbs_cert_list.good v → any_tbs_cert_list.good w → written_spelling (tbs_cert_list P.serial_check) (writes ⟦<TbsCertList<P> as Encode>⟧.writing v) ≡ written_spelling (tbs_cert_list P.serial_check) (writes ⟦<TbsCertList<P> as Encode>⟧.writing w) → v ≡ w }
     ensures list { (v w : CertificateList P) → any_certificate_list.good v → any_certificate_list.good w → written_spelling (certificate_list P.serial_check) (writes ⟦<CertificateList<P> as Encode>⟧.writing v) ≡ written_spelling (certificate_list P.serial_check) (writes ⟦<CertificateList<P> as Encode>⟧.writing w) → v ≡ w }
@@ -73,7 +73,7 @@ pub fn lists_written_alike_are_one<P: Profile>()
 
 /// Bytes that are the encoding of a CRL have a signed part, which [`signed_slice`](crate::signed_slice)
 /// answers: it is the encoding of what is signed, and under every profile encoding that gives it again.
-pub fn lists_have_a_signed_part<P: Profile>()
+pub fn crls_have_a_signed_part<P: Profile>()
     ensures signed { (list : CertificateList P) (bytes : List ℕ) → Spells (certificate_list P.serial_check) list bytes → IsSignedPart bytes (spelling (tbs_cert_list P.serial_check) list.tbs_cert_list) }
     ensures spelled { (list : CertificateList P) (bytes : List ℕ) → Spells (certificate_list P.serial_check) list bytes → Spells (tbs_cert_list P.serial_check) list.tbs_cert_list (spelling (tbs_cert_list P.serial_check) list.tbs_cert_list) }
     ensures written { (signed : TbsCertList P) → written_spelling (tbs_cert_list P.serial_check) (writes ⟦<TbsCertList<P> as Encode>⟧.writing signed) ≡ spelling (tbs_cert_list P.serial_check) signed }

@@ -9,7 +9,8 @@ use x509_der::{
 use x509_prim::{cmp_named_bits, put_named_bits, read_named_bits};
 
 /// Flags about policies on the paths from a trust anchor; bit n stands for the named bit n (RFC 5914 2.5). A bit from 3
-/// on has no name: decoding refuses it as `Malformed`, and encoding as `Value`.
+/// on has no name: decoding refuses it as `Malformed`, and encoding as `Value`. [`Flags::iter_names`] gives the flags
+/// that are set, with their names.
 ///
 /// ```text
 /// CertPolicyFlags ::= BIT STRING {

@@ -44,7 +44,7 @@ pub fn rfc5280_dates_are_written_once()
     dates_are_written_once::<Rfc5280>();
 }
 
-/// So it does under [`Raw`].
+/// Under [`Raw`] too, decoding and encoding twice gives the bytes of once.
 pub fn raw_dates_are_written_once()
     ensures controls { IsStable (cert_path_controls ⟦<Raw as Profile>⟧.serial_check).good ⟦<CertPathControls<Raw> as Encode>⟧.writing }
     ensures info { IsStable (trust_anchor_info ⟦<Raw as Profile>⟧.serial_check).good ⟦<TrustAnchorInfo<Raw> as Encode>⟧.writing }

@@ -46,7 +46,7 @@ pub fn rfc5280_dates_are_written_once()
     dates_are_written_once::<Rfc5280>();
 }
 
-/// So it does under [`Raw`].
+/// Under [`Raw`] too, decoding and encoding twice gives the bytes of once.
 pub fn raw_dates_are_written_once()
     ensures signed { IsStable ⟦<TbsCertificateInner<Raw> as Grammar>⟧.form.good ⟦<TbsCertificateInner<Raw> as Encode>⟧.writing }
     ensures whole { IsStable ⟦<CertificateInner<Raw> as Grammar>⟧.form.good ⟦<CertificateInner<Raw> as Encode>⟧.writing }

@@ -9,6 +9,10 @@ ghost use Rattle.x509_der.specs.Form.{whole_reading};
 use x509_der::{Error, ErrorKind, split_element};
 
 /// The content of the one element that the bytes are, which has this identifier octet.
+///
+/// # Errors
+///
+/// `Malformed` exactly where the bytes are no such element.
 #[tactic(auto, unfolding(x509_der::specs::Form::whole_reading))]
 pub fn content_of(tag: u8, bytes: &[u8]) -> Result<&[u8], Error>
     ensures exact { GivesBy (λ x. x.now) result (whole_reading (any_element tag).reading bytes.now) }
@@ -22,6 +26,10 @@ pub fn content_of(tag: u8, bytes: &[u8]) -> Result<&[u8], Error>
 }
 
 /// The element at the front, which has this identifier octet, and what follows it.
+///
+/// # Errors
+///
+/// `Malformed` exactly where no such element stands there.
 #[tactic(auto, unfolding(crate::specs::ElementParts::lent, x509_der::specs::Frames::field_at))]
 pub fn take(tag: u8, bytes: &[u8]) -> Result<(&[u8], &[u8]), Error>
     ensures exact { GivesBy (λ x. (x.0.now, x.1.now)) result ((lent tag).reading bytes.now) }
@@ -34,7 +42,11 @@ pub fn take(tag: u8, bytes: &[u8]) -> Result<(&[u8], &[u8]), Error>
     Ok((&bytes[..bytes.len() - piece.rest.len()], piece.rest))
 }
 
-/// The same of an element that may be left out.
+/// The same of an element that may be absent: it is there where the next identifier octet is that one.
+///
+/// # Errors
+///
+/// `Malformed` exactly where it is there and no whole element follows.
 #[tactic(auto, unfolding(crate::specs::ElementParts::lent_optional, crate::specs::ElementParts::lent, x509_der::specs::Frames::optional_at))]
 pub fn take_optional(tag: u8, bytes: &[u8]) -> Result<(Option<&[u8]>, &[u8]), Error>
     ensures exact { GivesBy (λ x. (option_copied x.0, x.1.now)) result ((lent_optional tag).reading bytes.now) }
@@ -50,6 +62,10 @@ pub fn take_optional(tag: u8, bytes: &[u8]) -> Result<(Option<&[u8]>, &[u8]), Er
 }
 
 /// The element inside an explicit tag (X.690 8.14.2), and what follows that; n is 0 to 30.
+///
+/// # Errors
+///
+/// `Malformed` exactly where no such element stands there.
 #[tactic(auto, unfolding(crate::specs::ElementParts::lent_inside, x509_der::specs::Frames::field_at))]
 fn take_inside(n: u8, tag: u8, bytes: &[u8]) -> Result<(&[u8], &[u8]), Error>
     requires { n < 31 }
@@ -64,7 +80,11 @@ fn take_inside(n: u8, tag: u8, bytes: &[u8]) -> Result<(&[u8], &[u8]), Error>
     Ok((piece.content, piece.rest))
 }
 
-/// The same of one that may be left out.
+/// The same of one that may be absent; n is 0 to 30.
+///
+/// # Errors
+///
+/// `Malformed` exactly where the explicit tag is there and no such element stands under it.
 #[tactic(auto, unfolding(crate::specs::ElementParts::lent_explicit, crate::specs::ElementParts::lent_inside, x509_der::specs::Frames::optional_at))]
 pub fn take_explicit(n: u8, tag: u8, bytes: &[u8]) -> Result<(Option<&[u8]>, &[u8]), Error>
     requires { n < 31 }

@@ -2,7 +2,7 @@ use Rattle.std.proofs.Common.{◌≡◌, ◌⊎◌, ◌∙◌, ap, inr, subst}
 use Rattle.std.proofs.lemmas.Result.{err_from_is_err_and}
 use Rattle.x509_base.specs.declared.algorithm_identifier.AlgorithmIdentifier.{AlgorithmIdentifier}
 use Rattle.x509_base.specs.declared.profile.Rfc5280.{Rfc5280}
-use Rattle.x509_build.specs.ListParts.{next_part}
+use Rattle.x509_build.specs.CrlParts.{next_part}
 use Rattle.x509_build.specs.declared.crl_builder.CrlBuilder.{CrlBuilder}
 use Rattle.x509_build.specs.Parts.{Encodes, PartRefuses}
 use Rattle.x509_c_calls.proofs.Exits.{mapped}

@@ -1,5 +1,5 @@
 -- The first field of a list is what is signed.
-use Rattle.x509_cert.proofs.laws.lists_have_a_signed_part.Goals as goal
+use Rattle.x509_cert.proofs.laws.crls_have_a_signed_part.Goals as goal
 use Rattle.x509_cert.specs.CertificateList.{certificate_list_fields}
 use Rattle.x509_cert.specs.SignedLaws.{first_field_is_signed}
 

@@ -24,7 +24,7 @@ use Rattle.x509_ext.specs.AuthorityKeyIdentifier.{authority_key_identifier}
 use Rattle.x509_ext.specs.declared.pkix.authority_key_identifier.AuthorityKeyIdentifier.{AuthorityKeyIdentifier}
 use Rattle.x509_prim.specs.Integer.{unsigned_integer}
 
--- ---- the extensions of a list
+-- ---- the extensions of a CRL
 
 -- what an issuer's certificate says of its key, and where it says nothing the digest of the key (RFC 5280 4.2.1.2, method 1)
 abbrev pub identifier_of : Option (Bool × SubjectKeyIdentifier) → List ℕ → List ℕ
@@ -39,11 +39,11 @@ IdentifiesKey LooksUp key identifier = (found : Option (Bool × SubjectKeyIdenti
 abbrev pub told_by : List ℕ → AuthorityKeyIdentifier
 told_by identifier = record { key_identifier = Some identifier; authority_cert_issuer = None; authority_cert_serial_number = None }
 
--- the extension of the number of a list (RFC 5280 5.2.3)
+-- the CRL number extension (RFC 5280 5.2.3)
 abbrev pub MakesNumber : List ℕ → Result Extension Error → Type 0
 MakesNumber number made = Makes (id_ce 20) false unsigned_integer (writes plain number) made
 
--- the extension of the key that signs it (RFC 5280 5.2.1)
+-- the AKI extension (RFC 5280 5.2.1)
 abbrev pub MakesIssuerKey : List ℕ → Result Extension Error → Type 0
 MakesIssuerKey identifier made = Makes (id_ce 35) false authority_key_identifier (writes plain (told_by identifier)) made
 
@@ -69,7 +69,7 @@ first_part issuer this_update extensions = record {
 abbrev pub key_octets : TbsCertificateInner Rfc5280 → List ℕ
 key_octets part = part.subject_public_key_info.subject_public_key.octets
 
--- a builder of a list of that number and that moment, signed by the subject of a certificate
+-- a builder of a CRL with that CRL number and that thisUpdate, issued by the subject of a certificate
 abbrev pub Starts : {P : Type 0} → (Result (Option (Bool × SubjectKeyIdentifier)) Error → Type 0) → TbsCertificateInner Rfc5280 → List ℕ → Time → CrlBuilder P → Type 0
 Starts LooksUp issuer number this_update made =
     (identifier : List ℕ) × (extensions : List Extension) × IdentifiesKey LooksUp (key_octets issuer) identifier × MakesExtensions number identifier (Ok extensions)

@@ -1,5 +1,5 @@
 -- What is written of a list doesn't depend on the profile's check, and no two lists have one element.
-use Rattle.x509_cert.proofs.laws.lists_written_alike_are_one.Goals as goal
+use Rattle.x509_cert.proofs.laws.crls_written_alike_are_one.Goals as goal
 use Rattle.x509_cert.specs.Respelling.{no_check}
 use Rattle.x509_cert.specs.AnySerial.{any_certificate_list, any_revoked_cert, any_tbs_cert_list}
 use Rattle.x509_cert.specs.CertificateList.{certificate_list_fields, certificate_list_lawful, tbs_cert_list_fields, tbs_cert_list_lawful}
