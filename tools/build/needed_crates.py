@@ -5,7 +5,7 @@ import pathlib
 import sys
 
 sys.path.insert(0, str(pathlib.Path(__file__).resolve().parents[1]))
-from common.crates import TOP, crates_below, path_of
+from common.crates import crates_below, lines_of, path_of
 
 
 def main():
@@ -18,10 +18,8 @@ def main():
         if crate not in named:
             sys.exit(f"{crate}: crates.txt has no such crate")
     wanted = set().union(*(path_of(crate, named) for crate in asked.crates))
-    for line in (TOP / "crates.txt").read_text(encoding="utf-8").splitlines():
-        crate = line.partition(":")[0].split()
-        if crate and crate[0] in wanted:
-            print(f"crates/{crate[0]}" if asked.folders else line.rstrip())
+    for line in lines_of(wanted):
+        print(f"crates/{line.partition(':')[0].split()[0]}" if asked.folders else line)
     return 0
 
 

@@ -15,6 +15,12 @@ def crates_below():
     return {name: [it for it in deps if it in named] for name, deps in named.items()}
 
 
+def lines_of(crates):
+    """The lines of crates.txt of these crates, in its order."""
+    lines = (TOP / "crates.txt").read_text(encoding="utf-8").splitlines()
+    return [line.rstrip() for line in lines if line.partition("#")[0].strip() and line.split(":")[0].split()[0] in crates]
+
+
 def path_of(name, named):
     """The crate and all that it stands on."""
     found, todo = set(), [name]

@@ -187,8 +187,8 @@ fi
 wants "C, each allocation refused, also of each row" 0 "$folder/calls.txt" "$folder/refuse_memory" "${files[@]}" "${rows[@]}"
 "${compiler[@]}" "$robustness/compare_checks.c" "$folder/libx509_c.a" "$folder/liblibc_c.a" -o "$folder/compare_checks"
 "$folder/compare_checks" "${rows[0]}" 1000000 1 "${files[@]}" || failed=1
+watched=(valgrind -q --error-exitcode=9 --leak-check=full)
 if has valgrind "runs that look for leaks and bad reads"; then
-    watched=(valgrind -q --error-exitcode=9 --leak-check=full)
     run_c "C under valgrind" "" "${watched[@]}"
     wants "C under valgrind, each allocation refused" 0 "$folder/calls.txt" "${watched[@]}" "$folder/refuse_memory" "${files[@]}"
 fi
@@ -211,6 +211,11 @@ if has cargo "the caller in Rust"; then
     show "Rust" "$folder/target/debug/show"
     hostile "Rust" "$folder/target/debug/show"
     payloads "Rust" "$folder/target/debug/payloads"
+    # Python's interpreter isn't run so: the library that it calls is the one whose memory is watched here and above.
+    if has valgrind "Rust under valgrind"; then
+        hostile "Rust under valgrind" "${watched[@]}" "$folder/target/debug/show"
+        payloads "Rust under valgrind" "${watched[@]}" "$folder/target/debug/payloads"
+    fi
     export X509_LIBRARY=$folder CARGO_TARGET_DIR=$folder/target
     run_tests "Rust, the tests of the wrapper" cargo test -q --offline --manifest-path "$top/examples/rust/Cargo.toml"
     run_tests "Rust, the tests of the crate" cargo test -q --offline --manifest-path "$top/bindings/rust/Cargo.toml"

@@ -1,5 +1,5 @@
 #!/usr/bin/env python3
-"""Tests `./x509_tool` and the tools behind it, in a copy of the scripts with a stand-in for `rt` that answers as `rt try`, `rt lib` and `rt run` do. With the
+"""Tests `./x509_tool` and the tools behind it, in a copy of the scripts with a stand-in for `rt` that answers as `rt try` and `rt ci` do. With the
 word `real` it also runs the sources by `rt` itself, on a value, on bad input, and on input whose answer is over the limit of an unproved run.
 """
 import argparse
@@ -32,14 +32,17 @@ if words[0] == "try":
     sys.stdout.write(said[0])
     sys.stderr.write(said[1])
     sys.exit(said[2])
-if crate == os.environ.get("FAILS"):
-    print("not proved")
-    sys.exit(1)
-os.makedirs("out/rlib", exist_ok=True)
-if words[0] == "run":
-    with open("out/x509_tool", "w") as it:
-        it.write("#!/bin/sh\necho proved $*\nexit 5\n")
-    os.chmod("out/x509_tool", 0o755)
+if words != ["ci"]:
+    sys.exit(9)
+for crate in sorted(os.listdir("crates")):
+    if crate == os.environ.get("FAILS"):
+        print(f"rt: {crate} NOT PROVED")
+        sys.exit(1)
+    print(f"rt: {crate} proved")
+os.makedirs("crates/x509_tool/out")
+with open("crates/x509_tool/out/x509_tool", "w") as it:
+    it.write("#!/bin/sh\necho proved $*\nexit 5\n")
+os.chmod("crates/x509_tool/out/x509_tool", 0o755)
 """
 failed = []
 
@@ -88,7 +91,7 @@ def unproved(top, more):
 def built(top, more):
     """The build, one that fails, and the program that it leaves."""
     ended = run([BUILD, "x509_tool"], top, FAILS="x509_name", **more)
-    check("a crate that isn't proved ends the build", ended.returncode == 1 and b"not proved" in ended.stderr, ended)
+    check("a crate that isn't proved ends the build", ended.returncode == 1 and b"NOT PROVED" in ended.stderr, ended)
     check("and leaves no program", not (top / "crates/x509_tool/out/x509_tool").exists())
     ended = run([BUILD, "x509_tool"], top, **more)
     lines = ended.stderr.decode().splitlines()
