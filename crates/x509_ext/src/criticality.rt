@@ -27,7 +27,7 @@ pub trait FixedAnswer {
     const ANSWER: bool;
 }
 
-/// Yes, whatever the payload, the subject and the extensions in front are.
+/// The extension is critical in every certificate.
 #[derive(Clone, Copy, Debug)]
 pub struct Always;
 
@@ -39,7 +39,7 @@ impl FixedAnswer for Always {
     const ANSWER: bool = true;
 }
 
-/// No, whatever the payload, the subject and the extensions in front are.
+/// The extension is critical in no certificate.
 #[derive(Clone, Copy, Debug)]
 pub struct Never;
 

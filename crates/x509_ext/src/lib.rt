@@ -1,6 +1,6 @@
 //! Extensions of certificates, of CRLs and of CSRs (RFC 5280 4.2): how they are made of their values, how one is found
-//! among them, and in [`pkix`] what they hold. What forms, good values, spellings and laws are says the glossary in
-//! `docs/MAP.md`.
+//! among them, and in [`pkix`] what they hold. The glossary in `docs/MAP.md` explains form, good
+//! value, spelling and law.
 #![tactic(auto)]
 
 mod criticality;

@@ -16,7 +16,7 @@ pub enum Severity {
 }
 
 /// How bad it is to break a rule, its name, and its section of RFC 5280.
-#[derive(Clone, Copy, Debug, PartialEq, Eq)]
+#[derive(Clone, Copy, Debug)]
 pub struct Entry {
     /// How bad it is to break the rule.
     pub severity: Severity,

@@ -16,7 +16,7 @@ use x509_cert::ext::pkix::{
     PrivateKeyUsagePeriod, SubjectAltName, SubjectDirectoryAttributes, SubjectInfoAccessSyntax,
 };
 
-/// What makes a certificate one of a certification authority.
+/// The basic constraints and the key usage of a certificate, by which it is or isn't one of a certification authority (CA).
 #[derive(Debug)]
 pub(crate) struct AuthorityValues {
     pub(crate) basic_constraints: Option<BasicConstraints>,

@@ -69,7 +69,11 @@ impl LogId {
 }
 
 impl SignatureType {
-    /// Its bytes. Memory may be refused, and nothing else.
+    /// The encoding of the type of signature in TLS.
+    ///
+    /// # Errors
+    ///
+    /// `Memory` when out of memory, and nothing else.
     pub fn tls_serialize(&self, alloc: Global) -> Result<Vec<u8>, TlsError>
         ensures ok { IfOk result (λ bytes. Spells signature_type self.now bytes.items) }
         ensures err { IfErr result (λ e. e ≡ Memory) }
@@ -77,8 +81,11 @@ impl SignatureType {
         Tls::tls_serialize(self, alloc)
     }
 
-    /// What stands in front of the bytes, and what follows it; where none stands there, the first fault from the left.
-    /// It takes no memory.
+    /// The type of signature that the bytes begin with, and what follows it. It takes no memory.
+    ///
+    /// # Errors
+    ///
+    /// `EndOfStream` where there is no byte; `UnknownValue` where the first one is of no type of signature.
     pub fn tls_deserialize_bytes(
         alloc: Global,
         bytes: &[u8],

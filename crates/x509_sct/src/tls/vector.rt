@@ -144,7 +144,11 @@ pub fn vector24_len(octets: &[u8]) -> Result<usize, TlsError>
 }
 
 /// Puts the vector of the bytes, `opaque<1..2^24-1>` (RFC 5246 section 4.3), behind those that stand: as many as
-/// [`vector24_len`] says. Memory may be refused; part of the vector may stand then.
+/// [`vector24_len`] says.
+///
+/// # Errors
+///
+/// `AllocError` when out of memory; part of the vector may stand then.
 pub fn put_vector24(octets: &[u8], out: &mut Vec<u8>) -> Result<(), AllocError>
     requires { vector24.good octets.now }
     ensures { OnOk result (out.new.items ≡ out.old.items ++ vector24.bytes octets.now) }
