@@ -87,7 +87,7 @@ class Refusals(unittest.TestCase):
         return made.not_valid_before(NOW).not_valid_after(NOW)
 
     def test_what_is_given(self) -> None:
-        constraints = ours.BasicConstraints(bytes.fromhex("3000"))
+        constraints = ours.BasicConstraints(ca=False, path_length=None)
         with_one = self.builder().add_extension(constraints, critical=True)
         self.assertEqual(len(with_one.sign(ED25519, lambda part: bytes(64)).extensions), 1)
         self.assertEqual(self.builder().sign(ED25519, lambda part: bytes(64)).version, ours.Version.v1)

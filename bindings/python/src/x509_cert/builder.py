@@ -12,9 +12,9 @@ import ctypes
 import datetime
 from typing import Callable, TypeVar
 
+from ._extension import ExtensionType
 from ._library import fill
 from .certificate import Certificate, CertificateRevocationList, RevokedCertificate, _seconds, _serial_element
-from .extensions import ExtensionType
 from .name import Name
 from .oid import ObjectIdentifier
 from .request import CertificateSigningRequest
