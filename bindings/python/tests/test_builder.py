@@ -106,6 +106,18 @@ class Refusals(unittest.TestCase):
             self.builder().tbs_certificate_bytes(b"\x30\x00")
         self.assertEqual(caught.exception.status, 2)
 
+    def test_attributes_of_requests(self) -> None:
+        builder = ours.CertificateSigningRequestBuilder().subject_name(ours.Name.from_rfc4514_string("CN=a")).public_key(KEY)
+        password = ours.AttributeOID.CHALLENGE_PASSWORD
+        csr = builder.add_attribute(password, b"word").sign(ED25519, lambda part: bytes(64))
+        found = csr.get_attribute_for_oid(password)
+        self.assertEqual((found.tag, found.value, csr.signature), (0x0C, b"word", bytes(64)))
+        if theirs is not None:
+            their = theirs.load_der_x509_csr(csr.public_bytes()).attributes
+            self.assertEqual(their.get_attribute_for_oid(theirs.ObjectIdentifier(password.dotted_string)).value, b"word")
+        with self.assertRaises(ours.X509Error):
+            builder.add_attribute(password, b"word").add_attribute(password, b"word").tbs_certrequest_bytes()
+
     def test_a_signer_that_fails(self) -> None:
         def fails(part: bytes) -> bytes:
             raise RuntimeError(part)

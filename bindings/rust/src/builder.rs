@@ -11,6 +11,7 @@ use crate::integer::{Integer, SerialNumber};
 use crate::name::Name;
 use crate::oid::ObjectIdentifier;
 use crate::time::seconds;
+use crate::writing::{self, OBJECT_IDENTIFIER, SEQUENCE, SET};
 use std::fmt;
 use std::time::SystemTime;
 
@@ -399,6 +400,26 @@ impl CsrBuilder {
             attributes: Vec::new(),
             extensions: ExtensionList::default(),
         }
+    }
+
+    /// Adds a further attribute with these values, each a whole element, in any order; see [`oid::request`](crate::oid::request). It is checked when the CSR is
+    /// built.
+    ///
+    /// ```
+    /// use x509_rattle::{oid, CsrBuilder};
+    ///
+    /// let mut builder = CsrBuilder::new(&"CN=a".parse()?);
+    /// // a UTF8String
+    /// builder.add_attribute(oid::request::CHALLENGE_PASSWORD, &[b"\x0c\x04word"]);
+    /// # Ok::<(), x509_rattle::Error>(())
+    /// ```
+    pub fn add_attribute(&mut self, oid: ObjectIdentifier, values: &[&[u8]]) -> &mut CsrBuilder {
+        let mut values: Vec<Vec<u8>> = values.iter().map(|it| it.to_vec()).collect();
+        // the members of a SET OF stand in the order of their encodings (X.690 11.6)
+        values.sort();
+        let values = writing::elements(SET, values);
+        let oid = writing::element(OBJECT_IDENTIFIER, oid.as_bytes());
+        self.add_attribute_der(&writing::elements(SEQUENCE, [oid, values]))
     }
 
     /// Adds a further attribute by its DER, a whole Attribute, which is checked when the CSR is built.

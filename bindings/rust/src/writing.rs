@@ -7,6 +7,7 @@ pub(crate) const OCTET_STRING: u8 = 0x04;
 pub(crate) const OBJECT_IDENTIFIER: u8 = 0x06;
 pub(crate) const ENUMERATED: u8 = 0x0a;
 pub(crate) const SEQUENCE: u8 = 0x30;
+pub(crate) const SET: u8 = 0x31;
 
 /// The identifier octet of a tag of the context-specific class whose content is no elements; the number is below 31.
 pub(crate) const fn context(number: u8) -> u8 {

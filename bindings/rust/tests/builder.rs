@@ -202,6 +202,29 @@ fn a_request() {
     assert_eq!(made.attribute(oid::attribute::COMMON_NAME), Ok(None));
 }
 
+#[test]
+fn attributes_of_requests() {
+    let by_der = b"\x30\x13\x06\x09\x2a\x86\x48\x86\xf7\x0d\x01\x09\x07\x31\x06\x0c\x04word";
+    let subject = name("CN=S");
+    let (mut one, mut other) = (CsrBuilder::new(&subject), CsrBuilder::new(&subject));
+    one.add_attribute_der(by_der);
+    other.add_attribute(oid::request::CHALLENGE_PASSWORD, &[b"\x0c\x04word"]);
+    let part = one.certification_request_info(KEY);
+    assert!(part.is_ok());
+    assert_eq!(other.certification_request_info(KEY), part);
+    other.add_attribute_der(by_der);
+    let twice = other.certification_request_info(KEY);
+    assert_eq!(twice, Err(Error::SetDuplicate));
+    // values may come in any order; one that is no element is refused
+    let mut sorted = CsrBuilder::new(&subject);
+    sorted.add_attribute(oid::attribute::COMMON_NAME, &[b"\x0c\x01b", b"\x0c\x01a"]);
+    assert!(sorted.certification_request_info(KEY).is_ok());
+    let mut broken = CsrBuilder::new(&subject);
+    broken.add_attribute(oid::attribute::COMMON_NAME, &[b"\x0c\x02b"]);
+    let refused = broken.certification_request_info(KEY);
+    assert_eq!(refused, Err(Error::Malformed));
+}
+
 fn issuer(signer: &Fixed) -> Certificate {
     let mut builder = builder();
     builder

@@ -19,7 +19,7 @@ from .general_name import (
 from .name import NameAttribute, RelativeDistinguishedName
 from .oid import ObjectIdentifier
 
-BOOLEAN, INTEGER, BIT_STRING, OCTET_STRING, NULL, OBJECT_IDENTIFIER, ENUMERATED, SEQUENCE = 1, 2, 3, 4, 5, 6, 10, 0x30
+BOOLEAN, INTEGER, BIT_STRING, OCTET_STRING, NULL, OBJECT_IDENTIFIER, ENUMERATED, SEQUENCE, SET = 1, 2, 3, 4, 5, 6, 10, 0x30, 0x31
 
 
 def context(number: int, of_elements: bool = False) -> int:
