@@ -4,6 +4,7 @@
 //! is. That the signature is one of these bytes isn't checked.
 use crate::certificate::{Certificate, CertificateRef, Validity};
 use crate::crl::Crl;
+use crate::csr::Csr;
 use crate::error::Error;
 use crate::extension::{CrlReason, ToExtension};
 use crate::ffi::build;
@@ -454,6 +455,8 @@ impl CsrBuilder {
     /// fails.
     pub fn build<S: Signer>(&self, signer: &S) -> Result<Vec<u8>, BuildError<S::Error>> {
         let part = self.certification_request_info(signer.subject_public_key_info())?;
-        signed(&part, signer)
+        let der = signed(&part, signer)?;
+        Csr::from_der(&der)?;
+        Ok(der)
     }
 }

@@ -182,5 +182,17 @@ fn of_policies() {
 fn of_lists() {
     is(CrlReason::RemoveFromCrl, b"\x0a\x01\x08");
     let number = CrlNumber::from_der(b"\x02\x02\x00\x80").expect("a number");
+    is(number, b"\x02\x02\x00\x80");
     is(BaseCrlNumber(number.0), b"\x02\x02\x00\x80");
+}
+
+// RFC 6962 3.3: what a timestamp says isn't looked at
+#[test]
+fn of_logs() {
+    is(
+        SignedCertificateTimestamps(vec![b"ab", b"c"]),
+        b"\x04\x09\x00\x07\x00\x02ab\x00\x01c",
+    );
+    refused(&SignedCertificateTimestamps(vec![&[7; 65_536]]));
+    refused(&SignedCertificateTimestamps(vec![&[7; 40_000]; 2]));
 }

@@ -1,11 +1,12 @@
 //! Values of extensions as DER, for builders. What is written is read back by the library, and has to be the value, before it is given out.
 use super::{
     AccessDescription, AuthorityInfoAccess, AuthorityKeyIdentifier, BaseCrlNumber,
-    BasicConstraints, CertificatePolicies, CrlDistributionPoints, CrlReason, DistributionPoint,
-    DistributionPointName, ExtendedKeyUsage, ExtensionValue, FreshestCrl, GeneralSubtree,
-    InhibitAnyPolicy, IssuerAltName, IssuingDistributionPoint, KeyUsage, NameConstraints,
-    PolicyConstraints, PolicyInformation, PolicyMappings, PolicyQualifierInfo, ReasonFlags,
-    SubjectAltName, SubjectInfoAccess, SubjectKeyIdentifier,
+    BasicConstraints, CertificatePolicies, CrlDistributionPoints, CrlNumber, CrlReason,
+    DistributionPoint, DistributionPointName, ExtendedKeyUsage, ExtensionValue, FreshestCrl,
+    GeneralSubtree, InhibitAnyPolicy, IssuerAltName, IssuingDistributionPoint, KeyUsage,
+    NameConstraints, PolicyConstraints, PolicyInformation, PolicyMappings, PolicyQualifierInfo,
+    ReasonFlags, SignedCertificateTimestamps, SubjectAltName, SubjectInfoAccess,
+    SubjectKeyIdentifier,
 };
 use crate::error::Error;
 use crate::general_name::GeneralName;
@@ -110,8 +111,13 @@ written! {
         elements(SEQUENCE, explicit.into_iter().chain(mapping))
     };
     InhibitAnyPolicy, it => integer(INTEGER, it.0);
+    CrlNumber<'_>, it => element(INTEGER, it.0.as_bytes());
     BaseCrlNumber<'_>, it => element(INTEGER, it.0.as_bytes());
     CrlReason, it => integer(ENUMERATED, *it as u32);
+    SignedCertificateTimestamps<'_>, it => {
+        let members: Vec<u8> = it.0.iter().flat_map(|octets| with_length(octets)).collect();
+        element(OCTET_STRING, &with_length(&members))
+    };
 }
 
 fn integer(identifier: u8, number: u32) -> Vec<u8> {
@@ -125,6 +131,12 @@ fn flag(identifier: u8, is_set: bool) -> Option<Vec<u8>> {
 
 fn identifier(oid: &ObjectIdentifier) -> Vec<u8> {
     element(OBJECT_IDENTIFIER, oid.as_bytes())
+}
+
+/// A vector of TLS of up to 65,535 octets (RFC 6962 3.3), behind their number. Of more octets it is none, and isn't read as one.
+fn with_length(octets: &[u8]) -> Vec<u8> {
+    let len = u16::try_from(octets.len()).unwrap_or(u16::MAX);
+    [&len.to_be_bytes(), octets].concat()
 }
 
 fn general_name(name: &GeneralName<'_>) -> Vec<u8> {
