@@ -13,7 +13,6 @@ import datetime
 import pathlib
 import sys
 
-from cryptography import x509 as theirs
 from cryptography.hazmat.primitives import hashes, serialization
 from cryptography.hazmat.primitives.asymmetric import ec, ed25519, padding, rsa
 
@@ -43,22 +42,11 @@ def signer(key: object) -> tuple[bytes, x509.Signer]:
     return ED25519, key.sign
 
 
-def held(value: theirs.ExtensionType) -> x509.ExtensionType:
-    """An extension with the DER that `cryptography` writes of its value."""
-    return x509.UnrecognizedExtension(x509.ObjectIdentifier(value.oid.dotted_string), value.public_bytes())
-
-
-def uses(*names: str) -> theirs.KeyUsage:
-    """The key usage of these names."""
-    all_names = "digital_signature content_commitment key_encipherment data_encipherment key_agreement key_cert_sign crl_sign encipher_only decipher_only"
-    return theirs.KeyUsage(**{name: name in names for name in all_names.split()})
-
-
 def certificate(serial: int, issuer: x509.Name, issuer_key: object, subject: x509.Name, public_key: bytes, extensions: list) -> x509.Certificate:
     """A certificate with these extensions behind the AKI."""
-    aki = theirs.AuthorityKeyIdentifier.from_issuer_public_key(issuer_key.public_key())
+    aki = x509.AuthorityKeyIdentifier.from_issuer_public_key_bytes(key_bytes(issuer_key))
     builder = x509.CertificateBuilder().serial_number(serial).issuer_name(issuer).subject_name(subject).public_key(public_key)
-    builder = builder.not_valid_before(START).not_valid_after(END).add_extension(held(aki), critical=False)
+    builder = builder.not_valid_before(START).not_valid_after(END).add_extension(aki, critical=False)
     for value, critical in extensions:
         builder = builder.add_extension(value, critical)
     return builder.sign(*signer(issuer_key))
@@ -66,9 +54,9 @@ def certificate(serial: int, issuer: x509.Name, issuer_key: object, subject: x50
 
 def of_authority(serial: int, issuer: x509.Name, issuer_key: object, subject: x509.Name, key: object, path_length: int | None) -> x509.Certificate:
     extensions = [
-        (held(theirs.BasicConstraints(ca=True, path_length=path_length)), True),
-        (held(uses("key_cert_sign", "crl_sign")), True),
-        (held(theirs.SubjectKeyIdentifier.from_public_key(key.public_key())), False),
+        (x509.BasicConstraints(ca=True, path_length=path_length), True),
+        (x509.KeyUsage(key_cert_sign=True, crl_sign=True), True),
+        (x509.SubjectKeyIdentifier.from_public_key_bytes(key_bytes(key)), False),
     ]
     return certificate(serial, issuer, issuer_key, subject, key_bytes(key), extensions)
 
@@ -76,23 +64,23 @@ def of_authority(serial: int, issuer: x509.Name, issuer_key: object, subject: x5
 def of_server(issuer: x509.Name, issuer_key: object, request: x509.CertificateSigningRequest) -> x509.Certificate:
     """The certificate for the subject and the key of a CSR, with the extensions that it asks for."""
     extensions = [
-        (held(theirs.BasicConstraints(ca=False, path_length=None)), True),
-        (held(uses("digital_signature")), True),
-        (held(theirs.ExtendedKeyUsage([theirs.ExtendedKeyUsageOID.SERVER_AUTH])), False),
+        (x509.BasicConstraints(ca=False, path_length=None), True),
+        (x509.KeyUsage(digital_signature=True), True),
+        (x509.ExtendedKeyUsage([x509.ExtendedKeyUsageOID.SERVER_AUTH]), False),
     ]
     extensions += [(it.value, it.critical) for it in request.extensions]
     return certificate(SERVER_SERIAL, issuer, issuer_key, request.subject, request.public_key_bytes, extensions)
 
 
 def request_of(subject: x509.Name, key: object, host: str) -> x509.CertificateSigningRequest:
-    names = held(theirs.SubjectAlternativeName([theirs.DNSName(host)]))
+    names = x509.SubjectAlternativeName([x509.DNSName(host)])
     return x509.CertificateSigningRequestBuilder().subject_name(subject).public_key(key_bytes(key)).add_extension(names, critical=False).sign(*signer(key))
 
 
 def crl_of(issuer: x509.Certificate, key: object, number: int, revoked: list[int]) -> x509.CertificateRevocationList:
     builder = x509.CertificateRevocationListBuilder().issuer(issuer).crl_number(number).last_update(START).next_update(END)
     for serial in revoked:
-        reason = x509.Extension(x509.ExtensionOID.CRL_REASON, False, theirs.CRLReason(theirs.ReasonFlags.key_compromise).public_bytes())
+        reason = x509.Extension(x509.ExtensionOID.CRL_REASON, False, x509.CRLReason(x509.ReasonFlags.key_compromise).data)
         builder = builder.add_revoked_certificate(x509.RevokedCertificate(serial, START, None, x509.Extensions([reason])))
     return builder.sign(*signer(key))
 

@@ -2,7 +2,8 @@
 # Tries ./x509_tool, builds the C library and the callers of examples/, and runs them on a certificate, on bad input, on hostile payloads of
 # extensions and on paths, under valgrind and with sanitizers where these are there. What isn't installed is left out, with a line that says so. What
 # they print is compared with what Python's `cryptography` says (examples/data/make.py), and with what tools/robustness/hostile_payloads.py and
-# examples/data/make_path.py state by hand. Before that it checks the rows, the snippets of README.md and the names in docs/PROMISES.md.
+# examples/data/make_path.py state by hand. Before that it checks the rows, the snippets of README.md and the names in docs/PROMISES.md and
+# docs/OPERATIONS.md; and it asks each call of the header about spoilt inputs.
 set -eu
 top=$(cd "$(dirname "${BASH_SOURCE[0]}")/../.." && pwd)
 gate=$top/tools/gate
@@ -86,16 +87,44 @@ accept_path() {
         -trusted "$folder/root.pem" -untrusted "$folder/intermediate.pem" "$folder/server.pem"
 }
 
+# usage: authority NAME WORDS..: the authority makes a chain that openssl takes, also beside a CRL, until the server is revoked; and a CSR
+authority() {
+    local name=$1 made=$folder/made file
+    shift
+    rm -rf "$made"
+    mkdir "$made"
+    wants "$name, an authority" 0 "$folder/nothing" "$@" "$made"
+    wants "$name, an authority without a folder" 1 "$folder/nothing" "$@" "$made/none"
+    has openssl "its answers to the authority" || return 0
+    for file in root intermediate server; do
+        openssl x509 -inform DER -in "$made/$file.der" -out "$made/$file.pem" || failed=1
+    done
+    for file in before after; do
+        openssl crl -inform DER -in "$made/$file.der" -out "$made/$file.pem" 2>>"$folder/said" || failed=1
+    done
+    local verify=(openssl verify -x509_strict -attime 1893456000 -CAfile "$made/root.pem" -untrusted "$made/intermediate.pem")
+    echo "$made/server.pem: OK" >"$folder/accepted.txt"
+    wants "openssl, the chain of $name" 0 "$folder/accepted.txt" "${verify[@]}" -verify_hostname www.example.org "$made/server.pem"
+    wants "openssl, the chain of $name and a CRL" 0 "$folder/accepted.txt" "${verify[@]}" -crl_check -CRLfile "$made/before.pem" "$made/server.pem"
+    wants "openssl, the chain of $name once it is revoked" 2 "$folder/nothing" "${verify[@]}" -crl_check -CRLfile "$made/after.pem" "$made/server.pem"
+    grep -q 'certificate revoked' "$folder/said" || {
+        echo "failed: openssl doesn't say that the server of $name is revoked"
+        failed=1
+    }
+    wants "openssl, the CSR of $name" 0 "$folder/nothing" openssl req -inform DER -in "$made/request.der" -verify -noout
+}
+
 echo 'certificate: refused with 2' >"$folder/refused.txt"
 echo 'all calls answer as they should' >"$folder/calls.txt"
 : >"$folder/nothing"
 printf '0' >"$folder/one"
 head -c -1 "$data/certificate.der" >"$folder/short"
 
-if has python3 "hostile payloads, the rows, the snippets of README.md, the names in docs/PROMISES.md, and ./x509_tool"; then
+if has python3 "hostile payloads, the rows, the snippets of README.md, the names in docs/PROMISES.md and docs/OPERATIONS.md, and ./x509_tool"; then
     python3 -B "$gate/make_rows.py" --check || failed=1
     python3 -B "$gate/check_readme_snippets.py" || failed=1
     python3 -B "$gate/check_promises.py" || failed=1
+    python3 -B "$gate/check_operations.py" || failed=1
     python3 -B "$gate/test_first_command.py" real || failed=1
     python3 -B "$robustness/hostile_payloads.py" "$folder/hostile"
     rules=("$data/certificate.der" "$data/list.der" "$folder/hostile/generalized_time_before_2050.der")
@@ -138,9 +167,9 @@ compiler=("${CC:-cc}" -std=c11 -Wall -Wextra -Werror -O1 -g -I "$top/include")
 callers=(show calls rules payloads)
 printf '%s\n' '#include <openssl/evp.h>' 'int main(void) { return EVP_DigestVerifyInit_ex == NULL; }' >"$folder/tried.c"
 if "${CC:-cc}" "$folder/tried.c" -lcrypto -o "$folder/tried" 2>"$folder/said"; then
-    callers+=(path)
+    callers+=(path authority)
 else
-    echo "left out, since libcrypto 3 with its headers isn't installed: paths in C"
+    echo "left out, since libcrypto 3 with its headers isn't installed: paths and an authority in C"
 fi
 
 # usage: compile SUFFIX FLAGS..: the callers in C
@@ -149,7 +178,7 @@ compile() {
     shift
     for name in "${callers[@]}"; do
         libraries=("$folder/libx509_c.a" "$folder/liblibc_c.a")
-        [ "$name" != path ] || libraries+=(-lcrypto)
+        case $name in path | authority) libraries+=(-lcrypto) ;; esac
         "${compiler[@]}" "$@" "$top/examples/c/$name.c" "${libraries[@]}" -o "$folder/$name$suffix"
     done
 }
@@ -164,6 +193,7 @@ run_c() {
     payloads "$name" "$@" "$folder/payloads$suffix"
     [ -z "${rules:-}" ] || wants "$name, the rules of the header" 0 "$folder/calls.txt" "$@" "$folder/rules$suffix" "${rules[@]}"
     [ ! -e "$folder/path$suffix" ] || paths paths "$name" "$@" "$folder/path$suffix"
+    [ ! -e "$folder/authority$suffix" ] || authority "$name" "$@" "$folder/authority$suffix"
 }
 
 # usage: run_spoilt NAME SUFFIX: the checker of paths in C says of spoilt paths what that in Python does
@@ -171,14 +201,36 @@ run_spoilt() {
     [ ! -e "$folder/path$2" ] || paths spoilt "$1, spoilt" "$folder/path$2"
 }
 
+# usage: spoil NAME COUNT THREADS FLAGS..: each call of the header about spoilt inputs
+spoil() {
+    local name=$1 count=$2 threads=$3
+    shift 3
+    [ -e "$folder/calls_table.h" ] || return 0
+    "${compiler[@]}" -O2 "$@" -I "$folder" "$robustness/spoil_calls.c" "$folder/libx509_c.a" "$folder/liblibc_c.a" -lpthread -o "$folder/spoil_calls"
+    if "$folder/spoil_calls" "${rows[0]}" "$count" 1 "$threads" "${files[@]}" >"$folder/printed" 2>&1; then
+        echo "passed: $name: $(cat "$folder/printed")"
+    else
+        echo "failed: $name:"
+        cat "$folder/printed"
+        failed=1
+    fi
+}
+
+if has python3 "the exports beside the header, and each call about spoilt inputs"; then
+    python3 -B "$gate/compare_exports.py" "$folder/libx509_c.a" || failed=1
+    python3 -B "$robustness/calls_table.py" >"$folder/calls_table.h"
+fi
+
 compile ""
 run_c "C" ""
 run_spoilt "C" ""
+spoil "C, spoilt inputs in eight threads" 2000 8
 sanitizers=(-fsanitize=address,undefined -fno-sanitize-recover=all)
 if echo 'int main(void) { return 0; }' | "${CC:-cc}" -x c "${sanitizers[@]}" - -o "$folder/tried" 2>"$folder/said" && "$folder/tried" 2>"$folder/said"; then
     compile "_sanitized" "${sanitizers[@]}"
     run_c "C with sanitizers" "_sanitized"
     run_spoilt "C with sanitizers" "_sanitized"
+    spoil "C with sanitizers, spoilt inputs" 20000 1 "${sanitizers[@]}"
 else
     echo "left out, since ${CC:-cc} lacks them: runs with AddressSanitizer and UBSan"
 fi
@@ -207,6 +259,7 @@ run_tests() {
 }
 
 if has cargo "the caller in Rust"; then
+    has openssl "the authority in Rust" || true
     X509_LIBRARY=$folder CARGO_TARGET_DIR=$folder/target cargo build -q --offline --manifest-path "$top/examples/rust/Cargo.toml"
     show "Rust" "$folder/target/debug/show"
     hostile "Rust" "$folder/target/debug/show"
@@ -219,6 +272,12 @@ if has cargo "the caller in Rust"; then
     export X509_LIBRARY=$folder CARGO_TARGET_DIR=$folder/target
     run_tests "Rust, the tests of the wrapper" cargo test -q --offline --manifest-path "$top/examples/rust/Cargo.toml"
     run_tests "Rust, the tests of the crate" cargo test -q --offline --manifest-path "$top/bindings/rust/Cargo.toml"
+    cargo build -q --offline --example facts --manifest-path "$top/bindings/rust/Cargo.toml"
+    if ! python3 -c 'import cryptography' 2>"$folder/said" || [ ! -d /etc/ssl/certs ]; then
+        echo "left out, since Python's cryptography isn't installed, or the system has no store of certificates: Rust beside cryptography"
+    else
+        python3 -B "$gate/compare_rust.py" "$folder/target/debug/examples/facts" || failed=1
+    fi
 fi
 
 if has python3 "the caller in Python, and wide and deep values"; then
@@ -228,6 +287,8 @@ if has python3 "the caller in Python, and wide and deep values"; then
     paths paths "Python" python3 -B "$top/examples/python/path.py" "$folder/libx509.so"
     run_tests "Python, the tests of the package, beside cryptography" env X509_LIBRARY="$folder/libx509.so" PYTHONPATH="$top/bindings/python/src" \
         python3 -B -m unittest discover -s "$top/bindings/python/tests"
+    ! has mypy "the types of the package for Python" ||
+        run_tests "Python, the types of the package" mypy --strict --cache-dir "$folder/mypy" "$top/bindings/python/src/x509_cert"
     python3 -B "$robustness/hostile_sizes.py" --rows "$folder"
     wants "C, each allocation refused of wide and deep values" 0 "$folder/calls.txt" "$folder/refuse_memory" "${files[@]}" "$folder/rows" "$folder/answers"
 fi

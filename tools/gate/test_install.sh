@@ -1,6 +1,6 @@
 #!/usr/bin/env bash
-# Installs the C library under a fresh folder, and builds and runs a caller over it: in C with the flags of pkg-config, shared and static, in C++ with all warnings, and by CMake. What
-# isn't installed is left out, with a line that says so. Asks too that the shared library lets nothing be seen but calls that begin with x509_.
+# Installs the C library under a fresh folder, and builds and runs a caller over it: in C with the flags of pkg-config, shared and static, in C++ with all warnings, and by CMake; and the
+# packages for Rust, found by pkg-config, and Python, installed by pip. What isn't installed is left out, with a line that says so. Asks too that the shared library lets nothing be seen but calls that begin with x509_.
 set -eu
 top=$(cd "$(dirname "${BASH_SOURCE[0]}")/../.." && pwd)
 folder=$(mktemp -d)
@@ -76,5 +76,20 @@ CMAKE
     cmake -S "$folder" -B "$folder/build" -DCMAKE_PREFIX_PATH="$prefix" >"$folder/said" 2>&1 && cmake --build "$folder/build" >>"$folder/said" 2>&1 || cat "$folder/said"
     says "CMake, shared" 2.5.29.15 "$("$folder/build/by_cmake")"
     says "CMake, static" 2.5.29.15 "$("$folder/build/by_cmake_static")"
+fi
+
+if has pkg-config "the crate for Rust over the install" && has cargo "the crate for Rust over the install"; then
+    ended=0
+    env -u X509_LIBRARY CARGO_TARGET_DIR="$folder/target" cargo test -q --offline --test builder --manifest-path "$top/bindings/rust/Cargo.toml" >"$folder/said" 2>&1 || ended=$?
+    [ "$ended" = 0 ] || cat "$folder/said"
+    says "Rust, by pkg-config" 0 "$ended"
+fi
+
+if has python3 "the package for Python over the install"; then
+    ended=0
+    python3 -m pip install -q --no-index --no-deps --target "$folder/package" "$top/bindings/python" >"$folder/said" 2>&1 || ended=$?
+    [ "$ended" = 0 ] || cat "$folder/said"
+    says "Python, by pip" "0 2.5.29.15" "$ended $(X509_LIBRARY=$prefix/lib/libx509.so PYTHONPATH=$folder/package python3 -B -c \
+        'import x509_cert; print(x509_cert.KeyUsage(crl_sign=True).oid.dotted_string)')"
 fi
 exit "$failed"

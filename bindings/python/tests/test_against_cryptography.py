@@ -234,7 +234,7 @@ class AgainstCryptography(unittest.TestCase):
         oid = theirs.ObjectIdentifier("1.3.6.1.4.1.11129.2.4.2")
         data = builder.add_extension(theirs.UnrecognizedExtension(oid, value), critical=False).sign(key, hashes.SHA256())
         self.compare(data.public_bytes(serialization.Encoding.DER))
-        held = ours.PrecertificateSignedCertificateTimestamps(value)
+        held = ours.PrecertificateSignedCertificateTimestamps.from_der(value)
         self.assertEqual([it.milliseconds for it in held], [1_700_000_000_123, 5])
         self.assertEqual(held.serialized, [one, other])
 

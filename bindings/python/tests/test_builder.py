@@ -87,7 +87,7 @@ class Refusals(unittest.TestCase):
         return made.not_valid_before(NOW).not_valid_after(NOW)
 
     def test_what_is_given(self) -> None:
-        constraints = ours.BasicConstraints(bytes.fromhex("3000"))
+        constraints = ours.BasicConstraints(ca=False, path_length=None)
         with_one = self.builder().add_extension(constraints, critical=True)
         self.assertEqual(len(with_one.sign(ED25519, lambda part: bytes(64)).extensions), 1)
         self.assertEqual(self.builder().sign(ED25519, lambda part: bytes(64)).version, ours.Version.v1)
@@ -105,6 +105,18 @@ class Refusals(unittest.TestCase):
         with self.assertRaises(ours.X509Error) as caught:
             self.builder().tbs_certificate_bytes(b"\x30\x00")
         self.assertEqual(caught.exception.status, 2)
+
+    def test_attributes_of_requests(self) -> None:
+        builder = ours.CertificateSigningRequestBuilder().subject_name(ours.Name.from_rfc4514_string("CN=a")).public_key(KEY)
+        password = ours.AttributeOID.CHALLENGE_PASSWORD
+        csr = builder.add_attribute(password, b"word").sign(ED25519, lambda part: bytes(64))
+        found = csr.get_attribute_for_oid(password)
+        self.assertEqual((found.tag, found.value, csr.signature), (0x0C, b"word", bytes(64)))
+        if theirs is not None:
+            their = theirs.load_der_x509_csr(csr.public_bytes()).attributes
+            self.assertEqual(their.get_attribute_for_oid(theirs.ObjectIdentifier(password.dotted_string)).value, b"word")
+        with self.assertRaises(ours.X509Error):
+            builder.add_attribute(password, b"word").add_attribute(password, b"word").tbs_certrequest_bytes()
 
     def test_a_signer_that_fails(self) -> None:
         def fails(part: bytes) -> bytes:

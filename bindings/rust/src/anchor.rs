@@ -120,7 +120,7 @@ impl<'a> TrustAnchor<'a> {
         std::str::from_utf8(self.optional(self.view.title_language)?).ok()
     }
 
-    /// Of a TrustAnchorInfo the constraints on paths: a whole CertPathControls.
+    /// Of a TrustAnchorInfo the constraints on paths: a whole CertPathControls, for [`PathControls::from_der`](crate::PathControls::from_der).
     pub fn path_controls(&self) -> Option<&'a [u8]> {
         self.optional(self.view.controls)
     }

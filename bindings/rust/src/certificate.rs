@@ -5,6 +5,7 @@ use crate::extension::{
 };
 use crate::ffi::{self, Span};
 use crate::integer::Integer;
+use crate::key::{AlgorithmIdentifier, PublicKey};
 use crate::name::NameRef;
 use crate::oid::ObjectIdentifier;
 use crate::time::moment;
@@ -59,6 +60,14 @@ impl<'a> Signature<'a> {
             bits: view.bits.of(der)?,
             unused_bits: view.unused_bits,
         })
+    }
+
+    /// The algorithm, by its kind and its parameters.
+    ///
+    /// # Errors
+    /// [`Error::Malformed`] where the bytes of `algorithm` are none, which those that a call has found never are; [`Error::Memory`].
+    pub fn algorithm_identifier(&self) -> Result<AlgorithmIdentifier<'a>, Error> {
+        AlgorithmIdentifier::from_der(self.algorithm)
     }
 }
 
@@ -170,6 +179,14 @@ impl<'a> CertificateRef<'a> {
         self.part(self.parts.subject_public_key_info)
     }
 
+    /// The key, by its kind and its bits.
+    ///
+    /// # Errors
+    /// [`Error::Memory`].
+    pub fn public_key(&self) -> Result<PublicKey<'a>, Error> {
+        PublicKey::from_der(self.subject_public_key_info())
+    }
+
     /// Its extensions, in order.
     pub fn extensions(&self) -> Extensions<'a> {
         Extensions::new(self.part(self.parts.extensions))
@@ -180,7 +197,7 @@ impl<'a> CertificateRef<'a> {
     /// # Errors
     /// [`Error::Repeated`] where there are two or more; [`Error::Memory`].
     pub fn extension(&self, oid: ObjectIdentifier) -> Result<Option<Extension<'a>>, Error> {
-        let Some(found) = ffi::certificate_extension(self.der, oid.as_bytes())? else {
+        let Some(found) = ffi::CERTIFICATE_EXTENSION.of(self.der, oid.as_bytes())? else {
             return Ok(None);
         };
         Ok(Some(Extension::new(
@@ -383,6 +400,14 @@ impl Certificate {
     /// The key and its algorithm: a whole SubjectPublicKeyInfo.
     pub fn subject_public_key_info(&self) -> &[u8] {
         self.to_ref().subject_public_key_info()
+    }
+
+    /// The key, by its kind and its bits.
+    ///
+    /// # Errors
+    /// [`Error::Memory`].
+    pub fn public_key(&self) -> Result<PublicKey<'_>, Error> {
+        self.to_ref().public_key()
     }
 
     /// Its extensions, in order.

@@ -10,9 +10,6 @@ use std::fmt;
 use std::hash::{Hash, Hasher};
 use std::time::SystemTime;
 
-/// The identifier octet of an INTEGER.
-const INTEGER: u8 = 2;
-
 /// What an entry of a CRL says.
 #[derive(Clone, Copy, Debug, PartialEq, Eq, Hash)]
 pub struct Revocation {
@@ -202,12 +199,8 @@ impl Crl {
     /// [`Error::Malformed`] where the octets are no serial number's, which are at most 21, or where the entry's reason can't be read; [`Error::Failed`]
     /// where its reason is there twice; [`Error::Memory`].
     pub fn revocation(&self, serial_number: &[u8]) -> Result<Option<Revocation>, Error> {
-        // a length of one octet is below 128 (X.690 8.1.3.4)
-        let len = u8::try_from(serial_number.len())
-            .ok()
-            .filter(|len| *len < 128);
-        let front = [INTEGER, len.ok_or(Error::Malformed)?];
-        let Some(found) = ffi::crl_lookup(&self.der, &[&front, serial_number].concat())? else {
+        let element = Integer(serial_number).element()?;
+        let Some(found) = ffi::CRL_LOOKUP.of(&self.der, &element)? else {
             return Ok(None);
         };
         let reason = u32::try_from(found.reason).ok();

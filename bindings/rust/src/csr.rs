@@ -3,12 +3,10 @@ use crate::certificate::Signature;
 use crate::error::Error;
 use crate::extension::Extensions;
 use crate::ffi::{self, Members};
+use crate::key::PublicKey;
 use crate::name::NameRef;
-use crate::oid::ObjectIdentifier;
+use crate::oid::{self, ObjectIdentifier};
 use std::fmt;
-
-/// The content octets of 1.2.840.113549.1.9.14, extensionRequest (RFC 2985 5.4.2).
-const EXTENSION_REQUEST: &[u8] = b"\x2a\x86\x48\x86\xf7\x0d\x01\x09\x0e";
 
 /// An attribute of a CSR (RFC 2986 4.1), as a challenge password.
 #[derive(Clone, Copy, Debug, PartialEq, Eq, Hash)]
@@ -137,19 +135,32 @@ impl<'a> Csr<'a> {
         CsrAttributes(ffi::REQUEST_ATTRIBUTES.over(self.part(self.view.attributes)))
     }
 
+    /// The key, by its kind and its bits.
+    ///
+    /// # Errors
+    /// [`Error::Memory`].
+    pub fn public_key(&self) -> Result<PublicKey<'a>, Error> {
+        PublicKey::from_der(self.subject_public_key_info())
+    }
+
+    /// Its attribute of a type; see [`oid::request`].
+    ///
+    /// # Errors
+    /// [`Error::Repeated`] where there are two or more; [`Error::Memory`].
+    pub fn attribute(&self, oid: ObjectIdentifier) -> Result<Option<CsrAttribute<'a>>, Error> {
+        let Some(found) = ffi::REQUEST_ATTRIBUTE.of(self.der, oid.as_bytes())? else {
+            return Ok(None);
+        };
+        let values = found.values.of(self.der)?;
+        Ok(Some(CsrAttribute { oid, values }))
+    }
+
     /// The extensions that it asks for (RFC 2985 5.4.2), in order; none where no attribute asks for any.
     ///
     /// # Errors
     /// [`Error::Repeated`] where two or more attributes ask for extensions, [`Error::Failed`] where the only one hasn't one value; [`Error::Memory`].
     pub fn extensions(&self) -> Result<Extensions<'a>, Error> {
-        let mut asked = None;
-        for attribute in self.attributes() {
-            let attribute = attribute?;
-            if attribute.oid.as_bytes() == EXTENSION_REQUEST && asked.replace(attribute).is_some() {
-                return Err(Error::Repeated);
-            }
-        }
-        let Some(attribute) = asked else {
+        let Some(attribute) = self.attribute(oid::request::EXTENSION_REQUEST)? else {
             return Ok(Extensions::new(&[]));
         };
         let mut values = attribute.values();

@@ -7,9 +7,11 @@ mod names;
 mod points;
 mod policies;
 mod timestamps;
+mod writing;
 
 pub use access::{AccessDescription, AuthorityInfoAccess, SubjectInfoAccess};
 pub use crl::{BaseCrlNumber, CrlNumber, CrlReason};
+pub(crate) use flags::flags;
 pub use flags::{KeyUsage, ReasonFlags};
 pub use keys::{AuthorityKeyIdentifier, BasicConstraints, ExtendedKeyUsage, SubjectKeyIdentifier};
 pub use names::{GeneralSubtree, IssuerAltName, NameConstraints, SubjectAltName};
@@ -22,6 +24,7 @@ pub use policies::{
     PolicyMappings, PolicyQualifierInfo,
 };
 pub use timestamps::{SignedCertificateTimestamp, SignedCertificateTimestamps};
+pub use writing::ToExtension;
 
 use crate::error::Error;
 use crate::ffi::{self, Members};
@@ -195,7 +198,7 @@ macro_rules! list {
 use list;
 
 /// All that the walk answers, or the first refusal.
-fn all<'a, T: Default, U>(
+pub(crate) fn all<'a, T: Default, U>(
     members: Members<'a, T>,
     read: impl Fn(&T, &'a [u8]) -> Result<U, Error>,
 ) -> Result<Vec<U>, Error> {
@@ -204,7 +207,7 @@ fn all<'a, T: Default, U>(
 }
 
 /// A number that is there where the other one is 1.
-fn given(is_there: u32, number: u32) -> Option<u32> {
+pub(crate) fn given(is_there: u32, number: u32) -> Option<u32> {
     (is_there == 1).then_some(number)
 }
 

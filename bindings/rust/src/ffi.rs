@@ -1,10 +1,12 @@
-//! The calls of `include/x509.h`, and safe ways to make them. All that is unsafe stands here.
+//! The calls of `include/x509.h`, and safe ways to make them. All that is unsafe stands here and in `ffi/build.rs`.
 //!
 //! The structs have the names and the fields of the header, and the calls its arguments (`in` is `input` here); `tests/header.rs` compares them.
 use crate::error::Error;
 use std::ffi::c_int;
 use std::fmt;
 use std::ptr;
+
+pub(crate) mod build;
 
 const OK: c_int = 0;
 const MEMORY: c_int = -1;
@@ -252,6 +254,24 @@ pub(crate) struct Element {
 
 #[repr(C)]
 #[derive(Clone, Copy, Debug, Default)]
+pub(crate) struct Key {
+    pub(crate) kind: u32,
+    pub(crate) oid: Span,
+    pub(crate) parameters: Span,
+    pub(crate) bits: Span,
+    pub(crate) unused_bits: u32,
+}
+
+#[repr(C)]
+#[derive(Clone, Copy, Debug, Default)]
+pub(crate) struct Algorithm {
+    pub(crate) kind: u32,
+    pub(crate) oid: Span,
+    pub(crate) parameters: Span,
+}
+
+#[repr(C)]
+#[derive(Clone, Copy, Debug, Default)]
 pub(crate) struct Anchor {
     pub(crate) kind: u32,
     pub(crate) element: Span,
@@ -262,6 +282,20 @@ pub(crate) struct Anchor {
     pub(crate) title: Span,
     pub(crate) title_language: Span,
     pub(crate) controls: Span,
+}
+
+#[repr(C)]
+#[derive(Clone, Copy, Debug, Default)]
+pub(crate) struct PathControls {
+    pub(crate) name: Span,
+    pub(crate) certificate: Span,
+    pub(crate) policies: Span,
+    pub(crate) has_policy_flags: u32,
+    pub(crate) policy_flags: u32,
+    pub(crate) permitted: Span,
+    pub(crate) excluded: Span,
+    pub(crate) has_path_len: u32,
+    pub(crate) path_len: u32,
 }
 
 #[repr(C)]
@@ -278,6 +312,7 @@ pub(crate) struct Timestamp {
 
 /// Bytes go in as a pointer and a length.
 type ViewCall<T> = unsafe extern "C" fn(*const u8, usize, *mut T) -> c_int;
+type FindCall<T> = unsafe extern "C" fn(*const u8, usize, *const u8, usize, *mut T) -> c_int;
 type FillCall = unsafe extern "C" fn(*const u8, usize, *mut u8, usize, *mut usize) -> c_int;
 type NextCall<T> = unsafe extern "C" fn(*const u8, usize, *mut usize, *mut T) -> c_int;
 type NextUnderCall<T> = unsafe extern "C" fn(u32, *const u8, usize, *mut usize, *mut T) -> c_int;
@@ -301,6 +336,7 @@ extern "C" {
     fn x509_authority_key_identifier(value: *const u8, len: usize, view: *mut AuthorityKeyIdentifierView) -> c_int;
     fn x509_access_next(value: *const u8, len: usize, at: *mut usize, found: *mut Access) -> c_int;
     fn x509_certificate_policies_next(value: *const u8, len: usize, at: *mut usize, found: *mut Policy) -> c_int;
+    fn x509_certificate_policies_under_next(number: u32, value: *const u8, len: usize, at: *mut usize, found: *mut Policy) -> c_int;
     fn x509_policy_qualifiers_next(value: *const u8, len: usize, at: *mut usize, found: *mut PolicyQualifier) -> c_int;
     fn x509_policy_mappings_next(value: *const u8, len: usize, at: *mut usize, found: *mut PolicyMapping) -> c_int;
     fn x509_policy_constraints(value: *const u8, len: usize, view: *mut PolicyConstraintsView) -> c_int;
@@ -328,7 +364,11 @@ extern "C" {
     fn x509_request_view(input: *const u8, len: usize, view: *mut Request) -> c_int;
     fn x509_request_attribute_next(value: *const u8, len: usize, at: *mut usize, found: *mut RequestAttribute) -> c_int;
     fn x509_attribute_value_next(value: *const u8, len: usize, at: *mut usize, found: *mut Element) -> c_int;
+    fn x509_request_attribute_find(input: *const u8, len: usize, oid: *const u8, oid_len: usize, found: *mut RequestAttribute) -> c_int;
+    fn x509_key_view(input: *const u8, len: usize, view: *mut Key) -> c_int;
+    fn x509_algorithm_view(input: *const u8, len: usize, view: *mut Algorithm) -> c_int;
     fn x509_anchor_view(input: *const u8, len: usize, view: *mut Anchor) -> c_int;
+    fn x509_path_controls_view(value: *const u8, len: usize, view: *mut PathControls) -> c_int;
     fn x509_timestamp_next(value: *const u8, len: usize, at: *mut usize, found: *mut Span) -> c_int;
     fn x509_timestamp_view(input: *const u8, len: usize, view: *mut Timestamp) -> c_int;
     fn x509_version() -> u32;
@@ -505,7 +545,10 @@ pub(crate) const SIGNED_SLICE: View<Span> = View(x509_signed_slice);
 pub(crate) const SERIAL_NUMBER: View<Span> = View(x509_serial_number);
 pub(crate) const CRL: View<Crl> = View(x509_crl_view);
 pub(crate) const REQUEST: View<Request> = View(x509_request_view);
+pub(crate) const KEY: View<Key> = View(x509_key_view);
+pub(crate) const ALGORITHM: View<Algorithm> = View(x509_algorithm_view);
 pub(crate) const ANCHOR: View<Anchor> = View(x509_anchor_view);
+pub(crate) const PATH_CONTROLS: View<PathControls> = View(x509_path_controls_view);
 pub(crate) const TIMESTAMP: View<Timestamp> = View(x509_timestamp_view);
 pub(crate) const KEY_USAGE: View<u32> = View(x509_key_usage);
 pub(crate) const BASIC_CONSTRAINTS: View<BasicConstraintsView> = View(x509_basic_constraints);
@@ -540,6 +583,8 @@ pub(crate) static EXTENDED_KEY_USAGE: Walk<Span> = Walk(Next::Plain(x509_extende
 pub(crate) static ACCESS: Walk<Access> = Walk(Next::Plain(x509_access_next));
 pub(crate) static CERTIFICATE_POLICIES: Walk<Policy> =
     Walk(Next::Plain(x509_certificate_policies_next));
+pub(crate) static POLICIES_UNDER_1: Walk<Policy> =
+    Walk(Next::Under(1, x509_certificate_policies_under_next));
 pub(crate) static POLICY_QUALIFIERS: Walk<PolicyQualifier> =
     Walk(Next::Plain(x509_policy_qualifiers_next));
 pub(crate) static POLICY_MAPPINGS: Walk<PolicyMapping> =
@@ -591,43 +636,32 @@ pub(crate) fn version() -> u32 {
     unsafe { x509_version() }
 }
 
-/// The extension of a certificate with the content octets of an identifier.
-pub(crate) fn certificate_extension(data: &[u8], oid: &[u8]) -> Result<Option<Extension>, Error> {
-    let mut found = Extension::default();
-    // SAFETY: the header lets the call read `data` and `oid`, which are lent for it, and fill in `found`.
-    let status = unsafe {
-        x509_certificate_extension(
-            data.as_ptr(),
-            data.len(),
-            oid.as_ptr(),
-            oid.len(),
-            &mut found,
-        )
-    };
-    match status {
-        ABSENT => Ok(None),
-        status => accepted(status, Some(found)),
+/// A call that finds what bytes hold under other bytes: the content octets of an OID, or the DER of a serial number. Only this module makes one.
+pub(crate) struct Find<T>(FindCall<T>);
+
+impl<T: Default> Find<T> {
+    pub(crate) fn of(&self, data: &[u8], sought: &[u8]) -> Result<Option<T>, Error> {
+        let mut found = T::default();
+        // SAFETY: the header lets the call read both slices, which are lent for it, and fill in `found`, which is of the struct that it takes.
+        let status = unsafe {
+            self.0(
+                data.as_ptr(),
+                data.len(),
+                sought.as_ptr(),
+                sought.len(),
+                &mut found,
+            )
+        };
+        match status {
+            ABSENT => Ok(None),
+            status => accepted(status, Some(found)),
+        }
     }
 }
 
-/// What the first entry of a CRL with a serial number, the DER of an INTEGER, says.
-pub(crate) fn crl_lookup(data: &[u8], serial_number: &[u8]) -> Result<Option<Revocation>, Error> {
-    let mut found = Revocation::default();
-    // SAFETY: the header lets the call read `data` and `serial_number`, which are lent for it, and fill in `found`.
-    let status = unsafe {
-        x509_crl_lookup(
-            data.as_ptr(),
-            data.len(),
-            serial_number.as_ptr(),
-            serial_number.len(),
-            &mut found,
-        )
-    };
-    match status {
-        ABSENT => Ok(None),
-        status => accepted(status, Some(found)),
-    }
-}
+pub(crate) const CERTIFICATE_EXTENSION: Find<Extension> = Find(x509_certificate_extension);
+pub(crate) const CRL_LOOKUP: Find<Revocation> = Find(x509_crl_lookup);
+pub(crate) const REQUEST_ATTRIBUTE: Find<RequestAttribute> = Find(x509_request_attribute_find);
 
 /// The first fault of a path, but those of signatures.
 pub(crate) fn path_check(

@@ -1,6 +1,7 @@
 //! X.509 certificates, CRLs and names in strict DER (RFC 5280), over the C library of `include/x509.h`, whose answers are proved.
 //!
 //! All bytes are taken apart by the C library; nothing here parses DER. Whatever goes in, calls answer an [`Error`] and don't panic.
+//! Values of extensions that builders take ([`extension::ToExtension`]) are written here, and read back by the library before they are taken.
 //!
 //! ```
 //! use x509_rattle::extension::ParsedExtension;
@@ -21,7 +22,9 @@
 #![warn(missing_docs, missing_debug_implementations)]
 
 mod anchor;
+mod builder;
 mod certificate;
+mod controls;
 mod crl;
 mod csr;
 mod error;
@@ -30,19 +33,24 @@ pub mod extension;
 mod ffi;
 mod general_name;
 mod integer;
+mod key;
 mod name;
 pub mod oid;
 mod path;
 mod time;
+mod writing;
 
 pub use anchor::{AnchorKind, TrustAnchor};
+pub use builder::{BuildError, CertificateBuilder, CrlBuilder, CsrBuilder, Signer};
 pub use certificate::{Certificate, CertificateRef, Signature, Validity, Version};
+pub use controls::{PathControls, PolicyFlags};
 pub use crl::{Crl, CrlEntries, CrlEntry, Revocation};
 pub use csr::{AttributeValue, AttributeValues, Csr, CsrAttribute, CsrAttributes};
 pub use error::Error;
 pub use extension::{Extension, Extensions, ParsedExtension};
 pub use general_name::{GeneralName, GeneralNames};
-pub use integer::Integer;
+pub use integer::{Integer, SerialNumber};
+pub use key::{AlgorithmIdentifier, KeyKind, PublicKey, SignatureKind};
 pub use name::{
     AttributeTypeAndValue, Attributes, Name, NameAttributes, NameRef, Rdns,
     RelativeDistinguishedName,

@@ -248,13 +248,31 @@ pub mod access {
     }
 }
 
+/// Of attributes of CSRs (RFC 2985 5.4).
+pub mod request {
+    use super::ObjectIdentifier;
+
+    identifiers! {
+        /// challengePassword
+        CHALLENGE_PASSWORD = "1.2.840.113549.1.9.7", b"\x2a\x86\x48\x86\xf7\x0d\x01\x09\x07";
+        /// extensionRequest
+        EXTENSION_REQUEST = "1.2.840.113549.1.9.14", b"\x2a\x86\x48\x86\xf7\x0d\x01\x09\x0e";
+    }
+}
+
 #[cfg(test)]
 mod tests {
     use super::*;
 
     #[test]
     fn constants_are_those_of_their_texts() {
-        for group in [extension::ALL, attribute::ALL, purpose::ALL, access::ALL] {
+        for group in [
+            extension::ALL,
+            attribute::ALL,
+            purpose::ALL,
+            access::ALL,
+            request::ALL,
+        ] {
             for (oid, text) in group {
                 assert_eq!(text.parse(), Ok(*oid));
                 assert_eq!(oid.dotted().as_deref(), Ok(*text));

@@ -1,8 +1,9 @@
-//! The declarations of `src/ffi.rs` are those of `include/x509.h`.
+//! The declarations of `src/ffi.rs` and `src/ffi/build.rs` are those of `include/x509.h`.
 use std::collections::BTreeMap;
 
 const HEADER: &str = include_str!("../../../include/x509.h");
 const DECLARED: &str = include_str!("../src/ffi.rs");
+const DECLARED_TO_BUILD: &str = include_str!("../src/ffi/build.rs");
 
 /// The parts of a text that stand between two others.
 fn between<'a>(text: &'a str, before: &str, after: &str) -> Vec<&'a str> {
@@ -91,9 +92,10 @@ fn structs() -> BTreeMap<String, Vec<String>> {
 #[test]
 fn calls_are_those_of_the_header() {
     let calls = calls();
-    let declared = between(DECLARED, "    fn x509_", " -> c_int;");
-    assert!(declared.len() > 35);
-    for call in declared {
+    let [declared, others] =
+        [DECLARED, DECLARED_TO_BUILD].map(|text| between(text, "    fn x509_", " -> c_int;"));
+    assert!(declared.len() > 40 && others.len() >= 6);
+    for call in declared.into_iter().chain(others) {
         let (name, arguments) = call.split_once('(').expect("arguments");
         let name = format!("x509_{name}");
         assert_eq!(

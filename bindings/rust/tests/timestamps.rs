@@ -8,7 +8,13 @@ use x509_rattle::Error;
 /// A timestamp of a log whose ID is 32 times one octet, with a signature of two octets by ECDSA with SHA-256.
 fn timestamp(octet: u8, milliseconds: u64) -> Vec<u8> {
     let time = milliseconds.to_be_bytes();
-    [&[0][..], &[octet; 32], &time, b"\x00\x00\x04\x03\x00\x02\xab\xcd"].concat()
+    [
+        &[0][..],
+        &[octet; 32],
+        &time,
+        b"\x00\x00\x04\x03\x00\x02\xab\xcd",
+    ]
+    .concat()
 }
 
 /// The DER of the list of these.

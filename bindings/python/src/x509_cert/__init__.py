@@ -3,7 +3,8 @@
 The names are those of `cryptography.x509` where both have the same thing. All bytes are taken apart by the C library; nothing here parses DER.
 """
 
-from ._library import X509Error
+from ._extension import ExtensionType
+from ._library import X509Error, library_version
 from .builder import CertificateBuilder, CertificateRevocationListBuilder, CertificateSigningRequestBuilder, Signer
 from .certificate import (
     Certificate,
@@ -22,26 +23,21 @@ from .extensions import (
     AuthorityInformationAccess,
     AuthorityKeyIdentifier,
     BasicConstraints,
-    CertificatePolicies,
     CRLDistributionPoints,
     CRLNumber,
     CRLReason,
+    DeltaCRLIndicator,
     DistributionPoint,
     DuplicateExtension,
     ExtendedKeyUsage,
     Extension,
     ExtensionNotFound,
     Extensions,
-    ExtensionType,
     FreshestCRL,
-    InhibitAnyPolicy,
     IssuerAlternativeName,
+    IssuingDistributionPoint,
     KeyUsage,
     NameConstraints,
-    PolicyConstraints,
-    PolicyInformation,
-    PolicyMappings,
-    PolicyQualifier,
     PrecertificateSignedCertificateTimestamps,
     PrecertPoison,
     ReasonFlags,
@@ -63,8 +59,19 @@ from .general_name import (
     RFC822Name,
     UniformResourceIdentifier,
 )
+from .key import AlgorithmIdentifier, KeyKind, PublicKey, SignatureKind
 from .name import Name, NameAttribute, RelativeDistinguishedName
-from .oid import AuthorityInformationAccessOID, ExtendedKeyUsageOID, ExtensionOID, NameOID, ObjectIdentifier
-from .request import AnchorKind, Attribute, CertificateSigningRequest, TrustAnchor, load_der_trust_anchor, load_der_x509_csr
+from .oid import AttributeOID, AuthorityInformationAccessOID, ExtendedKeyUsageOID, ExtensionOID, NameOID, ObjectIdentifier
+from .policies import CertificatePolicies, InhibitAnyPolicy, PolicyConstraints, PolicyInformation, PolicyMappings, PolicyQualifier
+from .request import (
+    AnchorKind,
+    Attribute,
+    AttributeNotFound,
+    CertificateSigningRequest,
+    PathControls,
+    TrustAnchor,
+    load_der_trust_anchor,
+    load_der_x509_csr,
+)
 
 __all__ = [name for name in dir() if not name.startswith("_")]

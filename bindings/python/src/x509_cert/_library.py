@@ -53,6 +53,12 @@ def _numbers(*names: str) -> list[tuple[str, Any]]:
 
 
 class CertificateView(ctypes.Structure):
+    serial_number: Span
+    issuer: Span
+    subject: Span
+    subject_public_key_info: Span
+    extensions: Span
+
     _fields_ = [
         *_numbers("version"),
         *_spans("serial_number", "issuer", "subject", "subject_public_key_info", "extensions"),
@@ -62,6 +68,10 @@ class CertificateView(ctypes.Structure):
 
 
 class SignatureView(ctypes.Structure):
+    signed_part: Span
+    algorithm: Span
+    bits: Span
+
     _fields_ = [*_spans("signed_part", "algorithm", "bits"), *_numbers("unused_bits")]
 
 
@@ -134,6 +144,11 @@ class AttributeView(ctypes.Structure):
 
 
 class CrlView(ctypes.Structure):
+    issuer: Span
+    entries: Span
+    extensions: Span
+    signature: SignatureView
+
     _fields_ = [
         *_numbers("version"),
         *_spans("inner_algorithm", "issuer"),
@@ -150,10 +165,18 @@ class CrlEntryView(ctypes.Structure):
 
 
 class RequestView(ctypes.Structure):
+    subject: Span
+    subject_public_key_info: Span
+    attributes: Span
+    signature: SignatureView
+
     _fields_ = [*_numbers("version"), *_spans("subject", "subject_public_key_info", "attributes"), ("signature", SignatureView)]
 
 
 class RequestAttributeView(ctypes.Structure):
+    oid: Span
+    values: Span
+
     _fields_ = _spans("oid", "values")
 
 
@@ -170,9 +193,27 @@ class AlgorithmView(ctypes.Structure):
 
 
 class AnchorView(ctypes.Structure):
+    element: Span
+    name: Span
+    subject_public_key_info: Span
+    extensions: Span
+    key_identifier: Span
+    title: Span
+    title_language: Span
+    controls: Span
+
     _fields_ = [
         *_numbers("kind"),
         *_spans("element", "name", "subject_public_key_info", "extensions", "key_identifier", "title", "title_language", "controls"),
+    ]
+
+
+class PathControlsView(ctypes.Structure):
+    _fields_ = [
+        *_spans("name", "certificate", "policies"),
+        *_numbers("has_policy_flags", "policy_flags"),
+        *_spans("permitted", "excluded"),
+        *_numbers("has_path_len", "path_len"),
     ]
 
 
@@ -231,6 +272,14 @@ def call(name: str, *arguments: Any) -> None:
     status = status_of(name, *arguments)
     if status != OK:
         raise X509Error(name, status)
+
+
+def library_version() -> tuple[int, int, int]:
+    """The version of the C library that is loaded: major, minor and patch."""
+    found = _library()["x509_version"]
+    found.restype = ctypes.c_uint32
+    number = int(found())
+    return number >> 16, number >> 8 & 0xFF, number & 0xFF
 
 
 def view(name: str, kind: type[View], *arguments: Any) -> View:

@@ -12,9 +12,10 @@ import ctypes
 import datetime
 from typing import Callable, TypeVar
 
+from ._extension import ExtensionType
 from ._library import fill
+from ._writing import SEQUENCE, SET, element, identifier_of
 from .certificate import Certificate, CertificateRevocationList, RevokedCertificate, _seconds, _serial_element
-from .extensions import ExtensionType
 from .name import Name
 from .oid import ObjectIdentifier
 from .request import CertificateSigningRequest
@@ -192,6 +193,10 @@ class CertificateSigningRequestBuilder(_WithExtensions):
     def public_key(self, public_key: bytes) -> CertificateSigningRequestBuilder:
         """The key of the subject, by which it is signed."""
         return self._with(_public_key=bytes(public_key))
+
+    def add_attribute(self, oid: ObjectIdentifier, value: bytes, tag: int = 0x0C) -> CertificateSigningRequestBuilder:
+        """With a further attribute of one value, by its content octets and its identifier octet, which is that of a UTF8String."""
+        return self.add_attribute_bytes(element(SEQUENCE, identifier_of(oid), element(SET, element(tag, bytes(value)))))
 
     def add_attribute_bytes(self, attribute: bytes) -> CertificateSigningRequestBuilder:
         """With a further attribute, by its DER."""

@@ -15,7 +15,6 @@ from ._library import (
     OK,
     RAW,
     RFC5280,
-    AlgorithmView,
     CertificateView,
     CrlEntryView,
     CrlView,
@@ -30,6 +29,7 @@ from ._library import (
     walk,
 )
 from .extensions import CRLReason, DuplicateExtension, Extensions, ReasonFlags
+from .key import AlgorithmIdentifier, PublicKey
 from .name import Name
 from .oid import ObjectIdentifier
 
@@ -61,11 +61,6 @@ def _serial_element(number: int) -> bytes:
 def _serial_number(element: bytes) -> int:
     """The number that an INTEGER is, by its DER."""
     return int.from_bytes(view("x509_serial_number", Span, element).of(element), "big", signed=True)
-
-
-def _algorithm_oid(data: bytes) -> ObjectIdentifier:
-    """The identifier of an AlgorithmIdentifier."""
-    return ObjectIdentifier.from_content(view("x509_algorithm_view", AlgorithmView, data).oid.of(data))
 
 
 class Version(enum.Enum):
@@ -100,6 +95,12 @@ class Certificate:
         return _serial_number(self._view.serial_number.of(self._data))
 
     @property
+    def serial_number_text(self) -> str:
+        """The octets of the serial number in hex, as 00:FF."""
+        element = self._view.serial_number.of(self._data)
+        return fill("x509_serial_text", view("x509_serial_number", Span, element).of(element)).decode("ascii")
+
+    @property
     def issuer(self) -> Name:
         return Name(self._view.issuer.of(self._data))
 
@@ -121,6 +122,16 @@ class Certificate:
         return self._view.subject_public_key_info.of(self._data)
 
     @property
+    def public_key_info(self) -> PublicKey:
+        """The key, by its kind and its bits."""
+        return PublicKey(self.public_key_bytes)
+
+    @property
+    def public_key_algorithm_oid(self) -> ObjectIdentifier:
+        """The identifier of the key's algorithm."""
+        return self.public_key_info.algorithm_oid
+
+    @property
     def extensions(self) -> Extensions:
         return Extensions.from_der(self._view.extensions.of(self._data))
 
@@ -140,9 +151,14 @@ class Certificate:
         return self._signature.algorithm.of(self._data)
 
     @property
+    def signature_algorithm(self) -> AlgorithmIdentifier:
+        """The algorithm of the signature, by its kind and its parameters."""
+        return AlgorithmIdentifier(self.signature_algorithm_bytes)
+
+    @property
     def signature_algorithm_oid(self) -> ObjectIdentifier:
         """The identifier of the algorithm of the signature."""
-        return _algorithm_oid(self.signature_algorithm_bytes)
+        return self.signature_algorithm.oid
 
     @property
     def _signature(self) -> SignatureView:
@@ -185,7 +201,7 @@ def _entry(found: CrlEntryView, entries: bytes) -> RevokedCertificate:
     told = [it for it in extensions if it.oid == CRLReason.oid]
     if len(told) > 1:
         raise DuplicateExtension(CRLReason.oid)
-    reason = ReasonFlags(CRLReason(told[0].data).reason) if told else None
+    reason = CRLReason.from_der(told[0].data).reason if told else None
     return RevokedCertificate(_serial_number(found.serial_number.of(entries)), _moment(int(found.date)), reason, extensions)
 
 
@@ -239,9 +255,14 @@ class CertificateRevocationList:
         return self._view.signature.algorithm.of(self._data)
 
     @property
+    def signature_algorithm(self) -> AlgorithmIdentifier:
+        """The algorithm of the signature, by its kind and its parameters."""
+        return AlgorithmIdentifier(self.signature_algorithm_bytes)
+
+    @property
     def signature_algorithm_oid(self) -> ObjectIdentifier:
         """The identifier of the algorithm of the signature."""
-        return _algorithm_oid(self.signature_algorithm_bytes)
+        return self.signature_algorithm.oid
 
     def fingerprint(self, algorithm: str) -> bytes:
         """The digest of the DER, by an algorithm of `hashlib`."""
@@ -318,6 +339,7 @@ def check_path(anchor: Certificate, path: Sequence[bytes], moment: datetime.date
     algorithm. Policies, name constraints and revocation aren't looked at.
     """
     seconds = _seconds(moment)
+    path = [bytes(data) for data in path]
     if not path:
         raise ValueError("a path has a certificate")
     fault = PathFaultView()

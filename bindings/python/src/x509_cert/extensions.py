@@ -4,8 +4,10 @@ from __future__ import annotations
 
 import datetime
 import enum
-from typing import ClassVar, Generic, Iterator, TypeVar
+import hashlib
+from typing import Generic, Iterable, Iterator, TypeVar
 
+from ._extension import ExtensionType, _number, _part
 from ._library import (
     AccessView,
     AuthorityKeyIdentifierView,
@@ -13,11 +15,8 @@ from ._library import (
     DistributionPointView,
     ExtensionEntry,
     GeneralNameView,
+    IssuingDistributionPointView,
     NameConstraintsView,
-    PolicyConstraintsView,
-    PolicyMappingView,
-    PolicyQualifierView,
-    PolicyView,
     Span,
     SubtreeView,
     TimestampView,
@@ -25,9 +24,26 @@ from ._library import (
     view,
     walk,
 )
+from ._writing import (
+    ENUMERATED,
+    NULL,
+    OCTET_STRING,
+    SEQUENCE,
+    context,
+    element,
+    flag,
+    general_name_der,
+    general_names_der,
+    identifier_of,
+    integer,
+    named_bits,
+    relative_name_der,
+)
 from .general_name import GeneralName, GeneralNames, general_name
+from .key import PublicKey
 from .name import RelativeDistinguishedName, attributes_of
 from .oid import ExtensionOID, ObjectIdentifier
+from .policies import CertificatePolicies, InhibitAnyPolicy, PolicyConstraints, PolicyMappings
 
 
 class ExtensionNotFound(Exception):
@@ -46,32 +62,13 @@ class DuplicateExtension(Exception):
         self.oid = oid
 
 
-class ExtensionType:
-    """What an extension holds. `data` is the DER that it was read from."""
-
-    oid: ClassVar[ObjectIdentifier]
-
-    def __init__(self, data: bytes) -> None:
-        self.data = data
-
-    def __eq__(self, other: object) -> bool:
-        return type(self) is type(other) and self.data == other.data  # type: ignore[attr-defined]
-
-    def __hash__(self) -> int:
-        return hash((type(self), self.data))
-
-    def __repr__(self) -> str:
-        told = ", ".join(f"{name}={it!r}" for name, it in vars(self).items() if name != "data" and not name.startswith("_"))
-        return f"<{type(self).__name__}({told})>"
-
-
 class UnrecognizedExtension(ExtensionType):
     """An extension of another type, or one that can't be read: `value` are its octets."""
 
     def __init__(self, oid: ObjectIdentifier, value: bytes) -> None:
-        super().__init__(value)
+        self._read(bytes(value))
         self.oid = oid  # type: ignore[misc]
-        self.value = value
+        self.value = self.data
 
     def __eq__(self, other: object) -> bool:
         return isinstance(other, UnrecognizedExtension) and (self.oid, self.value) == (other.oid, other.value)
@@ -85,8 +82,25 @@ class KeyUsage(ExtensionType):
 
     oid = ExtensionOID.KEY_USAGE
 
-    def __init__(self, data: bytes) -> None:
-        super().__init__(data)
+    def __init__(
+        self,
+        digital_signature: bool = False,
+        content_commitment: bool = False,
+        key_encipherment: bool = False,
+        data_encipherment: bool = False,
+        key_agreement: bool = False,
+        key_cert_sign: bool = False,
+        crl_sign: bool = False,
+        encipher_only: bool = False,
+        decipher_only: bool = False,
+    ) -> None:
+        front = (digital_signature, content_commitment, key_encipherment, data_encipherment, key_agreement)
+        uses = (*front, key_cert_sign, crl_sign, encipher_only, decipher_only)
+        bits = sum(1 << bit for bit, is_set in enumerate(uses) if is_set)
+        self._write(named_bits(bits), bits=bits)
+
+    def _read(self, data: bytes) -> None:
+        super()._read(data)
         self.bits = number("x509_key_usage", data)
         (
             self.digital_signature,
@@ -106,8 +120,12 @@ class BasicConstraints(ExtensionType):
 
     oid = ExtensionOID.BASIC_CONSTRAINTS
 
-    def __init__(self, data: bytes) -> None:
-        super().__init__(data)
+    def __init__(self, ca: bool, path_length: int | None) -> None:
+        limit = b"" if path_length is None else integer(path_length)
+        self._write(element(SEQUENCE, flag(ca), limit), ca=ca, path_length=path_length)
+
+    def _read(self, data: bytes) -> None:
+        super()._read(data)
         found = view("x509_basic_constraints", BasicConstraintsView, data)
         self.ca = bool(found.ca)
         self.path_length: int | None = int(found.path_len) if found.has_path_len else None
@@ -118,8 +136,12 @@ class ExtendedKeyUsage(ExtensionType):
 
     oid = ExtensionOID.EXTENDED_KEY_USAGE
 
-    def __init__(self, data: bytes) -> None:
-        super().__init__(data)
+    def __init__(self, usages: Iterable[ObjectIdentifier]) -> None:
+        usages = list(usages)
+        self._write(element(SEQUENCE, *map(identifier_of, usages)), usages=usages)
+
+    def _read(self, data: bytes) -> None:
+        super()._read(data)
         self.usages = [ObjectIdentifier.from_content(it.of(data)) for it in walk("x509_extended_key_usage_next", Span, data)]
 
     def __iter__(self) -> Iterator[ObjectIdentifier]:
@@ -130,8 +152,12 @@ class ExtendedKeyUsage(ExtensionType):
 
 
 class _AlternativeNames(ExtensionType):
-    def __init__(self, data: bytes) -> None:
-        super().__init__(data)
+    def __init__(self, general_names: Iterable[GeneralName]) -> None:
+        names = GeneralNames(list(general_names))
+        self._write(general_names_der(names), names=names)
+
+    def _read(self, data: bytes) -> None:
+        super()._read(data)
         self.names = GeneralNames.from_der(data)
 
     def get_values_for_type(self, kind: type[GeneralName]) -> list[object]:
@@ -162,8 +188,20 @@ class SubjectKeyIdentifier(ExtensionType):
 
     oid = ExtensionOID.SUBJECT_KEY_IDENTIFIER
 
-    def __init__(self, data: bytes) -> None:
-        super().__init__(data)
+    def __init__(self, digest: bytes) -> None:
+        self._write(element(OCTET_STRING, digest), key_identifier=bytes(digest))
+
+    @classmethod
+    def from_public_key_bytes(cls, public_key: bytes) -> SubjectKeyIdentifier:
+        """The SHA-1 digest of the bits of a key (RFC 5280 4.2.1.2), by its SubjectPublicKeyInfo."""
+        return cls(_key_digest(public_key))
+
+    @property
+    def digest(self) -> bytes:
+        return self.key_identifier
+
+    def _read(self, data: bytes) -> None:
+        super()._read(data)
         self.key_identifier = view("x509_subject_key_identifier", Span, data).of(data)
 
 
@@ -172,8 +210,37 @@ class AuthorityKeyIdentifier(ExtensionType):
 
     oid = ExtensionOID.AUTHORITY_KEY_IDENTIFIER
 
-    def __init__(self, data: bytes) -> None:
-        super().__init__(data)
+    def __init__(
+        self,
+        key_identifier: bytes | None,
+        authority_cert_issuer: Iterable[GeneralName] | None,
+        authority_cert_serial_number: int | None,
+    ) -> None:
+        issuer = None if authority_cert_issuer is None else GeneralNames(list(authority_cert_issuer))
+        self._write(
+            element(
+                SEQUENCE,
+                b"" if key_identifier is None else element(context(0), key_identifier),
+                b"" if issuer is None else general_names_der(issuer, context(1, True)),
+                b"" if authority_cert_serial_number is None else integer(authority_cert_serial_number, context(2)),
+            ),
+            key_identifier=None if key_identifier is None else bytes(key_identifier),
+            authority_cert_issuer=issuer,
+            authority_cert_serial_number=authority_cert_serial_number,
+        )
+
+    @classmethod
+    def from_issuer_public_key_bytes(cls, public_key: bytes) -> AuthorityKeyIdentifier:
+        """The SHA-1 digest of the bits of the issuer's key (RFC 5280 4.2.1.2), by its SubjectPublicKeyInfo."""
+        return cls(_key_digest(public_key), None, None)
+
+    @classmethod
+    def from_issuer_subject_key_identifier(cls, ski: SubjectKeyIdentifier) -> AuthorityKeyIdentifier:
+        """The SKI in the issuer's certificate."""
+        return cls(ski.key_identifier, None, None)
+
+    def _read(self, data: bytes) -> None:
+        super()._read(data)
         found = view("x509_authority_key_identifier", AuthorityKeyIdentifierView, data)
         self.key_identifier = _part(found.key_identifier, data)
         self.authority_cert_issuer = _names_under(1, found.issuer, data)
@@ -187,13 +254,25 @@ class AccessDescription:
     def __init__(self, access_method: ObjectIdentifier, access_location: GeneralName) -> None:
         self.access_method, self.access_location = access_method, access_location
 
+    def __eq__(self, other: object) -> bool:
+        theirs = (other.access_method, other.access_location) if isinstance(other, AccessDescription) else None
+        return (self.access_method, self.access_location) == theirs
+
+    def __hash__(self) -> int:
+        return hash((self.access_method, self.access_location))
+
     def __repr__(self) -> str:
         return f"<AccessDescription({self.access_method!r}, {self.access_location!r})>"
 
 
 class _Access(ExtensionType):
-    def __init__(self, data: bytes) -> None:
-        super().__init__(data)
+    def __init__(self, descriptions: Iterable[AccessDescription]) -> None:
+        descriptions = list(descriptions)
+        members = [element(SEQUENCE, identifier_of(it.access_method), general_name_der(it.access_location)) for it in descriptions]
+        self._write(element(SEQUENCE, *members), descriptions=descriptions)
+
+    def _read(self, data: bytes) -> None:
+        super()._read(data)
         self.descriptions = [
             AccessDescription(ObjectIdentifier.from_content(it.method.of(data)), general_name(it.location, data))
             for it in walk("x509_access_next", AccessView, data)
@@ -218,85 +297,6 @@ class SubjectInformationAccess(_Access):
     oid = ExtensionOID.SUBJECT_INFORMATION_ACCESS
 
 
-class PolicyQualifier:
-    """What qualifies a policy: the identifier of its type, and its DER."""
-
-    def __init__(self, oid: ObjectIdentifier, data: bytes | None) -> None:
-        self.oid, self.data = oid, data
-
-
-class PolicyInformation:
-    """A policy, and what qualifies it (RFC 5280 4.2.1.4)."""
-
-    def __init__(self, policy_identifier: ObjectIdentifier, policy_qualifiers: list[PolicyQualifier] | None) -> None:
-        self.policy_identifier, self.policy_qualifiers = policy_identifier, policy_qualifiers
-
-    def __repr__(self) -> str:
-        return f"<PolicyInformation({self.policy_identifier!r})>"
-
-
-def _qualifiers(span: Span, data: bytes) -> list[PolicyQualifier] | None:
-    part = _part(span, data)
-    if part is None:
-        return None
-    found = walk("x509_policy_qualifiers_next", PolicyQualifierView, part)
-    return [PolicyQualifier(ObjectIdentifier.from_content(it.identifier.of(part)), _part(it.qualifier, part)) for it in found]
-
-
-class CertificatePolicies(ExtensionType):
-    """Policies under which a certificate was issued (RFC 5280 4.2.1.4)."""
-
-    oid = ExtensionOID.CERTIFICATE_POLICIES
-
-    def __init__(self, data: bytes) -> None:
-        super().__init__(data)
-        self.policies = [
-            PolicyInformation(ObjectIdentifier.from_content(it.identifier.of(data)), _qualifiers(it.qualifiers, data))
-            for it in walk("x509_certificate_policies_next", PolicyView, data)
-        ]
-
-    def __iter__(self) -> Iterator[PolicyInformation]:
-        return iter(self.policies)
-
-    def __len__(self) -> int:
-        return len(self.policies)
-
-
-class PolicyMappings(ExtensionType):
-    """Pairs of policies that are taken for the same (RFC 5280 4.2.1.5)."""
-
-    oid = ExtensionOID.POLICY_MAPPINGS
-
-    def __init__(self, data: bytes) -> None:
-        super().__init__(data)
-        self.mappings = [
-            (ObjectIdentifier.from_content(it.issuer_policy.of(data)), ObjectIdentifier.from_content(it.subject_policy.of(data)))
-            for it in walk("x509_policy_mappings_next", PolicyMappingView, data)
-        ]
-
-
-class PolicyConstraints(ExtensionType):
-    """What is asked of policies further down (RFC 5280 4.2.1.11)."""
-
-    oid = ExtensionOID.POLICY_CONSTRAINTS
-
-    def __init__(self, data: bytes) -> None:
-        super().__init__(data)
-        found = view("x509_policy_constraints", PolicyConstraintsView, data)
-        self.require_explicit_policy: int | None = int(found.require_explicit_policy) if found.has_require_explicit_policy else None
-        self.inhibit_policy_mapping: int | None = int(found.inhibit_policy_mapping) if found.has_inhibit_policy_mapping else None
-
-
-class InhibitAnyPolicy(ExtensionType):
-    """After how many more certificates any policy isn't taken (RFC 5280 4.2.1.14)."""
-
-    oid = ExtensionOID.INHIBIT_ANY_POLICY
-
-    def __init__(self, data: bytes) -> None:
-        super().__init__(data)
-        self.skip_certs = number("x509_inhibit_any_policy", data)
-
-
 # the named bits of ReasonFlags (RFC 5280 4.2.1.13)
 REASONS = (
     "unused keyCompromise cACompromise affiliationChanged superseded cessationOfOperation certificateHold privilegeWithdrawn aACompromise"
@@ -315,23 +315,62 @@ class DistributionPoint:
     ) -> None:
         self.full_name, self.relative_name, self.reasons, self.crl_issuer = full_name, relative_name, reasons, crl_issuer
 
+    def __eq__(self, other: object) -> bool:
+        return isinstance(other, DistributionPoint) and vars(self) == vars(other)
+
+    def __hash__(self) -> int:
+        return hash((self.full_name, self.relative_name, self.reasons, self.crl_issuer))
+
+    def _der(self) -> bytes:
+        reasons = b"" if self.reasons is None else named_bits(_reason_bits(self.reasons), context(1))
+        issuer = b"" if self.crl_issuer is None else general_names_der(self.crl_issuer, context(2, True))
+        return element(SEQUENCE, _point_name_der(self.full_name, self.relative_name), reasons, issuer)
+
     def __repr__(self) -> str:
         return f"<DistributionPoint(full_name={self.full_name!r}, reasons={self.reasons!r}, crl_issuer={self.crl_issuer!r})>"
 
 
+def _reasons(bits: int) -> frozenset[str]:
+    return frozenset(name for bit, name in enumerate(REASONS) if bits >> bit & 1)
+
+
+def _reason_bits(reasons: frozenset[str]) -> int:
+    """The bits of these names; a ValueError where one is none."""
+    return sum(1 << REASONS.index(name) for name in reasons)
+
+
+def _point_name_der(full: GeneralNames | None, relative: RelativeDistinguishedName | None) -> bytes:
+    """The name of a point, which is full, or relative to the issuer of the CRL, or left out."""
+    if full is None and relative is None:
+        return b""
+    if full is not None and relative is not None:
+        raise ValueError("a point has a full name or a relative one")
+    if relative is not None:
+        return element(context(0, True), relative_name_der(relative, context(1, True)))
+    return element(context(0, True), general_names_der(full or (), context(0, True)))
+
+
+def _relative(span: Span, data: bytes) -> RelativeDistinguishedName | None:
+    part = _part(span, data)
+    return None if part is None else attributes_of(part, "x509_relative_name_under_next", _number(1))
+
+
 def _point(found: DistributionPointView, data: bytes) -> DistributionPoint:
-    relative = _part(found.relative_name, data)
     return DistributionPoint(
         _names_under(0, found.full_name, data),
-        None if relative is None else attributes_of(relative, "x509_relative_name_under_next", _number(1)),
-        frozenset(name for bit, name in enumerate(REASONS) if int(found.reasons) >> bit & 1) if found.has_reasons else None,
+        _relative(found.relative_name, data),
+        _reasons(int(found.reasons)) if found.has_reasons else None,
         _names_under(2, found.crl_issuer, data),
     )
 
 
 class _DistributionPoints(ExtensionType):
-    def __init__(self, data: bytes) -> None:
-        super().__init__(data)
+    def __init__(self, distribution_points: Iterable[DistributionPoint]) -> None:
+        points = list(distribution_points)
+        self._write(element(SEQUENCE, *(it._der() for it in points)), points=points)
+
+    def _read(self, data: bytes) -> None:
+        super()._read(data)
         self.points = [_point(it, data) for it in walk("x509_distribution_points_next", DistributionPointView, data)]
 
     def __iter__(self) -> Iterator[DistributionPoint]:
@@ -358,8 +397,14 @@ class NameConstraints(ExtensionType):
 
     oid = ExtensionOID.NAME_CONSTRAINTS
 
-    def __init__(self, data: bytes) -> None:
-        super().__init__(data)
+    def __init__(self, permitted_subtrees: Iterable[GeneralName] | None, excluded_subtrees: Iterable[GeneralName] | None) -> None:
+        permitted = None if permitted_subtrees is None else list(permitted_subtrees)
+        excluded = None if excluded_subtrees is None else list(excluded_subtrees)
+        lists = (_subtrees_der(number, names) for number, names in enumerate((permitted, excluded)))
+        self._write(element(SEQUENCE, *lists), permitted_subtrees=permitted, excluded_subtrees=excluded)
+
+    def _read(self, data: bytes) -> None:
+        super()._read(data)
         found = view("x509_name_constraints", NameConstraintsView, data)
         self.permitted_subtrees = _subtrees(0, found.permitted, data)
         self.excluded_subtrees = _subtrees(1, found.excluded, data)
@@ -370,9 +415,72 @@ class CRLNumber(ExtensionType):
 
     oid = ExtensionOID.CRL_NUMBER
 
-    def __init__(self, data: bytes) -> None:
-        super().__init__(data)
+    def __init__(self, crl_number: int) -> None:
+        self._write(integer(crl_number), crl_number=crl_number)
+
+    def _read(self, data: bytes) -> None:
+        super()._read(data)
         self.crl_number = int.from_bytes(view("x509_crl_number", Span, data).of(data), "big")
+
+
+class DeltaCRLIndicator(ExtensionType):
+    """The number of the CRL that a delta CRL stands on (RFC 5280 5.2.4)."""
+
+    oid = ExtensionOID.DELTA_CRL_INDICATOR
+
+    def __init__(self, crl_number: int) -> None:
+        self._write(integer(crl_number), crl_number=crl_number)
+
+    def _read(self, data: bytes) -> None:
+        super()._read(data)
+        self.crl_number = int.from_bytes(view("x509_base_crl_number", Span, data).of(data), "big")
+
+
+class IssuingDistributionPoint(ExtensionType):
+    """Of what certificates a CRL speaks (RFC 5280 5.2.5). `only_some_reasons` are names of reasons; None means all."""
+
+    oid = ExtensionOID.ISSUING_DISTRIBUTION_POINT
+
+    def __init__(
+        self,
+        full_name: Iterable[GeneralName] | None,
+        relative_name: RelativeDistinguishedName | None,
+        only_contains_user_certs: bool,
+        only_contains_ca_certs: bool,
+        only_some_reasons: frozenset[str] | None,
+        indirect_crl: bool,
+        only_contains_attribute_certs: bool,
+    ) -> None:
+        full = None if full_name is None else GeneralNames(list(full_name))
+        self._write(
+            element(
+                SEQUENCE,
+                _point_name_der(full, relative_name),
+                flag(only_contains_user_certs, context(1)),
+                flag(only_contains_ca_certs, context(2)),
+                b"" if only_some_reasons is None else named_bits(_reason_bits(only_some_reasons), context(3)),
+                flag(indirect_crl, context(4)),
+                flag(only_contains_attribute_certs, context(5)),
+            ),
+            full_name=full,
+            relative_name=relative_name,
+            only_contains_user_certs=only_contains_user_certs,
+            only_contains_ca_certs=only_contains_ca_certs,
+            only_some_reasons=only_some_reasons,
+            indirect_crl=indirect_crl,
+            only_contains_attribute_certs=only_contains_attribute_certs,
+        )
+
+    def _read(self, data: bytes) -> None:
+        super()._read(data)
+        found = view("x509_issuing_distribution_point", IssuingDistributionPointView, data)
+        self.full_name = _names_under(0, found.full_name, data)
+        self.relative_name = _relative(found.relative_name, data)
+        self.only_contains_user_certs = bool(found.only_contains_user_certs)
+        self.only_contains_ca_certs = bool(found.only_contains_ca_certs)
+        self.only_some_reasons = _reasons(int(found.only_some_reasons)) if found.has_only_some_reasons else None
+        self.indirect_crl = bool(found.indirect_crl)
+        self.only_contains_attribute_certs = bool(found.only_contains_attribute_certs)
 
 
 class ReasonFlags(enum.Enum):
@@ -395,8 +503,11 @@ class CRLReason(ExtensionType):
 
     oid = ExtensionOID.CRL_REASON
 
-    def __init__(self, data: bytes) -> None:
-        super().__init__(data)
+    def __init__(self, reason: ReasonFlags) -> None:
+        self._write(integer(reason.value, ENUMERATED), reason=reason)
+
+    def _read(self, data: bytes) -> None:
+        super()._read(data)
         self.reason = ReasonFlags(number("x509_crl_reason", data))
 
 
@@ -432,8 +543,13 @@ class PrecertificateSignedCertificateTimestamps(ExtensionType):
 
     oid = ExtensionOID.PRECERT_SIGNED_CERTIFICATE_TIMESTAMPS
 
-    def __init__(self, data: bytes) -> None:
-        super().__init__(data)
+    def __init__(self, signed_certificate_timestamps: Iterable[SignedCertificateTimestamp]) -> None:
+        timestamps = list(signed_certificate_timestamps)
+        members = b"".join(len(it.data).to_bytes(2, "big") + it.data for it in timestamps)
+        self._write(element(OCTET_STRING, len(members).to_bytes(2, "big"), members), timestamps=timestamps)
+
+    def _read(self, data: bytes) -> None:
+        super()._read(data)
         self.serialized = [it.of(data) for it in walk("x509_timestamp_next", Span, data)]
         self.timestamps = [SignedCertificateTimestamp(it) for it in self.serialized if it[:1] == b"\x00"]
 
@@ -452,32 +568,35 @@ class PrecertPoison(ExtensionType):
 
     oid = ExtensionOID.PRECERT_POISON
 
+    def __init__(self) -> None:
+        self._write(element(NULL))
 
-KINDS: dict[ObjectIdentifier, type[ExtensionType]] = {
-    it.oid: it
-    for it in (
-        KeyUsage,
-        BasicConstraints,
-        ExtendedKeyUsage,
-        SubjectAlternativeName,
-        IssuerAlternativeName,
-        SubjectKeyIdentifier,
-        AuthorityKeyIdentifier,
-        AuthorityInformationAccess,
-        SubjectInformationAccess,
-        CertificatePolicies,
-        PolicyMappings,
-        PolicyConstraints,
-        InhibitAnyPolicy,
-        CRLDistributionPoints,
-        FreshestCRL,
-        NameConstraints,
-        CRLNumber,
-        CRLReason,
-        PrecertificateSignedCertificateTimestamps,
-        PrecertPoison,
-    )
-}
+
+_TYPES: tuple[type[ExtensionType], ...] = (
+    KeyUsage,
+    BasicConstraints,
+    ExtendedKeyUsage,
+    SubjectAlternativeName,
+    IssuerAlternativeName,
+    SubjectKeyIdentifier,
+    AuthorityKeyIdentifier,
+    AuthorityInformationAccess,
+    SubjectInformationAccess,
+    CertificatePolicies,
+    PolicyMappings,
+    PolicyConstraints,
+    InhibitAnyPolicy,
+    CRLDistributionPoints,
+    FreshestCRL,
+    NameConstraints,
+    CRLNumber,
+    DeltaCRLIndicator,
+    IssuingDistributionPoint,
+    CRLReason,
+    PrecertificateSignedCertificateTimestamps,
+    PrecertPoison,
+)
+KINDS = {it.oid: it for it in _TYPES}
 
 Held = TypeVar("Held", bound=ExtensionType)
 
@@ -492,7 +611,7 @@ class Extension(Generic[Held]):
     def value(self) -> Held:
         """What it holds. An X509Error where the octets aren't a value of its type."""
         kind = KINDS.get(self.oid)
-        held = UnrecognizedExtension(self.oid, self.data) if kind is None else kind(self.data)
+        held = UnrecognizedExtension(self.oid, self.data) if kind is None else kind.from_der(self.data)
         return held  # type: ignore[return-value]
 
     def __repr__(self) -> str:
@@ -532,14 +651,12 @@ class Extensions:
         return self._extensions[at]
 
 
-def _part(span: Span, data: bytes) -> bytes | None:
-    return span.of(data) if span.is_there() else None
+def _key_digest(public_key: bytes) -> bytes:
+    return hashlib.sha1(PublicKey(public_key).bits).digest()
 
 
-def _number(n: int) -> object:
-    import ctypes
-
-    return ctypes.c_uint32(n)
+def _subtrees_der(number: int, names: list[GeneralName] | None) -> bytes:
+    return b"" if names is None else element(context(number, True), *(element(SEQUENCE, general_name_der(it)) for it in names))
 
 
 def _names_under(tag: int, span: Span, data: bytes) -> GeneralNames | None:

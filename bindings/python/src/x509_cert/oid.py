@@ -106,3 +106,10 @@ class AuthorityInformationAccessOID:
     OCSP = ObjectIdentifier("1.3.6.1.5.5.7.48.1")
     CA_ISSUERS = ObjectIdentifier("1.3.6.1.5.5.7.48.2")
     CA_REPOSITORY = ObjectIdentifier("1.3.6.1.5.5.7.48.5")
+
+
+class AttributeOID:
+    """Of attributes of CSRs (RFC 2985 5.4)."""
+
+    CHALLENGE_PASSWORD = ObjectIdentifier("1.2.840.113549.1.9.7")
+    EXTENSION_REQUEST = ObjectIdentifier("1.2.840.113549.1.9.14")

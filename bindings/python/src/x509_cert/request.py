@@ -2,18 +2,39 @@
 
 from __future__ import annotations
 
+import ctypes
 import enum
 from typing import Iterator
 
-from ._library import FAILED, REPEATED, AnchorView, ElementView, RequestAttributeView, RequestView, X509Error, view, walk
-from .certificate import _algorithm_oid
-from .extensions import Extensions, _part
+from ._library import (
+    ABSENT,
+    FAILED,
+    OK,
+    AnchorView,
+    ElementView,
+    PathControlsView,
+    RequestAttributeView,
+    RequestView,
+    X509Error,
+    status_of,
+    view,
+    walk,
+)
+from ._extension import _part
+from .certificate import Certificate
+from .extensions import Extensions, _subtrees
+from .key import AlgorithmIdentifier, PublicKey
 from .name import Name
-from .oid import ObjectIdentifier
+from .oid import AttributeOID, ObjectIdentifier
+from .policies import policies_under
 
 
-# the content octets of 1.2.840.113549.1.9.14, extensionRequest (RFC 2985 5.4.2)
-_EXTENSION_REQUEST = b"\x2a\x86\x48\x86\xf7\x0d\x01\x09\x0e"
+class AttributeNotFound(Exception):
+    """No attribute is of the type."""
+
+    def __init__(self, oid: ObjectIdentifier) -> None:
+        super().__init__(f"no attribute is of the type {oid.dotted_string}")
+        self.oid = oid
 
 
 class Attribute:
@@ -53,6 +74,16 @@ class CertificateSigningRequest:
         return self._view.subject_public_key_info.of(self._data)
 
     @property
+    def public_key_info(self) -> PublicKey:
+        """The key, by its kind and its bits."""
+        return PublicKey(self.public_key_bytes)
+
+    @property
+    def public_key_algorithm_oid(self) -> ObjectIdentifier:
+        """The identifier of the key's algorithm."""
+        return self.public_key_info.algorithm_oid
+
+    @property
     def attributes(self) -> list[Attribute]:
         """The values of the attributes, in order: an attribute with several stands there once for each."""
         return list(self._attributes())
@@ -64,23 +95,36 @@ class CertificateSigningRequest:
             for it in walk("x509_attribute_value_next", ElementView, values):
                 yield Attribute(oid, int(it.tag), it.content.of(values))
 
+    def _attribute(self, oid: bytes) -> bytes | None:
+        """The values of the attribute of a type, a whole SET; an X509Error where there are two or more such attributes."""
+        found = RequestAttributeView()
+        status = status_of("x509_request_attribute_find", self._data, oid, ctypes.byref(found))
+        if status == ABSENT:
+            return None
+        if status != OK:
+            raise X509Error("x509_request_attribute_find", status)
+        return found.values.of(self._data)
+
+    def get_attribute_for_oid(self, oid: ObjectIdentifier) -> Attribute:
+        """The attribute of a type with its first value. An AttributeNotFound where there is none or it has no value, an X509Error where there are two or more."""
+        values = self._attribute(oid.content)
+        if values is None:
+            raise AttributeNotFound(oid)
+        it = next(walk("x509_attribute_value_next", ElementView, values), None)
+        if it is None:
+            raise AttributeNotFound(oid)
+        return Attribute(oid, int(it.tag), it.content.of(values))
+
     @property
     def extensions(self) -> Extensions:
         """The extensions that it asks for (RFC 2985 5.4.2). An X509Error where several attributes ask for some, or the one hasn't one value."""
-        data = self._view.attributes.of(self._data)
-        asked = [
-            found.values.of(data)
-            for found in walk("x509_request_attribute_next", RequestAttributeView, data)
-            if found.oid.of(data) == _EXTENSION_REQUEST
-        ]
-        if not asked:
+        found = self._attribute(AttributeOID.EXTENSION_REQUEST.content)
+        if found is None:
             return Extensions([])
-        if len(asked) > 1:
-            raise X509Error("x509_request_attribute_next", REPEATED)
-        values = list(walk("x509_attribute_value_next", ElementView, asked[0]))
+        values = list(walk("x509_attribute_value_next", ElementView, found))
         if len(values) != 1:
             raise X509Error("x509_attribute_value_next", FAILED)
-        return Extensions.from_der(values[0].element.of(asked[0]))
+        return Extensions.from_der(values[0].element.of(found))
 
     @property
     def tbs_certrequest_bytes(self) -> bytes:
@@ -98,9 +142,14 @@ class CertificateSigningRequest:
         return self._view.signature.algorithm.of(self._data)
 
     @property
+    def signature_algorithm(self) -> AlgorithmIdentifier:
+        """The algorithm of the signature, by its kind and its parameters."""
+        return AlgorithmIdentifier(self.signature_algorithm_bytes)
+
+    @property
     def signature_algorithm_oid(self) -> ObjectIdentifier:
         """The identifier of the algorithm of the signature."""
-        return _algorithm_oid(self.signature_algorithm_bytes)
+        return self.signature_algorithm.oid
 
     def __eq__(self, other: object) -> bool:
         return isinstance(other, CertificateSigningRequest) and self._data == other._data
@@ -123,6 +172,39 @@ class AnchorKind(enum.Enum):
     certificate = 0
     tbs_certificate = 1
     info = 2
+
+
+class PathControls:
+    """What a trust anchor asks of paths (RFC 5914 2.5), by its DER, a CertPathControls. What is left out is None; `policy_flags` has the named bit n as
+    1 << n."""
+
+    INHIBIT_POLICY_MAPPING, REQUIRE_EXPLICIT_POLICY, INHIBIT_ANY_POLICY = 1, 2, 4
+
+    def __init__(self, data: bytes) -> None:
+        self._data = bytes(data)
+        found = view("x509_path_controls_view", PathControlsView, self._data)
+        self.name = Name(found.name.of(self._data))
+        element = _part(found.certificate, self._data)
+        # it stands under the tag [0] in place of its own, 30
+        self.certificate = None if element is None else Certificate(b"\x30" + element[1:])
+        self.policies = policies_under(1, found.policies, self._data)
+        self.policy_flags: int | None = int(found.policy_flags) if found.has_policy_flags else None
+        self.permitted_subtrees = _subtrees(0, found.permitted, self._data)
+        self.excluded_subtrees = _subtrees(1, found.excluded, self._data)
+        self.path_length: int | None = int(found.path_len) if found.has_path_len else None
+
+    def public_bytes(self) -> bytes:
+        """The DER that it was read from."""
+        return self._data
+
+    def __eq__(self, other: object) -> bool:
+        return isinstance(other, PathControls) and self._data == other._data
+
+    def __hash__(self) -> int:
+        return hash(self._data)
+
+    def __repr__(self) -> str:
+        return f"<PathControls(name={self.name!r}, path_length={self.path_length})>"
 
 
 class TrustAnchor:
@@ -156,6 +238,16 @@ class TrustAnchor:
         return self._view.subject_public_key_info.of(self._data)
 
     @property
+    def public_key_info(self) -> PublicKey:
+        """The key, by its kind and its bits."""
+        return PublicKey(self.public_key_bytes)
+
+    @property
+    def public_key_algorithm_oid(self) -> ObjectIdentifier:
+        """The identifier of the key's algorithm."""
+        return self.public_key_info.algorithm_oid
+
+    @property
     def key_identifier(self) -> bytes | None:
         """Of a TrustAnchorInfo the octets of its key identifier."""
         return _part(self._view.key_identifier, self._data)
@@ -173,6 +265,12 @@ class TrustAnchor:
     def path_controls_bytes(self) -> bytes | None:
         """The DER of the constraints on paths, a CertPathControls."""
         return _part(self._view.controls, self._data)
+
+    @property
+    def path_controls(self) -> PathControls | None:
+        """The constraints on paths."""
+        found = self.path_controls_bytes
+        return None if found is None else PathControls(found)
 
     def __eq__(self, other: object) -> bool:
         return isinstance(other, TrustAnchor) and self._data == other._data

@@ -91,6 +91,8 @@ flags! {
     }
 }
 
+pub(crate) use flags;
+
 impl ExtensionValue<'_> for KeyUsage {
     const OID: ObjectIdentifier = oid::extension::KEY_USAGE;
 

@@ -29,7 +29,7 @@ pub struct GeneralSubtree<'a> {
 }
 
 impl<'a> GeneralSubtree<'a> {
-    fn found(view: &ffi::Subtree, data: &'a [u8]) -> Result<GeneralSubtree<'a>, Error> {
+    pub(crate) fn found(view: &ffi::Subtree, data: &'a [u8]) -> Result<GeneralSubtree<'a>, Error> {
         Ok(GeneralSubtree {
             base: GeneralName::found(&view.base, data)?,
             minimum: view.minimum,

@@ -37,7 +37,10 @@ pub struct PolicyInformation<'a> {
 }
 
 impl<'a> PolicyInformation<'a> {
-    fn found(view: &ffi::Policy, data: &'a [u8]) -> Result<PolicyInformation<'a>, Error> {
+    pub(crate) fn found(
+        view: &ffi::Policy,
+        data: &'a [u8],
+    ) -> Result<PolicyInformation<'a>, Error> {
         let qualifiers = view.qualifiers.part(data)?;
         let read = |part| {
             all(

@@ -58,6 +58,7 @@ impl<'a> ExtensionValue<'a> for SignedCertificateTimestamps<'a> {
     const OID: ObjectIdentifier = oid::extension::SIGNED_CERTIFICATE_TIMESTAMPS;
 
     fn from_der(value: &'a [u8]) -> Result<SignedCertificateTimestamps<'a>, Error> {
-        all(ffi::TIMESTAMPS.over(value), |span, data| span.of(data)).map(SignedCertificateTimestamps)
+        all(ffi::TIMESTAMPS.over(value), |span, data| span.of(data))
+            .map(SignedCertificateTimestamps)
     }
 }

@@ -1,0 +1,104 @@
+"""DER that is written here (X.690 8.1), for what builders are given. The library reads it back before anyone else does; nothing here parses DER."""
+
+from __future__ import annotations
+
+import ipaddress
+from typing import Iterable
+
+from .general_name import (
+    DirectoryName,
+    DNSName,
+    EDIPartyName,
+    GeneralName,
+    IPAddress,
+    OtherName,
+    RegisteredID,
+    RFC822Name,
+    UniformResourceIdentifier,
+)
+from .name import NameAttribute, RelativeDistinguishedName
+from .oid import ObjectIdentifier
+
+BOOLEAN, INTEGER, BIT_STRING, OCTET_STRING, NULL, OBJECT_IDENTIFIER, ENUMERATED, SEQUENCE, SET = 1, 2, 3, 4, 5, 6, 10, 0x30, 0x31
+
+
+def context(number: int, of_elements: bool = False) -> int:
+    """The identifier octet of a tag of the context-specific class, whose content is elements or not; the number is below 31."""
+    return (0xA0 if of_elements else 0x80) | number
+
+
+def element(identifier: int, *parts: bytes) -> bytes:
+    """An element with these parts of its content one behind the other."""
+    content = b"".join(parts)
+    size = len(content)
+    if size < 128:
+        return bytes([identifier, size]) + content
+    digits = size.to_bytes((size.bit_length() + 7) // 8, "big")
+    return bytes([identifier, 0x80 | len(digits)]) + digits + content
+
+
+def integer(number: int, identifier: int = INTEGER) -> bytes:
+    """An INTEGER, or what has such content octets (X.690 8.3)."""
+    size = (number + (number < 0)).bit_length() // 8 + 1
+    return element(identifier, number.to_bytes(size, "big", signed=True))
+
+
+def flag(is_set: bool, identifier: int = BOOLEAN) -> bytes:
+    """A BOOLEAN that is left out where it is false, its default."""
+    return element(identifier, b"\xff") if is_set else b""
+
+
+def named_bits(bits: int, identifier: int = BIT_STRING) -> bytes:
+    """A BIT STRING of named bits, of which the n-th is 1 << n (X.690 11.2.2)."""
+    used = bits.bit_length()
+    size = (used + 7) // 8
+    reverse = sum((bits >> bit & 1) << (8 * size - 1 - bit) for bit in range(used))
+    return element(identifier, bytes([8 * size - used]), reverse.to_bytes(size, "big"))
+
+
+def identifier_of(oid: ObjectIdentifier) -> bytes:
+    return element(OBJECT_IDENTIFIER, oid.content)
+
+
+_TEXTS: dict[type[GeneralName], int] = {RFC822Name: 1, DNSName: 2, UniformResourceIdentifier: 6}
+
+
+def _address(value: object) -> bytes:
+    if isinstance(value, (ipaddress.IPv4Address, ipaddress.IPv6Address)):
+        return value.packed
+    if isinstance(value, (ipaddress.IPv4Network, ipaddress.IPv6Network)):
+        return value.network_address.packed + value.netmask.packed
+    if isinstance(value, bytes):
+        return value
+    raise ValueError(f"{value!r} is no address")
+
+
+def general_name_der(name: GeneralName) -> bytes:
+    """A general name (RFC 5280 4.2.1.6). A ValueError where it has none, as a DNS name that isn't ASCII."""
+    number = _TEXTS.get(type(name))
+    if number is not None:
+        return element(context(number), name.value.encode("ascii"))
+    if isinstance(name, OtherName):
+        return element(context(0, True), identifier_of(name.type_id), element(context(0, True), name.data))
+    if isinstance(name, DirectoryName):
+        return element(context(4, True), name.value.public_bytes())
+    if isinstance(name, EDIPartyName):
+        return element(context(5, True), name.value)
+    if isinstance(name, IPAddress):
+        return element(context(7), _address(name.value))
+    if isinstance(name, RegisteredID):
+        return element(context(8), name.value.content)
+    raise ValueError(f"{name!r} is no general name")
+
+
+def general_names_der(names: Iterable[GeneralName], identifier: int = SEQUENCE) -> bytes:
+    return element(identifier, *map(general_name_der, names))
+
+
+def _attribute(it: NameAttribute) -> bytes:
+    return element(SEQUENCE, identifier_of(it.oid), it.element)
+
+
+def relative_name_der(name: RelativeDistinguishedName, identifier: int) -> bytes:
+    """A relative name, whose attributes stand in the order of their encodings (X.690 11.6)."""
+    return element(identifier, *sorted(map(_attribute, name)))

@@ -1,0 +1,462 @@
+//! Builders of certificates, CRLs and CSRs (RFC 5280 4.1, 5.1; RFC 2986 4.1), with a signer of yours.
+//!
+//! A builder writes the bytes to be signed, the signer signs them, and the library puts both together. What is built is then read again as what it
+//! is. That the signature is one of these bytes isn't checked.
+use crate::certificate::{Certificate, CertificateRef, Validity};
+use crate::crl::Crl;
+use crate::csr::Csr;
+use crate::error::Error;
+use crate::extension::{CrlReason, ToExtension};
+use crate::ffi::build;
+use crate::integer::{Integer, SerialNumber};
+use crate::name::Name;
+use crate::oid::ObjectIdentifier;
+use crate::time::seconds;
+use crate::writing::{self, OBJECT_IDENTIFIER, SEQUENCE, SET};
+use std::fmt;
+use std::time::SystemTime;
+
+/// Signs what a builder has written.
+///
+/// ```
+/// use x509_rattle::Signer;
+///
+/// /// A key of Ed25519 (RFC 8410), by the DER of its public half and a function that signs.
+/// struct Ed25519<F> {
+///     public_key: Vec<u8>,
+///     sign: F,
+/// }
+///
+/// impl<E, F: Fn(&[u8]) -> Result<[u8; 64], E>> Signer for Ed25519<F> {
+///     type Error = E;
+///
+///     fn algorithm(&self) -> &[u8] {
+///         b"\x30\x05\x06\x03\x2b\x65\x70"
+///     }
+///
+///     fn subject_public_key_info(&self) -> &[u8] {
+///         &self.public_key
+///     }
+///
+///     fn sign(&self, message: &[u8]) -> Result<Vec<u8>, E> {
+///         (self.sign)(message).map(Vec::from)
+///     }
+/// }
+/// ```
+pub trait Signer {
+    /// Why it may fail to sign.
+    type Error;
+
+    /// The algorithm that it signs by: a whole AlgorithmIdentifier.
+    fn algorithm(&self) -> &[u8];
+
+    /// The key that its signatures are verified with: a whole SubjectPublicKeyInfo.
+    fn subject_public_key_info(&self) -> &[u8];
+
+    /// The octets of a signature of the message, all bits of which are used.
+    ///
+    /// # Errors
+    /// Where there is no signature; the builder passes the error on.
+    fn sign(&self, message: &[u8]) -> Result<Vec<u8>, Self::Error>;
+}
+
+impl<S: Signer + ?Sized> Signer for &S {
+    type Error = S::Error;
+
+    fn algorithm(&self) -> &[u8] {
+        (**self).algorithm()
+    }
+
+    fn subject_public_key_info(&self) -> &[u8] {
+        (**self).subject_public_key_info()
+    }
+
+    fn sign(&self, message: &[u8]) -> Result<Vec<u8>, S::Error> {
+        (**self).sign(message)
+    }
+}
+
+/// Why nothing was built.
+#[derive(Clone, Copy, Debug, PartialEq, Eq, Hash)]
+#[non_exhaustive]
+pub enum BuildError<E> {
+    /// What was given makes none.
+    Refused(Error),
+
+    /// The signer's key isn't that of the issuer's certificate.
+    OtherKey,
+
+    /// The signer failed, by its own error.
+    Signer(E),
+}
+
+impl<E> From<Error> for BuildError<E> {
+    fn from(error: Error) -> BuildError<E> {
+        BuildError::Refused(error)
+    }
+}
+
+impl<E: fmt::Display> fmt::Display for BuildError<E> {
+    fn fmt(&self, f: &mut fmt::Formatter<'_>) -> fmt::Result {
+        match self {
+            BuildError::Refused(error) => error.fmt(f),
+            BuildError::OtherKey => {
+                f.write_str("the signer's key isn't that of the issuer's certificate")
+            }
+            BuildError::Signer(error) => write!(f, "the signer failed: {error}"),
+        }
+    }
+}
+
+impl<E: std::error::Error + 'static> std::error::Error for BuildError<E> {
+    fn source(&self) -> Option<&(dyn std::error::Error + 'static)> {
+        match self {
+            BuildError::Signer(error) => Some(error),
+            BuildError::Refused(_) | BuildError::OtherKey => None,
+        }
+    }
+}
+
+/// The DER of the bytes with the signer's algorithm and signature.
+fn signed<S: Signer>(part: &[u8], signer: &S) -> Result<Vec<u8>, BuildError<S::Error>> {
+    let signature = signer.sign(part).map_err(BuildError::Signer)?;
+    Ok(build::assemble(part, signer.algorithm(), &signature)?)
+}
+
+/// Extensions in the order in which they were added, each with its identifier and its DER.
+#[derive(Clone, Debug, Default)]
+struct ExtensionList(Vec<(ObjectIdentifier, Vec<u8>)>);
+
+impl ExtensionList {
+    /// [`Error::Repeated`] where there is one with the identifier (RFC 5280 4.2).
+    fn add(&mut self, oid: ObjectIdentifier, critical: bool, value: &[u8]) -> Result<(), Error> {
+        if self.0.iter().any(|(other, _)| *other == oid) {
+            return Err(Error::Repeated);
+        }
+        let der = build::extension(oid.as_bytes(), critical, value)?;
+        self.0.push((oid, der));
+        Ok(())
+    }
+
+    fn joined(&self) -> Vec<u8> {
+        self.0.iter().flat_map(|(_, der)| der).copied().collect()
+    }
+}
+
+macro_rules! with_extensions {
+    () => {
+        /// Adds an extension behind the others, with what it is to hold.
+        ///
+        /// # Errors
+        /// [`Error::Repeated`] where there is one with the same identifier; [`Error::Value`] where what it is to hold can't be written;
+        /// [`Error::Overlength`] or [`Error::Memory`].
+        pub fn add_extension(
+            &mut self,
+            critical: bool,
+            value: &impl ToExtension,
+        ) -> Result<&mut Self, Error> {
+            let der = value.to_der()?;
+            self.add_extension_der(value.oid(), critical, &der)
+        }
+
+        /// Adds an extension behind the others, with the DER of what it is to hold, which isn't decoded.
+        ///
+        /// # Errors
+        /// [`Error::Repeated`] where there is one with the same identifier; [`Error::Overlength`] or [`Error::Memory`].
+        pub fn add_extension_der(
+            &mut self,
+            oid: ObjectIdentifier,
+            critical: bool,
+            value: &[u8],
+        ) -> Result<&mut Self, Error> {
+            self.extensions.add(oid, critical, value)?;
+            Ok(self)
+        }
+    };
+}
+
+/// Builds a certificate: of v3 where extensions are added, else of v1.
+///
+/// ```
+/// use std::time::{Duration, UNIX_EPOCH};
+/// use x509_rattle::extension::{BasicConstraints, KeyUsage};
+/// use x509_rattle::{Certificate, CertificateBuilder, Name, SerialNumber, Signer, Validity};
+///
+/// fn root<S: Signer>(signer: &S, serial: &[u8; 16]) -> Result<Certificate, Box<dyn std::error::Error>>
+/// where
+///     S::Error: std::error::Error + 'static,
+/// {
+///     let name: Name = "CN=Root,O=Example,C=DE".parse()?;
+///     let start = UNIX_EPOCH + Duration::from_secs(1_767_225_600); // 2026-01-01T00:00:00Z
+///     let validity = Validity { not_before: start, not_after: start + Duration::from_secs(10 * 31_557_600) };
+///     let key = signer.subject_public_key_info();
+///     let mut builder = CertificateBuilder::new(SerialNumber::new(serial)?, &name, validity, &name, key);
+///     builder.add_extension(true, &BasicConstraints { ca: true, path_len_constraint: None })?;
+///     builder.add_extension(true, &(KeyUsage::KEY_CERT_SIGN | KeyUsage::CRL_SIGN))?;
+///     Ok(builder.build(signer)?)
+/// }
+/// # struct Nothing;
+/// # impl Signer for Nothing {
+/// #     type Error = std::io::Error;
+/// #     fn algorithm(&self) -> &[u8] { b"\x30\x05\x06\x03\x2b\x65\x70" }
+/// #     fn subject_public_key_info(&self) -> &[u8] { b"\x30\x0a\x30\x05\x06\x03\x2b\x65\x70\x03\x01\x00" }
+/// #     fn sign(&self, _: &[u8]) -> std::io::Result<Vec<u8>> { Ok(vec![1, 2]) }
+/// # }
+/// # let certificate = root(&Nothing, &[7; 16]).unwrap();
+/// # assert_eq!(certificate.subject().to_string(), "CN=Root,O=Example,C=DE");
+/// # assert!(certificate.to_ref().key_usage().unwrap().unwrap().key_cert_sign());
+/// ```
+#[derive(Clone, Debug)]
+pub struct CertificateBuilder {
+    serial_number: SerialNumber,
+    issuer: Name,
+    validity: Validity,
+    subject: Name,
+    key: Vec<u8>,
+    extensions: ExtensionList,
+}
+
+impl CertificateBuilder {
+    /// A certificate with that serial number, from that issuer, for that subject and its key, which is a whole SubjectPublicKeyInfo.
+    pub fn new(
+        serial_number: SerialNumber,
+        issuer: &Name,
+        validity: Validity,
+        subject: &Name,
+        subject_public_key_info: &[u8],
+    ) -> CertificateBuilder {
+        CertificateBuilder {
+            serial_number,
+            issuer: issuer.clone(),
+            validity,
+            subject: subject.clone(),
+            key: subject_public_key_info.to_vec(),
+            extensions: ExtensionList::default(),
+        }
+    }
+
+    with_extensions!();
+
+    /// The bytes to be signed, a whole TBSCertificate, for a signature by an algorithm, which is a whole AlgorithmIdentifier.
+    ///
+    /// # Errors
+    /// [`Error::Malformed`] where the key or the algorithm is none; [`Error::Value`] where a moment is before 1970 or after 9999;
+    /// [`Error::Overlength`] or [`Error::Memory`].
+    pub fn tbs_certificate(&self, algorithm: &[u8]) -> Result<Vec<u8>, Error> {
+        build::certificate(&build::CertificateFields {
+            serial_number: &self.serial_number.to_integer().element()?,
+            algorithm,
+            issuer: self.issuer.as_der(),
+            not_before: seconds(self.validity.not_before)?,
+            not_after: seconds(self.validity.not_after)?,
+            subject: self.subject.as_der(),
+            key: &self.key,
+            extensions: &self.extensions.joined(),
+        })
+    }
+
+    /// The certificate, signed by the issuer's signer.
+    ///
+    /// # Errors
+    /// [`BuildError::Refused`] as of [`tbs_certificate`](CertificateBuilder::tbs_certificate), [`BuildError::Signer`] where the signer fails.
+    pub fn build<S: Signer>(&self, signer: &S) -> Result<Certificate, BuildError<S::Error>> {
+        let part = self.tbs_certificate(signer.algorithm())?;
+        Ok(Certificate::from_der(signed(&part, signer)?)?)
+    }
+}
+
+/// Builds a CRL of v2. Its first extensions are the number and the AKI, which is the SKI in the issuer's certificate, and where that has none, the
+/// SHA-1 digest of its key (RFC 5280 4.2.1.2).
+///
+/// ```
+/// use std::time::SystemTime;
+/// use x509_rattle::extension::CrlReason;
+/// use x509_rattle::{BuildError, CertificateRef, Crl, CrlBuilder, Error, Integer, Signer};
+///
+/// fn revoke<S: Signer>(
+///     issuer: CertificateRef,
+///     signer: &S,
+///     number: u64,
+///     serials: &[Integer],
+///     now: SystemTime,
+///     next: SystemTime,
+/// ) -> Result<Crl, BuildError<S::Error>> {
+///     let mut builder = CrlBuilder::new(issuer, &number.to_be_bytes(), now);
+///     builder.next_update(next);
+///     for serial in serials {
+///         builder.add_entry(*serial, now, Some(CrlReason::KeyCompromise))?;
+///     }
+///     builder.build(signer)
+/// }
+/// ```
+#[derive(Clone, Debug)]
+pub struct CrlBuilder {
+    issuer: Certificate,
+    number: Vec<u8>,
+    this_update: SystemTime,
+    next_update: Option<SystemTime>,
+    entries: Vec<u8>,
+    extensions: ExtensionList,
+}
+
+impl CrlBuilder {
+    /// A CRL from the subject of the issuer's certificate, with that number, whose octets stand the most significant first, issued at that moment.
+    pub fn new(issuer: CertificateRef<'_>, number: &[u8], this_update: SystemTime) -> CrlBuilder {
+        CrlBuilder {
+            issuer: issuer.to_owned(),
+            number: number.to_vec(),
+            this_update,
+            next_update: None,
+            entries: Vec::new(),
+            extensions: ExtensionList::default(),
+        }
+    }
+
+    /// Says by when the next one will be issued.
+    pub fn next_update(&mut self, moment: SystemTime) -> &mut CrlBuilder {
+        self.next_update = Some(moment);
+        self
+    }
+
+    /// Adds an entry behind the others: the certificate with that serial number is revoked since that moment, perhaps for a reason.
+    ///
+    /// # Errors
+    /// [`Error::Malformed`] where the number has more than 21 content octets; [`Error::Value`] where the moment is before 1970 or after 9999;
+    /// [`Error::Overlength`] or [`Error::Memory`].
+    pub fn add_entry(
+        &mut self,
+        serial_number: Integer<'_>,
+        date: SystemTime,
+        reason: Option<CrlReason>,
+    ) -> Result<&mut CrlBuilder, Error> {
+        let mut extensions = ExtensionList::default();
+        if let Some(reason) = reason {
+            extensions.add(reason.oid(), false, &reason.to_der()?)?;
+        }
+        let serial_number = serial_number.element()?;
+        let entry = build::crl_entry(&serial_number, seconds(date)?, &extensions.joined())?;
+        self.entries.extend_from_slice(&entry);
+        Ok(self)
+    }
+
+    with_extensions!();
+
+    /// The bytes to be signed, a whole TBSCertList, for a signature by an algorithm, which is a whole AlgorithmIdentifier.
+    ///
+    /// # Errors
+    /// [`Error::Malformed`] where the algorithm is none; [`Error::Failed`] where the issuer's certificate has two SKIs; [`Error::Value`] where the number
+    /// has no octets, or a moment is before 1970 or after 9999; [`Error::Overlength`] or [`Error::Memory`].
+    pub fn tbs_cert_list(&self, algorithm: &[u8]) -> Result<Vec<u8>, Error> {
+        build::crl(&build::CrlFields {
+            issuer: self.issuer.as_der(),
+            algorithm,
+            number: &self.number,
+            this_update: seconds(self.this_update)?,
+            next_update: self.next_update.map(seconds).transpose()?,
+            entries: &self.entries,
+            extensions: &self.extensions.joined(),
+        })
+    }
+
+    /// The CRL, signed by the issuer's signer.
+    ///
+    /// # Errors
+    /// [`BuildError::OtherKey`] where the signer's key isn't that of the issuer's certificate, byte for byte; [`BuildError::Refused`] as of
+    /// [`tbs_cert_list`](CrlBuilder::tbs_cert_list), [`BuildError::Signer`] where the signer fails.
+    pub fn build<S: Signer>(&self, signer: &S) -> Result<Crl, BuildError<S::Error>> {
+        if signer.subject_public_key_info() != self.issuer.subject_public_key_info() {
+            return Err(BuildError::OtherKey);
+        }
+        let part = self.tbs_cert_list(signer.algorithm())?;
+        Ok(Crl::from_der(signed(&part, signer)?)?)
+    }
+}
+
+/// Builds a CSR, a PKCS #10 request. It asks for the extensions that are added, with an attribute that stands there where there are none too.
+///
+/// ```
+/// use x509_rattle::extension::SubjectAltName;
+/// use x509_rattle::{BuildError, CsrBuilder, GeneralName, Name, Signer};
+///
+/// /// The DER of a CSR for a host.
+/// fn request<S: Signer>(signer: &S, host: &str) -> Result<Vec<u8>, BuildError<S::Error>> {
+///     let subject: Name = "O=Example,C=DE".parse()?;
+///     let mut builder = CsrBuilder::new(&subject);
+///     builder.add_extension(false, &SubjectAltName(vec![GeneralName::DnsName(host)]))?;
+///     builder.build(signer)
+/// }
+/// ```
+#[derive(Clone, Debug)]
+pub struct CsrBuilder {
+    subject: Name,
+    attributes: Vec<u8>,
+    extensions: ExtensionList,
+}
+
+impl CsrBuilder {
+    /// A CSR for that subject.
+    pub fn new(subject: &Name) -> CsrBuilder {
+        CsrBuilder {
+            subject: subject.clone(),
+            attributes: Vec::new(),
+            extensions: ExtensionList::default(),
+        }
+    }
+
+    /// Adds a further attribute with these values, each a whole element, in any order; see [`oid::request`](crate::oid::request). It is checked when the CSR is
+    /// built.
+    ///
+    /// ```
+    /// use x509_rattle::{oid, CsrBuilder};
+    ///
+    /// let mut builder = CsrBuilder::new(&"CN=a".parse()?);
+    /// // a UTF8String
+    /// builder.add_attribute(oid::request::CHALLENGE_PASSWORD, &[b"\x0c\x04word"]);
+    /// # Ok::<(), x509_rattle::Error>(())
+    /// ```
+    pub fn add_attribute(&mut self, oid: ObjectIdentifier, values: &[&[u8]]) -> &mut CsrBuilder {
+        let mut values: Vec<Vec<u8>> = values.iter().map(|it| it.to_vec()).collect();
+        // the members of a SET OF stand in the order of their encodings (X.690 11.6)
+        values.sort();
+        let values = writing::elements(SET, values);
+        let oid = writing::element(OBJECT_IDENTIFIER, oid.as_bytes());
+        self.add_attribute_der(&writing::elements(SEQUENCE, [oid, values]))
+    }
+
+    /// Adds a further attribute by its DER, a whole Attribute, which is checked when the CSR is built.
+    pub fn add_attribute_der(&mut self, attribute: &[u8]) -> &mut CsrBuilder {
+        self.attributes.extend_from_slice(attribute);
+        self
+    }
+
+    with_extensions!();
+
+    /// The bytes to be signed, a whole CertificationRequestInfo, for a key, which is a whole SubjectPublicKeyInfo.
+    ///
+    /// # Errors
+    /// [`Error::Malformed`] where the key or an attribute is none; [`Error::SetDuplicate`] where two attributes are equal; [`Error::Overlength`] or
+    /// [`Error::Memory`].
+    pub fn certification_request_info(
+        &self,
+        subject_public_key_info: &[u8],
+    ) -> Result<Vec<u8>, Error> {
+        build::request(
+            self.subject.as_der(),
+            subject_public_key_info,
+            &self.attributes,
+            &self.extensions.joined(),
+        )
+    }
+
+    /// The DER of the CSR for the signer's key, signed by it; [`Csr::from_der`](crate::Csr::from_der) reads it.
+    ///
+    /// # Errors
+    /// [`BuildError::Refused`] as of [`certification_request_info`](CsrBuilder::certification_request_info), [`BuildError::Signer`] where the signer
+    /// fails.
+    pub fn build<S: Signer>(&self, signer: &S) -> Result<Vec<u8>, BuildError<S::Error>> {
+        let part = self.certification_request_info(signer.subject_public_key_info())?;
+        let der = signed(&part, signer)?;
+        Csr::from_der(&der)?;
+        Ok(der)
+    }
+}

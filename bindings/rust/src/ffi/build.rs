@@ -1,0 +1,184 @@
+//! The calls of `include/x509.h` that build, and safe ways to make them.
+use super::fill;
+use crate::error::Error;
+use std::ffi::c_int;
+
+#[rustfmt::skip]
+extern "C" {
+    fn x509_extension_encode(oid: *const u8, oid_len: usize, critical: u32, value: *const u8, value_len: usize, out: *mut u8, room: usize, written: *mut usize) -> c_int;
+    fn x509_crl_entry_encode(serial_number: *const u8, serial_number_len: usize, date: u64, extensions: *const u8, extensions_len: usize, out: *mut u8, room: usize, written: *mut usize) -> c_int;
+    fn x509_build_request(subject: *const u8, subject_len: usize, key: *const u8, key_len: usize, attributes: *const u8, attributes_len: usize, extensions: *const u8, extensions_len: usize, out: *mut u8, room: usize, written: *mut usize) -> c_int;
+    fn x509_build_certificate(serial_number: *const u8, serial_number_len: usize, algorithm: *const u8, algorithm_len: usize, issuer: *const u8, issuer_len: usize, not_before: u64, not_after: u64, subject: *const u8, subject_len: usize, key: *const u8, key_len: usize, extensions: *const u8, extensions_len: usize, out: *mut u8, room: usize, written: *mut usize) -> c_int;
+    fn x509_build_crl(issuer: *const u8, issuer_len: usize, algorithm: *const u8, algorithm_len: usize, number: *const u8, number_len: usize, this_update: u64, has_next_update: u32, next_update: u64, entries: *const u8, entries_len: usize, extensions: *const u8, extensions_len: usize, out: *mut u8, room: usize, written: *mut usize) -> c_int;
+    fn x509_assemble(part: *const u8, part_len: usize, algorithm: *const u8, algorithm_len: usize, signature: *const u8, signature_len: usize, out: *mut u8, room: usize, written: *mut usize) -> c_int;
+}
+
+/// The DER of an extension.
+pub(crate) fn extension(oid: &[u8], critical: bool, value: &[u8]) -> Result<Vec<u8>, Error> {
+    fill(|out, room, written| {
+        // SAFETY: the header lets the call read both slices, which are lent for it, and write to `out[0..room)` and `written`, which `fill` owns.
+        unsafe {
+            x509_extension_encode(
+                oid.as_ptr(),
+                oid.len(),
+                u32::from(critical),
+                value.as_ptr(),
+                value.len(),
+                out,
+                room,
+                written,
+            )
+        }
+    })
+}
+
+/// The DER of an entry of a CRL; the serial number is a whole INTEGER.
+pub(crate) fn crl_entry(
+    serial_number: &[u8],
+    date: u64,
+    extensions: &[u8],
+) -> Result<Vec<u8>, Error> {
+    fill(|out, room, written| {
+        // SAFETY: the header lets the call read both slices, which are lent for it, and write to `out[0..room)` and `written`, which `fill` owns.
+        unsafe {
+            x509_crl_entry_encode(
+                serial_number.as_ptr(),
+                serial_number.len(),
+                date,
+                extensions.as_ptr(),
+                extensions.len(),
+                out,
+                room,
+                written,
+            )
+        }
+    })
+}
+
+/// The bytes to be signed of a CSR.
+pub(crate) fn request(
+    subject: &[u8],
+    key: &[u8],
+    attributes: &[u8],
+    extensions: &[u8],
+) -> Result<Vec<u8>, Error> {
+    fill(|out, room, written| {
+        // SAFETY: the header lets the call read the four slices, which are lent for it, and write to `out[0..room)` and `written`, which `fill`
+        // owns.
+        unsafe {
+            x509_build_request(
+                subject.as_ptr(),
+                subject.len(),
+                key.as_ptr(),
+                key.len(),
+                attributes.as_ptr(),
+                attributes.len(),
+                extensions.as_ptr(),
+                extensions.len(),
+                out,
+                room,
+                written,
+            )
+        }
+    })
+}
+
+/// What a certificate is built of. The serial number is a whole INTEGER.
+pub(crate) struct CertificateFields<'a> {
+    pub(crate) serial_number: &'a [u8],
+    pub(crate) algorithm: &'a [u8],
+    pub(crate) issuer: &'a [u8],
+    pub(crate) not_before: u64,
+    pub(crate) not_after: u64,
+    pub(crate) subject: &'a [u8],
+    pub(crate) key: &'a [u8],
+    pub(crate) extensions: &'a [u8],
+}
+
+/// The bytes to be signed of a certificate.
+pub(crate) fn certificate(it: &CertificateFields<'_>) -> Result<Vec<u8>, Error> {
+    fill(|out, room, written| {
+        // SAFETY: the header lets the call read the six slices, which are lent for it, and write to `out[0..room)` and `written`, which `fill` owns.
+        unsafe {
+            x509_build_certificate(
+                it.serial_number.as_ptr(),
+                it.serial_number.len(),
+                it.algorithm.as_ptr(),
+                it.algorithm.len(),
+                it.issuer.as_ptr(),
+                it.issuer.len(),
+                it.not_before,
+                it.not_after,
+                it.subject.as_ptr(),
+                it.subject.len(),
+                it.key.as_ptr(),
+                it.key.len(),
+                it.extensions.as_ptr(),
+                it.extensions.len(),
+                out,
+                room,
+                written,
+            )
+        }
+    })
+}
+
+/// What a CRL is built of. The issuer is a whole certificate, and the number the octets of a number.
+pub(crate) struct CrlFields<'a> {
+    pub(crate) issuer: &'a [u8],
+    pub(crate) algorithm: &'a [u8],
+    pub(crate) number: &'a [u8],
+    pub(crate) this_update: u64,
+    pub(crate) next_update: Option<u64>,
+    pub(crate) entries: &'a [u8],
+    pub(crate) extensions: &'a [u8],
+}
+
+/// The bytes to be signed of a CRL.
+pub(crate) fn crl(it: &CrlFields<'_>) -> Result<Vec<u8>, Error> {
+    fill(|out, room, written| {
+        // SAFETY: the header lets the call read the five slices, which are lent for it, and write to `out[0..room)` and `written`, which `fill`
+        // owns.
+        unsafe {
+            x509_build_crl(
+                it.issuer.as_ptr(),
+                it.issuer.len(),
+                it.algorithm.as_ptr(),
+                it.algorithm.len(),
+                it.number.as_ptr(),
+                it.number.len(),
+                it.this_update,
+                u32::from(it.next_update.is_some()),
+                it.next_update.unwrap_or(0),
+                it.entries.as_ptr(),
+                it.entries.len(),
+                it.extensions.as_ptr(),
+                it.extensions.len(),
+                out,
+                room,
+                written,
+            )
+        }
+    })
+}
+
+/// The DER of a signed part, an algorithm and the octets of a signature.
+pub(crate) fn assemble(part: &[u8], algorithm: &[u8], signature: &[u8]) -> Result<Vec<u8>, Error> {
+    fill(|out, room, written| {
+        // SAFETY: the header lets the call read the three slices, which are lent for it, and write to `out[0..room)` and `written`, which `fill`
+        // owns.
+        unsafe {
+            x509_assemble(
+                part.as_ptr(),
+                part.len(),
+                algorithm.as_ptr(),
+                algorithm.len(),
+                signature.as_ptr(),
+                signature.len(),
+                out,
+                room,
+                written,
+            )
+        }
+    })
+}

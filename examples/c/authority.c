@@ -1,0 +1,488 @@
+/* A small authority: a root (RSA), an intermediate (P-256), a server (Ed25519) by its CSR, and CRLs of the intermediate. The library writes what is to be
+ * signed and puts the whole together; the keys, the signatures and the values of extensions are OpenSSL's libcrypto's.
+ *
+ * It writes root.der, intermediate.der, server.der and request.der into the folder, with the CRLs before.der, which is empty, and after.der, which
+ * revokes the server. It ends with 0 where all of them are written, and with 1 else.
+ *
+ * Link with libx509_c.a liblibc_c.a -lcrypto.
+ *
+ * usage: authority FOLDER */
+#include <openssl/evp.h>
+#include <openssl/rsa.h>
+#include <openssl/x509.h>
+#include <openssl/x509v3.h>
+#include <stdint.h>
+#include <stdio.h>
+#include <stdlib.h>
+#include <string.h>
+#include "x509.h"
+
+/* Bytes that are to be freed; NULL where there are none. */
+typedef struct {
+    uint8_t *bytes;
+    size_t len;
+} buffer;
+
+/* Bytes of another's, for as long as those stand. */
+typedef struct {
+    const uint8_t *bytes;
+    size_t len;
+} octets;
+
+#define OCTETS(text) {(const uint8_t *)(text), sizeof(text) - 1}
+
+/* AlgorithmIdentifiers: RSA with SHA-256 (RFC 4055 5), ECDSA with SHA-256 (RFC 5758 3.2), Ed25519 (RFC 8410 3). */
+static const octets RSA_SHA256 = OCTETS("\x30\x0d\x06\x09\x2a\x86\x48\x86\xf7\x0d\x01\x01\x0b\x05\x00");
+static const octets ECDSA_SHA256 = OCTETS("\x30\x0a\x06\x08\x2a\x86\x48\xce\x3d\x04\x03\x02");
+static const octets ED25519 = OCTETS("\x30\x05\x06\x03\x2b\x65\x70");
+
+/* The content octets of OIDs (RFC 5280 4.2.1, 5.3.1). */
+static const octets OID_SUBJECT_KEY_IDENTIFIER = OCTETS("\x55\x1d\x0e");
+static const octets OID_KEY_USAGE = OCTETS("\x55\x1d\x0f");
+static const octets OID_SUBJECT_ALT_NAME = OCTETS("\x55\x1d\x11");
+static const octets OID_BASIC_CONSTRAINTS = OCTETS("\x55\x1d\x13");
+static const octets OID_CRL_REASON = OCTETS("\x55\x1d\x15");
+static const octets OID_AUTHORITY_KEY_IDENTIFIER = OCTETS("\x55\x1d\x23");
+static const octets OID_EXTENDED_KEY_USAGE = OCTETS("\x55\x1d\x25");
+
+/* 2026-01-01T00:00:00Z and 2035-12-31T23:59:59Z */
+static const uint64_t START = 1767225600, END = 2082758399;
+
+static octets of(buffer it)
+{
+    return (octets){it.bytes, it.len};
+}
+
+static octets part_of(octets whole, x509_span span)
+{
+    return (octets){whole.bytes + span.place, span.len};
+}
+
+static void drop(buffer *it)
+{
+    free(it->bytes);
+    *it = (buffer){NULL, 0};
+}
+
+/* Puts bytes behind those of a buffer. */
+static int append(buffer *to, octets added)
+{
+    if (added.len > SIZE_MAX - 1 - to->len)
+        return 0;
+    uint8_t *bytes = realloc(to->bytes, to->len + added.len + 1);
+    if (bytes == NULL)
+        return 0;
+    if (added.len > 0)
+        memcpy(bytes + to->len, added.bytes, added.len);
+    *to = (buffer){bytes, to->len + added.len};
+    return 1;
+}
+
+/* ---- calls that write: a first one with no buffer says how much is needed */
+
+typedef x509_status call(void *with, uint8_t *out, size_t room, size_t *written);
+
+/* Fills a buffer that was empty. Says on stderr what was refused. */
+static int fill(const char *what, call *write, void *with, buffer *out)
+{
+    size_t written = 0;
+    x509_status status = write(with, NULL, 0, &written);
+    if (status == X509_ROOM) {
+        out->bytes = malloc(written);
+        status = out->bytes == NULL ? X509_MEMORY : write(with, out->bytes, written, &written);
+    }
+    if (status == X509_OK) {
+        out->len = written;
+        return 1;
+    }
+    drop(out);
+    uint8_t text[128];
+    size_t len = 0;
+    if (x509_status_text(status, text, sizeof text, &len) != X509_OK)
+        len = 0;
+    fprintf(stderr, "authority: %s: status %d, %.*s\n", what, status, (int)len, (const char *)text);
+    return 0;
+}
+
+static x509_status write_name(void *with, uint8_t *out, size_t room, size_t *written)
+{
+    const char *text = with;
+    return x509_name_from_text((const uint8_t *)text, strlen(text), out, room, written);
+}
+
+typedef struct {
+    octets oid, value;
+    uint32_t critical;
+} extension_parts;
+
+static x509_status write_extension(void *with, uint8_t *out, size_t room, size_t *written)
+{
+    const extension_parts *it = with;
+    return x509_extension_encode(it->oid.bytes, it->oid.len, it->critical, it->value.bytes, it->value.len, out, room, written);
+}
+
+typedef struct {
+    octets serial_number, algorithm, issuer, subject, key, extensions;
+} certificate_parts;
+
+static x509_status write_certificate(void *with, uint8_t *out, size_t room, size_t *written)
+{
+    const certificate_parts *it = with;
+    return x509_build_certificate(it->serial_number.bytes, it->serial_number.len, it->algorithm.bytes, it->algorithm.len, it->issuer.bytes,
+                                  it->issuer.len, START, END, it->subject.bytes, it->subject.len, it->key.bytes, it->key.len, it->extensions.bytes,
+                                  it->extensions.len, out, room, written);
+}
+
+typedef struct {
+    octets subject, key, extensions;
+} request_parts;
+
+static x509_status write_request(void *with, uint8_t *out, size_t room, size_t *written)
+{
+    const request_parts *it = with;
+    return x509_build_request(it->subject.bytes, it->subject.len, it->key.bytes, it->key.len, NULL, 0, it->extensions.bytes, it->extensions.len, out, room,
+                              written);
+}
+
+typedef struct {
+    octets serial_number, extensions;
+} entry_parts;
+
+static x509_status write_entry(void *with, uint8_t *out, size_t room, size_t *written)
+{
+    const entry_parts *it = with;
+    return x509_crl_entry_encode(it->serial_number.bytes, it->serial_number.len, START, it->extensions.bytes, it->extensions.len, out, room, written);
+}
+
+typedef struct {
+    octets issuer, algorithm, number, entries;
+} crl_parts;
+
+static x509_status write_crl(void *with, uint8_t *out, size_t room, size_t *written)
+{
+    const crl_parts *it = with;
+    return x509_build_crl(it->issuer.bytes, it->issuer.len, it->algorithm.bytes, it->algorithm.len, it->number.bytes, it->number.len, START, 1, END,
+                          it->entries.bytes, it->entries.len, NULL, 0, out, room, written);
+}
+
+typedef struct {
+    octets part, algorithm, signature;
+} signed_parts;
+
+static x509_status write_signed(void *with, uint8_t *out, size_t room, size_t *written)
+{
+    const signed_parts *it = with;
+    return x509_assemble(it->part.bytes, it->part.len, it->algorithm.bytes, it->algorithm.len, it->signature.bytes, it->signature.len, out, room, written);
+}
+
+/* ---- keys */
+
+/* A key, its SubjectPublicKeyInfo and the algorithm that it signs by; `digest` is NULL for Ed25519. */
+typedef struct {
+    EVP_PKEY *key;
+    buffer public_key;
+    octets algorithm;
+    const char *digest;
+} signer;
+
+static void drop_signer(signer *it)
+{
+    EVP_PKEY_free(it->key);
+    drop(&it->public_key);
+    it->key = NULL;
+}
+
+/* Makes the signer of a key that may be NULL, and takes the key. */
+static int make_signer(EVP_PKEY *key, octets algorithm, const char *digest, signer *out)
+{
+    *out = (signer){key, {NULL, 0}, algorithm, digest};
+    unsigned char *der = NULL;
+    const int len = key == NULL ? -1 : i2d_PUBKEY(key, &der);
+    const int is_made = len > 0 && append(&out->public_key, (octets){der, (size_t)len});
+    OPENSSL_free(der);
+    return is_made;
+}
+
+/* The octets of a signature of the message. */
+static int sign(const signer *by, octets message, buffer *out)
+{
+    EVP_MD_CTX *context = EVP_MD_CTX_new();
+    size_t len = 0;
+    int is_good = context != NULL && EVP_DigestSignInit_ex(context, NULL, by->digest, NULL, NULL, by->key, NULL) == 1 &&
+                  EVP_DigestSign(context, NULL, &len, message.bytes, message.len) == 1;
+    if (is_good) {
+        out->bytes = malloc(len);
+        is_good = out->bytes != NULL && EVP_DigestSign(context, out->bytes, &len, message.bytes, message.len) == 1;
+        out->len = len;
+    }
+    EVP_MD_CTX_free(context);
+    if (!is_good)
+        drop(out);
+    return is_good;
+}
+
+/* Signs a part, which it drops, and puts the whole together. */
+static int finish(const char *what, const signer *by, buffer *part, buffer *out)
+{
+    buffer signature = {NULL, 0};
+    int is_made = 0;
+    if (sign(by, of(*part), &signature)) {
+        signed_parts parts = {of(*part), by->algorithm, of(signature)};
+        is_made = fill(what, write_signed, &parts, out);
+    }
+    drop(&signature);
+    drop(part);
+    return is_made;
+}
+
+/* ---- values of extensions, which libcrypto writes */
+
+/* Adds an extension with the value that libcrypto has written, if it has, and frees that. */
+static int add_written(buffer *to, octets oid, uint32_t critical, unsigned char *der, int len)
+{
+    buffer made = {NULL, 0};
+    int is_added = 0;
+    if (len > 0) {
+        extension_parts parts = {oid, {der, (size_t)len}, critical};
+        is_added = fill("an extension", write_extension, &parts, &made) && append(to, of(made));
+    }
+    drop(&made);
+    OPENSSL_free(der);
+    return is_added;
+}
+
+/* Adds an extension whose value is said in the words of openssl's configuration. */
+static int add(buffer *to, int nid, octets oid, uint32_t critical, const char *words)
+{
+    X509V3_CTX context;
+    X509V3_set_ctx_nodb(&context);
+    X509V3_set_ctx(&context, NULL, NULL, NULL, NULL, 0);
+    X509_EXTENSION *told = X509V3_EXT_nconf_nid(NULL, &context, nid, words);
+    const ASN1_OCTET_STRING *value = told == NULL ? NULL : X509_EXTENSION_get_data(told);
+    unsigned char *der = value == NULL ? NULL : OPENSSL_memdup(ASN1_STRING_get0_data(value), (size_t)ASN1_STRING_length(value));
+    const int len = der == NULL ? -1 : ASN1_STRING_length(value);
+    X509_EXTENSION_free(told);
+    return add_written(to, oid, critical, der, len);
+}
+
+/* The SHA-1 digest of the bits of a public key (RFC 5280 4.2.1.2), a new OCTET STRING. */
+static ASN1_OCTET_STRING *identifier(octets key)
+{
+    x509_key view;
+    if (x509_key_view(key.bytes, key.len, &view) != X509_OK)
+        return NULL;
+    unsigned char digest[EVP_MAX_MD_SIZE];
+    size_t len = 0;
+    const octets bits = part_of(key, view.bits);
+    ASN1_OCTET_STRING *made = ASN1_OCTET_STRING_new();
+    if (made != NULL && EVP_Q_digest(NULL, "SHA1", NULL, bits.bytes, bits.len, digest, &len) == 1 && ASN1_OCTET_STRING_set(made, digest, (int)len) == 1)
+        return made;
+    ASN1_OCTET_STRING_free(made);
+    return NULL;
+}
+
+static int add_subject_key(buffer *to, octets key)
+{
+    ASN1_OCTET_STRING *told = identifier(key);
+    unsigned char *der = NULL;
+    const int len = told == NULL ? -1 : i2d_ASN1_OCTET_STRING(told, &der);
+    ASN1_OCTET_STRING_free(told);
+    return add_written(to, OID_SUBJECT_KEY_IDENTIFIER, 0, der, len);
+}
+
+static int add_authority_key(buffer *to, octets key)
+{
+    AUTHORITY_KEYID *told = AUTHORITY_KEYID_new();
+    unsigned char *der = NULL;
+    int len = -1;
+    if (told != NULL && (told->keyid = identifier(key)) != NULL)
+        len = i2d_AUTHORITY_KEYID(told, &der);
+    AUTHORITY_KEYID_free(told);
+    return add_written(to, OID_AUTHORITY_KEY_IDENTIFIER, 0, der, len);
+}
+
+/* Why a certificate is revoked (RFC 5280 5.3.1). */
+static int add_reason(buffer *to, long reason)
+{
+    ASN1_ENUMERATED *told = ASN1_ENUMERATED_new();
+    unsigned char *der = NULL;
+    int len = -1;
+    if (told != NULL && ASN1_ENUMERATED_set(told, reason) == 1)
+        len = i2d_ASN1_ENUMERATED(told, &der);
+    ASN1_ENUMERATED_free(told);
+    return add_written(to, OID_CRL_REASON, 0, der, len);
+}
+
+/* ---- what the authority makes; each takes `extensions`, which it drops */
+
+/* A name and a key, of which the one is certified by the other or by one above. */
+typedef struct {
+    buffer name;
+    signer by;
+} party;
+
+/* The certificate for a subject and its key, with a serial number of one octet below 128 (X.690 8.3). */
+static int certify(const party *issuer, uint8_t serial, octets subject, octets key, buffer *extensions, buffer *out)
+{
+    const uint8_t number[] = {0x02, 0x01, serial};
+    certificate_parts parts = {{number, sizeof number}, issuer->by.algorithm, of(issuer->name), subject, key, {NULL, 0}};
+    buffer part = {NULL, 0};
+    int is_made = add_authority_key(extensions, of(issuer->by.public_key)) && add_subject_key(extensions, key);
+    parts.extensions = of(*extensions);
+    is_made = is_made && fill("a certificate", write_certificate, &parts, &part) && finish("a certificate", &issuer->by, &part, out);
+    drop(extensions);
+    return is_made;
+}
+
+static int certify_authority(const party *issuer, uint8_t serial, const party *subject, const char *constraints, buffer *out)
+{
+    buffer extensions = {NULL, 0};
+    if (add(&extensions, NID_basic_constraints, OID_BASIC_CONSTRAINTS, 1, constraints) &&
+        add(&extensions, NID_key_usage, OID_KEY_USAGE, 1, "keyCertSign,cRLSign"))
+        return certify(issuer, serial, of(subject->name), of(subject->by.public_key), &extensions, out);
+    drop(&extensions);
+    return 0;
+}
+
+static int request(const party *subject, const char *names, buffer *out)
+{
+    buffer extensions = {NULL, 0}, part = {NULL, 0};
+    int is_made = add(&extensions, NID_subject_alt_name, OID_SUBJECT_ALT_NAME, 0, names);
+    request_parts parts = {of(subject->name), of(subject->by.public_key), of(extensions)};
+    is_made = is_made && fill("a CSR", write_request, &parts, &part) && finish("a CSR", &subject->by, &part, out);
+    drop(&extensions);
+    return is_made;
+}
+
+/* Adds the extensions that a CSR asks for: those in the one value of its extensionRequest (RFC 2985 5.4.2), which builders always write. */
+static int add_asked(buffer *to, octets csr)
+{
+    static const octets asks = OCTETS("\x2a\x86\x48\x86\xf7\x0d\x01\x09\x0e");
+    x509_request_attribute found;
+    x509_element value;
+    x509_extension_entry entry;
+    size_t at = 0;
+    if (x509_request_attribute_find(csr.bytes, csr.len, asks.bytes, asks.len, &found) != X509_OK)
+        return 0;
+    const octets values = part_of(csr, found.values);
+    if (x509_attribute_value_next(values.bytes, values.len, &at, &value) != X509_OK)
+        return 0;
+    const octets list = part_of(values, value.element);
+    x509_status status;
+    for (at = 0; (status = x509_extensions_next(list.bytes, list.len, &at, &entry)) == X509_OK;) {
+        buffer made = {NULL, 0};
+        extension_parts parts = {part_of(list, entry.oid), part_of(list, entry.value), entry.critical};
+        const int is_added = fill("an extension", write_extension, &parts, &made) && append(to, of(made));
+        drop(&made);
+        if (!is_added)
+            return 0;
+    }
+    return status == X509_ABSENT;
+}
+
+/* Whether libcrypto takes the CSR's signature for its own key. */
+static int is_signed_by_itself(octets csr)
+{
+    const unsigned char *at = csr.bytes;
+    X509_REQ *read = csr.len > INT32_MAX ? NULL : d2i_X509_REQ(NULL, &at, (long)csr.len);
+    EVP_PKEY *key = read == NULL ? NULL : X509_REQ_get0_pubkey(read);
+    const int is_signed = key != NULL && X509_REQ_verify(read, key) == 1;
+    X509_REQ_free(read);
+    return is_signed;
+}
+
+/* The certificate of a server, for the subject, the key and the names of a CSR. */
+static int certify_server(const party *issuer, uint8_t serial, octets csr, buffer *out)
+{
+    x509_request view;
+    buffer extensions = {NULL, 0};
+    if (x509_request_view(csr.bytes, csr.len, &view) == X509_OK && is_signed_by_itself(csr) &&
+        add(&extensions, NID_basic_constraints, OID_BASIC_CONSTRAINTS, 1, "CA:FALSE") &&
+        add(&extensions, NID_key_usage, OID_KEY_USAGE, 1, "digitalSignature") &&
+        add(&extensions, NID_ext_key_usage, OID_EXTENDED_KEY_USAGE, 0, "serverAuth") && add_asked(&extensions, csr))
+        return certify(issuer, serial, part_of(csr, view.subject), part_of(csr, view.subject_public_key_info), &extensions, out);
+    drop(&extensions);
+    return 0;
+}
+
+/* A CRL of an issuer with this certificate; of `revoked`, a certificate, it has an entry, where there is one. */
+static int list(octets issuer, const signer *by, uint8_t number, octets revoked, buffer *out)
+{
+    buffer entry = {NULL, 0}, extensions = {NULL, 0}, part = {NULL, 0};
+    int is_made = 1;
+    if (revoked.len > 0) {
+        x509_certificate view;
+        is_made = x509_certificate_view(revoked.bytes, revoked.len, &view) == X509_OK && add_reason(&extensions, CRL_REASON_KEY_COMPROMISE);
+        if (is_made) {
+            entry_parts parts = {part_of(revoked, view.serial_number), of(extensions)};
+            is_made = fill("an entry", write_entry, &parts, &entry);
+        }
+    }
+    crl_parts parts = {issuer, by->algorithm, {&number, 1}, of(entry)};
+    is_made = is_made && fill("a CRL", write_crl, &parts, &part) && finish("a CRL", by, &part, out);
+    drop(&entry);
+    drop(&extensions);
+    return is_made;
+}
+
+/* ---- the chain */
+
+enum { ROOT, INTERMEDIATE, SERVER, PARTIES };
+enum { ROOT_DER, INTERMEDIATE_DER, REQUEST_DER, SERVER_DER, BEFORE_DER, AFTER_DER, FILES };
+
+static const char *const FILE_NAMES[FILES] = {"root.der", "intermediate.der", "request.der", "server.der", "before.der", "after.der"};
+
+static int make_parties(party *parties)
+{
+    static char names[PARTIES][64] = {"CN=Root,O=Test,C=US", "CN=Intermediate,O=Test,C=US", "CN=www.example.org"};
+    for (int at = 0; at < PARTIES; at++)
+        if (!fill("a name", write_name, names[at], &parties[at].name))
+            return 0;
+    return make_signer(EVP_RSA_gen(2048), RSA_SHA256, "SHA256", &parties[ROOT].by) &&
+           make_signer(EVP_EC_gen("P-256"), ECDSA_SHA256, "SHA256", &parties[INTERMEDIATE].by) &&
+           make_signer(EVP_PKEY_Q_keygen(NULL, NULL, "ED25519"), ED25519, NULL, &parties[SERVER].by);
+}
+
+static int make(const party *parties, buffer *made)
+{
+    const party *root = &parties[ROOT], *middle = &parties[INTERMEDIATE];
+    return certify_authority(root, 1, root, "CA:TRUE", &made[ROOT_DER]) &&
+           certify_authority(root, 2, middle, "CA:TRUE,pathlen:0", &made[INTERMEDIATE_DER]) &&
+           request(&parties[SERVER], "DNS:www.example.org", &made[REQUEST_DER]) &&
+           certify_server(middle, 3, of(made[REQUEST_DER]), &made[SERVER_DER]) &&
+           list(of(made[INTERMEDIATE_DER]), &middle->by, 1, (octets){NULL, 0}, &made[BEFORE_DER]) &&
+           list(of(made[INTERMEDIATE_DER]), &middle->by, 2, of(made[SERVER_DER]), &made[AFTER_DER]);
+}
+
+static int put(const char *folder, const char *name, buffer it)
+{
+    char path[4096];
+    const int len = snprintf(path, sizeof path, "%s/%s", folder, name);
+    FILE *file = len > 0 && (size_t)len < sizeof path ? fopen(path, "wb") : NULL;
+    if (file == NULL)
+        return 0;
+    const int is_put = fwrite(it.bytes, 1, it.len, file) == it.len;
+    return fclose(file) == 0 && is_put;
+}
+
+int main(int argc, char **argv)
+{
+    if (argc != 2) {
+        fprintf(stderr, "usage: authority FOLDER\n");
+        return 1;
+    }
+    party parties[PARTIES] = {0};
+    buffer made[FILES] = {0};
+    int is_done = make_parties(parties) && make(parties, made);
+    for (int at = 0; at < FILES && is_done; at++)
+        is_done = put(argv[1], FILE_NAMES[at], made[at]);
+    if (!is_done)
+        fprintf(stderr, "authority: not all was made\n");
+    for (int at = 0; at < FILES; at++)
+        drop(&made[at]);
+    for (int at = 0; at < PARTIES; at++) {
+        drop_signer(&parties[at].by);
+        drop(&parties[at].name);
+    }
+    return is_done ? 0 : 1;
+}

@@ -1,0 +1,92 @@
+#!/usr/bin/env python3
+"""Writes a table of the calls of include/x509.h as C, for spoil_calls.c: a wrapper of each call, what it takes, fills in and may answer.
+
+It fails where a prototype is of a form that it doesn't know, answers no statuses, or names one that the header hasn't; so each prototype has its row.
+"""
+import argparse
+import pathlib
+import re
+import sys
+
+sys.path.insert(0, str(pathlib.Path(__file__).resolve().parents[1]))
+from common.header import HEADER, calls, statuses, structs, without_comments
+
+NUMBERS = ("uint32_t", "uint64_t", "size_t", "int32_t", "x509_status")
+# what answers no status has a test of its own in spoil_calls.c
+OTHERS = ("x509_version",)
+
+
+def fields(kind, known, at="0"):
+    """Each number and each span of a struct: where it stands, its size, and whether it is a span."""
+    if kind == "x509_span" or kind in NUMBERS:
+        return [(at, f"sizeof({kind})", int(kind == "x509_span"))]
+    return [row for it in known[kind] for row in fields(it.kind, known, f"{at} + offsetof({kind}, {it.name})")]
+
+
+def row(call, number, known, numbers):
+    """The wrapper of a call and its row."""
+    words, inputs, scalars, flags, output = [], [], [], set(), None
+    rest = list(call.parameters)
+    while rest:
+        it = rest.pop(0)
+        behind = rest[0] if rest else None
+        if it.is_const and it.kind == "uint8_t" and behind is not None and behind.kind == "size_t" and not behind.is_pointer:
+            rest.pop(0)
+            words += [f"a->in[{len(inputs)}].bytes", f"a->in[{len(inputs)}].len"]
+            inputs.append(it.name)
+        elif it.is_const and it.kind == "size_t" and behind is not None and behind.name == "count":
+            rest.pop(0)
+            words += ["a->lens", "a->count"]
+            flags.add("HAS_LENS")
+        elif it.is_pointer and not it.is_const and it.kind == "uint8_t" and behind is not None and behind.name == "room":
+            words += ["a->out", "a->room", "a->written"]
+            if [(it.name, it.kind) for it in (rest.pop(0), rest.pop(0))] != [("room", "size_t"), ("written", "size_t")]:
+                raise ValueError(f"{call.name}: a buffer without a room")
+            flags.add("WRITES")
+        elif it.is_pointer and it.name == "at" and it.kind == "size_t":
+            words.append("a->at")
+            flags.add("WALKS")
+        elif it.is_pointer and not it.is_const and output is None:
+            words.append("a->found")
+            output = it.kind
+        elif not it.is_pointer and it.kind in NUMBERS:
+            words.append(f"({it.kind})a->number[{len(scalars)}]")
+            scalars.append(it.name)
+        else:
+            raise ValueError(f"{call.name}: what is the parameter {it}?")
+    if not call.statuses or not set(call.statuses) <= set(numbers):
+        raise ValueError(f"{call.name}: it answers {call.statuses}")
+    told = fields(output, known) if output else []
+    return "\n".join(
+        (
+            f"static x509_status call_{number}(const arguments *a) {{ return {call.name}({', '.join(words)}); }}",
+            f"static const field fields_{number}[] = {{{', '.join(f'{{{at}, {size}, {is_span}}}' for at, size, is_span in told) or '{0, 0, 0}'}}};",
+            f"#define ROW_{number} {{\"{call.name}\", call_{number}, {{{', '.join(map(quoted, inputs)) or 'NULL'}}}, {len(inputs)}, "
+            f"{{{', '.join(map(quoted, scalars)) or 'NULL'}}}, {len(scalars)}, {' | '.join(sorted(flags)) or '0'}, "
+            f"{f'sizeof({output})' if output else '0'}, fields_{number}, {len(told)}, {' | '.join(f'ANSWERS({it})' for it in call.statuses)}}}",
+        )
+    )
+
+
+def quoted(text):
+    return f'"{text}"'
+
+
+def main():
+    argparse.ArgumentParser(description=__doc__).parse_args()
+    text = HEADER.read_text(encoding="utf-8")
+    known, numbers, found = structs(text), statuses(text), calls(text)
+    named = re.findall(r"\b(x509_\w+)\s*\(", without_comments(text))
+    if sorted(named) != sorted(it.name for it in found):
+        raise ValueError(f"prototypes that weren't read: {set(named) ^ {it.name for it in found}}")
+    asked = [it for it in found if it.name not in OTHERS]
+    print("/* Made by calls_table.py of x509.h. */")
+    for number, call in enumerate(asked):
+        print(row(call, number, known, numbers))
+    print(f"static const call CALLS[] = {{{', '.join(f'ROW_{number}' for number in range(len(asked)))}}};")
+    print(f"enum {{ CALL_COUNT = {len(asked)} }};")
+    return 0
+
+
+if __name__ == "__main__":
+    sys.exit(main())
