@@ -1,3 +1,4 @@
 pub mod Checks
+pub mod LentLists
 pub mod Rising
 pub mod Whole

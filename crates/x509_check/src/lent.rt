@@ -1,0 +1,6 @@
+//! Values lent from their bytes.
+
+pub(crate) mod extension;
+pub(crate) mod extensions;
+mod fields;
+mod look_up;
