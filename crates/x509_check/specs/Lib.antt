@@ -1,3 +1,4 @@
 pub mod Checking
 pub mod Lending
 pub mod ExtensionRefs
+pub mod CrlRefs

@@ -1,6 +1,8 @@
 //! Values lent from their bytes.
 
+pub(crate) mod entry;
 pub(crate) mod extension;
 pub(crate) mod extensions;
 mod fields;
 mod look_up;
+pub(crate) mod revoked;

@@ -38,8 +38,10 @@ pub use field::{
     check_defaulted, check_defaulted_explicit, check_defaulted_implicit, check_explicit,
     check_field, check_implicit, check_optional, check_optional_explicit, check_optional_implicit,
 };
+pub use lent::entry::RevokedCertRef;
 pub use lent::extension::ExtensionRef;
 pub use lent::extensions::ExtensionRefs;
+pub use lent::revoked::find_revoked;
 pub use list::check_members;
 pub use newtypes::NewtypeCheck;
 pub use set::{CheckMember, check_rising_members};
