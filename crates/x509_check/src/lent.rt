@@ -1,5 +1,6 @@
 //! Values lent from their bytes.
 
+pub(crate) mod certificate;
 pub(crate) mod entry;
 pub(crate) mod extension;
 pub(crate) mod extensions;
