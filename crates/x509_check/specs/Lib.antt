@@ -2,3 +2,4 @@ pub mod Checking
 pub mod Lending
 pub mod ExtensionRefs
 pub mod CrlRefs
+pub mod CrlWalk

@@ -1,7 +1,7 @@
 use Rattle.std.proofs.lemmas.Result.{err_from_is_err_and}
 use Rattle.x509_check.proofs.Checks.{other_tag_refused, piece_refused}
 use Rattle.x509_check.proofs.LentEntries.{so_field}
-use Rattle.x509_check.proofs.lent.revoked.find_in_part.Goals as goal
+use Rattle.x509_check.proofs.lent.revoked.walk_part.Goals as goal
 
 pub returns-in_err-piece-clause-exact : goal.returns-in_err-piece-clause-exact
 returns-in_err-piece-clause-exact g c =
@@ -12,4 +12,4 @@ pub returns-then-piece-octet-clause-exact : goal.returns-then-piece-octet-clause
 returns-then-piece-octet-clause-exact g c = rw c.into.ensures (other_tag_refused _ _ _ _ c.in_ok-piece.ensures.exact (rw c.octet.ensures.octet at c.if-piece-octet.true))
 
 pub returns-clause-exact : goal.returns-clause-exact
-returns-clause-exact g c = so_field _ c.find_in_content.result _ _ _ _ c.in_ok-piece.ensures.exact (rw c.octet.ensures.octet at c.if-piece-octet.false) c.find_in_content.ensures
+returns-clause-exact g c = so_field _ c.walk_content.result _ _ _ _ c.in_ok-piece.ensures.exact (rw c.octet.ensures.octet at c.if-piece-octet.false) c.walk_content.ensures

@@ -1,7 +1,7 @@
 use Rattle.std.proofs.Common.{refl}
 use Rattle.x509_cert.specs.CertificateList.{tbs_cert_list_fields}
 use Rattle.x509_der.specs.Frames.{fields_reading}
-use Rattle.x509_check.proofs.lent.revoked.find_in_content.Goals as goal
+use Rattle.x509_check.proofs.lent.revoked.walk_content.Goals as goal
 
 pub returns-in_ok-end-in-Ok : goal.returns-in_ok-end-in-Ok
 unfolding tbs_cert_list_fields fields_reading

@@ -1,7 +1,7 @@
 use Rattle.std.proofs.Common.{refl}
 use Rattle.x509_cert.specs.CertificateList.{certificate_list_fields}
 use Rattle.x509_der.specs.Frames.{fields_reading}
-use Rattle.x509_check.proofs.lent.revoked.find_in_list.Goals as goal
+use Rattle.x509_check.proofs.lent.revoked.walk_list.Goals as goal
 
 pub returns-in_ok-end-in-Ok : goal.returns-in_ok-end-in-Ok
 unfolding certificate_list_fields fields_reading
