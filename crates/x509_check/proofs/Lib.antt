@@ -1,3 +1,6 @@
 pub mod Checks
+pub mod LentLists
+pub mod LentCertificates
+pub mod LentEntries
 pub mod Rising
 pub mod Whole

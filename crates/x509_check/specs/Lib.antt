@@ -1,1 +1,5 @@
 pub mod Checking
+pub mod Lending
+pub mod ExtensionRefs
+pub mod CrlRefs
+pub mod CrlWalk

@@ -138,7 +138,7 @@ pub fn check_optional_implicit<T: Check + FixedTag>(n: u8, rest: &mut &[u8]) -> 
 
 /// The value of an element, which is plain data.
 #[inline(always)]
-fn plain_element<T: PlainContent>(tag: u8, content: &[u8]) -> Result<T, Error>
+pub(crate) fn plain_element<T: PlainContent>(tag: u8, content: &[u8]) -> Result<T, Error>
     ensures { Answers result (⟦<T as Grammar>⟧.form.reading tag content.now) }
 {
     expect_tag(tag, T::IDENTIFIER)?;

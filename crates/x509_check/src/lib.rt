@@ -20,6 +20,7 @@ mod extension;
 mod field;
 mod general_name;
 mod integer;
+mod lent;
 mod list;
 mod name;
 mod newtypes;
@@ -37,6 +38,12 @@ pub use field::{
     check_defaulted, check_defaulted_explicit, check_defaulted_implicit, check_explicit,
     check_field, check_implicit, check_optional, check_optional_explicit, check_optional_implicit,
 };
+pub use lent::certificate::CertificateRef;
+pub use lent::entries::CrlEntries;
+pub use lent::entry::RevokedCertRef;
+pub use lent::extension::ExtensionRef;
+pub use lent::extensions::ExtensionRefs;
+pub use lent::revoked::find_revoked;
 pub use list::check_members;
 pub use newtypes::NewtypeCheck;
 pub use set::{CheckMember, check_rising_members};

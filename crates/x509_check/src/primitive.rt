@@ -102,9 +102,16 @@ impl CheckContent for OctetString {
 }
 
 #[tactic(auto, unfolding(x509_der::specs::ObjectIdentifierForm::object_identifier_reading))]
+impl PlainContent for ObjectIdentifier {
+    #[inline(always)]
+    fn plain_value(octets: &[u8]) -> Result<ObjectIdentifier, Error> {
+        ObjectIdentifier::from_bytes(octets)
+    }
+}
+
 impl CheckContent for ObjectIdentifier {
     fn check_content(octets: &[u8]) -> Result<(), Error> {
-        ObjectIdentifier::from_bytes(octets)?;
+        ObjectIdentifier::plain_value(octets)?;
         Ok(())
     }
 }

@@ -1,21 +1,35 @@
 //! Times and validity.
 
 use crate::check::Check;
-use crate::content::CheckContent;
+use crate::content::{CheckContent, PlainContent};
 use crate::field::check_field;
 use x509_base::{GeneralizedTime, Profile, Time, UtcTime, Validity};
 use x509_der::{Error, Grammar, end};
 
+impl PlainContent for UtcTime {
+    #[inline(always)]
+    fn plain_value(octets: &[u8]) -> Result<UtcTime, Error> {
+        UtcTime::from_content(octets)
+    }
+}
+
 impl CheckContent for UtcTime {
     fn check_content(octets: &[u8]) -> Result<(), Error> {
-        UtcTime::from_content(octets)?;
+        UtcTime::plain_value(octets)?;
         Ok(())
+    }
+}
+
+impl PlainContent for GeneralizedTime {
+    #[inline(always)]
+    fn plain_value(octets: &[u8]) -> Result<GeneralizedTime, Error> {
+        GeneralizedTime::from_content(octets)
     }
 }
 
 impl CheckContent for GeneralizedTime {
     fn check_content(octets: &[u8]) -> Result<(), Error> {
-        GeneralizedTime::from_content(octets)?;
+        GeneralizedTime::plain_value(octets)?;
         Ok(())
     }
 }

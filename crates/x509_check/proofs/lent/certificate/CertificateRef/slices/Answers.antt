@@ -1,0 +1,5 @@
+use Rattle.x509_check.proofs.LentCertificates.{elements_are}
+use Rattle.x509_check.proofs.lent.certificate.CertificateRef.slices.Goals as goal
+
+pub returns : goal.returns
+returns g c = elements_are g.P.Profile.serial_check c.args.self.now.bytes.now c.args.self.now.slices c.args.self.now.elements

@@ -1,0 +1,63 @@
+//! An extension, lent from its bytes.
+
+ghost use Rattle.x509_check.specs.ExtensionRefs.{lent_extension};
+ghost use Rattle.x509_check.specs.Lending.{LendsBefore, LendsBy};
+ghost use Rattle.x509_der.specs.Frames.{required};
+ghost use Rattle.x509_ext.specs.Extension.{extension, extension_contents};
+
+use crate::element::next_element;
+use crate::lent::fields::{take_defaulted, take_octets, take_plain};
+use x509_der::{Error, ErrorKind, ObjectIdentifier, Tag, end};
+
+/// An extension (RFC 5280 4.1, 4.2), lent from its encoding. It is what [`Extension`](x509_ext::Extension) is, without a copy
+/// of the value's encoding.
+#[derive(Clone, Copy, Debug, PartialEq, Eq)]
+pub struct ExtensionRef<'a> {
+    /// The OID of the extension.
+    pub extn_id: ObjectIdentifier,
+
+    /// Whether an implementation that doesn't know the extension, or can't process its value, has to refuse the
+    /// certificate or CRL (RFC 5280 4.2).
+    pub critical: bool,
+
+    /// The encoding of the extension's value. It isn't decoded here.
+    pub extn_value: &'a [u8],
+}
+
+/// The extension of which these are the content octets.
+#[tactic(auto, unfolding(x509_ext::specs::Extension::extension_fields, x509_der::specs::Frames::fields_reading))]
+#[inline(always)]
+fn read_content(octets: &[u8]) -> Result<ExtensionRef<'_>, Error>
+    ensures { LendsBy lent_extension result (extension_contents.reading octets.now) }
+{
+    let mut rest = octets;
+    let extn_id = take_plain::<ObjectIdentifier>(&mut rest)?;
+    let critical = take_defaulted::<bool>(&mut rest)?;
+    let extn_value = take_octets(&mut rest)?;
+    end(rest)?;
+    Ok(ExtensionRef {
+        extn_id,
+        critical,
+        extn_value,
+    })
+}
+
+/// The extension at the front, and what follows it.
+///
+/// # Errors
+///
+/// `Malformed` exactly where no extension stands there.
+#[tactic(auto, unfolding(x509_der::specs::Frames::field_at))]
+#[inline(always)]
+pub(crate) fn split_extension(bytes: &[u8]) -> Result<(ExtensionRef<'_>, &[u8]), Error>
+    ensures { LendsBy (λ x. (lent_extension x.0, x.1.now)) result ((required extension).reading bytes.now) }
+{
+    let piece = next_element(bytes, Tag::Sequence)?;
+    if piece.tag != Tag::Sequence.octet() {
+        return Err(ErrorKind::Malformed.into());
+    }
+    match read_content(piece.content) {
+        Ok(extension) => Ok((extension, piece.rest)),
+        Err(e) => Err(e),
+    }
+}

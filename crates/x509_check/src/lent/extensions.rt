@@ -1,0 +1,148 @@
+//! Lists of extensions, lent from their bytes.
+
+ghost use Rattle.std.specs.Prelude.{◌≡◌, List, Ok, IsOk};
+ghost use Rattle.x509_der.specs.Form.{Spells};
+ghost use Rattle.x509_der.specs.List.{list_reading};
+ghost use Rattle.x509_ext.specs.Extension.{extension, extensions};
+ghost use Rattle.x509_ext.specs.declared.extension.Extension.{Extension};
+
+use crate::check::Check;
+use crate::element::next_element;
+use crate::lent::extension::{ExtensionRef, split_extension};
+use crate::lent::look_up::next_with;
+use std::alloc::Global;
+use x509_der::{AssociatedOid, Decode, Error, ErrorKind, ObjectIdentifier, Tag};
+use x509_ext::Extensions;
+
+/// An iterator over the extensions of a list (RFC 5280 4.1.2.9), which lends each from the bytes of the list. The bytes
+/// were checked, so each is there; it is decoded when it is asked for, without memory.
+#[derive(Clone, Copy, Debug)]
+pub struct ExtensionRefs<'a> {
+    rest: &'a [u8],
+    ghost are_extensions: { IsOk (list_reading extension.reading rest.now) },
+}
+
+impl<'a> ExtensionRefs<'a> {
+    ghost use Rattle.std.specs.Prelude.{◌≡◌, ◌<◌, ◌≤◌, List, [], length, IfOk, IfErr, IsErrAnd, IsOk, IsOkAnd};
+    ghost use Rattle.x509_check.specs.ExtensionRefs.{FindsLent, extensions_left};
+    ghost use Rattle.x509_check.specs.Lending.{listed};
+    ghost use Rattle.x509_der.specs.Element.{limit};
+    ghost use Rattle.x509_der.specs.Form.{Spells};
+    ghost use Rattle.x509_der.specs.declared.error.ErrorKind.TheVariants as errors;
+    ghost use Rattle.x509_der.specs.List.{list_reading};
+    ghost use Rattle.x509_ext.specs.Extension.{extension, extensions};
+    ghost use Rattle.x509_ext.specs.LookUp.{Finds, with_oid};
+    ghost use Rattle.x509_ext.specs.declared.extension.Extension.{Extension};
+
+    /// No extensions.
+    pub fn empty() -> ExtensionRefs<'a>
+        ensures { extensions_left result ≡ [] }
+    {
+        ExtensionRefs { rest: &[] }
+    }
+
+    /// The extensions of the list that the bytes are the encoding of. It takes no memory.
+    ///
+    /// # Errors
+    ///
+    /// `Overlength` exactly where the bytes are more than [`Length::MAX`](x509_der::Length::MAX). Within that length
+    /// `Malformed` exactly where they are the encoding of no list of extensions.
+    pub fn from_der(bytes: &'a [u8]) -> Result<ExtensionRefs<'a>, Error>
+        ensures found { IfOk result (λ refs. Spells extensions (extensions_left refs) bytes.now) }
+        ensures overlength { limit < length bytes.now → IsErrAnd result (λ e. e.kind ≡ errors.Overlength) }
+        ensures refused { length bytes.now ≤ limit → IfErr result (λ e. e.kind ≡ errors.Malformed) }
+        ensures one { (list : List Extension) → Spells extensions list bytes.now → IsOkAnd result (λ refs. extensions_left refs ≡ list) }
+    {
+        Extensions::check(bytes)?;
+        Ok(ExtensionRefs::of_checked(bytes))
+    }
+
+    /// The extensions of a list, of which the bytes are known to be the encoding. They aren't checked again.
+    pub fn of_checked(bytes: &'a [u8]) -> ExtensionRefs<'a>
+        requires { (list : List Extension) × Spells extensions list bytes.now }
+        ensures { (list : List Extension) → Spells extensions list bytes.now → extensions_left result ≡ list }
+    {
+        ExtensionRefs {
+            rest: members_of(bytes),
+        }
+    }
+
+    /// The extensions of which the bytes are the elements, one after the other, as was checked.
+    pub(crate) fn of_members(bytes: &'a [u8]) -> ExtensionRefs<'a>
+        requires { IsOk (list_reading extension.reading bytes.now) }
+        ensures { extensions_left result ≡ listed (list_reading extension.reading bytes.now) }
+    {
+        ExtensionRefs { rest: bytes }
+    }
+
+    /// The extension with the OID; `None` exactly where none has it. An extension may appear once at most (RFC 5280 4.2).
+    ///
+    /// # Errors
+    ///
+    /// `Failed` exactly where two or more have the OID (a repeated extension).
+    pub fn find_extension(&self, oid: ObjectIdentifier) -> Result<Option<ExtensionRef<'a>>, Error>
+        ensures { FindsLent (with_oid oid (extensions_left self.now)) result }
+    {
+        let mut rest = *self;
+        let Some(extension) = next_with(&mut rest, oid) else {
+            return Ok(None);
+        };
+        match next_with(&mut rest, oid) {
+            Some(_) => Err(ErrorKind::Failed.into()),
+            None => Ok(Some(extension)),
+        }
+    }
+
+    /// The extension of type `T`, found by the OID of the type: whether it is critical, and its value; `None` exactly
+    /// where no extension has the OID.
+    ///
+    /// # Errors
+    ///
+    /// `Failed` where two or more extensions have the OID (a repeated extension), whatever they hold. Where one has it,
+    /// the errors of [`Decode::from_der`] on the octets that it holds, `Memory` only where decoding the type may take
+    /// memory.
+    pub fn get_extension<T: AssociatedOid + Decode>(
+        &self,
+        alloc: Global,
+    ) -> Result<Option<(bool, T)>, Error>
+        ensures { Finds T.form T.refuses T.wants_memory (with_oid T.OID (extensions_left self.now)) result }
+    {
+        match self.find_extension(T::OID) {
+            Ok(None) => Ok(None),
+            Ok(Some(extension)) => {
+                let value = T::from_der(alloc, extension.extn_value)?;
+                Ok(Some((extension.critical, value)))
+            }
+            Err(e) => Err(e),
+        }
+    }
+}
+
+/// The content of the list that the bytes are the encoding of.
+fn members_of(bytes: &[u8]) -> &[u8]
+    ensures { (list : List Extension) → Spells extensions list bytes.now → list_reading extension.reading result.now ≡ Ok list }
+{
+    match next_element(bytes, Tag::Sequence) {
+        Ok(piece) => piece.content,
+        Err(_) => &[],
+    }
+}
+
+impl<'a> Iterator for ExtensionRefs<'a> {
+    ghost use Rattle.std.specs.Iterator.{YieldsFirstBy, item_count};
+    ghost use Rattle.x509_check.specs.ExtensionRefs.{extensions_left, lent_extension};
+
+    type Item = ExtensionRef<'a>;
+
+    ghost next_gives = { YieldsFirstBy lent_extension extensions_left };
+
+    ghost remaining = { item_count extensions_left };
+
+    fn next(&mut self) -> Option<ExtensionRef<'a>> {
+        let Ok((extension, others)) = split_extension(self.rest) else {
+            return None;
+        };
+        self.rest = others;
+        Some(extension)
+    }
+}

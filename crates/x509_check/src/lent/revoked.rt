@@ -1,0 +1,208 @@
+//! Looking up a serial number in an encoded CRL.
+
+ghost use Rattle.std.specs.Prelude.{◌≡◌, ◌<◌, ◌≤◌, ◌⊎◌, [], length, None, IfOk, IfErr, IsErrAnd, IsOk};
+ghost use Rattle.x509_cert.specs.CertificateList.{certificate_list, certificate_list_contents, tbs_cert_list, tbs_cert_list_contents};
+ghost use Rattle.x509_cert.specs.RevokedCert.{revoked_cert};
+ghost use Rattle.x509_cert.specs.declared.crl.certificate_list.CertificateList as lists;
+ghost use Rattle.x509_check.specs.CrlRefs.{FindsEntry, FindsInList};
+ghost use Rattle.x509_check.specs.CrlWalk.{WalksAmong, WalksEntries, WalksList, WalksPart};
+ghost use Rattle.x509_check.specs.Lending.{LendsSo, LendsSoBefore};
+ghost use Rattle.x509_der.specs.Element.{limit};
+ghost use Rattle.x509_der.specs.Form.{Spells, universal, whole_reading};
+ghost use Rattle.x509_der.specs.Frames.{optional, required};
+ghost use Rattle.x509_der.specs.List.{list_of, list_reading};
+ghost use Rattle.x509_der.specs.declared.error.ErrorKind.TheVariants as errors;
+ghost use Rattle.x509_der.specs.declared.tag.Tag.TheVariants.{Sequence};
+
+use crate::element::next_element;
+use crate::field::{check_field, check_optional, check_optional_explicit};
+use crate::lent::entry::{RevokedCertRef, split_entry};
+use x509_base::{AlgorithmIdentifier, Profile, Time};
+use x509_cert::certificate::Version;
+use x509_cert::crl::CertificateList;
+use x509_der::{Error, ErrorKind, Grammar, Length, Tag, end};
+use x509_ext::Extensions;
+use x509_name::name::Name;
+use x509_prim::BitString;
+
+/// The entries of a CRL: their elements, one after the other, and the first that has a serial number.
+#[derive(Clone, Copy)]
+pub(crate) struct Walked<'a> {
+    /// The elements of the entries.
+    pub(crate) octets: &'a [u8],
+
+    /// The first entry with the serial number.
+    pub(crate) found: Option<RevokedCertRef<'a>>,
+}
+
+/// The first of the entries with the serial number. The bytes are the elements of the entries, one after the other.
+fn find_in_entries<'a, P: Profile>(
+    octets: &'a [u8],
+    serial_number: &[u8],
+) -> Result<Option<RevokedCertRef<'a>>, Error>
+    requires { length octets.now ≤ limit }
+    ensures { LendsSo (FindsEntry serial_number.now) result (list_reading (revoked_cert {P = P} P.serial_check).reading octets.now) }
+{
+    let mut rest = octets;
+    let mut found: Option<RevokedCertRef<'a>> = None;
+    while !rest.is_empty() {
+        match split_entry::<P>(rest) {
+            Ok((entry, others)) => {
+                if found.is_none() && entry.serial_number == serial_number {
+                    found = Some(entry);
+                }
+                rest = others;
+            }
+            Err(e) => return Err(e),
+        }
+    }
+    Ok(found)
+}
+
+/// The list of entries at the front.
+fn walk_sequence<'a, P: Profile>(
+    rest: &mut &'a [u8],
+    serial_number: &[u8],
+) -> Result<Walked<'a>, Error>
+    requires { length rest.old.now ≤ limit }
+    ensures exact { LendsSoBefore (WalksEntries P.serial_check serial_number.now) result rest.new.now ((required (universal Sequence (list_of (revoked_cert {P = P} P.serial_check)))).reading rest.old.now) }
+    ensures left { length rest.new.now ≤ length rest.old.now }
+{
+    let piece = next_element(*rest, Tag::Sequence)?;
+    if piece.tag != Tag::Sequence.octet() {
+        return Err(ErrorKind::Malformed.into());
+    }
+    *rest = piece.rest;
+    match find_in_entries::<P>(piece.content, serial_number) {
+        Ok(found) => Ok(Walked {
+            octets: piece.content,
+            found,
+        }),
+        Err(e) => Err(e),
+    }
+}
+
+/// No entries.
+fn walked_none<'a>() -> Walked<'a>
+    ensures octets { result.octets.now ≡ [] }
+    ensures found { result.found ≡ None }
+{
+    Walked {
+        octets: &[],
+        found: None,
+    }
+}
+
+/// The same of a list that may be left out.
+fn walk_field<'a, P: Profile>(
+    rest: &mut &'a [u8],
+    serial_number: &[u8],
+) -> Result<Walked<'a>, Error>
+    requires { length rest.old.now ≤ limit }
+    ensures exact { LendsSoBefore (WalksAmong P.serial_check serial_number.now) result rest.new.now ((optional (universal Sequence (list_of (revoked_cert {P = P} P.serial_check)))).reading rest.old.now) }
+    ensures left { length rest.new.now ≤ length rest.old.now }
+{
+    match *rest {
+        [octet, ..] if *octet == 0x30 => walk_sequence::<P>(rest, serial_number),
+        _ => Ok(walked_none()),
+    }
+}
+
+/// The same of the signed part of a CRL with these content octets (RFC 5280 5.1.2).
+#[tactic(auto, unfolding(x509_cert::specs::CertificateList::tbs_cert_list_fields, x509_der::specs::Frames::fields_reading))]
+fn walk_content<'a, P: Profile>(octets: &'a [u8], serial_number: &[u8]) -> Result<Walked<'a>, Error>
+    requires { length octets.now ≤ limit }
+    ensures { LendsSo (WalksPart P.serial_check serial_number.now) result ((tbs_cert_list_contents {P = P} P.serial_check).reading octets.now) }
+{
+    let mut rest = octets;
+    check_optional::<Version>(&mut rest)?;
+    check_field::<AlgorithmIdentifier>(&mut rest)?;
+    check_field::<Name>(&mut rest)?;
+    check_field::<Time>(&mut rest)?;
+    check_optional::<Time>(&mut rest)?;
+    match walk_field::<P>(&mut rest, serial_number) {
+        Ok(walked) => {
+            check_optional_explicit::<Extensions>(0, &mut rest)?;
+            end(rest)?;
+            Ok(walked)
+        }
+        Err(e) => Err(e),
+    }
+}
+
+/// The same of the signed part at the front.
+fn walk_part<'a, P: Profile>(rest: &mut &'a [u8], serial_number: &[u8]) -> Result<Walked<'a>, Error>
+    requires { length rest.old.now ≤ limit }
+    ensures exact { LendsSoBefore (WalksPart P.serial_check serial_number.now) result rest.new.now ((required (tbs_cert_list {P = P} P.serial_check)).reading rest.old.now) }
+    ensures left { length rest.new.now ≤ length rest.old.now }
+{
+    let piece = next_element(*rest, Tag::Sequence)?;
+    if piece.tag != Tag::Sequence.octet() {
+        return Err(ErrorKind::Malformed.into());
+    }
+    *rest = piece.rest;
+    walk_content::<P>(piece.content, serial_number)
+}
+
+/// The same of a CRL with these content octets (RFC 5280 5.1.1).
+#[tactic(auto, unfolding(x509_cert::specs::CertificateList::certificate_list_fields, x509_der::specs::Frames::fields_reading))]
+fn walk_list<'a, P: Profile>(octets: &'a [u8], serial_number: &[u8]) -> Result<Walked<'a>, Error>
+    requires { length octets.now ≤ limit }
+    ensures { LendsSo (WalksList P.serial_check serial_number.now) result ((certificate_list_contents {P = P} P.serial_check).reading octets.now) }
+{
+    let mut rest = octets;
+    match walk_part::<P>(&mut rest, serial_number) {
+        Ok(walked) => {
+            check_field::<AlgorithmIdentifier>(&mut rest)?;
+            check_field::<BitString>(&mut rest)?;
+            end(rest)?;
+            Ok(walked)
+        }
+        Err(e) => Err(e),
+    }
+}
+
+/// The same of the CRL that the bytes are the encoding of, which is checked on the way.
+#[tactic(auto, unfolding(x509_der::specs::Form::whole_reading))]
+pub(crate) fn walk_whole<'a, P: Profile>(
+    bytes: &'a [u8],
+    serial_number: &[u8],
+) -> Result<Walked<'a>, Error>
+    requires { length bytes.now ≤ limit }
+    ensures { LendsSo (WalksList P.serial_check serial_number.now) result (whole_reading (certificate_list {P = P} P.serial_check).reading bytes.now) }
+{
+    let piece = next_element(bytes, Tag::Sequence)?;
+    if !piece.rest.is_empty() || piece.tag != Tag::Sequence.octet() {
+        return Err(ErrorKind::Malformed.into());
+    }
+    walk_list::<P>(piece.content, serial_number)
+}
+
+/// The first entry of an encoded CRL (RFC 5280 5.1) whose serial number has these content octets; `None` exactly where no
+/// entry has it. It is the entry that [`CertificateList::find`] finds in what the bytes are decoded to. The CRL is checked
+/// on the way, in one pass and without memory.
+///
+/// Whether the CRL covers the issuer of the certificate, and for which time, isn't checked (RFC 5280 6.3.3).
+///
+/// # Errors
+///
+/// `Overlength` exactly where the bytes are more than [`Length::MAX`]. Within that length `Malformed`, or an error of the
+/// profile, exactly where they are the encoding of no CRL: the error that `from_der` answers.
+pub fn find_revoked<'a, P: Profile>(
+    bytes: &'a [u8],
+    serial_number: &[u8],
+) -> Result<Option<RevokedCertRef<'a>>, Error>
+    ensures found { IfOk result (λ answer. (list : lists.CertificateList P) × Spells ⟦<CertificateList<P> as Grammar>⟧.form list bytes.now × FindsInList serial_number.now list answer) }
+    ensures overlength { limit < length bytes.now → IsErrAnd result (λ e. e.kind ≡ errors.Overlength) }
+    ensures refused { length bytes.now ≤ limit → IfErr result (λ e. (e.kind ≡ errors.Malformed) ⊎ ⟦<CertificateList<P> as Grammar>⟧.refuses e.kind) }
+    ensures every { (list : lists.CertificateList P) → Spells ⟦<CertificateList<P> as Grammar>⟧.form list bytes.now → IsOk result }
+    ensures which { length bytes.now ≤ limit → LendsSo (FindsInList serial_number.now) result (whole_reading ⟦<CertificateList<P> as Grammar>⟧.form.reading bytes.now) }
+{
+    if bytes.len() > Length::MAX.as_u32() as usize {
+        return Err(ErrorKind::Overlength.into());
+    }
+    match walk_whole::<P>(bytes, serial_number) {
+        Ok(walked) => Ok(walked.found),
+        Err(e) => Err(e),
+    }
+}
