@@ -137,7 +137,7 @@ def request(subject, *attributes):
 
 
 def request_lines(subject, *lines):
-    return ["type: CSR", "version: v1", f"subject: {subject}", *KEY_LINES, *lines, *SIGNED]
+    return ["type: CSR", "version: v1", f"subject: {subject}".strip(), *KEY_LINES, *lines, *SIGNED]
 
 
 def requests():
