@@ -9,8 +9,8 @@ basic constraints, key identifiers, alternative names, policies and the names of
 of a directory name or an other name among general names only that it stands there.
 
 The certificates are those in PEM in the files below the folders, each once; without folders, the system's store. The CRLs and the CSRs are made by openssl
-(`objects_of_openssl.py`). Of a CRL the issuer, the dates, the algorithm and the extensions are compared, and of each entry the serial number, the date, the reason and the
-invalidity date; of a CSR the subject, the key, the challenge password and the extensions asked for.
+(`objects_of_openssl.py`). Of a CRL the issuer, the dates, the algorithm and the extensions are compared, and of each entry the serial number, the
+date, the reason and the invalidity date; of a CSR the subject, the key, the challenge password and the extensions asked for.
 """
 import argparse
 import base64
@@ -396,9 +396,10 @@ def compare_made(program):
             differ += bool(found)
             for field, mine, theirs in found:
                 print(f"differs: {name}: {field}: x509_show says {mine!r}, and openssl {theirs!r}")
-        failed += differ
+        failed += differ or not count
         objects = "CRLs" if kind == "crl" else "CSRs"
-        print(f"{'failed' if differ or not count else 'passed'}: x509_show beside openssl, {count} {objects} of openssl, {fields} fields; {differ} {objects} differ")
+        said = f"{count} {objects} of openssl, {fields} fields; {differ} {objects} differ"
+        print(f"{'failed' if differ or not count else 'passed'}: x509_show beside openssl, {said}")
     return failed > 0
 
 

@@ -85,14 +85,16 @@ def openssl(folder, *words):
 def entries(count):
     """Revoked certificates, as openssl keeps them: one with each reason in turn."""
     for at in range(count):
-        serial = f"{at * at + 1:X}"
-        yield "R\t300101000000Z\t26{:02}{:02}020304Z{}\t{}\tunknown\t/CN={}\n".format(at % 12 + 1, at % 28 + 1, REASONS[at % len(REASONS)], serial.zfill(len(serial) + len(serial) % 2), at)
+        serial = (at * at + 1).to_bytes(4, "big").lstrip(b"\0").hex().upper()
+        revoked = f"26{at % 12 + 1:02}{at % 28 + 1:02}020304Z{REASONS[at % len(REASONS)]}"
+        yield f"R\t300101000000Z\t{revoked}\t{serial}\tunknown\t/CN={at}\n"
 
 
 def crls(folder):
     for key in ("RSA", "P-256"):
         openssl(folder, "genpkey", "-algorithm", *KEYS[key], "-out", "authority.key")
-        openssl(folder, "req", "-x509", "-new", "-key", "authority.key", "-utf8", "-config", "config", "-extensions", "authority_certificate", "-out", "authority.pem")
+        words = ["-key", "authority.key", "-utf8", "-config", "config", "-extensions", "authority_certificate"]
+        openssl(folder, "req", "-x509", "-new", *words, "-out", "authority.pem")
         for count, extensions in ((0, None), (11, None), (0, "plain"), (11, "plain"), (300, "named"), (3, "point"), (22, "reasons"), (1, "authorities")):
             (folder / "index.txt").write_text("".join(entries(count)), encoding="ascii")
             words = [] if extensions is None else ["-crlexts", extensions]

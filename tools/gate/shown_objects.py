@@ -1,8 +1,8 @@
 """Objects for x509_show, and the lines that are to be printed of each, which are stated here by hand: CRLs (RFC 5280 5), CSRs (RFC 2986), trust anchors
 (RFC 5914), timestamps (RFC 6962 3) and qualifiers of policies (RFC 5280 4.2.1.4)."""
-from common.der import BMP_STRING, IA5_STRING, NULL, PRINTABLE_STRING, UTF8_STRING
+from common.der import BMP_STRING, IA5_STRING, NULL, PRINTABLE_STRING, UTF8_STRING, VISIBLE_STRING
 from common.der import bit_string, context, element, header_len, integer, object_identifier, octet_string, sequence, set_of
-from test_linter import ECDSA_SHA256, KEY, SIGNATURE
+from test_linter import DATES, ECDSA_SHA256, ISSUER, KEY, SIGNATURE, SUBJECT
 from test_linter import ce, certificate, common_name, crl, extension, general, implicit, utc
 
 # A text that would forge lines, the same in a text for people, and the same in JSON's text.
@@ -69,7 +69,8 @@ ENTRY_LINES = [
     "revoked: FF",
     *below("revocation date: 2025-12-31 23:59:59 UTC", "extension: reasonCode", *below("undecodable: 0a0107")),
 ]
-POINT = sequence(context(0, context(0, implicit(6, b"http://a.example/" + ASCII.encode()))), implicit(1, b"\xff"), implicit(3, b"\x05\x60"), implicit(4, b"\xff"))
+URI = implicit(6, b"http://a.example/" + ASCII.encode())
+POINT = sequence(context(0, context(0, URI)), implicit(1, b"\xff"), implicit(3, b"\x05\x60"), implicit(4, b"\xff"))
 REASONS = (
     (0, "unspecified"),
     (1, "keyCompromise"),
@@ -87,7 +88,12 @@ REASONS = (
 def crls():
     """For each CRL a name, its bytes, and its lines."""
     yield "crl", crl(), crl_lines(
-        "extension: authorityKeyIdentifier", "  key identifier: 617574686f72697479", "extension: cRLNumber", "  CRL number: 7", "revoked: 05", "  revocation date: 2026-01-01 00:00:00 UTC"
+        "extension: authorityKeyIdentifier",
+        "  key identifier: 617574686f72697479",
+        "extension: cRLNumber",
+        "  CRL number: 7",
+        "revoked: 05",
+        "  revocation date: 2026-01-01 00:00:00 UTC",
     )
     yield "crl with entries", crl(entries=ENTRIES, extensions=None), crl_lines(*ENTRY_LINES)
     yield "crl of version 1", crl(version=b"", next_update=b"", entries=b"", extensions=None), crl_lines(head=["type: CRL", "version: v1", *CRL_HEAD[2:5]])
@@ -197,7 +203,7 @@ def anchors():
     """The same of trust anchors; a certificate is shown as one where that is asked for."""
     bare, part = certificate(extensions=None), certificate_lines()
     yield "anchor, a certificate", bare, ["type: trust anchor", "choice: certificate", *part, *SIGNED]
-    signed = sequence(context(0, integer(2)), integer(1), ECDSA_SHA256, common_name(b"An authority"), sequence(utc(b"260102030405Z"), utc(b"270102030405Z")), common_name(b"A subject"), KEY)
+    signed = sequence(context(0, integer(2)), integer(1), ECDSA_SHA256, ISSUER, DATES, SUBJECT, KEY)
     yield "anchor, a tbsCert", context(1, signed), ["type: trust anchor", "choice: tbsCert", *part]
     info = ["type: trust anchor", "choice: taInfo", "version: v1", *KEY_LINES, "key identifier: 0102"]
     yield "anchor, a taInfo", context(2, sequence(KEY, octet_string(b"\1\2"))), info
@@ -210,9 +216,8 @@ def anchors():
         context(3, context(1, sequence(implicit(2, b".example")))),
         implicit(4, b"\x03"),
     )
-    whole = sequence(
-        KEY, octet_string(b"\1\2"), element(UTF8_STRING, FORGED.encode()), controls, context(1, sequence(ce(14, octet_string(b"\1")))), implicit(2, FORGED.encode())
-    )
+    title, extensions = element(UTF8_STRING, FORGED.encode()), context(1, sequence(ce(14, octet_string(b"\1"))))
+    whole = sequence(KEY, octet_string(b"\1\2"), title, controls, extensions, implicit(2, FORGED.encode()))
     yield "anchor, a whole taInfo", context(2, whole), [
         *info,
         "title: " + VISIBLE,
@@ -249,8 +254,8 @@ def listed(*timestamps):
 
 
 def timestamp_lines(time, *extensions, hash_name="sha256", signature="ecdsa"):
-    log = "log ID: " + bytes(range(32)).hex()
-    return [f"timestamp: {time}", *below("version: v1", log, *extensions, f"hash algorithm: {hash_name}", f"signature algorithm: {signature}", "signature: abcd")]
+    signed = [f"hash algorithm: {hash_name}", f"signature algorithm: {signature}", "signature: abcd"]
+    return [f"timestamp: {time}", *below("version: v1", "log ID: " + bytes(range(32)).hex(), *extensions, *signed)]
 
 
 TIMES = (
@@ -292,7 +297,8 @@ def timestamps():
     odd = timestamp(0, version=1)
     yield "timestamp of another version", *shown(listed(odd, timestamp(0)), "undecodable: " + odd.hex(), *timestamp_lines(TIMES[0][1]))
     yield "timestamp of no octets", *shown(listed(b""), "undecodable:")
-    for name, octets in (("an octet too many", listed(timestamp(0)) + b"\0"), ("an octet too few", listed(timestamp(0))[:-1]), ("a cut item", b"\0\1\0"), ("nothing", b"")):
+    one = listed(timestamp(0))
+    for name, octets in (("an octet too many", one + b"\0"), ("an octet too few", one[:-1]), ("a cut item", b"\0\1\0"), ("nothing", b"")):
         yield f"timestamps with {name}", *shown(octets, ("undecodable: " + octets.hex()).strip())
     yield "timestamps without an OCTET STRING", *with_extension(SCTS, NULL, "signedCertificateTimestamps", "undecodable: 0500")
     yield "poison", *with_extension(POISON, NULL, "precertificatePoison", "value: NULL")
@@ -314,7 +320,7 @@ def qualifiers():
         "qualifier: unotice",
         *below("organization: " + VISIBLE, "  notice number: 1", "  notice number: 0x010000000000000000", "explicit text: ä\\0a"),
     )
-    yield "notice of a text alone", *shown(sequence(NOTICE, sequence(element(0x1A, b"text"))), "qualifier: unotice", "  explicit text: text")
+    yield "notice of a text alone", *shown(sequence(NOTICE, sequence(element(VISIBLE_STRING, b"text"))), "qualifier: unotice", "  explicit text: text")
     yield "notice of nothing", *shown(sequence(NOTICE, sequence()), "qualifier: unotice")
     yield "notice that is none", *shown(sequence(NOTICE, NULL), "qualifier: unotice", "  undecodable: 0500")
     yield "qualifier without value", *shown(sequence(CPS), "qualifier: cps")

@@ -1,9 +1,9 @@
 #!/usr/bin/env python3
 """Runs x509_show over objects of each kind, with hostile texts among them, in each style, and over what is no object.
 
-The lines of the objects of `shown_objects.py` are those that are stated there by hand, and their JSON has the same. No text of an object may forge a line: what is
-printed as a text has as many lines as the JSON has entries, each of these lines begins with the label of its entry, and no control character
-stands there but the line feeds at the ends of lines.
+The lines of the objects of `shown_objects.py` are those that are stated there by hand, and their JSON has the same. No text of an object may forge
+a line: what is printed as a text has as many lines as the JSON has entries, each of these lines begins with the label of its entry, and no control
+character stands there but the line feeds at the ends of lines.
 """
 import argparse
 import json
@@ -63,7 +63,9 @@ def is_otherwise(program, data, lines, *words):
 
 
 def stated():
-    """For each run of an object that is stated by hand a name, its bytes, its lines, and its words: without a word an anchor that is a certificate is shown as one."""
+    """For each run of an object that is stated by hand a name, its bytes, its lines, and its words.
+
+    Without a word an anchor that is a certificate is shown as one."""
     for name, word, data, lines in objects():
         yield f"{name}, by its word", data, lines, [word]
         if lines[:2] != ["type: trust anchor", "choice: certificate"]:
