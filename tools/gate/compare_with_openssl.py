@@ -1,5 +1,5 @@
 #!/usr/bin/env python3
-"""Compares what x509_show prints of certificates with what `openssl x509` prints, field by field.
+"""Compares what x509_show prints of certificates, CRLs and CSRs with what openssl prints, field by field.
 
 A key usage with zeros behind the last bit that is set isn't in DER (X.690 11.2.2): openssl reads it, and x509_show calls it undecodable. Two
 certificates of the store have one. These are counted apart.
@@ -8,10 +8,13 @@ Subject, issuer, serial number, dates, algorithms, the size of the key, and of e
 basic constraints, key identifiers, alternative names, policies and the names of CRL distribution points. Qualifiers of policies aren't compared, and
 of a directory name or an other name among general names only that it stands there.
 
-The certificates are those in PEM in the files below the folders, each once; without folders, the system's store.
+The certificates are those in PEM in the files below the folders, each once; without folders, the system's store. The CRLs and the CSRs are made by openssl
+(`objects_of_openssl.py`). Of a CRL the issuer, the dates, the algorithm and the extensions are compared, and of each entry the serial number, the
+date, the reason and the invalidity date; of a CSR the subject, the key, the challenge password and the extensions asked for.
 """
 import argparse
 import base64
+import datetime
 import hashlib
 import ipaddress
 import json
@@ -19,6 +22,8 @@ import pathlib
 import re
 import subprocess
 import sys
+
+from objects_of_openssl import made
 
 STORE = ("/etc/ssl/certs", "/usr/share/ca-certificates")
 PEM = re.compile(rb"-----BEGIN (?:TRUSTED )?CERTIFICATE-----([A-Za-z0-9+/=\s]+)-----END (?:TRUSTED )?CERTIFICATE-----")
@@ -59,6 +64,8 @@ EXTENSIONS = {
     "X509v3 Policy Mappings": "policyMappings",
     "X509v3 Inhibit Any Policy": "inhibitAnyPolicy",
     "X509v3 Issuing Distribution Point": "issuingDistributionPoint",
+    "X509v3 CRL Number": "cRLNumber",
+    "X509v3 Delta CRL Indicator": "deltaCRLIndicator",
     "X509v3 Freshest CRL": "freshestCRL",
     "X509v3 Private Key Usage Period": "privateKeyUsagePeriod",
     "X509v3 Subject Directory Attributes": "subjectDirectoryAttributes",
@@ -70,6 +77,16 @@ EXTENSIONS = {
     "Netscape Cert Type": "2.16.840.1.113730.1.1",
     "Netscape Comment": "2.16.840.1.113730.1.13",
     "setCext-hashedRoot": "2.23.42.7.0",
+}
+REASONS = {
+    "Unspecified": "unspecified",
+    "Key Compromise": "keyCompromise",
+    "CA Compromise": "cACompromise",
+    "Affiliation Changed": "affiliationChanged",
+    "Superseded": "superseded",
+    "Cessation Of Operation": "cessationOfOperation",
+    "Certificate Hold": "certificateHold",
+    "Remove From CRL": "removeFromCRL",
 }
 # Keys of attributes in which the two differ by more than case.
 KEYS = {"gn": "givenname", "sn": "surname", "street": "streetaddress", "l": "localityname"}
@@ -99,9 +116,9 @@ def certificates(folders):
                     yield file, data
 
 
-def openssl(data, *words):
-    """The lines that openssl prints of a certificate; None where it takes it for none."""
-    run = subprocess.run(["openssl", "x509", "-inform", "DER", "-noout", *words], input=data, capture_output=True, check=False)
+def openssl(data, *words, kind="x509"):
+    """The lines that openssl prints of a certificate, or of another kind of object; None where it takes it for none."""
+    run = subprocess.run(["openssl", kind, "-inform", "DER", "-noout", *words], input=data, capture_output=True, check=False)
     return run.stdout.decode("utf-8", "replace").splitlines() if run.returncode == 0 else None
 
 
@@ -147,15 +164,15 @@ def names_of(text):
 
 
 class Shown:
-    """What x509_show prints of a certificate."""
+    """What x509_show prints of an object, whose extensions stand so deep."""
 
-    def __init__(self, lines):
-        self.fields, self.extensions, at = {}, {}, None
+    def __init__(self, lines, depth=0):
+        self.lines, self.fields, self.extensions, at = lines, {}, {}, None
         for line in lines:
-            if line["depth"] == 0 and line["label"] == "extension":
+            if line["depth"] == depth and line["label"] == "extension":
                 name, comma, _ = line["text"].partition(", critical")
                 at = self.extensions.setdefault(name, (bool(comma), []))[1]
-            elif line["depth"] == 0:
+            elif line["depth"] <= depth:
                 self.fields.setdefault(line["label"], line["text"])
                 at = None
             elif at is not None:
@@ -172,16 +189,16 @@ class Shown:
         return found
 
 
-def extensions_of(lines):
-    """The extensions in openssl's text: by name, whether each is critical, and its lines."""
+def extensions_of(lines, margin=12):
+    """The extensions in openssl's text, behind such a margin: by name, whether each is critical, and its lines."""
     found, at = {}, None
     for line in lines:
-        head = re.fullmatch(r" {12}(\S.*?): ?(critical)?", line)
+        head = re.fullmatch(" " * margin + r"(\S.*?): ?(critical)?", line)
         if head:
             at = found.setdefault(head[1], (bool(head[2]), []))[1]
-        elif line.startswith(" " * 16) and at is not None:
+        elif line.startswith(" " * (margin + 4)) and at is not None:
             at.append(line.strip())
-        elif not line.startswith(" " * 12):
+        elif not line.startswith(" " * margin):
             at = None
     return found
 
@@ -221,37 +238,22 @@ def compared(shown, name, lines):
         return shown.texts(name, "policy"), ["anyPolicy" if it == "X509v3 Any Policy" else it for it in policies]
     if name == "cRLDistributionPoints":
         return shown.names(name), [it for line in lines if line.partition(":")[0] in KINDS for it in names_of(line)]
+    if name == "issuingDistributionPoint":
+        names = [it for line in lines if line.startswith("URI:") for it in names_of(line.split()[0])]
+        reasons = [REASONS.get(it, it) for it in lines[lines.index("Only Some Reasons:") + 1].split(", ")] if "Only Some Reasons:" in lines else []
+        says = [it for it in ("Only User Certificates", "Only CA Certificates", "Only Attribute Certificates", "Indirect CRL") if it in text]
+        mine = [f"Only {it[0].upper()}{it[1:-1].replace('certificate', 'Certificate')}s" for it in shown.texts(name, "only contains")]
+        mine += ["Indirect CRL"] * (shown.texts(name, "indirect CRL") == ["yes"])
+        return (shown.names(name), shown.texts(name, "reason"), mine), (names, reasons, says)
+    if name in ("cRLNumber", "deltaCRLIndicator"):
+        label = "CRL number" if name == "cRLNumber" else "base CRL number"
+        return [int(it, 0) for it in shown.texts(name, label)], [int(text, 0)]
     return None
 
 
-def differences(program, data):
-    """How many fields were compared, in which the two differ, and which payloads aren't in DER."""
-    run = subprocess.run([program, "--json"], input=data, capture_output=True, check=False)
-    readable = openssl(data, "-subject", "-issuer", "-serial", "-dates", "-dateopt", "iso_8601", "-nameopt", "RFC2253,-esc_msb,utf8")
-    if run.returncode != 0 or readable is None:
-        return 1, [("whether it is one", run.stdout.decode(), readable)], []
-    shown = Shown(json.loads(run.stdout))
-    fields = dict(line.split("=", 1) for line in readable)
-    dumped = dict(line.split("=", 1) for line in openssl(data, "-subject", "-issuer", "-nameopt", "RFC2253,oid,dump_all,dump_der"))
-    lines = openssl(data, "-text", "-certopt", "no_sigdump")
-    text = "\n".join(lines)
-    pairs = []
-    for name in ("subject", "issuer"):
-        same = same_name(shown.fields[name], fields[name], dumped[name])
-        pairs.append((name, shown.fields[name], shown.fields[name] if same else fields[name]))
-    octets = bytes.fromhex(shown.fields["serial"].replace(":", ""))
-    pairs.append(("serial", int.from_bytes(octets, "big", signed=True), int(fields["serial"], 16)))
-    for label, key in (("not before", "notBefore"), ("not after", "notAfter")):
-        pairs.append((label, shown.fields[label], fields[key].removesuffix("Z") + " UTC"))
-    algorithm = re.search(r"Signature Algorithm: (\S+)", text)[1]
-    pairs.append(("signature algorithm", shown.fields["signature algorithm"], ALGORITHMS.get(algorithm, algorithm)))
-    algorithm = re.search(r"Public Key Algorithm: (\S+)", text)[1]
-    pairs.append(("key algorithm", shown.fields["key algorithm"], ALGORITHMS.get(algorithm, algorithm)))
-    size = re.search(r"Public-Key: \((\d+) bit\)", text)
-    if size:
-        pairs.append(("key size", shown.fields.get("key size"), f"{size[1]} bits"))
-    theirs, undecodable = extensions_of(lines), []
-    pairs.append(("number of extensions", len(shown.extensions), len(theirs)))
+def pairs_of_extensions(shown, theirs):
+    """What the two say of each extension, and which payloads aren't in DER."""
+    pairs, undecodable = [("number of extensions", len(shown.extensions), len(theirs))], []
     for long_name, (critical, said) in theirs.items():
         name = EXTENSIONS.get(long_name, long_name)
         if name not in shown.extensions:
@@ -262,7 +264,143 @@ def differences(program, data):
             undecodable.append(name)
         elif both := compared(shown, name, said):
             pairs.append((name, *both))
+    return pairs, undecodable
+
+
+def pairs_of_algorithms(shown, text):
+    """What the two say of the algorithm of the signature and, where there is one, of the key."""
+    algorithm = re.search(r"Signature Algorithm: (\S+)", text)[1]
+    pairs = [("signature algorithm", shown.fields["signature algorithm"], ALGORITHMS.get(algorithm, algorithm))]
+    if key := re.search(r"Public Key Algorithm: (\S+)", text):
+        pairs.append(("key algorithm", shown.fields["key algorithm"], ALGORITHMS.get(key[1], key[1])))
+    if size := re.search(r"Public-Key: \((\d+) bit\)", text):
+        pairs.append(("key size", shown.fields.get("key size"), f"{size[1]} bits"))
+    return pairs
+
+
+def pair_of_names(name, shown, readable, dumped):
+    """What the two say of a name."""
+    same = same_name(shown.fields[name], readable, dumped)
+    return name, shown.fields[name], shown.fields[name] if same else readable
+
+
+def names_said(data, kind, *names):
+    """What openssl says of fields that are names: readable, and as the DER of each value."""
+    words = [f"-{name}" for name in names]
+    readable = openssl(data, *words, "-nameopt", "RFC2253,-esc_msb,utf8", kind=kind)
+    dumped = openssl(data, *words, "-nameopt", "RFC2253,oid,dump_all,dump_der", kind=kind)
+    return (dict(line.split("=", 1) for line in lines) for lines in (readable, dumped))
+
+
+def differences(program, data):
+    """How many fields were compared, in which the two differ, and which payloads aren't in DER."""
+    run = subprocess.run([program, "--json"], input=data, capture_output=True, check=False)
+    readable = openssl(data, "-subject", "-issuer", "-serial", "-dates", "-dateopt", "iso_8601", "-nameopt", "RFC2253,-esc_msb,utf8")
+    if run.returncode != 0 or readable is None:
+        return 1, [("whether it is one", run.stdout.decode(), readable)], []
+    shown = Shown(json.loads(run.stdout))
+    fields = dict(line.split("=", 1) for line in readable)
+    readable, dumped = names_said(data, "x509", "subject", "issuer")
+    lines = openssl(data, "-text", "-certopt", "no_sigdump")
+    pairs = [pair_of_names(name, shown, readable[name], dumped[name]) for name in ("subject", "issuer")]
+    octets = bytes.fromhex(shown.fields["serial"].replace(":", ""))
+    pairs.append(("serial", int.from_bytes(octets, "big", signed=True), int(fields["serial"], 16)))
+    for label, key in (("not before", "notBefore"), ("not after", "notAfter")):
+        pairs.append((label, shown.fields[label], fields[key].removesuffix("Z") + " UTC"))
+    pairs += pairs_of_algorithms(shown, "\n".join(lines))
+    said, undecodable = pairs_of_extensions(shown, extensions_of(lines))
+    pairs += said
     return len(pairs), [it for it in pairs if it[1] != it[2]], undecodable
+
+
+def entries_shown(lines):
+    """The entries of a CRL in what x509_show prints: the serial number, and the date, the reason and the invalidity date where they are there."""
+    found = []
+    for line in lines:
+        if line["depth"] == 0 and line["label"] == "revoked":
+            found.append({"serial": number(line["text"])})
+        elif line["depth"] > 0 and found and line["label"] in ("revocation date", "reason", "invalidity date"):
+            found[-1][line["label"]] = line["text"]
+    return found
+
+
+def moment(text):
+    """A date of openssl's text as x509_show prints it."""
+    return datetime.datetime.strptime(text, "%b %d %H:%M:%S %Y GMT").strftime("%Y-%m-%d %H:%M:%S UTC")
+
+
+def entries_said(lines):
+    """The same in what openssl prints."""
+    found, title = [], ""
+    for line in lines:
+        if serial := re.fullmatch(r" {4}Serial Number: ([0-9A-F]+)", line):
+            found.append({"serial": int(serial[1], 16)})
+        elif date := re.fullmatch(r" {8}Revocation Date: (.*)", line):
+            found[-1]["revocation date"] = moment(date[1])
+        elif found and "Reason Code" in title:
+            found[-1]["reason"] = REASONS.get(line.strip(), line.strip())
+        elif found and "Invalidity Date" in title:
+            found[-1]["invalidity date"] = moment(line.strip())
+        title = line
+    return found
+
+
+def crl_differences(program, data):
+    """The same of a CRL."""
+    run = subprocess.run([program, "--json"], input=data, capture_output=True, check=True)
+    shown = Shown(json.loads(run.stdout))
+    readable, dumped = names_said(data, "crl", "issuer")
+    dates = dict(line.split("=", 1) for line in openssl(data, "-lastupdate", "-nextupdate", "-dateopt", "iso_8601", kind="crl"))
+    lines = openssl(data, "-text", kind="crl")
+    text = "\n".join(lines)
+    pairs = [("type", shown.fields["type"], "CRL"), pair_of_names("issuer", shown, readable["issuer"], dumped["issuer"])]
+    pairs.append(("version", shown.fields["version"], "v" + re.search(r"Version (\d)", text)[1]))
+    for label, key in (("this update", "lastUpdate"), ("next update", "nextUpdate")):
+        pairs.append((label, shown.fields[label], dates[key].removesuffix("Z") + " UTC"))
+    pairs += pairs_of_algorithms(shown, text)
+    front = lines[: next((at for at, line in enumerate(lines) if line.startswith("Revoked Certificates:")), len(lines))]
+    pairs += pairs_of_extensions(shown, extensions_of(front))[0]
+    mine, theirs = entries_shown(shown.lines), entries_said(lines)
+    pairs.append(("number of entries", len(mine), len(theirs)))
+    for one, other in zip(mine, theirs):
+        pairs += [(f"entry {one['serial']}: {key}", one.get(key), other.get(key)) for key in sorted(one | other)]
+    return len(pairs), [it for it in pairs if it[1] != it[2]]
+
+
+def request_differences(program, data):
+    """The same of a CSR."""
+    run = subprocess.run([program, "--json"], input=data, capture_output=True, check=True)
+    shown = Shown(json.loads(run.stdout), depth=1)
+    readable, dumped = names_said(data, "req", "subject")
+    lines = openssl(data, "-text", kind="req")
+    text = "\n".join(lines)
+    pairs = [("type", shown.fields["type"], "CSR"), pair_of_names("subject", shown, readable["subject"], dumped["subject"])]
+    pairs.append(("version", shown.fields["version"], "v" + re.search(r"Version: (\d)", text)[1]))
+    pairs += pairs_of_algorithms(shown, text)
+    password = re.search(r"challengePassword +:(.*)", text)
+    pairs.append(("challenge password", shown.fields.get("challenge password"), password and password[1]))
+    asked = next((at for at, line in enumerate(lines) if line.strip() == "Requested Extensions:"), len(lines))
+    pairs += pairs_of_extensions(shown, extensions_of(lines[asked:], margin=16))[0]
+    return len(pairs), [it for it in pairs if it[1] != it[2]]
+
+
+def compare_made(program):
+    """Compares CRLs and CSRs that openssl makes, and answers whether one differs."""
+    failed = 0
+    for kind, compare in (("crl", crl_differences), ("req", request_differences)):
+        count = fields = differ = 0
+        for name, data in made(kind):
+            compared_here, found = compare(program, data)
+            count += 1
+            fields += compared_here
+            differ += bool(found)
+            for field, mine, theirs in found:
+                print(f"differs: {name}: {field}: x509_show says {mine!r}, and openssl {theirs!r}")
+        failed += differ or not count
+        objects = "CRLs" if kind == "crl" else "CSRs"
+        said = f"{count} {objects} of openssl, {fields} fields; {differ} {objects} differ"
+        print(f"{'failed' if differ or not count else 'passed'}: x509_show beside openssl, {said}")
+    return failed > 0
 
 
 def main(program, folders):
@@ -277,7 +415,7 @@ def main(program, folders):
             print(f"differs: {file}: {name}: x509_show says {mine!r}, and openssl {theirs!r}")
     said = f"{count} certificates, {fields} fields; {failed} certificates differ, {apart} payloads aren't in DER"
     print(f"{'failed' if failed else 'passed'}: x509_show beside openssl, {said}")
-    return int(failed > 0)
+    return int(compare_made(program) or failed > 0)
 
 
 if __name__ == "__main__":

@@ -1,8 +1,9 @@
 #!/usr/bin/env python3
-"""Runs x509_show over certificates with hostile texts, in each style, and over what is no certificate.
+"""Runs x509_show over objects of each kind, with hostile texts among them, in each style, and over what is no object.
 
-No text of an object may forge a line: what is printed as a text has as many lines as the JSON has entries, each of these lines begins with the
-label of its entry, and no control character stands there but the line feeds at the ends of lines.
+The lines of the objects of `shown_objects.py` are those that are stated there by hand, and their JSON has the same. No text of an object may forge
+a line: what is printed as a text has as many lines as the JSON has entries, each of these lines begins with the label of its entry, and no control
+character stands there but the line feeds at the ends of lines.
 """
 import argparse
 import json
@@ -14,9 +15,13 @@ sys.path.insert(0, str(pathlib.Path(__file__).resolve().parents[1]))
 sys.path.insert(0, str(pathlib.Path(__file__).resolve().parents[1] / "robustness"))
 from common.der import UTF8_STRING, element, sequence
 from hostile_payloads import NAME_ROWS, alternative_names, certificate, key_usage, relative_name
+from shown_objects import anchors, crls, objects, requests
 
 FORGED = "x\nserial: 00\r\u2028issuer: y\u202e\x1b[2J\x00\x85\\\""
-REFUSED, USAGE = "refused: not a certificate\n", "usage: x509_show [--json], with a certificate on standard input, DER or hex\n"
+REFUSED = "refused: not a certificate, a CRL, a CSR or a trust anchor\n"
+USAGE = "usage: x509_show [certificate|crl|csr|anchor] [--json], with such an object on standard input, DER or hex\n"
+# What is refused with each word.
+WORDS = {"certificate": "a certificate", "crl": "a CRL", "csr": "a CSR", "anchor": "a trust anchor"}
 HIDDEN = {*range(0x20), *range(0x7F, 0xA0), 0x61C, 0x200E, 0x200F, *range(0x2028, 0x202F), *range(0x2066, 0x206A)}
 
 
@@ -42,31 +47,96 @@ def is_forged(program, data):
     return None
 
 
-def main(program):
-    failed = count = 0
+def visible(text):
+    """A text with each character that could end a line, or turn its order round, as the bytes of its UTF-8, each a backslash and two hex digits."""
+    return "".join("".join(f"\\{byte:02x}" for byte in it.encode()) if ord(it) in HIDDEN else it for it in text)
+
+
+def is_otherwise(program, data, lines, *words):
+    """What is printed of an object in place of these lines, in either style; None where it is these."""
+    wanted = (0, "".join(line + "\n" for line in lines))
+    if (ended := run(program, data, *words)) != wanted:
+        return f"{ended} and not {wanted}"
+    status, document = run(program, data, *words, "--json")
+    said = ["  " * it["depth"] + it["label"] + ":" + (" " if it["text"] else "") + visible(it["text"]) for it in json.loads(document)]
+    return None if (status, said) == (0, lines) else f"as JSON {status}, {said}, and not {lines}"
+
+
+def stated():
+    """For each run of an object that is stated by hand a name, its bytes, its lines, and its words.
+
+    Without a word an anchor that is a certificate is shown as one."""
+    for name, word, data, lines in objects():
+        yield f"{name}, by its word", data, lines, [word]
+        if lines[:2] != ["type: trust anchor", "choice: certificate"]:
+            yield name, data, lines, []
+
+
+def wrong_kinds():
+    """For each run over an object of another kind than the word says a name, its bytes, and the word."""
+    others = {"crl": crls, "csr": requests, "anchor": anchors}
+    for word in WORDS:
+        for other, those in others.items():
+            name, data, lines = list(those())[-1]
+            if word != other:
+                yield f"{name} as {word}", data, word
+    yield "certificate as crl", certificate(), "crl"
+    yield "certificate as csr", certificate(), "csr"
+
+
+def refusals(whole):
+    """For each run that refuses bytes or words a name, its bytes, its words, and how it ends."""
+    for name, data, word in wrong_kinds():
+        yield name, data, [word], (1, f"refused: not {WORDS[word]}\n")
+    for name, word, data, _ in objects():
+        yield f"{name} with an octet too few", data[:-1], [], (1, REFUSED)
+        yield f"{name} with an octet too many", data + b"\0", [word], (1, f"refused: not {WORDS[word]}\n")
+    for name, words in (
+        ("another word", ["--xml"]),
+        ("JSON twice", ["--json", "--json"]),
+        ("two kinds", ["crl", "csr"]),
+        ("a kind twice", ["crl", "crl"]),
+        ("a kind in capitals", ["CRL"]),
+        ("three words", ["crl", "--json", "--json"]),
+        ("an empty word", [""]),
+    ):
+        yield name, whole, words, (2, USAGE)
+    yield "nothing", b"", [], (1, REFUSED)
+    yield "an octet too few", whole[:-1], [], (1, REFUSED)
+    yield "an octet too many", whole + b"\0", [], (1, REFUSED)
+    yield "hex of an odd length", whole.hex()[:-1].encode(), [], (1, REFUSED)
+
+
+def checked(program):
+    """For each run a name, and what is wrong with it, None where nothing is."""
     cases = {name: certificate(extensions=(key_usage(), alternative_names(row[0]))) for name, row in NAME_ROWS.items()}
     cases["a subject with line feeds"] = certificate(subject=sequence(relative_name(3, element(UTF8_STRING, FORGED.encode()))))
     cases["an email with line feeds"] = certificate(extensions=(alternative_names(sequence(element(0x81, b"a\nserial: 00\r\n"))),))
+    cases.update({name: data for name, _, data, _ in objects()})
     for name, data in cases.items():
+        yield name, is_forged(program, data)
+    for name, data, lines, words in stated():
+        yield name, is_otherwise(program, data, lines, *words)
+    whole = certificate()
+    for name, data, words, wanted in refusals(whole):
+        ended = run(program, data, *words)
+        yield name, None if ended == wanted else f"{ended}, and not {wanted}"
+    for name, data, words, same in (
+        ("hex", whole.hex().encode() + b"\n", [], []),
+        ("hex, as JSON", whole.hex().encode(), ["--json"], ["--json"]),
+        ("JSON of a kind", whole, ["--json", "certificate"], ["--json"]),
+        ("JSON of a kind, the words the other way round", whole, ["certificate", "--json"], ["--json"]),
+    ):
+        yield name, None if run(program, data, *words) == run(program, whole, *same) else "not as the other"
+
+
+def main(program):
+    failed = count = 0
+    for name, wrong in checked(program):
         count += 1
-        if wrong := is_forged(program, data):
+        if wrong:
             failed += 1
             print(f"failed: x509_show, {name}: {wrong}")
-    whole = certificate()
-    for name, data, words, wanted in (
-        ("nothing", b"", [], (1, REFUSED)),
-        ("an octet too few", whole[:-1], [], (1, REFUSED)),
-        ("an octet too many", whole + b"\0", [], (1, REFUSED)),
-        ("hex of an odd length", whole.hex()[:-1].encode(), [], (1, REFUSED)),
-        ("another word", whole, ["--xml"], (2, USAGE)),
-        ("two words", whole, ["--json", "--json"], (2, USAGE)),
-        ("hex", whole.hex().encode() + b"\n", [], run(program, whole)),
-        ("hex, as JSON", whole.hex().encode(), ["--json"], run(program, whole, "--json")),
-    ):
-        count += 1
-        if (ended := run(program, data, *words)) != wanted:
-            failed += 1
-            print(f"failed: x509_show, {name}: {ended}, and not {wanted}")
     print(f"{'failed' if failed else 'passed'}: x509_show, {count} runs, {failed} of them not as stated")
     return int(failed > 0)
 

@@ -1,4 +1,4 @@
-//! A certificate on standard input, in lines that a person reads or in JSON.
+//! A certificate, a CRL, a CSR or a trust anchor on standard input, in lines that a person reads or in JSON.
 #![tactic(auto)]
 
 mod show;

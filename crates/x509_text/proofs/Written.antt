@@ -6,6 +6,9 @@ module _ {T E : Type 0} (result : Result T E) where
   pub written_behind : (start s t a b : List ℕ) → s ≡ start ++ a → OnOk result (t ≡ s ++ b) → OnOk result (t ≡ start ++ (a ++ b))
   written_behind start s t a b first last = rw (← append_assoc start a b, ← first) last
 
+  pub three_written : (start s t end a b c : List ℕ) → s ≡ start ++ a → t ≡ s ++ b → OnOk result (end ≡ t ++ c) → OnOk result (end ≡ start ++ (a ++ (b ++ c)))
+  three_written start s t end a b c first second last = written_behind start s end a (b ++ c) first (written_behind s t end b c second last)
+
   pub four_written : (start s t u end a b c d : List ℕ) → s ≡ start ++ a → t ≡ s ++ b → u ≡ t ++ c → OnOk result (end ≡ u ++ d) → OnOk result (end ≡ start ++ (a ++ (b ++ (c ++ d))))
   four_written start s t u end a b c d first second third last =
       written_behind start s end a (b ++ (c ++ d)) first

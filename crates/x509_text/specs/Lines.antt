@@ -6,7 +6,7 @@ use Rattle.hex.specs.Hex.{encode_lower}
 use Rattle.x509_text.specs.declared.line.Style.{Style}
 use Rattle.x509_text.specs.declared.line.Style.TheVariants.{Text, Json}
 use Rattle.x509_text.specs.declared.line.Depth.{Depth}
-use Rattle.x509_text.specs.declared.line.Depth.TheVariants.{First, Second, Third, Fourth, Fifth}
+use Rattle.x509_text.specs.declared.line.Depth.TheVariants.{First, Second, Third, Fourth, Fifth, Sixth}
 use Rattle.x509_text.specs.declared.line.Place.{Place}
 
 -- ---- characters
@@ -50,7 +50,8 @@ deeper First = Second
 deeper Second = Third
 deeper Third = Fourth
 deeper Fourth = Fifth
-deeper Fifth = Fifth
+deeper Fifth = Sixth
+deeper Sixth = Sixth
 
 -- two spaces for each line that it stands under
 abbrev pub indent : Depth → List ℕ
@@ -59,6 +60,7 @@ indent Second = codes "  "
 indent Third = codes "    "
 indent Fourth = codes "      "
 indent Fifth = codes "        "
+indent Sixth = codes "          "
 
 abbrev pub digit : Depth → List ℕ
 digit First = codes "0"
@@ -66,6 +68,7 @@ digit Second = codes "1"
 digit Third = codes "2"
 digit Fourth = codes "3"
 digit Fifth = codes "4"
+digit Sixth = codes "5"
 
 -- the place of what belongs to a line
 abbrev pub below : Place → Place

@@ -2,7 +2,7 @@
 use Rattle.std.specs.Prelude.{ℕ, List, [], Option, Some, None, Result, Ok, Err, length, nat_le, codes, if◌then◌else◌}
 use Rattle.hex.specs.Hex.{encode_lower}
 use Rattle.x509_cert.specs.der.declared.error.ErrorKind.{ErrorKind}
-use Rattle.x509_cert.specs.der.Element.{limit}
+use Rattle.x509_cert.specs.der.Element.{element, limit}
 use Rattle.x509_cert.specs.der.Tag.{octet_of}
 use Rattle.x509_cert.specs.der.declared.any.Any.{Any}
 use Rattle.x509_cert.specs.der.Form.{Form, whole_reading}
@@ -39,6 +39,15 @@ payload_lines form lines at octets = lines_or_octets lines at octets (value_of f
 abbrev pub value_in : {X : Type 0} → Form X → Any → Option X
 value_in form any = value_read (form.reading (octet_of any.tag) any.value)
 
--- what is printed of an element that is to be the encoding of a value; where it is of none, the octets are those of its content
+-- the encoding of an element in hex
+unfoldable pub element_line : Place → List ℕ → Any → List ℕ
+element_line at label any = octets_line at label (element (octet_of any.tag) any.value)
+
+-- the lines of a value; where there is none, the element in hex, with a word that says so
+abbrev pub lines_or_element : {X : Type 0} → (Place → X → List ℕ) → Place → Any → Option X → List ℕ
+lines_or_element lines at any (Some value) = lines at value
+lines_or_element lines at any None = element_line at (codes "undecodable") any
+
+-- what is printed of an element that is to be the encoding of a value
 abbrev pub any_lines : {X : Type 0} → Form X → (Place → X → List ℕ) → Place → Any → List ℕ
-any_lines form lines at any = lines_or_octets lines at any.value (value_in form any)
+any_lines form lines at any = lines_or_element lines at any (value_in form any)

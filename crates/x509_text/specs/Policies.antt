@@ -12,14 +12,10 @@ use Rattle.x509_text.specs.declared.line.Place.{Place}
 use Rattle.x509_text.specs.GeneralNames.{general_name_lines}
 use Rattle.x509_text.specs.Lines.{line, below}
 use Rattle.x509_text.specs.Payloads.{optional}
-use Rattle.x509_text.specs.Usages.{value_line}
+use Rattle.x509_text.specs.Qualifiers.{qualifier_lines}
 use Rattle.x509_text.specs.Values.{number_line, oid_line, optional_number}
 
 -- ---- policies (RFC 5280 4.2.1.4, 4.2.1.5)
-
--- PolicyQualifierInfo: what it is, and its value
-unfoldable pub qualifier_lines : Place → PolicyQualifierInfo → List ℕ
-qualifier_lines at q = oid_line at (codes "qualifier") q.policy_qualifier_id ++ optional (value_line (below at)) q.qualifier
 
 abbrev pub optional_qualifiers : Place → Option (List PolicyQualifierInfo) → List ℕ
 optional_qualifiers at qualifiers = optional (λ qs. flat_map (qualifier_lines at) qs) qualifiers

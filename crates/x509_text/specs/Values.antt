@@ -8,8 +8,6 @@ use Rattle.x509_cert.specs.base.Serial.{colon_hex}
 use Rattle.x509_cert.specs.base.CivilTime.{CivilTime}
 use Rattle.x509_cert.specs.base.TimeText.{two_digits, four_digits}
 use Rattle.x509_cert.specs.der.ObjectIdentifierForm.{object_identifier}
-use Rattle.x509_cert.specs.der.Element.{element}
-use Rattle.x509_cert.specs.der.Tag.{octet_of}
 use Rattle.x509_cert.specs.der.declared.tag.Tag.{Tag}
 use Rattle.x509_cert.specs.der.declared.tag.Tag.TheVariants as tags
 use Rattle.x509_cert.specs.der.declared.any.Any.{Any}
@@ -20,7 +18,7 @@ use Rattle.x509_cert.specs.prim.Integer.{integer_value, natural_below, without_z
 use Rattle.x509_text.specs.declared.line.Place.{Place}
 use Rattle.x509_text.specs.Lines.{line, below}
 use Rattle.x509_text.specs.Names.{oid_text}
-use Rattle.x509_text.specs.Payloads.{octets_line, optional, value_in}
+use Rattle.x509_text.specs.Payloads.{element_line, octets_line, optional, value_in}
 
 unfoldable pub oid_line : Place → List ℕ → List ℕ → List ℕ
 oid_line at label oid = line at label (oid_text oid)
@@ -40,11 +38,15 @@ name_line at label name = line at label (name_text name)
 unfoldable pub serial_line : Place → List ℕ → List ℕ → List ℕ
 serial_line at label content = line at label (colon_hex content)
 
--- YYYY-MM-DD HH:MM:SS UTC
-unfoldable pub moment_text : CivilTime → List ℕ
-moment_text c =
+-- YYYY-MM-DD HH:MM:SS
+unfoldable pub second_text : CivilTime → List ℕ
+second_text c =
     four_digits c.year ++ codes "-" ++ two_digits c.month ++ codes "-" ++ two_digits c.day ++ codes " "
-    ++ two_digits c.hour ++ codes ":" ++ two_digits c.minutes ++ codes ":" ++ two_digits c.seconds ++ codes " UTC"
+    ++ two_digits c.hour ++ codes ":" ++ two_digits c.minutes ++ codes ":" ++ two_digits c.seconds
+
+-- YYYY-MM-DD HH:MM:SS UTC
+abbrev pub moment_text : CivilTime → List ℕ
+moment_text c = second_text c ++ codes " UTC"
 
 unfoldable pub moment_line : Place → List ℕ → CivilTime → List ℕ
 moment_line at label moment = line at label (moment_text moment)
@@ -67,10 +69,6 @@ bits_lines at label bits = octets_line at label bits.octets ++ unused_line (belo
 
 abbrev pub optional_bits : Place → List ℕ → Option BitParts → List ℕ
 optional_bits at label bits = optional (bits_lines at label) bits
-
--- the encoding of an element in hex
-unfoldable pub element_line : Place → List ℕ → Any → List ℕ
-element_line at label any = octets_line at label (element (octet_of any.tag) any.value)
 
 -- NULL (X.690 8.8)
 abbrev pub is_empty : List ℕ → Bool

@@ -13,7 +13,7 @@ use x509_cert::certificate::{CertificateInner, Profile, TbsCertificateInner, Ver
 use x509_cert::time::{Time, Validity};
 
 /// The text of a version.
-fn version_text(version: Version) -> &'static str
+pub(crate) fn version_text(version: Version) -> &'static str
     ensures { result.now ≡ certificates.version_text version }
 {
     match version {

@@ -9,14 +9,20 @@ use crate::show::{Show, show_each, show_payload, write_octets};
 use crate::values::oid_text;
 use std::alloc::{AllocError, Global};
 use x509_cert::der::AssociatedOid;
-use x509_cert::der::asn1::ObjectIdentifier;
+use x509_cert::der::asn1::{GeneralizedTime, ObjectIdentifier};
+use x509_cert::ext::pkix::sct::{CtPrecertificatePoison, SignedCertificateTimestampList};
 use x509_cert::ext::pkix::{
-    AuthorityInfoAccessSyntax, AuthorityKeyIdentifier, BasicConstraints, CertificatePolicies,
-    CrlDistributionPoints, ExtendedKeyUsage, FreshestCrl, InhibitAnyPolicy, IssuerAltName,
+    AuthorityInfoAccessSyntax, AuthorityKeyIdentifier, BaseCrlNumber, BasicConstraints,
+    CertificateIssuer, CertificatePolicies, CrlDistributionPoints, CrlNumber, CrlReason,
+    ExtendedKeyUsage, FreshestCrl, InhibitAnyPolicy, IssuerAltName, IssuingDistributionPoint,
     KeyUsage, NameConstraints, PolicyConstraints, PolicyMappings, PrivateKeyUsagePeriod,
     SubjectAltName, SubjectDirectoryAttributes, SubjectInfoAccessSyntax, SubjectKeyIdentifier,
 };
 use x509_cert::ext::{Extension, Extensions};
+use x509_der::oid;
+
+// id-ce-invalidityDate, 2.5.29.24 (RFC 5280 5.3.2)
+const INVALIDITY_DATE: ObjectIdentifier = oid!(0x55, 0x1D, 24);
 
 /// The text of an extension's OID, and whether it is critical.
 fn extension_text(alloc: Global, extension: &Extension) -> Result<String, AllocError>
@@ -29,7 +35,59 @@ fn extension_text(alloc: Global, extension: &Extension) -> Result<String, AllocE
     Ok(text)
 }
 
-/// Writes the value of an extension of policies or of limits; the octets where it is of neither.
+/// Writes the value of an extension of certificate transparency; the octets where it is none of these.
+#[tactic(auto, unfolding(crate::specs::Extensions::transparency_lines))]
+fn write_transparency(
+    alloc: Global,
+    at: Place,
+    oid: &ObjectIdentifier,
+    octets: &[u8],
+    out: &mut String,
+) -> Result<(), AllocError>
+    ensures { OnOk result (string_bytes out.new ≡ string_bytes out.old ++ payload.transparency_lines at oid.now octets.now) }
+{
+    if *oid == SignedCertificateTimestampList::OID {
+        return show_payload::<SignedCertificateTimestampList>(alloc, at, octets, out);
+    }
+    if *oid == CtPrecertificatePoison::OID {
+        return show_payload::<CtPrecertificatePoison>(alloc, at, octets, out);
+    }
+    write_octets(alloc, at, "unknown", octets, out)
+}
+
+/// Writes the value of an extension of CRLs or of their entries, or of one of the others.
+#[tactic(auto, unfolding(crate::specs::Extensions::revocation_lines))]
+fn write_revocation(
+    alloc: Global,
+    at: Place,
+    oid: &ObjectIdentifier,
+    octets: &[u8],
+    out: &mut String,
+) -> Result<(), AllocError>
+    ensures { OnOk result (string_bytes out.new ≡ string_bytes out.old ++ payload.revocation_lines at oid.now octets.now) }
+{
+    if *oid == CrlReason::OID {
+        return show_payload::<CrlReason>(alloc, at, octets, out);
+    }
+    if *oid == INVALIDITY_DATE {
+        return show_payload::<GeneralizedTime>(alloc, at, octets, out);
+    }
+    if *oid == CertificateIssuer::OID {
+        return show_payload::<CertificateIssuer>(alloc, at, octets, out);
+    }
+    if *oid == CrlNumber::OID {
+        return show_payload::<CrlNumber>(alloc, at, octets, out);
+    }
+    if *oid == BaseCrlNumber::OID {
+        return show_payload::<BaseCrlNumber>(alloc, at, octets, out);
+    }
+    if *oid == IssuingDistributionPoint::OID {
+        return show_payload::<IssuingDistributionPoint>(alloc, at, octets, out);
+    }
+    write_transparency(alloc, at, oid, octets, out)
+}
+
+/// Writes the value of an extension of policies or of limits, or of one of the others.
 #[tactic(auto, unfolding(crate::specs::Extensions::policy_value_lines))]
 fn write_policy_value(
     alloc: Global,
@@ -55,7 +113,7 @@ fn write_policy_value(
     if *oid == NameConstraints::OID {
         return show_payload::<NameConstraints>(alloc, at, octets, out);
     }
-    write_octets(alloc, at, "unknown", octets, out)
+    write_revocation(alloc, at, oid, octets, out)
 }
 
 /// Writes the value of an extension that says where more is found, or of one of the others.
@@ -144,6 +202,16 @@ impl Show for Extension {
     }
 }
 
+impl Show for Extensions {
+    ghost use Rattle.x509_text.specs.Extensions.{extensions_lines};
+
+    ghost lines = { extensions_lines };
+
+    fn show(&self, alloc: Global, at: Place, out: &mut String) -> Result<(), AllocError> {
+        show_each(alloc, at, self.as_slice(), out)
+    }
+}
+
 /// Writes extensions that may be left out.
 pub(crate) fn write_extensions(
     alloc: Global,
@@ -154,7 +222,7 @@ pub(crate) fn write_extensions(
     ensures { OnOk result (string_bytes out.new ≡ string_bytes out.old ++ payload.optional_extensions at (option_copied extensions.entry)) }
 {
     match extensions {
-        Some(extensions) => show_each(alloc, at, extensions.as_slice(), out),
+        Some(extensions) => extensions.show(alloc, at, out),
         None => Ok(()),
     }
 }

@@ -1,4 +1,4 @@
-//! Certificates as text for people, or as JSON.
+//! Certificates, CRLs, CSRs and trust anchors as text for people, or as JSON.
 //!
 //! What is printed of a value is a stated text of it: a line for each thing that is said, which is a label and a text. The definitions
 //! stand in `specs/`, a line of theirs for each line that is printed. No text that an object holds can end its line. Words of our own
@@ -6,7 +6,9 @@
 #![tactic(auto)]
 
 mod algorithms;
+mod anchors;
 mod certificates;
+mod crls;
 mod documents;
 mod extensions;
 mod general_names;
@@ -15,11 +17,15 @@ mod names;
 mod objects;
 mod points;
 mod policies;
+mod qualifiers;
+mod requests;
+mod revocation;
 mod show;
+mod timestamps;
 mod usages;
 mod values;
 
-pub use documents::certificate_text;
+pub use documents::{anchor_text, certificate_text, crl_text, request_text};
 pub use line::{Depth, Style};
 pub use names::{NAMES, Row, name_of};
-pub use objects::show_bytes;
+pub use objects::{Kind, show_bytes, show_kind};

@@ -16,7 +16,7 @@ pub enum Style {
     Json,
 }
 
-/// Under how many others a line stands. Nothing that is printed stands deeper than under four.
+/// Under how many others a line stands. Nothing that is printed stands deeper than under five.
 #[derive(Clone, Copy, Debug, PartialEq, Eq)]
 pub enum Depth {
     /// Under none.
@@ -33,6 +33,9 @@ pub enum Depth {
 
     /// Under four.
     Fifth,
+
+    /// Under five.
+    Sixth,
 }
 
 impl Depth {
@@ -45,7 +48,8 @@ impl Depth {
             Depth::Second => Depth::Third,
             Depth::Third => Depth::Fourth,
             Depth::Fourth => Depth::Fifth,
-            Depth::Fifth => Depth::Fifth,
+            Depth::Fifth => Depth::Sixth,
+            Depth::Sixth => Depth::Sixth,
         }
     }
 
@@ -59,6 +63,7 @@ impl Depth {
             Depth::Third => "    ",
             Depth::Fourth => "      ",
             Depth::Fifth => "        ",
+            Depth::Sixth => "          ",
         }
     }
 
@@ -72,6 +77,7 @@ impl Depth {
             Depth::Third => "2",
             Depth::Fourth => "3",
             Depth::Fifth => "4",
+            Depth::Sixth => "5",
         }
     }
 }

@@ -1,27 +1,93 @@
-//! Certificates, decoded under no rules beyond the grammar, and their documents.
+//! Objects, decoded under no rules beyond the grammar, and their documents.
 
 ghost use Rattle.std.specs.Option.{option_map};
 ghost use Rattle.std.specs.Prelude.{◌≡◌, IfOk, string_bytes};
 ghost use Rattle.x509_text.specs.Objects as objects;
 
-use crate::documents::certificate_text;
+use crate::documents::document;
 use crate::line::Style;
-use crate::show::value_of;
+use crate::show::{Show, value_of};
 use std::alloc::{AllocError, Global};
+use x509_cert::anchor::TrustAnchorChoice;
 use x509_cert::certificate::{CertificateInner, Raw};
+use x509_cert::crl::CertificateList;
+use x509_cert::der::Decode;
+use x509_cert::request::CertReq;
 
-/// The document of the certificate that the bytes are the encoding of, under no rules beyond the grammar (`Raw`); `None` exactly where they
-/// are that of none.
+/// A kind of object.
+#[derive(Clone, Copy, Debug, PartialEq, Eq)]
+pub enum Kind {
+    /// A certificate (RFC 5280 4.1).
+    Certificate,
+
+    /// A CRL (RFC 5280 5.1).
+    Crl,
+
+    /// A PKCS #10 request, a CSR (RFC 2986 4).
+    Csr,
+
+    /// A trust anchor (RFC 5914 3). A certificate is one too.
+    Anchor,
+}
+
+/// The document of the value that the bytes are the encoding of, where they are that of one.
+fn shown_of<T: Decode + Show + Drop>(
+    alloc: Global,
+    style: Style,
+    kind: &str,
+    bytes: &[u8],
+) -> Result<Option<String>, AllocError>
+    ensures { IfOk result (λ text. option_map string_bytes text ≡ objects.value_shown T.form T.lines kind.now style bytes.now) }
+{
+    match value_of::<T>(alloc, bytes)? {
+        Some(value) => Ok(Some(document(alloc, style, kind, &value)?)),
+        None => Ok(None),
+    }
+}
+
+/// The document of the object of this kind that the bytes are the encoding of, under no rules beyond the grammar (`Raw`); `None` exactly
+/// where they are that of none.
 ///
 /// # Errors
 ///
 /// `AllocError` when out of memory, and nothing else.
-#[tactic(auto, unfolding(crate::specs::Objects::certificate_shown))]
-pub fn show_bytes(alloc: Global, style: Style, bytes: &[u8]) -> Result<Option<String>, AllocError>
-    ensures { IfOk result (λ text. option_map string_bytes text ≡ objects.certificate_shown style bytes.now) }
+#[tactic(auto, unfolding(crate::specs::Objects::shown_as))]
+pub fn show_kind(
+    alloc: Global,
+    style: Style,
+    kind: Kind,
+    bytes: &[u8],
+) -> Result<Option<String>, AllocError>
+    ensures { IfOk result (λ text. option_map string_bytes text ≡ objects.shown_as kind style bytes.now) }
 {
-    match value_of::<CertificateInner<Raw>>(alloc, bytes)? {
-        Some(certificate) => Ok(Some(certificate_text(alloc, style, &certificate)?)),
-        None => Ok(None),
+    match kind {
+        Kind::Certificate => {
+            shown_of::<CertificateInner<Raw>>(alloc, style, "certificate", bytes)
+        }
+        Kind::Crl => shown_of::<CertificateList<Raw>>(alloc, style, "CRL", bytes),
+        Kind::Csr => shown_of::<CertReq>(alloc, style, "CSR", bytes),
+        Kind::Anchor => shown_of::<TrustAnchorChoice<Raw>>(alloc, style, "trust anchor", bytes),
     }
+}
+
+/// The document of the first kind of object that the bytes are the encoding of, in this order: a certificate, a CRL, a CSR, a trust anchor,
+/// under no rules beyond the grammar (`Raw`); `None` exactly where they are that of none.
+///
+/// # Errors
+///
+/// `AllocError` when out of memory, and nothing else.
+#[tactic(auto, unfolding(crate::specs::Objects::shown))]
+pub fn show_bytes(alloc: Global, style: Style, bytes: &[u8]) -> Result<Option<String>, AllocError>
+    ensures { IfOk result (λ text. option_map string_bytes text ≡ objects.shown style bytes.now) }
+{
+    if let Some(text) = show_kind(alloc, style, Kind::Certificate, bytes)? {
+        return Ok(Some(text));
+    }
+    if let Some(text) = show_kind(alloc, style, Kind::Crl, bytes)? {
+        return Ok(Some(text));
+    }
+    if let Some(text) = show_kind(alloc, style, Kind::Csr, bytes)? {
+        return Ok(Some(text));
+    }
+    show_kind(alloc, style, Kind::Anchor, bytes)
 }

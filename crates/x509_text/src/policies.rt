@@ -4,7 +4,7 @@ ghost use Rattle.std.specs.Prelude.{◌≡◌, ◌++◌, OnOk, string_bytes};
 ghost use Rattle.x509_text.specs.Policies as policies;
 
 use crate::line::{Place, write_line};
-use crate::show::{Show, show_each, show_option};
+use crate::show::{Show, show_each};
 use crate::values::{write_number, write_oid, write_optional_number};
 use std::alloc::{AllocError, Global};
 use x509_cert::der::asn1::SequenceOf;
@@ -14,18 +14,6 @@ use x509_cert::ext::pkix::{
     CertificatePolicies, InhibitAnyPolicy, NameConstraints, PolicyConstraints, PolicyMapping,
     PolicyMappings,
 };
-
-#[tactic(auto, unfolding(crate::specs::Policies::qualifier_lines))]
-impl Show for PolicyQualifierInfo {
-    ghost use Rattle.x509_text.specs.Policies.{qualifier_lines};
-
-    ghost lines = { qualifier_lines };
-
-    fn show(&self, alloc: Global, at: Place, out: &mut String) -> Result<(), AllocError> {
-        write_oid(alloc, at, "qualifier", &self.policy_qualifier_id, out)?;
-        show_option(alloc, at.below(), &self.qualifier, out)
-    }
-}
 
 /// Writes qualifiers that may be left out.
 fn write_optional_qualifiers(

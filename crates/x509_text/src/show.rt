@@ -7,7 +7,7 @@ ghost use Rattle.x509_text.specs.Payloads as payloads;
 use crate::line::{Place, write_line};
 use std::alloc::{AllocError, Global};
 use x509_cert::der::asn1::Any;
-use x509_cert::der::{Decode, ErrorKind};
+use x509_cert::der::{Decode, Encode, ErrorKind};
 
 /// A value that is printed as lines.
 pub(crate) trait Show {
@@ -105,7 +105,26 @@ pub(crate) fn show_payload<T: Decode + Show + Drop>(
     }
 }
 
-/// The same of a value that stands as an element of any type.
+/// Writes the encoding of an element in hex.
+#[tactic(auto, unfolding(crate::specs::Payloads::element_line))]
+pub(crate) fn write_element(
+    alloc: Global,
+    at: Place,
+    label: &str,
+    any: &Any,
+    out: &mut String,
+) -> Result<(), AllocError>
+    ensures { OnOk result (string_bytes out.new ≡ string_bytes out.old ++ payloads.element_line at label.now any.now) }
+{
+    match any.to_der(alloc) {
+        Ok(octets) => write_octets(alloc, at, label, octets.as_slice(), out),
+        // An element is never longer than the limit, so there is no memory.
+        Err(_) => Err(AllocError),
+    }
+}
+
+/// Writes the lines of the value that the element is the encoding of; where it is that of none, the element in hex, with a word
+/// that says so.
 pub(crate) fn show_any<T: Decode + Show + Drop>(
     alloc: Global,
     at: Place,
@@ -118,7 +137,22 @@ pub(crate) fn show_any<T: Decode + Show + Drop>(
         Ok(value) => value.show(alloc, at, out),
         Err(e) => match e.kind() {
             ErrorKind::Memory => Err(AllocError),
-            _ => write_octets(alloc, at, "undecodable", any.value(), out),
+            _ => write_element(alloc, at, "undecodable", any, out),
         },
     }
+}
+
+/// Writes the lines of each element so.
+pub(crate) fn show_each_any<T: Decode + Show + Drop>(
+    alloc: Global,
+    at: Place,
+    elements: &[Any],
+    out: &mut String,
+) -> Result<(), AllocError>
+    ensures { OnOk result (string_bytes out.new ≡ string_bytes out.old ++ flat_map (payloads.any_lines T.form T.lines at) elements.now) }
+{
+    for any in elements {
+        show_any::<T>(alloc, at, any, out)?;
+    }
+    Ok(())
 }

@@ -6,12 +6,12 @@ ghost use Rattle.x509_text.specs.Values as values;
 
 use crate::line::{Place, write_line};
 use crate::names::name_of;
-use crate::show::write_octets;
+use crate::show::{write_element, write_octets};
 use std::alloc::{AllocError, Global};
 use std::net::{Ipv4Addr, Ipv6Addr};
 use x509_cert::certificate::Profile;
 use x509_cert::der::asn1::{Any, BitString, ObjectIdentifier, Uint};
-use x509_cert::der::{Encode, ErrorKind, Tag};
+use x509_cert::der::{ErrorKind, Tag};
 use x509_cert::name::Name;
 use x509_cert::serial_number::SerialNumber;
 use x509_cert::time::DateTime;
@@ -103,10 +103,10 @@ pub(crate) fn write_serial<P: Profile>(
     write_line(alloc, at, label, text.as_str(), out)
 }
 
-/// The text of a moment, as `2025-01-31 08:30:00 UTC`.
-#[tactic(auto, unfolding(crate::specs::Values::moment_text))]
-pub(crate) fn moment_text(alloc: Global, moment: &DateTime) -> Result<String, AllocError>
-    ensures { IfOk result (λ text. string_bytes text ≡ values.moment_text moment.now) }
+/// The text of a date and a time of day, as `2025-01-31 08:30:00`.
+#[tactic(auto, unfolding(crate::specs::Values::second_text))]
+pub(crate) fn second_text(alloc: Global, moment: &DateTime) -> Result<String, AllocError>
+    ensures { IfOk result (λ text. string_bytes text ≡ values.second_text moment.now) }
 {
     let year = moment.year();
     let month = moment.month();
@@ -114,7 +114,16 @@ pub(crate) fn moment_text(alloc: Global, moment: &DateTime) -> Result<String, Al
     let hour = moment.hour();
     let minutes = moment.minutes();
     let seconds = moment.seconds();
-    format!(in alloc; "{year:04}-{month:02}-{day:02} {hour:02}:{minutes:02}:{seconds:02} UTC")
+    format!(in alloc; "{year:04}-{month:02}-{day:02} {hour:02}:{minutes:02}:{seconds:02}")
+}
+
+/// The text of a moment, as `2025-01-31 08:30:00 UTC`.
+fn moment_text(alloc: Global, moment: &DateTime) -> Result<String, AllocError>
+    ensures { IfOk result (λ text. string_bytes text ≡ values.moment_text moment.now) }
+{
+    let mut text = second_text(alloc, moment)?;
+    text.push_str(" UTC")?;
+    Ok(text)
 }
 
 /// Writes a moment.
@@ -193,24 +202,6 @@ pub(crate) fn write_optional_bits(
     match bits {
         Some(bits) => write_bits(alloc, at, label, bits, out),
         None => Ok(()),
-    }
-}
-
-/// Writes the encoding of an element in hex.
-#[tactic(auto, unfolding(crate::specs::Values::element_line))]
-fn write_element(
-    alloc: Global,
-    at: Place,
-    label: &str,
-    any: &Any,
-    out: &mut String,
-) -> Result<(), AllocError>
-    ensures { OnOk result (string_bytes out.new ≡ string_bytes out.old ++ values.element_line at label.now any.now) }
-{
-    match any.to_der(alloc) {
-        Ok(octets) => write_octets(alloc, at, label, octets.as_slice(), out),
-        // An element is never longer than the limit, so there is no memory.
-        Err(_) => Err(AllocError),
     }
 }
 
