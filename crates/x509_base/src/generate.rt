@@ -48,8 +48,10 @@ impl<P: Profile> SerialNumber<P> {
         rng: &mut R,
     ) -> Result<SerialNumber<P>, Error>
         ensures lengths { are_lengths prefix.now rand_len ≡ false → IsErrAnd result (λ e. (e.kind ≡ errors.Failed) × (rng.new ≡ rng.old)) }
-        ensures ok { IfOk result (λ serial. (fill : List ℕ) × Draws rand_len (R.stream rng.old) fill (R.stream rng.new) × (serial ≡ number_content (prefix.now ++ fill))) }
-        ensures err { are_lengths prefix.now rand_len ≡ true → IfErr result (λ e. (e.kind ≡ errors.Failed) × GivesZeros rand_len (R.stream rng.old) (R.stream rng.new)) }
+        ensures ok { IfOk result (λ serial. (fill : List ℕ) × Draws rand_len (R.stream rng.old) fill (R.stream rng.new)
+            × (serial ≡ number_content (prefix.now ++ fill))) }
+        ensures err { are_lengths prefix.now rand_len ≡ true → IfErr result (λ e. (e.kind ≡ errors.Failed)
+            × GivesZeros rand_len (R.stream rng.old) (R.stream rng.new)) }
     {
         if rand_len < FEWEST_RANDOM
             || rand_len > MOST_OCTETS

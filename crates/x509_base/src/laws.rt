@@ -52,12 +52,14 @@ pub fn raw_dates_stay()
 
 /// Under [`Rfc5280`] each of the two dates is encoded as UTCTime through 2049 and else as it is; none is refused.
 pub fn rfc5280_dates()
-    ensures { (v : Validity rfc5280.Rfc5280) → writes ⟦<Validity<Rfc5280> as Encode>⟧.writing v ≡ record { value = record { not_before = rfc5280_time v.not_before; not_after = rfc5280_time v.not_after; profile = v.profile }; refusal = None } }
+    ensures { (v : Validity rfc5280.Rfc5280) → writes ⟦<Validity<Rfc5280> as Encode>⟧.writing v
+        ≡ record { value = record { not_before = rfc5280_time v.not_before; not_after = rfc5280_time v.not_after; profile = v.profile }; refusal = None } }
 {}
 
 /// Where a profile spells a date that it has spelled as it is, what is encoded of a validity is encoded again as it is.
 pub fn dates_are_written_once<P: Profile>()
-    ensures { ((t u : Time) → time.good t → P.time_of t ≡ Ok u → time.good u × (P.time_of u ≡ Ok u)) → IsStable validity.good ⟦<Validity<P> as Encode>⟧.writing }
+    ensures { ((t u : Time) → time.good t → P.time_of t ≡ Ok u → time.good u × (P.time_of u ≡ Ok u))
+        → IsStable validity.good ⟦<Validity<P> as Encode>⟧.writing }
 {}
 
 /// Under [`Rfc5280`] what is encoded of a validity is encoded again as it is: decoding and encoding twice gives the
@@ -89,7 +91,8 @@ pub fn equality_of_serial_numbers_is_exact<P: Profile>()
 
 /// Serial numbers that have an encoding are ordered, as keys, by the bytes of their encodings.
 pub fn serial_numbers_stand_in_the_order_of_encodings<P: Profile>()
-    ensures { (v w a b : List ℕ) → Spells (serial_number P.serial_check) v a → Spells (serial_number P.serial_check) w b → ⟦<SerialNumber<P> as Ord>⟧.cmp v w ≡ bytes_cmp a b }
+    ensures { (v w a b : List ℕ) → Spells (serial_number P.serial_check) v a → Spells (serial_number P.serial_check) w b
+        → ⟦<SerialNumber<P> as Ord>⟧.cmp v w ≡ bytes_cmp a b }
 {
     encodings_in_order::<SerialNumber<P>>();
 }
@@ -97,7 +100,8 @@ pub fn serial_numbers_stand_in_the_order_of_encodings<P: Profile>()
 /// Serial numbers that are `==` have one hash, and neither is before the other.
 pub fn equal_serial_numbers_are_one_key<P: Profile>()
     ensures order { (a b : List ℕ) → (⟦<SerialNumber<P> as PartialEq>⟧.eq a b ≡ true) ↔ (⟦<SerialNumber<P> as Ord>⟧.cmp a b ≡ Equal) }
-    ensures hash { (a b : List ℕ) → ⟦<SerialNumber<P> as PartialEq>⟧.eq a b ≡ true → ⟦<SerialNumber<P> as Hash>⟧.hash_input a ≡ ⟦<SerialNumber<P> as Hash>⟧.hash_input b }
+    ensures hash { (a b : List ℕ) → ⟦<SerialNumber<P> as PartialEq>⟧.eq a b ≡ true
+        → ⟦<SerialNumber<P> as Hash>⟧.hash_input a ≡ ⟦<SerialNumber<P> as Hash>⟧.hash_input b }
 {}
 
 /// `==` of algorithms and of public keys holds exactly of equal values, and of borrowed keys exactly where algorithm and
@@ -106,5 +110,6 @@ pub fn equal_serial_numbers_are_one_key<P: Profile>()
 pub fn equality_of_keys_is_exact<'a>()
     ensures algorithms { (a b : AlgorithmIdentifier) → (⟦<AlgorithmIdentifier as PartialEq>⟧.eq a b ≡ true) ↔ (a ≡ b) }
     ensures keys { (a b : SubjectPublicKeyInfo) → (⟦<SubjectPublicKeyInfo as PartialEq>⟧.eq a b ≡ true) ↔ (a ≡ b) }
-    ensures key_refs { (a b : SubjectPublicKeyInfoRef) → (⟦<SubjectPublicKeyInfoRef<'a> as PartialEq>⟧.eq a b ≡ true) ↔ ((a.algorithm.now ≡ b.algorithm.now) × (a.subject_public_key.now ≡ b.subject_public_key.now)) }
+    ensures key_refs { (a b : SubjectPublicKeyInfoRef) → (⟦<SubjectPublicKeyInfoRef<'a> as PartialEq>⟧.eq a b ≡ true)
+        ↔ ((a.algorithm.now ≡ b.algorithm.now) × (a.subject_public_key.now ≡ b.subject_public_key.now)) }
 {}

@@ -58,11 +58,15 @@ pub trait Builder: Sized + Drop {
     /// errors; `Asn1` where the signed part can't be made or encoded. `Memory`, within these, when out of memory. On an
     /// error the builder is unchanged.
     fn finalize<S: Signer>(&mut self, alloc: Global, signer: &S) -> Result<Vec<u8>>
-        ensures ok { IfOk result (λ bytes. Encodes Self.Signed.form Self.Signed.writing (next self.old (S.algorithm_of signer.now) (S.key_of signer.now)) bytes.items) }
+        ensures ok { IfOk result (λ bytes. Encodes Self.Signed.form Self.Signed.writing
+            (next self.old (S.algorithm_of signer.now) (S.key_of signer.now)) bytes.items) }
         ensures part { OnOk result (current self.new ≡ (next self.old (S.algorithm_of signer.now) (S.key_of signer.now)).value) }
-        ensures again { OnOk result ((algorithm : AlgorithmIdentifier) (key : SubjectPublicKeyInfo) → IsSame (next self.new algorithm key) (next self.old algorithm key)) }
+        ensures again { OnOk result ((algorithm : AlgorithmIdentifier) (key : SubjectPublicKeyInfo)
+            → IsSame (next self.new algorithm key) (next self.old algorithm key)) }
         ensures kept { OnOk result (keeps self.old self.new) }
-        ensures err { IfErr result (λ e. ((asks_algorithm × ByKey (S.may_refuse_algorithm signer.now) e) ⊎ (asks_key × ByKey (S.may_refuse_key signer.now) e)) ⊎ PartRefuses Self.Signed.form Self.Signed.writing (next self.old (S.algorithm_of signer.now) (S.key_of signer.now)) e) }
+        ensures err { IfErr result (λ e. ((asks_algorithm × ByKey (S.may_refuse_algorithm signer.now) e)
+            ⊎ (asks_key × ByKey (S.may_refuse_key signer.now) e)) ⊎ PartRefuses Self.Signed.form Self.Signed.writing
+            (next self.old (S.algorithm_of signer.now) (S.key_of signer.now)) e) }
         ensures unchanged { OnErr result (self.new ≡ self.old) };
 
     /// Puts the signed part of the last `finalize` and the signature together; before any `finalize` that is the part
@@ -87,8 +91,15 @@ pub trait Builder: Sized + Drop {
     ///
     /// Those of `finalize` and of `assemble`, and `Signature` of the signer's error for the encoding.
     final fn build<S: Signer>(mut self, alloc: Global, signer: &S) -> Result<Self::Output>
-        ensures ok { IfOk result (λ output. (message : List ℕ) × (bits : BitParts) × Encodes Self.Signed.form Self.Signed.writing (next self (S.algorithm_of signer.now) (S.key_of signer.now)) message × S.signs signer.now message bits × (output ≡ whole (next self (S.algorithm_of signer.now) (S.key_of signer.now)).value (S.algorithm_of signer.now) bits)) }
-        ensures err { IfErr result (λ e. (((asks_algorithm ⊎ assembles_by_algorithm) × ByKey (S.may_refuse_algorithm signer.now) e) ⊎ (asks_key × ByKey (S.may_refuse_key signer.now) e)) ⊎ (PartRefuses Self.Signed.form Self.Signed.writing (next self (S.algorithm_of signer.now) (S.key_of signer.now)) e ⊎ ((message : List ℕ) × Encodes Self.Signed.form Self.Signed.writing (next self (S.algorithm_of signer.now) (S.key_of signer.now)) message × BySigning (S.may_refuse_message signer.now message) e))) }
+        ensures ok { IfOk result (λ output. (message : List ℕ) × (bits : BitParts)
+            × Encodes Self.Signed.form Self.Signed.writing (next self (S.algorithm_of signer.now) (S.key_of signer.now)) message
+            × S.signs signer.now message bits × (output ≡ whole (next self (S.algorithm_of signer.now) (S.key_of signer.now)).value
+            (S.algorithm_of signer.now) bits)) }
+        ensures err { IfErr result (λ e. (((asks_algorithm ⊎ assembles_by_algorithm) × ByKey (S.may_refuse_algorithm signer.now) e)
+            ⊎ (asks_key × ByKey (S.may_refuse_key signer.now) e)) ⊎ (PartRefuses Self.Signed.form Self.Signed.writing
+            (next self (S.algorithm_of signer.now) (S.key_of signer.now)) e
+            ⊎ ((message : List ℕ) × Encodes Self.Signed.form Self.Signed.writing (next self (S.algorithm_of signer.now) (S.key_of signer.now)) message
+            × BySigning (S.may_refuse_message signer.now message) e))) }
     {
         let message = self.finalize(alloc, signer)?;
         let signature = signer.try_sign(alloc, message.as_slice())?;
@@ -106,8 +117,15 @@ pub trait Builder: Sized + Drop {
         signer: &S,
         rng: &mut R,
     ) -> Result<Self::Output>
-        ensures ok { IfOk result (λ output. (message : List ℕ) × (bits : BitParts) × Encodes Self.Signed.form Self.Signed.writing (next self (S.algorithm_of signer.now) (S.key_of signer.now)) message × S.signs_with_rng signer.now message bits × (output ≡ whole (next self (S.algorithm_of signer.now) (S.key_of signer.now)).value (S.algorithm_of signer.now) bits)) }
-        ensures err { IfErr result (λ e. (((asks_algorithm ⊎ assembles_by_algorithm) × ByKey (S.may_refuse_algorithm signer.now) e) ⊎ (asks_key × ByKey (S.may_refuse_key signer.now) e)) ⊎ (PartRefuses Self.Signed.form Self.Signed.writing (next self (S.algorithm_of signer.now) (S.key_of signer.now)) e ⊎ ((message : List ℕ) × Encodes Self.Signed.form Self.Signed.writing (next self (S.algorithm_of signer.now) (S.key_of signer.now)) message × BySigning (S.may_refuse_message signer.now message) e))) }
+        ensures ok { IfOk result (λ output. (message : List ℕ) × (bits : BitParts)
+            × Encodes Self.Signed.form Self.Signed.writing (next self (S.algorithm_of signer.now) (S.key_of signer.now)) message
+            × S.signs_with_rng signer.now message bits × (output ≡ whole (next self (S.algorithm_of signer.now) (S.key_of signer.now)).value
+            (S.algorithm_of signer.now) bits)) }
+        ensures err { IfErr result (λ e. (((asks_algorithm ⊎ assembles_by_algorithm) × ByKey (S.may_refuse_algorithm signer.now) e)
+            ⊎ (asks_key × ByKey (S.may_refuse_key signer.now) e)) ⊎ (PartRefuses Self.Signed.form Self.Signed.writing
+            (next self (S.algorithm_of signer.now) (S.key_of signer.now)) e
+            ⊎ ((message : List ℕ) × Encodes Self.Signed.form Self.Signed.writing (next self (S.algorithm_of signer.now) (S.key_of signer.now)) message
+            × BySigning (S.may_refuse_message signer.now message) e))) }
     {
         let message = self.finalize(alloc, signer)?;
         let signature = signer.try_sign_with_rng(alloc, rng, message.as_slice())?;

@@ -70,7 +70,8 @@ impl<P: BuilderProfile> CertificateBuilder<P> {
         validity: Validity,
         subject_public_key_info: SubjectPublicKeyInfo,
     ) -> Result<CertificateBuilder<P>>
-        ensures { Gives (λ builder. builder) (new_builder (P.subject_of profile) (P.issuer_of profile) profile serial_number validity subject_public_key_info) result }
+        ensures { Gives (λ builder. builder) (new_builder (P.subject_of profile)
+            (P.issuer_of profile) profile serial_number validity subject_public_key_info) result }
     {
         let subject = profile.get_subject(alloc)?;
         let issuer = profile.get_issuer(alloc, &subject)?;
@@ -104,8 +105,10 @@ impl<P: BuilderProfile> CertificateBuilder<P> {
     /// `Asn1` of the error of [`ToExtension::to_extension`]. `Asn1` of `Memory` when out of memory. On an error the
     /// builder is unchanged, and the extension is dropped.
     pub fn add_extension<E: ToExtension>(&mut self, alloc: Global, extension: E) -> Result<()>
-        ensures ok { OnOk result ((made : Extension) × E.makes extension self.old.tbs.subject self.old.extensions (Ok made) × (self.new ≡ record self.old { extensions = self.old.extensions ++ made ∷ [] })) }
-        ensures err { IfErr result (λ e. LacksMemory e ⊎ ((refusal : Error) × (e ≡ Asn1 refusal) × E.makes extension self.old.tbs.subject self.old.extensions (Err refusal))) }
+        ensures ok { OnOk result ((made : Extension) × E.makes extension self.old.tbs.subject self.old.extensions (Ok made)
+            × (self.new ≡ record self.old { extensions = self.old.extensions ++ made ∷ [] })) }
+        ensures err { IfErr result (λ e. LacksMemory e ⊎ ((refusal : Error) × (e ≡ Asn1 refusal)
+            × E.makes extension self.old.tbs.subject self.old.extensions (Err refusal))) }
         ensures unchanged { OnErr result (self.new ≡ self.old) }
     {
         let made = extension.to_extension(alloc, self.tbs.subject(), self.extensions.as_slice())?;
@@ -262,7 +265,8 @@ impl<P: BuilderProfile> Builder for CertificateBuilder<P> {
         signature: BitString,
         _signer: &S,
     ) -> Result<Certificate>
-        ensures ok { IfOk result (λ certificate. certificate ≡ record { tbs_certificate = self.tbs; signature_algorithm = self.tbs.signature; signature = signature }) }
+        ensures ok { IfOk result (λ certificate. certificate ≡
+            record { tbs_certificate = self.tbs; signature_algorithm = self.tbs.signature; signature = signature }) }
         ensures err { IfErr result LacksMemory }
     {
         let CertificateBuilder {

@@ -54,9 +54,17 @@ impl<P: Profile> CrlBuilder<P> {
         crl_number: CrlNumber,
         now: Duration,
     ) -> Result<CrlBuilder<P>>
-        ensures ok { IfOk result (λ builder. (time : Time) × IsTimeAt (whole_seconds now) time × Starts (Finds ⟦<SubjectKeyIdentifier as Grammar>⟧.form ⟦<SubjectKeyIdentifier as Decode>⟧.refuses ⟦<SubjectKeyIdentifier as Decode>⟧.wants_memory (with_oid (id_ce 14) (look_up.members issuer.now.tbs_certificate.extensions))) issuer.now.tbs_certificate crl_number.0 time builder) }
-        ensures err { IfErr result (λ e. ((refusal : Error) × (e ≡ Asn1 refusal) × (refusal.kind ≡ Value) × (unix_seconds last_date_time < whole_seconds now)) ⊎ (LacksMemory e ⊎ RefusesStart (Finds ⟦<SubjectKeyIdentifier as Grammar>⟧.form ⟦<SubjectKeyIdentifier as Decode>⟧.refuses ⟦<SubjectKeyIdentifier as Decode>⟧.wants_memory (with_oid (id_ce 14) (look_up.members issuer.now.tbs_certificate.extensions))) issuer.now.tbs_certificate crl_number.0 e)) }
-        ensures late { IfErr result (λ e. ((refusal : Error) × (e ≡ Asn1 refusal) × (refusal.kind ≡ Value)) ⊎ (whole_seconds now ≤ unix_seconds last_date_time)) }
+        ensures ok { IfOk result (λ builder. (time : Time) × IsTimeAt (whole_seconds now) time
+            × Starts (Finds ⟦<SubjectKeyIdentifier as Grammar>⟧.form ⟦<SubjectKeyIdentifier as Decode>⟧.refuses
+            ⟦<SubjectKeyIdentifier as Decode>⟧.wants_memory (with_oid (id_ce 14) (look_up.members issuer.now.tbs_certificate.extensions)))
+            issuer.now.tbs_certificate crl_number.0 time builder) }
+        ensures err { IfErr result (λ e. ((refusal : Error) × (e ≡ Asn1 refusal) × (refusal.kind ≡ Value)
+            × (unix_seconds last_date_time < whole_seconds now)) ⊎ (LacksMemory e
+            ⊎ RefusesStart (Finds ⟦<SubjectKeyIdentifier as Grammar>⟧.form ⟦<SubjectKeyIdentifier as Decode>⟧.refuses
+            ⟦<SubjectKeyIdentifier as Decode>⟧.wants_memory (with_oid (id_ce 14) (look_up.members issuer.now.tbs_certificate.extensions)))
+            issuer.now.tbs_certificate crl_number.0 e)) }
+        ensures late { IfErr result (λ e. ((refusal : Error) × (e ≡ Asn1 refusal) × (refusal.kind ≡ Value))
+            ⊎ (whole_seconds now ≤ unix_seconds last_date_time)) }
     {
         let this_update = Time::from(DateTime::from_unix_duration(now)?);
         CrlBuilder::new_with_this_update(alloc, issuer, crl_number, this_update)
@@ -77,8 +85,12 @@ impl<P: Profile> CrlBuilder<P> {
         crl_number: CrlNumber,
         this_update: Time,
     ) -> Result<CrlBuilder<P>>
-        ensures ok { IfOk result (λ builder. Starts (Finds ⟦<SubjectKeyIdentifier as Grammar>⟧.form ⟦<SubjectKeyIdentifier as Decode>⟧.refuses ⟦<SubjectKeyIdentifier as Decode>⟧.wants_memory (with_oid (id_ce 14) (look_up.members issuer.now.tbs_certificate.extensions))) issuer.now.tbs_certificate crl_number.0 this_update builder) }
-        ensures err { IfErr result (λ e. LacksMemory e ⊎ RefusesStart (Finds ⟦<SubjectKeyIdentifier as Grammar>⟧.form ⟦<SubjectKeyIdentifier as Decode>⟧.refuses ⟦<SubjectKeyIdentifier as Decode>⟧.wants_memory (with_oid (id_ce 14) (look_up.members issuer.now.tbs_certificate.extensions))) issuer.now.tbs_certificate crl_number.0 e) }
+        ensures ok { IfOk result (λ builder. Starts (Finds ⟦<SubjectKeyIdentifier as Grammar>⟧.form ⟦<SubjectKeyIdentifier as Decode>⟧.refuses
+            ⟦<SubjectKeyIdentifier as Decode>⟧.wants_memory (with_oid (id_ce 14) (look_up.members issuer.now.tbs_certificate.extensions)))
+            issuer.now.tbs_certificate crl_number.0 this_update builder) }
+        ensures err { IfErr result (λ e. LacksMemory e ⊎ RefusesStart
+            (Finds ⟦<SubjectKeyIdentifier as Grammar>⟧.form ⟦<SubjectKeyIdentifier as Decode>⟧.refuses ⟦<SubjectKeyIdentifier as Decode>⟧.wants_memory
+            (with_oid (id_ce 14) (look_up.members issuer.now.tbs_certificate.extensions))) issuer.now.tbs_certificate crl_number.0 e) }
     {
         let name = issuer.tbs_certificate().subject().try_clone(alloc)?;
         let identifier = issuer_key(alloc, issuer)?;
@@ -108,8 +120,10 @@ impl<P: Profile> CrlBuilder<P> {
     /// `Asn1` of the error of [`ToExtension::to_extension`]. `Asn1` of `Memory` when out of memory. On an error the
     /// builder is unchanged, and the extension is dropped.
     pub fn add_extension<E: ToExtension>(&mut self, alloc: Global, extension: E) -> Result<()>
-        ensures ok { OnOk result ((made : Extension) × E.makes extension self.old.tbs.issuer self.old.extensions (Ok made) × (self.new ≡ record self.old { extensions = self.old.extensions ++ made ∷ [] })) }
-        ensures err { IfErr result (λ e. LacksMemory e ⊎ ((refusal : Error) × (e ≡ Asn1 refusal) × E.makes extension self.old.tbs.issuer self.old.extensions (Err refusal))) }
+        ensures ok { OnOk result ((made : Extension) × E.makes extension self.old.tbs.issuer self.old.extensions (Ok made)
+            × (self.new ≡ record self.old { extensions = self.old.extensions ++ made ∷ [] })) }
+        ensures err { IfErr result (λ e. LacksMemory e ⊎ ((refusal : Error) × (e ≡ Asn1 refusal)
+            × E.makes extension self.old.tbs.issuer self.old.extensions (Err refusal))) }
         ensures unchanged { OnErr result (self.new ≡ self.old) }
     {
         let made = extension.to_extension(alloc, &self.tbs.issuer, self.extensions.as_slice())?;
@@ -167,7 +181,8 @@ impl<P: Profile> CrlBuilder<P> {
     ) -> Result<CrlBuilder<P>>
         requires can { I.can_next revoked }
         requires ends { IsFinite (I.remaining revoked) }
-        ensures ok { IfOk result (λ builder. (added : List (RevokedCert P)) × Drains I.next_gives revoked added × (builder ≡ record self { tbs = record self.tbs { revoked_certificates = Some (members self.tbs.revoked_certificates ++ added) } })) }
+        ensures ok { IfOk result (λ builder. (added : List (RevokedCert P)) × Drains I.next_gives revoked added
+            × (builder ≡ record self { tbs = record self.tbs { revoked_certificates = Some (members self.tbs.revoked_certificates ++ added) } })) }
         ensures err { IfErr result LacksMemory }
     {
         let mut builder = self;
@@ -251,7 +266,12 @@ impl<P: Profile> Builder for CrlBuilder<P> {
         signature: BitString,
         _signer: &S,
     ) -> Result<CertificateList<P>>
-        ensures ok { IfOk result (λ list. list ≡ record { tbs_cert_list = parts.current_part self.finalized self.tbs; signature_algorithm = (parts.current_part self.finalized self.tbs).signature; signature = signature }) }
+        ensures ok { IfOk result (λ list. list ≡ record {
+          tbs_cert_list = parts.current_part self.finalized self.tbs;
+          signature_algorithm =
+              (parts.current_part self.finalized self.tbs).signature;
+          signature = signature;
+        }) }
         ensures err { IfErr result LacksMemory }
     {
         let CrlBuilder {

@@ -16,8 +16,11 @@ use x509_prim::OctetString;
 
 /// The identifier of a certificate's key: its SKI, and where it has none, the SHA-1 digest of the key.
 pub(crate) fn issuer_key(alloc: Global, issuer: &Certificate) -> Result<OctetString, Error>
-    ensures ok { IfOk result (λ identifier. IdentifiesKey (Finds ⟦<SubjectKeyIdentifier as Grammar>⟧.form ⟦<SubjectKeyIdentifier as Decode>⟧.refuses ⟦<SubjectKeyIdentifier as Decode>⟧.wants_memory (with_oid (id_ce 14) (members issuer.now.tbs_certificate.extensions))) (key_octets issuer.now.tbs_certificate) identifier) }
-    ensures err { IfErr result (λ e. (e.kind ≡ Memory) ⊎ Finds ⟦<SubjectKeyIdentifier as Grammar>⟧.form ⟦<SubjectKeyIdentifier as Decode>⟧.refuses ⟦<SubjectKeyIdentifier as Decode>⟧.wants_memory (with_oid (id_ce 14) (members issuer.now.tbs_certificate.extensions)) (Err e)) }
+    ensures ok { IfOk result (λ identifier. IdentifiesKey (Finds ⟦<SubjectKeyIdentifier as Grammar>⟧.form ⟦<SubjectKeyIdentifier as Decode>⟧.refuses
+        ⟦<SubjectKeyIdentifier as Decode>⟧.wants_memory (with_oid (id_ce 14) (members issuer.now.tbs_certificate.extensions)))
+        (key_octets issuer.now.tbs_certificate) identifier) }
+    ensures err { IfErr result (λ e. (e.kind ≡ Memory) ⊎ Finds ⟦<SubjectKeyIdentifier as Grammar>⟧.form ⟦<SubjectKeyIdentifier as Decode>⟧.refuses
+        ⟦<SubjectKeyIdentifier as Decode>⟧.wants_memory (with_oid (id_ce 14) (members issuer.now.tbs_certificate.extensions)) (Err e)) }
 {
     let part = issuer.tbs_certificate();
     match part.get_extension::<SubjectKeyIdentifier>(alloc)? {

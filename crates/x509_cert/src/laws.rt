@@ -66,31 +66,43 @@ pub fn crls_stay<P: Profile>()
 
 /// Two values with the same encoding are equal, also where the profile refuses their serial numbers in decoding.
 pub fn crls_written_alike_are_one<P: Profile>()
-    ensures entry { (v w : RevokedCert P) → any_revoked_cert.good v → any_revoked_cert.good w → written_spelling (revoked_cert P.serial_check) (writes ⟦<RevokedCert<P> as Encode>⟧.writing v) ≡ written_spelling (revoked_cert P.serial_check) (writes ⟦<RevokedCert<P> as Encode>⟧.writing w) → v ≡ w }
-    ensures signed { (v w : TbsCertList P) → any_tbs_cert_list.good v → any_tbs_cert_list.good w → written_spelling (tbs_cert_list P.serial_check) (writes ⟦<TbsCertList<P> as Encode>⟧.writing v) ≡ written_spelling (tbs_cert_list P.serial_check) (writes ⟦<TbsCertList<P> as Encode>⟧.writing w) → v ≡ w }
-    ensures list { (v w : CertificateList P) → any_certificate_list.good v → any_certificate_list.good w → written_spelling (certificate_list P.serial_check) (writes ⟦<CertificateList<P> as Encode>⟧.writing v) ≡ written_spelling (certificate_list P.serial_check) (writes ⟦<CertificateList<P> as Encode>⟧.writing w) → v ≡ w }
+    ensures entry { (v w : RevokedCert P) → any_revoked_cert.good v → any_revoked_cert.good w
+        → written_spelling (revoked_cert P.serial_check) (writes ⟦<RevokedCert<P> as Encode>⟧.writing v)
+        ≡ written_spelling (revoked_cert P.serial_check) (writes ⟦<RevokedCert<P> as Encode>⟧.writing w) → v ≡ w }
+    ensures signed { (v w : TbsCertList P) → any_tbs_cert_list.good v → any_tbs_cert_list.good w
+        → written_spelling (tbs_cert_list P.serial_check) (writes ⟦<TbsCertList<P> as Encode>⟧.writing v)
+        ≡ written_spelling (tbs_cert_list P.serial_check) (writes ⟦<TbsCertList<P> as Encode>⟧.writing w) → v ≡ w }
+    ensures list { (v w : CertificateList P) → any_certificate_list.good v → any_certificate_list.good w
+        → written_spelling (certificate_list P.serial_check) (writes ⟦<CertificateList<P> as Encode>⟧.writing v)
+        ≡ written_spelling (certificate_list P.serial_check) (writes ⟦<CertificateList<P> as Encode>⟧.writing w) → v ≡ w }
 {}
 
 /// Bytes that are the encoding of a CRL have a signed part, which [`signed_slice`](crate::signed_slice)
 /// answers: it is the encoding of what is signed, and under every profile encoding that gives it again.
 pub fn crls_have_a_signed_part<P: Profile>()
-    ensures signed { (list : CertificateList P) (bytes : List ℕ) → Spells (certificate_list P.serial_check) list bytes → IsSignedPart bytes (spelling (tbs_cert_list P.serial_check) list.tbs_cert_list) }
-    ensures spelled { (list : CertificateList P) (bytes : List ℕ) → Spells (certificate_list P.serial_check) list bytes → Spells (tbs_cert_list P.serial_check) list.tbs_cert_list (spelling (tbs_cert_list P.serial_check) list.tbs_cert_list) }
-    ensures written { (signed : TbsCertList P) → written_spelling (tbs_cert_list P.serial_check) (writes ⟦<TbsCertList<P> as Encode>⟧.writing signed) ≡ spelling (tbs_cert_list P.serial_check) signed }
+    ensures signed { (list : CertificateList P) (bytes : List ℕ) → Spells (certificate_list P.serial_check) list bytes
+        → IsSignedPart bytes (spelling (tbs_cert_list P.serial_check) list.tbs_cert_list) }
+    ensures spelled { (list : CertificateList P) (bytes : List ℕ) → Spells (certificate_list P.serial_check) list bytes
+        → Spells (tbs_cert_list P.serial_check) list.tbs_cert_list (spelling (tbs_cert_list P.serial_check) list.tbs_cert_list) }
+    ensures written { (signed : TbsCertList P) → written_spelling (tbs_cert_list P.serial_check) (writes ⟦<TbsCertList<P> as Encode>⟧.writing signed)
+        ≡ spelling (tbs_cert_list P.serial_check) signed }
 {}
 
 /// Under [`Rfc5280`] what is written of a CRL that a program made is read as the very CRL, where the serial number of each entry
 /// has at most 21 octets.
 #[tactic(auto, using(crate::proofs::Made::made_for_rfc5280))]
 pub fn rfc5280_crls_are_read_as_meant(list: &CertificateList<Rfc5280>)
-    ensures { MadeList (λ serial. length serial ≤ 21) list.now.tbs_cert_list → length (spelling ⟦<CertificateList<Rfc5280> as Grammar>⟧.form list.now) ≤ limit → Spells ⟦<CertificateList<Rfc5280> as Grammar>⟧.form list.now (spelling ⟦<CertificateList<Rfc5280> as Grammar>⟧.form list.now) }
+    ensures { MadeList (λ serial. length serial ≤ 21) list.now.tbs_cert_list
+        → length (spelling ⟦<CertificateList<Rfc5280> as Grammar>⟧.form list.now) ≤ limit
+        → Spells ⟦<CertificateList<Rfc5280> as Grammar>⟧.form list.now (spelling ⟦<CertificateList<Rfc5280> as Grammar>⟧.form list.now) }
 {
     list.has_spelling();
 }
 
 /// Under [`Raw`] it is read as the very CRL, whatever the serial numbers.
 pub fn raw_crls_are_read_as_meant(list: &CertificateList<Raw>)
-    ensures { length (spelling ⟦<CertificateList<Raw> as Grammar>⟧.form list.now) ≤ limit → Spells ⟦<CertificateList<Raw> as Grammar>⟧.form list.now (spelling ⟦<CertificateList<Raw> as Grammar>⟧.form list.now) }
+    ensures { length (spelling ⟦<CertificateList<Raw> as Grammar>⟧.form list.now) ≤ limit
+        → Spells ⟦<CertificateList<Raw> as Grammar>⟧.form list.now (spelling ⟦<CertificateList<Raw> as Grammar>⟧.form list.now) }
 {
     list.has_spelling();
 }
@@ -120,13 +132,15 @@ pub fn requests_stay()
 /// answers: it is the encoding of what is signed, and encoding that gives it again.
 pub fn requests_have_a_signed_part()
     ensures signed { (request : CertReq) (bytes : List ℕ) → Spells cert_req request bytes → IsSignedPart bytes (spelling cert_req_info request.info) }
-    ensures spelled { (request : CertReq) (bytes : List ℕ) → Spells cert_req request bytes → Spells cert_req_info request.info (spelling cert_req_info request.info) }
+    ensures spelled { (request : CertReq) (bytes : List ℕ) → Spells cert_req request bytes
+        → Spells cert_req_info request.info (spelling cert_req_info request.info) }
     ensures written { (info : CertReqInfo) → written_spelling cert_req_info (writes ⟦<CertReqInfo as Encode>⟧.writing info) ≡ spelling cert_req_info info }
 {}
 
 /// What is written of a request that a program made is read as the very request.
 pub fn requests_are_read_as_meant(request: &CertReq)
-    ensures { length (spelling ⟦<CertReq as Grammar>⟧.form request.now) ≤ limit → Spells ⟦<CertReq as Grammar>⟧.form request.now (spelling ⟦<CertReq as Grammar>⟧.form request.now) }
+    ensures { length (spelling ⟦<CertReq as Grammar>⟧.form request.now) ≤ limit
+        → Spells ⟦<CertReq as Grammar>⟧.form request.now (spelling ⟦<CertReq as Grammar>⟧.form request.now) }
 {
     request.has_spelling();
 }

@@ -78,7 +78,8 @@ impl Any {
     pub fn from_octets(mut octets: Vec<u8>) -> Result<Any, Error>
         ensures ok { IfOk result (λ any. (octets.items ≡ element (octet_of any.tag) any.value) × (length octets.items ≤ limit)) }
         ensures overlength { limit < length octets.items → IsErrAnd result (λ e. e.kind ≡ errors.Overlength) }
-        ensures malformed { length octets.items ≤ limit → IfErr result (λ e. (e.kind ≡ errors.Malformed) × ((any : Any) → octets.items ≢ element (octet_of any.tag) any.value)) }
+        ensures malformed { length octets.items ≤ limit → IfErr result (λ e. (e.kind ≡ errors.Malformed)
+            × ((any : Any) → octets.items ≢ element (octet_of any.tag) any.value)) }
     {
         if octets.len() > Length::MAX.as_u32() as usize {
             return Err(ErrorKind::Overlength.into());
@@ -119,8 +120,10 @@ impl Any {
     pub fn decode_as<T: Decode>(&self, alloc: Global) -> Result<T, Error>
         ensures found { IfOk result (λ value. T.form.good value × (element (octet_of self.now.tag) self.now.value ≡ spelling T.form value)) }
         ensures refused { IfErr result (λ e. ((e.kind ≡ errors.Memory) × T.wants_memory) ⊎ ((e.kind ≡ errors.Malformed) ⊎ T.refuses e.kind)) }
-        ensures only { (value : T) → T.form.good value → element (octet_of self.now.tag) self.now.value ≡ spelling T.form value → IfErr result (λ e. (e.kind ≡ errors.Memory) × T.wants_memory) }
-        ensures value { (value : T) → T.form.good value → element (octet_of self.now.tag) self.now.value ≡ spelling T.form value → IfOk result (λ found. found ≡ value) }
+        ensures only { (value : T) → T.form.good value → element (octet_of self.now.tag) self.now.value ≡ spelling T.form value
+            → IfErr result (λ e. (e.kind ≡ errors.Memory) × T.wants_memory) }
+        ensures value { (value : T) → T.form.good value → element (octet_of self.now.tag) self.now.value ≡ spelling T.form value
+            → IfOk result (λ found. found ≡ value) }
         ensures which { Gives result (T.form.reading (octet_of self.now.tag) self.now.value) }
     {
         T::read(alloc, self.tag.octet(), self.value.as_slice())
@@ -132,7 +135,8 @@ impl Any {
     ///
     /// Those of `to_der`; `Memory` when out of memory.
     pub fn encode_from<T: Encode>(alloc: Global, value: &T) -> Result<Any, Error>
-        ensures ok { IfOk result (λ any. (element (octet_of any.tag) any.value ≡ written_spelling T.form (writes T.writing value.now)) × IsWritable T.form (writes T.writing value.now) limit) }
+        ensures ok { IfOk result (λ any. (element (octet_of any.tag) any.value ≡ written_spelling T.form (writes T.writing value.now))
+            × IsWritable T.form (writes T.writing value.now) limit) }
         ensures err { IfErr result (λ e. (e.kind ≡ errors.Memory) ⊎ IsUnwritable T.form (writes T.writing value.now) limit e.kind) }
     {
         let mut room = Growing::new(alloc);

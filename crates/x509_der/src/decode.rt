@@ -42,8 +42,10 @@ pub trait Decode: Grammar {
     final fn from_der(alloc: Global, bytes: &[u8]) -> Result<Self, Error>
         ensures found { IfOk result (λ value. Spells Self.form value bytes.now) }
         ensures overlength { limit < length bytes.now → IsErrAnd result (λ e. e.kind ≡ errors.Overlength) }
-        ensures refused { length bytes.now ≤ limit → IfErr result (λ e. ((e.kind ≡ errors.Memory) × Self.wants_memory) ⊎ ((e.kind ≡ errors.Malformed) ⊎ Self.refuses e.kind)) }
-        ensures only { length bytes.now ≤ limit → (value : Self) → Spells Self.form value bytes.now → IfErr result (λ e. (e.kind ≡ errors.Memory) × Self.wants_memory) }
+        ensures refused { length bytes.now ≤ limit → IfErr result (λ e. ((e.kind ≡ errors.Memory) × Self.wants_memory)
+            ⊎ ((e.kind ≡ errors.Malformed) ⊎ Self.refuses e.kind)) }
+        ensures only { length bytes.now ≤ limit → (value : Self) → Spells Self.form value bytes.now
+            → IfErr result (λ e. (e.kind ≡ errors.Memory) × Self.wants_memory) }
         ensures value { (value : Self) → Spells Self.form value bytes.now → IfOk result (λ found. found ≡ value) }
         ensures which { length bytes.now ≤ limit → Gives result (whole_reading Self.form.reading bytes.now) }
     {

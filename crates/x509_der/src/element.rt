@@ -162,7 +162,8 @@ impl<'a> AnyRef<'a> {
 pub fn take_element(bytes: &[u8]) -> Result<(AnyRef<'_>, &[u8]), Error>
     ensures ok { IfOk result (λ found. bytes.now ≡ element (octet_of found.0.tag) found.0.value.now ++ found.1.now) }
     ensures within { IfOk result (λ found. length (element (octet_of found.0.tag) found.0.value.now) ≤ limit) }
-    ensures err { IfErr result (λ e. (e.kind ≡ errors.Malformed) × ((tag : Tag) (content rest : List ℕ) → bytes.now ≡ element (octet_of tag) content ++ rest → limit < length (element (octet_of tag) content))) }
+    ensures err { IfErr result (λ e. (e.kind ≡ errors.Malformed)
+        × ((tag : Tag) (content rest : List ℕ) → bytes.now ≡ element (octet_of tag) content ++ rest → limit < length (element (octet_of tag) content))) }
 {
     let piece = split_element(bytes)?;
     if piece.content.len() > LONGEST_CONTENT {

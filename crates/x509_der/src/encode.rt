@@ -56,7 +56,8 @@ pub trait Encode: Grammar {
     /// `Overlength` exactly where it is longer than [`Length::MAX`](crate::Length::MAX), or the error of a part that
     /// can't be encoded. `Memory` when out of memory.
     final fn to_der(&self, alloc: Global) -> Result<Vec<u8>, Error>
-        ensures ok { IfOk result (λ bytes. (bytes.items ≡ written_spelling Self.form (writes writing self.now)) × IsWritable Self.form (writes writing self.now) limit) }
+        ensures ok { IfOk result (λ bytes. (bytes.items ≡ written_spelling Self.form (writes writing self.now))
+            × IsWritable Self.form (writes writing self.now) limit) }
         ensures err { IfErr result (λ e. (e.kind ≡ errors.Memory) ⊎ IsUnwritable Self.form (writes writing self.now) limit e.kind) }
     {
         let mut room = Growing::new(alloc);
@@ -70,7 +71,8 @@ pub trait Encode: Grammar {
     ///
     /// Those of `to_der` other than `Memory`, and exactly where they come there.
     final fn encoded_len(&self) -> Result<Length, Error>
-        ensures ok { IfOk result (λ len. (len.octets ≡ length (written_spelling Self.form (writes writing self.now))) × IsWritable Self.form (writes writing self.now) limit) }
+        ensures ok { IfOk result (λ len. (len.octets ≡ length (written_spelling Self.form (writes writing self.now)))
+            × IsWritable Self.form (writes writing self.now) limit) }
         ensures err { IfErr result (λ e. IsUnwritable Self.form (writes writing self.now) limit e.kind) }
     {
         let mut room = Counting::new();
@@ -84,7 +86,8 @@ pub trait Encode: Grammar {
     ///
     /// Those of `to_der` other than `Memory`, and exactly where they come there.
     final fn value_len(&self) -> Result<Length, Error>
-        ensures ok { IfOk result (λ len. (len.octets ≡ length (Self.form.content (writes writing self.now).value)) × IsWritable Self.form (writes writing self.now) limit) }
+        ensures ok { IfOk result (λ len. (len.octets ≡ length (Self.form.content (writes writing self.now).value))
+            × IsWritable Self.form (writes writing self.now) limit) }
         ensures err { IfErr result (λ e. IsUnwritable Self.form (writes writing self.now) limit e.kind) }
     {
         let mut room = Counting::new();
@@ -124,7 +127,8 @@ pub trait Encode: Grammar {
         ensures ok { OnOk result (IsWritable Self.form (writes writing self.now) (min (length room.old) limit)) }
         ensures bytes { IfOk result (λ bytes. bytes.now ≡ written_spelling Self.form (writes writing self.now)) }
         ensures err { IfErr result (λ e. IsUnwritable Self.form (writes writing self.now) (min (length room.old) limit) e.kind) }
-        ensures* place { sem 𝓛 (Rests (Array u8 0) room.entry (λ last. IfOk result (λ bytes. last ≡ take (length room.old - length bytes.now) room.old ++ bytes.now))) }
+        ensures* place { sem 𝓛 (Rests (Array u8 0) room.entry
+            (λ last. IfOk result (λ bytes. last ≡ take (length room.old - length bytes.now) room.old ++ bytes.now))) }
     {
         let before = self.encode_into(&mut *room);
         bytes_after(before, share(room))

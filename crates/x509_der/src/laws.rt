@@ -78,7 +78,9 @@ pub fn one_value<T: Grammar>()
 /// Decoding what was encoded and encoding it again gives the same bytes, where what is encoded is encoded again as it
 /// is.
 pub fn writing_again_gives_the_same<T: Encode>()
-    ensures { IsStable T.form.good T.writing → (v w : T) → T.form.good v → (writes T.writing v).refusal ≡ None → Spells T.form w (written_spelling T.form (writes T.writing v)) → ((writes T.writing w).refusal ≡ None) × (written_spelling T.form (writes T.writing w) ≡ written_spelling T.form (writes T.writing v)) }
+    ensures { IsStable T.form.good T.writing → (v w : T) → T.form.good v → (writes T.writing v).refusal ≡ None
+        → Spells T.form w (written_spelling T.form (writes T.writing v)) → ((writes T.writing w).refusal ≡ None)
+        × (written_spelling T.form (writes T.writing w) ≡ written_spelling T.form (writes T.writing v)) }
 {}
 
 /// Where what is encoded of a type's values is encoded again as it is, of two values with the same encoding the same
@@ -90,7 +92,8 @@ pub fn what_is_written_alike_is_respelled_alike<T: Encode>()
 /// Where what is encoded of a type's values is encoded again as it is, the encoding of a value decodes to the value
 /// that is spelled.
 pub fn what_was_written_reads_as_respelled<T: Encode>()
-    ensures { IsStable T.form.good T.writing → (v : T) → T.form.good v → IsWritable T.form (writes T.writing v) limit → Spells T.form (writes T.writing v).value (written_spelling T.form (writes T.writing v)) }
+    ensures { IsStable T.form.good T.writing → (v : T) → T.form.good v → IsWritable T.form (writes T.writing v) limit
+        → Spells T.form (writes T.writing v).value (written_spelling T.form (writes T.writing v)) }
 {}
 
 /// What is encoded of a type whose values are encoded as they are is encoded again as it is: the premise of the laws
@@ -102,19 +105,22 @@ pub fn plain_writing_is_stable<T: Encode>()
 /// The encoding of a value that a program made decodes to the value that is spelled, where what is encoded of the
 /// type's values is encoded again as it is: an authority that issues what it made issues what it meant.
 pub fn what_is_written_of_a_value_is_read_as_meant<T: Encode + Spelled>(value: &T)
-    ensures { IsStable T.form.good T.writing → T.premise value.now → IsWritable T.form (writes T.writing value.now) limit → Spells T.form (writes T.writing value.now).value (written_spelling T.form (writes T.writing value.now)) }
+    ensures { IsStable T.form.good T.writing → T.premise value.now → IsWritable T.form (writes T.writing value.now) limit
+        → Spells T.form (writes T.writing value.now).value (written_spelling T.form (writes T.writing value.now)) }
 {
     value.has_spelling();
 }
 
 /// For values with an encoding `der_cmp` is the byte order of the encodings.
 pub fn encodings_in_order<T: ValueOrd>()
-    ensures { (v w : T) (a b : List ℕ) → Spells T.form v a → Spells T.form w b → writes T.writing v ≡ writes plain v → writes T.writing w ≡ writes plain w → der_order T.form (writes T.writing) T.order v w ≡ bytes_cmp a b }
+    ensures { (v w : T) (a b : List ℕ) → Spells T.form v a → Spells T.form w b → writes T.writing v ≡ writes plain v → writes T.writing w ≡ writes plain w
+        → der_order T.form (writes T.writing) T.order v w ≡ bytes_cmp a b }
 {}
 
 /// For values with an encoding `value_cmp` is the byte order of the contents.
 pub fn contents_in_order<T: ValueOrd>()
-    ensures { (v w : T) (a b : List ℕ) → Spells T.form v a → Spells T.form w b → writes T.writing v ≡ writes plain v → writes T.writing w ≡ writes plain w → T.order v w ≡ bytes_cmp (T.form.content v) (T.form.content w) }
+    ensures { (v w : T) (a b : List ℕ) → Spells T.form v a → Spells T.form w b → writes T.writing v ≡ writes plain v → writes T.writing w ≡ writes plain w
+        → T.order v w ≡ bytes_cmp (T.form.content v) (T.form.content w) }
 {}
 
 /// `der_cmp` and `value_cmp` are total orders, also of values that can't be encoded.
@@ -132,7 +138,8 @@ pub fn equal_values_alone_are_equal<T: ValueOrd>()
 /// The next identifier octet decides whether an optional field is there (X.690 8.9.3): where what follows doesn't begin
 /// as the field may, bytes are those of one value of the field, or of none, and of one rest.
 pub fn the_next_octet_decides_an_optional_field<T: Grammar>()
-    ensures { (v w : Option T) (x y : List ℕ) → IfSome v T.form.good → IfSome w T.form.good → IsClearOf T.form.starts x → IsClearOf T.form.starts y → optional_octets (spelling T.form) v ++ x ≡ optional_octets (spelling T.form) w ++ y → (v ≡ w) × (x ≡ y) }
+    ensures { (v w : Option T) (x y : List ℕ) → IfSome v T.form.good → IfSome w T.form.good → IsClearOf T.form.starts x → IsClearOf T.form.starts y
+        → optional_octets (spelling T.form) v ++ x ≡ optional_octets (spelling T.form) w ++ y → (v ≡ w) × (x ≡ y) }
 {}
 
 /// `==` of elements that aren't decoded further holds exactly of equal values.
@@ -176,12 +183,14 @@ pub fn arcs_of_contents()
 
 /// Sets of the same members are equal, in whatever order the members were inserted.
 pub fn members_make_the_set<T: DerOrd>()
-    ensures { (a b : List T) → IsStrictlySortedBy (der_order T.form (writes T.writing) T.order) a → IsStrictlySortedBy (der_order T.form (writes T.writing) T.order) b → IsPermutation a b → a ≡ b }
+    ensures { (a b : List T) → IsStrictlySortedBy (der_order T.form (writes T.writing) T.order) a
+        → IsStrictlySortedBy (der_order T.form (writes T.writing) T.order) b → IsPermutation a b → a ≡ b }
 {}
 
 /// A set of members with encodings is a DER SET OF: each of its members' encodings is below the next (X.690 11.6).
 pub fn encodings_rise<T: DerOrd>()
-    ensures { (members : List T) → IsStrictlySortedBy (der_order T.form (writes T.writing) T.order) members → All (HasEncoding T.form (writes T.writing)) members → IsStrictlySortedBy bytes_cmp (map (spelling T.form) members) }
+    ensures { (members : List T) → IsStrictlySortedBy (der_order T.form (writes T.writing) T.order) members
+        → All (HasEncoding T.form (writes T.writing)) members → IsStrictlySortedBy bytes_cmp (map (spelling T.form) members) }
 {}
 
 /// `==` of OIDs holds exactly of equal content octets.

@@ -70,5 +70,6 @@ where
         self.inner().put_content(room)
     }
 
-    ghost contents_lawful = { round_lawful T.round (contents_of (octet_of T.Inner.TAG) T.Inner.form) (contents_of_lawful (octet_of T.Inner.TAG) T.Inner.form T.Inner.fixed T.Inner.lawful) };
+    ghost contents_lawful = { round_lawful T.round (contents_of (octet_of T.Inner.TAG) T.Inner.form)
+        (contents_of_lawful (octet_of T.Inner.TAG) T.Inner.form T.Inner.fixed T.Inner.lawful) };
 }

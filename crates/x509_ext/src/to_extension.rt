@@ -75,7 +75,8 @@ impl<T: AssociatedOid + Criticality + Encode> ToExtension for &T {
     ghost use Rattle.x509_der.specs.Writing.{writes};
     ghost use Rattle.x509_ext.specs.ToExtension.{Makes};
 
-    ghost makes = { λ payload subject extensions result. Makes T.OID (T.is_critical payload.now subject extensions) T.form (writes T.writing payload.now) result };
+    ghost makes = { λ payload subject extensions result. Makes T.OID (T.is_critical payload.now subject extensions) T.form
+        (writes T.writing payload.now) result };
 
     fn to_extension(
         self,

@@ -98,7 +98,8 @@ pub fn bytes_determine_the_name()
 
 /// RDNs of the same attributes are equal, in whatever order these were inserted.
 pub fn attributes_make_the_rdn()
-    ensures { (a b : List AttributeTypeAndValue) → IsStrictlySortedBy type_and_value_cmp a → IsStrictlySortedBy type_and_value_cmp b → IsPermutation a b → a ≡ b }
+    ensures { (a b : List AttributeTypeAndValue) → IsStrictlySortedBy type_and_value_cmp a → IsStrictlySortedBy type_and_value_cmp b → IsPermutation a b
+        → a ≡ b }
 {
     members_make_the_set::<AttributeTypeAndValue>();
 }
@@ -113,8 +114,10 @@ pub fn equal_names_are_one_value()
 
 /// Names that have an encoding, RDNs and sequences of them are ordered, as keys, by the bytes of their encodings.
 pub fn names_stand_in_the_order_of_encodings()
-    ensures rdns { (v w : List AttributeTypeAndValue) (a b : List ℕ) → Spells relative_distinguished_name v a → Spells relative_distinguished_name w b → ⟦<RelativeDistinguishedName as Ord>⟧.cmp v w ≡ bytes_cmp a b }
-    ensures sequences { (v w : List (List AttributeTypeAndValue)) (a b : List ℕ) → Spells rdn_sequence v a → Spells rdn_sequence w b → ⟦<RdnSequence as Ord>⟧.cmp v w ≡ bytes_cmp a b }
+    ensures rdns { (v w : List AttributeTypeAndValue) (a b : List ℕ) → Spells relative_distinguished_name v a → Spells relative_distinguished_name w b
+        → ⟦<RelativeDistinguishedName as Ord>⟧.cmp v w ≡ bytes_cmp a b }
+    ensures sequences { (v w : List (List AttributeTypeAndValue)) (a b : List ℕ) → Spells rdn_sequence v a → Spells rdn_sequence w b
+        → ⟦<RdnSequence as Ord>⟧.cmp v w ≡ bytes_cmp a b }
     ensures names { (v w : List (List AttributeTypeAndValue)) (a b : List ℕ) → Spells name v a → Spells name w b → ⟦<Name as Ord>⟧.cmp v w ≡ bytes_cmp a b }
 {
     encodings_in_order::<RelativeDistinguishedName>();
@@ -139,14 +142,17 @@ pub fn a_text_reads_as_one_name()
 /// No two names that read back print alike, and no two RDNs.
 #[tactic(auto, using(crate::proofs::NameTexts::rdns_apart, crate::proofs::NameTexts::names_apart))]
 pub fn no_two_names_print_alike()
-    ensures rdns { (rdn other : List AttributeTypeAndValue) → texts.RdnReadsBack rdn → texts.RdnReadsBack other → texts.rdn_text rdn ≡ texts.rdn_text other → rdn ≡ other }
-    ensures names { (name other : List (List AttributeTypeAndValue)) → texts.NameReadsBack name → texts.NameReadsBack other → texts.name_text name ≡ texts.name_text other → name ≡ other }
+    ensures rdns { (rdn other : List AttributeTypeAndValue) → texts.RdnReadsBack rdn → texts.RdnReadsBack other → texts.rdn_text rdn ≡ texts.rdn_text other
+        → rdn ≡ other }
+    ensures names { (name other : List (List AttributeTypeAndValue)) → texts.NameReadsBack name → texts.NameReadsBack other
+        → texts.name_text name ≡ texts.name_text other → name ≡ other }
 {}
 
 /// A text that reads has no error, and a text has at most one error.
 pub fn a_text_is_refused_in_one_way()
     ensures rdns { (text : List ℕ) (rdn : List AttributeTypeAndValue) (kind : ErrorKind) → texts.RdnReads text rdn → texts.RdnRefused text kind → ⊥ }
     ensures rdns_once { (text : List ℕ) (kind other : ErrorKind) → texts.RdnRefused text kind → texts.RdnRefused text other → kind ≡ other }
-    ensures names { (text : List ℕ) (name : List (List AttributeTypeAndValue)) (kind : ErrorKind) → texts.NameReads text name → texts.NameRefused text kind → ⊥ }
+    ensures names { (text : List ℕ) (name : List (List AttributeTypeAndValue)) (kind : ErrorKind) → texts.NameReads text name → texts.NameRefused text kind
+        → ⊥ }
     ensures names_once { (text : List ℕ) (kind other : ErrorKind) → texts.NameRefused text kind → texts.NameRefused text other → kind ≡ other }
 {}

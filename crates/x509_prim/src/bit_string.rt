@@ -55,7 +55,9 @@ impl BitString {
     /// an unused bit. Else `Memory` when out of memory, only for more than 24 octets.
     pub fn new(alloc: Global, unused: u8, octets: &[u8]) -> Result<BitString, Error>
         ensures ok { IfOk result (λ string. (string ≡ grammar.parts_of unused octets.now) × (grammar.is_padded (grammar.parts_of unused octets.now) ≡ true)) }
-        ensures err { IfErr result (λ e. ((e.kind ≡ errors.Memory) × (24 < length octets.now) × (grammar.is_padded (grammar.parts_of unused octets.now) ≡ true)) ⊎ ((e.kind ≡ errors.Value) × (grammar.is_padded (grammar.parts_of unused octets.now) ≡ false))) }
+        ensures err { IfErr result (λ e. ((e.kind ≡ errors.Memory) × (24 < length octets.now)
+            × (grammar.is_padded (grammar.parts_of unused octets.now) ≡ true))
+            ⊎ ((e.kind ≡ errors.Value) × (grammar.is_padded (grammar.parts_of unused octets.now) ≡ false))) }
     {
         if !check_padding(unused, octets) {
             return Err(ErrorKind::Value.into());
@@ -190,7 +192,8 @@ impl fmt::Debug for BitString {
     ghost use Rattle.std.specs.Prelude.{Some, codes, ◌++◌};
     ghost use Rattle.std.specs.Fmt.{debug_list, decimal, ◌++?◌};
 
-    ghost debug_output = { λ string. debug_list (λ octet. Some (decimal octet)) string.octets ++? Some (codes ", " ++ decimal string.unused ++ codes " unused") };
+    ghost debug_output = { λ string. debug_list (λ octet. Some (decimal octet)) string.octets ++? Some
+        (codes ", " ++ decimal string.unused ++ codes " unused") };
 
     fn fmt<W: fmt::Write>(&self, f: &mut fmt::Formatter<W>) -> fmt::Result {
         write!(f, "{:?}, {} unused", self.raw_bytes(), self.unused_bits())

@@ -47,7 +47,8 @@ impl Int {
     /// more than 24 octets.
     pub fn new(alloc: Global, content: &[u8]) -> Result<Int, Error>
         ensures ok { IfOk result (λ int. (int ≡ content.now) × (is_integer content.now ≡ true)) }
-        ensures err { IfErr result (λ e. ((e.kind ≡ errors.Memory) × (24 < length content.now) × (is_integer content.now ≡ true)) ⊎ ((e.kind ≡ errors.Value) × (is_integer content.now ≡ false))) }
+        ensures err { IfErr result (λ e. ((e.kind ≡ errors.Memory) × (24 < length content.now) × (is_integer content.now ≡ true))
+            ⊎ ((e.kind ≡ errors.Value) × (is_integer content.now ≡ false))) }
     {
         if !check_integer(content) {
             return Err(ErrorKind::Value.into());

@@ -27,7 +27,8 @@ pub fn bmp_contents_are_texts()
 
 /// The identifiers and the characters of the restricted character string types (X.680 8.4, 41).
 pub fn restricted_strings_are_theirs()
-    ensures printable { (string bytes : List ℕ) → Spells ⟦<PrintableString as Grammar>⟧.form string bytes ↔ Spells (text 0x13 (list_all is_printable)) string bytes }
+    ensures printable { (string bytes : List ℕ) → Spells ⟦<PrintableString as Grammar>⟧.form string bytes
+        ↔ Spells (text 0x13 (list_all is_printable)) string bytes }
     ensures ia5 { (string bytes : List ℕ) → Spells ⟦<Ia5String as Grammar>⟧.form string bytes ↔ Spells (text 0x16 (list_all is_ia5)) string bytes }
     ensures visible { (string bytes : List ℕ) → Spells ⟦<VisibleString as Grammar>⟧.form string bytes ↔ Spells (text 0x1A (list_all is_visible)) string bytes }
     ensures teletex { (string bytes : List ℕ) → Spells ⟦<TeletexString as Grammar>⟧.form string bytes ↔ Spells (text 0x14 (list_all is_ia5)) string bytes }
@@ -49,7 +50,8 @@ pub fn bit_strings_have_one_value()
 
 /// No list of bits has two contents.
 pub fn bits_have_one_content()
-    ensures { (bits : List Bool) (parts others : BitParts) → All (λ octet. octet < 256) parts.octets → All (λ octet. octet < 256) others.octets → HasBits bits parts → HasBits bits others → parts ≡ others }
+    ensures { (bits : List Bool) (parts others : BitParts) → All (λ octet. octet < 256) parts.octets → All (λ octet. octet < 256) others.octets
+        → HasBits bits parts → HasBits bits others → parts ≡ others }
 {}
 
 /// Each list of bits has a content.
@@ -79,7 +81,8 @@ pub fn equality_of_integers_is_exact()
 
 /// No whole number has two contents.
 pub fn integers_have_one_content()
-    ensures { (xs ys : List ℕ) → All (λ octet. octet < 256) xs → All (λ octet. octet < 256) ys → is_integer xs ≡ true → is_integer ys ≡ true → integer_value xs ≡ integer_value ys → xs ≡ ys }
+    ensures { (xs ys : List ℕ) → All (λ octet. octet < 256) xs → All (λ octet. octet < 256) ys → is_integer xs ≡ true → is_integer ys ≡ true
+        → integer_value xs ≡ integer_value ys → xs ≡ ys }
 {}
 
 /// Each whole number has a content.
@@ -89,5 +92,6 @@ pub fn integers_have_a_content()
 
 /// The content of a set is that of the bit string of its named bits, which no zero bit ends.
 pub fn sets_are_bit_strings()
-    ensures { (set : ℕ) → set < 65536 → (bits : List Bool) × ((parts : BitParts) × (AreSetBits set bits × (HasBits bits parts × (set_octets set ≡ parts.unused ∷ parts.octets)))) }
+    ensures { (set : ℕ) → set < 65536 → (bits : List Bool) × ((parts : BitParts)
+        × (AreSetBits set bits × (HasBits bits parts × (set_octets set ≡ parts.unused ∷ parts.octets)))) }
 {}

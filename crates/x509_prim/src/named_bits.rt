@@ -110,7 +110,8 @@ pub fn read_named_bits<T: Flags<Bits = u16>>(octets: &[u8]) -> Result<T, Error>
 /// `Value` where a bit of it has no name; `Overlength` where there is no place in the room for the octets; `Memory`
 /// when out of memory, only for a room that takes memory.
 pub fn put_named_bits<T: Flags<Bits = u16>, R: Room>(value: &T, room: &mut R) -> Result<(), Error>
-    ensures { T.exact → let written = grammar.named_written T.table (T.set_of value.now) in Puts R.kind (grammar.set_octets written.value) written.refusal result room.old room.new }
+    ensures { T.exact → let written = grammar.named_written T.table (T.set_of value.now) in Puts R.kind
+        (grammar.set_octets written.value) written.refusal result room.old room.new }
 {
     if value.contains_unknown_bits() {
         return Err(ErrorKind::Value.into());

@@ -44,7 +44,8 @@ impl OctetString {
     /// `Memory` when out of memory, only for more than 24 octets.
     pub fn new(alloc: Global, octets: &[u8]) -> Result<OctetString, Error>
         ensures ok { IfOk result (λ string. (string ≡ octets.now) × (length (spelling octet_string octets.now) ≤ limit)) }
-        ensures err { IfErr result (λ e. ((e.kind ≡ errors.Memory) × (24 < length octets.now) × (length (spelling octet_string octets.now) ≤ limit)) ⊎ ((e.kind ≡ errors.Overlength) × (limit < length (spelling octet_string octets.now)))) }
+        ensures err { IfErr result (λ e. ((e.kind ≡ errors.Memory) × (24 < length octets.now) × (length (spelling octet_string octets.now) ≤ limit))
+            ⊎ ((e.kind ≡ errors.Overlength) × (limit < length (spelling octet_string octets.now)))) }
     {
         check_content(octets)?;
         Ok(OctetString {

@@ -49,7 +49,8 @@ impl<A: Alphabet> RestrictedString<A> {
     /// 24 octets.
     pub fn new(alloc: Global, text: &str) -> Result<RestrictedString<A>, Error>
         ensures ok { IfOk result (λ string. (string ≡ text.now) × (list_all A.has_char text.now ≡ true)) }
-        ensures err { IfErr result (λ e. ((e.kind ≡ errors.Memory) × (24 < length text.now) × (list_all A.has_char text.now ≡ true)) ⊎ ((e.kind ≡ errors.Value) × (list_all A.has_char text.now ≡ false))) }
+        ensures err { IfErr result (λ e. ((e.kind ≡ errors.Memory) × (24 < length text.now) × (list_all A.has_char text.now ≡ true))
+            ⊎ ((e.kind ≡ errors.Value) × (list_all A.has_char text.now ≡ false))) }
     {
         if !check_text::<A>(text.as_bytes()) {
             return Err(ErrorKind::Value.into());

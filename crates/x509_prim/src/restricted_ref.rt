@@ -66,8 +66,10 @@ impl<'a, A: Alphabet> RestrictedStringRef<'a, A> {
     ///
     /// `Malformed` exactly where the element has another identifier, or a character that is not one of the type's.
     pub fn from_any(any: AnyRef<'a>) -> Result<RestrictedStringRef<'a, A>, Error>
-        ensures ok { IfOk result (λ string. (string.text.now ≡ any.entry.value.now) × (octet_of any.entry.tag ≡ octet_of A.TAG) × (list_all A.has_char any.entry.value.now ≡ true)) }
-        ensures err { IfErr result (λ e. (e.kind ≡ errors.Malformed) × ((octet_of any.entry.tag ≢ octet_of A.TAG) ⊎ (list_all A.has_char any.entry.value.now ≡ false))) }
+        ensures ok { IfOk result (λ string. (string.text.now ≡ any.entry.value.now) × (octet_of any.entry.tag ≡ octet_of A.TAG)
+            × (list_all A.has_char any.entry.value.now ≡ true)) }
+        ensures err { IfErr result (λ e. (e.kind ≡ errors.Malformed)
+            × ((octet_of any.entry.tag ≢ octet_of A.TAG) ⊎ (list_all A.has_char any.entry.value.now ≡ false))) }
     {
         text_in(any.tag(), any.value())
     }

@@ -51,7 +51,8 @@ impl Uint {
     pub fn new(alloc: Global, octets: &[u8]) -> Result<Uint, Error>
         ensures ok { IfOk result (λ uint. uint ≡ with_sign (without_zeros octets.now)) }
         ensures number { IfOk result (λ uint. number uint ≡ number octets.now) }
-        ensures err { IfErr result (λ e. ((e.kind ≡ errors.Memory) × (24 < length (with_sign (without_zeros octets.now)))) ⊎ ((e.kind ≡ errors.Value) × (octets.now ≡ []))) }
+        ensures err { IfErr result (λ e. ((e.kind ≡ errors.Memory) × (24 < length (with_sign (without_zeros octets.now))))
+            ⊎ ((e.kind ≡ errors.Value) × (octets.now ≡ []))) }
     {
         if octets.is_empty() {
             return Err(ErrorKind::Value.into());

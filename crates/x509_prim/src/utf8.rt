@@ -239,7 +239,8 @@ impl<'a> Utf8StringRef<'a> {
     ///
     /// `Malformed` exactly where the element has another identifier, or a content that is not UTF-8.
     pub fn from_any(any: AnyRef<'a>) -> Result<Utf8StringRef<'a>, Error>
-        ensures ok { IfOk result (λ string. (string.text.now ≡ any.entry.value.now) × (any.entry.tag ≡ tags.Utf8String) × (is_utf8 any.entry.value.now ≡ true)) }
+        ensures ok { IfOk result (λ string. (string.text.now ≡ any.entry.value.now) × (any.entry.tag ≡ tags.Utf8String)
+            × (is_utf8 any.entry.value.now ≡ true)) }
         ensures err { IfErr result (λ e. (e.kind ≡ errors.Malformed) × ((any.entry.tag ≢ tags.Utf8String) ⊎ (is_utf8 any.entry.value.now ≡ false))) }
     {
         utf8_text_in(any.tag(), any.value())

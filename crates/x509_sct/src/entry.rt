@@ -107,7 +107,8 @@ impl SignedCertificateTimestamp {
     #[tactic(auto, unfolding(crate::specs::SignedInput::signed_input))]
     pub fn signed_input(&self, alloc: Global, entry: &SignedEntry<'_>) -> Result<Vec<u8>, TlsError>
         ensures ok { IfOk result (λ bytes. Spells signed_input (signed_of self.now entry.now) bytes.items) }
-        ensures err { IfErr result (λ e. ((e ≡ InvalidVectorLength) × (vector24.good (certificate_of entry.now) → ⊥)) ⊎ ((e ≡ Memory) × vector24.good (certificate_of entry.now))) }
+        ensures err { IfErr result (λ e. ((e ≡ InvalidVectorLength) × (vector24.good (certificate_of entry.now) → ⊥))
+            ⊎ ((e ≡ Memory) × vector24.good (certificate_of entry.now))) }
     {
         let len = vector24_len(entry.as_bytes())?;
         // Beside the certificate and the extensions there are 12 bytes, and 32 of a hash.

@@ -48,8 +48,10 @@ pub fn identifier_of_the_poison()
 /// those of no other list, so [`parse_timestamps`](SignedCertificateTimestampList::parse_timestamps) finds the very ones of
 /// which [`new`](SignedCertificateTimestampList::new) made it. No two timestamps have the same bytes.
 pub fn timestamps_are_read_as_meant()
-    ensures written { (list : SignedCertificateTimestampList) (made : List SerializedSct) → IsTimestampList made list.0 → IsDer ⟦<SignedCertificateTimestampList as Grammar>⟧.form list (spelling ⟦<SignedCertificateTimestampList as Grammar>⟧.form list) }
-    ensures parsed { (list : SignedCertificateTimestampList) (made found : List SerializedSct) → IsTimestampList made list.0 → IsTimestampList found list.0 → found ≡ made }
+    ensures written { (list : SignedCertificateTimestampList) (made : List SerializedSct) → IsTimestampList made list.0
+        → IsDer ⟦<SignedCertificateTimestampList as Grammar>⟧.form list (spelling ⟦<SignedCertificateTimestampList as Grammar>⟧.form list) }
+    ensures parsed { (list : SignedCertificateTimestampList) (made found : List SerializedSct) → IsTimestampList made list.0 → IsTimestampList found list.0
+        → found ≡ made }
     ensures timestamp { (made found : SignedCertificateTimestamp) (bytes : List ℕ) → Spells timestamp made bytes → Spells timestamp found bytes → found ≡ made }
 {
     crate::tls::laws::one_list::<SerializedSct>();
@@ -57,7 +59,9 @@ pub fn timestamps_are_read_as_meant()
 
 /// The bytes that a log's signature is over tell the version, the time, the entry and the extensions.
 pub fn signed_input_tells_what_is_signed()
-    ensures { (made found : SignedCertificateTimestamp) (entry other : SignedEntry) (bytes : List ℕ) → Spells signed_input (signed_of made entry) bytes → Spells signed_input (signed_of found other) bytes → (found.version ≡ made.version) × (found.timestamp ≡ made.timestamp) × (entry_of other ≡ entry_of entry) × (found.extensions ≡ made.extensions) }
+    ensures { (made found : SignedCertificateTimestamp) (entry other : SignedEntry) (bytes : List ℕ) → Spells signed_input (signed_of made entry) bytes
+        → Spells signed_input (signed_of found other) bytes → (found.version ≡ made.version) × (found.timestamp ≡ made.timestamp)
+        × (entry_of other ≡ entry_of entry) × (found.extensions ≡ made.extensions) }
 {}
 
 /// `==` of timestamps and of what stands in them holds exactly of equal values: of lists and of serialized timestamps, where

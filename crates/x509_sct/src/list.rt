@@ -47,7 +47,8 @@ impl SignedCertificateTimestampList {
         timestamps: &[SerializedSct],
     ) -> Result<SignedCertificateTimestampList, Error>
         ensures ok { IfOk result (λ list. IsTimestampList timestamps.now list.0) }
-        ensures err { IfErr result (λ e. ((e ≡ errors.Tls InvalidVectorLength) × (65535 < length (joined serialized timestamps.now))) ⊎ ((e ≡ errors.Tls Memory) × (length (joined serialized timestamps.now) ≤ 65535))) }
+        ensures err { IfErr result (λ e. ((e ≡ errors.Tls InvalidVectorLength) × (65535 < length (joined serialized timestamps.now)))
+            ⊎ ((e ≡ errors.Tls Memory) × (length (joined serialized timestamps.now) ≤ 65535))) }
     {
         let octets = serialize_list(alloc, timestamps)?;
         Ok(SignedCertificateTimestampList(OctetString::from_vec(octets)?))

@@ -31,7 +31,8 @@ impl SerializedSct {
         timestamp: SignedCertificateTimestamp,
     ) -> Result<SerializedSct, TlsError>
         ensures ok { IfOk result (λ serialized. Spells form timestamp serialized.octets × (length (form.bytes timestamp) ≤ 65535)) }
-        ensures err { IfErr result (λ e. ((e ≡ InvalidVectorLength) × (65535 < length (form.bytes timestamp))) ⊎ ((e ≡ Memory) × (length (form.bytes timestamp) ≤ 65535))) }
+        ensures err { IfErr result (λ e. ((e ≡ InvalidVectorLength) × (65535 < length (form.bytes timestamp)))
+            ⊎ ((e ≡ Memory) × (length (form.bytes timestamp) ≤ 65535))) }
     {
         Ok(SerializedSct {
             octets: serialize_vector(alloc, &timestamp)?,

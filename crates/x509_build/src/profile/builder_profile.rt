@@ -59,5 +59,6 @@ pub trait BuilderProfile: Drop {
         issuer_spk: SubjectPublicKeyInfoRef<'_>,
         tbs: &TbsCertificate,
     ) -> Result<Vec<Extension>>
-        ensures { Gives (λ extensions. extensions.items) (extensions_of self.now (key_lent spk.entry.algorithm.now spk.entry.subject_public_key.now) (key_lent issuer_spk.entry.algorithm.now issuer_spk.entry.subject_public_key.now) tbs.now) result };
+        ensures { Gives (λ extensions. extensions.items) (extensions_of self.now (key_lent spk.entry.algorithm.now spk.entry.subject_public_key.now)
+            (key_lent issuer_spk.entry.algorithm.now issuer_spk.entry.subject_public_key.now) tbs.now) result };
 }

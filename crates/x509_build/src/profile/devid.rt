@@ -125,7 +125,12 @@ impl DevId {
         alt_names: Option<GeneralNames>,
     ) -> Result<DevId>
         ensures names { modules.NamesModule alt_names result }
-        ensures ok { IfOk result (λ device. device ≡ record { issuer = issuer; subject = subject; subject_alt_name = option_map (λ given. record { 0 = given }) alt_names }) }
+        ensures ok { IfOk result (λ device. device ≡ record {
+          issuer = issuer;
+          subject = subject;
+          subject_alt_name = option_map
+              (λ given. record { 0 = given }) alt_names;
+        }) }
     {
         let subject_alt_name = match alt_names {
             None => None,
@@ -155,7 +160,9 @@ impl DevId {
         hw_type: TpmVersion,
         serial_number: OctetString,
     ) -> Result<DevId>
-        ensures ok { IfOk result (λ device. (other : others.OtherName) × (other.type_id ≡ id_on_hardware_module_name) × IsModuleIn (modules.tpm_module hw_type serial_number) other.value × (device ≡ record { issuer = issuer; subject = subject; subject_alt_name = Some (record { 0 = names.OtherName other ∷ [] }) })) }
+        ensures ok { IfOk result (λ device. (other : others.OtherName) × (other.type_id ≡ id_on_hardware_module_name)
+            × IsModuleIn (modules.tpm_module hw_type serial_number) other.value
+            × (device ≡ record { issuer = issuer; subject = subject; subject_alt_name = Some (record { 0 = names.OtherName other ∷ [] }) })) }
         ensures err { IfErr result (λ e. modules.CantName (modules.tpm_module hw_type serial_number) e) }
     {
         let hardware = HardwareModuleName {

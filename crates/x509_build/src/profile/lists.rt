@@ -29,7 +29,8 @@ fn push<T: AssociatedOid + Criticality + Encode>(
     subject: &Name,
     payload: &T,
 ) -> std::result::Result<(), DerError>
-    ensures { Pushes T.OID (T.is_critical payload.now subject.now extensions.old.items) T.form (writes T.writing payload.now) result extensions.old.items extensions.new.items }
+    ensures { Pushes T.OID (T.is_critical payload.now subject.now extensions.old.items) T.form
+        (writes T.writing payload.now) result extensions.old.items extensions.new.items }
 {
     let extension = payload.to_extension(alloc, subject, extensions.as_slice())?;
     extensions.push(extension)?;

@@ -72,8 +72,10 @@ impl RequestBuilder {
     /// `Asn1` of the error of [`ToExtension::to_extension`]. `Asn1` of `Memory` when out of memory. On an error the
     /// builder is unchanged, and the extension is dropped.
     pub fn add_extension<E: ToExtension>(&mut self, alloc: Global, extension: E) -> Result<()>
-        ensures ok { OnOk result ((made : Extension) × E.makes extension self.old.info.subject self.old.extension_req.0 (Ok made) × (self.new ≡ record self.old { extension_req = record { 0 = self.old.extension_req.0 ++ made ∷ [] } })) }
-        ensures err { IfErr result (λ e. LacksMemory e ⊎ ((refusal : Error) × (e ≡ Asn1 refusal) × E.makes extension self.old.info.subject self.old.extension_req.0 (Err refusal))) }
+        ensures ok { OnOk result ((made : Extension) × E.makes extension self.old.info.subject self.old.extension_req.0 (Ok made)
+            × (self.new ≡ record self.old { extension_req = record { 0 = self.old.extension_req.0 ++ made ∷ [] } })) }
+        ensures err { IfErr result (λ e. LacksMemory e ⊎ ((refusal : Error) × (e ≡ Asn1 refusal)
+            × E.makes extension self.old.info.subject self.old.extension_req.0 (Err refusal))) }
         ensures unchanged { OnErr result (self.new ≡ self.old) }
     {
         let added = &mut self.extension_req.0;
@@ -89,8 +91,12 @@ impl RequestBuilder {
     /// `Asn1` of the error of [`AsAttribute::to_attribute`], and else `Asn1` of `SetDuplicate` exactly where an equal
     /// attribute was added before. `Asn1` of `Memory` when out of memory. On an error the builder is unchanged.
     pub fn add_attribute<A: AsAttribute>(&mut self, alloc: Global, attribute: &A) -> Result<()>
-        ensures ok { OnOk result ((made : Attribute) × MakesAttribute A.OID A.form (writes A.writing attribute.now) (Ok made) × (¬ Contains self.old.attributes made) × (self.new ≡ record self.old { attributes = insert_key attribute_cmp self.old.attributes made })) }
-        ensures err { IfErr result (λ e. LacksMemory e ⊎ ((refusal : Error) × (e ≡ Asn1 refusal) × (MakesAttribute A.OID A.form (writes A.writing attribute.now) (Err refusal) ⊎ ((made : Attribute) × MakesAttribute A.OID A.form (writes A.writing attribute.now) (Ok made) × (refusal.kind ≡ SetDuplicate) × Contains self.old.attributes made)))) }
+        ensures ok { OnOk result ((made : Attribute) × MakesAttribute A.OID A.form (writes A.writing attribute.now) (Ok made)
+            × (¬ Contains self.old.attributes made) × (self.new ≡ record self.old { attributes = insert_key attribute_cmp self.old.attributes made })) }
+        ensures err { IfErr result (λ e. LacksMemory e ⊎ ((refusal : Error) × (e ≡ Asn1 refusal)
+            × (MakesAttribute A.OID A.form (writes A.writing attribute.now) (Err refusal)
+            ⊎ ((made : Attribute) × MakesAttribute A.OID A.form (writes A.writing attribute.now) (Ok made) × (refusal.kind ≡ SetDuplicate)
+            × Contains self.old.attributes made)))) }
         ensures unchanged { OnErr result (self.new ≡ self.old) }
     {
         let made = attribute.to_attribute(alloc)?;

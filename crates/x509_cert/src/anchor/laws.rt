@@ -29,9 +29,12 @@ use x509_der::{Encode, Grammar, Spelled};
 /// Where what is encoded of a validity is encoded again as it is, so is what is encoded of a trust anchor that holds
 /// one, at whatever depth: decoding and encoding twice gives the bytes of once.
 pub fn dates_are_written_once<P: Profile>()
-    ensures controls { IsStable validity.good ⟦<Validity<P> as Encode>⟧.writing → IsStable (cert_path_controls P.serial_check).good ⟦<CertPathControls<P> as Encode>⟧.writing }
-    ensures info { IsStable validity.good ⟦<Validity<P> as Encode>⟧.writing → IsStable (trust_anchor_info P.serial_check).good ⟦<TrustAnchorInfo<P> as Encode>⟧.writing }
-    ensures anchor { IsStable validity.good ⟦<Validity<P> as Encode>⟧.writing → IsStable (trust_anchor_choice P.serial_check).good ⟦<TrustAnchorChoice<P> as Encode>⟧.writing }
+    ensures controls { IsStable validity.good ⟦<Validity<P> as Encode>⟧.writing
+        → IsStable (cert_path_controls P.serial_check).good ⟦<CertPathControls<P> as Encode>⟧.writing }
+    ensures info { IsStable validity.good ⟦<Validity<P> as Encode>⟧.writing
+        → IsStable (trust_anchor_info P.serial_check).good ⟦<TrustAnchorInfo<P> as Encode>⟧.writing }
+    ensures anchor { IsStable validity.good ⟦<Validity<P> as Encode>⟧.writing
+        → IsStable (trust_anchor_choice P.serial_check).good ⟦<TrustAnchorChoice<P> as Encode>⟧.writing }
 {}
 
 /// Under [`Rfc5280`] decoding and encoding twice gives the bytes of once.
@@ -64,9 +67,12 @@ pub fn raw_anchors_stay()
 /// Where what is encoded of a validity is encoded again as it is, of two trust anchors with the same encoding the same
 /// value is spelled, also of those with a certificate whose serial number the profile refuses in decoding.
 pub fn anchors_written_alike_are_respelled_alike<P: Profile>()
-    ensures controls { IsStable validity.good ⟦<Validity<P> as Encode>⟧.writing → RespellsAlike (cert_path_controls P.serial_check) any_cert_path_controls.good ⟦<CertPathControls<P> as Encode>⟧.writing }
-    ensures info { IsStable validity.good ⟦<Validity<P> as Encode>⟧.writing → RespellsAlike (trust_anchor_info P.serial_check) any_trust_anchor_info.good ⟦<TrustAnchorInfo<P> as Encode>⟧.writing }
-    ensures anchor { IsStable validity.good ⟦<Validity<P> as Encode>⟧.writing → RespellsAlike (trust_anchor_choice P.serial_check) any_trust_anchor_choice.good ⟦<TrustAnchorChoice<P> as Encode>⟧.writing }
+    ensures controls { IsStable validity.good ⟦<Validity<P> as Encode>⟧.writing
+        → RespellsAlike (cert_path_controls P.serial_check) any_cert_path_controls.good ⟦<CertPathControls<P> as Encode>⟧.writing }
+    ensures info { IsStable validity.good ⟦<Validity<P> as Encode>⟧.writing
+        → RespellsAlike (trust_anchor_info P.serial_check) any_trust_anchor_info.good ⟦<TrustAnchorInfo<P> as Encode>⟧.writing }
+    ensures anchor { IsStable validity.good ⟦<Validity<P> as Encode>⟧.writing
+        → RespellsAlike (trust_anchor_choice P.serial_check) any_trust_anchor_choice.good ⟦<TrustAnchorChoice<P> as Encode>⟧.writing }
 {}
 
 /// What is encoded of policy flags is encoded again as it is: decoding and encoding twice gives the bytes of once.
@@ -79,7 +85,10 @@ pub fn policy_flags_are_written_once()
 /// the policy flags has a name.
 #[tactic(auto, using(crate::proofs::AnchorMade::made_for_rfc5280))]
 pub fn rfc5280_anchors_are_read_as_meant(anchor: &TrustAnchorChoice<Rfc5280>)
-    ensures { MadeAnchor (λ serial. length serial ≤ 21) anchor.now → IsWritable ⟦<TrustAnchorChoice<Rfc5280> as Grammar>⟧.form (writes ⟦<TrustAnchorChoice<Rfc5280> as Encode>⟧.writing anchor.now) limit → Spells ⟦<TrustAnchorChoice<Rfc5280> as Grammar>⟧.form (writes ⟦<TrustAnchorChoice<Rfc5280> as Encode>⟧.writing anchor.now).value (written_spelling ⟦<TrustAnchorChoice<Rfc5280> as Grammar>⟧.form (writes ⟦<TrustAnchorChoice<Rfc5280> as Encode>⟧.writing anchor.now)) }
+    ensures { MadeAnchor (λ serial. length serial ≤ 21) anchor.now
+        → IsWritable ⟦<TrustAnchorChoice<Rfc5280> as Grammar>⟧.form (writes ⟦<TrustAnchorChoice<Rfc5280> as Encode>⟧.writing anchor.now) limit
+        → Spells ⟦<TrustAnchorChoice<Rfc5280> as Grammar>⟧.form (writes ⟦<TrustAnchorChoice<Rfc5280> as Encode>⟧.writing anchor.now).value
+        (written_spelling ⟦<TrustAnchorChoice<Rfc5280> as Grammar>⟧.form (writes ⟦<TrustAnchorChoice<Rfc5280> as Encode>⟧.writing anchor.now)) }
 {
     rfc5280_dates_are_written_once();
     x509_der::laws::what_is_written_of_a_value_is_read_as_meant(anchor);
@@ -88,7 +97,8 @@ pub fn rfc5280_anchors_are_read_as_meant(anchor: &TrustAnchorChoice<Rfc5280>)
 /// Under [`Raw`] it is decoded as the very anchor, whatever the serial numbers, where each bit of the policy flags has
 /// a name.
 pub fn raw_anchors_are_read_as_meant(anchor: &TrustAnchorChoice<Raw>)
-    ensures { MadeAnchor (λ serial. Unit) anchor.now → length (spelling ⟦<TrustAnchorChoice<Raw> as Grammar>⟧.form anchor.now) ≤ limit → Spells ⟦<TrustAnchorChoice<Raw> as Grammar>⟧.form anchor.now (spelling ⟦<TrustAnchorChoice<Raw> as Grammar>⟧.form anchor.now) }
+    ensures { MadeAnchor (λ serial. Unit) anchor.now → length (spelling ⟦<TrustAnchorChoice<Raw> as Grammar>⟧.form anchor.now) ≤ limit
+        → Spells ⟦<TrustAnchorChoice<Raw> as Grammar>⟧.form anchor.now (spelling ⟦<TrustAnchorChoice<Raw> as Grammar>⟧.form anchor.now) }
 {
     anchor.has_spelling();
 }

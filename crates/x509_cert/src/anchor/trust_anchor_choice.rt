@@ -98,7 +98,8 @@ impl<P: Profile> Encode for TrustAnchorChoice<P> {
     ghost use Rattle.x509_cert.specs.TrustAnchorChoice as grammar;
     ghost use Rattle.x509_der.specs.Writing.{respelling};
 
-    ghost writing = { respelling (grammar.written_anchor ⟦<CertificateInner<P> as Encode>⟧.writing ⟦<TbsCertificateInner<P> as Encode>⟧.writing ⟦<TrustAnchorInfo<P> as Encode>⟧.writing) };
+    ghost writing = { respelling (grammar.written_anchor ⟦<CertificateInner<P> as Encode>⟧.writing ⟦<TbsCertificateInner<P> as Encode>⟧.writing
+        ⟦<TrustAnchorInfo<P> as Encode>⟧.writing) };
 
     fn put_content<R: Room>(&self, room: &mut R) -> Result<(), Error> {
         match self {
@@ -108,7 +109,8 @@ impl<P: Profile> Encode for TrustAnchorChoice<P> {
         }
     }
 
-    ghost same_tag = { grammar.trust_anchor_choice_same_tag P.serial_check ⟦<CertificateInner<P> as Encode>⟧.writing ⟦<TbsCertificateInner<P> as Encode>⟧.writing ⟦<TrustAnchorInfo<P> as Encode>⟧.writing };
+    ghost same_tag = { grammar.trust_anchor_choice_same_tag P.serial_check ⟦<CertificateInner<P> as Encode>⟧.writing
+        ⟦<TbsCertificateInner<P> as Encode>⟧.writing ⟦<TrustAnchorInfo<P> as Encode>⟧.writing };
 }
 
 #[tactic(auto, unfolding(x509_der::specs::Cases::choice_good))]

@@ -96,8 +96,11 @@ impl<P: Profile> CertificateInner<P> {
     ///
     /// Those of [`Encode::to_der`]; `Memory` when out of memory.
     pub fn hash<D: CertDigest>(&self, alloc: Global) -> Result<Vec<u8>, Error>
-        ensures ok { IfOk result (λ digest. (digest.items ≡ D.digest_of (written_spelling ⟦<CertificateInner<P> as Grammar>⟧.form (writes ⟦<CertificateInner<P> as Encode>⟧.writing self.now))) × IsWritable ⟦<CertificateInner<P> as Grammar>⟧.form (writes ⟦<CertificateInner<P> as Encode>⟧.writing self.now) limit) }
-        ensures err { IfErr result (λ e. (e.kind ≡ Memory) ⊎ IsUnwritable ⟦<CertificateInner<P> as Grammar>⟧.form (writes ⟦<CertificateInner<P> as Encode>⟧.writing self.now) limit e.kind) }
+        ensures ok { IfOk result (λ digest. (digest.items ≡ D.digest_of
+            (written_spelling ⟦<CertificateInner<P> as Grammar>⟧.form (writes ⟦<CertificateInner<P> as Encode>⟧.writing self.now)))
+            × IsWritable ⟦<CertificateInner<P> as Grammar>⟧.form (writes ⟦<CertificateInner<P> as Encode>⟧.writing self.now) limit) }
+        ensures err { IfErr result (λ e. (e.kind ≡ Memory) ⊎ IsUnwritable ⟦<CertificateInner<P> as Grammar>⟧.form
+            (writes ⟦<CertificateInner<P> as Encode>⟧.writing self.now) limit e.kind) }
     {
         hash::<D, CertificateInner<P>>(alloc, self)
     }

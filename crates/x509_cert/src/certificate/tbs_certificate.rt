@@ -72,7 +72,19 @@ impl<P: Profile> TbsCertificateInner<P> {
         subject_unique_id: Option<BitString>,
         extensions: Option<Extensions>,
     ) -> TbsCertificateInner<P>
-        ensures { result ≡ record { version = version; serial_number = serial_number; signature = signature; issuer = issuer; validity = validity; subject = subject; subject_public_key_info = subject_public_key_info; issuer_unique_id = issuer_unique_id; subject_unique_id = subject_unique_id; extensions = extensions } }
+        ensures { result ≡ record {
+          version = version;
+          serial_number = serial_number;
+          signature = signature;
+          issuer = issuer;
+          validity = validity;
+          subject =
+              subject;
+          subject_public_key_info = subject_public_key_info;
+          issuer_unique_id = issuer_unique_id;
+          subject_unique_id = subject_unique_id;
+          extensions = extensions;
+        } }
     {
         TbsCertificateInner {
             version,

@@ -53,7 +53,8 @@ impl<P: Profile> CertificateList<P> {
     ///
     /// Whether the CRL covers the issuer of the certificate, and for which time, isn't checked (RFC 5280 6.3.3).
     pub fn find(&self, serial_number: &SerialNumber<P>) -> Option<&RevokedCert<P>>
-        ensures { MatchOption result (with_serial serial_number.now (entries self.now.tbs_cert_list.revoked_certificates) ≡ []) (λ entry. IsFirstWith serial_number.now (entries self.now.tbs_cert_list.revoked_certificates) entry.now) }
+        ensures { MatchOption result (with_serial serial_number.now (entries self.now.tbs_cert_list.revoked_certificates) ≡ [])
+            (λ entry. IsFirstWith serial_number.now (entries self.now.tbs_cert_list.revoked_certificates) entry.now) }
     {
         first_with(self.tbs_cert_list.entries(), serial_number)
     }

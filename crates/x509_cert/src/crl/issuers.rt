@@ -55,7 +55,8 @@ impl<P: Profile> CertificateList<P> {
         issuer: &Name,
         serial_number: &SerialNumber<P>,
     ) -> Result<Option<&RevokedCert<P>>, Error>
-        ensures { FindsIssued (is_issued self.now.tbs_cert_list.issuer issuer.now serial_number.now) None (entries self.now.tbs_cert_list.revoked_certificates) (result_map_both option_copied (λ e. e) result) }
+        ensures { FindsIssued (is_issued self.now.tbs_cert_list.issuer issuer.now serial_number.now) None
+            (entries self.now.tbs_cert_list.revoked_certificates) (result_map_both option_copied (λ e. e) result) }
     {
         let mut is_issuer = self.tbs_cert_list.issuer == *issuer;
         let mut rest = self.tbs_cert_list.entries();

@@ -15,7 +15,8 @@ use x509_der::{Encode, Error};
 ///
 /// Those of [`Encode::to_der`]; `Memory` when out of memory.
 pub fn hash<D: CertDigest, T: Encode>(alloc: Global, value: &T) -> Result<Vec<u8>, Error>
-    ensures ok { IfOk result (λ digest. (digest.items ≡ D.digest_of (written_spelling T.form (writes T.writing value.now))) × IsWritable T.form (writes T.writing value.now) limit) }
+    ensures ok { IfOk result (λ digest. (digest.items ≡ D.digest_of (written_spelling T.form (writes T.writing value.now)))
+        × IsWritable T.form (writes T.writing value.now) limit) }
     ensures err { IfErr result (λ e. (e.kind ≡ Memory) ⊎ IsUnwritable T.form (writes T.writing value.now) limit e.kind) }
 {
     let bytes = value.to_der(alloc)?;

@@ -201,7 +201,8 @@ impl CertReq {
     /// `Failed` exactly where two or more attributes ask for extensions, or where the only one has no value, or two or
     /// more. Else `Malformed` exactly where its only value is no [`ExtensionReq`]. `Memory` when out of memory.
     pub fn extension_req(&self, alloc: Global) -> Result<Option<ExtensionReq>, Error>
-        ensures { FindsValue ⟦<ExtensionReq as Grammar>⟧.form ⟦<ExtensionReq as Grammar>⟧.refuses ⟦<ExtensionReq as Decode>⟧.wants_memory (with_type (pkcs_9 14) self.now.info.attributes) result }
+        ensures { FindsValue ⟦<ExtensionReq as Grammar>⟧.form ⟦<ExtensionReq as Grammar>⟧.refuses ⟦<ExtensionReq as Decode>⟧.wants_memory
+            (with_type (pkcs_9 14) self.now.info.attributes) result }
     {
         get_attribute(alloc, &self.info.attributes)
     }

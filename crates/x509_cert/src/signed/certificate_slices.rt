@@ -86,7 +86,8 @@ impl<'a> TbsCertificateSlices<'a> {
     pub fn from_der(bytes: &'a [u8]) -> Result<TbsCertificateSlices<'a>, Error>
         ensures found { IfOk result (λ slices. HasTbsElements bytes.now (tbs_elements slices)) }
         ensures overlength { limit < length bytes.now → IsErrAnd result (λ e. e.kind ≡ Overlength) }
-        ensures refused { length bytes.now ≤ limit → IfErr result (λ e. (e.kind ≡ Malformed) × ((elements : TbsElements) → ¬ (HasTbsElements bytes.now elements))) }
+        ensures refused { length bytes.now ≤ limit → IfErr result (λ e. (e.kind ≡ Malformed)
+            × ((elements : TbsElements) → ¬ (HasTbsElements bytes.now elements))) }
         ensures one { (elements : TbsElements) → HasTbsElements bytes.now elements → IsOkAnd result (λ slices. tbs_elements slices ≡ elements) }
     {
         if bytes.len() > Length::MAX.as_u32() as usize {
@@ -107,8 +108,10 @@ impl<'a> CertificateSlices<'a> {
     pub fn from_der(bytes: &'a [u8]) -> Result<CertificateSlices<'a>, Error>
         ensures found { IfOk result (λ slices. HasCertificateElements bytes.now (certificate_elements slices)) }
         ensures overlength { limit < length bytes.now → IsErrAnd result (λ e. e.kind ≡ Overlength) }
-        ensures refused { length bytes.now ≤ limit → IfErr result (λ e. (e.kind ≡ Malformed) × ((elements : CertificateElements) → ¬ (HasCertificateElements bytes.now elements))) }
-        ensures one { (elements : CertificateElements) → HasCertificateElements bytes.now elements → IsOkAnd result (λ slices. certificate_elements slices ≡ elements) }
+        ensures refused { length bytes.now ≤ limit → IfErr result (λ e. (e.kind ≡ Malformed)
+            × ((elements : CertificateElements) → ¬ (HasCertificateElements bytes.now elements))) }
+        ensures one { (elements : CertificateElements) → HasCertificateElements bytes.now elements
+            → IsOkAnd result (λ slices. certificate_elements slices ≡ elements) }
     {
         if bytes.len() > Length::MAX.as_u32() as usize {
             return Err(ErrorKind::Overlength.into());

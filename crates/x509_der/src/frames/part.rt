@@ -180,7 +180,8 @@ impl<P: PutPart> PutPart for Option<P> {
 
 /// x?: a field that may be absent.
 pub fn optional<T: Encode>(value: &Option<T>) -> Option<&T>
-    ensures text { optional_octets (λ p. spelling T.form (writes T.writing p.now).value) result ≡ optional_octets (λ v. spelling T.form (writes T.writing v).value) value.now }
+    ensures text { optional_octets (λ p. spelling T.form (writes T.writing p.now).value) result ≡ optional_octets
+        (λ v. spelling T.form (writes T.writing v).value) value.now }
     ensures refusal { optional_refusal (λ p. (writes T.writing p.now).refusal) result ≡ optional_refusal (λ v. (writes T.writing v).refusal) value.now }
 {
     match value {
@@ -192,7 +193,8 @@ pub fn optional<T: Encode>(value: &Option<T>) -> Option<&T>
 /// [n]x?: a field under an implicit tag that may be absent; n is 0 to 30.
 pub fn optional_implicit<T: Encode + FixedTag>(n: u8, value: &Option<T>) -> Option<Retagged<'_, T>>
     requires { n < 31 }
-    ensures text { optional_octets (λ p. element p.tag (T.form.content (writes T.writing p.value.now).value)) result ≡ optional_octets (λ v. element (implicit_tag n (one_tag T.form)) (T.form.content (writes T.writing v).value)) value.now }
+    ensures text { optional_octets (λ p. element p.tag (T.form.content (writes T.writing p.value.now).value)) result ≡ optional_octets
+        (λ v. element (implicit_tag n (one_tag T.form)) (T.form.content (writes T.writing v).value)) value.now }
     ensures refusal { optional_refusal (λ p. (writes T.writing p.value.now).refusal) result ≡ optional_refusal (λ v. (writes T.writing v).refusal) value.now }
 {
     match value {
@@ -204,7 +206,8 @@ pub fn optional_implicit<T: Encode + FixedTag>(n: u8, value: &Option<T>) -> Opti
 /// {n}x?: a field under an explicit tag that may be absent; n is 0 to 30.
 pub fn optional_explicit<T: Encode>(n: u8, value: &Option<T>) -> Option<Wrapped<'_, T>>
     requires { n < 31 }
-    ensures text { optional_octets (λ p. element p.tag (spelling T.form (writes T.writing p.value.now).value)) result ≡ optional_octets (λ v. element (160 + n) (spelling T.form (writes T.writing v).value)) value.now }
+    ensures text { optional_octets (λ p. element p.tag (spelling T.form (writes T.writing p.value.now).value)) result ≡ optional_octets
+        (λ v. element (160 + n) (spelling T.form (writes T.writing v).value)) value.now }
     ensures refusal { optional_refusal (λ p. (writes T.writing p.value.now).refusal) result ≡ optional_refusal (λ v. (writes T.writing v).refusal) value.now }
 {
     match value {
@@ -216,8 +219,10 @@ pub fn optional_explicit<T: Encode>(n: u8, value: &Option<T>) -> Option<Wrapped<
 /// x=d: a field with a default.
 #[tactic(auto, unfolding(crate::specs::Frames::default_octets))]
 pub fn defaulted<T: Encode + DefaultValue>(value: &T) -> Option<&T>
-    ensures text { optional_octets (λ p. spelling T.form (writes T.writing p.now).value) result ≡ default_octets T.default (λ v. spelling T.form (writes T.writing v).value) value.now }
-    ensures refusal { optional_refusal (λ p. (writes T.writing p.now).refusal) result ≡ default_refusal T.default (λ v. (writes T.writing v).refusal) value.now }
+    ensures text { optional_octets (λ p. spelling T.form (writes T.writing p.now).value) result ≡ default_octets T.default
+        (λ v. spelling T.form (writes T.writing v).value) value.now }
+    ensures refusal { optional_refusal (λ p. (writes T.writing p.now).refusal) result ≡ default_refusal T.default
+        (λ v. (writes T.writing v).refusal) value.now }
 {
     if value.is_default() {
         None
@@ -233,8 +238,10 @@ pub fn defaulted_implicit<T: Encode + FixedTag + DefaultValue>(
     value: &T,
 ) -> Option<Retagged<'_, T>>
     requires { n < 31 }
-    ensures text { optional_octets (λ p. element p.tag (T.form.content (writes T.writing p.value.now).value)) result ≡ default_octets T.default (λ v. element (implicit_tag n (one_tag T.form)) (T.form.content (writes T.writing v).value)) value.now }
-    ensures refusal { optional_refusal (λ p. (writes T.writing p.value.now).refusal) result ≡ default_refusal T.default (λ v. (writes T.writing v).refusal) value.now }
+    ensures text { optional_octets (λ p. element p.tag (T.form.content (writes T.writing p.value.now).value)) result ≡ default_octets T.default
+        (λ v. element (implicit_tag n (one_tag T.form)) (T.form.content (writes T.writing v).value)) value.now }
+    ensures refusal { optional_refusal (λ p. (writes T.writing p.value.now).refusal) result ≡ default_refusal T.default
+        (λ v. (writes T.writing v).refusal) value.now }
 {
     if value.is_default() {
         None
@@ -247,8 +254,10 @@ pub fn defaulted_implicit<T: Encode + FixedTag + DefaultValue>(
 #[tactic(auto, unfolding(crate::specs::Frames::default_octets))]
 pub fn defaulted_explicit<T: Encode + DefaultValue>(n: u8, value: &T) -> Option<Wrapped<'_, T>>
     requires { n < 31 }
-    ensures text { optional_octets (λ p. element p.tag (spelling T.form (writes T.writing p.value.now).value)) result ≡ default_octets T.default (λ v. element (160 + n) (spelling T.form (writes T.writing v).value)) value.now }
-    ensures refusal { optional_refusal (λ p. (writes T.writing p.value.now).refusal) result ≡ default_refusal T.default (λ v. (writes T.writing v).refusal) value.now }
+    ensures text { optional_octets (λ p. element p.tag (spelling T.form (writes T.writing p.value.now).value)) result ≡ default_octets T.default
+        (λ v. element (160 + n) (spelling T.form (writes T.writing v).value)) value.now }
+    ensures refusal { optional_refusal (λ p. (writes T.writing p.value.now).refusal) result ≡ default_refusal T.default
+        (λ v. (writes T.writing v).refusal) value.now }
 {
     if value.is_default() {
         None

@@ -199,7 +199,8 @@ pub fn read_optional_implicit<T: Decode + FixedTag>(
 /// `Malformed` exactly where the default was found (X.690 11.5).
 #[inline(always)]
 fn or_default<T: DefaultValue>(found: Option<T>) -> Result<T, Error>
-    ensures exact { MatchResult result (λ value. (behind : List ℕ) → default_of T.default (found, behind) ≡ Ok (value, behind)) (λ e. (behind : List ℕ) → default_of T.default (found, behind) ≡ Err Malformed) }
+    ensures exact { MatchResult result (λ value. (behind : List ℕ) → default_of T.default (found, behind) ≡ Ok (value, behind)) (λ e. (behind : List ℕ)
+        → default_of T.default (found, behind) ≡ Err Malformed) }
     ensures err { IfErr result (λ e. e.kind ≡ Malformed) }
 {
     match found {

@@ -56,7 +56,12 @@ impl AuthorityKeyIdentifier {
         alloc: Global,
         key: SubjectPublicKeyInfoRef<'_>,
     ) -> Result<AuthorityKeyIdentifier, Error>
-        ensures { IsOkAnd result (λ identifier. identifier ≡ record { key_identifier = Some (sha1 key.entry.subject_public_key.now.octets); authority_cert_issuer = None; authority_cert_serial_number = None }) }
+        ensures { IsOkAnd result (λ identifier. identifier ≡ record {
+          key_identifier = Some
+              (sha1 key.entry.subject_public_key.now.octets);
+          authority_cert_issuer = None;
+          authority_cert_serial_number = None;
+        }) }
     {
         Ok(AuthorityKeyIdentifier {
             key_identifier: Some(key_identifier(alloc, key)?),

@@ -206,7 +206,8 @@ impl Hash for AttributeTypeAndValue {
 
     ghost hash_input = { λ a. ⟦<AttributeType as Hash>⟧.hash_input a.oid ++ ⟦<AttributeValue as Hash>⟧.hash_input a.value };
 
-    ghost respects_eq = { (same_Alike (λ a. ⟦<AttributeType as Hash>⟧.hash_input a.oid ++ ⟦<AttributeValue as Hash>⟧.hash_input a.value) grammar.type_and_value_decides).fed };
+    ghost respects_eq = { (same_Alike (λ a. ⟦<AttributeType as Hash>⟧.hash_input a.oid ++ ⟦<AttributeValue as Hash>⟧.hash_input a.value)
+        grammar.type_and_value_decides).fed };
 
     fn hash<H: Hasher>(&self, state: &mut H) {
         self.oid.hash(state);

@@ -116,7 +116,8 @@ impl Name {
     ///
     /// `Malformed` exactly where the value is no PrintableString.
     pub fn country(&self, alloc: Global) -> Result<Option<PrintableStringRef<'_>>, Error>
-        ensures { LooksUp (BorrowsTextFrom (λ string. string.text.now) tags.PrintableString (list_all is_printable)) (first_of_type types.country_name (members_of self.now)) result }
+        ensures { LooksUp (BorrowsTextFrom (λ string. string.text.now) tags.PrintableString (list_all is_printable))
+            (first_of_type types.country_name (members_of self.now)) result }
     {
         self.by_oid(alloc, COUNTRY_NAME)
     }
@@ -127,7 +128,8 @@ impl Name {
     ///
     /// `Malformed` exactly where the value is no IA5String.
     pub fn email_address(&self, alloc: Global) -> Result<Option<Ia5StringRef<'_>>, Error>
-        ensures { LooksUp (BorrowsTextFrom (λ string. string.text.now) tags.Ia5String (list_all is_ia5)) (first_of_type types.email_address (members_of self.now)) result }
+        ensures { LooksUp (BorrowsTextFrom (λ string. string.text.now) tags.Ia5String (list_all is_ia5))
+            (first_of_type types.email_address (members_of self.now)) result }
     {
         self.by_oid(alloc, EMAIL_ADDRESS)
     }

@@ -74,7 +74,8 @@ fn take_items<T: TlsItem + Drop>(alloc: Global, bytes: &[u8]) -> Result<Vec<T>, 
 /// `InvalidVectorLength` exactly where the items have more than 65,535 bytes. Else `Memory` when out of memory.
 pub fn serialize_list<T: Tls>(alloc: Global, items: &[T]) -> Result<Vec<u8>, TlsError>
     ensures ok { IfOk result (λ bytes. IsList uint16 T.form items.now bytes.items) }
-    ensures err { IfErr result (λ e. ((e ≡ InvalidVectorLength) × (65535 < length (joined T.form items.now))) ⊎ ((e ≡ Memory) × (length (joined T.form items.now) ≤ 65535))) }
+    ensures err { IfErr result (λ e. ((e ≡ InvalidVectorLength) × (65535 < length (joined T.form items.now)))
+        ⊎ ((e ≡ Memory) × (length (joined T.form items.now) ≤ 65535))) }
 {
     let len = items_len(items)?;
     let mut out = Vec::with_capacity(alloc, 2 + len)?;

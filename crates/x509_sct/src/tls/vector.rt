@@ -118,7 +118,8 @@ fn check_len(len: usize) -> Result<(), TlsError>
 /// when out of memory.
 pub fn serialize_vector<T: Tls>(alloc: Global, value: &T) -> Result<TlsByteVecU16, TlsError>
     ensures ok { IfOk result (λ vector. Spells T.form value.now vector × (length (T.form.bytes value.now) ≤ 65535)) }
-    ensures err { IfErr result (λ e. ((e ≡ InvalidVectorLength) × (65535 < length (T.form.bytes value.now))) ⊎ ((e ≡ Memory) × (length (T.form.bytes value.now) ≤ 65535))) }
+    ensures err { IfErr result (λ e. ((e ≡ InvalidVectorLength) × (65535 < length (T.form.bytes value.now)))
+        ⊎ ((e ≡ Memory) × (length (T.form.bytes value.now) ≤ 65535))) }
 {
     check_len(value.tls_len())?;
     let octets = value.tls_serialize(alloc)?;
