@@ -95,6 +95,11 @@ authority() {
     mkdir "$made"
     wants "$name, an authority" 0 "$folder/nothing" "$@" "$made"
     wants "$name, an authority without a folder" 1 "$folder/nothing" "$@" "$made/none"
+    if python3 -c 'import cryptography' 2>"$folder/said"; then
+        python3 -B "$gate/verify_authority.py" "$made" || failed=1
+    else
+        echo "left out, since Python's cryptography isn't installed: its answers to the authority"
+    fi
     has openssl "its answers to the authority" || return 0
     for file in root intermediate server; do
         openssl x509 -inform DER -in "$made/$file.der" -out "$made/$file.pem" || failed=1

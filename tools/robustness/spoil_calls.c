@@ -2,8 +2,8 @@
  *
  * What is spoilt: the rows of ROWS (crates/x509_test_rows/stdin), the FILES, and what calls find in these or make of them; for each input of a call
  * those that the call accepts, or that have the type which the parameter wants. Of one input of the call, or sometimes of two, one to three bytes are
- * changed, put in or taken out, the end is cut off, or a part is put in a second time, as a generator with the SEED says; one of sixteen stays as it is. An input ends where a page
- * ends that no byte may be read behind, or begins where one begins that no byte may be read before; so does a buffer.
+ * changed, put in or taken out, the end is cut off, or a part is put in a second time, as a generator with the SEED says; one of sixteen stays as it is.
+ * An input ends where a page ends that no byte may be read behind, or begins where one begins that no byte may be read before; so does a buffer.
  *
  * Looked at is what the header says of all calls: the status is one of those that it lists for the call, and not X509_MEMORY; what is filled in is
  * unchanged where the status isn't X509_OK; places lie within the input; a walk moves on, and ends; a buffer of the length that was told is filled, one
@@ -78,8 +78,8 @@ static uint64_t below(uint64_t *state, uint64_t bound)
 
 /* ---- bases: bytes that are good for some call */
 
-/* Of what a call accepts it is given the first FRONT, among which are the files, and a quarter of the others, or all where these are FEW; of what it finds FOUND are
- * kept each time. */
+/* Of what a call accepts it is given the first FRONT, among which are the files, and a quarter of the others, or all where these are FEW; of what it finds
+ * FOUND are kept each time. */
 enum { MOST_BASES = 1 << 16, MOST_BYTES = 4096, POOL = 1024, KIND = 32, FRONT = 64, FEW = 64, FOUND = 256 };
 
 typedef struct {
@@ -105,16 +105,16 @@ static uint64_t digest_of(uint64_t digest, const void *bytes, size_t len)
     return digest;
 }
 
-/* Keeps bytes with a type's name, once. */
-static void keep(const char *kind, const uint8_t *bytes, size_t len)
+/* Keeps bytes with a type's name, once, and says their number; MOST_BASES where they aren't kept. */
+static size_t keep(const char *kind, const uint8_t *bytes, size_t len)
 {
     if (len > MOST_BYTES || base_count == MOST_BASES || strlen(kind) >= KIND)
-        return;
+        return MOST_BASES;
     size_t place = digest_of(digest_of(0xcbf29ce484222325, kind, strlen(kind)), bytes, len) % (4 * MOST_BASES);
     for (; hashes[place] != 0; place = (place + 1) % (4 * MOST_BASES)) {
         const base *it = &bases[hashes[place] - 1];
         if (it->len == len && strcmp(it->kind, kind) == 0 && memcmp(it->bytes, bytes, len) == 0)
-            return;
+            return hashes[place] - 1;
     }
     uint8_t *copy = malloc(len + 1);
     if (copy == NULL)
@@ -124,6 +124,7 @@ static void keep(const char *kind, const uint8_t *bytes, size_t len)
     bases[base_count] = (base){"", len, copy};
     strcpy(bases[base_count].kind, kind);
     hashes[place] = (uint32_t)++base_count;
+    return base_count - 1;
 }
 
 /* Numbers of bases. */
@@ -154,7 +155,8 @@ static void put(pool *to, size_t number)
         to->bases[to->len++] = (uint32_t)number;
 }
 
-/* Which pool an input is of: that of what the call with one input accepts, or `kind:` and the type of rows. For a call with one input it is its own. */
+/* Which pool an input is of: that of what the call with one input accepts, or `found:` and the call whose first span it is, or `kind:` and the type of rows,
+ * or `paths`, certificates that are a path under themselves. For a call with one input it is its own. */
 typedef struct {
     const char *call, *input, *pool;
 } source;
@@ -163,11 +165,15 @@ static const source SOURCES[] = {
     {"x509_reencode", "name", "kind:typename"},
     {"x509_build_crl", "issuer", "x509_certificate_check"},
     {"x509_build_crl", "number", "x509_oid_text"},
-    {"x509_path_check", "path", "x509_certificate_check"},
+    {"x509_path_check", "path", "paths"},
     {"x509_path_check", "anchor", "x509_certificate_check"},
     {"x509_certificate_extension", "in", "x509_certificate_check"},
+    {"x509_certificate_extension", "oid", "found:x509_extensions_next"},
     {"x509_crl_lookup", "in", "x509_crl_check"},
+    {"x509_crl_lookup", "serial_number", "found:x509_crl_entry_next"},
     {"x509_request_attribute_find", "in", "x509_request_check"},
+    {"x509_request_attribute_find", "oid", "found:x509_request_attribute_next"},
+    {"x509_name_find", "oid", "found:x509_relative_name_next"},
     {NULL, "name", "x509_name_text"},
     {NULL, "names", "x509_general_names_next"},
     {NULL, "issuer", "x509_name_text"},
@@ -507,6 +513,9 @@ static void ask_spoilt(asker *by, int number)
     }
     for (int at = 0; at < by->now->number_count; at++)
         with.number[at] = any_number(by, by->now->numbers[at], by->kept[0]);
+    x509_certificate view;
+    if ((by->now->flags & HAS_LENS) && below(&by->state, 8) != 0 && x509_certificate_view(by->copies[0], by->kept[0].len, &view) == X509_OK)
+        with.number[0] = view.not_before;
     const x509_status status = ask_any(by, &with, is_front);
     *(status == X509_OK ? &by->accepted[number] : &by->refused[number]) += 1;
 }
@@ -554,6 +563,15 @@ static void keep_file(const char *path)
     keep("", bytes, len);
 }
 
+/* The pool of what a call finds first, where some input is of that. */
+static pool *found_by(const char *call)
+{
+    for (size_t at = 0; at < sizeof SOURCES / sizeof *SOURCES; at++)
+        if (strncmp(SOURCES[at].pool, "found:", 6) == 0 && strcmp(SOURCES[at].pool + 6, call) == 0)
+            return pool_of(SOURCES[at].pool);
+    return NULL;
+}
+
 /* Keeps what a call with one input says of a base, until it has found enough: the spans that it finds, and the bytes that it writes. Says whether it accepts
  * the base. */
 static int keep_found(const call *of, const base *it, size_t enough)
@@ -582,8 +600,12 @@ static int keep_found(const call *of, const base *it, size_t enough)
             memcpy(&span, found + of->fields[field].at, sizeof span);
             if (span.place > it->len || span.len > it->len - span.place)
                 stop("a place outside of a base");
-            if (base_count < enough)
-                keep("", it->bytes + span.place, span.len);
+            if (base_count >= enough)
+                continue;
+            const size_t kept = keep("", it->bytes + span.place, span.len);
+            pool *found_first = field == 0 ? found_by(of->name) : NULL;
+            if (found_first != NULL && kept < MOST_BASES)
+                put(found_first, kept);
         }
         if (!(of->flags & WALKS))
             break;
@@ -615,8 +637,21 @@ static void keep_members(void)
     }
 }
 
+/* Whether the certificate is a path under itself, at its first second. */
+static int is_path(const base *it)
+{
+    x509_certificate view;
+    x509_path_fault fault;
+    return x509_certificate_view(it->bytes, it->len, &view) == X509_OK &&
+           x509_path_check(it->bytes, it->len, it->bytes, it->len, &it->len, 1, view.not_before, &fault) == X509_OK;
+}
+
 static void fill_pools(void)
 {
+    const pool *certificates = pool_of("x509_certificate_check");
+    for (size_t at = 0; at < certificates->len; at++)
+        if (is_path(&bases[certificates->bases[at]]))
+            put(pool_of("paths"), certificates->bases[at]);
     for (size_t number = 0; number < base_count; number++) {
         const base *it = &bases[number];
         if (strcmp(it->kind, "extensions") == 0)

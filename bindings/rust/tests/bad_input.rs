@@ -1,8 +1,8 @@
 //! Bytes that are no values: each call answers an error, and none panics.
 use x509_rattle::extension::{ExtensionValue, KeyUsage};
 use x509_rattle::{
-    oid, Certificate, CertificateRef, Crl, Error, Extensions, GeneralNames, Name, NameRef,
-    ObjectIdentifier,
+    oid, BuildError, Certificate, CertificateBuilder, CertificateRef, Crl, Csr, CsrBuilder, Error,
+    Extensions, GeneralNames, Name, NameRef, ObjectIdentifier, SerialNumber, Signer,
 };
 
 const CERTIFICATE: &[u8] = include_bytes!("../../../examples/data/certificate.der");
@@ -173,4 +173,57 @@ fn errors() {
         .expect_err("it has no octets")
         .into();
     assert_eq!(error.to_string(), Error::Malformed.to_string());
+}
+
+/// A signer with any algorithm and any key, whose bits are no signature.
+struct Any<'a>(&'a [u8], &'a [u8]);
+
+impl Signer for Any<'_> {
+    type Error = std::convert::Infallible;
+
+    fn algorithm(&self) -> &[u8] {
+        self.0
+    }
+
+    fn subject_public_key_info(&self) -> &[u8] {
+        self.1
+    }
+
+    fn sign(&self, message: &[u8]) -> Result<Vec<u8>, Self::Error> {
+        Ok(message[..message.len() / 2].to_vec())
+    }
+}
+
+#[test]
+fn builders_over_changed_keys_and_algorithms() {
+    let certificate = CertificateRef::from_der(CERTIFICATE).expect("a certificate");
+    let key = certificate.subject_public_key_info();
+    let algorithm = certificate.signature().expect("a signature").algorithm;
+    let name = certificate.subject().to_owned();
+    let mut made = 0;
+    for at in 0..key.len() + algorithm.len() {
+        for flip in [0x01, 0x20, 0x80, 0xff] {
+            let mut changed = [key, algorithm].concat();
+            changed[at] ^= flip;
+            let (key, algorithm) = changed.split_at(key.len());
+            let signer = Any(algorithm, key);
+            let serial_number = SerialNumber::try_from(1).expect("a number");
+            let validity = certificate.validity();
+            let builder = CertificateBuilder::new(serial_number, &name, validity, &name, key);
+            match builder.build(&signer) {
+                Ok(built) => {
+                    assert_eq!(built.subject_public_key_info(), key);
+                    assert_eq!(built.signature().map(|it| it.algorithm), Ok(algorithm));
+                    made += 1;
+                }
+                Err(error) => assert_eq!(error, BuildError::Refused(Error::Malformed)),
+            }
+            if let Ok(der) = CsrBuilder::new(&name).build(&signer) {
+                let csr = Csr::from_der(&der).expect("what was built");
+                assert_eq!(csr.subject_public_key_info(), key);
+            }
+        }
+    }
+    // the bits of the key may be any
+    assert!(made > 200);
 }

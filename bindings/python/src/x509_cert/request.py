@@ -106,7 +106,8 @@ class CertificateSigningRequest:
         return found.values.of(self._data)
 
     def get_attribute_for_oid(self, oid: ObjectIdentifier) -> Attribute:
-        """The attribute of a type with its first value. An AttributeNotFound where there is none or it has no value, an X509Error where there are two or more."""
+        """The attribute of a type with its first value. An AttributeNotFound where there is none or it has no value, an X509Error where there are two or
+        more."""
         values = self._attribute(oid.content)
         if values is None:
             raise AttributeNotFound(oid)
