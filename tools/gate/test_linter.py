@@ -10,7 +10,7 @@ import subprocess
 import sys
 
 sys.path.insert(0, str(pathlib.Path(__file__).resolve().parents[1]))
-from common.der import BIT_STRING, GENERALIZED_TIME, PRINTABLE_STRING, TRUE, UTC_TIME, UTF8_STRING
+from common.der import BIT_STRING, BMP_STRING, GENERALIZED_TIME, IA5_STRING, PRINTABLE_STRING, TRUE, UTC_TIME, UTF8_STRING, VISIBLE_STRING
 from common.der import bit_string, context, element, integer, object_identifier, octet_string, sequence, set_of
 
 ECDSA_SHA256 = sequence(object_identifier(1, 2, 840, 10045, 4, 3, 2))
@@ -258,11 +258,27 @@ def alternative_rules():
             yield with_names(implicit(2, text), implicit(7, bytes(4)), implicit(7, bytes(16))), []
 
 
+CPS, NOTICE = object_identifier(1, 3, 6, 1, 5, 5, 7, 2, 1), object_identifier(1, 3, 6, 1, 5, 5, 7, 2, 2)
+
+
+def with_text(text):
+    """A policy with a user notice of this explicit text."""
+    return ce(32, sequence(sequence(POLICY, sequence(sequence(NOTICE, sequence(text))))))
+
+
 def policy_rules():
     """Certificate policies, policy mappings and policy constraints (RFC 5280 4.2.1.4, 4.2.1.5, 4.2.1.11)."""
     yield leaf_with(ce(32, sequence())), [error("certificate_policies_empty", "4.2.1.4")]
     yield leaf_with(ce(32, sequence(sequence(POLICY), sequence(ANY_POLICY, sequence())))), [error("policy_qualifiers_empty", "4.2.1.4")]
     yield leaf_with(ce(32, sequence(sequence(POLICY), sequence(ANY_POLICY)))), []
+    for tag, char in ((UTF8_STRING, "ä".encode()), (BMP_STRING, b"\0a"), (VISIBLE_STRING, b"a"), (IA5_STRING, b"a")):
+        yield leaf_with(with_text(element(tag, char * 201))), [error("explicit_text_too_long", "4.2.1.4")]
+        yield leaf_with(with_text(element(tag, char * 200))), []
+    long = element(UTF8_STRING, b"a" * 201)
+    behind = sequence(sequence(CPS, element(IA5_STRING, b"a" * 201)), sequence(NOTICE, sequence()), sequence(NOTICE, sequence(long)))
+    yield leaf_with(ce(32, sequence(sequence(ANY_POLICY), sequence(POLICY, behind)))), [error("explicit_text_too_long", "4.2.1.4")]
+    yield leaf_with(ce(32, sequence(sequence(POLICY, sequence(sequence(CPS, sequence(long))))))), []
+    yield leaf_with(ce(32, sequence(sequence(POLICY, sequence(sequence(NOTICE, long)))))), []
     yield ca_with(ce(33, sequence(), True)), [error("policy_mappings_empty", "4.2.1.5")]
     yield ca_with(ce(33, sequence(sequence(POLICY, ANY_POLICY)), True)), [error("policy_mapping_any_policy", "4.2.1.5")]
     yield ca_with(ce(33, sequence(sequence(ANY_POLICY, POLICY)), True)), [error("policy_mapping_any_policy", "4.2.1.5")]

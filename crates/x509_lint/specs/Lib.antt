@@ -1,5 +1,6 @@
 pub mod Wording
 pub mod Words
+pub mod Notices
 pub mod Values
 pub mod Field
 pub mod Name

@@ -5,7 +5,7 @@ use Rattle.x509_cert.specs.ext.declared.pkix.policy_mapping.PolicyMapping.{Polic
 use Rattle.x509_lint.specs.Words.{Certificate, is_empty, passes}
 use Rattle.x509_lint.specs.declared.values.PolicyValues.{PolicyValues}
 use Rattle.x509_lint.specs.declared.rule.policy.PolicyRule.{PolicyRule}
-use Rattle.x509_lint.specs.declared.rule.policy.PolicyRule.TheVariants.{CertificatePoliciesEmpty, PolicyQualifiersEmpty, PolicyMappingsEmpty, PolicyMappingAnyPolicy, PolicyConstraintsEmpty}
+use Rattle.x509_lint.specs.declared.rule.policy.PolicyRule.TheVariants.{CertificatePoliciesEmpty, PolicyQualifiersEmpty, ExplicitTextTooLong, PolicyMappingsEmpty, PolicyMappingAnyPolicy, PolicyConstraintsEmpty}
 use Rattle.x509_lint.specs.Wording.{Wording, must}
 
 -- the content octets of 2.5.29.32.0, anyPolicy (RFC 5280 4.2.1.4)
@@ -18,6 +18,7 @@ is_of_any_policy mapping = bytes_eq mapping.issuer_domain_policy any_policy || b
 abbrev pub breaks_policy : Certificate → PolicyValues → PolicyRule → Bool
 breaks_policy c v CertificatePoliciesEmpty = passes (λ p. is_empty p.0) v.certificate_policies
 breaks_policy c v PolicyQualifiersEmpty = passes (λ p. list_any (λ policy. passes is_empty policy.policy_qualifiers) p.0) v.certificate_policies
+breaks_policy c v ExplicitTextTooLong = v.has_long_text
 breaks_policy c v PolicyMappingsEmpty = passes (λ m. is_empty m.0) v.policy_mappings
 breaks_policy c v PolicyMappingAnyPolicy = passes (λ m. list_any is_of_any_policy m.0) v.policy_mappings
 breaks_policy c v PolicyConstraintsEmpty = passes (λ p. not (is_some p.require_explicit_policy) && not (is_some p.inhibit_policy_mapping)) v.policy_constraints
@@ -25,11 +26,12 @@ breaks_policy c v PolicyConstraintsEmpty = passes (λ p. not (is_some p.require_
 -- ---- the order, and how each is told
 
 abbrev pub policy_rules : List PolicyRule
-policy_rules = CertificatePoliciesEmpty ∷ PolicyQualifiersEmpty ∷ PolicyMappingsEmpty ∷ PolicyMappingAnyPolicy ∷ PolicyConstraintsEmpty ∷ []
+policy_rules = CertificatePoliciesEmpty ∷ PolicyQualifiersEmpty ∷ ExplicitTextTooLong ∷ PolicyMappingsEmpty ∷ PolicyMappingAnyPolicy ∷ PolicyConstraintsEmpty ∷ []
 
 abbrev pub policy_wording : PolicyRule → Wording
 policy_wording CertificatePoliciesEmpty = must (codes "certificate_policies_empty") (codes "4.2.1.4")
 policy_wording PolicyQualifiersEmpty = must (codes "policy_qualifiers_empty") (codes "4.2.1.4")
+policy_wording ExplicitTextTooLong = must (codes "explicit_text_too_long") (codes "4.2.1.4")
 policy_wording PolicyMappingsEmpty = must (codes "policy_mappings_empty") (codes "4.2.1.5")
 policy_wording PolicyMappingAnyPolicy = must (codes "policy_mapping_any_policy") (codes "4.2.1.5")
 policy_wording PolicyConstraintsEmpty = must (codes "policy_constraints_empty") (codes "4.2.1.11")

@@ -22,6 +22,7 @@ use Rattle.x509_cert.specs.ext.CertificatePolicies.{certificate_policies}
 use Rattle.x509_cert.specs.ext.InhibitAnyPolicy.{inhibit_any_policy}
 use Rattle.x509_cert.specs.ext.PolicyConstraints.{policy_constraints}
 use Rattle.x509_cert.specs.ext.PolicyMapping.{policy_mappings}
+use Rattle.x509_lint.specs.Notices.{has_long_text}
 use Rattle.x509_lint.specs.Words.{Certificate, Crl, IsValue, crl_extensions_of, extensions_of}
 use Rattle.x509_lint.specs.declared.facts.CertificateFacts.{CertificateFacts}
 use Rattle.x509_lint.specs.declared.facts.CrlFacts.{CrlFacts}
@@ -52,6 +53,7 @@ ArePolicyValues extensions v =
     IsValue certificate_policies (id_ce 32) extensions v.certificate_policies
     × IsValue policy_mappings (id_ce 33) extensions v.policy_mappings
     × IsValue policy_constraints (id_ce 36) extensions v.policy_constraints
+    × (v.has_long_text ≡ has_long_text v.certificate_policies)
 
 abbrev pub AreConstraintValues : List Extension → ConstraintValues → Type 0
 AreConstraintValues extensions v = IsValue name_constraints (id_ce 30) extensions v.name_constraints

@@ -10,6 +10,7 @@ mod extensions;
 mod facts;
 mod group;
 mod names;
+mod notices;
 mod report;
 pub mod rule;
 mod times;

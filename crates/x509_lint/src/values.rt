@@ -6,6 +6,7 @@ ghost use Rattle.x509_cert.specs.der.declared.error.ErrorKind.TheVariants.{Memor
 ghost use Rattle.x509_lint.specs.Values.{AreAlternativeValues, AreAuthorityValues, AreConstraintValues, AreCrlValues, AreKeyValues, ArePointValues, ArePolicyValues};
 
 use crate::extensions::payload;
+use crate::notices::has_long_text;
 use std::alloc::Global;
 use x509_cert::der::Error;
 use x509_cert::ext::Extension;
@@ -109,6 +110,9 @@ pub(crate) struct PolicyValues {
     pub(crate) certificate_policies: Option<CertificatePolicies>,
     pub(crate) policy_mappings: Option<PolicyMappings>,
     pub(crate) policy_constraints: Option<PolicyConstraints>,
+
+    /// Some user notice among the qualifiers has an explicit text over 200 characters.
+    pub(crate) has_long_text: bool,
 }
 
 impl Drop for PolicyValues {
@@ -117,6 +121,7 @@ impl Drop for PolicyValues {
             certificate_policies: _,
             policy_mappings: _,
             policy_constraints: _,
+            has_long_text: _,
         } = self;
     }
 }
@@ -125,10 +130,13 @@ pub(crate) fn policy_values(alloc: Global, extensions: &[Extension]) -> Result<P
     ensures ok { IfOk result (ArePolicyValues extensions.now) }
     ensures err { IfErr result (λ e. e.kind ≡ Memory) }
 {
+    let certificate_policies = payload(alloc, extensions)?;
+    let has_long_text = has_long_text(alloc, &certificate_policies)?;
     Ok(PolicyValues {
-        certificate_policies: payload(alloc, extensions)?,
+        certificate_policies,
         policy_mappings: payload(alloc, extensions)?,
         policy_constraints: payload(alloc, extensions)?,
+        has_long_text,
     })
 }
 

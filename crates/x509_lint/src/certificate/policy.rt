@@ -68,6 +68,7 @@ impl Group<CertificateInner<Raw>, PolicyValues> for PolicyRule {
                 Some(policies) => has_empty_qualifiers(policies.0.as_slice()),
                 None => false,
             },
+            PolicyRule::ExplicitTextTooLong => values.has_long_text,
             PolicyRule::PolicyMappingsEmpty => match &values.policy_mappings {
                 Some(mappings) => mappings.0.as_slice().is_empty(),
                 None => false,

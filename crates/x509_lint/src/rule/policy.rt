@@ -14,6 +14,9 @@ pub enum PolicyRule {
     /// The list of a policy's qualifiers is there, and has none (RFC 5280 4.2.1.4, error).
     PolicyQualifiersEmpty,
 
+    /// The explicit text of a user notice has more than 200 characters (RFC 5280 4.2.1.4, error).
+    ExplicitTextTooLong,
+
     /// The PolicyMappings has no mapping (RFC 5280 4.2.1.5, error).
     PolicyMappingsEmpty,
 
@@ -24,9 +27,10 @@ pub enum PolicyRule {
     PolicyConstraintsEmpty,
 }
 
-pub(crate) const POLICY_RULES: [PolicyRule; 5] = [
+pub(crate) const POLICY_RULES: [PolicyRule; 6] = [
     PolicyRule::CertificatePoliciesEmpty,
     PolicyRule::PolicyQualifiersEmpty,
+    PolicyRule::ExplicitTextTooLong,
     PolicyRule::PolicyMappingsEmpty,
     PolicyRule::PolicyMappingAnyPolicy,
     PolicyRule::PolicyConstraintsEmpty,
@@ -40,6 +44,7 @@ impl PolicyRule {
         match self {
             PolicyRule::CertificatePoliciesEmpty => must("certificate_policies_empty", "4.2.1.4"),
             PolicyRule::PolicyQualifiersEmpty => must("policy_qualifiers_empty", "4.2.1.4"),
+            PolicyRule::ExplicitTextTooLong => must("explicit_text_too_long", "4.2.1.4"),
             PolicyRule::PolicyMappingsEmpty => must("policy_mappings_empty", "4.2.1.5"),
             PolicyRule::PolicyMappingAnyPolicy => must("policy_mapping_any_policy", "4.2.1.5"),
             PolicyRule::PolicyConstraintsEmpty => must("policy_constraints_empty", "4.2.1.11"),
