@@ -14,6 +14,8 @@ mod fakes;
 #[cfg(test)]
 mod issuers;
 #[cfg(test)]
+mod lent;
+#[cfg(test)]
 mod look_ups;
 #[cfg(test)]
 mod path_checks;
