@@ -295,7 +295,7 @@ if has python3 "the caller in Python, and wide and deep values"; then
     run_tests "Python, the tests of the package, beside cryptography" env X509_LIBRARY="$folder/libx509.so" PYTHONPATH="$top/bindings/python/src" \
         python3 -B -m unittest discover -s "$top/bindings/python/tests"
     ! has mypy "the types of the package for Python" ||
-        run_tests "Python, the types of the package" mypy --strict --cache-dir "$folder/mypy" "$top/bindings/python/src/x509_cert"
+        run_tests "Python, the types of the package" mypy --strict --no-warn-unused-ignores --cache-dir "$folder/mypy" "$top/bindings/python/src/x509_cert"
     python3 -B "$robustness/hostile_sizes.py" --rows "$folder"
     wants "C, each allocation refused of wide and deep values" 0 "$folder/calls.txt" "$folder/refuse_memory" "${files[@]}" "$folder/rows" "$folder/answers"
 fi
