@@ -14,7 +14,7 @@ pub record Answer (X : Type 0) : Type 1 where
 abbrev pub IsRefused : {X : Type 0} → Answer X → Type 0
 IsRefused answer = (e : Error) × answer.refuses e
 
--- a call answers, seen by view, the value exactly where nothing refuses it; else one of those errors; or memory was wanted
+-- a call answers, seen by view, the value exactly where nothing refuses it; else one of those errors; or out of memory
 abbrev pub Gives : {X Y : Type 0} → (Y → X) → Answer X → Result Y Error → Type 0
 Gives view answer (Ok given) = (view given ≡ answer.value) × (IsRefused answer → ⊥)
 Gives view answer (Err e) = LacksMemory e ⊎ answer.refuses e

@@ -47,7 +47,7 @@ MakesNumber number made = Makes (id_ce 20) false unsigned_integer (writes plain 
 abbrev pub MakesIssuerKey : List ℕ → Result Extension Error → Type 0
 MakesIssuerKey identifier made = Makes (id_ce 35) false authority_key_identifier (writes plain (told_by identifier)) made
 
--- both; or memory was wanted, or one of them can't be made
+-- both; or out of memory, or one of them can't be made
 abbrev pub MakesExtensions : List ℕ → List ℕ → Result (List Extension) Error → Type 0
 MakesExtensions number identifier (Ok made) = (first : Extension) × (second : Extension) × MakesNumber number (Ok first) × MakesIssuerKey identifier (Ok second) × (made ≡ first ∷ second ∷ [])
 MakesExtensions number identifier (Err e) = (e.kind ≡ Memory) ⊎ (MakesNumber number (Err e) ⊎ MakesIssuerKey identifier (Err e))

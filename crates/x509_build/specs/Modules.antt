@@ -67,7 +67,7 @@ type_of_module (Other oid) = oid
 abbrev pub tpm_module : TpmVersion → List ℕ → HardwareModuleName
 tpm_module version serial_number = record { hw_type = type_of_module version; hw_serial_num = serial_number }
 
--- why a module's name isn't put in: memory was wanted, or its element is too long
+-- why a module's name isn't put in: out of memory, or its element is too long
 abbrev pub CantName : HardwareModuleName → Error → Type 0
 CantName hardware (Asn1 e) = (e.kind ≡ Memory) ⊎ ((e.kind ≡ Overlength) × (limit < length (spelling hardware_module_name hardware)))
 CantName hardware another = ⊥

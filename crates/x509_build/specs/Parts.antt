@@ -19,7 +19,7 @@ abbrev pub CantWrite : {X : Type 0} → Form X → Written X → Error → Type 
 CantWrite form written (Asn1 e) = IsUnwritable form written limit e.kind
 CantWrite form written _ = ⊥
 
--- why there are no bytes of the part: memory was wanted, or it is refused, or it can't be written
+-- why there are no bytes of the part: out of memory, or it is refused, or it can't be written
 abbrev pub PartRefuses : {X : Type 0} → Form X → Writing X → Answer X → Error → Type 0
 PartRefuses form writing part e = LacksMemory e ⊎ (part.refuses e ⊎ CantWrite form (writes writing part.value) e)
 

@@ -8,11 +8,11 @@ use Rattle.x509_build.specs.declared.error.KeyError.TheVariants as keys
 use Rattle.x509_build.specs.declared.error.SignError.{SignError}
 use Rattle.x509_build.specs.declared.error.SignError.TheVariants as signing
 
--- a signer doesn't tell its algorithm or its key: memory was wanted, or it refuses, where it may
+-- a signer doesn't tell its algorithm or its key: out of memory, or it refuses, where it may
 abbrev pub KeyRefuses : Type 0 → KeyError → Type 0
 KeyRefuses may e = (e ≡ keys.Memory) ⊎ ((e ≡ keys.Refused) × may)
 
--- it doesn't sign: memory was wanted, or it refuses, where it may
+-- it doesn't sign: out of memory, or it refuses, where it may
 abbrev pub SigningRefuses : Type 0 → SignError → Type 0
 SigningRefuses may e = (e ≡ signing.Memory) ⊎ ((e ≡ signing.Refused) × may)
 
@@ -26,7 +26,7 @@ abbrev pub BySigning : Type 0 → Error → Type 0
 BySigning may (Signature e) = SigningRefuses may e
 BySigning may _ = ⊥
 
--- memory was wanted for a value
+-- out of memory, for a value
 abbrev pub LacksMemory : Error → Type 0
 LacksMemory (Asn1 e) = e.kind ≡ kinds.Memory
 LacksMemory _ = ⊥

@@ -4,7 +4,7 @@ ghost use Rattle.std.specs.Prelude.{◌≡◌, None, Some, if◌then◌else◌, 
 ghost use Rattle.x509_c_calls.specs.Assembly.{Assembles};
 ghost use Rattle.x509_c_calls.specs.BuildMembers.{EncodesEntry, EncodesExtension};
 ghost use Rattle.x509_c_calls.specs.Certificates.{BuildsCertificate};
-ghost use Rattle.x509_c_calls.specs.Lists.{BuildsList};
+ghost use Rattle.x509_c_calls.specs.Crls.{BuildsCrl};
 ghost use Rattle.x509_c_calls.specs.Requests.{BuildsRequest};
 ghost use Rattle.x509_c_calls.specs.Status.{Fills, Tells};
 ghost use Rattle.x509_ext.specs.Identifiers.{id_ce};
@@ -89,7 +89,7 @@ pub extern "C" fn x509_build_crl(
     room: &mut [u8],
     written: &mut usize,
 ) -> i32
-    ensures { Tells (λ status. Fills (BuildsList (λ part. Finds ⟦<SubjectKeyIdentifier as Grammar>⟧.form ⟦<SubjectKeyIdentifier as Decode>⟧.refuses ⟦<SubjectKeyIdentifier as Decode>⟧.wants_memory (with_oid (id_ce 14) (members part.extensions))) issuer.now algorithm.now number.now this_update (if nat_eq has_next_update 0 then None else Some next_update) entries.now extensions.now) room.old room.new written.old written.new status) result }
+    ensures { Tells (λ status. Fills (BuildsCrl (λ part. Finds ⟦<SubjectKeyIdentifier as Grammar>⟧.form ⟦<SubjectKeyIdentifier as Decode>⟧.refuses ⟦<SubjectKeyIdentifier as Decode>⟧.wants_memory (with_oid (id_ce 14) (members part.extensions))) issuer.now algorithm.now number.now this_update (if nat_eq has_next_update 0 then None else Some next_update) entries.now extensions.now) room.old room.new written.old written.new status) result }
 {
     let next_update = where_told(has_next_update, next_update);
     build_crl(

@@ -3,7 +3,7 @@ use Rattle.std.proofs.Common.{◌≡◌, ◌<◌, ◌≤◌, ◌⊎◌, ℕ, Lis
 use Rattle.x509_base.specs.AlgorithmIdentifier.{algorithm_identifier}
 use Rattle.x509_base.specs.declared.algorithm_identifier.AlgorithmIdentifier.{AlgorithmIdentifier}
 use Rattle.x509_base.specs.declared.profile.Rfc5280.{Rfc5280}
-use Rattle.x509_c_calls.specs.Assembly.{AreSigned, Assembles, IsNone, IsPartFor, RefusesSigned, certificate_part, list_part, whole_of}
+use Rattle.x509_c_calls.specs.Assembly.{AreSigned, Assembles, IsNone, IsPartFor, RefusesSigned, certificate_part, crl_part, whole_of}
 use Rattle.x509_c_calls.specs.BuildSigned.{signed, signed_fields}
 use Rattle.x509_c_calls.specs.declared.build.signed.Signed.{Signed}
 use Rattle.x509_c_calls.specs.Calls.{Encodes}
@@ -35,9 +35,9 @@ module _ (part algorithm signature : List ℕ) (by : AlgorithmIdentifier) (named
   unfolding certificate_fields fields_octets fields_good is_padded
   is_certificate value spelled = ((spelled.0, (named.0, refl)), ap (λ p. element 0x30 (p ++ (algorithm ++ element 0x03 (0 ∷ signature)))) spelled.1 ∙ ap (λ a. element 0x30 (element 0x30 (certificate_part.content value) ++ (a ++ element 0x03 (0 ∷ signature)))) named.1, within)
 
-  is_list : (value : TbsCertList Rfc5280) → Spells list_part value part → Spells rfc5280_certificate_list (record { tbs_cert_list = value; signature_algorithm = by; signature = parts_of 0 signature }) (whole_of part algorithm signature)
+  is_list : (value : TbsCertList Rfc5280) → Spells crl_part value part → Spells rfc5280_certificate_list (record { tbs_cert_list = value; signature_algorithm = by; signature = parts_of 0 signature }) (whole_of part algorithm signature)
   unfolding certificate_list_fields fields_octets fields_good is_padded
-  is_list value spelled = ((spelled.0, (named.0, refl)), ap (λ p. element 0x30 (p ++ (algorithm ++ element 0x03 (0 ∷ signature)))) spelled.1 ∙ ap (λ a. element 0x30 (element 0x30 (list_part.content value) ++ (a ++ element 0x03 (0 ∷ signature)))) named.1, within)
+  is_list value spelled = ((spelled.0, (named.0, refl)), ap (λ p. element 0x30 (p ++ (algorithm ++ element 0x03 (0 ∷ signature)))) spelled.1 ∙ ap (λ a. element 0x30 (element 0x30 (crl_part.content value) ++ (a ++ element 0x03 (0 ∷ signature)))) named.1, within)
 
   is_request : (value : CertReqInfo) → Spells cert_req_info value part → Spells cert_req (record { info = value; algorithm = by; signature = parts_of 0 signature }) (whole_of part algorithm signature)
   unfolding cert_req_fields fields_octets fields_good is_padded
@@ -54,7 +54,7 @@ module _ (part algorithm signature : List ℕ) (by : AlgorithmIdentifier) (named
   )
   is_whole (inr (inl (value, spelled, same))) = (
     inr (inl (record { value = value; part_is = spelled; algorithm_is = subst (λ a. Spells algorithm_identifier a algorithm) (sym same) named; whole_is = subst (λ a. Spells rfc5280_certificate_list (record { tbs_cert_list = value; signature_algorithm = a; signature = parts_of 0 signature }) (whole_of part algorithm signature)) (sym same) (is_list value spelled) })),
-    stands_in_front (list_part.content value) spelled.1,
+    stands_in_front (crl_part.content value) spelled.1,
   )
   is_whole (inr (inr (value, spelled))) = (
     inr (inr (record { value = value; by = by; part_is = spelled; algorithm_is = named; whole_is = is_request value spelled })),
@@ -85,10 +85,10 @@ assembles part algorithm signature s is (Err e) (inr (kind, long)) = inr (kind, 
 -- a part that may stand with an algorithm is an element
 is_element : (R : ErrorKind → Type 0) (part : List ℕ) (by : AlgorithmIdentifier) (e : ErrorKind) → IsPartFor part by → IsRefused any R part e → ⊥
 is_element R part by e (inl (value, spelled, same)) refused = refused_none any R part e refused (record { tag = Sequence; value = certificate_part.content value }) (tt, spelled.1, spelled.2)
-is_element R part by e (inr (inl (value, spelled, same))) refused = refused_none any R part e refused (record { tag = Sequence; value = list_part.content value }) (tt, spelled.1, spelled.2)
+is_element R part by e (inr (inl (value, spelled, same))) refused = refused_none any R part e refused (record { tag = Sequence; value = crl_part.content value }) (tt, spelled.1, spelled.2)
 is_element R part by e (inr (inr (value, spelled))) refused = refused_none any R part e refused (record { tag = Sequence; value = cert_req_info.content value }) (tt, spelled.1, spelled.2)
 
--- so it is refused as one for want of memory alone
+-- so it is refused for out of memory alone
 pub memory_alone : {Q : Type 0} (R : ErrorKind → Type 0) (part : List ℕ) (by : AlgorithmIdentifier) (e : ErrorKind) → IsPartFor part by → (e ≡ Memory) ⊎ IsRefused any R part e → (e ≡ Memory) ⊎ Q
 memory_alone R part by e stands (inl memory) = inl memory
 memory_alone R part by e stands (inr refused) = absurd (is_element R part by e stands refused)

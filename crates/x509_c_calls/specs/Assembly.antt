@@ -26,8 +26,8 @@ use Rattle.x509_types.specs.Reencoding.{IsRefused}
 abbrev pub certificate_part : Form (TbsCertificateInner Rfc5280)
 certificate_part = tbs_certificate rfc5280_serial_number
 
-abbrev pub list_part : Form (TbsCertList Rfc5280)
-list_part = tbs_cert_list rfc5280_serial_number
+abbrev pub crl_part : Form (TbsCertList Rfc5280)
+crl_part = tbs_cert_list rfc5280_serial_number
 
 -- ---- the whole
 
@@ -45,7 +45,7 @@ pub record IsCertificateOf (part algorithm signature bytes : List ℕ) : Type 0 
 -- the same of a CRL (RFC 5280 5.1.1.2)
 pub record IsListOf (part algorithm signature bytes : List ℕ) : Type 0 where
   pub value : TbsCertList Rfc5280
-  pub part_is : Spells list_part value part
+  pub part_is : Spells crl_part value part
   pub algorithm_is : Spells algorithm_identifier value.signature algorithm
   pub whole_is : Spells rfc5280_certificate_list (record { tbs_cert_list = value; signature_algorithm = value.signature; signature = parts_of 0 signature }) bytes
 
@@ -67,18 +67,18 @@ IsNone {X} form bytes = (value : X) → Spells form value bytes → ⊥
 abbrev pub IsPartFor : List ℕ → AlgorithmIdentifier → Type 0
 IsPartFor part algorithm =
     ((value : TbsCertificateInner Rfc5280) × Spells certificate_part value part × (value.signature ≡ algorithm))
-    ⊎ (((value : TbsCertList Rfc5280) × Spells list_part value part × (value.signature ≡ algorithm))
+    ⊎ (((value : TbsCertList Rfc5280) × Spells crl_part value part × (value.signature ≡ algorithm))
     ⊎ ((value : CertReqInfo) × Spells cert_req_info value part))
 
 -- a signed part in which another algorithm stands
 abbrev pub IsOtherThan : List ℕ → AlgorithmIdentifier → Type 0
 IsOtherThan part algorithm =
     ((value : TbsCertificateInner Rfc5280) × Spells certificate_part value part × (value.signature ≡ algorithm → ⊥))
-    ⊎ ((value : TbsCertList Rfc5280) × Spells list_part value part × (value.signature ≡ algorithm → ⊥))
+    ⊎ ((value : TbsCertList Rfc5280) × Spells crl_part value part × (value.signature ≡ algorithm → ⊥))
 
 -- none of the three: neither of the first two, and refused as the third
 abbrev pub RefusesPart : List ℕ → ErrorKind → Type 0
-RefusesPart part e = IsNone certificate_part part × IsNone list_part part × IsRefused cert_req_info (λ e. ⊥) part e
+RefusesPart part e = IsNone certificate_part part × IsNone crl_part part × IsRefused cert_req_info (λ e. ⊥) part e
 
 -- ---- what a call answers
 

@@ -17,7 +17,7 @@ pub mod Input
 pub mod Refusals
 pub mod Requests
 pub mod BuildMembers
-pub mod Lists
+pub mod Crls
 pub mod Certificates
 pub mod ProfileParts
 pub mod ProfileInputs

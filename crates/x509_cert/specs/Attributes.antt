@@ -15,7 +15,7 @@ pub record HoldsAlone {X : Type 0} (oid : List ℕ) (form : Form X) (written : W
   pub alone : attribute ≡ record { oid = oid; values = value ∷ [] }
   pub encoded : spelling any value ≡ written_spelling form written
 
--- What a call that makes it answers: the attribute; or memory was wanted; or the value can't be written.
+-- What a call that makes it answers: the attribute; or out of memory; or the value can't be written.
 abbrev pub MakesAttribute : {X : Type 0} → List ℕ → Form X → Written X → Result Attribute Error → Type 0
 MakesAttribute oid form written (Ok attribute) = HoldsAlone oid form written attribute × IsWritable form written limit
 MakesAttribute oid form written (Err e) = (e.kind ≡ Memory) ⊎ IsUnwritable form written limit e.kind

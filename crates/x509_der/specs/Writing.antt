@@ -63,7 +63,7 @@ pub record IsKind {R : Type 0} (kind : Kind R) : Type 0 where
   pub same_most : (a : List ℕ) (x y : R) → kind.puts a x y → kind.most x ≡ kind.most y
   pub within : (x : R) → kind.most x ≤ limit
 
--- What a call that puts a text in front of what stands answers: the text is put; or memory was wanted; or the text and
+-- What a call that puts a text in front of what stands answers: the text is put; or out of memory; or the text and
 -- what stands are too long; or the text is refused.
 abbrev pub Puts : {R : Type 0} → Kind R → List ℕ → Option ErrorKind → Result Unit Error → R → R → Type 0
 Puts kind text refusal (Ok done) old new = (refusal ≡ None) × kind.puts text old new

@@ -16,7 +16,7 @@ held_length octets = length (spelling octet_string octets)
 abbrev pub extension_of : {X : Type 0} → List ℕ → Bool → Form X → Written X → Extension
 extension_of oid critical form payload = record { extn_id = oid; critical = critical; extn_value = written_spelling form payload }
 
--- What a call that makes it answers: the extension; or memory was wanted; or the payload can't be written; or it can, and the
+-- What a call that makes it answers: the extension; or out of memory; or the payload can't be written; or it can, and the
 -- OCTET STRING that is to hold it is too long.
 abbrev pub Makes : {X : Type 0} → List ℕ → Bool → Form X → Written X → Result Extension Error → Type 0
 Makes oid critical form payload (Ok extension) =

@@ -16,7 +16,7 @@ use x509_base::Rfc5280;
 use x509_cert::anchor::{TrustAnchorChoice, TrustAnchorInfo};
 use x509_cert::certificate::{CertificateInner, TbsCertificateInner};
 
-/// A trust anchor (RFC 5914 3), by its places. Of what is left out both numbers are 0.
+/// A trust anchor (RFC 5914 3), by its places. An absent part has offset 0 and length 0.
 #[derive(Clone, Copy, Debug, PartialEq, Eq)]
 #[repr(C)]
 pub struct AnchorView {

@@ -10,7 +10,7 @@ use x509_base::Rfc5280;
 use x509_cert::anchor::{CertPathControls, CertPolicyFlags};
 use x509_ext::pkix::NameConstraints;
 
-/// Constraints on the paths from a trust anchor (RFC 5914 2.5), by their places. Of what is left out both numbers are 0.
+/// Constraints on the paths from a trust anchor (RFC 5914 2.5), by their places. An absent part has offset 0 and length 0.
 #[derive(Clone, Copy, Debug, PartialEq, Eq)]
 #[repr(C)]
 pub struct PathControlsView {

@@ -8,7 +8,7 @@ use crate::{NOWHERE, Span, View, enter, step, step_content, step_optional, step_
 use x509_base::Rfc5280;
 use x509_cert::anchor::{CertPathControls, TrustAnchorInfo};
 
-/// A description of a trust anchor (RFC 5914 2), by its places. Of what is left out both numbers are 0.
+/// A description of a trust anchor (RFC 5914 2), by its places. An absent part has offset 0 and length 0.
 #[derive(Clone, Copy, Debug, PartialEq, Eq)]
 pub struct InfoView {
     /// The public key, with its algorithm.

@@ -12,7 +12,7 @@ use x509_base::{Rfc5280, Time};
 use x509_cert::certificate::Version;
 use x509_cert::crl::CertificateList;
 
-/// What a CRL says (RFC 5280 5.1.2), and where its parts stand in its bytes. Of what is left out both numbers of a span are 0.
+/// What a CRL says (RFC 5280 5.1.2), and where its parts stand in its bytes. An absent part has offset 0 and length 0.
 #[derive(Clone, Copy, Debug, PartialEq, Eq)]
 #[repr(C)]
 pub struct CrlView {

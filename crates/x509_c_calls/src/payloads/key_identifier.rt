@@ -1,11 +1,11 @@
-//! By what the key of an issuer is told.
+//! The AKI: which key of the issuer signed.
 
 use crate::payloads::calls::View;
 use crate::payloads::walk::{step_optional, step_optional_content};
 use crate::{Span, enter};
 use x509_ext::pkix::AuthorityKeyIdentifier;
 
-/// By what the key of an issuer is told (RFC 5280 4.2.1.1). Of what is left out both numbers are 0.
+/// The AKI (RFC 5280 4.2.1.1): which key of the issuer signed. An absent part has offset 0 and length 0.
 #[derive(Clone, Copy, Debug, PartialEq, Eq)]
 #[repr(C)]
 pub struct AuthorityKeyIdentifierView {

@@ -16,7 +16,7 @@ use x509_ext::pkix::IssuingDistributionPoint;
 use x509_ext::pkix::crl::dp::{DistributionPoint, ReasonFlags};
 use x509_ext::pkix::name::DistributionPointName;
 
-/// Where CRLs are found (RFC 5280 4.2.1.13). Of what is left out both numbers are 0.
+/// Where CRLs are found (RFC 5280 4.2.1.13). An absent part has offset 0 and length 0.
 #[derive(Clone, Copy, Debug, PartialEq, Eq)]
 #[repr(C)]
 pub struct DistributionPointView {
@@ -36,7 +36,7 @@ pub struct DistributionPointView {
     pub crl_issuer: Span,
 }
 
-/// Of what certificates a CRL speaks (RFC 5280 5.2.5). Of what is left out both numbers are 0.
+/// The issuing distribution point (RFC 5280 5.2.5): which certificates the CRL covers. An absent part has offset 0 and length 0.
 #[derive(Clone, Copy, Debug, PartialEq, Eq)]
 #[repr(C)]
 pub struct IssuingDistributionPointView {

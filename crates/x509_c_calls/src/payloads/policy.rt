@@ -35,7 +35,7 @@ impl View for PolicyView {
     }
 }
 
-/// What qualifies a policy (RFC 5280 4.2.1.4).
+/// A policy qualifier (RFC 5280 4.2.1.4).
 #[derive(Clone, Copy, Debug, PartialEq, Eq)]
 #[repr(C)]
 pub struct QualifierView {
@@ -91,7 +91,7 @@ impl View for MappingView {
     }
 }
 
-/// What is asked of the policies of a path (RFC 5280 4.2.1.11): after how many more certificates.
+/// The policy constraints (RFC 5280 4.2.1.11): after how many more certificates each of both holds.
 #[derive(Clone, Copy, Debug, PartialEq, Eq)]
 #[repr(C)]
 pub struct PolicyConstraintsView {

@@ -8,7 +8,7 @@ use crate::{Span, enter};
 use x509_ext::pkix::NameConstraints;
 use x509_ext::pkix::constraints::name::GeneralSubtree;
 
-/// Which names are permitted below an authority, and which are excluded (RFC 5280 4.2.1.10). Of what is left out both numbers are 0.
+/// Which names are permitted below an authority, and which are excluded (RFC 5280 4.2.1.10). An absent part has offset 0 and length 0.
 #[derive(Clone, Copy, Debug, PartialEq, Eq)]
 #[repr(C)]
 pub struct NameConstraintsView {

@@ -7,7 +7,7 @@ ghost use Rattle.x509_der.specs.Element.{element, is_identifier};
 
 use crate::{Span, enter, step};
 
-/// Nowhere.
+/// The span of an absent part: offset 0 and length 0.
 pub const NOWHERE: Span = Span { place: 0, len: 0 };
 
 /// Steps over an element, and answers where its content stands.

@@ -12,10 +12,10 @@ use Rattle.x509_build.specs.declared.crl_builder.CrlBuilder.{CrlBuilder}
 use Rattle.x509_build.specs.Answer.{Answer}
 use Rattle.x509_build.specs.Parts.{Encodes, PartRefuses}
 use Rattle.x509_build.specs.declared.error.Error as builder
-use Rattle.x509_c_calls.specs.Assembly.{list_part}
+use Rattle.x509_c_calls.specs.Assembly.{crl_part}
 use Rattle.x509_c_calls.specs.Input.{RefusesEach, RefusesTime, SpellEach, unless_empty}
 use Rattle.x509_c_calls.specs.Refusals.{kind_of}
-use Rattle.x509_c_calls.specs.declared.build.list.ListInputs.{ListInputs}
+use Rattle.x509_c_calls.specs.declared.build.crl.CrlInputs.{CrlInputs}
 use Rattle.x509_cert.specs.RevokedCert.{revoked_cert}
 use Rattle.x509_cert.specs.declared.crl.tbs_cert_list.TbsCertList.{TbsCertList}
 use Rattle.x509_cert.specs.Certificate.{rfc5280_certificate}
@@ -41,7 +41,7 @@ abbrev pub RefusesTimeOrNone : Option ℕ → ErrorKind → Type 0
 RefusesTimeOrNone None e = ⊥
 RefusesTimeOrNone (Some seconds) e = RefusesTime seconds e
 
-pub record AreListInputs (issuer algorithm number : List ℕ) (this_update : ℕ) (next_update : Option ℕ) (entries extensions : List ℕ) (inputs : ListInputs) : Type 0 where
+pub record AreCrlInputs (issuer algorithm number : List ℕ) (this_update : ℕ) (next_update : Option ℕ) (entries extensions : List ℕ) (inputs : CrlInputs) : Type 0 where
   pub issuer_is : Spells rfc5280_certificate inputs.issuer issuer
   pub algorithm_is : Spells algorithm_identifier inputs.algorithm algorithm
   pub number_is : inputs.number.0 ≡ number_content number
@@ -51,8 +51,8 @@ pub record AreListInputs (issuer algorithm number : List ℕ) (this_update : ℕ
   pub extensions_are : SpellEach extension inputs.extensions.items extensions
 
 -- one of them is refused
-abbrev pub RefusesListInputs : List ℕ → List ℕ → List ℕ → ℕ → Option ℕ → List ℕ → List ℕ → ErrorKind → Type 0
-RefusesListInputs issuer algorithm number this_update next_update entries extensions e =
+abbrev pub RefusesCrlInputs : List ℕ → List ℕ → List ℕ → ℕ → Option ℕ → List ℕ → List ℕ → ErrorKind → Type 0
+RefusesCrlInputs issuer algorithm number this_update next_update entries extensions e =
     IsRefused rfc5280_certificate (CheckRefuses rfc5280_serial_number) issuer e
     ⊎ (IsRefused algorithm_identifier (λ e. ⊥) algorithm e
     ⊎ (((e ≡ Value) × (number ≡ []))
@@ -64,14 +64,14 @@ RefusesListInputs issuer algorithm number this_update next_update entries extens
 -- ---- the part
 
 -- a builder with a next update, entries and further extensions
-abbrev pub prepared : CrlBuilder Rfc5280 → ListInputs → CrlBuilder Rfc5280
+abbrev pub prepared : CrlBuilder Rfc5280 → CrlInputs → CrlBuilder Rfc5280
 prepared start inputs = record start {
   tbs = record start.tbs { next_update = inputs.next_update; revoked_certificates = unless_empty inputs.entries.items };
   extensions = start.extensions ++ inputs.extensions.items;
 }
 
 -- the part that it finalizes to for a signer with the algorithm
-abbrev pub part_of : CrlBuilder Rfc5280 → ListInputs → Answer (TbsCertList Rfc5280)
+abbrev pub part_of : CrlBuilder Rfc5280 → CrlInputs → Answer (TbsCertList Rfc5280)
 part_of start inputs = next_part (prepared start inputs).tbs (prepared start inputs).extensions inputs.algorithm
 
 -- what a look-up of the SKI in the issuer's certificate may answer
@@ -79,23 +79,23 @@ abbrev pub LookUp : Type 1
 LookUp = Result (Option (Bool × SubjectKeyIdentifier)) der.Error → Type 0
 
 -- the bytes are encoded of the part to which a builder finalizes that starts with these inputs
-abbrev pub ListParts : LookUp → ListInputs → List ℕ → Type 0
-ListParts LooksUp inputs bytes =
-    (start : CrlBuilder Rfc5280) × Starts LooksUp inputs.issuer.tbs_certificate inputs.number.0 inputs.this_update start × Encodes list_part plain (part_of start inputs) bytes
+abbrev pub CrlParts : LookUp → CrlInputs → List ℕ → Type 0
+CrlParts LooksUp inputs bytes =
+    (start : CrlBuilder Rfc5280) × Starts LooksUp inputs.issuer.tbs_certificate inputs.number.0 inputs.this_update start × Encodes crl_part plain (part_of start inputs) bytes
 
 -- there are none: no builder starts with them, or the part can't be made
-abbrev pub RefusesListPart : LookUp → ListInputs → builder.Error → Type 0
-RefusesListPart LooksUp inputs e =
+abbrev pub RefusesCrlPart : LookUp → CrlInputs → builder.Error → Type 0
+RefusesCrlPart LooksUp inputs e =
     RefusesStart LooksUp inputs.issuer.tbs_certificate inputs.number.0 e
-    ⊎ ((start : CrlBuilder Rfc5280) × Starts LooksUp inputs.issuer.tbs_certificate inputs.number.0 inputs.this_update start × PartRefuses list_part plain (part_of start inputs) e)
+    ⊎ ((start : CrlBuilder Rfc5280) × Starts LooksUp inputs.issuer.tbs_certificate inputs.number.0 inputs.this_update start × PartRefuses crl_part plain (part_of start inputs) e)
 
 -- ---- what a call answers
 
--- Those bytes (x509_build's ListParts); or why there are none.
-abbrev pub BuildsList : (TbsCertificateInner Rfc5280 → LookUp) → List ℕ → List ℕ → List ℕ → ℕ → Option ℕ → List ℕ → List ℕ → Result (List ℕ) ErrorKind → Type 0
-BuildsList LooksUp issuer algorithm number this_update next_update entries extensions (Ok bytes) =
-    (inputs : ListInputs) × AreListInputs issuer algorithm number this_update next_update entries extensions inputs × ListParts (LooksUp inputs.issuer.tbs_certificate) inputs bytes
-BuildsList LooksUp issuer algorithm number this_update next_update entries extensions (Err kind) =
-    RefusesListInputs issuer algorithm number this_update next_update entries extensions kind
-    ⊎ ((inputs : ListInputs) × AreListInputs issuer algorithm number this_update next_update entries extensions inputs
-    × ((e : builder.Error) × (kind_of e ≡ kind) × RefusesListPart (LooksUp inputs.issuer.tbs_certificate) inputs e))
+-- Those bytes (x509_build's CrlParts); or why there are none.
+abbrev pub BuildsCrl : (TbsCertificateInner Rfc5280 → LookUp) → List ℕ → List ℕ → List ℕ → ℕ → Option ℕ → List ℕ → List ℕ → Result (List ℕ) ErrorKind → Type 0
+BuildsCrl LooksUp issuer algorithm number this_update next_update entries extensions (Ok bytes) =
+    (inputs : CrlInputs) × AreCrlInputs issuer algorithm number this_update next_update entries extensions inputs × CrlParts (LooksUp inputs.issuer.tbs_certificate) inputs bytes
+BuildsCrl LooksUp issuer algorithm number this_update next_update entries extensions (Err kind) =
+    RefusesCrlInputs issuer algorithm number this_update next_update entries extensions kind
+    ⊎ ((inputs : CrlInputs) × AreCrlInputs issuer algorithm number this_update next_update entries extensions inputs
+    × ((e : builder.Error) × (kind_of e ≡ kind) × RefusesCrlPart (LooksUp inputs.issuer.tbs_certificate) inputs e))

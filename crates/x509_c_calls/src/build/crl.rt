@@ -4,7 +4,7 @@ ghost use Rattle.std.specs.Prelude.{◌≡◌, ◌⊎◌, [], None, IfOk, IfErr,
 ghost use Rattle.x509_base.specs.Serial.{number_content};
 ghost use Rattle.x509_build.specs.Refusals.{LacksMemory};
 ghost use Rattle.x509_c_calls.specs.Input.{unless_empty};
-ghost use Rattle.x509_c_calls.specs.Lists.{AreListInputs, BuildsList, IsTimeOrNone, ListParts, RefusesListInputs, RefusesListPart, RefusesTimeOrNone};
+ghost use Rattle.x509_c_calls.specs.Crls.{AreCrlInputs, BuildsCrl, IsTimeOrNone, CrlParts, RefusesCrlInputs, RefusesCrlPart, RefusesTimeOrNone};
 ghost use Rattle.x509_c_calls.specs.Refusals.{kind_of};
 ghost use Rattle.x509_c_calls.specs.Status.{Fills};
 ghost use Rattle.x509_der.specs.declared.error.ErrorKind.TheVariants.{Memory, Value};
@@ -27,7 +27,7 @@ use x509_prim::{BitString, Uint};
 
 /// What a CRL is built of.
 #[derive(Drop)]
-struct ListInputs {
+struct CrlInputs {
     issuer: Certificate,
     algorithm: AlgorithmIdentifier,
     number: CrlNumber,
@@ -67,10 +67,10 @@ fn read_inputs(
     next_update: Option<u64>,
     entries: &[u8],
     extensions: &[u8],
-) -> Result<ListInputs, ErrorKind>
+) -> Result<CrlInputs, ErrorKind>
     ensures { MatchResult result
-        (λ inputs. AreListInputs issuer.now algorithm.now number.now this_update next_update entries.now extensions.now inputs)
-        (λ e. (e ≡ Memory) ⊎ RefusesListInputs issuer.now algorithm.now number.now this_update next_update entries.now extensions.now e) }
+        (λ inputs. AreCrlInputs issuer.now algorithm.now number.now this_update next_update entries.now extensions.now inputs)
+        (λ e. (e ≡ Memory) ⊎ RefusesCrlInputs issuer.now algorithm.now number.now this_update next_update entries.now extensions.now e) }
 {
     let issuer = read::<Certificate>(alloc, issuer)?;
     let algorithm = read::<AlgorithmIdentifier>(alloc, algorithm)?;
@@ -79,7 +79,7 @@ fn read_inputs(
     let next_update = time_or_none(next_update)?;
     let entries = read_each::<RevokedCert<Rfc5280>>(alloc, entries)?;
     let extensions = read_each::<Extension>(alloc, extensions)?;
-    Ok(ListInputs {
+    Ok(CrlInputs {
         issuer,
         algorithm,
         number,
@@ -121,12 +121,12 @@ fn signer_by(alloc: Global, algorithm: AlgorithmIdentifier) -> Result<Teller, Er
 }
 
 /// The bytes that the builder finalizes to.
-fn list_part(alloc: Global, inputs: ListInputs) -> Result<Vec<u8>, Error>
+fn crl_part(alloc: Global, inputs: CrlInputs) -> Result<Vec<u8>, Error>
     ensures { MatchResult result
-        (λ bytes. ListParts (Finds ⟦<SubjectKeyIdentifier as Grammar>⟧.form ⟦<SubjectKeyIdentifier as Decode>⟧.refuses ⟦<SubjectKeyIdentifier as Decode>⟧.wants_memory (with_oid (id_ce 14) (members inputs.issuer.tbs_certificate.extensions))) inputs bytes.items)
-        (λ e. (kind_of e ≡ Memory) ⊎ RefusesListPart (Finds ⟦<SubjectKeyIdentifier as Grammar>⟧.form ⟦<SubjectKeyIdentifier as Decode>⟧.refuses ⟦<SubjectKeyIdentifier as Decode>⟧.wants_memory (with_oid (id_ce 14) (members inputs.issuer.tbs_certificate.extensions))) inputs e) }
+        (λ bytes. CrlParts (Finds ⟦<SubjectKeyIdentifier as Grammar>⟧.form ⟦<SubjectKeyIdentifier as Decode>⟧.refuses ⟦<SubjectKeyIdentifier as Decode>⟧.wants_memory (with_oid (id_ce 14) (members inputs.issuer.tbs_certificate.extensions))) inputs bytes.items)
+        (λ e. (kind_of e ≡ Memory) ⊎ RefusesCrlPart (Finds ⟦<SubjectKeyIdentifier as Grammar>⟧.form ⟦<SubjectKeyIdentifier as Decode>⟧.refuses ⟦<SubjectKeyIdentifier as Decode>⟧.wants_memory (with_oid (id_ce 14) (members inputs.issuer.tbs_certificate.extensions))) inputs e) }
 {
-    let ListInputs {
+    let CrlInputs {
         issuer,
         algorithm,
         number,
@@ -165,7 +165,7 @@ pub fn build_crl(
     room: &mut [u8],
     written: &mut usize,
 ) -> Status
-    ensures { Fills (BuildsList (λ part. Finds ⟦<SubjectKeyIdentifier as Grammar>⟧.form ⟦<SubjectKeyIdentifier as Decode>⟧.refuses ⟦<SubjectKeyIdentifier as Decode>⟧.wants_memory (with_oid (id_ce 14) (members part.extensions))) issuer.now algorithm.now number.now this_update next_update entries.now extensions.now) room.old room.new written.old written.new result }
+    ensures { Fills (BuildsCrl (λ part. Finds ⟦<SubjectKeyIdentifier as Grammar>⟧.form ⟦<SubjectKeyIdentifier as Decode>⟧.refuses ⟦<SubjectKeyIdentifier as Decode>⟧.wants_memory (with_oid (id_ce 14) (members part.extensions))) issuer.now algorithm.now number.now this_update next_update entries.now extensions.now) room.old room.new written.old written.new result }
 {
     let inputs = match read_inputs(
         alloc,
@@ -180,7 +180,7 @@ pub fn build_crl(
         Ok(inputs) => inputs,
         Err(e) => return Status::Refused(e),
     };
-    match list_part(alloc, inputs) {
+    match crl_part(alloc, inputs) {
         Ok(bytes) => fill(bytes.as_slice(), room, written),
         Err(e) => Status::Refused(kind_of(&e)),
     }

@@ -1,7 +1,7 @@
 use Rattle.std.proofs.Common.{◌≡◌, ◌∙◌, length, rules, vec_len}
 use Rattle.std.proofs.lemmas.Result.{IfOk-weaker}
 use Rattle.x509_c_calls.proofs.BuildEntries.{given_entries, some_stand}
-use Rattle.x509_c_calls.proofs.build.list.with_entries.Goals as goal
+use Rattle.x509_c_calls.proofs.build.crl.with_entries.Goals as goal
 
 pub returns-clause-ok : goal.returns-clause-ok
 returns-clause-ok c =

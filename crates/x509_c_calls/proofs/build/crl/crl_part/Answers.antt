@@ -7,9 +7,9 @@ use Rattle.x509_build.specs.declared.crl_builder.CrlBuilder.{CrlBuilder}
 use Rattle.x509_build.specs.Parts.{Encodes, PartRefuses}
 use Rattle.x509_c_calls.proofs.Exits.{mapped}
 use Rattle.x509_c_calls.proofs.BuildParts.{is_prepared}
-use Rattle.x509_c_calls.proofs.build.list.list_part.Goals as goal
-use Rattle.x509_c_calls.specs.Assembly.{list_part}
-use Rattle.x509_c_calls.specs.Lists.{prepared}
+use Rattle.x509_c_calls.proofs.build.crl.crl_part.Goals as goal
+use Rattle.x509_c_calls.specs.Assembly.{crl_part}
+use Rattle.x509_c_calls.specs.Crls.{prepared}
 use Rattle.x509_c_calls.specs.Refusals.{kind_of}
 use Rattle.x509_der.specs.declared.error.ErrorKind.TheVariants.{Memory}
 use Rattle.x509_der.specs.Writing.{plain}
@@ -24,9 +24,9 @@ returns-in_err-bytes c =
     let start = c.in_ok-start.start in
     let e = c.in_err-bytes.field-0.0 in
     let built = is_prepared inputs start _ c.in_ok-builder.builder c.in_ok-whole.whole _ c.with_next_update.ensures c.in_ok-builder.ensures.ok c.in_ok-whole.ensures.ok c.from.ensures in
-    let refused : (kind_of e ≡ Memory) ⊎ PartRefuses list_part plain (next_part (prepared start inputs).tbs (prepared start inputs).extensions inputs.algorithm) e =
-    subst (λ (a : AlgorithmIdentifier). (kind_of e ≡ Memory) ⊎ PartRefuses list_part plain (next_part (prepared start inputs).tbs (prepared start inputs).extensions a) e) c.in_ok-teller.ensures.ok
-    (subst (λ (b : CrlBuilder Rfc5280). (kind_of e ≡ Memory) ⊎ PartRefuses list_part plain (next_part b.tbs b.extensions c.in_ok-teller.teller.algorithm) e) built c.in_err-bytes.ensures) in
+    let refused : (kind_of e ≡ Memory) ⊎ PartRefuses crl_part plain (next_part (prepared start inputs).tbs (prepared start inputs).extensions inputs.algorithm) e =
+    subst (λ (a : AlgorithmIdentifier). (kind_of e ≡ Memory) ⊎ PartRefuses crl_part plain (next_part (prepared start inputs).tbs (prepared start inputs).extensions a) e) c.in_ok-teller.ensures.ok
+    (subst (λ (b : CrlBuilder Rfc5280). (kind_of e ≡ Memory) ⊎ PartRefuses crl_part plain (next_part b.tbs b.extensions c.in_ok-teller.teller.algorithm) e) built c.in_err-bytes.ensures) in
     rw (p.1, p.2) (mapped (λ r. inr (start, c.in_ok-start.ensures.ok, r)) refused)
 
 pub returns : goal.returns
@@ -37,6 +37,6 @@ returns c =
     let built = is_prepared inputs start _ c.in_ok-builder.builder c.in_ok-whole.whole _ c.with_next_update.ensures c.in_ok-builder.ensures.ok c.in_ok-whole.ensures.ok c.from.ensures in (
       start,
       c.in_ok-start.ensures.ok,
-      subst (λ (a : AlgorithmIdentifier). Encodes list_part plain (next_part (prepared start inputs).tbs (prepared start inputs).extensions a) bytes) c.in_ok-teller.ensures.ok
-          (subst (λ (b : CrlBuilder Rfc5280). Encodes list_part plain (next_part b.tbs b.extensions c.in_ok-teller.teller.algorithm) bytes) built c.in_ok-bytes.ensures),
+      subst (λ (a : AlgorithmIdentifier). Encodes crl_part plain (next_part (prepared start inputs).tbs (prepared start inputs).extensions a) bytes) c.in_ok-teller.ensures.ok
+          (subst (λ (b : CrlBuilder Rfc5280). Encodes crl_part plain (next_part b.tbs b.extensions c.in_ok-teller.teller.algorithm) bytes) built c.in_ok-bytes.ensures),
     )
