@@ -82,14 +82,17 @@ fn read_device(
     })
 }
 
-/// Puts the bytes to be signed of a device's certificate, TBSCertificate (RFC 5280 4.1), at the front of the buffer `room`: those that a builder with the profile [`DevId`] finalizes to for a signer with that algorithm and the issuer's key,
-/// where the extensions were added, in front of those of the profile. The serial number is the encoding of an INTEGER, the algorithm an AlgorithmIdentifier, the issuer and the subject Names, the keys
-/// SubjectPublicKeyInfo; the dates are seconds since 1970-01-01T00:00:00Z; the alternative names are GeneralNames, or no bytes, where there are none; extensions are encodings of them one after the other, or none.
+/// Puts the bytes to be signed of a device's certificate, TBSCertificate (RFC 5280 4.1), at the front of the buffer `room`: those that a builder with
+/// the profile [`DevId`] finalizes to for a signer with that algorithm and the issuer's key, where the extensions were added, in front of those of
+/// the profile. The serial number is the encoding of an INTEGER, the algorithm an AlgorithmIdentifier, the issuer and the subject Names, the keys
+/// SubjectPublicKeyInfo; the dates are seconds since 1970-01-01T00:00:00Z; the alternative names are GeneralNames, or no bytes, where there are none;
+/// extensions are encodings of them one after the other, or none.
 ///
 /// # Errors
 ///
-/// [`Status::NoRoom`] where the buffer is too small; then `written` is the needed length. The error of decoding an input; `Failed` where none of the alternative names says that it is that of a hardware module, and `Malformed` where the first that says it is none; `Value` where a date is after the year 9999; where several are bad, any of
-/// theirs. `Overlength` where the part is too long. `Memory` when out of memory.
+/// [`Status::NoRoom`] where the buffer is too small; then `written` is the needed length. The error of decoding an input; `Failed` where none of the
+/// alternative names says that it is that of a hardware module, and `Malformed` where the first that says it is none; `Value` where a date is after
+/// the year 9999; where several are bad, any of theirs. `Overlength` where the part is too long. `Memory` when out of memory.
 pub fn build_device(
     alloc: Global,
     serial_number: &[u8],

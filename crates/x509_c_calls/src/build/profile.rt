@@ -114,7 +114,8 @@ fn profile_part<P: BuilderProfile>(
 ///
 /// # Errors
 ///
-/// [`Status::NoRoom`] where the buffer is too small; then `written` is the needed length. The refusal of the inputs; that of the builder. `Memory` when out of memory.
+/// [`Status::NoRoom`] where the buffer is too small; then `written` is the needed length. The refusal of the inputs; that of the builder. `Memory`
+/// when out of memory.
 #[tactic(auto, unfolding(crate::specs::ProfileParts::Makes, crate::specs::Status::Fills))]
 pub(crate) fn fill_part<P: BuilderProfile>(
     alloc: Global,

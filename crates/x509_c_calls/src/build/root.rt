@@ -62,14 +62,16 @@ fn read_inputs(
     })
 }
 
-/// Puts the bytes to be signed of a root's certificate, TBSCertificate (RFC 5280 4.1), at the front of the buffer `room`: those that a builder with the profile [`Root`] finalizes to for a signer with that algorithm, where the
-/// extensions were added, in front of those of the profile. The serial number is the encoding of an INTEGER, the algorithm an AlgorithmIdentifier, the subject, which is the issuer too, a Name, and the key a
+/// Puts the bytes to be signed of a root's certificate, TBSCertificate (RFC 5280 4.1), at the front of the buffer `room`: those that a builder with
+/// the profile [`Root`] finalizes to for a signer with that algorithm, where the extensions were added, in front of those of the profile. The serial
+/// number is the encoding of an INTEGER, the algorithm an AlgorithmIdentifier, the subject, which is the issuer too, a Name, and the key a
 /// SubjectPublicKeyInfo; the dates are seconds since 1970-01-01T00:00:00Z; extensions are encodings of them one after the other, or none.
 ///
 /// # Errors
 ///
-/// [`Status::NoRoom`] where the buffer is too small; then `written` is the needed length. The error of decoding an input; `Failed` where the subject isn't a name that an authority may have; `Value` where a date is after
-/// the year 9999; where several are bad, any of theirs. `Overlength` where the part is too long. `Memory` when out of memory.
+/// [`Status::NoRoom`] where the buffer is too small; then `written` is the needed length. The error of decoding an input; `Failed` where the subject
+/// isn't a name that an authority may have; `Value` where a date is after the year 9999; where several are bad, any of theirs. `Overlength` where the
+/// part is too long. `Memory` when out of memory.
 pub fn build_root(
     alloc: Global,
     serial_number: &[u8],

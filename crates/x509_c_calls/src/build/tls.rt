@@ -148,14 +148,17 @@ fn read_subordinate(
     })
 }
 
-/// Puts the bytes to be signed of the certificate of a subordinate authority, TBSCertificate (RFC 5280 4.1), at the front of the buffer `room`: those that a builder with the profile [`Subordinate`] finalizes to for a signer with that algorithm and the issuer's key,
-/// where the extensions were added, in front of those of the profile. The serial number is the encoding of an INTEGER, the algorithm an AlgorithmIdentifier, the issuer and the subject Names, the keys
-/// SubjectPublicKeyInfo; the dates are seconds since 1970-01-01T00:00:00Z; extensions are encodings of them one after the other, or none.
+/// Puts the bytes to be signed of the certificate of a subordinate authority, TBSCertificate (RFC 5280 4.1), at the front of the buffer `room`: those
+/// that a builder with the profile [`Subordinate`] finalizes to for a signer with that algorithm and the issuer's key, where the extensions were
+/// added, in front of those of the profile. The serial number is the encoding of an INTEGER, the algorithm an AlgorithmIdentifier, the issuer and the
+/// subject Names, the keys SubjectPublicKeyInfo; the dates are seconds since 1970-01-01T00:00:00Z; extensions are encodings of them one after the
+/// other, or none.
 ///
 /// # Errors
 ///
-/// [`Status::NoRoom`] where the buffer is too small; then `written` is the needed length. The error of decoding an input; `Value` where the path length constraint is above 255, or a date is after the year 9999; where several are bad, any of
-/// theirs. `Overlength` where the part is too long. `Memory` when out of memory.
+/// [`Status::NoRoom`] where the buffer is too small; then `written` is the needed length. The error of decoding an input; `Value` where the path
+/// length constraint is above 255, or a date is after the year 9999; where several are bad, any of theirs. `Overlength` where the part is too long.
+/// `Memory` when out of memory.
 pub fn build_subordinate(
     alloc: Global,
     serial_number: &[u8],
@@ -231,14 +234,16 @@ fn read_subscriber(
     })
 }
 
-/// Puts the bytes to be signed of the certificate of a TLS server, TBSCertificate (RFC 5280 4.1), at the front of the buffer `room`: those that a builder with the profile [`Subscriber`] finalizes to for a signer with that algorithm and the issuer's key,
-/// where the extensions were added, in front of those of the profile. The serial number is the encoding of an INTEGER, the algorithm an AlgorithmIdentifier, the issuer and the subject Names, the keys
-/// SubjectPublicKeyInfo; the dates are seconds since 1970-01-01T00:00:00Z; of the subject the country and the common names are kept alone; extensions are encodings of them one after the other, or none.
+/// Puts the bytes to be signed of the certificate of a TLS server, TBSCertificate (RFC 5280 4.1), at the front of the buffer `room`: those that a
+/// builder with the profile [`Subscriber`] finalizes to for a signer with that algorithm and the issuer's key, where the extensions were added, in
+/// front of those of the profile. The serial number is the encoding of an INTEGER, the algorithm an AlgorithmIdentifier, the issuer and the subject
+/// Names, the keys SubjectPublicKeyInfo; the dates are seconds since 1970-01-01T00:00:00Z; of the subject the country and the common names are kept
+/// alone; extensions are encodings of them one after the other, or none.
 ///
 /// # Errors
 ///
-/// [`Status::NoRoom`] where the buffer is too small; then `written` is the needed length. The error of decoding an input; `Value` where a date is after the year 9999; where several are bad, any of
-/// theirs. `Overlength` where the part is too long. `Memory` when out of memory.
+/// [`Status::NoRoom`] where the buffer is too small; then `written` is the needed length. The error of decoding an input; `Value` where a date is
+/// after the year 9999; where several are bad, any of theirs. `Overlength` where the part is too long. `Memory` when out of memory.
 pub fn build_subscriber(
     alloc: Global,
     serial_number: &[u8],

@@ -72,8 +72,8 @@ fn first_of(
 ///
 /// # Errors
 ///
-/// [`Status::Absent`] exactly where no attribute is of the type. Else `Overlength` where the bytes are more than 268,435,455, and within that length `Malformed` where they are the encoding of no
-/// name. `Memory` when out of memory. `found` is unchanged then.
+/// [`Status::Absent`] exactly where no attribute is of the type. Else `Overlength` where the bytes are more than 268,435,455, and within that length
+/// `Malformed` where they are the encoding of no name. `Memory` when out of memory. `found` is unchanged then.
 #[tactic(auto, unfolding(crate::specs::FirstAttribute::FindsAttribute))]
 pub fn name_attribute(alloc: Global, input: &[u8], oid: &[u8], found: &mut AttributeView) -> Status
     ensures { FindsAttribute ⟦<Name as Grammar>⟧.form ⟦<Name as Grammar>⟧.refuses input.now oid.now found.old found.new result }
