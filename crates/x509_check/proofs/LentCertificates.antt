@@ -3,15 +3,13 @@ use Rattle.std.proofs.Common.{◌≡◌, ℕ, ◌≤◌, true, false, List, [], 
 use Rattle.std.specs.Option.{option_copied}
 use Rattle.std.specs.Prelude.{IfSome, IsOk}
 use Rattle.x509_base.specs.Validity.{validity, validity_contents, validity_contents_lawful}
-use Rattle.x509_base.specs.declared.validity.Validity.{Validity}
 use Rattle.x509_cert.proofs.CertificateSignedPart.{stands}
 use Rattle.x509_cert.proofs.Spellings.{certificate_found}
 use Rattle.x509_cert.specs.Certificate.{certificate, certificate_lawful}
 use Rattle.x509_cert.specs.ElementParts.{certificate_reading}
 use Rattle.x509_cert.specs.ElementPartsLaws.{certificate_complete, certificate_sound, is_signed}
-use Rattle.x509_cert.specs.Elements.{CertificateElements, HasTbsElements, TbsElements, certificate_elements, front_octets}
+use Rattle.x509_cert.specs.Elements.{HasTbsElements, TbsElements, certificate_elements, front_octets}
 use Rattle.x509_cert.specs.Signed.{IsSignedPart}
-use Rattle.x509_cert.specs.SignedLaws.{content_shorter}
 use Rattle.x509_cert.specs.Spellings.{certificate_spellings, tbs_spellings}
 use Rattle.x509_cert.specs.TbsCertificate.{tbs_certificate, tbs_certificate_fields}
 use Rattle.x509_cert.specs.Version.{version, is_first}
@@ -22,7 +20,7 @@ use Rattle.x509_cert.specs.declared.signed.certificate_slices.CertificateSlices.
 use Rattle.x509_der.specs.Element.{element, is_identifier, length_octets, limit}
 use Rattle.x509_der.specs.ElementReading.{Piece, piece_at}
 use Rattle.x509_der.specs.ElementLaws.{piece_at-whole}
-use Rattle.x509_der.specs.Form.{Form, IsForm, Spells, spelling, whole_reading}
+use Rattle.x509_der.specs.Form.{Spells, spelling, whole_reading}
 use Rattle.x509_der.specs.FormLaws.{whole_sound}
 use Rattle.x509_der.specs.Frames.{fields_good, fields_octets, optional_octets}
 use Rattle.x509_der.specs.Natural.{digits, natural_octets}

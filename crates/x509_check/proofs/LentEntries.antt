@@ -1,8 +1,7 @@
 -- Looking for an entry while a CRL is checked.
 use Rattle.std.proofs.Common.{◌≡◌, ◌⊎◌, ◌<◌, ◌≤◌, ℕ, Bool, true, false, List, [], ◌∷◌, ◌++◌, length, get_or, Option, Some, None, Result, Ok, Err, refl, sym, ap, ◌∙◌, inl, inr, arith}
-use Rattle.std.specs.Prelude.{bytes_eq, is_some, filter, IfOk, IfErr, IsOk, MatchOption}
+use Rattle.std.specs.Prelude.{bytes_eq, is_some, filter, IfOk, IfErr, IsOk}
 use Rattle.std.proofs.lemmas.List.Elements.{filter-append}
-use Rattle.x509_cert.specs.Revoked.{with_serial}
 use Rattle.x509_cert.specs.declared.crl.revoked_cert.RevokedCert.{RevokedCert}
 use Rattle.x509_check.specs.CrlRefs.{FindsEntry, lent_entry}
 use Rattle.x509_check.proofs.Checks.{under_its_own}
@@ -40,10 +39,6 @@ module _ {P : Type 0} (number : List ℕ) where
   not_now front (Some first) entry so h = kept front first entry h
   not_now front None entry (inl other) h = none_found front entry h other
   not_now front None entry (inr some) h = absurd cc
-
-  -- nothing is found among none
-  pub none_yet : FindsEntry {P = P} number [] None
-  none_yet = refl
 
 -- ---- fields
 

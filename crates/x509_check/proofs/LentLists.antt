@@ -1,5 +1,5 @@
 -- Lists that are lent member by member.
-use Rattle.std.proofs.Common.{◌≡◌, ℕ, ◌<◌, List, [], ◌∷◌, length, Result, Ok, Err, refl, sym, ap, ◌∙◌, subst, arith}
+use Rattle.std.proofs.Common.{◌≡◌, ℕ, List, [], ◌∷◌, Result, Ok, Err, refl, sym, ap, ◌∙◌, arith}
 use Rattle.std.specs.Prelude.{IsOk}
 use Rattle.x509_check.specs.Lending.{listed}
 use Rattle.x509_der.specs.Element.{element}

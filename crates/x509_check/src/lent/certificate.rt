@@ -97,7 +97,7 @@ fn read_validity<P: Profile>(octets: &[u8]) -> Result<Validity<P>, Error>
 }
 
 impl<'a, P: Profile> CertificateRef<'a, P> {
-    ghost use Rattle.std.specs.Prelude.{◌≡◌, ◌<◌, ◌≤◌, ◌⊎◌, length, Err, Ok, IfOk, IfErr, IsErrAnd, IsOk, OnOk};
+    ghost use Rattle.std.specs.Prelude.{◌≡◌, ◌<◌, ◌≤◌, ◌⊎◌, length, Err, Ok, IfOk, IfErr, IsErrAnd, IsOk};
     ghost use Rattle.x509_base.specs.AlgorithmIdentifier.{algorithm_identifier};
     ghost use Rattle.x509_base.specs.SubjectPublicKeyInfo.{subject_public_key_info};
     ghost use Rattle.x509_cert.specs.Elements.{certificate_elements};

@@ -1,6 +1,6 @@
 //! Entries of CRLs, lent from their bytes.
 
-ghost use Rattle.std.specs.Prelude.{◌≡◌, ◌≤◌, length, option_map};
+ghost use Rattle.std.specs.Prelude.{◌≤◌, length, option_map};
 ghost use Rattle.x509_check.specs.CrlRefs.{lent_entry};
 ghost use Rattle.x509_check.specs.ExtensionRefs.{extensions_left};
 ghost use Rattle.x509_check.specs.Lending.{LendsBefore, LendsBy};

@@ -1,7 +1,7 @@
 //! An extension, lent from its bytes.
 
 ghost use Rattle.x509_check.specs.ExtensionRefs.{lent_extension};
-ghost use Rattle.x509_check.specs.Lending.{LendsBefore, LendsBy};
+ghost use Rattle.x509_check.specs.Lending.{LendsBy};
 ghost use Rattle.x509_der.specs.Frames.{required};
 ghost use Rattle.x509_ext.specs.Extension.{extension, extension_contents};
 

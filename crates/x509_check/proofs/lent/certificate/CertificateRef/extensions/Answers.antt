@@ -1,4 +1,4 @@
-use Rattle.std.proofs.Common.{◌≡◌, rules, sym, ap, ◌∙◌}
+use Rattle.std.proofs.Common.{rules, sym, ap, ◌∙◌}
 use Rattle.std.specs.Option.{option_copied}
 use Rattle.x509_check.proofs.LentCertificates.{elements_are, lent_list, no_list, some_certificate}
 use Rattle.x509_ext.specs.LookUp.{members}
