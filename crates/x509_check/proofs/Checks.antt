@@ -25,14 +25,6 @@ found (Ok done) (Err d) h = absurd cc
 found (Err e) (Ok x) h = absurd cc
 found (Err e) (Err d) h = let k : d ≡ e.kind = cc in rw k refl
 
-pub checked_ok : {X : Type 0} (reading : Result X ErrorKind) → checked reading ≡ Ok tt → (x : X) × (reading ≡ Ok x)
-checked_ok (Ok x) h = (x, refl)
-checked_ok (Err d) h = absurd cc
-
-pub checked_err : {X : Type 0} (reading : Result X ErrorKind) (e : ErrorKind) → checked reading ≡ Err e → reading ≡ Err e
-checked_err (Ok x) e h = absurd cc
-checked_err (Err d) e h = let k : d ≡ e = cc in rw k refl
-
 -- the content and what follows it are shorter
 pub piece_within : (bytes : List ℕ) (piece : Piece) → piece_at bytes ≡ Ok piece → length piece.content + length piece.rest < length bytes
 unfolding element

@@ -22,12 +22,3 @@ module _ {X : Type 0} {R : ErrorKind → Type 0} (f : Form X) (h : IsForm R f) (
   pub refused_whole : (result : Result Unit Error) → Finds result (whole_reading f.reading bytes) → IfErr result (λ e. (e.kind ≡ errors.Malformed) ⊎ R e.kind)
   refused_whole (Ok done) p = tt
   refused_whole (Err e) p = whole_refused f h bytes e.kind p
-
--- reading that is refused so
-pub refusal_is : {X : Type 0} (reading : Result X ErrorKind) (e : ErrorKind) → reading ≡ Err e → IsRefusal e reading
-refusal_is reading errors.Memory h = tt
-refusal_is reading errors.Overlength h = h
-refusal_is reading errors.Malformed h = h
-refusal_is reading errors.Failed h = h
-refusal_is reading errors.SetDuplicate h = h
-refusal_is reading errors.Value h = h

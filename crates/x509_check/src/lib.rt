@@ -47,4 +47,3 @@ pub use lent::revoked::find_revoked;
 pub use list::check_members;
 pub use newtypes::NewtypeCheck;
 pub use set::{CheckMember, check_rising_members};
-pub use x509_der::end;

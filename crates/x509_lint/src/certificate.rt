@@ -63,7 +63,12 @@ fn add_first(
     certificate: &CertificateInner<Raw>,
     findings: &mut Vec<Rule>,
 ) -> Result<(), Error>
-    ensures ok { OnOk result ((facts : CertificateFacts) × AreCertificateFacts certificate.now facts × (findings.new.items ≡ findings.old.items ++ map rules.Field (filter (field_rules.breaks_field certificate.now facts) field_rules.field_rules) ++ map rules.Name (filter (name_rules.breaks_name certificate.now facts) name_rules.name_rules) ++ map rules.ExtensionList (filter (list_rules.breaks_list certificate.now facts) list_rules.list_rules) ++ map rules.Critical (filter (critical_rules.breaks_critical certificate.now facts) critical_rules.critical_rules))) }
+    ensures ok { OnOk result ((facts : CertificateFacts) × AreCertificateFacts certificate.now facts
+        × (findings.new.items ≡ findings.old.items ++ map rules.Field
+        (filter (field_rules.breaks_field certificate.now facts) field_rules.field_rules) ++ map rules.Name
+        (filter (name_rules.breaks_name certificate.now facts) name_rules.name_rules) ++ map rules.ExtensionList
+        (filter (list_rules.breaks_list certificate.now facts) list_rules.list_rules) ++ map rules.Critical
+        (filter (critical_rules.breaks_critical certificate.now facts) critical_rules.critical_rules))) }
     ensures err { IfErr result (λ e. e.kind ≡ Memory) }
 {
     let facts = certificate_facts(alloc, certificate)?;
@@ -79,7 +84,9 @@ fn add_authority(
     certificate: &CertificateInner<Raw>,
     findings: &mut Vec<Rule>,
 ) -> Result<(), Error>
-    ensures ok { OnOk result ((values : AuthorityValues) × AreAuthorityValues (extensions_of certificate.now) values × (findings.new.items ≡ findings.old.items ++ map rules.Authority (filter (authority_rules.breaks_authority certificate.now values) authority_rules.authority_rules))) }
+    ensures ok { OnOk result ((values : AuthorityValues) × AreAuthorityValues (extensions_of certificate.now) values
+        × (findings.new.items ≡ findings.old.items ++ map rules.Authority
+        (filter (authority_rules.breaks_authority certificate.now values) authority_rules.authority_rules))) }
     ensures err { IfErr result (λ e. e.kind ≡ Memory) }
 {
     let values = authority_values(alloc, extensions_of(certificate))?;
@@ -92,7 +99,8 @@ fn add_key(
     certificate: &CertificateInner<Raw>,
     findings: &mut Vec<Rule>,
 ) -> Result<(), Error>
-    ensures ok { OnOk result ((values : KeyValues) × AreKeyValues (extensions_of certificate.now) values × (findings.new.items ≡ findings.old.items ++ map rules.Key (filter (key_rules.breaks_key certificate.now values) key_rules.key_rules))) }
+    ensures ok { OnOk result ((values : KeyValues) × AreKeyValues (extensions_of certificate.now) values
+        × (findings.new.items ≡ findings.old.items ++ map rules.Key (filter (key_rules.breaks_key certificate.now values) key_rules.key_rules))) }
     ensures err { IfErr result (λ e. e.kind ≡ Memory) }
 {
     let values = key_values(alloc, extensions_of(certificate))?;
@@ -105,7 +113,9 @@ fn add_alternative(
     certificate: &CertificateInner<Raw>,
     findings: &mut Vec<Rule>,
 ) -> Result<(), Error>
-    ensures ok { OnOk result ((values : AlternativeValues) × AreAlternativeValues (extensions_of certificate.now) values × (findings.new.items ≡ findings.old.items ++ map rules.Alternative (filter (alternative_rules.breaks_alternative certificate.now values) alternative_rules.alternative_rules))) }
+    ensures ok { OnOk result ((values : AlternativeValues) × AreAlternativeValues (extensions_of certificate.now) values
+        × (findings.new.items ≡ findings.old.items ++ map rules.Alternative
+        (filter (alternative_rules.breaks_alternative certificate.now values) alternative_rules.alternative_rules))) }
     ensures err { IfErr result (λ e. e.kind ≡ Memory) }
 {
     let values = alternative_values(alloc, extensions_of(certificate))?;
@@ -118,7 +128,9 @@ fn add_policy(
     certificate: &CertificateInner<Raw>,
     findings: &mut Vec<Rule>,
 ) -> Result<(), Error>
-    ensures ok { OnOk result ((values : PolicyValues) × ArePolicyValues (extensions_of certificate.now) values × (findings.new.items ≡ findings.old.items ++ map rules.Policy (filter (policy_rules.breaks_policy certificate.now values) policy_rules.policy_rules))) }
+    ensures ok { OnOk result ((values : PolicyValues) × ArePolicyValues (extensions_of certificate.now) values
+        × (findings.new.items ≡ findings.old.items ++ map rules.Policy
+        (filter (policy_rules.breaks_policy certificate.now values) policy_rules.policy_rules))) }
     ensures err { IfErr result (λ e. e.kind ≡ Memory) }
 {
     let values = policy_values(alloc, extensions_of(certificate))?;
@@ -131,7 +143,9 @@ fn add_constraint(
     certificate: &CertificateInner<Raw>,
     findings: &mut Vec<Rule>,
 ) -> Result<(), Error>
-    ensures ok { OnOk result ((values : ConstraintValues) × AreConstraintValues (extensions_of certificate.now) values × (findings.new.items ≡ findings.old.items ++ map rules.Constraint (filter (constraint_rules.breaks_constraint certificate.now values) constraint_rules.constraint_rules))) }
+    ensures ok { OnOk result ((values : ConstraintValues) × AreConstraintValues (extensions_of certificate.now) values
+        × (findings.new.items ≡ findings.old.items ++ map rules.Constraint
+        (filter (constraint_rules.breaks_constraint certificate.now values) constraint_rules.constraint_rules))) }
     ensures err { IfErr result (λ e. e.kind ≡ Memory) }
 {
     let values = constraint_values(alloc, extensions_of(certificate))?;
@@ -144,7 +158,8 @@ fn add_point(
     certificate: &CertificateInner<Raw>,
     findings: &mut Vec<Rule>,
 ) -> Result<(), Error>
-    ensures ok { OnOk result ((values : PointValues) × ArePointValues (extensions_of certificate.now) values × (findings.new.items ≡ findings.old.items ++ map rules.Point (filter (point_rules.breaks_point certificate.now values) point_rules.point_rules))) }
+    ensures ok { OnOk result ((values : PointValues) × ArePointValues (extensions_of certificate.now) values
+        × (findings.new.items ≡ findings.old.items ++ map rules.Point (filter (point_rules.breaks_point certificate.now values) point_rules.point_rules))) }
     ensures err { IfErr result (λ e. e.kind ≡ Memory) }
 {
     let values = point_values(alloc, extensions_of(certificate))?;

@@ -103,7 +103,8 @@ pub fn lint_bytes(alloc: Global, bytes: &[u8]) -> Result<Report, Error>
 }
 
 fn lint_crl_bytes(alloc: Global, bytes: &[u8]) -> Result<Report, Error>
-    ensures ok { IfOk result (λ report. (l : Crl) × (findings : List Rule) × Spells (certificate_list any_serial_number) l bytes.now × AreCrlFindings l findings × Tells (codes "crl") findings report) }
+    ensures ok { IfOk result (λ report. (l : Crl) × (findings : List Rule) × Spells (certificate_list any_serial_number) l bytes.now
+        × AreCrlFindings l findings × Tells (codes "crl") findings report) }
     ensures err { IfErr result (λ e. (e.kind ≡ Memory) ⊎ ((l : Crl) → Spells (certificate_list any_serial_number) l bytes.now → ⊥)) }
 {
     let crl = CertificateList::<Raw>::from_der(alloc, bytes)?;

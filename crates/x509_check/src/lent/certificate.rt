@@ -120,7 +120,8 @@ impl<'a, P: Profile> CertificateRef<'a, P> {
     /// `Malformed`, or an error of the profile, exactly where they are the encoding of no certificate: the error that
     /// `CertificateInner::from_der` answers.
     pub fn from_der(bytes: &'a [u8]) -> Result<CertificateRef<'a, P>, Error>
-        ensures found { IfOk result (λ lent. (lent.bytes.now ≡ bytes.now) × ((certificate : whole.CertificateInner P) × Spells ⟦<CertificateInner<P> as Grammar>⟧.form certificate bytes.now)) }
+        ensures found { IfOk result (λ lent. (lent.bytes.now ≡ bytes.now)
+            × ((certificate : whole.CertificateInner P) × Spells ⟦<CertificateInner<P> as Grammar>⟧.form certificate bytes.now)) }
         ensures overlength { limit < length bytes.now → IsErrAnd result (λ e. e.kind ≡ errors.Overlength) }
         ensures refused { length bytes.now ≤ limit → IfErr result (λ e. (e.kind ≡ errors.Malformed) ⊎ ⟦<CertificateInner<P> as Grammar>⟧.refuses e.kind) }
         ensures every { (certificate : whole.CertificateInner P) → Spells ⟦<CertificateInner<P> as Grammar>⟧.form certificate bytes.now → IsOk result }
@@ -147,35 +148,40 @@ impl<'a, P: Profile> CertificateRef<'a, P> {
 
     /// The elements of the certificate's parts, and of the fields of its signed part.
     pub fn slices(&self) -> &CertificateSlices<'a>
-        ensures { (certificate : whole.CertificateInner P) → Spells ⟦<CertificateInner<P> as Grammar>⟧.form certificate self.now.bytes.now → certificate_elements result.now ≡ certificate_spellings certificate }
+        ensures { (certificate : whole.CertificateInner P) → Spells ⟦<CertificateInner<P> as Grammar>⟧.form certificate self.now.bytes.now
+            → certificate_elements result.now ≡ certificate_spellings certificate }
     {
         &self.slices
     }
 
     /// The version.
     pub fn version(&self) -> Version
-        ensures { (certificate : whole.CertificateInner P) → Spells ⟦<CertificateInner<P> as Grammar>⟧.form certificate self.now.bytes.now → result ≡ certificate.tbs_certificate.version }
+        ensures { (certificate : whole.CertificateInner P) → Spells ⟦<CertificateInner<P> as Grammar>⟧.form certificate self.now.bytes.now
+            → result ≡ certificate.tbs_certificate.version }
     {
         version_of(self.slices.fields.version)
     }
 
     /// The content octets of the serial number.
     pub fn serial_number(&self) -> &'a [u8]
-        ensures { (certificate : whole.CertificateInner P) → Spells ⟦<CertificateInner<P> as Grammar>⟧.form certificate self.now.bytes.now → result.now ≡ certificate.tbs_certificate.serial_number }
+        ensures { (certificate : whole.CertificateInner P) → Spells ⟦<CertificateInner<P> as Grammar>⟧.form certificate self.now.bytes.now
+            → result.now ≡ certificate.tbs_certificate.serial_number }
     {
         content_of(self.slices.fields.serial_number)
     }
 
     /// The name of the issuer, as its element.
     pub fn issuer(&self) -> &'a [u8]
-        ensures { (certificate : whole.CertificateInner P) → Spells ⟦<CertificateInner<P> as Grammar>⟧.form certificate self.now.bytes.now → result.now ≡ spelling name certificate.tbs_certificate.issuer }
+        ensures { (certificate : whole.CertificateInner P) → Spells ⟦<CertificateInner<P> as Grammar>⟧.form certificate self.now.bytes.now
+            → result.now ≡ spelling name certificate.tbs_certificate.issuer }
     {
         self.slices.fields.issuer
     }
 
     /// The validity.
     pub fn validity(&self) -> Validity<P>
-        ensures { (certificate : whole.CertificateInner P) → Spells ⟦<CertificateInner<P> as Grammar>⟧.form certificate self.now.bytes.now → result ≡ certificate.tbs_certificate.validity }
+        ensures { (certificate : whole.CertificateInner P) → Spells ⟦<CertificateInner<P> as Grammar>⟧.form certificate self.now.bytes.now
+            → result ≡ certificate.tbs_certificate.validity }
     {
         let Ok(validity) = read_validity::<P>(content_of(self.slices.fields.validity)) else {
             unreachable!()
@@ -185,28 +191,32 @@ impl<'a, P: Profile> CertificateRef<'a, P> {
 
     /// The name of the subject, as its element.
     pub fn subject(&self) -> &'a [u8]
-        ensures { (certificate : whole.CertificateInner P) → Spells ⟦<CertificateInner<P> as Grammar>⟧.form certificate self.now.bytes.now → result.now ≡ spelling name certificate.tbs_certificate.subject }
+        ensures { (certificate : whole.CertificateInner P) → Spells ⟦<CertificateInner<P> as Grammar>⟧.form certificate self.now.bytes.now
+            → result.now ≡ spelling name certificate.tbs_certificate.subject }
     {
         self.slices.fields.subject
     }
 
     /// The public key with its algorithm, as its element.
     pub fn subject_public_key_info(&self) -> &'a [u8]
-        ensures { (certificate : whole.CertificateInner P) → Spells ⟦<CertificateInner<P> as Grammar>⟧.form certificate self.now.bytes.now → result.now ≡ spelling subject_public_key_info certificate.tbs_certificate.subject_public_key_info }
+        ensures { (certificate : whole.CertificateInner P) → Spells ⟦<CertificateInner<P> as Grammar>⟧.form certificate self.now.bytes.now
+            → result.now ≡ spelling subject_public_key_info certificate.tbs_certificate.subject_public_key_info }
     {
         self.slices.fields.subject_public_key_info
     }
 
     /// The algorithm of the signature, as it stands outside the signed part, as its element.
     pub fn signature_algorithm(&self) -> &'a [u8]
-        ensures { (certificate : whole.CertificateInner P) → Spells ⟦<CertificateInner<P> as Grammar>⟧.form certificate self.now.bytes.now → result.now ≡ spelling algorithm_identifier certificate.signature_algorithm }
+        ensures { (certificate : whole.CertificateInner P) → Spells ⟦<CertificateInner<P> as Grammar>⟧.form certificate self.now.bytes.now
+            → result.now ≡ spelling algorithm_identifier certificate.signature_algorithm }
     {
         self.slices.signature_algorithm
     }
 
     /// The signature, as its BIT STRING.
     pub fn signature(&self) -> &'a [u8]
-        ensures { (certificate : whole.CertificateInner P) → Spells ⟦<CertificateInner<P> as Grammar>⟧.form certificate self.now.bytes.now → result.now ≡ spelling bit_string certificate.signature }
+        ensures { (certificate : whole.CertificateInner P) → Spells ⟦<CertificateInner<P> as Grammar>⟧.form certificate self.now.bytes.now
+            → result.now ≡ spelling bit_string certificate.signature }
     {
         self.slices.signature
     }
@@ -214,14 +224,16 @@ impl<'a, P: Profile> CertificateRef<'a, P> {
     /// The signed part: the bytes that the signature is over, as they stand.
     pub fn signed_part(&self) -> &'a [u8]
         ensures signed { IsSignedPart self.now.bytes.now result.now }
-        ensures part { (certificate : whole.CertificateInner P) → Spells ⟦<CertificateInner<P> as Grammar>⟧.form certificate self.now.bytes.now → Spells ⟦<TbsCertificateInner<P> as Grammar>⟧.form certificate.tbs_certificate result.now }
+        ensures part { (certificate : whole.CertificateInner P) → Spells ⟦<CertificateInner<P> as Grammar>⟧.form certificate self.now.bytes.now
+            → Spells ⟦<TbsCertificateInner<P> as Grammar>⟧.form certificate.tbs_certificate result.now }
     {
         self.slices.tbs_certificate
     }
 
     /// The extensions, in their order; none where the list is absent.
     pub fn extensions(&self) -> ExtensionRefs<'a>
-        ensures { (certificate : whole.CertificateInner P) → Spells ⟦<CertificateInner<P> as Grammar>⟧.form certificate self.now.bytes.now → extensions_left result ≡ members certificate.tbs_certificate.extensions }
+        ensures { (certificate : whole.CertificateInner P) → Spells ⟦<CertificateInner<P> as Grammar>⟧.form certificate self.now.bytes.now
+            → extensions_left result ≡ members certificate.tbs_certificate.extensions }
     {
         let Some(list) = self.slices.fields.extensions else {
             return ExtensionRefs::empty();
@@ -241,7 +253,8 @@ impl<'a, P: Profile> CertificateRef<'a, P> {
         &self,
         alloc: Global,
     ) -> Result<Option<(bool, T)>, Error>
-        ensures { (certificate : whole.CertificateInner P) → Spells ⟦<CertificateInner<P> as Grammar>⟧.form certificate self.now.bytes.now → Finds T.form T.refuses T.wants_memory (with_oid T.OID (members certificate.tbs_certificate.extensions)) result }
+        ensures { (certificate : whole.CertificateInner P) → Spells ⟦<CertificateInner<P> as Grammar>⟧.form certificate self.now.bytes.now
+            → Finds T.form T.refuses T.wants_memory (with_oid T.OID (members certificate.tbs_certificate.extensions)) result }
     {
         self.extensions().get_extension::<T>(alloc)
     }

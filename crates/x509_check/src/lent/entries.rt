@@ -41,7 +41,8 @@ impl<'a, P: Profile> CrlEntries<'a, P> {
     /// `Overlength` exactly where the bytes are more than [`Length::MAX`]. Within that length `Malformed`, or an error of
     /// the profile, exactly where they are the encoding of no CRL: the error that `CertificateList::from_der` answers.
     pub fn from_der(bytes: &'a [u8]) -> Result<CrlEntries<'a, P>, Error>
-        ensures found { IfOk result (λ lent. (list : lists.CertificateList P) × Spells ⟦<CertificateList<P> as Grammar>⟧.form list bytes.now × (entries_in P.serial_check lent.rest.now ≡ entries list.tbs_cert_list.revoked_certificates)) }
+        ensures found { IfOk result (λ lent. (list : lists.CertificateList P) × Spells ⟦<CertificateList<P> as Grammar>⟧.form list bytes.now
+            × (entries_in P.serial_check lent.rest.now ≡ entries list.tbs_cert_list.revoked_certificates)) }
         ensures overlength { limit < length bytes.now → IsErrAnd result (λ e. e.kind ≡ errors.Overlength) }
         ensures refused { length bytes.now ≤ limit → IfErr result (λ e. (e.kind ≡ errors.Malformed) ⊎ ⟦<CertificateList<P> as Grammar>⟧.refuses e.kind) }
         ensures every { (list : lists.CertificateList P) → Spells ⟦<CertificateList<P> as Grammar>⟧.form list bytes.now → IsOk result }

@@ -13,7 +13,8 @@ pub(crate) fn next_with<'a>(
     rest: &mut ExtensionRefs<'a>,
     oid: ObjectIdentifier,
 ) -> Option<ExtensionRef<'a>>
-    ensures { MatchOption result (with_oid oid (extensions_left rest.old) ≡ []) (λ found. with_oid oid (extensions_left rest.old) ≡ lent_extension found ∷ with_oid oid (extensions_left rest.new)) }
+    ensures { MatchOption result (with_oid oid (extensions_left rest.old) ≡ [])
+        (λ found. with_oid oid (extensions_left rest.old) ≡ lent_extension found ∷ with_oid oid (extensions_left rest.new)) }
 {
     while let Some(extension) = rest.next() {
         if extension.extn_id == oid {

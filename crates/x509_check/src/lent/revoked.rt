@@ -65,7 +65,8 @@ fn walk_sequence<'a, P: Profile>(
     serial_number: &[u8],
 ) -> Result<Walked<'a>, Error>
     requires { length rest.old.now ≤ limit }
-    ensures exact { LendsSoBefore (WalksEntries P.serial_check serial_number.now) result rest.new.now ((required (universal Sequence (list_of (revoked_cert {P = P} P.serial_check)))).reading rest.old.now) }
+    ensures exact { LendsSoBefore (WalksEntries P.serial_check serial_number.now) result rest.new.now
+        ((required (universal Sequence (list_of (revoked_cert {P = P} P.serial_check)))).reading rest.old.now) }
     ensures left { length rest.new.now ≤ length rest.old.now }
 {
     let piece = next_element(*rest, Tag::Sequence)?;
@@ -99,7 +100,8 @@ fn walk_field<'a, P: Profile>(
     serial_number: &[u8],
 ) -> Result<Walked<'a>, Error>
     requires { length rest.old.now ≤ limit }
-    ensures exact { LendsSoBefore (WalksAmong P.serial_check serial_number.now) result rest.new.now ((optional (universal Sequence (list_of (revoked_cert {P = P} P.serial_check)))).reading rest.old.now) }
+    ensures exact { LendsSoBefore (WalksAmong P.serial_check serial_number.now) result rest.new.now
+        ((optional (universal Sequence (list_of (revoked_cert {P = P} P.serial_check)))).reading rest.old.now) }
     ensures left { length rest.new.now ≤ length rest.old.now }
 {
     match *rest {
@@ -133,7 +135,8 @@ fn walk_content<'a, P: Profile>(octets: &'a [u8], serial_number: &[u8]) -> Resul
 /// The same of the signed part at the front.
 fn walk_part<'a, P: Profile>(rest: &mut &'a [u8], serial_number: &[u8]) -> Result<Walked<'a>, Error>
     requires { length rest.old.now ≤ limit }
-    ensures exact { LendsSoBefore (WalksPart P.serial_check serial_number.now) result rest.new.now ((required (tbs_cert_list {P = P} P.serial_check)).reading rest.old.now) }
+    ensures exact { LendsSoBefore (WalksPart P.serial_check serial_number.now) result rest.new.now
+        ((required (tbs_cert_list {P = P} P.serial_check)).reading rest.old.now) }
     ensures left { length rest.new.now ≤ length rest.old.now }
 {
     let piece = next_element(*rest, Tag::Sequence)?;
@@ -192,11 +195,13 @@ pub fn find_revoked<'a, P: Profile>(
     bytes: &'a [u8],
     serial_number: &[u8],
 ) -> Result<Option<RevokedCertRef<'a>>, Error>
-    ensures found { IfOk result (λ answer. (list : lists.CertificateList P) × Spells ⟦<CertificateList<P> as Grammar>⟧.form list bytes.now × FindsInList serial_number.now list answer) }
+    ensures found { IfOk result (λ answer. (list : lists.CertificateList P) × Spells ⟦<CertificateList<P> as Grammar>⟧.form list bytes.now
+        × FindsInList serial_number.now list answer) }
     ensures overlength { limit < length bytes.now → IsErrAnd result (λ e. e.kind ≡ errors.Overlength) }
     ensures refused { length bytes.now ≤ limit → IfErr result (λ e. (e.kind ≡ errors.Malformed) ⊎ ⟦<CertificateList<P> as Grammar>⟧.refuses e.kind) }
     ensures every { (list : lists.CertificateList P) → Spells ⟦<CertificateList<P> as Grammar>⟧.form list bytes.now → IsOk result }
-    ensures which { length bytes.now ≤ limit → LendsSo (FindsInList serial_number.now) result (whole_reading ⟦<CertificateList<P> as Grammar>⟧.form.reading bytes.now) }
+    ensures which { length bytes.now ≤ limit → LendsSo (FindsInList serial_number.now) result
+        (whole_reading ⟦<CertificateList<P> as Grammar>⟧.form.reading bytes.now) }
 {
     if bytes.len() > Length::MAX.as_u32() as usize {
         return Err(ErrorKind::Overlength.into());
