@@ -2,7 +2,6 @@
 use Rattle.std.proofs.Common.{◌≡◌, ℕ, List, [], ◌∷◌, Result, Ok, Err, refl, sym, ap, ◌∙◌, arith}
 use Rattle.std.specs.Prelude.{IsOk}
 use Rattle.x509_check.specs.Lending.{listed}
-use Rattle.x509_der.specs.Element.{element}
 use Rattle.x509_der.specs.ElementReading.{Piece, piece_at}
 use Rattle.x509_der.specs.ElementLaws.{piece_at-whole}
 use Rattle.x509_der.specs.declared.error.ErrorKind.{ErrorKind}

@@ -3,7 +3,6 @@ use Rattle.std.proofs.Common.{◌≡◌, ◌⊎◌, ◌≤◌, List, ℕ, length
 use Rattle.std.specs.Prelude.{Result, IsOk, OnOk, IfErr}
 use Rattle.x509_check.specs.Checking.{Finds}
 use Rattle.x509_der.specs.Element.{limit}
-use Rattle.x509_der.specs.Outcome.{IsRefusal}
 use Rattle.x509_der.specs.declared.error.Error.{Error}
 use Rattle.x509_der.specs.declared.error.ErrorKind.{ErrorKind}
 use Rattle.x509_der.specs.declared.error.ErrorKind.TheVariants as errors
