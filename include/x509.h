@@ -543,8 +543,8 @@ typedef struct {
     x509_signature signature;          /* what is to be verified, with the CSR's own key */
 } x509_request;
 
-/* Decodes a CSR, and says what it holds and where.
- * Answers X509_OK, X509_MEMORY, X509_OVERLENGTH, X509_MALFORMED. */
+/* Checks a CSR, and says what it holds and where. No memory is taken.
+ * Answers X509_OK, X509_OVERLENGTH, X509_MALFORMED. */
 x509_status x509_request_view(const uint8_t *in, size_t len, x509_request *view);
 
 typedef struct {

@@ -8,22 +8,24 @@ ghost use Rattle.x509_c_calls.specs.RequestAttributes.{IsRequestAttribute, Looks
 ghost use Rattle.x509_c_calls.specs.RequestView.{IsRequest};
 ghost use Rattle.x509_c_calls.specs.Calls.{Reads};
 ghost use Rattle.x509_c_calls.specs.Status.{Tells};
+ghost use Rattle.x509_c_calls.specs.declared.status.status.Status.TheVariants.{Refused};
+ghost use Rattle.x509_der.specs.declared.error.ErrorKind.TheVariants.{Memory};
 
 use std::alloc::Global;
 use x509_c_calls::{
-    ElementView, RequestAttributeView, RequestView, Span, member_next, member_under_next, payload,
-    request_attribute, request_extensions,
+    ElementView, RequestAttributeView, RequestView, Span, member_next, member_under_next,
+    request_attribute, request_extensions, request_view,
 };
 use x509_cert::request::CertReq;
 use x509_der::{Any, Decode, Grammar, Tag};
 use x509_name::attr::Attribute;
 
-/// Decodes a CSR, and fills in what it says and where its parts stand.
+/// Checks a CSR, and fills in what it says and where its parts stand. It takes no memory.
 #[unsafe(no_mangle)]
-pub extern "C" fn x509_request_view(alloc: Global, input: &[u8], view: &mut RequestView) -> i32
-    ensures { Tells (λ status. Reads ⟦<CertReq as Grammar>⟧.form ⟦<CertReq as Grammar>⟧.refuses input.now (λ request. IsRequest input.now request [] view.new) (view.new ≡ view.old) status) result }
+pub extern "C" fn x509_request_view(input: &[u8], view: &mut RequestView) -> i32
+    ensures { Tells (λ status. Reads ⟦<CertReq as Grammar>⟧.form ⟦<CertReq as Grammar>⟧.refuses input.now (λ request. IsRequest input.now request [] view.new) (view.new ≡ view.old) status × (status ≡ Refused Memory → ⊥)) result }
 {
-    payload::<RequestView>(alloc, input, view).code()
+    request_view(input, view).code()
 }
 
 /// Fills in the next attribute of the attributes of a CSR.

@@ -36,8 +36,11 @@ pub use payloads::{
     content_at, decimal_text, element_next, identifiers_next, member_next, member_under_next,
     name_attribute, next, oid_from_text, oid_text, optional_number, payload, read_number,
     serial_text, status_text, step_content, step_optional, step_optional_content, time_text,
+    unused_at,
 };
 pub use place::{Span, enter, signed_place, signed_span, step};
-pub use request::{RequestAttributeView, RequestView, request_attribute, request_extensions};
+pub use request::{
+    RequestAttributeView, RequestView, request_attribute, request_extensions, request_view,
+};
 pub use sct::{TimestampView, timestamp_next, timestamp_view};
 pub use status::{Status, check, fill, read, reencode, write};

@@ -38,4 +38,6 @@ pub use policy::{MappingView, PolicyConstraintsView, PolicyView, QualifierView};
 pub use status_words::status_text;
 pub use subtree::{NameConstraintsView, SubtreeView};
 pub use text::{serial_text, time_text};
-pub use walk::{NOWHERE, bits_at, content_at, step_content, step_optional, step_optional_content};
+pub use walk::{
+    NOWHERE, bits_at, content_at, step_content, step_optional, step_optional_content, unused_at,
+};

@@ -8,4 +8,4 @@ mod view;
 pub use attribute::RequestAttributeView;
 pub use extensions::request_extensions;
 pub use look_up::request_attribute;
-pub use view::RequestView;
+pub use view::{RequestView, request_view};

@@ -1,16 +1,15 @@
 //! What is to be verified of a certificate.
 
-ghost use Rattle.std.specs.Prelude.{◌≡◌, ◌≤◌, ◌∷◌, ◌++◌, true, drop, length, List, ℕ};
+ghost use Rattle.std.specs.Prelude.{◌≡◌};
 ghost use Rattle.x509_base.specs.declared.profile.Rfc5280 as rules;
 ghost use Rattle.x509_c_calls.specs.Signature.{IsSignature};
 ghost use Rattle.x509_c_calls.specs.Calls.{Reads};
 ghost use Rattle.x509_c_calls.specs.declared.status.status.Status.TheVariants.{Refused};
 ghost use Rattle.x509_cert.specs.declared.certificate.certificate.CertificateInner as whole;
-ghost use Rattle.x509_der.specs.Element.{element, is_identifier};
 ghost use Rattle.x509_der.specs.declared.error.ErrorKind.TheVariants.{Memory};
 ghost use Rattle.x509_der.specs.Form.{Spells};
 
-use crate::{Span, Status, bits_at, content_at, enter, step};
+use crate::{Span, Status, bits_at, enter, step, unused_at};
 use x509_base::Rfc5280;
 use x509_cert::certificate::CertificateInner;
 use x509_check::Check;
@@ -32,17 +31,6 @@ pub struct SignatureView {
 
     /// How many bits of the last of these octets are unused, 0 to 7.
     pub unused_bits: u32,
-}
-
-/// How many bits of its last octet are unused of a BIT STRING, which stands at the place: its first content octet (X.690 8.6.2.2).
-fn unused_at(input: &[u8], place: usize) -> u32
-    requires { place ≤ length input.now }
-    ensures { (tag unused : ℕ) (octets more : List ℕ) → is_identifier tag ≡ true → drop place input.now ≡ element tag (unused ∷ octets) ++ more → result ≡ unused }
-{
-    match input.get(content_at(input, place).place) {
-        Some(unused) => u32::from(*unused),
-        None => 0,
-    }
 }
 
 /// What is to be verified of the certificate of which the bytes are the encoding.

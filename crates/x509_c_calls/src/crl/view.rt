@@ -77,7 +77,7 @@ impl View for CrlView {
         let list = &value.tbs_cert_list;
         let mut at = place;
         enter(input, &mut at);
-        let signature = signature_at(input, at, &value.signature);
+        let signature = signature_at(input, at);
         enter(input, &mut at);
         step(input, &mut at, list.version.is_some());
         let inner_algorithm = step(input, &mut at, true);

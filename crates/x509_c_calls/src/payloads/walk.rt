@@ -47,6 +47,17 @@ pub fn bits_at(input: &[u8], place: usize) -> Span
     }
 }
 
+/// How many bits of its last octet are unused of a BIT STRING, which stands at the place: its first content octet (X.690 8.6.2.2).
+pub fn unused_at(input: &[u8], place: usize) -> u32
+    requires { place ≤ length input.now }
+    ensures { (tag unused : ℕ) (octets more : List ℕ) → is_identifier tag ≡ true → drop place input.now ≡ element tag (unused ∷ octets) ++ more → result ≡ unused }
+{
+    match input.get(content_at(input, place).place) {
+        Some(unused) => u32::from(*unused),
+        None => 0,
+    }
+}
+
 /// Steps over an element that may be left out, and answers where it stands; nowhere where it is left out.
 pub fn step_optional(input: &[u8], at: &mut usize, is_there: bool) -> Span
     requires { at.old ≤ length input.now }
