@@ -390,6 +390,11 @@ x509_status x509_relative_name_next(const uint8_t *rdn, size_t len, size_t *at, 
  * Answers X509_OK, X509_MEMORY, X509_OVERLENGTH, X509_MALFORMED, X509_ABSENT. */
 x509_status x509_relative_name_under_next(uint32_t number, const uint8_t *rdn, size_t len, size_t *at, x509_attribute *found);
 
+/* Decodes a Name, and finds its first attribute of a type, in the order of the encoding. The OID of the type is given by its content octets, such as "\x55\x04\x03" for
+ * 2.5.4.3, CN. Places are offsets in `name`. X509_ABSENT where there is none. x509_name_next walks over all of them.
+ * Answers X509_OK, X509_MEMORY, X509_OVERLENGTH, X509_MALFORMED, X509_ABSENT. */
+x509_status x509_name_find(const uint8_t *name, size_t len, const uint8_t *oid, size_t oid_len, x509_attribute *found);
+
 /* ---- texts; rooms are as said under whole values */
 
 /* Reads a serial number under RFC 5280, as `serial_number` of x509_certificate, and says where the content octets of its INTEGER stand. X509_MALFORMED also where there
@@ -401,6 +406,11 @@ x509_status x509_serial_number(const uint8_t *in, size_t len, x509_span *found);
  * (X.690 8.3): no octets, or more than there need to be.
  * Answers X509_OK, X509_ROOM, X509_MEMORY, X509_MALFORMED. */
 x509_status x509_serial_text(const uint8_t *content, size_t len, uint8_t *out, size_t room, size_t *written);
+
+/* Writes the number of these content octets of an INTEGER in decimal digits, as "255", or as "-1" where it is below 0 (no zero at the end). X509_MALFORMED as
+ * x509_serial_text says; else X509_VALUE where there are more than 21 octets, which no serial number has under RFC 5280. It takes no memory.
+ * Answers X509_OK, X509_ROOM, X509_MALFORMED, X509_VALUE. */
+x509_status x509_serial_decimal(const uint8_t *content, size_t len, uint8_t *out, size_t room, size_t *written);
 
 /* Writes the text of a moment, in seconds since 1970-01-01T00:00:00Z: 20 bytes, as "2026-01-02T03:04:05Z" (no zero at the end). X509_VALUE after 9999-12-31T23:59:59Z.
  * Answers X509_OK, X509_ROOM, X509_MEMORY, X509_VALUE. */
@@ -429,8 +439,8 @@ typedef struct {
     uint32_t unused_bits;  /* how many bits of the last of these octets are unused, 0 to 7 */
 } x509_signature;
 
-/* Decodes a certificate under RFC 5280, and says what is to be verified of it.
- * Answers X509_OK, X509_MEMORY, X509_OVERLENGTH, X509_MALFORMED. */
+/* Checks a certificate under RFC 5280, and says what is to be verified of it. No memory is taken.
+ * Answers X509_OK, X509_OVERLENGTH, X509_MALFORMED. */
 x509_status x509_certificate_signature(const uint8_t *in, size_t len, x509_signature *signature);
 
 /* What is wrong with a certificate of a path. Of several faults of one certificate the one with the lowest number is reported. */
@@ -558,11 +568,15 @@ typedef struct {
     x509_span content; /* its content octets, which aren't looked at */
 } x509_element;
 
-/* The values of an attribute, a SET, one after the other. Those of 1.2.840.113549.1.9.14 are the extensions that a CSR asks for (RFC 2985 5.4.2): the one
- * value is for x509_extensions_next.
- * Whether they are in order, and all different, isn't looked at.
+/* The values of an attribute, a SET, one after the other. Whether they are in order, and all different, isn't looked at.
  * Answers X509_OK, X509_MEMORY, X509_OVERLENGTH, X509_MALFORMED, X509_ABSENT. */
 x509_status x509_attribute_value_next(const uint8_t *value, size_t len, size_t *at, x509_element *found);
+
+/* Decodes a CSR, and says where the extensions stand that it asks for, a whole SEQUENCE, for x509_extensions_next: the value of its attribute extensionRequest
+ * (1.2.840.113549.1.9.14; RFC 2985 5.4.2). X509_ABSENT where it has no such attribute, X509_REPEATED where it has two or more, X509_FAILED where the attribute hasn't just one
+ * value, X509_MALFORMED where that value is no list of extensions. Else refused as x509_request_check is.
+ * Answers X509_OK, X509_MEMORY, X509_OVERLENGTH, X509_MALFORMED, X509_FAILED, X509_ABSENT, X509_REPEATED. */
+x509_status x509_request_extensions(const uint8_t *in, size_t len, x509_span *found);
 
 /* ---- keys and algorithms */
 
@@ -695,8 +709,8 @@ x509_status x509_timestamp_view(const uint8_t *in, size_t len, x509_timestamp *v
 
 /* ---- building
  *
- * A certificate, a CRL and a CSR are built in two steps, since the private key stays with the caller: x509_build_certificate, x509_build_crl and x509_build_request write the bytes to
- * be signed, the caller signs them, and x509_assemble puts them and the signature together. That the signature is one of these bytes isn't checked.
+ * A certificate, a CRL and a CSR are built in two steps, since the private key stays with the caller: the x509_build_ calls write the bytes to be signed,
+ * the caller signs them, and x509_assemble puts them and the signature together. That the signature is one of these bytes isn't checked.
  *
  * Names are whole Names, as x509_name_from_text writes them; keys are SubjectPublicKeyInfo and algorithms AlgorithmIdentifier, in DER. A list of extensions or
  * attributes is given as the encodings of its members one after the other, as x509_extension_encode writes them; a length of 0 is the empty list. Where several inputs are bad, any of
@@ -728,6 +742,48 @@ x509_status x509_build_request(const uint8_t *subject, size_t subject_len, const
 x509_status x509_build_certificate(const uint8_t *serial_number, size_t serial_number_len, const uint8_t *algorithm, size_t algorithm_len,
                                    const uint8_t *issuer, size_t issuer_len, uint64_t not_before, uint64_t not_after, const uint8_t *subject, size_t subject_len,
                                    const uint8_t *key, size_t key_len, const uint8_t *extensions, size_t extensions_len, uint8_t *out, size_t room, size_t *written);
+
+/* The next four write the bytes to be signed of certificates of one kind each, with the extensions that the kind has: those that are said there, in that order. `extensions`
+ * are put in front of them, as they are; whether one comes twice then isn't looked at. A key identifier is the SHA-1 digest of a key's octets (RFC 5280 4.2.1.2). Dates are as
+ * said above. What is asked for by a number is asked for where it isn't 0.
+ *
+ * A root authority (CA/Browser Forum, Baseline Requirements 7.1.2.1), which is its own issuer and signs with its own key: AKI; BasicConstraints of an authority, without a path
+ * length constraint; KeyUsage with keyCertSign and cRLSign, and with digitalSignature where it signs OCSP responses; SKI. X509_FAILED where an authority can't have that
+ * subject: it has a country, an organization and a common name, and may have state, locality, street address and postal code; each is alone in its relative name, is there once,
+ * and stands in the order of 7.1.4.2.
+ * Answers X509_OK, X509_ROOM, X509_MEMORY, X509_OVERLENGTH, X509_MALFORMED, X509_FAILED, X509_VALUE. */
+x509_status x509_build_root(const uint8_t *serial_number, size_t serial_number_len, const uint8_t *algorithm, size_t algorithm_len,
+                            uint64_t not_before, uint64_t not_after, const uint8_t *subject, size_t subject_len, const uint8_t *key, size_t key_len,
+                            uint32_t signs_ocsp_responses, const uint8_t *extensions, size_t extensions_len, uint8_t *out, size_t room, size_t *written);
+
+/* An authority for TLS below another one, which has that name and that key (7.1.2.6): AKI of the issuer's key; BasicConstraints of an authority, with that path length
+ * constraint where `has_path_len` isn't 0; KeyUsage as of a root; SKI; ExtendedKeyUsage with serverAuth, and with clientAuth where asked for. X509_VALUE also where the path
+ * length constraint is above 255.
+ * Answers X509_OK, X509_ROOM, X509_MEMORY, X509_OVERLENGTH, X509_MALFORMED, X509_VALUE. */
+x509_status x509_build_subordinate(const uint8_t *serial_number, size_t serial_number_len, const uint8_t *algorithm, size_t algorithm_len,
+                                   const uint8_t *issuer, size_t issuer_len, const uint8_t *issuer_key, size_t issuer_key_len, uint64_t not_before, uint64_t not_after,
+                                   const uint8_t *subject, size_t subject_len, const uint8_t *key, size_t key_len, uint32_t has_path_len, uint32_t path_len,
+                                   uint32_t signs_ocsp_responses, uint32_t client_auth, const uint8_t *extensions, size_t extensions_len,
+                                   uint8_t *out, size_t room, size_t *written);
+
+/* A TLS server of which control of its domains was validated (7.1.2.7): of the subject only the country and the common names are kept. AKI of the issuer's key;
+ * ExtendedKeyUsage with serverAuth, and with clientAuth where asked for; BasicConstraints of no authority; KeyUsage with digitalSignature, and where asked for of an RSA key with
+ * keyEncipherment and dataEncipherment, of an elliptic curve key with keyAgreement. The SAN isn't made: it is one of `extensions`.
+ * Answers X509_OK, X509_ROOM, X509_MEMORY, X509_OVERLENGTH, X509_MALFORMED, X509_VALUE. */
+x509_status x509_build_subscriber(const uint8_t *serial_number, size_t serial_number_len, const uint8_t *algorithm, size_t algorithm_len,
+                                  const uint8_t *issuer, size_t issuer_len, const uint8_t *issuer_key, size_t issuer_key_len, uint64_t not_before, uint64_t not_after,
+                                  const uint8_t *subject, size_t subject_len, const uint8_t *key, size_t key_len, uint32_t client_auth, uint32_t key_encipherment,
+                                  uint32_t key_agreement, uint32_t data_encipherment, const uint8_t *extensions, size_t extensions_len,
+                                  uint8_t *out, size_t room, size_t *written);
+
+/* A device (IEEE 802.1AR 8): AKI of the issuer's key; KeyUsage with digitalSignature; a SAN of `names`, a whole GeneralNames, which is left out where there are no bytes, and is
+ * critical where the subject is the empty name. One of the names has to be that of a hardware module (RFC 4108 5): X509_FAILED where none says that it is, X509_MALFORMED where
+ * the first that says so isn't one.
+ * Answers X509_OK, X509_ROOM, X509_MEMORY, X509_OVERLENGTH, X509_MALFORMED, X509_FAILED, X509_VALUE. */
+x509_status x509_build_device(const uint8_t *serial_number, size_t serial_number_len, const uint8_t *algorithm, size_t algorithm_len,
+                              const uint8_t *issuer, size_t issuer_len, const uint8_t *issuer_key, size_t issuer_key_len, uint64_t not_before, uint64_t not_after,
+                              const uint8_t *subject, size_t subject_len, const uint8_t *key, size_t key_len, const uint8_t *names, size_t names_len,
+                              const uint8_t *extensions, size_t extensions_len, uint8_t *out, size_t room, size_t *written);
 
 /* Writes the bytes to be signed of a CRL of v2 (TBSCertList, RFC 5280 5.1.2): issued at that time by the subject of the issuer's certificate, for a signature by that
  * algorithm, with that next update where `has_next_update` isn't 0, with these entries, and with these extensions behind two: the CRL number, whose octets stand most

@@ -88,6 +88,9 @@ static void no_pointers(void)
     written = 77;
     WANT(x509_serial_text(NULL, 0, NULL, 0, &written) == X509_MALFORMED && written == 77);
     WANT(x509_serial_text((const uint8_t *)"\x05", 1, NULL, 0, &written) == X509_ROOM && written == 2);
+    written = 77;
+    WANT(x509_serial_decimal(NULL, 0, NULL, 0, &written) == X509_MALFORMED && written == 77);
+    WANT(x509_serial_decimal((const uint8_t *)"\x05", 1, NULL, 0, &written) == X509_ROOM && written == 1);
     WANT(x509_time_text(MOMENT, NULL, 0, &written) == X509_ROOM && written == 20);
     WANT(x509_status_text(X509_OK, NULL, 0, &written) == X509_ROOM && written == 4);
     written = 77;
@@ -97,6 +100,11 @@ static void no_pointers(void)
     WANT(x509_build_request(NULL, 0, NULL, 0, NULL, 0, NULL, 0, NULL, 0, &written) == X509_MALFORMED && written == 77);
     WANT(x509_build_certificate(NULL, 0, NULL, 0, NULL, 0, MOMENT, MOMENT, NULL, 0, NULL, 0, NULL, 0, NULL, 0, &written) == X509_MALFORMED && written == 77);
     WANT(x509_build_crl(NULL, 0, NULL, 0, NULL, 0, MOMENT, 0, 0, NULL, 0, NULL, 0, NULL, 0, &written) == X509_MALFORMED && written == 77);
+    WANT(x509_build_root(NULL, 0, NULL, 0, MOMENT, MOMENT, NULL, 0, NULL, 0, 0, NULL, 0, NULL, 0, &written) == X509_MALFORMED && written == 77);
+    WANT(x509_build_subordinate(NULL, 0, NULL, 0, NULL, 0, NULL, 0, MOMENT, MOMENT, NULL, 0, NULL, 0, 0, 0, 0, 0, NULL, 0, NULL, 0, &written) == X509_MALFORMED);
+    WANT(x509_build_subscriber(NULL, 0, NULL, 0, NULL, 0, NULL, 0, MOMENT, MOMENT, NULL, 0, NULL, 0, 0, 0, 0, 0, NULL, 0, NULL, 0, &written) == X509_MALFORMED);
+    WANT(x509_build_device(NULL, 0, NULL, 0, NULL, 0, NULL, 0, MOMENT, MOMENT, NULL, 0, NULL, 0, NULL, 0, NULL, 0, NULL, 0, &written) == X509_MALFORMED);
+    WANT(written == 77);
 }
 
 /* What the calls on payloads and names fill in, with what stands in it before. */
@@ -153,6 +161,9 @@ static void refused_values(const uint8_t *bytes, size_t len, x509_status status)
     WANT(x509_request_attribute_next(bytes, len, &at, &asked) == status);
     WANT(x509_request_attribute_find(bytes, len, OID, 3, &asked) == status);
     WANT(x509_request_attribute_find(bytes, len, NULL, 0, &asked) == status);
+    WANT(x509_request_extensions(bytes, len, &part) == status);
+    WANT(x509_name_find(bytes, len, OID, 3, &attribute) == status);
+    WANT(x509_name_find(bytes, len, NULL, 0, &attribute) == status);
     WANT(x509_attribute_value_next(bytes, len, &at, &element) == status);
     WANT(x509_key_view(bytes, len, &key) == status);
     WANT(x509_algorithm_view(bytes, len, &algorithm) == status);

@@ -169,7 +169,7 @@ fi
 [ ! -d "$folder/paths" ] || python3 -B "$robustness/spoil_paths.py" "$folder/paths" "$folder/spoilt" "$folder/libx509.so" || failed=1
 
 compiler=("${CC:-cc}" -std=c11 -Wall -Wextra -Werror -O1 -g -I "$top/include")
-callers=(show calls rules payloads)
+callers=(show calls calls_values calls_build rules payloads)
 printf '%s\n' '#include <openssl/evp.h>' 'int main(void) { return EVP_DigestVerifyInit_ex == NULL; }' >"$folder/tried.c"
 if "${CC:-cc}" "$folder/tried.c" -lcrypto -o "$folder/tried" 2>"$folder/said"; then
     callers+=(path authority)
@@ -190,10 +190,12 @@ compile() {
 
 # usage: run_c NAME SUFFIX WORDS..: the callers in C, behind these words
 run_c() {
-    local name=$1 suffix=$2
+    local name=$1 suffix=$2 asked
     shift 2
     show "$name" "$@" "$folder/show$suffix"
-    wants "$name, each call" 0 "$folder/calls.txt" "$@" "$folder/calls$suffix" "${files[@]}"
+    for asked in calls calls_values calls_build; do
+        wants "$name, $asked" 0 "$folder/calls.txt" "$@" "$folder/$asked$suffix" "${files[@]}"
+    done
     hostile "$name" "$@" "$folder/show$suffix"
     payloads "$name" "$@" "$folder/payloads$suffix"
     [ -z "${rules:-}" ] || wants "$name, the rules of the header" 0 "$folder/calls.txt" "$@" "$folder/rules$suffix" "${rules[@]}"

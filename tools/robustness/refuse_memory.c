@@ -73,7 +73,7 @@ static void wrong(const char *what, long number)
 
 /* ---- each call */
 
-enum { CALLS = 33 };
+enum { CALLS = 39 };
 
 static uint8_t certificate[65536], list[65536], request[65536], room[65536];
 static size_t certificate_len, list_len, request_len;
@@ -84,6 +84,7 @@ static x509_signature signature;
 static x509_path_fault fault;
 static x509_span part;
 static x509_request_attribute wanted;
+static x509_attribute attribute;
 static x509_authority_key_identifier_view authority;
 static x509_policy policy;
 static x509_distribution_point point;
@@ -99,11 +100,13 @@ static size_t count, at;
 /* A value that stands in the source, with its length. */
 #define BYTES(text) (const uint8_t *)(text), sizeof(text) - 1
 
-/* A key `abc` of the algorithm 1.2.3.4, that algorithm, an extension, an entry of a CRL, and the signed part of a CSR for the key. */
+/* A key `abc` of the algorithm 1.2.3.4, that algorithm, an extension, an entry of a CRL, the name C=US,O=T,CN=R, and the signed part of a CSR for the key. */
 #define ALGORITHM "\x30\x05\x06\x03\x2a\x03\x04"
 #define KEY "\x30\x0d" ALGORITHM "\x03\x04\x00" "abc"
 #define EXTENSION "\x30\x08\x06\x02\x2a\x03\x04\x02\x05\x00"
 #define ENTRY "\x30\x12\x02\x01\x05\x17\x0d" "260102030405Z"
+#define ROOT_NAME "\x30\x25\x31\x0b\x30\x09\x06\x03\x55\x04\x06\x13\x02" "US" "\x31\x0a\x30\x08\x06\x03\x55\x04\x0a\x0c\x01" "T" \
+                  "\x31\x0a\x30\x08\x06\x03\x55\x04\x03\x0c\x01" "R"
 #define REQUEST "\x30\x27\x02\x01\x00\x30\x00" KEY "\xa0\x11\x30\x0f\x06\x09\x2a\x86\x48\x86\xf7\x0d\x01\x09\x0e\x31\x02\x30\x00"
 
 static x509_status call(int number)
@@ -182,6 +185,25 @@ static x509_status call(int number)
     case 31:
         return x509_build_certificate(BYTES("\x02\x01\x05"), BYTES(ALGORITHM), BYTES("\x30\x00"), 1767323045, 1770001445, BYTES("\x30\x00"), BYTES(KEY),
                                       BYTES(EXTENSION), room, sizeof room, &count);
+    case 32:
+        return x509_request_extensions(request, request_len, &part);
+    case 33:
+        return x509_name_find(BYTES("\x30\x29\x31\x27\x30\x25\x06\x03\x55\x04\x03\x0c\x1e"
+                                    "aaaaaaaaaaaaaaaaaaaaaaaaaaaaaa"),
+                              BYTES("\x55\x04\x03"), &attribute);
+    case 34:
+        return x509_build_root(BYTES("\x02\x01\x05"), BYTES(ALGORITHM), 1767323045, 1770001445, BYTES(ROOT_NAME), BYTES(KEY), 1, BYTES(EXTENSION),
+                               room, sizeof room, &count);
+    case 35:
+        return x509_build_subordinate(BYTES("\x02\x01\x05"), BYTES(ALGORITHM), BYTES("\x30\x00"), BYTES(KEY), 1767323045, 1770001445, BYTES("\x30\x00"),
+                                      BYTES(KEY), 1, 0, 1, 1, BYTES(EXTENSION), room, sizeof room, &count);
+    case 36:
+        return x509_build_subscriber(BYTES("\x02\x01\x05"), BYTES(ALGORITHM), BYTES("\x30\x00"), BYTES(KEY), 1767323045, 1770001445, BYTES(ROOT_NAME),
+                                     BYTES(KEY), 1, 1, 1, 1, BYTES(EXTENSION), room, sizeof room, &count);
+    case 37:
+        return x509_build_device(BYTES("\x02\x01\x05"), BYTES(ALGORITHM), BYTES("\x30\x00"), BYTES(KEY), 1767323045, 1770001445, BYTES("\x30\x00"), BYTES(KEY),
+                                 BYTES("\x30\x17\xa0\x15\x06\x08\x2b\x06\x01\x05\x05\x07\x08\x04\xa0\x09\x30\x07\x06\x02\x2a\x03\x04\x01\xab"),
+                                 BYTES(EXTENSION), room, sizeof room, &count);
     default:
         /* in the first second of the validity */
         return x509_path_check(certificate, certificate_len, certificate, certificate_len, &certificate_len, 1, 1767323045, &fault);
@@ -197,6 +219,7 @@ static int holds(int number, long from, long to)
     const x509_signature old_signature = signature;
     const x509_path_fault old_fault = fault;
     const x509_span old_part = part;
+    const x509_attribute old_attribute = attribute;
     const x509_authority_key_identifier_view old_authority = authority;
     const x509_policy old_policy = policy;
     const x509_distribution_point old_point = point;
@@ -220,7 +243,7 @@ static int holds(int number, long from, long to)
     return was_refused && status == X509_MEMORY && memcmp(&view, &old_view, sizeof view) == 0 &&
            memcmp(&extension, &old_extension, sizeof extension) == 0 && memcmp(&revocation, &old_revocation, sizeof revocation) == 0 &&
            memcmp(&signature, &old_signature, sizeof signature) == 0 && memcmp(&fault, &old_fault, sizeof fault) == 0 &&
-           memcmp(&part, &old_part, sizeof part) == 0 && memcmp(&authority, &old_authority, sizeof authority) == 0 &&
+           memcmp(&part, &old_part, sizeof part) == 0 && memcmp(&attribute, &old_attribute, sizeof attribute) == 0 && memcmp(&authority, &old_authority, sizeof authority) == 0 &&
            memcmp(&policy, &old_policy, sizeof policy) == 0 && memcmp(&point, &old_point, sizeof point) == 0 &&
            memcmp(&names, &old_names, sizeof names) == 0 && memcmp(&crl, &old_crl, sizeof crl) == 0 &&
            memcmp(&entry, &old_entry, sizeof entry) == 0 && memcmp(&csr, &old_csr, sizeof csr) == 0 && memcmp(&key, &old_key, sizeof key) == 0 &&
@@ -230,7 +253,7 @@ static int holds(int number, long from, long to)
 /* whether the call takes no memory: it answers what it is for, whatever is refused */
 static int takes_none(int number)
 {
-    return number == 0 || number == 2 || number == 4 || number == 10;
+    return number == 0 || number == 2 || number == 4 || number == 10 || number == 11;
 }
 
 static void refuse_call(int number)

@@ -44,14 +44,10 @@ pub extern "C" fn x509_certificate_extension(
     certificate_extension(alloc, input, oid, found).code()
 }
 
-/// Decodes a certificate under the rules of RFC 5280, and fills in what is to be verified of it.
+/// Checks a certificate under the rules of RFC 5280, and fills in what is to be verified of it. It takes no memory.
 #[unsafe(no_mangle)]
-pub extern "C" fn x509_certificate_signature(
-    alloc: Global,
-    input: &[u8],
-    signature: &mut SignatureView,
-) -> i32
-    ensures { Tells (λ status. Reads ⟦<CertificateInner<Rfc5280> as Grammar>⟧.form ⟦<CertificateInner<Rfc5280> as Grammar>⟧.refuses input.now (λ certificate. IsSignature input.now certificate signature.new) (signature.new ≡ signature.old) status) result }
+pub extern "C" fn x509_certificate_signature(input: &[u8], signature: &mut SignatureView) -> i32
+    ensures { Tells (λ status. Reads ⟦<CertificateInner<Rfc5280> as Grammar>⟧.form ⟦<CertificateInner<Rfc5280> as Grammar>⟧.refuses input.now (λ certificate. IsSignature input.now certificate signature.new) (signature.new ≡ signature.old) status × (status ≡ Refused Memory → ⊥)) result }
 {
-    certificate_signature(alloc, input, signature).code()
+    certificate_signature(input, signature).code()
 }

@@ -14,6 +14,7 @@ mod path;
 mod payload;
 mod point;
 mod policy;
+mod profile;
 mod request;
 mod subtree;
 mod text;

@@ -3,16 +3,19 @@
 ghost use Rattle.std.specs.Prelude.{◌≡◌, ◌≤◌, ◌<◌, ◌+◌};
 ghost use Rattle.x509_c_calls.specs.Attributes.{IsAttribute};
 ghost use Rattle.x509_c_calls.specs.Cursor.{Steps};
+ghost use Rattle.x509_c_calls.specs.FirstAttribute.{FindsAttribute};
 ghost use Rattle.x509_c_calls.specs.Status.{Tells};
 ghost use Rattle.x509_c_calls.specs.declared.status.status.Status.TheVariants.{Refused};
 ghost use Rattle.x509_der.specs.declared.error.ErrorKind.TheVariants.{Malformed};
 ghost use Rattle.x509_name.specs.Names.{relative_distinguished_name};
 
 use std::alloc::Global;
-use x509_c_calls::{AttributeView, Span, element_next, member_next, member_under_next};
+use x509_c_calls::{
+    AttributeView, Span, element_next, member_next, member_under_next, name_attribute,
+};
 use x509_der::{Decode, Grammar, Tag};
 use x509_name::attr::AttributeTypeAndValue;
-use x509_name::name::RelativeDistinguishedName;
+use x509_name::name::{Name, RelativeDistinguishedName};
 
 /// Fills in where the next relative distinguished name of a name stands.
 #[unsafe(no_mangle)]
@@ -53,4 +56,17 @@ pub extern "C" fn x509_relative_name_under_next(
         × (30 < number → (status ≡ Refused Malformed) × (at.new ≡ at.old) × (found.new ≡ found.old))) result }
 {
     member_under_next::<AttributeView>(alloc, number, input, at, found).code()
+}
+
+/// Decodes a name, and fills in its first attribute whose type has the OID with these content octets.
+#[unsafe(no_mangle)]
+pub extern "C" fn x509_name_find(
+    alloc: Global,
+    input: &[u8],
+    oid: &[u8],
+    found: &mut AttributeView,
+) -> i32
+    ensures { Tells (λ status. FindsAttribute ⟦<Name as Grammar>⟧.form ⟦<Name as Grammar>⟧.refuses input.now oid.now found.old found.new status) result }
+{
+    name_attribute(alloc, input, oid, found).code()
 }

@@ -1,6 +1,7 @@
 //! What a CSR says.
 
 ghost use Rattle.std.specs.Prelude.{◌≡◌, []};
+ghost use Rattle.x509_c_calls.specs.AskedExtensions.{LooksUpAsked};
 ghost use Rattle.x509_c_calls.specs.Cursor.{Steps};
 ghost use Rattle.x509_c_calls.specs.Elements.{IsElement};
 ghost use Rattle.x509_c_calls.specs.RequestAttributes.{IsRequestAttribute, LooksUpAttribute};
@@ -11,7 +12,7 @@ ghost use Rattle.x509_c_calls.specs.Status.{Tells};
 use std::alloc::Global;
 use x509_c_calls::{
     ElementView, RequestAttributeView, RequestView, Span, member_next, member_under_next, payload,
-    request_attribute,
+    request_attribute, request_extensions,
 };
 use x509_cert::request::CertReq;
 use x509_der::{Any, Decode, Grammar, Tag};
@@ -62,4 +63,12 @@ pub extern "C" fn x509_request_attribute_find(
     ensures { Tells (λ status. LooksUpAttribute ⟦<CertReq as Grammar>⟧.form ⟦<CertReq as Grammar>⟧.refuses input.now oid.now found.old found.new status) result }
 {
     request_attribute(alloc, input, oid, found).code()
+}
+
+/// Decodes a CSR, and fills in where the extensions stand that it asks for.
+#[unsafe(no_mangle)]
+pub extern "C" fn x509_request_extensions(alloc: Global, input: &[u8], found: &mut Span) -> i32
+    ensures { Tells (λ status. LooksUpAsked ⟦<CertReq as Grammar>⟧.form ⟦<CertReq as Grammar>⟧.refuses input.now found.old found.new status) result }
+{
+    request_extensions(alloc, input, found).code()
 }

@@ -2,6 +2,7 @@
 
 ghost use Rattle.std.specs.Prelude.{◌≡◌, ◌≤◌, []};
 ghost use Rattle.x509_base.specs.CivilTime.{last_date_time, unix_seconds};
+ghost use Rattle.x509_c_calls.specs.Decimals.{IsDecimalText};
 ghost use Rattle.x509_c_calls.specs.StatusTexts.{IsStatusText};
 ghost use Rattle.x509_c_calls.specs.Texts.{IsSerialText, IsTimeText};
 ghost use Rattle.x509_c_calls.specs.Place.{IsAt};
@@ -12,7 +13,7 @@ ghost use Rattle.x509_der.specs.declared.error.ErrorKind.TheVariants.{Memory};
 
 use std::alloc::Global;
 use x509_base::{Rfc5280, SerialNumber};
-use x509_c_calls::{Span, content, serial_text, status_text, time_text};
+use x509_c_calls::{Span, content, decimal_text, serial_text, status_text, time_text};
 use x509_der::Grammar;
 
 /// Reads a serial number under the rules of RFC 5280, and fills in where its content octets stand.
@@ -34,6 +35,15 @@ pub extern "C" fn x509_serial_text(
     ensures { Tells (λ status. Fills (λ answer. IsSerialText content.now answer) room.old room.new written.old written.new status) result }
 {
     serial_text(alloc, content, room, written).code()
+}
+
+/// Puts the whole number of these content octets of an INTEGER in decimal digits at the front of the room. It takes no
+/// memory.
+#[unsafe(no_mangle)]
+pub extern "C" fn x509_serial_decimal(content: &[u8], room: &mut [u8], written: &mut usize) -> i32
+    ensures { Tells (λ status. Fills (IsDecimalText content.now) room.old room.new written.old written.new status × (status ≡ Refused Memory → ⊥)) result }
+{
+    decimal_text(content, room, written).code()
 }
 
 /// Puts the text of a moment, in seconds since 1970-01-01T00:00:00Z, at the front of the room.

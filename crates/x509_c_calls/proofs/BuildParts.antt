@@ -1,5 +1,5 @@
 -- The parts to which builders finalize that are given all at once.
-use Rattle.std.proofs.Common.{◌≡◌, ◌⊎◌, ℕ, List, [], ◌∷◌, ◌++◌, Option, Some, None, Result, Ok, Err, MatchResult, refl, sym, ap, subst, ◌∙◌, inl, inr}
+use Rattle.std.proofs.Common.{◌≡◌, List, [], ◌++◌, ap, ◌∙◌}
 use Rattle.x509_base.specs.declared.profile.Rfc5280.{Rfc5280}
 use Rattle.x509_build.specs.RequestParts.{NameList, first_part}
 use Rattle.x509_build.specs.declared.crl_builder.CrlBuilder.{CrlBuilder}

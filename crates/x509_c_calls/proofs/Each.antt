@@ -1,12 +1,12 @@
 -- Encodings one after the other are read as what they spell.
-use Rattle.std.proofs.Common.{◌≡◌, ◌⊎◌, ℕ, List, Result, Ok, Err, refl, sym, ap, ◌∙◌, inl, inr}
+use Rattle.std.proofs.Common.{◌≡◌, ◌⊎◌, ℕ, List, Ok, Err, refl, sym, ap, ◌∙◌, inl, inr}
 use Rattle.x509_c_calls.specs.Input.{RefusesEach, SpellEach}
 use Rattle.x509_der.specs.Outcome.{IsRefusal}
 use Rattle.x509_der.specs.declared.error.ErrorKind.{ErrorKind}
 use Rattle.x509_der.specs.declared.error.ErrorKind.TheVariants.{Memory, Overlength, Malformed, Failed, SetDuplicate, Value}
-use Rattle.x509_der.specs.List.{joined, list_reading}
+use Rattle.x509_der.specs.List.{list_reading}
 use Rattle.x509_der.specs.ListLaws.{list_lawful}
-use Rattle.x509_der.specs.Form.{Form, IsForm, spelling}
+use Rattle.x509_der.specs.Form.{Form, IsForm}
 
 module _ {X : Type 0} {R : ErrorKind → Type 0} (form : Form X) (lawful : IsForm R form) (bytes : List ℕ) where
   pub spelled : (values : List X) → list_reading form.reading bytes ≡ Ok values → SpellEach form values bytes

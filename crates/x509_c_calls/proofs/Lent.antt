@@ -1,5 +1,5 @@
 -- What the lent elements of a certificate say of its fields.
-use Rattle.std.proofs.Common.{◌≡◌, ℕ, ◌≤◌, Bool, true, false, not, List, [], ◌∷◌, ◌++◌, drop, length, bytes_eq, Option, Some, None, is_some, option_map, if◌then◌else◌, Bor, Result, refl, sym, ap, ◌∙◌, arith, length-append}
+use Rattle.std.proofs.Common.{◌≡◌, ℕ, ◌≤◌, true, false, not, List, [], ◌∷◌, ◌++◌, length, bytes_eq, Option, Some, None, is_some, option_map, if◌then◌else◌, Bor, Result, refl, sym, ap, ◌∙◌, arith, length-append}
 use Rattle.std.specs.Option.{option_copied}
 use Rattle.x509_base.specs.Validity.{validity}
 use Rattle.x509_base.specs.declared.profile.Rfc5280.{Rfc5280}
@@ -11,7 +11,7 @@ use Rattle.x509_cert.proofs.Spellings.{certificate_found}
 use Rattle.x509_cert.specs.Elements.{TbsElements, HasTbsElements, behind_octets}
 use Rattle.x509_cert.specs.SignedLaws.{content_shorter}
 use Rattle.x509_cert.specs.Spellings.{tbs_spellings}
-use Rattle.x509_cert.specs.TbsCertificate.{tbs_certificate, tbs_certificate_fields}
+use Rattle.x509_cert.specs.TbsCertificate.{tbs_certificate_fields}
 use Rattle.x509_cert.specs.Version.{version, is_first}
 use Rattle.x509_cert.specs.declared.certificate.certificate.CertificateInner.{CertificateInner}
 use Rattle.x509_cert.specs.declared.certificate.version.Version.{Version}

@@ -2,6 +2,7 @@ pub mod KeyOctets
 pub mod KeyTables
 pub mod RequestFields
 pub mod RequestMembers
+pub mod AskedExtensions
 pub mod SctWalks
 pub mod SctParts
 pub mod AnchorFields
@@ -9,6 +10,9 @@ pub mod Filled
 pub mod Wholes
 pub mod Each
 pub mod BuildParts
+pub mod Profiled
+pub mod Decimals
+pub mod FirstAttributes
 pub mod BuildEntries
 pub mod Exits
 pub mod Standing

@@ -1,5 +1,5 @@
 -- Where the attributes of a CSR stand.
-use Rattle.std.proofs.Common.{◌≡◌, ℕ, false, List, [], ◌∷◌, ◌++◌, bytes_eq, refl, sym, ap, ◌∙◌, append_assoc}
+use Rattle.std.proofs.Common.{◌≡◌, ℕ, false, List, [], ◌∷◌, ◌++◌, bytes_eq, sym, ap, ◌∙◌, append_assoc}
 use Rattle.x509_cert.specs.AttributeLookUp.{with_type}
 use Rattle.x509_der.specs.List.{joined}
 use Rattle.x509_der.specs.Form.{spelling}

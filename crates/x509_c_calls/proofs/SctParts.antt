@@ -1,5 +1,5 @@
 -- Where the parts of a timestamp stand.
-use Rattle.std.proofs.Common.{◌≡◌, ◌+◌, ◌≤◌, ℕ, List, [], ◌∷◌, ◌++◌, length, drop, refl, sym, ap, ◌∙◌, append_assoc, length-append, arith}
+use Rattle.std.proofs.Common.{◌≡◌, ◌+◌, ℕ, List, [], ◌∷◌, ◌++◌, length, drop, refl, sym, ap, ◌∙◌, append_assoc, length-append, arith}
 use Rattle.std.proofs.lemmas.List.{append-nil, drop_at}
 use Rattle.x509_c_calls.specs.Place.{IsAt}
 use Rattle.x509_c_calls.specs.Timestamps.{behind_log_id, signature_text}

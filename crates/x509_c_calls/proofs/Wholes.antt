@@ -1,9 +1,9 @@
 -- What is put together is what its parts say.
-use Rattle.std.proofs.Common.{◌≡◌, ◌<◌, ◌≤◌, ◌⊎◌, ℕ, List, [], ◌∷◌, ◌++◌, length, Result, Ok, Err, refl, sym, ap, subst, ◌∙◌, arith, inl, inr}
+use Rattle.std.proofs.Common.{◌≡◌, ◌<◌, ◌≤◌, ◌⊎◌, ℕ, List, ◌∷◌, ◌++◌, length, Result, Ok, Err, refl, sym, ap, subst, ◌∙◌, arith, inl, inr}
 use Rattle.x509_base.specs.AlgorithmIdentifier.{algorithm_identifier}
 use Rattle.x509_base.specs.declared.algorithm_identifier.AlgorithmIdentifier.{AlgorithmIdentifier}
 use Rattle.x509_base.specs.declared.profile.Rfc5280.{Rfc5280}
-use Rattle.x509_c_calls.specs.Assembly.{AreSigned, Assembles, IsCertificateOf, IsListOf, IsNone, IsPartFor, IsRequestOf, RefusesSigned, certificate_part, list_part, whole_of}
+use Rattle.x509_c_calls.specs.Assembly.{AreSigned, Assembles, IsNone, IsPartFor, RefusesSigned, certificate_part, list_part, whole_of}
 use Rattle.x509_c_calls.specs.BuildSigned.{signed, signed_fields}
 use Rattle.x509_c_calls.specs.declared.build.signed.Signed.{Signed}
 use Rattle.x509_c_calls.specs.Calls.{Encodes}

@@ -1,5 +1,5 @@
 -- Extensions and entries of CRLs that are encoded from what they hold.
-use Rattle.std.specs.Prelude.{◌≡◌, ◌<◌, ◌≤◌, ◌⊎◌, ℕ, Bool, List, length, Result, Ok, Err}
+use Rattle.std.specs.Prelude.{◌≡◌, ◌<◌, ◌⊎◌, ℕ, Bool, List, length, Result, Ok, Err}
 use Rattle.x509_base.specs.Checked.{CheckRefuses}
 use Rattle.x509_base.specs.Serial.{serial_number}
 use Rattle.x509_base.specs.Profiles.{rfc5280_serial_number}

@@ -4,6 +4,7 @@ pub mod Keys
 pub mod KeySigned
 pub mod RequestView
 pub mod RequestAttributes
+pub mod AskedExtensions
 pub mod SctWalk
 pub mod Timestamps
 pub mod AnchorParts
@@ -18,6 +19,8 @@ pub mod Requests
 pub mod BuildMembers
 pub mod Lists
 pub mod Certificates
+pub mod ProfileParts
+pub mod ProfileInputs
 pub mod Status
 pub mod Calls
 pub mod Place
@@ -38,6 +41,7 @@ pub mod BasicConstraints
 pub mod Identifiers
 pub mod GeneralNames
 pub mod Attributes
+pub mod FirstAttribute
 pub mod Elements
 pub mod KeyIdentifiers
 pub mod Access
@@ -45,4 +49,5 @@ pub mod Policies
 pub mod Points
 pub mod Subtrees
 pub mod Texts
+pub mod Decimals
 pub mod StatusTexts

@@ -17,7 +17,6 @@ use Rattle.x509_c_calls.specs.Input.{RefusesEach, RefusesTime, SpellEach, unless
 use Rattle.x509_c_calls.specs.Refusals.{kind_of}
 use Rattle.x509_c_calls.specs.declared.build.list.ListInputs.{ListInputs}
 use Rattle.x509_cert.specs.RevokedCert.{revoked_cert}
-use Rattle.x509_cert.specs.declared.crl.revoked_cert.RevokedCert.{RevokedCert}
 use Rattle.x509_cert.specs.declared.crl.tbs_cert_list.TbsCertList.{TbsCertList}
 use Rattle.x509_cert.specs.Certificate.{rfc5280_certificate}
 use Rattle.x509_cert.specs.declared.certificate.tbs_certificate.TbsCertificateInner.{TbsCertificateInner}
@@ -28,7 +27,6 @@ use Rattle.x509_der.specs.Form.{Spells}
 use Rattle.x509_der.specs.Writing.{plain}
 use Rattle.x509_ext.specs.declared.pkix.subject_key_identifier.SubjectKeyIdentifier.{SubjectKeyIdentifier}
 use Rattle.x509_ext.specs.Extension.{extension}
-use Rattle.x509_ext.specs.declared.extension.Extension.{Extension}
 use Rattle.x509_types.specs.Reencoding.{IsRefused}
 
 -- ---- what a call takes

@@ -1,5 +1,5 @@
 -- What is to be verified of a certificate, and where it stands in its bytes (RFC 5280 4.1.1).
-use Rattle.std.specs.Prelude.{◌≡◌, ℕ, List, [], ◌++◌}
+use Rattle.std.specs.Prelude.{◌≡◌, ℕ, List, []}
 use Rattle.x509_base.specs.AlgorithmIdentifier.{algorithm_identifier}
 use Rattle.x509_c_calls.specs.View.{behind_part}
 use Rattle.x509_c_calls.specs.declared.certificate.signature.SignatureView.{SignatureView}

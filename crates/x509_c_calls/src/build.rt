@@ -3,15 +3,22 @@
 
 mod assembly;
 mod certificate;
+mod device;
 mod encode;
 mod input;
 mod list;
+mod profile;
 mod request;
+mod root;
 mod signed;
 mod teller;
+mod tls;
 
 pub use assembly::assemble;
 pub use certificate::build_certificate;
+pub use device::build_device;
 pub use encode::{entry_encode, extension_encode};
 pub use list::build_crl;
 pub use request::build_request;
+pub use root::build_root;
+pub use tls::{SubscriberUses, build_subordinate, build_subscriber};

@@ -17,7 +17,8 @@ mod status;
 
 pub use anchor::{AnchorView, PathControlsView};
 pub use build::{
-    assemble, build_certificate, build_crl, build_request, entry_encode, extension_encode,
+    SubscriberUses, assemble, build_certificate, build_crl, build_device, build_request,
+    build_root, build_subordinate, build_subscriber, entry_encode, extension_encode,
 };
 pub use certificate::{
     CertificateView, ExtensionView, SignatureView, certificate_extension, certificate_signature,
@@ -32,11 +33,11 @@ pub use payloads::{
     DistributionPointView, ElementView, ExtensionEntry, GeneralNameView,
     IssuingDistributionPointView, MappingView, NOWHERE, NameConstraintsView, Numbered,
     PolicyConstraintsView, PolicyView, QualifierView, SubtreeView, View, bits_at, content,
-    content_at, element_next, identifiers_next, member_next, member_under_next, next,
-    oid_from_text, oid_text, optional_number, payload, read_number, serial_text, status_text,
-    step_content, step_optional, step_optional_content, time_text,
+    content_at, decimal_text, element_next, identifiers_next, member_next, member_under_next,
+    name_attribute, next, oid_from_text, oid_text, optional_number, payload, read_number,
+    serial_text, status_text, step_content, step_optional, step_optional_content, time_text,
 };
 pub use place::{Span, enter, signed_place, signed_span, step};
-pub use request::{RequestAttributeView, RequestView, request_attribute};
+pub use request::{RequestAttributeView, RequestView, request_attribute, request_extensions};
 pub use sct::{TimestampView, timestamp_next, timestamp_view};
 pub use status::{Status, check, fill, read, reencode, write};

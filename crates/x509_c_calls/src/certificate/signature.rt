@@ -1,15 +1,20 @@
 //! What is to be verified of a certificate.
 
-ghost use Rattle.std.specs.Prelude.{◌≡◌};
+ghost use Rattle.std.specs.Prelude.{◌≡◌, ◌≤◌, ◌∷◌, ◌++◌, true, drop, length, List, ℕ};
+ghost use Rattle.x509_base.specs.declared.profile.Rfc5280 as rules;
 ghost use Rattle.x509_c_calls.specs.Signature.{IsSignature};
 ghost use Rattle.x509_c_calls.specs.Calls.{Reads};
+ghost use Rattle.x509_c_calls.specs.declared.status.status.Status.TheVariants.{Refused};
+ghost use Rattle.x509_cert.specs.declared.certificate.certificate.CertificateInner as whole;
+ghost use Rattle.x509_der.specs.Element.{element, is_identifier};
+ghost use Rattle.x509_der.specs.declared.error.ErrorKind.TheVariants.{Memory};
 ghost use Rattle.x509_der.specs.Form.{Spells};
 
-use crate::{Span, Status, enter, step};
-use std::alloc::Global;
+use crate::{Span, Status, bits_at, content_at, enter, step};
 use x509_base::Rfc5280;
 use x509_cert::certificate::CertificateInner;
-use x509_der::{Decode, Grammar};
+use x509_check::Check;
+use x509_der::Grammar;
 
 /// What is to be verified of a certificate (RFC 5280 4.1.1), by its place in the bytes: that these bits are a signature
 /// of the signed part, by that algorithm. The key is that of the issuer's certificate.
@@ -29,39 +34,46 @@ pub struct SignatureView {
     pub unused_bits: u32,
 }
 
+/// How many bits of its last octet are unused of a BIT STRING, which stands at the place: its first content octet (X.690 8.6.2.2).
+fn unused_at(input: &[u8], place: usize) -> u32
+    requires { place ≤ length input.now }
+    ensures { (tag unused : ℕ) (octets more : List ℕ) → is_identifier tag ≡ true → drop place input.now ≡ element tag (unused ∷ octets) ++ more → result ≡ unused }
+{
+    match input.get(content_at(input, place).place) {
+        Some(unused) => u32::from(*unused),
+        None => 0,
+    }
+}
+
 /// What is to be verified of the certificate of which the bytes are the encoding.
-fn signature_of(input: &[u8], certificate: &CertificateInner<Rfc5280>) -> SignatureView
-    requires { Spells ⟦<CertificateInner<Rfc5280> as Grammar>⟧.form certificate.now input.now }
-    ensures { IsSignature input.now certificate.now result }
+fn signature_of(input: &[u8]) -> SignatureView
+    ensures { (certificate : whole.CertificateInner rules.Rfc5280) → Spells ⟦<CertificateInner<Rfc5280> as Grammar>⟧.form certificate input.now → IsSignature input.now certificate result }
 {
     let mut at = 0;
     enter(input, &mut at);
     let signed_part = step(input, &mut at, true);
     let algorithm = step(input, &mut at, true);
-    let content = enter(input, &mut at);
     SignatureView {
         signed_part,
         algorithm,
-        bits: Span {
-            place: content.place + 1,
-            len: content.len - 1,
-        },
-        unused_bits: u32::from(certificate.signature().unused_bits()),
+        bits: bits_at(input, at),
+        unused_bits: unused_at(input, at),
     }
 }
 
-/// Decodes a certificate under the rules of RFC 5280, and fills in what is to be verified of it.
+/// Checks a certificate under the rules of RFC 5280, and fills in what is to be verified of it. It takes no memory.
 ///
 /// # Errors
 ///
-/// Those of decoding the certificate, as [`certificate_view`](crate::certificate_view). `found` is unchanged then.
+/// Those of [`certificate_view`](crate::certificate_view). `found` is unchanged then.
 #[tactic(auto, unfolding(crate::specs::Calls::Reads))]
-pub fn certificate_signature(alloc: Global, input: &[u8], found: &mut SignatureView) -> Status
-    ensures { Reads ⟦<CertificateInner<Rfc5280> as Grammar>⟧.form ⟦<CertificateInner<Rfc5280> as Grammar>⟧.refuses input.now (λ certificate. IsSignature input.now certificate found.new) (found.new ≡ found.old) result }
+pub fn certificate_signature(input: &[u8], found: &mut SignatureView) -> Status
+    ensures read { Reads ⟦<CertificateInner<Rfc5280> as Grammar>⟧.form ⟦<CertificateInner<Rfc5280> as Grammar>⟧.refuses input.now (λ certificate. IsSignature input.now certificate found.new) (found.new ≡ found.old) result }
+    ensures memory { result ≡ Refused Memory → ⊥ }
 {
-    match CertificateInner::<Rfc5280>::from_der(alloc, input) {
-        Ok(certificate) => {
-            *found = signature_of(input, &certificate);
+    match CertificateInner::<Rfc5280>::check(input) {
+        Ok(()) => {
+            *found = signature_of(input);
             Status::Done
         }
         Err(e) => e.into(),

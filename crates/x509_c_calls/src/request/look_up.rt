@@ -18,7 +18,7 @@ use x509_name::attr::Attribute;
 
 /// The first attribute of the type, with its place, and those that follow it. The bytes of the attributes begin at the
 /// place.
-fn find<'a>(
+pub(crate) fn find<'a>(
     input: &[u8],
     place: usize,
     attributes: &'a [Attribute],

@@ -1,8 +1,7 @@
-use Rattle.std.proofs.Common.{◌≡◌, ◌≤◌, ◌∙◌, refl, List, ℕ, Bor, inl, inr, map, ap, sym, subst, arith}
+use Rattle.std.proofs.Common.{◌≡◌, ◌≤◌, refl, List, ℕ, Bor, inl, inr, map, ap, subst, arith}
 use Rattle.x509_base.specs.CivilTime.{last_date_time, unix_seconds}
 use Rattle.x509_c_calls.specs.Paths.{Asked, ChecksPath, Tells}
 use Rattle.x509_c_calls.specs.Pieces.{AreCut}
-use Rattle.x509_path.specs.Path.{subject_of}
 use Rattle.x509_c_calls.proofs.path.path.path_check.Goals as goal
 
 pub returns-in-Err-read : goal.returns-in-Err-read

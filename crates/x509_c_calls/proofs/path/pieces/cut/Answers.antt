@@ -1,4 +1,4 @@
-use Rattle.std.proofs.Common.{◌≡◌, ◌<◌, ◌==◌, false, length, map, arith}
+use Rattle.std.proofs.Common.{◌<◌, length, map, arith}
 use Rattle.x509_c_calls.proofs.Cuts.{too_few, too_many}
 use Rattle.x509_c_calls.proofs.path.pieces.cut.Goals as goal
 

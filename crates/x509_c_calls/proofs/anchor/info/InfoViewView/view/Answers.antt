@@ -1,4 +1,4 @@
-use Rattle.std.proofs.Common.{[], ◌++◌, ◌∙◌, refl, ap}
+use Rattle.std.proofs.Common.{◌++◌, ◌∙◌, refl, ap}
 use Rattle.x509_base.specs.SubjectPublicKeyInfo.{subject_public_key_info}
 use Rattle.x509_base.specs.Profiles.{rfc5280_serial_number}
 use Rattle.x509_c_calls.proofs.AnchorFields.{is_utf8, no_version, seven}

@@ -1,4 +1,4 @@
-use Rattle.std.proofs.Common.{◌++◌, ◌∙◌, ap, refl}
+use Rattle.std.proofs.Common.{◌++◌, ◌∙◌, refl}
 use Rattle.x509_base.specs.Serial.{serial_number}
 use Rattle.x509_base.specs.Profiles.{rfc5280_serial_number}
 use Rattle.x509_base.specs.Time.{time}

@@ -1,0 +1,415 @@
+/* Asks the calls on keys, trust anchors, timestamps, names, values of extensions and texts for an answer that is known, and for its refusals.
+ *
+ * usage: as calls.h says */
+#include "calls.h"
+
+/* A key with an algorithm, which is the whole AlgorithmIdentifier, and no bits: its kind. */
+static uint32_t key_kind(const uint8_t *algorithm, size_t len)
+{
+    x509_key key = {77, {7, 7}, {7, 7}, {7, 7}, 7};
+    room[0] = 0x30;
+    room[1] = (uint8_t)(len + 3);
+    memcpy(room + 2, algorithm, len);
+    memcpy(room + 2 + len, "\x03\x01\x00", 3);
+    WANT(x509_key_view(room, len + 5, &key) == X509_OK && key.unused_bits == 0 && is_at(key.bits, len + 5, 0));
+    return key.kind;
+}
+
+static uint32_t signature_kind(const uint8_t *algorithm, size_t len)
+{
+    x509_algorithm view = {77, {7, 7}, {7, 7}};
+    WANT(x509_algorithm_view(algorithm, len, &view) == X509_OK && view.oid.place == 4);
+    return view.kind;
+}
+
+/* The OIDs are those of RFC 3279, RFC 4055, RFC 5480, RFC 5758 and RFC 8410. */
+static void keys(void)
+{
+    x509_key key = {77, {7, 7}, {7, 7}, {7, 7}, 7};
+    WANT(x509_key_view(nothing, 0, &key) == X509_MALFORMED && key.kind == 77 && key.unused_bits == 7);
+    WANT(x509_key_view(request + 83, 90, &key) == X509_MALFORMED && key.kind == 77 && is_at(key.bits, 7, 7));
+    WANT(x509_key_view(request + 83, 91, &key) == X509_OK && key.kind == X509_KEY_EC_P256);
+    WANT(is_at(key.oid, 6, 7) && is_at(key.parameters, 13, 10) && is_at(key.bits, 26, 65) && key.unused_bits == 0);
+    WANT(key_kind(BYTES("\x30\x0d\x06\x09\x2a\x86\x48\x86\xf7\x0d\x01\x01\x01\x05\x00")) == X509_KEY_RSA);
+    WANT(key_kind(BYTES("\x30\x0b\x06\x09\x2a\x86\x48\x86\xf7\x0d\x01\x01\x0a")) == X509_KEY_RSA_PSS);
+    WANT(key_kind(BYTES("\x30\x09\x06\x07\x2a\x86\x48\xce\x38\x04\x01")) == X509_KEY_DSA);
+    WANT(key_kind(BYTES("\x30\x10\x06\x07\x2a\x86\x48\xce\x3d\x02\x01\x06\x05\x2b\x81\x04\x00\x22")) == X509_KEY_EC_P384);
+    WANT(key_kind(BYTES("\x30\x10\x06\x07\x2a\x86\x48\xce\x3d\x02\x01\x06\x05\x2b\x81\x04\x00\x23")) == X509_KEY_EC_P521);
+    WANT(key_kind(BYTES("\x30\x10\x06\x07\x2a\x86\x48\xce\x3d\x02\x01\x06\x05\x2b\x81\x04\x00\x0a")) == X509_KEY_EC_OTHER);
+    WANT(key_kind(BYTES("\x30\x10\x06\x07\x2a\x86\x48\xce\x3d\x02\x01\x04\x05\x2b\x81\x04\x00\x22")) == X509_KEY_EC_OTHER);
+    WANT(key_kind(BYTES("\x30\x09\x06\x07\x2a\x86\x48\xce\x3d\x02\x01")) == X509_KEY_EC_OTHER);
+    WANT(key_kind(BYTES("\x30\x05\x06\x03\x2b\x65\x70")) == X509_KEY_ED25519);
+    WANT(key_kind(BYTES("\x30\x05\x06\x03\x2b\x65\x71")) == X509_KEY_ED448);
+    WANT(key_kind(BYTES("\x30\x05\x06\x03\x2b\x65\x6e")) == X509_KEY_X25519);
+    WANT(key_kind(BYTES("\x30\x05\x06\x03\x2b\x65\x6f")) == X509_KEY_X448);
+    WANT(key_kind(BYTES("\x30\x05\x06\x03\x55\x04\x03")) == X509_KEY_OTHER);
+
+    x509_algorithm algorithm = {77, {7, 7}, {7, 7}};
+    WANT(x509_algorithm_view(BYTES("\x30\x00"), &algorithm) == X509_MALFORMED && algorithm.kind == 77 && is_at(algorithm.oid, 7, 7));
+    WANT(x509_algorithm_view(BYTES("\x30\x0d\x06\x09\x2a\x86\x48\x86\xf7\x0d\x01\x01\x0b\x05\x00"), &algorithm) == X509_OK);
+    WANT(algorithm.kind == X509_SIGNATURE_RSA_SHA256 && is_at(algorithm.oid, 4, 9) && is_at(algorithm.parameters, 13, 2));
+    WANT(x509_algorithm_view(list + 208, 12, &algorithm) == X509_OK && algorithm.kind == X509_SIGNATURE_ECDSA_SHA256);
+    WANT(is_at(algorithm.oid, 4, 8) && is_at(algorithm.parameters, 0, 0));
+    WANT(signature_kind(BYTES("\x30\x0b\x06\x09\x2a\x86\x48\x86\xf7\x0d\x01\x01\x05")) == X509_SIGNATURE_RSA_SHA1);
+    WANT(signature_kind(BYTES("\x30\x0b\x06\x09\x2a\x86\x48\x86\xf7\x0d\x01\x01\x0e")) == X509_SIGNATURE_RSA_SHA224);
+    WANT(signature_kind(BYTES("\x30\x0b\x06\x09\x2a\x86\x48\x86\xf7\x0d\x01\x01\x0c")) == X509_SIGNATURE_RSA_SHA384);
+    WANT(signature_kind(BYTES("\x30\x0b\x06\x09\x2a\x86\x48\x86\xf7\x0d\x01\x01\x0d")) == X509_SIGNATURE_RSA_SHA512);
+    WANT(signature_kind(BYTES("\x30\x0b\x06\x09\x2a\x86\x48\x86\xf7\x0d\x01\x01\x0a")) == X509_SIGNATURE_RSA_PSS);
+    WANT(signature_kind(BYTES("\x30\x09\x06\x07\x2a\x86\x48\xce\x38\x04\x03")) == X509_SIGNATURE_DSA_SHA1);
+    WANT(signature_kind(BYTES("\x30\x0b\x06\x09\x60\x86\x48\x01\x65\x03\x04\x03\x01")) == X509_SIGNATURE_DSA_SHA224);
+    WANT(signature_kind(BYTES("\x30\x0b\x06\x09\x60\x86\x48\x01\x65\x03\x04\x03\x02")) == X509_SIGNATURE_DSA_SHA256);
+    WANT(signature_kind(BYTES("\x30\x09\x06\x07\x2a\x86\x48\xce\x3d\x04\x01")) == X509_SIGNATURE_ECDSA_SHA1);
+    WANT(signature_kind(BYTES("\x30\x0a\x06\x08\x2a\x86\x48\xce\x3d\x04\x03\x01")) == X509_SIGNATURE_ECDSA_SHA224);
+    WANT(signature_kind(BYTES("\x30\x0a\x06\x08\x2a\x86\x48\xce\x3d\x04\x03\x03")) == X509_SIGNATURE_ECDSA_SHA384);
+    WANT(signature_kind(BYTES("\x30\x0a\x06\x08\x2a\x86\x48\xce\x3d\x04\x03\x04")) == X509_SIGNATURE_ECDSA_SHA512);
+    WANT(signature_kind(BYTES("\x30\x05\x06\x03\x2b\x65\x70")) == X509_SIGNATURE_ED25519);
+    WANT(signature_kind(BYTES("\x30\x05\x06\x03\x2b\x65\x71")) == X509_SIGNATURE_ED448);
+    WANT(signature_kind(BYTES("\x30\x0b\x06\x09\x2a\x86\x48\x86\xf7\x0d\x01\x01\x01")) == X509_SIGNATURE_OTHER);
+}
+
+/* A TrustAnchorInfo with each of its fields but a certificate, by hand (RFC 5914 2): the key is empty, the identifier abcd, the title "T" in "en", the
+ * name CN=a, any policy is allowed and a policy is required, the DNS names below a are permitted, and three certificates may follow. */
+static const char ANCHOR[] = "\xa2\x45\x30\x43\x30\x08\x30\x03\x06\x01\x2a\x03\x01\x00\x04\x02\xab\xcd\x0c\x01T"
+                             "\x30\x28\x30\x0c\x31\x0a\x30\x08\x06\x03\x55\x04\x03\x0c\x01\x61"
+                             "\xa1\x08\x30\x06\x06\x04\x55\x1d\x20\x00\x82\x02\x06\x40\xa3\x07\xa0\x05\x30\x03\x82\x01\x61\x84\x01\x03\xa1\x02\x30\x00\x82\x02" "en";
+
+static void anchors(void)
+{
+    x509_anchor anchor;
+    memset(&anchor, 7, sizeof anchor);
+    const x509_anchor before = anchor;
+    WANT(x509_anchor_view(nothing, 0, &anchor) == X509_MALFORMED && x509_anchor_view(certificate, certificate_len - 1, &anchor) == X509_MALFORMED);
+    WANT(x509_anchor_view(list, list_len, &anchor) == X509_MALFORMED && memcmp(&anchor, &before, sizeof anchor) == 0);
+    x509_certificate view;
+    WANT(x509_certificate_view(certificate, certificate_len, &view) == X509_OK);
+    WANT(x509_anchor_view(certificate, certificate_len, &anchor) == X509_OK && anchor.kind == X509_ANCHOR_CERTIFICATE);
+    WANT(is_at(anchor.element, 0, certificate_len) && is_at(anchor.name, view.subject.place, view.subject.len));
+    WANT(is_at(anchor.subject_public_key_info, view.subject_public_key_info.place, view.subject_public_key_info.len));
+    WANT(is_at(anchor.extensions, view.extensions.place, view.extensions.len) && is_at(anchor.key_identifier, 0, 0) && is_at(anchor.title, 0, 0));
+    WANT(is_at(anchor.title_language, 0, 0) && is_at(anchor.controls, 0, 0));
+
+    /* its TBSCertificate, of 256 bytes or more, under the tag [1] */
+    x509_span part;
+    WANT(x509_signed_slice(certificate, certificate_len, &part) == X509_OK);
+    memcpy(room, "\xa1\x82", 2);
+    room[2] = (uint8_t)(part.len >> 8);
+    room[3] = (uint8_t)part.len;
+    memcpy(room + 4, certificate + part.place, part.len);
+    WANT(x509_anchor_view(room, part.len + 4, &anchor) == X509_OK && anchor.kind == X509_ANCHOR_TBS_CERTIFICATE && is_at(anchor.element, 4, part.len));
+    WANT(is_at(anchor.name, view.subject.place - part.place + 4, view.subject.len));
+    WANT(is_at(anchor.subject_public_key_info, view.subject_public_key_info.place - part.place + 4, view.subject_public_key_info.len));
+    WANT(is_at(anchor.extensions, view.extensions.place - part.place + 4, view.extensions.len) && is_at(anchor.controls, 0, 0));
+
+    WANT(x509_anchor_view(BYTES(ANCHOR), &anchor) == X509_OK && anchor.kind == X509_ANCHOR_INFO && is_at(anchor.element, 2, 69));
+    WANT(is_at(anchor.subject_public_key_info, 4, 10) && is_at(anchor.key_identifier, 16, 2) && is_at(anchor.title, 20, 1));
+    WANT(is_at(anchor.controls, 21, 42) && is_at(anchor.name, 23, 14) && is_at(anchor.extensions, 65, 2) && is_at(anchor.title_language, 69, 2));
+    /* a key and its identifier alone */
+    WANT(x509_anchor_view(BYTES("\xa2\x10\x30\x0e\x30\x08\x30\x03\x06\x01\x2a\x03\x01\x00\x04\x02\xab\xcd"), &anchor) == X509_OK);
+    WANT(is_at(anchor.key_identifier, 16, 2) && is_at(anchor.name, 0, 0) && is_at(anchor.title, 0, 0) && is_at(anchor.controls, 0, 0));
+    WANT(is_at(anchor.extensions, 0, 0) && is_at(anchor.title_language, 0, 0));
+
+    x509_path_controls controls;
+    memset(&controls, 7, sizeof controls);
+    const x509_path_controls same = controls;
+    const uint8_t *const value = (const uint8_t *)ANCHOR + 21;
+    WANT(x509_path_controls_view(value, 41, &controls) == X509_MALFORMED && memcmp(&controls, &same, sizeof controls) == 0);
+    WANT(x509_path_controls_view(value, 42, &controls) == X509_OK && is_at(controls.name, 2, 14) && is_at(controls.certificate, 0, 0));
+    WANT(is_at(controls.policies, 16, 10) && controls.has_policy_flags == 1 && controls.policy_flags == X509_POLICY_FLAGS_REQUIRE_EXPLICIT_POLICY);
+    WANT(is_at(controls.permitted, 32, 7) && is_at(controls.excluded, 0, 0) && controls.has_path_len == 1 && controls.path_len == 3);
+    x509_policy policy;
+    x509_subtree subtree;
+    size_t at = 0;
+    WANT(x509_certificate_policies_under_next(0, value + 16, 10, &at, &policy) == X509_MALFORMED && at == 0);
+    WANT(x509_certificate_policies_under_next(31, value + 16, 10, &at, &policy) == X509_MALFORMED && at == 0);
+    WANT(x509_certificate_policies_under_next(1, value + 16, 10, &at, &policy) == X509_OK && at == 10 && is_at(policy.identifier, 6, 4));
+    WANT(x509_certificate_policies_under_next(1, value + 16, 10, &at, &policy) == X509_ABSENT && at == 10);
+    at = 0;
+    WANT(x509_subtrees_under_next(0, value + 32, 7, &at, &subtree) == X509_OK && subtree.base.kind == X509_GENERAL_NAME_DNS);
+    WANT(x509_path_controls_view(value + 2, 14, &controls) == X509_MALFORMED);
+    /* a name alone */
+    WANT(x509_path_controls_view(BYTES("\x30\x02\x30\x00"), &controls) == X509_OK && is_at(controls.name, 2, 2) && is_at(controls.policies, 0, 0));
+    WANT(controls.has_policy_flags == 0 && controls.policy_flags == 0 && is_at(controls.permitted, 0, 0));
+    WANT(controls.has_path_len == 0 && controls.path_len == 0);
+}
+
+/* A timestamp of version 1 at 1,700,000,000,123 ms, with one octet of extensions and a signature of two by ECDSA with SHA-256 (RFC 6962 3.2): 50 bytes. */
+#define LOG "\x01\x02\x03\x04\x05\x06\x07\x08\x09\x0a\x0b\x0c\x0d\x0e\x0f\x10\x11\x12\x13\x14\x15\x16\x17\x18\x19\x1a\x1b\x1c\x1d\x1e\x1f\x20"
+#define TIMESTAMP "\x00" LOG "\x00\x00\x01\x8b\xcf\xe5\x68\x7b\x00\x01\xee\x04\x03\x00\x02\xab\xcd"
+
+static void timestamps(void)
+{
+    /* behind it, one of an unknown version, and one without octets */
+    const char value[] = "\x04\x3b\x00\x39\x00\x32" TIMESTAMP "\x00\x01\x01\x00\x00";
+    x509_span found = {7, 7};
+    size_t at = 0;
+    WANT(x509_timestamp_next(nothing, 0, &at, &found) == X509_MALFORMED && at == 0 && is_at(found, 7, 7));
+    WANT(x509_timestamp_next(BYTES("\x04\x00"), &at, &found) == X509_MALFORMED);
+    WANT(x509_timestamp_next(BYTES("\x05\x02\x00\x00"), &at, &found) == X509_MALFORMED);
+    WANT(x509_timestamp_next(BYTES("\x04\x03\x00\x00\x00"), &at, &found) == X509_MALFORMED && at == 0 && is_at(found, 7, 7));
+    WANT(x509_timestamp_next(BYTES("\x04\x02\x00\x00\x00"), &at, &found) == X509_MALFORMED && at == 0 && is_at(found, 7, 7));
+    WANT(x509_timestamp_next(BYTES("\x04\x02\x00\x00"), &at, &found) == X509_ABSENT && at == 0 && is_at(found, 7, 7));
+    WANT(x509_timestamp_next(BYTES("\x04\x03\x00\x01\x00"), &at, &found) == X509_MALFORMED && at == 0 && is_at(found, 7, 7));
+    WANT(x509_timestamp_next(BYTES("\x04\x05\x00\x03\x00\x02\xab"), &at, &found) == X509_MALFORMED && at == 0 && is_at(found, 7, 7));
+    WANT(x509_timestamp_next(BYTES(value), &at, &found) == X509_OK && at == 56 && is_at(found, 6, 50));
+    WANT(x509_timestamp_next(BYTES(value), &at, &found) == X509_OK && at == 59 && is_at(found, 58, 1));
+    WANT(x509_timestamp_next(BYTES(value), &at, &found) == X509_OK && at == 61 && is_at(found, 61, 0));
+    WANT(x509_timestamp_next(BYTES(value), &at, &found) == X509_ABSENT && at == 61 && is_at(found, 61, 0));
+    at = 3;
+    WANT(x509_timestamp_next(BYTES(value), &at, &found) == X509_MALFORMED && at == 3 && is_at(found, 61, 0));
+    at = 62;
+    WANT(x509_timestamp_next(BYTES(value), &at, &found) == X509_MALFORMED && at == 62 && is_at(found, 61, 0));
+
+    x509_timestamp view;
+    memset(&view, 7, sizeof view);
+    const x509_timestamp before = view;
+    WANT(x509_timestamp_view(nothing, 0, &view) == X509_MALFORMED && x509_timestamp_view(BYTES("\x01"), &view) == X509_MALFORMED);
+    WANT(x509_timestamp_view(BYTES(TIMESTAMP "\x00"), &view) == X509_MALFORMED && x509_timestamp_view((const uint8_t *)TIMESTAMP, 49, &view) == X509_MALFORMED);
+    WANT(x509_timestamp_view(BYTES("\x00" LOG "\x00\x00\x01\x8b\xcf\xe5\x68\x7b\x00\x00\x09\x03\x00\x00"), &view) == X509_MALFORMED); /* no hash is 9 */
+    WANT(memcmp(&view, &before, sizeof view) == 0);
+    WANT(x509_timestamp_view(BYTES(TIMESTAMP), &view) == X509_OK && view.version == 0 && is_at(view.log_id, 1, 32));
+    WANT(view.timestamp == 1700000000123 && is_at(view.extensions, 43, 1) && view.hash == 4 && view.signature_algorithm == 3 && is_at(view.signature, 48, 2));
+}
+
+static void attributes(void)
+{
+    x509_span rdn = {7, 7};
+    size_t at = 0;
+    WANT(x509_name_next(BYTES(NAME), &at, &rdn) == X509_OK && is_at(rdn, 2, 12) && at == 14);
+    WANT(x509_name_next(BYTES(NAME), &at, &rdn) == X509_ABSENT && is_at(rdn, 2, 12) && at == 14);
+    at = 3;
+    WANT(x509_name_next(BYTES(NAME), &at, &rdn) == X509_MALFORMED && is_at(rdn, 2, 12) && at == 3);
+    at = 0;
+    WANT(x509_name_next((const uint8_t *)NAME, 13, &at, &rdn) == X509_MALFORMED && at == 0);
+    WANT(x509_name_next(BYTES("\x30\x00"), &at, &rdn) == X509_ABSENT && at == 0);
+    /* two equal attributes */
+    WANT(x509_name_next(BYTES("\x30\x16\x31\x14\x30\x08\x06\x03\x55\x04\x03\x0c\x01\x61\x30\x08\x06\x03\x55\x04\x03\x0c\x01\x61"), &at, &rdn) == X509_MALFORMED);
+
+    x509_attribute found = {{7, 7}, 7, {7, 7}, {7, 7}};
+    WANT(x509_relative_name_next(BYTES(NAME), &at, &found) == X509_MALFORMED && found.tag == 7 && at == 0);
+    WANT(x509_relative_name_next((const uint8_t *)NAME + 2, 12, &at, &found) == X509_OK && at == 12);
+    WANT(is_at(found.oid, 6, 3) && found.tag == 0x0c && is_at(found.element, 9, 3) && is_at(found.content, 11, 1));
+    WANT(x509_relative_name_next((const uint8_t *)NAME + 2, 12, &at, &found) == X509_ABSENT && at == 12);
+    const char under[] = "\xa1\x0a\x30\x08\x06\x03\x55\x04\x03\x0c\x01\x61";
+    at = 0;
+    WANT(x509_relative_name_under_next(0, BYTES(under), &at, &found) == X509_MALFORMED && at == 0);
+    WANT(x509_relative_name_under_next(31, BYTES(under), &at, &found) == X509_MALFORMED && at == 0);
+    WANT(x509_relative_name_under_next(1, BYTES(under), &at, &found) == X509_OK && at == 12 && is_at(found.content, 11, 1));
+    WANT(x509_relative_name_under_next(1, BYTES(under), &at, &found) == X509_ABSENT && at == 12);
+}
+
+/* O=T and C=US in one RDN, then CN=a, then CN=b, by hand. */
+#define LONG_NAME "\x30\x2f\x31\x15" "\x30\x08\x06\x03\x55\x04\x0a\x0c\x01" "T" "\x30\x09\x06\x03\x55\x04\x06\x13\x02" "US" \
+                  "\x31\x0a\x30\x08\x06\x03\x55\x04\x03\x0c\x01" "a" "\x31\x0a\x30\x08\x06\x03\x55\x04\x03\x0c\x01" "b"
+
+static void first_attributes(void)
+{
+    x509_attribute found = {{7, 7}, 7, {7, 7}, {7, 7}};
+    WANT(x509_name_find(nothing, 0, BYTES("\x55\x04\x03"), &found) == X509_MALFORMED && found.tag == 7);
+    WANT(x509_name_find(BYTES(NAME), nothing, 0, &found) == X509_ABSENT && is_at(found.oid, 7, 7));
+    WANT(x509_name_find(BYTES("\x30\x00"), BYTES("\x55\x04\x03"), &found) == X509_ABSENT && is_at(found.content, 7, 7));
+    WANT(x509_name_find(BYTES(NAME), BYTES("\x55\x04\x04"), &found) == X509_ABSENT && is_at(found.element, 7, 7));
+    WANT(x509_name_find(BYTES(NAME), BYTES("\x55\x04\x03"), &found) == X509_OK);
+    WANT(is_at(found.oid, 8, 3) && found.tag == 0x0c && is_at(found.element, 11, 3) && is_at(found.content, 13, 1));
+    WANT(x509_name_find(BYTES(LONG_NAME), BYTES("\x55\x04\x0a"), &found) == X509_OK && is_at(found.oid, 8, 3) && is_at(found.content, 13, 1));
+    WANT(x509_name_find(BYTES(LONG_NAME), BYTES("\x55\x04\x06"), &found) == X509_OK);
+    WANT(is_at(found.oid, 18, 3) && found.tag == 0x13 && is_at(found.element, 21, 4) && is_at(found.content, 23, 2));
+    WANT(x509_name_find(BYTES(LONG_NAME), BYTES("\x55\x04\x03"), &found) == X509_OK && is_at(found.oid, 31, 3) && is_at(found.content, 36, 1));
+    WANT(x509_name_find((const uint8_t *)LONG_NAME, sizeof LONG_NAME - 2, BYTES("\x55\x04\x0a"), &found) == X509_MALFORMED && is_at(found.oid, 31, 3));
+}
+
+static void key_identifiers(void)
+{
+    x509_span octets = {7, 7};
+    WANT(x509_subject_key_identifier(BYTES("\x04\x02\xab\xcd"), &octets) == X509_OK && is_at(octets, 2, 2));
+    WANT(x509_subject_key_identifier(BYTES("\x04\x00"), &octets) == X509_OK && is_at(octets, 2, 0));
+    WANT(x509_subject_key_identifier(BYTES("\x04\x02\xab"), &octets) == X509_MALFORMED && is_at(octets, 2, 0));
+
+    x509_authority_key_identifier_view view = {{7, 7}, {7, 7}, {7, 7}};
+    WANT(x509_authority_key_identifier(BYTES("\x30\x02\x83\x00"), &view) == X509_MALFORMED && is_at(view.issuer, 7, 7));
+    WANT(x509_authority_key_identifier(BYTES("\x30\x0c\x80\x02\xab\xcd\xa1\x03\x82\x01\x61\x82\x01\x05"), &view) == X509_OK);
+    WANT(is_at(view.key_identifier, 4, 2) && is_at(view.issuer, 6, 5) && is_at(view.serial_number, 13, 1));
+    WANT(x509_authority_key_identifier(BYTES("\x30\x04\x80\x02\xab\xcd"), &view) == X509_OK);
+    WANT(is_at(view.key_identifier, 4, 2) && is_at(view.issuer, 0, 0) && is_at(view.serial_number, 0, 0));
+    WANT(x509_authority_key_identifier(BYTES("\x30\x00"), &view) == X509_OK && is_at(view.key_identifier, 0, 0));
+}
+
+static void accesses(void)
+{
+    /* by OCSP, at a:b */
+    const char value[] = "\x30\x11\x30\x0f\x06\x08\x2b\x06\x01\x05\x05\x07\x30\x01\x86\x03\x61\x3a\x62";
+    x509_access found;
+    size_t at = 0;
+    WANT(x509_access_next(BYTES(value), &at, &found) == X509_OK && at == 19);
+    WANT(is_at(found.method, 6, 8) && found.location.kind == X509_GENERAL_NAME_URI);
+    WANT(is_at(found.location.element, 14, 5) && is_at(found.location.content, 16, 3) && is_at(found.location.type_id, 0, 0));
+    WANT(x509_access_next(BYTES(value), &at, &found) == X509_ABSENT && at == 19 && is_at(found.method, 6, 8));
+    at = 0;
+    WANT(x509_access_next(BYTES("\x30\x02\x30\x00"), &at, &found) == X509_MALFORMED && at == 0 && is_at(found.method, 6, 8));
+}
+
+static void policies(void)
+{
+    /* any policy, with the identifier of a practice statement and no address; and any policy alone */
+    const char value[] = "\x30\x1e\x30\x14\x06\x04\x55\x1d\x20\x00\x30\x0c\x30\x0a\x06\x08\x2b\x06\x01\x05\x05\x07\x02\x01\x30\x06\x06\x04\x55\x1d\x20\x00";
+    x509_policy policy;
+    size_t at = 0;
+    WANT(x509_certificate_policies_next(BYTES(value), &at, &policy) == X509_OK && at == 24);
+    WANT(is_at(policy.identifier, 6, 4) && is_at(policy.qualifiers, 10, 14));
+    WANT(x509_certificate_policies_next(BYTES(value), &at, &policy) == X509_OK && at == 32);
+    WANT(is_at(policy.identifier, 28, 4) && is_at(policy.qualifiers, 0, 0));
+    WANT(x509_certificate_policies_next(BYTES(value), &at, &policy) == X509_ABSENT && at == 32);
+    x509_policy_qualifier qualifier;
+    at = 0;
+    WANT(x509_policy_qualifiers_next((const uint8_t *)value + 10, 14, &at, &qualifier) == X509_OK && at == 14);
+    WANT(is_at(qualifier.identifier, 6, 8) && is_at(qualifier.qualifier, 0, 0));
+    at = 0;
+    WANT(x509_policy_qualifiers_next(BYTES("\x30\x08\x30\x06\x06\x01\x2a\x16\x01\x61"), &at, &qualifier) == X509_OK && at == 10);
+    WANT(is_at(qualifier.identifier, 6, 1) && is_at(qualifier.qualifier, 7, 3));
+
+    x509_policy_mapping mapping;
+    at = 0;
+    WANT(x509_policy_mappings_next(BYTES("\x30\x0c\x30\x0a\x06\x03\x55\x1d\x20\x06\x03\x55\x1d\x21"), &at, &mapping) == X509_OK && at == 14);
+    WANT(is_at(mapping.issuer_policy, 6, 3) && is_at(mapping.subject_policy, 11, 3));
+    at = 0;
+    WANT(x509_policy_mappings_next(BYTES("\x30\x07\x30\x05\x06\x03\x55\x1d\x20"), &at, &mapping) == X509_MALFORMED && at == 0 && mapping.issuer_policy.place == 6);
+
+    x509_policy_constraints_view constraints = {7, 7, 7, 7};
+    WANT(x509_policy_constraints(BYTES("\x30\x03\x82\x01\x03"), &constraints) == X509_MALFORMED && constraints.require_explicit_policy == 7);
+    WANT(x509_policy_constraints(BYTES("\x30\x06\x80\x01\x03\x81\x01\x00"), &constraints) == X509_OK);
+    WANT(constraints.has_require_explicit_policy == 1 && constraints.require_explicit_policy == 3);
+    WANT(constraints.has_inhibit_policy_mapping == 1 && constraints.inhibit_policy_mapping == 0);
+    WANT(x509_policy_constraints(BYTES("\x30\x03\x81\x01\x05"), &constraints) == X509_OK);
+    WANT(constraints.has_require_explicit_policy == 0 && constraints.require_explicit_policy == 0 && constraints.inhibit_policy_mapping == 5);
+    uint32_t certificates = 77;
+    WANT(x509_inhibit_any_policy(BYTES("\x02\x01\xff"), &certificates) == X509_MALFORMED && certificates == 77);
+    WANT(x509_inhibit_any_policy(BYTES("\x02\x05\x00\xff\xff\xff\xff"), &certificates) == X509_OK && certificates == 4294967295);
+    WANT(x509_inhibit_any_policy(BYTES("\x02\x05\x01\x00\x00\x00\x00"), &certificates) == X509_MALFORMED && certificates == 4294967295);
+}
+
+static void points(void)
+{
+    x509_distribution_point point;
+    size_t at = 0;
+    /* the URI a, for keys that aren't secret, from the issuer b */
+    WANT(x509_distribution_points_next(BYTES("\x30\x12\x30\x10\xa0\x05\xa0\x03\x86\x01\x61\x81\x02\x06\x40\xa2\x03\x82\x01\x62"), &at, &point) == X509_OK && at == 20);
+    WANT(is_at(point.full_name, 6, 5) && is_at(point.relative_name, 0, 0) && is_at(point.crl_issuer, 15, 5));
+    WANT(point.has_reasons == 1 && point.reasons == X509_REASONS_KEY_COMPROMISE);
+    /* CN=a below the issuer's name */
+    at = 0;
+    WANT(x509_distribution_points_next(BYTES("\x30\x10\x30\x0e\xa0\x0c\xa1\x0a\x30\x08\x06\x03\x55\x04\x03\x0c\x01\x61"), &at, &point) == X509_OK && at == 18);
+    WANT(is_at(point.full_name, 0, 0) && is_at(point.relative_name, 6, 12) && is_at(point.crl_issuer, 0, 0));
+    WANT(point.has_reasons == 0 && point.reasons == 0);
+    at = 0;
+    WANT(x509_distribution_points_next(BYTES("\x30\x06\x30\x04\x81\x02\x00\x40"), &at, &point) == X509_MALFORMED && at == 0 && is_at(point.relative_name, 6, 12));
+
+    x509_issuing_distribution_point_view view;
+    WANT(x509_issuing_distribution_point(BYTES("\x30\x11\xa0\x05\xa0\x03\x86\x01\x61\x81\x01\xff\x83\x02\x06\x40\x84\x01\xff"), &view) == X509_OK);
+    WANT(is_at(view.full_name, 4, 5) && is_at(view.relative_name, 0, 0) && view.only_contains_user_certs == 1 && view.only_contains_ca_certs == 0);
+    WANT(view.has_only_some_reasons == 1 && view.only_some_reasons == X509_REASONS_KEY_COMPROMISE);
+    WANT(view.indirect_crl == 1 && view.only_contains_attribute_certs == 0);
+    WANT(x509_issuing_distribution_point(BYTES("\x30\x03\x81\x01\x00"), &view) == X509_MALFORMED && view.indirect_crl == 1);
+    WANT(x509_issuing_distribution_point(BYTES("\x30\x06\x82\x01\xff\x85\x01\xff"), &view) == X509_OK);
+    WANT(view.only_contains_ca_certs == 1 && view.only_contains_attribute_certs == 1 && view.only_contains_user_certs == 0 && view.has_only_some_reasons == 0);
+
+    x509_span number = {7, 7};
+    WANT(x509_crl_number(BYTES("\x02\x01\xff"), &number) == X509_MALFORMED && is_at(number, 7, 7));
+    WANT(x509_crl_number(BYTES("\x02\x02\x01\x00"), &number) == X509_OK && is_at(number, 2, 2));
+    WANT(x509_base_crl_number(BYTES("\x02\x01\x05"), &number) == X509_OK && is_at(number, 2, 1));
+    uint32_t reason = 77;
+    WANT(x509_crl_reason(BYTES("\x0a\x01\x07"), &reason) == X509_MALFORMED && reason == 77);
+    WANT(x509_crl_reason(BYTES("\x0a\x01\x0a"), &reason) == X509_OK && reason == 10);
+}
+
+static void subtrees(void)
+{
+    /* the names below the DNS name a, but none from two to three steps below b */
+    const char value[] = "\x30\x14\xa0\x05\x30\x03\x82\x01\x61\xa1\x0b\x30\x09\x82\x01\x62\x80\x01\x02\x81\x01\x03";
+    x509_name_constraints_view view = {{7, 7}, {7, 7}};
+    WANT(x509_name_constraints(BYTES("\x30\x02\xa2\x00"), &view) == X509_MALFORMED && is_at(view.permitted, 7, 7));
+    WANT(x509_name_constraints(BYTES(value), &view) == X509_OK && is_at(view.permitted, 2, 7) && is_at(view.excluded, 9, 13));
+    x509_subtree found;
+    size_t at = 0;
+    WANT(x509_subtrees_under_next(0, (const uint8_t *)value + 2, 7, &at, &found) == X509_OK && at == 7);
+    WANT(found.base.kind == X509_GENERAL_NAME_DNS && is_at(found.base.element, 4, 3) && is_at(found.base.content, 6, 1));
+    WANT(found.minimum == 0 && found.has_maximum == 0 && found.maximum == 0);
+    WANT(x509_subtrees_under_next(0, (const uint8_t *)value + 2, 7, &at, &found) == X509_ABSENT && at == 7);
+    at = 0;
+    WANT(x509_subtrees_under_next(1, (const uint8_t *)value + 9, 13, &at, &found) == X509_OK && at == 13);
+    WANT(is_at(found.base.content, 6, 1) && found.minimum == 2 && found.has_maximum == 1 && found.maximum == 3);
+    WANT(x509_subtrees_under_next(31, (const uint8_t *)value + 9, 13, &at, &found) == X509_MALFORMED && at == 13 && found.minimum == 2);
+    WANT(x509_name_constraints(BYTES("\x30\x00"), &view) == X509_OK && is_at(view.permitted, 0, 0) && is_at(view.excluded, 0, 0));
+}
+
+static void texts(void)
+{
+    x509_span number = {7, 7};
+    WANT(x509_serial_number(BYTES("\x02\x02\x00\x01"), &number) == X509_MALFORMED && is_at(number, 7, 7));
+    WANT(x509_serial_number(BYTES("\x02\x03\x12\x34\xab"), &number) == X509_OK && is_at(number, 2, 3));
+    written = 77;
+    WANT(x509_serial_text(BYTES(""), room, sizeof room, &written) == X509_MALFORMED && written == 77);
+    WANT(x509_serial_text(BYTES("\x00\x01"), room, sizeof room, &written) == X509_MALFORMED && written == 77);
+    WANT(x509_serial_text(BYTES("\x12\x34\xab"), room, 7, &written) == X509_ROOM && written == 8);
+    WANT(x509_serial_text(BYTES("\x12\x34\xab"), room, 8, &written) == X509_OK && is_written("12:34:AB"));
+    WANT(x509_serial_text(BYTES("\x00\xff"), room, sizeof room, &written) == X509_OK && is_written("00:FF"));
+
+    WANT(x509_serial_decimal(BYTES("\x00"), room, sizeof room, &written) == X509_OK && is_written("0"));
+    WANT(x509_serial_decimal(BYTES("\x05"), room, 1, &written) == X509_OK && is_written("5"));
+    WANT(x509_serial_decimal(BYTES("\x00\xff"), room, sizeof room, &written) == X509_OK && is_written("255"));
+    WANT(x509_serial_decimal(BYTES("\x01\x00"), room, 2, &written) == X509_ROOM && written == 3);
+    WANT(x509_serial_decimal(BYTES("\x03\xe8"), room, 4, &written) == X509_OK && is_written("1000"));
+    WANT(x509_serial_decimal(BYTES("\xff"), room, sizeof room, &written) == X509_OK && is_written("-1"));
+    WANT(x509_serial_decimal(BYTES("\x80"), room, sizeof room, &written) == X509_OK && is_written("-128"));
+    WANT(x509_serial_decimal(BYTES("\xff\x00"), room, sizeof room, &written) == X509_OK && is_written("-256"));
+    /* 2 ^ 159 - 1, and -2 ^ 167 */
+    uint8_t octets[22] = {0x7f};
+    memset(octets + 1, 0xff, 19);
+    WANT(x509_serial_decimal(octets, 20, room, sizeof room, &written) == X509_OK && is_written("730750818665451459101842416358141509827966271487"));
+    octets[0] = 0x80;
+    memset(octets + 1, 0, 21);
+    WANT(x509_serial_decimal(octets, 21, room, sizeof room, &written) == X509_OK && is_written("-187072209578355573530071658587684226515959365500928"));
+    written = 77;
+    WANT(x509_serial_decimal(octets, 22, room, sizeof room, &written) == X509_VALUE && written == 77);
+    WANT(x509_serial_decimal(BYTES("\x00\x01"), room, sizeof room, &written) == X509_MALFORMED && written == 77);
+    WANT(x509_serial_decimal(BYTES("\xff\x80"), room, sizeof room, &written) == X509_MALFORMED && written == 77);
+    WANT(x509_serial_decimal(nothing, 0, room, sizeof room, &written) == X509_MALFORMED && written == 77);
+
+    WANT(x509_time_text(0, room, 19, &written) == X509_ROOM && written == 20);
+    WANT(x509_time_text(0, room, 20, &written) == X509_OK && is_written("1970-01-01T00:00:00Z"));
+    WANT(x509_time_text(1767323045, room, sizeof room, &written) == X509_OK && is_written("2026-01-02T03:04:05Z"));
+    WANT(x509_time_text(253402300799, room, sizeof room, &written) == X509_OK && is_written("9999-12-31T23:59:59Z"));
+    written = 77;
+    WANT(x509_time_text(253402300800, room, sizeof room, &written) == X509_VALUE && written == 77);
+    WANT(x509_time_text(UINT64_MAX, room, sizeof room, &written) == X509_VALUE && written == 77);
+
+    WANT(x509_status_text(X509_OK, room, 4, &written) == X509_OK && is_written("done"));
+    WANT(x509_status_text(X509_OK, room, 3, &written) == X509_ROOM && written == 4);
+    WANT(x509_status_text(X509_MEMORY, room, sizeof room, &written) == X509_OK && is_written("out of memory"));
+    WANT(x509_status_text(X509_ROOM, room, sizeof room, &written) == X509_OK && is_written("the room is too small"));
+    WANT(x509_status_text(X509_OVERLENGTH, room, sizeof room, &written) == X509_OK && is_written("too long"));
+    WANT(x509_status_text(X509_MALFORMED, room, sizeof room, &written) == X509_OK && is_written("malformed"));
+    WANT(x509_status_text(X509_FAULT, room, sizeof room, &written) == X509_OK && is_written("the path has a fault"));
+    written = 77;
+    WANT(x509_status_text(9, room, sizeof room, &written) == X509_FAILED && written == 77);
+    WANT(x509_status_text(-3, room, sizeof room, &written) == X509_FAILED && written == 77);
+    WANT(x509_status_text(INT32_MIN, room, sizeof room, &written) == X509_FAILED && written == 77);
+    WANT(x509_status_text(INT32_MAX, room, sizeof room, &written) == X509_FAILED && written == 77);
+
+    WANT(x509_version() == X509_VERSION && X509_VERSION == (X509_VERSION_MAJOR << 16 | X509_VERSION_MINOR << 8 | X509_VERSION_PATCH));
+}
+
+int main(int argc, char **argv)
+{
+    read_files(argc, argv);
+    keys();
+    anchors();
+    timestamps();
+    attributes();
+    first_attributes();
+    key_identifiers();
+    accesses();
+    policies();
+    points();
+    subtrees();
+    texts();
+    return ended();
+}
