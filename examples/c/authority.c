@@ -354,22 +354,16 @@ static int request(const party *subject, const char *names, buffer *out)
     return is_made;
 }
 
-/* Adds the extensions that a CSR asks for: those in the one value of its extensionRequest (RFC 2985 5.4.2), which builders always write. */
+/* Adds the extensions that a CSR asks for (RFC 2985 5.4.2); builders always write a list of them. */
 static int add_asked(buffer *to, octets csr)
 {
-    static const octets asks = OCTETS("\x2a\x86\x48\x86\xf7\x0d\x01\x09\x0e");
-    x509_request_attribute found;
-    x509_element value;
     x509_extension_entry entry;
-    size_t at = 0;
-    if (x509_request_attribute_find(csr.bytes, csr.len, asks.bytes, asks.len, &found) != X509_OK)
+    x509_span asked;
+    if (x509_request_extensions(csr.bytes, csr.len, &asked) != X509_OK)
         return 0;
-    const octets values = part_of(csr, found.values);
-    if (x509_attribute_value_next(values.bytes, values.len, &at, &value) != X509_OK)
-        return 0;
-    const octets list = part_of(values, value.element);
+    const octets list = part_of(csr, asked);
     x509_status status;
-    for (at = 0; (status = x509_extensions_next(list.bytes, list.len, &at, &entry)) == X509_OK;) {
+    for (size_t at = 0; (status = x509_extensions_next(list.bytes, list.len, &at, &entry)) == X509_OK;) {
         buffer made = {NULL, 0};
         extension_parts parts = {part_of(list, entry.oid), part_of(list, entry.value), entry.critical};
         const int is_added = fill("an extension", write_extension, &parts, &made) && append(to, of(made));

@@ -1,7 +1,7 @@
 #!/usr/bin/env python3
-"""Compares what the crate for Rust says of the certificates of the system's store with what `cryptography` says of them: version, serial number, dates, names, key,
-signature, and extensions. FACTS is the program that `bindings/rust/examples/facts.rs` makes. The crate refuses values that aren't DER, as a KeyUsage that ends with zero bits (X.690
-11.2.2); these are counted, and have to be such that `cryptography` writes them otherwise.
+"""Compares what the crate for Rust says of the certificates of the system's store with what `cryptography` says of them: version, serial number, dates,
+names, key, signature, and extensions. FACTS is the program of `bindings/rust/examples/facts.rs`. The crate refuses values that aren't DER, as a KeyUsage that
+ends with zero bits (X.690 11.2.2); these are counted, and have to be such that `cryptography` writes them otherwise.
 """
 import argparse
 import glob
@@ -109,7 +109,7 @@ def facts(data):
 
 
 def is_no_der(data, line):
-    """Whether the octets of the line's extension aren't what `cryptography` writes of its value: such an OCTET STRING stands nowhere in the certificate then."""
+    """Whether what `cryptography` writes of the value of the line's extension, as an OCTET STRING, stands nowhere in the certificate."""
     oid = x509.ObjectIdentifier(line.split(" ", 1)[0])
     written = x509.load_der_x509_certificate(data).extensions.get_extension_for_oid(oid).value.public_bytes()
     return (bytes([4, len(written)]) if len(written) < 128 else b"") + written not in data

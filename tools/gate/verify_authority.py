@@ -1,6 +1,7 @@
 #!/usr/bin/env python3
-"""Asks `cryptography` about what an authority of the examples has made: root.der, intermediate.der, server.der, request.der, before.der and after.der in FOLDER. Its verifier takes the chain for
-www.example.org and for no other name, the CRLs and the CSR are signed as they should be, and the second CRL alone has the server.
+"""Asks `cryptography` about what an authority of the examples has made: root.der, intermediate.der, server.der, request.der, before.der and after.der in
+FOLDER. Its verifier takes the chain for www.example.org and for no other name, the CRLs and the CSR are signed as they should be, and the second CRL alone
+has the server.
 """
 import argparse
 import datetime

@@ -6,6 +6,7 @@ usage: X509_LIBRARY=.../libx509.so PYTHONPATH=bindings/python/src python3 -m uni
 from __future__ import annotations
 
 import datetime
+import hashlib
 import os
 import pathlib
 import shutil
@@ -105,6 +106,39 @@ class Refusals(unittest.TestCase):
         with self.assertRaises(ours.X509Error) as caught:
             self.builder().tbs_certificate_bytes(b"\x30\x00")
         self.assertEqual(caught.exception.status, 2)
+
+    def kind(self, subject: str) -> ours.CertificateBuilder:
+        made = ours.CertificateBuilder().serial_number(5).issuer_name(ours.Name.from_rfc4514_string("CN=I"))
+        made = made.subject_name(ours.Name.from_rfc4514_string(subject)).public_key(KEY)
+        return made.not_valid_before(NOW).not_valid_after(NOW).add_extension(ours.PrecertPoison(), critical=True)
+
+    def oids(self, certificate: ours.Certificate) -> list[ours.ObjectIdentifier]:
+        return [it.oid for it in certificate.extensions]
+
+    def test_kinds_of_certificates(self) -> None:
+        oid = ours.ExtensionOID
+        authority = [oid.PRECERT_POISON, oid.AUTHORITY_KEY_IDENTIFIER, oid.BASIC_CONSTRAINTS, oid.KEY_USAGE, oid.SUBJECT_KEY_IDENTIFIER]
+        root = self.kind("CN=R,O=O,C=DE").sign_root(ED25519, lambda part: bytes(64))
+        self.assertEqual((self.oids(root), root.issuer), (authority, root.subject))
+        # the SHA-1 digest of the key's 32 octets (RFC 5280 4.2.1.2)
+        ski = root.extensions.get_extension_for_class(ours.SubjectKeyIdentifier).value
+        self.assertEqual(ski.digest, hashlib.sha1(bytes(32)).digest())
+        with self.assertRaises(ours.X509Error) as caught:
+            self.kind("CN=R").sign_root(ED25519, lambda part: bytes(64))
+        self.assertEqual(caught.exception.status, 3)
+        middle = self.kind("CN=M").sign_subordinate(ED25519, lambda part: bytes(64), KEY, path_length=0)
+        self.assertEqual(self.oids(middle), [*authority, oid.EXTENDED_KEY_USAGE])
+        self.assertEqual(middle.extensions.get_extension_for_class(ours.BasicConstraints).value, ours.BasicConstraints(ca=True, path_length=0))
+        with self.assertRaises(ValueError):
+            self.kind("CN=M").sign_subordinate(ED25519, lambda part: bytes(64), KEY, path_length=256)
+        server = self.kind("CN=a.example,O=O,C=DE").sign_subscriber(ED25519, lambda part: bytes(64), KEY)
+        self.assertEqual(self.oids(server), [*authority[:2], oid.EXTENDED_KEY_USAGE, *authority[2:4]])
+        self.assertEqual(server.subject.rfc4514_string(), "CN=a.example,C=DE")
+        # id-on-hardwareModuleName with a HardwareModuleName (RFC 4108 5)
+        hardware = ours.OtherName(ours.ObjectIdentifier("1.3.6.1.5.5.7.8.4"), bytes.fromhex("300706022a03040105"))
+        device = self.kind("CN=D").sign_device(ED25519, lambda part: bytes(64), KEY, [hardware])
+        self.assertEqual(self.oids(device), [*authority[:2], oid.KEY_USAGE, oid.SUBJECT_ALTERNATIVE_NAME])
+        self.assertEqual(self.oids(self.kind("CN=D").sign_device(ED25519, lambda part: bytes(64), KEY)), [*authority[:2], oid.KEY_USAGE])
 
     def test_attributes_of_requests(self) -> None:
         builder = ours.CertificateSigningRequestBuilder().subject_name(ours.Name.from_rfc4514_string("CN=a")).public_key(KEY)

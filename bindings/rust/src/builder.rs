@@ -6,8 +6,9 @@ use crate::certificate::{Certificate, CertificateRef, Validity};
 use crate::crl::Crl;
 use crate::csr::Csr;
 use crate::error::Error;
-use crate::extension::{CrlReason, ToExtension};
+use crate::extension::{CrlReason, SubjectAltName, ToExtension};
 use crate::ffi::build;
+use crate::general_name::GeneralName;
 use crate::integer::{Integer, SerialNumber};
 use crate::name::Name;
 use crate::oid::ObjectIdentifier;
@@ -175,6 +176,46 @@ macro_rules! with_extensions {
     };
 }
 
+/// A kind of certificates, whose extensions the library makes, behind those that were added. A key is told by the SHA-1 digest of its octets (RFC 5280 4.2.1.2).
+#[derive(Clone, Debug)]
+#[non_exhaustive]
+pub enum CertificateProfile<'a> {
+    /// A root (CA/Browser Forum, Baseline Requirements 7.1.2.1), which is its own issuer and signs with its own key: AKI, basic constraints, key usage, SKI.
+    Root {
+        /// Whether it signs OCSP responses.
+        signs_ocsp_responses: bool,
+    },
+
+    /// An authority under another one, for TLS (7.1.2.6): AKI, basic constraints, key usage, SKI, extended key usage.
+    Subordinate {
+        /// How many authorities may follow at most, where that is limited.
+        path_len_constraint: Option<u8>,
+        /// Whether it signs OCSP responses.
+        signs_ocsp_responses: bool,
+        /// Whether those that it certifies may be TLS clients, too.
+        client_auth: bool,
+    },
+
+    /// A TLS server of which control of its domains was validated (7.1.2.7): of the subject the country and the common names are kept; AKI, extended key
+    /// usage, basic constraints, key usage. The SAN is one of the added extensions.
+    Subscriber {
+        /// Whether it may be a TLS client, too.
+        client_auth: bool,
+        /// Of an RSA key, whether keys are encrypted.
+        key_encipherment: bool,
+        /// Of an elliptic curve key, whether keys are agreed on.
+        key_agreement: bool,
+        /// Of an RSA key, whether data is encrypted.
+        data_encipherment: bool,
+    },
+
+    /// A device (IEEE 802.1AR 8): AKI, key usage, and a SAN of these names, of which one is that of a hardware module (RFC 4108 5); no SAN of no names.
+    Device {
+        /// Its names.
+        names: &'a [GeneralName<'a>],
+    },
+}
+
 /// Builds a certificate: of v3 where extensions are added, else of v1.
 ///
 /// ```
@@ -243,7 +284,16 @@ impl CertificateBuilder {
     /// [`Error::Malformed`] where the key or the algorithm is none; [`Error::Value`] where a moment is before 1970 or after 9999;
     /// [`Error::Overlength`] or [`Error::Memory`].
     pub fn tbs_certificate(&self, algorithm: &[u8]) -> Result<Vec<u8>, Error> {
-        build::certificate(&build::CertificateFields {
+        self.with_fields(algorithm, build::certificate)
+    }
+
+    /// What a call makes of the fields.
+    fn with_fields(
+        &self,
+        algorithm: &[u8],
+        make: impl FnOnce(&build::CertificateFields<'_>) -> Result<Vec<u8>, Error>,
+    ) -> Result<Vec<u8>, Error> {
+        make(&build::CertificateFields {
             serial_number: &self.serial_number.to_integer().element()?,
             algorithm,
             issuer: self.issuer.as_der(),
@@ -253,6 +303,70 @@ impl CertificateBuilder {
             key: &self.key,
             extensions: &self.extensions.joined(),
         })
+    }
+
+    /// The bytes to be signed of a certificate of a kind, for a signature by an algorithm and for the issuer's key, which are a whole AlgorithmIdentifier and a
+    /// whole SubjectPublicKeyInfo. Of a root the issuer's name and key aren't looked at: they are its own.
+    ///
+    /// # Errors
+    /// As of [`tbs_certificate`](CertificateBuilder::tbs_certificate); [`Error::Malformed`] also where the issuer's key is none, [`Error::Failed`] where a root can't
+    /// have that name, or where no name of a device is that of a hardware module.
+    pub fn tbs_certificate_as(
+        &self,
+        profile: &CertificateProfile<'_>,
+        algorithm: &[u8],
+        issuer_key: &[u8],
+    ) -> Result<Vec<u8>, Error> {
+        self.with_fields(algorithm, |fields| match *profile {
+            CertificateProfile::Root {
+                signs_ocsp_responses,
+            } => build::root(fields, signs_ocsp_responses),
+            CertificateProfile::Subordinate {
+                path_len_constraint: path_len,
+                signs_ocsp_responses,
+                client_auth,
+            } => {
+                let asked = build::Subordinate {
+                    path_len,
+                    signs_ocsp_responses,
+                    client_auth,
+                };
+                build::subordinate(fields, issuer_key, &asked)
+            }
+            CertificateProfile::Subscriber {
+                client_auth,
+                key_encipherment,
+                key_agreement,
+                data_encipherment,
+            } => {
+                let asked = build::Subscriber {
+                    client_auth,
+                    key_encipherment,
+                    key_agreement,
+                    data_encipherment,
+                };
+                build::subscriber(fields, issuer_key, &asked)
+            }
+            CertificateProfile::Device { names: [] } => build::device(fields, issuer_key, &[]),
+            CertificateProfile::Device { names } => {
+                let names = SubjectAltName(names.to_vec()).to_der()?;
+                build::device(fields, issuer_key, &names)
+            }
+        })
+    }
+
+    /// The certificate of a kind, signed by the issuer's signer.
+    ///
+    /// # Errors
+    /// [`BuildError::Refused`] as of [`tbs_certificate_as`](CertificateBuilder::tbs_certificate_as), [`BuildError::Signer`] where the signer fails.
+    pub fn build_as<S: Signer>(
+        &self,
+        profile: &CertificateProfile<'_>,
+        signer: &S,
+    ) -> Result<Certificate, BuildError<S::Error>> {
+        let key = signer.subject_public_key_info();
+        let part = self.tbs_certificate_as(profile, signer.algorithm(), key)?;
+        Ok(Certificate::from_der(signed(&part, signer)?)?)
     }
 
     /// The certificate, signed by the issuer's signer.

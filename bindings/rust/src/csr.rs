@@ -5,7 +5,7 @@ use crate::extension::Extensions;
 use crate::ffi::{self, Members};
 use crate::key::PublicKey;
 use crate::name::NameRef;
-use crate::oid::{self, ObjectIdentifier};
+use crate::oid::ObjectIdentifier;
 use std::fmt;
 
 /// An attribute of a CSR (RFC 2986 4.1), as a challenge password.
@@ -143,7 +143,7 @@ impl<'a> Csr<'a> {
         PublicKey::from_der(self.subject_public_key_info())
     }
 
-    /// Its attribute of a type; see [`oid::request`].
+    /// Its attribute of a type; see [`oid::request`](crate::oid::request).
     ///
     /// # Errors
     /// [`Error::Repeated`] where there are two or more; [`Error::Memory`].
@@ -158,15 +158,13 @@ impl<'a> Csr<'a> {
     /// The extensions that it asks for (RFC 2985 5.4.2), in order; none where no attribute asks for any.
     ///
     /// # Errors
-    /// [`Error::Repeated`] where two or more attributes ask for extensions, [`Error::Failed`] where the only one hasn't one value; [`Error::Memory`].
+    /// [`Error::Repeated`] where two or more attributes ask for extensions, [`Error::Failed`] where the only one hasn't one value, [`Error::Malformed`]
+    /// where that is no list of extensions; [`Error::Memory`].
     pub fn extensions(&self) -> Result<Extensions<'a>, Error> {
-        let Some(attribute) = self.attribute(oid::request::EXTENSION_REQUEST)? else {
-            return Ok(Extensions::new(&[]));
-        };
-        let mut values = attribute.values();
-        match (values.next(), values.next()) {
-            (Some(value), None) => Ok(Extensions::new(value?.der)),
-            _ => Err(Error::Failed),
+        match ffi::REQUEST_EXTENSIONS.of(self.der) {
+            Ok(list) => Ok(Extensions::new(list.of(self.der)?)),
+            Err(Error::Absent) => Ok(Extensions::new(&[])),
+            Err(error) => Err(error),
         }
     }
 

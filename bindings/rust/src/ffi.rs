@@ -351,10 +351,12 @@ extern "C" {
     fn x509_oid_text(oid: *const u8, oid_len: usize, out: *mut u8, room: usize, written: *mut usize) -> c_int;
     fn x509_oid_from_text(text: *const u8, len: usize, out: *mut u8, room: usize, written: *mut usize) -> c_int;
     fn x509_name_next(name: *const u8, len: usize, at: *mut usize, found: *mut Span) -> c_int;
+    fn x509_name_find(name: *const u8, len: usize, oid: *const u8, oid_len: usize, found: *mut Attribute) -> c_int;
     fn x509_relative_name_next(rdn: *const u8, len: usize, at: *mut usize, found: *mut Attribute) -> c_int;
     fn x509_relative_name_under_next(number: u32, rdn: *const u8, len: usize, at: *mut usize, found: *mut Attribute) -> c_int;
     fn x509_serial_number(input: *const u8, len: usize, found: *mut Span) -> c_int;
     fn x509_serial_text(content: *const u8, len: usize, out: *mut u8, room: usize, written: *mut usize) -> c_int;
+    fn x509_serial_decimal(content: *const u8, len: usize, out: *mut u8, room: usize, written: *mut usize) -> c_int;
     fn x509_time_text(moment: u64, out: *mut u8, room: usize, written: *mut usize) -> c_int;
     fn x509_certificate_signature(input: *const u8, len: usize, signature: *mut Signature) -> c_int;
     fn x509_path_check(anchor: *const u8, anchor_len: usize, path: *const u8, path_len: usize, lens: *const usize, count: usize, moment: u64, fault: *mut PathFault) -> c_int;
@@ -365,6 +367,7 @@ extern "C" {
     fn x509_request_attribute_next(value: *const u8, len: usize, at: *mut usize, found: *mut RequestAttribute) -> c_int;
     fn x509_attribute_value_next(value: *const u8, len: usize, at: *mut usize, found: *mut Element) -> c_int;
     fn x509_request_attribute_find(input: *const u8, len: usize, oid: *const u8, oid_len: usize, found: *mut RequestAttribute) -> c_int;
+    fn x509_request_extensions(input: *const u8, len: usize, found: *mut Span) -> c_int;
     fn x509_key_view(input: *const u8, len: usize, view: *mut Key) -> c_int;
     fn x509_algorithm_view(input: *const u8, len: usize, view: *mut Algorithm) -> c_int;
     fn x509_anchor_view(input: *const u8, len: usize, view: *mut Anchor) -> c_int;
@@ -545,6 +548,7 @@ pub(crate) const SIGNED_SLICE: View<Span> = View(x509_signed_slice);
 pub(crate) const SERIAL_NUMBER: View<Span> = View(x509_serial_number);
 pub(crate) const CRL: View<Crl> = View(x509_crl_view);
 pub(crate) const REQUEST: View<Request> = View(x509_request_view);
+pub(crate) const REQUEST_EXTENSIONS: View<Span> = View(x509_request_extensions);
 pub(crate) const KEY: View<Key> = View(x509_key_view);
 pub(crate) const ALGORITHM: View<Algorithm> = View(x509_algorithm_view);
 pub(crate) const ANCHOR: View<Anchor> = View(x509_anchor_view);
@@ -570,6 +574,7 @@ pub(crate) const NAME_FROM_TEXT: Fill = Fill(x509_name_from_text);
 pub(crate) const OID_TEXT: Fill = Fill(x509_oid_text);
 pub(crate) const OID_FROM_TEXT: Fill = Fill(x509_oid_from_text);
 pub(crate) const SERIAL_TEXT: Fill = Fill(x509_serial_text);
+pub(crate) const SERIAL_DECIMAL: Fill = Fill(x509_serial_decimal);
 
 pub(crate) static EXTENSIONS: Walk<ExtensionEntry> = Walk(Next::Plain(x509_extensions_next));
 pub(crate) static GENERAL_NAMES: Walk<GeneralName> = Walk(Next::Plain(x509_general_names_next));
@@ -661,6 +666,7 @@ impl<T: Default> Find<T> {
 
 pub(crate) const CERTIFICATE_EXTENSION: Find<Extension> = Find(x509_certificate_extension);
 pub(crate) const CRL_LOOKUP: Find<Revocation> = Find(x509_crl_lookup);
+pub(crate) const NAME_FIND: Find<Attribute> = Find(x509_name_find);
 pub(crate) const REQUEST_ATTRIBUTE: Find<RequestAttribute> = Find(x509_request_attribute_find);
 
 /// The first fault of a path, but those of signatures.

@@ -41,7 +41,9 @@ mod time;
 mod writing;
 
 pub use anchor::{AnchorKind, TrustAnchor};
-pub use builder::{BuildError, CertificateBuilder, CrlBuilder, CsrBuilder, Signer};
+pub use builder::{
+    BuildError, CertificateBuilder, CertificateProfile, CrlBuilder, CsrBuilder, Signer,
+};
 pub use certificate::{Certificate, CertificateRef, Signature, Validity, Version};
 pub use controls::{PathControls, PolicyFlags};
 pub use crl::{Crl, CrlEntries, CrlEntry, Revocation};

@@ -62,6 +62,16 @@ impl<'a> NameRef<'a> {
             .filter(move |found| !matches!(found, Ok(it) if it.oid != oid))
     }
 
+    /// The first attribute of a type, in the order of the DER, such as the CN.
+    ///
+    /// # Errors
+    /// [`Error::Memory`].
+    pub fn find(&self, oid: ObjectIdentifier) -> Result<Option<AttributeTypeAndValue<'a>>, Error> {
+        let found = ffi::NAME_FIND.of(self.der, oid.as_bytes())?;
+        let read = |view| AttributeTypeAndValue::found(&view, self.der);
+        found.map(read).transpose()
+    }
+
     /// The name, with bytes of its own.
     pub fn to_owned(&self) -> Name {
         Name {
@@ -336,6 +346,17 @@ mod tests {
         let name = NameRef::found(b"\xff");
         assert_eq!(name.to_rfc4514(), Err(Error::Malformed));
         assert_eq!(name.to_string(), "<not the DER of such a value>");
+    }
+
+    #[test]
+    fn the_first_of_a_type() {
+        use crate::oid::attribute;
+        let name: Name = "CN=a,CN=b,C=DE".parse().expect("a name");
+        // the last of the text is the first of the DER (RFC 4514 2.1)
+        let found = name.to_ref().find(attribute::COMMON_NAME);
+        let text = found.map(|it| it.and_then(|it| it.text()));
+        assert_eq!(text, Ok(Some("b".into())));
+        assert_eq!(name.to_ref().find(attribute::SURNAME), Ok(None));
     }
 
     #[test]

@@ -7,8 +7,8 @@ use x509_rattle::extension::{
     SubjectKeyIdentifier,
 };
 use x509_rattle::{
-    oid, BuildError, Certificate, CertificateBuilder, CertificateRef, Crl, CrlBuilder, Csr,
-    CsrBuilder, Error, GeneralName, Name, SerialNumber, Signer, Validity, Version,
+    oid, BuildError, Certificate, CertificateBuilder, CertificateProfile, CertificateRef, Crl,
+    CrlBuilder, Csr, CsrBuilder, Error, GeneralName, Name, SerialNumber, Signer, Validity, Version,
 };
 
 const CERTIFICATE: &[u8] = include_bytes!("../../../examples/data/certificate.der");
@@ -375,4 +375,123 @@ fn sent_between_threads() {
     is_sent::<CsrBuilder>();
     is_sent::<Error>();
     is_sent::<BuildError<Locked>>();
+}
+
+/// The SHA-1 digest of the 32 octets of the key, which are zeros.
+const KEY_DIGEST: &[u8] =
+    b"\xde\x8a\x84\x7b\xff\x8c\x34\x3d\x69\xb8\x53\xa2\x15\xe6\xee\x77\x5e\xf2\xef\x96";
+
+/// The certificate of that kind, for the subject and the key of zeros, and the OIDs of its extensions.
+fn of_kind(
+    subject: &str,
+    profile: &CertificateProfile<'_>,
+) -> Result<(Certificate, Vec<x509_rattle::ObjectIdentifier>), BuildError<Locked>> {
+    let serial_number = SerialNumber::try_from(1).expect("a number");
+    let subject = name(subject);
+    let mut builder =
+        CertificateBuilder::new(serial_number, &name("CN=I"), validity(), &subject, KEY);
+    builder.add_extension_der(oid::extension::PRECERT_POISON, true, b"\x05\x00")?;
+    let signer = fixed();
+    let made = builder.build_as(profile, &signer)?;
+    assert_eq!(
+        made.signature().expect("a signature").signed_part,
+        signer.message()
+    );
+    let told = made.extensions().map(|it| it.expect("one").oid()).collect();
+    Ok((made, told))
+}
+
+// the lists of extensions that include/x509.h says of each kind
+#[test]
+fn kinds_of_certificates() {
+    use oid::extension::*;
+    let root = CertificateProfile::Root {
+        signs_ocsp_responses: false,
+    };
+    let (made, told) = of_kind("CN=R,O=O,C=DE", &root).expect("a root");
+    let expected = [
+        PRECERT_POISON,
+        AUTHORITY_KEY_IDENTIFIER,
+        BASIC_CONSTRAINTS,
+        KEY_USAGE,
+        SUBJECT_KEY_IDENTIFIER,
+    ];
+    assert_eq!(told, expected);
+    assert_eq!(made.issuer(), made.subject());
+    let usage = made.to_ref().key_usage().expect("one");
+    assert_eq!(usage, Some(KeyUsage::KEY_CERT_SIGN | KeyUsage::CRL_SIGN));
+    let (_, ski) = made
+        .get::<SubjectKeyIdentifier>()
+        .expect("one")
+        .expect("one");
+    assert_eq!(ski.0, KEY_DIGEST);
+    let refused = of_kind("CN=R", &root).err();
+    assert_eq!(refused, Some(BuildError::Refused(Error::Failed)));
+
+    let subordinate = CertificateProfile::Subordinate {
+        path_len_constraint: Some(0),
+        signs_ocsp_responses: true,
+        client_auth: true,
+    };
+    let (made, told) = of_kind("CN=M", &subordinate).expect("an authority");
+    assert_eq!(told[..5], expected);
+    assert_eq!(told[5..], [EXTENDED_KEY_USAGE]);
+    let constraints = made
+        .to_ref()
+        .basic_constraints()
+        .expect("one")
+        .expect("one");
+    assert_eq!(
+        (constraints.ca, constraints.path_len_constraint),
+        (true, Some(0))
+    );
+    let usage = KeyUsage::KEY_CERT_SIGN | KeyUsage::CRL_SIGN | KeyUsage::DIGITAL_SIGNATURE;
+    assert_eq!(made.to_ref().key_usage(), Ok(Some(usage)));
+
+    let subscriber = CertificateProfile::Subscriber {
+        client_auth: false,
+        key_encipherment: false,
+        key_agreement: false,
+        data_encipherment: false,
+    };
+    let (made, told) = of_kind("CN=a.example,O=O,C=DE", &subscriber).expect("a server");
+    let expected = [
+        PRECERT_POISON,
+        AUTHORITY_KEY_IDENTIFIER,
+        EXTENDED_KEY_USAGE,
+        BASIC_CONSTRAINTS,
+        KEY_USAGE,
+    ];
+    assert_eq!(told, expected);
+    assert_eq!(made.subject(), name("CN=a.example,C=DE").to_ref());
+    assert_eq!(made.issuer(), name("CN=I").to_ref());
+}
+
+#[test]
+fn devices() {
+    use oid::extension::*;
+    let without = CertificateProfile::Device { names: &[] };
+    let (_, told) = of_kind("CN=D", &without).expect("a device");
+    assert_eq!(told, [PRECERT_POISON, AUTHORITY_KEY_IDENTIFIER, KEY_USAGE]);
+    // id-on-hardwareModuleName with a HardwareModuleName (RFC 4108 5)
+    let hardware = GeneralName::OtherName {
+        type_id: "1.3.6.1.5.5.7.8.4".parse().expect("an OID"),
+        value: b"\x30\x07\x06\x02\x2a\x03\x04\x01\x05",
+    };
+    let names = [GeneralName::DnsName("d"), hardware];
+    let (made, told) =
+        of_kind("CN=D", &CertificateProfile::Device { names: &names }).expect("a device");
+    assert_eq!(
+        told,
+        [
+            PRECERT_POISON,
+            AUTHORITY_KEY_IDENTIFIER,
+            KEY_USAGE,
+            SUBJECT_ALT_NAME
+        ]
+    );
+    let (critical, found) = made.get::<SubjectAltName>().expect("one").expect("one");
+    assert_eq!((critical, &found.0[..]), (false, &names[..]));
+    let refused = of_kind("CN=D", &CertificateProfile::Device { names: &names[..1] }).err();
+    assert_eq!(refused, Some(BuildError::Refused(Error::Failed)));
 }

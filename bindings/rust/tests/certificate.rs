@@ -39,6 +39,8 @@ fn what_it_says() {
     );
     assert_eq!(it.serial_number().to_u128(), Some(0x1234_5678_90ab_cdef));
     assert_eq!(it.serial_number().to_string(), "12:34:56:78:90:AB:CD:EF");
+    let decimal = 0x1234_5678_90ab_cdef_u64.to_string();
+    assert_eq!(it.serial_number().decimal(), Ok(decimal));
     let validity = it.validity();
     // 2026-01-02T03:04:05Z and 2055-06-07T08:09:10Z
     assert_eq!(

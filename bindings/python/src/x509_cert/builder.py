@@ -10,12 +10,14 @@ from __future__ import annotations
 import copy
 import ctypes
 import datetime
-from typing import Callable, TypeVar
+from typing import Callable, Iterable, TypeVar
 
 from ._extension import ExtensionType
 from ._library import fill
 from ._writing import SEQUENCE, SET, element, identifier_of
 from .certificate import Certificate, CertificateRevocationList, RevokedCertificate, _seconds, _serial_element
+from .extensions import SubjectAlternativeName
+from .general_name import GeneralName
 from .name import Name
 from .oid import ObjectIdentifier
 from .request import CertificateSigningRequest
@@ -34,6 +36,16 @@ def _needed(given: _Given | None, what: str) -> _Given:
 
 def _moment(given: datetime.datetime | None, what: str) -> ctypes.c_uint64:
     return ctypes.c_uint64(_seconds(_needed(given, what)))
+
+
+def _flag(is_set: bool) -> ctypes.c_uint32:
+    return ctypes.c_uint32(is_set)
+
+
+def _below(number: int, bound: int) -> int:
+    if not 0 <= number < bound:
+        raise ValueError(f"{number} isn't from 0 to {bound - 1}")
+    return number
 
 
 def _extension(oid: ObjectIdentifier, critical: bool, data: bytes) -> bytes:
@@ -106,17 +118,68 @@ class CertificateBuilder(_WithExtensions):
 
     def tbs_certificate_bytes(self, algorithm: bytes) -> bytes:
         """The bytes to be signed, for a signature by the algorithm; a ValueError where something wasn't given."""
-        return fill(
-            "x509_build_certificate",
-            _serial_element(_needed(self._serial_number, "the serial number")),
-            bytes(algorithm),
-            _needed(self._issuer_name, "the issuer").public_bytes(),
+        issuer = _needed(self._issuer_name, "the issuer").public_bytes()
+        return fill("x509_build_certificate", *self._front(algorithm), issuer, *self._middle(), self._members())
+
+    def _front(self, algorithm: bytes) -> tuple[bytes, bytes]:
+        return _serial_element(_needed(self._serial_number, "the serial number")), bytes(algorithm)
+
+    def _middle(self) -> tuple[ctypes.c_uint64, ctypes.c_uint64, bytes, bytes]:
+        return (
             _moment(self._not_valid_before, "the first moment"),
             _moment(self._not_valid_after, "the last moment"),
             _needed(self._subject_name, "the subject").public_bytes(),
             _needed(self._public_key, "the public key"),
-            self._members(),
         )
+
+    def _under(self, name: str, algorithm: bytes, issuer_public_key: bytes, *asked: object) -> bytes:
+        """The bytes to be signed of a kind of certificates under an issuer with that key."""
+        issuer = _needed(self._issuer_name, "the issuer").public_bytes()
+        return fill(name, *self._front(algorithm), issuer, bytes(issuer_public_key), *self._middle(), *asked, self._members())
+
+    def sign_root(self, algorithm: bytes, signer: Signer, signs_ocsp_responses: bool = False) -> Certificate:
+        """A root (CA/Browser Forum, Baseline Requirements 7.1.2.1), which is its own issuer: the library makes AKI, basic constraints, key usage and SKI,
+        behind the extensions that were added. An X509Error where a root can't have that name."""
+        part = fill("x509_build_root", *self._front(algorithm), *self._middle(), _flag(signs_ocsp_responses), self._members())
+        return Certificate(_signed(part, bytes(algorithm), signer))
+
+    def sign_subordinate(
+        self,
+        algorithm: bytes,
+        signer: Signer,
+        issuer_public_key: bytes,
+        path_length: int | None = None,
+        signs_ocsp_responses: bool = False,
+        client_auth: bool = False,
+    ) -> Certificate:
+        """An authority under another one, for TLS (7.1.2.6), with AKI, basic constraints, key usage, SKI and extended key usage behind the added extensions."""
+        length = ctypes.c_uint32(0 if path_length is None else _below(path_length, 256))
+        asked = (_flag(path_length is not None), length, _flag(signs_ocsp_responses), _flag(client_auth))
+        part = self._under("x509_build_subordinate", algorithm, issuer_public_key, *asked)
+        return Certificate(_signed(part, bytes(algorithm), signer))
+
+    def sign_subscriber(
+        self,
+        algorithm: bytes,
+        signer: Signer,
+        issuer_public_key: bytes,
+        client_auth: bool = False,
+        key_encipherment: bool = False,
+        key_agreement: bool = False,
+        data_encipherment: bool = False,
+    ) -> Certificate:
+        """A TLS server of which control of its domains was validated (7.1.2.7): of the subject the country and the common names are kept, and AKI, extended
+        key usage, basic constraints and key usage stand behind the added extensions, of which the SAN is one."""
+        asked = map(_flag, (client_auth, key_encipherment, key_agreement, data_encipherment))
+        part = self._under("x509_build_subscriber", algorithm, issuer_public_key, *asked)
+        return Certificate(_signed(part, bytes(algorithm), signer))
+
+    def sign_device(self, algorithm: bytes, signer: Signer, issuer_public_key: bytes, names: Iterable[GeneralName] = ()) -> Certificate:
+        """A device (IEEE 802.1AR 8): AKI, key usage, and a SAN of these names, of which one is that of a hardware module (RFC 4108 5), behind the added
+        extensions; no SAN of no names."""
+        names = list(names)
+        part = self._under("x509_build_device", algorithm, issuer_public_key, SubjectAlternativeName(names).data if names else b"")
+        return Certificate(_signed(part, bytes(algorithm), signer))
 
     def sign(self, algorithm: bytes, signer: Signer) -> Certificate:
         """The certificate with the signer's signature."""

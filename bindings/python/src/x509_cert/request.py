@@ -8,13 +8,13 @@ from typing import Iterator
 
 from ._library import (
     ABSENT,
-    FAILED,
     OK,
     AnchorView,
     ElementView,
     PathControlsView,
     RequestAttributeView,
     RequestView,
+    Span,
     X509Error,
     status_of,
     view,
@@ -25,7 +25,7 @@ from .certificate import Certificate
 from .extensions import Extensions, _subtrees
 from .key import AlgorithmIdentifier, PublicKey
 from .name import Name
-from .oid import AttributeOID, ObjectIdentifier
+from .oid import ObjectIdentifier
 from .policies import policies_under
 
 
@@ -118,14 +118,15 @@ class CertificateSigningRequest:
 
     @property
     def extensions(self) -> Extensions:
-        """The extensions that it asks for (RFC 2985 5.4.2). An X509Error where several attributes ask for some, or the one hasn't one value."""
-        found = self._attribute(AttributeOID.EXTENSION_REQUEST.content)
-        if found is None:
+        """The extensions that it asks for (RFC 2985 5.4.2). An X509Error where several attributes ask for some, or the one hasn't one value, a list of
+        extensions."""
+        found = Span()
+        status = status_of("x509_request_extensions", self._data, ctypes.byref(found))
+        if status == ABSENT:
             return Extensions([])
-        values = list(walk("x509_attribute_value_next", ElementView, found))
-        if len(values) != 1:
-            raise X509Error("x509_attribute_value_next", FAILED)
-        return Extensions.from_der(values[0].element.of(found))
+        if status != OK:
+            raise X509Error("x509_request_extensions", status)
+        return Extensions.from_der(found.of(self._data))
 
     @property
     def tbs_certrequest_bytes(self) -> bytes:

@@ -9,6 +9,10 @@ extern "C" {
     fn x509_crl_entry_encode(serial_number: *const u8, serial_number_len: usize, date: u64, extensions: *const u8, extensions_len: usize, out: *mut u8, room: usize, written: *mut usize) -> c_int;
     fn x509_build_request(subject: *const u8, subject_len: usize, key: *const u8, key_len: usize, attributes: *const u8, attributes_len: usize, extensions: *const u8, extensions_len: usize, out: *mut u8, room: usize, written: *mut usize) -> c_int;
     fn x509_build_certificate(serial_number: *const u8, serial_number_len: usize, algorithm: *const u8, algorithm_len: usize, issuer: *const u8, issuer_len: usize, not_before: u64, not_after: u64, subject: *const u8, subject_len: usize, key: *const u8, key_len: usize, extensions: *const u8, extensions_len: usize, out: *mut u8, room: usize, written: *mut usize) -> c_int;
+    fn x509_build_root(serial_number: *const u8, serial_number_len: usize, algorithm: *const u8, algorithm_len: usize, not_before: u64, not_after: u64, subject: *const u8, subject_len: usize, key: *const u8, key_len: usize, signs_ocsp_responses: u32, extensions: *const u8, extensions_len: usize, out: *mut u8, room: usize, written: *mut usize) -> c_int;
+    fn x509_build_subordinate(serial_number: *const u8, serial_number_len: usize, algorithm: *const u8, algorithm_len: usize, issuer: *const u8, issuer_len: usize, issuer_key: *const u8, issuer_key_len: usize, not_before: u64, not_after: u64, subject: *const u8, subject_len: usize, key: *const u8, key_len: usize, has_path_len: u32, path_len: u32, signs_ocsp_responses: u32, client_auth: u32, extensions: *const u8, extensions_len: usize, out: *mut u8, room: usize, written: *mut usize) -> c_int;
+    fn x509_build_subscriber(serial_number: *const u8, serial_number_len: usize, algorithm: *const u8, algorithm_len: usize, issuer: *const u8, issuer_len: usize, issuer_key: *const u8, issuer_key_len: usize, not_before: u64, not_after: u64, subject: *const u8, subject_len: usize, key: *const u8, key_len: usize, client_auth: u32, key_encipherment: u32, key_agreement: u32, data_encipherment: u32, extensions: *const u8, extensions_len: usize, out: *mut u8, room: usize, written: *mut usize) -> c_int;
+    fn x509_build_device(serial_number: *const u8, serial_number_len: usize, algorithm: *const u8, algorithm_len: usize, issuer: *const u8, issuer_len: usize, issuer_key: *const u8, issuer_key_len: usize, not_before: u64, not_after: u64, subject: *const u8, subject_len: usize, key: *const u8, key_len: usize, names: *const u8, names_len: usize, extensions: *const u8, extensions_len: usize, out: *mut u8, room: usize, written: *mut usize) -> c_int;
     fn x509_build_crl(issuer: *const u8, issuer_len: usize, algorithm: *const u8, algorithm_len: usize, number: *const u8, number_len: usize, this_update: u64, has_next_update: u32, next_update: u64, entries: *const u8, entries_len: usize, extensions: *const u8, extensions_len: usize, out: *mut u8, room: usize, written: *mut usize) -> c_int;
     fn x509_assemble(part: *const u8, part_len: usize, algorithm: *const u8, algorithm_len: usize, signature: *const u8, signature_len: usize, out: *mut u8, room: usize, written: *mut usize) -> c_int;
 }
@@ -113,6 +117,167 @@ pub(crate) fn certificate(it: &CertificateFields<'_>) -> Result<Vec<u8>, Error> 
                 it.subject.len(),
                 it.key.as_ptr(),
                 it.key.len(),
+                it.extensions.as_ptr(),
+                it.extensions.len(),
+                out,
+                room,
+                written,
+            )
+        }
+    })
+}
+
+/// The bytes to be signed of a root.
+pub(crate) fn root(
+    it: &CertificateFields<'_>,
+    signs_ocsp_responses: bool,
+) -> Result<Vec<u8>, Error> {
+    fill(|out, room, written| {
+        // SAFETY: the header lets the call read the five slices, which are lent for it, and write to `out[0..room)` and `written`, which `fill`
+        // owns.
+        unsafe {
+            x509_build_root(
+                it.serial_number.as_ptr(),
+                it.serial_number.len(),
+                it.algorithm.as_ptr(),
+                it.algorithm.len(),
+                it.not_before,
+                it.not_after,
+                it.subject.as_ptr(),
+                it.subject.len(),
+                it.key.as_ptr(),
+                it.key.len(),
+                u32::from(signs_ocsp_responses),
+                it.extensions.as_ptr(),
+                it.extensions.len(),
+                out,
+                room,
+                written,
+            )
+        }
+    })
+}
+
+/// What is asked of an authority under another one.
+pub(crate) struct Subordinate {
+    pub(crate) path_len: Option<u8>,
+    pub(crate) signs_ocsp_responses: bool,
+    pub(crate) client_auth: bool,
+}
+
+/// The bytes to be signed of an authority under another one, whose key is a whole SubjectPublicKeyInfo.
+pub(crate) fn subordinate(
+    it: &CertificateFields<'_>,
+    issuer_key: &[u8],
+    of: &Subordinate,
+) -> Result<Vec<u8>, Error> {
+    fill(|out, room, written| {
+        // SAFETY: the header lets the call read the seven slices, which are lent for it, and write to `out[0..room)` and `written`, which `fill`
+        // owns.
+        unsafe {
+            x509_build_subordinate(
+                it.serial_number.as_ptr(),
+                it.serial_number.len(),
+                it.algorithm.as_ptr(),
+                it.algorithm.len(),
+                it.issuer.as_ptr(),
+                it.issuer.len(),
+                issuer_key.as_ptr(),
+                issuer_key.len(),
+                it.not_before,
+                it.not_after,
+                it.subject.as_ptr(),
+                it.subject.len(),
+                it.key.as_ptr(),
+                it.key.len(),
+                u32::from(of.path_len.is_some()),
+                u32::from(of.path_len.unwrap_or(0)),
+                u32::from(of.signs_ocsp_responses),
+                u32::from(of.client_auth),
+                it.extensions.as_ptr(),
+                it.extensions.len(),
+                out,
+                room,
+                written,
+            )
+        }
+    })
+}
+
+/// What is asked of a TLS server.
+pub(crate) struct Subscriber {
+    pub(crate) client_auth: bool,
+    pub(crate) key_encipherment: bool,
+    pub(crate) key_agreement: bool,
+    pub(crate) data_encipherment: bool,
+}
+
+/// The bytes to be signed of a TLS server, under an issuer whose key is a whole SubjectPublicKeyInfo.
+pub(crate) fn subscriber(
+    it: &CertificateFields<'_>,
+    issuer_key: &[u8],
+    of: &Subscriber,
+) -> Result<Vec<u8>, Error> {
+    fill(|out, room, written| {
+        // SAFETY: the header lets the call read the seven slices, which are lent for it, and write to `out[0..room)` and `written`, which `fill`
+        // owns.
+        unsafe {
+            x509_build_subscriber(
+                it.serial_number.as_ptr(),
+                it.serial_number.len(),
+                it.algorithm.as_ptr(),
+                it.algorithm.len(),
+                it.issuer.as_ptr(),
+                it.issuer.len(),
+                issuer_key.as_ptr(),
+                issuer_key.len(),
+                it.not_before,
+                it.not_after,
+                it.subject.as_ptr(),
+                it.subject.len(),
+                it.key.as_ptr(),
+                it.key.len(),
+                u32::from(of.client_auth),
+                u32::from(of.key_encipherment),
+                u32::from(of.key_agreement),
+                u32::from(of.data_encipherment),
+                it.extensions.as_ptr(),
+                it.extensions.len(),
+                out,
+                room,
+                written,
+            )
+        }
+    })
+}
+
+/// The bytes to be signed of a device with these names, a whole GeneralNames or none, under an issuer whose key is a whole SubjectPublicKeyInfo.
+pub(crate) fn device(
+    it: &CertificateFields<'_>,
+    issuer_key: &[u8],
+    names: &[u8],
+) -> Result<Vec<u8>, Error> {
+    fill(|out, room, written| {
+        // SAFETY: the header lets the call read the eight slices, which are lent for it, and write to `out[0..room)` and `written`, which `fill`
+        // owns.
+        unsafe {
+            x509_build_device(
+                it.serial_number.as_ptr(),
+                it.serial_number.len(),
+                it.algorithm.as_ptr(),
+                it.algorithm.len(),
+                it.issuer.as_ptr(),
+                it.issuer.len(),
+                issuer_key.as_ptr(),
+                issuer_key.len(),
+                it.not_before,
+                it.not_after,
+                it.subject.as_ptr(),
+                it.subject.len(),
+                it.key.as_ptr(),
+                it.key.len(),
+                names.as_ptr(),
+                names.len(),
                 it.extensions.as_ptr(),
                 it.extensions.len(),
                 out,
