@@ -49,7 +49,8 @@ pub extern "C" fn x509_build_certificate(
     room: &mut [u8],
     written: &mut usize,
 ) -> i32
-    ensures { Tells (λ status. Fills (BuildsCertificate ⟦<TbsCertificate as Encode>⟧.writing serial_number.now algorithm.now issuer.now not_before not_after subject.now key.now extensions.now) room.old room.new written.old written.new status) result }
+    ensures { Tells (λ status. Fills (BuildsCertificate ⟦<TbsCertificate as Encode>⟧.writing serial_number.now algorithm.now issuer.now not_before not_after
+        subject.now key.now extensions.now) room.old room.new written.old written.new status) result }
 {
     build_certificate(
         alloc,
@@ -89,7 +90,9 @@ pub extern "C" fn x509_build_crl(
     room: &mut [u8],
     written: &mut usize,
 ) -> i32
-    ensures { Tells (λ status. Fills (BuildsCrl (λ part. Finds ⟦<SubjectKeyIdentifier as Grammar>⟧.form ⟦<SubjectKeyIdentifier as Decode>⟧.refuses ⟦<SubjectKeyIdentifier as Decode>⟧.wants_memory (with_oid (id_ce 14) (members part.extensions))) issuer.now algorithm.now number.now this_update (if nat_eq has_next_update 0 then None else Some next_update) entries.now extensions.now) room.old room.new written.old written.new status) result }
+    ensures { Tells (λ status. Fills (BuildsCrl (λ part. Finds ⟦<SubjectKeyIdentifier as Grammar>⟧.form ⟦<SubjectKeyIdentifier as Decode>⟧.refuses
+        ⟦<SubjectKeyIdentifier as Decode>⟧.wants_memory (with_oid (id_ce 14) (members part.extensions))) issuer.now algorithm.now number.now this_update
+        (if nat_eq has_next_update 0 then None else Some next_update) entries.now extensions.now) room.old room.new written.old written.new status) result }
 {
     let next_update = where_told(has_next_update, next_update);
     build_crl(
@@ -118,7 +121,8 @@ pub extern "C" fn x509_build_request(
     room: &mut [u8],
     written: &mut usize,
 ) -> i32
-    ensures { Tells (λ status. Fills (BuildsRequest subject.now key.now attributes.now extensions.now) room.old room.new written.old written.new status) result }
+    ensures { Tells (λ status. Fills (BuildsRequest subject.now key.now attributes.now extensions.now) room.old room.new written.old written.new status)
+        result }
 {
     build_request(alloc, subject, key, attributes, extensions, room, written).code()
 }

@@ -26,7 +26,8 @@ pub extern "C" fn x509_certificate_view(
     input: &[u8],
     view: &mut CertificateView,
 ) -> i32
-    ensures { Tells (λ status. Reads ⟦<CertificateInner<Rfc5280> as Grammar>⟧.form ⟦<CertificateInner<Rfc5280> as Grammar>⟧.refuses input.now (λ certificate. IsView input.now certificate view.new) (view.new ≡ view.old) status × (status ≡ Refused Memory → ⊥)) result }
+    ensures { Tells (λ status. Reads ⟦<CertificateInner<Rfc5280> as Grammar>⟧.form ⟦<CertificateInner<Rfc5280> as Grammar>⟧.refuses input.now
+        (λ certificate. IsView input.now certificate view.new) (view.new ≡ view.old) status × (status ≡ Refused Memory → ⊥)) result }
 {
     certificate_view(alloc, input, view).code()
 }
@@ -39,7 +40,8 @@ pub extern "C" fn x509_certificate_extension(
     oid: &[u8],
     found: &mut ExtensionView,
 ) -> i32
-    ensures { Tells (λ status. LooksUpExtension ⟦<CertificateInner<Rfc5280> as Grammar>⟧.form ⟦<CertificateInner<Rfc5280> as Grammar>⟧.refuses input.now oid.now found.old found.new status) result }
+    ensures { Tells (λ status. LooksUpExtension ⟦<CertificateInner<Rfc5280> as Grammar>⟧.form ⟦<CertificateInner<Rfc5280> as Grammar>⟧.refuses input.now
+        oid.now found.old found.new status) result }
 {
     certificate_extension(alloc, input, oid, found).code()
 }
@@ -47,7 +49,8 @@ pub extern "C" fn x509_certificate_extension(
 /// Checks a certificate under the rules of RFC 5280, and fills in what is to be verified of it. It takes no memory.
 #[unsafe(no_mangle)]
 pub extern "C" fn x509_certificate_signature(input: &[u8], signature: &mut SignatureView) -> i32
-    ensures { Tells (λ status. Reads ⟦<CertificateInner<Rfc5280> as Grammar>⟧.form ⟦<CertificateInner<Rfc5280> as Grammar>⟧.refuses input.now (λ certificate. IsSignature input.now certificate signature.new) (signature.new ≡ signature.old) status × (status ≡ Refused Memory → ⊥)) result }
+    ensures { Tells (λ status. Reads ⟦<CertificateInner<Rfc5280> as Grammar>⟧.form ⟦<CertificateInner<Rfc5280> as Grammar>⟧.refuses input.now
+        (λ certificate. IsSignature input.now certificate signature.new) (signature.new ≡ signature.old) status × (status ≡ Refused Memory → ⊥)) result }
 {
     certificate_signature(input, signature).code()
 }

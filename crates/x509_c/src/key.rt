@@ -14,7 +14,8 @@ use x509_der::Grammar;
 /// Decodes a SubjectPublicKeyInfo, and fills in of which kind the key is and where its parts stand.
 #[unsafe(no_mangle)]
 pub extern "C" fn x509_key_view(alloc: Global, input: &[u8], view: &mut KeyView) -> i32
-    ensures { Tells (λ status. Reads ⟦<SubjectPublicKeyInfo as Grammar>⟧.form ⟦<SubjectPublicKeyInfo as Grammar>⟧.refuses input.now (λ key. IsKey input.now key [] view.new) (view.new ≡ view.old) status) result }
+    ensures { Tells (λ status. Reads ⟦<SubjectPublicKeyInfo as Grammar>⟧.form ⟦<SubjectPublicKeyInfo as Grammar>⟧.refuses input.now
+        (λ key. IsKey input.now key [] view.new) (view.new ≡ view.old) status) result }
 {
     payload::<KeyView>(alloc, input, view).code()
 }
@@ -22,7 +23,8 @@ pub extern "C" fn x509_key_view(alloc: Global, input: &[u8], view: &mut KeyView)
 /// Decodes an AlgorithmIdentifier, and fills in of which kind a signature algorithm is and where its parts stand.
 #[unsafe(no_mangle)]
 pub extern "C" fn x509_algorithm_view(alloc: Global, input: &[u8], view: &mut AlgorithmView) -> i32
-    ensures { Tells (λ status. Reads ⟦<AlgorithmIdentifier as Grammar>⟧.form ⟦<AlgorithmIdentifier as Grammar>⟧.refuses input.now (λ algorithm. IsAlgorithm input.now algorithm [] view.new) (view.new ≡ view.old) status) result }
+    ensures { Tells (λ status. Reads ⟦<AlgorithmIdentifier as Grammar>⟧.form ⟦<AlgorithmIdentifier as Grammar>⟧.refuses input.now
+        (λ algorithm. IsAlgorithm input.now algorithm [] view.new) (view.new ≡ view.old) status) result }
 {
     payload::<AlgorithmView>(alloc, input, view).code()
 }

@@ -20,7 +20,8 @@ use x509_ext::pkix::CrlReason;
 /// Decodes a CRL under the rules of RFC 5280, and says how many entries it has.
 #[unsafe(no_mangle)]
 pub extern "C" fn x509_crl_walk(alloc: Global, input: &[u8], count: &mut usize) -> i32
-    ensures { Tells (λ status. Reads ⟦<CertificateList<Rfc5280> as Grammar>⟧.form ⟦<CertificateList<Rfc5280> as Grammar>⟧.refuses input.now (λ list. count.new ≡ length (entries list.tbs_cert_list.revoked_certificates)) (count.new ≡ count.old) status) result }
+    ensures { Tells (λ status. Reads ⟦<CertificateList<Rfc5280> as Grammar>⟧.form ⟦<CertificateList<Rfc5280> as Grammar>⟧.refuses input.now
+        (λ list. count.new ≡ length (entries list.tbs_cert_list.revoked_certificates)) (count.new ≡ count.old) status) result }
 {
     crl_walk(alloc, input, count).code()
 }
@@ -33,7 +34,11 @@ pub extern "C" fn x509_crl_lookup(
     serial_number: &[u8],
     revocation: &mut Revocation,
 ) -> i32
-    ensures { Tells (λ status. LooksUp ⟦<CertificateList<Rfc5280> as Grammar>⟧.form ⟦<CertificateList<Rfc5280> as Grammar>⟧.refuses ⟦<SerialNumber<Rfc5280> as Grammar>⟧.form ⟦<SerialNumber<Rfc5280> as Grammar>⟧.refuses (λ e found. Finds ⟦<CrlReason as Grammar>⟧.form ⟦<CrlReason as Grammar>⟧.refuses ⟦<CrlReason as Decode>⟧.wants_memory (with_oid ⟦<CrlReason as AssociatedOid>⟧.OID (members e.crl_entry_extensions)) found) input.now serial_number.now revocation.old revocation.new status) result }
+    ensures { Tells (λ status. LooksUp ⟦<CertificateList<Rfc5280> as Grammar>⟧.form ⟦<CertificateList<Rfc5280> as Grammar>⟧.refuses
+        ⟦<SerialNumber<Rfc5280> as Grammar>⟧.form ⟦<SerialNumber<Rfc5280> as Grammar>⟧.refuses
+        (λ e found. Finds ⟦<CrlReason as Grammar>⟧.form ⟦<CrlReason as Grammar>⟧.refuses ⟦<CrlReason as Decode>⟧.wants_memory
+        (with_oid ⟦<CrlReason as AssociatedOid>⟧.OID (members e.crl_entry_extensions)) found) input.now serial_number.now revocation.old revocation.new
+        status) result }
 {
     crl_lookup(alloc, input, serial_number, revocation).code()
 }
@@ -41,7 +46,8 @@ pub extern "C" fn x509_crl_lookup(
 /// Decodes a CRL under the rules of RFC 5280, and fills in what it says and where its parts stand.
 #[unsafe(no_mangle)]
 pub extern "C" fn x509_crl_view(alloc: Global, input: &[u8], view: &mut CrlView) -> i32
-    ensures { Tells (λ status. Reads ⟦<CertificateList<Rfc5280> as Grammar>⟧.form ⟦<CertificateList<Rfc5280> as Grammar>⟧.refuses input.now (λ list. IsCrl input.now list [] view.new) (view.new ≡ view.old) status) result }
+    ensures { Tells (λ status. Reads ⟦<CertificateList<Rfc5280> as Grammar>⟧.form ⟦<CertificateList<Rfc5280> as Grammar>⟧.refuses input.now
+        (λ list. IsCrl input.now list [] view.new) (view.new ≡ view.old) status) result }
 {
     payload::<CrlView>(alloc, input, view).code()
 }
@@ -54,7 +60,9 @@ pub extern "C" fn x509_crl_entry_next(
     at: &mut usize,
     found: &mut CrlEntryView,
 ) -> i32
-    ensures { Tells (λ status. Steps ⟦<RevokedCert<Rfc5280> as Grammar>⟧.form ⟦<RevokedCert<Rfc5280> as Grammar>⟧.refuses ⟦<RevokedCert<Rfc5280> as Decode>⟧.wants_memory 48 input.now at.old at.new (λ entry behind span. IsEntry input.now entry behind found.new) (found.new ≡ found.old) status) result }
+    ensures { Tells (λ status. Steps ⟦<RevokedCert<Rfc5280> as Grammar>⟧.form ⟦<RevokedCert<Rfc5280> as Grammar>⟧.refuses
+        ⟦<RevokedCert<Rfc5280> as Decode>⟧.wants_memory 48 input.now at.old at.new
+        (λ entry behind span. IsEntry input.now entry behind found.new) (found.new ≡ found.old) status) result }
 {
     member_next::<CrlEntryView>(alloc, Tag::Sequence, input, at, found).code()
 }

@@ -25,7 +25,8 @@ pub extern "C" fn x509_name_next(
     at: &mut usize,
     found: &mut Span,
 ) -> i32
-    ensures { Tells (λ status. Steps relative_distinguished_name (λ e. ⊥) Unit 48 input.now at.old at.new (λ rdn behind span. found.new ≡ span) (found.new ≡ found.old) status) result }
+    ensures { Tells (λ status. Steps relative_distinguished_name (λ e. ⊥) Unit 48 input.now at.old at.new
+        (λ rdn behind span. found.new ≡ span) (found.new ≡ found.old) status) result }
 {
     element_next::<RelativeDistinguishedName>(alloc, Tag::Sequence, input, at, found).code()
 }
@@ -38,7 +39,9 @@ pub extern "C" fn x509_relative_name_next(
     at: &mut usize,
     found: &mut AttributeView,
 ) -> i32
-    ensures { Tells (λ status. Steps ⟦<AttributeTypeAndValue as Grammar>⟧.form ⟦<AttributeTypeAndValue as Grammar>⟧.refuses ⟦<AttributeTypeAndValue as Decode>⟧.wants_memory 49 input.now at.old at.new (λ attribute behind span. IsAttribute input.now attribute behind found.new) (found.new ≡ found.old) status) result }
+    ensures { Tells (λ status. Steps ⟦<AttributeTypeAndValue as Grammar>⟧.form ⟦<AttributeTypeAndValue as Grammar>⟧.refuses
+        ⟦<AttributeTypeAndValue as Decode>⟧.wants_memory 49 input.now at.old at.new
+        (λ attribute behind span. IsAttribute input.now attribute behind found.new) (found.new ≡ found.old) status) result }
 {
     member_next::<AttributeView>(alloc, Tag::Set, input, at, found).code()
 }
@@ -52,7 +55,9 @@ pub extern "C" fn x509_relative_name_under_next(
     at: &mut usize,
     found: &mut AttributeView,
 ) -> i32
-    ensures { Tells (λ status. (number ≤ 30 → Steps ⟦<AttributeTypeAndValue as Grammar>⟧.form ⟦<AttributeTypeAndValue as Grammar>⟧.refuses ⟦<AttributeTypeAndValue as Decode>⟧.wants_memory (160 + number) input.now at.old at.new (λ attribute behind span. IsAttribute input.now attribute behind found.new) (found.new ≡ found.old) status)
+    ensures { Tells (λ status. (number ≤ 30 → Steps ⟦<AttributeTypeAndValue as Grammar>⟧.form ⟦<AttributeTypeAndValue as Grammar>⟧.refuses
+        ⟦<AttributeTypeAndValue as Decode>⟧.wants_memory (160 + number) input.now at.old at.new
+        (λ attribute behind span. IsAttribute input.now attribute behind found.new) (found.new ≡ found.old) status)
         × (30 < number → (status ≡ Refused Malformed) × (at.new ≡ at.old) × (found.new ≡ found.old))) result }
 {
     member_under_next::<AttributeView>(alloc, number, input, at, found).code()

@@ -16,7 +16,8 @@ use x509_ext::pkix::{AccessDescription, AuthorityKeyIdentifier, SubjectKeyIdenti
 /// Reads a SubjectKeyIdentifier, and fills in where its octets stand.
 #[unsafe(no_mangle)]
 pub extern "C" fn x509_subject_key_identifier(alloc: Global, input: &[u8], found: &mut Span) -> i32
-    ensures { Tells (λ status. Reads ⟦<SubjectKeyIdentifier as Grammar>⟧.form ⟦<SubjectKeyIdentifier as Grammar>⟧.refuses input.now (λ identifier. IsAt identifier.0 [] input.now found.new) (found.new ≡ found.old) status) result }
+    ensures { Tells (λ status. Reads ⟦<SubjectKeyIdentifier as Grammar>⟧.form ⟦<SubjectKeyIdentifier as Grammar>⟧.refuses input.now
+        (λ identifier. IsAt identifier.0 [] input.now found.new) (found.new ≡ found.old) status) result }
 {
     content::<SubjectKeyIdentifier>(alloc, input, found).code()
 }
@@ -28,7 +29,8 @@ pub extern "C" fn x509_authority_key_identifier(
     input: &[u8],
     view: &mut AuthorityKeyIdentifierView,
 ) -> i32
-    ensures { Tells (λ status. Reads ⟦<AuthorityKeyIdentifier as Grammar>⟧.form ⟦<AuthorityKeyIdentifier as Grammar>⟧.refuses input.now (λ identifier. IsAuthorityKeyIdentifier input.now identifier [] view.new) (view.new ≡ view.old) status) result }
+    ensures { Tells (λ status. Reads ⟦<AuthorityKeyIdentifier as Grammar>⟧.form ⟦<AuthorityKeyIdentifier as Grammar>⟧.refuses input.now
+        (λ identifier. IsAuthorityKeyIdentifier input.now identifier [] view.new) (view.new ≡ view.old) status) result }
 {
     payload::<AuthorityKeyIdentifierView>(alloc, input, view).code()
 }
@@ -41,7 +43,9 @@ pub extern "C" fn x509_access_next(
     at: &mut usize,
     found: &mut AccessView,
 ) -> i32
-    ensures { Tells (λ status. Steps ⟦<AccessDescription as Grammar>⟧.form ⟦<AccessDescription as Grammar>⟧.refuses ⟦<AccessDescription as Decode>⟧.wants_memory 48 input.now at.old at.new (λ access behind span. IsAccess input.now access behind found.new) (found.new ≡ found.old) status) result }
+    ensures { Tells (λ status. Steps ⟦<AccessDescription as Grammar>⟧.form ⟦<AccessDescription as Grammar>⟧.refuses
+        ⟦<AccessDescription as Decode>⟧.wants_memory 48 input.now at.old at.new
+        (λ access behind span. IsAccess input.now access behind found.new) (found.new ≡ found.old) status) result }
 {
     member_next::<AccessView>(alloc, Tag::Sequence, input, at, found).code()
 }

@@ -20,7 +20,8 @@ pub extern "C" fn x509_path_check(
     moment: u64,
     fault: &mut Fault,
 ) -> i32
-    ensures { Tells (λ status. ChecksPath ⟦<CertificateInner<Rfc5280> as Grammar>⟧.refuses anchor.now path.now lens.now moment fault.old fault.new status) result }
+    ensures { Tells (λ status. ChecksPath ⟦<CertificateInner<Rfc5280> as Grammar>⟧.refuses anchor.now path.now lens.now moment fault.old fault.new status)
+        result }
 {
     path_check(alloc, anchor, path, lens, moment, fault).code()
 }

@@ -31,7 +31,8 @@ pub extern "C" fn x509_extensions_next(
     at: &mut usize,
     found: &mut ExtensionEntry,
 ) -> i32
-    ensures { Tells (λ status. Steps ⟦<Extension as Grammar>⟧.form ⟦<Extension as Grammar>⟧.refuses ⟦<Extension as Decode>⟧.wants_memory 48 input.now at.old at.new (λ extension behind span. IsExtensionEntry input.now extension behind found.new) (found.new ≡ found.old) status) result }
+    ensures { Tells (λ status. Steps ⟦<Extension as Grammar>⟧.form ⟦<Extension as Grammar>⟧.refuses ⟦<Extension as Decode>⟧.wants_memory 48 input.now at.old
+        at.new (λ extension behind span. IsExtensionEntry input.now extension behind found.new) (found.new ≡ found.old) status) result }
 {
     member_next::<ExtensionEntry>(alloc, Tag::Sequence, input, at, found).code()
 }
@@ -39,7 +40,8 @@ pub extern "C" fn x509_extensions_next(
 /// Decodes a KeyUsage, and fills in its bits.
 #[unsafe(no_mangle)]
 pub extern "C" fn x509_key_usage(alloc: Global, input: &[u8], uses: &mut u32) -> i32
-    ensures { Tells (λ status. Reads ⟦<KeyUsage as Grammar>⟧.form ⟦<KeyUsage as Grammar>⟧.refuses input.now (λ usage. uses.new ≡ usage.0.0) (uses.new ≡ uses.old) status × (status ≡ Refused Memory → ⊥)) result }
+    ensures { Tells (λ status. Reads ⟦<KeyUsage as Grammar>⟧.form ⟦<KeyUsage as Grammar>⟧.refuses input.now
+        (λ usage. uses.new ≡ usage.0.0) (uses.new ≡ uses.old) status × (status ≡ Refused Memory → ⊥)) result }
 {
     read_number::<KeyUsage>(alloc, input, uses).code()
 }
@@ -51,7 +53,8 @@ pub extern "C" fn x509_basic_constraints(
     input: &[u8],
     view: &mut BasicConstraintsView,
 ) -> i32
-    ensures { Tells (λ status. Reads ⟦<BasicConstraints as Grammar>⟧.form ⟦<BasicConstraints as Grammar>⟧.refuses input.now (λ constraints. IsBasicConstraints constraints view.new) (view.new ≡ view.old) status × (status ≡ Refused Memory → ⊥)) result }
+    ensures { Tells (λ status. Reads ⟦<BasicConstraints as Grammar>⟧.form ⟦<BasicConstraints as Grammar>⟧.refuses input.now
+        (λ constraints. IsBasicConstraints constraints view.new) (view.new ≡ view.old) status × (status ≡ Refused Memory → ⊥)) result }
 {
     payload::<BasicConstraintsView>(alloc, input, view).code()
 }
@@ -64,7 +67,8 @@ pub extern "C" fn x509_general_names_next(
     at: &mut usize,
     found: &mut GeneralNameView,
 ) -> i32
-    ensures { Tells (λ status. Steps ⟦<GeneralName as Grammar>⟧.form ⟦<GeneralName as Grammar>⟧.refuses ⟦<GeneralName as Decode>⟧.wants_memory 48 input.now at.old at.new (λ name behind span. IsGeneralName input.now name behind found.new) (found.new ≡ found.old) status) result }
+    ensures { Tells (λ status. Steps ⟦<GeneralName as Grammar>⟧.form ⟦<GeneralName as Grammar>⟧.refuses ⟦<GeneralName as Decode>⟧.wants_memory 48 input.now
+        at.old at.new (λ name behind span. IsGeneralName input.now name behind found.new) (found.new ≡ found.old) status) result }
 {
     member_next::<GeneralNameView>(alloc, Tag::Sequence, input, at, found).code()
 }
@@ -78,7 +82,9 @@ pub extern "C" fn x509_general_names_under_next(
     at: &mut usize,
     found: &mut GeneralNameView,
 ) -> i32
-    ensures { Tells (λ status. (number ≤ 30 → Steps ⟦<GeneralName as Grammar>⟧.form ⟦<GeneralName as Grammar>⟧.refuses ⟦<GeneralName as Decode>⟧.wants_memory (160 + number) input.now at.old at.new (λ name behind span. IsGeneralName input.now name behind found.new) (found.new ≡ found.old) status)
+    ensures { Tells (λ status. (number ≤ 30 → Steps ⟦<GeneralName as Grammar>⟧.form ⟦<GeneralName as Grammar>⟧.refuses
+        ⟦<GeneralName as Decode>⟧.wants_memory (160 + number) input.now at.old at.new
+        (λ name behind span. IsGeneralName input.now name behind found.new) (found.new ≡ found.old) status)
         × (30 < number → (status ≡ Refused Malformed) × (at.new ≡ at.old) × (found.new ≡ found.old))) result }
 {
     member_under_next::<GeneralNameView>(alloc, number, input, at, found).code()
@@ -92,7 +98,9 @@ pub extern "C" fn x509_extended_key_usage_next(
     at: &mut usize,
     found: &mut Span,
 ) -> i32
-    ensures { Tells (λ status. Steps ⟦<ObjectIdentifier as Grammar>⟧.form ⟦<ObjectIdentifier as Grammar>⟧.refuses ⟦<ObjectIdentifier as Decode>⟧.wants_memory 48 input.now at.old at.new (λ oid behind span. IsAt oid behind input.now found.new) (found.new ≡ found.old) status) result }
+    ensures { Tells (λ status. Steps ⟦<ObjectIdentifier as Grammar>⟧.form ⟦<ObjectIdentifier as Grammar>⟧.refuses
+        ⟦<ObjectIdentifier as Decode>⟧.wants_memory 48 input.now at.old at.new
+        (λ oid behind span. IsAt oid behind input.now found.new) (found.new ≡ found.old) status) result }
 {
     identifiers_next(alloc, input, at, found).code()
 }
@@ -105,7 +113,8 @@ pub extern "C" fn x509_oid_text(
     room: &mut [u8],
     written: &mut usize,
 ) -> i32
-    ensures { Tells (λ status. Fills (λ answer. IsDotted content.now answer) room.old room.new written.old written.new status × (status ≡ Refused Memory → (arcs : List ℕ) × AreArcs arcs × (content.now ≡ content_of arcs))) result }
+    ensures { Tells (λ status. Fills (λ answer. IsDotted content.now answer) room.old room.new written.old written.new status
+        × (status ≡ Refused Memory → (arcs : List ℕ) × AreArcs arcs × (content.now ≡ content_of arcs))) result }
 {
     oid_text(alloc, content, room, written).code()
 }
@@ -113,7 +122,8 @@ pub extern "C" fn x509_oid_text(
 /// Puts the content octets of the OID with this dotted text at the front of the buffer.
 #[unsafe(no_mangle)]
 pub extern "C" fn x509_oid_from_text(text: &[u8], room: &mut [u8], written: &mut usize) -> i32
-    ensures { Tells (λ status. Fills (λ answer. IsIdentified text.now answer) room.old room.new written.old written.new status × (status ≡ Refused Memory → ⊥)) result }
+    ensures { Tells (λ status. Fills (λ answer. IsIdentified text.now answer) room.old room.new written.old written.new status
+        × (status ≡ Refused Memory → ⊥)) result }
 {
     oid_from_text(text, room, written).code()
 }

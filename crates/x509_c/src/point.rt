@@ -27,7 +27,9 @@ pub extern "C" fn x509_distribution_points_next(
     at: &mut usize,
     found: &mut DistributionPointView,
 ) -> i32
-    ensures { Tells (λ status. Steps ⟦<DistributionPoint as Grammar>⟧.form ⟦<DistributionPoint as Grammar>⟧.refuses ⟦<DistributionPoint as Decode>⟧.wants_memory 48 input.now at.old at.new (λ point behind span. IsPoint input.now point behind found.new) (found.new ≡ found.old) status) result }
+    ensures { Tells (λ status. Steps ⟦<DistributionPoint as Grammar>⟧.form ⟦<DistributionPoint as Grammar>⟧.refuses
+        ⟦<DistributionPoint as Decode>⟧.wants_memory 48 input.now at.old at.new
+        (λ point behind span. IsPoint input.now point behind found.new) (found.new ≡ found.old) status) result }
 {
     member_next::<DistributionPointView>(alloc, Tag::Sequence, input, at, found).code()
 }
@@ -39,7 +41,8 @@ pub extern "C" fn x509_issuing_distribution_point(
     input: &[u8],
     view: &mut IssuingDistributionPointView,
 ) -> i32
-    ensures { Tells (λ status. Reads ⟦<IssuingDistributionPoint as Grammar>⟧.form ⟦<IssuingDistributionPoint as Grammar>⟧.refuses input.now (λ point. IsIssuingPoint input.now point [] view.new) (view.new ≡ view.old) status) result }
+    ensures { Tells (λ status. Reads ⟦<IssuingDistributionPoint as Grammar>⟧.form ⟦<IssuingDistributionPoint as Grammar>⟧.refuses input.now
+        (λ point. IsIssuingPoint input.now point [] view.new) (view.new ≡ view.old) status) result }
 {
     payload::<IssuingDistributionPointView>(alloc, input, view).code()
 }
@@ -47,7 +50,8 @@ pub extern "C" fn x509_issuing_distribution_point(
 /// Reads the number of a CRL, and fills in where its content octets stand.
 #[unsafe(no_mangle)]
 pub extern "C" fn x509_crl_number(alloc: Global, input: &[u8], found: &mut Span) -> i32
-    ensures { Tells (λ status. Reads ⟦<CrlNumber as Grammar>⟧.form ⟦<CrlNumber as Grammar>⟧.refuses input.now (λ crl. IsAt crl.0 [] input.now found.new) (found.new ≡ found.old) status) result }
+    ensures { Tells (λ status. Reads ⟦<CrlNumber as Grammar>⟧.form ⟦<CrlNumber as Grammar>⟧.refuses input.now
+        (λ crl. IsAt crl.0 [] input.now found.new) (found.new ≡ found.old) status) result }
 {
     content::<CrlNumber>(alloc, input, found).code()
 }
@@ -55,7 +59,8 @@ pub extern "C" fn x509_crl_number(alloc: Global, input: &[u8], found: &mut Span)
 /// Reads the number of the CRL that another changes, and fills in where its content octets stand.
 #[unsafe(no_mangle)]
 pub extern "C" fn x509_base_crl_number(alloc: Global, input: &[u8], found: &mut Span) -> i32
-    ensures { Tells (λ status. Reads ⟦<BaseCrlNumber as Grammar>⟧.form ⟦<BaseCrlNumber as Grammar>⟧.refuses input.now (λ crl. IsAt crl.0 [] input.now found.new) (found.new ≡ found.old) status) result }
+    ensures { Tells (λ status. Reads ⟦<BaseCrlNumber as Grammar>⟧.form ⟦<BaseCrlNumber as Grammar>⟧.refuses input.now
+        (λ crl. IsAt crl.0 [] input.now found.new) (found.new ≡ found.old) status) result }
 {
     content::<BaseCrlNumber>(alloc, input, found).code()
 }
@@ -63,7 +68,8 @@ pub extern "C" fn x509_base_crl_number(alloc: Global, input: &[u8], found: &mut 
 /// Reads a reason code, and fills in its number.
 #[unsafe(no_mangle)]
 pub extern "C" fn x509_crl_reason(alloc: Global, input: &[u8], reason: &mut u32) -> i32
-    ensures { Tells (λ status. Reads ⟦<CrlReason as Grammar>⟧.form ⟦<CrlReason as Grammar>⟧.refuses input.now (λ code. reason.new ≡ crl_reason_number code) (reason.new ≡ reason.old) status × (status ≡ Refused Memory → ⊥)) result }
+    ensures { Tells (λ status. Reads ⟦<CrlReason as Grammar>⟧.form ⟦<CrlReason as Grammar>⟧.refuses input.now
+        (λ code. reason.new ≡ crl_reason_number code) (reason.new ≡ reason.old) status × (status ≡ Refused Memory → ⊥)) result }
 {
     read_number::<CrlReason>(alloc, input, reason).code()
 }

@@ -25,7 +25,9 @@ pub extern "C" fn x509_certificate_policies_next(
     at: &mut usize,
     found: &mut PolicyView,
 ) -> i32
-    ensures { Tells (λ status. Steps ⟦<PolicyInformation as Grammar>⟧.form ⟦<PolicyInformation as Grammar>⟧.refuses ⟦<PolicyInformation as Decode>⟧.wants_memory 48 input.now at.old at.new (λ policy behind span. IsPolicy input.now policy behind found.new) (found.new ≡ found.old) status) result }
+    ensures { Tells (λ status. Steps ⟦<PolicyInformation as Grammar>⟧.form ⟦<PolicyInformation as Grammar>⟧.refuses
+        ⟦<PolicyInformation as Decode>⟧.wants_memory 48 input.now at.old at.new
+        (λ policy behind span. IsPolicy input.now policy behind found.new) (found.new ≡ found.old) status) result }
 {
     member_next::<PolicyView>(alloc, Tag::Sequence, input, at, found).code()
 }
@@ -39,7 +41,9 @@ pub extern "C" fn x509_certificate_policies_under_next(
     at: &mut usize,
     found: &mut PolicyView,
 ) -> i32
-    ensures { Tells (λ status. (number ≤ 30 → Steps ⟦<PolicyInformation as Grammar>⟧.form ⟦<PolicyInformation as Grammar>⟧.refuses ⟦<PolicyInformation as Decode>⟧.wants_memory (160 + number) input.now at.old at.new (λ policy behind span. IsPolicy input.now policy behind found.new) (found.new ≡ found.old) status)
+    ensures { Tells (λ status. (number ≤ 30 → Steps ⟦<PolicyInformation as Grammar>⟧.form ⟦<PolicyInformation as Grammar>⟧.refuses
+        ⟦<PolicyInformation as Decode>⟧.wants_memory (160 + number) input.now at.old at.new
+        (λ policy behind span. IsPolicy input.now policy behind found.new) (found.new ≡ found.old) status)
         × (30 < number → (status ≡ Refused Malformed) × (at.new ≡ at.old) × (found.new ≡ found.old))) result }
 {
     member_under_next::<PolicyView>(alloc, number, input, at, found).code()
@@ -53,7 +57,9 @@ pub extern "C" fn x509_policy_qualifiers_next(
     at: &mut usize,
     found: &mut QualifierView,
 ) -> i32
-    ensures { Tells (λ status. Steps ⟦<PolicyQualifierInfo as Grammar>⟧.form ⟦<PolicyQualifierInfo as Grammar>⟧.refuses ⟦<PolicyQualifierInfo as Decode>⟧.wants_memory 48 input.now at.old at.new (λ info behind span. IsQualifier input.now info behind found.new) (found.new ≡ found.old) status) result }
+    ensures { Tells (λ status. Steps ⟦<PolicyQualifierInfo as Grammar>⟧.form ⟦<PolicyQualifierInfo as Grammar>⟧.refuses
+        ⟦<PolicyQualifierInfo as Decode>⟧.wants_memory 48 input.now at.old at.new
+        (λ info behind span. IsQualifier input.now info behind found.new) (found.new ≡ found.old) status) result }
 {
     member_next::<QualifierView>(alloc, Tag::Sequence, input, at, found).code()
 }
@@ -66,7 +72,8 @@ pub extern "C" fn x509_policy_mappings_next(
     at: &mut usize,
     found: &mut MappingView,
 ) -> i32
-    ensures { Tells (λ status. Steps ⟦<PolicyMapping as Grammar>⟧.form ⟦<PolicyMapping as Grammar>⟧.refuses ⟦<PolicyMapping as Decode>⟧.wants_memory 48 input.now at.old at.new (λ mapping behind span. IsMapping input.now mapping behind found.new) (found.new ≡ found.old) status) result }
+    ensures { Tells (λ status. Steps ⟦<PolicyMapping as Grammar>⟧.form ⟦<PolicyMapping as Grammar>⟧.refuses ⟦<PolicyMapping as Decode>⟧.wants_memory 48
+        input.now at.old at.new (λ mapping behind span. IsMapping input.now mapping behind found.new) (found.new ≡ found.old) status) result }
 {
     member_next::<MappingView>(alloc, Tag::Sequence, input, at, found).code()
 }
@@ -78,7 +85,8 @@ pub extern "C" fn x509_policy_constraints(
     input: &[u8],
     view: &mut PolicyConstraintsView,
 ) -> i32
-    ensures { Tells (λ status. Reads ⟦<PolicyConstraints as Grammar>⟧.form ⟦<PolicyConstraints as Grammar>⟧.refuses input.now (λ constraints. IsPolicyConstraints constraints view.new) (view.new ≡ view.old) status × (status ≡ Refused Memory → ⊥)) result }
+    ensures { Tells (λ status. Reads ⟦<PolicyConstraints as Grammar>⟧.form ⟦<PolicyConstraints as Grammar>⟧.refuses input.now
+        (λ constraints. IsPolicyConstraints constraints view.new) (view.new ≡ view.old) status × (status ≡ Refused Memory → ⊥)) result }
 {
     payload::<PolicyConstraintsView>(alloc, input, view).code()
 }
@@ -90,7 +98,8 @@ pub extern "C" fn x509_inhibit_any_policy(
     input: &[u8],
     certificates: &mut u32,
 ) -> i32
-    ensures { Tells (λ status. Reads ⟦<InhibitAnyPolicy as Grammar>⟧.form ⟦<InhibitAnyPolicy as Grammar>⟧.refuses input.now (λ inhibit. certificates.new ≡ inhibit.0) (certificates.new ≡ certificates.old) status × (status ≡ Refused Memory → ⊥)) result }
+    ensures { Tells (λ status. Reads ⟦<InhibitAnyPolicy as Grammar>⟧.form ⟦<InhibitAnyPolicy as Grammar>⟧.refuses input.now
+        (λ inhibit. certificates.new ≡ inhibit.0) (certificates.new ≡ certificates.old) status × (status ≡ Refused Memory → ⊥)) result }
 {
     read_number::<InhibitAnyPolicy>(alloc, input, certificates).code()
 }

@@ -23,7 +23,8 @@ use x509_name::attr::Attribute;
 /// Checks a CSR, and fills in what it says and where its parts stand. It takes no memory.
 #[unsafe(no_mangle)]
 pub extern "C" fn x509_request_view(input: &[u8], view: &mut RequestView) -> i32
-    ensures { Tells (λ status. Reads ⟦<CertReq as Grammar>⟧.form ⟦<CertReq as Grammar>⟧.refuses input.now (λ request. IsRequest input.now request [] view.new) (view.new ≡ view.old) status × (status ≡ Refused Memory → ⊥)) result }
+    ensures { Tells (λ status. Reads ⟦<CertReq as Grammar>⟧.form ⟦<CertReq as Grammar>⟧.refuses input.now
+        (λ request. IsRequest input.now request [] view.new) (view.new ≡ view.old) status × (status ≡ Refused Memory → ⊥)) result }
 {
     request_view(input, view).code()
 }
@@ -36,7 +37,8 @@ pub extern "C" fn x509_request_attribute_next(
     at: &mut usize,
     found: &mut RequestAttributeView,
 ) -> i32
-    ensures { Tells (λ status. Steps ⟦<Attribute as Grammar>⟧.form ⟦<Attribute as Grammar>⟧.refuses ⟦<Attribute as Decode>⟧.wants_memory 160 input.now at.old at.new (λ attribute behind span. IsRequestAttribute input.now attribute behind found.new) (found.new ≡ found.old) status) result }
+    ensures { Tells (λ status. Steps ⟦<Attribute as Grammar>⟧.form ⟦<Attribute as Grammar>⟧.refuses ⟦<Attribute as Decode>⟧.wants_memory 160 input.now
+        at.old at.new (λ attribute behind span. IsRequestAttribute input.now attribute behind found.new) (found.new ≡ found.old) status) result }
 {
     member_under_next::<RequestAttributeView>(alloc, 0, input, at, found).code()
 }
@@ -49,7 +51,8 @@ pub extern "C" fn x509_attribute_value_next(
     at: &mut usize,
     found: &mut ElementView,
 ) -> i32
-    ensures { Tells (λ status. Steps ⟦<Any as Grammar>⟧.form ⟦<Any as Grammar>⟧.refuses ⟦<Any as Decode>⟧.wants_memory 49 input.now at.old at.new (λ value behind span. IsElement input.now value behind found.new) (found.new ≡ found.old) status) result }
+    ensures { Tells (λ status. Steps ⟦<Any as Grammar>⟧.form ⟦<Any as Grammar>⟧.refuses ⟦<Any as Decode>⟧.wants_memory 49 input.now at.old at.new
+        (λ value behind span. IsElement input.now value behind found.new) (found.new ≡ found.old) status) result }
 {
     member_next::<ElementView>(alloc, Tag::Set, input, at, found).code()
 }
@@ -62,7 +65,8 @@ pub extern "C" fn x509_request_attribute_find(
     oid: &[u8],
     found: &mut RequestAttributeView,
 ) -> i32
-    ensures { Tells (λ status. LooksUpAttribute ⟦<CertReq as Grammar>⟧.form ⟦<CertReq as Grammar>⟧.refuses input.now oid.now found.old found.new status) result }
+    ensures { Tells (λ status. LooksUpAttribute ⟦<CertReq as Grammar>⟧.form ⟦<CertReq as Grammar>⟧.refuses input.now oid.now found.old found.new status)
+        result }
 {
     request_attribute(alloc, input, oid, found).code()
 }

@@ -21,7 +21,8 @@ pub extern "C" fn x509_name_constraints(
     input: &[u8],
     view: &mut NameConstraintsView,
 ) -> i32
-    ensures { Tells (λ status. Reads ⟦<NameConstraints as Grammar>⟧.form ⟦<NameConstraints as Grammar>⟧.refuses input.now (λ constraints. AreNameConstraints input.now constraints [] view.new) (view.new ≡ view.old) status) result }
+    ensures { Tells (λ status. Reads ⟦<NameConstraints as Grammar>⟧.form ⟦<NameConstraints as Grammar>⟧.refuses input.now
+        (λ constraints. AreNameConstraints input.now constraints [] view.new) (view.new ≡ view.old) status) result }
 {
     payload::<NameConstraintsView>(alloc, input, view).code()
 }
@@ -35,7 +36,9 @@ pub extern "C" fn x509_subtrees_under_next(
     at: &mut usize,
     found: &mut SubtreeView,
 ) -> i32
-    ensures { Tells (λ status. (number ≤ 30 → Steps ⟦<GeneralSubtree as Grammar>⟧.form ⟦<GeneralSubtree as Grammar>⟧.refuses ⟦<GeneralSubtree as Decode>⟧.wants_memory (160 + number) input.now at.old at.new (λ subtree behind span. IsSubtree input.now subtree behind found.new) (found.new ≡ found.old) status)
+    ensures { Tells (λ status. (number ≤ 30 → Steps ⟦<GeneralSubtree as Grammar>⟧.form ⟦<GeneralSubtree as Grammar>⟧.refuses
+        ⟦<GeneralSubtree as Decode>⟧.wants_memory (160 + number) input.now at.old at.new
+        (λ subtree behind span. IsSubtree input.now subtree behind found.new) (found.new ≡ found.old) status)
         × (30 < number → (status ≡ Refused Malformed) × (at.new ≡ at.old) × (found.new ≡ found.old))) result }
 {
     member_under_next::<SubtreeView>(alloc, number, input, at, found).code()

@@ -19,7 +19,8 @@ use x509_der::Grammar;
 /// Reads a serial number under the rules of RFC 5280, and fills in where its content octets stand.
 #[unsafe(no_mangle)]
 pub extern "C" fn x509_serial_number(alloc: Global, input: &[u8], found: &mut Span) -> i32
-    ensures { Tells (λ status. Reads ⟦<SerialNumber<Rfc5280> as Grammar>⟧.form ⟦<SerialNumber<Rfc5280> as Grammar>⟧.refuses input.now (λ serial. IsAt serial [] input.now found.new) (found.new ≡ found.old) status) result }
+    ensures { Tells (λ status. Reads ⟦<SerialNumber<Rfc5280> as Grammar>⟧.form ⟦<SerialNumber<Rfc5280> as Grammar>⟧.refuses input.now
+        (λ serial. IsAt serial [] input.now found.new) (found.new ≡ found.old) status) result }
 {
     content::<SerialNumber<Rfc5280>>(alloc, input, found).code()
 }
@@ -54,7 +55,8 @@ pub extern "C" fn x509_time_text(
     room: &mut [u8],
     written: &mut usize,
 ) -> i32
-    ensures { Tells (λ status. Fills (λ answer. IsTimeText moment answer) room.old room.new written.old written.new status × (status ≡ Refused Memory → moment ≤ unix_seconds last_date_time)) result }
+    ensures { Tells (λ status. Fills (λ answer. IsTimeText moment answer) room.old room.new written.old written.new status
+        × (status ≡ Refused Memory → moment ≤ unix_seconds last_date_time)) result }
 {
     time_text(alloc, moment, room, written).code()
 }
@@ -62,7 +64,8 @@ pub extern "C" fn x509_time_text(
 /// Puts what the status with that number means, in a few words, at the front of the room.
 #[unsafe(no_mangle)]
 pub extern "C" fn x509_status_text(status: i32, room: &mut [u8], written: &mut usize) -> i32
-    ensures { Tells (λ answer. Fills (λ text. IsStatusText status text) room.old room.new written.old written.new answer × (answer ≡ Refused Memory → ⊥)) result }
+    ensures { Tells (λ answer. Fills (λ text. IsStatusText status text) room.old room.new written.old written.new answer
+        × (answer ≡ Refused Memory → ⊥)) result }
 {
     status_text(status, room, written).code()
 }

@@ -33,7 +33,8 @@ pub extern "C" fn x509_reencode(
     room: &mut [u8],
     written: &mut usize,
 ) -> i32
-    ensures { Tells (λ status. Fills (IsNamedAnswer ⟦<Types as Codec>⟧.reencodes name.now (profile_of profile) input.now) room.old room.new written.old written.new status) result }
+    ensures { Tells (λ status. Fills (IsNamedAnswer ⟦<Types as Codec>⟧.reencodes name.now
+        (profile_of profile) input.now) room.old room.new written.old written.new status) result }
 {
     reencode_named::<Types>(alloc, name, profile, input, room, written).code()
 }
@@ -41,7 +42,8 @@ pub extern "C" fn x509_reencode(
 /// Checks a certificate under the rules of RFC 5280. It takes no memory.
 #[unsafe(no_mangle)]
 pub extern "C" fn x509_certificate_check(input: &[u8]) -> i32
-    ensures { Tells (λ status. Checks ⟦<CertificateInner<Rfc5280> as Grammar>⟧.form ⟦<CertificateInner<Rfc5280> as Grammar>⟧.refuses input.now status × (status ≡ Refused Memory → ⊥)) result }
+    ensures { Tells (λ status. Checks ⟦<CertificateInner<Rfc5280> as Grammar>⟧.form ⟦<CertificateInner<Rfc5280> as Grammar>⟧.refuses input.now status
+        × (status ≡ Refused Memory → ⊥)) result }
 {
     check::<CertificateInner<Rfc5280>>(input).code()
 }
@@ -54,7 +56,8 @@ pub extern "C" fn x509_certificate_reencode(
     room: &mut [u8],
     written: &mut usize,
 ) -> i32
-    ensures { Tells (λ status. Fills (Reencodes ⟦<CertificateInner<Rfc5280> as Grammar>⟧.form ⟦<CertificateInner<Rfc5280> as Encode>⟧.writing ⟦<CertificateInner<Rfc5280> as Grammar>⟧.refuses input.now) room.old room.new written.old written.new status) result }
+    ensures { Tells (λ status. Fills (Reencodes ⟦<CertificateInner<Rfc5280> as Grammar>⟧.form ⟦<CertificateInner<Rfc5280> as Encode>⟧.writing
+        ⟦<CertificateInner<Rfc5280> as Grammar>⟧.refuses input.now) room.old room.new written.old written.new status) result }
 {
     reencode::<CertificateInner<Rfc5280>>(alloc, input, room, written).code()
 }
@@ -62,7 +65,8 @@ pub extern "C" fn x509_certificate_reencode(
 /// Checks a CRL under the rules of RFC 5280. It takes no memory.
 #[unsafe(no_mangle)]
 pub extern "C" fn x509_crl_check(input: &[u8]) -> i32
-    ensures { Tells (λ status. Checks ⟦<CertificateList<Rfc5280> as Grammar>⟧.form ⟦<CertificateList<Rfc5280> as Grammar>⟧.refuses input.now status × (status ≡ Refused Memory → ⊥)) result }
+    ensures { Tells (λ status. Checks ⟦<CertificateList<Rfc5280> as Grammar>⟧.form ⟦<CertificateList<Rfc5280> as Grammar>⟧.refuses input.now status
+        × (status ≡ Refused Memory → ⊥)) result }
 {
     check::<CertificateList<Rfc5280>>(input).code()
 }
@@ -96,7 +100,8 @@ pub extern "C" fn x509_name_from_text(
     room: &mut [u8],
     written: &mut usize,
 ) -> i32
-    ensures { Tells (λ status. Fills (IsTextAnswer ⟦<Types as NameCodec>⟧.encodes_name (is_utf8 text.now) text.now) room.old room.new written.old written.new status) result }
+    ensures { Tells (λ status. Fills (IsTextAnswer ⟦<Types as NameCodec>⟧.encodes_name
+        (is_utf8 text.now) text.now) room.old room.new written.old written.new status) result }
 {
     name_from_text::<Types>(alloc, text, room, written).code()
 }

@@ -3,10 +3,10 @@
 
 mod assembly;
 mod certificate;
+mod crl;
 mod device;
 mod encode;
 mod input;
-mod crl;
 mod profile;
 mod request;
 mod root;
@@ -16,9 +16,9 @@ mod tls;
 
 pub use assembly::assemble;
 pub use certificate::build_certificate;
+pub use crl::build_crl;
 pub use device::build_device;
 pub use encode::{entry_encode, extension_encode};
-pub use crl::build_crl;
 pub use request::build_request;
 pub use root::build_root;
 pub use tls::{SubscriberUses, build_subordinate, build_subscriber};

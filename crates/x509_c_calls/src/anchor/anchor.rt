@@ -50,7 +50,19 @@ pub struct AnchorView {
 
 /// An anchor of that kind that stands there and has these parts.
 fn with_part(kind: u32, element: Span, part: PartView) -> AnchorView
-    ensures { result ≡ record { kind = kind; element = element; name = part.subject; subject_public_key_info = part.subject_public_key_info; extensions = part.extensions; key_identifier = record { place = 0; len = 0 }; title = record { place = 0; len = 0 }; title_language = record { place = 0; len = 0 }; controls = record { place = 0; len = 0 } } }
+    ensures { result ≡ record {
+      kind = kind;
+      element = element;
+      name = part.subject;
+      subject_public_key_info = part.subject_public_key_info;
+      extensions =
+          part.extensions;
+      key_identifier = record { place = 0; len = 0 };
+      title = record { place = 0; len = 0 };
+      title_language =
+          record { place = 0; len = 0 };
+      controls = record { place = 0; len = 0 };
+    } }
 {
     AnchorView {
         kind,
@@ -68,7 +80,8 @@ fn with_part(kind: u32, element: Span, part: PartView) -> AnchorView
 /// The anchor that is the certificate at the place.
 fn of_certificate(input: &[u8], place: usize, value: &CertificateInner<Rfc5280>) -> AnchorView
     requires { place ≤ length input.now }
-    ensures { (behind : List ℕ) → drop place input.now ≡ spelling (certificate rfc5280_serial_number) value.now ++ behind → IsCertificateAnchor input.now value.now behind result }
+    ensures { (behind : List ℕ) → drop place input.now ≡ spelling (certificate rfc5280_serial_number) value.now ++ behind
+        → IsCertificateAnchor input.now value.now behind result }
 {
     let mut at = place;
     let element = step(input, &mut at, true);
@@ -81,7 +94,8 @@ fn of_certificate(input: &[u8], place: usize, value: &CertificateInner<Rfc5280>)
 /// The anchor that is the TBSCertificate whose tag stands at the place.
 fn of_part(input: &[u8], place: usize, value: &TbsCertificateInner<Rfc5280>) -> AnchorView
     requires { place ≤ length input.now }
-    ensures { (behind : List ℕ) → drop place input.now ≡ spelling (explicit 1 (tbs_certificate rfc5280_serial_number)) value.now ++ behind → IsPartAnchor input.now value.now behind result }
+    ensures { (behind : List ℕ) → drop place input.now ≡ spelling (explicit 1 (tbs_certificate rfc5280_serial_number)) value.now ++ behind
+        → IsPartAnchor input.now value.now behind result }
 {
     let element = content_at(input, place);
     let part = PartView::view(input, element.place, value);
@@ -91,7 +105,8 @@ fn of_part(input: &[u8], place: usize, value: &TbsCertificateInner<Rfc5280>) -> 
 /// The anchor that is the TrustAnchorInfo whose tag stands at the place.
 fn of_info(input: &[u8], place: usize, value: &TrustAnchorInfo<Rfc5280>) -> AnchorView
     requires { place ≤ length input.now }
-    ensures { (behind : List ℕ) → drop place input.now ≡ spelling (explicit 2 (trust_anchor_info rfc5280_serial_number)) value.now ++ behind → IsInfoAnchor input.now value.now behind result }
+    ensures { (behind : List ℕ) → drop place input.now ≡ spelling (explicit 2 (trust_anchor_info rfc5280_serial_number)) value.now ++ behind
+        → IsInfoAnchor input.now value.now behind result }
 {
     let element = content_at(input, place);
     let info = InfoView::view(input, element.place, value);

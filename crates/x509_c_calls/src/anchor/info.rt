@@ -41,7 +41,8 @@ fn step_controls(
 ) -> (Span, Span)
     requires { at.old ≤ length input.now }
     ensures within { at.new ≤ length input.now }
-    ensures stands { (more : List ℕ) → drop at.old input.now ≡ controls_text controls.now ++ more → IsControlled controls.now more input.now result.0 result.1 × (drop at.new input.now ≡ more) }
+    ensures stands { (more : List ℕ) → drop at.old input.now ≡ controls_text controls.now ++ more
+        → IsControlled controls.now more input.now result.0 result.1 × (drop at.new input.now ≡ more) }
 {
     match controls {
         None => (NOWHERE, NOWHERE),

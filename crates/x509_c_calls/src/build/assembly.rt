@@ -70,7 +70,8 @@ fn signed_of(
     algorithm: &[u8],
     signature: &[u8],
 ) -> Result<Signed, ErrorKind>
-    ensures { MatchResult result (λ signed. AreSigned part.now algorithm.now signature.now signed) (λ e. (e ≡ Memory) ⊎ RefusesSigned part.now algorithm.now e) }
+    ensures { MatchResult result (λ signed. AreSigned part.now algorithm.now signature.now signed) (λ e. (e ≡ Memory)
+        ⊎ RefusesSigned part.now algorithm.now e) }
 {
     let algorithm = read::<AlgorithmIdentifier>(alloc, algorithm)?;
     check_part(alloc, part, &algorithm)?;

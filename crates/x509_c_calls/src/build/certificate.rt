@@ -85,7 +85,8 @@ pub fn build_certificate(
     room: &mut [u8],
     written: &mut usize,
 ) -> Status
-    ensures { Fills (BuildsCertificate ⟦<TbsCertificate as Encode>⟧.writing serial_number.now algorithm.now issuer.now not_before not_after subject.now key.now extensions.now) room.old room.new written.old written.new result }
+    ensures { Fills (BuildsCertificate ⟦<TbsCertificate as Encode>⟧.writing serial_number.now algorithm.now issuer.now not_before not_after subject.now
+        key.now extensions.now) room.old room.new written.old written.new result }
 {
     match part_of(
         alloc,

@@ -108,7 +108,11 @@ pub fn build_device(
     room: &mut [u8],
     written: &mut usize,
 ) -> Status
-    ensures { Fills (BuildsProfile (record { subject_of = ⟦<DevId as BuilderProfile>⟧.subject_of; issuer_of = ⟦<DevId as BuilderProfile>⟧.issuer_of; extensions_of = ⟦<DevId as BuilderProfile>⟧.extensions_of }) ⟦<TbsCertificate as Encode>⟧.writing
+    ensures { Fills (BuildsProfile (record {
+      subject_of = ⟦<DevId as BuilderProfile>⟧.subject_of;
+      issuer_of = ⟦<DevId as BuilderProfile>⟧.issuer_of;
+      extensions_of = ⟦<DevId as BuilderProfile>⟧.extensions_of;
+    }) ⟦<TbsCertificate as Encode>⟧.writing
         (Inputs (IsDevice issuer.now subject.now names.now) (λ key. Spells subject_public_key_info key issuer_key.now) (ArePartInputs serial_number.now algorithm.now not_before not_after key.now extensions.now))
         (λ e. RefusesDevice issuer.now subject.now names.now e ⊎ (IsRefused subject_public_key_info (λ e. ⊥) issuer_key.now e ⊎ RefusesPartInputs serial_number.now algorithm.now not_before not_after key.now extensions.now e))) room.old room.new written.old written.new result }
 {

@@ -16,7 +16,8 @@ use x509_prim::OctetString;
 
 /// The extension with an OID of these content octets, which holds those octets.
 fn extension_of(alloc: Global, oid: &[u8], critical: bool, value: &[u8]) -> Result<Extension, Error>
-    ensures { MatchResult result (λ extension. IsExtensionOf oid.now critical value.now extension) (λ e. (e.kind ≡ Memory) ⊎ RefusesExtension oid.now value.now e.kind) }
+    ensures { MatchResult result (λ extension. IsExtensionOf oid.now critical value.now extension) (λ e. (e.kind ≡ Memory)
+        ⊎ RefusesExtension oid.now value.now e.kind) }
 {
     Ok(Extension {
         extn_id: ObjectIdentifier::from_bytes(oid)?,
@@ -57,7 +58,8 @@ fn entry_of(
     date: u64,
     extensions: &[u8],
 ) -> Result<RevokedCert<Rfc5280>, ErrorKind>
-    ensures { MatchResult result (λ entry. IsEntryOf serial_number.now date extensions.now entry) (λ e. (e ≡ Memory) ⊎ RefusesEntry serial_number.now date extensions.now e) }
+    ensures { MatchResult result (λ entry. IsEntryOf serial_number.now date extensions.now entry) (λ e. (e ≡ Memory)
+        ⊎ RefusesEntry serial_number.now date extensions.now e) }
 {
     let serial_number = read::<SerialNumber<Rfc5280>>(alloc, serial_number)?;
     let revocation_date = time_at(date)?;

@@ -123,7 +123,8 @@ pub(crate) fn fill_part<P: BuilderProfile>(
     room: &mut [u8],
     written: &mut usize,
 ) -> Status
-    ensures { Fills (Makes (record { subject_of = P.subject_of; issuer_of = P.issuer_of; extensions_of = P.extensions_of }) ⟦<TbsCertificate as Encode>⟧.writing inputs) room.old room.new written.old written.new result }
+    ensures { Fills (Makes (record { subject_of = P.subject_of; issuer_of = P.issuer_of; extensions_of = P.extensions_of })
+        ⟦<TbsCertificate as Encode>⟧.writing inputs) room.old room.new written.old written.new result }
 {
     let inputs = match inputs {
         Ok(inputs) => inputs,

@@ -85,7 +85,11 @@ pub fn build_root(
     room: &mut [u8],
     written: &mut usize,
 ) -> Status
-    ensures { Fills (BuildsProfile (record { subject_of = ⟦<Root as BuilderProfile>⟧.subject_of; issuer_of = ⟦<Root as BuilderProfile>⟧.issuer_of; extensions_of = ⟦<Root as BuilderProfile>⟧.extensions_of }) ⟦<TbsCertificate as Encode>⟧.writing
+    ensures { Fills (BuildsProfile (record {
+      subject_of = ⟦<Root as BuilderProfile>⟧.subject_of;
+      issuer_of = ⟦<Root as BuilderProfile>⟧.issuer_of;
+      extensions_of = ⟦<Root as BuilderProfile>⟧.extensions_of;
+    }) ⟦<TbsCertificate as Encode>⟧.writing
         (Inputs (IsRoot subject.now emits_ocsp_response) (λ key. Unit {0}) (ArePartInputs serial_number.now algorithm.now not_before not_after key.now extensions.now))
         (λ e. RefusesRoot subject.now e ⊎ RefusesPartInputs serial_number.now algorithm.now not_before not_after key.now extensions.now e)) room.old room.new written.old written.new result }
 {

@@ -176,7 +176,12 @@ pub fn build_subordinate(
     room: &mut [u8],
     written: &mut usize,
 ) -> Status
-    ensures { Fills (BuildsProfile (record { subject_of = ⟦<Subordinate as BuilderProfile>⟧.subject_of; issuer_of = ⟦<Subordinate as BuilderProfile>⟧.issuer_of; extensions_of = ⟦<Subordinate as BuilderProfile>⟧.extensions_of }) ⟦<TbsCertificate as Encode>⟧.writing
+    ensures { Fills (BuildsProfile (record {
+      subject_of = ⟦<Subordinate as BuilderProfile>⟧.subject_of;
+      issuer_of =
+          ⟦<Subordinate as BuilderProfile>⟧.issuer_of;
+      extensions_of = ⟦<Subordinate as BuilderProfile>⟧.extensions_of;
+    }) ⟦<TbsCertificate as Encode>⟧.writing
         (Inputs (IsSubordinate issuer.now subject.now path_len emits_ocsp_response client_auth) (λ key. Spells subject_public_key_info key issuer_key.now) (ArePartInputs serial_number.now algorithm.now not_before not_after key.now extensions.now))
         (λ e. RefusesSubordinate issuer.now subject.now path_len e ⊎ (IsRefused subject_public_key_info (λ e. ⊥) issuer_key.now e ⊎ RefusesPartInputs serial_number.now algorithm.now not_before not_after key.now extensions.now e))) room.old room.new written.old written.new result }
 {
@@ -259,7 +264,12 @@ pub fn build_subscriber(
     room: &mut [u8],
     written: &mut usize,
 ) -> Status
-    ensures { Fills (BuildsProfile (record { subject_of = ⟦<Subscriber as BuilderProfile>⟧.subject_of; issuer_of = ⟦<Subscriber as BuilderProfile>⟧.issuer_of; extensions_of = ⟦<Subscriber as BuilderProfile>⟧.extensions_of }) ⟦<TbsCertificate as Encode>⟧.writing
+    ensures { Fills (BuildsProfile (record {
+      subject_of = ⟦<Subscriber as BuilderProfile>⟧.subject_of;
+      issuer_of =
+          ⟦<Subscriber as BuilderProfile>⟧.issuer_of;
+      extensions_of = ⟦<Subscriber as BuilderProfile>⟧.extensions_of;
+    }) ⟦<TbsCertificate as Encode>⟧.writing
         (Inputs (IsSubscriber issuer.now subject.now uses) (λ key. Spells subject_public_key_info key issuer_key.now) (ArePartInputs serial_number.now algorithm.now not_before not_after key.now extensions.now))
         (λ e. RefusesSubscriber issuer.now subject.now e ⊎ (IsRefused subject_public_key_info (λ e. ⊥) issuer_key.now e ⊎ RefusesPartInputs serial_number.now algorithm.now not_before not_after key.now extensions.now e))) room.old room.new written.old written.new result }
 {

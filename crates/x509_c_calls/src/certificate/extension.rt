@@ -38,7 +38,8 @@ fn flag(is_set: bool) -> u32
 /// Where the list of extensions stands in the bytes, which are the certificate's encoding; both numbers are 0 where
 /// there is none.
 fn list_of(input: &[u8], certificate: &CertificateInner<Rfc5280>) -> Span
-    ensures { Spells ⟦<CertificateInner<Rfc5280> as Grammar>⟧.form certificate.now input.now → IsOptionAt grammar.extensions certificate.now.tbs_certificate.extensions (behind_part certificate.now) input.now result }
+    ensures { Spells ⟦<CertificateInner<Rfc5280> as Grammar>⟧.form certificate.now input.now
+        → IsOptionAt grammar.extensions certificate.now.tbs_certificate.extensions (behind_part certificate.now) input.now result }
 {
     let part = certificate.tbs_certificate();
     let mut at = 0;
@@ -68,7 +69,8 @@ fn find<'a>(
     ensures found { MatchOption result (with_oid oid.now extensions.now ≡ []) (λ f. with_oid oid.now extensions.now ≡ f.1.now ∷ with_oid oid.now f.2.now) }
     ensures within { IfSome result (λ f. f.0 ≤ length input.now) }
     ensures split { IfSome result (λ f. (before : List Extension) × (extensions.now ≡ before ++ f.1.now ∷ f.2.now)) }
-    ensures stands { IfSome result (λ f. (more : List ℕ) → drop place input.now ≡ joined (spelling grammar.extension) extensions.now ++ more → drop f.0 input.now ≡ spelling grammar.extension f.1.now ++ (joined (spelling grammar.extension) f.2.now ++ more)) }
+    ensures stands { IfSome result (λ f. (more : List ℕ) → drop place input.now ≡ joined (spelling grammar.extension) extensions.now ++ more
+        → drop f.0 input.now ≡ spelling grammar.extension f.1.now ++ (joined (spelling grammar.extension) f.2.now ++ more)) }
 {
     let mut at = place;
     let mut rest = extensions;
@@ -85,7 +87,8 @@ fn find<'a>(
 /// The extension whose bytes begin at the place.
 fn view_at(input: &[u8], place: usize, extension: &Extension) -> ExtensionView
     requires { place ≤ length input.now }
-    ensures { (behind : List ℕ) → drop place input.now ≡ spelling grammar.extension extension.now ++ behind → IsExtensionAt input.now extension.now behind result }
+    ensures { (behind : List ℕ) → drop place input.now ≡ spelling grammar.extension extension.now ++ behind
+        → IsExtensionAt input.now extension.now behind result }
 {
     let mut at = place;
     enter(input, &mut at);
@@ -107,7 +110,8 @@ fn pick(
     found: &mut ExtensionView,
 ) -> Status
     requires { place ≤ length input.now }
-    ensures { (more : List ℕ) → drop place input.now ≡ joined (spelling grammar.extension) extensions.now ++ more → FindsExtension input.now extensions.now more (with_oid oid.now extensions.now) found.old found.new result }
+    ensures { (more : List ℕ) → drop place input.now ≡ joined (spelling grammar.extension) extensions.now ++ more
+        → FindsExtension input.now extensions.now more (with_oid oid.now extensions.now) found.old found.new result }
 {
     let Some((at, extension, others)) = find(input, place, extensions, oid) else {
         return Status::Absent;
@@ -134,7 +138,8 @@ pub fn certificate_extension(
     oid: &[u8],
     found: &mut ExtensionView,
 ) -> Status
-    ensures { LooksUpExtension ⟦<CertificateInner<Rfc5280> as Grammar>⟧.form ⟦<CertificateInner<Rfc5280> as Grammar>⟧.refuses input.now oid.now found.old found.new result }
+    ensures { LooksUpExtension ⟦<CertificateInner<Rfc5280> as Grammar>⟧.form ⟦<CertificateInner<Rfc5280> as Grammar>⟧.refuses input.now oid.now found.old
+        found.new result }
 {
     let certificate = match read::<CertificateInner<Rfc5280>>(alloc, input) {
         Ok(certificate) => certificate,

@@ -20,7 +20,8 @@ use x509_der::{ErrorKind, Grammar};
 ///
 /// As [`Check::check`].
 pub(crate) fn lend(input: &[u8]) -> Result<CertificateSlices<'_>, ErrorKind>
-    ensures ok { IfOk result (λ slices. (certificate : whole.CertificateInner rules.Rfc5280) × Spells ⟦<CertificateInner<Rfc5280> as Grammar>⟧.form certificate input.now × (certificate_elements slices ≡ certificate_spellings certificate)) }
+    ensures ok { IfOk result (λ slices. (certificate : whole.CertificateInner rules.Rfc5280)
+        × Spells ⟦<CertificateInner<Rfc5280> as Grammar>⟧.form certificate input.now × (certificate_elements slices ≡ certificate_spellings certificate)) }
     ensures err { IfErr result (λ e. IsRefused ⟦<CertificateInner<Rfc5280> as Grammar>⟧.form ⟦<CertificateInner<Rfc5280> as Grammar>⟧.refuses input.now e) }
     ensures memory { IfErr result (λ e. e ≡ Memory → ⊥) }
 {

@@ -35,7 +35,8 @@ pub struct SignatureView {
 
 /// What is to be verified of the certificate of which the bytes are the encoding.
 fn signature_of(input: &[u8]) -> SignatureView
-    ensures { (certificate : whole.CertificateInner rules.Rfc5280) → Spells ⟦<CertificateInner<Rfc5280> as Grammar>⟧.form certificate input.now → IsSignature input.now certificate result }
+    ensures { (certificate : whole.CertificateInner rules.Rfc5280) → Spells ⟦<CertificateInner<Rfc5280> as Grammar>⟧.form certificate input.now
+        → IsSignature input.now certificate result }
 {
     let mut at = 0;
     enter(input, &mut at);
@@ -56,7 +57,8 @@ fn signature_of(input: &[u8]) -> SignatureView
 /// Those of [`certificate_view`](crate::certificate_view). `found` is unchanged then.
 #[tactic(auto, unfolding(crate::specs::Calls::Reads))]
 pub fn certificate_signature(input: &[u8], found: &mut SignatureView) -> Status
-    ensures read { Reads ⟦<CertificateInner<Rfc5280> as Grammar>⟧.form ⟦<CertificateInner<Rfc5280> as Grammar>⟧.refuses input.now (λ certificate. IsSignature input.now certificate found.new) (found.new ≡ found.old) result }
+    ensures read { Reads ⟦<CertificateInner<Rfc5280> as Grammar>⟧.form ⟦<CertificateInner<Rfc5280> as Grammar>⟧.refuses input.now
+        (λ certificate. IsSignature input.now certificate found.new) (found.new ≡ found.old) result }
     ensures memory { result ≡ Refused Memory → ⊥ }
 {
     match CertificateInner::<Rfc5280>::check(input) {

@@ -85,7 +85,8 @@ pub fn seconds(time: &Time) -> u64
 /// Where an element stands that stands alone in another; both numbers are 0 where it is absent.
 pub(crate) fn wrapped(input: &[u8], place: usize, is_there: bool) -> Span
     requires { place ≤ length input.now }
-    ensures there { is_there ≡ true → (t u : ℕ) (content more : List ℕ) → is_identifier t ≡ true → is_identifier u ≡ true → drop place input.now ≡ element t (element u content) ++ more → IsAt (element u content) more input.now result }
+    ensures there { is_there ≡ true → (t u : ℕ) (content more : List ℕ) → is_identifier t ≡ true → is_identifier u ≡ true
+        → drop place input.now ≡ element t (element u content) ++ more → IsAt (element u content) more input.now result }
     ensures absent { is_there ≡ false → result ≡ record { place = 0; len = 0 } }
 {
     if !is_there {
@@ -97,7 +98,8 @@ pub(crate) fn wrapped(input: &[u8], place: usize, is_there: bool) -> Span
 
 /// Both dates of a validity, which the bytes are, in seconds since 1970-01-01T00:00:00Z.
 fn dates(alloc: Global, validity: &[u8]) -> (u64, u64)
-    ensures { (v : dates.Validity rules.Rfc5280) → Spells ⟦<Validity<Rfc5280> as Grammar>⟧.form v validity.now → (result.0 ≡ unix_seconds (date_time_of v.not_before)) × (result.1 ≡ unix_seconds (date_time_of v.not_after)) }
+    ensures { (v : dates.Validity rules.Rfc5280) → Spells ⟦<Validity<Rfc5280> as Grammar>⟧.form v validity.now
+        → (result.0 ≡ unix_seconds (date_time_of v.not_before)) × (result.1 ≡ unix_seconds (date_time_of v.not_after)) }
 {
     match Validity::<Rfc5280>::from_der(alloc, validity) {
         Ok(validity) => (seconds(&validity.not_before), seconds(&validity.not_after)),
@@ -112,7 +114,8 @@ pub(crate) fn view_of(
     input: &[u8],
     slices: &CertificateSlices<'_>,
 ) -> CertificateView
-    ensures { (certificate : whole.CertificateInner rules.Rfc5280) → Spells ⟦<CertificateInner<Rfc5280> as Grammar>⟧.form certificate input.now → certificate_elements slices.now ≡ certificate_spellings certificate → IsView input.now certificate result }
+    ensures { (certificate : whole.CertificateInner rules.Rfc5280) → Spells ⟦<CertificateInner<Rfc5280> as Grammar>⟧.form certificate input.now
+        → certificate_elements slices.now ≡ certificate_spellings certificate → IsView input.now certificate result }
 {
     let fields = &slices.fields;
     let mut at = 0;

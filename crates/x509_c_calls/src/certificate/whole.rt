@@ -22,7 +22,8 @@ use x509_der::Grammar;
 /// of no certificate. The view is unchanged then.
 #[tactic(auto, unfolding(crate::specs::Calls::Reads))]
 pub fn certificate_view(alloc: Global, input: &[u8], view: &mut CertificateView) -> Status
-    ensures read { Reads ⟦<CertificateInner<Rfc5280> as Grammar>⟧.form ⟦<CertificateInner<Rfc5280> as Grammar>⟧.refuses input.now (λ certificate. IsView input.now certificate view.new) (view.new ≡ view.old) result }
+    ensures read { Reads ⟦<CertificateInner<Rfc5280> as Grammar>⟧.form ⟦<CertificateInner<Rfc5280> as Grammar>⟧.refuses input.now
+        (λ certificate. IsView input.now certificate view.new) (view.new ≡ view.old) result }
     ensures memory { result ≡ Refused Memory → ⊥ }
 {
     match lend(input) {

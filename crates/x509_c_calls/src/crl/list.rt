@@ -18,7 +18,8 @@ use x509_der::{Decode, Grammar};
 /// of no CRL. `Memory` when out of memory. The count is unchanged then.
 #[tactic(auto, unfolding(crate::specs::Calls::Reads))]
 pub fn crl_walk(alloc: Global, input: &[u8], count: &mut usize) -> Status
-    ensures { Reads ⟦<CertificateList<Rfc5280> as Grammar>⟧.form ⟦<CertificateList<Rfc5280> as Grammar>⟧.refuses input.now (λ list. count.new ≡ length (entries list.tbs_cert_list.revoked_certificates)) (count.new ≡ count.old) result }
+    ensures { Reads ⟦<CertificateList<Rfc5280> as Grammar>⟧.form ⟦<CertificateList<Rfc5280> as Grammar>⟧.refuses input.now
+        (λ list. count.new ≡ length (entries list.tbs_cert_list.revoked_certificates)) (count.new ≡ count.old) result }
 {
     match CertificateList::<Rfc5280>::from_der(alloc, input) {
         Ok(list) => {

@@ -35,7 +35,8 @@ fn number_of(reason: Option<(bool, CrlReason)>) -> i32
 
 /// What an entry says.
 fn revocation_of(alloc: Global, entry: &RevokedCert<Rfc5280>) -> Result<Revocation, Error>
-    ensures { Revokes (λ e found. Finds ⟦<CrlReason as Grammar>⟧.form ⟦<CrlReason as Grammar>⟧.refuses ⟦<CrlReason as Decode>⟧.wants_memory (with_oid ⟦<CrlReason as AssociatedOid>⟧.OID (members e.crl_entry_extensions)) found) entry.now result }
+    ensures { Revokes (λ e found. Finds ⟦<CrlReason as Grammar>⟧.form ⟦<CrlReason as Grammar>⟧.refuses ⟦<CrlReason as Decode>⟧.wants_memory
+        (with_oid ⟦<CrlReason as AssociatedOid>⟧.OID (members e.crl_entry_extensions)) found) entry.now result }
 {
     let reason = entry.get_extension::<CrlReason>(alloc)?;
     Ok(Revocation {
@@ -52,7 +53,9 @@ fn ask(
     serial_number: &SerialNumber<Rfc5280>,
     revocation: &mut Revocation,
 ) -> Status
-    ensures { Tells (λ e found. Finds ⟦<CrlReason as Grammar>⟧.form ⟦<CrlReason as Grammar>⟧.refuses ⟦<CrlReason as Decode>⟧.wants_memory (with_oid ⟦<CrlReason as AssociatedOid>⟧.OID (members e.crl_entry_extensions)) found) (entries list.now.tbs_cert_list.revoked_certificates) serial_number.now revocation.old revocation.new result }
+    ensures { Tells (λ e found. Finds ⟦<CrlReason as Grammar>⟧.form ⟦<CrlReason as Grammar>⟧.refuses ⟦<CrlReason as Decode>⟧.wants_memory
+        (with_oid ⟦<CrlReason as AssociatedOid>⟧.OID (members e.crl_entry_extensions)) found)
+        (entries list.now.tbs_cert_list.revoked_certificates) serial_number.now revocation.old revocation.new result }
 {
     let Some(entry) = list.find(serial_number) else {
         return Status::Absent;
@@ -81,7 +84,10 @@ pub fn crl_lookup(
     serial_number: &[u8],
     revocation: &mut Revocation,
 ) -> Status
-    ensures { LooksUp ⟦<CertificateList<Rfc5280> as Grammar>⟧.form ⟦<CertificateList<Rfc5280> as Grammar>⟧.refuses ⟦<SerialNumber<Rfc5280> as Grammar>⟧.form ⟦<SerialNumber<Rfc5280> as Grammar>⟧.refuses (λ e found. Finds ⟦<CrlReason as Grammar>⟧.form ⟦<CrlReason as Grammar>⟧.refuses ⟦<CrlReason as Decode>⟧.wants_memory (with_oid ⟦<CrlReason as AssociatedOid>⟧.OID (members e.crl_entry_extensions)) found) input.now serial_number.now revocation.old revocation.new result }
+    ensures { LooksUp ⟦<CertificateList<Rfc5280> as Grammar>⟧.form ⟦<CertificateList<Rfc5280> as Grammar>⟧.refuses ⟦<SerialNumber<Rfc5280> as Grammar>⟧.form
+        ⟦<SerialNumber<Rfc5280> as Grammar>⟧.refuses (λ e found. Finds ⟦<CrlReason as Grammar>⟧.form ⟦<CrlReason as Grammar>⟧.refuses
+        ⟦<CrlReason as Decode>⟧.wants_memory (with_oid ⟦<CrlReason as AssociatedOid>⟧.OID (members e.crl_entry_extensions)) found) input.now
+        serial_number.now revocation.old revocation.new result }
 {
     let list = match read::<CertificateList<Rfc5280>>(alloc, input) {
         Ok(list) => list,

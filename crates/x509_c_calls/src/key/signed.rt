@@ -14,7 +14,9 @@ use crate::{SignatureView, bits_at, step, unused_at};
 /// CRL (RFC 5280 5.1.1) and of a CSR (RFC 2986 4.2).
 pub fn signature_at(input: &[u8], place: usize) -> SignatureView
     requires { place ≤ length input.now }
-    ensures { (part : List ℕ) (algorithm : AlgorithmIdentifier) (signature : BitParts) (behind : List ℕ) → drop place input.now ≡ element 48 part ++ (spelling algorithm_identifier algorithm ++ (spelling bit_string signature ++ behind)) → IsSigned input.now (element 48 part) algorithm signature behind result }
+    ensures { (part : List ℕ) (algorithm : AlgorithmIdentifier) (signature : BitParts) (behind : List ℕ)
+        → drop place input.now ≡ element 48 part ++ (spelling algorithm_identifier algorithm ++ (spelling bit_string signature ++ behind))
+        → IsSigned input.now (element 48 part) algorithm signature behind result }
 {
     let mut at = place;
     let signed_part = step(input, &mut at, true);

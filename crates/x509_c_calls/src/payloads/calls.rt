@@ -55,7 +55,8 @@ pub fn member_next<V: View>(
     at: &mut usize,
     found: &mut V,
 ) -> Status
-    ensures { Steps V.Value.form V.Value.refuses V.Value.wants_memory (octet_of list) input.now at.old at.new (λ value behind span. V.shows input.now value behind found.new) (found.new ≡ found.old) result }
+    ensures { Steps V.Value.form V.Value.refuses V.Value.wants_memory (octet_of list) input.now at.old at.new
+        (λ value behind span. V.shows input.now value behind found.new) (found.new ≡ found.old) result }
 {
     match next::<V::Value>(alloc, list, input, at) {
         Ok(Some((value, span))) => {
@@ -91,7 +92,8 @@ pub fn member_under_next<V: View>(
     at: &mut usize,
     found: &mut V,
 ) -> Status
-    ensures stepped { number ≤ 30 → Steps V.Value.form V.Value.refuses V.Value.wants_memory (160 + number) input.now at.old at.new (λ value behind span. V.shows input.now value behind found.new) (found.new ≡ found.old) result }
+    ensures stepped { number ≤ 30 → Steps V.Value.form V.Value.refuses V.Value.wants_memory (160 + number) input.now at.old at.new
+        (λ value behind span. V.shows input.now value behind found.new) (found.new ≡ found.old) result }
     ensures none { 30 < number → (result ≡ Refused Malformed) × (at.new ≡ at.old) × (found.new ≡ found.old) }
 {
     let Some(list) = implicit_list(number) else {
@@ -109,7 +111,8 @@ pub fn element_next<T: Decode + Drop>(
     at: &mut usize,
     found: &mut Span,
 ) -> Status
-    ensures { Steps T.form T.refuses T.wants_memory (octet_of list) input.now at.old at.new (λ value behind span. found.new ≡ span) (found.new ≡ found.old) result }
+    ensures { Steps T.form T.refuses T.wants_memory (octet_of list) input.now at.old at.new
+        (λ value behind span. found.new ≡ span) (found.new ≡ found.old) result }
 {
     match next::<T>(alloc, list, input, at) {
         Ok(Some((_value, span))) => {

@@ -47,7 +47,8 @@ pub fn next<T: Decode>(
     input: &[u8],
     at: &mut usize,
 ) -> Result<Option<(T, Span)>, ErrorKind>
-    ensures found { IfOk result (λ next. MatchOption next (IsEnd (octet_of list) input.now at.old at.new) (λ member. (more : List ℕ) × IsNext T.form (octet_of list) input.now at.old at.new member.0 more member.1)) }
+    ensures found { IfOk result (λ next. MatchOption next (IsEnd (octet_of list) input.now at.old at.new) (λ member. (more : List ℕ)
+        × IsNext T.form (octet_of list) input.now at.old at.new member.0 more member.1)) }
     ensures refused { IfErr result (λ e. Stops T.form T.refuses T.wants_memory (octet_of list) input.now at.old e) }
     ensures unchanged { OnErr result (at.new ≡ at.old) }
 {

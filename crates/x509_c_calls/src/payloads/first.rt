@@ -52,7 +52,8 @@ fn first_of(
 ) -> Option<AttributeView>
     requires { place ≤ length input.now }
     ensures none { result ≡ None → first_of_type oid.now (members_of rdns.now) ≡ None }
-    ensures found { IfSome result (λ view. drop place input.now ≡ joined (spelling relative_distinguished_name) rdns.now → ShowsFirst input.now rdns.now oid.now view) }
+    ensures found { IfSome result (λ view. drop place input.now ≡ joined (spelling relative_distinguished_name) rdns.now
+        → ShowsFirst input.now rdns.now oid.now view) }
 {
     let mut at = place;
     let mut rest = rdns;

@@ -23,7 +23,8 @@ use x509_der::{Decode, ErrorKind, Grammar, ObjectIdentifier, Tag};
 /// [`Status::Absent`] at the end of the list. Else those of [`next`]. `at` and `found` are unchanged then.
 #[tactic(auto, unfolding(crate::specs::Cursor::Steps))]
 pub fn identifiers_next(alloc: Global, input: &[u8], at: &mut usize, found: &mut Span) -> Status
-    ensures { Steps ⟦<ObjectIdentifier as Grammar>⟧.form ⟦<ObjectIdentifier as Grammar>⟧.refuses ⟦<ObjectIdentifier as Decode>⟧.wants_memory 48 input.now at.old at.new (λ oid behind span. IsAt oid behind input.now found.new) (found.new ≡ found.old) result }
+    ensures { Steps ⟦<ObjectIdentifier as Grammar>⟧.form ⟦<ObjectIdentifier as Grammar>⟧.refuses ⟦<ObjectIdentifier as Decode>⟧.wants_memory 48 input.now
+        at.old at.new (λ oid behind span. IsAt oid behind input.now found.new) (found.new ≡ found.old) result }
 {
     match next::<ObjectIdentifier>(alloc, Tag::Sequence, input, at) {
         Ok(Some((_oid, span))) => {

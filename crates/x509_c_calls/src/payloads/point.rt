@@ -67,7 +67,8 @@ pub struct IssuingDistributionPointView {
 
 /// Where the full names and the relative name of a point stand whose name stands there.
 fn name_places(element: Span, name: &DistributionPointName) -> (Span, Span)
-    ensures { (bytes more : List ℕ) → IsAt (spelling distribution_point_name name.now) more bytes element → IsPointName (Some name.now) more bytes result.0 result.1 }
+    ensures { (bytes more : List ℕ) → IsAt (spelling distribution_point_name name.now) more bytes element
+        → IsPointName (Some name.now) more bytes result.0 result.1 }
 {
     match name {
         DistributionPointName::FullName(_) => (element, NOWHERE),
@@ -79,7 +80,8 @@ fn name_places(element: Span, name: &DistributionPointName) -> (Span, Span)
 fn step_name(input: &[u8], at: &mut usize, name: &Option<DistributionPointName>) -> (Span, Span)
     requires { at.old ≤ length input.now }
     ensures within { at.new ≤ length input.now }
-    ensures stands { (more : List ℕ) → drop at.old input.now ≡ name_text name.now ++ more → IsPointName name.now more input.now result.0 result.1 × (drop at.new input.now ≡ more) }
+    ensures stands { (more : List ℕ) → drop at.old input.now ≡ name_text name.now ++ more → IsPointName name.now more input.now result.0 result.1
+        × (drop at.new input.now ≡ more) }
 {
     let element = step_optional_content(input, at, name.is_some());
     match name {

@@ -14,7 +14,8 @@ pub const NOWHERE: Span = Span { place: 0, len: 0 };
 pub fn step_content(input: &[u8], at: &mut usize) -> Span
     requires { at.old ≤ length input.now }
     ensures within { at.new ≤ length input.now }
-    ensures stands { (tag : ℕ) (content more : List ℕ) → is_identifier tag ≡ true → drop at.old input.now ≡ element tag content ++ more → IsAt content more input.now result × (drop at.new input.now ≡ more) }
+    ensures stands { (tag : ℕ) (content more : List ℕ) → is_identifier tag ≡ true → drop at.old input.now ≡ element tag content ++ more
+        → IsAt content more input.now result × (drop at.new input.now ≡ more) }
 {
     let mut inside = *at;
     let content = enter(input, &mut inside);
@@ -25,7 +26,8 @@ pub fn step_content(input: &[u8], at: &mut usize) -> Span
 /// Where the content stands of the element that stands at the place.
 pub fn content_at(input: &[u8], place: usize) -> Span
     requires { place ≤ length input.now }
-    ensures stands { (tag : ℕ) (content more : List ℕ) → is_identifier tag ≡ true → drop place input.now ≡ element tag content ++ more → IsAt content more input.now result }
+    ensures stands { (tag : ℕ) (content more : List ℕ) → is_identifier tag ≡ true → drop place input.now ≡ element tag content ++ more
+        → IsAt content more input.now result }
     ensures within { result.place ≤ length input.now }
 {
     let mut at = place;
@@ -35,7 +37,8 @@ pub fn content_at(input: &[u8], place: usize) -> Span
 /// Where the octets stand that hold the bits of a BIT STRING, which stands at the place: its content but for the first octet (X.690 8.6.2.2).
 pub fn bits_at(input: &[u8], place: usize) -> Span
     requires { place ≤ length input.now }
-    ensures { (tag unused : ℕ) (octets more : List ℕ) → is_identifier tag ≡ true → drop place input.now ≡ element tag (unused ∷ octets) ++ more → IsAt octets more input.now result }
+    ensures { (tag unused : ℕ) (octets more : List ℕ) → is_identifier tag ≡ true → drop place input.now ≡ element tag (unused ∷ octets) ++ more
+        → IsAt octets more input.now result }
 {
     let content = content_at(input, place);
     if content.len == 0 {
@@ -50,7 +53,8 @@ pub fn bits_at(input: &[u8], place: usize) -> Span
 /// How many bits of its last octet are unused of a BIT STRING, which stands at the place: its first content octet (X.690 8.6.2.2).
 pub fn unused_at(input: &[u8], place: usize) -> u32
     requires { place ≤ length input.now }
-    ensures { (tag unused : ℕ) (octets more : List ℕ) → is_identifier tag ≡ true → drop place input.now ≡ element tag (unused ∷ octets) ++ more → result ≡ unused }
+    ensures { (tag unused : ℕ) (octets more : List ℕ) → is_identifier tag ≡ true → drop place input.now ≡ element tag (unused ∷ octets) ++ more
+        → result ≡ unused }
 {
     match input.get(content_at(input, place).place) {
         Some(unused) => u32::from(*unused),
@@ -62,7 +66,8 @@ pub fn unused_at(input: &[u8], place: usize) -> u32
 pub fn step_optional(input: &[u8], at: &mut usize, is_there: bool) -> Span
     requires { at.old ≤ length input.now }
     ensures within { at.new ≤ length input.now }
-    ensures there { is_there ≡ true → (tag : ℕ) (content more : List ℕ) → is_identifier tag ≡ true → drop at.old input.now ≡ element tag content ++ more → IsAt (element tag content) more input.now result × (drop at.new input.now ≡ more) }
+    ensures there { is_there ≡ true → (tag : ℕ) (content more : List ℕ) → is_identifier tag ≡ true → drop at.old input.now ≡ element tag content ++ more
+        → IsAt (element tag content) more input.now result × (drop at.new input.now ≡ more) }
     ensures absent { is_there ≡ false → IsNowhere result × (at.new ≡ at.old) }
 {
     if !is_there {
@@ -75,7 +80,8 @@ pub fn step_optional(input: &[u8], at: &mut usize, is_there: bool) -> Span
 pub fn step_optional_content(input: &[u8], at: &mut usize, is_there: bool) -> Span
     requires { at.old ≤ length input.now }
     ensures within { at.new ≤ length input.now }
-    ensures there { is_there ≡ true → (tag : ℕ) (content more : List ℕ) → is_identifier tag ≡ true → drop at.old input.now ≡ element tag content ++ more → IsAt content more input.now result × (drop at.new input.now ≡ more) }
+    ensures there { is_there ≡ true → (tag : ℕ) (content more : List ℕ) → is_identifier tag ≡ true → drop at.old input.now ≡ element tag content ++ more
+        → IsAt content more input.now result × (drop at.new input.now ≡ more) }
     ensures absent { is_there ≡ false → IsNowhere result × (at.new ≡ at.old) }
 {
     if !is_there {

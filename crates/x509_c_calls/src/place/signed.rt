@@ -14,7 +14,8 @@ use x509_der::ErrorKind;
 /// Where the bytes stand that the signature of a certificate, of a CRL or of a CSR is over (RFC 5280 4.1.1.3, 5.1.1.3,
 /// RFC 2986 4.2).
 pub fn signed_span(input: &[u8]) -> Option<Span>
-    ensures { MatchOption result ((signed : List ℕ) → IsSignedPart input.now signed → ⊥) (λ span. (signed : List ℕ) × (part : IsSignedPart input.now signed) × IsAt signed part.behind input.now span) }
+    ensures { MatchOption result ((signed : List ℕ) → IsSignedPart input.now signed → ⊥) (λ span. (signed : List ℕ) × (part : IsSignedPart input.now signed)
+        × IsAt signed part.behind input.now span) }
 {
     let Some(_signed) = signed_slice(input) else {
         return None;

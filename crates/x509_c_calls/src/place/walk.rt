@@ -14,7 +14,8 @@ fn content_of(input: &[u8], place: usize) -> (usize, usize)
     ensures ordered { (place ≤ result.0) × (result.0 ≤ result.1) × (result.1 ≤ length input.now) }
     ensures stands { (tag : ℕ) (content more : List ℕ) → is_identifier tag ≡ true → drop place input.now ≡ element tag content ++ more
         → (drop result.0 input.now ≡ content ++ more) × (drop result.1 input.now ≡ more) × (result.0 + length content ≡ result.1) × (place + length (element tag content) ≡ result.1) }
-    ensures nothing { ((tag : ℕ) (content more : List ℕ) → is_identifier tag ≡ true → drop place input.now ≡ element tag content ++ more → ⊥) → (result.0 ≡ place) × (result.1 ≡ place) }
+    ensures nothing { ((tag : ℕ) (content more : List ℕ) → is_identifier tag ≡ true → drop place input.now ≡ element tag content ++ more → ⊥)
+        → (result.0 ≡ place) × (result.1 ≡ place) }
 {
     let (_, rest) = input.split_at(place);
     match split_element(rest) {
@@ -30,8 +31,10 @@ fn content_of(input: &[u8], place: usize) -> (usize, usize)
 pub fn step(input: &[u8], at: &mut usize, is_there: bool) -> Span
     requires { at.old ≤ length input.now }
     ensures within { at.new ≤ length input.now }
-    ensures stands { (text more : List ℕ) → IsField is_there text → drop at.old input.now ≡ text ++ more → IsAt text more input.now result × (drop at.new input.now ≡ more) }
-    ensures nothing { ((text more : List ℕ) → IsField is_there text → drop at.old input.now ≡ text ++ more → ⊥) → (at.new ≡ at.old) × (result ≡ record { place = at.old; len = 0 }) }
+    ensures stands { (text more : List ℕ) → IsField is_there text → drop at.old input.now ≡ text ++ more → IsAt text more input.now result
+        × (drop at.new input.now ≡ more) }
+    ensures nothing { ((text more : List ℕ) → IsField is_there text → drop at.old input.now ≡ text ++ more → ⊥) → (at.new ≡ at.old)
+        × (result ≡ record { place = at.old; len = 0 }) }
 {
     let place = *at;
     if is_there {
@@ -47,8 +50,10 @@ pub fn step(input: &[u8], at: &mut usize, is_there: bool) -> Span
 pub fn enter(input: &[u8], at: &mut usize) -> Span
     requires { at.old ≤ length input.now }
     ensures within { at.new ≤ length input.now }
-    ensures stands { (tag : ℕ) (content more : List ℕ) → is_identifier tag ≡ true → drop at.old input.now ≡ element tag content ++ more → IsAt content more input.now result × (drop at.new input.now ≡ content ++ more) }
-    ensures nothing { ((tag : ℕ) (content more : List ℕ) → is_identifier tag ≡ true → drop at.old input.now ≡ element tag content ++ more → ⊥) → (at.new ≡ at.old) × (result ≡ record { place = at.old; len = 0 }) }
+    ensures stands { (tag : ℕ) (content more : List ℕ) → is_identifier tag ≡ true → drop at.old input.now ≡ element tag content ++ more
+        → IsAt content more input.now result × (drop at.new input.now ≡ content ++ more) }
+    ensures nothing { ((tag : ℕ) (content more : List ℕ) → is_identifier tag ≡ true → drop at.old input.now ≡ element tag content ++ more → ⊥)
+        → (at.new ≡ at.old) × (result ≡ record { place = at.old; len = 0 }) }
 {
     let (begin, end) = content_of(input, *at);
     *at = begin;

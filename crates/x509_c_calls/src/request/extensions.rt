@@ -24,7 +24,8 @@ fn value_of(
     attribute: &Attribute,
 ) -> Result<Span, ErrorKind>
     requires { place ≤ length input.now }
-    ensures { (behind : List ℕ) → drop place input.now ≡ spelling grammar.attribute attribute.now ++ behind → MatchResult result (λ span. AsksAt input.now attribute.now.values behind span) (λ e. AsksNothing attribute.now.values e) }
+    ensures { (behind : List ℕ) → drop place input.now ≡ spelling grammar.attribute attribute.now ++ behind
+        → MatchResult result (λ span. AsksAt input.now attribute.now.values behind span) (λ e. AsksNothing attribute.now.values e) }
 {
     let [value] = attribute.values.as_slice() else {
         return Err(ErrorKind::Failed);
@@ -51,7 +52,8 @@ fn pick(
     found: &mut Span,
 ) -> Status
     requires { place ≤ length input.now }
-    ensures { (more : List ℕ) → drop place input.now ≡ joined (spelling grammar.attribute) attributes.now ++ more → FindsAsked input.now attributes.now more (with_type (pkcs_9 14) attributes.now) found.old found.new result }
+    ensures { (more : List ℕ) → drop place input.now ≡ joined (spelling grammar.attribute) attributes.now ++ more
+        → FindsAsked input.now attributes.now more (with_type (pkcs_9 14) attributes.now) found.old found.new result }
 {
     let oid = ExtensionReq::OID.as_bytes();
     let Some((at, attribute, others)) = find(input, place, attributes, oid) else {

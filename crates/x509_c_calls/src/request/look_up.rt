@@ -28,7 +28,8 @@ pub(crate) fn find<'a>(
     ensures found { MatchOption result (with_type oid.now attributes.now ≡ []) (λ f. with_type oid.now attributes.now ≡ f.1.now ∷ with_type oid.now f.2.now) }
     ensures within { IfSome result (λ f. f.0 ≤ length input.now) }
     ensures split { IfSome result (λ f. (before : List Attribute) × (attributes.now ≡ before ++ f.1.now ∷ f.2.now)) }
-    ensures stands { IfSome result (λ f. (more : List ℕ) → drop place input.now ≡ joined (spelling grammar.attribute) attributes.now ++ more → drop f.0 input.now ≡ spelling grammar.attribute f.1.now ++ (joined (spelling grammar.attribute) f.2.now ++ more)) }
+    ensures stands { IfSome result (λ f. (more : List ℕ) → drop place input.now ≡ joined (spelling grammar.attribute) attributes.now ++ more
+        → drop f.0 input.now ≡ spelling grammar.attribute f.1.now ++ (joined (spelling grammar.attribute) f.2.now ++ more)) }
 {
     let mut at = place;
     let mut rest = attributes;
@@ -52,7 +53,8 @@ fn pick(
     found: &mut RequestAttributeView,
 ) -> Status
     requires { place ≤ length input.now }
-    ensures { (more : List ℕ) → drop place input.now ≡ joined (spelling grammar.attribute) attributes.now ++ more → FindsAttribute input.now attributes.now more (with_type oid.now attributes.now) found.old found.new result }
+    ensures { (more : List ℕ) → drop place input.now ≡ joined (spelling grammar.attribute) attributes.now ++ more
+        → FindsAttribute input.now attributes.now more (with_type oid.now attributes.now) found.old found.new result }
 {
     let Some((at, attribute, others)) = find(input, place, attributes, oid) else {
         return Status::Absent;

@@ -37,7 +37,8 @@ pub struct RequestView {
 /// What a CSR says whose bytes begin at the place.
 pub(crate) fn request_at(input: &[u8], place: usize) -> RequestView
     requires { place ≤ length input.now }
-    ensures { (request : csr.CertReq) (behind : List ℕ) → drop place input.now ≡ spelling cert_req request ++ behind → IsRequest input.now request behind result }
+    ensures { (request : csr.CertReq) (behind : List ℕ) → drop place input.now ≡ spelling cert_req request ++ behind
+        → IsRequest input.now request behind result }
 {
     let mut at = place;
     enter(input, &mut at);
@@ -73,7 +74,8 @@ impl View for RequestView {
 /// of no CSR. The view is unchanged then.
 #[tactic(auto, unfolding(crate::specs::Calls::Reads))]
 pub fn request_view(input: &[u8], view: &mut RequestView) -> Status
-    ensures read { Reads ⟦<CertReq as Grammar>⟧.form ⟦<CertReq as Grammar>⟧.refuses input.now (λ request. IsRequest input.now request [] view.new) (view.new ≡ view.old) result }
+    ensures read { Reads ⟦<CertReq as Grammar>⟧.form ⟦<CertReq as Grammar>⟧.refuses input.now
+        (λ request. IsRequest input.now request [] view.new) (view.new ≡ view.old) result }
     ensures memory { result ≡ Refused Memory → ⊥ }
 {
     match CertReq::check(input) {

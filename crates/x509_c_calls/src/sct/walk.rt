@@ -12,7 +12,8 @@ use x509_sct::tls::Tls;
 /// The octets of the vector that the bytes begin with, `opaque<0..2^16-1>` (RFC 5246 4.3), and what follows it; `None` where they begin with
 /// none.
 fn take_vector(alloc: Global, bytes: &[u8]) -> Option<(&[u8], &[u8])>
-    ensures { MatchOption result ((octets more : List ℕ) → vector16.good octets → bytes.now ≡ vector16.bytes octets ++ more → ⊥) (λ found. vector16.good found.0.now × (bytes.now ≡ vector16.bytes found.0.now ++ found.1.now)) }
+    ensures { MatchOption result ((octets more : List ℕ) → vector16.good octets → bytes.now ≡ vector16.bytes octets ++ more → ⊥)
+        (λ found. vector16.good found.0.now × (bytes.now ≡ vector16.bytes found.0.now ++ found.1.now)) }
 {
     let Ok((len, rest)) = <u16 as Tls>::tls_deserialize_bytes(alloc, bytes) else {
         return None;

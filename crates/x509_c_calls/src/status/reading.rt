@@ -35,7 +35,8 @@ pub fn check<T: Check>(input: &[u8]) -> Status
 ///
 /// As [`Decode::from_der`]; `Memory` when out of memory, only where decoding the type may take memory.
 pub fn read<T: Decode>(alloc: Global, input: &[u8]) -> Result<T, ErrorKind>
-    ensures found { MatchResult result (λ value. Spells T.form value input.now) (λ e. ((e ≡ Memory) × (length input.now ≤ limit)) ⊎ IsRefused T.form T.refuses input.now e) }
+    ensures found { MatchResult result (λ value. Spells T.form value input.now) (λ e. ((e ≡ Memory) × (length input.now ≤ limit))
+        ⊎ IsRefused T.form T.refuses input.now e) }
     ensures memory { IfErr result (λ e. e ≡ Memory → T.wants_memory ⊎ T.refuses Memory) }
 {
     match T::from_der(alloc, input) {
