@@ -32,6 +32,7 @@ static void members(void)
 static void built_requests(void)
 {
     WANT(WROTE(x509_build_request(BYTES("\x30\x00"), BYTES(KEY), nothing, 0, nothing, 0, room, sizeof room, &written), REQUEST));
+    WANT(WROTE(x509_build_request(BYTES("\x30\x00"), BYTES(KEY), NULL, 0, NULL, 0, room, sizeof room, &written), REQUEST));
     WANT(x509_build_request(BYTES("\x30\x00"), BYTES(KEY), nothing, 0, nothing, 0, nothing, 0, &written) == X509_ROOM && written == sizeof REQUEST - 1);
     written = 77;
     WANT(x509_build_request(nothing, 0, BYTES(KEY), nothing, 0, nothing, 0, room, sizeof room, &written) == X509_MALFORMED && written == 77);
@@ -89,6 +90,7 @@ static void built_certificates(void)
 {
     WANT(WROTE(build_certificate("\x02\x01\x01", 3, A_MONTH_LATER, SKI, sizeof SKI - 1), CERTIFICATE_PART));
     WANT(WROTE(build_certificate("\x02\x01\x01", 3, A_MONTH_LATER, "", 0), BARE_PART));
+    WANT(WROTE(build_certificate("\x02\x01\x01", 3, A_MONTH_LATER, NULL, 0), BARE_PART));
     WANT(WROTE(build_certificate("\x02\x01\x01", 3, 253402300799, "", 0), LONG_PART));
     WANT(WROTE(x509_assemble(BYTES(CERTIFICATE_PART), BYTES(ALGORITHM), nothing, 0, room, sizeof room, &written), ISSUER_CERTIFICATE));
     WANT(x509_build_certificate(BYTES("\x02\x01\x01"), BYTES(ALGORITHM), BYTES(ISSUER), MOMENT, A_MONTH_LATER, BYTES(ISSUER), BYTES(KEY), nothing, 0, room, 3,
@@ -147,6 +149,7 @@ static void built_certificates(void)
 static void built_roots(void)
 {
     WANT(WROTE(x509_build_root(NUMBER_AND_ALGORITHM, MOMENT, A_MONTH_LATER, BYTES(ROOT_NAME), BYTES(KEY), 0, nothing, 0, OUT), ROOT_PART));
+    WANT(WROTE(x509_build_root(NUMBER_AND_ALGORITHM, MOMENT, A_MONTH_LATER, BYTES(ROOT_NAME), BYTES(KEY), 0, NULL, 0, OUT), ROOT_PART));
     WANT(WROTE(x509_build_root(NUMBER_AND_ALGORITHM, MOMENT, A_MONTH_LATER, BYTES(ROOT_NAME), BYTES(KEY), 1, BYTES(SKI), OUT), ROOT_PART_WITH_SKI));
     WANT(x509_build_root(NUMBER_AND_ALGORITHM, MOMENT, A_MONTH_LATER, BYTES(ROOT_NAME), BYTES(KEY), 0, nothing, 0, room, 9, &written) == X509_ROOM);
     WANT(written == sizeof ROOT_PART - 1);
@@ -163,6 +166,7 @@ static void built_roots(void)
 static void built_subordinates(void)
 {
     WANT(WROTE(x509_build_subordinate(NUMBER_AND_ALGORITHM, ISSUER_AND_DATES, BYTES(NAME), BYTES(KEY), 1, 0, 0, 0, nothing, 0, OUT), SUBORDINATE_PART));
+    WANT(WROTE(x509_build_subordinate(NUMBER_AND_ALGORITHM, ISSUER_AND_DATES, BYTES(NAME), BYTES(KEY), 1, 0, 0, 0, NULL, 0, OUT), SUBORDINATE_PART));
     /* for clients too, and for OCSP responses */
     WANT(x509_build_subordinate(NUMBER_AND_ALGORITHM, ISSUER_AND_DATES, BYTES(NAME), BYTES(KEY), 0, 256, 1, 1, nothing, 0, OUT) == X509_OK);
     const char behind[] = AUTHORITY KEY_USAGE("\x01\x86") SKI_OF(ABC_DIGEST) FOR_BOTH;
@@ -185,6 +189,7 @@ static int ends_with_usage(x509_status status, uint8_t unused, uint8_t bits)
 static void built_subscribers(void)
 {
     WANT(WROTE(x509_build_subscriber(NUMBER_AND_ALGORITHM, ISSUER_AND_DATES, BYTES(ROOT_NAME), BYTES(KEY), 0, 1, 1, 1, nothing, 0, OUT), SUBSCRIBER_PART));
+    WANT(WROTE(x509_build_subscriber(NUMBER_AND_ALGORITHM, ISSUER_AND_DATES, BYTES(ROOT_NAME), BYTES(KEY), 0, 1, 1, 1, NULL, 0, OUT), SUBSCRIBER_PART));
     WANT(ends_with_usage(x509_build_subscriber(NUMBER_AND_ALGORITHM, ISSUER_AND_DATES, BYTES(NAME), BYTES(RSA_KEY), 0, 1, 1, 0, nothing, 0, OUT), 5, 0xa0));
     WANT(ends_with_usage(x509_build_subscriber(NUMBER_AND_ALGORITHM, ISSUER_AND_DATES, BYTES(NAME), BYTES(RSA_KEY), 0, 0, 1, 1, nothing, 0, OUT), 4, 0x90));
     WANT(ends_with_usage(x509_build_subscriber(NUMBER_AND_ALGORITHM, ISSUER_AND_DATES, BYTES(NAME), BYTES(EC_KEY), 0, 1, 1, 1, nothing, 0, OUT), 3, 0x88));
@@ -198,6 +203,7 @@ static void built_subscribers(void)
 static void built_devices(void)
 {
     WANT(WROTE(x509_build_device(NUMBER_AND_ALGORITHM, ISSUER_AND_DATES, BYTES(NAME), BYTES(KEY), nothing, 0, nothing, 0, OUT), DEVICE_PART));
+    WANT(WROTE(x509_build_device(NUMBER_AND_ALGORITHM, ISSUER_AND_DATES, BYTES(NAME), BYTES(KEY), NULL, 0, NULL, 0, OUT), DEVICE_PART));
     WANT(WROTE(x509_build_device(NUMBER_AND_ALGORITHM, ISSUER_AND_DATES, BYTES(NAME), BYTES(KEY), BYTES(MODULE), nothing, 0, OUT), MODULE_PART));
     written = 77;
     WANT(x509_build_device(NUMBER_AND_ALGORITHM, ISSUER_AND_DATES, BYTES(NAME), BYTES(KEY), BYTES("\x30\x00"), nothing, 0, OUT) == X509_FAILED && written == 77);
@@ -212,6 +218,7 @@ static void built_crls(void)
     WANT(x509_certificate_check(BYTES(ISSUER_CERTIFICATE)) == X509_OK);
     WANT(WROTE(build_crl("\x07", 1, A_MONTH_LATER, ENTRY, sizeof ENTRY - 1, "", 0), CRL));
     WANT(WROTE(build_crl("\x00\x07", 2, 0, "", 0, "", 0), EMPTY_CRL));
+    WANT(WROTE(build_crl("\x07", 1, 0, NULL, 0, NULL, 0), EMPTY_CRL));
     WANT(WROTE(build_crl("\x07", 1, 0, "", 0, DELTA, sizeof DELTA - 1), DELTA_CRL));
     WANT(WROTE(x509_assemble(BYTES(EMPTY_CRL), BYTES(ALGORITHM), nothing, 0, room, sizeof room, &written), "\x30\x52" EMPTY_CRL ALGORITHM "\x03\x01\x00"));
     WANT(x509_crl_check(room, written) == X509_OK);

@@ -91,6 +91,11 @@ static void no_pointers(void)
     written = 77;
     WANT(x509_serial_decimal(NULL, 0, NULL, 0, &written) == X509_MALFORMED && written == 77);
     WANT(x509_serial_decimal((const uint8_t *)"\x05", 1, NULL, 0, &written) == X509_ROOM && written == 1);
+    written = 77;
+    WANT(x509_oid_text(NULL, 0, NULL, 0, &written) == X509_MALFORMED && written == 77);
+    WANT(x509_oid_from_text(NULL, 0, NULL, 0, &written) == X509_FAILED && written == 77);
+    WANT(x509_oid_text(OID, 3, NULL, 0, &written) == X509_ROOM && written == 9);
+    WANT(x509_oid_from_text((const uint8_t *)"2.5.29.15", 9, NULL, 0, &written) == X509_ROOM && written == 3);
     WANT(x509_time_text(MOMENT, NULL, 0, &written) == X509_ROOM && written == 20);
     WANT(x509_status_text(X509_OK, NULL, 0, &written) == X509_ROOM && written == 4);
     written = 77;
@@ -108,6 +113,9 @@ static void no_pointers(void)
 }
 
 /* What the calls on payloads and names fill in, with what stands in it before. */
+static x509_extension_entry extension;
+static x509_basic_constraints_view basic;
+static x509_general_name general;
 static x509_attribute attribute;
 static x509_authority_key_identifier_view authority;
 static x509_access access_found;
@@ -136,6 +144,12 @@ static void refused_values(const uint8_t *bytes, size_t len, x509_status status)
 {
     size_t at = 0;
     part = (x509_span){7, 7};
+    WANT(x509_extensions_next(bytes, len, &at, &extension) == status);
+    WANT(x509_key_usage(bytes, len, &number) == status);
+    WANT(x509_basic_constraints(bytes, len, &basic) == status);
+    WANT(x509_general_names_next(bytes, len, &at, &general) == status);
+    WANT(x509_general_names_under_next(1, bytes, len, &at, &general) == status);
+    WANT(x509_extended_key_usage_next(bytes, len, &at, &part) == status);
     WANT(x509_name_next(bytes, len, &at, &part) == status);
     WANT(x509_relative_name_next(bytes, len, &at, &attribute) == status);
     WANT(x509_relative_name_under_next(1, bytes, len, &at, &attribute) == status);
@@ -177,7 +191,7 @@ static void refused_values(const uint8_t *bytes, size_t len, x509_status status)
     WANT(at == 0 && part.place == 7 && part.len == 7 && number == 7 && attribute.tag == 0 && authority.issuer.len == 0);
     WANT(access_found.location.kind == 0 && policy.identifier.len == 0 && qualifier.identifier.len == 0 && mapping.subject_policy.len == 0);
     WANT(constraints.has_require_explicit_policy == 0 && point.has_reasons == 0 && issuing.full_name.len == 0 && names.excluded.len == 0);
-    WANT(subtree.base.element.len == 0);
+    WANT(subtree.base.element.len == 0 && extension.oid.len == 0 && basic.ca == 0 && general.element.len == 0);
 }
 
 /* Each span is a whole element; behind the signed SEQUENCE stands nothing. */
