@@ -127,9 +127,9 @@ typedef struct {
     x509_span value;   /* what the OCTET STRING holds: the DER encoding of the extension's value, which isn't decoded */
 } x509_extension;
 
-/* Decodes a certificate under RFC 5280, and finds its extension with an OID, given by its content octets, such as "\x55\x1d\x0f" for 2.5.29.15.
- * X509_ABSENT where there is none, X509_REPEATED where there are two or more. Else refused as x509_certificate_check is.
- * Answers X509_OK, X509_MEMORY, X509_OVERLENGTH, X509_MALFORMED, X509_ABSENT, X509_REPEATED. */
+/* Checks a certificate under RFC 5280, and finds its extension with an OID, given by its content octets, such as "\x55\x1d\x0f" for 2.5.29.15.
+ * X509_ABSENT where there is none, X509_REPEATED where there are two or more. Else refused as x509_certificate_check is. It takes no memory.
+ * Answers X509_OK, X509_OVERLENGTH, X509_MALFORMED, X509_ABSENT, X509_REPEATED. */
 x509_status x509_certificate_extension(const uint8_t *in, size_t len, const uint8_t *oid, size_t oid_len, x509_extension *found);
 
 /* ---- values of extensions
@@ -488,8 +488,8 @@ x509_status x509_path_check(const uint8_t *anchor, size_t anchor_len, const uint
 
 /* ---- CRLs */
 
-/* Decodes a CRL of v1 or v2 under RFC 5280, and says how many entries it has.
- * Answers X509_OK, X509_MEMORY, X509_OVERLENGTH, X509_MALFORMED. */
+/* Checks a CRL of v1 or v2 under RFC 5280, and says how many entries it has. It takes no memory.
+ * Answers X509_OK, X509_OVERLENGTH, X509_MALFORMED. */
 x509_status x509_crl_walk(const uint8_t *in, size_t len, size_t *entries);
 
 typedef struct {
@@ -497,10 +497,10 @@ typedef struct {
     int32_t reason; /* the reason code of RFC 5280 5.3.1; -1 where the entry has none */
 } x509_revocation;
 
-/* Decodes a CRL and a serial number (the DER encoding of an INTEGER, as the view of a certificate has it), and says what the first entry with
+/* Checks a CRL and a serial number (the DER encoding of an INTEGER, as the view of a certificate has it), and says what the first entry with
  * that number says. X509_ABSENT where there is none. The issuer isn't compared. Else refused as the CRL is, or as the serial number is, or as the
- * entry's reason code is: X509_MALFORMED, or X509_FAILED where that extension is repeated.
- * Answers X509_OK, X509_MEMORY, X509_OVERLENGTH, X509_MALFORMED, X509_FAILED, X509_ABSENT. */
+ * entry's reason code is: X509_MALFORMED, or X509_FAILED where that extension is repeated. It takes no memory, however many entries there are.
+ * Answers X509_OK, X509_OVERLENGTH, X509_MALFORMED, X509_FAILED, X509_ABSENT. */
 x509_status x509_crl_lookup(const uint8_t *in, size_t len, const uint8_t *serial_number, size_t serial_number_len,
                             x509_revocation *revocation);
 

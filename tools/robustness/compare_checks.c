@@ -1,5 +1,7 @@
 /* Asks the C library both ways whether bytes are a certificate, a CRL or a CSR: by the call that checks them without a value, and by x509_reencode,
- * which decodes them to one. The statuses have to be the same, apart from X509_ROOM, which is X509_OK here; so has that of x509_certificate_view.
+ * which decodes them to one. The statuses have to be the same, apart from X509_ROOM, which is X509_OK here; so have those of x509_certificate_view,
+ * x509_certificate_extension, x509_crl_walk and x509_crl_lookup where the bytes are refused. Of those that are accepted these calls have to answer what a
+ * walk over the extensions or the entries comes to.
  *
  * It asks about the bytes of each row of ROWS, crates/x509_test_rows/stdin, as each of the three, and then about COUNT spoilt encodings: rows of the three
  * types and the FILES, one after the other, of which one to three bytes were changed, put in or taken out, or the end cut off, as a generator with the
@@ -57,11 +59,55 @@ static void differs(const char *name, const uint8_t *bytes, size_t len, x509_sta
     printf("\n");
 }
 
+/* Whether the call for the extension with an OID answers the status, or of a certificate that is accepted each extension that a walk comes to. */
+static int finds_extensions(const uint8_t *bytes, size_t len, x509_status decoded)
+{
+    x509_certificate view;
+    x509_extension found;
+    x509_extension_entry extension;
+    x509_status status = x509_certificate_view(bytes, len, &view);
+    if (status != decoded)
+        return 0;
+    if (decoded != X509_OK || view.extensions.len == 0)
+        return x509_certificate_extension(bytes, len, (const uint8_t *)"\x55\x1d\x0f", 3, &found) == (decoded == X509_OK ? X509_ABSENT : decoded);
+    const size_t place = view.extensions.place;
+    size_t at = 0;
+    while ((status = x509_extensions_next(bytes + place, view.extensions.len, &at, &extension)) == X509_OK) {
+        const x509_status answer = x509_certificate_extension(bytes, len, bytes + place + extension.oid.place, extension.oid.len, &found);
+        if (answer != X509_REPEATED && (answer != X509_OK || found.critical != extension.critical || found.value.len != extension.value.len ||
+                                        found.value.place != place + extension.value.place))
+            return 0;
+    }
+    return status == X509_ABSENT;
+}
+
+/* Whether the calls for the number of entries and for the entry with a serial number answer the status, or of a CRL that is accepted what a walk comes to:
+ * as many entries, of which the first is found by its number, and no other is absent. */
+static int finds_entries(const uint8_t *bytes, size_t len, x509_status decoded)
+{
+    x509_crl view;
+    x509_crl_entry entry;
+    x509_revocation found;
+    size_t entries = 0, count = 0, at = 0;
+    if (x509_crl_walk(bytes, len, &entries) != decoded || x509_crl_view(bytes, len, &view) != decoded)
+        return 0;
+    if (decoded != X509_OK)
+        return x509_crl_lookup(bytes, len, (const uint8_t *)"\x02\x01\x05", 3, &found) == decoded;
+    x509_status status = X509_ABSENT;
+    const uint8_t *list = bytes + view.entries.place;
+    while (view.entries.len != 0 && (status = x509_crl_entry_next(list, view.entries.len, &at, &entry)) == X509_OK) {
+        const x509_status answer = x509_crl_lookup(bytes, len, list + entry.serial_number.place, entry.serial_number.len, &found);
+        if (answer == X509_ABSENT || (count == 0 && answer == X509_OK && found.date != entry.date))
+            return 0;
+        count++;
+    }
+    return status == X509_ABSENT && count == entries;
+}
+
 static void ask(int number, const uint8_t *bytes, size_t len)
 {
     const char *name = types[number].name;
     size_t written = 0;
-    x509_certificate view;
     const x509_status checked = types[number].check(bytes, len);
     x509_status decoded = x509_reencode((const uint8_t *)name, strlen(name), X509_RFC5280, bytes, len, NULL, 0, &written);
     if (decoded == X509_ROOM)
@@ -70,8 +116,10 @@ static void ask(int number, const uint8_t *bytes, size_t len)
     accepted += checked == X509_OK;
     if (checked != decoded)
         differs(name, bytes, len, checked, decoded);
-    else if (number == 0 && x509_certificate_view(bytes, len, &view) != decoded)
-        differs("view", bytes, len, x509_certificate_view(bytes, len, &view), decoded);
+    else if (number == 0 && !finds_extensions(bytes, len, decoded))
+        differs("the view or the extensions", bytes, len, checked, decoded);
+    else if (number == 1 && !finds_entries(bytes, len, decoded))
+        differs("the entries", bytes, len, checked, decoded);
 }
 
 static void keep(int number, const uint8_t *bytes, size_t len)

@@ -253,7 +253,7 @@ static int holds(int number, long from, long to)
 /* whether the call takes no memory: it answers what it is for, whatever is refused */
 static int takes_none(int number)
 {
-    return number == 0 || number == 2 || number == 4 || number == 10 || number == 11 || number == 21;
+    return number == 0 || (number >= 2 && number <= 6) || number == 10 || number == 11 || number == 21;
 }
 
 static void refuse_call(int number)

@@ -32,18 +32,18 @@ pub extern "C" fn x509_certificate_view(
     certificate_view(alloc, input, view).code()
 }
 
-/// Decodes a certificate under the rules of RFC 5280, and fills in its extension with the OID of these content octets.
+/// Checks a certificate under the rules of RFC 5280, and fills in its extension with the OID of these content octets. It
+/// takes no memory.
 #[unsafe(no_mangle)]
 pub extern "C" fn x509_certificate_extension(
-    alloc: Global,
     input: &[u8],
     oid: &[u8],
     found: &mut ExtensionView,
 ) -> i32
     ensures { Tells (λ status. LooksUpExtension ⟦<CertificateInner<Rfc5280> as Grammar>⟧.form ⟦<CertificateInner<Rfc5280> as Grammar>⟧.refuses input.now
-        oid.now found.old found.new status) result }
+        oid.now found.old found.new status × (status ≡ Refused Memory → ⊥)) result }
 {
-    certificate_extension(alloc, input, oid, found).code()
+    certificate_extension(input, oid, found).code()
 }
 
 /// Checks a certificate under the rules of RFC 5280, and fills in what is to be verified of it. It takes no memory.

@@ -7,7 +7,9 @@ ghost use Rattle.x509_c_calls.specs.CrlView.{IsCrl};
 ghost use Rattle.x509_c_calls.specs.Cursor.{Steps};
 ghost use Rattle.x509_c_calls.specs.Calls.{Reads};
 ghost use Rattle.x509_c_calls.specs.Status.{Tells};
+ghost use Rattle.x509_c_calls.specs.declared.status.status.Status.TheVariants.{Refused};
 ghost use Rattle.x509_cert.specs.Revoked.{entries};
+ghost use Rattle.x509_der.specs.declared.error.ErrorKind.TheVariants.{Memory};
 ghost use Rattle.x509_ext.specs.LookUp.{Finds, members, with_oid};
 
 use std::alloc::Global;
@@ -17,16 +19,16 @@ use x509_cert::crl::{CertificateList, RevokedCert};
 use x509_der::{AssociatedOid, Decode, Grammar, Tag};
 use x509_ext::pkix::CrlReason;
 
-/// Decodes a CRL under the rules of RFC 5280, and says how many entries it has.
+/// Checks a CRL under the rules of RFC 5280, and says how many entries it has. It takes no memory.
 #[unsafe(no_mangle)]
-pub extern "C" fn x509_crl_walk(alloc: Global, input: &[u8], count: &mut usize) -> i32
+pub extern "C" fn x509_crl_walk(input: &[u8], count: &mut usize) -> i32
     ensures { Tells (λ status. Reads ⟦<CertificateList<Rfc5280> as Grammar>⟧.form ⟦<CertificateList<Rfc5280> as Grammar>⟧.refuses input.now
-        (λ list. count.new ≡ length (entries list.tbs_cert_list.revoked_certificates)) (count.new ≡ count.old) status) result }
+        (λ list. count.new ≡ length (entries list.tbs_cert_list.revoked_certificates)) (count.new ≡ count.old) status × (status ≡ Refused Memory → ⊥)) result }
 {
-    crl_walk(alloc, input, count).code()
+    crl_walk(input, count).code()
 }
 
-/// Decodes a CRL and a serial number, and fills in what the first entry with the number says.
+/// Checks a CRL and a serial number, and fills in what the first entry with the number says. It takes no memory.
 #[unsafe(no_mangle)]
 pub extern "C" fn x509_crl_lookup(
     alloc: Global,
@@ -38,7 +40,7 @@ pub extern "C" fn x509_crl_lookup(
         ⟦<SerialNumber<Rfc5280> as Grammar>⟧.form ⟦<SerialNumber<Rfc5280> as Grammar>⟧.refuses
         (λ e found. Finds ⟦<CrlReason as Grammar>⟧.form ⟦<CrlReason as Grammar>⟧.refuses ⟦<CrlReason as Decode>⟧.wants_memory
         (with_oid ⟦<CrlReason as AssociatedOid>⟧.OID (members e.crl_entry_extensions)) found) input.now serial_number.now revocation.old revocation.new
-        status) result }
+        status × (status ≡ Refused Memory → ⊥)) result }
 {
     crl_lookup(alloc, input, serial_number, revocation).code()
 }

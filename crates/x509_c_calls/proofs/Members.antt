@@ -1,5 +1,6 @@
 -- Where the extensions of a certificate stand.
-use Rattle.std.proofs.Common.{◌≡◌, ℕ, Bool, true, false, List, [], ◌∷◌, ◌++◌, drop, Option, Some, None, bytes_eq, refl, sym, ap, ◌∙◌, append_assoc, ◌≤◌, length, arith}
+use Rattle.std.proofs.Common.{◌≡◌, ℕ, Bool, true, false, List, [], ◌∷◌, ◌++◌, drop, Option, Some, None, bytes_eq, refl, sym, ap, ◌∙◌, append_assoc, ◌≤◌, length, arith, Bor, option_map, is_some}
+use Rattle.std.specs.Option.{option_copied}
 use Rattle.x509_c_calls.specs.Extensions.{FindsExtension}
 use Rattle.x509_c_calls.specs.View.{IsOptionAt}
 use Rattle.x509_c_calls.specs.declared.certificate.extension.ExtensionView.{ExtensionView}
@@ -49,6 +50,9 @@ unfolding default_octets is_identifier is_universal
 critical_field true = (1, boolean.content true, refl, refl)
 critical_field false = refl
 
+pub critical_field_is : (said b : Bool) → said ≡ b → IsField said (default_octets boolean_default (spelling boolean) b)
+critical_field_is said b same = rw (sym same) (critical_field said)
+
 -- ---- the extensions one after the other
 
 pub first_stands : (rest others : List Extension) (first : Extension) (here more : List ℕ) → rest ≡ first ∷ others → here ≡ joined (spelling extension) rest ++ more → here ≡ spelling extension first ++ (joined (spelling extension) others ++ more)
@@ -70,6 +74,18 @@ one_further all before rest others first is e = split_first all before rest othe
 pub absent : (bytes behind oid : List ℕ) (o : Option (List Extension)) (view : ExtensionView) → None ≡ o → FindsExtension bytes (members o) behind (with_oid oid (members o)) view view Absent
 unfolding FindsExtension
 absent bytes behind oid o view none = rw (sym none) (refl, refl)
+
+-- whether there is a list, by the bytes that are lent of it
+pub some_list : (lent : Option (Bor (List ℕ))) (o : Option (List Extension)) → option_copied lent ≡ option_map (spelling extensions) o → is_some lent ≡ true → (xs : List Extension) × (Some xs ≡ o)
+some_list None None e is = absurd cc
+some_list None (Some xs) e is = absurd cc
+some_list (Some bytes) None e is = absurd cc
+some_list (Some bytes) (Some xs) e is = (xs, refl)
+
+pub no_list : (lent : Option (Bor (List ℕ))) (o : Option (List Extension)) → option_copied lent ≡ option_map (spelling extensions) o → is_some lent ≡ false → None ≡ o
+no_list None None e is = refl
+no_list None (Some xs) e is = absurd cc
+no_list (Some bytes) o e is = absurd cc
 
 pub some_stand : (o : Option (List Extension)) (xs : List Extension) (behind bytes : List ℕ) (span : Span) → Some xs ≡ o → IsOptionAt extensions o behind bytes span → drop span.place bytes ≡ element 48 (joined (spelling extension) xs) ++ behind
 some_stand o xs behind bytes span some stands =

@@ -1,5 +1,5 @@
 -- The extension of a certificate with an OID, and where its value stands (RFC 5280 4.2).
-use Rattle.std.specs.Prelude.{◌≡◌, ◌≤◌, ◌⊎◌, ℕ, Bool, true, false, List, [], ◌∷◌, ◌++◌, length}
+use Rattle.std.specs.Prelude.{◌≡◌, ◌⊎◌, ℕ, Bool, true, false, List, [], ◌∷◌, ◌++◌}
 use Rattle.x509_c_calls.specs.declared.certificate.extension.ExtensionView.{ExtensionView}
 use Rattle.x509_c_calls.specs.View.{behind_part}
 use Rattle.x509_c_calls.specs.Place.{IsAt}
@@ -8,9 +8,7 @@ use Rattle.x509_c_calls.specs.declared.status.status.Status.{Status}
 use Rattle.x509_c_calls.specs.declared.status.status.Status.TheVariants.{Done, Absent, Repeated, Refused}
 use Rattle.x509_cert.specs.declared.certificate.certificate.CertificateInner.{CertificateInner}
 use Rattle.x509_ext.specs.LookUp.{members, with_oid}
-use Rattle.x509_der.specs.Element.{limit}
 use Rattle.x509_der.specs.declared.error.ErrorKind.{ErrorKind}
-use Rattle.x509_der.specs.declared.error.ErrorKind.TheVariants.{Memory}
 use Rattle.x509_der.specs.List.{joined}
 use Rattle.x509_der.specs.Form.{Form, Spells, spelling}
 use Rattle.x509_ext.specs.Extension as grammar
@@ -36,4 +34,4 @@ FindsExtension bytes all behind (first ∷ second ∷ others) was is status = (s
 unfoldable pub LooksUpExtension : {P : Type 0} → Form (CertificateInner P) → (ErrorKind → Type 0) → List ℕ → List ℕ → ExtensionView → ExtensionView → Status → Type 0
 LooksUpExtension {P} form refuses bytes oid was is status =
     ((certificate : CertificateInner P) × Spells form certificate bytes × FindsExtension bytes (members certificate.tbs_certificate.extensions) (behind_part certificate) (with_oid oid (members certificate.tbs_certificate.extensions)) was is status)
-    ⊎ ((e : ErrorKind) × (status ≡ Refused e) × (is ≡ was) × (((e ≡ Memory) × (length bytes ≤ limit)) ⊎ IsRefused form refuses bytes e))
+    ⊎ ((e : ErrorKind) × (status ≡ Refused e) × (is ≡ was) × IsRefused form refuses bytes e)

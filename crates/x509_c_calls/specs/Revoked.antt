@@ -1,5 +1,5 @@
 -- What a CRL says of a revoked certificate (RFC 5280 5.3).
-use Rattle.std.specs.Prelude.{◌≡◌, ◌≤◌, ◌⊎◌, ℕ, ℤ, pos, negsuc, Bool, List, [], length, Option, Some, None, Result, Ok, Err}
+use Rattle.std.specs.Prelude.{◌≡◌, ◌⊎◌, ℕ, ℤ, pos, negsuc, Bool, List, [], Option, Some, None, Result, Ok, Err}
 use Rattle.x509_base.specs.CivilTime.{unix_seconds}
 use Rattle.x509_base.specs.Time.{date_time_of}
 use Rattle.x509_c_calls.specs.declared.crl.lookup.Revocation.{Revocation}
@@ -9,10 +9,8 @@ use Rattle.x509_c_calls.specs.declared.status.status.Status.TheVariants.{Done, N
 use Rattle.x509_cert.specs.Revoked.{IsFirstWith, entries, with_serial}
 use Rattle.x509_cert.specs.declared.crl.certificate_list.CertificateList.{CertificateList}
 use Rattle.x509_cert.specs.declared.crl.revoked_cert.RevokedCert.{RevokedCert}
-use Rattle.x509_der.specs.Element.{limit}
 use Rattle.x509_der.specs.declared.error.Error.{Error}
 use Rattle.x509_der.specs.declared.error.ErrorKind.{ErrorKind}
-use Rattle.x509_der.specs.declared.error.ErrorKind.TheVariants.{Memory}
 use Rattle.x509_der.specs.Form.{Form, Spells}
 use Rattle.x509_ext.specs.CrlReason.{crl_reason_number}
 use Rattle.x509_ext.specs.declared.pkix.crl_reason.CrlReason.{CrlReason}
@@ -59,4 +57,4 @@ Tells finds list number was is Faulty = ⊥
 unfoldable pub LooksUp : {P : Type 0} → Form (CertificateList P) → (ErrorKind → Type 0) → Form (List ℕ) → (ErrorKind → Type 0) → Finding P → List ℕ → List ℕ → Revocation → Revocation → Status → Type 0
 LooksUp {P} list_form list_refuses serial_form serial_refuses finds list_bytes serial_bytes was is status =
     ((asked : Asked list_form serial_form list_bytes serial_bytes) × Tells finds (entries asked.list.tbs_cert_list.revoked_certificates) asked.number was is status)
-    ⊎ ((e : ErrorKind) × (status ≡ Refused e) × (is ≡ was) × (((e ≡ Memory) × (length list_bytes ≤ limit)) ⊎ (IsRefused list_form list_refuses list_bytes e ⊎ (((list : CertificateList P) × Spells list_form list list_bytes) × IsRefused serial_form serial_refuses serial_bytes e))))
+    ⊎ ((e : ErrorKind) × (status ≡ Refused e) × (is ≡ was) × (IsRefused list_form list_refuses list_bytes e ⊎ (((list : CertificateList P) × Spells list_form list list_bytes) × IsRefused serial_form serial_refuses serial_bytes e)))

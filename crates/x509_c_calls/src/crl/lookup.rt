@@ -1,15 +1,21 @@
 //! Looking up a serial number in a CRL.
 
-ghost use Rattle.std.specs.Prelude.{◌≡◌};
+ghost use Rattle.std.specs.Prelude.{◌≡◌, true, List, ℕ};
+ghost use Rattle.x509_base.specs.declared.profile.Rfc5280 as rules;
 ghost use Rattle.x509_c_calls.specs.Revoked.{LooksUp, Revokes, Tells, reason_number};
-ghost use Rattle.x509_cert.specs.Revoked.{entries};
+ghost use Rattle.x509_c_calls.specs.declared.status.status.Status.TheVariants.{Refused};
+ghost use Rattle.x509_cert.specs.declared.crl.revoked_cert.RevokedCert as revoked;
+ghost use Rattle.x509_check.specs.CrlRefs.{FindsEntry, lent_entry};
+ghost use Rattle.x509_der.specs.Element.{element, is_identifier};
+ghost use Rattle.x509_der.specs.declared.error.ErrorKind.TheVariants.{Memory};
 ghost use Rattle.x509_ext.specs.LookUp.{Finds, members, with_oid};
 
-use crate::{Status, read};
+use crate::Status;
 use std::alloc::Global;
 use x509_base::{Rfc5280, SerialNumber};
-use x509_cert::crl::{CertificateList, RevokedCert};
-use x509_der::{AssociatedOid, Decode, Error, Grammar};
+use x509_cert::crl::CertificateList;
+use x509_check::{Check, RevokedCertRef, find_revoked};
+use x509_der::{AssociatedOid, Decode, Error, Grammar, split_element};
 use x509_ext::pkix::CrlReason;
 
 /// When a certificate was revoked, and why.
@@ -34,49 +40,58 @@ fn number_of(reason: Option<(bool, CrlReason)>) -> i32
 }
 
 /// What an entry says.
-fn revocation_of(alloc: Global, entry: &RevokedCert<Rfc5280>) -> Result<Revocation, Error>
+fn revocation_of(alloc: Global, entry: &RevokedCertRef<'_>) -> Result<Revocation, Error>
     ensures { Revokes (λ e found. Finds ⟦<CrlReason as Grammar>⟧.form ⟦<CrlReason as Grammar>⟧.refuses ⟦<CrlReason as Decode>⟧.wants_memory
-        (with_oid ⟦<CrlReason as AssociatedOid>⟧.OID (members e.crl_entry_extensions)) found) entry.now result }
+        (with_oid ⟦<CrlReason as AssociatedOid>⟧.OID (members e.crl_entry_extensions)) found) (lent_entry {P = rules.Rfc5280} entry.now) result }
 {
-    let reason = entry.get_extension::<CrlReason>(alloc)?;
+    let reason = match entry.crl_entry_extensions {
+        Some(extensions) => extensions.get_extension::<CrlReason>(alloc)?,
+        None => None,
+    };
     Ok(Revocation {
         date: entry.revocation_date.to_unix_duration().as_secs(),
         reason: number_of(reason),
     })
 }
 
-/// Fills in what the first entry with the number says.
-#[tactic(auto, unfolding(crate::specs::Revoked::Tells))]
-fn ask(
-    alloc: Global,
-    list: &CertificateList<Rfc5280>,
-    serial_number: &SerialNumber<Rfc5280>,
-    revocation: &mut Revocation,
-) -> Status
-    ensures { Tells (λ e found. Finds ⟦<CrlReason as Grammar>⟧.form ⟦<CrlReason as Grammar>⟧.refuses ⟦<CrlReason as Decode>⟧.wants_memory
-        (with_oid ⟦<CrlReason as AssociatedOid>⟧.OID (members e.crl_entry_extensions)) found)
-        (entries list.now.tbs_cert_list.revoked_certificates) serial_number.now revocation.old revocation.new result }
+/// The content octets of the element that the bytes are.
+fn content_of(bytes: &[u8]) -> &[u8]
+    ensures { (tag : ℕ) (content : List ℕ) → is_identifier tag ≡ true → bytes.now ≡ element tag content → result.now ≡ content }
 {
-    let Some(entry) = list.find(serial_number) else {
+    match split_element(bytes) {
+        Ok(piece) => piece.content,
+        Err(_) => &[],
+    }
+}
+
+/// Fills in what the entry says that was found among others by its number.
+#[tactic(auto, unfolding(crate::specs::Revoked::Tells))]
+fn tell(alloc: Global, found: &Option<RevokedCertRef<'_>>, revocation: &mut Revocation) -> Status
+    ensures tells { (list : List (revoked.RevokedCert rules.Rfc5280)) (number : List ℕ) → FindsEntry number list found.now
+        → Tells (λ e answer. Finds ⟦<CrlReason as Grammar>⟧.form ⟦<CrlReason as Grammar>⟧.refuses ⟦<CrlReason as Decode>⟧.wants_memory
+        (with_oid ⟦<CrlReason as AssociatedOid>⟧.OID (members e.crl_entry_extensions)) answer) list number revocation.old revocation.new result }
+    ensures memory { result ≡ Refused Memory → ⊥ }
+{
+    let Some(entry) = found else {
         return Status::Absent;
     };
     match revocation_of(alloc, entry) {
-        Ok(found) => {
-            *revocation = found;
+        Ok(told) => {
+            *revocation = told;
             Status::Done
         }
         Err(e) => e.into(),
     }
 }
 
-/// Decodes a CRL and a serial number, both under the rules of RFC 5280, and fills in what the first entry with the
-/// number says.
+/// Checks a CRL and a serial number, both under the rules of RFC 5280, and fills in what the first entry with the
+/// number says. It takes no memory.
 ///
 /// # Errors
 ///
-/// [`Status::Absent`] where no entry has the number. The error of decoding the CRL, as [`crl_walk`](crate::crl_walk);
-/// else that of decoding the serial number; else that of the entry's reason code: `Malformed`, or `Failed` where that
-/// extension is repeated. `Memory` when out of memory. `revocation` is unchanged then.
+/// [`Status::Absent`] where no entry has the number. The error of checking the CRL, as [`crl_walk`](crate::crl_walk);
+/// else that of checking the serial number; else that of the entry's reason code: `Malformed`, or `Failed` where that
+/// extension is repeated. `revocation` is unchanged then.
 #[tactic(auto, unfolding(crate::specs::Revoked::LooksUp))]
 pub fn crl_lookup(
     alloc: Global,
@@ -84,18 +99,18 @@ pub fn crl_lookup(
     serial_number: &[u8],
     revocation: &mut Revocation,
 ) -> Status
-    ensures { LooksUp ⟦<CertificateList<Rfc5280> as Grammar>⟧.form ⟦<CertificateList<Rfc5280> as Grammar>⟧.refuses ⟦<SerialNumber<Rfc5280> as Grammar>⟧.form
-        ⟦<SerialNumber<Rfc5280> as Grammar>⟧.refuses (λ e found. Finds ⟦<CrlReason as Grammar>⟧.form ⟦<CrlReason as Grammar>⟧.refuses
-        ⟦<CrlReason as Decode>⟧.wants_memory (with_oid ⟦<CrlReason as AssociatedOid>⟧.OID (members e.crl_entry_extensions)) found) input.now
-        serial_number.now revocation.old revocation.new result }
+    ensures looks_up { LooksUp ⟦<CertificateList<Rfc5280> as Grammar>⟧.form ⟦<CertificateList<Rfc5280> as Grammar>⟧.refuses
+        ⟦<SerialNumber<Rfc5280> as Grammar>⟧.form ⟦<SerialNumber<Rfc5280> as Grammar>⟧.refuses (λ e found. Finds ⟦<CrlReason as Grammar>⟧.form
+        ⟦<CrlReason as Grammar>⟧.refuses ⟦<CrlReason as Decode>⟧.wants_memory (with_oid ⟦<CrlReason as AssociatedOid>⟧.OID (members e.crl_entry_extensions))
+        found) input.now serial_number.now revocation.old revocation.new result }
+    ensures memory { result ≡ Refused Memory → ⊥ }
 {
-    let list = match read::<CertificateList<Rfc5280>>(alloc, input) {
-        Ok(list) => list,
-        Err(e) => return Status::Refused(e),
+    let found = match find_revoked::<Rfc5280>(input, content_of(serial_number)) {
+        Ok(found) => found,
+        Err(e) => return e.into(),
     };
-    let serial_number = match read::<SerialNumber<Rfc5280>>(alloc, serial_number) {
-        Ok(serial_number) => serial_number,
-        Err(e) => return Status::Refused(e),
-    };
-    ask(alloc, &list, &serial_number, revocation)
+    match SerialNumber::<Rfc5280>::check(serial_number) {
+        Ok(()) => tell(alloc, &found, revocation),
+        Err(e) => e.into(),
+    }
 }

@@ -1,22 +1,31 @@
-use Rattle.std.proofs.Common.{◌≡◌, Some, inl, sym, ap, ◌∙◌}
-use Rattle.x509_ext.specs.LookUp.{members}
+use Rattle.std.proofs.Common.{◌≡◌, inl, sym, ap, subst, ◌∙◌}
+use Rattle.x509_base.specs.Profiles.{rfc5280_serial_number}
 use Rattle.x509_c_calls.specs.Extensions.{LooksUpExtension}
-use Rattle.x509_c_calls.proofs.Members.{absent, place_within, some_stand}
+use Rattle.x509_c_calls.proofs.Members.{absent, no_list, some_list, some_stand}
 use Rattle.x509_c_calls.proofs.Parts.{is_sequence}
 use Rattle.x509_c_calls.proofs.certificate.extension.certificate_extension.Goals as goal
+use Rattle.x509_cert.specs.Certificate.{certificate}
+use Rattle.x509_check.specs.ExtensionRefs.{extensions_left}
+use Rattle.x509_der.specs.Form.{Spells}
+use Rattle.x509_ext.specs.LookUp.{members}
 
-pub returns-in_default : goal.returns-in_default
+pub returns-then-is_none-clause-looks_up : goal.returns-then-is_none-clause-looks_up
 unfolding LooksUpExtension
-returns-in_default c = inl (c.in-Ok.certificate, c.in-Ok.ensures.found, absent _ _ _ _ _ (c.in_default.ensures ∙ ap (λ t. t.extensions) c.tbs_certificate.ensures))
+returns-then-is_none-clause-looks_up c =
+    let found = c.in-Ok.ensures.found in
+    let value = found.1.0 in
+    let elements = c.slices-slices.ensures value (subst (λ bytes. Spells (certificate rfc5280_serial_number) value bytes) (sym found.0) found.1.1) in
+    inl (value, found.1.1, absent _ _ _ _ _ (no_list _ _ (ap (λ e. e.fields.extensions) elements) (rw c.if-is_none.true at c.is_none.ensures)))
 
-pub enter-requires : goal.enter-requires
-enter-requires c = place_within c.in-Ok.certificate.tbs_certificate.extensions _ _ _ (c.list_of-at.ensures c.in-Ok.ensures.found)
-
-pub returns : goal.returns
+pub returns-clause-looks_up : goal.returns-clause-looks_up
 unfolding LooksUpExtension
-returns c =
-    let list = c.as_slice.result.now in
-    let some : Some list ≡ c.in-Ok.certificate.tbs_certificate.extensions = ap (λ l. Some l) c.as_slice.ensures ∙ c.in-Some.ensures ∙ ap (λ t. t.extensions) c.tbs_certificate.ensures in
-    let stands = c.list_of-at.ensures c.in-Ok.ensures.found in
-    let inside = c.enter.ensures.stands 48 _ _ is_sequence (some_stand _ list _ _ _ some stands) in
-    inl (c.in-Ok.certificate, c.in-Ok.ensures.found, rw (ap members (sym some)) (c.pick.ensures _ inside.1))
+returns-clause-looks_up c =
+    let found = c.in-Ok.ensures.found in
+    let value = found.1.0 in
+    let lent = subst (λ bytes. Spells (certificate rfc5280_serial_number) value bytes) (sym found.0) found.1.1 in
+    let elements = c.slices-slices.ensures value lent in
+    let some = some_list _ value.tbs_certificate.extensions (ap (λ e. e.fields.extensions) elements) (rw c.if-is_none.false at c.is_none.ensures) in
+    let inside = c.enter.ensures.stands 48 _ _ is_sequence (some_stand _ some.0 _ _ _ some.1 (c.list_of-at.ensures value found.1.1 elements)) in
+    let same = c.extensions.ensures value lent in
+    let left : extensions_left c.extensions.result ≡ some.0 = same ∙ ap members (sym some.1) in
+    inl (value, found.1.1, rw (sym same) (c.pick.ensures.finds _ (rw left inside.1)))

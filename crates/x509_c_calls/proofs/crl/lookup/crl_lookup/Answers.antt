@@ -1,16 +1,12 @@
-use Rattle.std.proofs.Common.{◌⊎◌, inl, inr, refl}
+use Rattle.std.proofs.Common.{◌≡◌, inl}
 use Rattle.x509_c_calls.specs.Revoked.{LooksUp}
+use Rattle.x509_c_calls.proofs.Parts.{is_integer}
 use Rattle.x509_c_calls.proofs.crl.lookup.crl_lookup.Goals as goal
 
--- a refusal that is met behind what was found, which is within the limit
-refused_behind : {A W L B C D : Type 0} → L → D → (A × W) ⊎ B → (A × L) ⊎ (C ⊎ (D × B))
-refused_behind within found (inl memory) = inl (memory.0, within)
-refused_behind within found (inr refused) = inr (inr (found, refused))
-
-pub returns-in-Err-read : goal.returns-in-Err-read
+pub returns-in-Ok-check-clause-looks_up : goal.returns-in-Ok-check-clause-looks_up
 unfolding LooksUp
-returns-in-Err-read c = inr (c.in-Err-read.e, refl, refl, refused_behind c.in-Ok.ensures.found.2 (c.in-Ok.list, c.in-Ok.ensures.found) c.in-Err-read.ensures.found)
-
-pub returns : goal.returns
-unfolding LooksUp
-returns c = inl (record { list = c.in-Ok.list; number = _; list_spelled = c.in-Ok.ensures.found; number_spelled = c.in-Ok-read.ensures.found }, c.ask.ensures)
+returns-in-Ok-check-clause-looks_up c =
+    let list = c.in-Ok.ensures.found in
+    let number = c.in-Ok-check.ensures.found in
+    let same : c.content_of.result.now ≡ number.0 = c.content_of.ensures 2 number.0 is_integer number.1.1 in
+    inl (record { list = list.0; number = number.0; list_spelled = list.1; number_spelled = number.1 }, c.tell.ensures.tells _ number.0 (rw same at list.2))
