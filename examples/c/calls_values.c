@@ -361,7 +361,7 @@ static void texts(void)
     WANT(x509_serial_decimal(BYTES("\x80"), room, sizeof room, &written) == X509_OK && is_written("-128"));
     WANT(x509_serial_decimal(BYTES("\xff\x00"), room, sizeof room, &written) == X509_OK && is_written("-256"));
     /* 2 ^ 159 - 1, and -2 ^ 167 */
-    uint8_t octets[22] = {0x7f};
+    uint8_t octets[22] = {127};
     memset(octets + 1, 0xff, 19);
     WANT(x509_serial_decimal(octets, 20, room, sizeof room, &written) == X509_OK && is_written("730750818665451459101842416358141509827966271487"));
     octets[0] = 0x80;

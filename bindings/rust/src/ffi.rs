@@ -428,10 +428,18 @@ impl Fill {
         String::from_utf8(self.of(data)?).map_err(|_| Error::Unexpected)
     }
 
+    /// What the call writes to the front of the buffer. It takes no memory here.
+    pub(crate) fn within<'a>(&self, data: &[u8], out: &'a mut [u8]) -> Result<&'a [u8], Error> {
+        let mut written = 0;
+        let status = self.over(data)(out.as_mut_ptr(), out.len(), &mut written);
+        accepted(status, ())?;
+        out.get(..written).ok_or(Error::Unexpected)
+    }
+
     fn over<'a>(&'a self, data: &'a [u8]) -> impl Fn(*mut u8, usize, *mut usize) -> c_int + 'a {
         |out, room, written| {
-            // SAFETY: the header lets the call read `data`, which is lent for it, and write to `out[0..room)` and `written`, which `wanted` and
-            // `fill` own.
+            // SAFETY: the header lets the call read `data`, which is lent for it, and write to `out[0..room)` and `written`, which `within`,
+            // `wanted` and `fill` own or are lent.
             unsafe { self.0(data.as_ptr(), data.len(), out, room, written) }
         }
     }

@@ -27,7 +27,7 @@ pub(crate) fn element(identifier: u8, content: &[u8]) -> Vec<u8> {
     let mut written = vec![identifier];
     match digits {
         [] => written.push(0),
-        [one @ 0..=0x7f] => written.push(*one),
+        [one @ 0..=127] => written.push(*one),
         // there are at most eight of them
         more => {
             written.push(0x80 | more.len() as u8);

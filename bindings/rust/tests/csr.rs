@@ -54,7 +54,7 @@ fn refusals() {
         assert_eq!(Csr::from_der(&DER[..len]).err(), Some(Error::Malformed));
     }
     for at in 0..DER.len() {
-        for octet in [0, 0x7f, 0xff] {
+        for octet in [0, 127, 255] {
             let mut changed = DER.to_vec();
             changed[at] = octet;
             let Ok(it) = Csr::from_der(&changed) else {
