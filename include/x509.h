@@ -685,8 +685,9 @@ x509_status x509_path_controls_view(const uint8_t *value, size_t len, x509_path_
 
 /* The serialized timestamps of a SignedCertificateTimestampList (1.3.6.1.4.1.11129.2.4.2; RFC 6962 3.3), one after the other: where their octets stand,
  * without the two that say how many they are. `*at` is 0 to begin; it is moved as said under values of extensions. What a timestamp says isn't looked
- * at, so that those of an unknown version can be passed over. X509_MALFORMED where the bytes aren't an OCTET STRING that holds such a list, where `*at`
- * is neither 0 nor a place in it, or where no serialized timestamp stands there. It takes no memory.
+ * at, so that those of an unknown version can be passed over. X509_ABSENT at the end of the list, of an empty list at once. X509_MALFORMED where the
+ * bytes aren't an OCTET STRING that holds such a list, where `*at` is neither 0 nor a place in it, or where no serialized timestamp stands there. It
+ * takes no memory.
  * Answers X509_OK, X509_MALFORMED, X509_ABSENT. */
 x509_status x509_timestamp_next(const uint8_t *value, size_t len, size_t *at, x509_span *found);
 
