@@ -681,12 +681,39 @@ typedef struct {
  * Answers X509_OK, X509_MEMORY, X509_OVERLENGTH, X509_MALFORMED. */
 x509_status x509_path_controls_view(const uint8_t *value, size_t len, x509_path_controls *view);
 
+/* ---- documents
+ *
+ * These calls decode an object and write its document, which says all that the object has, with its extensions and entries, in UTF-8 (no zero at the
+ * end). They go by the grammar alone, as under X509_RAW. X509_OVERLENGTH exactly where the input is too long; within that length X509_MALFORMED
+ * exactly where it is the encoding of no such object. A trust anchor is a TrustAnchorChoice (RFC 5914 3); a certificate is one. The value of an
+ * extension is written in hex where it can't be decoded, as "undecodable", and where its OID isn't known, as "unknown". crates/x509_text/specs
+ * defines which lines there are.
+ *
+ * Those that end in _text write lines: a label, a colon and a text, such as "serial: 05", behind two spaces for each line that it stands under, and
+ * with a line feed at its end. No text of an object forges a line or turns its order round: of each control character, separator of lines and mark of
+ * direction the bytes of its UTF-8 are written, as "\0a".
+ *
+ * Those that end in _json write the same lines as JSON (RFC 8259): an array of objects such as {"depth": 0, "label": "serial", "text": "05"}, in which
+ * such a character is written as "\u000a". So JSON gives each text back as it is, while "\0a" in a line may be three characters of the text.
+ *
+ * Buffers are as said under whole values; and a buffer is unchanged after each status but X509_OK.
+ * Answers X509_OK, X509_ROOM, X509_MEMORY, X509_OVERLENGTH, X509_MALFORMED. */
+x509_status x509_certificate_text(const uint8_t *in, size_t len, uint8_t *out, size_t room, size_t *written);
+x509_status x509_certificate_json(const uint8_t *in, size_t len, uint8_t *out, size_t room, size_t *written);
+x509_status x509_crl_text(const uint8_t *in, size_t len, uint8_t *out, size_t room, size_t *written);
+x509_status x509_crl_json(const uint8_t *in, size_t len, uint8_t *out, size_t room, size_t *written);
+x509_status x509_request_text(const uint8_t *in, size_t len, uint8_t *out, size_t room, size_t *written);
+x509_status x509_request_json(const uint8_t *in, size_t len, uint8_t *out, size_t room, size_t *written);
+x509_status x509_anchor_text(const uint8_t *in, size_t len, uint8_t *out, size_t room, size_t *written);
+x509_status x509_anchor_json(const uint8_t *in, size_t len, uint8_t *out, size_t room, size_t *written);
+
 /* ---- signed certificate timestamps, SCTs */
 
 /* The serialized timestamps of a SignedCertificateTimestampList (1.3.6.1.4.1.11129.2.4.2; RFC 6962 3.3), one after the other: where their octets stand,
  * without the two that say how many they are. `*at` is 0 to begin; it is moved as said under values of extensions. What a timestamp says isn't looked
- * at, so that those of an unknown version can be passed over. X509_MALFORMED where the bytes aren't an OCTET STRING that holds such a list, where `*at`
- * is neither 0 nor a place in it, or where no serialized timestamp stands there. It takes no memory.
+ * at, so that those of an unknown version can be passed over. X509_ABSENT at the end of the list, of an empty list at once. X509_MALFORMED where the
+ * bytes aren't an OCTET STRING that holds such a list, where `*at` is neither 0 nor a place in it, or where no serialized timestamp stands there. It
+ * takes no memory.
  * Answers X509_OK, X509_MALFORMED, X509_ABSENT. */
 x509_status x509_timestamp_next(const uint8_t *value, size_t len, size_t *at, x509_span *found);
 

@@ -52,6 +52,21 @@ static int is_decode(x509_status status)
     return status == X509_FAULT && found.place == 0 && found.reason == X509_PATH_DECODE;
 }
 
+/* Each call that writes a document, with these bytes, gives that status, and leaves the buffer and `written`. */
+static void refused_documents(const uint8_t *bytes, size_t len, x509_status status)
+{
+    static x509_status (*const calls[])(const uint8_t *, size_t, uint8_t *, size_t, size_t *) = {
+        x509_certificate_text, x509_certificate_json, x509_crl_text,    x509_crl_json,
+        x509_request_text,     x509_request_json,     x509_anchor_text, x509_anchor_json,
+    };
+    for (size_t at = 0; at < sizeof calls / sizeof *calls; at++) {
+        written = 77;
+        room[0] = 0x5a;
+        WANT(calls[at](bytes, len, room, sizeof room, &written) == status && written == 77 && room[0] == 0x5a);
+        WANT(calls[at](bytes, len, NULL, 0, &written) == status && written == 77);
+    }
+}
+
 /* NULL with a length of 0 is no bytes, with a room of 0 no room, and with a count of 0 no lengths. */
 static void no_pointers(void)
 {
@@ -85,6 +100,8 @@ static void no_pointers(void)
     WANT(x509_name_from_text(NULL, 0, NULL, 0, &written) == X509_ROOM && written == 2);
     WANT(x509_name_from_text(NULL, 0, room, 2, &written) == X509_OK && written == 2 && memcmp(room, "\x30\x00", 2) == 0);
     WANT(x509_name_from_text((const uint8_t *)"CN=a", 4, NULL, 0, &written) == X509_ROOM && written == 14);
+    refused_documents(NULL, 0, X509_MALFORMED);
+    WANT(x509_certificate_text(certificate, certificate_len, NULL, 0, &written) == X509_ROOM && written > certificate_len);
     written = 77;
     WANT(x509_serial_text(NULL, 0, NULL, 0, &written) == X509_MALFORMED && written == 77);
     WANT(x509_serial_text((const uint8_t *)"\x05", 1, NULL, 0, &written) == X509_ROOM && written == 2);
@@ -258,6 +275,7 @@ static void early_dates(void)
     WANT(x509_certificate_reencode(certificate, certificate_len, room, sizeof room, &written) == X509_MALFORMED);
     WANT(x509_reencode(CERTIFICATE, 11, X509_RAW, certificate, certificate_len, room, sizeof room, &written) == X509_MALFORMED);
     WANT(x509_certificate_signature(certificate, certificate_len, &signature) == X509_MALFORMED);
+    refused_documents(certificate, certificate_len, X509_MALFORMED);
     WANT(x509_path_check(certificate, certificate_len, respelled, respelled_len, &respelled_len, 1, MOMENT, &fault) == X509_MALFORMED);
     WANT(is_decode(x509_path_check(respelled, respelled_len, certificate, certificate_len, &certificate_len, 1, MOMENT, &fault)));
     WANT(x509_signed_slice(certificate, certificate_len, &part) == X509_OK);
@@ -267,6 +285,7 @@ static void early_dates(void)
     WANT(x509_crl_walk(list, list_len, &entries) == X509_MALFORMED);
     WANT(x509_crl_view(list, list_len, &crl) == X509_MALFORMED && crl.version == 0);
     WANT(x509_crl_lookup(list, list_len, SERIAL, 3, &revocation) == X509_MALFORMED);
+    refused_documents(list, list_len, X509_MALFORMED);
 }
 
 /* 268,435,456 bytes are one too many; these are zeros. */
@@ -289,6 +308,7 @@ static void overlong(void)
     WANT(x509_certificate_reencode(bytes, len, room, sizeof room, &written) == X509_OVERLENGTH);
     WANT(x509_reencode(CERTIFICATE, 11, X509_RAW, bytes, len, room, sizeof room, &written) == X509_OVERLENGTH);
     WANT(x509_name_text(bytes, len, room, sizeof room, &written) == X509_OVERLENGTH);
+    refused_documents(bytes, len, X509_OVERLENGTH);
     WANT(x509_signed_slice(bytes, len, &part) == X509_MALFORMED);
     refused_values(bytes, len, X509_OVERLENGTH);
     free(bytes);

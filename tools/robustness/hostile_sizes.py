@@ -47,6 +47,11 @@ def find_extension(library, data, octets):
 # each call on an input that is none: what it answers over the limit, and within
 WHOLE = [(name, checks(name), OVERLENGTH, MALFORMED) for name in ("x509_certificate_check", "x509_crl_check", "x509_request_check")]
 WHOLE += [(name, writes(name, lambda data: 0), OVERLENGTH, MALFORMED) for name in ("x509_certificate_reencode", "x509_name_text")]
+WHOLE += [
+    (f"x509_{kind}_{style}", writes(f"x509_{kind}_{style}", lambda data: 0), OVERLENGTH, MALFORMED)
+    for kind in ("certificate", "crl", "request", "anchor")
+    for style in ("text", "json")
+]
 WHOLE += [(name, looks(name, "I"), OVERLENGTH, MALFORMED) for name in ("x509_certificate_view", "x509_crl_walk")]
 WHOLE += [
     ("x509_certificate_extension", lambda library, data: find_extension(library, data, ONE[2:]), OVERLENGTH, MALFORMED),

@@ -73,7 +73,7 @@ static void wrong(const char *what, long number)
 
 /* ---- each call */
 
-enum { CALLS = 39 };
+enum { CALLS = 47 };
 
 static uint8_t certificate[65536], list[65536], request[65536], room[65536];
 static size_t certificate_len, list_len, request_len;
@@ -204,6 +204,22 @@ static x509_status call(int number)
         return x509_build_device(BYTES("\x02\x01\x05"), BYTES(ALGORITHM), BYTES("\x30\x00"), BYTES(KEY), 1767323045, 1770001445, BYTES("\x30\x00"), BYTES(KEY),
                                  BYTES("\x30\x17\xa0\x15\x06\x08\x2b\x06\x01\x05\x05\x07\x08\x04\xa0\x09\x30\x07\x06\x02\x2a\x03\x04\x01\xab"),
                                  BYTES(EXTENSION), room, sizeof room, &count);
+    case 38:
+        return x509_certificate_text(certificate, certificate_len, room, sizeof room, &count);
+    case 39:
+        return x509_certificate_json(certificate, certificate_len, room, sizeof room, &count);
+    case 40:
+        return x509_crl_text(list, list_len, room, sizeof room, &count);
+    case 41:
+        return x509_crl_json(list, list_len, room, sizeof room, &count);
+    case 42:
+        return x509_request_text(request, request_len, room, sizeof room, &count);
+    case 43:
+        return x509_request_json(request, request_len, room, sizeof room, &count);
+    case 44:
+        return x509_anchor_text(certificate, certificate_len, room, sizeof room, &count);
+    case 45:
+        return x509_anchor_json(certificate, certificate_len, room, sizeof room, &count);
     default:
         /* in the first second of the validity */
         return x509_path_check(certificate, certificate_len, certificate, certificate_len, &certificate_len, 1, 1767323045, &fault);

@@ -274,6 +274,7 @@ class Refusals(unittest.TestCase):
                 try:
                     certificate = ours.load_der_x509_certificate(changed)
                     str(certificate.subject), certificate.serial_number, list(certificate.subject)
+                    certificate.to_text(), certificate.to_json()
                     for extension in certificate.extensions:
                         extension.value
                 except ours.X509Error:

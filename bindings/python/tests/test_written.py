@@ -183,6 +183,9 @@ class Controls(unittest.TestCase):
         self.assertEqual(found.policy_flags, ours.PathControls.REQUIRE_EXPLICIT_POLICY)
         self.assertEqual((found.permitted_subtrees, found.excluded_subtrees), ([ours.DNSName("a")], None))
         self.assertEqual((found.certificate, found.path_length), (None, 0))
+        same, other = ours.PathControls(found.public_bytes()), ours.PathControls(bytes([0x30, len(name)]) + name)
+        self.assertEqual((found, hash(found)), (same, hash(same)))
+        self.assertNotEqual(found, other)
 
 
 class Refused(unittest.TestCase):

@@ -124,6 +124,22 @@ impl<'a> TrustAnchor<'a> {
     pub fn path_controls(&self) -> Option<&'a [u8]> {
         self.optional(self.view.controls)
     }
+
+    /// All that it has, as lines for people: each is a label and a text, and no text of the anchor can forge a line or turn its order round.
+    ///
+    /// # Errors
+    /// [`Error::Memory`].
+    pub fn to_text(&self) -> Result<String, Error> {
+        ffi::ANCHOR_TEXT.text_of(self.der)
+    }
+
+    /// The lines of [`to_text`](TrustAnchor::to_text) as JSON (RFC 8259): an array of objects, each with its `depth`, its `label` and its `text`.
+    ///
+    /// # Errors
+    /// [`Error::Memory`].
+    pub fn to_json(&self) -> Result<String, Error> {
+        ffi::ANCHOR_JSON.text_of(self.der)
+    }
 }
 
 impl PartialEq for TrustAnchor<'_> {

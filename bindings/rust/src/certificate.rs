@@ -277,6 +277,31 @@ impl<'a> CertificateRef<'a> {
         ffi::CERTIFICATE_REENCODE.of(self.der)
     }
 
+    /// All that it has, as lines for people: each is a label and a text, and no text of the certificate can forge a line or turn its order round.
+    ///
+    /// ```
+    /// use x509_rattle::CertificateRef;
+    ///
+    /// # let der = include_bytes!("../../../examples/data/certificate.der");
+    /// let text = CertificateRef::from_der(der)?.to_text()?;
+    /// assert!(text.starts_with("type: certificate\nversion: v3\nserial: 12:34:56:78:90:AB:CD:EF\n"));
+    /// # Ok::<(), x509_rattle::Error>(())
+    /// ```
+    ///
+    /// # Errors
+    /// [`Error::Memory`].
+    pub fn to_text(&self) -> Result<String, Error> {
+        ffi::CERTIFICATE_TEXT.text_of(self.der)
+    }
+
+    /// The lines of [`to_text`](CertificateRef::to_text) as JSON (RFC 8259): an array of objects, each with its `depth`, its `label` and its `text`.
+    ///
+    /// # Errors
+    /// [`Error::Memory`].
+    pub fn to_json(&self) -> Result<String, Error> {
+        ffi::CERTIFICATE_JSON.text_of(self.der)
+    }
+
     /// The certificate, with bytes of its own.
     pub fn to_owned(&self) -> Certificate {
         Certificate {
@@ -437,6 +462,22 @@ impl Certificate {
     /// [`Error::Memory`].
     pub fn signature(&self) -> Result<Signature<'_>, Error> {
         self.to_ref().signature()
+    }
+
+    /// All that it has, as lines for people.
+    ///
+    /// # Errors
+    /// As of [`CertificateRef::to_text`].
+    pub fn to_text(&self) -> Result<String, Error> {
+        self.to_ref().to_text()
+    }
+
+    /// The same lines as JSON.
+    ///
+    /// # Errors
+    /// As of [`CertificateRef::to_json`].
+    pub fn to_json(&self) -> Result<String, Error> {
+        self.to_ref().to_json()
     }
 }
 

@@ -209,6 +209,22 @@ impl Crl {
             reason: reason.map(CrlReason::found).transpose()?,
         }))
     }
+
+    /// All that it has, as lines for people: each is a label and a text, and no text of the CRL can forge a line or turn its order round.
+    ///
+    /// # Errors
+    /// [`Error::Memory`].
+    pub fn to_text(&self) -> Result<String, Error> {
+        ffi::CRL_TEXT.text_of(&self.der)
+    }
+
+    /// The lines of [`to_text`](Crl::to_text) as JSON (RFC 8259): an array of objects, each with its `depth`, its `label` and its `text`.
+    ///
+    /// # Errors
+    /// [`Error::Memory`].
+    pub fn to_json(&self) -> Result<String, Error> {
+        ffi::CRL_JSON.text_of(&self.der)
+    }
 }
 
 /// The entries of a whole list of them; none of no bytes.

@@ -175,6 +175,22 @@ impl<'a> Csr<'a> {
     pub fn signature(&self) -> Result<Signature<'a>, Error> {
         Signature::found(&self.view.signature, self.der)
     }
+
+    /// All that it has, as lines for people: each is a label and a text, and no text of the CSR can forge a line or turn its order round.
+    ///
+    /// # Errors
+    /// [`Error::Memory`].
+    pub fn to_text(&self) -> Result<String, Error> {
+        ffi::REQUEST_TEXT.text_of(self.der)
+    }
+
+    /// The lines of [`to_text`](Csr::to_text) as JSON (RFC 8259): an array of objects, each with its `depth`, its `label` and its `text`.
+    ///
+    /// # Errors
+    /// [`Error::Memory`].
+    pub fn to_json(&self) -> Result<String, Error> {
+        ffi::REQUEST_JSON.text_of(self.der)
+    }
 }
 
 impl PartialEq for Csr<'_> {

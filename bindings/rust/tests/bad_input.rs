@@ -71,6 +71,9 @@ fn ask(it: CertificateRef) {
         let _ = format!("{:?} {:?}", found, found.parsed());
         let _ = it.extension(found.oid());
     }
+    // all that is read has documents
+    let [text, json] = [it.to_text(), it.to_json()].map(|document| document.expect("a document"));
+    assert!(text.starts_with("type: certificate\n") && json.ends_with("\n]\n"));
 }
 
 #[test]

@@ -6,6 +6,7 @@
 mod anchor;
 mod build;
 mod certificate;
+mod document;
 mod key;
 mod list;
 mod name;

@@ -51,3 +51,4 @@ pub mod Subtrees
 pub mod Texts
 pub mod Decimals
 pub mod StatusTexts
+pub mod Documents

@@ -6,6 +6,7 @@ mod anchor;
 mod build;
 mod certificate;
 mod crl;
+mod document;
 mod key;
 mod named;
 mod path;
@@ -25,6 +26,7 @@ pub use certificate::{
     certificate_view, is_written, seconds,
 };
 pub use crl::{CrlEntryView, CrlView, Revocation, crl_lookup, crl_walk};
+pub use document::show_object;
 pub use key::{AlgorithmView, KeyKind, KeyView, SignatureKind, signature_at};
 pub use named::{name_from_text, name_text, reencode_named};
 pub use path::{Fault, path_check};

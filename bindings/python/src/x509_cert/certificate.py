@@ -168,6 +168,14 @@ class Certificate:
         """The digest of the DER, by an algorithm of `hashlib`."""
         return hashlib.new(algorithm, self._data).digest()
 
+    def to_text(self) -> str:
+        """All that it has, as lines for people: each is a label and a text, and no text of the certificate can forge a line or turn its order round."""
+        return fill("x509_certificate_text", self._data).decode("utf-8")
+
+    def to_json(self) -> str:
+        """The lines of `to_text` as JSON (RFC 8259): an array of objects, each with its `depth`, its `label` and its `text`."""
+        return fill("x509_certificate_json", self._data).decode("utf-8")
+
     def __eq__(self, other: object) -> bool:
         return isinstance(other, Certificate) and self._data == other._data
 
@@ -267,6 +275,14 @@ class CertificateRevocationList:
     def fingerprint(self, algorithm: str) -> bytes:
         """The digest of the DER, by an algorithm of `hashlib`."""
         return hashlib.new(algorithm, self._data).digest()
+
+    def to_text(self) -> str:
+        """All that it has, as lines for people: each is a label and a text, and no text of the CRL can forge a line or turn its order round."""
+        return fill("x509_crl_text", self._data).decode("utf-8")
+
+    def to_json(self) -> str:
+        """The lines of `to_text` as JSON (RFC 8259): an array of objects, each with its `depth`, its `label` and its `text`."""
+        return fill("x509_crl_json", self._data).decode("utf-8")
 
     def get_revoked_certificate_by_serial_number(self, serial_number: int) -> RevokedCertificate | None:
         """The first entry with the serial number. Its issuer isn't compared (RFC 5280 5.3.3)."""

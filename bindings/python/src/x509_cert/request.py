@@ -16,6 +16,7 @@ from ._library import (
     RequestView,
     Span,
     X509Error,
+    fill,
     status_of,
     view,
     walk,
@@ -153,6 +154,14 @@ class CertificateSigningRequest:
         """The identifier of the algorithm of the signature."""
         return self.signature_algorithm.oid
 
+    def to_text(self) -> str:
+        """All that it has, as lines for people: each is a label and a text, and no text of the CSR can forge a line or turn its order round."""
+        return fill("x509_request_text", self._data).decode("utf-8")
+
+    def to_json(self) -> str:
+        """The lines of `to_text` as JSON (RFC 8259): an array of objects, each with its `depth`, its `label` and its `text`."""
+        return fill("x509_request_json", self._data).decode("utf-8")
+
     def __eq__(self, other: object) -> bool:
         return isinstance(other, CertificateSigningRequest) and self._data == other._data
 
@@ -273,6 +282,14 @@ class TrustAnchor:
         """The constraints on paths."""
         found = self.path_controls_bytes
         return None if found is None else PathControls(found)
+
+    def to_text(self) -> str:
+        """All that it has, as lines for people: each is a label and a text, and no text of the anchor can forge a line or turn its order round."""
+        return fill("x509_anchor_text", self._data).decode("utf-8")
+
+    def to_json(self) -> str:
+        """The lines of `to_text` as JSON (RFC 8259): an array of objects, each with its `depth`, its `label` and its `text`."""
+        return fill("x509_anchor_json", self._data).decode("utf-8")
 
     def __eq__(self, other: object) -> bool:
         return isinstance(other, TrustAnchor) and self._data == other._data
