@@ -4,9 +4,9 @@
 Octets of an extension that aren't in DER x509_show calls undecodable, and openssl may read them, as a key usage with zeros behind the last bit that is
 set (X.690 11.2.2), which two certificates of the store have. These are counted apart, by a reason that is looked for in the octets.
 
-Subject, issuer, serial number, dates, algorithms, the size of the key where x509_show prints one, and of extensions whether they are critical, key usage, extended key usage,
-basic constraints, key identifiers, alternative names, policies and the names of CRL distribution points. Qualifiers of policies aren't compared, and
-of a directory name or an other name among general names only that it stands there.
+Subject, issuer, serial number, dates, algorithms, the size of the key where x509_show prints one, and of extensions whether they are critical, key usage,
+extended key usage, basic constraints, key identifiers, alternative names, policies and the names of CRL distribution points. Qualifiers of policies aren't
+compared, and of a directory name or an other name among general names only that it stands there.
 
 The certificates are those in PEM in the files below the folders, each once; without folders, the system's store. The CRLs and the CSRs are made by openssl
 (`objects_of_openssl.py`). Of a CRL the issuer, the dates, the algorithm and the extensions are compared, and of each entry the serial number, the
@@ -99,6 +99,9 @@ REASONS = {
     "Cessation Of Operation": "cessationOfOperation",
     "Certificate Hold": "certificateHold",
     "Remove From CRL": "removeFromCRL",
+    "Unused": "unused",
+    "Privilege Withdrawn": "privilegeWithdrawn",
+    "AA Compromise": "aACompromise",
 }
 # Keys of attributes in which the two differ by more than case.
 KEYS = {"gn": "givenname", "sn": "surname", "street": "streetaddress", "l": "localityname"}
@@ -138,9 +141,8 @@ def oids():
     """The OIDs of which openssl knows a name, by its long and its short name."""
     found = {}
     for line in subprocess.run(["openssl", "list", "-objects"], capture_output=True, check=True).stdout.decode().splitlines():
-        names, comma, oid = line.rpartition(", ")
-        short, _, long = (names if comma else line).partition(" = ")
-        found.update({short: oid if comma else long, long: oid if comma else long})
+        if named := re.fullmatch(r"(\S+) = (?:(.+), )?([\d.]+)", line):
+            found.update({it: named[3] for it in named.group(1, 2) if it and not it[0].isdigit()})
     return found
 
 
@@ -245,9 +247,19 @@ def extensions_of(lines, margin=12):
             at = found.setdefault(head[1], (bool(head[2]), []))[1]
         elif line.startswith(" " * (margin + 4)) and at is not None:
             at.append(line.strip())
-        elif not line.startswith(" " * margin):
+        elif line and not line.startswith(" " * margin):
             at = None
     return found
+
+
+def parts_of(lines):
+    """The lines of a distribution point, also those that openssl begins behind a name, as it ends none behind a directory name."""
+    return [part for line in lines for part in re.split(r" {8,}(?=\S)", line)]
+
+
+def names_in(lines):
+    """The general names in those of openssl's lines that are of names alone."""
+    return [it for line in lines if line.partition(":")[0] in KINDS for it in names_of(line)]
 
 
 def number(octets):
@@ -257,20 +269,27 @@ def number(octets):
 
 def why_undecodable(name, payload, lines):
     """Why the octets of an extension that x509_show calls undecodable are no DER of its type; None where nothing is known against them."""
+    if any("X400Name:<unsupported>" in it for it in lines):
+        return "an x400Address, of which the library has no type"
+    if name == "subjectAltName" and any(ord(it) > 0x7F for line in lines for it in line):
+        return "an octet above 7F in an IA5String (X.680 41)"
     if name == "keyUsage" and payload[:1] == b"\x03" and payload[-1] >> payload[2] & 1 == 0:
         return "zeros behind the last bit that is set (X.690 11.2.2)"
     if name == "basicConstraints" and b"\x01\x01\x00" in payload:
         return "a FALSE that is the default (X.690 11.5)"
     if name == "basicConstraints" and re.search(rb"\x02(\x02[\x01-\x7f]|[\x03-\x7f])", payload):
         return "a path length above 255, of which the library has no number"
+    if name == "inhibitAnyPolicy" and payload[:1] == b"\x02" and payload[2] & 0x80:
+        return "a negative number (RFC 5280 4.2.1.14)"
+    if name == "signedCertificateTimestamps" and any(re.fullmatch("Version +: unknown", it) for it in lines):
+        return "a timestamp of a version that neither knows"
     if name == "nameConstraints" and b"\x80\x01\x00" in payload:
         return "a minimum of 0, which is the default (X.690 11.5)"
-    if re.search(rb"\x01\x01[\x01-\xfe]", payload):
+    if name == "basicConstraints" and re.search(rb"\x01\x01[\x01-\xfe]", payload):
         return "a TRUE that isn't FF (X.690 11.1)"
-    if any("X400Name:<unsupported>" in it for it in lines):
-        return "an x400Address, of which the library has no type"
     printed = "".join(chr(it) if 0x20 <= it < 0x7F or it in (10, 13) else "." for it in payload)
-    if lines[:1] in ([printed.split("\n")[0].strip()], ["<Parsing Error>"], ["<Not Supported>"]):
+    # Of timestamps x509_show prints the octets behind the header of the OCTET STRING.
+    if lines and (lines[0].endswith(printed.split("\n")[0].strip()) or lines[0] in ("<Parsing Error>", "<Not Supported>")):
         return "openssl doesn't decode them either"
     return None
 
@@ -285,29 +304,32 @@ def compared(shown, name, lines):
         return mine, [said_as(it, one, PURPOSES) for it, one in itertools.zip_longest(text.split(", "), mine, fillvalue="")]
     if name == "basicConstraints":
         length = shown.texts(name, "path length")
-        says = ["CA:TRUE" if shown.texts(name, "certification authority") == ["yes"] else "CA:FALSE", *(f"pathlen:{it}" for it in length)]
-        return says, text.split(", ")
+        says = ["CA:TRUE" if it == "yes" else "CA:FALSE" for it in shown.texts(name, "certification authority")]
+        return sorted([*says, *(f"pathlen:{it}" for it in length)]), sorted(text.split(", "))
     if name == "subjectKeyIdentifier":
         return shown.texts(name, "key identifier"), [text.replace(":", "").lower()]
     if name == "authorityKeyIdentifier":
         key = [it.removeprefix("keyid:").replace(":", "").lower() for it in lines if not it.startswith(("DirName:", "serial:", "DNS:", "URI:"))]
+        key = [] if lines == ["0."] else key  # the two octets of one without fields
         serial = [number(it.removeprefix("serial:")) for it in lines if it.startswith("serial:")]
         return (shown.texts(name, "key identifier"), [number(it) for it in shown.texts(name, "serial")]), (key, serial)
     if name in ("subjectAltName", "issuerAltName"):
         return shown.names(name), names_of(text)
     if name == "certificatePolicies":
         policies = [it.removeprefix("Policy: ") for it in lines if it.startswith("Policy: ")]
+        if not policies:
+            return None  # openssl doesn't decode them, as it refuses the whole where a qualifier isn't one
         mine = shown.texts(name, "policy")
         return mine, [said_as(it, one, {"X509v3 Any Policy": "anyPolicy"}) for it, one in itertools.zip_longest(policies, mine, fillvalue="")]
     if name == "cRLDistributionPoints":
-        return shown.names(name), [it for line in lines if line.partition(":")[0] in KINDS for it in names_of(re.sub(" +CRL Issuer:$", "", line))]
+        return shown.names(name), names_in(parts_of(lines))
     if name == "issuingDistributionPoint":
-        names = [it for line in lines if line.startswith("URI:") for it in names_of(line.split()[0])]
+        lines = parts_of(lines)
         reasons = [REASONS.get(it, it) for it in lines[lines.index("Only Some Reasons:") + 1].split(", ")] if "Only Some Reasons:" in lines else []
         says = [it for it in ("Only User Certificates", "Only CA Certificates", "Only Attribute Certificates", "Indirect CRL") if it in text]
         mine = [f"Only {it[0].upper()}{it[1:-1].replace('certificate', 'Certificate')}s" for it in shown.texts(name, "only contains")]
         mine += ["Indirect CRL"] * (shown.texts(name, "indirect CRL") == ["yes"])
-        return (shown.names(name), shown.texts(name, "reason"), mine), (names, reasons, says)
+        return (shown.names(name), shown.texts(name, "reason"), mine), (names_in(lines), reasons, says)
     if name in ("cRLNumber", "deltaCRLIndicator"):
         label = "CRL number" if name == "cRLNumber" else "base CRL number"
         return [int(it, 0) for it in shown.texts(name, label)], [int(text, 0)]
@@ -332,6 +354,15 @@ def pairs_of_extensions(shown, theirs):
     return pairs, undecodable
 
 
+def is_sized(shown, text):
+    """Whether x509_show has to print a size of the key. openssl takes an INTEGER of RSA that is negative for one without a sign."""
+    if shown.fields["key algorithm"] == "rsaEncryption":
+        exponent = int(re.search(r"Exponent: (\d+)", text)[1])
+        octets = exponent.to_bytes((exponent.bit_length() + 7) // 8, "big")
+        return not (octets[0] & 0x80 and shown.fields["key"].endswith(f"02{len(octets):02x}{octets.hex()}"))
+    return shown.fields["key algorithm"] in ("id-Ed25519", "id-Ed448") or SIZED.search(text) is not None
+
+
 def pairs_of_algorithms(shown, text):
     """What the two say of the algorithm of the signature, in the signed part where openssl prints it, and behind it, and where there is one, of the key.
 
@@ -344,7 +375,7 @@ def pairs_of_algorithms(shown, text):
         mine = shown.fields["key algorithm"]
         pairs.append(("key algorithm", mine, said_as(key[1], mine, ALGORITHMS)))
     size = re.search(r"Public-Key: \((\d+) bit\)", text)
-    if size and ("key size" in shown.fields or shown.fields["key algorithm"] in ("rsaEncryption", "id-Ed25519", "id-Ed448") or SIZED.search(text)):
+    if size and ("key size" in shown.fields or is_sized(shown, text)):
         pairs.append(("key size", shown.fields.get("key size"), f"{size[1]} bits"))
     return pairs
 
@@ -401,7 +432,7 @@ def entries_shown(lines):
     found = []
     for line in lines:
         if line["depth"] == 0 and line["label"] == "revoked":
-            found.append({"serial": number(line["text"])})
+            found.append({"serial": int.from_bytes(bytes.fromhex(line["text"].replace(":", "")), "big", signed=True)})
         elif line["depth"] > 0 and found and line["label"] in ("revocation date", "reason", "invalidity date"):
             found[-1][line["label"]] = line["text"]
         elif line["label"] == "undecodable" and (code := re.fullmatch("0a..(.*)", line["text"])):
@@ -438,7 +469,8 @@ def crl_differences(lines, data):
         return None
     fields, dumped, text = said
     pairs = [("type", shown.fields["type"], "CRL"), pair_of_names("issuer", shown, fields["issuer"], dumped["issuer"])]
-    pairs.append(("version", shown.fields["version"], "v" + re.search(r"Version (\d)", "\n".join(text))[1]))
+    version = re.search(r"Version (?:(\d+)|unknown \((\d+)\))", "\n".join(text))
+    pairs.append(("version", shown.fields["version"], f"v{version[1] or int(version[2]) + 1}"))
     for label, key in (("this update", "lastUpdate"), ("next update", "nextUpdate")):
         date = fields[key].removesuffix("Z") + " UTC"
         pairs.append((label, shown.fields.get(label), None if date == "NONE UTC" else date))
@@ -467,6 +499,8 @@ def request_differences(lines, data):
     if password is None or password[1] != "unable to print attribute":
         pairs.append(("challenge password", shown.fields.get("challenge password"), password and password[1]))
     asked = next((at for at, line in enumerate(lines_said) if line.strip() == "Requested Extensions:"), len(lines_said))
+    if b"\x01\x01\x00\x04" in bytes.fromhex(shown.fields.get("undecodable", "")):
+        return len(pairs), [it for it in pairs if it[1] != it[2]], [("extensionRequest", "a FALSE that is the default (X.690 11.5)")]
     said, undecodable = pairs_of_extensions(shown, extensions_of(lines_said[asked:], margin=16))
     pairs += said
     return len(pairs), [it for it in pairs if it[1] != it[2]], undecodable

@@ -21,8 +21,14 @@ from compare_with_openssl import KINDS_OF_OBJECTS, openssl, printed
 
 
 def kind_said(data):
-    """The kind of object that openssl takes it for; None where it refuses it."""
-    return next((kind for kind, (word, _) in KINDS_OF_OBJECTS.items() if openssl(data, kind=word) is not None), None)
+    """The kind of object that openssl takes it for; None where it refuses it.
+
+    It takes PKCS #12 without a password for the certificate in it, so that is asked for too."""
+    kind = next((kind for kind, (word, _) in KINDS_OF_OBJECTS.items() if openssl(data, kind=word) is not None), None)
+    words = ["openssl", "pkcs12", "-noout", "-passin", "pass:"]
+    if kind == "certificate" and subprocess.run(words, input=data, capture_output=True, check=False).returncode == 0:
+        return None
+    return kind
 
 
 def linted(linter, data):
