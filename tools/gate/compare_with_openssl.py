@@ -60,6 +60,10 @@ ALGORITHMS = {
     "dsaWithSHA1": "id-dsa-with-sha1",
     "dsa_with_SHA224": "id-dsa-with-sha224",
     "dsa_with_SHA256": "id-dsa-with-sha256",
+    # openssl has no names for these before 3.5
+    "2.16.840.1.101.3.4.3.17": "id-ml-dsa-44",
+    "2.16.840.1.101.3.4.3.18": "id-ml-dsa-65",
+    "2.16.840.1.101.3.4.3.19": "id-ml-dsa-87",
 }
 EXTENSIONS = {
     "X509v3 Key Usage": "keyUsage",
@@ -263,8 +267,8 @@ def names_in(lines):
 
 
 def number(octets):
-    """A number by its octets in hex, with colons between."""
-    return int(octets.replace(":", ""), 16)
+    """The number whose content octets in two's complement stand in hex, with colons between."""
+    return int.from_bytes(bytes.fromhex(octets.replace(":", "")), "big", signed=True)
 
 
 def why_undecodable(name, payload, lines):
@@ -298,7 +302,8 @@ def compared(shown, name, lines):
     """What the two say of an extension."""
     text = ", ".join(lines)
     if name == "keyUsage":
-        return shown.texts(name, "usage"), [USAGES.get(it, it) for it in text.split(", ")]
+        # of no usage openssl prints the octets, 03 01 00
+        return shown.texts(name, "usage"), [] if text == "..." else [USAGES.get(it, it) for it in text.split(", ")]
     if name == "extKeyUsage":
         mine = shown.texts(name, "purpose")
         return mine, [said_as(it, one, PURPOSES) for it, one in itertools.zip_longest(text.split(", "), mine, fillvalue="")]
@@ -307,13 +312,17 @@ def compared(shown, name, lines):
         says = ["CA:TRUE" if it == "yes" else "CA:FALSE" for it in shown.texts(name, "certification authority")]
         return sorted([*says, *(f"pathlen:{it}" for it in length)]), sorted(text.split(", "))
     if name == "subjectKeyIdentifier":
-        return shown.texts(name, "key identifier"), [text.replace(":", "").lower()]
+        return shown.texts(name, "key identifier"), [it.replace(":", "").lower() for it in lines]
     if name == "authorityKeyIdentifier":
         key = [it.removeprefix("keyid:").replace(":", "").lower() for it in lines if not it.startswith(("DirName:", "serial:", "DNS:", "URI:"))]
         key = [] if lines == ["0."] else key  # the two octets of one without fields
-        serial = [number(it.removeprefix("serial:")) for it in lines if it.startswith("serial:")]
-        return (shown.texts(name, "key identifier"), [number(it) for it in shown.texts(name, "serial")]), (key, serial)
+        serial = [int(it.removeprefix("serial:").replace(":", ""), 16) for it in lines if it.startswith("serial:")]
+        # openssl prints a number below 0 without its sign
+        return (shown.texts(name, "key identifier"), [abs(number(it)) for it in shown.texts(name, "serial")]), (key, serial)
     if name in ("subjectAltName", "issuerAltName"):
+        has_nul = any("\0" in it for _, it in shown.names(name)) or any("00" in it for it in shown.texts(name, "value"))
+        if has_nul and text[:1] == "0":
+            return None  # openssl prints the octets where a name has a NUL
         return shown.names(name), names_of(text)
     if name == "certificatePolicies":
         policies = [it.removeprefix("Policy: ") for it in lines if it.startswith("Policy: ")]
@@ -355,11 +364,16 @@ def pairs_of_extensions(shown, theirs):
 
 
 def is_sized(shown, text):
-    """Whether x509_show has to print a size of the key. openssl takes an INTEGER of RSA that is negative for one without a sign."""
+    """Whether x509_show has to print a size of the key.
+
+    openssl takes an INTEGER of RSA that is negative for one without a sign, and one with a superfluous octet (X.690 8.3.2)."""
     if shown.fields["key algorithm"] == "rsaEncryption":
-        exponent = int(re.search(r"Exponent: (\d+)", text)[1])
+        key, exponent = shown.fields["key"], int(re.search(r"Exponent: (\d+)", text)[1])
         octets = exponent.to_bytes((exponent.bit_length() + 7) // 8, "big")
-        return not (octets[0] & 0x80 and shown.fields["key"].endswith(f"02{len(octets):02x}{octets.hex()}"))
+        is_wrong = re.match(r"30(?:81..|82....|[0-7].)02(?:81..|82....|[0-7].)(?:[89a-f]|00[0-7])", key) or (
+            octets[0] & 0x80 and key.endswith(f"02{len(octets):02x}{octets.hex()}")
+        )
+        return not is_wrong
     return shown.fields["key algorithm"] in ("id-Ed25519", "id-Ed448") or SIZED.search(text) is not None
 
 
@@ -417,8 +431,7 @@ def differences(lines, data):
         return None
     fields, dumped, text = said
     pairs = [pair_of_names(name, shown, fields[name], dumped[name]) for name in ("subject", "issuer")]
-    octets = bytes.fromhex(shown.fields["serial"].replace(":", ""))
-    pairs.append(("serial", int.from_bytes(octets, "big", signed=True), int(fields["serial"], 16)))
+    pairs.append(("serial", number(shown.fields["serial"]), int(fields["serial"], 16)))
     for label, key in (("not before", "notBefore"), ("not after", "notAfter")):
         pairs.append((label, shown.fields[label], fields[key].removesuffix("Z") + " UTC"))
     pairs += pairs_of_algorithms(shown, "\n".join(text))
@@ -432,7 +445,7 @@ def entries_shown(lines):
     found = []
     for line in lines:
         if line["depth"] == 0 and line["label"] == "revoked":
-            found.append({"serial": int.from_bytes(bytes.fromhex(line["text"].replace(":", "")), "big", signed=True)})
+            found.append({"serial": number(line["text"])})
         elif line["depth"] > 0 and found and line["label"] in ("revocation date", "reason", "invalidity date"):
             found[-1][line["label"]] = line["text"]
         elif line["label"] == "undecodable" and (code := re.fullmatch("0a..(.*)", line["text"])):
