@@ -200,12 +200,27 @@ def names_of(text):
     for piece in re.split(r", (?=(?:DNS|IP Address|email|URI|DirName|Registered ID|othername|X400Name|EdiPartyName):)", text):
         kind, _, value = piece.strip().partition(":")
         kind = KINDS.get(kind, kind)
-        if kind == "IP address":
+        if kind == "IP address" and not value.startswith("<invalid"):
             value = str(ipaddress.ip_address(value))
-        elif kind == "registered ID":
-            value = OIDS.get(value, value)
         found.append((kind, "" if kind in ("directory name", "other name") else value))
     return found
+
+
+def is_written(shown, extension, text):
+    """Whether openssl writes the names of an extension so, which it does without escapes: a name that holds a comma may look like two."""
+    words, parts = {kind: word for word, kind in KINDS.items()}, []
+    # A directory name or an other name that holds `DNS:` may look like anything, and any other like no second name.
+    is_odd = any("DNS:" in it or b"DNS:".hex() in it for _, _, it in shown.extensions[extension][1])
+    for kind, it in shown.names(extension):
+        value = re.escape(it)
+        if kind in ("directory name", "other name"):
+            value = ".*" if is_odd else f"(?:(?!, (?:{'|'.join(KINDS)}):).)*"
+        elif kind == "registered ID":
+            value = "|".join(re.escape(name) for name, oid in [(it, it), *OIDS.items()] if oid == it)
+        elif kind == "IP address" and not re.search(r"[.:]", it):
+            value = "<invalid.*>"
+        parts.append(f"{words[kind]}:(?:{value})")
+    return re.fullmatch(", ".join(parts), text, flags=re.DOTALL) is not None
 
 
 class Shown:
@@ -287,13 +302,17 @@ def why_undecodable(name, payload, lines):
         return "a negative number (RFC 5280 4.2.1.14)"
     if name == "signedCertificateTimestamps" and any(re.fullmatch("Version +: unknown", it) for it in lines):
         return "a timestamp of a version that neither knows"
+    if name == "basicConstraints" and re.search(rb"\x02\x01[\x80-\xff]$", payload):
+        return "a negative path length (RFC 5280 4.2.1.9)"
+    if max((line.count(".") for line in lines if "Registered ID:" in line), default=0) > 39:
+        return "an OID of more octets than the library holds"
     if name == "nameConstraints" and b"\x80\x01\x00" in payload:
         return "a minimum of 0, which is the default (X.690 11.5)"
     if name == "basicConstraints" and re.search(rb"\x01\x01[\x01-\xfe]", payload):
         return "a TRUE that isn't FF (X.690 11.1)"
     printed = "".join(chr(it) if 0x20 <= it < 0x7F or it in (10, 13) else "." for it in payload)
     # Of timestamps x509_show prints the octets behind the header of the OCTET STRING.
-    if lines and (lines[0].endswith(printed.split("\n")[0].strip()) or lines[0] in ("<Parsing Error>", "<Not Supported>")):
+    if lines and (lines[0].endswith(printed.splitlines()[0].strip()) or lines[0] in ("<Parsing Error>", "<Not Supported>")):
         return "openssl doesn't decode them either"
     return None
 
@@ -320,9 +339,9 @@ def compared(shown, name, lines):
         # openssl prints a number below 0 without its sign
         return (shown.texts(name, "key identifier"), [abs(number(it)) for it in shown.texts(name, "serial")]), (key, serial)
     if name in ("subjectAltName", "issuerAltName"):
-        has_nul = any("\0" in it for _, it in shown.names(name)) or any("00" in it for it in shown.texts(name, "value"))
-        if has_nul and text[:1] == "0":
-            return None  # openssl prints the octets where a name has a NUL
+        if text[:1] == "0" or is_written(shown, name, text):
+            # openssl prints the octets where a name has a NUL, or the value of an other name isn't of the type that goes with its OID
+            return None if text[:1] == "0" else ([], [])
         return shown.names(name), names_of(text)
     if name == "certificatePolicies":
         policies = [it.removeprefix("Policy: ") for it in lines if it.startswith("Policy: ")]
@@ -512,6 +531,8 @@ def request_differences(lines, data):
     if password is None or password[1] != "unable to print attribute":
         pairs.append(("challenge password", shown.fields.get("challenge password"), password and password[1]))
     asked = next((at for at, line in enumerate(lines_said) if line.strip() == "Requested Extensions:"), len(lines_said))
+    if not any(line["text"] == "extensionRequest" for line in lines) and any(line["text"] == "1.3.6.1.4.1.311.2.1.14" for line in lines):
+        asked = len(lines_said)  # openssl takes an attribute of Microsoft's for that of RFC 2985 too
     if b"\x01\x01\x00\x04" in bytes.fromhex(shown.fields.get("undecodable", "")):
         return len(pairs), [it for it in pairs if it[1] != it[2]], [("extensionRequest", "a FALSE that is the default (X.690 11.5)")]
     said, undecodable = pairs_of_extensions(shown, extensions_of(lines_said[asked:], margin=16))
