@@ -11,7 +11,6 @@ With `--linter PROGRAM` the linter has to end with status 0 or 1 on each certifi
 import argparse
 import collections
 import concurrent.futures
-import json
 import pathlib
 import subprocess
 import sys
@@ -93,7 +92,11 @@ def main(given):
         print("fields", kind, count, sep="\t")
     for finding, count in findings.most_common():
         print("finding", finding, count, sep="\t")
-    return int(any(count for (what, _, _), count in counts.items() if what == "differ"))
+    failed = sum(count for (what, _, _), count in counts.items() if what == "differ")
+    both = sum(count for (_, _, by), count in counts.items() if by == "both")
+    said = f"{both} objects that both accept, {sum(fields.values())} fields; {failed} objects differ"
+    print(f"{'failed' if failed else 'passed'}: x509_show beside openssl, {said}")
+    return int(failed > 0)
 
 
 if __name__ == "__main__":
