@@ -14,7 +14,8 @@ pub enum ListRule {
     /// Two extensions have one OID (RFC 5280 4.2, error).
     ExtensionRepeated,
 
-    /// The octets of an extension aren't an encoding of the type that RFC 5280 has for its OID (RFC 5280 4.2, error).
+    /// The octets of an extension aren't an encoding of this library's type for its OID (RFC 5280 4.2, error). RFC 5280 allows a few that it
+    /// refuses: a path length above 255, an X.400 address, an OID of more than 39 octets.
     ExtensionMalformed,
 }
 
