@@ -129,6 +129,18 @@ def crls():
         yield f"reason {name}", crl(entries=entries, extensions=None), crl_lines(*lines)
 
 
+def long_crl():
+    """A CRL that is printed in many pieces, and its lines. Some entries have an extension."""
+    entries, lines = [], []
+    for number in range(6000):
+        reason = (ce(21, element(0x0A, b"\x01")),) if number % 3 == 0 else ()
+        entries.append(entry(integer(0x10000 + number), utc(b"251231235959Z"), *reason))
+        lines.append(f"revoked: 01:{number // 256:02X}:{number % 256:02X}")
+        lines += below("revocation date: 2025-12-31 23:59:59 UTC")
+        lines += below("extension: reasonCode", *below("reason: keyCompromise")) if reason else []
+    return crl(entries=sequence(*entries), extensions=None), crl_lines(*lines)
+
+
 # ---- CSRs
 
 

@@ -1,7 +1,8 @@
 #!/usr/bin/env python3
 """Runs x509_show over objects of each kind, with hostile texts among them, in each style, and over what is no object.
 
-The lines of the objects of `shown_objects.py` are those that are stated there by hand, and their JSON has the same. No text of an object may forge
+The lines of the objects of `shown_objects.py` are those that are stated there by hand, and their JSON has the same. So are those of a CRL that is
+printed in many pieces, of which each front may be written that fits, with status 1. No text of an object may forge
 a line: what is printed as a text has as many lines as the JSON has entries, each of these lines begins with the label of its entry, and no control
 character stands there but the line feeds at the ends of lines.
 """
@@ -15,7 +16,8 @@ sys.path.insert(0, str(pathlib.Path(__file__).resolve().parents[1]))
 sys.path.insert(0, str(pathlib.Path(__file__).resolve().parents[1] / "robustness"))
 from common.der import UTF8_STRING, element, sequence
 from hostile_payloads import NAME_ROWS, alternative_names, certificate, key_usage, relative_name
-from shown_objects import anchors, crls, objects, requests
+from shown_objects import anchors, crls, long_crl, objects, requests
+from test_linter import SIGNATURE
 
 FORGED = "x\nserial: 00\r\u2028issuer: y\u202e\x1b[2J\x00\x85\\\""
 REFUSED = "refused: not a certificate, a CRL, a CSR or a trust anchor\n"
@@ -107,8 +109,45 @@ def refusals(whole):
     yield "hex of an odd length", whole.hex()[:-1].encode(), [], (1, REFUSED)
 
 
+def closed_early(program, data, front, *words):
+    """The status of a program of whose output so many bytes are read, and what was read."""
+    with subprocess.Popen([program, *words], stdin=subprocess.PIPE, stdout=subprocess.PIPE, restore_signals=False) as child:
+        child.stdin.write(data)
+        child.stdin.close()
+        read = child.stdout.read(front)
+        child.stdout.close()
+        return child.wait(), read.decode("utf-8")
+
+
+def is_unwritable(program, data, *words):
+    """What is wrong where the output can't be written; None where nothing is."""
+    with open("/dev/full", "wb") as full:
+        status = subprocess.run([program, *words], input=data, stdout=full, check=False).returncode
+    return None if status == 1 else f"status {status}"
+
+
+def many_pieces(program):
+    """For each run over a CRL of many pieces a name, and what is wrong with it, None where nothing is."""
+    data, lines = long_crl()
+    for words in ([], ["crl"]):
+        yield f"a long crl {words}", is_otherwise(program, data, lines, *words)
+    yield "a long crl as hex", is_otherwise(program, data.hex().encode(), lines)
+    # A fault behind all entries: the signature is no BIT STRING.
+    ended = run(program, data[: -len(SIGNATURE)] + b"\x04" + SIGNATURE[1:])
+    yield "a long crl without a signature", None if ended == (1, REFUSED) else f"{ended[0]}, {ended[1][:80]!r}"
+    for words in ([], ["--json"]):
+        whole = run(program, data, *words)[1]
+        # A pipe holds 64 KiB, so that at least one write of several fails.
+        status, read = closed_early(program, data, 20_000, *words)
+        is_front = status == 1 and len(whole) > 300_000 and whole.startswith(read)
+        yield f"a long crl, its reader gone {words}", None if is_front else f"status {status}, {len(whole)} in all"
+        yield f"a long crl without room {words}", is_unwritable(program, data, *words)
+
+
 def checked(program):
     """For each run a name, and what is wrong with it, None where nothing is."""
+    yield from many_pieces(program)
+    yield "a certificate without room", is_unwritable(program, certificate())
     cases = {name: certificate(extensions=(key_usage(), alternative_names(row[0]))) for name, row in NAME_ROWS.items()}
     cases["a subject with line feeds"] = certificate(subject=sequence(relative_name(3, element(UTF8_STRING, FORGED.encode()))))
     cases["an email with line feeds"] = certificate(extensions=(alternative_names(sequence(element(0x81, b"a\nserial: 00\r\n"))),))

@@ -1,5 +1,5 @@
 -- What a program over one object prints of its input, and the status with which it ends.
-use Rattle.std.specs.Prelude.{◌≡◌, ◌⊎◌, ℕ, List, not, filter, Option, Result, Ok, Err}
+use Rattle.std.specs.Prelude.{◌≡◌, ◌⊎◌, ℕ, List, [], ◌++◌, not, filter, Option, Result, Ok, Err}
 use Rattle.std.specs.Char.{is_ascii_whitespace}
 use Rattle.hex.specs.Hex.{decode_of}
 use Rattle.hex.specs.declared.error.FromHexError.{FromHexError}
@@ -43,9 +43,24 @@ abbrev pub Ends : {S : Type 0} → (S → Option (List ℕ) → S → Type 0) �
 Ends takes old text status new ended =
     (IsWritten takes old text new × (ended ≡ status)) ⊎ (IsCutOff takes old text new × (ended ≡ 1))
 
--- a run reads an input and prints what is printed of it, or that memory was refused
+-- the line that tells that memory was refused
+abbrev pub memory_line : List ℕ
+memory_line = as_line (text_of (Err (Because Memory)))
+
+-- what stands in front of where memory was refused: nothing, or the front of a text that may be printed
+abbrev pub IsFront : (List ℕ → ℕ → Type 0) → List ℕ → Type 0
+IsFront prints front = (front ≡ []) ⊎ ((rest : List ℕ) × (status : ℕ) × prints (front ++ rest) status)
+
+-- a text that stops short since memory was refused: such a front, and the line that tells so, with status 1
+abbrev pub StopsShort : (List ℕ → ℕ → Type 0) → List ℕ → ℕ → Type 0
+StopsShort prints text status = (front : List ℕ) × IsFront prints front × (text ≡ front ++ memory_line) × (status ≡ 1)
+
+-- writes put out a text that may be printed, or one that stops short, and a run ends by it
+abbrev pub PrintsSo : {W : Type 0} → (List ℕ → ℕ → Type 0) → (W → Option (List ℕ) → W → Type 0) → W → W → ℕ → Type 0
+PrintsSo prints takes old new ended =
+    (text : List ℕ) × (status : ℕ) × (prints text status ⊎ StopsShort prints text status) × Ends takes old text status new ended
+
+-- a run reads an input and prints what is printed of it, up to where memory was refused
 abbrev pub PrintsObject : {R W : Type 0} → Prints → (R → Option (List ℕ) → R → Type 0) → R → R → (W → Option (List ℕ) → W → Type 0) → W → W → ℕ → Type 0
 PrintsObject prints gives from to takes old new ended =
-    (input : Input) × (text : List ℕ) × (status : ℕ)
-    × IsRead gives from input to × (IsPrinted prints input text status ⊎ Refuses (Because Memory) text status)
-    × Ends takes old text status new ended
+    (input : Input) × IsRead gives from input to × PrintsSo (IsPrinted prints input) takes old new ended

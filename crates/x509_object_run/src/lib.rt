@@ -7,5 +7,5 @@ mod printer;
 mod program;
 
 pub use input::object_bytes;
-pub use printer::{Printed, Printer};
-pub use program::run;
+pub use printer::Printer;
+pub use program::{end, run};

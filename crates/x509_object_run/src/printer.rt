@@ -1,19 +1,11 @@
 //! What a program prints of an object.
 
-ghost use Rattle.std.specs.Prelude.{◌≡◌, ℕ, List, Option, IfOk, map, string_bytes};
+ghost use Rattle.std.specs.Prelude.{◌≡◌, ℕ, List, Option, map, string_bytes};
+ghost use Rattle.x509_object_run.specs.Object.{PrintsSo};
 ghost use Rattle.x509_tool_run.specs.Answer.{as_line};
 
-use std::alloc::{AllocError, Global};
-
-/// A text for standard output, and the status that goes with it.
-#[derive(Debug, Drop)]
-pub struct Printed {
-    /// The lines that are printed, each with its line feed.
-    pub text: String,
-
-    /// The status of the program.
-    pub status: u8,
-}
+use std::alloc::Global;
+use x509_tool_run::Sink;
 
 /// What a program prints of an object, by the words that it was called with.
 pub trait Printer: Sized + Drop {
@@ -34,11 +26,9 @@ pub trait Printer: Sized + Drop {
     fn usage() -> &'static [u8]
         ensures { result.now ≡ as_line usage };
 
-    /// What is printed of the bytes, also where they are no object of the kind that is asked for.
-    ///
-    /// # Errors
-    ///
-    /// `AllocError` when out of memory, and nothing else.
-    fn print(&self, alloc: Global, bytes: &[u8]) -> Result<Printed, AllocError>
-        ensures { IfOk result (λ printed. prints self.now bytes.now (string_bytes printed.text) printed.status) };
+    /// Writes what is printed of the bytes, also where they are no object of the kind that is asked for, and answers the
+    /// status of the program: 1 where something can't be written. Out of memory ends it with status 1 and a line that says
+    /// so, behind what was written before.
+    fn print<W: Sink>(&self, alloc: Global, bytes: &[u8], writer: &mut W) -> u8
+        ensures { PrintsSo (prints self.now bytes.now) W.takes writer.old writer.new result };
 }

@@ -1,19 +1,19 @@
 //! A run of a program over one object.
 
-ghost use Rattle.std.specs.Prelude.{◌≡◌, ◌⊎◌, ℕ, List, Err, None, IfOk, IfSome, MatchResult, map, string_bytes};
+ghost use Rattle.std.specs.Prelude.{◌≡◌, ◌⊎◌, ℕ, List, Err, None, IfSome, MatchResult, map, string_bytes};
 ghost use Rattle.x509_der.specs.declared.error.ErrorKind.TheVariants.{Memory};
 ghost use Rattle.x509_object_run.specs.Object.{Ends, IsPrinted, PrintsObject, object_bytes};
 ghost use Rattle.x509_tool_run.specs.Answer.{as_line, text_of};
-ghost use Rattle.x509_tool_run.specs.Input.{Input, IsRead};
+ghost use Rattle.x509_tool_run.specs.Input.{Input, IsRead, Whole};
 ghost use Rattle.x509_tool_run.specs.declared.refusal.Refusal.TheVariants.{Because};
 
 use crate::input::object_bytes;
-use crate::printer::{Printed, Printer};
-use std::alloc::{AllocError, Global};
+use crate::printer::Printer;
+use std::alloc::Global;
 use x509_tool_run::{Refusal, Sink, Source, WriteError, read_input, write_text};
 
 /// Writes a text, and answers the status: 1 where it can't be written.
-fn end<W: Sink>(writer: &mut W, text: &[u8], status: u8) -> u8
+pub fn end<W: Sink>(writer: &mut W, text: &[u8], status: u8) -> u8
     ensures { Ends W.takes writer.old text.now status writer.new result }
 {
     match write_text(writer, text) {
@@ -22,32 +22,19 @@ fn end<W: Sink>(writer: &mut W, text: &[u8], status: u8) -> u8
     }
 }
 
-/// What is printed of an input that was read whole.
-fn print_input<P: Printer>(
-    alloc: Global,
-    printer: &P,
-    input: Vec<u8>,
-) -> Result<Printed, AllocError>
-    ensures { IfOk result (λ printed. P.prints printer.now (object_bytes input.items) (string_bytes printed.text) printed.status) }
-{
-    let bytes = object_bytes(alloc, input)?;
-    printer.print(alloc, bytes.as_slice())
-}
-
-/// Reads the input, and says what is printed of it.
-fn read_and_print<P: Printer, R: Source>(
+/// Reads the input, and answers the bytes that it is of, or why there are none, which is what is printed then.
+fn read_object<P: Printer, R: Source>(
     alloc: Global,
     printer: &P,
     reader: &mut R,
-) -> Result<Printed, Refusal>
+) -> Result<Vec<u8>, Refusal>
     ensures { MatchResult result
-        (λ printed. (input : Input) × IsRead R.gives reader.old input reader.new
-        × IsPrinted (P.prints printer.now) input (string_bytes printed.text) printed.status)
+        (λ bytes. (input : List ℕ) × IsRead R.gives reader.old (Whole input) reader.new × (bytes.items ≡ object_bytes input))
         (λ refusal. (input : Input) × IsRead R.gives reader.old input reader.new
         × (IsPrinted (P.prints printer.now) input (as_line (text_of (Err refusal))) 1 ⊎ (refusal ≡ Because Memory))) }
 {
     let input = read_input(alloc, reader)?;
-    Ok(print_input(alloc, printer, input)?)
+    Ok(object_bytes(alloc, input)?)
 }
 
 /// Reads one object, DER or hex text, writes what the printer that the words ask for prints of it, and answers the status. With words
@@ -68,8 +55,8 @@ pub fn run<P: Printer, R: Source, W: Sink>(
     let Some(printer) = P::from_words(words) else {
         return end(writer, P::usage(), 2);
     };
-    match read_and_print(alloc, &printer, reader) {
-        Ok(printed) => end(writer, printed.text.as_str().as_bytes(), printed.status),
+    match read_object(alloc, &printer, reader) {
+        Ok(bytes) => printer.print(alloc, bytes.as_slice(), writer),
         Err(refusal) => end(writer, refusal.line(), 1),
     }
 }

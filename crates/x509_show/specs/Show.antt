@@ -63,9 +63,13 @@ abbrev pub document_of : Option Kind → Style → List ℕ → Option (List ℕ
 document_of None style bytes = shown style bytes
 document_of (Some kind) style bytes = shown_as kind style bytes
 
+-- this text, with status 0
+abbrev pub IsText : List ℕ → List ℕ → ℕ → Type 0
+IsText document text status = (text ≡ document) × (status ≡ 0)
+
 -- a document, or the line that refuses the bytes
 abbrev pub IsDocument : Option Kind → Option (List ℕ) → List ℕ → ℕ → Type 0
-IsDocument kind (Some document) text status = (text ≡ document) × (status ≡ 0)
+IsDocument kind (Some document) text status = IsText document text status
 IsDocument kind None text status = (text ≡ as_line (no_object kind)) × (status ≡ 1)
 
 -- the document of the object that the bytes are of

@@ -1,6 +1,7 @@
 //! A certificate, a CRL, a CSR or a trust anchor on standard input, in lines that a person reads or in JSON.
 #![tactic(auto)]
 
+mod pieces;
 mod show;
 
 use crate::show::Show;

@@ -1,14 +1,17 @@
 //! What the program prints of an object.
 
 ghost use Rattle.std.specs.Option.{option_map};
-ghost use Rattle.std.specs.Prelude.{◌≡◌, IfOk, string_bytes};
+ghost use Rattle.std.specs.Prelude.{◌≡◌, IfOk};
 ghost use Rattle.x509_show.specs.Show.{asked_by, asked_by_two, document_of, kind_of, no_object, of_kind};
+ghost use Rattle.x509_text.specs.Pieces.{text_of};
 ghost use Rattle.x509_text.specs.declared.line.Style.TheVariants.{Json};
 ghost use Rattle.x509_tool_run.specs.Answer.{as_line};
 
+use crate::pieces::write_pieces;
 use std::alloc::{AllocError, Global};
-use x509_object_run::{Printed, Printer};
-use x509_text::{Kind, Style, show_bytes, show_kind};
+use x509_object_run::{Printer, end};
+use x509_text::{Document, Kind, Style, document_of_bytes, document_of_kind};
+use x509_tool_run::{Sink, refuse_memory};
 
 /// What is printed, which the words tell: an object of one kind, or of any, as a text for people or with `--json` as JSON.
 #[derive(Clone, Copy, Debug, PartialEq, Eq)]
@@ -82,31 +85,23 @@ fn no_object(kind: Option<Kind>) -> &'static str
     }
 }
 
-/// The refusal of bytes that are the encoding of no object of this kind, or of none at all.
-fn refused(alloc: Global, kind: Option<Kind>) -> Result<Printed, AllocError>
-    ensures text { IfOk result (λ printed. string_bytes printed.text ≡ as_line (no_object kind)) }
-    ensures status { IfOk result (λ printed. printed.status ≡ 1) }
-{
-    let text = no_object(kind).to_string(alloc)?;
-    Ok(Printed { text, status: 1 })
-}
-
 /// The document of the object of this kind, or of the first kind that the bytes are of.
 fn document_of(
     alloc: Global,
     kind: Option<Kind>,
     style: Style,
     bytes: &[u8],
-) -> Result<Option<String>, AllocError>
-    ensures { IfOk result (λ text. option_map string_bytes text ≡ document_of kind style bytes.now) }
+) -> Result<Option<Document<'_>>, AllocError>
+    ensures { IfOk result (λ found. option_map text_of found ≡ document_of kind style bytes.now) }
 {
     match kind {
-        Some(kind) => show_kind(alloc, style, kind, bytes),
-        None => show_bytes(alloc, style, bytes),
+        Some(kind) => document_of_kind(alloc, style, kind, bytes),
+        None => document_of_bytes(alloc, style, bytes),
     }
 }
 
-/// The document of an object, with status 0; for other bytes one line that refuses them, with status 1.
+/// The document of an object, with status 0; for other bytes one line that refuses them, with status 1. Nothing is written before the
+/// object is known to be one. The document of a CRL is written piece by piece.
 impl Printer for Show {
     ghost use Rattle.x509_show.specs.Show.{asked, prints, usage};
 
@@ -132,10 +127,12 @@ impl Printer for Show {
         b"usage: x509_show [certificate|crl|csr|anchor] [--json], with such an object on standard input, DER or hex\n"
     }
 
-    fn print(&self, alloc: Global, bytes: &[u8]) -> Result<Printed, AllocError> {
-        match document_of(alloc, self.kind, self.style, bytes)? {
-            Some(text) => Ok(Printed { text, status: 0 }),
-            None => refused(alloc, self.kind),
+    fn print<W: Sink>(&self, alloc: Global, bytes: &[u8], writer: &mut W) -> u8 {
+        match document_of(alloc, self.kind, self.style, bytes) {
+            Ok(Some(Document::Whole(text))) => end(writer, text.as_str().as_bytes(), 0),
+            Ok(Some(Document::Crl(pieces))) => write_pieces(alloc, pieces, writer),
+            Ok(None) => end(writer, no_object(self.kind).as_bytes(), 1),
+            Err(AllocError) => refuse_memory(writer),
         }
     }
 }

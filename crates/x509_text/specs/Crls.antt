@@ -50,8 +50,10 @@ part_lines at part =
     ++ (optional_extensions at part.crl_extensions
     ++ flat_map (entry_lines at) (entries part.revoked_certificates))
 
+-- the algorithm of the signature, and the signature
+unfoldable pub signature_lines : {P : Type 0} → Place → CertificateList P → List ℕ
+signature_lines at crl = algorithm_lines at (codes "signature algorithm") crl.signature_algorithm ++ bits_lines at (codes "signature") crl.signature
+
 -- a CRL (RFC 5280 5.1.1)
 unfoldable pub crl_lines : {P : Type 0} → Place → CertificateList P → List ℕ
-crl_lines at crl =
-    part_lines at crl.tbs_cert_list
-    ++ (algorithm_lines at (codes "signature algorithm") crl.signature_algorithm ++ bits_lines at (codes "signature") crl.signature)
+crl_lines at crl = part_lines at crl.tbs_cert_list ++ signature_lines at crl

@@ -103,6 +103,26 @@ impl<P: Profile> Show for TbsCertList<P> {
     }
 }
 
+/// Writes what stands behind the part that is signed.
+#[tactic(auto, unfolding(crate::specs::Crls::signature_lines))]
+pub(crate) fn write_signature<P: Profile>(
+    alloc: Global,
+    at: Place,
+    crl: &CertificateList<P>,
+    out: &mut String,
+) -> Result<(), AllocError>
+    ensures { OnOk result (string_bytes out.new ≡ string_bytes out.old ++ crls.signature_lines at crl.now) }
+{
+    write_algorithm(
+        alloc,
+        at,
+        "signature algorithm",
+        &crl.signature_algorithm,
+        out,
+    )?;
+    write_bits(alloc, at, "signature", &crl.signature, out)
+}
+
 #[tactic(auto, unfolding(crate::specs::Crls::crl_lines))]
 impl<P: Profile> Show for CertificateList<P> {
     ghost use Rattle.x509_text.specs.Crls.{crl_lines};
@@ -111,13 +131,6 @@ impl<P: Profile> Show for CertificateList<P> {
 
     fn show(&self, alloc: Global, at: Place, out: &mut String) -> Result<(), AllocError> {
         self.tbs_cert_list.show(alloc, at, out)?;
-        write_algorithm(
-            alloc,
-            at,
-            "signature algorithm",
-            &self.signature_algorithm,
-            out,
-        )?;
-        write_bits(alloc, at, "signature", &self.signature, out)
+        write_signature(alloc, at, self, out)
     }
 }
