@@ -1,5 +1,5 @@
 use Rattle.x509_check.proofs.LentCertificates.{content_is, no_content}
-use Rattle.x509_check.proofs.lent.certificate.content_of.Goals as goal
+use Rattle.x509_check.proofs.element.content_of.Goals as goal
 
 pub returns-in-Ok : goal.returns-in-Ok
 returns-in-Ok c = λ tag content id e. content_is tag content _ _ id e c.in-Ok.ensures.exact
