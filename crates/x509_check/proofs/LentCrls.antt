@@ -1,18 +1,16 @@
 -- What is lent of a CRL's bytes.
-use Rattle.std.proofs.Common.{◌≡◌, ℕ, ◌+◌, ◌≤◌, List, [], ◌∷◌, ◌++◌, length, Option, Some, None, option_map, Bor, Result, Ok, Err, refl, sym, ap, ◌∙◌, subst, arith, append_assoc, length-append}
+use Rattle.std.proofs.Common.{◌≡◌, ℕ, ◌≤◌, List, ◌++◌, length, Option, Some, None, option_map, Bor, Result, Ok, refl, sym, ap, ◌∙◌, subst, arith, length-append}
 use Rattle.std.specs.Option.{option_copied}
-use Rattle.std.specs.Prelude.{IfSome, IsOk}
+use Rattle.std.specs.Prelude.{IfSome}
 use Rattle.x509_base.specs.AlgorithmIdentifier.{algorithm_identifier}
 use Rattle.x509_base.specs.Checked.{CheckRefuses}
 use Rattle.x509_base.specs.Time.{time}
 use Rattle.x509_cert.specs.CertificateList.{certificate_list, certificate_list_fields, certificate_list_lawful, tbs_cert_list, tbs_cert_list_fields}
-use Rattle.x509_cert.specs.Revoked.{entries}
 use Rattle.x509_cert.specs.RevokedCert.{revoked_cert, revoked_cert_lawful}
 use Rattle.x509_cert.specs.Signed.{IsSignedPart}
 use Rattle.x509_cert.specs.Version.{version}
 use Rattle.x509_cert.specs.declared.crl.certificate_list.CertificateList.{CertificateList}
 use Rattle.x509_cert.specs.declared.crl.revoked_cert.RevokedCert.{RevokedCert}
-use Rattle.x509_cert.specs.declared.crl.tbs_cert_list.TbsCertList.{TbsCertList}
 use Rattle.x509_check.specs.CrlRefs.{ListSpellings, entry_list, lent_parts, list_spellings, parts_reading}
 use Rattle.x509_check.specs.declared.lent.revoked.ListParts.{ListParts}
 use Rattle.x509_der.specs.Element.{element, length_octets, limit}

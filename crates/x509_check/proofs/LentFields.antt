@@ -1,8 +1,7 @@
 -- Fields that are checked and lent as their elements.
-use Rattle.std.proofs.Common.{◌≡◌, ℕ, ◌+◌, ◌-◌, ◌<◌, ◌≤◌, Bool, true, false, List, [], ◌∷◌, ◌++◌, length, take, get_or, Option, Some, None, option_map, if◌then◌else◌, Bor, Result, Ok, Err, refl, sym, ap, subst, ◌∙◌, inl, inr, arith, length-append}
+use Rattle.std.proofs.Common.{◌≡◌, ℕ, ◌+◌, ◌-◌, ◌<◌, ◌≤◌, true, false, List, [], ◌∷◌, ◌++◌, length, take, get_or, Option, Some, None, if◌then◌else◌, Result, Ok, Err, refl, sym, ◌∙◌, inl, inr, arith, length-append}
 use Rattle.std.proofs.lemmas.Bool.{cases_Bool, lt-ltb}
 use Rattle.std.proofs.lemmas.List.{take_at}
-use Rattle.std.specs.Option.{option_copied}
 use Rattle.x509_check.proofs.Checks.{default_is_other, under_its_own}
 use Rattle.x509_check.specs.Checking.{checked, other_than, other_value}
 use Rattle.x509_der.specs.ElementReading.{Piece, piece_at}

@@ -1,5 +1,4 @@
-use Rattle.std.proofs.Common.{Some, None, refl, arith, sym, ◌∙◌}
-use Rattle.std.proofs.lemmas.Bool.{lt-ltb}
+use Rattle.std.proofs.Common.{Some, None, refl, arith, ◌∙◌}
 use Rattle.std.proofs.lemmas.Bool.Decides.{nat_tests}
 use Rattle.std.proofs.lemmas.Result.{err_from_is_err_and}
 use Rattle.x509_check.proofs.Checks.{among_one, not_among_one}

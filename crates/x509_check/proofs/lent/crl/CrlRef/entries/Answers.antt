@@ -6,9 +6,8 @@ use Rattle.x509_check.proofs.LentCrls.{absent, lent_entries, parts_are, some_crl
 use Rattle.x509_check.proofs.LentLists.{is_list}
 use Rattle.x509_check.specs.CrlRefs.{entry_list}
 use Rattle.x509_check.specs.Lending.{listed}
-use Rattle.x509_der.specs.List.{joined, list_reading}
+use Rattle.x509_der.specs.List.{list_reading}
 use Rattle.x509_der.specs.ListLaws.{none_read}
-use Rattle.x509_der.specs.Form.{spelling}
 use Rattle.x509_der.specs.TagLaws.{tag_is_identifier}
 use Rattle.x509_der.specs.declared.tag.Tag.TheVariants.{Sequence}
 use Rattle.x509_check.proofs.lent.crl.CrlRef.entries.Goals as goal
