@@ -517,8 +517,8 @@ typedef struct {
     x509_signature signature;
 } x509_crl;
 
-/* Decodes a CRL of v1 or v2 under RFC 5280, and says what it holds and where.
- * Answers X509_OK, X509_MEMORY, X509_OVERLENGTH, X509_MALFORMED. */
+/* Checks a CRL of v1 or v2 under RFC 5280, and says what it holds and where. It takes no memory.
+ * Answers X509_OK, X509_OVERLENGTH, X509_MALFORMED. */
 x509_status x509_crl_view(const uint8_t *in, size_t len, x509_crl *view);
 
 typedef struct {

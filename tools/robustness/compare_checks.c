@@ -1,6 +1,6 @@
 /* Asks the C library both ways whether bytes are a certificate, a CRL or a CSR: by the call that checks them without a value, and by x509_reencode,
  * which decodes them to one. The statuses have to be the same, apart from X509_ROOM, which is X509_OK here; so have those of x509_certificate_view,
- * x509_certificate_extension, x509_crl_walk and x509_crl_lookup where the bytes are refused. Of those that are accepted these calls have to answer what a
+ * x509_certificate_extension, x509_crl_walk, x509_crl_view and x509_crl_lookup where the bytes are refused. Of those that are accepted these calls have to answer what a
  * walk over the extensions or the entries comes to.
  *
  * It asks about the bytes of each row of ROWS, crates/x509_test_rows/stdin, as each of the three, and then about COUNT spoilt encodings: rows of the three

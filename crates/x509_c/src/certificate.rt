@@ -9,7 +9,6 @@ ghost use Rattle.x509_c_calls.specs.Status.{Tells};
 ghost use Rattle.x509_c_calls.specs.declared.status.status.Status.TheVariants.{Refused};
 ghost use Rattle.x509_der.specs.declared.error.ErrorKind.TheVariants.{Memory};
 
-use std::alloc::Global;
 use x509_base::Rfc5280;
 use x509_c_calls::{
     CertificateView, ExtensionView, SignatureView, certificate_extension, certificate_signature,
@@ -21,15 +20,11 @@ use x509_der::Grammar;
 /// Checks a certificate under the rules of RFC 5280, and fills in what it says and where its parts stand. It takes no
 /// memory.
 #[unsafe(no_mangle)]
-pub extern "C" fn x509_certificate_view(
-    alloc: Global,
-    input: &[u8],
-    view: &mut CertificateView,
-) -> i32
+pub extern "C" fn x509_certificate_view(input: &[u8], view: &mut CertificateView) -> i32
     ensures { Tells (λ status. Reads ⟦<CertificateInner<Rfc5280> as Grammar>⟧.form ⟦<CertificateInner<Rfc5280> as Grammar>⟧.refuses input.now
         (λ certificate. IsView input.now certificate view.new) (view.new ≡ view.old) status × (status ≡ Refused Memory → ⊥)) result }
 {
-    certificate_view(alloc, input, view).code()
+    certificate_view(input, view).code()
 }
 
 /// Checks a certificate under the rules of RFC 5280, and fills in its extension with the OID of these content octets. It

@@ -14,7 +14,9 @@ ghost use Rattle.x509_ext.specs.LookUp.{Finds, members, with_oid};
 
 use std::alloc::Global;
 use x509_base::{Rfc5280, SerialNumber};
-use x509_c_calls::{CrlEntryView, CrlView, Revocation, crl_lookup, crl_walk, member_next, payload};
+use x509_c_calls::{
+    CrlEntryView, CrlView, Revocation, crl_lookup, crl_view, crl_walk, member_next,
+};
 use x509_cert::crl::{CertificateList, RevokedCert};
 use x509_der::{AssociatedOid, Decode, Grammar, Tag};
 use x509_ext::pkix::CrlReason;
@@ -45,13 +47,13 @@ pub extern "C" fn x509_crl_lookup(
     crl_lookup(alloc, input, serial_number, revocation).code()
 }
 
-/// Decodes a CRL under the rules of RFC 5280, and fills in what it says and where its parts stand.
+/// Checks a CRL under the rules of RFC 5280, and fills in what it says and where its parts stand. It takes no memory.
 #[unsafe(no_mangle)]
-pub extern "C" fn x509_crl_view(alloc: Global, input: &[u8], view: &mut CrlView) -> i32
+pub extern "C" fn x509_crl_view(input: &[u8], view: &mut CrlView) -> i32
     ensures { Tells (λ status. Reads ⟦<CertificateList<Rfc5280> as Grammar>⟧.form ⟦<CertificateList<Rfc5280> as Grammar>⟧.refuses input.now
-        (λ list. IsCrl input.now list [] view.new) (view.new ≡ view.old) status) result }
+        (λ list. IsCrl input.now list [] view.new) (view.new ≡ view.old) status × (status ≡ Refused Memory → ⊥)) result }
 {
-    payload::<CrlView>(alloc, input, view).code()
+    crl_view(input, view).code()
 }
 
 /// Fills in the next entry of a list of entries.

@@ -34,3 +34,4 @@ pub mod Refusals
 pub mod Serials
 pub mod Lent
 pub mod PointNames
+pub mod Ends

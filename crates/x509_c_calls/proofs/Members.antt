@@ -37,7 +37,7 @@ critical_text e = default_octets boolean_default (spelling boolean) e.critical
 abbrev pub value_text : Extension → List ℕ
 value_text e = element 4 e.extn_value
 
-content_is : (e : Extension) → extension.content e ≡ oid_text e ++ (critical_text e ++ value_text e)
+pub content_is : (e : Extension) → extension.content e ≡ oid_text e ++ (critical_text e ++ value_text e)
 unfolding fields_octets extension_fields
 content_is e = refl
 

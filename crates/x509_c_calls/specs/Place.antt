@@ -11,3 +11,7 @@ IsAt text behind bytes span = (drop span.place bytes ≡ text ++ behind) × (spa
 abbrev pub IsField : Bool → List ℕ → Type 0
 IsField true text = (tag : ℕ) × (content : List ℕ) × (is_identifier tag ≡ true) × (text ≡ element tag content)
 IsField false text = text ≡ []
+
+-- these octets stand in the bytes, and behind them stand those others and nothing else
+abbrev pub EndsWith : List ℕ → List ℕ → List ℕ → Type 0
+EndsWith text behind bytes = (front : List ℕ) × (bytes ≡ front ++ (text ++ behind))

@@ -1,7 +1,6 @@
 //! What a certificate says, and where its parts stand in the bytes.
 
 mod extension;
-mod lent;
 mod signature;
 mod view;
 mod whole;

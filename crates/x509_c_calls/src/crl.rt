@@ -8,4 +8,4 @@ mod view;
 pub use entry::CrlEntryView;
 pub use list::crl_walk;
 pub use lookup::{Revocation, crl_lookup};
-pub use view::CrlView;
+pub use view::{CrlView, crl_view};

@@ -25,7 +25,7 @@ pub use certificate::{
     CertificateView, ExtensionView, SignatureView, certificate_extension, certificate_signature,
     certificate_view, is_written, seconds,
 };
-pub use crl::{CrlEntryView, CrlView, Revocation, crl_lookup, crl_walk};
+pub use crl::{CrlEntryView, CrlView, Revocation, crl_lookup, crl_view, crl_walk};
 pub use document::show_object;
 pub use key::{AlgorithmView, KeyKind, KeyView, SignatureKind, signature_at};
 pub use named::{name_from_text, name_text, reencode_named};
@@ -40,7 +40,7 @@ pub use payloads::{
     serial_text, status_text, step_content, step_optional, step_optional_content, time_text,
     unused_at,
 };
-pub use place::{Span, enter, signed_place, signed_span, step};
+pub use place::{Span, enter, pass, signed_place, signed_span, step};
 pub use request::{
     RequestAttributeView, RequestView, request_attribute, request_extensions, request_view,
 };

@@ -6,4 +6,4 @@ mod walk;
 
 pub use signed::{signed_place, signed_span};
 pub use span::Span;
-pub use walk::{enter, step};
+pub use walk::{enter, pass, step};

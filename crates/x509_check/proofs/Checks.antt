@@ -134,7 +134,7 @@ module _ {X : Type 0} (default : Default X) where
   over_some (Ok x) = refl
   over_some (Err e) = refl
 
-  default_is_other : (starts : List ℕ) (read : ℕ → List ℕ → Result X ErrorKind) (tag : ℕ) (bytes : List ℕ) → is_in tag starts ≡ true → other_than default (field_at read (tag ∷ bytes)) ≡ default_at default starts read (tag ∷ bytes)
+  pub default_is_other : (starts : List ℕ) (read : ℕ → List ℕ → Result X ErrorKind) (tag : ℕ) (bytes : List ℕ) → is_in tag starts ≡ true → other_than default (field_at read (tag ∷ bytes)) ≡ default_at default starts read (tag ∷ bytes)
   unfolding default_at optional_at
   default_is_other starts read tag bytes there = rw there (sym (over_some (field_at read (tag ∷ bytes))))
 

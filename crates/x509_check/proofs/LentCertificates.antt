@@ -143,3 +143,6 @@ module _ {P : Type 0} (check : List ℕ → Result Unit ErrorKind) (bytes : List
     pub validity_read : (validity_contents {P = P}).reading (validity.content value.tbs_certificate.validity) ≡ Ok value.tbs_certificate.validity
     unfolding tbs_certificate_fields fields_good
     validity_read = (validity_contents_lawful {R = λ e. ⊥}).complete value.tbs_certificate.validity (stands check value bytes spells).1.0.0.1.1.1.1
+
+    pub elements_read : (slices : CertificateSlices) → certificate_elements slices ≡ certificate_spellings value → certificate_reading bytes ≡ Ok (certificate_elements slices)
+    elements_read slices e = rw e (certificate_complete bytes (certificate_spellings value) (certificate_found check value bytes spells))

@@ -64,3 +64,12 @@ no_piece f list bytes errors.Value s h same = absurd cc
 pub is_list : {X : Type 0} (reading : Result (List X) ErrorKind) (list : List X) → reading ≡ Ok list → IsOk reading × (listed reading ≡ list)
 is_list (Ok xs) list e = (refl, ok_is xs list e)
 is_list (Err d) list e = absurd cc
+
+-- ---- the members that are read spell the bytes
+
+read_is : {X : Type 0} {R : ErrorKind → Type 0} (f : Form X) (h : IsForm R f) (bytes : List ℕ) (reading : Result (List X) ErrorKind) → list_reading f.reading bytes ≡ reading → IsOk reading → bytes ≡ joined (spelling f) (listed reading)
+read_is f h bytes (Ok xs) e ok = ((list_lawful f h).sound bytes xs e).1
+read_is f h bytes (Err d) e ok = absurd cc
+
+pub spelled_by : {X : Type 0} {R : ErrorKind → Type 0} (f : Form X) (h : IsForm R f) (bytes : List ℕ) → IsOk (list_reading f.reading bytes) → bytes ≡ joined (spelling f) (listed (list_reading f.reading bytes))
+spelled_by f h bytes ok = read_is f h bytes (list_reading f.reading bytes) refl ok

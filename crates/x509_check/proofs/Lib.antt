@@ -4,3 +4,5 @@ pub mod LentCertificates
 pub mod LentEntries
 pub mod Rising
 pub mod Whole
+pub mod LentFields
+pub mod LentCrls

@@ -1,14 +1,27 @@
--- Entries of CRLs that are lent from their bytes (RFC 5280 5.1.2.6).
-use Rattle.std.specs.Prelude.{◌≡◌, List, [], ℕ, Option, option_map, MatchOption, Result}
+-- CRLs and their entries that are lent from their bytes (RFC 5280 5.1).
+use Rattle.std.specs.Prelude.{◌≡◌, List, [], ℕ, Option, option_copied, option_map, MatchOption, Result, Ok}
+use Rattle.x509_base.specs.AlgorithmIdentifier.{algorithm_identifier}
+use Rattle.x509_base.specs.declared.time.Time.{Time}
+use Rattle.x509_cert.specs.CertificateList.{certificate_list, tbs_cert_list}
 use Rattle.x509_cert.specs.Revoked.{IsFirstWith, entries, with_serial}
 use Rattle.x509_cert.specs.declared.crl.certificate_list.CertificateList.{CertificateList}
+use Rattle.x509_cert.specs.declared.certificate.version.Version.{Version}
 use Rattle.x509_cert.specs.declared.crl.revoked_cert.RevokedCert.{RevokedCert}
+use Rattle.x509_cert.specs.declared.crl.tbs_cert_list.TbsCertList.{TbsCertList}
 use Rattle.x509_cert.specs.RevokedCert.{revoked_cert}
 use Rattle.x509_check.specs.ExtensionRefs.{extensions_left}
 use Rattle.x509_check.specs.Lending.{listed}
 use Rattle.x509_check.specs.declared.lent.entry.RevokedCertRef.{RevokedCertRef}
-use Rattle.x509_der.specs.List.{list_reading}
+use Rattle.x509_check.specs.declared.lent.revoked.ListFields.{ListFields}
+use Rattle.x509_check.specs.declared.lent.revoked.ListParts.{ListParts}
+use Rattle.x509_der.specs.Form.{Form, spelling, universal, whole_reading}
+use Rattle.x509_der.specs.List.{list_of, list_reading}
+use Rattle.x509_der.specs.Outcome.{◌>>=◌}
 use Rattle.x509_der.specs.declared.error.ErrorKind.{ErrorKind}
+use Rattle.x509_der.specs.declared.tag.Tag.TheVariants.{Sequence}
+use Rattle.x509_ext.specs.Extension.{extensions}
+use Rattle.x509_name.specs.Names.{name}
+use Rattle.x509_prim.specs.BitString.{bit_string}
 
 -- the entry that is lent
 abbrev pub lent_entry : {P : Type 0} → RevokedCertRef → RevokedCert P
@@ -29,3 +42,64 @@ FindsInList number list answer = FindsEntry number (entries list.tbs_cert_list.r
 -- the entries of which the bytes are the elements, one after the other
 abbrev pub entries_in : {P : Type 0} → (List ℕ → Result Unit ErrorKind) → List ℕ → List (RevokedCert P)
 entries_in check bytes = listed (list_reading (revoked_cert check).reading bytes)
+
+-- ---- the fields of a CRL
+
+-- SEQUENCE OF RevokedCert
+abbrev pub entry_list : {P : Type 0} → (List ℕ → Result Unit ErrorKind) → Form (List (RevokedCert P))
+entry_list check = universal Sequence (list_of (revoked_cert check))
+
+-- The fields of the signed part, each as its own element, or as what it says. Of the extensions it is the element inside the explicit tag.
+pub record FieldSpellings : Type 0 where
+  pub version : Option Version
+  pub signature : List ℕ
+  pub issuer : List ℕ
+  pub this_update : Time
+  pub next_update : Option Time
+  pub revoked_certificates : Option (List ℕ)
+  pub crl_extensions : Option (List ℕ)
+
+pub record ListSpellings : Type 0 where
+  pub tbs_cert_list : List ℕ
+  pub fields : FieldSpellings
+  pub signature_algorithm : List ℕ
+  pub signature : List ℕ
+
+-- those of a CRL
+abbrev pub field_spellings : {P : Type 0} → (List ℕ → Result Unit ErrorKind) → TbsCertList P → FieldSpellings
+field_spellings check part = record {
+  version = part.version;
+  signature = spelling algorithm_identifier part.signature;
+  issuer = spelling name part.issuer;
+  this_update = part.this_update;
+  next_update = part.next_update;
+  revoked_certificates = option_map (spelling (entry_list check)) part.revoked_certificates;
+  crl_extensions = option_map (spelling extensions) part.crl_extensions;
+}
+
+abbrev pub list_spellings : {P : Type 0} → (List ℕ → Result Unit ErrorKind) → CertificateList P → ListSpellings
+list_spellings check list = record {
+  tbs_cert_list = spelling (tbs_cert_list check) list.tbs_cert_list;
+  fields = field_spellings check list.tbs_cert_list;
+  signature_algorithm = spelling algorithm_identifier list.signature_algorithm;
+  signature = spelling bit_string list.signature;
+}
+
+-- what is lent
+abbrev pub lent_fields : ListFields → FieldSpellings
+lent_fields f = record {
+  version = f.version;
+  signature = f.signature.now;
+  issuer = f.issuer.now;
+  this_update = f.this_update;
+  next_update = f.next_update;
+  revoked_certificates = option_copied f.revoked_certificates;
+  crl_extensions = option_copied f.crl_extensions;
+}
+
+abbrev pub lent_parts : ListParts → ListSpellings
+lent_parts p = record { tbs_cert_list = p.tbs_cert_list.now; fields = lent_fields p.fields; signature_algorithm = p.signature_algorithm.now; signature = p.signature.now }
+
+-- those of the CRL that the bytes are the encoding of
+abbrev pub parts_reading : (P : Type 0) → (List ℕ → Result Unit ErrorKind) → List ℕ → Result ListSpellings ErrorKind
+parts_reading P check bytes = whole_reading (certificate_list {P = P} check).reading bytes >>= λ list. Ok (list_spellings check list)

@@ -3,3 +3,4 @@ pub mod Lending
 pub mod ExtensionRefs
 pub mod CrlRefs
 pub mod CrlWalk
+pub mod CertificateWalk

@@ -1,6 +1,7 @@
 //! Elements, by how long they are.
 
-ghost use Rattle.std.specs.Prelude.{◌≡◌, ◌+◌, ◌<◌, length, IfOk, IfErr};
+ghost use Rattle.std.specs.Prelude.{◌≡◌, ◌+◌, ◌<◌, true, length, List, ℕ, IfOk, IfErr};
+ghost use Rattle.x509_der.specs.Element.{element, is_identifier};
 ghost use Rattle.x509_der.specs.ElementReading.{piece_at};
 ghost use Rattle.x509_der.specs.Outcome.{GivesBy};
 ghost use Rattle.x509_der.specs.declared.error.ErrorKind.TheVariants.{Malformed};
@@ -21,4 +22,14 @@ pub(crate) fn next_element(bytes: &[u8], usual: Tag) -> Result<Piece<'_>, Error>
 {
     let piece = split_usual(bytes, usual)?;
     Ok(piece)
+}
+
+/// The content of the element that the bytes are.
+pub(crate) fn content_of(bytes: &[u8]) -> &[u8]
+    ensures { (tag : ℕ) (content : List ℕ) → is_identifier tag ≡ true → bytes.now ≡ element tag content → result.now ≡ content }
+{
+    match next_element(bytes, Tag::Sequence) {
+        Ok(piece) => piece.content,
+        Err(_) => &[],
+    }
 }

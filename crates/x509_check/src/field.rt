@@ -148,7 +148,7 @@ pub(crate) fn plain_element<T: PlainContent>(tag: u8, content: &[u8]) -> Result<
 /// The value of one element with nothing after it, which is plain data.
 #[tactic(auto, unfolding(x509_der::specs::Form::whole_reading))]
 #[inline(always)]
-fn plain_whole<T: PlainContent>(bytes: &[u8]) -> Result<T, Error>
+pub(crate) fn plain_whole<T: PlainContent>(bytes: &[u8]) -> Result<T, Error>
     ensures { Answers result (whole_reading ⟦<T as Grammar>⟧.form.reading bytes.now) }
 {
     let piece = next_element(bytes, T::IDENTIFIER)?;
@@ -160,7 +160,7 @@ fn plain_whole<T: PlainContent>(bytes: &[u8]) -> Result<T, Error>
 
 /// Checks a value that was read where it isn't the default; `Malformed` where it is.
 #[inline(always)]
-fn check_other<T: DefaultValue>(read: Result<T, Error>) -> Result<(), Error>
+pub(crate) fn check_other<T: DefaultValue>(read: Result<T, Error>) -> Result<(), Error>
     ensures { (reading : Result T ErrorKind) → Answers read reading → Answers result (checked (other_value T.default reading)) }
 {
     if read?.is_default() {

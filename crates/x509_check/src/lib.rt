@@ -39,6 +39,7 @@ pub use field::{
     check_field, check_implicit, check_optional, check_optional_explicit, check_optional_implicit,
 };
 pub use lent::certificate::CertificateRef;
+pub use lent::crl::CrlRef;
 pub use lent::entries::CrlEntries;
 pub use lent::entry::RevokedCertRef;
 pub use lent::extension::ExtensionRef;

@@ -1,25 +1,20 @@
 //! The extension with an OID.
 
-ghost use Rattle.std.specs.Prelude.{◌≡◌, ◌≤◌, ◌++◌, ◌∷◌, [], drop, length, List, ℕ, IfSome, MatchOption};
-ghost use Rattle.x509_base.specs.declared.profile.Rfc5280 as rules;
-ghost use Rattle.x509_c_calls.specs.View.{IsOptionAt, behind_part};
-ghost use Rattle.x509_c_calls.specs.Extensions.{FindsExtension, IsExtensionAt, LooksUpExtension, flag};
+ghost use Rattle.std.specs.Prelude.{◌≡◌, ◌+◌, ◌++◌, ◌∷◌, [], length, List, ℕ, IfSome, MatchOption};
+ghost use Rattle.x509_c_calls.specs.Extensions.{FindsExtension, LooksUpExtension, flag};
+ghost use Rattle.x509_c_calls.specs.Place.{EndsWith, IsAt};
 ghost use Rattle.x509_c_calls.specs.declared.status.status.Status.TheVariants.{Refused};
-ghost use Rattle.x509_cert.specs.Elements.{certificate_elements};
-ghost use Rattle.x509_cert.specs.Spellings.{certificate_spellings};
-ghost use Rattle.x509_cert.specs.declared.certificate.certificate.CertificateInner as whole;
 ghost use Rattle.x509_check.specs.ExtensionRefs.{extensions_left, lent_extension};
 ghost use Rattle.x509_ext.specs.LookUp.{with_oid};
 ghost use Rattle.x509_der.specs.List.{joined};
-ghost use Rattle.x509_der.specs.Form.{Spells, spelling};
+ghost use Rattle.x509_der.specs.Form.{spelling};
 ghost use Rattle.x509_der.specs.declared.error.ErrorKind.TheVariants.{Memory};
 ghost use Rattle.x509_ext.specs.Extension as grammar;
 ghost use Rattle.x509_ext.specs.declared.extension.Extension.{Extension};
 
-use crate::certificate::view::wrapped;
-use crate::{Span, Status, enter, step};
+use crate::{Span, Status};
 use x509_base::Rfc5280;
-use x509_cert::certificate::{CertificateInner, CertificateSlices};
+use x509_cert::certificate::CertificateInner;
 use x509_check::{CertificateRef, ExtensionRef, ExtensionRefs};
 use x509_der::Grammar;
 
@@ -41,93 +36,60 @@ fn flag(is_set: bool) -> u32
     if is_set { 1 } else { 0 }
 }
 
-/// Where the list of extensions stands in the bytes, which are the encoding of a certificate with these elements; both
-/// numbers are 0 where there is none.
-fn list_of(input: &[u8], slices: &CertificateSlices<'_>) -> Span
-    ensures { (certificate : whole.CertificateInner rules.Rfc5280) → Spells ⟦<CertificateInner<Rfc5280> as Grammar>⟧.form certificate input.now
-        → certificate_elements slices.now ≡ certificate_spellings certificate
-        → IsOptionAt grammar.extensions certificate.tbs_certificate.extensions (behind_part certificate) input.now result }
-{
-    let fields = &slices.fields;
-    let mut at = 0;
-    enter(input, &mut at);
-    enter(input, &mut at);
-    step(input, &mut at, fields.version.is_some());
-    step(input, &mut at, true);
-    step(input, &mut at, true);
-    step(input, &mut at, true);
-    step(input, &mut at, true);
-    step(input, &mut at, true);
-    step(input, &mut at, true);
-    step(input, &mut at, fields.issuer_unique_id.is_some());
-    step(input, &mut at, fields.subject_unique_id.is_some());
-    wrapped(input, at, fields.extensions.is_some())
-}
-
-/// The first extension with the OID, with its place, and those that follow it. The bytes of the extensions begin at the
-/// place.
+/// The first extension with the OID, and those that follow it.
 fn find<'a>(
-    input: &[u8],
-    place: usize,
     extensions: ExtensionRefs<'a>,
     oid: &[u8],
-) -> Option<(usize, ExtensionRef<'a>, ExtensionRefs<'a>)>
-    requires { place ≤ length input.now }
+) -> Option<(ExtensionRef<'a>, ExtensionRefs<'a>)>
     ensures found { MatchOption result (with_oid oid.now (extensions_left extensions.entry) ≡ [])
-        (λ f. with_oid oid.now (extensions_left extensions.entry) ≡ lent_extension f.1 ∷ with_oid oid.now (extensions_left f.2)) }
-    ensures within { IfSome result (λ f. f.0 ≤ length input.now) }
-    ensures split { IfSome result (λ f. (before : List Extension) × (extensions_left extensions.entry ≡ before ++ lent_extension f.1 ∷ extensions_left f.2)) }
-    ensures stands { IfSome result (λ f. (more : List ℕ) → drop place input.now ≡ joined (spelling grammar.extension) (extensions_left extensions.entry) ++ more
-        → drop f.0 input.now ≡ spelling grammar.extension (lent_extension f.1) ++ (joined (spelling grammar.extension) (extensions_left f.2) ++ more)) }
+        (λ f. with_oid oid.now (extensions_left extensions.entry) ≡ lent_extension f.0 ∷ with_oid oid.now (extensions_left f.1)) }
+    ensures split { IfSome result (λ f. (before : List Extension) × (extensions_left extensions.entry ≡ before ++ lent_extension f.0 ∷ extensions_left f.1)) }
 {
-    let mut at = place;
     let mut rest = extensions;
     while let Some(first) = rest.next() {
         if first.extn_id.as_bytes() == oid {
-            return Some((at, first, rest));
+            return Some((first, rest));
         }
-        step(input, &mut at, true);
     }
     None
 }
 
-/// The extension whose bytes begin at the place.
-fn view_at(input: &[u8], place: usize, critical: bool) -> ExtensionView
-    requires { place ≤ length input.now }
-    ensures { (extension : Extension) (behind : List ℕ) → critical ≡ extension.critical → drop place input.now ≡ spelling grammar.extension extension ++ behind
-        → IsExtensionAt input.now extension behind result }
+/// Where a part stands that is so long and ends at the place.
+fn ending_at(input: &[u8], end: usize, len: usize) -> Span
+    ensures { (text more : List ℕ) → EndsWith text more input.now → len ≡ length text → end + length more ≡ length input.now
+        → IsAt text more input.now result }
 {
-    let mut at = place;
-    enter(input, &mut at);
-    step(input, &mut at, true);
-    step(input, &mut at, critical);
-    ExtensionView {
-        critical: flag(critical),
-        value: enter(input, &mut at),
+    Span {
+        place: end.saturating_sub(len),
+        len,
     }
 }
 
-/// Fills in the one extension with the OID. The bytes of the extensions begin at the place.
+/// Fills in the one extension with the OID. The bytes of the extensions end at the place.
 #[tactic(auto, unfolding(crate::specs::Extensions::FindsExtension))]
 fn pick(
     input: &[u8],
-    place: usize,
+    end: usize,
     extensions: ExtensionRefs<'_>,
     oid: &[u8],
     found: &mut ExtensionView,
 ) -> Status
-    requires { place ≤ length input.now }
-    ensures finds { (more : List ℕ) → drop place input.now ≡ joined (spelling grammar.extension) (extensions_left extensions.entry) ++ more
+    ensures finds { (more : List ℕ) → EndsWith (joined (spelling grammar.extension) (extensions_left extensions.entry)) more input.now
+        → end + length more ≡ length input.now
         → FindsExtension input.now (extensions_left extensions.entry) more (with_oid oid.now (extensions_left extensions.entry)) found.old found.new result }
     ensures memory { result ≡ Refused Memory → ⊥ }
 {
-    let Some((at, extension, others)) = find(input, place, extensions, oid) else {
+    let Some((extension, others)) = find(extensions, oid) else {
         return Status::Absent;
     };
-    if find(input, at, others, oid).is_some() {
+    if find(others, oid).is_some() {
         return Status::Repeated;
     }
-    *found = view_at(input, at, extension.critical);
+    let end = end.saturating_sub(others.as_bytes().len());
+    *found = ExtensionView {
+        critical: flag(extension.critical),
+        value: ending_at(input, end, extension.extn_value.len()),
+    };
     Status::Done
 }
 
@@ -153,7 +115,10 @@ pub fn certificate_extension(input: &[u8], oid: &[u8], found: &mut ExtensionView
     if slices.fields.extensions.is_none() {
         return Status::Absent;
     }
-    let mut at = list_of(input, slices).place;
-    enter(input, &mut at);
-    pick(input, at, lent.extensions(), oid, found)
+    let behind = slices.signature_algorithm.len();
+    let end = input
+        .len()
+        .saturating_sub(behind)
+        .saturating_sub(slices.signature.len());
+    pick(input, end, lent.extensions(), oid, found)
 }

@@ -7,11 +7,10 @@ ghost use Rattle.x509_c_calls.specs.declared.status.status.Status.TheVariants.{R
 ghost use Rattle.x509_der.specs.declared.error.ErrorKind.TheVariants.{Memory};
 
 use crate::Status;
-use crate::certificate::lent::lend;
 use crate::certificate::view::{CertificateView, view_of};
-use std::alloc::Global;
 use x509_base::Rfc5280;
 use x509_cert::certificate::CertificateInner;
+use x509_check::CertificateRef;
 use x509_der::Grammar;
 
 /// Checks a certificate under the rules of RFC 5280, and fills in the view. It takes no memory.
@@ -21,16 +20,16 @@ use x509_der::Grammar;
 /// `Overlength` where the bytes are more than 268,435,455. Within that length `Malformed` where they are the encoding
 /// of no certificate. The view is unchanged then.
 #[tactic(auto, unfolding(crate::specs::Calls::Reads))]
-pub fn certificate_view(alloc: Global, input: &[u8], view: &mut CertificateView) -> Status
+pub fn certificate_view(input: &[u8], view: &mut CertificateView) -> Status
     ensures read { Reads ⟦<CertificateInner<Rfc5280> as Grammar>⟧.form ⟦<CertificateInner<Rfc5280> as Grammar>⟧.refuses input.now
         (λ certificate. IsView input.now certificate view.new) (view.new ≡ view.old) result }
     ensures memory { result ≡ Refused Memory → ⊥ }
 {
-    match lend(input) {
-        Ok(slices) => {
-            *view = view_of(alloc, input, &slices);
+    match CertificateRef::<Rfc5280>::from_der(input) {
+        Ok(lent) => {
+            *view = view_of(input, &lent);
             Status::Done
         }
-        Err(e) => Status::Refused(e),
+        Err(e) => e.into(),
     }
 }

@@ -1,7 +1,7 @@
 //! Steps over elements that stand one behind the other, or one in the other. Each says where an element stands; where none stands at the
 //! place, it stays there and answers no octets.
 
-ghost use Rattle.std.specs.Prelude.{◌≡◌, ◌≤◌, ◌+◌, ◌++◌, true, drop, length, List, ℕ};
+ghost use Rattle.std.specs.Prelude.{◌≡◌, ◌<◌, ◌≤◌, ◌+◌, ◌++◌, true, drop, length, List, ℕ};
 ghost use Rattle.x509_c_calls.specs.Place.{IsAt, IsField};
 ghost use Rattle.x509_der.specs.Element.{element, is_identifier};
 
@@ -61,4 +61,20 @@ pub fn enter(input: &[u8], at: &mut usize) -> Span
         place: begin,
         len: end - begin,
     }
+}
+
+/// Steps over a part that is so long, and answers where it stands; where fewer octets are left, it stays there and answers none.
+pub fn pass(input: &[u8], at: &mut usize, len: usize) -> Span
+    requires { at.old ≤ length input.now }
+    ensures within { at.new ≤ length input.now }
+    ensures stands { (text more : List ℕ) → len ≡ length text → drop at.old input.now ≡ text ++ more → IsAt text more input.now result
+        × (drop at.new input.now ≡ more) }
+    ensures nothing { length input.now < at.old + len → (at.new ≡ at.old) × (result ≡ record { place = at.old; len = 0 }) }
+{
+    let place = *at;
+    if input.len() - place < len {
+        return Span { place, len: 0 };
+    }
+    *at = place + len;
+    Span { place, len }
 }

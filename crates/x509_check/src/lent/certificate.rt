@@ -1,27 +1,26 @@
 //! A certificate, lent from its bytes.
 
 ghost use Rattle.std.proofs.Props.{props};
-ghost use Rattle.std.specs.Prelude.{◌≡◌, ◌≤◌, true, length, List, ℕ, Some, None, Ok, IsOk, option_copied, if◌then◌else◌};
+ghost use Rattle.std.specs.Prelude.{◌≡◌, ◌≤◌, length, Some, None, Ok, IsOk, option_copied, if◌then◌else◌};
 ghost use Rattle.x509_base.specs.Validity.{validity_contents};
 ghost use Rattle.x509_cert.specs.Certificate.{certificate};
 ghost use Rattle.x509_cert.specs.ElementParts.{certificate_reading};
 ghost use Rattle.x509_cert.specs.Elements.{certificate_elements};
 ghost use Rattle.x509_cert.specs.Version.{is_first, version};
 ghost use Rattle.x509_cert.specs.declared.certificate.version.Version as versions;
-ghost use Rattle.x509_cert.specs.declared.certificate.certificate.CertificateInner as whole;
 ghost use Rattle.x509_check.specs.Lending.{LendsBy};
-ghost use Rattle.x509_der.specs.Element.{element, is_identifier, limit};
-ghost use Rattle.x509_der.specs.Form.{Spells, spelling, whole_reading};
+ghost use Rattle.x509_der.specs.Element.{limit};
+ghost use Rattle.x509_der.specs.Form.{spelling, whole_reading};
 
-use crate::check::Check;
-use crate::element::next_element;
+use crate::element::content_of;
+use crate::lent::certificate_walk::walk_certificate;
 use crate::lent::extensions::ExtensionRefs;
 use crate::lent::fields::take_time;
 use std::alloc::{AllocError, Global};
 use std::marker::PhantomData;
 use x509_base::{Profile, Rfc5280, Validity};
 use x509_cert::certificate::{CertificateInner, CertificateSlices, TbsCertificateInner, Version};
-use x509_der::{AssociatedOid, Decode, Error, Grammar, Tag, end};
+use x509_der::{AssociatedOid, Decode, Error, ErrorKind, Grammar, Length, end};
 
 /// A certificate that is lent from its encoding (RFC 5280 4.1), which was checked: it is that of a
 /// [`CertificateInner`] under the profile. Each field is lent or decoded when it is asked for; no memory is taken.
@@ -48,27 +47,6 @@ impl<P: Profile> Clone for CertificateRef<'_, P> {
 }
 
 impl<P: Profile> Copy for CertificateRef<'_, P> {}
-
-/// The content of the element that the bytes are.
-fn content_of(bytes: &[u8]) -> &[u8]
-    ensures { (tag : ℕ) (content : List ℕ) → is_identifier tag ≡ true → bytes.now ≡ element tag content → result.now ≡ content }
-{
-    match next_element(bytes, Tag::Sequence) {
-        Ok(piece) => piece.content,
-        Err(_) => &[],
-    }
-}
-
-/// The elements of the certificate that the bytes are the encoding of.
-fn slices_of<P: Profile>(bytes: &[u8]) -> CertificateSlices<'_>
-    requires { (certificate : whole.CertificateInner P) × Spells ⟦<CertificateInner<P> as Grammar>⟧.form certificate bytes.now }
-    ensures { certificate_reading bytes.now ≡ Ok (certificate_elements result) }
-{
-    match CertificateSlices::from_der(bytes) {
-        Ok(slices) => slices,
-        Err(_) => unreachable!(),
-    }
-}
 
 /// The version, by its element, which the first is without.
 fn version_of(lent: Option<&[u8]>) -> Version
@@ -112,11 +90,11 @@ impl<'a, P: Profile> CertificateRef<'a, P> {
     ghost use Rattle.x509_name.specs.Names.{name};
     ghost use Rattle.x509_prim.specs.BitString.{bit_string};
 
-    /// The certificate that the bytes are the encoding of. It takes no memory.
+    /// The certificate that the bytes are the encoding of. It is checked in one pass, without memory.
     ///
     /// # Errors
     ///
-    /// `Overlength` exactly where the bytes are more than [`Length::MAX`](x509_der::Length::MAX). Within that length
+    /// `Overlength` exactly where the bytes are more than [`Length::MAX`]. Within that length
     /// `Malformed`, or an error of the profile, exactly where they are the encoding of no certificate: the error that
     /// `CertificateInner::from_der` answers.
     pub fn from_der(bytes: &'a [u8]) -> Result<CertificateRef<'a, P>, Error>
@@ -127,15 +105,17 @@ impl<'a, P: Profile> CertificateRef<'a, P> {
         ensures every { (certificate : whole.CertificateInner P) → Spells ⟦<CertificateInner<P> as Grammar>⟧.form certificate bytes.now → IsOk result }
         ensures which { length bytes.now ≤ limit → IfErr result (λ e. whole_reading ⟦<CertificateInner<P> as Grammar>⟧.form.reading bytes.now ≡ Err e.kind) }
     {
-        if let Err(e) = CertificateInner::<P>::check(bytes) {
-            return Err(e);
+        if bytes.len() > Length::MAX.as_u32() as usize {
+            return Err(ErrorKind::Overlength.into());
         }
-        let slices = slices_of::<P>(bytes);
-        Ok(CertificateRef {
-            bytes,
-            slices,
-            profile: PhantomData,
-        })
+        match walk_certificate::<P>(bytes) {
+            Ok(slices) => Ok(CertificateRef {
+                bytes,
+                slices,
+                profile: PhantomData,
+            }),
+            Err(e) => Err(e),
+        }
     }
 
     /// The encoding.

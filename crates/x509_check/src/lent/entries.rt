@@ -5,12 +5,12 @@ ghost use Rattle.x509_cert.specs.RevokedCert.{revoked_cert};
 ghost use Rattle.x509_der.specs.Element.{limit};
 ghost use Rattle.x509_der.specs.List.{list_reading};
 
+use crate::lent::crl::CrlRef;
 use crate::lent::entry::{RevokedCertRef, split_entry};
-use crate::lent::revoked::walk_whole;
 use std::marker::PhantomData;
 use x509_base::{Profile, Rfc5280};
 use x509_cert::crl::CertificateList;
-use x509_der::{Error, ErrorKind, Grammar, Length};
+use x509_der::{Error, Grammar};
 
 /// An iterator over the entries of an encoded CRL (RFC 5280 5.1.2.6), which lends each from the bytes. The CRL was checked,
 /// so each is there; it is decoded when it is asked for, without memory.
@@ -38,7 +38,7 @@ impl<'a, P: Profile> CrlEntries<'a, P> {
     ///
     /// # Errors
     ///
-    /// `Overlength` exactly where the bytes are more than [`Length::MAX`]. Within that length `Malformed`, or an error of
+    /// `Overlength` exactly where the bytes are more than [`Length::MAX`](x509_der::Length::MAX). Within that length `Malformed`, or an error of
     /// the profile, exactly where they are the encoding of no CRL: the error that `CertificateList::from_der` answers.
     pub fn from_der(bytes: &'a [u8]) -> Result<CrlEntries<'a, P>, Error>
         ensures found { IfOk result (λ lent. (list : lists.CertificateList P) × Spells ⟦<CertificateList<P> as Grammar>⟧.form list bytes.now
@@ -48,17 +48,14 @@ impl<'a, P: Profile> CrlEntries<'a, P> {
         ensures every { (list : lists.CertificateList P) → Spells ⟦<CertificateList<P> as Grammar>⟧.form list bytes.now → IsOk result }
         ensures which { length bytes.now ≤ limit → IfErr result (λ e. whole_reading ⟦<CertificateList<P> as Grammar>⟧.form.reading bytes.now ≡ Err e.kind) }
     {
-        if bytes.len() > Length::MAX.as_u32() as usize {
-            return Err(ErrorKind::Overlength.into());
-        }
-        match walk_whole::<P>(bytes, &[]) {
-            Ok(walked) => Ok(CrlEntries::of_octets(walked.octets)),
+        match CrlRef::<P>::from_der(bytes) {
+            Ok(lent) => Ok(lent.entries()),
             Err(e) => Err(e),
         }
     }
 
     /// The entries of which these are the elements, one after the other, as was checked.
-    fn of_octets(octets: &'a [u8]) -> CrlEntries<'a, P>
+    pub(crate) fn of_octets(octets: &'a [u8]) -> CrlEntries<'a, P>
         requires within { length octets.now ≤ limit }
         requires are_entries { IsOk (list_reading (revoked_cert {P = P} P.serial_check).reading octets.now) }
         ensures { result.rest.now ≡ octets.now }

@@ -27,9 +27,9 @@ impl<'a> ExtensionRefs<'a> {
     ghost use Rattle.x509_check.specs.ExtensionRefs.{FindsLent, extensions_left};
     ghost use Rattle.x509_check.specs.Lending.{listed};
     ghost use Rattle.x509_der.specs.Element.{limit};
-    ghost use Rattle.x509_der.specs.Form.{Spells};
+    ghost use Rattle.x509_der.specs.Form.{Spells, spelling};
     ghost use Rattle.x509_der.specs.declared.error.ErrorKind.TheVariants as errors;
-    ghost use Rattle.x509_der.specs.List.{list_reading};
+    ghost use Rattle.x509_der.specs.List.{joined, list_reading};
     ghost use Rattle.x509_ext.specs.Extension.{extension, extensions};
     ghost use Rattle.x509_ext.specs.LookUp.{Finds, with_oid};
     ghost use Rattle.x509_ext.specs.declared.extension.Extension.{Extension};
@@ -65,6 +65,13 @@ impl<'a> ExtensionRefs<'a> {
         ExtensionRefs {
             rest: members_of(bytes),
         }
+    }
+
+    /// The encodings of those that were not given yet, one after the other.
+    pub fn as_bytes(&self) -> &'a [u8]
+        ensures { result.now ≡ joined (spelling extension) (extensions_left self.now) }
+    {
+        self.rest
     }
 
     /// The extensions of which the bytes are the elements, one after the other, as was checked.

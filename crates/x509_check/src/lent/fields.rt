@@ -5,7 +5,7 @@ ghost use Rattle.std.specs.Prelude.{◌≤◌, length};
 ghost use Rattle.x509_base.specs.Serial.{serial_number};
 ghost use Rattle.x509_base.specs.Time.{time};
 ghost use Rattle.x509_check.specs.Lending.{LendsBefore};
-ghost use Rattle.x509_der.specs.Frames.{defaulted, required};
+ghost use Rattle.x509_der.specs.Frames.{defaulted, optional, required};
 ghost use Rattle.x509_der.specs.Outcome.{Answers};
 ghost use Rattle.x509_prim.specs.OctetString.{octet_string};
 
@@ -24,11 +24,32 @@ use x509_der::{DefaultValue, Error, ErrorKind, Grammar, Tag};
 #[tactic(auto, unfolding(x509_der::specs::Frames::field_at))]
 #[inline(always)]
 pub(crate) fn take_plain<T: PlainContent>(rest: &mut &[u8]) -> Result<T, Error>
-    ensures { LendsBefore (λ x. x) result rest.new.now ((required ⟦<T as Grammar>⟧.form).reading rest.old.now) }
+    ensures exact { LendsBefore (λ x. x) result rest.new.now ((required ⟦<T as Grammar>⟧.form).reading rest.old.now) }
+    ensures left { length rest.new.now ≤ length rest.old.now }
 {
     let piece = next_element(*rest, T::IDENTIFIER)?;
     *rest = piece.rest;
     plain_element::<T>(piece.tag, piece.content)
+}
+
+/// x?: a field of plain data that may be absent; it is there where the next identifier octet may begin one (X.690 8.9.3).
+///
+/// # Errors
+///
+/// As [`take_plain`], where it is there.
+#[tactic(auto, unfolding(x509_der::specs::Frames::optional_at))]
+#[inline(always)]
+pub(crate) fn take_optional_plain<T: PlainContent>(rest: &mut &[u8]) -> Result<Option<T>, Error>
+    ensures exact { LendsBefore (λ x. x) result rest.new.now ((optional ⟦<T as Grammar>⟧.form).reading rest.old.now) }
+    ensures left { length rest.new.now ≤ length rest.old.now }
+{
+    match *rest {
+        [octet, ..] if T::is_start(*octet) => {
+            let value = take_plain::<T>(rest)?;
+            Ok(Some(value))
+        }
+        _ => Ok(None),
+    }
 }
 
 /// x=d: a field of plain data that is absent exactly where it has its default (X.690 11.5).
@@ -120,4 +141,24 @@ pub(crate) fn take_time(rest: &mut &[u8]) -> Result<Time, Error>
     let piece = next_element(*rest, Tag::UtcTime)?;
     *rest = piece.rest;
     plain_time(piece.tag, piece.content)
+}
+
+/// A time that may be absent.
+///
+/// # Errors
+///
+/// `Malformed` exactly where one begins at the front and none stands there.
+#[tactic(auto, unfolding(x509_der::specs::Frames::optional_at))]
+#[inline(always)]
+pub(crate) fn take_optional_time(rest: &mut &[u8]) -> Result<Option<Time>, Error>
+    ensures exact { LendsBefore (λ x. x) result rest.new.now ((optional time).reading rest.old.now) }
+    ensures left { length rest.new.now ≤ length rest.old.now }
+{
+    match *rest {
+        [octet, ..] if Time::is_start(*octet) => {
+            let time = take_time(rest)?;
+            Ok(Some(time))
+        }
+        _ => Ok(None),
+    }
 }

@@ -1,22 +1,22 @@
-//! Looking up a serial number in an encoded CRL.
+//! A walk over an encoded CRL, which checks it, lends its fields and looks for a serial number; and the look-up.
 
-ghost use Rattle.std.specs.Prelude.{◌≡◌, ◌<◌, ◌≤◌, ◌⊎◌, [], length, None, IfOk, IfErr, IsErrAnd, IsOk};
+ghost use Rattle.std.specs.Prelude.{◌≡◌, ◌<◌, ◌≤◌, ◌⊎◌, length, None, IfOk, IfErr, IsErrAnd, IsOk};
 ghost use Rattle.x509_cert.specs.CertificateList.{certificate_list, certificate_list_contents, tbs_cert_list, tbs_cert_list_contents};
 ghost use Rattle.x509_cert.specs.RevokedCert.{revoked_cert};
 ghost use Rattle.x509_cert.specs.declared.crl.certificate_list.CertificateList as lists;
-ghost use Rattle.x509_check.specs.CrlRefs.{FindsEntry, FindsInList};
+ghost use Rattle.x509_check.specs.CrlRefs.{FindsEntry, FindsInList, entry_list};
 ghost use Rattle.x509_check.specs.CrlWalk.{WalksAmong, WalksEntries, WalksList, WalksPart};
 ghost use Rattle.x509_check.specs.Lending.{LendsSo, LendsSoBefore};
 ghost use Rattle.x509_der.specs.Element.{limit};
-ghost use Rattle.x509_der.specs.Form.{Spells, universal, whole_reading};
+ghost use Rattle.x509_der.specs.Form.{Spells, whole_reading};
 ghost use Rattle.x509_der.specs.Frames.{optional, required};
-ghost use Rattle.x509_der.specs.List.{list_of, list_reading};
+ghost use Rattle.x509_der.specs.List.{list_reading};
 ghost use Rattle.x509_der.specs.declared.error.ErrorKind.TheVariants as errors;
-ghost use Rattle.x509_der.specs.declared.tag.Tag.TheVariants.{Sequence};
 
 use crate::element::next_element;
-use crate::field::{check_field, check_optional, check_optional_explicit};
+use crate::lent::checked::{take_field, take_optional_explicit};
 use crate::lent::entry::{RevokedCertRef, split_entry};
+use crate::lent::fields::{take_optional_plain, take_optional_time, take_time};
 use x509_base::{AlgorithmIdentifier, Profile, Time};
 use x509_cert::certificate::Version;
 use x509_cert::crl::CertificateList;
@@ -25,11 +25,72 @@ use x509_ext::Extensions;
 use x509_name::name::Name;
 use x509_prim::BitString;
 
-/// The entries of a CRL: their elements, one after the other, and the first that has a serial number.
+/// The fields of the signed part of a CRL (RFC 5280 5.1.2), each as its whole element or as what it says.
+#[derive(Clone, Copy, Debug)]
+pub(crate) struct ListFields<'a> {
+    /// The version.
+    pub(crate) version: Option<Version>,
+
+    /// The algorithm of the signature, as the signed part has it.
+    pub(crate) signature: &'a [u8],
+
+    /// The name of the issuer.
+    pub(crate) issuer: &'a [u8],
+
+    /// When it was issued.
+    pub(crate) this_update: Time,
+
+    /// By when the next one will be issued.
+    pub(crate) next_update: Option<Time>,
+
+    /// The list of entries.
+    pub(crate) revoked_certificates: Option<&'a [u8]>,
+
+    /// The SEQUENCE OF Extension inside [0].
+    pub(crate) crl_extensions: Option<&'a [u8]>,
+}
+
+/// The signed part of a CRL, its fields, and what stands behind it (RFC 5280 5.1.1), each as its whole element.
+#[derive(Clone, Copy, Debug)]
+pub(crate) struct ListParts<'a> {
+    /// The signed part.
+    pub(crate) tbs_cert_list: &'a [u8],
+
+    /// The fields of the signed part.
+    pub(crate) fields: ListFields<'a>,
+
+    /// The algorithm of the signature, as it stands outside the signed part.
+    pub(crate) signature_algorithm: &'a [u8],
+
+    /// The BIT STRING of the signature.
+    pub(crate) signature: &'a [u8],
+}
+
+/// A list of entries, which may be absent, and the first of them that has a serial number.
+#[derive(Clone, Copy)]
+pub(crate) struct WalkedEntries<'a> {
+    /// The list.
+    pub(crate) element: Option<&'a [u8]>,
+
+    /// The first entry with the serial number.
+    pub(crate) found: Option<RevokedCertRef<'a>>,
+}
+
+/// The same of the signed part of a CRL, with its fields.
+#[derive(Clone, Copy)]
+pub(crate) struct WalkedPart<'a> {
+    /// The fields.
+    pub(crate) fields: ListFields<'a>,
+
+    /// The first entry with the serial number.
+    pub(crate) found: Option<RevokedCertRef<'a>>,
+}
+
+/// The same of a CRL.
 #[derive(Clone, Copy)]
 pub(crate) struct Walked<'a> {
-    /// The elements of the entries.
-    pub(crate) octets: &'a [u8],
+    /// The parts of the CRL.
+    pub(crate) parts: ListParts<'a>,
 
     /// The first entry with the serial number.
     pub(crate) found: Option<RevokedCertRef<'a>>,
@@ -63,33 +124,34 @@ fn find_in_entries<'a, P: Profile>(
 fn walk_sequence<'a, P: Profile>(
     rest: &mut &'a [u8],
     serial_number: &[u8],
-) -> Result<Walked<'a>, Error>
+) -> Result<WalkedEntries<'a>, Error>
     requires { length rest.old.now ≤ limit }
     ensures exact { LendsSoBefore (WalksEntries P.serial_check serial_number.now) result rest.new.now
-        ((required (universal Sequence (list_of (revoked_cert {P = P} P.serial_check)))).reading rest.old.now) }
+        ((required (entry_list {P = P} P.serial_check)).reading rest.old.now) }
     ensures left { length rest.new.now ≤ length rest.old.now }
 {
-    let piece = next_element(*rest, Tag::Sequence)?;
+    let front = *rest;
+    let piece = next_element(front, Tag::Sequence)?;
     if piece.tag != Tag::Sequence.octet() {
         return Err(ErrorKind::Malformed.into());
     }
     *rest = piece.rest;
     match find_in_entries::<P>(piece.content, serial_number) {
-        Ok(found) => Ok(Walked {
-            octets: piece.content,
+        Ok(found) => Ok(WalkedEntries {
+            element: Some(&front[..front.len() - piece.rest.len()]),
             found,
         }),
         Err(e) => Err(e),
     }
 }
 
-/// No entries.
-fn walked_none<'a>() -> Walked<'a>
-    ensures octets { result.octets.now ≡ [] }
+/// No list of entries.
+fn walked_none<'a>() -> WalkedEntries<'a>
+    ensures element { result.element ≡ None }
     ensures found { result.found ≡ None }
 {
-    Walked {
-        octets: &[],
+    WalkedEntries {
+        element: None,
         found: None,
     }
 }
@@ -98,10 +160,10 @@ fn walked_none<'a>() -> Walked<'a>
 fn walk_field<'a, P: Profile>(
     rest: &mut &'a [u8],
     serial_number: &[u8],
-) -> Result<Walked<'a>, Error>
+) -> Result<WalkedEntries<'a>, Error>
     requires { length rest.old.now ≤ limit }
     ensures exact { LendsSoBefore (WalksAmong P.serial_check serial_number.now) result rest.new.now
-        ((optional (universal Sequence (list_of (revoked_cert {P = P} P.serial_check)))).reading rest.old.now) }
+        ((optional (entry_list {P = P} P.serial_check)).reading rest.old.now) }
     ensures left { length rest.new.now ≤ length rest.old.now }
 {
     match *rest {
@@ -112,28 +174,45 @@ fn walk_field<'a, P: Profile>(
 
 /// The same of the signed part of a CRL with these content octets (RFC 5280 5.1.2).
 #[tactic(auto, unfolding(x509_cert::specs::CertificateList::tbs_cert_list_fields, x509_der::specs::Frames::fields_reading))]
-fn walk_content<'a, P: Profile>(octets: &'a [u8], serial_number: &[u8]) -> Result<Walked<'a>, Error>
+fn walk_content<'a, P: Profile>(
+    octets: &'a [u8],
+    serial_number: &[u8],
+) -> Result<WalkedPart<'a>, Error>
     requires { length octets.now ≤ limit }
     ensures { LendsSo (WalksPart P.serial_check serial_number.now) result ((tbs_cert_list_contents {P = P} P.serial_check).reading octets.now) }
 {
     let mut rest = octets;
-    check_optional::<Version>(&mut rest)?;
-    check_field::<AlgorithmIdentifier>(&mut rest)?;
-    check_field::<Name>(&mut rest)?;
-    check_field::<Time>(&mut rest)?;
-    check_optional::<Time>(&mut rest)?;
+    let version = take_optional_plain::<Version>(&mut rest)?;
+    let signature = take_field::<AlgorithmIdentifier>(&mut rest)?;
+    let issuer = take_field::<Name>(&mut rest)?;
+    let this_update = take_time(&mut rest)?;
+    let next_update = take_optional_time(&mut rest)?;
     match walk_field::<P>(&mut rest, serial_number) {
         Ok(walked) => {
-            check_optional_explicit::<Extensions>(0, &mut rest)?;
+            let crl_extensions = take_optional_explicit::<Extensions>(0, &mut rest)?;
             end(rest)?;
-            Ok(walked)
+            Ok(WalkedPart {
+                fields: ListFields {
+                    version,
+                    signature,
+                    issuer,
+                    this_update,
+                    next_update,
+                    revoked_certificates: walked.element,
+                    crl_extensions,
+                },
+                found: walked.found,
+            })
         }
         Err(e) => Err(e),
     }
 }
 
 /// The same of the signed part at the front.
-fn walk_part<'a, P: Profile>(rest: &mut &'a [u8], serial_number: &[u8]) -> Result<Walked<'a>, Error>
+fn walk_part<'a, P: Profile>(
+    rest: &mut &'a [u8],
+    serial_number: &[u8],
+) -> Result<WalkedPart<'a>, Error>
     requires { length rest.old.now ≤ limit }
     ensures exact { LendsSoBefore (WalksPart P.serial_check serial_number.now) result rest.new.now
         ((required (tbs_cert_list {P = P} P.serial_check)).reading rest.old.now) }
@@ -156,10 +235,19 @@ fn walk_list<'a, P: Profile>(octets: &'a [u8], serial_number: &[u8]) -> Result<W
     let mut rest = octets;
     match walk_part::<P>(&mut rest, serial_number) {
         Ok(walked) => {
-            check_field::<AlgorithmIdentifier>(&mut rest)?;
-            check_field::<BitString>(&mut rest)?;
+            let tbs_cert_list = &octets[..octets.len() - rest.len()];
+            let signature_algorithm = take_field::<AlgorithmIdentifier>(&mut rest)?;
+            let signature = take_field::<BitString>(&mut rest)?;
             end(rest)?;
-            Ok(walked)
+            Ok(Walked {
+                parts: ListParts {
+                    tbs_cert_list,
+                    fields: walked.fields,
+                    signature_algorithm,
+                    signature,
+                },
+                found: walked.found,
+            })
         }
         Err(e) => Err(e),
     }

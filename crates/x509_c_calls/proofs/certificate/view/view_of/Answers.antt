@@ -1,40 +1,45 @@
-use Rattle.std.proofs.Common.{refl, sym, ap, subst, ◌∙◌}
-use Rattle.x509_base.specs.AlgorithmIdentifier.{algorithm_identifier}
-use Rattle.x509_base.specs.Validity.{validity}
-use Rattle.x509_c_calls.proofs.Lent.{version_is_there, is_there, validity_spells}
-use Rattle.x509_c_calls.proofs.Parts.{is_sequence, is_integer, version_field, issuer_field, subject_field, extensions_at, behind_part, outside, inside, laid_out}
+use Rattle.std.proofs.Common.{length, not, refl, sym, ap, subst, ◌∙◌}
+use Rattle.x509_base.specs.CivilTime.{unix_seconds}
+use Rattle.x509_base.specs.Time.{date_time_of}
+use Rattle.x509_base.specs.Profiles.{rfc5280_serial_number}
+use Rattle.x509_c_calls.proofs.Lent.{is_there, optional_len}
+use Rattle.x509_c_calls.proofs.Parts.{is_sequence, version_field, extensions_at, behind_part, outside, inside, laid_out}
 use Rattle.x509_c_calls.proofs.certificate.view.view_of.Goals as goal
+use Rattle.x509_c_calls.specs.View.{version_of}
+use Rattle.x509_cert.specs.Certificate.{certificate}
+use Rattle.x509_cert.specs.Version.{is_first}
 use Rattle.x509_der.specs.Form.{Spells}
 use Rattle.x509_der.specs.Frames.{implicit}
 use Rattle.x509_ext.specs.Extension.{extensions}
 use Rattle.x509_prim.specs.BitString.{bit_string}
 
 pub returns : goal.returns
-returns c = λ value spells elements.
+returns c = λ value spells same.
     let part = value.tbs_certificate in
-    let sequence = is_sequence in
-    let first = c.enter.ensures.stands 48 _ _ sequence (outside _ value _ spells) in
-    let second = c.enter-2.ensures.stands 48 _ _ sequence (first.1 ∙ inside _ value _ spells) in
-    let version_is = ap (λ e. e.fields.version) elements in
-    let written = version_field part.version _ (c.is_some.ensures ∙ version_is_there _ part.version version_is) in
+    let lent = subst (λ bytes. Spells (certificate rfc5280_serial_number) value bytes) (sym same) spells in
+    let elements = c.slices.ensures value lent in
+    let version_is = c.version-version.ensures value lent in
+    let first = c.enter.ensures.stands 48 _ _ is_sequence (outside _ value _ spells) in
+    let second = c.enter-2.ensures.stands 48 _ _ is_sequence (first.1 ∙ inside _ value _ spells) in
+    let written = version_field part.version _ (c.is_written.ensures ∙ ap (λ v. not (is_first v)) version_is) in
     let version = c.step.ensures.stands _ _ written (second.1 ∙ laid_out _ value _ spells _) in
-    let serial = c.step-serial_number.ensures.stands _ _ (2, _, is_integer, refl) version.1 in
-    let signature = c.step-2.ensures.stands _ _ (48, algorithm_identifier.content part.signature, sequence, refl) serial.1 in
-    let issuer = c.step-issuer.ensures.stands _ _ (48, _, sequence, refl) signature.1 in
-    let dates = c.step-3.ensures.stands _ _ (48, validity.content part.validity, sequence, refl) issuer.1 in
-    let subject = c.step-subject.ensures.stands _ _ (48, _, sequence, refl) dates.1 in
-    let key = c.step-subject_public_key_info.ensures.stands _ _ (48, _, sequence, refl) subject.1 in
-    let issuer_id = c.step-4.ensures.stands _ _ (issuer_field part.issuer_unique_id _ (c.is_some-2.ensures ∙ is_there (implicit 1 bit_string) _ part.issuer_unique_id (ap (λ e. e.fields.issuer_unique_id) elements))) key.1 in
-    let subject_id = c.step-5.ensures.stands _ _ (subject_field part.subject_unique_id _ (c.is_some-3.ensures ∙ is_there (implicit 2 bit_string) _ part.subject_unique_id (ap (λ e. e.fields.subject_unique_id) elements))) issuer_id.1 in
-    let present = c.is_some-4.ensures ∙ is_there extensions _ part.extensions (ap (λ e. e.fields.extensions) elements) in
-    let moments = c.dates-not_before.ensures part.validity (subst (λ bytes. Spells validity part.validity bytes) (sym (ap (λ e. e.fields.validity) elements)) (validity_spells _ value _ spells)) in
+    let serial = c.pass-serial_number.ensures.stands _ _ (ap (λ e. length e.fields.serial_number) elements) version.1 in
+    let signature = c.pass.ensures.stands _ _ (ap (λ e. length e.fields.signature) elements) serial.1 in
+    let issuer = c.pass-issuer.ensures.stands _ _ (ap (λ e. length e.fields.issuer) elements) signature.1 in
+    let dates = c.pass-2.ensures.stands _ _ (ap (λ e. length e.fields.validity) elements) issuer.1 in
+    let subject = c.pass-subject.ensures.stands _ _ (ap (λ e. length e.fields.subject) elements) dates.1 in
+    let key = c.pass-subject_public_key_info.ensures.stands _ _ (ap (λ e. length e.fields.subject_public_key_info) elements) subject.1 in
+    let issuer_id = c.pass-3.ensures.stands _ _ (c.len_of.ensures ∙ optional_len (implicit 1 bit_string) _ part.issuer_unique_id (ap (λ e. e.fields.issuer_unique_id) elements)) key.1 in
+    let subject_id = c.pass-4.ensures.stands _ _ (c.len_of-2.ensures ∙ optional_len (implicit 2 bit_string) _ part.subject_unique_id (ap (λ e. e.fields.subject_unique_id) elements)) issuer_id.1 in
+    let present = c.is_some.ensures ∙ is_there extensions _ part.extensions (ap (λ e. e.fields.extensions) elements) in
+    let validity_is = c.validity-validity.ensures value lent in
     record {
-      version = c.version_number.ensures part.version version_is;
+      version = c.version_number.ensures ∙ ap version_of version_is;
       serial_number = serial.0;
       issuer = issuer.0;
       subject = subject.0;
       subject_public_key_info = key.0;
       extensions = extensions_at part.extensions _ (behind_part _ value _ spells) _ _ _ present subject_id.1 c.wrapped.ensures.there c.wrapped.ensures.absent;
-      not_before = moments.0;
-      not_after = moments.1;
+      not_before = c.seconds.ensures ∙ ap (λ v. unix_seconds (date_time_of v.not_before)) validity_is;
+      not_after = c.seconds-2.ensures ∙ ap (λ v. unix_seconds (date_time_of v.not_after)) validity_is;
     }

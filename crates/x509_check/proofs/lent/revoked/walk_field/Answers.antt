@@ -1,10 +1,8 @@
-use Rattle.std.proofs.Common.{[], refl, arith}
+use Rattle.std.proofs.Common.{refl, arith}
 use Rattle.std.proofs.lemmas.Bool.Decides.{nat_tests}
-use Rattle.x509_cert.specs.RevokedCert.{revoked_cert}
 use Rattle.x509_check.proofs.Checks.{among_one, not_among_one}
 use Rattle.x509_check.proofs.LentEntries.{so_here, so_other, so_none_left}
 use Rattle.x509_check.specs.CrlWalk.{WalksAmong, WalksEntries}
-use Rattle.x509_der.specs.ListLaws.{none_read}
 use Rattle.x509_check.proofs.lent.revoked.walk_field.Goals.{in_default-via-then-rest-lt1, in_default-via-in-len1-up+else-octet-eq48}
 use Rattle.x509_check.proofs.lent.revoked.walk_field.Goals as goal
 
@@ -14,6 +12,6 @@ returns-in-len1-up-clause-exact g c = so_here (WalksEntries g.P.Profile.serial_c
 pub returns-in_default-clause-exact : goal.returns-in_default-clause-exact
 returns-in_default-clause-exact g c =
     elim c.in_default.branch [
-      | in_default-via-then-rest-lt1 w ↦ so_none_left (WalksEntries g.P.Profile.serial_check c.args.serial_number.now) (WalksAmong g.P.Profile.serial_check c.args.serial_number.now) _ _ c.walked_none.result (rw c.walked_none.ensures.found refl, rw c.walked_none.ensures.octets (none_read (revoked_cert {P = g.row.P.Denot} g.P.Profile.serial_check).reading [] refl), rw c.walked_none.ensures.octets (omega arith)) _ (grind (arith, nat_tests))
-      | in_default-via-in-len1-up+else-octet-eq48 w ↦ so_other (WalksEntries g.P.Profile.serial_check c.args.serial_number.now) (WalksAmong g.P.Profile.serial_check c.args.serial_number.now) _ _ c.walked_none.result (rw c.walked_none.ensures.found refl, rw c.walked_none.ensures.octets (none_read (revoked_cert {P = g.row.P.Denot} g.P.Profile.serial_check).reading [] refl), rw c.walked_none.ensures.octets (omega arith)) _ (not_among_one _ _ w.if-octet-eq48.false)
+      | in_default-via-then-rest-lt1 w ↦ so_none_left (WalksEntries g.P.Profile.serial_check c.args.serial_number.now) (WalksAmong g.P.Profile.serial_check c.args.serial_number.now) _ _ c.walked_none.result (rw c.walked_none.ensures.found refl, rw c.walked_none.ensures.element refl) _ (grind (arith, nat_tests))
+      | in_default-via-in-len1-up+else-octet-eq48 w ↦ so_other (WalksEntries g.P.Profile.serial_check c.args.serial_number.now) (WalksAmong g.P.Profile.serial_check c.args.serial_number.now) _ _ c.walked_none.result (rw c.walked_none.ensures.found refl, rw c.walked_none.ensures.element refl) _ (not_among_one _ _ w.if-octet-eq48.false)
     ]

@@ -1,9 +1,11 @@
-use Rattle.std.proofs.Common.{◌≤◌, length, Ok, Err, arith}
+use Rattle.std.proofs.Common.{Err, refl}
 use Rattle.std.proofs.lemmas.Result.{err_from_is_err_and}
 use Rattle.x509_check.proofs.Checks.{other_tag_refused, piece_refused}
+use Rattle.x509_check.proofs.LentCrls.{entry_list_lawful}
 use Rattle.x509_check.proofs.LentEntries.{so_field}
+use Rattle.x509_check.proofs.LentFields.{front_is, own_field}
+use Rattle.x509_check.specs.CrlRefs.{entry_list}
 use Rattle.x509_check.specs.CrlWalk.{WalksEntries}
-use Rattle.x509_der.specs.Element.{limit}
 use Rattle.x509_check.proofs.lent.revoked.walk_sequence.Goals as goal
 
 pub returns-in_err-piece-clause-exact : goal.returns-in_err-piece-clause-exact
@@ -17,8 +19,10 @@ returns-then-piece-octet-clause-exact g c = rw c.into.ensures (other_tag_refused
 pub returns-in-Ok-clause-exact : goal.returns-in-Ok-clause-exact
 returns-in-Ok-clause-exact g c =
     let h = c.in-Ok.ensures in
-    let within : length c.in_ok-piece.piece.content.now ≤ limit = omega (arith, c.in_ok-piece.ensures.within, c.requires) in
-    so_field (WalksEntries g.P.Profile.serial_check c.args.serial_number.now) (Ok (record { octets = c.in_ok-piece.piece.content; found = c.in-Ok.found })) _ _ _ _ c.in_ok-piece.ensures.exact (rw c.octet.ensures.octet at c.if-piece-octet.false) (h.0, h.1, (h.2, h.1, within))
+    let form = entry_list {P = g.row.P.Denot} g.P.Profile.serial_check in
+    let read = own_field _ _ _ _ h.0 c.in_ok-piece.ensures.exact (rw c.octet.ensures.octet at c.if-piece-octet.false) h.1 in
+    let front = front_is form (entry_list_lawful g.P.Profile.serial_check) _ _ h.0 read in
+    (h.0, read, (h.2, rw front refl))
 
 pub returns-in-Err-clause-exact : goal.returns-in-Err-clause-exact
 returns-in-Err-clause-exact g c =

@@ -1,0 +1,25 @@
+use Rattle.std.proofs.Common.{◌≤◌, length, Ok, Err, refl, arith}
+use Rattle.x509_cert.specs.Certificate.{certificate, certificate_lawful}
+use Rattle.x509_check.proofs.LentCertificates.{elements_read, is_read}
+use Rattle.x509_check.proofs.LentEntries.{so_found, so_every, so_refused}
+use Rattle.x509_check.specs.CertificateWalk.{LendsWhole}
+use Rattle.x509_der.specs.Element.{limit}
+use Rattle.x509_check.proofs.lent.certificate.CertificateRef.from_der.Goals as goal
+
+pub returns-in-Ok-clause-found : goal.returns-in-Ok-clause-found
+returns-in-Ok-clause-found g c =
+    let within : length c.args.bytes.now ≤ limit = omega arith in
+    let h = so_found (certificate {P = g.row.P.Denot} g.P.Profile.serial_check) (certificate_lawful g.P.Profile.serial_check) (LendsWhole {P = g.row.P.Denot}) c.args.bytes.now (Ok c.in-Ok.slices) within c.in-Ok.ensures in
+    (refl, (h.0, h.1))
+
+pub returns-in-Err-clause-refused : goal.returns-in-Err-clause-refused
+returns-in-Err-clause-refused g c = λ within. so_refused (certificate {P = g.row.P.Denot} g.P.Profile.serial_check) (certificate_lawful g.P.Profile.serial_check) (LendsWhole {P = g.row.P.Denot}) c.args.bytes.now (Err c.in-Err.e) c.in-Err.ensures
+
+pub returns-in-Err-clause-every : goal.returns-in-Err-clause-every
+returns-in-Err-clause-every g c = so_every (certificate {P = g.row.P.Denot} g.P.Profile.serial_check) (certificate_lawful g.P.Profile.serial_check) (LendsWhole {P = g.row.P.Denot}) c.args.bytes.now (Err c.in-Err.e) c.in-Err.ensures
+
+pub invariant_of-result : goal.invariant_of-result
+invariant_of-result g c =
+    let within : length c.args.bytes.now ≤ limit = omega arith in
+    let h = so_found (certificate {P = g.row.P.Denot} g.P.Profile.serial_check) (certificate_lawful g.P.Profile.serial_check) (LendsWhole {P = g.row.P.Denot}) c.args.bytes.now (Ok c.in-Ok.slices) within c.in-Ok.ensures in
+    record { within = within; checked = is_read _ _ c.in-Ok.ensures.1; elements = elements_read g.P.Profile.serial_check c.args.bytes.now h.0 h.1 c.in-Ok.slices h.2 }
