@@ -1,55 +1,55 @@
 //! DirectoryString.
 
-use crate::calls::{is_refused, stays};
+use crate::calls::{is_refused, is_text, stays};
 use std::test::*;
-use x509_der::{Any, Decode, Error, ErrorKind, Tag};
+use x509_der::{Any, Decode, Error, ErrorKind};
 use x509_name::name::DirectoryString;
 
-/// Whether the string of the bytes has the text, and so has a copy of the text.
-fn has_text(rt: &HostRuntime, bytes: &[u8], text: &str) -> Result<bool, Error> {
-    let string = DirectoryString::from_der(rt.alloc(), bytes)?;
-    let found = string.value(rt.alloc())?;
-    Ok(found.as_str() == text && found.try_clone(rt.alloc())?.as_str() == text)
-}
-
-/// Whether the string of the element with these bytes becomes the text.
-fn becomes_text(rt: &HostRuntime, bytes: &[u8], text: &str) -> Result<bool, Error> {
+/// The string of the element with these bytes.
+fn string_of(rt: &HostRuntime, bytes: &[u8]) -> Result<DirectoryString, Error> {
     let any = Any::from_der(rt.alloc(), bytes)?;
-    let string = DirectoryString::from_any(rt.alloc(), &any)?;
-    Ok(string.into_string(rt.alloc())?.as_str() == text)
+    DirectoryString::from_any(rt.alloc(), &any)
 }
 
-/// Each case, with its text.
-#[test]
-fn texts(rt: HostRuntime) -> Result<(), Fail> {
-    for (bytes, text) in [
-        (b"\x13\x02US".as_slice(), "US"),
-        (b"\x14\x01@".as_slice(), "@"),
-        (b"\x0C\x02\xC3\xA4".as_slice(), "ä"),
-        (b"\x1E\x04\x00\x41\x20\xAC".as_slice(), "A€"),
-    ] {
-        assert!(rt; has_text(&rt, bytes, text)?, "of {text}");
-        assert!(rt; becomes_text(&rt, bytes, text)?, "of {text}");
-        assert!(rt; stays::<DirectoryString>(&rt, bytes)?, "of {text}");
+/// Whether a copy of the string's text is the text.
+fn has_text(rt: &HostRuntime, string: &DirectoryString, text: &str) -> bool {
+    let Ok(found) = string.value(rt.alloc()) else {
+        return false;
+    };
+    match found.try_clone(rt.alloc()) {
+        Ok(copy) => copy.as_str() == text,
+        Err(_) => false,
     }
-    Ok(())
 }
 
-/// Whether the element is that of no string.
-fn is_none(rt: &HostRuntime, tag: Tag, content: &[u8]) -> Result<bool, Error> {
-    let any = Any::new(rt.alloc(), tag, content)?;
-    let answer = DirectoryString::from_any(rt.alloc(), &any);
-    Ok(is_refused(answer, ErrorKind::Malformed))
+/// Whether the string of the element with these bytes has the text and becomes it.
+fn is_string(rt: &HostRuntime, bytes: &[u8], text: &str) -> bool {
+    match string_of(rt, bytes) {
+        Ok(string) => has_text(rt, &string, text) && is_text(string.into_string(rt.alloc()), text),
+        Err(_) => false,
+    }
 }
+
+/// An element of each case.
+const US: &[u8] = b"\x13\x02US";
+
+const AT: &[u8] = b"\x14\x01@";
+
+const UMLAUT: &[u8] = b"\x0C\x02\xC3\xA4";
+
+const EURO: &[u8] = b"\x1E\x04\x00\x41\x20\xAC";
+
+/// Elements of no string: another type, a character of no PrintableString, half a character of a BMPString.
+const NO_STRINGS: [&[u8]; 3] = [b"\x16\x02US", b"\x13\x01*", b"\x1E\x01\x00"];
 
 #[test]
-fn elements_of_no_string(rt: HostRuntime) -> Result<(), Fail> {
-    for (tag, content) in [
-        (Tag::Ia5String, b"US".as_slice()),
-        (Tag::PrintableString, b"*".as_slice()),
-        (Tag::BmpString, b"\x00".as_slice()),
-    ] {
-        assert!(rt; is_none(&rt, tag, content)?);
+fn strings(rt: HostRuntime) {
+    assert!(rt; is_string(&rt, US, "US") && is_string(&rt, AT, "@"));
+    assert!(rt; is_string(&rt, UMLAUT, "ä") && is_string(&rt, EURO, "A€"));
+    for bytes in [US, AT, UMLAUT, EURO] {
+        assert!(rt; stays::<DirectoryString>(&rt, bytes));
     }
-    Ok(())
+    for bytes in NO_STRINGS {
+        assert!(rt; is_refused(string_of(&rt, bytes), ErrorKind::Malformed));
+    }
 }

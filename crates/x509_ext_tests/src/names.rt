@@ -8,7 +8,7 @@ use x509_name::attr::attribute_types::ORGANIZATIONAL_UNIT_NAME;
 use x509_name::name::{
     DirectoryString, Name, RdnSequence, RdnSequenceIter, RelativeDistinguishedName,
 };
-use x509_prim::Utf8StringRef;
+use x509_prim::{Alphabet, RestrictedStringRef, Utf8StringRef};
 
 /// The organization 123 and the common name JOHN SMITH, in this order since the first is shorter.
 const BOTH: &[u8] =
@@ -20,54 +20,45 @@ fn insert(rt: &HostRuntime, rdn: &mut RelativeDistinguishedName, text: &str) -> 
 }
 
 /// Whether the set of the attributes, put in one after the other, is written so, and one is refused that is there.
-fn are_both(rt: &HostRuntime, first: &str, second: &str) -> Result<bool, Error> {
+fn are_both(rt: &HostRuntime, first: &str, second: &str) -> bool {
     let mut rdn = RelativeDistinguishedName::new(rt.alloc());
-    insert(rt, &mut rdn, first)?;
-    insert(rt, &mut rdn, second)?;
-    let again = insert(rt, &mut rdn, first);
-    Ok(is_refused(again, ErrorKind::SetDuplicate) && is_written(rt, &rdn, BOTH)?)
+    insert(rt, &mut rdn, first).is_ok()
+        && insert(rt, &mut rdn, second).is_ok()
+        && is_refused(insert(rt, &mut rdn, first), ErrorKind::SetDuplicate)
+        && is_written(rt, &rdn, BOTH)
 }
 
-#[test]
-fn inserts_in_either_order(rt: HostRuntime) -> Result<(), Fail> {
-    assert!(rt; are_both(&rt, "CN=JOHN SMITH", "O=123")?);
-    assert!(rt; are_both(&rt, "O=123", "CN=JOHN SMITH")?);
-    Ok(())
-}
-
-/// Whether the sequence of the RDN of the text alone prints it, and so does that of its list.
-fn is_pushed(rt: &HostRuntime, text: &str) -> Result<bool, Error> {
+/// The sequence of the RDN of the text alone, made of its list.
+fn pushed(rt: &HostRuntime, text: &str) -> Result<RdnSequence, Error> {
     let mut rdns = RdnSequence::new(rt.alloc());
     rdns.push(RelativeDistinguishedName::from_str(rt.alloc(), text)?)?;
     let list: SequenceOf<RelativeDistinguishedName> = rdns.into();
-    prints(rt, &RdnSequence::from(list), text)
+    Ok(RdnSequence::from(list))
 }
 
-/// Whether the one stands before the other as a key, and as a sequence.
-fn stand_in_order(below: &Name, above: &Name) -> bool {
-    below < above && below.as_ref() < above.as_ref()
+#[test]
+fn inserts_in_either_order(rt: HostRuntime) {
+    assert!(rt;
+        are_both(&rt, "CN=JOHN SMITH", "O=123")
+            && are_both(&rt, "O=123", "CN=JOHN SMITH")
+            && prints(&rt, pushed(&rt, "CN=a"), "CN=a")
+    );
+}
+
+/// Whether the name stands before that of the text as a key, and as a sequence.
+fn is_below(rt: &HostRuntime, below: &Name, above: &str) -> bool {
+    match Name::from_str(rt.alloc(), above) {
+        Ok(above) => *below < above && below.as_ref() < above.as_ref(),
+        Err(_) => false,
+    }
 }
 
 /// Whether the names of the texts stand in that order.
-fn are_in_order(rt: &HostRuntime, below: &str, above: &str) -> Result<bool, Error> {
-    let below = Name::from_str(rt.alloc(), below)?;
-    let above = Name::from_str(rt.alloc(), above)?;
-    Ok(stand_in_order(&below, &above))
-}
-
-/// By their encodings: a longer value stands behind, whatever its text is.
-#[test]
-fn keys_in_order(rt: HostRuntime) -> Result<(), Fail> {
-    assert!(rt; are_in_order(&rt, "CN=a", "CN=b")?);
-    assert!(rt; are_in_order(&rt, "CN=b", "CN=aa")?);
-    assert!(rt; are_in_order(&rt, "CN=a", "CN=a,CN=a")?);
-    Ok(())
-}
-
-#[test]
-fn sequences(rt: HostRuntime) -> Result<(), Fail> {
-    assert!(rt; is_pushed(&rt, "CN=a")?);
-    Ok(())
+fn are_in_order(rt: &HostRuntime, below: &str, above: &str) -> bool {
+    match Name::from_str(rt.alloc(), below) {
+        Ok(below) => is_below(rt, &below, above),
+        Err(_) => false,
+    }
 }
 
 /// Whether the RDN says before its first attribute that it has so many.
@@ -80,23 +71,34 @@ fn has_left(rdns: &RdnSequenceIter<'_>, count: usize) -> bool {
     rdns.size_hint() == (count, Some(count))
 }
 
-/// Whether the name of the text has two RDNs, the first of so many attributes, and its iterators say so.
-fn has_two(rt: &HostRuntime, text: &str, attributes: usize) -> Result<bool, Error> {
-    let name = Name::from_str(rt.alloc(), text)?;
+/// Whether the name has two RDNs, the first of so many attributes, and its iterators say so.
+fn has_two(name: &Name, attributes: usize) -> bool {
     let mut rdns = name.iter_rdn();
     let is_whole = has_left(&rdns, 2);
     let is_first = match rdns.next() {
         Some(first) => has_attributes(first, attributes),
         None => false,
     };
-    Ok(is_whole && is_first && has_left(&rdns, 1))
+    is_whole && is_first && has_left(&rdns, 1)
 }
 
+/// The same of the name of the text.
+fn is_of_two(rt: &HostRuntime, text: &str, attributes: usize) -> bool {
+    match Name::from_str(rt.alloc(), text) {
+        Ok(name) => has_two(&name, attributes),
+        Err(_) => false,
+    }
+}
+
+/// By their encodings: a longer value stands behind, whatever its text is.
 #[test]
-fn hints_of_size(rt: HostRuntime) -> Result<(), Fail> {
-    assert!(rt; has_two(&rt, "CN=a,O=b", 1)?);
-    assert!(rt; has_two(&rt, "CN=a,O=b+OU=c", 2)?);
-    Ok(())
+fn keys_in_order(rt: HostRuntime) {
+    assert!(rt;
+        are_in_order(&rt, "CN=a", "CN=b")
+            && are_in_order(&rt, "CN=b", "CN=aa")
+            && are_in_order(&rt, "CN=a", "CN=a,CN=a")
+    );
+    assert!(rt; is_of_two(&rt, "CN=a,O=b", 1) && is_of_two(&rt, "CN=a,O=b+OU=c", 2));
 }
 
 /// Whether there is a string with the text.
@@ -129,43 +131,42 @@ fn is_of(rt: &HostRuntime, name: &Name, unit: &str, common: &str) -> bool {
         && is_text(name.common_name(rt.alloc()), common)
 }
 
-/// Whether there is the country.
-fn is_country(rt: &HostRuntime, name: &Name, text: &str) -> bool {
-    match name.country(rt.alloc()) {
-        Ok(Some(country)) => country.as_str() == text,
-        _ => false,
-    }
-}
-
-/// Whether there is the address.
-fn is_address(rt: &HostRuntime, name: &Name, text: &str) -> bool {
-    match name.email_address(rt.alloc()) {
-        Ok(Some(address)) => address.as_str() == text,
+/// Whether there is a string with the text, lent.
+fn is_lent<A: Alphabet>(
+    found: Result<Option<RestrictedStringRef<'_, A>>, Error>,
+    text: &str,
+) -> bool {
+    match found {
+        Ok(Some(string)) => string.as_str() == text,
         _ => false,
     }
 }
 
 /// Whether all is found in the name of the text.
-fn is_found(rt: &HostRuntime, text: &str) -> Result<bool, Error> {
-    let name = Name::from_str(rt.alloc(), text)?;
-    let is_placed = is_in(rt, &name, "Ohio", "Rome", "123") && is_of(rt, &name, "CA", "John");
-    Ok(is_placed && is_country(rt, &name, "US") && is_address(rt, &name, "a@b.c"))
+fn is_found(rt: &HostRuntime, text: &str) -> bool {
+    let Ok(name) = Name::from_str(rt.alloc(), text) else {
+        return false;
+    };
+    is_in(rt, &name, "Ohio", "Rome", "123")
+        && is_of(rt, &name, "CA", "John")
+        && is_lent(name.country(rt.alloc()), "US")
+        && is_lent(name.email_address(rt.alloc()), "a@b.c")
 }
 
 /// Whether the common name of the name of the text is refused, as it is no text.
-fn is_no_text(rt: &HostRuntime, text: &str) -> Result<bool, Error> {
-    let name = Name::from_str(rt.alloc(), text)?;
-    Ok(is_refused(name.common_name(rt.alloc()), ErrorKind::Malformed))
+fn is_no_text(rt: &HostRuntime, text: &str) -> bool {
+    match Name::from_str(rt.alloc(), text) {
+        Ok(name) => is_refused(name.common_name(rt.alloc()), ErrorKind::Malformed),
+        Err(_) => false,
+    }
 }
 
 #[test]
-fn look_ups(rt: HostRuntime) -> Result<(), Fail> {
+fn look_ups(rt: HostRuntime) {
     assert!(rt;
         is_found(
             &rt,
             "EMAILADDRESS=a@b.c,CN=John,OU=XY,OU=CA,O=123,L=Rome,ST=Ohio,C=US"
-        )?
+        ) && is_no_text(&rt, "CN=#04024869")
     );
-    assert!(rt; is_no_text(&rt, "CN=#04024869")?);
-    Ok(())
 }

@@ -1,51 +1,38 @@
 //! Numbers of CRLs, and reasons.
 
-use crate::calls::is_written;
+use crate::calls::gives;
 use bitflags::Flags;
 use std::test::*;
-use x509_der::{Decode, Error};
+use x509_der::Decode;
 use x509_ext::pkix::crl::dp::Reasons;
 use x509_ext::pkix::{CrlNumber, CrlReason};
 
-/// Whether the number is written as these bytes.
-fn is_number(
-    rt: &HostRuntime,
-    number: Result<CrlNumber, Error>,
-    bytes: &[u8],
-) -> Result<bool, Error> {
-    is_written(rt, &number?, bytes)
-}
+/// The greatest number of 128 bits.
+const GREATEST: &[u8] =
+    b"\x02\x11\x00\xFF\xFF\xFF\xFF\xFF\xFF\xFF\xFF\xFF\xFF\xFF\xFF\xFF\xFF\xFF\xFF";
 
 #[test]
-fn numbers(rt: HostRuntime) -> Result<(), Fail> {
+fn numbers(rt: HostRuntime) {
     let alloc = rt.alloc();
-    assert!(rt; is_number(&rt, CrlNumber::from_u8(alloc, 42), &[0x02, 0x01, 0x2A])?);
     assert!(rt;
-        is_number(
-            &rt,
-            CrlNumber::from_u16(alloc, 128),
-            &[0x02, 0x02, 0x00, 0x80]
-        )?
+        gives(&rt, CrlNumber::from_u8(alloc, 42), b"\x02\x01\x2A")
+            && gives(&rt, CrlNumber::from_u16(alloc, 128), b"\x02\x02\x00\x80")
+            && gives(&rt, CrlNumber::from_u32(alloc, 256), b"\x02\x02\x01\x00")
     );
     assert!(rt;
-        is_number(
-            &rt,
-            CrlNumber::from_u32(alloc, 256),
-            &[0x02, 0x02, 0x01, 0x00]
-        )?
+        gives(&rt, CrlNumber::from_u64(alloc, 0), b"\x02\x01\x00")
+            && gives(&rt, CrlNumber::from_u128(alloc, u128::MAX), GREATEST)
     );
-    assert!(rt; is_number(&rt, CrlNumber::from_u64(alloc, 0), &[0x02, 0x01, 0x00])?);
-    let greatest = [
-        0x02, 0x11, 0x00, 0xFF, 0xFF, 0xFF, 0xFF, 0xFF, 0xFF, 0xFF, 0xFF, 0xFF, 0xFF, 0xFF, 0xFF,
-        0xFF, 0xFF, 0xFF, 0xFF,
-    ];
-    assert!(rt; is_number(&rt, CrlNumber::from_u128(alloc, u128::MAX), &greatest)?);
-    Ok(())
 }
 
-/// All reasons, each greater than the one before it, with their numbers (RFC 5280 5.3.1).
+/// The reason with that number.
+fn reason_of(rt: &HostRuntime, number: u8) -> Option<CrlReason> {
+    CrlReason::from_der(rt.alloc(), &[0x0A, 0x01, number]).ok()
+}
+
+/// All reasons, each greater than the one before it, with their numbers (RFC 5280 5.3.1), and the bits of 4.2.1.13.
 #[test]
-fn reasons(rt: HostRuntime) -> Result<(), Fail> {
+fn reasons(rt: HostRuntime) {
     let mut last = CrlReason::Unspecified;
     for (number, reason) in [
         (0, CrlReason::Unspecified),
@@ -59,16 +46,9 @@ fn reasons(rt: HostRuntime) -> Result<(), Fail> {
         (9, CrlReason::PrivilegeWithdrawn),
         (10, CrlReason::AaCompromise),
     ] {
-        let found = CrlReason::from_der(rt.alloc(), &[0x0A, 0x01, number])?;
-        assert!(rt; found == reason && found >= last, "at {number}");
-        last = found;
+        assert!(rt; reason_of(&rt, number) == Some(reason) && reason >= last);
+        last = reason;
     }
-    Ok(())
-}
-
-/// The bits of RFC 5280 4.2.1.13.
-#[test]
-fn named_reasons(rt: HostRuntime) {
     let of_keys = Reasons::KEY_COMPROMISE
         .union(Reasons::CA_COMPROMISE)
         .union(Reasons::AA_COMPROMISE);

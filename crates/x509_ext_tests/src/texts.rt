@@ -1,9 +1,9 @@
 //! Names from text and to text. What a text is read as, what is printed, and each refusal, are clauses; these are rows
 //! of RFC 4514 and of texts that other readers take for others.
 
-use crate::calls::{is_refused, prints};
+use crate::calls::{are_bytes, is_refused, prints};
 use std::test::*;
-use x509_der::{Error, ErrorKind};
+use x509_der::ErrorKind;
 use x509_name::attr::AttributeTypeAndValue;
 use x509_name::name::{Name, RdnSequence, RelativeDistinguishedName};
 
@@ -63,30 +63,13 @@ const OTHER_SPELLINGS: [&str; 5] = [
 const FOO: &[u8] = b"\x30\x0E\x31\x0C\x30\x0A\x06\x03\x55\x04\x03\x0C\x03foo";
 
 /// Whether the text is read as a name, which prints it.
-pub fn prints_back(rt: &HostRuntime, text: &str) -> Result<bool, Error> {
-    let name = Name::from_str(rt.alloc(), text)?;
-    prints(rt, &name, text)
+pub fn prints_back(rt: &HostRuntime, text: &str) -> bool {
+    prints(rt, Name::from_str(rt.alloc(), text), text)
 }
 
 /// Whether the text is encoded so.
-fn encodes(rt: &HostRuntime, text: &str, encoding: &[u8]) -> Result<bool, Error> {
-    Ok(RdnSequence::encode_from_string(rt.alloc(), text)?.as_slice() == encoding)
-}
-
-#[test]
-fn rows(rt: HostRuntime) -> Result<(), Fail> {
-    for row in &ROWS {
-        assert!(rt; prints_back(&rt, row.text)? && encodes(&rt, row.text, row.encoding)?);
-    }
-    Ok(())
-}
-
-#[test]
-fn other_spellings(rt: HostRuntime) -> Result<(), Fail> {
-    for text in &OTHER_SPELLINGS {
-        assert!(rt; encodes(&rt, *text, FOO)?);
-    }
-    Ok(())
+fn encodes(rt: &HostRuntime, text: &str, encoding: &[u8]) -> bool {
+    are_bytes(RdnSequence::encode_from_string(rt.alloc(), text), encoding)
 }
 
 /// A text of one attribute, and its encoding.
@@ -94,27 +77,23 @@ const NET: &str = "DC=net";
 
 const NET_ENCODING: &[u8] = b"\x30\x11\x06\x0A\x09\x92\x26\x89\x93\xF2\x2C\x64\x01\x19\x16\x03net";
 
-/// Whether the RDN of the text prints it.
-fn is_rdn(rt: &HostRuntime) -> Result<bool, Error> {
-    let rdn = RelativeDistinguishedName::from_str(rt.alloc(), NET)?;
-    prints(rt, &rdn, NET)
-}
-
-/// Whether the attribute of the text prints it.
-fn is_attribute(rt: &HostRuntime) -> Result<bool, Error> {
-    let attribute = AttributeTypeAndValue::from_str(rt.alloc(), NET)?;
-    prints(rt, &attribute, NET)
-}
-
-/// Whether the attribute of the text is encoded so.
-fn is_encoded(rt: &HostRuntime) -> Result<bool, Error> {
-    Ok(AttributeTypeAndValue::encode_from_string(rt.alloc(), NET)?.as_slice() == NET_ENCODING)
-}
-
 #[test]
-fn parts_of_names(rt: HostRuntime) -> Result<(), Fail> {
-    assert!(rt; is_rdn(&rt)? && is_attribute(&rt)? && is_encoded(&rt)?);
-    Ok(())
+fn rows(rt: HostRuntime) {
+    for row in &ROWS {
+        assert!(rt; prints_back(&rt, row.text) && encodes(&rt, row.text, row.encoding));
+    }
+    for text in &OTHER_SPELLINGS {
+        assert!(rt; encodes(&rt, *text, FOO));
+    }
+    assert!(rt;
+        prints(
+            &rt,
+            RelativeDistinguishedName::from_str(rt.alloc(), NET),
+            NET
+        ) && prints(&rt, AttributeTypeAndValue::from_str(rt.alloc(), NET), NET)
+    );
+    let encoded = AttributeTypeAndValue::encode_from_string(rt.alloc(), NET);
+    assert!(rt; are_bytes(encoded, NET_ENCODING));
 }
 
 /// Whether the text is refused so as a name.
@@ -140,6 +119,8 @@ fn refusals(rt: HostRuntime) {
     for text in &NO_NAMES {
         assert!(rt; refuses(&rt, *text, ErrorKind::Failed));
     }
-    assert!(rt; refuses(&rt, "CN=b+CN=b,CN=a\\4", ErrorKind::SetDuplicate));
-    assert!(rt; refuses(&rt, "CN=a\\4,CN=b+CN=b", ErrorKind::Failed));
+    assert!(rt;
+        refuses(&rt, "CN=b+CN=b,CN=a\\4", ErrorKind::SetDuplicate)
+            && refuses(&rt, "CN=a\\4,CN=b+CN=b", ErrorKind::Failed)
+    );
 }

@@ -1,6 +1,6 @@
 //! Signed certificate timestamps, and lists of them.
 
-use crate::calls::{is_made, is_written, prints};
+use crate::calls::{gives, is_made, is_printed, prints, shows};
 use std::test::*;
 use x509_der::{Decode, Error as DerError, ErrorKind};
 use x509_prim::OctetString;
@@ -72,11 +72,6 @@ fn list_with(rt: &HostRuntime, extensions: usize) -> Result<SignedCertificateTim
     SignedCertificateTimestampList::new(rt.alloc(), &[serialized])
 }
 
-/// Whether the list of the one timestamp is written so.
-fn is_one(rt: &HostRuntime) -> Result<bool, Error> {
-    Ok(is_written(rt, &list_with(rt, 0)?, &ONE)?)
-}
-
 /// The first timestamp of the list that is written so.
 fn first_of(rt: &HostRuntime, bytes: &[u8]) -> Result<SignedCertificateTimestamp, Error> {
     let list = SignedCertificateTimestampList::from_der(rt.alloc(), bytes)?;
@@ -87,17 +82,20 @@ fn first_of(rt: &HostRuntime, bytes: &[u8]) -> Result<SignedCertificateTimestamp
     }
 }
 
-/// Whether the first timestamp of the list is that of [`ONE`], at that time.
-fn is_first(rt: &HostRuntime, bytes: &[u8], time: &str) -> Result<bool, Error> {
-    let found = first_of(rt, bytes)?;
-    let is_it = found == timestamp(rt, 0)?;
-    Ok(is_it && prints(rt, &found.timestamp()?, time)?)
+/// Whether the timestamp is that of [`ONE`], at that time.
+fn is_it(rt: &HostRuntime, found: &SignedCertificateTimestamp, time: &str) -> bool {
+    match timestamp(rt, 0) {
+        Ok(wanted) => *found == wanted && prints(rt, found.timestamp(), time),
+        Err(_) => false,
+    }
 }
 
-#[test]
-fn one_timestamp(rt: HostRuntime) -> Result<(), Fail> {
-    assert!(rt; is_one(&rt)? && is_first(&rt, &ONE, "2023-05-03T06:26:46Z")?);
-    Ok(())
+/// Whether the first timestamp of the list is that.
+fn is_first(rt: &HostRuntime, bytes: &[u8], time: &str) -> bool {
+    match first_of(rt, bytes) {
+        Ok(found) => is_it(rt, &found, time),
+        Err(_) => false,
+    }
 }
 
 /// The timestamp, parsed and serialized again.
@@ -120,18 +118,33 @@ fn parsed_again(
     Ok(again)
 }
 
-/// Whether the list of the same timestamps is written so.
-fn is_again(rt: &HostRuntime, bytes: &[u8]) -> Result<bool, Error> {
+/// The list of the same timestamps.
+fn made_again(rt: &HostRuntime, bytes: &[u8]) -> Result<SignedCertificateTimestampList, Error> {
     let list = SignedCertificateTimestampList::from_der(rt.alloc(), bytes)?;
     let again = parsed_again(rt, &list)?;
-    let made = SignedCertificateTimestampList::new(rt.alloc(), again.as_slice())?;
-    Ok(is_written(rt, &made, bytes)?)
+    SignedCertificateTimestampList::new(rt.alloc(), again.as_slice())
+}
+
+/// The extension of no timestamps: the identifier, no word on its criticality, and the list within an OCTET STRING (RFC 6962 section 3.3).
+const EXTENSION: &[u8] =
+    b"\x30\x12\x06\x0A\x2B\x06\x01\x04\x01\xD6\x79\x02\x04\x02\x04\x04\x04\x02\x00\x00";
+
+/// Whether the list of no timestamps makes that extension.
+fn is_extension(rt: &HostRuntime) -> bool {
+    match SignedCertificateTimestampList::new(rt.alloc(), &[]) {
+        Ok(list) => is_made(rt, &list, EXTENSION),
+        Err(_) => false,
+    }
 }
 
 #[test]
-fn two_timestamps(rt: HostRuntime) -> Result<(), Fail> {
-    assert!(rt; is_again(&rt, &TWO)?);
-    Ok(())
+fn lists(rt: HostRuntime) {
+    assert!(rt;
+        gives(&rt, list_with(&rt, 0), &ONE)
+            && is_first(&rt, &ONE, "2023-05-03T06:26:46Z")
+            && gives(&rt, made_again(&rt, &TWO), &TWO)
+    );
+    assert!(rt; is_extension(&rt));
 }
 
 /// Whether the bytes, with that one put at that place, are refused as a timestamp by that fault.
@@ -146,100 +159,109 @@ fn is_spoilt(rt: &HostRuntime, place: usize, byte: u8, fault: TlsError) -> bool 
     }
 }
 
-/// A version, a hash and a signature without a name, and a signature that is longer than what is there.
-#[test]
-fn spoilt_timestamps(rt: HostRuntime) {
-    for (place, byte, fault) in [
-        (6, 1, TlsError::UnknownValue(1)),
-        (49, 7, TlsError::UnknownValue(7)),
-        (50, 9, TlsError::UnknownValue(9)),
-        (52, 4, TlsError::EndOfStream),
-    ] {
-        assert!(rt; is_spoilt(&rt, place, byte, fault), "at {place}");
+/// Whether that is refused by the fault of TLS.
+fn is_fault<T: Drop>(answer: Result<T, Error>, fault: TlsError) -> bool {
+    match answer {
+        Err(Error::Tls(found)) => found == fault,
+        _ => false,
     }
 }
 
-/// Why the timestamps of the list that has these octets can't be had.
-fn refusal_of(rt: &HostRuntime, octets: &[u8]) -> Result<Option<Error>, DerError> {
-    let list = SignedCertificateTimestampList::from(OctetString::new(rt.alloc(), octets)?);
-    Ok(list.parse_timestamps(rt.alloc()).err())
-}
-
-/// Why a list of a timestamp with that many octets of extensions can't be had.
-fn refusal_with(rt: &HostRuntime, extensions: usize) -> Option<Error> {
-    list_with(rt, extensions).err()
-}
-
-/// Lists that are cut off, that go on, or would be too long, and a timestamp of no version.
-#[test]
-fn refusals(rt: HostRuntime) -> Result<(), Fail> {
-    assert!(rt; refusal_of(&rt, &[0, 1, 0])? == Some(Error::Tls(TlsError::EndOfStream)));
-    assert!(rt; refusal_of(&rt, &[0, 0, 0])? == Some(Error::Tls(TlsError::TrailingData)));
-    let one = [0x04, 0x05, 0x00, 0x03, 0x00, 0x01, 0x41];
-    assert!(rt; first_of(&rt, &one).err() == Some(Error::Tls(TlsError::UnknownValue(65))));
-    for extensions in [65_535, 65_484] {
-        let found = refusal_with(&rt, extensions);
-        assert!(rt;
-            found == Some(Error::Tls(TlsError::InvalidVectorLength)),
-            "at {extensions}"
-        );
+/// Whether the timestamps of the list that has these octets can't be had by that fault.
+fn is_no_list(rt: &HostRuntime, octets: &[u8], fault: TlsError) -> bool {
+    match OctetString::new(rt.alloc(), octets) {
+        Ok(octets) => {
+            let list = SignedCertificateTimestampList::from(octets);
+            is_fault(list.parse_timestamps(rt.alloc()), fault)
+        }
+        Err(_) => false,
     }
-    Ok(())
 }
 
-/// Whether a log signs these bytes of the timestamp in [`ONE`], with two octets of extensions, for that entry.
-fn is_signed(rt: &HostRuntime, entry: &SignedEntry<'_>, bytes: &[u8]) -> Result<bool, TlsError> {
-    let input = timestamp(rt, 2)?.signed_input(rt.alloc(), entry)?;
-    Ok(input.as_slice() == bytes)
-}
+/// A list of one timestamp, of no version.
+const NO_VERSION: &[u8] = b"\x04\x05\x00\x03\x00\x01\x41";
 
-/// A certificate of four octets (RFC 6962 section 3.2).
+/// Timestamps with a version, a hash and a signature without a name, and a signature that is longer than what is there; lists that are cut
+/// off, that go on, or would be too long, and a timestamp of no version.
 #[test]
-fn signed_certificate(rt: HostRuntime) -> Result<(), Fail> {
-    let bytes = [
-        0x00, 0x00, 0x00, 0x00, 0x01, 0x87, 0xE0, 0x4A, 0xBA, 0x6A, 0x00, 0x00, 0x00, 0x00, 0x04,
-        0x30, 0x02, 0x05, 0x00, 0x00, 0x02, 0x00, 0x00,
-    ];
-    let entry = SignedEntry::X509(&[0x30, 0x02, 0x05, 0x00]);
-    assert!(rt; is_signed(&rt, &entry, &bytes)?);
-    Ok(())
+fn refusals(rt: HostRuntime) {
+    assert!(rt;
+        is_spoilt(&rt, 6, 1, TlsError::UnknownValue(1))
+            && is_spoilt(&rt, 49, 7, TlsError::UnknownValue(7))
+            && is_spoilt(&rt, 50, 9, TlsError::UnknownValue(9))
+    );
+    assert!(rt;
+        is_spoilt(&rt, 52, 4, TlsError::EndOfStream)
+            && is_no_list(&rt, &[0, 1, 0], TlsError::EndOfStream)
+            && is_no_list(&rt, &[0, 0, 0], TlsError::TrailingData)
+    );
+    assert!(rt;
+        is_fault(first_of(&rt, NO_VERSION), TlsError::UnknownValue(65))
+            && is_fault(list_with(&rt, 65_535), TlsError::InvalidVectorLength)
+            && is_fault(list_with(&rt, 65_484), TlsError::InvalidVectorLength)
+    );
 }
 
-/// A precertificate of four octets, whose issuer's key has the hash of 32 octets 5A (RFC 6962 section 3.2).
-#[test]
-fn signed_precertificate(rt: HostRuntime) -> Result<(), Fail> {
-    let bytes = [
-        0x00, 0x00, 0x00, 0x00, 0x01, 0x87, 0xE0, 0x4A, 0xBA, 0x6A, 0x00, 0x01, 0x5A, 0x5A, 0x5A,
-        0x5A, 0x5A, 0x5A, 0x5A, 0x5A, 0x5A, 0x5A, 0x5A, 0x5A, 0x5A, 0x5A, 0x5A, 0x5A, 0x5A, 0x5A,
-        0x5A, 0x5A, 0x5A, 0x5A, 0x5A, 0x5A, 0x5A, 0x5A, 0x5A, 0x5A, 0x5A, 0x5A, 0x5A, 0x5A, 0x00,
-        0x00, 0x04, 0x30, 0x02, 0x05, 0x00, 0x00, 0x02, 0x00, 0x00,
-    ];
-    let entry = SignedEntry::Precert(PreCert {
-        issuer_key_hash: [0x5A; 32],
-        tbs_certificate: &[0x30, 0x02, 0x05, 0x00],
-    });
-    assert!(rt; is_signed(&rt, &entry, &bytes)?);
-    Ok(())
+/// What a log signs of the timestamp in [`ONE`], with that many octets of extensions, for that entry.
+fn signed_input(
+    rt: &HostRuntime,
+    extensions: usize,
+    entry: &SignedEntry<'_>,
+) -> Result<Vec<u8>, TlsError> {
+    timestamp(rt, extensions)?.signed_input(rt.alloc(), entry)
+}
+
+/// Whether a log signs these bytes, where there are two octets of extensions.
+fn is_signed(rt: &HostRuntime, entry: &SignedEntry<'_>, bytes: &[u8]) -> bool {
+    match signed_input(rt, 2, entry) {
+        Ok(input) => input.as_slice() == bytes,
+        Err(_) => false,
+    }
 }
 
 /// Whether a certificate is too short or too long for a log to sign it.
-fn is_unsigned(rt: &HostRuntime, certificate: &[u8]) -> Result<bool, TlsError> {
-    let entry = SignedEntry::X509(certificate);
-    let refusal = timestamp(rt, 0)?.signed_input(rt.alloc(), &entry).err();
-    Ok(refusal == Some(TlsError::InvalidVectorLength))
+fn is_unsigned(rt: &HostRuntime, certificate: &[u8]) -> bool {
+    match signed_input(rt, 0, &SignedEntry::X509(certificate)) {
+        Ok(_) => false,
+        Err(e) => e == TlsError::InvalidVectorLength,
+    }
 }
 
-/// No octets, and one more than three bytes can count.
+/// Whether a certificate with one octet more than three bytes can count is too long.
+fn is_too_long(rt: &HostRuntime) -> bool {
+    match Vec::from_elem(rt.alloc(), 0, 16_777_216) {
+        Ok(long) => is_unsigned(rt, long.as_slice()),
+        Err(_) => false,
+    }
+}
+
+/// What is signed of a certificate of four octets (RFC 6962 section 3.2).
+const OF_CERTIFICATE: &[u8] =
+    b"\x00\x00\x00\x00\x01\x87\xE0\x4A\xBA\x6A\x00\x00\x00\x00\x04\x30\x02\x05\x00\x00\x02\x00\x00";
+
+/// What is signed of a precertificate of four octets, whose issuer's key has the hash of 32 octets 5A.
+const OF_PRECERTIFICATE: &[u8] =
+    b"\x00\x00\x00\x00\x01\x87\xE0\x4A\xBA\x6A\x00\x01ZZZZZZZZZZZZZZZZZZZZZZZZZZZZZZZZ\x00\x00\x04\x30\x02\x05\x00\x00\x02\x00\x00";
+
+/// Both; and certificates of no octets and of too many.
 #[test]
-fn unsigned_certificates(rt: HostRuntime) -> Result<(), Fail> {
-    let long = vec![in rt.alloc(); 0; 16_777_216]?;
-    assert!(rt; is_unsigned(&rt, &[])? && is_unsigned(&rt, long.as_slice())?);
-    Ok(())
+fn signed_entries(rt: HostRuntime) {
+    let certificate = SignedEntry::X509(b"\x30\x02\x05\x00");
+    assert!(rt; is_signed(&rt, &certificate, OF_CERTIFICATE));
+    let precertificate = SignedEntry::Precert(PreCert {
+        issuer_key_hash: [0x5A; 32],
+        tbs_certificate: b"\x30\x02\x05\x00",
+    });
+    assert!(rt;
+        is_signed(&rt, &precertificate, OF_PRECERTIFICATE)
+            && is_unsigned(&rt, b"")
+            && is_too_long(&rt)
+    );
 }
 
-/// The bytes of the hash algorithms, in the order of their names.
-fn hashes() -> [u8; 8] {
-    [
+/// Whether the bytes of the hash algorithms, in the order of their names, are these (RFC 5246 section 7.4.1.4.1, RFC 8422 section 5.1.3).
+fn are_hashes(bytes: &[u8]) -> bool {
+    let hashes = [
         HashAlgorithm::None.byte(),
         HashAlgorithm::Md5.byte(),
         HashAlgorithm::Sha1.byte(),
@@ -248,63 +270,23 @@ fn hashes() -> [u8; 8] {
         HashAlgorithm::Sha384.byte(),
         HashAlgorithm::Sha512.byte(),
         HashAlgorithm::Intrinsic.byte(),
-    ]
+    ];
+    hashes.as_slice() == bytes
 }
 
-/// Those of the signature algorithms.
-fn signatures() -> [u8; 6] {
-    [
+/// Those of the signature algorithms, and of the types of what is signed (RFC 6962 section 3.2).
+fn are_signatures(bytes: &[u8]) -> bool {
+    let signatures = [
         SignatureAlgorithm::Anonymous.byte(),
         SignatureAlgorithm::Rsa.byte(),
         SignatureAlgorithm::Dsa.byte(),
         SignatureAlgorithm::Ecdsa.byte(),
         SignatureAlgorithm::Ed25519.byte(),
         SignatureAlgorithm::Ed448.byte(),
-    ]
-}
-
-/// RFC 5246 section 7.4.1.4.1, RFC 8422 section 5.1.3; RFC 6962 section 3.2.
-#[test]
-fn algorithms(rt: HostRuntime) {
-    assert!(rt; hashes() == [0, 1, 2, 3, 4, 5, 6, 8]);
-    assert!(rt; signatures() == [0, 1, 2, 3, 7, 8]);
-    let [timestamp, tree] = [SignatureType::CertificateTimestamp, SignatureType::TreeHash];
-    assert!(rt; timestamp.byte() == 0 && tree.byte() == 1);
-}
-
-/// Whether the list of no timestamps makes the extension that is written so.
-fn is_extension(rt: &HostRuntime, bytes: &[u8]) -> Result<bool, Error> {
-    let list = SignedCertificateTimestampList::new(rt.alloc(), &[])?;
-    Ok(is_made(rt, &list, bytes)?)
-}
-
-/// The identifier, no word on its criticality, and the list within an OCTET STRING (RFC 6962 section 3.3).
-#[test]
-fn extension(rt: HostRuntime) -> Result<(), Fail> {
-    let bytes = [
-        0x30, 0x12, 0x06, 0x0A, 0x2B, 0x06, 0x01, 0x04, 0x01, 0xD6, 0x79, 0x02, 0x04, 0x02, 0x04,
-        0x04, 0x04, 0x02, 0x00, 0x00,
+        SignatureType::CertificateTimestamp.byte(),
+        SignatureType::TreeHash.byte(),
     ];
-    assert!(rt; is_extension(&rt, &bytes)?);
-    Ok(())
-}
-
-/// Whether the octets of a vector are printed so.
-fn vector_prints(rt: &HostRuntime, octets: &[u8], text: &str) -> Result<bool, TlsError> {
-    let vector = TlsByteVecU16::from_slice(rt.alloc(), octets)?;
-    Ok(format!(in rt.alloc(); "{vector:?}")?.as_str() == text)
-}
-
-#[test]
-fn printed(rt: HostRuntime) -> Result<(), Fail> {
-    for (error, text) in [
-        (Error::from(TlsError::UnknownValue(7)), "UnknownValue(7)"),
-        (Error::from(DerError::from(ErrorKind::Value)), "Value"),
-    ] {
-        assert!(rt; prints(&rt, &error, text)?);
-    }
-    assert!(rt; vector_prints(&rt, &[1, 2], "[1, 2]")?);
-    Ok(())
+    signatures.as_slice() == bytes
 }
 
 /// The extension of a precertificate (RFC 6962 section 3.1).
@@ -313,10 +295,24 @@ const POISON: &[u8] = &[
     0xFF, 0x04, 0x02, 0x05, 0x00,
 ];
 
+/// Whether the octets are the payload of that.
+fn is_poison(rt: &HostRuntime, bytes: &[u8]) -> bool {
+    CtPrecertificatePoison::from_der(rt.alloc(), bytes).is_ok()
+}
+
 #[test]
-fn poison(rt: HostRuntime) -> Result<(), Fail> {
-    assert!(rt; is_made(&rt, &CtPrecertificatePoison, POISON)?);
-    let payload = CtPrecertificatePoison::from_der(rt.alloc(), &POISON[19..])?;
-    assert!(rt; payload == CtPrecertificatePoison);
-    Ok(())
+fn printed(rt: HostRuntime) {
+    assert!(rt; are_hashes(&[0, 1, 2, 3, 4, 5, 6, 8]) && are_signatures(&[0, 1, 2, 3, 7, 8, 0, 1]));
+    let error = Error::from(TlsError::UnknownValue(7));
+    assert!(rt; is_printed(&rt, &error, "UnknownValue(7)"));
+    let error = Error::from(DerError::from(ErrorKind::Value));
+    assert!(rt;
+        is_printed(&rt, &error, "Value")
+            && shows(
+                &rt,
+                TlsByteVecU16::from_slice(rt.alloc(), &[1, 2]),
+                "[1, 2]"
+            )
+    );
+    assert!(rt; is_made(&rt, &CtPrecertificatePoison, POISON) && is_poison(&rt, &POISON[19..]));
 }

@@ -1,7 +1,7 @@
 //! The table of the names of types, and long values as text: another table would still be proved, and so would a `Display`
 //! that ends long texts with an error.
 
-use crate::calls::prints;
+use crate::calls::is_printed;
 use crate::texts::prints_back;
 use std::test::*;
 use x509_der::{Error, ObjectIdentifier, Tag};
@@ -41,42 +41,43 @@ const OF_IA5_STRINGS: [&str; 2] = [
     "EMAILADDRESS=a emailAddress=a 1.2.840.113549.1.9.1",
 ];
 
+/// Whether the attribute has the type with the text, and the tag.
+fn is_of(attribute: &AttributeTypeAndValue, oid: &str, tag: Tag) -> bool {
+    match ObjectIdentifier::new(oid) {
+        Ok(oid) => attribute.value.tag() == tag && attribute.oid == oid,
+        Err(_) => false,
+    }
+}
+
 /// Whether the attribute of the text has the type and the tag, and prints so.
-fn is_of(rt: &HostRuntime, text: &str, oid: &str, tag: Tag, printed: &str) -> Result<bool, Error> {
-    let attribute = AttributeTypeAndValue::from_str(rt.alloc(), text)?;
-    Ok(
-        attribute.value.tag() == tag
-            && attribute.oid == ObjectIdentifier::new(oid)?
-            && prints(rt, &attribute, printed)?,
-    )
+fn reads(rt: &HostRuntime, text: &str, oid: &str, tag: Tag, printed: &str) -> bool {
+    match AttributeTypeAndValue::from_str(rt.alloc(), text) {
+        Ok(attribute) => is_of(&attribute, oid, tag) && is_printed(rt, &attribute, printed),
+        Err(_) => false,
+    }
 }
 
 /// Whether both texts of the row are read as attributes of the type and with the tag, and the first is printed.
-fn is_type(rt: &HostRuntime, row: &str, tag: Tag) -> Result<bool, Error> {
+fn is_type(rt: &HostRuntime, row: &str, tag: Tag) -> bool {
     let mut words = row.split(' ');
     match (words.next(), words.next(), words.next()) {
-        (Some(printed), Some(in_full), Some(oid)) => Ok(
-            is_of(rt, printed, oid, tag, printed)? && is_of(rt, in_full, oid, tag, printed)?,
-        ),
-        _ => Ok(false),
+        (Some(printed), Some(in_full), Some(oid)) => {
+            reads(rt, printed, oid, tag, printed) && reads(rt, in_full, oid, tag, printed)
+        }
+        _ => false,
     }
 }
 
-#[test]
-fn names_of_types(rt: HostRuntime) -> Result<(), Fail> {
-    for row in &OF_UTF8_STRINGS {
-        assert!(rt; is_type(&rt, row, Tag::Utf8String)?, "of {row}");
-    }
-    for row in &OF_PRINTABLE_STRINGS {
-        assert!(rt; is_type(&rt, row, Tag::PrintableString)?, "of {row}");
-    }
-    for row in &OF_IA5_STRINGS {
-        assert!(rt; is_type(&rt, row, Tag::Ia5String)?, "of {row}");
-    }
-    Ok(())
+/// Whether an attribute without a name whose value has a header of these digits, and so many octets, is printed back in a name.
+fn prints_digits(rt: &HostRuntime, header: &str, count: usize) -> bool {
+    let digits = match digits(rt, header, count) {
+        Ok(digits) => digits,
+        Err(_) => return false,
+    };
+    prints_back(rt, digits.as_str())
 }
 
-/// An attribute without a name: the digits of the header of its value, and the digits of so many octets.
+/// The digits of such an attribute.
 fn digits(rt: &HostRuntime, header: &str, count: usize) -> Result<String, Error> {
     let mut text = format!(in rt.alloc(); "1.2.3=#{header}")?;
     for _ in 0..count {
@@ -85,14 +86,17 @@ fn digits(rt: &HostRuntime, header: &str, count: usize) -> Result<String, Error>
     Ok(text)
 }
 
-/// Whether the name of this text prints it.
-fn prints_digits(rt: &HostRuntime, header: &str, count: usize) -> Result<bool, Error> {
-    prints_back(rt, digits(rt, header, count)?.as_str())
-}
-
 #[test]
-fn long_values(rt: HostRuntime) -> Result<(), Fail> {
-    assert!(rt; prints_digits(&rt, "0441", 65)? && prints_digits(&rt, "048180", 128)?);
-    assert!(rt; prints_digits(&rt, "04820100", 256)? && prints_digits(&rt, "0483010000", 65_536)?);
-    Ok(())
+fn names_of_types(rt: HostRuntime) {
+    for row in &OF_UTF8_STRINGS {
+        assert!(rt; is_type(&rt, row, Tag::Utf8String), "at {row}");
+    }
+    for row in &OF_PRINTABLE_STRINGS {
+        assert!(rt; is_type(&rt, row, Tag::PrintableString), "at {row}");
+    }
+    for row in &OF_IA5_STRINGS {
+        assert!(rt; is_type(&rt, row, Tag::Ia5String), "at {row}");
+    }
+    assert!(rt; prints_digits(&rt, "0441", 65) && prints_digits(&rt, "048180", 128));
+    assert!(rt; prints_digits(&rt, "04820100", 256) && prints_digits(&rt, "0483010000", 65_536));
 }

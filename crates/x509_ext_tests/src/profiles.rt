@@ -1,7 +1,7 @@
 //! A profile of a user.
 
 use crate::calls::{becomes, is_refused};
-use std::test::Fail;
+use std::test::*;
 use x509_base::{GeneralizedTime, Profile, SerialNumber, Time, Validity};
 use x509_der::{Decode, Error, ErrorKind};
 
@@ -32,12 +32,14 @@ impl Profile for FourDigits {
     }
 }
 
+const SHORT: &[u8] = b"\x30\x1E\x17\x0D100101083000Z\x17\x0D301231083000Z";
+
+const LONG: &[u8] = b"\x30\x22\x18\x0F20100101083000Z\x18\x0F20301231083000Z";
+
 #[test]
-fn a_profile_is_asked(rt: HostRuntime) -> Result<(), Fail> {
+fn a_profile_is_asked(rt: HostRuntime) {
     let negative = SerialNumber::<FourDigits>::from_der(rt.alloc(), b"\x02\x01\xFF");
-    assert!(rt; is_refused(negative, ErrorKind::Failed));
-    let short = b"\x30\x1E\x17\x0D100101083000Z\x17\x0D301231083000Z";
-    let long = b"\x30\x22\x18\x0F20100101083000Z\x18\x0F20301231083000Z";
-    assert!(rt; becomes::<Validity<FourDigits>>(&rt, short, long)?);
-    Ok(())
+    assert!(rt;
+        is_refused(negative, ErrorKind::Failed) && becomes::<Validity<FourDigits>>(&rt, SHORT, LONG)
+    );
 }

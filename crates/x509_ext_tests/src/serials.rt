@@ -1,31 +1,10 @@
 //! Serial numbers: their octets, their texts, and how they are generated.
 
-use crate::calls::{is_refused, makes, prints, stays};
+use crate::calls::{is_refused, prints, shows, stays};
 use crate::source::Source;
-use std::test::Fail;
+use std::test::*;
 use x509_base::{Raw, Rfc5280, SerialNumber};
 use x509_der::{Error, ErrorKind};
-
-/// Whether the number of the octets is printed so.
-fn has_text(rt: &HostRuntime, octets: &[u8], text: &str) -> Result<bool, Fail> {
-    let serial = SerialNumber::<Raw>::new(rt.alloc(), octets)?;
-    prints(rt, &serial, text)
-}
-
-#[test]
-fn printed(rt: HostRuntime) -> Result<(), Fail> {
-    assert!(rt; has_text(&rt, b"\x00", "00")?);
-    assert!(rt;
-        has_text(
-            &rt,
-            b"\xAA\xBB\xCC\x01\x10\x00\x11",
-            "00:AA:BB:CC:01:10:00:11"
-        )?
-    );
-    assert!(rt; makes(&rt, SerialNumber::<Raw>::from_u8(rt.alloc(), 5), "[5]")?);
-    assert!(rt; stays::<SerialNumber>(&rt, b"\x02\x01\xFF")?);
-    Ok(())
-}
 
 /// Whether that is a serial number with these content octets, of the profile that is none other said.
 fn has_content(serial: Result<SerialNumber, Error>, content: &[u8]) -> bool {
@@ -35,15 +14,27 @@ fn has_content(serial: Result<SerialNumber, Error>, content: &[u8]) -> bool {
     }
 }
 
+/// Numbers, and their texts.
 #[test]
 fn numbers(rt: HostRuntime) {
     let alloc = rt.alloc();
-    assert!(rt; has_content(SerialNumber::<Rfc5280>::from_u8(alloc, 0x80), b"\x00\x80"));
-    assert!(rt; has_content(SerialNumber::from_u16(alloc, 0x0102), b"\x01\x02"));
-    assert!(rt; has_content(SerialNumber::from_u32(alloc, 0), b"\x00"));
+    assert!(rt;
+        has_content(SerialNumber::<Rfc5280>::from_u8(alloc, 0x80), b"\x00\x80")
+            && has_content(SerialNumber::from_u16(alloc, 0x0102), b"\x01\x02")
+            && has_content(SerialNumber::from_u32(alloc, 0), b"\x00")
+    );
     let greatest = b"\x00\xFF\xFF\xFF\xFF\xFF\xFF\xFF\xFF";
-    assert!(rt; has_content(SerialNumber::from_u64(alloc, u64::MAX), greatest));
-    assert!(rt; has_content(SerialNumber::from_usize(alloc, 0x7F_0000), b"\x7F\x00\x00"));
+    assert!(rt;
+        has_content(SerialNumber::from_u64(alloc, u64::MAX), greatest)
+            && has_content(SerialNumber::from_usize(alloc, 0x7F_0000), b"\x7F\x00\x00")
+            && prints(&rt, SerialNumber::<Raw>::new(alloc, b"\x00"), "00")
+    );
+    let long = SerialNumber::<Raw>::new(alloc, b"\xAA\xBB\xCC\x01\x10\x00\x11");
+    assert!(rt;
+        prints(&rt, long, "00:AA:BB:CC:01:10:00:11")
+            && shows(&rt, SerialNumber::<Raw>::from_u8(alloc, 5), "[5]")
+            && stays::<SerialNumber>(&rt, b"\x02\x01\xFF")
+    );
 }
 
 /// Whether a source that gives zeros at first gives the number of ones, after so many fills.
@@ -62,10 +53,6 @@ fn generated(rt: HostRuntime) {
     };
     let refused = SerialNumber::<Rfc5280>::generate(rt.alloc(), &mut zeros);
     assert!(rt; is_refused(refused, ErrorKind::Failed) && zeros.fills == 64);
-}
-
-#[test]
-fn generated_with_prefix(rt: HostRuntime) {
     let mut source = Source { fills: 0, zeros: 0 };
     let serial = SerialNumber::generate_with_prefix(rt.alloc(), &[0xFF], 8, &mut source);
     assert!(rt; has_content(serial, b"\x00\xFF\x01\x01\x01\x01\x01\x01\x01\x01"));
