@@ -5,9 +5,9 @@ use crate::issuers::LIST;
 use std::test::*;
 use x509_base::{Raw, Rfc5280};
 use x509_cert::certificate::Version;
-use x509_check::{CertificateRef, CrlEntries, ExtensionRefs, find_revoked};
+use x509_check::{CertificateRef, CrlEntries, CrlRef, ExtensionRefs, find_revoked};
 use x509_der::{Encode, ErrorKind, ObjectIdentifier, oid};
-use x509_ext::pkix::KeyUsage;
+use x509_ext::pkix::{CrlNumber, KeyUsage};
 
 const KEY_USAGE: ObjectIdentifier = oid!(0x55, 0x1D, 0x0F);
 
@@ -126,6 +126,58 @@ fn entries(rt: HostRuntime) -> Result<(), Fail> {
     assert!(rt; next_is(&mut entries, &[5], 1_578_096_000, true));
     assert!(rt; entries.next().is_none());
     Ok(())
+}
+
+/// Whether the front of the signed part stands where `openssl asn1parse` shows it.
+fn begins(lent: &CrlRef<'_>) -> bool {
+    lent.version() == Some(Version::V2)
+        && lent.inner_algorithm() == &LIST[9..16]
+        && lent.issuer() == &LIST[16..18]
+}
+
+/// Whether the dates are 2020-01-05 and none.
+fn is_dated(lent: &CrlRef<'_>) -> bool {
+    lent.this_update().to_unix_duration().as_secs() == 1_578_182_400 && lent.next_update().is_none()
+}
+
+/// Whether the entries stand where `openssl asn1parse` shows them, and no extensions behind them.
+fn has_entries(lent: &CrlRef<'_>) -> bool {
+    match lent.revoked_certificates() {
+        Some(list) => list == &LIST[33..185] && lent.crl_extensions().is_none(),
+        None => false,
+    }
+}
+
+/// Whether the signed part and what stands behind it are where `openssl asn1parse` shows them.
+fn is_signed(lent: &CrlRef<'_>) -> bool {
+    lent.signed_part() == &LIST[3..185]
+        && lent.signature_algorithm() == &LIST[185..192]
+        && lent.signature() == &LIST[192..195]
+}
+
+/// Whether no extension is found, and what is owned is encoded as the same bytes.
+fn is_owned(rt: &HostRuntime, lent: &CrlRef<'_>) -> bool {
+    let is_absent = matches!(lent.get_extension::<CrlNumber>(rt.alloc()), Ok(None));
+    match lent.to_owned(rt.alloc()) {
+        Ok(list) => match list.to_der(rt.alloc()) {
+            Ok(bytes) => is_absent && bytes.as_slice() == LIST,
+            Err(_) => false,
+        },
+        Err(_) => false,
+    }
+}
+
+#[test]
+fn list(rt: HostRuntime) {
+    match CrlRef::<Rfc5280>::from_der(LIST) {
+        Ok(lent) => {
+            assert!(rt; begins(&lent) && is_dated(&lent) && has_entries(&lent));
+            assert!(rt; is_signed(&lent) && is_owned(&rt, &lent));
+            assert!(rt; lent.as_bytes() == LIST && lent.extensions().next().is_none());
+            assert!(rt; next_is(&mut lent.entries(), &[5], 1_577_836_800, false));
+        }
+        Err(_) => assert!(rt; false),
+    }
 }
 
 /// When the number was revoked.
