@@ -28,10 +28,8 @@ pub fn text_of<A: Alphabet>(octets: &[u8]) -> Option<&str>
     if !check_text::<A>(octets) {
         return None;
     }
-    match std::str::from_utf8(octets) {
-        Ok(text) => Some(text),
-        Err(_) => None,
-    }
+    // Each character is below 80, so the octets are a text.
+    Some(unsafe { std::str::from_utf8_unchecked(octets) })
 }
 
 /// A borrowed text of a restricted character string type.
