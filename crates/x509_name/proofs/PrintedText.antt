@@ -1,7 +1,8 @@
 -- The loop that prints a text: which bytes are escaped, and what is left to print.
-use Rattle.std.proofs.Common.{◌+◌, ◌-◌, ◌<◌, ◌≤◌, ◌≡◌, ℕ, Bool, true, false, ◌&&◌, ◌||◌, eqb, List, [], ◌∷◌, ◌++◌, length, get_or, take, drop, refl, sym, ap, ◌∙◌, arith, inl, inr, append_assoc, append-nil, add-one, drop-cons, length-drop}
+use Rattle.std.proofs.Common.{◌+◌, ◌-◌, ◌<◌, ◌≤◌, ◌≡◌, ◌≢◌, ℕ, suc, Bool, true, false, not, ◌&&◌, ◌||◌, eqb, List, [], ◌∷◌, ◌++◌, length, get_or, take, drop, refl, sym, ap, ◌∙◌, arith, inl, inr, append_assoc, append-nil, add-one, drop-cons, length-drop}
 use Rattle.std.specs.Char.{encode_utf8}
-use Rattle.std.specs.List.{flat_map, slice_range}
+use Rattle.std.specs.Bool.{OnTrue}
+use Rattle.std.specs.List.{flat_map, list_all, slice_range}
 use Rattle.std.proofs.lemmas.Bool.{ne_eqb}
 use Rattle.std.proofs.lemmas.Str.{encode_ascii}
 use Rattle.std.proofs.lemmas.Bool.Decides.{nat_tests}
@@ -71,6 +72,44 @@ pub escaped_not : (byte : ℕ) (by_its_place : Bool) → (is_control byte || (is
 escaped_not byte by_its_place not =
     let h = or_false (is_control byte) (is_always_escaped byte || by_its_place) not in
     rw (h.0, h.1) refl
+
+-- ---- a text of which no byte is escaped
+
+abbrev pub is_plain : ℕ → Bool
+is_plain byte = not (is_control byte || is_always_escaped byte)
+
+plain_item : (byte : ℕ) (by_its_place : Bool) → is_plain byte ≡ true → by_its_place ≡ false → item_of by_its_place byte ≡ Plain byte
+plain_item byte by_its_place plain place = escaped_not byte by_its_place (grind (arith, nat_tests))
+
+further_plain : (bytes : List ℕ) → get_or bytes (length bytes - 1) 0 ≢ 32 → list_all is_plain bytes ≡ true → flat_map item_text (further_items bytes) ≡ bytes
+further_plain [] last all = refl
+further_plain (byte ∷ []) last all = rw (plain_item byte (eqb byte 32 && true) (grind (arith, nat_tests)) (grind (arith, nat_tests))) refl
+further_plain (byte ∷ next ∷ rest) last all =
+    let one : suc (length rest) - 1 ≡ length rest = omega arith in
+    let two : suc (suc (length rest)) - 1 ≡ suc (length rest) = omega arith in
+    let further : get_or (next ∷ rest) (suc (length rest) - 1) 0 ≢ 32 = λ h.
+    last (ap (λ (n : ℕ). get_or (byte ∷ next ∷ rest) n 0) two ∙ ap (λ (n : ℕ). get_or (next ∷ rest) n 0) (sym one) ∙ h) in
+    rw (plain_item byte (eqb byte 32 && false) (grind (arith, nat_tests)) (grind (arith, nat_tests)))
+    (ap (λ (t : List ℕ). byte ∷ t) (further_plain (next ∷ rest) further (grind (arith, nat_tests))))
+
+-- at the front a number sign and a space are escaped, at the end a space
+pub escaped_plain : (bytes : List ℕ) → get_or bytes 0 0 ≢ 32 → get_or bytes 0 0 ≢ 35 → get_or bytes (length bytes - 1) 0 ≢ 32 → list_all is_plain bytes ≡ true → escaped bytes ≡ bytes
+unfolding escaped
+escaped_plain [] space sign last all = refl
+escaped_plain (byte ∷ bytes) space sign last all =
+    let front : item_of (eqb byte 32 || eqb byte 35) byte ≡ Plain byte = plain_item byte (eqb byte 32 || eqb byte 35) (grind (arith, nat_tests)) (grind (arith, nat_tests)) in
+    let further : item_of (eqb byte 32 && is_empty bytes) byte ≡ Plain byte = plain_item byte (eqb byte 32 && is_empty bytes) (grind (arith, nat_tests)) (grind (arith, nat_tests)) in
+    rw front (rw further at (further_plain (byte ∷ bytes) last all))
+
+pub escaped_where : (plain : Bool) (bytes : List ℕ) → get_or bytes 0 0 ≢ 32 → get_or bytes 0 0 ≢ 35 → get_or bytes (length bytes - 1) 0 ≢ 32 → plain ≡ list_all is_plain bytes
+    → OnTrue plain (escaped bytes ≡ bytes)
+escaped_where true bytes space sign last all = escaped_plain bytes space sign last (sym all)
+escaped_where false bytes space sign last all = tt
+
+pub escaped_nothing : (bytes : List ℕ) → length bytes < 1 → escaped bytes ≡ bytes
+unfolding escaped
+escaped_nothing [] none = refl
+escaped_nothing (byte ∷ bytes) none = absurd (omega arith)
 
 -- ---- the loop
 

@@ -1,6 +1,8 @@
 //! The text that is printed of a value (RFC 4514 section 2.4).
 
-ghost use Rattle.std.specs.Prelude.{◌≡◌, ◌<◌, true, false, nat_eq, ◌&&◌, ◌||◌};
+ghost use Rattle.std.specs.Prelude.{◌≡◌, ◌<◌, true, false, not, nat_eq, ◌&&◌, ◌||◌};
+ghost use Rattle.std.specs.Bool.{OnTrue};
+ghost use Rattle.std.specs.List.{list_all};
 ghost use Rattle.std.specs.Fmt.{WritesOnOk, digit_glyph};
 ghost use Rattle.x509_name.specs.Escapes.{escaped, is_always_escaped, is_control, item_of, item_text};
 
@@ -21,6 +23,34 @@ fn is_escaped(byte: u8, is_first: bool, is_last: bool) -> bool
         || matches!(byte, b'"' | b'+' | b',' | b';' | b'<' | b'>' | b'\\')
         || (byte == b' ' && (is_first || is_last))
         || (byte == b'#' && is_first)
+}
+
+// Whether a byte stands for itself, the front and the end apart.
+#[inline(always)]
+fn is_plain(byte: u8) -> bool
+    ensures { result ≡ not (is_control byte || is_always_escaped byte) }
+{
+    !is_control(byte) && !matches!(byte, b'"' | b'+' | b',' | b';' | b'<' | b'>' | b'\\')
+}
+
+// Whether each of the bytes does.
+fn are_plain(bytes: &[u8]) -> bool
+    ensures { result ≡ list_all (λ byte. not (is_control byte || is_always_escaped byte)) bytes.now }
+{
+    bytes.iter().all(|byte| is_plain(*byte))
+}
+
+// Whether no byte of the text is escaped, as in most texts.
+fn stands_for_itself(bytes: &[u8]) -> bool
+    ensures { OnTrue result (escaped bytes.now ≡ bytes.now) }
+{
+    let [first, ..] = bytes else {
+        return true;
+    };
+    if *first == b' ' || *first == b'#' || bytes[bytes.len() - 1] == b' ' {
+        return false;
+    }
+    are_plain(bytes)
 }
 
 fn hex_digit(value: u8) -> char
@@ -57,6 +87,9 @@ pub fn write_escaped<W: fmt::Write>(f: &mut fmt::Formatter<W>, text: &str) -> fm
     ensures { WritesOnOk W.write_str_gives f.old result (escaped text.now) f.new }
 {
     let bytes = text.as_bytes();
+    if stands_for_itself(bytes) {
+        return f.write_str(text);
+    }
     // where what isn't written yet starts
     let mut start = 0;
     for (i, byte) in bytes.iter().enumerate() {
