@@ -4,8 +4,8 @@ use Rattle.x509_name.proofs.text.keys.find_named.Given as goal
 
 abbrev pub invariant-loop-rows : goal.invariant-loop-rows
 invariant-loop-rows l =
-    first_where (is_named l.name) (map (λ r. row r.0.now r.1.now r.2 r.3) l.rows)
-    ≡ first_where (is_named l.name) (map (λ r. row r.0.now r.1.now r.2 r.3) l.initial.rows)
+    first_where (is_named l.name) (map (λ r. row r.0.now r.1.now r.2.now r.3) l.rows)
+    ≡ first_where (is_named l.name) (map (λ r. row r.0.now r.1.now r.2.now r.3) l.initial.rows)
 
 abbrev pub decreases-loop-rows : goal.decreases-loop-rows
 decreases-loop-rows l = length l.rows
