@@ -1,7 +1,8 @@
 -- Attributes read: a text is cut in one place, and what the reader refuses is refused.
-use Rattle.std.proofs.Common.{◌≡◌, ◌⊎◌, ◌<◌, ℕ, suc, true, false, List, [], ◌∷◌, ◌++◌, length, Some, None, Result, Ok, Err, refl, sym, ap, ◌∙◌, arith, inl, inr, subst}
-use Rattle.std.specs.Prelude.{Contains, IfErr}
+use Rattle.std.proofs.Common.{◌≡◌, ◌⊎◌, ◌<◌, ◌≤◌, ℕ, suc, true, false, List, [], ◌∷◌, ◌++◌, length, Some, None, Result, Ok, Err, refl, sym, ap, ◌∙◌, arith, inl, inr, subst}
+use Rattle.std.specs.Prelude.{Contains, IfOk, IfErr, IsErrAnd}
 use Rattle.std.specs.Str.{IsUtf8}
+use Rattle.std.proofs.lemmas.Bool.{cases_lt}
 use Rattle.std.proofs.lemmas.List.Elements.{Contains-append_right}
 use Rattle.x509_der.specs.Element.{element, limit}
 use Rattle.x509_der.specs.Tag.{octet_of}
@@ -12,6 +13,7 @@ use Rattle.x509_der.specs.Arcs.{content_of}
 use Rattle.x509_der.specs.ArcLaws.{some_arcs, small_arcs}
 use Rattle.x509_der.proofs.TextLaws.{dotted_injective}
 use Rattle.x509_der.specs.declared.any.Any.{Any}
+use Rattle.x509_der.specs.declared.tag.Tag.{Tag}
 use Rattle.x509_name.specs.Escapes.{Unescapes}
 use Rattle.x509_name.specs.AttributeNames.{Key}
 use Rattle.x509_name.specs.Keys.{KeySays, key_named, tag_for}
@@ -100,6 +102,25 @@ content_refused octets text kind plain (inr none) = inr (no_content octets text 
 pub too_long : (octets text content : List ℕ) (kind : ErrorKind) → begins_with_hash text ≡ false → Unescapes text content → kind ≡ Overlength → limit < length (element (octet_of (tag_for octets)) content) → ValueRefused octets text kind
 too_long octets text content kind plain says overlong more =
     inl (overlong, (element (octet_of (tag_for octets)) content, inr (content, plain, says, refl), more))
+
+-- a content that stands for itself
+module _ (octets text : List ℕ) (plain : begins_with_hash text ≡ false) (says : Unescapes text text) (tag : Tag) (is : tag ≡ tag_for octets) where
+  pub itself_read : (result : Result Any Error) → (limit < length (element (octet_of tag) text) → IsErrAnd result (λ e. e.kind ≡ Overlength))
+      → IfOk result (λ any. (any.tag ≡ tag) × (any.value ≡ text)) → IfOk result (λ value. ValueReads octets text value)
+  itself_read (Err e) long ok = tt
+  itself_read (Ok value) long ok =
+      let spelled : value_octets value ≡ element (octet_of (tag_for octets)) text = ap (λ (t : Tag). element (octet_of t) value.value) (ok.0 ∙ is) ∙ ap (element (octet_of (tag_for octets))) ok.1 in
+      let within : length (element (octet_of tag) text) ≤ limit = elim (cases_lt limit (length (element (octet_of tag) text))) [ inl more ↦ absurd (long more) | inr le ↦ le ] in
+      (inr (text, plain, says, spelled), subst (λ (t : List ℕ). length t ≤ limit) (ap (λ (t : Tag). element (octet_of t) text) is ∙ sym spelled) within)
+
+  pub itself_refused : (result : Result Any Error) → (limit < length (element (octet_of tag) text) → IsErrAnd result (λ e. e.kind ≡ Overlength))
+      → (length (element (octet_of tag) text) ≤ limit → IfErr result (λ e. (e.kind ≡ Memory) × (24 < length text))) → IfErr result (λ e. (e.kind ≡ Memory) ⊎ ValueRefused octets text e.kind)
+  itself_refused (Ok value) long err = tt
+  itself_refused (Err e) long err =
+      elim (cases_lt limit (length (element (octet_of tag) text))) [
+        | inl more ↦ inr (too_long octets text text e.kind plain says (long more) (subst (λ (t : Tag). limit < length (element (octet_of t) text)) is more))
+        | inr le ↦ inl (err le).0
+      ]
 
 -- ---- attributes
 

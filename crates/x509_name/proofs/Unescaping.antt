@@ -1,10 +1,10 @@
 -- The reader of escapes answers exactly what a text stands for.
 use Rattle.std.proofs.Common.{◌+◌, ◌<◌, ◌≤◌, length, get_or, subst, add-one, drop-cons, ◌≡◌, ◌≢◌, ℕ, true, false, eqb, List, [], ◌∷◌, ◌++◌, map, drop, Option, Some, None, refl, sym, ap, ◌∙◌, append_assoc, append-nil, arith, inl, inr}
-use Rattle.std.specs.List.{AllByRecursion, flat_map}
+use Rattle.std.specs.List.{AllByRecursion, flat_map, list_any}
 use Rattle.std.proofs.lemmas.Bool.{ne_eqb}
 use Rattle.std.proofs.lemmas.List.{drop_all}
 use Rattle.std.proofs.lemmas.Bool.Decides.{nat_tests, eqb_tells}
-use Rattle.x509_name.proofs.Printed.{bool_tells}
+use Rattle.x509_name.proofs.Printed.{bool_tells, or_false}
 use Rattle.x509_name.specs.Escapes.{Item, Plain, Special, Pair, IsItem, item_text, item_byte, Unescapes, is_special, is_hex}
 use Rattle.x509_name.specs.Reading.{IsPosition, step, with_front, at_end, after, reading}
 use Rattle.x509_name.specs.declared.text.escapes.Position.{Position}
@@ -75,6 +75,13 @@ complete text bytes u = ap (λ (t : List ℕ). reading t Between) u.2 ∙ comple
 -- a text stands for at most one list of bytes
 pub one_reading : (text a b : List ℕ) → Unescapes text a → Unescapes text b → a ≡ b
 one_reading text a b p q = let e : Some a ≡ Some b = sym (complete text a p) ∙ complete text b q in cc
+
+-- a text without a backslash stands for itself
+pub no_escape : (text : List ℕ) → list_any (λ byte. eqb byte 92) text ≡ false → Unescapes text text
+no_escape [] none = ([], tt, refl, refl)
+no_escape (byte ∷ text) none =
+    let parts = or_false (eqb byte 92) (list_any (λ b. eqb b 92) text) none in
+    Unescapes-cons (Plain byte) text text (λ e. absurd (let h = rw e at parts.0 in cc)) (no_escape text parts.1)
 
 -- ---- the loop
 

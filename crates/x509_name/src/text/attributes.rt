@@ -1,6 +1,7 @@
 //! The text of an attribute, read and written (RFC 4514 sections 2.3, 2.4 and 3).
 
-ghost use Rattle.std.specs.Prelude.{◌≡◌, ◌<◌, ◌≤◌, ◌⊎◌, ◌∷◌, false, ℕ, List, length, Ok, Contains, true, IfOk, IfErr, IfSome, IfNone, MatchOption};
+ghost use Rattle.std.specs.List.{list_any};
+ghost use Rattle.std.specs.Prelude.{◌≡◌, ◌<◌, ◌≤◌, ◌⊎◌, ◌∷◌, false, nat_eq, ℕ, List, length, Ok, Contains, true, IfOk, IfErr, IfSome, IfNone, MatchOption};
 ghost use Rattle.std.specs.Fmt.{WritesOnOk};
 ghost use Rattle.hex.specs.Hex.{decode_of};
 ghost use Rattle.x509_der.specs.Element.{limit};
@@ -72,6 +73,23 @@ fn behind_hash(text: &[u8]) -> Option<&[u8]>
     }
 }
 
+// Whether a backslash stands in the text.
+fn has_escape(text: &[u8]) -> bool
+    ensures { result ≡ list_any (λ byte. nat_eq byte 92) text.now }
+{
+    text.contains(&b'\\')
+}
+
+// The value whose content stands with escapes behind the equals sign of an attribute of the type.
+fn read_escaped(alloc: Global, oid: &ObjectIdentifier, text: &[u8]) -> Result<Any, Error>
+    requires { attributes.begins_with_hash text.now ≡ false }
+    ensures ok { IfOk result (λ value. attributes.ValueReads oid.now text.now value) }
+    ensures err { IfErr result (λ e. (e.kind ≡ errors.Memory) ⊎ attributes.ValueRefused oid.now text.now e.kind) }
+{
+    let content = unescape(alloc, text)?;
+    Any::from_vec(tag_for(oid), content)
+}
+
 // The value that stands behind the equals sign of an attribute of the type.
 fn read_value(alloc: Global, oid: &ObjectIdentifier, text: &[u8]) -> Result<Any, Error>
     ensures ok { IfOk result (λ value. attributes.ValueReads oid.now text.now value) }
@@ -80,8 +98,10 @@ fn read_value(alloc: Global, oid: &ObjectIdentifier, text: &[u8]) -> Result<Any,
     if let Some(digits) = behind_hash(text) {
         return read_element(alloc, digits);
     }
-    let content = unescape(alloc, text)?;
-    Any::from_vec(tag_for(oid), content)
+    if has_escape(text) {
+        return read_escaped(alloc, oid, text);
+    }
+    Any::new(alloc, tag_for(oid), text)
 }
 
 /// The attribute that a text says: a key, the first equals sign and the value. The key is a name of the table, without

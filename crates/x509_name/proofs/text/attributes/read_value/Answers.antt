@@ -1,19 +1,14 @@
-use Rattle.std.proofs.Common.{◌<◌, length, inr, subst}
-use Rattle.std.proofs.lemmas.Result.{err_from_is_err_and}
-use Rattle.x509_der.specs.Element.{element, limit}
-use Rattle.x509_der.specs.Tag.{octet_of}
-use Rattle.x509_der.specs.declared.tag.Tag.{Tag}
-use Rattle.x509_name.proofs.AttributeReading.{content_refused, too_long, weaker_err}
+use Rattle.std.proofs.Common.{sym, ◌∙◌}
+use Rattle.x509_name.proofs.AttributeReading.{itself_read, itself_refused}
+use Rattle.x509_name.proofs.Unescaping.{no_escape}
 use Rattle.x509_name.proofs.text.attributes.read_value.Goals as goal
 
-pub returns-in_err-content-clause-err : goal.returns-in_err-content-clause-err
-returns-in_err-content-clause-err c =
-    let exit = err_from_is_err_and c.from_residual.result c.from_residual.ensures.1 in
-    rw (exit.1, exit.2) (content_refused c.args.oid.now c.args.text.now _ c.in_default.ensures c.in_err-content.ensures.err)
+pub returns-clause-ok : goal.returns-clause-ok
+returns-clause-ok c =
+    itself_read c.args.oid.now c.args.text.now c.in_default.ensures (no_escape c.args.text.now (sym c.has_escape.ensures ∙ c.if-has_escape.false)) _ c.tag_for.ensures
+    c.new.result c.new.ensures.overlength c.new.ensures.ok
 
 pub returns-clause-err : goal.returns-clause-err
 returns-clause-err c =
-    weaker_err _ _ c.from_vec.result (λ e long.
-    inr (too_long c.args.oid.now c.args.text.now c.in_ok-content.content.items e.kind c.in_default.ensures c.in_ok-content.ensures.ok long.0
-    (subst (λ (t : Tag). limit < length (element (octet_of t) c.in_ok-content.content.items)) c.tag_for.ensures long.1)))
-    c.from_vec.ensures.err
+    itself_refused c.args.oid.now c.args.text.now c.in_default.ensures (no_escape c.args.text.now (sym c.has_escape.ensures ∙ c.if-has_escape.false)) _ c.tag_for.ensures
+    c.new.result c.new.ensures.overlength c.new.ensures.err
