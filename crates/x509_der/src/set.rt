@@ -71,6 +71,15 @@ impl<T: SetMember> SetOfVec<T> {
         }
     }
 
+    /// The set of one member. It takes no memory.
+    pub fn from_one(alloc: Global, member: T) -> SetOfVec<T>
+        ensures { result ≡ member ∷ [] }
+    {
+        SetOfVec {
+            members: Members::from_one(alloc, member),
+        }
+    }
+
     /// The set of the items, in O(n log n) comparisons and without memory.
     ///
     /// # Errors

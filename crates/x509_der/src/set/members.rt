@@ -1,6 +1,6 @@
 //! The members of a set.
 
-ghost use Rattle.std.specs.Prelude.{◌≡◌, ◌≤◌, [], length, insert, IfOk, IfErr, OnOk, OnErr};
+ghost use Rattle.std.specs.Prelude.{◌≡◌, ◌≤◌, [], ◌∷◌, length, insert, IfOk, IfErr, OnOk, OnErr};
 ghost use Rattle.x509_der.specs.Outcome.{Gives};
 ghost use Rattle.x509_der.specs.declared.error.ErrorKind.TheVariants.{Memory};
 ghost use Rattle.x509_der.specs.List.{list_reading};
@@ -47,6 +47,15 @@ impl<T> Members<T> {
     {
         Members {
             kept: Kept::Several(Vec::new(alloc)),
+        }
+    }
+
+    /// The one value. It takes no memory.
+    pub(crate) fn from_one(alloc: Global, member: T) -> Members<T>
+        ensures { result ≡ member ∷ [] }
+    {
+        Members {
+            kept: Kept::One([member], alloc),
         }
     }
 

@@ -45,6 +45,13 @@ impl RelativeDistinguishedName {
         RelativeDistinguishedName(SetOfVec::new(alloc))
     }
 
+    /// The RDN of one attribute. It takes no memory.
+    pub fn from_one(alloc: Global, attribute: AttributeTypeAndValue) -> RelativeDistinguishedName
+        ensures { result ≡ attribute ∷ [] }
+    {
+        RelativeDistinguishedName(SetOfVec::from_one(alloc, attribute))
+    }
+
     /// The set of the attributes, in O(n log n) comparisons and without memory.
     ///
     /// # Errors

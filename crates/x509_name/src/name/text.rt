@@ -1,8 +1,9 @@
 //! The texts of RDNs and of names, read and written (RFC 4514 sections 2.1, 2.2 and 3).
 
-ghost use Rattle.std.specs.Prelude.{◌≡◌, ◌⊎◌, IfOk, IfErr};
+ghost use Rattle.std.specs.Prelude.{◌≡◌, ◌⊎◌, false, length, IfOk, IfErr};
 ghost use Rattle.std.specs.Fmt.{WritesOnOk};
 ghost use Rattle.x509_der.specs.declared.error.ErrorKind.TheVariants as errors;
+ghost use Rattle.x509_name.specs.Cutting.{cut};
 ghost use Rattle.x509_name.specs.Text.{Reads};
 ghost use Rattle.x509_name.specs.NameText as texts;
 ghost use Rattle.x509_name.specs.Attributes.{AttributeRefused};
@@ -25,16 +26,43 @@ fn read_one(alloc: Global, part: &[u8]) -> Result<AttributeTypeAndValue, Error>
     Ok(AttributeTypeAndValue { oid, value })
 }
 
+// The RDN of the one attribute that a text says.
+fn read_single(alloc: Global, text: &[u8]) -> Result<RelativeDistinguishedName, Error>
+    requires { length (cut 43 text.now false) ≡ 1 }
+    ensures ok { IfOk result (λ rdn. texts.RdnReads text.now rdn) }
+    ensures err { IfErr result (λ e. (e.kind ≡ errors.Memory) ⊎ texts.RdnRefused text.now e.kind) }
+{
+    let attribute = read_one(alloc, text)?;
+    Ok(RelativeDistinguishedName::from_one(alloc, attribute))
+}
+
+// The RDN of the attributes that a text says; `count` tells how many they may be.
+fn read_several(
+    alloc: Global,
+    text: &[u8],
+    count: usize,
+) -> Result<RelativeDistinguishedName, Error>
+    ensures ok { IfOk result (λ rdn. texts.RdnReads text.now rdn) }
+    ensures err { IfErr result (λ e. (e.kind ≡ errors.Memory) ⊎ texts.RdnRefused text.now e.kind) }
+{
+    let mut attributes = Vec::with_capacity(alloc, count)?;
+    for part in Parts::new(text, b'+') {
+        attributes.push(read_one(alloc, part)?)?;
+    }
+    RelativeDistinguishedName::try_from_vec(attributes)
+}
+
 /// The RDN that a text says.
 pub(crate) fn read_rdn(alloc: Global, text: &[u8]) -> Result<RelativeDistinguishedName, Error>
     ensures ok { IfOk result (λ rdn. texts.RdnReads text.now rdn) }
     ensures err { IfErr result (λ e. (e.kind ≡ errors.Memory) ⊎ texts.RdnRefused text.now e.kind) }
 {
-    let mut attributes = Vec::with_capacity(alloc, count_parts(text, b'+'))?;
-    for part in Parts::new(text, b'+') {
-        attributes.push(read_one(alloc, part)?)?;
+    let count = count_parts(text, b'+');
+    // Most RDNs have one attribute.
+    if count == 1 {
+        return read_single(alloc, text);
     }
-    RelativeDistinguishedName::try_from_vec(attributes)
+    read_several(alloc, text, count)
 }
 
 /// The RDNs that a text says, the last of them first.

@@ -4,7 +4,7 @@ use Rattle.x509_name.proofs.FirstRefusals.{read_more}
 use Rattle.x509_name.proofs.PartsRead.{parts_refused}
 use Rattle.x509_name.specs.Text.{Reads}
 use Rattle.x509_name.proofs.NameReading.{rdn_refused}
-use Rattle.x509_name.proofs.name.text.read_rdn.Goals as goal
+use Rattle.x509_name.proofs.name.text.read_several.Goals as goal
 
 pub returns-in_err-read_one-clause-err : goal.returns-in_err-read_one-clause-err
 returns-in_err-read_one-clause-err c =
