@@ -1,9 +1,21 @@
 //! The characters of the restricted character string types (X.680 41).
 
+ghost use Rattle.std.specs.List.{list_all};
+ghost use Rattle.std.specs.Prelude.{◌≡◌};
+ghost use Rattle.x509_prim.specs.Alphabet.{is_ia5};
+
 use x509_der::Tag;
+
+/// Whether each of the octets is below 80, many at a time.
+fn are_ascii(octets: &[u8]) -> bool
+    ensures { result ≡ list_all is_ia5 octets.now }
+{
+    octets.is_ascii()
+}
 
 /// The characters of a restricted character string type, each of which is one octet below 80.
 pub trait Alphabet {
+    ghost use Rattle.std.specs.List.{list_all};
     ghost use Rattle.std.specs.Prelude.{◌≡◌, ◌<◌, ℕ, Bool, true};
     ghost use Rattle.x509_der.specs.declared.tag.Tag.{Tag};
 
@@ -17,6 +29,13 @@ pub trait Alphabet {
     /// Whether the character is one of the type's.
     fn has_char(octet: u8) -> bool
         ensures { result ≡ has_char octet };
+
+    /// Whether each of the octets is.
+    fn has_chars(octets: &[u8]) -> bool
+        ensures { result ≡ list_all has_char octets.now }
+    {
+        octets.iter().all(|octet| Self::has_char(*octet))
+    }
 
     ghost ascii: { (octet : ℕ) → has_char octet ≡ true → octet < 0x80 };
 }
@@ -79,6 +98,10 @@ impl Alphabet for Ia5 {
         octet < 0x80
     }
 
+    fn has_chars(octets: &[u8]) -> bool {
+        are_ascii(octets)
+    }
+
     ghost ascii = { ia5_ascii };
 }
 
@@ -99,6 +122,10 @@ impl Alphabet for Teletex {
 
     fn has_char(octet: u8) -> bool {
         octet < 0x80
+    }
+
+    fn has_chars(octets: &[u8]) -> bool {
+        are_ascii(octets)
     }
 
     ghost ascii = { ia5_ascii };

@@ -17,7 +17,7 @@ use x509_der::{Any, AnyRef, Error, ErrorKind, FromAny, Tag, TryClone};
 pub(crate) fn check_text<A: Alphabet>(octets: &[u8]) -> bool
     ensures { result ≡ list_all A.has_char octets.now }
 {
-    octets.iter().all(|octet| A::has_char(*octet))
+    A::has_chars(octets)
 }
 
 /// The octets as a text, where each is a character of the type.
