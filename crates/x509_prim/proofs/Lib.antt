@@ -7,3 +7,4 @@ pub mod Naturals
 pub mod NumberTypes
 pub mod Numbers
 pub mod SetBits
+pub mod PrintableTable

@@ -2,7 +2,7 @@
 
 ghost use Rattle.std.specs.List.{list_all};
 ghost use Rattle.std.specs.Prelude.{◌≡◌};
-ghost use Rattle.x509_prim.specs.Alphabet.{is_ia5};
+ghost use Rattle.x509_prim.specs.Alphabet.{is_ia5, is_printable};
 
 use x509_der::Tag;
 
@@ -40,6 +40,17 @@ pub trait Alphabet {
     ghost ascii: { (octet : ℕ) → has_char octet ≡ true → octet < 0x80 };
 }
 
+// A bit for each octet, 64 in a number, the lowest bit first: 1 for the characters of PrintableString.
+static PRINTABLE: [u64; 4] = [0xA7FF_FB81_0000_0000, 0x07FF_FFFE_07FF_FFFE, 0, 0];
+
+/// Whether the octet is a character of PrintableString, by the table.
+#[inline(always)]
+fn is_printable(octet: u8) -> bool
+    ensures { result ≡ is_printable octet }
+{
+    (PRINTABLE[(octet / 64) as usize] >> (octet % 64)) & 1 == 1
+}
+
 /// The characters of PrintableString.
 #[derive(Clone, Copy, Debug, PartialEq, Eq, Hash)]
 pub struct Printable;
@@ -74,6 +85,10 @@ impl Alphabet for Printable {
                 | b'='
                 | b'?'
         )
+    }
+
+    fn has_chars(octets: &[u8]) -> bool {
+        octets.iter().all(|octet| is_printable(*octet))
     }
 
     ghost ascii = { printable_ascii };
