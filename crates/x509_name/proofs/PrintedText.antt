@@ -1,8 +1,9 @@
 -- The loop that prints a text: which bytes are escaped, and what is left to print.
-use Rattle.std.proofs.Common.{◌+◌, ◌-◌, ◌<◌, ◌≤◌, ◌≡◌, ◌≢◌, ℕ, suc, Bool, true, false, not, ◌&&◌, ◌||◌, eqb, List, [], ◌∷◌, ◌++◌, length, get_or, take, drop, refl, sym, ap, ◌∙◌, arith, inl, inr, append_assoc, append-nil, add-one, drop-cons, length-drop}
+use Rattle.std.proofs.Common.{◌+◌, ◌-◌, ◌/◌, ◌%◌, ◌^◌, bit_and, map, ◌<◌, ◌≤◌, ◌≡◌, ◌≢◌, ℕ, suc, Bool, true, false, not, ◌&&◌, ◌||◌, eqb, List, [], ◌∷◌, ◌++◌, length, get_or, take, drop, refl, sym, ap, ◌∙◌, arith, inl, inr, append_assoc, append-nil, add-one, drop-cons, length-drop}
 use Rattle.std.specs.Char.{encode_utf8}
 use Rattle.std.specs.Bool.{OnTrue}
-use Rattle.std.specs.List.{flat_map, list_all, slice_range}
+use Rattle.std.specs.List.{flat_map, list_all, range_with_len, slice_range}
+use Rattle.std.proofs.lemmas.List.FromFn.{get_or-map-range_with_len}
 use Rattle.std.proofs.lemmas.Bool.{ne_eqb}
 use Rattle.std.proofs.lemmas.Str.{encode_ascii}
 use Rattle.std.proofs.lemmas.Bool.Decides.{nat_tests}
@@ -77,6 +78,18 @@ escaped_not byte by_its_place not =
 
 abbrev pub is_plain : ℕ → Bool
 is_plain byte = not (is_control byte || is_always_escaped byte)
+
+-- the bit of a byte in the table
+abbrev pub has_bit : ℕ → Bool
+has_bit byte = eqb (bit_and (get_or (12105649388617990144 ∷ 9223372036586340351 ∷ 18446744073709551615 ∷ 18446744073709551615 ∷ []) (byte / 64) 0 / 2 ^ (byte % 64)) 1) 1
+
+table_is : map has_bit (range_with_len 0 256) ≡ map is_plain (range_with_len 0 256)
+table_is = refl
+
+pub bit_is_plain : (byte : ℕ) → byte < 256 → has_bit byte ≡ is_plain byte
+bit_is_plain byte below =
+    sym (get_or-map-range_with_len has_bit 0 256 byte byte false below (omega arith)) ∙ ap (λ (t : List Bool). get_or t byte false) table_is
+    ∙ get_or-map-range_with_len is_plain 0 256 byte byte false below (omega arith)
 
 plain_item : (byte : ℕ) (by_its_place : Bool) → is_plain byte ≡ true → by_its_place ≡ false → item_of by_its_place byte ≡ Plain byte
 plain_item byte by_its_place plain place = escaped_not byte by_its_place (grind (arith, nat_tests))

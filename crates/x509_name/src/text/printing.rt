@@ -25,12 +25,21 @@ fn is_escaped(byte: u8, is_first: bool, is_last: bool) -> bool
         || (byte == b'#' && is_first)
 }
 
+// A bit for each byte, 64 in a number, the lowest bit first: 1 for those that stand for themselves, the front and the end
+// apart.
+static PLAIN: [u64; 4] = [
+    0xA7FF_E7FB_0000_0000,
+    0x7FFF_FFFF_EFFF_FFFF,
+    0xFFFF_FFFF_FFFF_FFFF,
+    0xFFFF_FFFF_FFFF_FFFF,
+];
+
 // Whether a byte stands for itself, the front and the end apart.
 #[inline(always)]
 fn is_plain(byte: u8) -> bool
     ensures { result ≡ not (is_control byte || is_always_escaped byte) }
 {
-    !is_control(byte) && !matches!(byte, b'"' | b'+' | b',' | b';' | b'<' | b'>' | b'\\')
+    (PLAIN[(byte / 64) as usize] >> (byte % 64)) & 1 == 1
 }
 
 // Whether each of the bytes does.
