@@ -19,3 +19,4 @@ pub mod StandardFacts
 pub mod NameTexts
 pub mod NameReading
 pub mod NameWriting
+pub mod EqualAttributes

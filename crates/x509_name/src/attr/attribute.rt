@@ -107,7 +107,7 @@ impl PartialEq for Attribute {
     ghost laws = { partial_equiv_from_equiv grammar.attribute_equivalence };
 
     fn eq(&self, other: &Attribute) -> bool {
-        self.der_cmp(other).is_eq()
+        self.oid == other.oid && self.values == other.values
     }
 }
 

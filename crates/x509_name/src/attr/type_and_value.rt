@@ -157,7 +157,7 @@ impl PartialEq for AttributeTypeAndValue {
     ghost laws = { partial_equiv_from_equiv grammar.type_and_value_equivalence };
 
     fn eq(&self, other: &AttributeTypeAndValue) -> bool {
-        self.cmp(other).is_eq()
+        self.oid == other.oid && self.value == other.value
     }
 }
 
