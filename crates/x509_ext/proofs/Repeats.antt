@@ -1,6 +1,7 @@
 -- Two extensions have one identifier exactly where their identifiers aren't distinct.
 use Rattle.std.proofs.Common.{◌≡◌, ◌↔◌, ℕ, zero, suc, ◌+◌, ◌<◌, ◌≤◌, Bool, true, false, List, [], ◌∷◌, length, map, cond, get_or, bytes_eq, not, refl, sym, ap, ◌∙◌, subst, inl, inr, arith}
-use Rattle.std.specs.Prelude.{IsTrue}
+use Rattle.std.specs.Option.{is_some}
+use Rattle.std.specs.Prelude.{IsTrue, Option, Some, None, MatchOption}
 use Rattle.std.specs.List.{IsAllAdjacentAnswer}
 use Rattle.std.specs.List.Sorted.{IsPermutation, IsSortedBy, IsStrictlySortedBy}
 use Rattle.std.specs.Ordering.{is_lt}
@@ -77,6 +78,24 @@ repeated (e ∷ es) same = elim (cases_lt (length (with_oid e.extn_id es)) 1) [
   | inl none ↦ further e es (repeated es (λ apart. same (before e es none apart)))
   | inr some ↦ (e.extn_id, omega (arith, some, found e.extn_id e es refl))
 ]
+
+-- ---- each with those behind it
+
+kept : (e : Extension) (es : List Extension) → with_oid e.extn_id es ≡ [] → (oid : List ℕ) (b : Bool) → bytes_eq e.extn_id oid ≡ b → 2 ≤ length (With oid e es b) → IsRepeated es
+kept e es none oid true is two =
+    let gone : with_oid oid es ≡ [] = subst (λ o. with_oid o es ≡ []) ((bytes_eq-Decides e.extn_id oid).0 is) none in
+    absurd (omega (arith, ap length gone, two))
+kept e es none oid false is two = (oid, two)
+
+-- a first that none behind it repeats may be passed
+pub passed : (e : Extension) (es : List Extension) → with_oid e.extn_id es ≡ [] → IsRepeated (e ∷ es) ↔ IsRepeated es
+passed e es none = ((λ (oid, two). kept e es none oid (bytes_eq e.extn_id oid) refl two), (λ behind. further e es behind))
+
+-- a first that one behind it repeats, where these were looked through
+pub met_again : {A : Type 0} (e : Extension) (es : List Extension) (answer : Option A) (front : A → Extension) (others : A → List Extension)
+    → MatchOption answer (with_oid e.extn_id es ≡ []) (λ f. with_oid e.extn_id es ≡ front f ∷ others f) → is_some answer ≡ true → IsRepeated (e ∷ es)
+met_again e es None front others none some = absurd (true≢false (sym some))
+met_again e es (Some f) front others is some = (e.extn_id, omega (arith, ap length is, found e.extn_id e es refl))
 
 -- ---- sorted identifiers
 

@@ -20,6 +20,7 @@ pub fn members(extensions: Option<&Extensions>) -> &[Extension]
 }
 
 /// The first extension with the OID, and those that follow it.
+#[inline(always)]
 pub(crate) fn split_first_with(
     extensions: &[Extension],
     oid: ObjectIdentifier,
@@ -66,15 +67,35 @@ pub fn get_extension<T: AssociatedOid + Decode>(
     Ok(Some(decode(alloc, extension)?))
 }
 
+/// Up to so many extensions are each compared with those that follow it; of more the OIDs are sorted.
+const FEW: usize = 16;
+
+/// Whether two or more of the extensions have one OID. O(n²) comparisons.
+fn is_any_repeated(extensions: &[Extension]) -> bool
+    ensures { IsTrue result ↔ IsRepeated extensions.now }
+{
+    let mut rest = extensions;
+    while let Some((first, others)) = rest.split_first() {
+        if split_first_with(others, first.extn_id).is_some() {
+            return true;
+        }
+        rest = others;
+    }
+    false
+}
+
 /// Whether two or more of the extensions have one OID, which RFC 5280 4.2 forbids. O(n log n) comparisons.
 ///
 /// # Errors
 ///
-/// `Memory` when out of memory, and nothing else: it copies the OIDs.
+/// `Memory` when out of memory, and nothing else: it copies the OIDs of more than 16 extensions.
 pub fn has_repeated_extension(alloc: Global, extensions: &[Extension]) -> Result<bool, Error>
     ensures ok { IfOk result (λ repeated. IsTrue repeated ↔ IsRepeated extensions.now) }
     ensures err { IfErr result (λ e. e.kind ≡ Memory) }
 {
+    if extensions.len() <= FEW {
+        return Ok(is_any_repeated(extensions));
+    }
     let mut identifiers = Vec::with_capacity(alloc, extensions.len())?;
     for extension in extensions {
         identifiers.push(extension.extn_id)?;
