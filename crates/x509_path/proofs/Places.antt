@@ -133,14 +133,14 @@ module _ (accepts : Accepting) (moment : CivilTime) where
       next = omega arith
 
       pub further : (c : Certificate) (next_length : Option ℕ) → Judges accepts moment here bytes i (Ok c)
-          → ((before : List Certificate) → Leaves before max_path_length → (IsOver max_path_length (c ∷ []) → ⊥) → Leaves (before ++ c ∷ []) next_length)
+          → ((i + 1 == length inputs) ≡ false → (before : List Certificate) → Leaves before max_path_length → (IsOver max_path_length (c ∷ []) → ⊥) → Leaves (before ++ c ∷ []) next_length)
           → Passed (i + 1) (Some c) next_length
       further c next_length (spells, right) step = record {
         before = passed.before ++ c ∷ [];
         leaves = λ more.
             let early : (i + 1 == length inputs) ≡ false = grind (arith, more) in
             let leaves = passed.leaves within in
-            step passed.before leaves (λ over. right PathLen (early, (too_long passed.before max_path_length c leaves).1 over));
+            step early passed.before leaves (λ over. right PathLen (early, (too_long passed.before max_path_length c leaves).1 over));
         left = λ place p at r. (
           (λ h. let (d, other, fault) = (left place (suc p) (omega (arith, at)) r).0 h in
               subst (λ n. Behind n r c p) next (subst (λ x. Behind (suc i) r x p) (one_certificate d c bytes other spells) fault)),

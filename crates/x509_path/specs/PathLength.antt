@@ -5,12 +5,20 @@ use Rattle.x509_cert.specs.der.Form.{Spells}
 use Rattle.x509_cert.specs.base.declared.subject_public_key_info.SubjectPublicKeyInfo.{SubjectPublicKeyInfo}
 use Rattle.x509_cert.specs.name.declared.attr.type_and_value.AttributeTypeAndValue.{AttributeTypeAndValue}
 use Rattle.x509_cert.specs.Certificate.{rfc5280_certificate}
-use Rattle.x509_path.specs.Certificates.{Accepting, Certificate, count_not_self_issued, IsTooLong}
+use Rattle.x509_cert.specs.ext.BasicConstraints.{basic_constraints}
+use Rattle.x509_cert.specs.ext.Identifiers.{id_ce}
+use Rattle.x509_cert.specs.ext.declared.extension.Extension.{Extension}
+use Rattle.x509_cert.specs.ext.declared.pkix.basic_constraints.BasicConstraints.{BasicConstraints}
+use Rattle.x509_path.specs.Certificates.{Accepting, Certificate, HasPayload, count_not_self_issued, IsTooLong}
 use Rattle.x509_path.specs.Path.{Standing, Breaks, IsFault, IsFirst, subject_of}
 use Rattle.x509_path.specs.declared.anchor.Anchor.{Anchor}
 use Rattle.x509_path.specs.declared.fault.PathFault.{PathFault}
 use Rattle.x509_path.specs.declared.fault.PathFault.TheVariants.{Memory, Empty, At}
 use Rattle.x509_path.specs.declared.fault.PathReason.{PathReason}
+
+-- the value is that of the one BasicConstraints, none where there isn't one that can be decoded
+abbrev pub HasConstraints : List Extension → Option BasicConstraints → Type 0
+HasConstraints extensions found = (value : BasicConstraints) → HasPayload basic_constraints (id_ce 19) extensions value ↔ (found ≡ Some value)
 
 -- more of them aren't self-issued than may follow
 abbrev pub IsOver : Option ℕ → List Certificate → Type 0

@@ -1,8 +1,10 @@
 //! The extensions of a certificate that say where it may stand in a path.
 
-ghost use Rattle.std.specs.Prelude.{◌≡◌, ◌↔◌, Some, IfOk, IfErr, IsTrue, ℕ};
+ghost use Rattle.std.specs.Prelude.{◌≡◌, ◌↔◌, List, Some, IfOk, IfErr, IsTrue, false, ℕ};
 ghost use Rattle.x509_cert.specs.ext.LookUp.{IsRepeated, members};
+ghost use Rattle.x509_cert.specs.ext.declared.extension.Extension.{Extension};
 ghost use Rattle.x509_path.specs.Certificates as certificates;
+ghost use Rattle.x509_path.specs.PathLength.{HasConstraints};
 ghost use Rattle.x509_path.specs.declared.fault.PathFault.TheVariants.{Memory};
 
 use crate::fault::PathFault;
@@ -91,14 +93,39 @@ fn payload<T: AssociatedOid + Decode + Drop>(
     }
 }
 
-/// Whether the certificate is that of a certification authority.
-pub(crate) fn is_ca(alloc: Global, part: &TbsCertificate) -> Result<bool, PathFault>
-    ensures ok { IfOk result (λ b. IsTrue b ↔ certificates.IsCa (members part.now.extensions)) }
+/// The value of the one BasicConstraints that can be decoded, where another certificate follows.
+pub(crate) fn basic_constraints(
+    alloc: Global,
+    is_last: bool,
+    part: &TbsCertificate,
+) -> Result<Option<BasicConstraints>, PathFault>
+    ensures ok { IfOk result (λ found. is_last ≡ false → HasConstraints (members part.now.extensions) found) }
     ensures err { IfErr result (λ e. e ≡ Memory) }
 {
-    match payload::<BasicConstraints>(alloc, part)? {
-        Some(constraints) => Ok(constraints.ca),
-        None => Ok(false),
+    if is_last {
+        return Ok(None);
+    }
+    payload::<BasicConstraints>(alloc, part)
+}
+
+/// Whether they are those of a certification authority.
+pub(crate) fn is_ca(constraints: Option<BasicConstraints>) -> bool
+    ensures { (extensions : List Extension) → HasConstraints extensions constraints → IsTrue result ↔ certificates.IsCa extensions }
+{
+    match constraints {
+        Some(constraints) => constraints.ca,
+        None => false,
+    }
+}
+
+/// How many certificates that aren't self-issued may follow, the last apart; `None` where there is no path length
+/// constraint.
+pub(crate) fn path_len(constraints: Option<BasicConstraints>) -> Option<u8>
+    ensures { (extensions : List Extension) → HasConstraints extensions constraints → (k : ℕ) → certificates.HasPathLen extensions k ↔ (result ≡ Some k) }
+{
+    match constraints {
+        Some(constraints) => constraints.path_len_constraint,
+        None => None,
     }
 }
 
@@ -114,17 +141,5 @@ pub(crate) fn lacks_key_cert_sign(alloc: Global, part: &TbsCertificate) -> Resul
             ErrorKind::Memory => Err(PathFault::Memory),
             _ => Ok(true),
         },
-    }
-}
-
-/// How many certificates that aren't self-issued may follow, the last apart; `None` where there is no path length
-/// constraint.
-pub(crate) fn path_len(alloc: Global, part: &TbsCertificate) -> Result<Option<u8>, PathFault>
-    ensures ok { IfOk result (λ limit. (k : ℕ) → certificates.HasPathLen (members part.now.extensions) k ↔ (limit ≡ Some k)) }
-    ensures err { IfErr result (λ e. e ≡ Memory) }
-{
-    match payload::<BasicConstraints>(alloc, part)? {
-        Some(constraints) => Ok(constraints.path_len_constraint),
-        None => Ok(None),
     }
 }

@@ -1,21 +1,24 @@
 //! The checks of one certificate of a path.
 
-ghost use Rattle.std.specs.Prelude.{◌≡◌, ◌≢◌, ◌↔◌, ◌∷◌, ◌++◌, [], List, IfOk, IfErr, IsTrue};
+ghost use Rattle.std.specs.Prelude.{◌≡◌, ◌≢◌, ◌↔◌, ◌∷◌, ◌++◌, [], List, Ok, Err, IfOk, IfErr, IsTrue, MatchResult, false};
 ghost use Rattle.x509_cert.specs.der.declared.error.ErrorKind.TheVariants as kinds;
 ghost use Rattle.x509_path.specs.Certificates as certificates;
 ghost use Rattle.x509_path.specs.Path.{Breaks};
-ghost use Rattle.x509_path.specs.PathLength.{IsOver, Judges, Leaves, anchor_behind, narrowed, standing};
+ghost use Rattle.x509_path.specs.PathLength.{HasConstraints, IsOver, Judges, Leaves, anchor_behind, narrowed, standing};
 ghost use Rattle.x509_path.specs.declared.fault.PathFault.TheVariants.{Memory, At};
 ghost use Rattle.x509_path.specs.declared.fault.PathReason.TheVariants as reasons;
 
 use crate::anchor::Anchor;
-use crate::extensions::{are_handled, is_ca, is_repeated, lacks_key_cert_sign, path_len};
+use crate::extensions::{
+    are_handled, basic_constraints, is_ca, is_repeated, lacks_key_cert_sign, path_len,
+};
 use crate::fault::{PathFault, PathReason};
 use crate::verifier::Verifier;
 use std::alloc::Global;
 use x509_cert::certificate::{Certificate, signed_slice};
 use x509_cert::der::{Decode, ErrorKind};
 use x509_cert::ext::members;
+use x509_cert::ext::pkix::BasicConstraints;
 use x509_cert::laws::base::equality_of_keys_is_exact;
 use x509_cert::laws::name::equal_names_are_one_value;
 use x509_cert::name::Name;
@@ -159,16 +162,15 @@ fn narrow(max_path_length: Option<u8>, is_self_issued: bool, path_len: Option<u8
 
 /// How many certificates may follow the certificate, where it is allowed itself.
 pub(crate) fn max_path_length_behind(
-    alloc: Global,
     max_path_length: Option<u8>,
     certificate: &Certificate,
-) -> Result<Option<u8>, PathFault>
-    ensures ok { IfOk result (λ next. (before : List certificates.Certificate) → Leaves before max_path_length
-        → (IsOver max_path_length (certificate.now ∷ []) → ⊥) → Leaves (before ++ certificate.now ∷ []) next) }
-    ensures err { IfErr result (λ e. e ≡ Memory) }
+    constraints: Option<BasicConstraints>,
+) -> Option<u8>
+    ensures { HasConstraints (certificates.extensions_of certificate.now) constraints → (before : List certificates.Certificate) → Leaves before max_path_length
+        → (IsOver max_path_length (certificate.now ∷ []) → ⊥) → Leaves (before ++ certificate.now ∷ []) result }
 {
-    let path_len = path_len(alloc, certificate.tbs_certificate())?;
-    Ok(narrow(max_path_length, is_self_issued(certificate), path_len))
+    let path_len = path_len(constraints);
+    narrow(max_path_length, is_self_issued(certificate), path_len)
 }
 
 /// Whether the certificate of these bytes has that fault.
@@ -179,9 +181,11 @@ fn breaks<V: Verifier>(
     place: &Place<'_>,
     bytes: &[u8],
     certificate: &Certificate,
+    constraints: Option<BasicConstraints>,
     reason: PathReason,
 ) -> Result<bool, PathFault>
-    ensures ok { IfOk result (λ b. (before : List certificates.Certificate) → Leaves before place.now.max_path_length → IsTrue b
+    ensures ok { IfOk result (λ b. (place.now.is_last ≡ false → HasConstraints (certificates.extensions_of certificate.now) constraints)
+        → (before : List certificates.Certificate) → Leaves before place.now.max_path_length → IsTrue b
         ↔ Breaks (V.accepts verifier.now) moment (standing place.now.name.now place.now.key.now before place.now.is_last) bytes.now certificate.now
         reason) }
     ensures err { IfErr result (λ e. e ≡ Memory) }
@@ -195,10 +199,20 @@ fn breaks<V: Verifier>(
         PathReason::Signature => Ok(!is_signed(verifier, place.key, bytes, certificate)),
         PathReason::Repeated => is_repeated(alloc, members(part.extensions())),
         PathReason::Critical => Ok(!are_handled(alloc, members(part.extensions()))?),
-        PathReason::NotCa => Ok(!place.is_last && !is_ca(alloc, part)?),
+        PathReason::NotCa => Ok(!place.is_last && !is_ca(constraints)),
         PathReason::KeyUsage => Ok(!place.is_last && lacks_key_cert_sign(alloc, part)?),
         PathReason::PathLen => Ok(!place.is_last && is_over(place.max_path_length, certificate)),
     }
+}
+
+/// A certificate with which nothing is wrong.
+#[derive(Drop)]
+pub(crate) struct Judged {
+    /// The certificate.
+    pub(crate) certificate: Certificate,
+
+    /// The value of its BasicConstraints, where another certificate follows.
+    pub(crate) constraints: Option<BasicConstraints>,
 }
 
 /// The certificate of these bytes, where nothing is wrong with it; `index` is its place.
@@ -209,23 +223,41 @@ pub(crate) fn judge<V: Verifier>(
     place: &Place<'_>,
     bytes: &[u8],
     index: usize,
-) -> Result<Certificate, PathFault>
-    ensures { (before : List certificates.Certificate) → Leaves before place.now.max_path_length
-        → Judges (V.accepts verifier.now) moment (standing place.now.name.now place.now.key.now before place.now.is_last) bytes.now index result }
+) -> Result<Judged, PathFault>
+    ensures judged { (before : List certificates.Certificate) → Leaves before place.now.max_path_length
+        → MatchResult result
+        (λ judged. Judges (V.accepts verifier.now) moment (standing place.now.name.now place.now.key.now before place.now.is_last) bytes.now index
+        (Ok judged.certificate))
+        (λ e. Judges (V.accepts verifier.now) moment (standing place.now.name.now place.now.key.now before place.now.is_last) bytes.now index (Err e)) }
+    ensures constraints { IfOk result (λ judged. place.now.is_last ≡ false
+        → HasConstraints (certificates.extensions_of judged.certificate) judged.constraints) }
 {
     let certificate = match Certificate::from_der(alloc, bytes) {
         Ok(certificate) => certificate,
         Err(e) => return Err(refusal(e.kind(), index)),
     };
+    let constraints = basic_constraints(alloc, place.is_last, certificate.tbs_certificate())?;
     for reason in REASONS {
-        if breaks(alloc, verifier, moment, place, bytes, &certificate, reason)? {
+        if breaks(
+            alloc,
+            verifier,
+            moment,
+            place,
+            bytes,
+            &certificate,
+            constraints,
+            reason,
+        )? {
             return Err(PathFault::At {
                 place: index,
                 reason,
             });
         }
     }
-    Ok(certificate)
+    Ok(Judged {
+        certificate,
+        constraints,
+    })
 }
 
 /// The fault where decoding the certificate is refused with that kind.

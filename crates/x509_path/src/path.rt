@@ -72,9 +72,13 @@ pub fn check_path_slices<V: Verifier>(
     for (index, bytes) in path.iter().enumerate() {
         let is_last = index + 1 == path.len();
         let place = place_below(anchor, &above, max_path_length, is_last);
-        let certificate = judge(alloc, verifier, moment, &place, bytes, index)?;
-        max_path_length = max_path_length_behind(alloc, max_path_length, &certificate)?;
-        above = Some(certificate);
+        let judged = judge(alloc, verifier, moment, &place, bytes, index)?;
+        max_path_length = max_path_length_behind(
+            max_path_length,
+            &judged.certificate,
+            judged.constraints,
+        );
+        above = Some(judged.certificate);
     }
     Ok(())
 }

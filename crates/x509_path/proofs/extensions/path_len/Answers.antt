@@ -1,8 +1,11 @@
+use Rattle.x509_cert.specs.ext.BasicConstraints.{basic_constraints}
+use Rattle.x509_cert.specs.ext.Identifiers.{id_ce}
+use Rattle.x509_path.specs.Certificates.{HasPayload}
 use Rattle.x509_path.proofs.Payloads.{limit, no_limit}
 use Rattle.x509_path.proofs.extensions.path_len.Goals as goal
 
-pub returns-in-Some-clause-ok : goal.returns-in-Some-clause-ok
-returns-in-Some-clause-ok c = limit _ _ c.in_ok-constraints.ensures.ok c.in-Some.constraints c.in-Some.is (λ b. b.path_len_constraint)
+pub returns-in-Some : goal.returns-in-Some
+returns-in-Some c = λ extensions said. limit (HasPayload basic_constraints (id_ce 19) extensions) c.args.constraints said c.in-Some.constraints c.in-Some.is (λ b. b.path_len_constraint)
 
-pub returns-in-None-clause-ok : goal.returns-in-None-clause-ok
-returns-in-None-clause-ok c = no_limit _ _ c.in_ok-constraints.ensures.ok c.in-None.is (λ b. b.path_len_constraint)
+pub returns-in-None : goal.returns-in-None
+returns-in-None c = λ extensions said. no_limit (HasPayload basic_constraints (id_ce 19) extensions) c.args.constraints said c.in-None.is (λ b. b.path_len_constraint)
