@@ -143,13 +143,17 @@ fn is_over(max_path_length: Option<u8>, certificate: &Certificate) -> bool
 }
 
 /// How many certificates may follow one that is allowed itself.
-fn narrow(max_path_length: Option<u8>, is_self_issued: bool, path_len: Option<u8>) -> Option<u8>
-    ensures { result ≡ narrowed max_path_length is_self_issued path_len }
+fn narrow(
+    max_path_length: Option<u8>,
+    certificate: &Certificate,
+    path_len: Option<u8>,
+) -> Option<u8>
+    ensures { result ≡ narrowed max_path_length (certificates.is_self_issued certificate.now) path_len }
 {
     let Some(max_path_length) = max_path_length else {
         return path_len;
     };
-    let left = if is_self_issued {
+    let left = if is_self_issued(certificate) {
         max_path_length
     } else {
         max_path_length.saturating_sub(1)
@@ -170,7 +174,7 @@ pub(crate) fn max_path_length_behind(
         → (IsOver max_path_length (certificate.now ∷ []) → ⊥) → Leaves (before ++ certificate.now ∷ []) result }
 {
     let path_len = path_len(constraints);
-    narrow(max_path_length, is_self_issued(certificate), path_len)
+    narrow(max_path_length, certificate, path_len)
 }
 
 /// Whether the certificate of these bytes has that fault.
