@@ -1,4 +1,6 @@
 pub mod Written
+pub mod Runs
+pub mod Blocks
 pub mod Dates
 pub mod Answered
 pub mod LeftOut

@@ -1,4 +1,5 @@
 pub mod Lines
+pub mod Runs
 pub mod Names
 pub mod Payloads
 pub mod Values

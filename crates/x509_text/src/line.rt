@@ -1,10 +1,14 @@
 //! Lines of a document: a label and a text, as a text for people or as JSON.
 
-ghost use Rattle.std.specs.Prelude.{◌≡◌, ◌++◌, OnOk, string_bytes};
+ghost use Rattle.std.specs.Prelude.{◌≡◌, ◌++◌, ◌<◌, ◌≤◌, ℕ, false, min, length, IfOk, OnOk, slice_index, string_bytes};
+ghost use Rattle.std.specs.Bool.{OnTrue};
 ghost use Rattle.std.specs.List.{flat_map};
+ghost use Rattle.std.specs.Str.{IsUtf8};
 ghost use Rattle.x509_text.specs.Lines as lines;
+ghost use Rattle.x509_text.specs.Runs as runs;
 
 use std::alloc::{AllocError, Global};
+use std::simd::prelude::*;
 
 /// How a document is printed.
 #[derive(Clone, Copy, Debug, PartialEq, Eq)]
@@ -139,9 +143,8 @@ fn write_text_char(alloc: Global, c: char, out: &mut String) -> Result<(), Alloc
     if !is_hidden(c as u32) {
         return out.push(c);
     }
-    let mut one = String::new(alloc);
-    one.push(c)?;
-    write_bytes(alloc, one.as_str().as_bytes(), out)
+    let mut buffer = [0; 4];
+    write_bytes(alloc, c.encode_utf8(&mut buffer).as_bytes(), out)
 }
 
 /// Writes a character of a string of JSON.
@@ -150,7 +153,7 @@ fn write_json_char(alloc: Global, c: char, out: &mut String) -> Result<(), Alloc
 {
     let code = c as u32;
     if c == '"' || c == '\\' {
-        out.push_str("\\")?;
+        out.push('\\')?;
         return out.push(c);
     }
     if !is_hidden(code) {
@@ -162,23 +165,176 @@ fn write_json_char(alloc: Global, c: char, out: &mut String) -> Result<(), Alloc
     out.push_str(digits.as_str())
 }
 
-#[tactic(auto, unfolding(crate::specs::Lines::shown_char))]
+/// Whether a character is outside of what stands for itself in ASCII, or may be quoted.
+fn is_special(code: u32) -> bool
+    ensures { result ≡ runs.is_special code }
+{
+    code < 0x20 || 0x7E < code || code == 34 || code == 92
+}
+
+/// Writes a character so that it stays within its line.
+#[tactic(auto, unfolding(crate::specs::Lines::shown_char), using(crate::proofs::Runs::shown_unless_special))]
 fn write_char(alloc: Global, style: Style, c: char, out: &mut String) -> Result<(), AllocError>
     ensures { OnOk result (string_bytes out.new ≡ string_bytes out.old ++ lines.shown_char style c) }
 {
+    if !is_special(c as u32) {
+        return out.push(c);
+    }
     match style {
         Style::Text => write_text_char(alloc, c, out),
         Style::Json => write_json_char(alloc, c, out),
     }
 }
 
-/// Writes a text so that it stays within its line.
-#[tactic(auto, unfolding(crate::specs::Lines::shown))]
+/// The byte at a place, or 0 behind the last.
+fn byte_at(bytes: &[u8], at: usize) -> u8
+    ensures { result ≡ slice_index bytes.now at }
+{
+    match bytes.get(at) {
+        Some(byte) => *byte,
+        None => 0,
+    }
+}
+
+/// Whether the UTF-8 of a hidden character begins with a byte beyond ASCII and the bytes after it.
+fn begins_hidden(first: u8, after: &[u8]) -> bool
+    ensures { result ≡ runs.begins_hidden first (slice_index after.now 0) (slice_index after.now 1) }
+{
+    match first {
+        0xC2 => byte_at(after, 0) < 0xA0,
+        0xD8 => byte_at(after, 0) == 0x9C,
+        0xE2 => match byte_at(after, 0) {
+            0x80 => matches!(byte_at(after, 1), 0x8E..=0x8F | 0xA8..=0xAE),
+            0x81 => matches!(byte_at(after, 1), 0xA6..=0xA9),
+            _ => false,
+        },
+        _ => false,
+    }
+}
+
+/// Whether a byte stands behind a backslash in this style.
+fn is_quoted(style: Style, byte: u8) -> bool
+    ensures { result ≡ runs.is_quoted style byte }
+{
+    match style {
+        Style::Text => false,
+        Style::Json => byte == b'"' || byte == b'\\',
+    }
+}
+
+/// Whether a character that doesn't stand for itself begins with a byte and the bytes after it.
+#[tactic(auto, unfolding(crate::specs::Runs::ends_run))]
+fn ends_run(style: Style, first: u8, after: &[u8]) -> bool
+    ensures { result ≡ runs.ends_run style first (slice_index after.now 0) (slice_index after.now 1) }
+{
+    if first < 0x80 {
+        first < 0x20 || first == 0x7F || is_quoted(style, first)
+    } else {
+        begins_hidden(first, after)
+    }
+}
+
+/// How many bytes are tested at once.
+const BLOCK: usize = 16;
+
+/// Whether the first bytes stand for themselves in each style, all of them in ASCII.
+fn is_plain_block(bytes: &[u8]) -> bool
+    requires { BLOCK ≤ length bytes.now }
+    ensures { OnTrue result ((k : ℕ) → k < BLOCK → runs.is_special (slice_index bytes.now k) ≡ false) }
+{
+    let block = u8x16::from_slice(bytes);
+    let is_outside = block.simd_lt(u8x16::splat(0x20)) | block.simd_gt(u8x16::splat(0x7E));
+    let is_quoted = block.simd_eq(u8x16::splat(b'"')) | block.simd_eq(u8x16::splat(b'\\'));
+    (is_outside | is_quoted).to_bitmask() == 0
+}
+
+/// The same as `run_len`, but no more than a block of bytes.
+#[tactic(auto, unfolding(crate::specs::Runs::run_len))]
+fn run_in_block(style: Style, bytes: &[u8]) -> usize
+    ensures { result ≡ min BLOCK (runs.run_len style bytes.now) }
+{
+    let mut rest = bytes;
+    let mut len = 0;
+    while len < BLOCK {
+        let [first, after @ ..] = rest else {
+            return len;
+        };
+        if ends_run(style, *first, after) {
+            return len;
+        }
+        rest = after;
+        len += 1;
+    }
+    len
+}
+
+/// The same where there are as many.
+fn run_in_whole_block(style: Style, bytes: &[u8]) -> usize
+    requires { BLOCK ≤ length bytes.now }
+    ensures { result ≡ min BLOCK (runs.run_len style bytes.now) }
+{
+    if is_plain_block(bytes) {
+        return BLOCK;
+    }
+    run_in_block(style, bytes)
+}
+
+/// How many bytes of a text lie in front of its first character that doesn't stand for itself.
+fn run_len(style: Style, bytes: &[u8]) -> usize
+    ensures { result ≡ runs.run_len style bytes.now }
+{
+    let mut rest = bytes;
+    while rest.len() >= BLOCK {
+        let len = run_in_whole_block(style, rest);
+        if len < BLOCK {
+            return bytes.len() - rest.len() + len;
+        }
+        rest = &rest[BLOCK..];
+    }
+    bytes.len() - rest.len() + run_in_block(style, rest)
+}
+
+/// How many characters are written one by one before the next run is looked for.
+const FEW: usize = 16;
+
+/// Writes the first characters of a text one by one, and gives the others.
+fn write_few<'a>(
+    alloc: Global,
+    style: Style,
+    text: &'a str,
+    out: &mut String,
+) -> Result<&'a str, AllocError>
+    ensures written { IfOk result (λ others. string_bytes out.new ++ lines.shown style others.now ≡ string_bytes out.old ++ lines.shown style text.now) }
+    ensures utf8 { IfOk result (λ others. IsUtf8 others.now) }
+    ensures fewer { 0 < length text.now → IfOk result (λ others. length others.now < length text.now) }
+{
+    let mut rest = text;
+    let mut left = FEW;
+    while left > 0 {
+        let mut chars = rest.chars();
+        match chars.next() {
+            Some(c) => write_char(alloc, style, c, out)?,
+            None => return Ok(rest),
+        }
+        rest = chars.as_str();
+        left -= 1;
+    }
+    Ok(rest)
+}
+
+/// Writes a text so that it stays within its line: what stands for itself in runs.
 fn write_shown(alloc: Global, style: Style, text: &str, out: &mut String) -> Result<(), AllocError>
     ensures { OnOk result (string_bytes out.new ≡ string_bytes out.old ++ lines.shown style text.now) }
 {
-    for c in text.chars() {
-        write_char(alloc, style, c, out)?;
+    let mut rest = text;
+    while !rest.is_empty() {
+        let (run, others) = rest.split_at(run_len(style, rest.as_bytes()));
+        out.push_str(run)?;
+        if others.is_empty() {
+            return Ok(());
+        }
+        // Where one character doesn't stand for itself, others often follow.
+        rest = write_few(alloc, style, others, out)?;
     }
     Ok(())
 }
