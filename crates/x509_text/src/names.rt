@@ -1,6 +1,6 @@
 //! The table of object identifiers that have a name here.
 
-ghost use Rattle.std.specs.Prelude.{◌≡◌, map};
+ghost use Rattle.std.specs.Prelude.{◌≡◌, bytes_eq, map, true};
 ghost use Rattle.std.specs.Option.{option_map};
 ghost use Rattle.x509_text.specs.Names as names;
 
@@ -351,12 +351,35 @@ pub const NAMES: [Row; 83] = [
     ),
 ];
 
+/// The same rows, in one place for all who look a name up.
+static TABLE: [Row; 83] = NAMES;
+
+/// Whether two OIDs have as many content octets, and the same last one.
+fn is_like(one: &[u8], other: &[u8]) -> bool
+    ensures { one.now ≡ other.now → result ≡ true }
+{
+    match (one, other) {
+        ([.., last], [.., other_last]) => one.len() == other.len() && last == other_last,
+        _ => one.len() == other.len(),
+    }
+}
+
+/// Whether two OIDs have the same content octets.
+fn is_same(one: &[u8], other: &[u8]) -> bool
+    ensures { result ≡ bytes_eq one.now other.now }
+{
+    if !is_like(one, other) {
+        return false;
+    }
+    one == other
+}
+
 /// The name of the first row with the content octets.
 fn find(mut rows: &[Row], octets: &[u8]) -> Option<&'static str>
     ensures { option_map (λ name. name.now) result ≡ names.first_name octets.now (map (λ r. names.row r.0.now r.1.now) rows.entry.now) }
 {
     while let [row, rest @ ..] = rows {
-        if row.1 == octets {
+        if is_same(row.1, octets) {
             return Some(row.0);
         }
         rows = rest;
@@ -369,5 +392,5 @@ fn find(mut rows: &[Row], octets: &[u8]) -> Option<&'static str>
 pub fn name_of(octets: &[u8]) -> Option<&'static str>
     ensures { option_map (λ name. name.now) result ≡ names.name_of octets.now }
 {
-    find(&NAMES, octets)
+    find(&TABLE, octets)
 }
