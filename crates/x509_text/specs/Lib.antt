@@ -1,5 +1,6 @@
 pub mod Lines
 pub mod Runs
+pub mod ColonHex
 pub mod Names
 pub mod Payloads
 pub mod Values

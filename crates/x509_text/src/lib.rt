@@ -9,6 +9,7 @@ mod algorithms;
 mod anchors;
 mod certificates;
 mod crls;
+mod digits;
 mod documents;
 mod extensions;
 mod general_names;

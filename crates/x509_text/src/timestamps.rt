@@ -4,6 +4,7 @@ ghost use Rattle.std.specs.Option.{option_map};
 ghost use Rattle.std.specs.Prelude.{◌≡◌, ◌<◌, ◌++◌, OnOk, IfOk, string_bytes};
 ghost use Rattle.x509_text.specs.Timestamps as timestamps;
 
+use crate::digits::write_two;
 use crate::line::{Place, write_line};
 use crate::show::{Show, show_each, write_octets};
 use crate::values::second_text;
@@ -23,9 +24,10 @@ fn write_fraction(millis: u64, out: &mut String) -> Result<(), AllocError>
     if millis == 0 {
         return Ok(());
     }
-    let hundreds = millis / 100;
-    let rest = millis % 100;
-    write!(out, ".{hundreds}{rest:02}")
+    let hundreds = (millis / 100) as u8;
+    out.push('.')?;
+    out.push(char::from(b'0' + hundreds))?;
+    write_two((millis % 100) as u8, out)
 }
 
 /// The text of a moment and its milliseconds.

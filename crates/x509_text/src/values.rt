@@ -4,6 +4,7 @@ ghost use Rattle.std.specs.Prelude.{◌≡◌, ◌++◌, ◌<◌, OnOk, IfOk, st
 ghost use Rattle.x509_text.specs.Names.{oid_text};
 ghost use Rattle.x509_text.specs.Values as values;
 
+use crate::digits::{colon_text, write_behind, write_four};
 use crate::line::{Place, write_line};
 use crate::names::name_of;
 use crate::show::{write_element, write_octets};
@@ -28,7 +29,7 @@ pub(crate) fn oid_text(alloc: Global, oid: &ObjectIdentifier) -> Result<String, 
 }
 
 /// Writes an OID.
-#[tactic(auto, unfolding(crate::specs::Values::oid_line))]
+#[tactic(auto, unfolding(crate::specs::Values::oid_line, crate::specs::Names::oid_text))]
 pub(crate) fn write_oid(
     alloc: Global,
     at: Place,
@@ -38,8 +39,13 @@ pub(crate) fn write_oid(
 ) -> Result<(), AllocError>
     ensures { OnOk result (string_bytes out.new ≡ string_bytes out.old ++ values.oid_line at label.now oid.now) }
 {
-    let text = oid_text(alloc, oid)?;
-    write_line(alloc, at, label, text.as_str(), out)
+    match name_of(oid.as_bytes()) {
+        Some(name) => write_line(alloc, at, label, name, out),
+        None => {
+            let text = oid.to_string(alloc)?;
+            write_line(alloc, at, label, text.as_str(), out)
+        }
+    }
 }
 
 /// Writes a number in decimal digits.
@@ -99,22 +105,27 @@ pub(crate) fn write_serial<P: Profile>(
 ) -> Result<(), AllocError>
     ensures { OnOk result (string_bytes out.new ≡ string_bytes out.old ++ values.serial_line at label.now serial.now) }
 {
-    let text = serial.to_string(alloc)?;
+    let text = colon_text(alloc, serial.as_bytes())?;
     write_line(alloc, at, label, text.as_str(), out)
 }
+
+/// The length of `2025-01-31 08:30:00.500 UTC`.
+const LONGEST_MOMENT: usize = 27;
 
 /// The text of a date and a time of day, as `2025-01-31 08:30:00`.
 #[tactic(auto, unfolding(crate::specs::Values::second_text))]
 pub(crate) fn second_text(alloc: Global, moment: &DateTime) -> Result<String, AllocError>
     ensures { IfOk result (λ text. string_bytes text ≡ values.second_text moment.now) }
 {
-    let year = moment.year();
-    let month = moment.month();
-    let day = moment.day();
-    let hour = moment.hour();
-    let minutes = moment.minutes();
-    let seconds = moment.seconds();
-    format!(in alloc; "{year:04}-{month:02}-{day:02} {hour:02}:{minutes:02}:{seconds:02}")
+    let (month, day) = (moment.month(), moment.day());
+    let mut text = String::with_capacity(alloc, LONGEST_MOMENT)?;
+    write_four(moment.year(), &mut text)?;
+    write_behind('-', month, &mut text)?;
+    write_behind('-', day, &mut text)?;
+    write_behind(' ', moment.hour(), &mut text)?;
+    write_behind(':', moment.minutes(), &mut text)?;
+    write_behind(':', moment.seconds(), &mut text)?;
+    Ok(text)
 }
 
 /// The text of a moment, as `2025-01-31 08:30:00 UTC`.

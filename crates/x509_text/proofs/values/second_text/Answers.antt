@@ -1,13 +1,23 @@
-use Rattle.std.proofs.Common.{arith}
-use Rattle.std.proofs.lemmas.Grind.{common_steps}
-use Rattle.x509_base.proofs.CalendarLemmas.{days_in_month_bound}
-use Rattle.x509_base.proofs.DigitLemmas.{zero_filled-two, zero_filled-four}
+use Rattle.std.proofs.Common.{refl}
 use Rattle.x509_text.specs.Values.{second_text}
 use Rattle.x509_text.proofs.values.second_text.Goals as goal
 
 pub returns : goal.returns
 unfolding second_text
 returns c =
-    let real = c.year-year.ensures.real in
-    let day = days_in_month_bound c.args.moment.now.year c.args.moment.now.month in
-    grind (arith, common_steps, zero_filled-two, zero_filled-four)
+    rw (
+      c.in_ok-write_behind-5.ensures,
+      c.in_ok-write_behind-4.ensures,
+      c.in_ok-write_behind-3.ensures,
+      c.in_ok-write_behind-2.ensures,
+      c.in_ok-write_behind.ensures,
+      c.in_ok-write_four.ensures,
+      c.in_ok-text.ensures.bytes,
+      c.year.ensures.value,
+      c.month-month.ensures,
+      c.day-day.ensures,
+      c.hour.ensures,
+      c.minutes.ensures,
+      c.seconds.ensures,
+    )
+    refl

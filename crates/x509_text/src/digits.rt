@@ -1,0 +1,82 @@
+//! Digits that are written one by one: octets in hex, and the numbers of dates.
+
+ghost use Rattle.std.specs.Prelude.{◌≡◌, ◌∷◌, ◌++◌, ◌<◌, true, OnOk, IfOk, string_bytes};
+ghost use Rattle.std.specs.Fmt.{digit_glyph};
+ghost use Rattle.std.specs.List.{flat_map};
+ghost use Rattle.x509_base.specs.Serial.{colon_hex, hex_octet};
+ghost use Rattle.x509_base.specs.TimeText.{four_digits, two_digits};
+ghost use Rattle.x509_text.specs.ColonHex.{further_octet};
+
+use std::alloc::{AllocError, Global};
+
+/// The hex digit of a number, 0 to 9 and A to F.
+fn hex_digit(number: u8) -> char
+    requires { number < 16 }
+    ensures { result ≡ digit_glyph true number }
+{
+    if number < 10 {
+        char::from(b'0' + number)
+    } else {
+        char::from(b'A' + (number - 10))
+    }
+}
+
+/// Writes an octet as two hex digits.
+fn write_octet(octet: u8, out: &mut String) -> Result<(), AllocError>
+    ensures { OnOk result (string_bytes out.new ≡ string_bytes out.old ++ hex_octet octet) }
+{
+    out.push(hex_digit(octet / 16))?;
+    out.push(hex_digit(octet % 16))
+}
+
+/// Writes each octet as a colon and two hex digits.
+fn write_others(octets: &[u8], out: &mut String) -> Result<(), AllocError>
+    ensures { OnOk result (string_bytes out.new ≡ string_bytes out.old ++ flat_map further_octet octets.now) }
+{
+    for octet in octets {
+        out.push(':')?;
+        write_octet(*octet, out)?;
+    }
+    Ok(())
+}
+
+/// The octets in hex, joined by colons.
+pub(crate) fn colon_text(alloc: Global, octets: &[u8]) -> Result<String, AllocError>
+    ensures { IfOk result (λ text. string_bytes text ≡ colon_hex octets.now) }
+{
+    let [first, others @ ..] = octets else {
+        return Ok(String::new(alloc));
+    };
+    let mut text = String::with_capacity(alloc, octets.len().saturating_mul(3))?;
+    write_octet(*first, &mut text)?;
+    write_others(others, &mut text)?;
+    Ok(text)
+}
+
+/// Writes a number as two decimal digits.
+pub(crate) fn write_two(number: u8, out: &mut String) -> Result<(), AllocError>
+    requires { number < 100 }
+    ensures { OnOk result (string_bytes out.new ≡ string_bytes out.old ++ two_digits number) }
+{
+    out.push(char::from(b'0' + number / 10))?;
+    out.push(char::from(b'0' + number % 10))
+}
+
+/// Writes a number as four decimal digits.
+pub(crate) fn write_four(number: u16, out: &mut String) -> Result<(), AllocError>
+    requires { number < 10000 }
+    ensures { OnOk result (string_bytes out.new ≡ string_bytes out.old ++ four_digits number) }
+{
+    write_two((number / 100) as u8, out)?;
+    write_two((number % 100) as u8, out)
+}
+
+/// Writes a character of ASCII, and a number behind it as two decimal digits.
+pub(crate) fn write_behind(separator: char, number: u8, out: &mut String) -> Result<(), AllocError>
+    requires ascii { separator < 128 }
+    requires two { number < 100 }
+    ensures { OnOk result (string_bytes out.new ≡ string_bytes out.old ++ (separator ∷ two_digits number)) }
+{
+    out.push(separator)?;
+    write_two(number, out)
+}
