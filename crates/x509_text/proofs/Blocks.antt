@@ -4,7 +4,7 @@ use Rattle.std.specs.Bool.{OnTrue}
 use Rattle.std.specs.Prelude.{slice_index}
 use Rattle.std.proofs.lemmas.Bool.{agree_below_at, cases_Bool, eqb-true}
 use Rattle.std.proofs.lemmas.Bool.Decides.{nat_tests}
-use Rattle.std.proofs.lemmas.List.{length-map}
+use Rattle.std.proofs.lemmas.List.{length-map, length-take-le, get_or-take, get_or-drop}
 use Rattle.std.proofs.lemmas.Simd.{zip2_splat, mask_l-mod, none_from_empty_mask, length-chunk, chunk-fits}
 use lib.Lanes.{Each1, zip2, chunk, mask_l, top}
 use Rattle.x509_text.specs.declared.line.Style.{Style}
@@ -48,6 +48,28 @@ pub run_behind : (style : Style) (n : ℕ) (bytes : List ℕ) → n ≤ run_len 
 run_behind style n bytes within =
     let all : take (length bytes - n) (drop n bytes) ≡ drop n bytes = take_all (length bytes - n) (drop n bytes) (omega (arith, length-drop n bytes)) in
     rw all (run_from style n bytes within)
+
+pub rest_len : (n : ℕ) (bytes : List ℕ) → n ≤ length bytes → length (take (length bytes - n) (drop n bytes)) ≡ length bytes - n
+rest_len n bytes within = length-take-le (length bytes - n) (drop n bytes) (omega (arith, length-drop n bytes))
+
+-- where no byte of the last block is special, a run into it is the whole
+pub run_to_end : (style : Style) (at : ℕ) (bytes : List ℕ) → 16 ≤ length bytes → at ≤ run_len style bytes → length bytes < at + 16
+    → ((k : ℕ) → k < 16 → is_special (get_or (take (length bytes - (length bytes - 16)) (drop (length bytes - 16) bytes)) k 0) ≡ false) → length bytes ≡ run_len style bytes
+run_to_end style at bytes room within last plain =
+    let start : ℕ = length bytes - 16 in
+    let rest : List ℕ = take (length bytes - at) (drop at bytes) in
+    let bound = run_bound style bytes in
+    let size : length rest ≡ length bytes - at = rest_len at bytes (omega arith) in
+    let all : (k : ℕ) → k < length rest → is_special (get_or rest k 0) ≡ false =
+    λ k lt.
+    let of_rest : get_or rest k 0 ≡ get_or bytes (at + k) 0 = get_or-take (length bytes - at) (drop at bytes) k 0 (omega arith) ∙ get_or-drop at bytes k 0 in
+    let place : start + (at + k - start) ≡ at + k = omega arith in
+    let of_block : get_or (take (length bytes - start) (drop start bytes)) (at + k - start) 0 ≡ get_or bytes (at + k) 0 =
+    get_or-take (length bytes - start) (drop start bytes) (at + k - start) 0 (omega arith) ∙ get_or-drop start bytes (at + k - start) 0 ∙ ap (λ (n : ℕ). get_or bytes n 0) place in
+    ap is_special (of_rest ∙ sym of_block) ∙ plain (at + k - start) (omega arith) in
+    let more = run_of_plain style (length rest) rest (omega arith) all in
+    let whole = run_behind style at bytes within in
+    omega arith
 
 -- ---- masks
 

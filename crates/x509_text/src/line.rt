@@ -283,15 +283,19 @@ fn run_in_whole_block(style: Style, bytes: &[u8]) -> usize
 fn run_len(style: Style, bytes: &[u8]) -> usize
     ensures { result ≡ runs.run_len style bytes.now }
 {
-    let mut rest = bytes;
-    while rest.len() >= BLOCK {
-        let len = run_in_whole_block(style, rest);
+    let mut at = 0;
+    while bytes.len() - at >= BLOCK {
+        let len = run_in_whole_block(style, &bytes[at..]);
         if len < BLOCK {
-            return bytes.len() - rest.len() + len;
+            return at + len;
         }
-        rest = &rest[BLOCK..];
+        at += BLOCK;
     }
-    bytes.len() - rest.len() + run_in_block(style, rest)
+    // The last block may overlap the one before.
+    if bytes.len() >= BLOCK && is_plain_block(&bytes[bytes.len() - BLOCK..]) {
+        return bytes.len();
+    }
+    at + run_in_block(style, &bytes[at..])
 }
 
 /// How many characters are written one by one before the next run is looked for.

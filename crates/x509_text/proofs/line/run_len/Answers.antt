@@ -1,17 +1,21 @@
-use Rattle.std.proofs.Common.{◌≡◌, ◌-◌, ℕ, List, length, take, drop, length-drop, arith}
-use Rattle.std.proofs.lemmas.List.{length-take-le}
-use Rattle.x509_text.proofs.Blocks.{run_bound, run_behind}
+use Rattle.std.proofs.Common.{◌-◌, ℕ, List, length, take, drop, arith}
+use Rattle.x509_text.proofs.Blocks.{rest_len, run_bound, run_behind, run_to_end}
 use Rattle.x509_text.proofs.line.run_len.Goals as goal
 
-pub loop-rest-preserved : goal.loop-rest-preserved
-loop-rest-preserved c =
-    let rest : List ℕ = c.loop-rest.rest.now in
-    let more = run_behind c.args.style 16 rest (omega arith) in
-    let left : length (take (length rest - 16) (drop 16 rest)) ≡ length rest - 16 = length-take-le (length rest - 16) (drop 16 rest) (omega (arith, length-drop 16 rest)) in
-    record {
-      left = omega arith;
-      more = omega arith;
-    }
+pub returns-then-len-lt-BLOCK : goal.returns-then-len-lt-BLOCK
+returns-then-len-lt-BLOCK c = omega (arith, run_behind c.args.style c.loop-at.at c.args.bytes.now c.loop-at.invariant.1)
+
+pub loop-at-preserved : goal.loop-at-preserved
+loop-at-preserved c = (omega arith, omega (arith, run_behind c.args.style c.loop-at.at c.args.bytes.now c.loop-at.invariant.1))
+
+pub is_plain_block-requires : goal.is_plain_block-requires
+is_plain_block-requires c = omega (arith, rest_len (length c.args.bytes.now - 16) c.args.bytes.now (omega arith))
+
+pub returns-then-is_plain_block : goal.returns-then-is_plain_block
+returns-then-is_plain_block c = run_to_end c.args.style c.loop-at.at c.args.bytes.now (omega arith) c.loop-at.invariant.1 (omega arith) c.if-is_plain_block.ensures
 
 pub returns : goal.returns
-returns c = omega (arith, run_bound c.args.style c.loop-rest.rest.now)
+returns c =
+    let bytes : List ℕ = c.args.bytes.now in
+    let at : ℕ = c.loop-at.at in
+    omega (arith, run_behind c.args.style at bytes c.loop-at.invariant.1, run_bound c.args.style (take (length bytes - at) (drop at bytes)), rest_len at bytes c.loop-at.invariant.0)
