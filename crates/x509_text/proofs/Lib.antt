@@ -5,5 +5,6 @@ pub mod ColonHex
 pub mod Dates
 pub mod Answered
 pub mod LeftOut
+pub mod Passed
 pub mod Elements
 pub mod Begins

@@ -17,14 +17,15 @@ use x509_cert::AlgorithmIdentifier;
 use x509_cert::certificate::{Raw, Version};
 use x509_cert::crl::{CertificateList, RevokedCert, TbsCertList};
 use x509_cert::der::asn1::BitString;
-use x509_cert::der::{Error, ErrorKind, Tag};
+use x509_cert::der::{Error, ErrorKind, Length, Tag};
 use x509_cert::ext::Extensions;
 use x509_cert::name::Name;
 use x509_cert::time::Time;
+use x509_check::check_members;
 use x509_der::{end, read_field, read_optional, read_optional_explicit, split_usual};
 
 /// Reads the elements of entries, one after the other, each of which is let go.
-fn pass_entries(alloc: Global, octets: &[u8]) -> Result<(), Error>
+fn read_each(alloc: Global, octets: &[u8]) -> Result<(), Error>
     ensures { GivesSo (λ _ _. Unit {0}) result (read_entries octets.now) }
 {
     let mut rest = octets;
@@ -32,6 +33,17 @@ fn pass_entries(alloc: Global, octets: &[u8]) -> Result<(), Error>
         read_field::<RevokedCert<Raw>>(alloc, &mut rest)?;
     }
     Ok(())
+}
+
+/// Checks that the octets are the elements of entries, one after the other.
+fn pass_entries(alloc: Global, octets: &[u8]) -> Result<(), Error>
+    ensures { GivesSo (λ _ _. Unit {0}) result (read_entries octets.now) }
+{
+    // A check takes no more than that.
+    if octets.len() > Length::MAX.as_u32() as usize {
+        return read_each(alloc, octets);
+    }
+    check_members::<RevokedCert<Raw>>(octets)
 }
 
 /// The elements of the entries, of the list at the front.
@@ -125,8 +137,8 @@ fn split_content<'a>(
     }
 }
 
-/// The CRL that the bytes are the encoding of, without its entries, and the elements of these, one after the other. One entry at a time
-/// is decoded.
+/// The CRL that the bytes are the encoding of, without its entries, and the elements of these, one after the other. The entries are
+/// checked, one at a time.
 ///
 /// # Errors
 ///

@@ -3,7 +3,7 @@ use Rattle.x509_cert.specs.base.declared.profile.Raw.{Raw}
 use Rattle.x509_cert.specs.declared.crl.revoked_cert.RevokedCert.{RevokedCert}
 use Rattle.x509_der.specs.List.{with_front}
 use Rattle.x509_text.specs.SplitCrls.{read_entries}
-use Rattle.x509_text.proofs.split_crl.pass_entries.Given as goal
+use Rattle.x509_text.proofs.split_crl.read_each.Given as goal
 
 -- the entries that were passed, and those that are left
 abbrev pub invariant-loop-rest : goal.invariant-loop-rest
