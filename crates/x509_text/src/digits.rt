@@ -1,8 +1,9 @@
 //! Digits that are written one by one: octets in hex, and the numbers of dates.
 
-ghost use Rattle.std.specs.Prelude.{◌≡◌, ◌∷◌, ◌++◌, ◌<◌, true, OnOk, IfOk, string_bytes};
+ghost use Rattle.std.specs.Prelude.{◌≡◌, ◌∷◌, ◌++◌, ◌*◌, ◌<◌, true, length, slice_index, OnOk, IfOk, string_bytes};
 ghost use Rattle.std.specs.Fmt.{digit_glyph};
 ghost use Rattle.std.specs.List.{flat_map};
+ghost use Rattle.hex.specs.Hex.{encode_lower, lower_digits};
 ghost use Rattle.x509_base.specs.Serial.{colon_hex, hex_octet};
 ghost use Rattle.x509_base.specs.TimeText.{four_digits, two_digits};
 ghost use Rattle.x509_text.specs.ColonHex.{further_octet};
@@ -51,6 +52,43 @@ pub(crate) fn colon_text(alloc: Global, octets: &[u8]) -> Result<String, AllocEr
     write_octet(*first, &mut text)?;
     write_others(others, &mut text)?;
     Ok(text)
+}
+
+/// The hex digit of a number, 0 to 9 and a to f.
+fn lower_digit(number: u8) -> u8
+    requires { number < 16 }
+    ensures { result ≡ slice_index lower_digits number }
+{
+    if number < 10 {
+        b'0' + number
+    } else {
+        b'a' + (number - 10)
+    }
+}
+
+/// Writes the octets in hex over as many digits.
+// The digits are computed, so that a compiler can take many octets at once.
+fn fill_hex(octets: &[u8], digits: &mut [u8])
+    requires { length digits.old ≡ 2 * length octets.now }
+    ensures { digits.new ≡ encode_lower octets.now }
+{
+    'octets: for i in 0..octets.len() {
+        let octet = octets[i];
+        digits[2 * i] = lower_digit(octet / 16);
+        digits[2 * i + 1] = lower_digit(octet % 16);
+    }
+}
+
+/// The octets in hex.
+pub(crate) fn hex_text(alloc: Global, octets: &[u8]) -> Result<String, AllocError>
+    ensures { IfOk result (λ text. string_bytes text ≡ encode_lower octets.now) }
+{
+    let Some(len) = octets.len().checked_mul(2) else {
+        return Err(AllocError);
+    };
+    let mut digits = vec![in alloc; 0u8; len]?;
+    fill_hex(octets, digits.as_mut_slice());
+    Ok(String::from_utf8(digits).unwrap())
 }
 
 /// Writes a number as two decimal digits.

@@ -4,6 +4,7 @@ ghost use Rattle.std.specs.Prelude.{◌≡◌, ◌++◌, OnOk, IfOk, string_byte
 ghost use Rattle.std.specs.List.{flat_map};
 ghost use Rattle.x509_text.specs.Payloads as payloads;
 
+use crate::digits::hex_text;
 use crate::line::{Place, write_line};
 use std::alloc::{AllocError, Global};
 use x509_cert::der::asn1::Any;
@@ -67,7 +68,7 @@ pub(crate) fn write_octets(
 ) -> Result<(), AllocError>
     ensures { OnOk result (string_bytes out.new ≡ string_bytes out.old ++ payloads.octets_line at label.now octets.now) }
 {
-    let text = hex::encode(alloc, octets)?;
+    let text = hex_text(alloc, octets)?;
     write_line(alloc, at, label, text.as_str(), out)
 }
 

@@ -4,7 +4,7 @@ ghost use Rattle.std.specs.Prelude.{◌≡◌, ◌++◌, ◌<◌, OnOk, IfOk, st
 ghost use Rattle.x509_text.specs.Names.{oid_text};
 ghost use Rattle.x509_text.specs.Values as values;
 
-use crate::digits::{colon_text, write_behind, write_four};
+use crate::digits::{colon_text, hex_text, write_behind, write_four};
 use crate::line::{Place, write_line};
 use crate::names::name_of;
 use crate::show::{write_element, write_octets};
@@ -166,7 +166,7 @@ pub(crate) fn write_uint(
     match number.to_u64() {
         Some(number) => write_number(alloc, at, label, number, out),
         None => {
-            let digits = hex::encode(alloc, number.as_bytes())?;
+            let digits = hex_text(alloc, number.as_bytes())?;
             let mut text = "0x".to_string(alloc)?;
             text.push_str(digits.as_str())?;
             write_line(alloc, at, label, text.as_str(), out)
@@ -275,7 +275,7 @@ fn plain_address(alloc: Global, octets: &[u8]) -> Result<String, AllocError>
     }
     match octets.as_array::<16>() {
         Some(octets) => ipv6_text(alloc, octets),
-        None => hex::encode(alloc, octets),
+        None => hex_text(alloc, octets),
     }
 }
 
