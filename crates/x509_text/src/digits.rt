@@ -4,54 +4,51 @@ ghost use Rattle.std.specs.Prelude.{◌≡◌, ◌∷◌, ◌++◌, ◌*◌, ◌
 ghost use Rattle.std.specs.Fmt.{digit_glyph};
 ghost use Rattle.std.specs.List.{flat_map};
 ghost use Rattle.hex.specs.Hex.{encode_lower, lower_digits};
-ghost use Rattle.x509_base.specs.Serial.{colon_hex, hex_octet};
+ghost use Rattle.x509_base.specs.Serial.{colon_hex};
 ghost use Rattle.x509_base.specs.TimeText.{four_digits, two_digits};
-ghost use Rattle.x509_text.specs.ColonHex.{further_octet};
+ghost use Rattle.x509_text.specs.ColonHex.{octet_colon};
 
 use std::alloc::{AllocError, Global};
 
 /// The hex digit of a number, 0 to 9 and A to F.
-fn hex_digit(number: u8) -> char
+fn upper_digit(number: u8) -> u8
     requires { number < 16 }
     ensures { result ≡ digit_glyph true number }
 {
     if number < 10 {
-        char::from(b'0' + number)
+        b'0' + number
     } else {
-        char::from(b'A' + (number - 10))
+        b'A' + (number - 10)
     }
 }
 
-/// Writes an octet as two hex digits.
-fn write_octet(octet: u8, out: &mut String) -> Result<(), AllocError>
-    ensures { OnOk result (string_bytes out.new ≡ string_bytes out.old ++ hex_octet octet) }
+/// Writes each octet as two hex digits and a colon over three bytes.
+fn fill_colon_hex(octets: &[u8], digits: &mut [u8])
+    requires { length digits.old ≡ 3 * length octets.now }
+    ensures { digits.new ≡ flat_map octet_colon octets.now }
 {
-    out.push(hex_digit(octet / 16))?;
-    out.push(hex_digit(octet % 16))
-}
-
-/// Writes each octet as a colon and two hex digits.
-fn write_others(octets: &[u8], out: &mut String) -> Result<(), AllocError>
-    ensures { OnOk result (string_bytes out.new ≡ string_bytes out.old ++ flat_map further_octet octets.now) }
-{
-    for octet in octets {
-        out.push(':')?;
-        write_octet(*octet, out)?;
+    'octets: for i in 0..octets.len() {
+        let octet = octets[i];
+        digits[3 * i] = upper_digit(octet / 16);
+        digits[3 * i + 1] = upper_digit(octet % 16);
+        digits[3 * i + 2] = b':';
     }
-    Ok(())
 }
 
 /// The octets in hex, joined by colons.
 pub(crate) fn colon_text(alloc: Global, octets: &[u8]) -> Result<String, AllocError>
     ensures { IfOk result (λ text. string_bytes text ≡ colon_hex octets.now) }
 {
-    let [first, others @ ..] = octets else {
+    if octets.is_empty() {
         return Ok(String::new(alloc));
+    }
+    let Some(len) = octets.len().checked_mul(3) else {
+        return Err(AllocError);
     };
-    let mut text = String::with_capacity(alloc, octets.len().saturating_mul(3))?;
-    write_octet(*first, &mut text)?;
-    write_others(others, &mut text)?;
-    Ok(text)
+    let mut digits = vec![in alloc; 0u8; len]?;
+    fill_colon_hex(octets, digits.as_mut_slice());
+    digits.truncate(len - 1);
+    Ok(String::from_utf8(digits).unwrap())
 }
 
 /// The hex digit of a number, 0 to 9 and a to f.
