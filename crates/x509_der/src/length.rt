@@ -1,6 +1,6 @@
 //! Lengths of elements and contents.
 
-ghost use Rattle.std.specs.Prelude.{◌≡◌, ◌≤◌, ◌<◌, IfOk, IfErr};
+ghost use Rattle.std.specs.Prelude.{◌≡◌, ◌+◌, ◌≤◌, ◌<◌, IfOk, IfErr};
 ghost use Rattle.x509_der.specs.declared.error.ErrorKind.TheVariants as errors;
 ghost use Rattle.x509_der.specs.Element.{limit};
 
@@ -35,6 +35,20 @@ impl Length {
             return Err(ErrorKind::Overlength.into());
         }
         Ok(Length { octets })
+    }
+
+    /// The length of so many octets more; `Overlength` exactly where they are more than [`Length::MAX`].
+    #[inline(always)]
+    pub(crate) fn plus(self, more: usize) -> Result<Length, Error>
+        ensures ok { IfOk result (λ length. (length.octets ≡ self.octets + more) × (self.octets + more ≤ limit)) }
+        ensures err { IfErr result (λ e. (e.kind ≡ errors.Overlength) × (limit < self.octets + more)) }
+    {
+        if more > (Length::MAX.octets - self.octets) as usize {
+            return Err(ErrorKind::Overlength.into());
+        }
+        Ok(Length {
+            octets: self.octets + more as u32,
+        })
     }
 
     /// How many octets they are.

@@ -3,7 +3,7 @@
 ghost use Rattle.std.specs.Prelude.{◌≡◌};
 
 use crate::room::Room;
-use crate::{Error, ErrorKind, Length};
+use crate::{Error, Length};
 
 /// Counts the bytes that are put, up to [`Length::MAX`].
 #[derive(Drop)]
@@ -39,11 +39,7 @@ impl Room for Counting {
     }
 
     fn put(&mut self, bytes: &[u8]) -> Result<(), Error> {
-        let count = self.count.as_u32();
-        if bytes.len() > (Length::MAX.as_u32() - count) as usize {
-            return Err(ErrorKind::Overlength.into());
-        }
-        self.count = Length::new(count + bytes.len() as u32)?;
+        self.count = self.count.plus(bytes.len())?;
         Ok(())
     }
 
