@@ -37,6 +37,9 @@ pub trait ToExtension: Sized {
         ensures { makes self subject.now extensions.now result };
 }
 
+/// The encoding of a value of at most so many octets takes no memory.
+const SHORT: usize = 24;
+
 /// The extension that holds the encoding of the value.
 fn hold<T: Encode>(
     alloc: Global,
@@ -46,6 +49,14 @@ fn hold<T: Encode>(
 ) -> Result<Extension, Error>
     ensures { Makes extn_id critical T.form (writes T.writing payload.now) result }
 {
+    let mut short = [0; SHORT];
+    if let Ok(octets) = payload.encode_to_slice(&mut short) {
+        return Ok(Extension {
+            extn_id,
+            critical,
+            extn_value: OctetString::new(alloc, octets)?,
+        });
+    }
     let octets = payload.to_der(alloc)?;
     Ok(Extension {
         extn_id,
