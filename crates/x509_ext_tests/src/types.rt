@@ -1,11 +1,16 @@
 //! The table of the names of types, and long values as text: another table would still be proved, and so would a `Display`
 //! that ends long texts with an error.
 
+ghost use Rattle.std.specs.Prelude.{◌≡◌, map};
+ghost use Rattle.x509_name.specs.AttributeNames.{attribute_names};
+ghost use Rattle.x509_name.specs.Keys.{row};
+
 use crate::calls::is_printed;
 use crate::texts::prints_back;
 use std::test::*;
 use x509_der::{Error, ObjectIdentifier, Tag};
 use x509_name::attr::AttributeTypeAndValue;
+use x509_name::text::{KEYS, Key, Row, key_named, key_of};
 
 /// The types whose values are read as UTF8String from a text without a number sign: of each a text with the name that is
 /// printed, one with the name in full, and the identifier (RFC 4519 section 2, RFC 5280 appendix A.1, X.520).
@@ -68,6 +73,34 @@ fn is_type(rt: &HostRuntime, row: &str, tag: Tag) -> bool {
     }
 }
 
+/// The table that is handed out, which no look-up goes over.
+#[tactic(auto, unfolding(x509_name::specs::AttributeNames::attribute_names, x509_der::specs::Arcs::subidentifier))]
+fn handed_out() -> [Row; 21]
+    ensures { map (λ r. row r.0.now r.1.now r.2 r.3) result ≡ attribute_names }
+{
+    KEYS
+}
+
+/// Whether that is the type of the row.
+fn is_row(found: &Option<Key>, row: &Row) -> bool {
+    match found {
+        Some(key) => {
+            key.name == row.0
+                && key.full_name == row.1
+                && key.oid == row.2
+                && key.tag == row.3.tag()
+        }
+        None => false,
+    }
+}
+
+/// Whether the OID and both names find the type of the row.
+fn is_found(row: &Row) -> bool {
+    is_row(&key_of(&row.2), row)
+        && is_row(&key_named(row.0.as_bytes()), row)
+        && is_row(&key_named(row.1.as_bytes()), row)
+}
+
 /// Whether an attribute without a name whose value has a header of these digits, and so many octets, is printed back in a name.
 fn prints_digits(rt: &HostRuntime, header: &str, count: usize) -> bool {
     let digits = match digits(rt, header, count) {
@@ -99,4 +132,11 @@ fn names_of_types(rt: HostRuntime) {
     }
     assert!(rt; prints_digits(&rt, "0441", 65) && prints_digits(&rt, "048180", 128));
     assert!(rt; prints_digits(&rt, "04820100", 256) && prints_digits(&rt, "0483010000", 65_536));
+}
+
+#[test]
+fn types_of_the_table(rt: HostRuntime) {
+    for row in &handed_out() {
+        assert!(rt; is_found(row), "at {}", row.0);
+    }
 }
