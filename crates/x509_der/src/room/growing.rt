@@ -12,9 +12,6 @@ use std::marker::Model;
 /// Room for the headers that mostly follow.
 const SPARE: usize = 512;
 
-/// Below so many bytes a room grows to four times what is needed, from there on to twice.
-const SMALL: usize = 512;
-
 /// A vector that is filled from its end, and grows at its front. Contracts see the bytes that stand.
 #[derive(Drop)]
 pub struct Growing {
@@ -49,10 +46,8 @@ fn make_room(items: &mut Vec<u8>, start: usize, more: usize) -> Result<usize, Er
     if more > Length::MAX.as_u32() as usize - len {
         return Err(ErrorKind::Overlength.into());
     }
-    // More than is needed, so that what stands is moved seldom.
-    let needed = len + more;
-    let times = if needed < SMALL { 4 } else { 2 };
-    let total = (times * needed + SPARE).min(Length::MAX.as_u32() as usize);
+    // Twice what is needed and some headers, so that what stands is moved seldom.
+    let total = (2 * (len + more) + SPARE).min(Length::MAX.as_u32() as usize);
     let place = total - len;
     let mut wider = Vec::with_capacity(*items.allocator(), total)?;
     wider.resize(place, 0)?;
