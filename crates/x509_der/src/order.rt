@@ -59,7 +59,7 @@ impl<T: ValueOrd> DerOrd for T {}
 /// How many content octets are encoded; one more than [`Length::MAX`](crate::Length::MAX) where the value
 /// can't be encoded.
 #[tactic(auto, using(crate::specs::Ordered::counted_written, crate::specs::Ordered::counted_refused, crate::specs::Ordered::counted_too_long))]
-fn counted_len<T: Encode>(value: &T) -> u32
+pub(crate) fn counted_len<T: Encode>(value: &T) -> u32
     ensures { result ≡ counted T.form (writes T.writing) value.now }
 {
     match value.value_len() {

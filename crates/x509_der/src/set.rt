@@ -12,6 +12,7 @@ ghost use Rattle.x509_der.specs.Set.{AreDistinct};
 
 use crate::set::members::Members;
 use crate::set::places::{is_rising, place};
+use crate::set::sorting::sort;
 use crate::{
     Content, Decode, DerOrd, Error, ErrorKind, Room, SetMember, SetOrd, Spelled, Tag, TryClone,
     ValueOrd, cmp_members, members_have_spellings, put_members,
@@ -24,6 +25,7 @@ use std::{fmt, slice};
 
 mod members;
 mod places;
+mod sorting;
 
 /// SET OF: the members, no two of them equal, in the byte order of their encodings (X.690 11.6). Contracts see their
 /// list.
@@ -92,8 +94,7 @@ impl<T: SetMember> SetOfVec<T> {
         ensures distinct { OnOk result (AreDistinct items.items) }
         ensures err { IfErr result (λ e. (e.kind ≡ errors.SetDuplicate) × (¬ AreDistinct items.items)) }
     {
-        items.sort_unstable_by(|a, b| a.der_cmp(b));
-        if !is_rising(items.as_slice()) {
+        if !sort(items.as_mut_slice()) {
             return Err(ErrorKind::SetDuplicate.into());
         }
         Ok(SetOfVec {

@@ -51,6 +51,44 @@ fn refused_memory_leaves_the_set(rt: HostRuntime) {
     }
 }
 
+/// So many numbers that lie far apart, and the first of them once more where `twice`.
+fn scattered(rt: &HostRuntime, count: u32, twice: bool) -> Result<Vec<u32>, Error> {
+    let mut numbers = Vec::new(rt.alloc());
+    for place in 0..count {
+        numbers.push(place.wrapping_mul(2_654_435_769))?;
+    }
+    if twice {
+        numbers.push(0)?;
+    }
+    Ok(numbers)
+}
+
+/// Whether each number is less than the next.
+fn rises(numbers: &[u32]) -> bool {
+    numbers
+        .iter()
+        .zip(numbers.iter().skip(1))
+        .all(|(a, b)| a < b)
+}
+
+/// Whether their set is in order, or refused for the one that is there twice.
+fn is_in_order(rt: &HostRuntime, count: u32, twice: bool) -> bool {
+    match scattered(rt, count, twice) {
+        Ok(numbers) => match SetOfVec::try_from_vec(numbers) {
+            Ok(set) => !twice && set.len() == count as usize && rises(set.as_slice()),
+            Err(e) => twice && e.kind() == ErrorKind::SetDuplicate,
+        },
+        Err(_) => false,
+    }
+}
+
+#[test]
+fn sets_of_few_and_of_many(rt: HostRuntime) {
+    for count in [2, 24, 25, 26, 300, 2000] {
+        assert!(rt; is_in_order(&rt, count, false) && is_in_order(&rt, count, true));
+    }
+}
+
 /// The set of three numbers.
 fn three(rt: &HostRuntime) -> Result<SetOfVec<u32>, Error> {
     SetOfVec::try_from_vec(Vec::from_slice(rt.alloc(), &[9_u32, 300, 4])?)

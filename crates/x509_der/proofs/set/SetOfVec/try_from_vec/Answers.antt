@@ -1,28 +1,28 @@
-use Rattle.std.proofs.Common.{rules, sym, ◌∙◌}
-use Rattle.std.proofs.lemmas.List.Sorted.{ranks_by}
-use Rattle.std.proofs.lemmas.Fn.{always_returns_same}
-use Rattle.std.specs.Ordering.{is_lt}
-use Rattle.x509_der.specs.Writing.{writes}
+use Rattle.std.proofs.Common.{◌≡◌, ◌∙◌, ℕ, List, ◌++◌, length, take, drop}
+use Rattle.std.proofs.Math.Seq.{take-append_seam}
+use Rattle.std.proofs.lemmas.List.Sorted.{length_permutation}
 use Rattle.x509_der.specs.Order.{der_order}
 use Rattle.x509_der.specs.Ordered.{der_lawful}
+use Rattle.x509_der.specs.Writing.{writes}
+use Rattle.x509_der.proofs.RisingLists.{distinct_from_rising}
 use Rattle.x509_der.proofs.SetOrders.{as_named}
-use Rattle.x509_der.proofs.RisingLists.{distinct_from_rising, rising_from_distinct}
-use Rattle.x509_der.specs.SetLaws.{sorted_from_rising, not_sorted}
 use Rattle.x509_der.proofs.set.SetOfVec.try_from_vec.Goals as goal
 
-pub returns-then-not-is_rising-clause-err : goal.returns-then-not-is_rising-clause-err
-returns-then-not-is_rising-clause-err g c =
-    let lawful = der_lawful g.T.Grammar.form (writes g.T.Encode.writing) g.T.ValueOrd.order g.met.T.ValueOrd.ordered in
-    let sorted = c.sort_unstable_by.ensures.sorted (λ a b. is_lt (der_order g.T.Grammar.form (writes g.T.Encode.writing) g.T.ValueOrd.order a b)) (ranks_by lawful.total (λ x. x)) (always_returns_same _ _ _ (λ a r f' k. search rules)) in
-    (search rules, λ distinct. not_sorted _ c.sort_unstable_by.new.self.items (rw (← c.as_slice.ensures.value) (sym c.is_rising.ensures ∙ c.if-not-is_rising.true)) (rising_from_distinct lawful.total lawful.exact c.args.items.items c.sort_unstable_by.new.self.items c.sort_unstable_by.ensures.permutation sorted distinct))
+-- all items of a vector are put back
+put_back : {X : Type 0} (n : ℕ) (xs ys : List X) → length ys ≡ n → take n (ys ++ drop (length ys) xs) ≡ ys
+put_back n xs ys is = rw (← is) (take-append_seam ys (drop (length ys) xs))
 
 pub invariant_of-result : goal.invariant_of-result
-invariant_of-result g c = rw c.from_vec.ensures (as_named _ _ g.met.T.SetMember.in_der_order c.sort_unstable_by.new.self.items (sorted_from_rising _ c.sort_unstable_by.new.self.items (rw (← c.as_slice.ensures.value) (sym c.is_rising.ensures ∙ c.if-not-is_rising.false))))
+invariant_of-result g c =
+    let back = put_back c.args.items.len c.args.items.items c.sort.new.items (length_permutation _ _ c.sort.ensures.permutation ∙ c.as_mut_slice.ensures.len) in
+    rw (c.from_vec.ensures, back) (as_named _ _ g.met.T.SetMember.in_der_order c.sort.new.items (c.sort.ensures.distinct c.if-not-sort.false))
 
 pub returns-clause-ok : goal.returns-clause-ok
-returns-clause-ok g c = rw c.from_vec.ensures (c.sort_unstable_by.ensures.permutation, sorted_from_rising _ c.sort_unstable_by.new.self.items (rw (← c.as_slice.ensures.value) (sym c.is_rising.ensures ∙ c.if-not-is_rising.false)))
+returns-clause-ok g c =
+    let back = put_back c.args.items.len c.args.items.items c.sort.new.items (length_permutation _ _ c.sort.ensures.permutation ∙ c.as_mut_slice.ensures.len) in
+    rw (c.from_vec.ensures, back) (rw (← c.as_mut_slice.ensures.value) c.sort.ensures.permutation, c.sort.ensures.distinct c.if-not-sort.false)
 
 pub returns-clause-distinct : goal.returns-clause-distinct
 returns-clause-distinct g c =
     let lawful = der_lawful g.T.Grammar.form (writes g.T.Encode.writing) g.T.ValueOrd.order g.met.T.ValueOrd.ordered in
-    distinct_from_rising lawful.total c.args.items.items c.sort_unstable_by.new.self.items c.sort_unstable_by.ensures.permutation (sorted_from_rising _ c.sort_unstable_by.new.self.items (rw (← c.as_slice.ensures.value) (sym c.is_rising.ensures ∙ c.if-not-is_rising.false)))
+    distinct_from_rising lawful.total c.args.items.items c.sort.new.items (rw (← c.as_mut_slice.ensures.value) c.sort.ensures.permutation) (c.sort.ensures.distinct c.if-not-sort.false)
