@@ -27,7 +27,7 @@ pub trait Builder: Sized + Drop {
     /// The part of it that is signed.
     type Signed: Encode;
 
-    /// The signed part as it stands: that of the last `finalize`, and before any the part with which the builder was
+    /// The signed part as it stands: that of the last `finalize` or `finalize_once`, and before any the part with which the builder was
     /// made.
     ghost current: { Self → Self.Signed };
 
@@ -69,8 +69,27 @@ pub trait Builder: Sized + Drop {
             (next self.old (S.algorithm_of signer.now) (S.key_of signer.now)) e) }
         ensures unchanged { OnErr result (self.new ≡ self.old) };
 
-    /// Puts the signed part of the last `finalize` and the signature together; before any `finalize` that is the part
-    /// with which the builder was made. That the signature is one of that part isn't checked.
+    /// As [`finalize`](Builder::finalize), of a builder that makes nothing else: it may move into the signed part what
+    /// `finalize` copies. The builder that comes back has the part and is for [`assemble`](Builder::assemble) alone; what
+    /// a further `finalize` of it makes isn't said.
+    ///
+    /// # Errors
+    ///
+    /// Those of `finalize`; then the builder is dropped.
+    fn finalize_once<S: Signer>(mut self, alloc: Global, signer: &S) -> Result<(Self, Vec<u8>)>
+        ensures ok { IfOk result (λ made. Encodes Self.Signed.form Self.Signed.writing
+            (next self (S.algorithm_of signer.now) (S.key_of signer.now)) made.1.items) }
+        ensures part { IfOk result (λ made. current made.0 ≡ (next self (S.algorithm_of signer.now) (S.key_of signer.now)).value) }
+        ensures err { IfErr result (λ e. ((asks_algorithm × ByKey (S.may_refuse_algorithm signer.now) e)
+            ⊎ (asks_key × ByKey (S.may_refuse_key signer.now) e)) ⊎ PartRefuses Self.Signed.form Self.Signed.writing
+            (next self (S.algorithm_of signer.now) (S.key_of signer.now)) e) }
+    {
+        let message = self.finalize(alloc, signer)?;
+        Ok((self, message))
+    }
+
+    /// Puts the signed part of the last `finalize` or `finalize_once` and the signature together; before any that is the
+    /// part with which the builder was made. That the signature is one of that part isn't checked.
     ///
     /// # Errors
     ///
@@ -101,9 +120,9 @@ pub trait Builder: Sized + Drop {
             ⊎ ((message : List ℕ) × Encodes Self.Signed.form Self.Signed.writing (next self (S.algorithm_of signer.now) (S.key_of signer.now)) message
             × BySigning (S.may_refuse_message signer.now message) e))) }
     {
-        let message = self.finalize(alloc, signer)?;
+        let (builder, message) = self.finalize_once(alloc, signer)?;
         let signature = signer.try_sign(alloc, message.as_slice())?;
-        self.assemble(alloc, signature, signer)
+        builder.assemble(alloc, signature, signer)
     }
 
     /// As `build`, with a signature for which the signer may take random bytes.
@@ -127,8 +146,8 @@ pub trait Builder: Sized + Drop {
             ⊎ ((message : List ℕ) × Encodes Self.Signed.form Self.Signed.writing (next self (S.algorithm_of signer.now) (S.key_of signer.now)) message
             × BySigning (S.may_refuse_message signer.now message) e))) }
     {
-        let message = self.finalize(alloc, signer)?;
+        let (builder, message) = self.finalize_once(alloc, signer)?;
         let signature = signer.try_sign_with_rng(alloc, rng, message.as_slice())?;
-        self.assemble(alloc, signature, signer)
+        builder.assemble(alloc, signature, signer)
     }
 }

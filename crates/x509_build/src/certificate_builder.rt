@@ -165,14 +165,14 @@ impl<P: BuilderProfile> CertificateBuilder<P> {
 
     /// The profile's extensions, for the key of that part and for the signer's.
     fn of_profile(
-        &self,
         alloc: Global,
+        profile: &P,
         bare: &TbsCertificate,
         issuer_key: &SubjectPublicKeyInfo,
     ) -> Result<Vec<Extension>>
-        ensures { Gives (λ extensions. extensions.items) (P.extensions_of self.now.profile bare.now.subject_public_key_info issuer_key.now bare.now) result }
+        ensures { Gives (λ extensions. extensions.items) (P.extensions_of profile.now bare.now.subject_public_key_info issuer_key.now bare.now) result }
     {
-        self.profile.build_extensions(
+        profile.build_extensions(
             alloc,
             bare.subject_public_key_info().owned_to_ref(),
             issuer_key.owned_to_ref(),
@@ -190,10 +190,28 @@ impl<P: BuilderProfile> CertificateBuilder<P> {
         ensures { Gives (λ part. part) (next_part (P.extensions_of self.now.profile) self.now.tbs self.now.extensions algorithm issuer_key.now) result }
     {
         let bare = self.bare_part(alloc, algorithm)?;
-        let of_profile = self.of_profile(alloc, &bare, issuer_key)?;
+        let of_profile = CertificateBuilder::of_profile(alloc, &self.profile, &bare, issuer_key)?;
         let extensions = joined(alloc, &self.extensions, of_profile)?;
         Ok(part_with(bare, extensions))
     }
+}
+
+/// The signed part for a signer with that algorithm and that key, into which the other part and the extensions are
+/// moved.
+fn last_part<P: BuilderProfile>(
+    alloc: Global,
+    profile: &P,
+    tbs: TbsCertificate,
+    added: Extensions,
+    algorithm: AlgorithmIdentifier,
+    issuer_key: &SubjectPublicKeyInfo,
+) -> Result<TbsCertificate>
+    ensures { Gives (λ part. part) (next_part (P.extensions_of profile.now) tbs added algorithm issuer_key.now) result }
+{
+    let bare = tbs.into_bare(algorithm);
+    let of_profile = CertificateBuilder::of_profile(alloc, profile, &bare, issuer_key)?;
+    let extensions = followed_by(added, Extensions::from(of_profile))?;
+    Ok(part_with(bare, extensions.into_vec()))
 }
 
 /// Copies of the extensions, followed by the others.
@@ -252,6 +270,28 @@ impl<P: BuilderProfile> Builder for CertificateBuilder<P> {
         let bytes = part.to_der(alloc)?;
         self.tbs = part;
         Ok(bytes)
+    }
+
+    fn finalize_once<S: Signer>(
+        self,
+        alloc: Global,
+        signer: &S,
+    ) -> Result<(CertificateBuilder<P>, Vec<u8>)> {
+        let algorithm = signer.algorithm(alloc)?;
+        let issuer_key = signer.public_key(alloc)?;
+        let CertificateBuilder {
+            profile,
+            tbs,
+            extensions,
+        } = self;
+        let last = last_part(alloc, &profile, tbs, extensions, algorithm, &issuer_key)?;
+        let message = last.to_der(alloc)?;
+        let builder = CertificateBuilder {
+            profile,
+            tbs: last,
+            extensions: Extensions::new(alloc),
+        };
+        Ok((builder, message))
     }
 
     /// The certificate of the current signed part, under the algorithm of that part. The signer isn't asked.

@@ -28,6 +28,7 @@ use x509_cert::crl::{CertificateList, RevokedCert, TbsCertList};
 use x509_der::{Decode, Encode, Error, Grammar, SequenceOf, TryClone};
 use x509_ext::pkix::{CrlNumber, SubjectKeyIdentifier};
 use x509_ext::{Extensions, ToExtension};
+use x509_name::name::Name;
 use x509_prim::BitString;
 
 /// A builder of a CRL (RFC 5280 5.1).
@@ -253,6 +254,38 @@ impl<P: Profile> Builder for CrlBuilder<P> {
         let bytes = part.to_der(alloc)?;
         self.finalized = Some(part);
         Ok(bytes)
+    }
+
+    fn finalize_once<S: Signer>(
+        self,
+        alloc: Global,
+        signer: &S,
+    ) -> Result<(CrlBuilder<P>, Vec<u8>)> {
+        let signature = signer.algorithm(alloc)?;
+        let CrlBuilder {
+            tbs,
+            extensions,
+            finalized: _,
+        } = self;
+        let this_update = tbs.this_update;
+        let mut last = tbs;
+        last.signature = signature;
+        last.crl_extensions = Some(extensions);
+        let message = last.to_der(alloc)?;
+        let builder = CrlBuilder {
+            tbs: TbsCertList {
+                version: Some(Version::V2),
+                signature: no_algorithm(),
+                issuer: Name::new(alloc),
+                this_update,
+                next_update: None,
+                revoked_certificates: None,
+                crl_extensions: None,
+            },
+            extensions: Extensions::new(alloc),
+            finalized: Some(last),
+        };
+        Ok((builder, message))
     }
 
     /// The CRL of the current signed part, under the algorithm of that part. The signer isn't asked.

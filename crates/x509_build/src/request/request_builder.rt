@@ -152,6 +152,27 @@ impl RequestBuilder {
     }
 }
 
+/// The signed part for a signer with that key, into which the subject of the other part, the attributes and the
+/// extensions are moved.
+fn last_part(
+    alloc: Global,
+    info: CertReqInfo,
+    attributes: Attributes,
+    extension_req: ExtensionReq,
+    public_key: SubjectPublicKeyInfo,
+) -> Result<CertReqInfo>
+    ensures { Gives (λ part. part) (next_part info.subject attributes extension_req.0 public_key) result }
+{
+    let asked = extension_req_attribute(alloc, extension_req)?;
+    let mut all = attributes;
+    add(&mut all, asked)?;
+    let mut last = info;
+    last.version = Version::V1;
+    last.public_key = public_key;
+    last.attributes = all;
+    Ok(last)
+}
+
 /// Puts the attribute in its place among the others. On an error they are unchanged.
 fn add(attributes: &mut Attributes, attribute: Attribute) -> std::result::Result<(), Error>
     ensures ok { OnOk result ((¬ Contains attributes.old attribute) × (attributes.new ≡ insert_key attribute_cmp attributes.old attribute)) }
@@ -190,6 +211,27 @@ impl Builder for RequestBuilder {
         let bytes = part.to_der(alloc)?;
         self.info = part;
         Ok(bytes)
+    }
+
+    fn finalize_once<S: Signer>(
+        self,
+        alloc: Global,
+        signer: &S,
+    ) -> Result<(RequestBuilder, Vec<u8>)> {
+        let public_key = signer.public_key(alloc)?;
+        let RequestBuilder {
+            info,
+            attributes,
+            extension_req,
+        } = self;
+        let last = last_part(alloc, info, attributes, extension_req, public_key)?;
+        let message = last.to_der(alloc)?;
+        let builder = RequestBuilder {
+            info: last,
+            attributes: Attributes::new(alloc),
+            extension_req: ExtensionReq::new(alloc),
+        };
+        Ok((builder, message))
     }
 
     fn assemble<S: Signer>(

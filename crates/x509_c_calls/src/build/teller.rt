@@ -64,7 +64,7 @@ impl Signer for Teller {
 ///
 /// # Errors
 ///
-/// Those of [`Builder::finalize`].
+/// Those of [`Builder::finalize_once`].
 pub(crate) fn finalized<B: Builder>(
     alloc: Global,
     builder: B,
@@ -72,8 +72,8 @@ pub(crate) fn finalized<B: Builder>(
 ) -> Result<Vec<u8>, Error>
     ensures { FinalizesTo (λ bytes. bytes.items) B.Signed.form B.Signed.writing (B.next builder teller.now.algorithm teller.now.key) result }
 {
-    let mut builder = builder;
-    builder.finalize(alloc, teller)
+    let (_, bytes) = builder.finalize_once(alloc, teller)?;
+    Ok(bytes)
 }
 
 /// The kind of a builder's refusal: that of a value that can't be decoded or encoded, else `Failed`; `Memory` when out

@@ -1,7 +1,8 @@
 //! The part of a certificate that is signed.
 
 ghost use Rattle.std.specs.Option.{option_copied};
-ghost use Rattle.std.specs.Prelude.{◌≡◌};
+ghost use Rattle.std.specs.Prelude.{◌≡◌, None};
+ghost use Rattle.x509_cert.specs.declared.certificate.version.Version.TheVariants.{V3};
 ghost use Rattle.x509_cert.specs.Without.{where_any, without_oid};
 ghost use Rattle.x509_ext.specs.Filter.{extensions_left};
 ghost use Rattle.x509_ext.specs.LookUp.{Finds, members, with_oid};
@@ -97,6 +98,43 @@ impl<P: Profile> TbsCertificateInner<P> {
             issuer_unique_id,
             subject_unique_id,
             extensions,
+        }
+    }
+
+    /// The signed part under that algorithm, of version 3, without unique identifiers and extensions: what an authority
+    /// adds its extensions to. It takes no memory.
+    pub fn into_bare(self, signature: AlgorithmIdentifier) -> TbsCertificateInner<P>
+        ensures { result ≡ record self {
+          version = V3;
+          signature = signature;
+          issuer_unique_id = None;
+          subject_unique_id = None;
+          extensions = None;
+        } }
+    {
+        let TbsCertificateInner {
+            version: _,
+            serial_number,
+            signature: _,
+            issuer,
+            validity,
+            subject,
+            subject_public_key_info,
+            issuer_unique_id: _,
+            subject_unique_id: _,
+            extensions: _,
+        } = self;
+        TbsCertificateInner {
+            version: Version::V3,
+            serial_number,
+            signature,
+            issuer,
+            validity,
+            subject,
+            subject_public_key_info,
+            issuer_unique_id: None,
+            subject_unique_id: None,
+            extensions: None,
         }
     }
 

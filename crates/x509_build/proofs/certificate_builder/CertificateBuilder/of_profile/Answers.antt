@@ -6,7 +6,7 @@ use Rattle.x509_build.proofs.certificate_builder.CertificateBuilder.of_profile.G
 
 pub returns : goal.returns
 returns g c =
-    let asked = g.P.BuilderProfile.extensions_of c.args.self.now.profile in
+    let asked = g.P.BuilderProfile.extensions_of c.args.profile.now in
     let P : SubjectPublicKeyInfo → Type 0 = λ key. Gives (λ extensions. extensions.items) (asked key c.args.issuer_key.now c.args.bare.now) c.build_extensions.result in
     let lent = key_lent c.owned_to_ref.result.algorithm.now c.owned_to_ref.result.subject_public_key.now in
     let Q : SubjectPublicKeyInfo → Type 0 = λ key. Gives (λ extensions. extensions.items) (asked lent key c.args.bare.now) c.build_extensions.result in
