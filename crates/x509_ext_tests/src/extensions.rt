@@ -184,7 +184,7 @@ fn is_under_found(rt: &HostRuntime, subject: Result<Name, Error>, extension: &[u
     }
 }
 
-/// Under an empty subject its further names are critical (RFC 5280 4.2.1.6).
+/// Under an empty subject the SAN is critical (RFC 5280 4.2.1.6).
 #[test]
 fn names_of_a_subject(rt: HostRuntime) {
     assert!(rt;

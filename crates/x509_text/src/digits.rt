@@ -1,4 +1,4 @@
-//! Digits that are written one by one: octets in hex, and the numbers of dates.
+//! Octets in hex and the numbers of dates, written digit by digit.
 
 ghost use Rattle.std.specs.Prelude.{◌≡◌, ◌∷◌, ◌++◌, ◌*◌, ◌<◌, true, length, slice_index, OnOk, IfOk, string_bytes};
 ghost use Rattle.std.specs.Fmt.{digit_glyph};

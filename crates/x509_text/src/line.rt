@@ -248,7 +248,7 @@ fn is_plain_block(bytes: &[u8]) -> bool
     (is_outside | is_quoted).to_bitmask() == 0
 }
 
-/// The same as `run_len`, but no more than a block of bytes.
+/// As [`run_len`], but no more than a block of bytes.
 #[tactic(auto, unfolding(crate::specs::Runs::run_len))]
 fn run_in_block(style: Style, bytes: &[u8]) -> usize
     ensures { result ≡ min BLOCK (runs.run_len style bytes.now) }
@@ -268,7 +268,7 @@ fn run_in_block(style: Style, bytes: &[u8]) -> usize
     len
 }
 
-/// The same where there are as many.
+/// As [`run_in_block`] of at least a block of bytes; where each byte of the block stands for itself, that is told at once.
 fn run_in_whole_block(style: Style, bytes: &[u8]) -> usize
     requires { BLOCK ≤ length bytes.now }
     ensures { result ≡ min BLOCK (runs.run_len style bytes.now) }

@@ -36,7 +36,7 @@ fn read_single(alloc: Global, text: &[u8]) -> Result<RelativeDistinguishedName, 
     Ok(RelativeDistinguishedName::from_one(alloc, attribute))
 }
 
-// The RDN of the attributes that a text says; `count` tells how many they may be.
+// The RDN of the attributes that a text says; for `count` of them memory is taken at once.
 fn read_several(
     alloc: Global,
     text: &[u8],
