@@ -27,8 +27,8 @@ pub trait Builder: Sized + Drop {
     /// The part of it that is signed.
     type Signed: Encode;
 
-    /// The signed part as it stands: that of the last `finalize` or `finalize_once`, and before any the part with which the builder was
-    /// made.
+    /// The signed part as it stands: that of the last `finalize` or `finalize_once`, and before any the part with which
+    /// the builder was made.
     ghost current: { Self → Self.Signed };
 
     /// The signed part that `finalize` makes for a signer with that algorithm and that key.
