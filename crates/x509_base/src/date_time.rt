@@ -17,9 +17,6 @@ use std::str::FromStr;
 use std::time::Duration;
 use x509_der::{Error, ErrorKind};
 
-/// How many days each month has in every year, at its number; there is no month 0.
-static DAYS: [u8; 13] = [0, 31, 28, 31, 30, 31, 30, 31, 31, 30, 31, 30, 31];
-
 /// A date and a time of day in Coordinated Universal Time, from 1970 to 9999.
 #[derive(Clone, Copy, Debug, PartialEq, Eq, PartialOrd, Ord, Hash)]
 pub struct DateTime {
@@ -77,10 +74,7 @@ impl DateTime {
         if hour > 23 || minutes > 59 || seconds > 59 {
             return Err(ErrorKind::Value.into());
         }
-        // A day that the month has in every year isn't asked of the calendar.
-        if (day < 1 || day > DAYS[month as usize])
-            && civil::Date::new(year as i16, month as i8, day as i8).is_err()
-        {
+        if civil::Date::new(year as i16, month as i8, day as i8).is_err() {
             return Err(ErrorKind::Value.into());
         }
         Ok(DateTime {
