@@ -44,6 +44,11 @@ pub trait Content: Sized {
         ensures exact { Gives result (contents.reading octets.now) }
         ensures memory { IfErr result (λ e. e.kind ≡ Memory → takes_memory) };
 
+    /// Whether the content is known to have many parts and 64 KB or more, for [`Encode::is_long`].
+    fn has_long_content(&self) -> bool {
+        false
+    }
+
     /// Puts the content octets in front of the bytes that stand in the room.
     ///
     /// # Errors
@@ -108,6 +113,10 @@ impl<T: Content> Encode for T {
 
     fn put_content<R: Room>(&self, room: &mut R) -> Result<(), Error> {
         self.write_content(room)
+    }
+
+    fn is_long(&self) -> bool {
+        self.has_long_content()
     }
 
     ghost same_tag = { λ value. refl };

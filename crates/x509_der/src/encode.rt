@@ -1,15 +1,17 @@
 //! Encoding a value as its one encoding.
 
-ghost use Rattle.std.specs.Prelude.{◌≡◌, ◌≤◌, None};
+ghost use Rattle.std.specs.Prelude.{◌≡◌, ◌≤◌, ◌⊎◌, None, IfOk, IfErr};
 ghost use Rattle.x509_der.specs.Element.{header, limit};
-ghost use Rattle.x509_der.specs.Writing.{Puts};
+ghost use Rattle.x509_der.specs.Writing.{Puts, writes, written_spelling, IsWritable, IsUnwritable};
+ghost use Rattle.x509_der.specs.declared.error.ErrorKind.TheVariants.{Memory};
 
 use crate::grammar::Grammar;
 use crate::room::{Counting, Fixed, Growing, Room, bytes_after, share};
 use crate::{Error, Length};
 use std::alloc::Global;
 
-/// A type that is encoded in DER, in one pass from the end.
+/// A type that is encoded in DER, in one pass from the end. Where the encoding [`is_long`](Encode::is_long), a pass before
+/// that one counts its length.
 pub trait Encode: Grammar {
     ghost use Rattle.std.specs.Prelude.{◌≡◌, ◌+◌, ◌-◌, ◌≤◌, ◌++◌, ◌⊎◌, None, IfOk, IfErr, OnOk, length, take, min};
     ghost use Rattle.std.specs.Borrow.{sem, Array, u8};
@@ -21,6 +23,12 @@ pub trait Encode: Grammar {
 
     /// How values are encoded.
     ghost writing: { Writing Self } = { plain };
+
+    /// Whether `to_der` counts the length before it takes memory. That is worth it where the encoding has many parts and
+    /// 64 KB or more; its bytes and errors don't depend on it.
+    fn is_long(&self) -> bool {
+        false
+    }
 
     /// Puts the content octets in front of the bytes that stand in the room.
     ///
@@ -60,6 +68,9 @@ pub trait Encode: Grammar {
             × IsWritable Self.form (writes writing self.now) limit) }
         ensures err { IfErr result (λ e. (e.kind ≡ errors.Memory) ⊎ IsUnwritable Self.form (writes writing self.now) limit e.kind) }
     {
+        if self.is_long() {
+            return to_counted_der(self, alloc);
+        }
         let mut room = Growing::new(alloc);
         self.put_element(&mut room)?;
         Ok(room.into_vec())
@@ -133,6 +144,24 @@ pub trait Encode: Grammar {
         let before = self.encode_into(&mut *room);
         bytes_after(before, share(room))
     }
+}
+
+/// [`to_der`](Encode::to_der) into memory of just the length, which is counted first.
+///
+/// # Errors
+///
+/// Those of `to_der`.
+#[inline(never)]
+fn to_counted_der<T: Encode>(value: &T, alloc: Global) -> Result<Vec<u8>, Error>
+    ensures ok { IfOk result (λ bytes. (bytes.items ≡ written_spelling T.form (writes T.writing value.now))
+        × IsWritable T.form (writes T.writing value.now) limit) }
+    ensures err { IfErr result (λ e. (e.kind ≡ Memory) ⊎ IsUnwritable T.form (writes T.writing value.now) limit e.kind) }
+{
+    let len = value.encoded_len()?.as_u32() as usize;
+    let mut bytes = Vec::with_capacity(alloc, len)?;
+    bytes.resize(len, 0)?;
+    value.encode_into(bytes.as_mut_slice())?;
+    Ok(bytes)
 }
 
 /// Puts an identifier octet and the length of what follows into the room.

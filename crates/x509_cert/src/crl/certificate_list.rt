@@ -132,6 +132,10 @@ impl<P: Profile> Content for CertificateList<P> {
         parts.put_part(room)
     }
 
+    fn has_long_content(&self) -> bool {
+        self.tbs_cert_list.has_long_content()
+    }
+
     ghost contents_lawful = { grammar.certificate_list_contents_lawful P.serial_check };
 }
 

@@ -17,6 +17,9 @@ use x509_der::{
 use x509_ext::{Extensions, FilterExtensions, filter_extensions, get_extension, members};
 use x509_name::name::Name;
 
+/// A CRL of more entries has more than 64 KB: the shortest entry has 20 octets.
+const MANY: usize = 64 * 1024 / 20;
+
 /// The part of a CRL that is signed (RFC 5280 5.1.2). Times are encoded as they are. These rules of RFC
 /// 5280 aren't checked: that a version which is there is v2, that it is there where there are extensions, and that the list of
 /// entries is absent where there are none.
@@ -169,6 +172,10 @@ impl<P: Profile> Content for TbsCertList<P> {
             ),
         );
         (front, behind).put_part(room)
+    }
+
+    fn has_long_content(&self) -> bool {
+        self.entries().len() > MANY
     }
 
     ghost contents_lawful = { grammar.tbs_cert_list_contents_lawful P.serial_check };
