@@ -1,3 +1,4 @@
 pub mod Values
 pub mod Tree
 pub mod Path
+pub mod Leaves
