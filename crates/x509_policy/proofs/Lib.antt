@@ -1,2 +1,4 @@
 pub mod Leaves
 pub mod Ends
+pub mod Members
+pub mod Steps

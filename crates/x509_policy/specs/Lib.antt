@@ -2,3 +2,4 @@ pub mod Values
 pub mod Tree
 pub mod Path
 pub mod Leaves
+pub mod Levels

@@ -1,0 +1,95 @@
+-- The policies of a path without the tree: for each certificate one level, with each policy once, what it expects and which policies of the level above
+-- lead to it. It grows with what certificates say, where the tree may grow exponentially (RFC 9618).
+use Rattle.std.specs.Prelude.{◌≡◌, ◌≢◌, ◌⊎◌, ◌↔◌, ℕ, suc, ◌==◌, Bool, true, false, List, [], ◌∷◌, Option, Some, None}
+use Rattle.x509_policy.specs.Values.{Policy, any_policy, maps_any_policy, Mapping, Certificate, Settings}
+use Rattle.x509_policy.specs.Tree.{subjects}
+use Rattle.x509_policy.specs.Path.{Counters, next_counters, last_explicit_policy, takes_others, has_repeated, Outcome, Refused, Valid, RepeatedPolicy, MapsAnyPolicy, NoPolicy}
+use Rattle.x509_policy.specs.Leaves.{first_of_way}
+
+abbrev pub In : {X : Type 0} → X → List X → Type 0
+In x [] = ⊥
+In x (y ∷ ys) = (y ≡ x) ⊎ In x ys
+
+pub record Entry : Type 0 where
+  pub valid : Policy
+  pub expected : List Policy
+  pub parents : List Policy
+
+abbrev pub Level : Type 0
+Level = List Entry
+
+abbrev pub IsAt : Level → Policy → Type 0
+IsAt level v = (e : Entry) × In e level × (e.valid ≡ v)
+
+-- v expects x
+abbrev pub Expects : Level → Policy → Policy → Type 0
+Expects level v x = (e : Entry) × In e level × (e.valid ≡ v) × In x e.expected
+
+-- u, a policy of the level above, leads to v
+abbrev pub LeadsTo : Level → Policy → Policy → Type 0
+LeadsTo level u v = (e : Entry) × In e level × (e.valid ≡ v) × In u e.parents
+
+-- the root
+abbrev pub initial_level : Level
+initial_level = record { valid = any_policy; expected = any_policy ∷ []; parents = [] } ∷ []
+
+-- the last of these levels, which stand last first, below the root
+abbrev pub last_level : List Level → Level
+last_level [] = initial_level
+last_level (level ∷ levels) = level
+
+-- ---- 6.1.3 (d), (e)
+
+-- v may follow u: it is named, and u expects it, or none does and u is any-policy; or any-policy is named, and u expects it
+abbrev pub MayFollow : List Policy → Bool → Level → Policy → Policy → Type 0
+MayFollow policies others above u v =
+    (In v policies × (v ≢ any_policy) × (Expects above u v ⊎ (IsAt above u × (u ≡ any_policy) × ((w : Policy) → Expects above w v → ⊥))))
+    ⊎ ((others ≡ true) × In any_policy policies × Expects above u v)
+
+pub record IsProcessed (policies : List Policy) (others : Bool) (above level : Level) : Type 0 where
+  pub leads : (u v : Policy) → LeadsTo level u v ↔ MayFollow policies others above u v
+  pub expects : (v x : Policy) → Expects level v x ↔ (IsAt level v × (v ≡ x))
+  pub follows : (v : Policy) → IsAt level v → (u : Policy) × LeadsTo level u v
+
+-- the level of a certificate with these policies, or without the extension
+abbrev pub IsNext : Option (List Policy) → Bool → Level → Level → Type 0
+IsNext None others above level = level ≡ []
+IsNext (Some policies) others above level = IsProcessed policies others above level
+
+-- ---- 6.1.4 (b)
+
+abbrev pub IsIssuer : List Mapping → Policy → Type 0
+IsIssuer mappings id = (m : Mapping) × In m mappings × (m.issuer_domain_policy ≡ id)
+
+-- (b) (1)
+pub record IsMapped (mappings : List Mapping) (level mapped : Level) : Type 0 where
+  pub leads : (u v : Policy) → LeadsTo mapped u v ↔ (LeadsTo level u v ⊎ (IsIssuer mappings v × (IsAt level v → ⊥) × LeadsTo level u any_policy))
+  pub expects_mapped : (v x : Policy) → IsIssuer mappings v → Expects mapped v x ↔ (IsAt mapped v × In x (subjects mappings v))
+  pub expects_other : (v x : Policy) → (IsIssuer mappings v → ⊥) → Expects mapped v x ↔ Expects level v x
+  pub follows : (v : Policy) → IsAt mapped v → (u : Policy) × LeadsTo mapped u v
+
+-- (b) (2)
+pub record IsUnmapped (mappings : List Mapping) (level unmapped : Level) : Type 0 where
+  pub leads : (u v : Policy) → LeadsTo unmapped u v ↔ (LeadsTo level u v × (IsIssuer mappings v → ⊥))
+  pub expects : (v x : Policy) → Expects unmapped v x ↔ (Expects level v x × (IsIssuer mappings v → ⊥))
+  pub follows : (v : Policy) → IsAt unmapped v → (u : Policy) × LeadsTo unmapped u v
+
+abbrev pub IsPrepared : List Mapping → Bool → Level → Level → Type 0
+IsPrepared mappings true level prepared = IsUnmapped mappings level prepared
+IsPrepared mappings false level prepared = IsMapped mappings level prepared
+
+-- ---- 6.1.5 (g)
+
+-- a way down these levels, last first, to v, of which r is the first policy that isn't any-policy, or any-policy where all are
+abbrev pub Way : List Level → Policy → Policy → Type 0
+Way [] r v = (r ≡ any_policy) × (v ≡ any_policy)
+Way (level ∷ levels) r v = (u : Policy) × (w : Policy) × Way levels w u × LeadsTo level u v × (r ≡ first_of_way w v)
+
+-- the policies under any-policy that lead to the last level
+abbrev pub Leads : List Level → Policy → Type 0
+Leads levels r = (v : Policy) × Way levels r v
+
+-- The user-constrained policy set: all that lead to the last level; where the caller asks for some, those; or all that are asked for, where any-policy
+-- is on the last level.
+abbrev pub IsConstrained : List Policy → List Level → Policy → Type 0
+IsConstrained user levels p = Leads levels p × In any_policy user ⊎ (In p user × (In any_policy user → ⊥) × (Leads levels p ⊎ Leads levels any_policy))
