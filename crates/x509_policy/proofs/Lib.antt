@@ -2,3 +2,4 @@ pub mod Leaves
 pub mod Ends
 pub mod Members
 pub mod Steps
+pub mod Mappings

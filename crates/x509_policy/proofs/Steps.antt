@@ -27,6 +27,10 @@ pub way_at : (levels : List Level) (r v : Policy) → Way levels r v → IsAt (l
 way_at [] r v (first, any) = (record { valid = any_policy; expected = any_policy ∷ []; parents = [] }, inl refl, sym any)
 way_at (level ∷ levels) r v (u, w, way, lead, from) = at_of_leads level u v lead
 
+pub first_any : (w v : Policy) (b : Bool) → is_any w ≡ b → first_of_way w v ≡ any_policy → v ≡ any_policy
+first_any w v true is e = sym (way_of_any w v is) ∙ e
+first_any w v false is e = absurd (is_other w is (sym (way_of_other w v is) ∙ e))
+
 -- ---- the root
 
 any_on : first_of_way any_policy any_policy ≡ any_policy
@@ -191,10 +195,6 @@ module _ (ls : List Leaf) (levels : List Level) (holds : Holds ls levels) (polic
   any_from : (u v : Policy) → v ≡ any_policy → MayFollow policies others Last u v → u ≡ any_policy
   any_from u v any (inl (on, other, why)) = absurd (other any)
   any_from u v any (inr (o, on, ex)) = holds.any_expected u (subst (λ q. Expects Last u q) any ex)
-
-  first_any : (w v : Policy) (b : Bool) → is_any w ≡ b → first_of_way w v ≡ any_policy → v ≡ any_policy
-  first_any w v true is e = sym (way_of_any w v is) ∙ e
-  first_any w v false is e = absurd (is_other w is (sym (way_of_other w v is) ∙ e))
 
   new_any : (r v : Policy) → Way (level ∷ levels) r v → (r ≡ any_policy) ↔ (v ≡ any_policy)
   new_any r v (u, w, way, lead, from) = (
