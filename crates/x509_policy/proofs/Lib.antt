@@ -3,3 +3,4 @@ pub mod Ends
 pub mod Members
 pub mod Steps
 pub mod Mappings
+pub mod Prepared
