@@ -4,3 +4,4 @@ pub mod Members
 pub mod Steps
 pub mod Mappings
 pub mod Prepared
+pub mod Constrained

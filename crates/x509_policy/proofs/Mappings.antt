@@ -24,7 +24,7 @@ to_without id l = if has (l.valid ∷ []) id then [] else l ∷ []
 expecting-replaces : (id : Policy) (to : List Policy) → Replaces (expecting id to) (to_expecting id to)
 expecting-replaces id to above v e s = refl
 
-way_through_any : (above v id : Policy) (b : Bool) → is_any above ≡ b → is_any v ≡ true → first_of_way (first_of_way above v) id ≡ first_of_way above id
+pub way_through_any : (above v id : Policy) (b : Bool) → is_any above ≡ b → is_any v ≡ true → first_of_way (first_of_way above v) id ≡ first_of_way above id
 way_through_any above v id true is any = ap (λ q. first_of_way q id) (way_of_any above v is) ∙ (way_of_any v id any ∙ sym (way_of_any above id is))
 way_through_any above v id false is any = ap (λ q. first_of_way q id) (way_of_other above v is)
 

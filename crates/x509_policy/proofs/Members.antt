@@ -62,15 +62,15 @@ filter-In test x [] h t = absurd h
 filter-In test x (y ∷ xs) (inl e) t = subst (λ z. In z (filter test (y ∷ xs))) e (cond_cons-head (test y) y (filter test xs) (subst (λ z. test z ≡ true) (sym e) t))
 filter-In test x (y ∷ xs) (inr h) t = cond_cons-tail (test y) y x (filter test xs) (filter-In test x xs h t)
 
-or_cases : (a b : Bool) → (a || b) ≡ true → (a ≡ true) ⊎ (b ≡ true)
+pub or_cases : (a b : Bool) → (a || b) ≡ true → (a ≡ true) ⊎ (b ≡ true)
 or_cases true b h = inl refl
 or_cases false b h = inr h
 
-or_left : (a b : Bool) → a ≡ true → (a || b) ≡ true
+pub or_left : (a b : Bool) → a ≡ true → (a || b) ≡ true
 or_left true b h = refl
 or_left false b h = cc
 
-or_right : (a b : Bool) → b ≡ true → (a || b) ≡ true
+pub or_right : (a b : Bool) → b ≡ true → (a || b) ≡ true
 or_right true b h = refl
 or_right false b h = h
 

@@ -92,4 +92,55 @@ Leads levels r = (v : Policy) × Way levels r v
 -- The user-constrained policy set: all that lead to the last level; where the caller asks for some, those; or all that are asked for, where any-policy
 -- is on the last level.
 abbrev pub IsConstrained : List Policy → List Level → Policy → Type 0
-IsConstrained user levels p = Leads levels p × In any_policy user ⊎ (In p user × (In any_policy user → ⊥) × (Leads levels p ⊎ Leads levels any_policy))
+IsConstrained user levels p = (Leads levels p × In any_policy user) ⊎ (In p user × (In any_policy user → ⊥) × (Leads levels p ⊎ Leads levels any_policy))
+
+-- ---- a path
+
+abbrev pub is_last : List Certificate → Bool
+is_last [] = true
+is_last (next ∷ rest) = false
+
+-- What is answered to a path by its levels, under the steps of `outcome_from`: `depth` certificates stand before this one, which left these counters and
+-- these levels, last first.
+pub data ByLevels (settings : Settings) : ℕ → Counters → List Level → Certificate → List Certificate → Outcome → Type 0 where
+  repeated : {depth : ℕ} {counters : Counters} {levels : List Level} {c : Certificate} {rest : List Certificate}
+      → has_repeated c.policies ≡ true → ByLevels settings depth counters levels c rest (Refused depth RepeatedPolicy)
+  -- 6.1.3 (f)
+  none_left : {depth : ℕ} {counters : Counters} {levels : List Level} {c : Certificate} {rest : List Certificate}
+      → has_repeated c.policies ≡ false
+      → (level : Level) → IsNext c.policies (takes_others c (is_last rest) counters.inhibit_any_policy) (last_level levels) level
+      → counters.explicit_policy ≡ 0 → level ≡ [] → ByLevels settings depth counters levels c rest (Refused depth NoPolicy)
+  -- 6.1.4 (a)
+  maps_any : {depth : ℕ} {counters : Counters} {levels : List Level} {c next : Certificate} {rest : List Certificate}
+      → has_repeated c.policies ≡ false
+      → (level : Level) → IsNext c.policies (takes_others c false counters.inhibit_any_policy) (last_level levels) level
+      → (counters.explicit_policy ≡ 0 → level ≡ [] → ⊥) → maps_any_policy c.mappings ≡ true
+      → ByLevels settings depth counters levels c (next ∷ rest) (Refused depth MapsAnyPolicy)
+  goes_on : {depth : ℕ} {counters : Counters} {levels : List Level} {c next : Certificate} {rest : List Certificate} {out : Outcome}
+      → has_repeated c.policies ≡ false
+      → (level : Level) → IsNext c.policies (takes_others c false counters.inhibit_any_policy) (last_level levels) level
+      → (counters.explicit_policy ≡ 0 → level ≡ [] → ⊥) → maps_any_policy c.mappings ≡ false
+      → (prepared : Level) → IsPrepared c.mappings (counters.policy_mapping == 0) level prepared
+      → ByLevels settings (suc depth) (next_counters c counters) (prepared ∷ levels) next rest out
+      → ByLevels settings depth counters levels c (next ∷ rest) out
+  -- 6.1.5
+  none_constrained : {depth : ℕ} {counters : Counters} {levels : List Level} {c : Certificate}
+      → has_repeated c.policies ≡ false
+      → (level : Level) → IsNext c.policies (takes_others c true counters.inhibit_any_policy) (last_level levels) level
+      → (counters.explicit_policy ≡ 0 → level ≡ [] → ⊥) → last_explicit_policy c counters.explicit_policy ≡ 0
+      → ((p : Policy) → IsConstrained settings.user_initial_policy_set (level ∷ levels) p → ⊥)
+      → ByLevels settings depth counters levels c [] (Refused depth NoPolicy)
+  valid : {depth : ℕ} {counters : Counters} {levels : List Level} {c : Certificate}
+      → has_repeated c.policies ≡ false
+      → (level : Level) → IsNext c.policies (takes_others c true counters.inhibit_any_policy) (last_level levels) level
+      → (counters.explicit_policy ≡ 0 → level ≡ [] → ⊥)
+      → (policies : List Policy) → ((p : Policy) → In p policies ↔ IsConstrained settings.user_initial_policy_set (level ∷ levels) p)
+      → (last_explicit_policy c counters.explicit_policy ≡ 0 → policies ≡ [] → ⊥)
+      → ByLevels settings depth counters levels c [] (Valid policies)
+
+-- the same outcome, where a set of policies may be listed in any order
+abbrev pub Alike : Outcome → Outcome → Type 0
+Alike (Refused place reason) (Refused p r) = (place ≡ p) × (reason ≡ r)
+Alike (Refused place reason) (Valid qs) = ⊥
+Alike (Valid ps) (Refused p r) = ⊥
+Alike (Valid ps) (Valid qs) = (p : Policy) → In p ps ↔ In p qs
