@@ -132,19 +132,19 @@ children_for-In f (p ∷ new) q (inl e) = inl (ap (made f) e)
 children_for-In f (p ∷ new) q (inr h) = inr (children_for-In f new q h)
 
 module _ (user : List Policy) (asks : In any_policy user → ⊥) (depth : ℕ) (tree : Nodes) (firsts : AnyFirst (leaves depth any_policy tree)) where
-  abbrev Before : List Leaf
+  abbrev pub Before : List Leaf
   Before = leaves depth any_policy tree
 
-  abbrev Whole : Nodes
+  abbrev pub Whole : Nodes
   Whole = pruned depth tree
 
-  abbrev New : List Policy
+  abbrev pub New : List Policy
   New = filter (λ p. not (has (valid_policy_node_set depth (pruned depth tree)) p)) user
 
-  abbrev After : List Leaf
+  abbrev pub After : List Leaf
   After = flat_map (stands_in New) (filter (keeps user) Before)
 
-  abbrev Placed : Nodes
+  abbrev pub Placed : Nodes
   Placed = replaced depth (in_place_of_any New) (within user Whole)
 
   pub placed : leaves depth any_policy Placed ≡ After

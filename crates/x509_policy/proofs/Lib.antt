@@ -5,3 +5,4 @@ pub mod Steps
 pub mod Mappings
 pub mod Prepared
 pub mod Constrained
+pub mod Outcomes
