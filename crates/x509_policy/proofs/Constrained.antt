@@ -74,14 +74,14 @@ module _ (depth : ℕ) (tree : Nodes) (firsts : AnyFirst (leaves depth any_polic
   led_other p other led =
       let Set = valid_policy_node_set depth Pruned in
       In-left p (filter (λ q. not (is_any q)) Set) (cond (has_node depth any_policy Pruned) (any_policy ∷ []) [])
-        (filter-In (λ q. not (is_any q)) p Set (has-In p Set (in_set p other ∙ led-begins Ls p led)) (true_not (is_any p) other))
+      (filter-In (λ q. not (is_any q)) p Set (has-In p Set (in_set p other ∙ led-begins Ls p led)) (true_not (is_any p) other))
 
   led_any : Led Ls any_policy → In any_policy (policies_of depth Pruned)
   led_any (l, is, first) =
       let Set = valid_policy_node_set depth Pruned in
       let t : has (l.valid ∷ []) any_policy ≡ true = subst (λ q. has (l.valid ∷ []) q ≡ true) ((firsts l is).0 first) (has_itself l.valid) in
       In-right any_policy (filter (λ q. not (is_any q)) Set) (cond (has_node depth any_policy Pruned) (any_policy ∷ []) [])
-        (any_cond-In (has_node depth any_policy Pruned) (any_node ∙ In_any (λ (k : Leaf). has (k.valid ∷ []) any_policy) l Ls is t))
+      (any_cond-In (has_node depth any_policy Pruned) (any_node ∙ In_any (λ (k : Leaf). has (k.valid ∷ []) any_policy) l Ls is t))
 
   by_kind : (p : Policy) (b : Bool) → is_any p ≡ b → Led Ls p → In p (policies_of depth Pruned)
   by_kind p true is led = let same = is_any-same p is in subst (λ q. In q (policies_of depth Pruned)) (sym same) (led_any (subst (Led Ls) same led))
@@ -167,10 +167,14 @@ module _ (user : List Policy) (asks : In any_policy user → ⊥) (depth : ℕ) 
       subst From same (inr (k, there, first, asked, way_of_any k.first q (any_is k.first first)))
   from_case k l there kept false other (inl e) =
       let apart = is_other k.valid other in
-      subst From e (inl (there, apart, elim (or_cases (is_any k.first) (has user k.first) kept) [
-        | inl any ↦ absurd (apart ((firsts k there).0 (is_any-same k.first any)))
-        | inr asked ↦ has-In k.first user asked
-      ]))
+      subst From e (inl (
+        there,
+        apart,
+        elim (or_cases (is_any k.first) (has user k.first) kept) [
+          | inl any ↦ absurd (apart ((firsts k there).0 (is_any-same k.first any)))
+          | inr asked ↦ has-In k.first user asked
+        ],
+      ))
   from_case k l there kept false other (inr h) = absurd h
 
   from_of : (l : Leaf) → In l After → From l

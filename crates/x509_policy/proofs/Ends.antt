@@ -117,7 +117,7 @@ module _ (p : Policy) (other : is_any p ≡ false) where
       let same = way_of_any above v is in
       let both = list_any-append (λ (l : Leaf). has (l.first ∷ []) p) (leaves depth v c) (leaves (suc depth) above s) in
       rw same (set_of_node v e depth (leaves depth v c) (some_begins_with p (leaves depth v c)) (pruned depth c) (pruned (suc depth) s) (some_begins_with p (leaves (suc depth) above s)) (is_any v) refl
-        (some_of_none p (leaves depth v c)) (is_null-pruned depth v c) (λ any. node_set-leaves depth v any c) (λ no. begins_below p v no depth c) (node_set-leaves (suc depth) above is s) ∙ sym both)
+      (some_of_none p (leaves depth v c)) (is_null-pruned depth v c) (λ any. node_set-leaves depth v any c) (λ no. begins_below p v no depth c) (node_set-leaves (suc depth) above is s) ∙ sym both)
 
 -- ---- 2: what the user's set leaves
 

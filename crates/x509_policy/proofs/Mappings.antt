@@ -192,9 +192,9 @@ issuer_or_not [] v = inr (λ (m, is, same). is)
 issuer_or_not (m ∷ ms) v = elim (same_or_not m.issuer_domain_policy v) [
   | inl same ↦ inl (m, inl refl, same)
   | inr other ↦ elim (issuer_or_not ms v) [
-      | inl (k, is, same) ↦ inl (k, inr is, same)
-      | inr not_there ↦ inr (λ (k, is, same). elim is [ inl e ↦ other (subst (λ (j : Mapping). j.issuer_domain_policy ≡ v) (sym e) same) | inr there ↦ not_there (k, there, same) ])
-    ]
+    | inl (k, is, same) ↦ inl (k, inr is, same)
+    | inr not_there ↦ inr (λ (k, is, same). elim is [ inl e ↦ other (subst (λ (j : Mapping). j.issuer_domain_policy ≡ v) (sym e) same) | inr there ↦ not_there (k, there, same) ])
+  ]
 ]
 
 issuer_later : (m : Mapping) (ms : List Mapping) (v : Policy) → IsIssuer ms v → IsIssuer (m ∷ ms) v
@@ -261,9 +261,9 @@ module _ (all : List Mapping) where
     forth r v e (inl (x, there, why)) = elim (In-one Id To ls (record { first = r; valid = v; expected = x }) there) [
       | inl (old, is, inl (same, ex)) ↦ inl (old, is, inl (issuer_first m ms v same, elim why [ inl (issuer, mapped) ↦ mapped | inr (other, kept) ↦ to_same v e same (kept ∙ ex) ]))
       | inl (old, is, inr (differs, ex)) ↦ elim why [
-          | inl (issuer, mapped) ↦ inl (old, is, inl (issuer_later m ms v issuer, mapped))
-          | inr (other, kept) ↦ inl (old, is, inr ((λ issuer. elim (issuer_cases m ms v issuer) [ inl same ↦ differs same | inr later ↦ other later ]), kept ∙ ex))
-        ]
+        | inl (issuer, mapped) ↦ inl (old, is, inl (issuer_later m ms v issuer, mapped))
+        | inr (other, kept) ↦ inl (old, is, inr ((λ issuer. elim (issuer_cases m ms v issuer) [ inl same ↦ differs same | inr later ↦ other later ]), kept ∙ ex))
+      ]
       | inr (same, nobody, (w, old, is, from), ex) ↦ inr (issuer_first m ms v same, (λ l h s. nobody l h (s ∙ same)), (w, old, is, from ∙ ap (first_of_way w) (sym same)), elim why [ inl (issuer, mapped) ↦ mapped | inr (other, kept) ↦ to_same v e same (kept ∙ ex) ])
     ]
     forth r v e (inr (issuer, nobody, (w, x, there, from), ex)) = let (old, is) = old_any w x there in inr (issuer_later m ms v issuer, nowhere_before v nobody, (w, old, is, from), ex)

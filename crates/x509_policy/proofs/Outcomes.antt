@@ -42,7 +42,7 @@ processed_tree None others depth tree levels level holds next = record { before 
 processed_tree (Some policies) others depth tree levels level holds next =
     let make : (Policy → Bool) → Policy → List Policy → Nodes = λ test. children_of test policies others in
     let found = leaves-with_children (make (λ p. is_expected depth p tree)) depth any_policy tree
-        ∙ ap (λ test. flat_map (λ (l : Leaf). leaves 0 l.first (make test l.valid l.expected)) (leaves depth any_policy tree)) (same_test depth tree) in
+    ∙ ap (λ test. flat_map (λ (l : Leaf). leaves 0 l.first (make test l.valid l.expected)) (leaves depth any_policy tree)) (same_test depth tree) in
     record {
       before = with_children depth (make (λ p. is_expected depth p tree)) tree;
       same = refl;
@@ -281,8 +281,8 @@ module _ (settings : Settings) where
       let some_there = some_is_left (suc depth) counters.explicit_policy level levels there t some in
       let last = tree_ends User (level ∷ levels) (suc depth) there t in
       let open_end : (last_explicit_policy c counters.explicit_policy == 0 && is_null (final_tree User (suc depth) there)) ≡ false = is_false (last_explicit_policy c counters.explicit_policy == 0 && is_null (final_tree User (suc depth) there)) (λ h.
-          let (z, n) = parts (last_explicit_policy c counters.explicit_policy == 0) (is_null (final_tree User (suc depth) there)) h in
-          kept (true_zero (last_explicit_policy c counters.explicit_policy) z) (no_member policies (λ p is. last.null n p ((same p).0 is)))) in
+      let (z, n) = parts (last_explicit_policy c counters.explicit_policy == 0) (is_null (final_tree User (suc depth) there)) h in
+      kept (true_zero (last_explicit_policy c counters.explicit_policy) z) (no_member policies (λ p is. last.null n p ((same p).0 is)))) in
       let all : Alike (Valid policies) (Valid (policies_of (suc depth) (final_tree User (suc depth) there))) = λ p. ((λ h. (last.policies p).1 ((same p).0 h)), (λ h. (same p).1 ((last.policies p).0 h))) in
       let e : outcome_from settings depth counters tree c [] ≡ Valid (policies_of (suc depth) (final_tree User (suc depth) there)) = if_false _ _ _ once ∙ (if_false _ _ _ some_there ∙ if_false _ _ _ open_end) in
       along _ _ (Valid policies) e all

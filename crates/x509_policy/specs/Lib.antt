@@ -3,3 +3,4 @@ pub mod Tree
 pub mod Path
 pub mod Leaves
 pub mod Levels
+pub mod Worked
