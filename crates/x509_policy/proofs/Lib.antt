@@ -6,3 +6,4 @@ pub mod Mappings
 pub mod Prepared
 pub mod Constrained
 pub mod Outcomes
+pub mod Graphs

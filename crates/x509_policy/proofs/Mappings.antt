@@ -95,17 +95,17 @@ One id to ls r v e =
     ((old : List Policy) × Mem ls r v old × (((v ≡ id) × (e ≡ to)) ⊎ ((v ≡ id → ⊥) × (e ≡ old))))
     ⊎ ((v ≡ id) × Nowhere ls id × ((w : Policy) × (old : List Policy) × Mem ls w any_policy old × (r ≡ first_of_way w id)) × (e ≡ to))
 
-same_or_not : (v id : Policy) → (v ≡ id) ⊎ (v ≡ id → ⊥)
+pub same_or_not : (v id : Policy) → (v ≡ id) ⊎ (v ≡ id → ⊥)
 same_or_not v id = decide (has (v ∷ []) id) refl
   where
     decide : (b : Bool) → has (v ∷ []) id ≡ b → (v ≡ id) ⊎ (v ≡ id → ⊥)
     decide true h = inl (has_one v id h)
     decide false h = inr (λ e. not_both (has (v ∷ []) id) (subst (λ q. has (v ∷ []) q ≡ true) e (has_itself v)) h)
 
-has_same : (v id : Policy) → v ≡ id → has (v ∷ []) id ≡ true
+pub has_same : (v id : Policy) → v ≡ id → has (v ∷ []) id ≡ true
 has_same v id e = subst (λ q. has (v ∷ []) q ≡ true) e (has_itself v)
 
-has_other : (v id : Policy) → (v ≡ id → ⊥) → has (v ∷ []) id ≡ false
+pub has_other : (v id : Policy) → (v ≡ id → ⊥) → has (v ∷ []) id ≡ false
 has_other v id h = is_false (has (v ∷ []) id) (λ k. h (has_one v id k))
 
 nowhere : (ls : List Leaf) (id : Policy) → some_has_policy id ls ≡ false → Nowhere ls id

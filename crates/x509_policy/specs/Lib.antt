@@ -4,3 +4,4 @@ pub mod Path
 pub mod Leaves
 pub mod Levels
 pub mod Worked
+pub mod Graph
