@@ -1,15 +1,14 @@
 -- The user-constrained policy set, by the leaves of the tree (RFC 5280 6.1.5 (g)).
-use Rattle.std.proofs.Common.{◌≡◌, ◌∙◌, ◌↔◌, ◌⊎◌, inl, inr, ℕ, suc, Bool, true, false, not, ◌||◌, cond, List, [], ◌∷◌, ◌++◌, filter, refl, sym, ap, subst}
-use Rattle.std.specs.List.{list_any, flat_map}
+use Rattle.std.proofs.Common.{◌≡◌, ◌∙◌, ◌↔◌, ◌⊎◌, inl, inr, ℕ, Bool, true, false, not, cond, List, [], ◌∷◌, ◌++◌, filter, refl, sym, ap, subst}
+use Rattle.std.specs.List.{flat_map}
 use Rattle.x509_policy.specs.Values.{Policy, any_policy, is_any, has}
 use Rattle.x509_policy.specs.Tree.{Nodes, none, node, is_null, has_node, pruned, replaced, valid_policy_node_set, within, children_for, in_place_of_any}
-use Rattle.x509_policy.specs.Path.{policies_of, intersected, final_tree}
+use Rattle.x509_policy.specs.Path.{policies_of}
 use Rattle.x509_policy.specs.Leaves.{Leaf, first_of_way, leaves, is_empty, some_has_policy, some_begins_with}
-use Rattle.x509_policy.specs.Levels.{In, Level, Way, Leads, IsConstrained}
+use Rattle.x509_policy.specs.Levels.{In}
 use Rattle.x509_policy.proofs.Leaves.{way_of_any, Replaces, leaves-replaced, leaves-pruned, is_null-pruned, has_node-leaves}
 use Rattle.x509_policy.proofs.Ends.{is_any-any, is_any-same, has_one, has_itself, node_set-leaves, keeps, leaves-within, leaves-children_for, stands_in}
-use Rattle.x509_policy.proofs.Members.{In-left, In-right, In-cases, In-flat_map, flat_map-In, In-filter, filter-In, any_In, In_any, has-In, In-has, is_false, not_both, any_is, other_is, is_other, made, or_cases, or_left, or_right}
-use Rattle.x509_policy.proofs.Steps.{Holds}
+use Rattle.x509_policy.proofs.Members.{In-left, In-right, In-cases, In-flat_map, flat_map-In, In-filter, filter-In, any_In, In_any, has-In, In-has, not_both, any_is, other_is, is_other, made, or_cases, or_left, or_right}
 use Rattle.x509_policy.proofs.Mappings.{way_through_any}
 
 -- some leaf begins with that policy

@@ -1,15 +1,14 @@
 -- What is left of the valid policy tree at the end, by its leaves (RFC 5280 6.1.5 (g)).
-use Rattle.std.proofs.Common.{◌≡◌, ◌∙◌, ℕ, zero, suc, Bool, true, false, not, ◌&&◌, ◌||◌, cond, if◌then◌else◌, List, [], ◌∷◌, ◌++◌, filter, refl, sym, ap, subst, arith}
-use Rattle.std.specs.List.{list_any, flat_map}
+use Rattle.std.proofs.Common.{◌≡◌, ◌∙◌, ℕ, zero, suc, Bool, true, false, not, ◌&&◌, ◌||◌, cond, if◌then◌else◌, List, [], ◌∷◌, ◌++◌, filter, refl, sym, ap, subst}
+use Rattle.std.specs.List.{list_any}
 use Rattle.std.specs.Str.{bytes_eq}
 use Rattle.std.proofs.lemmas.List.Folds.{list_any-append}
-use Rattle.std.proofs.lemmas.List.Concat.{flat_map-append}
 use Rattle.std.proofs.lemmas.List.Elements.{filter-append}
 use Rattle.std.proofs.lemmas.Slice.Eq.{bytes_eq-Decides}
 use Rattle.x509_policy.specs.Values.{Policy, any_policy, is_any, has}
-use Rattle.x509_policy.specs.Tree.{Nodes, none, node, is_null, child, has_node, is_expected, with_children, with_child, pruned, replaced, valid_policy_node_set, within, children_for, in_place_of_any}
-use Rattle.x509_policy.specs.Leaves.{Leaf, first_of_way, leaves, is_empty, some_has_policy, some_expects, some_begins_with}
-use Rattle.x509_policy.proofs.Leaves.{way_of_any, way_of_other, begins_below, is_null-pruned, Replaces}
+use Rattle.x509_policy.specs.Tree.{Nodes, none, node, is_null, with_child, pruned, valid_policy_node_set, within, children_for}
+use Rattle.x509_policy.specs.Leaves.{Leaf, first_of_way, leaves, is_empty, some_begins_with}
+use Rattle.x509_policy.proofs.Leaves.{way_of_any, way_of_other, begins_below, is_null-pruned}
 
 -- ---- tests of policies
 

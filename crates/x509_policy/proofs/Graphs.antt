@@ -1,13 +1,13 @@
 -- The levels of the graph are right.
-use Rattle.std.proofs.Common.{◌≡◌, ◌∙◌, ◌↔◌, ◌⊎◌, inl, inr, ℕ, Bool, true, false, not, ◌&&◌, ◌||◌, cond, List, [], ◌∷◌, ◌++◌, map, filter, Option, Some, None, refl, sym, ap, subst}
-use Rattle.std.specs.List.{list_any, flat_map, filter_map, cons_option}
+use Rattle.std.proofs.Common.{◌≡◌, ◌∙◌, ◌⊎◌, inl, inr, Bool, true, false, not, ◌&&◌, cond, List, [], ◌∷◌, ◌++◌, map, filter, Option, Some, None, refl, sym, ap, subst}
+use Rattle.std.specs.List.{flat_map, filter_map, cons_option}
 use Rattle.x509_policy.specs.Values.{Policy, any_policy, is_any, has, Mapping}
 use Rattle.x509_policy.specs.Tree.{subjects}
 use Rattle.x509_policy.specs.Levels.{In, Entry, Level, IsAt, Expects, LeadsTo, MayFollow, IsProcessed, IsNext, IsIssuer, IsMapped, IsUnmapped, IsPrepared}
 use Rattle.x509_policy.specs.Graph.{is_at, some_expects, expecting, entry, named_entry, with_new, next_level, is_issuer, mapped_entry, parents_of_any, prepared_level}
 use Rattle.x509_policy.proofs.Ends.{is_any-same, has_one}
-use Rattle.x509_policy.proofs.Members.{In-left, In-right, In-cases, In-flat_map, flat_map-In, In-filter, filter-In, any_In, In_any, has-In, In-has, is_false, not_both, any_is, other_is, is_other}
-use Rattle.x509_policy.proofs.Mappings.{has_same, has_other}
+use Rattle.x509_policy.proofs.Members.{In-left, In-right, In-cases, In-flat_map, flat_map-In, In-filter, filter-In, any_In, In_any, has-In, In-has, is_false, not_both, any_is, is_other}
+use Rattle.x509_policy.proofs.Mappings.{has_same}
 
 -- ---- lists
 
@@ -99,9 +99,9 @@ module _ (make : Policy → Entry) (named : (p : Policy) → (make p).valid ≡ 
   In-with_new e [] level h = inl h
   In-with_new e (p ∷ ps) level h = elim (In-with_new e ps (cond (is_at level p) level (level ++ make p ∷ [])) h) [
     | inl old ↦ elim (new-step (is_at level p) e (make p) level old) [
-        | inl before ↦ inl before
-        | inr (free, same) ↦ inr (p, inl refl, same, not_at level p free)
-      ]
+      | inl before ↦ inl before
+      | inr (free, same) ↦ inr (p, inl refl, same, not_at level p free)
+    ]
     | inr (q, is, same, free) ↦ inr (q, inr is, same, λ (k, there, at). free (k, step-old (is_at level p) k (make p) level there, at))
   ]
 
@@ -251,3 +251,166 @@ module _ (policies : List Policy) (others : Bool) (above : Level) where
 pub next_right : (policies : Option (List Policy)) (others : Bool) (above : Level) → IsNext policies others above (next_level policies others above)
 next_right None others above = refl
 next_right (Some policies) others above = made_processed policies others above
+
+-- ---- 6.1.4 (b)
+
+module _ (ms : List Mapping) (level : Level) (follows : (v : Policy) → IsAt level v → (u : Policy) × LeadsTo level u v) where
+  abbrev Left : Level
+  Left = filter (λ (e : Entry). not (is_issuer ms e.valid)) level
+
+  not_issuer : (v : Policy) → not (is_issuer ms v) ≡ true → IsIssuer ms v → ⊥
+  not_issuer v t issuer = by (is_issuer ms v) (is_issuer_of ms v issuer) t
+    where
+      by : (b : Bool) → b ≡ true → not b ≡ true → ⊥
+      by true h k = not_both false k refl
+      by false h k = not_both false h refl
+
+  other_issuer : (v : Policy) → (IsIssuer ms v → ⊥) → not (is_issuer ms v) ≡ true
+  other_issuer v other = ap not (is_false (is_issuer ms v) (λ h. other (issuer_is ms v h)))
+
+  left_of : (e : Entry) → In e Left → In e level × (IsIssuer ms e.valid → ⊥)
+  left_of e h = let (is, t) = In-filter (λ (k : Entry). not (is_issuer ms k.valid)) e level h in (is, not_issuer e.valid t)
+
+  of_left : (e : Entry) → In e level → (IsIssuer ms e.valid → ⊥) → In e Left
+  of_left e is other = filter-In (λ (k : Entry). not (is_issuer ms k.valid)) e level is (other_issuer e.valid other)
+
+  pub left_unmapped : IsUnmapped ms level Left
+  left_unmapped = record {
+    leads = λ u v. (
+      (λ (e, is, same, by). let (there, other) = left_of e is in ((e, there, same, by), λ issuer. other (subst (IsIssuer ms) (sym same) issuer))),
+      (λ ((e, is, same, by), other). (e, of_left e is (λ issuer. other (subst (IsIssuer ms) same issuer)), same, by)),
+    );
+    expects = λ v x. (
+      (λ (e, is, same, ex). let (there, other) = left_of e is in ((e, there, same, ex), λ issuer. other (subst (IsIssuer ms) (sym same) issuer))),
+      (λ ((e, is, same, ex), other). (e, of_left e is (λ issuer. other (subst (IsIssuer ms) same issuer)), same, ex)),
+    );
+    follows = λ v (e, is, same).
+        let (there, other) = left_of e is in
+        let (u, (k, on, named, by)) = follows v (e, there, same) in
+        (u, (k, of_left k on (λ issuer. other (subst (IsIssuer ms) (named ∙ sym same) issuer)), named, by));
+  }
+
+  abbrev Kept : Level
+  Kept = map (mapped_entry ms) level
+
+  abbrev Issuers : List Policy
+  Issuers = map (λ (m : Mapping). m.issuer_domain_policy) ms
+
+  abbrev NewEntry : Policy → Entry
+  NewEntry p = record { valid = p; expected = subjects ms p; parents = parents_of_any level }
+
+  abbrev MappedIf : Bool → Level
+  MappedIf b = cond b (with_new NewEntry Issuers Kept) Kept
+
+  in_parents : (u : Policy) → In u (parents_of_any level) → LeadsTo level u any_policy
+  in_parents u h =
+      let (e, is, by) = In-flat_map (λ (k : Entry). k.parents) u (filter (λ (k : Entry). is_any k.valid) level) h in
+      let (there, any) = In-filter (λ (k : Entry). is_any k.valid) e level is in
+      (e, there, is_any-same e.valid any, by)
+
+  parents_in : (u : Policy) → LeadsTo level u any_policy → In u (parents_of_any level)
+  parents_in u (e, is, same, by) = flat_map-In (λ (k : Entry). k.parents) u e (filter (λ (k : Entry). is_any k.valid) level) (filter-In (λ (k : Entry). is_any k.valid) e level is (any_is e.valid same)) by
+
+  -- an entry is one of before, or a new one for a policy that is mapped
+  abbrev Source : Entry → Type 0
+  Source e = ((k : Entry) × In k level × (mapped_entry ms k ≡ e)) ⊎ ((p : Policy) × IsIssuer ms p × (NewEntry p ≡ e) × (IsAt level p → ⊥) × IsAt level any_policy)
+
+  kept_source : (e : Entry) → In e Kept → Source e
+  kept_source e h = let (k, is, same) = In-map (mapped_entry ms) e level h in inl (k, is, same)
+
+  kept_at : (p : Policy) → IsAt level p → IsAt Kept p
+  kept_at p (e, is, same) = (mapped_entry ms e, map-In (mapped_entry ms) e level is, same)
+
+  issuer_in : (p : Policy) → In p Issuers → IsIssuer ms p
+  issuer_in p h = let (m, is, same) = In-map (λ (k : Mapping). k.issuer_domain_policy) p ms h in (m, is, same)
+
+  in_issuers : (p : Policy) → IsIssuer ms p → In p Issuers
+  in_issuers p (m, is, same) = subst (λ q. In q Issuers) same (map-In (λ (k : Mapping). k.issuer_domain_policy) m ms is)
+
+  source : (b : Bool) → is_at level any_policy ≡ b → (e : Entry) → In e (MappedIf b) → Source e
+  source true any e h = elim (In-with_new NewEntry (λ p. refl) e Issuers Kept h) [
+    | inl old ↦ kept_source e old
+    | inr (p, is, same, free) ↦ inr (p, issuer_in p is, same, (λ at. free (kept_at p at)), at_is level any_policy any)
+  ]
+  source false any e h = kept_source e h
+
+  old_there : (b : Bool) (k : Entry) → In k level → In (mapped_entry ms k) (MappedIf b)
+  old_there true k is = old-with_new NewEntry (λ p. refl) (mapped_entry ms k) Issuers Kept (map-In (mapped_entry ms) k level is)
+  old_there false k is = map-In (mapped_entry ms) k level is
+
+  new_there : (b : Bool) → is_at level any_policy ≡ b → (p : Policy) → IsIssuer ms p → IsAt level any_policy → IsAt (MappedIf b) p
+  new_there true any p issuer at = with_new-at NewEntry (λ q. refl) p Issuers Kept (in_issuers p issuer)
+  new_there false any p issuer at = absurd (not_at level any_policy any at)
+
+  abbrev Mapped : Level
+  Mapped = MappedIf (is_at level any_policy)
+
+  source_of : (e : Entry) → In e Mapped → Source e
+  source_of e h = source (is_at level any_policy) refl e h
+
+  issuer_expected : (k : Entry) → IsIssuer ms k.valid → (mapped_entry ms k).expected ≡ subjects ms k.valid
+  issuer_expected k issuer = if_yes (is_issuer ms k.valid) (subjects ms k.valid) k.expected (is_issuer_of ms k.valid issuer)
+
+  other_expected : (k : Entry) → (IsIssuer ms k.valid → ⊥) → (mapped_entry ms k).expected ≡ k.expected
+  other_expected k other = if_no (is_issuer ms k.valid) (subjects ms k.valid) k.expected (is_false (is_issuer ms k.valid) (λ h. other (issuer_is ms k.valid h)))
+
+  -- what an entry of a mapped policy expects
+  mapped_expected : (e : Entry) → Source e → IsIssuer ms e.valid → e.expected ≡ subjects ms e.valid
+  mapped_expected e (inl (k, is, same)) issuer =
+      subst (λ (j : Entry). IsIssuer ms j.valid → j.expected ≡ subjects ms j.valid) same (λ i. issuer_expected k i) issuer
+  mapped_expected e (inr (p, i, same, free, at)) issuer = subst (λ (j : Entry). j.expected ≡ subjects ms j.valid) same refl
+
+  lead_of : (u : Policy) (e : Entry) → Source e → In u e.parents → LeadsTo level u e.valid ⊎ (IsIssuer ms e.valid × (IsAt level e.valid → ⊥) × LeadsTo level u any_policy)
+  lead_of u e (inl (k, is, same)) by =
+      let old : In u k.parents = subst (In u) (sym (ap (λ (j : Entry). j.parents) same)) by in
+      inl (k, is, ap (λ (j : Entry). j.valid) same, old)
+  lead_of u e (inr (p, issuer, same, free, at)) by =
+      let v = ap (λ (j : Entry). j.valid) same in
+      let any : In u (parents_of_any level) = subst (In u) (sym (ap (λ (j : Entry). j.parents) same)) by in
+      inr (subst (IsIssuer ms) v issuer, (λ there. free (subst (IsAt level) (sym v) there)), in_parents u any)
+
+  new_lead : (u v : Policy) → (IsAt level v → ⊥) → LeadsTo level u any_policy → (e : Entry) → e.valid ≡ v → Source e → In u e.parents
+  new_lead u v free by e same (inl (k, is, made)) = absurd (free (k, is, ap (λ (j : Entry). j.valid) made ∙ same))
+  new_lead u v free by e same (inr (p, issuer, made, none_there, at)) = subst (λ (j : Entry). In u j.parents) made (parents_in u by)
+
+  other_expects : (v x : Policy) → (IsIssuer ms v → ⊥) → (e : Entry) → e.valid ≡ v → In x e.expected → Source e → Expects level v x
+  other_expects v x other e same ex (inl (k, is, made)) =
+      let valid = ap (λ (j : Entry). j.valid) made ∙ same in
+      let own : In x (mapped_entry ms k).expected = subst (λ (j : Entry). In x j.expected) (sym made) ex in
+      (k, is, valid, subst (In x) (other_expected k (λ i. other (subst (IsIssuer ms) valid i))) own)
+  other_expects v x other e same ex (inr (p, issuer, made, free, at)) = absurd (other (subst (IsIssuer ms) (ap (λ (j : Entry). j.valid) made ∙ same) issuer))
+
+  mapped_follows : (e : Entry) → In e Mapped → Source e → (u : Policy) × LeadsTo Mapped u e.valid
+  mapped_follows e there (inl (k, is, made)) =
+      let (u, (j, on, same, by)) = follows k.valid (k, is, refl) in
+      (u, (mapped_entry ms j, old_there (is_at level any_policy) j on, same ∙ ap (λ (i : Entry). i.valid) made, by))
+  mapped_follows e there (inr (p, issuer, made, free, at)) =
+      let (u, by) = follows any_policy at in
+      (u, (e, there, refl, subst (λ (j : Entry). In u j.parents) made (parents_in u by)))
+
+  pub mapped_right : IsMapped ms level Mapped
+  mapped_right = record {
+    leads = λ u v. (
+      (λ (e, is, same, by). subst (λ w. LeadsTo level u w ⊎ (IsIssuer ms w × (IsAt level w → ⊥) × LeadsTo level u any_policy)) same (lead_of u e (source_of e is) by)),
+      (elim [
+        | inl (k, is, same, by) ↦ (mapped_entry ms k, old_there (is_at level any_policy) k is, same, by)
+        | inr (issuer, free, by) ↦
+            let (k, on, named, from) = by in
+            let (e, is, same) = new_there (is_at level any_policy) refl v issuer (k, on, named) in
+            (e, is, same, new_lead u v free by e same (source_of e is))
+      ]),
+    );
+    expects_mapped = λ v x issuer. (
+      (λ (e, is, same, ex). ((e, is, same), subst (λ w. In x (subjects ms w)) same (subst (In x) (mapped_expected e (source_of e is) (subst (IsIssuer ms) (sym same) issuer)) ex))),
+      (λ ((e, is, same), ex). (e, is, same, subst (In x) (sym (mapped_expected e (source_of e is) (subst (IsIssuer ms) (sym same) issuer))) (subst (λ w. In x (subjects ms w)) (sym same) ex))),
+    );
+    expects_other = λ v x other. (
+      (λ (e, is, same, ex). other_expects v x other e same ex (source_of e is)),
+      (λ (k, is, same, ex). (mapped_entry ms k, old_there (is_at level any_policy) k is, same, subst (In x) (sym (other_expected k (λ i. other (subst (IsIssuer ms) same i)))) ex)),
+    );
+    follows = λ v (e, is, same). subst (λ w. (u : Policy) × LeadsTo Mapped u w) same (mapped_follows e is (source_of e is));
+  }
+
+pub prepared_right : (ms : List Mapping) (b : Bool) (level : Level) → ((v : Policy) → IsAt level v → (u : Policy) × LeadsTo level u v) → IsPrepared ms b level (prepared_level ms b level)
+prepared_right ms true level follows = left_unmapped ms level follows
+prepared_right ms false level follows = mapped_right ms level follows

@@ -1,11 +1,10 @@
 -- What each step on the tree does to its leaves.
-use Rattle.std.proofs.Common.{◌≡◌, ◌∙◌, ℕ, zero, suc, Bool, true, false, not, ◌&&◌, ◌||◌, cond, List, [], ◌∷◌, ◌++◌, filter, refl, sym, ap, arith, append_assoc}
-use Rattle.std.specs.List.{list_any, flat_map}
+use Rattle.std.proofs.Common.{◌≡◌, ◌∙◌, ℕ, zero, suc, Bool, true, false, not, ◌&&◌, ◌||◌, cond, List, [], ◌∷◌, ◌++◌, refl, sym, ap}
+use Rattle.std.specs.List.{flat_map}
 use Rattle.std.proofs.lemmas.List.Folds.{list_any-append}
 use Rattle.std.proofs.lemmas.List.Concat.{flat_map-append}
-use Rattle.std.proofs.lemmas.List.Elements.{filter-append}
-use Rattle.x509_policy.specs.Values.{Policy, any_policy, is_any, has}
-use Rattle.x509_policy.specs.Tree.{Nodes, none, node, is_null, child, has_node, is_expected, with_children, with_child, pruned, replaced, valid_policy_node_set, within}
+use Rattle.x509_policy.specs.Values.{Policy, is_any, has}
+use Rattle.x509_policy.specs.Tree.{Nodes, none, node, is_null, has_node, is_expected, with_children, with_child, pruned, replaced}
 use Rattle.x509_policy.specs.Leaves.{Leaf, first_of_way, leaves, is_empty, some_has_policy, some_expects, some_begins_with}
 
 or_assoc : (a b c : Bool) → ((a || b) || c) ≡ (a || (b || c))

@@ -7,3 +7,4 @@ pub mod Prepared
 pub mod Constrained
 pub mod Outcomes
 pub mod Graphs
+pub mod GraphEnds

@@ -1,14 +1,13 @@
 -- The leaves of the tree and the levels say the same behind policy mappings (RFC 5280 6.1.4 (b)).
-use Rattle.std.proofs.Common.{◌≡◌, ◌∙◌, ◌↔◌, ◌⊎◌, inl, inr, ℕ, zero, suc, Bool, true, false, not, ◌&&◌, ◌||◌, cond, if◌then◌else◌, List, [], ◌∷◌, ◌++◌, refl, sym, ap, subst}
-use Rattle.std.specs.List.{list_any, flat_map}
-use Rattle.x509_policy.specs.Values.{Policy, any_policy, is_any, has, Mapping, maps_any_policy}
+use Rattle.std.proofs.Common.{◌≡◌, ◌∙◌, ◌⊎◌, inl, inr, ℕ, Bool, true, false, cond, if◌then◌else◌, List, [], ◌∷◌, ◌++◌, refl, sym, ap, subst}
+use Rattle.std.specs.List.{flat_map}
+use Rattle.x509_policy.specs.Values.{Policy, any_policy, is_any, has, Mapping}
 use Rattle.x509_policy.specs.Tree.{Nodes, none, node, has_node, subjects, replaced, expecting, beside_any, without, mapped_one, mapped, unmapped, pruned}
 use Rattle.x509_policy.specs.Leaves.{Leaf, first_of_way, leaves, some_has_policy}
-use Rattle.x509_policy.specs.Levels.{In, Level, IsAt, Expects, LeadsTo, IsIssuer, IsMapped, IsUnmapped, Way}
+use Rattle.x509_policy.specs.Levels.{In, IsIssuer}
 use Rattle.x509_policy.proofs.Leaves.{way_of_any, way_of_other, Replaces, leaves-replaced, leaves-pruned, has_node-leaves}
 use Rattle.x509_policy.proofs.Ends.{is_any-any, is_any-same, has_one, has_itself}
-use Rattle.x509_policy.proofs.Members.{In-flat_map, flat_map-In, any_In, In_any, is_false, not_both, any_is, is_other}
-use Rattle.x509_policy.proofs.Steps.{Holds, at_of_leads, at_of_expects, way_at, first_any}
+use Rattle.x509_policy.proofs.Members.{In-flat_map, flat_map-In, any_In, In_any, is_false, not_both}
 
 -- ---- lists of leaves
 

@@ -1,13 +1,13 @@
 -- Members of lists of leaves and policies.
-use Rattle.std.proofs.Common.{◌≡◌, ◌∙◌, ◌↔◌, ◌⊎◌, inl, inr, ℕ, zero, suc, Bool, true, false, not, ◌&&◌, ◌||◌, cond, if◌then◌else◌, List, [], ◌∷◌, ◌++◌, filter, refl, sym, ap, subst, arith}
+use Rattle.std.proofs.Common.{◌≡◌, ◌∙◌, ◌⊎◌, inl, inr, Bool, true, false, not, ◌&&◌, ◌||◌, cond, List, [], ◌∷◌, ◌++◌, filter, refl, sym, ap, subst}
 use Rattle.std.specs.List.{list_any, flat_map}
 use Rattle.std.specs.Str.{bytes_eq}
 use Rattle.std.proofs.lemmas.Slice.Eq.{bytes_eq-Decides}
 use Rattle.x509_policy.specs.Values.{Policy, any_policy, is_any, has}
-use Rattle.x509_policy.specs.Tree.{Nodes, none, node, child, has_node, named_children, other_children, children_of}
-use Rattle.x509_policy.specs.Leaves.{Leaf, first_of_way, leaves, is_empty, some_has_policy, some_expects, some_begins_with}
+use Rattle.x509_policy.specs.Tree.{Nodes, none, node, child, has_node, named_children, other_children}
+use Rattle.x509_policy.specs.Leaves.{Leaf, first_of_way, leaves}
 use Rattle.x509_policy.specs.Levels.{In}
-use Rattle.x509_policy.proofs.Ends.{is_any-any, is_any-same, has_one, has_itself, has-cons, has-nil}
+use Rattle.x509_policy.proofs.Ends.{is_any-any, is_any-same, has_one}
 
 -- ---- lists
 

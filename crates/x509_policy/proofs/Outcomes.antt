@@ -1,15 +1,15 @@
 -- What is answered by levels is the outcome of the valid policy tree.
-use Rattle.std.proofs.Common.{◌≡◌, ◌∙◌, ◌↔◌, ◌⊎◌, inl, inr, ℕ, zero, suc, ◌==◌, Bool, true, false, not, ◌&&◌, ◌||◌, cond, List, [], ◌∷◌, ◌++◌, length, Option, Some, None, refl, sym, ap, subst}
-use Rattle.std.specs.List.{list_any, flat_map}
+use Rattle.std.proofs.Common.{◌≡◌, ◌∙◌, ◌↔◌, ◌⊎◌, inl, inr, ℕ, suc, ◌==◌, Bool, true, false, ◌&&◌, ◌||◌, cond, List, [], ◌∷◌, length, Option, Some, None, refl, sym, ap, subst}
+use Rattle.std.specs.List.{flat_map}
 use Rattle.std.proofs.lemmas.Bool.Decides.{Decides-eqb}
 use Rattle.x509_policy.specs.Values.{Policy, any_policy, is_any, has, Mapping, maps_any_policy, Certificate, Settings}
-use Rattle.x509_policy.specs.Tree.{Nodes, none, node, is_null, initial_tree, is_expected, children_of, with_children, pruned, subjects, mapped, unmapped, replaced, in_place_of_any, within}
-use Rattle.x509_policy.specs.Path.{Counters, initial_counters, next_counters, last_explicit_policy, takes_others, processed, prepared, intersected, final_tree, policies_of, has_repeated, ended, outcome_from, outcome, Outcome, Refused, Valid, Reason, RepeatedPolicy, MapsAnyPolicy, NoPolicy}
+use Rattle.x509_policy.specs.Tree.{Nodes, none, is_null, initial_tree, is_expected, children_of, with_children, pruned, subjects, mapped, unmapped}
+use Rattle.x509_policy.specs.Path.{Counters, initial_counters, next_counters, last_explicit_policy, takes_others, processed, prepared, intersected, final_tree, policies_of, outcome_from, outcome, Outcome, Refused, Valid, Reason, RepeatedPolicy, MapsAnyPolicy, NoPolicy}
 use Rattle.x509_policy.specs.Leaves.{Leaf, leaves, is_empty, some_expects}
-use Rattle.x509_policy.specs.Levels.{In, Entry, Level, IsAt, last_level, IsIssuer, IsNext, IsPrepared, Way, Leads, IsConstrained, ByLevels, repeated, none_left, maps_any, goes_on, none_constrained, valid, Alike, is_last}
+use Rattle.x509_policy.specs.Levels.{In, Entry, Level, last_level, IsNext, IsPrepared, Way, Leads, IsConstrained, ByLevels, repeated, none_left, maps_any, goes_on, none_constrained, valid, Alike}
 use Rattle.x509_policy.proofs.Leaves.{leaves-with_children, leaves-pruned, is_null-pruned, is_expected-leaves}
-use Rattle.x509_policy.proofs.Members.{any_In, In_any, has-In, In-has, not_both, is_false, any_is, or_left, or_right}
-use Rattle.x509_policy.proofs.Steps.{Holds, start, next_leaves, processed_holds}
+use Rattle.x509_policy.proofs.Members.{In_any, has-In, In-has, not_both, is_false, any_is, or_left, or_right}
+use Rattle.x509_policy.proofs.Steps.{Holds, start, processed_holds}
 use Rattle.x509_policy.proofs.Mappings.{leaves_mapped, leaves_unmapped, leaves-mapped, leaves-unmapped, NoneFromAny}
 use Rattle.x509_policy.proofs.Prepared.{mapped_holds, unmapped_holds}
 use Rattle.x509_policy.proofs.Constrained.{Led, AnyFirst, policies-led, led-policies, null-led, led-null, After, Placed, placed, after_firsts, after-asked, asked-after}
@@ -79,7 +79,7 @@ tree_leaves depth levels tree t = subst (λ ls. Holds ls levels) (sym (leaves-pr
 
 -- ---- 6.1.4 (b)
 
-none_from : (ms : List Mapping) → maps_any_policy ms ≡ false → NoneFromAny ms
+pub none_from : (ms : List Mapping) → maps_any_policy ms ≡ false → NoneFromAny ms
 none_from ms h (m, is, same) =
     not_both (maps_any_policy ms) (In_any (λ (k : Mapping). is_any k.issuer_domain_policy || is_any k.subject_domain_policy) m ms is (or_left (is_any m.issuer_domain_policy) (is_any m.subject_domain_policy) (any_is m.issuer_domain_policy same))) h
 
@@ -95,7 +95,7 @@ subjects_from p v (m ∷ ms) h = elim (subject_of p v m (subjects ms v) (has (m.
   | inr more ↦ let (k, is, same) = subjects_from p v ms more in (k, inr is, same)
 ]
 
-none_to : (ms : List Mapping) → maps_any_policy ms ≡ false → (v : Policy) → In any_policy (subjects ms v) → ⊥
+pub none_to : (ms : List Mapping) → maps_any_policy ms ≡ false → (v : Policy) → In any_policy (subjects ms v) → ⊥
 none_to ms h v there =
     let (m, is, same) = subjects_from any_policy v ms there in
     not_both (maps_any_policy ms) (In_any (λ (k : Mapping). is_any k.issuer_domain_policy || is_any k.subject_domain_policy) m ms is (or_right (is_any m.issuer_domain_policy) (is_any m.subject_domain_policy) (any_is m.subject_domain_policy same))) h

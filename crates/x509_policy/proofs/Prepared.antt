@@ -1,13 +1,12 @@
 -- The leaves of the tree and the levels say the same behind 6.1.4 (b).
-use Rattle.std.proofs.Common.{◌≡◌, ◌∙◌, ◌↔◌, ◌⊎◌, inl, inr, ℕ, Bool, true, false, cond, List, [], ◌∷◌, refl, sym, ap, subst}
+use Rattle.std.proofs.Common.{◌≡◌, ◌∙◌, ◌↔◌, inl, inr, Bool, true, false, List, ◌∷◌, refl, sym, ap, subst}
 use Rattle.x509_policy.specs.Values.{Policy, any_policy, is_any, Mapping}
 use Rattle.x509_policy.specs.Tree.{subjects}
 use Rattle.x509_policy.specs.Leaves.{Leaf, first_of_way}
-use Rattle.x509_policy.specs.Levels.{In, Level, IsAt, Expects, LeadsTo, IsIssuer, IsMapped, IsUnmapped, Way}
+use Rattle.x509_policy.specs.Levels.{In, Level, IsAt, Expects, IsIssuer, IsMapped, IsUnmapped, Way}
 use Rattle.x509_policy.proofs.Leaves.{way_of_any, way_of_other}
 use Rattle.x509_policy.proofs.Ends.{is_any-any}
-use Rattle.x509_policy.proofs.Members.{any_is, is_other}
-use Rattle.x509_policy.proofs.Steps.{Holds, at_of_leads, at_of_expects, way_at, first_any}
+use Rattle.x509_policy.proofs.Steps.{Holds, at_of_leads, way_at, first_any}
 use Rattle.x509_policy.proofs.Mappings.{Mem, Nowhere, leaves_mapped, leaves_unmapped, issuer_or_not, NoneFromAny, Behind, In-mapped, mapped-In, In-unmapped, unmapped-In}
 
 -- a way to any-policy goes on as its own

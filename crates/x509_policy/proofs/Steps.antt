@@ -1,9 +1,9 @@
 -- The leaves of the tree and the levels say the same, at the start and behind 6.1.3 (d), (e).
-use Rattle.std.proofs.Common.{◌≡◌, ◌∙◌, ◌↔◌, ◌⊎◌, inl, inr, ℕ, zero, suc, Bool, true, false, not, ◌&&◌, ◌||◌, cond, if◌then◌else◌, List, [], ◌∷◌, ◌++◌, refl, sym, ap, subst}
-use Rattle.std.specs.List.{list_any, flat_map}
+use Rattle.std.proofs.Common.{◌≡◌, ◌∙◌, ◌↔◌, ◌⊎◌, inl, inr, Bool, true, false, not, ◌&&◌, ◌||◌, if◌then◌else◌, List, [], ◌∷◌, refl, sym, ap, subst}
+use Rattle.std.specs.List.{flat_map}
 use Rattle.x509_policy.specs.Values.{Policy, any_policy, is_any, has}
-use Rattle.x509_policy.specs.Tree.{Nodes, none, node, initial_tree, child, has_node, named_children, other_children, children_of}
-use Rattle.x509_policy.specs.Leaves.{Leaf, first_of_way, leaves, is_empty, some_has_policy, some_expects}
+use Rattle.x509_policy.specs.Tree.{Nodes, initial_tree, child, named_children, other_children, children_of}
+use Rattle.x509_policy.specs.Leaves.{Leaf, first_of_way, leaves, some_expects}
 use Rattle.x509_policy.specs.Levels.{In, Entry, Level, IsAt, Expects, LeadsTo, initial_level, last_level, MayFollow, IsProcessed, Way}
 use Rattle.x509_policy.proofs.Leaves.{way_of_any, way_of_other}
 use Rattle.x509_policy.proofs.Ends.{is_any-any, is_any-same}

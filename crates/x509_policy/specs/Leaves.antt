@@ -1,10 +1,9 @@
 -- A tool of the proofs: the valid policy tree by its leaves. All that is answered follows from the set of its leaves of the last depth, where each is
 -- told by the first policy behind any-policy on the way to it, by its valid policy and by what it expects.
-use Rattle.std.specs.Prelude.{ℕ, zero, suc, ◌-◌, ◌==◌, Bool, true, false, not, ◌&&◌, ◌||◌, List, [], ◌∷◌, ◌++◌, filter, map, flat_map, if◌then◌else◌, Option, Some, None}
+use Rattle.std.specs.Prelude.{ℕ, zero, suc, Bool, true, false, List, [], ◌∷◌, ◌++◌, if◌then◌else◌}
 use Rattle.std.specs.List.{list_any}
-use Rattle.x509_policy.specs.Values.{Policy, any_policy, is_any, has, maps_any_policy, Mapping, Certificate, Settings}
-use Rattle.x509_policy.specs.Tree.{Nodes, none, node, children_of, subjects}
-use Rattle.x509_policy.specs.Path.{Counters, next_counters, last_explicit_policy, takes_others, has_repeated, Outcome, Refused, Valid, RepeatedPolicy, MapsAnyPolicy, NoPolicy}
+use Rattle.x509_policy.specs.Values.{Policy, is_any, has}
+use Rattle.x509_policy.specs.Tree.{Nodes, none, node}
 
 pub record Leaf : Type 0 where
   pub first : Policy

@@ -1,7 +1,7 @@
 -- Policies of a path (RFC 5280 6.1): the steps that speak of them, each under its letter, as one function over what the certificates say.
-use Rattle.std.specs.Prelude.{ℕ, zero, suc, ◌+◌, ◌-◌, ◌<◌, ◌==◌, min, Bool, true, false, not, ◌&&◌, ◌||◌, List, [], ◌∷◌, ◌++◌, length, filter, if◌then◌else◌, Option, Some, None}
+use Rattle.std.specs.Prelude.{ℕ, suc, ◌-◌, ◌==◌, min, Bool, true, false, not, ◌&&◌, ◌||◌, List, [], ◌∷◌, ◌++◌, length, filter, if◌then◌else◌, Option, Some, None}
 use Rattle.x509_policy.specs.Values.{Policy, any_policy, is_any, has, is_repeated, maps_any_policy, Mapping, Certificate, Settings}
-use Rattle.x509_policy.specs.Tree.{Nodes, none, node, is_null, initial_tree, has_node, is_expected, children_of, with_children, pruned, replaced, mapped, unmapped, valid_policy_node_set, within, in_place_of_any}
+use Rattle.x509_policy.specs.Tree.{Nodes, none, is_null, initial_tree, has_node, is_expected, children_of, with_children, pruned, replaced, mapped, unmapped, valid_policy_node_set, within, in_place_of_any}
 
 -- ---- the counters
 

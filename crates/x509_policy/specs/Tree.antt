@@ -1,5 +1,5 @@
 -- The valid policy tree, and what the steps of RFC 5280 6.1.3 to 6.1.5 make of it.
-use Rattle.std.specs.Prelude.{ℕ, zero, suc, Bool, true, false, not, ◌&&◌, ◌||◌, List, [], ◌∷◌, ◌++◌, filter, if◌then◌else◌}
+use Rattle.std.specs.Prelude.{ℕ, zero, suc, Bool, true, false, not, ◌&&◌, ◌||◌, List, [], ◌∷◌, ◌++◌, if◌then◌else◌}
 use Rattle.x509_policy.specs.Values.{Policy, any_policy, is_any, has, Mapping}
 
 -- Nodes that stand beside one another: none, or a node with its children, beside its further siblings. The tree is its root; `none` is the tree NULL.

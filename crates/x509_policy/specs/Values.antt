@@ -1,5 +1,5 @@
 -- What certificates say of policies, and what a caller asks of a path (RFC 5280 4.2.1.4, 4.2.1.5, 4.2.1.11, 4.2.1.14, 6.1.1).
-use Rattle.std.specs.Prelude.{ℕ, zero, suc, Bool, false, ◌||◌, List, [], ◌∷◌, Option}
+use Rattle.std.specs.Prelude.{ℕ, Bool, false, ◌||◌, List, [], ◌∷◌, Option}
 use Rattle.std.specs.List.{list_any}
 use Rattle.std.specs.Str.{bytes_eq}
 

@@ -1,7 +1,7 @@
 -- Small paths, and what the definition says of them.
-use Rattle.std.specs.Prelude.{◌≡◌, Bool, true, false, List, [], ◌∷◌, Option, Some, None, refl}
+use Rattle.std.specs.Prelude.{◌≡◌, true, false, List, [], ◌∷◌, Some, None, refl}
 use Rattle.x509_policy.specs.Values.{Policy, any_policy, is_any, has, Mapping, Certificate, Settings}
-use Rattle.x509_policy.specs.Path.{Outcome, Refused, Valid, NoPolicy, RepeatedPolicy, MapsAnyPolicy, outcome}
+use Rattle.x509_policy.specs.Path.{Refused, Valid, NoPolicy, RepeatedPolicy, MapsAnyPolicy, outcome}
 
 abbrev p : Policy
 p = 42 ∷ 1 ∷ []
