@@ -8,3 +8,4 @@ pub mod Constrained
 pub mod Outcomes
 pub mod Graphs
 pub mod GraphEnds
+pub mod Octets

@@ -5,3 +5,4 @@ pub mod Leaves
 pub mod Levels
 pub mod Worked
 pub mod Graph
+pub mod Views
