@@ -1,21 +1,21 @@
 -- What the fields of the crate's types say, as the definitions name it.
-use Rattle.std.specs.Prelude.{ℕ, List, map, Option}
+use Rattle.std.specs.Prelude.{ℕ, List, map}
 use Rattle.std.specs.Borrow.{Bor}
 use Rattle.std.specs.Option.{option_map}
 use Rattle.x509_policy.specs.Values.{Policy, Mapping, Certificate, Settings}
 use Rattle.x509_policy.specs.Path.{Counters}
 use Rattle.x509_policy.specs.declared.counters.PolicyCounters.{PolicyCounters}
-use Rattle.x509_policy.specs.declared.values.CertificatePolicies.{CertificatePolicies}
-use Rattle.x509_policy.specs.declared.values.PolicyMapping.{PolicyMapping}
+use Rattle.x509_policy.specs.declared.values.PolicyView.{PolicyView}
+use Rattle.x509_policy.specs.declared.values.MappingView.{MappingView}
 use Rattle.x509_policy.specs.declared.values.PolicySettings.{PolicySettings}
 
 abbrev pub octets_of : List (Bor (List ℕ)) → List Policy
 octets_of policies = map (λ p. p.now) policies
 
-abbrev pub mapping_of : PolicyMapping → Mapping
+abbrev pub mapping_of : MappingView → Mapping
 mapping_of m = record { issuer_domain_policy = m.issuer_domain_policy.now; subject_domain_policy = m.subject_domain_policy.now }
 
-abbrev pub certificate_of : CertificatePolicies → Certificate
+abbrev pub certificate_of : PolicyView → Certificate
 certificate_of c = record {
   policies = option_map (λ s. octets_of s.now) c.policies;
   mappings = map mapping_of c.mappings.now;

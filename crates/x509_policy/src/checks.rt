@@ -4,7 +4,7 @@ ghost use Rattle.std.specs.Prelude.{◌≡◌, map};
 ghost use Rattle.x509_policy.specs.Values as values;
 ghost use Rattle.x509_policy.specs.Views.{mapping_of, octets_of};
 
-use crate::values::PolicyMapping;
+use crate::values::MappingView;
 
 /// The contents octets of id-ce-certificatePolicies-anyPolicy, 2.5.29.32.0 (RFC 5280 4.2.1.4).
 pub const ANY_POLICY: [u8; 4] = [0x55, 0x1d, 0x20, 0x00];
@@ -42,7 +42,7 @@ pub fn has_repeated_policy(policies: &[&[u8]]) -> bool
 }
 
 /// Whether any-policy is mapped, or something is mapped to it (RFC 5280 6.1.4 (a)).
-pub fn maps_any_policy(mappings: &[PolicyMapping]) -> bool
+pub fn maps_any_policy(mappings: &[MappingView]) -> bool
     ensures { result ≡ values.maps_any_policy (map mapping_of mappings.now) }
 {
     for mapping in mappings {

@@ -5,7 +5,7 @@ ghost use Rattle.std.specs.Prelude.{◌≡◌, ◌<◌, ◌^◌, ℕ};
 ghost use Rattle.x509_policy.specs.Path as path;
 ghost use Rattle.x509_policy.specs.Views.{certificate_of, counters_of, settings_of};
 
-use crate::values::{CertificatePolicies, PolicySettings};
+use crate::values::{PolicySettings, PolicyView};
 
 /// The counters as they stand before a certificate.
 #[derive(Clone, Copy)]
@@ -24,15 +24,19 @@ pub struct PolicyCounters {
 fn counted(is_self_issued: bool, counter: u64) -> u64
     ensures { result ≡ path.counted is_self_issued counter }
 {
-    if is_self_issued || counter == 0 { counter } else { counter - 1 }
+    if is_self_issued || counter == 0 {
+        counter
+    } else {
+        counter - 1
+    }
 }
 
 /// The counter, or what the certificate says, where that is less (RFC 5280 6.1.4 (i), (j)).
-fn limited(said: Option<u64>, counter: u64) -> u64
+fn limited(said: Option<u32>, counter: u64) -> u64
     ensures { result ≡ path.limited said counter }
 {
     match said {
-        Some(said) if said < counter => said,
+        Some(said) if u64::from(said) < counter => u64::from(said),
         _ => counter,
     }
 }
@@ -45,14 +49,26 @@ impl PolicyCounters {
     {
         let all = certificates + 1;
         PolicyCounters {
-            explicit_policy: if settings.initial_explicit_policy { 0 } else { all },
-            policy_mapping: if settings.initial_policy_mapping_inhibit { 0 } else { all },
-            inhibit_any_policy: if settings.initial_any_policy_inhibit { 0 } else { all },
+            explicit_policy: if settings.initial_explicit_policy {
+                0
+            } else {
+                all
+            },
+            policy_mapping: if settings.initial_policy_mapping_inhibit {
+                0
+            } else {
+                all
+            },
+            inhibit_any_policy: if settings.initial_any_policy_inhibit {
+                0
+            } else {
+                all
+            },
         }
     }
 
     /// Those behind a certificate that isn't the last (RFC 5280 6.1.4 (h), (i), (j)).
-    pub fn next(&self, certificate: &CertificatePolicies) -> PolicyCounters
+    pub fn next(&self, certificate: &PolicyView) -> PolicyCounters
         ensures { counters_of result ≡ path.next_counters (certificate_of certificate.now) (counters_of self.now) }
     {
         let own = certificate.is_self_issued;
@@ -73,7 +89,7 @@ impl PolicyCounters {
     }
 
     /// The explicit_policy behind the last certificate (RFC 5280 6.1.5 (a), (b)).
-    pub fn last_explicit_policy(&self, certificate: &CertificatePolicies) -> u64
+    pub fn last_explicit_policy(&self, certificate: &PolicyView) -> u64
         ensures { result ≡ path.last_explicit_policy (certificate_of certificate.now) self.now.explicit_policy }
     {
         match certificate.require_explicit_policy {
@@ -83,7 +99,7 @@ impl PolicyCounters {
     }
 
     /// Whether a certificate's any-policy stands for what is expected of it (RFC 5280 6.1.3 (d) (2)).
-    pub fn takes_any_policy(&self, certificate: &CertificatePolicies, is_last: bool) -> bool
+    pub fn takes_any_policy(&self, certificate: &PolicyView, is_last: bool) -> bool
         ensures { result ≡ path.takes_others (certificate_of certificate.now) is_last self.now.inhibit_any_policy }
     {
         self.inhibit_any_policy > 0 || (!is_last && certificate.is_self_issued)

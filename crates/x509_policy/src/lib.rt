@@ -9,4 +9,4 @@ mod values;
 
 pub use checks::{ANY_POLICY, has_policy, has_repeated_policy, is_any_policy, maps_any_policy};
 pub use counters::PolicyCounters;
-pub use values::{CertificatePolicies, PolicyMapping, PolicySettings};
+pub use values::{MappingView, PolicySettings, PolicyView};

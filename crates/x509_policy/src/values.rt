@@ -2,7 +2,7 @@
 
 /// A pair of a PolicyMappings extension (RFC 5280 4.2.1.5): policies by the contents octets of their OBJECT IDENTIFIERs.
 #[derive(Clone, Copy)]
-pub struct PolicyMapping<'a> {
+pub struct MappingView<'a> {
     /// The policy of the issuer's domain.
     pub issuer_domain_policy: &'a [u8],
 
@@ -13,22 +13,21 @@ pub struct PolicyMapping<'a> {
 /// What one certificate says of policies: those of its extensions that speak of them, without qualifiers. A policy is
 /// given by the contents octets of its OBJECT IDENTIFIER.
 #[derive(Clone, Copy)]
-pub struct CertificatePolicies<'a> {
+pub struct PolicyView<'a> {
     /// The policies of CertificatePolicies, where there is one (RFC 5280 4.2.1.4).
     pub policies: Option<&'a [&'a [u8]]>,
 
     /// The pairs of PolicyMappings, none where there isn't one (RFC 5280 4.2.1.5).
-    pub mappings: &'a [PolicyMapping<'a>],
+    pub mappings: &'a [MappingView<'a>],
 
-    /// The requireExplicitPolicy of PolicyConstraints (RFC 5280 4.2.1.11). A number that has no place here may be handed
-    /// in as the greatest, as no path is so long.
-    pub require_explicit_policy: Option<u64>,
+    /// The requireExplicitPolicy of PolicyConstraints (RFC 5280 4.2.1.11).
+    pub require_explicit_policy: Option<u32>,
 
     /// The inhibitPolicyMapping of PolicyConstraints.
-    pub inhibit_policy_mapping: Option<u64>,
+    pub inhibit_policy_mapping: Option<u32>,
 
     /// The number of InhibitAnyPolicy (RFC 5280 4.2.1.14).
-    pub inhibit_any_policy: Option<u64>,
+    pub inhibit_any_policy: Option<u32>,
 
     /// Whether subject and issuer are one name.
     pub is_self_issued: bool,
