@@ -9,3 +9,4 @@ pub mod Outcomes
 pub mod Graphs
 pub mod GraphEnds
 pub mod Octets
+pub mod Sizes

@@ -1,6 +1,6 @@
 -- The levels of a path, made from what its certificates say: each is a list with each policy once, the policies that lead to it and what it expects
 -- (RFC 9618 calls them together the valid policy graph).
-use Rattle.std.specs.Prelude.{ℕ, suc, ◌==◌, Bool, true, false, not, ◌&&◌, ◌||◌, List, [], ◌∷◌, ◌++◌, filter, map, filter_map, flat_map, length, Option, Some, None, if◌then◌else◌}
+use Rattle.std.specs.Prelude.{ℕ, suc, ◌+◌, ◌==◌, Bool, true, false, not, ◌&&◌, ◌||◌, List, [], ◌∷◌, ◌++◌, filter, map, filter_map, flat_map, length, Option, Some, None, if◌then◌else◌}
 use Rattle.std.specs.List.{list_any}
 use Rattle.x509_policy.specs.Values.{Policy, any_policy, is_any, has, maps_any_policy, Mapping, Certificate, Settings}
 use Rattle.x509_policy.specs.Tree.{subjects}
@@ -100,3 +100,10 @@ graph_from settings depth counters levels c (next ∷ rest) =
 -- the outcome of a path by its graph
 abbrev pub outcome_by_graph : Settings → Certificate → List Certificate → Outcome
 outcome_by_graph settings first rest = graph_from settings 0 (initial_counters settings (suc (length rest))) [] first rest
+
+-- ---- how large it is
+
+-- how many policies are expected on a level
+abbrev pub count_expected : Level → ℕ
+count_expected [] = 0
+count_expected (e ∷ level) = length e.expected + count_expected level
