@@ -207,7 +207,7 @@ pub record Stands (levels : List Level) : Type 0 where
   pub all : AllHang levels
   pub any_expected : (v : Policy) → Expects (last_level levels) v any_policy → v ≡ any_policy
 
-at_start : Stands []
+pub at_start : Stands []
 at_start = record { all = root; any_expected = λ v (e, is, same, ex). at_root v (e, is, same) }
 
 processed-hangs : (policies : List Policy) (others : Bool) (level : Level) (levels : List Level) → Stands levels → IsProcessed policies others (last_level levels) level → Hangs level (last_level levels)
@@ -226,20 +226,20 @@ processed-hangs policies others level levels s is = record {
 empty-hangs : (above : Level) → Hangs [] above
 empty-hangs above = record { from_above = λ u v lead. absurd lead.1; follows = λ v at. absurd at.1; any_alone = λ u lead. absurd lead.1 }
 
-next-stands : (policies : Option (List Policy)) (others : Bool) (level : Level) (levels : List Level) → Stands levels → IsNext policies others (last_level levels) level → Stands (level ∷ levels)
+pub next-stands : (policies : Option (List Policy)) (others : Bool) (level : Level) (levels : List Level) → Stands levels → IsNext policies others (last_level levels) level → Stands (level ∷ levels)
 next-stands None others level levels s is = subst (λ l. Stands (l ∷ levels)) (sym is) (record { all = hangs (empty-hangs (last_level levels)) s.all; any_expected = λ v ex. absurd ex.1 })
 next-stands (Some policies) others level levels s is = record {
   all = hangs (processed-hangs policies others level levels s is) s.all;
   any_expected = λ v ex. ((is.expects v any_policy).0 ex).1;
 }
 
-hangs_of : {level : Level} {levels : List Level} → AllHang (level ∷ levels) → Hangs level (last_level levels)
+pub hangs_of : {level : Level} {levels : List Level} → AllHang (level ∷ levels) → Hangs level (last_level levels)
 hangs_of (hangs h more) = h
 
 others_of : {level : Level} {levels : List Level} → AllHang (level ∷ levels) → AllHang levels
 others_of (hangs h more) = more
 
-prepared-stands : (ms : List Mapping) (b : Bool) (level left : Level) (levels : List Level) → maps_any_policy ms ≡ false → Stands (level ∷ levels) → IsPrepared ms b level left → Stands (left ∷ levels)
+pub prepared-stands : (ms : List Mapping) (b : Bool) (level left : Level) (levels : List Level) → maps_any_policy ms ≡ false → Stands (level ∷ levels) → IsPrepared ms b level left → Stands (left ∷ levels)
 prepared-stands ms true level left levels free s is =
     let h = hangs_of s.all in
     record {

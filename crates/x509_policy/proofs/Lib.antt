@@ -10,3 +10,4 @@ pub mod Graphs
 pub mod GraphEnds
 pub mod Octets
 pub mod Sizes
+pub mod WayBack

@@ -89,6 +89,18 @@ Way (level ∷ levels) r v = (u : Policy) × (w : Policy) × Way levels w u × L
 abbrev pub Leads : List Level → Policy → Type 0
 Leads levels r = (v : Policy) × Way levels r v
 
+-- One step of the way back: `above` are the policies of the level above that lead to one that is reached on this level, and `here` those that are
+-- reached and stand right below any-policy.
+pub record IsBack (level : Level) (reached above here : List Policy) : Type 0 where
+  pub up : (u : Policy) → In u above ↔ ((v : Policy) × In v reached × LeadsTo level u v)
+  pub first : (r : Policy) → In r here ↔ ((r ≢ any_policy) × In r reached × LeadsTo level any_policy r)
+
+-- the policies right below any-policy, from which a way leads to one that is reached on the last level, found level by level back to the root
+pub data GoesBack : List Level → List Policy → List Policy → Type 0 where
+  at_root : {reached : List Policy} → GoesBack [] reached []
+  one_back : {level : Level} {levels : List Level} {reached above here more found : List Policy}
+      → IsBack level reached above here → GoesBack levels above more → ((r : Policy) → In r found ↔ (In r here ⊎ In r more)) → GoesBack (level ∷ levels) reached found
+
 -- The user-constrained policy set: all that lead to the last level; where the caller asks for some, those; or all that are asked for, where any-policy
 -- is on the last level.
 abbrev pub IsConstrained : List Policy → List Level → Policy → Type 0
