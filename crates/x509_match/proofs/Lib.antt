@@ -1,0 +1,5 @@
+pub mod Texts
+pub mod Values
+pub mod OneOrder
+pub mod KeysAgree
+pub mod AttributesAgree

@@ -1,0 +1,4 @@
+pub mod Prepared
+pub mod Keys
+pub mod Matching
+pub mod NameKeys

@@ -1,0 +1,13 @@
+//! Whether attributes, RDNs and names match (RFC 5280 7.1), and keys of them that are equal where they do. Texts are
+//! compared as RFC 4518 prepares them, with the data of Unicode 18. Words of our own, such as law, are explained in
+//! `docs/MAP.md`.
+#![tactic(auto)]
+
+mod key;
+pub mod laws;
+mod names;
+mod text;
+mod value;
+
+pub use key::{MatchedName, RdnKey, attribute_key};
+pub use names::{names_match, rdns_match};
