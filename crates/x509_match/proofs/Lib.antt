@@ -3,3 +3,4 @@ pub mod Values
 pub mod OneOrder
 pub mod KeysAgree
 pub mod AttributesAgree
+pub mod PlainTexts

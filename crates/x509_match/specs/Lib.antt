@@ -2,3 +2,4 @@ pub mod Prepared
 pub mod Keys
 pub mod Matching
 pub mod NameKeys
+pub mod Plain

@@ -32,7 +32,7 @@ mapped text = map spaced (filter is_kept text)
 unfoldable pub folded : List ℕ → List ℕ
 folded text = nfkc (default_case_fold (nfkc (default_case_fold text)))
 
--- ---- RFC 4518 2.4: prohibit. What changes the display is left out by 2.2 or decomposed by 2.3.
+-- ---- RFC 4518 2.4: prohibit. What changes the display is left out by 2.2 or decomposed by 2.3. No ASCII character is prohibited.
 
 abbrev pub has_no_meaning : GeneralCategory → Bool
 has_no_meaning Unassigned = true
@@ -41,12 +41,13 @@ has_no_meaning Surrogate = true
 has_no_meaning _ = false
 
 unfoldable pub is_prohibited : ℕ → Bool
-is_prohibited c = nat_eq c 0xFFFD || has_no_meaning (general_category c)
+is_prohibited c = nat_le 0x80 c && (nat_eq c 0xFFFD || has_no_meaning (general_category c))
 
 -- ---- RFC 4518 2.6.1: insignificant spaces
 
+-- a combining mark, which no ASCII character is
 unfoldable pub is_mark : ℕ → Bool
-is_mark c = in_group Mark (general_category c)
+is_mark c = nat_le 0x80 c && in_group Mark (general_category c)
 
 abbrev pub begins_with_mark : List ℕ → Bool
 begins_with_mark [] = false

@@ -6,6 +6,7 @@
 mod key;
 pub mod laws;
 mod names;
+mod plain;
 mod text;
 mod value;
 

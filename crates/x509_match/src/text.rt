@@ -101,6 +101,9 @@ fn folded(alloc: Global, text: &str) -> Result<String, AllocError>
 fn is_prohibited(c: char) -> bool
     ensures { result ≡ text_form.is_prohibited c }
 {
+    if (c as u32) < 0x80 {
+        return false;
+    }
     c == '\u{FFFD}'
         || matches!(
             GeneralCategory::for_char(c),
@@ -120,7 +123,7 @@ fn has_prohibited(text: &str) -> bool
 fn is_mark(c: char) -> bool
     ensures { result ≡ text_form.is_mark c }
 {
-    GeneralCategoryGroup::Mark.contains(GeneralCategory::for_char(c))
+    (c as u32) >= 0x80 && GeneralCategoryGroup::Mark.contains(GeneralCategory::for_char(c))
 }
 
 /// Whether the character is a space that no combining mark follows.

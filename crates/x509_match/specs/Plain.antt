@@ -1,0 +1,29 @@
+-- Texts that are compared without memory. A tool of the proofs: the laws tie it to `prepared`.
+use Rattle.std.specs.Prelude.{◌≡◌, ℕ, Bool, true, false, ◌&&◌, ◌||◌, nat_eq, nat_le, List, [], ◌∷◌, map, Option, MatchOption}
+use Rattle.std.specs.Char.{to_ascii_lowercase}
+use Rattle.std.specs.List.{list_all}
+use Rattle.x509_der.specs.declared.tag.Tag.{Tag}
+use Rattle.x509_der.specs.declared.tag.Tag.TheVariants.{Utf8String, BmpString}
+use Rattle.x509_prim.specs.Alphabet.{is_ia5}
+use Rattle.x509_match.specs.Prepared.{mapped, squeezed_behind}
+
+-- no text, or one in ASCII of which each octet is a character
+abbrev pub is_plain : Tag → List ℕ → Bool
+is_plain Utf8String content = list_all is_ia5 content
+is_plain BmpString content = false
+is_plain _ content = true
+
+abbrev pub is_letter : ℕ → Bool
+is_letter c = nat_le 0x21 c && nat_le c 0x7E
+
+abbrev pub is_white : ℕ → Bool
+is_white c = nat_eq c 0x20 || (nat_le 0x09 c && nat_le c 0x0D)
+
+-- what is left of an ASCII text, as of `squeezed_behind`
+abbrev pub plain_behind : Bool → Bool → List ℕ → List ℕ
+plain_behind begun gap text = squeezed_behind begun gap (map to_ascii_lowercase (mapped text))
+
+-- the next octet of a prepared text, and what is left behind it
+pub record IsNext (begun : Bool) (text : List ℕ) (next : Option ℕ) (rest : List ℕ) : Type 0 where
+  pub octet : MatchOption next (plain_behind begun false text ≡ []) (λ c. plain_behind begun false text ≡ c ∷ plain_behind true false rest)
+  pub ascii : list_all is_ia5 rest ≡ true
