@@ -21,7 +21,7 @@ fronts (x ∷ xs) (y ∷ ys) us vs len e =
     let all : x ∷ xs ≡ y ∷ ys = cc in
     (all, rest.1)
 
-abbrev SameValue : Option (List ℕ) → Option (List ℕ) → Any → Any → Type 0
+abbrev pub SameValue : Option (List ℕ) → Option (List ℕ) → Any → Any → Type 0
 SameValue s t v w = (v ≡ w) ⊎ ((text : List ℕ) × (s ≡ Some text) × (t ≡ Some text))
 
 same_value : (s t : Option (List ℕ)) (v w : Any) → value_key (option_map encode_utf8_all s) v.tag v.value ≡ value_key (option_map encode_utf8_all t) w.tag w.value → SameValue s t v w

@@ -4,3 +4,4 @@ pub mod OneOrder
 pub mod KeysAgree
 pub mod AttributesAgree
 pub mod PlainTexts
+pub mod PlainValues

@@ -28,7 +28,7 @@ domain_component_octets = refl
 
 -- ---- texts
 
-ascii_is : (octets : List ℕ) → list_all is_ia5 octets ≡ true → IsAscii octets
+pub ascii_is : (octets : List ℕ) → list_all is_ia5 octets ≡ true → IsAscii octets
 unfolding is_ia5
 ascii_is [] h i = lit< tt
 ascii_is (octet ∷ octets) h zero = ltb-true octet 128 (and_parts (nat_lt octet 128) (list_all is_ia5 octets) h).0

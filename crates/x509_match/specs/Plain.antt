@@ -1,10 +1,11 @@
 -- Texts that are compared without memory. A tool of the proofs: the laws tie it to `prepared`.
-use Rattle.std.specs.Prelude.{◌≡◌, ℕ, Bool, true, false, ◌&&◌, ◌||◌, nat_eq, nat_le, List, [], ◌∷◌, map, Option, MatchOption}
+use Rattle.std.specs.Prelude.{◌≡◌, ℕ, Bool, true, false, ◌&&◌, ◌||◌, nat_eq, nat_le, List, [], ◌∷◌, map, Option, Some, None, MatchOption}
 use Rattle.std.specs.Char.{to_ascii_lowercase}
 use Rattle.std.specs.List.{list_all}
 use Rattle.x509_der.specs.declared.tag.Tag.{Tag}
 use Rattle.x509_der.specs.declared.tag.Tag.TheVariants.{Utf8String, BmpString}
 use Rattle.x509_prim.specs.Alphabet.{is_ia5}
+use Rattle.x509_match.specs.Keys.{characters}
 use Rattle.x509_match.specs.Prepared.{mapped, squeezed_behind}
 
 -- no text, or one in ASCII of which each octet is a character
@@ -27,3 +28,8 @@ plain_behind begun gap text = squeezed_behind begun gap (map to_ascii_lowercase 
 pub record IsNext (begun : Bool) (text : List ℕ) (next : Option ℕ) (rest : List ℕ) : Type 0 where
   pub octet : MatchOption next (plain_behind begun false text ≡ []) (λ c. plain_behind begun false text ≡ c ∷ plain_behind true false rest)
   pub ascii : list_all is_ia5 rest ≡ true
+
+-- whether a plain element is a text, and which characters it has
+abbrev pub IsPlainText : Bool → Tag → List ℕ → Type 0
+IsPlainText true tag content = (list_all is_ia5 content ≡ true) × (characters tag content ≡ Some content)
+IsPlainText false tag content = characters tag content ≡ None

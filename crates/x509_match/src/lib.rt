@@ -3,6 +3,7 @@
 //! `docs/MAP.md`.
 #![tactic(auto)]
 
+mod attribute;
 mod key;
 pub mod laws;
 mod names;

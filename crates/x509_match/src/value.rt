@@ -65,14 +65,14 @@ fn text_in(alloc: Global, tag: Tag, content: &[u8]) -> Result<Option<String>, Al
 }
 
 /// Whether it is the type of mailboxes.
-fn is_email_address(oid: &[u8]) -> bool
+pub(crate) fn is_email_address(oid: &[u8]) -> bool
     ensures { result ≡ bytes_eq oid.now types.email_address }
 {
     oid == EMAIL_ADDRESS.as_bytes()
 }
 
 /// Whether it is the type of the labels of hosts.
-fn is_domain_component(oid: &[u8]) -> bool
+pub(crate) fn is_domain_component(oid: &[u8]) -> bool
     ensures { result ≡ bytes_eq oid.now types.domain_component }
 {
     oid == DOMAIN_COMPONENT.as_bytes()
