@@ -5,3 +5,4 @@ pub mod KeysAgree
 pub mod AttributesAgree
 pub mod PlainTexts
 pub mod PlainValues
+pub mod Partners

@@ -200,13 +200,14 @@ next-skipped begun gap c d (first ∷ s) t len at h l e =
       | inl white ↦ (rw (rest, same, white) (e ∙ plain-white begun gap first s lt p.1 k white ∙ ap (λ b. plain_behind begun b s) (sym (or_true gap))), rw rest p.1)
       | inr other ↦ (rw (rest, same, other) (e ∙ plain-other begun gap first s lt k other ∙ ap (λ b. plain_behind begun b s) (sym (or_false gap))), rw rest p.1)
     ]
-    where
-      or_true : (b : Bool) → (b || true) ≡ true
-      or_true true = refl
-      or_true false = refl
-      or_false : (b : Bool) → (b || false) ≡ b
-      or_false true = refl
-      or_false false = refl
+  where
+    or_true : (b : Bool) → (b || true) ≡ true
+    or_true true = refl
+    or_true false = refl
+
+    or_false : (b : Bool) → (b || false) ≡ b
+    or_false true = refl
+    or_false false = refl
 
 pub next-none : (begun gap : Bool) (s t : List ℕ) → length s < 1 → plain_behind begun false t ≡ plain_behind begun gap s → plain_behind begun false t ≡ []
 unfolding mapped

@@ -54,12 +54,12 @@ others oid a b h k p q = rw (h, k) (both _ _ _ _ (prepared_ascii a p) (prepared_
 plain_compared : (oid a : List ℕ) → list_all is_ia5 a ≡ true → (s : List ℕ) × (compared oid a ≡ Some s)
 unfolding compared
 plain_compared oid a h = elim (cases_Bool (bytes_eq oid types.email_address)) [
-    | inl mail ↦ (mailbox a, rw mail refl)
-    | inr other ↦ elim (cases_Bool (bytes_eq oid types.domain_component)) [
-      | inl label ↦ (map to_ascii_lowercase a, rw (other, label) refl)
-      | inr text ↦ (plain_behind false false a, rw (other, text) (prepared_ascii a h))
-    ]
+  | inl mail ↦ (mailbox a, rw mail refl)
+  | inr other ↦ elim (cases_Bool (bytes_eq oid types.domain_component)) [
+    | inl label ↦ (map to_ascii_lowercase a, rw (other, label) refl)
+    | inr text ↦ (plain_behind false false a, rw (other, text) (prepared_ascii a h))
   ]
+]
 
 abbrev attribute : List ℕ → Tag → List ℕ → AttributeTypeAndValue
 attribute oid tag content = record { oid = oid; value = record { tag = tag; value = content } }
@@ -70,8 +70,7 @@ text_keys oid s t a b ascii p q =
     let agree = attributes_agree (attribute oid s a) (attribute oid t b) in
     let left : compared_value oid (characters s a) ≡ compared oid a = ap (compared_value oid) p in
     let right : compared_value oid (characters t b) ≡ compared oid b = ap (compared_value oid) q in
-    let some = plain_compared oid a ascii in
-    (
+    let some = plain_compared oid a ascii in (
       λ e. agree.1 (refl, inr (some.0, left ∙ some.1, right ∙ sym e ∙ some.1)),
       λ k. elim (agree.0 k).1 [
         | inl same ↦ let content : a ≡ b = ap (λ (v : Any). v.value) same in ap (compared oid) content
@@ -114,10 +113,13 @@ a_text true s a h e = h
 a_text false s a h e = absurd cc
 
 pub not_alike : (oid : List ℕ) (s t : Tag) (a b : List ℕ) → Differ s t a b → ((characters s a ≡ None) ⊎ (characters t b ≡ None)) → IsTrue false ↔ (octets_key oid s a ≡ octets_key oid t b)
-not_alike oid s t a b apart h = (λ e. absurd cc, λ k. elim h [
+not_alike oid s t a b apart h = (
+  λ e. absurd cc,
+  λ k. elim h [
     | inl left ↦ absurd (no_keys oid s t a b apart left k)
     | inr right ↦ absurd (no_keys oid t s b a (λ e f. apart (sym e) (sym f)) right (sym k))
-  ])
+  ],
+)
 
 pub one_element : (s t : Tag) (a b : List ℕ) (r : Bool) → octet_of s ≡ octet_of t → r ≡ bytes_eq a b → IsTrue r ↔ ((s ≡ t) × (a ≡ b))
 one_element s t a b r e h = (λ k. (same_tag s t e, (bytes_decides a b).0 (sym h ∙ k)), λ m. h ∙ (bytes_decides a b).1 m.1)

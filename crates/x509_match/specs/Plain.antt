@@ -1,10 +1,12 @@
 -- Texts that are compared without memory. A tool of the proofs: the laws tie it to `prepared`.
-use Rattle.std.specs.Prelude.{◌≡◌, ℕ, Bool, true, false, ◌&&◌, ◌||◌, nat_eq, nat_le, List, [], ◌∷◌, map, Option, Some, None, MatchOption}
+use Rattle.std.specs.Prelude.{◌≡◌, ℕ, ◌≤◌, Bool, true, false, ◌&&◌, ◌||◌, cond, nat_eq, nat_le, bytes_eq, List, [], ◌∷◌, length, map, sum_by, All, Option, Some, None, MatchOption}
 use Rattle.std.specs.Char.{to_ascii_lowercase}
-use Rattle.std.specs.List.{list_all}
+use Rattle.std.specs.List.{list_all, AllByRecursion}
 use Rattle.x509_der.specs.declared.tag.Tag.{Tag}
 use Rattle.x509_der.specs.declared.tag.Tag.TheVariants.{Utf8String, BmpString}
+use Rattle.x509_name.specs.declared.attr.type_and_value.AttributeTypeAndValue.{AttributeTypeAndValue}
 use Rattle.x509_prim.specs.Alphabet.{is_ia5}
+use Rattle.x509_match.specs.declared.names.TheConstants.{MAX_IN_PLACE}
 use Rattle.x509_match.specs.Keys.{characters}
 use Rattle.x509_match.specs.Prepared.{mapped, squeezed_behind}
 
@@ -33,3 +35,24 @@ pub record IsNext (begun : Bool) (text : List ℕ) (next : Option ℕ) (rest : L
 abbrev pub IsPlainText : Bool → Tag → List ℕ → Type 0
 IsPlainText true tag content = (list_all is_ia5 content ≡ true) × (characters tag content ≡ Some content)
 IsPlainText false tag content = characters tag content ≡ None
+
+-- ---- names that are compared without memory
+
+abbrev pub IsPlainValue : AttributeTypeAndValue → Type 0
+IsPlainValue a = is_plain a.value.tag a.value.value ≡ true
+
+abbrev pub ArePlain : List AttributeTypeAndValue → Type 0
+ArePlain attributes = All IsPlainValue attributes
+
+-- no text beyond ASCII, in at most so many attributes
+abbrev pub IsPlainRdn : List AttributeTypeAndValue → Type 0
+IsPlainRdn rdn = (length rdn ≤ MAX_IN_PLACE) × ArePlain rdn
+
+abbrev pub IsPlainName : List (List AttributeTypeAndValue) → Type 0
+IsPlainName name = AllByRecursion IsPlainRdn name
+
+-- ---- partners, counted
+
+-- how many of the keys are the one
+abbrev pub tally : List ℕ → List (List ℕ) → ℕ
+tally one keys = sum_by (λ key. cond (bytes_eq one key) 1 0) keys

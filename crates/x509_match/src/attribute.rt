@@ -77,7 +77,14 @@ fn plain_values_match(oid: &[u8], a_tag: Tag, a: &[u8], b_tag: Tag, b: &[u8]) ->
 /// # Errors
 ///
 /// When out of memory, only where one is a text beyond ASCII.
-pub(crate) fn values_match(alloc: Global, oid: &[u8], a_tag: Tag, a: &[u8], b_tag: Tag, b: &[u8]) -> Result<bool, AllocError>
+pub(crate) fn values_match(
+    alloc: Global,
+    oid: &[u8],
+    a_tag: Tag,
+    a: &[u8],
+    b_tag: Tag,
+    b: &[u8],
+) -> Result<bool, AllocError>
     requires { length oid.now < 256 }
     ensures same { IfOk result (λ same. IsTrue same ↔ (keys.octets_key oid.now a_tag a.now ≡ keys.octets_key oid.now b_tag b.now)) }
     ensures plain { plain.is_plain a_tag a.now ≡ true → plain.is_plain b_tag b.now ≡ true → IsOk result }

@@ -12,4 +12,4 @@ mod text;
 mod value;
 
 pub use key::{MatchedName, RdnKey, attribute_key};
-pub use names::{names_match, rdns_match};
+pub use names::{MAX_IN_PLACE, attributes_match, names_match, rdns_match};

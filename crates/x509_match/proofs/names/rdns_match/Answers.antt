@@ -1,8 +1,6 @@
-use Rattle.std.proofs.Common.{◌∙◌, sym}
-use Rattle.x509_match.proofs.KeysAgree.{rdn_keys_match}
+use Rattle.std.proofs.Common.{sym, ◌∙◌}
+use Rattle.x509_match.proofs.Partners.{lengths_apart}
 use Rattle.x509_match.proofs.names.rdns_match.Goals as goal
 
-pub returns : goal.returns
-returns c =
-    let k = rdn_keys_match _ _ _ _ c.in_ok-left.ensures c.in_ok-right.ensures in
-    (λ t. k.0 (sym c.eq.ensures ∙ t), λ h. c.eq.ensures ∙ k.1 h)
+pub returns-then-len-clause-same : goal.returns-then-len-clause-same
+returns-then-len-clause-same c = lengths_apart c.args.a.now c.args.b.now (λ e. c.if-len.true (c.len.ensures ∙ e ∙ sym c.len-2.ensures))
