@@ -4,6 +4,7 @@
 #![tactic(auto)]
 
 mod attribute;
+mod encoded;
 mod key;
 pub mod laws;
 mod names;
@@ -11,5 +12,6 @@ mod plain;
 mod text;
 mod value;
 
+pub use encoded::encoded_names_match;
 pub use key::{MatchedName, RdnKey, attribute_key};
 pub use names::{MAX_IN_PLACE, attributes_match, names_match, rdns_match};
