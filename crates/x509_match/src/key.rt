@@ -2,10 +2,11 @@
 
 ghost use Rattle.std.specs.Prelude.{◌≡◌, IfOk, map};
 ghost use Rattle.x509_match.specs.Keys.{attribute_key};
-ghost use Rattle.x509_match.specs.NameKeys.{IsNameKey, IsRdnKey};
+ghost use Rattle.x509_match.specs.NameKeys.{IsRdnKey};
 
 use crate::value::octets_key;
 use std::alloc::{AllocError, Global};
+use x509_der::{Decode, Error, ErrorKind};
 use x509_name::attr::AttributeTypeAndValue;
 use x509_name::name::{Name, RelativeDistinguishedName};
 
@@ -71,21 +72,44 @@ pub struct MatchedName {
 }
 
 impl MatchedName {
+    ghost use Rattle.std.specs.Prelude.{◌≡◌, IfErr, IfOk, List};
+    ghost use Rattle.x509_der.specs.Form.{Spells};
+    ghost use Rattle.x509_der.specs.declared.error.ErrorKind.TheVariants as errors;
+    ghost use Rattle.x509_match.specs.NameKeys.{IsNameKey};
+    ghost use Rattle.x509_name.specs.Names.{name};
+    ghost use Rattle.x509_name.specs.declared.attr.type_and_value.AttributeTypeAndValue.{AttributeTypeAndValue};
+
     /// The key of the name.
     ///
     /// # Errors
     ///
     /// When out of memory.
-    pub fn new(alloc: Global, name: &Name) -> Result<MatchedName, AllocError>
-        ensures { IfOk result (λ key. IsNameKey key name.now) }
+    pub fn new(alloc: Global, given: &Name) -> Result<MatchedName, AllocError>
+        ensures { IfOk result (λ key. IsNameKey key given.now) }
     {
-        let rdns: &[RelativeDistinguishedName] = name.as_ref().as_slice();
+        let rdns: &[RelativeDistinguishedName] = given.as_ref().as_slice();
         let mut keys = Vec::new(alloc);
         for rdn in rdns {
             let key = RdnKey::new(alloc, rdn)?;
             keys.push(key)?;
         }
         Ok(MatchedName { rdns: keys })
+    }
+
+    /// The key of the name whose encoding this is.
+    ///
+    /// # Errors
+    ///
+    /// Where it is the encoding of a name, `Memory` alone, when out of memory. Else an error of `Name::from_der`.
+    pub fn from_der(alloc: Global, bytes: &[u8]) -> Result<MatchedName, Error>
+        ensures found { (x : List (List AttributeTypeAndValue)) → Spells name x bytes.now → IfOk result (λ key. IsNameKey key x) }
+        ensures err { (x : List (List AttributeTypeAndValue)) → Spells name x bytes.now → IfErr result (λ e. e.kind ≡ errors.Memory) }
+    {
+        let decoded = Name::from_der(alloc, bytes)?;
+        match MatchedName::new(alloc, &decoded) {
+            Ok(key) => Ok(key),
+            Err(_) => Err(ErrorKind::Memory.into()),
+        }
     }
 
     /// The keys of the RDNs, in their order.
