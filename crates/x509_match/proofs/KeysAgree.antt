@@ -1,5 +1,5 @@
 -- Keys of RDNs and of names are equal exactly where these match.
-use Rattle.std.proofs.Common.{◌≡◌, ◌↔◌, ℕ, true, List, [], ◌∷◌, ◌++◌, ◌+◌, ◌<◌, length, take, get_or, map, bytes_eq, refl, sym, ap, ◌∙◌, subst}
+use Rattle.std.proofs.Common.{◌≡◌, ◌↔◌, ℕ, zero, suc, IsTrue, Bool, true, false, arith, length-take, List, [], ◌∷◌, ◌++◌, ◌+◌, ◌<◌, length, take, get_or, map, bytes_eq, refl, sym, ap, ◌∙◌, subst}
 use Rattle.std.proofs.lemmas.Bool.{and_parts}
 use Rattle.std.proofs.lemmas.Cmp.{nat_list_cmp_total}
 use Rattle.std.proofs.lemmas.List.Sorted.{IsPermutation-refl, IsPermutation-sym, IsPermutation-trans}
@@ -13,7 +13,7 @@ use Rattle.std.specs.declared.cmp.Ordering.TheVariants.{Equal}
 use Rattle.x509_name.specs.declared.attr.type_and_value.AttributeTypeAndValue.{AttributeTypeAndValue}
 use Rattle.x509_match.proofs.OneOrder.{one_order}
 use Rattle.x509_match.specs.Keys.{attribute_key}
-use Rattle.x509_match.specs.Matching.{RdnsMatch, NamesMatch}
+use Rattle.x509_match.specs.Matching.{RdnsMatch, NamesMatch, BeginsWith}
 use Rattle.x509_match.specs.NameKeys.{attributes_of, IsRdnKey, AreRdnKeys, IsNameKey}
 use Rattle.x509_match.specs.declared.key.RdnKey.{RdnKey}
 use Rattle.x509_match.specs.declared.key.MatchedName.{MatchedName}
@@ -93,3 +93,40 @@ pub keys-step : (ks more : List RdnKey) (xs : List (List AttributeTypeAndValue))
 keys-step ks more xs i k x lt at e h j =
     let longer : take (i + 1) xs ≡ take i xs ++ x ∷ [] = take_more xs i x lt ∙ ap (λ z. take i xs ++ z ∷ []) (sym at) in
     rw (e, longer) (keys-push ks (take i xs) k x h j)
+
+-- ---- the first RDNs
+
+keys-length : (ks : List RdnKey) (xs : List (List AttributeTypeAndValue)) → AreRdnKeys ks xs → length ks ≡ length xs
+keys-length [] [] h = refl
+keys-length (k ∷ ks) (x ∷ xs) h = ap suc (keys-length ks xs h.1)
+keys-length [] (x ∷ xs) h = absurd h
+keys-length (k ∷ ks) [] h = absurd h
+
+keys-take : (n : ℕ) (ks : List RdnKey) (xs : List (List AttributeTypeAndValue)) → AreRdnKeys ks xs → AreRdnKeys (take n ks) (take n xs)
+keys-take zero ks xs h = tt
+keys-take (suc n) [] [] h = tt
+keys-take (suc n) (k ∷ ks) (x ∷ xs) h = (h.0, keys-take n ks xs h.1)
+keys-take (suc n) [] (x ∷ xs) h = absurd h
+keys-take (suc n) (k ∷ ks) [] h = absurd h
+
+names_match-length : (xs ys : List (List AttributeTypeAndValue)) → NamesMatch xs ys → length xs ≡ length ys
+names_match-length [] [] h = refl
+names_match-length (x ∷ xs) (y ∷ ys) h = ap suc (names_match-length xs ys h.1)
+names_match-length [] (y ∷ ys) h = absurd h
+names_match-length (x ∷ xs) [] h = absurd h
+
+pub too_short : (ks ls : List RdnKey) (x y : List (List AttributeTypeAndValue)) → AreRdnKeys ks x → AreRdnKeys ls y → length ks < length ls → IsTrue false ↔ BeginsWith x y
+too_short ks ls x y h i lt = (λ e. absurd cc, λ m.
+  let same = names_match-length (take (length y) x) y m in
+  let own = keys-length ks x h in
+  let other = keys-length ls y i in
+  let less = length-take (length y) x in
+  absurd (omega arith))
+
+pub first_keys : (ks ls front : List RdnKey) (r : Bool) (x y : List (List AttributeTypeAndValue)) → AreRdnKeys ks x → AreRdnKeys ls y → front ≡ take (length ls) ks → r ≡ pointwise rdn_eq.ghosts.eq front ls
+    → IsTrue r ↔ BeginsWith x y
+first_keys ks ls front r x y h i same e =
+    let long : length ls ≡ length y = keys-length ls y i in
+    let are : AreRdnKeys front (take (length y) x) = rw (same, long) (keys-take (length y) ks x h) in
+    let k = keys_match front ls (take (length y) x) y are i in
+    (λ t. k.0 (sym e ∙ t), λ m. e ∙ k.1 m)

@@ -6,3 +6,4 @@ pub mod AttributesAgree
 pub mod PlainTexts
 pub mod PlainValues
 pub mod Partners
+pub mod StandardFacts

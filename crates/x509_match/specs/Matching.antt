@@ -1,5 +1,5 @@
 -- Which names match (RFC 5280 7.1): as many RDNs, in order, of which each matches the other's.
-use Rattle.std.specs.Prelude.{◌≡◌, ◌⊎◌, ℕ, List, [], ◌∷◌, map, Option, Some, IsPermutation}
+use Rattle.std.specs.Prelude.{◌≡◌, ◌⊎◌, ℕ, List, [], ◌∷◌, length, map, take, Option, Some, IsPermutation}
 use Rattle.x509_name.specs.declared.attr.type_and_value.AttributeTypeAndValue.{AttributeTypeAndValue}
 use Rattle.x509_match.specs.Keys.{attribute_key, characters, compared_value}
 
@@ -11,6 +11,10 @@ abbrev pub NamesMatch : List (List AttributeTypeAndValue) → List (List Attribu
 NamesMatch [] [] = Unit {0}
 NamesMatch (x ∷ xs) (y ∷ ys) = RdnsMatch x y × NamesMatch xs ys
 NamesMatch _ _ = ⊥
+
+-- the first RDNs of x match those of y, in order
+abbrev pub BeginsWith : List (List AttributeTypeAndValue) → List (List AttributeTypeAndValue) → Type 0
+BeginsWith x y = NamesMatch (take (length y) x) y
 
 -- ---- what it is to be compared by the same
 

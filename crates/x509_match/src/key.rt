@@ -72,9 +72,10 @@ pub struct MatchedName {
 }
 
 impl MatchedName {
-    ghost use Rattle.std.specs.Prelude.{◌≡◌, IfErr, IfOk, List};
+    ghost use Rattle.std.specs.Prelude.{◌≡◌, ◌↔◌, IfErr, IfOk, IsTrue, List};
     ghost use Rattle.x509_der.specs.Form.{Spells};
     ghost use Rattle.x509_der.specs.declared.error.ErrorKind.TheVariants as errors;
+    ghost use Rattle.x509_match.specs.Matching.{BeginsWith};
     ghost use Rattle.x509_match.specs.NameKeys.{IsNameKey};
     ghost use Rattle.x509_name.specs.Names.{name};
     ghost use Rattle.x509_name.specs.declared.attr.type_and_value.AttributeTypeAndValue.{AttributeTypeAndValue};
@@ -110,6 +111,20 @@ impl MatchedName {
             Ok(key) => Ok(key),
             Err(_) => Err(ErrorKind::Memory.into()),
         }
+    }
+
+    /// Whether the name begins with RDNs that match those of the other, in order, as a name within a subtree does
+    /// (RFC 5280 4.2.1.10).
+    pub fn begins_with(&self, front: &MatchedName) -> bool
+        ensures { (x y : List (List AttributeTypeAndValue)) → IsNameKey self.now x → IsNameKey front.now y → (IsTrue result ↔ BeginsWith x y) }
+    {
+        let keys = self.rdns.as_slice();
+        let first = front.rdns.as_slice();
+        if keys.len() < first.len() {
+            return false;
+        }
+        let (same, _) = keys.split_at(first.len());
+        same == first
     }
 
     /// The keys of the RDNs, in their order.
