@@ -1,42 +1,19 @@
 -- What is said of one certificate.
-use Rattle.std.proofs.Common.{◌≡◌, ◌≢◌, ℕ, ◌<◌, inl, inr, Bool, true, false, not, List, length, take, get_or, Err, refl, sym}
-use Rattle.std.proofs.lemmas.Bool.{true≢false}
+use Rattle.std.proofs.Common.{ℕ, ◌<◌, inl, inr, List, length, take, get_or, refl}
 use Rattle.std.specs.List.{All}
-use Rattle.std.specs.Bool.{IsTrue}
-use Rattle.std.specs.Prelude.{◌↔◌}
 use Rattle.x509_cert.specs.base.CivilTime.{CivilTime}
 use Rattle.x509_cert.specs.Certificate.{rfc5280_certificate}
-use Rattle.x509_cert.specs.der.declared.error.ErrorKind.{ErrorKind}
-use Rattle.x509_cert.specs.der.declared.error.ErrorKind.TheVariants as kinds
 use Rattle.x509_cert.specs.der.Form.{Spells}
 use Rattle.x509_path.specs.Certificates.{Accepting, Certificate}
 use Rattle.x509_path.specs.Path.{Breaks, IsFault, IsFirst, IsUnreadable, Standing, reasons}
-use Rattle.x509_path.specs.PathLength.{Judges}
-use Rattle.x509_path.specs.declared.fault.PathFault.{PathFault}
-use Rattle.x509_path.specs.declared.fault.PathFault.TheVariants.{Memory, At}
 use Rattle.x509_path.specs.declared.fault.PathReason.{PathReason}
 use Rattle.x509_path.specs.declared.fault.PathReason.TheVariants.{Decode}
 use Rattle.x509_path.proofs.Firsts.{decode_first, first_along, first_at, none}
 use Rattle.x509_path.proofs.Places.{wrong}
 
--- the other answer to a test
-pub differ : {P : Type 0} (b : Bool) → IsTrue b ↔ P → IsTrue (not b) ↔ (P → ⊥)
-differ true h = ((λ never. absurd (true≢false (sym never))), (λ never. absurd (never (h.0 refl))))
-differ false h = ((λ is p. true≢false (sym (h.1 p))), (λ never. refl))
-
 module _ (accepts : Accepting) (moment : CivilTime) (standing : Standing) (bytes : List ℕ) where
   pub unreadable : IsUnreadable bytes → IsFirst (IsFault accepts moment standing bytes) Decode
   unreadable is = decode_first (IsFault accepts moment standing bytes) (inl (is, refl))
-
-  -- what is answered where reading is refused by that kind of error
-  pub refused : (kind : ErrorKind) (answer : PathFault) (place : ℕ) → (kind ≡ kinds.Memory → answer ≡ Memory) → (kind ≢ kinds.Memory → answer ≡ At place Decode)
-      → ((c : Certificate) → Spells rfc5280_certificate c bytes → kind ≡ kinds.Memory) → Judges accepts moment standing bytes place (Err answer)
-  refused kinds.Memory answer place memory others only = rw (memory refl) tt
-  refused kinds.Overlength answer place memory others only = rw (others (λ e. cc)) (refl, unreadable (λ c s. let e = only c s in cc))
-  refused kinds.Malformed answer place memory others only = rw (others (λ e. cc)) (refl, unreadable (λ c s. let e = only c s in cc))
-  refused kinds.Failed answer place memory others only = rw (others (λ e. cc)) (refl, unreadable (λ c s. let e = only c s in cc))
-  refused kinds.SetDuplicate answer place memory others only = rw (others (λ e. cc)) (refl, unreadable (λ c s. let e = only c s in cc))
-  refused kinds.Value answer place memory others only = rw (others (λ e. cc)) (refl, unreadable (λ c s. let e = only c s in cc))
 
   module _ (c : Certificate) (spells : Spells rfc5280_certificate c bytes) where
     abbrev pub Wrong : PathReason → Type 0

@@ -1,3 +1,5 @@
+pub mod Lent
+pub mod Looks
 pub mod Payloads
 pub mod PathLengths
 pub mod Firsts

@@ -1,7 +1,11 @@
 -- What a look-up of the one value says of what is asked of it.
-use Rattle.std.proofs.Common.{◌≡◌, ◌↔◌, ℕ, Bool, true, false, Option, Some, None, sym, ◌∙◌}
+use Rattle.std.proofs.Common.{◌≡◌, ◌↔◌, ℕ, Bool, true, false, not, List, [], Option, Some, None, refl, sym, ◌∙◌}
 use Rattle.std.proofs.lemmas.Bool.{true≢false}
 use Rattle.std.specs.Bool.{IsTrue}
+
+turned : (b : Bool) → not b ≡ true → b ≡ false
+turned true e = sym e
+turned false e = refl
 
 module _ {T : Type 0} (Has : T → Type 0) (found : Option T) (h : (v : T) → Has v ↔ (found ≡ Some v)) where
   same : (v w : T) → found ≡ Some v → Has w → w ≡ v
@@ -18,3 +22,12 @@ module _ {T : Type 0} (Has : T → Type 0) (found : Option T) (h : (v : T) → H
 
   pub no_limit : found ≡ None → (part : T → Option ℕ) → (k : ℕ) → ((w : T) × Has w × (part w ≡ Some k)) ↔ (None ≡ Some k)
   no_limit is part k = ((λ (w, has, at). let e : None ≡ Some w = sym is ∙ (h w).0 has in cc), (λ not_so. cc))
+
+  pub lacks : {X : Type 0} (xs : List X) → (xs ≡ [] → ⊥) → (v : T) → found ≡ Some v → (test : T → Bool) → IsTrue (not (test v)) ↔ ((xs ≡ [] → ⊥) × ((w : T) → Has w → test w ≡ false))
+  lacks xs some v is test = (
+    (λ no. (some, λ w has. rw (same v w is has) (turned (test v) no))),
+    (λ (more, all). let e = all v ((h v).1 is) in rw e refl),
+  )
+
+  pub lacks_all : {X : Type 0} (xs : List X) → (xs ≡ [] → ⊥) → found ≡ None → (test : T → Bool) → IsTrue true ↔ ((xs ≡ [] → ⊥) × ((w : T) → Has w → test w ≡ false))
+  lacks_all xs some is test = ((λ yes. (some, λ w has. let e : None ≡ Some w = sym is ∙ (h w).0 has in cc)), (λ all. refl))

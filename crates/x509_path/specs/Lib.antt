@@ -3,3 +3,4 @@ pub mod Path
 pub mod Fault
 pub mod PathLength
 pub mod Equality
+pub mod Lent

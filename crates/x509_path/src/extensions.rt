@@ -1,95 +1,162 @@
 //! The extensions of a certificate that say where it may stand in a path.
 
-ghost use Rattle.std.specs.Prelude.{◌≡◌, ◌↔◌, List, Some, IfOk, IfErr, IsTrue, false, ℕ};
-ghost use Rattle.x509_cert.specs.ext.LookUp.{IsRepeated, members};
+ghost use Rattle.std.specs.Prelude.{◌≡◌, ◌↔◌, [], ◌∷◌, true, List, IfOk, IfErr, IfSome, IsTrue, MatchOption, None, Some, false, drop, length, take, ◌+◌, ◌<◌, ◌≤◌, ℕ};
+ghost use Rattle.x509_cert.specs.ext.LookUp.{IsRepeated, with_oid};
 ghost use Rattle.x509_cert.specs.ext.declared.extension.Extension.{Extension};
+ghost use Rattle.x509_check.specs.ExtensionRefs.{extensions_left, lent_extension};
 ghost use Rattle.x509_path.specs.Certificates as certificates;
+ghost use Rattle.x509_path.specs.Lent.{lent_extensions};
 ghost use Rattle.x509_path.specs.PathLength.{HasConstraints};
 ghost use Rattle.x509_path.specs.declared.fault.PathFault.TheVariants.{Memory};
 
 use crate::fault::PathFault;
 use std::alloc::Global;
-use x509_cert::TbsCertificate;
-use x509_cert::der::{AssociatedOid, Decode, Error, ErrorKind};
+use x509_cert::der::{AssociatedOid, Decode, ValueOrd};
 use x509_cert::ext::pkix::{BasicConstraints, ExtendedKeyUsage, KeyUsage, SubjectAltName};
-use x509_cert::ext::{Extension, has_repeated_extension, members};
+use x509_cert::spki::ObjectIdentifier;
+use x509_check::{Check, ExtensionRef, ExtensionRefs};
 
-/// Whether two of the extensions have one OID.
-pub(crate) fn is_repeated(alloc: Global, extensions: &[Extension]) -> Result<bool, PathFault>
-    ensures ok { IfOk result (λ b. IsTrue b ↔ IsRepeated extensions.now) }
+/// Up to so many extensions are each compared with those that follow it; of more the OIDs are sorted.
+const FEW: usize = 16;
+
+/// The extensions, each lent.
+pub(crate) fn collect<'a>(
+    alloc: Global,
+    extensions: ExtensionRefs<'a>,
+) -> Result<Vec<ExtensionRef<'a>>, PathFault>
+    ensures ok { IfOk result (λ list. lent_extensions list.items ≡ extensions_left extensions.entry) }
     ensures err { IfErr result (λ e. e ≡ Memory) }
 {
-    match has_repeated_extension(alloc, extensions) {
-        Ok(repeated) => Ok(repeated),
-        Err(_) => Err(PathFault::Memory),
+    let mut rest = extensions;
+    let mut list = match Vec::with_capacity(alloc, FEW) {
+        Ok(list) => list,
+        Err(_) => return Err(PathFault::Memory),
+    };
+    while let Some(extension) = rest.next() {
+        match list.push(extension) {
+            Ok(()) => {}
+            Err(_) => return Err(PathFault::Memory),
+        }
     }
+    Ok(list)
+}
+
+/// The extensions that follow the one at that index.
+#[inline(always)]
+fn behind<'s, 'a>(extensions: &'s [ExtensionRef<'a>], index: usize) -> &'s [ExtensionRef<'a>]
+    requires { index < length extensions.now }
+    ensures { result.now ≡ drop (index + 1) extensions.now }
+{
+    &extensions[index + 1..]
+}
+
+/// Whether an extension has the OID.
+fn has_any(extensions: &[ExtensionRef<'_>], oid: ObjectIdentifier) -> bool
+    ensures none { result ≡ false → with_oid oid (lent_extensions extensions.now) ≡ [] }
+    ensures some { result ≡ true → 1 ≤ length (with_oid oid (lent_extensions extensions.now)) }
+{
+    for extension in extensions {
+        if extension.extn_id == oid {
+            return true;
+        }
+    }
+    false
+}
+
+/// The octets of the one extension with the OID; `None` where there are none or several.
+fn find_one<'a>(extensions: &[ExtensionRef<'a>], oid: ObjectIdentifier) -> Option<&'a [u8]>
+    ensures { MatchOption result ((e : Extension) → with_oid oid (lent_extensions extensions.now) ≡ e ∷ [] → ⊥)
+        (λ octets. (e : Extension) × (with_oid oid (lent_extensions extensions.now) ≡ e ∷ []) × (octets.now ≡ e.extn_value)) }
+{
+    for (index, extension) in extensions.iter().enumerate() {
+        if extension.extn_id == oid {
+            if has_any(behind(extensions, index), oid) {
+                return None;
+            }
+            return Some(extension.extn_value);
+        }
+    }
+    None
+}
+
+/// Whether two or more of the extensions have one OID. O(n²) comparisons.
+fn is_any_repeated(extensions: &[ExtensionRef<'_>]) -> bool
+    ensures { IsTrue result ↔ IsRepeated (lent_extensions extensions.now) }
+{
+    for (index, extension) in extensions.iter().enumerate() {
+        let others = behind(extensions, index);
+        if has_any(others, extension.extn_id) {
+            return true;
+        }
+    }
+    false
+}
+
+/// Whether two of the extensions have one OID. O(n log n) comparisons. It takes memory for more than 16.
+pub(crate) fn is_repeated(alloc: Global, extensions: &[ExtensionRef<'_>]) -> Result<bool, PathFault>
+    ensures ok { IfOk result (λ b. IsTrue b ↔ IsRepeated (lent_extensions extensions.now)) }
+    ensures err { IfErr result (λ e. e ≡ Memory) }
+{
+    if extensions.len() <= FEW {
+        return Ok(is_any_repeated(extensions));
+    }
+    let Ok(mut identifiers) = Vec::with_capacity(alloc, extensions.len()) else {
+        return Err(PathFault::Memory);
+    };
+    for extension in extensions {
+        match identifiers.push(extension.extn_id) {
+            Ok(()) => {}
+            Err(_) => return Err(PathFault::Memory),
+        }
+    }
+    identifiers.sort_unstable_by(|a, b| a.value_cmp(b));
+    Ok(!identifiers.is_sorted_by(|a, b| a.value_cmp(b).is_lt()))
 }
 
 /// Whether the extension has the OID of the type, and its octets are an encoding of the type.
-fn is_readable<T: AssociatedOid + Decode + Drop>(
-    alloc: Global,
-    extension: &Extension,
-) -> Result<bool, PathFault>
-    ensures ok { IfOk result (λ b. IsTrue b ↔ certificates.IsReadable T.form T.OID extension.now) }
-    ensures err { IfErr result (λ e. e ≡ Memory) }
+fn is_readable<T: AssociatedOid + Check>(extension: &ExtensionRef<'_>) -> bool
+    ensures { IsTrue result ↔ certificates.IsReadable T.form T.OID (lent_extension extension.now) }
 {
     if extension.extn_id != T::OID {
-        return Ok(false);
+        return false;
     }
-    match T::from_der(alloc, extension.extn_value.as_bytes()) {
-        Ok(_) => Ok(true),
-        Err(e) => match e.kind() {
-            ErrorKind::Memory => Err(PathFault::Memory),
-            _ => Ok(false),
-        },
-    }
+    T::check(extension.extn_value).is_ok()
 }
 
 /// Whether the extension is of a type that is processed here, and can be decoded.
-fn is_known(alloc: Global, extension: &Extension) -> Result<bool, PathFault>
-    ensures ok { IfOk result (λ b. IsTrue b ↔ certificates.IsKnown extension.now) }
-    ensures err { IfErr result (λ e. e ≡ Memory) }
+fn is_known(extension: &ExtensionRef<'_>) -> bool
+    ensures { IsTrue result ↔ certificates.IsKnown (lent_extension extension.now) }
 {
-    if is_readable::<BasicConstraints>(alloc, extension)? {
-        return Ok(true);
-    }
-    if is_readable::<KeyUsage>(alloc, extension)? {
-        return Ok(true);
-    }
-    if is_readable::<ExtendedKeyUsage>(alloc, extension)? {
-        return Ok(true);
-    }
-    is_readable::<SubjectAltName>(alloc, extension)
+    is_readable::<BasicConstraints>(extension)
+        || is_readable::<KeyUsage>(extension)
+        || is_readable::<ExtendedKeyUsage>(extension)
+        || is_readable::<SubjectAltName>(extension)
 }
 
 /// Whether each critical extension is of a type that is processed here, and can be decoded.
-pub(crate) fn are_handled(alloc: Global, extensions: &[Extension]) -> Result<bool, PathFault>
-    ensures ok { IfOk result (λ b. IsTrue b ↔ certificates.AreHandled extensions.now) }
-    ensures err { IfErr result (λ e. e ≡ Memory) }
+pub(crate) fn are_handled(extensions: &[ExtensionRef<'_>]) -> bool
+    ensures { IsTrue result ↔ certificates.AreHandled (lent_extensions extensions.now) }
 {
     for extension in extensions {
-        if extension.critical && !is_known(alloc, extension)? {
-            return Ok(false);
+        if extension.critical && !is_known(extension) {
+            return false;
         }
     }
-    Ok(true)
+    true
 }
 
-/// The value of the one extension of the type; `None` where there isn't one that can be decoded.
-fn payload<T: AssociatedOid + Decode + Drop>(
-    alloc: Global,
-    part: &TbsCertificate,
-) -> Result<Option<T>, PathFault>
-    ensures ok { IfOk result (λ found. (value : T) → certificates.HasPayload T.form T.OID (members part.now.extensions) value ↔ (found ≡ Some value)) }
-    ensures err { IfErr result (λ e. e ≡ Memory) }
+/// The value of the one extension of the type; `None` where there isn't one that can be decoded. The type is one that
+/// takes no memory.
+fn payload<T: AssociatedOid + Decode>(alloc: Global, extensions: &[ExtensionRef<'_>]) -> Option<T>
+    requires { T.wants_memory → ⊥ }
+    ensures { (value : T) → certificates.HasPayload T.form T.OID (lent_extensions extensions.now) value ↔ (result ≡ Some value) }
 {
-    match part.get_extension::<T>(alloc) {
-        Ok(Some((_, value))) => Ok(Some(value)),
-        Ok(None) => Ok(None),
-        Err(e) => match e.kind() {
-            ErrorKind::Memory => Err(PathFault::Memory),
-            _ => Ok(None),
+    match find_one(extensions, T::OID) {
+        Some(octets) => match T::from_der(alloc, octets) {
+            Ok(value) => Some(value),
+            Err(_) => None,
         },
+        None => None,
     }
 }
 
@@ -97,15 +164,14 @@ fn payload<T: AssociatedOid + Decode + Drop>(
 pub(crate) fn basic_constraints(
     alloc: Global,
     is_last: bool,
-    part: &TbsCertificate,
-) -> Result<Option<BasicConstraints>, PathFault>
-    ensures ok { IfOk result (λ found. is_last ≡ false → HasConstraints (members part.now.extensions) found) }
-    ensures err { IfErr result (λ e. e ≡ Memory) }
+    extensions: &[ExtensionRef<'_>],
+) -> Option<BasicConstraints>
+    ensures { is_last ≡ false → HasConstraints (lent_extensions extensions.now) result }
 {
     if is_last {
-        return Ok(None);
+        return None;
     }
-    payload::<BasicConstraints>(alloc, part)
+    payload::<BasicConstraints>(alloc, extensions)
 }
 
 /// Whether they are those of a certification authority.
@@ -130,16 +196,14 @@ pub(crate) fn path_len(constraints: Option<BasicConstraints>) -> Option<u8>
 }
 
 /// Whether there is a KeyUsage without keyCertSign.
-pub(crate) fn lacks_key_cert_sign(alloc: Global, part: &TbsCertificate) -> Result<bool, PathFault>
-    ensures ok { IfOk result (λ b. IsTrue b ↔ certificates.LacksKeyCertSign (members part.now.extensions)) }
-    ensures err { IfErr result (λ e. e ≡ Memory) }
+pub(crate) fn lacks_key_cert_sign(alloc: Global, extensions: &[ExtensionRef<'_>]) -> bool
+    ensures { IsTrue result ↔ certificates.LacksKeyCertSign (lent_extensions extensions.now) }
 {
-    match part.get_extension::<KeyUsage>(alloc) {
-        Ok(Some((_, usage))) => Ok(!usage.key_cert_sign()),
-        Ok(None) => Ok(false),
-        Err(e) => match e.kind() {
-            ErrorKind::Memory => Err(PathFault::Memory),
-            _ => Ok(true),
-        },
+    if !has_any(extensions, KeyUsage::OID) {
+        return false;
+    }
+    match payload::<KeyUsage>(alloc, extensions) {
+        Some(usage) => !usage.key_cert_sign(),
+        None => true,
     }
 }

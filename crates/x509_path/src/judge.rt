@@ -1,29 +1,29 @@
 //! The checks of one certificate of a path.
 
 ghost use Rattle.std.specs.Prelude.{◌≡◌, ◌≢◌, ◌↔◌, ◌∷◌, ◌++◌, [], List, Ok, Err, IfOk, IfErr, IsTrue, MatchResult, false};
-ghost use Rattle.x509_cert.specs.der.declared.error.ErrorKind.TheVariants as kinds;
+ghost use Rattle.x509_cert.specs.Signed.{IsSignedPart};
+ghost use Rattle.x509_cert.specs.base.AlgorithmIdentifier.{algorithm_identifier};
+ghost use Rattle.x509_cert.specs.der.Form.{Spells};
+ghost use Rattle.x509_cert.specs.prim.BitString.{bit_string};
 ghost use Rattle.x509_path.specs.Certificates as certificates;
-ghost use Rattle.x509_path.specs.Path.{Breaks};
-ghost use Rattle.x509_path.specs.PathLength.{HasConstraints, IsOver, Judges, Leaves, anchor_behind, narrowed, standing};
+ghost use Rattle.x509_path.specs.Lent.{Lends, LendsAnchor, StandsAbove, lent_extensions};
+ghost use Rattle.x509_path.specs.Path.{Breaks, subject_of};
+ghost use Rattle.x509_path.specs.PathLength.{HasConstraints, IsOver, Judges, Leaves, narrowed, standing};
+ghost use Rattle.x509_path.specs.declared.anchor.Anchor.{Anchor};
 ghost use Rattle.x509_path.specs.declared.fault.PathFault.TheVariants.{Memory, At};
 ghost use Rattle.x509_path.specs.declared.fault.PathReason.TheVariants as reasons;
 
-use crate::anchor::Anchor;
+use crate::above::Above;
 use crate::extensions::{
-    are_handled, basic_constraints, is_ca, is_repeated, lacks_key_cert_sign, path_len,
+    are_handled, basic_constraints, collect, is_ca, is_repeated, lacks_key_cert_sign, path_len,
 };
 use crate::fault::{PathFault, PathReason};
-use crate::verifier::Verifier;
+use crate::trust::{Signed, Trust};
 use std::alloc::Global;
-use x509_cert::certificate::{Certificate, signed_slice};
-use x509_cert::der::{Decode, ErrorKind};
-use x509_cert::ext::members;
 use x509_cert::ext::pkix::BasicConstraints;
-use x509_cert::laws::base::equality_of_keys_is_exact;
-use x509_cert::laws::name::equal_names_are_one_value;
-use x509_cert::name::Name;
-use x509_cert::spki::SubjectPublicKeyInfo;
-use x509_cert::time::{DateTime, Validity};
+use x509_cert::laws::one_signed_part;
+use x509_cert::time::DateTime;
+use x509_check::{CertificateRef, ExtensionRef};
 
 /// The reasons after `Decode`, in their order.
 const REASONS: [PathReason; 9] = [
@@ -39,13 +39,10 @@ const REASONS: [PathReason; 9] = [
 ];
 
 /// The place of a certificate in a path.
-#[derive(Drop)]
+#[derive(Clone, Copy)]
 pub(crate) struct Place<'a> {
-    /// The name of the certificate or the anchor above it.
-    pub(crate) name: &'a Name,
-
-    /// The public key of the certificate or the anchor above it.
-    pub(crate) key: &'a SubjectPublicKeyInfo,
+    /// What the certificate above it lends; `None` below the anchor.
+    pub(crate) above: Option<Above<'a>>,
 
     /// How many certificates that aren't self-issued may follow, where that is limited.
     pub(crate) max_path_length: Option<u8>,
@@ -54,87 +51,56 @@ pub(crate) struct Place<'a> {
     pub(crate) is_last: bool,
 }
 
-/// The place below the certificate, or below the anchor where there is none.
-pub(crate) fn place_below<'a>(
-    anchor: &'a Anchor,
-    above: &'a Option<Certificate>,
-    max_path_length: Option<u8>,
-    is_last: bool,
-) -> Place<'a>
-    ensures name { result.name.now ≡ (anchor_behind anchor.now above.now).name }
-    ensures key { result.key.now ≡ (anchor_behind anchor.now above.now).key }
-    ensures max_path_length { result.max_path_length ≡ max_path_length }
-    ensures is_last { result.is_last ≡ is_last }
+/// The name and the key that the certificate gives to the next one.
+pub(crate) fn above_next<'a>(certificate: &CertificateRef<'a>) -> Above<'a>
+    ensures { (c : certificates.Certificate) → Lends certificate.now.bytes.now c → LendsAnchor result (subject_of c) }
 {
-    match above {
-        Some(certificate) => Place {
-            name: certificate.tbs_certificate().subject(),
-            key: certificate.tbs_certificate().subject_public_key_info(),
-            max_path_length,
-            is_last,
-        },
-        None => Place {
-            name: &anchor.name,
-            key: &anchor.key,
-            max_path_length,
-            is_last,
-        },
+    Above {
+        name: certificate.subject(),
+        key: certificate.subject_public_key_info(),
     }
 }
 
 /// Whether the algorithm in the signed part isn't the one outside it.
-fn has_two_algorithms(certificate: &Certificate) -> bool
-    ensures { IsTrue result ↔ certificates.HasTwoAlgorithms certificate.now }
+#[tactic(auto, using(crate::proofs::Lent::two_algorithms))]
+fn has_two_algorithms(certificate: &CertificateRef<'_>) -> bool
+    ensures { (c : certificates.Certificate) → Lends certificate.now.bytes.now c → IsTrue result ↔ certificates.HasTwoAlgorithms c }
 {
-    equality_of_keys_is_exact();
-    certificate.tbs_certificate().signature() != certificate.signature_algorithm()
-}
-
-/// Whether the issuer isn't that name.
-fn is_of_another(certificate: &Certificate, name: &Name) -> bool
-    ensures { IsTrue result ↔ (certificate.now.tbs_certificate.issuer ≢ name.now) }
-{
-    equal_names_are_one_value();
-    certificate.tbs_certificate().issuer() != name
+    let slices = certificate.slices();
+    slices.fields.signature != slices.signature_algorithm
 }
 
 /// Whether the moment is before or after the validity.
-fn is_outside(moment: DateTime, validity: &Validity) -> bool
-    ensures { IsTrue result ↔ certificates.IsOutside moment validity.now }
+fn is_outside(moment: DateTime, certificate: &CertificateRef<'_>) -> bool
+    ensures { (c : certificates.Certificate) → Lends certificate.now.bytes.now c → IsTrue result ↔ certificates.IsOutside moment c.tbs_certificate.validity }
 {
-    !validity.contains(moment)
+    !certificate.validity().contains(moment)
 }
 
 /// Whether the subject is the issuer.
-fn is_self_issued(certificate: &Certificate) -> bool
-    ensures { result ≡ certificates.is_self_issued certificate.now }
+#[tactic(auto, using(crate::proofs::Lent::self_issued))]
+fn is_self_issued(certificate: &CertificateRef<'_>) -> bool
+    ensures { (c : certificates.Certificate) → Lends certificate.now.bytes.now c → result ≡ certificates.is_self_issued c }
 {
-    certificate.tbs_certificate().subject() == certificate.tbs_certificate().issuer()
+    certificate.subject() == certificate.issuer()
 }
 
-/// Whether the verifier accepts the signature of the signed part, as it stands in the bytes.
-fn is_signed<V: Verifier>(
-    verifier: &V,
-    key: &SubjectPublicKeyInfo,
-    bytes: &[u8],
-    certificate: &Certificate,
-) -> bool
-    ensures { IsTrue result ↔ certificates.IsSigned (V.accepts verifier.now) key.now bytes.now certificate.now }
+/// What is signed of the certificate.
+fn signed_of<'a>(certificate: &CertificateRef<'a>) -> Signed<'a>
+    ensures algorithm { (c : certificates.Certificate) → Lends certificate.now.bytes.now c → Spells algorithm_identifier c.signature_algorithm result.algorithm.now }
+    ensures message { IsSignedPart certificate.now.bytes.now result.message.now }
+    ensures signature { (c : certificates.Certificate) → Lends certificate.now.bytes.now c → Spells bit_string c.signature result.signature.now }
 {
-    match signed_slice(bytes) {
-        Some(signed) => verifier.verify(
-            certificate.signature_algorithm(),
-            key,
-            signed,
-            certificate.signature(),
-        ),
-        None => false,
+    Signed {
+        algorithm: certificate.signature_algorithm(),
+        message: certificate.signed_part(),
+        signature: certificate.signature(),
     }
 }
 
 /// Whether a path length constraint above allows no such certificate here.
-fn is_over(max_path_length: Option<u8>, certificate: &Certificate) -> bool
-    ensures { IsTrue result ↔ IsOver max_path_length (certificate.now ∷ []) }
+fn is_over(max_path_length: Option<u8>, certificate: &CertificateRef<'_>) -> bool
+    ensures { (c : certificates.Certificate) → Lends certificate.now.bytes.now c → IsTrue result ↔ IsOver max_path_length (c ∷ []) }
 {
     match max_path_length {
         Some(max_path_length) => max_path_length == 0 && !is_self_issued(certificate),
@@ -145,10 +111,10 @@ fn is_over(max_path_length: Option<u8>, certificate: &Certificate) -> bool
 /// How many certificates may follow one that is allowed itself.
 fn narrow(
     max_path_length: Option<u8>,
-    certificate: &Certificate,
+    certificate: &CertificateRef<'_>,
     path_len: Option<u8>,
 ) -> Option<u8>
-    ensures { result ≡ narrowed max_path_length (certificates.is_self_issued certificate.now) path_len }
+    ensures { (c : certificates.Certificate) → Lends certificate.now.bytes.now c → result ≡ narrowed max_path_length (certificates.is_self_issued c) path_len }
 {
     let Some(max_path_length) = max_path_length else {
         return path_len;
@@ -167,113 +133,225 @@ fn narrow(
 /// How many certificates may follow the certificate, where it is allowed itself.
 pub(crate) fn max_path_length_behind(
     max_path_length: Option<u8>,
-    certificate: &Certificate,
+    certificate: &CertificateRef<'_>,
     constraints: Option<BasicConstraints>,
 ) -> Option<u8>
-    ensures { HasConstraints (certificates.extensions_of certificate.now) constraints → (before : List certificates.Certificate) → Leaves before max_path_length
-        → (IsOver max_path_length (certificate.now ∷ []) → ⊥) → Leaves (before ++ certificate.now ∷ []) result }
+    ensures { (c : certificates.Certificate) → Lends certificate.now.bytes.now c → HasConstraints (certificates.extensions_of c) constraints
+        → (before : List certificates.Certificate) → Leaves before max_path_length → (IsOver max_path_length (c ∷ []) → ⊥)
+        → Leaves (before ++ c ∷ []) result }
 {
     let path_len = path_len(constraints);
     narrow(max_path_length, certificate, path_len)
 }
 
-/// Whether the certificate of these bytes has that fault.
-fn breaks<V: Verifier>(
-    alloc: Global,
-    verifier: &V,
-    moment: DateTime,
-    place: &Place<'_>,
-    bytes: &[u8],
-    certificate: &Certificate,
+/// What a certificate lends to the checks.
+#[derive(Clone, Copy)]
+struct Lent<'s, 'a> {
+    /// The certificate.
+    certificate: &'s CertificateRef<'a>,
+
+    /// Its extensions.
+    extensions: &'s [ExtensionRef<'a>],
+
+    /// The value of its BasicConstraints, where another certificate follows.
     constraints: Option<BasicConstraints>,
-    reason: PathReason,
-) -> Result<bool, PathFault>
-    ensures ok { IfOk result (λ b. (place.now.is_last ≡ false → HasConstraints (certificates.extensions_of certificate.now) constraints)
-        → (before : List certificates.Certificate) → Leaves before place.now.max_path_length → IsTrue b
-        ↔ Breaks (V.accepts verifier.now) moment (standing place.now.name.now place.now.key.now before place.now.is_last) bytes.now certificate.now
-        reason) }
-    ensures err { IfErr result (λ e. e ≡ Memory) }
-{
-    let part = certificate.tbs_certificate();
-    match reason {
-        PathReason::Decode => Ok(false),
-        PathReason::Algorithm => Ok(has_two_algorithms(certificate)),
-        PathReason::Issuer => Ok(is_of_another(certificate, place.name)),
-        PathReason::Moment => Ok(is_outside(moment, part.validity())),
-        PathReason::Signature => Ok(!is_signed(verifier, place.key, bytes, certificate)),
-        PathReason::Repeated => is_repeated(alloc, members(part.extensions())),
-        PathReason::Critical => Ok(!are_handled(alloc, members(part.extensions()))?),
-        PathReason::NotCa => Ok(!place.is_last && !is_ca(constraints)),
-        PathReason::KeyUsage => Ok(!place.is_last && lacks_key_cert_sign(alloc, part)?),
-        PathReason::PathLen => Ok(!place.is_last && is_over(place.max_path_length, certificate)),
-    }
 }
 
 /// A certificate with which nothing is wrong.
-#[derive(Drop)]
-pub(crate) struct Judged {
+#[derive(Clone, Copy)]
+pub(crate) struct Judged<'a> {
     /// The certificate.
-    pub(crate) certificate: Certificate,
+    pub(crate) certificate: CertificateRef<'a>,
 
     /// The value of its BasicConstraints, where another certificate follows.
     pub(crate) constraints: Option<BasicConstraints>,
 }
 
-/// The certificate of these bytes, where nothing is wrong with it; `index` is its place.
-pub(crate) fn judge<V: Verifier>(
-    alloc: Global,
-    verifier: &V,
-    moment: DateTime,
-    place: &Place<'_>,
-    bytes: &[u8],
-    index: usize,
-) -> Result<Judged, PathFault>
-    ensures judged { (before : List certificates.Certificate) → Leaves before place.now.max_path_length
-        → MatchResult result
-        (λ judged. Judges (V.accepts verifier.now) moment (standing place.now.name.now place.now.key.now before place.now.is_last) bytes.now index
-        (Ok judged.certificate))
-        (λ e. Judges (V.accepts verifier.now) moment (standing place.now.name.now place.now.key.now before place.now.is_last) bytes.now index (Err e)) }
-    ensures constraints { IfOk result (λ judged. place.now.is_last ≡ false
-        → HasConstraints (certificates.extensions_of judged.certificate) judged.constraints) }
-{
-    let certificate = match Certificate::from_der(alloc, bytes) {
-        Ok(certificate) => certificate,
-        Err(e) => return Err(refusal(e.kind(), index)),
-    };
-    let constraints = basic_constraints(alloc, place.is_last, certificate.tbs_certificate())?;
-    for reason in REASONS {
-        if breaks(
-            alloc,
-            verifier,
-            moment,
-            place,
-            bytes,
-            &certificate,
-            constraints,
-            reason,
-        )? {
-            return Err(PathFault::At {
-                place: index,
-                reason,
-            });
-        }
-    }
-    Ok(Judged {
-        certificate,
-        constraints,
-    })
+/// What the certificates of a path are checked with.
+#[derive(Drop)]
+pub(crate) struct Judge<'t, T> {
+    /// Where memory is taken.
+    pub(crate) alloc: Global,
+
+    /// The anchor and the verifier.
+    pub(crate) trust: &'t T,
+
+    /// The time.
+    pub(crate) moment: DateTime,
 }
 
-/// The fault where decoding the certificate is refused with that kind.
-fn refusal(kind: ErrorKind, place: usize) -> PathFault
-    ensures memory { kind ≡ kinds.Memory → result ≡ Memory }
-    ensures others { kind ≢ kinds.Memory → result ≡ At place reasons.Decode }
+impl<T: Trust> Judge<'_, T> {
+    ghost use Rattle.std.specs.Prelude.{◌≡◌, ◌≢◌, ◌↔◌, List, Ok, Err, IfOk, IfErr, IsTrue, MatchResult, false};
+    ghost use Rattle.x509_path.specs.Certificates as certificates;
+    ghost use Rattle.x509_path.specs.Lent.{Lends, StandsAbove, lent_extensions};
+    ghost use Rattle.x509_path.specs.Path.{Breaks};
+    ghost use Rattle.x509_path.specs.PathLength.{HasConstraints, Judges, Leaves, standing};
+    ghost use Rattle.x509_path.specs.declared.anchor.Anchor.{Anchor};
+    ghost use Rattle.x509_path.specs.declared.fault.PathFault.TheVariants.{Memory};
+
+    /// Whether the issuer isn't the name above.
+    fn is_of_another(
+        &self,
+        place: &Place<'_>,
+        certificate: &CertificateRef<'_>,
+    ) -> Result<bool, PathFault>
+        ensures ok { IfOk result (λ b. (c : certificates.Certificate) (above : Anchor) → Lends certificate.now.bytes.now c
+            → StandsAbove (T.anchor self.now.trust.now) place.now.above above → IsTrue b ↔ (c.tbs_certificate.issuer ≢ above.name)) }
+        ensures err { IfErr result (λ e. e ≡ Memory) }
+    {
+        match &place.above {
+            Some(above) => Ok(certificate.issuer() != above.name),
+            None => {
+                let is_name = self.trust.is_name(self.alloc, certificate.issuer())?;
+                Ok(!is_name)
+            }
+        }
+    }
+
+    /// Whether the verifier accepts the signature of the signed part, as it stands in the bytes.
+    fn is_signed(
+        &self,
+        place: &Place<'_>,
+        certificate: &CertificateRef<'_>,
+    ) -> Result<bool, PathFault>
+        ensures ok { IfOk result (λ b. (c : certificates.Certificate) (above : Anchor) → Lends certificate.now.bytes.now c
+            → StandsAbove (T.anchor self.now.trust.now) place.now.above above
+            → IsTrue b ↔ certificates.IsSigned (T.accepts self.now.trust.now) above.key certificate.now.bytes.now c) }
+        ensures err { IfErr result (λ e. e ≡ Memory) }
+    {
+        one_signed_part();
+        let signed = signed_of(certificate);
+        let accepted = self.trust.verify(self.alloc, &place.above, &signed)?;
+        Ok(accepted)
+    }
+
+    /// Whether the certificate has that fault.
+    fn breaks(
+        &self,
+        place: &Place<'_>,
+        lent: &Lent<'_, '_>,
+        reason: PathReason,
+    ) -> Result<bool, PathFault>
+        ensures ok { IfOk result (λ b. (c : certificates.Certificate) (above : Anchor) → Lends lent.now.certificate.now.bytes.now c
+            → lent_extensions lent.now.extensions.now ≡ certificates.extensions_of c
+            → (place.now.is_last ≡ false → HasConstraints (certificates.extensions_of c) lent.now.constraints)
+            → StandsAbove (T.anchor self.now.trust.now) place.now.above above
+            → (before : List certificates.Certificate) → Leaves before place.now.max_path_length → IsTrue b
+            ↔ Breaks (T.accepts self.now.trust.now) self.now.moment (standing above.name above.key before place.now.is_last) lent.now.certificate.now.bytes.now c
+            reason) }
+        ensures err { IfErr result (λ e. e ≡ Memory) }
+    {
+        let certificate = lent.certificate;
+        let extensions = lent.extensions;
+        match reason {
+            PathReason::Decode => Ok(false),
+            PathReason::Algorithm => Ok(has_two_algorithms(certificate)),
+            PathReason::Issuer => self.is_of_another(place, certificate),
+            PathReason::Moment => Ok(is_outside(self.moment, certificate)),
+            PathReason::Signature => Ok(!self.is_signed(place, certificate)?),
+            PathReason::Repeated => is_repeated(self.alloc, extensions),
+            PathReason::Critical => Ok(!are_handled(extensions)),
+            PathReason::NotCa => Ok(!place.is_last && !is_ca(lent.constraints)),
+            PathReason::KeyUsage => {
+                Ok(!place.is_last && lacks_key_cert_sign(self.alloc, extensions))
+            }
+            PathReason::PathLen => {
+                Ok(!place.is_last && is_over(place.max_path_length, certificate))
+            }
+        }
+    }
+
+    /// The value of the BasicConstraints of a certificate with which nothing is wrong, where another one follows; `index` is
+    /// its place.
+    fn judge_lent(
+        &self,
+        place: &Place<'_>,
+        certificate: &CertificateRef<'_>,
+        extensions: &[ExtensionRef<'_>],
+        index: usize,
+    ) -> Result<Option<BasicConstraints>, PathFault>
+        ensures { (c : certificates.Certificate) (above : Anchor) → Lends certificate.now.bytes.now c → lent_extensions extensions.now ≡ certificates.extensions_of c
+            → StandsAbove (T.anchor self.now.trust.now) place.now.above above → (before : List certificates.Certificate)
+            → Leaves before place.now.max_path_length → MatchResult result
+            (λ constraints. (place.now.is_last ≡ false → HasConstraints (certificates.extensions_of c) constraints)
+            × Judges (T.accepts self.now.trust.now) self.now.moment (standing above.name above.key before place.now.is_last) certificate.now.bytes.now index
+            (Ok c))
+            (λ e. Judges (T.accepts self.now.trust.now) self.now.moment (standing above.name above.key before place.now.is_last) certificate.now.bytes.now index
+            (Err e)) }
+    {
+        let constraints = basic_constraints(self.alloc, place.is_last, extensions);
+        let lent = Lent {
+            certificate,
+            extensions,
+            constraints,
+        };
+        for reason in REASONS {
+            if self.breaks(place, &lent, reason)? {
+                return Err(PathFault::At {
+                    place: index,
+                    reason,
+                });
+            }
+        }
+        Ok(constraints)
+    }
+
+    /// The same of the certificate alone.
+    fn judge_read(
+        &self,
+        place: &Place<'_>,
+        certificate: &CertificateRef<'_>,
+        index: usize,
+    ) -> Result<Option<BasicConstraints>, PathFault>
+        ensures { (c : certificates.Certificate) (above : Anchor) → Lends certificate.now.bytes.now c
+            → StandsAbove (T.anchor self.now.trust.now) place.now.above above → (before : List certificates.Certificate)
+            → Leaves before place.now.max_path_length → MatchResult result
+            (λ constraints. (place.now.is_last ≡ false → HasConstraints (certificates.extensions_of c) constraints)
+            × Judges (T.accepts self.now.trust.now) self.now.moment (standing above.name above.key before place.now.is_last) certificate.now.bytes.now index
+            (Ok c))
+            (λ e. Judges (T.accepts self.now.trust.now) self.now.moment (standing above.name above.key before place.now.is_last) certificate.now.bytes.now index
+            (Err e)) }
+    {
+        match collect(self.alloc, certificate.extensions()) {
+            Ok(many) => self.judge_lent(place, certificate, many.as_slice(), index),
+            Err(e) => Err(e),
+        }
+    }
+
+    /// The certificate of these bytes, where nothing is wrong with it; `index` is its place.
+    pub(crate) fn judge<'a>(
+        &self,
+        place: &Place<'_>,
+        bytes: &'a [u8],
+        index: usize,
+    ) -> Result<Judged<'a>, PathFault>
+        ensures { (above : Anchor) → StandsAbove (T.anchor self.now.trust.now) place.now.above above → (before : List certificates.Certificate)
+            → Leaves before place.now.max_path_length → MatchResult result
+            (λ judged. (c : certificates.Certificate) × Lends judged.certificate.bytes.now c
+            × (place.now.is_last ≡ false → HasConstraints (certificates.extensions_of c) judged.constraints)
+            × Judges (T.accepts self.now.trust.now) self.now.moment (standing above.name above.key before place.now.is_last) bytes.now index (Ok c))
+            (λ e. Judges (T.accepts self.now.trust.now) self.now.moment (standing above.name above.key before place.now.is_last) bytes.now index (Err e)) }
+    {
+        let certificate = match CertificateRef::from_der(bytes) {
+            Ok(certificate) => certificate,
+            Err(_) => return Err(unreadable(index)),
+        };
+        match self.judge_read(place, &certificate, index) {
+            Ok(constraints) => Ok(Judged {
+                certificate,
+                constraints,
+            }),
+            Err(e) => Err(e),
+        }
+    }
+}
+
+/// The fault where the bytes are the encoding of no certificate.
+fn unreadable(place: usize) -> PathFault
+    ensures { result ≡ At place reasons.Decode }
 {
-    match kind {
-        ErrorKind::Memory => PathFault::Memory,
-        _ => PathFault::At {
-            place,
-            reason: PathReason::Decode,
-        },
+    PathFault::At {
+        place,
+        reason: PathReason::Decode,
     }
 }

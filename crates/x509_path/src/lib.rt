@@ -6,12 +6,14 @@
 //! `docs/MAP.md`.
 #![tactic(auto)]
 
+mod above;
 mod anchor;
 mod extensions;
 mod fault;
 mod judge;
 pub mod laws;
 mod path;
+mod trust;
 mod verifier;
 
 pub use anchor::Anchor;

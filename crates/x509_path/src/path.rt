@@ -3,12 +3,13 @@
 ghost use Rattle.std.specs.Prelude.{◌≡◌, map, IfOk, List, ℕ};
 ghost use Rattle.x509_path.specs.Path.{Answers};
 
+use crate::above::Above;
 use crate::anchor::Anchor;
 use crate::fault::PathFault;
-use crate::judge::{judge, max_path_length_behind, place_below};
+use crate::judge::{Judge, Place, above_next, max_path_length_behind};
+use crate::trust::{Trust, Values};
 use crate::verifier::Verifier;
 use std::alloc::{AllocError, Global};
-use x509_cert::Certificate;
 use x509_cert::time::DateTime;
 
 /// The octets of each input, lent.
@@ -20,6 +21,47 @@ fn slices(alloc: Global, inputs: &[Vec<u8>]) -> Result<Vec<&[u8]>, AllocError>
         lent.push(input.as_slice())?;
     }
     Ok(lent)
+}
+
+/// Checks the certificates of a path under the anchor.
+fn walk<T: Trust>(
+    alloc: Global,
+    trust: &T,
+    path: &[&[u8]],
+    moment: DateTime,
+) -> Result<(), PathFault>
+    ensures { Answers (T.accepts trust.now) moment (T.anchor trust.now) (map (λ input. input.now) path.now) result }
+{
+    if path.is_empty() {
+        return Err(PathFault::Empty);
+    }
+    let judge = Judge {
+        alloc,
+        trust,
+        moment,
+    };
+    let mut above: Option<Above<'_>> = None;
+    let mut max_path_length: Option<u8> = None;
+    for (index, bytes) in path.iter().enumerate() {
+        let is_last = index + 1 == path.len();
+        let place = Place {
+            above,
+            max_path_length,
+            is_last,
+        };
+        match judge.judge(&place, bytes, index) {
+            Ok(judged) => {
+                max_path_length = max_path_length_behind(
+                    max_path_length,
+                    &judged.certificate,
+                    judged.constraints,
+                );
+                above = Some(above_next(&judged.certificate));
+            }
+            Err(e) => return Err(e),
+        }
+    }
+    Ok(())
 }
 
 /// Checks the certificates of a path, the topmost first, at that time (RFC 5280 6.1): the first under the anchor's name
@@ -64,21 +106,6 @@ pub fn check_path_slices<V: Verifier>(
 ) -> Result<(), PathFault>
     ensures { Answers (V.accepts verifier.now) moment anchor.now (map (λ input. input.now) path.now) result }
 {
-    if path.is_empty() {
-        return Err(PathFault::Empty);
-    }
-    let mut above: Option<Certificate> = None;
-    let mut max_path_length: Option<u8> = None;
-    for (index, bytes) in path.iter().enumerate() {
-        let is_last = index + 1 == path.len();
-        let place = place_below(anchor, &above, max_path_length, is_last);
-        let judged = judge(alloc, verifier, moment, &place, bytes, index)?;
-        max_path_length = max_path_length_behind(
-            max_path_length,
-            &judged.certificate,
-            judged.constraints,
-        );
-        above = Some(judged.certificate);
-    }
-    Ok(())
+    let trust = Values { anchor, verifier };
+    walk(alloc, &trust, path, moment)
 }

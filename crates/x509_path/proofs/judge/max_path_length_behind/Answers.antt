@@ -3,6 +3,6 @@ use Rattle.x509_path.proofs.PathLengths.{narrows}
 use Rattle.x509_path.proofs.judge.max_path_length_behind.Goals as goal
 
 pub returns : goal.returns
-returns c = λ said before leaves free.
-    let limits = c.path_len-path_len.ensures (extensions_of c.args.certificate.now) said in
-    rw c.narrow.ensures (narrows before c.args.max_path_length c.args.certificate.now c.path_len-path_len.result leaves free limits)
+returns c = λ certificate lends said before leaves free.
+    let limits = c.path_len-path_len.ensures (extensions_of certificate) said in
+    rw (c.narrow.ensures certificate lends) (narrows before c.args.max_path_length certificate c.path_len-path_len.result leaves free limits)

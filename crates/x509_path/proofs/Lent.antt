@@ -1,0 +1,162 @@
+-- What a certificate's bytes lend spells its parts, and is compared as they are.
+use Rattle.std.proofs.Common.{◌≡◌, ◌≢◌, ◌↔◌, ◌∙◌, ℕ, ◌≤◌, Bool, true, false, not, List, ◌++◌, length, refl, sym, ap, subst, arith, length-append, bytes_eq}
+use Rattle.std.specs.Bool.{IsTrue}
+use Rattle.std.proofs.lemmas.Bool.{true≢false}
+use Rattle.std.proofs.lemmas.Slice.Eq.{bytes_eq-Decides}
+use Rattle.x509_cert.specs.base.AlgorithmIdentifier.{algorithm_identifier, algorithm_identifier_lawful}
+use Rattle.x509_cert.specs.base.Profiles.{rfc5280_serial_number}
+use Rattle.x509_cert.specs.base.SubjectPublicKeyInfo.{subject_public_key_info}
+use Rattle.x509_cert.proofs.CertificateSignedPart.{stands}
+use Rattle.x509_cert.proofs.Spellings.{certificate_found}
+use Rattle.x509_cert.specs.Certificate.{certificate_fields, rfc5280_certificate}
+use Rattle.x509_cert.specs.Elements.{HasCertificateElements, HasTbsElements, TbsElements, behind_octets, front_octets}
+use Rattle.x509_cert.specs.Spellings.{certificate_spellings, tbs_spellings}
+use Rattle.x509_cert.specs.TbsCertificate.{tbs_certificate_fields}
+use Rattle.x509_cert.specs.der.Element.{element, limit}
+use Rattle.x509_cert.specs.der.Form.{Form, IsForm, Spells, spelling}
+use Rattle.x509_cert.specs.der.Frames.{fields_good, optional_octets}
+use Rattle.x509_cert.specs.der.SpellingLaws.{one_spelled}
+use Rattle.x509_cert.specs.der.declared.error.ErrorKind.{ErrorKind}
+use Rattle.x509_cert.specs.name.declared.attr.type_and_value.AttributeTypeAndValue.{AttributeTypeAndValue}
+use Rattle.x509_cert.specs.name.Names.{name, rdn_sequence_decides, rdn_sequence_eq, rdn_sequence_lawful}
+use Rattle.x509_cert.specs.prim.BitString.{bit_string}
+use Rattle.x509_path.specs.Certificates.{Certificate}
+
+-- ---- equal encodings are those of equal values
+
+abbrev Never : ErrorKind → Type 0
+Never e = ⊥
+
+module _ {X : Type 0} (form : Form X) (lawful : IsForm Never form) (v w : X) (good : form.good v) (other : form.good w) (x y : List ℕ) (is : x ≡ spelling form v) (so : y ≡ spelling form w) where
+  pub same_bytes : (bytes_eq x y ≡ true) ↔ (v ≡ w)
+  same_bytes = (
+    (λ e. one_spelled form lawful v w good other (sym is ∙ (bytes_eq-Decides x y).0 e ∙ so)),
+    (λ e. (bytes_eq-Decides x y).1 (is ∙ ap (spelling form) e ∙ sym so)),
+  )
+
+-- the other answer to a test
+pub differ : {P : Type 0} (b : Bool) → IsTrue b ↔ P → IsTrue (not b) ↔ (P → ⊥)
+differ true h = ((λ never. absurd (true≢false (sym never))), (λ never. absurd (never (h.0 refl))))
+differ false h = ((λ is p. true≢false (sym (h.1 p))), (λ never. refl))
+
+-- two answers to one question
+pub one_test : {P : Type 0} (a b : Bool) → (a ≡ true) ↔ P → (b ≡ true) ↔ P → a ≡ b
+one_test true true h k = refl
+one_test true false h k = absurd (true≢false (sym (k.1 (h.0 refl))))
+one_test false true h k = absurd (true≢false (sym (h.1 (k.0 refl))))
+one_test false false h k = refl
+
+-- ---- the parts of a certificate
+
+content_within : (tag : ℕ) (x : List ℕ) → length x ≤ length (element tag x)
+unfolding element
+content_within tag x = grind (arith, length-append)
+
+module _ (c : Certificate) (bytes : List ℕ) (spells : Spells rfc5280_certificate c bytes) where
+  has : HasCertificateElements bytes (certificate_spellings c)
+  has = certificate_found rfc5280_serial_number c bytes spells
+
+  pub inner_good : algorithm_identifier.good c.tbs_certificate.signature
+  unfolding tbs_certificate_fields fields_good
+  inner_good = (stands rfc5280_serial_number c bytes spells).1.0.0.1.1.0
+
+  pub issuer_good : name.good c.tbs_certificate.issuer
+  unfolding tbs_certificate_fields fields_good
+  issuer_good = (stands rfc5280_serial_number c bytes spells).1.0.0.1.1.1.0
+
+  pub subject_good : name.good c.tbs_certificate.subject
+  unfolding tbs_certificate_fields fields_good
+  subject_good = (stands rfc5280_serial_number c bytes spells).1.0.1.0
+
+  pub key_good : subject_public_key_info.good c.tbs_certificate.subject_public_key_info
+  unfolding tbs_certificate_fields fields_good
+  key_good = (stands rfc5280_serial_number c bytes spells).1.0.1.1.0
+
+  pub outer_good : algorithm_identifier.good c.signature_algorithm
+  unfolding certificate_fields fields_good
+  outer_good = spells.0.1.0
+
+  pub bits_good : bit_string.good c.signature
+  unfolding certificate_fields fields_good
+  bits_good = spells.0.1.1
+
+  issuer_within : length (spelling name c.tbs_certificate.issuer) ≤ limit
+  issuer_within =
+      let e = tbs_spellings c.tbs_certificate in
+      let h = has.tbs_certificate in
+      omega (
+        arith,
+        ap length h.whole,
+        h.within,
+        content_within 0x30 (front_octets e ++ behind_octets e),
+        length-append (front_octets e) (behind_octets e),
+        length-append (optional_octets (element 0xA0) e.version) (e.serial_number ++ (e.signature ++ (e.issuer ++ e.validity))),
+        length-append e.serial_number (e.signature ++ (e.issuer ++ e.validity)),
+        length-append e.signature (e.issuer ++ e.validity),
+        length-append e.issuer e.validity,
+      )
+
+  subject_within : length (spelling name c.tbs_certificate.subject) ≤ limit
+  subject_within =
+      let e = tbs_spellings c.tbs_certificate in
+      let h = has.tbs_certificate in
+      let rest = optional_octets (λ x. x) e.issuer_unique_id ++ (optional_octets (λ x. x) e.subject_unique_id ++ optional_octets (element 0xA3) e.extensions) in
+      omega (
+        arith,
+        ap length h.whole,
+        h.within,
+        content_within 0x30 (front_octets e ++ behind_octets e),
+        length-append (front_octets e) (behind_octets e),
+        length-append e.subject (e.subject_public_key_info ++ rest),
+      )
+
+  key_within : length (spelling subject_public_key_info c.tbs_certificate.subject_public_key_info) ≤ limit
+  key_within =
+      let e = tbs_spellings c.tbs_certificate in
+      let h = has.tbs_certificate in
+      let rest = optional_octets (λ x. x) e.issuer_unique_id ++ (optional_octets (λ x. x) e.subject_unique_id ++ optional_octets (element 0xA3) e.extensions) in
+      omega (
+        arith,
+        ap length h.whole,
+        h.within,
+        content_within 0x30 (front_octets e ++ behind_octets e),
+        length-append (front_octets e) (behind_octets e),
+        length-append e.subject (e.subject_public_key_info ++ rest),
+        length-append e.subject_public_key_info rest,
+      )
+
+  outer_within : length (spelling algorithm_identifier c.signature_algorithm) ≤ limit
+  outer_within =
+      let e = certificate_spellings c in
+      omega (arith, ap length has.whole, has.within, content_within 0x30 (e.tbs_certificate ++ (e.signature_algorithm ++ e.signature)), length-append e.tbs_certificate (e.signature_algorithm ++ e.signature), length-append e.signature_algorithm e.signature)
+
+  bits_within : length (spelling bit_string c.signature) ≤ limit
+  bits_within =
+      let e = certificate_spellings c in
+      omega (arith, ap length has.whole, has.within, content_within 0x30 (e.tbs_certificate ++ (e.signature_algorithm ++ e.signature)), length-append e.tbs_certificate (e.signature_algorithm ++ e.signature), length-append e.signature_algorithm e.signature)
+
+  -- what is lent spells them
+  module _ (lent : List ℕ) where
+    pub issuer_spells : lent ≡ spelling name c.tbs_certificate.issuer → Spells name c.tbs_certificate.issuer lent
+    issuer_spells is = (issuer_good, is, rw is issuer_within)
+
+    pub subject_spells : lent ≡ spelling name c.tbs_certificate.subject → Spells name c.tbs_certificate.subject lent
+    subject_spells is = (subject_good, is, rw is subject_within)
+
+    pub key_spells : lent ≡ spelling subject_public_key_info c.tbs_certificate.subject_public_key_info → Spells subject_public_key_info c.tbs_certificate.subject_public_key_info lent
+    key_spells is = (key_good, is, rw is key_within)
+
+    pub outer_spells : lent ≡ spelling algorithm_identifier c.signature_algorithm → Spells algorithm_identifier c.signature_algorithm lent
+    outer_spells is = (outer_good, is, rw is outer_within)
+
+    pub bits_spells : lent ≡ spelling bit_string c.signature → Spells bit_string c.signature lent
+    bits_spells is = (bits_good, is, rw is bits_within)
+
+  pub two_algorithms : (x y : List ℕ) → x ≡ spelling algorithm_identifier c.tbs_certificate.signature → y ≡ spelling algorithm_identifier c.signature_algorithm → IsTrue (not (bytes_eq x y)) ↔ (c.tbs_certificate.signature ≢ c.signature_algorithm)
+  two_algorithms x y is so = differ _ (same_bytes algorithm_identifier algorithm_identifier_lawful _ _ inner_good outer_good x y is so)
+
+  pub self_issued : (x y : List ℕ) → x ≡ spelling name c.tbs_certificate.subject → y ≡ spelling name c.tbs_certificate.issuer → bytes_eq x y ≡ rdn_sequence_eq c.tbs_certificate.subject c.tbs_certificate.issuer
+  self_issued x y is so = one_test _ _ (same_bytes name rdn_sequence_lawful _ _ subject_good issuer_good x y is so) (rdn_sequence_decides _ _)
+
+  pub other_issuer : (x y : List ℕ) (above : List (List AttributeTypeAndValue)) → x ≡ spelling name c.tbs_certificate.issuer → Spells name above y → IsTrue (not (bytes_eq x y)) ↔ (c.tbs_certificate.issuer ≢ above)
+  other_issuer x y above is so = differ _ (same_bytes name rdn_sequence_lawful _ _ issuer_good so.0 x y is so.1)

@@ -1,0 +1,29 @@
+-- What a certificate's bytes lend to the check of a path.
+use Rattle.std.specs.Prelude.{◌≡◌, ℕ, List, map, Option, Some, None}
+use Rattle.x509_cert.specs.Certificate.{rfc5280_certificate}
+use Rattle.x509_cert.specs.base.SubjectPublicKeyInfo.{subject_public_key_info}
+use Rattle.x509_cert.specs.der.Form.{Spells}
+use Rattle.x509_cert.specs.ext.declared.extension.Extension.{Extension}
+use Rattle.x509_cert.specs.name.Names.{name}
+use Rattle.x509_check.specs.ExtensionRefs.{lent_extension}
+use Rattle.x509_check.specs.declared.lent.extension.ExtensionRef.{ExtensionRef}
+use Rattle.x509_path.specs.Certificates.{Certificate}
+use Rattle.x509_path.specs.declared.above.Above.{Above}
+use Rattle.x509_path.specs.declared.anchor.Anchor.{Anchor}
+
+-- the bytes are those of the certificate
+abbrev pub Lends : List ℕ → Certificate → Type 0
+Lends bytes c = Spells rfc5280_certificate c bytes
+
+-- the extensions that are lent
+abbrev pub lent_extensions : List ExtensionRef → List Extension
+lent_extensions refs = map lent_extension refs
+
+-- the name and the key that are lent
+abbrev pub LendsAnchor : Above → Anchor → Type 0
+LendsAnchor lent above = Spells name above.name lent.name.now × Spells subject_public_key_info above.key lent.key.now
+
+-- the same of what stands above a certificate: the anchor itself, where nothing is lent
+abbrev pub StandsAbove : Anchor → Option Above → Anchor → Type 0
+StandsAbove anchor None above = above ≡ anchor
+StandsAbove anchor (Some lent) above = LendsAnchor lent above

@@ -1,0 +1,124 @@
+//! Trust anchors with verifiers of signatures.
+
+ghost use Rattle.std.specs.Prelude.{◌≡◌, IfOk, IfErr};
+ghost use Rattle.x509_cert.specs.der.Form.{Spells};
+ghost use Rattle.x509_path.specs.declared.fault.PathFault.TheVariants.{Memory};
+
+use crate::above::Above;
+use crate::anchor::Anchor;
+use crate::fault::PathFault;
+use crate::verifier::Verifier;
+use std::alloc::Global;
+use x509_cert::der::Decode;
+use x509_cert::der::asn1::BitString;
+use x509_cert::laws::name::equal_names_are_one_value;
+use x509_cert::name::Name;
+use x509_cert::spki::{AlgorithmIdentifier, SubjectPublicKeyInfo};
+
+/// What is signed, by which algorithm, and the bits: of a certificate, each as its element.
+#[derive(Clone, Copy)]
+pub(crate) struct Signed<'a> {
+    /// The algorithm.
+    pub(crate) algorithm: &'a [u8],
+
+    /// The signed part.
+    pub(crate) message: &'a [u8],
+
+    /// The signature.
+    pub(crate) signature: &'a [u8],
+}
+
+/// A trust anchor, with a verifier of signatures.
+pub(crate) trait Trust {
+    ghost use Rattle.std.specs.Prelude.{◌≡◌, ◌↔◌, List, IfOk, IfErr, IsTrue};
+    ghost use Rattle.x509_cert.specs.base.AlgorithmIdentifier.{algorithm_identifier};
+    ghost use Rattle.x509_cert.specs.base.declared.algorithm_identifier.AlgorithmIdentifier as algorithms;
+    ghost use Rattle.x509_cert.specs.der.Form.{Spells};
+    ghost use Rattle.x509_cert.specs.name.Names.{name};
+    ghost use Rattle.x509_cert.specs.name.declared.attr.type_and_value.AttributeTypeAndValue as attributes;
+    ghost use Rattle.x509_cert.specs.prim.BitString.{BitParts, bit_string};
+    ghost use Rattle.x509_path.specs.Certificates.{Accepting};
+    ghost use Rattle.x509_path.specs.Lent.{StandsAbove};
+    ghost use Rattle.x509_path.specs.declared.anchor.Anchor as anchors;
+    ghost use Rattle.x509_path.specs.declared.fault.PathFault.TheVariants.{Memory};
+
+    /// The anchor.
+    ghost anchor: { Self → anchors.Anchor };
+
+    /// What the verifier answers.
+    ghost accepts: { Self → Accepting };
+
+    /// Whether the bytes, which are a name's, are that of the anchor's name.
+    fn is_name(&self, alloc: Global, bytes: &[u8]) -> Result<bool, PathFault>
+        ensures ok { IfOk result (λ b. (value : List (List attributes.AttributeTypeAndValue)) → Spells name value bytes.now
+            → IsTrue b ↔ (value ≡ (anchor self.now).name)) }
+        ensures err { IfErr result (λ e. e ≡ Memory) };
+
+    /// Whether the verifier accepts the signature for the key of what stands above.
+    fn verify(
+        &self,
+        alloc: Global,
+        above: &Option<Above<'_>>,
+        signed: &Signed<'_>,
+    ) -> Result<bool, PathFault>
+        ensures ok { IfOk result (λ b. (over : anchors.Anchor) (algorithm : algorithms.AlgorithmIdentifier) (bits : BitParts)
+            → StandsAbove (anchor self.now) above.now over → Spells algorithm_identifier algorithm signed.now.algorithm.now
+            → Spells bit_string bits signed.now.signature.now → b ≡ accepts self.now algorithm over.key signed.now.message.now bits) }
+        ensures err { IfErr result (λ e. e ≡ Memory) };
+}
+
+/// An anchor and a verifier, which are handed values.
+#[derive(Drop)]
+pub(crate) struct Values<'a, V> {
+    /// The anchor.
+    pub(crate) anchor: &'a Anchor,
+
+    /// The verifier.
+    pub(crate) verifier: &'a V,
+}
+
+/// The value of which the bytes are the encoding, as is known.
+fn value_of<T: Decode>(alloc: Global, bytes: &[u8]) -> Result<T, PathFault>
+    ensures ok { IfOk result (λ found. (value : T) → Spells T.form value bytes.now → found ≡ value) }
+    ensures err { IfErr result (λ e. e ≡ Memory) }
+{
+    match T::from_der(alloc, bytes) {
+        Ok(value) => Ok(value),
+        Err(_) => Err(PathFault::Memory),
+    }
+}
+
+impl<V: Verifier> Trust for Values<'_, V> {
+    ghost anchor = { λ trust. trust.anchor.now };
+
+    ghost accepts = { λ trust. V.accepts trust.verifier.now };
+
+    fn is_name(&self, alloc: Global, bytes: &[u8]) -> Result<bool, PathFault> {
+        equal_names_are_one_value();
+        let name = value_of::<Name>(alloc, bytes)?;
+        Ok(name == self.anchor.name)
+    }
+
+    fn verify(
+        &self,
+        alloc: Global,
+        above: &Option<Above<'_>>,
+        signed: &Signed<'_>,
+    ) -> Result<bool, PathFault> {
+        let algorithm = value_of::<AlgorithmIdentifier>(alloc, signed.algorithm)?;
+        let signature = value_of::<BitString>(alloc, signed.signature)?;
+        match above {
+            Some(above) => {
+                let key = value_of::<SubjectPublicKeyInfo>(alloc, above.key)?;
+                Ok(
+                    self.verifier
+                        .verify(&algorithm, &key, signed.message, &signature),
+                )
+            }
+            None => Ok(
+                self.verifier
+                    .verify(&algorithm, &self.anchor.key, signed.message, &signature),
+            ),
+        }
+    }
+}
