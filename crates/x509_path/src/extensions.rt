@@ -19,6 +19,58 @@ use x509_check::{Check, ExtensionRef, ExtensionRefs};
 /// Up to so many extensions are each compared with those that follow it; of more the OIDs are sorted.
 const FEW: usize = 16;
 
+/// What stands in a place for an extension before one does.
+fn no_extension<'a>() -> ExtensionRef<'a> {
+    ExtensionRef {
+        extn_id: KeyUsage::OID,
+        critical: false,
+        extn_value: &[],
+    }
+}
+
+/// Places for few extensions.
+pub(crate) fn places<'a>() -> [ExtensionRef<'a>; FEW] {
+    [
+        no_extension(),
+        no_extension(),
+        no_extension(),
+        no_extension(),
+        no_extension(),
+        no_extension(),
+        no_extension(),
+        no_extension(),
+        no_extension(),
+        no_extension(),
+        no_extension(),
+        no_extension(),
+        no_extension(),
+        no_extension(),
+        no_extension(),
+        no_extension(),
+    ]
+}
+
+/// How many extensions there are, each lent to a place, from the first on; `None` where the places are too few.
+pub(crate) fn gather<'a>(
+    extensions: ExtensionRefs<'a>,
+    few: &mut [ExtensionRef<'a>],
+) -> Option<usize>
+    ensures few { IfSome result (λ count. (count ≤ length few.new) × (lent_extensions (take count few.new) ≡ extensions_left extensions.entry)) }
+    ensures many { result ≡ None → length few.old < length (extensions_left extensions.entry) }
+    ensures places { length few.new ≡ length few.old }
+{
+    let mut rest = extensions;
+    let mut count = 0;
+    while let Some(extension) = rest.next() {
+        if count >= few.len() {
+            return None;
+        }
+        few[count] = extension;
+        count += 1;
+    }
+    Some(count)
+}
+
 /// The extensions, each lent.
 pub(crate) fn collect<'a>(
     alloc: Global,
@@ -39,6 +91,18 @@ pub(crate) fn collect<'a>(
         }
     }
     Ok(list)
+}
+
+/// The first extensions.
+#[inline(always)]
+pub(crate) fn front<'s, 'a>(
+    extensions: &'s [ExtensionRef<'a>],
+    count: usize,
+) -> &'s [ExtensionRef<'a>]
+    requires { count ≤ length extensions.now }
+    ensures { result.now ≡ take count extensions.now }
+{
+    &extensions[..count]
 }
 
 /// The extensions that follow the one at that index.

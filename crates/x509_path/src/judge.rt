@@ -15,7 +15,8 @@ ghost use Rattle.x509_path.specs.declared.fault.PathReason.TheVariants as reason
 
 use crate::above::Above;
 use crate::extensions::{
-    are_handled, basic_constraints, collect, is_ca, is_repeated, lacks_key_cert_sign, path_len,
+    are_handled, basic_constraints, collect, front, gather, is_ca, is_repeated,
+    lacks_key_cert_sign, path_len, places,
 };
 use crate::fault::{PathFault, PathReason};
 use crate::trust::{Signed, Trust};
@@ -296,8 +297,8 @@ impl<T: Trust> Judge<'_, T> {
         Ok(constraints)
     }
 
-    /// The same of the certificate alone.
-    fn judge_read(
+    /// The same of a certificate with any number of extensions.
+    fn judge_many(
         &self,
         place: &Place<'_>,
         certificate: &CertificateRef<'_>,
@@ -316,6 +317,52 @@ impl<T: Trust> Judge<'_, T> {
             Ok(many) => self.judge_lent(place, certificate, many.as_slice(), index),
             Err(e) => Err(e),
         }
+    }
+
+    /// The same, without memory where the places are enough for its extensions.
+    fn judge_within<'a>(
+        &self,
+        place: &Place<'_>,
+        certificate: &CertificateRef<'a>,
+        few: &mut [ExtensionRef<'a>],
+        index: usize,
+    ) -> Result<Option<BasicConstraints>, PathFault>
+        ensures { (c : certificates.Certificate) (above : Anchor) → Lends certificate.now.bytes.now c
+            → StandsAbove (T.anchor self.now.trust.now) place.now.above above → (before : List certificates.Certificate)
+            → Leaves before place.now.max_path_length → MatchResult result
+            (λ constraints. (place.now.is_last ≡ false → HasConstraints (certificates.extensions_of c) constraints)
+            × Judges (T.accepts self.now.trust.now) self.now.moment (standing above.name above.key before place.now.is_last) certificate.now.bytes.now index
+            (Ok c))
+            (λ e. Judges (T.accepts self.now.trust.now) self.now.moment (standing above.name above.key before place.now.is_last) certificate.now.bytes.now index
+            (Err e)) }
+    {
+        match gather(certificate.extensions(), few) {
+            Some(count) => {
+                let extensions = front(few, count);
+                self.judge_lent(place, certificate, extensions, index)
+            }
+            None => self.judge_many(place, certificate, index),
+        }
+    }
+
+    /// The same, without memory for up to 16 extensions.
+    fn judge_read(
+        &self,
+        place: &Place<'_>,
+        certificate: &CertificateRef<'_>,
+        index: usize,
+    ) -> Result<Option<BasicConstraints>, PathFault>
+        ensures { (c : certificates.Certificate) (above : Anchor) → Lends certificate.now.bytes.now c
+            → StandsAbove (T.anchor self.now.trust.now) place.now.above above → (before : List certificates.Certificate)
+            → Leaves before place.now.max_path_length → MatchResult result
+            (λ constraints. (place.now.is_last ≡ false → HasConstraints (certificates.extensions_of c) constraints)
+            × Judges (T.accepts self.now.trust.now) self.now.moment (standing above.name above.key before place.now.is_last) certificate.now.bytes.now index
+            (Ok c))
+            (λ e. Judges (T.accepts self.now.trust.now) self.now.moment (standing above.name above.key before place.now.is_last) certificate.now.bytes.now index
+            (Err e)) }
+    {
+        let mut few = places();
+        self.judge_within(place, certificate, &mut few, index)
     }
 
     /// The certificate of these bytes, where nothing is wrong with it; `index` is its place.
