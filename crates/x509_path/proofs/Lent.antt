@@ -160,3 +160,6 @@ module _ (c : Certificate) (bytes : List ℕ) (spells : Spells rfc5280_certifica
 
   pub other_issuer : (x y : List ℕ) (above : List (List AttributeTypeAndValue)) → x ≡ spelling name c.tbs_certificate.issuer → Spells name above y → IsTrue (not (bytes_eq x y)) ↔ (c.tbs_certificate.issuer ≢ above)
   other_issuer x y above is so = differ _ (same_bytes name rdn_sequence_lawful _ _ issuer_good so.0 x y is so.1)
+
+pub same_names : (v w : List (List AttributeTypeAndValue)) (x y : List ℕ) → Spells name v x → Spells name w y → (bytes_eq x y ≡ true) ↔ (v ≡ w)
+same_names v w x y is so = same_bytes name rdn_sequence_lawful v w is.0 so.0 x y is.1 so.1

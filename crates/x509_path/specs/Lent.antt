@@ -8,7 +8,7 @@ use Rattle.x509_cert.specs.name.Names.{name}
 use Rattle.x509_check.specs.ExtensionRefs.{lent_extension}
 use Rattle.x509_check.specs.declared.lent.extension.ExtensionRef.{ExtensionRef}
 use Rattle.x509_path.specs.Certificates.{Certificate}
-use Rattle.x509_path.specs.declared.above.Above.{Above}
+use Rattle.x509_path.specs.declared.anchor_ref.AnchorRef.{AnchorRef}
 use Rattle.x509_path.specs.declared.anchor.Anchor.{Anchor}
 
 -- the bytes are those of the certificate
@@ -20,10 +20,10 @@ abbrev pub lent_extensions : List ExtensionRef → List Extension
 lent_extensions refs = map lent_extension refs
 
 -- the name and the key that are lent
-abbrev pub LendsAnchor : Above → Anchor → Type 0
+abbrev pub LendsAnchor : AnchorRef → Anchor → Type 0
 LendsAnchor lent above = Spells name above.name lent.name.now × Spells subject_public_key_info above.key lent.key.now
 
--- the same of what stands above a certificate: the anchor itself, where nothing is lent
-abbrev pub StandsAbove : Anchor → Option Above → Anchor → Type 0
-StandsAbove anchor None above = above ≡ anchor
-StandsAbove anchor (Some lent) above = LendsAnchor lent above
+-- the same of what stands above a certificate: an anchor, where nothing is lent
+abbrev pub StandsAbove : (Anchor → Type 0) → Option AnchorRef → Anchor → Type 0
+StandsAbove is_anchor None above = is_anchor above
+StandsAbove is_anchor (Some lent) above = LendsAnchor lent above

@@ -6,14 +6,14 @@ ghost use Rattle.x509_cert.specs.base.AlgorithmIdentifier.{algorithm_identifier}
 ghost use Rattle.x509_cert.specs.der.Form.{Spells};
 ghost use Rattle.x509_cert.specs.prim.BitString.{bit_string};
 ghost use Rattle.x509_path.specs.Certificates as certificates;
-ghost use Rattle.x509_path.specs.Lent.{Lends, LendsAnchor, StandsAbove, lent_extensions};
-ghost use Rattle.x509_path.specs.Path.{Breaks, subject_of};
+ghost use Rattle.x509_path.specs.Lent.{Lends, lent_extensions};
+ghost use Rattle.x509_path.specs.Path.{Breaks};
 ghost use Rattle.x509_path.specs.PathLength.{HasConstraints, IsOver, Judges, Leaves, narrowed, standing};
 ghost use Rattle.x509_path.specs.declared.anchor.Anchor.{Anchor};
 ghost use Rattle.x509_path.specs.declared.fault.PathFault.TheVariants.{Memory, At};
 ghost use Rattle.x509_path.specs.declared.fault.PathReason.TheVariants as reasons;
 
-use crate::above::Above;
+use crate::anchor_ref::AnchorRef;
 use crate::extensions::{
     are_handled, basic_constraints, collect, front, gather, is_ca, is_repeated,
     lacks_key_cert_sign, path_len, places,
@@ -43,23 +43,13 @@ const REASONS: [PathReason; 9] = [
 #[derive(Clone, Copy)]
 pub(crate) struct Place<'a> {
     /// What the certificate above it lends; `None` below the anchor.
-    pub(crate) above: Option<Above<'a>>,
+    pub(crate) above: Option<AnchorRef<'a>>,
 
     /// How many certificates that aren't self-issued may follow, where that is limited.
     pub(crate) max_path_length: Option<u8>,
 
     /// Whether it is the last.
     pub(crate) is_last: bool,
-}
-
-/// The name and the key that the certificate gives to the next one.
-pub(crate) fn above_next<'a>(certificate: &CertificateRef<'a>) -> Above<'a>
-    ensures { (c : certificates.Certificate) → Lends certificate.now.bytes.now c → LendsAnchor result (subject_of c) }
-{
-    Above {
-        name: certificate.subject(),
-        key: certificate.subject_public_key_info(),
-    }
 }
 
 /// Whether the algorithm in the signed part isn't the one outside it.
@@ -197,7 +187,7 @@ impl<T: Trust> Judge<'_, T> {
         certificate: &CertificateRef<'_>,
     ) -> Result<bool, PathFault>
         ensures ok { IfOk result (λ b. (c : certificates.Certificate) (above : Anchor) → Lends certificate.now.bytes.now c
-            → StandsAbove (T.anchor self.now.trust.now) place.now.above above → IsTrue b ↔ (c.tbs_certificate.issuer ≢ above.name)) }
+            → StandsAbove (T.is_anchor self.now.trust.now) place.now.above above → IsTrue b ↔ (c.tbs_certificate.issuer ≢ above.name)) }
         ensures err { IfErr result (λ e. e ≡ Memory) }
     {
         match &place.above {
@@ -216,7 +206,7 @@ impl<T: Trust> Judge<'_, T> {
         certificate: &CertificateRef<'_>,
     ) -> Result<bool, PathFault>
         ensures ok { IfOk result (λ b. (c : certificates.Certificate) (above : Anchor) → Lends certificate.now.bytes.now c
-            → StandsAbove (T.anchor self.now.trust.now) place.now.above above
+            → StandsAbove (T.is_anchor self.now.trust.now) place.now.above above
             → IsTrue b ↔ certificates.IsSigned (T.accepts self.now.trust.now) above.key certificate.now.bytes.now c) }
         ensures err { IfErr result (λ e. e ≡ Memory) }
     {
@@ -236,7 +226,7 @@ impl<T: Trust> Judge<'_, T> {
         ensures ok { IfOk result (λ b. (c : certificates.Certificate) (above : Anchor) → Lends lent.now.certificate.now.bytes.now c
             → lent_extensions lent.now.extensions.now ≡ certificates.extensions_of c
             → (place.now.is_last ≡ false → HasConstraints (certificates.extensions_of c) lent.now.constraints)
-            → StandsAbove (T.anchor self.now.trust.now) place.now.above above
+            → StandsAbove (T.is_anchor self.now.trust.now) place.now.above above
             → (before : List certificates.Certificate) → Leaves before place.now.max_path_length → IsTrue b
             ↔ Breaks (T.accepts self.now.trust.now) self.now.moment (standing above.name above.key before place.now.is_last) lent.now.certificate.now.bytes.now c
             reason) }
@@ -272,7 +262,7 @@ impl<T: Trust> Judge<'_, T> {
         index: usize,
     ) -> Result<Option<BasicConstraints>, PathFault>
         ensures { (c : certificates.Certificate) (above : Anchor) → Lends certificate.now.bytes.now c → lent_extensions extensions.now ≡ certificates.extensions_of c
-            → StandsAbove (T.anchor self.now.trust.now) place.now.above above → (before : List certificates.Certificate)
+            → StandsAbove (T.is_anchor self.now.trust.now) place.now.above above → (before : List certificates.Certificate)
             → Leaves before place.now.max_path_length → MatchResult result
             (λ constraints. (place.now.is_last ≡ false → HasConstraints (certificates.extensions_of c) constraints)
             × Judges (T.accepts self.now.trust.now) self.now.moment (standing above.name above.key before place.now.is_last) certificate.now.bytes.now index
@@ -305,7 +295,7 @@ impl<T: Trust> Judge<'_, T> {
         index: usize,
     ) -> Result<Option<BasicConstraints>, PathFault>
         ensures { (c : certificates.Certificate) (above : Anchor) → Lends certificate.now.bytes.now c
-            → StandsAbove (T.anchor self.now.trust.now) place.now.above above → (before : List certificates.Certificate)
+            → StandsAbove (T.is_anchor self.now.trust.now) place.now.above above → (before : List certificates.Certificate)
             → Leaves before place.now.max_path_length → MatchResult result
             (λ constraints. (place.now.is_last ≡ false → HasConstraints (certificates.extensions_of c) constraints)
             × Judges (T.accepts self.now.trust.now) self.now.moment (standing above.name above.key before place.now.is_last) certificate.now.bytes.now index
@@ -328,7 +318,7 @@ impl<T: Trust> Judge<'_, T> {
         index: usize,
     ) -> Result<Option<BasicConstraints>, PathFault>
         ensures { (c : certificates.Certificate) (above : Anchor) → Lends certificate.now.bytes.now c
-            → StandsAbove (T.anchor self.now.trust.now) place.now.above above → (before : List certificates.Certificate)
+            → StandsAbove (T.is_anchor self.now.trust.now) place.now.above above → (before : List certificates.Certificate)
             → Leaves before place.now.max_path_length → MatchResult result
             (λ constraints. (place.now.is_last ≡ false → HasConstraints (certificates.extensions_of c) constraints)
             × Judges (T.accepts self.now.trust.now) self.now.moment (standing above.name above.key before place.now.is_last) certificate.now.bytes.now index
@@ -353,7 +343,7 @@ impl<T: Trust> Judge<'_, T> {
         index: usize,
     ) -> Result<Option<BasicConstraints>, PathFault>
         ensures { (c : certificates.Certificate) (above : Anchor) → Lends certificate.now.bytes.now c
-            → StandsAbove (T.anchor self.now.trust.now) place.now.above above → (before : List certificates.Certificate)
+            → StandsAbove (T.is_anchor self.now.trust.now) place.now.above above → (before : List certificates.Certificate)
             → Leaves before place.now.max_path_length → MatchResult result
             (λ constraints. (place.now.is_last ≡ false → HasConstraints (certificates.extensions_of c) constraints)
             × Judges (T.accepts self.now.trust.now) self.now.moment (standing above.name above.key before place.now.is_last) certificate.now.bytes.now index
@@ -372,7 +362,7 @@ impl<T: Trust> Judge<'_, T> {
         bytes: &'a [u8],
         index: usize,
     ) -> Result<Judged<'a>, PathFault>
-        ensures { (above : Anchor) → StandsAbove (T.anchor self.now.trust.now) place.now.above above → (before : List certificates.Certificate)
+        ensures { (above : Anchor) → StandsAbove (T.is_anchor self.now.trust.now) place.now.above above → (before : List certificates.Certificate)
             → Leaves before place.now.max_path_length → MatchResult result
             (λ judged. (c : certificates.Certificate) × Lends judged.certificate.bytes.now c
             × (place.now.is_last ≡ false → HasConstraints (certificates.extensions_of c) judged.constraints)

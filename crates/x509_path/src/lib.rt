@@ -6,8 +6,8 @@
 //! `docs/MAP.md`.
 #![tactic(auto)]
 
-mod above;
 mod anchor;
+mod anchor_ref;
 mod extensions;
 mod fault;
 mod judge;
@@ -17,6 +17,7 @@ mod trust;
 mod verifier;
 
 pub use anchor::Anchor;
+pub use anchor_ref::AnchorRef;
 pub use fault::{PathFault, PathReason};
-pub use path::{check_path, check_path_slices};
-pub use verifier::{AnySignature, Verifier};
+pub use path::{check_path, check_path_lent, check_path_slices};
+pub use verifier::{AnySignature, SliceVerifier, Verifier};

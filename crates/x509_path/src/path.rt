@@ -1,14 +1,16 @@
 //! Checking a path.
 
 ghost use Rattle.std.specs.Prelude.{◌≡◌, map, IfOk, List, ℕ};
+ghost use Rattle.x509_path.specs.Lent.{LendsAnchor};
 ghost use Rattle.x509_path.specs.Path.{Answers};
+ghost use Rattle.x509_path.specs.declared.anchor.Anchor as anchors;
 
-use crate::above::Above;
 use crate::anchor::Anchor;
+use crate::anchor_ref::AnchorRef;
 use crate::fault::PathFault;
-use crate::judge::{Judge, Place, above_next, max_path_length_behind};
-use crate::trust::{Trust, Values};
-use crate::verifier::Verifier;
+use crate::judge::{Judge, Place, max_path_length_behind};
+use crate::trust::{Slices, Trust, Values};
+use crate::verifier::{SliceVerifier, Verifier};
 use std::alloc::{AllocError, Global};
 use x509_cert::time::DateTime;
 
@@ -30,7 +32,7 @@ fn walk<T: Trust>(
     path: &[&[u8]],
     moment: DateTime,
 ) -> Result<(), PathFault>
-    ensures { Answers (T.accepts trust.now) moment (T.anchor trust.now) (map (λ input. input.now) path.now) result }
+    ensures { (anchor : anchors.Anchor) → T.is_anchor trust.now anchor → Answers (T.accepts trust.now) moment anchor (map (λ input. input.now) path.now) result }
 {
     if path.is_empty() {
         return Err(PathFault::Empty);
@@ -40,7 +42,7 @@ fn walk<T: Trust>(
         trust,
         moment,
     };
-    let mut above: Option<Above<'_>> = None;
+    let mut above: Option<AnchorRef<'_>> = None;
     let mut max_path_length: Option<u8> = None;
     for (index, bytes) in path.iter().enumerate() {
         let is_last = index + 1 == path.len();
@@ -56,7 +58,7 @@ fn walk<T: Trust>(
                     &judged.certificate,
                     judged.constraints,
                 );
-                above = Some(above_next(&judged.certificate));
+                above = Some(AnchorRef::from_certificate(&judged.certificate));
             }
             Err(e) => return Err(e),
         }
@@ -107,5 +109,24 @@ pub fn check_path_slices<V: Verifier>(
     ensures { Answers (V.accepts verifier.now) moment anchor.now (map (λ input. input.now) path.now) result }
 {
     let trust = Values { anchor, verifier };
+    walk(alloc, &trust, path, moment)
+}
+
+/// [`check_path_slices`] under an anchor that is lent, with a verifier that is handed encodings. Memory is taken only for
+/// a certificate of more than 16 extensions, whose OIDs are sorted.
+///
+/// # Errors
+///
+/// Those of [`check_path`].
+pub fn check_path_lent<V: SliceVerifier>(
+    alloc: Global,
+    anchor: &AnchorRef<'_>,
+    path: &[&[u8]],
+    moment: DateTime,
+    verifier: &V,
+) -> Result<(), PathFault>
+    ensures { (value : anchors.Anchor) → LendsAnchor anchor.now value → Answers (V.accepts verifier.now) moment value (map (λ input. input.now) path.now) result }
+{
+    let trust = Slices { anchor, verifier };
     walk(alloc, &trust, path, moment)
 }

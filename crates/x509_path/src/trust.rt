@@ -4,10 +4,10 @@ ghost use Rattle.std.specs.Prelude.{◌≡◌, IfOk, IfErr};
 ghost use Rattle.x509_cert.specs.der.Form.{Spells};
 ghost use Rattle.x509_path.specs.declared.fault.PathFault.TheVariants.{Memory};
 
-use crate::above::Above;
 use crate::anchor::Anchor;
+use crate::anchor_ref::AnchorRef;
 use crate::fault::PathFault;
-use crate::verifier::Verifier;
+use crate::verifier::{SliceVerifier, Verifier};
 use std::alloc::Global;
 use x509_cert::der::Decode;
 use x509_cert::der::asn1::BitString;
@@ -42,27 +42,27 @@ pub(crate) trait Trust {
     ghost use Rattle.x509_path.specs.declared.anchor.Anchor as anchors;
     ghost use Rattle.x509_path.specs.declared.fault.PathFault.TheVariants.{Memory};
 
-    /// The anchor.
-    ghost anchor: { Self → anchors.Anchor };
+    /// Whether it is the anchor.
+    ghost is_anchor: { Self → anchors.Anchor → Type 0 };
 
     /// What the verifier answers.
     ghost accepts: { Self → Accepting };
 
     /// Whether the bytes, which are a name's, are that of the anchor's name.
     fn is_name(&self, alloc: Global, bytes: &[u8]) -> Result<bool, PathFault>
-        ensures ok { IfOk result (λ b. (value : List (List attributes.AttributeTypeAndValue)) → Spells name value bytes.now
-            → IsTrue b ↔ (value ≡ (anchor self.now).name)) }
+        ensures ok { IfOk result (λ b. (value : List (List attributes.AttributeTypeAndValue)) (above : anchors.Anchor) → Spells name value bytes.now
+            → is_anchor self.now above → IsTrue b ↔ (value ≡ above.name)) }
         ensures err { IfErr result (λ e. e ≡ Memory) };
 
     /// Whether the verifier accepts the signature for the key of what stands above.
     fn verify(
         &self,
         alloc: Global,
-        above: &Option<Above<'_>>,
+        above: &Option<AnchorRef<'_>>,
         signed: &Signed<'_>,
     ) -> Result<bool, PathFault>
         ensures ok { IfOk result (λ b. (over : anchors.Anchor) (algorithm : algorithms.AlgorithmIdentifier) (bits : BitParts)
-            → StandsAbove (anchor self.now) above.now over → Spells algorithm_identifier algorithm signed.now.algorithm.now
+            → StandsAbove (is_anchor self.now) above.now over → Spells algorithm_identifier algorithm signed.now.algorithm.now
             → Spells bit_string bits signed.now.signature.now → b ≡ accepts self.now algorithm over.key signed.now.message.now bits) }
         ensures err { IfErr result (λ e. e ≡ Memory) };
 }
@@ -89,7 +89,9 @@ fn value_of<T: Decode>(alloc: Global, bytes: &[u8]) -> Result<T, PathFault>
 }
 
 impl<V: Verifier> Trust for Values<'_, V> {
-    ghost anchor = { λ trust. trust.anchor.now };
+    ghost use Rattle.std.specs.Prelude.{◌≡◌};
+
+    ghost is_anchor = { λ trust anchor. anchor ≡ trust.anchor.now };
 
     ghost accepts = { λ trust. V.accepts trust.verifier.now };
 
@@ -102,7 +104,7 @@ impl<V: Verifier> Trust for Values<'_, V> {
     fn verify(
         &self,
         alloc: Global,
-        above: &Option<Above<'_>>,
+        above: &Option<AnchorRef<'_>>,
         signed: &Signed<'_>,
     ) -> Result<bool, PathFault> {
         let algorithm = value_of::<AlgorithmIdentifier>(alloc, signed.algorithm)?;
@@ -120,5 +122,43 @@ impl<V: Verifier> Trust for Values<'_, V> {
                     .verify(&algorithm, &self.anchor.key, signed.message, &signature),
             ),
         }
+    }
+}
+
+/// An anchor and a verifier, which are handed encodings.
+#[derive(Drop)]
+pub(crate) struct Slices<'a, V> {
+    /// The anchor.
+    pub(crate) anchor: &'a AnchorRef<'a>,
+
+    /// The verifier.
+    pub(crate) verifier: &'a V,
+}
+
+impl<V: SliceVerifier> Trust for Slices<'_, V> {
+    ghost use Rattle.x509_path.specs.Lent.{LendsAnchor};
+
+    ghost is_anchor = { λ trust anchor. LendsAnchor trust.anchor.now anchor };
+
+    ghost accepts = { λ trust. V.accepts trust.verifier.now };
+
+    fn is_name(&self, _alloc: Global, bytes: &[u8]) -> Result<bool, PathFault> {
+        Ok(bytes == self.anchor.name)
+    }
+
+    fn verify(
+        &self,
+        _alloc: Global,
+        above: &Option<AnchorRef<'_>>,
+        signed: &Signed<'_>,
+    ) -> Result<bool, PathFault> {
+        let key = match above {
+            Some(above) => above.key,
+            None => self.anchor.key,
+        };
+        Ok(
+            self.verifier
+                .verify(signed.algorithm, key, signed.message, signed.signature),
+        )
     }
 }

@@ -9,44 +9,42 @@ abbrev nothing : Bor (List ℕ)
 nothing = record { ref_ptr = (0, 0); now = [] }
 
 pub returns-in-Err : goal.returns-in-Err
-returns-in-Err g c =
+returns-in-Err g c = λ anchor is.
     let accepts = g.T.Trust.accepts c.args.trust.now in
-    let anchor = g.T.Trust.anchor c.args.trust.now in
     let inputs = map (λ (input : Bor (List ℕ)). input.now) c.args.path.now in
     let bytes = (get_or c.args.path.now c.loop-index.index nothing).now in
     let input = given_at (λ (input : Bor (List ℕ)). input.now) c.args.path.now c.loop-index.index nothing c.loop-index-test.true in
-    let over = c.loop-index.invariant.0 in
+    let over = (c.loop-index.invariant anchor is).0 in
     let above = anchor_behind anchor over in
-    let passed = c.loop-index.invariant.2 in
+    let passed = (c.loop-index.invariant anchor is).2 in
     let within : c.loop-index.index < length inputs = omega (arith, length-map c.args.path.now (λ (input : Bor (List ℕ)). input.now), c.loop-index-test.true) in
     let said = subst (λ (l : Bool). Judges accepts c.args.moment (standing above.name above.key passed.before l) bytes c.loop-index.index (Err c.in-Err.e)) (counted (λ (input : Bor (List ℕ)). input.now) c.args.path.now c.loop-index.index)
-    (c.in-Err.ensures above c.loop-index.invariant.1 passed.before (passed.leaves within)) in
+    (c.in-Err.ensures above (c.loop-index.invariant anchor is).1 passed.before (passed.leaves within)) in
     refused accepts c.args.moment anchor inputs c.loop-index.index over c.loop-index.max_path_length bytes passed input c.in-Err.e (some_left (λ (input : Bor (List ℕ)). input.now) c.args.path.now c.if-is_empty.ensures) said
 
 pub loop-index-preserved : goal.loop-index-preserved
-loop-index-preserved g c =
+loop-index-preserved g c = λ anchor is.
     let accepts = g.T.Trust.accepts c.args.trust.now in
-    let anchor = g.T.Trust.anchor c.args.trust.now in
     let inputs = map (λ (input : Bor (List ℕ)). input.now) c.args.path.now in
     let bytes = (get_or c.args.path.now c.loop-index.index nothing).now in
     let input = given_at (λ (input : Bor (List ℕ)). input.now) c.args.path.now c.loop-index.index nothing c.loop-index-test.true in
-    let over = c.loop-index.invariant.0 in
+    let over = (c.loop-index.invariant anchor is).0 in
     let above = anchor_behind anchor over in
-    let passed = c.loop-index.invariant.2 in
+    let passed = (c.loop-index.invariant anchor is).2 in
     let within : c.loop-index.index < length inputs = omega (arith, length-map c.args.path.now (λ (input : Bor (List ℕ)). input.now), c.loop-index-test.true) in
     let counts = counted (λ (input : Bor (List ℕ)). input.now) c.args.path.now c.loop-index.index in
-    let judged = c.in-Ok.ensures above c.loop-index.invariant.1 passed.before (passed.leaves within) in
+    let judged = c.in-Ok.ensures above (c.loop-index.invariant anchor is).1 passed.before (passed.leaves within) in
     let certificate = judged.0 in
     let lends = judged.1 in
     let said = subst (λ (l : Bool). Judges accepts c.args.moment (standing above.name above.key passed.before l) bytes c.loop-index.index (Ok certificate)) counts judged.3 in (
       Some certificate,
-      c.above_next.ensures certificate lends,
+      c.from_certificate.ensures certificate lends,
       further accepts c.args.moment anchor inputs c.loop-index.index over c.loop-index.max_path_length bytes passed input certificate c.max_path_length_behind-max_path_length.result said
           (λ early. c.max_path_length_behind-max_path_length.ensures certificate lends (judged.2 (counts ∙ early))),
     )
 
 pub returns : goal.returns
-returns g c =
-    let inv = c.loop-index.invariant in
-    done (g.T.Trust.accepts c.args.trust.now) c.args.moment (g.T.Trust.anchor c.args.trust.now) (map (λ (input : Bor (List ℕ)). input.now) c.args.path.now) c.loop-index.index inv.0 c.loop-index.max_path_length inv.2
+returns g c = λ anchor is.
+    let inv = (c.loop-index.invariant anchor is) in
+    done (g.T.Trust.accepts c.args.trust.now) c.args.moment anchor (map (λ (input : Bor (List ℕ)). input.now) c.args.path.now) c.loop-index.index inv.0 c.loop-index.max_path_length inv.2
     (omega (arith, length-map c.args.path.now (λ (input : Bor (List ℕ)). input.now), c.loop-index-test.false)) (some_left (λ (input : Bor (List ℕ)). input.now) c.args.path.now c.if-is_empty.ensures)

@@ -1,5 +1,5 @@
 use Rattle.x509_path.proofs.Lent.{key_spells, subject_spells}
-use Rattle.x509_path.proofs.judge.above_next.Goals as goal
+use Rattle.x509_path.proofs.anchor_ref.AnchorRef.from_certificate.Goals as goal
 
 pub returns : goal.returns
 returns c = λ certificate lends. (
