@@ -1,5 +1,5 @@
 -- What a certificate's bytes lend spells its parts, and is compared as they are.
-use Rattle.std.proofs.Common.{◌≡◌, ◌≢◌, ◌↔◌, ◌∙◌, ℕ, ◌≤◌, Bool, true, false, not, List, ◌++◌, length, refl, sym, ap, subst, arith, length-append, bytes_eq}
+use Rattle.std.proofs.Common.{◌≡◌, ◌≢◌, ◌↔◌, ◌∙◌, ℕ, ◌≤◌, Bool, true, false, not, List, ◌++◌, length, refl, sym, ap, arith, length-append, bytes_eq}
 use Rattle.std.specs.Bool.{IsTrue}
 use Rattle.std.proofs.lemmas.Bool.{true≢false}
 use Rattle.std.proofs.lemmas.Slice.Eq.{bytes_eq-Decides}
@@ -9,7 +9,7 @@ use Rattle.x509_cert.specs.base.SubjectPublicKeyInfo.{subject_public_key_info}
 use Rattle.x509_cert.proofs.CertificateSignedPart.{stands}
 use Rattle.x509_cert.proofs.Spellings.{certificate_found}
 use Rattle.x509_cert.specs.Certificate.{certificate_fields, rfc5280_certificate}
-use Rattle.x509_cert.specs.Elements.{HasCertificateElements, HasTbsElements, TbsElements, behind_octets, front_octets}
+use Rattle.x509_cert.specs.Elements.{HasCertificateElements, behind_octets, front_octets}
 use Rattle.x509_cert.specs.Spellings.{certificate_spellings, tbs_spellings}
 use Rattle.x509_cert.specs.TbsCertificate.{tbs_certificate_fields}
 use Rattle.x509_cert.specs.der.Element.{element, limit}

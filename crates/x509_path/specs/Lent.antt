@@ -1,5 +1,5 @@
 -- What a certificate's bytes lend to the check of a path.
-use Rattle.std.specs.Prelude.{◌≡◌, ℕ, List, map, Option, Some, None}
+use Rattle.std.specs.Prelude.{ℕ, List, map, Option, Some, None}
 use Rattle.x509_cert.specs.Certificate.{rfc5280_certificate}
 use Rattle.x509_cert.specs.base.SubjectPublicKeyInfo.{subject_public_key_info}
 use Rattle.x509_cert.specs.der.Form.{Spells}

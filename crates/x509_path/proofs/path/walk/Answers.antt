@@ -1,4 +1,4 @@
-use Rattle.std.proofs.Common.{◌≡◌, ◌∙◌, ◌+◌, ◌<◌, ◌==◌, Bool, List, [], ℕ, Bor, Ok, Err, Some, None, false, length, map, get_or, refl, subst, arith}
+use Rattle.std.proofs.Common.{◌∙◌, ◌<◌, Bool, List, [], ℕ, Bor, Ok, Err, Some, length, map, get_or, subst, arith}
 use Rattle.std.proofs.lemmas.List.{length-map}
 use Rattle.x509_path.specs.PathLength.{Judges, anchor_behind, standing}
 use Rattle.x509_path.proofs.Places.{counted, done, further, given_at, refused, some_left}
