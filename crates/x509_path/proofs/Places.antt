@@ -1,14 +1,12 @@
 -- Going down a path.
-use Rattle.std.proofs.Common.{◌≡◌, ◌≢◌, ◌↔◌, ◌∙◌, ℕ, zero, suc, ◌+◌, ◌<◌, ◌≤◌, ◌==◌, inl, inr, Bool, false, List, [], ◌∷◌, ◌++◌, length, drop, slice_get, get_or, map, Option, Some, None, Result, Err, Ok, refl, sym, ap, subst, arith}
+use Rattle.std.proofs.Common.{◌≡◌, ◌≢◌, ◌↔◌, ◌∙◌, ℕ, zero, suc, ◌+◌, ◌<◌, ◌≤◌, ◌==◌, inl, inr, Bool, false, List, [], ◌∷◌, ◌++◌, length, drop, slice_get, get_or, map, Option, Some, None, Err, Ok, refl, sym, ap, subst, arith}
 use Rattle.std.proofs.Math.Nat.{eq-or-lt_of_le}
 use Rattle.std.proofs.Math.Seq.{drop-cons}
 use Rattle.std.proofs.lemmas.Bool.{true≢false, cases_lt}
 use Rattle.std.proofs.lemmas.List.{length-map, length-drop}
 use Rattle.std.proofs.lemmas.Option.{slice_get_within, slice_get-get_or, slice_get-map, get_or_from_slice_get}
 use Rattle.std.specs.Option.{option_map}
-use Rattle.x509_cert.specs.base.declared.subject_public_key_info.SubjectPublicKeyInfo.{SubjectPublicKeyInfo}
 use Rattle.x509_cert.specs.base.CivilTime.{CivilTime}
-use Rattle.x509_cert.specs.name.declared.attr.type_and_value.AttributeTypeAndValue.{AttributeTypeAndValue}
 use Rattle.x509_cert.specs.base.Profiles.{rfc5280_serial_number}
 use Rattle.x509_cert.specs.Certificate.{certificate_lawful, rfc5280_certificate}
 use Rattle.x509_cert.specs.der.Form.{Spells}
@@ -100,19 +98,6 @@ module _ (accepts : Accepting) (moment : CivilTime) where
 
       local : (r : PathReason) → HasFault accepts moment anchor inputs i r ↔ IsFault accepts moment here bytes r
       local r = subst (λ is_last. HasFault accepts moment anchor inputs i r ↔ At_last is_last r) (sym (last inputs i within)) (left i 0 (omega arith) r)
-
-      -- what was said of the input where it was judged
-      pub judged : (name : List (List AttributeTypeAndValue)) (key : SubjectPublicKeyInfo) (left_length : Option ℕ) (is_last : Bool) (octets : List ℕ) (answer : Result Certificate PathFault)
-          → name ≡ (anchor_behind anchor above).name → key ≡ (anchor_behind anchor above).key → left_length ≡ max_path_length → is_last ≡ (i + 1 == length inputs) → octets ≡ bytes
-          → ((before : List Certificate) → Leaves before left_length → Judges accepts moment (standing name key before is_last) octets i answer)
-          → Judges accepts moment here bytes i answer
-      judged name key left_length is_last octets answer names keys lengths lasts same said =
-          let leaves : Leaves passed.before left_length = subst (λ l. Leaves passed.before l) (sym lengths) (passed.leaves within) in
-          let a = said passed.before leaves in
-          let b = subst (λ n. Judges accepts moment (standing n key passed.before is_last) octets i answer) names a in
-          let c = subst (λ k. Judges accepts moment (standing (anchor_behind anchor above).name k passed.before is_last) octets i answer) keys b in
-          let d = subst (λ l. Judges accepts moment (standing (anchor_behind anchor above).name (anchor_behind anchor above).key passed.before l) octets i answer) lasts c in
-          subst (λ o. Judges accepts moment here o i answer) same d
 
       first_fault : (r : PathReason) → IsFirst (IsFault accepts moment here bytes) r → IsFirstFault accepts moment anchor inputs i r
       first_fault r h = record {

@@ -68,8 +68,9 @@ fn walk<T: Trust>(
 
 /// Checks the certificates of a path, the topmost first, at that time (RFC 5280 6.1): the first under the anchor's name
 /// and key, each other one under the subject and the key of the one before it. Each signature is verified over the
-/// bytes of the input; nothing is encoded again. It goes over the path once; the values of at most two certificates,
-/// one and the one above it, are in memory at a time.
+/// bytes of the input; nothing is encoded again. It goes over the path once, and certificates aren't decoded: values are
+/// made of what the verifier is handed and of the first issuer's name, and memory is taken else only for a certificate of
+/// more than 16 extensions and for a slice of each input.
 ///
 /// # Errors
 ///
