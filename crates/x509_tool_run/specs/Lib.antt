@@ -5,3 +5,5 @@ pub mod Answer
 pub mod Path
 pub mod Program
 pub mod Words
+pub mod Version
+pub mod Information

@@ -5,16 +5,20 @@
 
 mod arguments;
 mod command;
+mod information;
 mod input;
 pub mod laws;
 mod output;
 mod path;
 mod program;
 mod refusal;
+mod version;
 
 pub use arguments::{Arguments, words};
 pub use command::{Command, Kind, path_moment};
+pub use information::Information;
 pub use input::{INPUT_LIMIT, READ_LIMIT, ReadError, Source, read_input};
-pub use output::{Sink, WriteError, write_text};
+pub use output::{Sink, WriteError, write_text, write_texts};
 pub use program::{bytes_of, refuse_memory, run};
 pub use refusal::Refusal;
+pub use version::VERSION;

@@ -1,5 +1,6 @@
 //! Writing the line out.
 
+ghost use Rattle.std.specs.List.{flat_map};
 ghost use Rattle.std.specs.Prelude.{◌≡◌, ◌<◌, ◌≤◌, ℕ, List, length, Option, IfOk, OnOk, OnErr};
 ghost use Rattle.x509_tool_run.specs.Transfer.{moved, WriteTakes};
 ghost use Rattle.x509_tool_run.specs.Program.{IsWritten, IsCutOff};
@@ -51,6 +52,23 @@ pub fn write_text<W: Sink>(writer: &mut W, text: &[u8]) -> Result<(), WriteError
             Ok(0) => return Err(WriteError),
             Ok(count) => rest = &rest[count..],
             Err(WriteError) => return Err(WriteError),
+        }
+    }
+    Ok(())
+}
+
+/// Writes texts one behind the other, up to the first write that fails or takes no bytes.
+///
+/// # Errors
+///
+/// [`WriteError`] where a write fails or takes no bytes; then a part of the texts may be written.
+pub fn write_texts<W: Sink>(writer: &mut W, texts: &[&[u8]]) -> Result<(), WriteError>
+    ensures ok { OnOk result (IsWritten W.takes writer.old (flat_map (λ text. text.now) texts.now) writer.new) }
+    ensures err { OnErr result (IsCutOff W.takes writer.old (flat_map (λ text. text.now) texts.now) writer.new) }
+{
+    for text in texts {
+        if let Err(WriteError) = write_text(writer, text) {
+            return Err(WriteError);
         }
     }
     Ok(())

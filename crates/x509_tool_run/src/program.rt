@@ -6,10 +6,12 @@ ghost use Rattle.hex.specs.Hex.{decode_of, encode_upper};
 ghost use Rattle.x509_der.specs.declared.error.ErrorKind.TheVariants.{Memory, Failed};
 ghost use Rattle.x509_tool_run.specs.declared.refusal.Refusal.TheVariants.{Because};
 ghost use Rattle.x509_tool_run.specs.Command.{command_of, moment_of, type_name};
+ghost use Rattle.x509_tool_run.specs.Information.{information_of, information_text};
 ghost use Rattle.x509_tool_run.specs.Answer.{IsFromHex, IsFromText, IsLine, IsLineAnswer, IsReencoded, IsShown, as_line, codecs_of, line_of, text_of, usage};
 ghost use Rattle.x509_tool_run.specs.Program.{Says, Answers, ChecksPath, Obeys};
 
 use crate::command::{Command, Kind, path_moment};
+use crate::information::{Information, tell};
 use crate::input::{Source, read_input};
 use crate::output::{Sink, WriteError, write_text};
 use crate::path::read_and_check;
@@ -119,7 +121,7 @@ fn answer<C: Codec + NameCodec>(
 }
 
 /// Writes a line, and answers the status: 1 where it can't be written.
-fn say<W: Sink>(writer: &mut W, line: &[u8], status: u8) -> u8
+pub(crate) fn say<W: Sink>(writer: &mut W, line: &[u8], status: u8) -> u8
     ensures { (text : List ℕ) → line.now ≡ as_line text
         → Says W.takes writer.old text status writer.new result }
 {
@@ -169,6 +171,18 @@ pub fn refuse_memory<W: Sink>(writer: &mut W) -> u8
     say(writer, Refusal::Because(ErrorKind::Memory).line(), 1)
 }
 
+/// Writes what the words ask about the program, or how it is called, and answers the status.
+fn tell_of_itself<W: Sink>(writer: &mut W, words: &[String]) -> u8
+    ensures informs { IfSome (information_of (map string_bytes words.now)) (λ asked.
+        Says W.takes writer.old (information_text asked) 0 writer.new result) }
+    ensures usage { information_of (map string_bytes words.now) ≡ None → Says W.takes writer.old usage 2 writer.new result }
+{
+    match Information::from_words(words) {
+        Some(asked) => tell(writer, asked),
+        None => say(writer, USAGE, 2),
+    }
+}
+
 /// Does what the words ask for with the input of the reader, by the decoders, encoders and checker of `C`: writes one line to
 /// the writer, and answers the status.
 pub fn run<C: Codec + NameCodec + PathCodec, R: Source, W: Sink>(
@@ -180,8 +194,10 @@ pub fn run<C: Codec + NameCodec + PathCodec, R: Source, W: Sink>(
     // With other words nothing is read.
     ensures untouched { command_of (map string_bytes words.now) ≡ None → moment_of (map string_bytes words.now) ≡ None
         → reader.new ≡ reader.old }
+    ensures informs { IfSome (information_of (map string_bytes words.now)) (λ asked.
+        Says W.takes writer.old (information_text asked) 0 writer.new result) }
     ensures usage { command_of (map string_bytes words.now) ≡ None → moment_of (map string_bytes words.now) ≡ None
-        → Says W.takes writer.old usage 2 writer.new result }
+        → information_of (map string_bytes words.now) ≡ None → Says W.takes writer.old usage 2 writer.new result }
     ensures obeys { IfSome (command_of (map string_bytes words.now)) (λ command.
         Obeys (codecs_of C.reencodes C.prints_name C.encodes_name) command
         R.gives reader.old reader.new W.takes writer.old writer.new result) }
@@ -192,7 +208,7 @@ pub fn run<C: Codec + NameCodec + PathCodec, R: Source, W: Sink>(
         return check_and_say::<C, R, W>(alloc, moment, reader, writer);
     }
     let Some(command) = Command::from_words(words) else {
-        return say(writer, USAGE, 2);
+        return tell_of_itself(writer, words);
     };
     match read_and_answer::<C, R>(alloc, command, reader) {
         Ok(line) => say(writer, line.as_str().as_bytes(), 0),
