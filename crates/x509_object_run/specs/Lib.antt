@@ -1,1 +1,5 @@
+pub mod Words
+pub mod Labels
+pub mod Faults
 pub mod Object
+pub mod Program

@@ -1,10 +1,15 @@
--- What a program over one object prints of its input, and the status with which it ends.
-use Rattle.std.specs.Prelude.{◌≡◌, ◌⊎◌, ℕ, List, [], ◌++◌, not, filter, Option, Result, Ok, Err}
+-- What a program over objects prints of an input.
+use Rattle.std.specs.Prelude.{◌≡◌, ◌⊎◌, ℕ, Bool, true, false, List, [], ◌++◌, not, codes, filter, Option, Result, Ok, Err}
 use Rattle.std.specs.Char.{is_ascii_whitespace}
 use Rattle.hex.specs.Hex.{decode_of}
 use Rattle.hex.specs.declared.error.FromHexError.{FromHexError}
-use Rattle.x509_der.specs.declared.error.ErrorKind.TheVariants.{Memory, Overlength}
-use Rattle.x509_tool_run.specs.Answer.{as_line, text_of}
+use Rattle.x509_der.specs.declared.error.ErrorKind.TheVariants as kinds
+use Rattle.x509_object_run.specs.Faults.{looks_of}
+use Rattle.x509_object_run.specs.declared.fault.Fault.{Fault}
+use Rattle.x509_object_run.specs.declared.fault.Fault.TheVariants as faults
+use Rattle.x509_object_run.specs.declared.fault.PrintError.{PrintError}
+use Rattle.x509_object_run.specs.declared.fault.PrintError.TheVariants.{NoObject, Unwritten, Memory}
+use Rattle.x509_tool_run.specs.Answer.{as_line}
 use Rattle.x509_tool_run.specs.Input.{Input, Whole, TooLong, Unreadable, Unkept, IsRead}
 use Rattle.x509_tool_run.specs.Program.{IsWritten, IsCutOff}
 use Rattle.x509_tool_run.specs.declared.refusal.Refusal.{Refusal}
@@ -23,44 +28,83 @@ without_blanks input = filter (λ byte. not (is_ascii_whitespace byte)) input
 abbrev pub object_bytes : List ℕ → List ℕ
 object_bytes input = decoded_or input (decode_of (without_blanks input))
 
--- what a printer may print of bytes: a text, with a status
+-- how a stream may go from one state to another: bytes are moved, or a call fails
+abbrev pub Steps : Type 0 → Type 1
+Steps S = S → Option (List ℕ) → S → Type 0
+
+-- what may be printed of bytes: a text, with a status
 abbrev pub Prints : Type 1
 Prints = List ℕ → List ℕ → ℕ → Type 0
 
--- the line that tells of a refusal, and status 1
-abbrev pub Refuses : Refusal → List ℕ → ℕ → Type 0
-Refuses refusal text status = (text ≡ as_line (text_of (Err refusal))) × (status ≡ 1)
-
--- what is printed of an input
-abbrev pub IsPrinted : Prints → Input → List ℕ → ℕ → Type 0
-IsPrinted prints (Whole input) text status = prints (object_bytes input) text status
-IsPrinted prints TooLong text status = Refuses (Because Overlength) text status
-IsPrinted prints Unreadable text status = Refuses Read text status
-IsPrinted prints Unkept text status = Refuses (Because Memory) text status
-
--- a run ends by a text and a status, and by status 1 where the text can't be written
-abbrev pub Ends : {S : Type 0} → (S → Option (List ℕ) → S → Type 0) → S → List ℕ → ℕ → S → ℕ → Type 0
-Ends takes old text status new ended =
-    (IsWritten takes old text new × (ended ≡ status)) ⊎ (IsCutOff takes old text new × (ended ≡ 1))
-
--- the line that tells that memory was refused
-abbrev pub memory_line : List ℕ
-memory_line = as_line (text_of (Err (Because Memory)))
-
--- what stands in front of where memory was refused: nothing, or the front of a text that may be printed
+-- a front of a text that may be printed, or nothing
 abbrev pub IsFront : (List ℕ → ℕ → Type 0) → List ℕ → Type 0
 IsFront prints front = (front ≡ []) ⊎ ((rest : List ℕ) × (status : ℕ) × prints (front ++ rest) status)
 
--- a text that stops short since memory was refused: such a front, and the line that tells so, with status 1
-abbrev pub StopsShort : (List ℕ → ℕ → Type 0) → List ℕ → ℕ → Type 0
-StopsShort prints text status = (front : List ℕ) × IsFront prints front × (text ≡ front ++ memory_line) × (status ≡ 1)
+-- What printing bytes comes to. A text is written, and its status answered; or the bytes are no object, and nothing is written; or the
+-- output takes only a front of a text; or memory is refused behind such a front.
+abbrev pub IsPrinted : {W : Type 0} → (List ℕ → ℕ → Type 0) → Type 0 → Steps W → W → W → Result ℕ PrintError → Type 0
+IsPrinted prints is_none takes old new (Ok status) = (text : List ℕ) × prints text status × IsWritten takes old text new
+IsPrinted prints is_none takes old new (Err NoObject) = is_none × (new ≡ old)
+IsPrinted prints is_none takes old new (Err Unwritten) = (text : List ℕ) × (status : ℕ) × prints text status × IsCutOff takes old text new
+IsPrinted prints is_none takes old new (Err Memory) = (front : List ℕ) × IsFront prints front × IsWritten takes old front new
 
--- writes put out a text that may be printed, or one that stops short, and a run ends by it
-abbrev pub PrintsSo : {W : Type 0} → (List ℕ → ℕ → Type 0) → (W → Option (List ℕ) → W → Type 0) → W → W → ℕ → Type 0
-PrintsSo prints takes old new ended =
-    (text : List ℕ) × (status : ℕ) × (prints text status ⊎ StopsShort prints text status) × Ends takes old text status new ended
+-- that answer, where what the bytes look like is told besides
+abbrev pub with_looks : List ℕ → Result ℕ PrintError → Result ℕ Fault
+with_looks bytes (Ok status) = Ok status
+with_looks bytes (Err NoObject) = Err (faults.NoObject (looks_of bytes))
+with_looks bytes (Err Unwritten) = Err faults.Unwritten
+with_looks bytes (Err Memory) = Err faults.Memory
 
--- a run reads an input and prints what is printed of it, up to where memory was refused
-abbrev pub PrintsObject : {R W : Type 0} → Prints → (R → Option (List ℕ) → R → Type 0) → R → R → (W → Option (List ℕ) → W → Type 0) → W → W → ℕ → Type 0
-PrintsObject prints gives from to takes old new ended =
-    (input : Input) × IsRead gives from input to × PrintsSo (IsPrinted prints input) takes old new ended
+-- the line in front of what is printed of an input, where one is wanted
+abbrev pub heading : Bool → List ℕ → List ℕ
+heading true label = label ++ as_line (codes ":")
+heading false label = []
+
+-- What a printer says of its object. That bytes give a text and a status; that they are no object of its kind; how that is told;
+-- whether the objects of several inputs stand under headings.
+pub record Subject : Type 1 where
+  pub prints : Prints
+  pub is_none : List ℕ → Type 0
+  pub no_object : List ℕ
+  pub has_headings : Bool
+
+-- bytes are printed under a heading
+abbrev pub AreShown : {W : Type 0} → Subject → List ℕ → List ℕ → Steps W → W → W → Result ℕ Fault → Type 0
+AreShown {W} subject heading bytes takes old new result =
+    ((middle : W) × (printed : Result ℕ PrintError) × IsWritten takes old heading middle
+    × IsPrinted (subject.prints bytes) (subject.is_none bytes) takes middle new printed × (result ≡ with_looks bytes printed))
+    ⊎ (IsCutOff takes old heading new × (result ≡ Err faults.Unwritten))
+
+-- why an input isn't shown: it isn't read whole, or memory is refused
+abbrev pub unread_fault : Input → Fault
+unread_fault (Whole input) = faults.Memory
+unread_fault TooLong = faults.TooLong
+unread_fault Unreadable = faults.Unreadable
+unread_fault Unkept = faults.Memory
+
+-- why reading ends that a refusal tells of
+abbrev pub fault_of : Refusal → Fault
+fault_of Read = faults.Unreadable
+fault_of (Because kinds.Overlength) = faults.TooLong
+fault_of (Because kinds.Memory) = faults.Memory
+fault_of (Because kinds.Malformed) = faults.Memory
+fault_of (Because kinds.Failed) = faults.Memory
+fault_of (Because kinds.SetDuplicate) = faults.Memory
+fault_of (Because kinds.Value) = faults.Memory
+
+-- an input that is read whole is shown
+abbrev pub IsWholeShown : {W : Type 0} → Subject → List ℕ → Input → Steps W → W → W → Result ℕ Fault → Type 0
+IsWholeShown subject heading (Whole input) takes old new result = AreShown subject heading (object_bytes input) takes old new result
+IsWholeShown subject heading TooLong takes old new result = ⊥
+IsWholeShown subject heading Unreadable takes old new result = ⊥
+IsWholeShown subject heading Unkept takes old new result = ⊥
+
+-- or nothing is written
+abbrev pub IsInputShown : {W : Type 0} → Subject → List ℕ → Input → Steps W → W → W → Result ℕ Fault → Type 0
+IsInputShown subject heading input takes old new result =
+    IsWholeShown subject heading input takes old new result ⊎ ((new ≡ old) × (result ≡ Err (unread_fault input)))
+
+-- reads give an input, and what is printed of it is written
+abbrev pub IsSourceShown : {R W : Type 0} → Subject → List ℕ → Steps R → R → R → Steps W → W → W → Result ℕ Fault → Type 0
+IsSourceShown subject heading gives from to takes old new result =
+    (input : Input) × IsRead gives from input to × IsInputShown subject heading input takes old new result

@@ -1,11 +1,19 @@
-//! A program over one object: its words, its input, which is DER or hex text, what it prints, and its status. What it prints of the
-//! object is for a [`Printer`] to say. Words of our own are explained in `docs/MAP.md`.
+//! A program over objects: its words, its inputs, which are DER or hex text, what it prints, its messages, and its status. What it prints of
+//! an object is for a [`Printer`] to say. Words of our own are explained in `docs/MAP.md`.
 #![tactic(auto)]
 
+mod fault;
+mod files;
 mod input;
+mod label;
+mod messages;
 mod printer;
 mod program;
+mod shown;
+mod words;
 
+pub use fault::{Fault, Looks, OpenError, PrintError};
+pub use files::Opener;
 pub use input::object_bytes;
 pub use printer::Printer;
-pub use program::{end, run};
+pub use program::{refuse_memory, run};

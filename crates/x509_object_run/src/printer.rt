@@ -1,34 +1,57 @@
 //! What a program prints of an object.
 
-ghost use Rattle.std.specs.Prelude.{◌≡◌, ℕ, List, Option, map, string_bytes};
-ghost use Rattle.x509_object_run.specs.Object.{PrintsSo};
+ghost use Rattle.std.specs.Option.{option_map};
+ghost use Rattle.std.specs.Prelude.{◌≡◌, ℕ, List, Option, map};
+ghost use Rattle.x509_object_run.specs.Object.{IsPrinted, Subject};
+ghost use Rattle.x509_object_run.specs.Program.{Program};
 ghost use Rattle.x509_tool_run.specs.Answer.{as_line};
 
+use crate::fault::PrintError;
 use std::alloc::Global;
 use x509_tool_run::Sink;
 
 /// What a program prints of an object, by the words that it was called with.
 pub trait Printer: Sized + Drop {
-    /// The printer that the words ask for, where they ask for one.
-    ghost asked: { List (List ℕ) → Option Self };
+    /// The printer that options and names ask for, where they ask for one, and the names of inputs among them.
+    ghost asked: { List (List ℕ) → List (List ℕ) → Option (Self × List (List ℕ)) };
 
-    /// The line that tells how the program is called.
-    ghost usage: { List ℕ };
+    /// What the program says of itself.
+    ghost program: { Program };
 
-    /// That the bytes give a text and a status, apart from out of memory.
-    ghost prints: { Self → List ℕ → List ℕ → ℕ → Type 0 };
+    /// What is printed of an object.
+    ghost subject: { Self → Subject };
 
-    /// The printer that the words after the program's name ask for, where they ask for one.
-    fn from_words(words: &[String]) -> Option<Self>
-        ensures { result ≡ asked (map string_bytes words.now) };
+    /// The printer that the words ask for, where they ask for one, and those of the names that are of inputs.
+    fn from_words<'a, 'b>(options: &[&str], names: &'a [&'b str]) -> Option<(Self, &'a [&'b str])>
+        ensures { option_map (λ found. (found.0, map (λ name. name.now) found.1.now)) result
+            ≡ asked (map (λ option. option.now) options.now) (map (λ name. name.now) names.now) };
+
+    /// The program's name.
+    fn name() -> &'static [u8]
+        ensures { result.now ≡ program.name };
 
     /// The line that tells how the program is called, with its line feed.
     fn usage() -> &'static [u8]
-        ensures { result.now ≡ as_line usage };
+        ensures { result.now ≡ as_line program.usage };
 
-    /// Writes what is printed of the bytes, also where they are no object of the kind that is asked for, and answers the
-    /// status of the program: 1 where something can't be written. Out of memory ends it with status 1 and a line that says
-    /// so, behind what was written before.
-    fn print<W: Sink>(&self, alloc: Global, bytes: &[u8], writer: &mut W) -> u8
-        ensures { PrintsSo (prints self.now bytes.now) W.takes writer.old writer.new result };
+    /// What the program does, and how it is called.
+    fn help() -> &'static [u8]
+        ensures { result.now ≡ program.help };
+
+    /// How it is told that bytes are no object of the kind that is asked for.
+    fn no_object(&self) -> &'static [u8]
+        ensures { result.now ≡ (subject self.now).no_object };
+
+    /// Whether the objects of several inputs stand under headings.
+    fn has_headings(&self) -> bool
+        ensures { result ≡ (subject self.now).has_headings };
+
+    /// Writes what is printed of the bytes, and answers the status of the program.
+    ///
+    /// # Errors
+    ///
+    /// `NoObject` where the bytes are no object of the kind that is asked for; nothing is written then. `Unwritten` where the output
+    /// can't be written, and `Memory` when out of memory; a part of the text may be written then.
+    fn print<W: Sink>(&self, alloc: Global, bytes: &[u8], writer: &mut W) -> Result<u8, PrintError>
+        ensures { IsPrinted ((subject self.now).prints bytes.now) ((subject self.now).is_none bytes.now) W.takes writer.old writer.new result };
 }

@@ -1,62 +1,115 @@
-//! A run of a program over one object.
+//! A run of a program over objects.
 
-ghost use Rattle.std.specs.Prelude.{◌≡◌, ◌⊎◌, ℕ, List, Err, None, IfSome, MatchResult, map, string_bytes};
-ghost use Rattle.x509_der.specs.declared.error.ErrorKind.TheVariants.{Memory};
-ghost use Rattle.x509_object_run.specs.Object.{Ends, IsPrinted, PrintsObject, object_bytes};
-ghost use Rattle.x509_tool_run.specs.Answer.{as_line, text_of};
-ghost use Rattle.x509_tool_run.specs.Input.{Input, IsRead, Whole};
-ghost use Rattle.x509_tool_run.specs.declared.refusal.Refusal.TheVariants.{Because};
+ghost use Rattle.std.specs.Prelude.{◌≡◌, ◌⊎◌, [], map, string_bytes};
+ghost use Rattle.x509_object_run.specs.Faults.{fault_text, short_complaint};
+ghost use Rattle.x509_object_run.specs.Program.{AreDone, IsRun, IsTold, IsUnkept, are_headed, call_from, call_of, streams, world_of};
+ghost use Rattle.x509_object_run.specs.Words.{inputs_of};
+ghost use Rattle.x509_object_run.specs.declared.fault.Fault.TheVariants.{Memory};
 
-use crate::input::object_bytes;
+use crate::files::Opener;
+use crate::messages::{complain_of_memory, say, say_version, tell};
 use crate::printer::Printer;
-use std::alloc::Global;
-use x509_tool_run::{Refusal, Sink, Source, WriteError, read_input, write_text};
+use crate::shown::do_all;
+use crate::words::{has_option, split};
+use std::alloc::{AllocError, Global};
+use x509_tool_run::{Sink, Source};
 
-/// Writes a text, and answers the status: 1 where it can't be written.
-pub fn end<W: Sink>(writer: &mut W, text: &[u8], status: u8) -> u8
-    ensures { Ends W.takes writer.old text.now status writer.new result }
+/// Tells that there is no memory for the words, and answers the status.
+pub fn refuse_memory<P: Printer, E: Sink>(errors: &mut E) -> u8
+    ensures { IsTold E.takes errors.old (short_complaint P.program.name (fault_text [] Memory)) errors.new × (result ≡ 2) }
 {
-    match write_text(writer, text) {
-        Ok(()) => status,
-        Err(WriteError) => 1,
+    complain_of_memory::<P, E>(errors);
+    2
+}
+
+/// The inputs that are named, or standard input.
+fn inputs_of<'a, 'b>(names: &'a [&'b str]) -> &'a [&'b str]
+    ensures { map (λ name. name.now) result.now ≡ inputs_of (map (λ name. name.now) names.now) }
+{
+    if names.is_empty() { &["-"] } else { names }
+}
+
+/// Shows the inputs that are named, or standard input, and answers the greatest of their statuses.
+fn show_inputs<P: Printer, R: Source, F: Source + Drop, O: Opener<F>, W: Sink, E: Sink>(
+    alloc: Global,
+    printer: &P,
+    inputs: &[&str],
+    opener: &O,
+    reader: &mut R,
+    writer: &mut W,
+    errors: &mut E,
+) -> u8
+    ensures { AreDone P.program.name (P.subject printer.now) (world_of R.gives (O.opens opener.now) F.gives W.takes E.takes)
+        (are_headed (P.subject printer.now) (map (λ name. name.now) inputs.now)) (map (λ name. name.now) inputs.now)
+        (streams reader.old writer.old errors.old) (streams reader.new writer.new errors.new) result }
+{
+    let headed = inputs.len() > 1 && printer.has_headings();
+    do_all(
+        alloc, printer, headed, inputs, opener, reader, writer, errors,
+    )
+}
+
+/// Does what options and names ask for.
+fn obey<P: Printer, R: Source, F: Source + Drop, O: Opener<F>, W: Sink, E: Sink>(
+    alloc: Global,
+    options: &[&str],
+    names: &[&str],
+    opener: &O,
+    reader: &mut R,
+    writer: &mut W,
+    errors: &mut E,
+) -> u8
+    ensures { IsRun P.program P.subject (world_of R.gives (O.opens opener.now) F.gives W.takes E.takes)
+        (call_from P.asked (map (λ option. option.now) options.now) (map (λ name. name.now) names.now))
+        (streams reader.old writer.old errors.old) (streams reader.new writer.new errors.new) result }
+{
+    if has_option(options, "--help") {
+        return say::<P, W, E>(&[P::help()], writer, errors);
+    }
+    if has_option(options, "--version") {
+        return say_version::<P, W, E>(writer, errors);
+    }
+    match P::from_words(options, names) {
+        Some((printer, names)) => show_inputs(
+            alloc,
+            &printer,
+            inputs_of(names),
+            opener,
+            reader,
+            writer,
+            errors,
+        ),
+        None => {
+            tell(errors, P::usage());
+            2
+        }
     }
 }
 
-/// Reads the input, and answers the bytes that it is of, or why there are none, which is what is printed then.
-fn read_object<P: Printer, R: Source>(
-    alloc: Global,
-    printer: &P,
-    reader: &mut R,
-) -> Result<Vec<u8>, Refusal>
-    ensures { MatchResult result
-        (λ bytes. (input : List ℕ) × IsRead R.gives reader.old (Whole input) reader.new × (bytes.items ≡ object_bytes input))
-        (λ refusal. (input : Input) × IsRead R.gives reader.old input reader.new
-        × (IsPrinted (P.prints printer.now) input (as_line (text_of (Err refusal))) 1 ⊎ (refusal ≡ Because Memory))) }
-{
-    let input = read_input(alloc, reader)?;
-    Ok(object_bytes(alloc, input)?)
-}
-
-/// Reads one object, DER or hex text, writes what the printer that the words ask for prints of it, and answers the status. With words
-/// that ask for none it writes how the program is called, and answers 2.
-pub fn run<P: Printer, R: Source, W: Sink>(
+/// Does what the words ask for: shows the inputs that they name, or standard input, and answers the greatest of their statuses; or says
+/// how the program is called, what it does, or its version.
+pub fn run<P: Printer, R: Source, F: Source + Drop, O: Opener<F>, W: Sink, E: Sink>(
     alloc: Global,
     words: &[String],
+    opener: &O,
     reader: &mut R,
     writer: &mut W,
+    errors: &mut E,
 ) -> u8
-    // With other words nothing is read.
-    ensures untouched { P.asked (map string_bytes words.now) ≡ None → reader.new ≡ reader.old }
-    ensures usage { P.asked (map string_bytes words.now) ≡ None
-        → Ends W.takes writer.old (as_line P.usage) 2 writer.new result }
-    ensures prints { IfSome (P.asked (map string_bytes words.now)) (λ printer.
-        PrintsObject (P.prints printer) R.gives reader.old reader.new W.takes writer.old writer.new result) }
+    ensures { IsRun P.program P.subject (world_of R.gives (O.opens opener.now) F.gives W.takes E.takes)
+        (call_of P.asked (map string_bytes words.now)) (streams reader.old writer.old errors.old) (streams reader.new writer.new errors.new) result
+        ⊎ IsUnkept P.program E.takes (streams reader.old writer.old errors.old) (streams reader.new writer.new errors.new) result }
 {
-    let Some(printer) = P::from_words(words) else {
-        return end(writer, P::usage(), 2);
-    };
-    match read_object(alloc, &printer, reader) {
-        Ok(bytes) => printer.print(alloc, bytes.as_slice(), writer),
-        Err(refusal) => end(writer, refusal.line(), 1),
+    match split(alloc, words) {
+        Ok(words) => obey::<P, R, F, O, W, E>(
+            alloc,
+            words.options.as_slice(),
+            words.names.as_slice(),
+            opener,
+            reader,
+            writer,
+            errors,
+        ),
+        Err(AllocError) => refuse_memory::<P, E>(errors),
     }
 }

@@ -1,0 +1,43 @@
+-- Inputs that are shown one after the other.
+use Rattle.std.proofs.Common.{◌≡◌, ◌<◌, ◌+◌, ℕ, max, Bool, false, codes, List, [], ◌∷◌, ◌++◌, length, map, take, get_or, Option, None, Err, refl, sym, subst, arith}
+use Rattle.std.proofs.lemmas.List.{map_push, take_more}
+use Rattle.x509_der.specs.declared.error.ErrorKind.TheVariants as kinds
+use Rattle.x509_object_run.specs.Object.{Subject, fault_of, unread_fault}
+use Rattle.x509_object_run.specs.Program.{AreDone, IsDone, Misused, Streams, World, call_from}
+use Rattle.x509_object_run.specs.Words.{has_option}
+use Rattle.x509_tool_run.specs.Input.{EndsReading, Input, IsRead, TooLong, Unreadable, Unkept}
+use Rattle.x509_tool_run.specs.declared.refusal.Refusal.{Refusal}
+use Rattle.x509_tool_run.specs.declared.refusal.Refusal.TheVariants.{Read, Because}
+
+-- reading that ends with a refusal gives an input that isn't read whole
+pub refused_input : {X S : Type 0} (view : X → List ℕ) (step : S → Option (List ℕ) → S → Type 0) (s : S) (refusal : Refusal) (t : S) → EndsReading view step s (Err refusal) t → (input : Input) × IsRead step s input t × (fault_of refusal ≡ unread_fault input)
+refused_input view step s Read t h = (Unreadable, h, refl)
+refused_input view step s (Because kinds.Memory) t h = (Unkept, h, refl)
+refused_input view step s (Because kinds.Overlength) t h = (TooLong, h, refl)
+refused_input view step s (Because kinds.Malformed) t h = absurd h
+refused_input view step s (Because kinds.Failed) t h = absurd h
+refused_input view step s (Because kinds.SetDuplicate) t h = absurd h
+refused_input view step s (Because kinds.Value) t h = absurd h
+
+max-zero : (a : ℕ) → max 0 a ≡ max a 0
+max-zero a = omega arith
+
+max-assoc : (a b c : ℕ) → max (max a b) c ≡ max a (max b c)
+max-assoc a b c = omega arith
+
+-- one input more
+pub done_further : {R F W E : Type 0} (program : List ℕ) (subject : Subject) (world : World R F W E) (headed : Bool) (names : List (List ℕ)) (name : List ℕ) (old middle new : Streams R W E) (worst status : ℕ) → AreDone program subject world headed names old middle worst → IsDone program subject world headed name middle new status → AreDone program subject world headed (names ++ name ∷ []) old new (max worst status)
+done_further program subject world headed [] name old middle new worst status h k =
+    (new, status, 0, subst (λ s. IsDone program subject world headed name s new status) h.0 k, (refl, refl), rw h.1 (max-zero status))
+done_further program subject world headed (other ∷ names) name old middle new worst status h k =
+    let behind = done_further program subject world headed names name h.0 middle new h.2 status h.4 k in
+    (h.0, h.1, max h.2 status, h.3, behind, rw h.5 (max-assoc h.1 h.2 status))
+
+-- words that ask for nothing
+pub misused : {P : Type 0} (asked : List (List ℕ) → List (List ℕ) → Option (P × List (List ℕ))) (options names : List (List ℕ)) → has_option (codes "--help") options ≡ false → has_option (codes "--version") options ≡ false → None ≡ asked options names → call_from asked options names ≡ Misused
+misused asked options names no_help no_version none = rw (no_help, no_version, sym none) refl
+
+-- one input more, of the names so far
+pub done_next : {X R F W E : Type 0} (view : X → List ℕ) (program : List ℕ) (subject : Subject) (world : World R F W E) (headed : Bool) (names : List X) (i : ℕ) (d : X) (old middle new : Streams R W E) (worst status : ℕ) → i < length names → AreDone program subject world headed (map view (take i names)) old middle worst → IsDone program subject world headed (view (get_or names i d)) middle new status → AreDone program subject world headed (map view (take (i + 1) names)) old new (max worst status)
+done_next view program subject world headed names i d old middle new worst status lt h k =
+    rw (take_more names i d lt, map_push view (take i names) (get_or names i d)) (done_further program subject world headed (map view (take i names)) (view (get_or names i d)) old middle new worst status h k)

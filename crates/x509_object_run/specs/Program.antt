@@ -1,0 +1,129 @@
+-- What a program over objects does, from its words to its status.
+use Rattle.std.specs.Prelude.{◌≡◌, ◌⊎◌, ℕ, max, Bool, true, false, List, [], ◌∷◌, ◌&&◌, codes, length, Option, Some, None, Result, Ok, Err, ltb, if◌then◌else◌}
+use Rattle.x509_object_run.specs.Faults.{complaint, fault_text, short_complaint}
+use Rattle.x509_object_run.specs.Labels.{is_standard, label_of}
+use Rattle.x509_object_run.specs.Object.{IsSourceShown, Steps, Subject, heading}
+use Rattle.x509_object_run.specs.Words.{has_option, inputs_of, names_of, options_of}
+use Rattle.x509_object_run.specs.declared.fault.Fault.{Fault}
+use Rattle.x509_object_run.specs.declared.fault.Fault.TheVariants.{Unopened, Unwritten, Memory}
+use Rattle.x509_object_run.specs.declared.fault.OpenError.{OpenError}
+use Rattle.x509_tool_run.specs.Answer.{as_line}
+use Rattle.x509_tool_run.specs.Program.{IsWritten, IsCutOff}
+use Rattle.x509_tool_run.specs.Version.{version_text}
+
+-- What a program works with: how standard input is read, which files may be opened and how they are read, how standard output and
+-- standard error are written.
+pub record World (R F W E : Type 0) : Type 1 where
+  pub gives : Steps R
+  pub opens : List ℕ → Result F OpenError → Type 0
+  pub file_gives : Steps F
+  pub takes : Steps W
+  pub takes_errors : Steps E
+
+abbrev pub world_of : {R F W E : Type 0} → Steps R → (List ℕ → Result F OpenError → Type 0) → Steps F → Steps W → Steps E → World R F W E
+world_of gives opens file_gives takes takes_errors =
+    record { gives = gives; opens = opens; file_gives = file_gives; takes = takes; takes_errors = takes_errors }
+
+-- the states of standard input, standard output and standard error
+pub record Streams (R W E : Type 0) : Type 0 where
+  pub input : R
+  pub output : W
+  pub errors : E
+
+abbrev pub streams : {R W E : Type 0} → R → W → E → Streams R W E
+streams input output errors = record { input = input; output = output; errors = errors }
+
+-- a message is written, as far as it can be
+abbrev pub IsTold : {E : Type 0} → Steps E → E → List ℕ → E → Type 0
+IsTold takes old message new = IsWritten takes old message new ⊎ IsCutOff takes old message new
+
+-- the file of a name is shown, if it can be opened
+abbrev pub IsFileShown : {F W : Type 0} → Subject → List ℕ → Steps F → Result F OpenError → Steps W → W → W → Result ℕ Fault → Type 0
+IsFileShown {F} subject heading file_gives (Ok file) takes old new result =
+    (to : F) × IsSourceShown subject heading file_gives file to takes old new result
+IsFileShown subject heading file_gives (Err e) takes old new result = (new ≡ old) × (result ≡ Err (Unopened e))
+
+-- an input is shown, which is standard input or a file
+abbrev pub IsNamedShown : {R F W : Type 0} → Subject → List ℕ → Steps R → (List ℕ → Result F OpenError → Type 0) → Steps F → Steps W → Bool → List ℕ → R → R → W → W → Result ℕ Fault → Type 0
+IsNamedShown subject heading gives opens file_gives takes true name from to old new result = IsSourceShown subject heading gives from to takes old new result
+IsNamedShown {R} {F} subject heading gives opens file_gives takes false name from to old new result =
+    (to ≡ from) × (opened : Result F OpenError) × opens name opened × IsFileShown subject heading file_gives opened takes old new result
+
+-- what came of an input ends it: with its status, or with a message and status 2
+abbrev pub IsEnded : {E : Type 0} → List ℕ → Subject → List ℕ → Steps E → Result ℕ Fault → E → E → ℕ → Type 0
+IsEnded program subject label takes (Ok shown) old new status = (new ≡ old) × (status ≡ shown)
+IsEnded program subject label takes (Err fault) old new status =
+    IsTold takes old (complaint program label (fault_text subject.no_object fault)) new × (status ≡ 2)
+
+-- an input is shown and ended
+abbrev pub IsDone : {R F W E : Type 0} → List ℕ → Subject → World R F W E → Bool → List ℕ → Streams R W E → Streams R W E → ℕ → Type 0
+IsDone program subject world headed name old new status =
+    (result : Result ℕ Fault)
+    × IsNamedShown subject (heading headed (label_of name)) world.gives world.opens world.file_gives world.takes (is_standard name) name old.input new.input old.output new.output result
+    × IsEnded program subject (label_of name) world.takes_errors result old.errors new.errors status
+
+-- inputs one after the other, and the greatest of their statuses
+abbrev pub AreDone : {R F W E : Type 0} → List ℕ → Subject → World R F W E → Bool → List (List ℕ) → Streams R W E → Streams R W E → ℕ → Type 0
+AreDone program subject world headed [] old new status = (new ≡ old) × (status ≡ 0)
+AreDone {R} {F} {W} {E} program subject world headed (name ∷ names) old new status =
+    (middle : Streams R W E) × (first : ℕ) × (rest : ℕ)
+    × IsDone program subject world headed name old middle first × AreDone program subject world headed names middle new rest
+    × (status ≡ max first rest)
+
+-- several inputs stand under headings, where the printer has them
+abbrev pub are_headed : Subject → List (List ℕ) → Bool
+are_headed subject inputs = ltb 1 (length inputs) && subject.has_headings
+
+-- what a program is asked for
+pub data Call (P : Type 0) : Type 0 where
+  -- how it is called and what it does
+  Help : Call P
+  Version : Call P
+  -- to print these inputs
+  Over : (printer : P) (names : List (List ℕ)) → Call P
+  -- its words ask for nothing that it knows
+  Misused : Call P
+
+abbrev pub over : {P : Type 0} → Option (P × List (List ℕ)) → Call P
+over None = Misused
+over (Some found) = Over found.0 found.1
+
+-- `--help` and `--version` stand anywhere among the options; of other words the printer says what they ask for
+abbrev pub call_from : {P : Type 0} → (List (List ℕ) → List (List ℕ) → Option (P × List (List ℕ))) → List (List ℕ) → List (List ℕ) → Call P
+call_from asked options names =
+    if has_option (codes "--help") options then Help
+    else if has_option (codes "--version") options then Version
+    else over (asked options names)
+
+abbrev pub call_of : {P : Type 0} → (List (List ℕ) → List (List ℕ) → Option (P × List (List ℕ))) → List (List ℕ) → Call P
+call_of asked words = call_from asked (options_of words) (names_of words)
+
+-- a text is written with status 0; where it can't be, that is told, with status 2
+abbrev pub Says : {W E : Type 0} → List ℕ → Steps W → Steps E → List ℕ → W → W → E → E → ℕ → Type 0
+Says program takes takes_errors text old new errors_old errors_new status =
+    (IsWritten takes old text new × (errors_new ≡ errors_old) × (status ≡ 0))
+    ⊎ (IsCutOff takes old text new × IsTold takes_errors errors_old (short_complaint program (fault_text [] Unwritten)) errors_new × (status ≡ 2))
+
+-- What a program says of itself: its name, how it is called, and what it does.
+pub record Program : Type 0 where
+  pub name : List ℕ
+  pub usage : List ℕ
+  pub help : List ℕ
+
+-- what a program does that is called so
+abbrev pub IsRun : {P R F W E : Type 0} → Program → (P → Subject) → World R F W E → Call P → Streams R W E → Streams R W E → ℕ → Type 0
+IsRun program subject world Help old new status =
+    (new.input ≡ old.input) × Says program.name world.takes world.takes_errors program.help old.output new.output old.errors new.errors status
+IsRun program subject world Version old new status =
+    (new.input ≡ old.input)
+    × Says program.name world.takes world.takes_errors (as_line (version_text program.name)) old.output new.output old.errors new.errors status
+IsRun program subject world (Over printer names) old new status =
+    AreDone program.name (subject printer) world (are_headed (subject printer) (inputs_of names)) (inputs_of names) old new status
+IsRun program subject world Misused old new status =
+    (new.input ≡ old.input) × (new.output ≡ old.output) × IsTold world.takes_errors old.errors (as_line program.usage) new.errors × (status ≡ 2)
+
+-- or there is no memory for its words, and it does nothing else than tell so
+abbrev pub IsUnkept : {R W E : Type 0} → Program → Steps E → Streams R W E → Streams R W E → ℕ → Type 0
+IsUnkept program takes_errors old new status =
+    (new.input ≡ old.input) × (new.output ≡ old.output)
+    × IsTold takes_errors old.errors (short_complaint program.name (fault_text [] Memory)) new.errors × (status ≡ 2)

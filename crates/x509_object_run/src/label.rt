@@ -1,0 +1,35 @@
+//! What an input is called.
+
+ghost use Rattle.std.specs.Char.{is_ascii_control};
+ghost use Rattle.std.specs.List.{list_any};
+ghost use Rattle.std.specs.Prelude.{◌≡◌};
+ghost use Rattle.x509_object_run.specs.Labels.{is_standard, label_of};
+
+/// Whether a name is that of standard input.
+pub(crate) fn is_standard(name: &str) -> bool
+    ensures { result ≡ is_standard name.now }
+{
+    name == "-"
+}
+
+fn has_control(name: &[u8]) -> bool
+    ensures { result ≡ list_any is_ascii_control name.now }
+{
+    name.iter().any(|byte| byte.is_ascii_control())
+}
+
+/// What an input of this name is called in messages: a name that could end a line isn't written.
+pub(crate) fn label_of(name: &str) -> &[u8]
+    ensures { result.now ≡ label_of name.now }
+{
+    if is_standard(name) {
+        return b"standard input";
+    }
+    if name.is_empty() {
+        return b"(an empty name)";
+    }
+    if has_control(name.as_bytes()) {
+        return b"(a name with control characters)";
+    }
+    name.as_bytes()
+}
