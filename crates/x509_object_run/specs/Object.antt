@@ -7,9 +7,9 @@ use Rattle.x509_der.specs.declared.error.ErrorKind.TheVariants as kinds
 use Rattle.x509_object_run.specs.Faults.{looks_of}
 use Rattle.x509_object_run.specs.declared.fault.Fault.{Fault}
 use Rattle.x509_object_run.specs.declared.fault.Fault.TheVariants as faults
+use Rattle.x509_object_run.specs.declared.heading.Heading.{Heading}
 use Rattle.x509_object_run.specs.declared.fault.PrintError.{PrintError}
 use Rattle.x509_object_run.specs.declared.fault.PrintError.TheVariants.{NoObject, Unwritten, Memory}
-use Rattle.x509_tool_run.specs.Answer.{as_line}
 use Rattle.x509_tool_run.specs.Input.{Input, Whole, TooLong, Unreadable, Unkept, IsRead}
 use Rattle.x509_tool_run.specs.Program.{IsWritten, IsCutOff}
 use Rattle.x509_tool_run.specs.declared.refusal.Refusal.{Refusal}
@@ -28,13 +28,17 @@ without_blanks input = filter (λ byte. not (is_ascii_whitespace byte)) input
 abbrev pub object_bytes : List ℕ → List ℕ
 object_bytes input = decoded_or input (decode_of (without_blanks input))
 
+-- the text of a heading: a name, and what ends the line behind it
+abbrev pub heading_text : Heading → List ℕ
+heading_text h = h.name.now ++ h.end.now
+
 -- how a stream may go from one state to another: bytes are moved, or a call fails
 abbrev pub Steps : Type 0 → Type 1
 Steps S = S → Option (List ℕ) → S → Type 0
 
--- what may be printed of bytes: a text, with a status
+-- what may be printed under a heading of bytes: a text, with a status
 abbrev pub Prints : Type 1
-Prints = List ℕ → List ℕ → ℕ → Type 0
+Prints = List ℕ → List ℕ → List ℕ → ℕ → Type 0
 
 -- a front of a text that may be printed, or nothing
 abbrev pub IsFront : (List ℕ → ℕ → Type 0) → List ℕ → Type 0
@@ -55,13 +59,13 @@ with_looks bytes (Err NoObject) = Err (faults.NoObject (looks_of bytes))
 with_looks bytes (Err Unwritten) = Err faults.Unwritten
 with_looks bytes (Err Memory) = Err faults.Memory
 
--- the line in front of what is printed of an input, where one is wanted
-abbrev pub heading : Bool → List ℕ → List ℕ
-heading true label = label ++ as_line (codes ":")
-heading false label = []
+-- the heading of an input, where one is wanted
+abbrev pub heading_for : Bool → List ℕ → List ℕ
+heading_for true label = label ++ codes ":\n"
+heading_for false label = []
 
--- What a printer says of its object. That bytes give a text and a status; that they are no object of its kind; how that is told;
--- whether the objects of several inputs stand under headings.
+-- What a printer says of its object. That a heading and bytes give a text and a status; that bytes are no object of its kind; how that is
+-- told; whether the objects of several inputs have headings.
 pub record Subject : Type 1 where
   pub prints : Prints
   pub is_none : List ℕ → Type 0
@@ -70,10 +74,9 @@ pub record Subject : Type 1 where
 
 -- bytes are printed under a heading
 abbrev pub AreShown : {W : Type 0} → Subject → List ℕ → List ℕ → Steps W → W → W → Result ℕ Fault → Type 0
-AreShown {W} subject heading bytes takes old new result =
-    ((middle : W) × (printed : Result ℕ PrintError) × IsWritten takes old heading middle
-    × IsPrinted (subject.prints bytes) (subject.is_none bytes) takes middle new printed × (result ≡ with_looks bytes printed))
-    ⊎ (IsCutOff takes old heading new × (result ≡ Err faults.Unwritten))
+AreShown subject heading bytes takes old new result =
+    (printed : Result ℕ PrintError)
+    × IsPrinted (subject.prints heading bytes) (subject.is_none bytes) takes old new printed × (result ≡ with_looks bytes printed)
 
 -- why an input isn't shown: it isn't read whole, or memory is refused
 abbrev pub unread_fault : Input → Fault

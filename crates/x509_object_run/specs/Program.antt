@@ -2,7 +2,7 @@
 use Rattle.std.specs.Prelude.{◌≡◌, ◌⊎◌, ℕ, max, Bool, true, false, List, [], ◌∷◌, ◌&&◌, codes, length, Option, Some, None, Result, Ok, Err, ltb, if◌then◌else◌}
 use Rattle.x509_object_run.specs.Faults.{complaint, fault_text, short_complaint}
 use Rattle.x509_object_run.specs.Labels.{is_standard, label_of}
-use Rattle.x509_object_run.specs.Object.{IsSourceShown, Steps, Subject, heading}
+use Rattle.x509_object_run.specs.Object.{IsSourceShown, Steps, Subject, heading_for}
 use Rattle.x509_object_run.specs.Words.{has_option, inputs_of, names_of, options_of}
 use Rattle.x509_object_run.specs.declared.fault.Fault.{Fault}
 use Rattle.x509_object_run.specs.declared.fault.Fault.TheVariants.{Unopened, Unwritten, Memory}
@@ -59,7 +59,7 @@ IsEnded program subject label takes (Err fault) old new status =
 abbrev pub IsDone : {R F W E : Type 0} → List ℕ → Subject → World R F W E → Bool → List ℕ → Streams R W E → Streams R W E → ℕ → Type 0
 IsDone program subject world headed name old new status =
     (result : Result ℕ Fault)
-    × IsNamedShown subject (heading headed (label_of name)) world.gives world.opens world.file_gives world.takes (is_standard name) name old.input new.input old.output new.output result
+    × IsNamedShown subject (heading_for headed (label_of name)) world.gives world.opens world.file_gives world.takes (is_standard name) name old.input new.input old.output new.output result
     × IsEnded program subject (label_of name) world.takes_errors result old.errors new.errors status
 
 -- inputs one after the other, and the greatest of their statuses

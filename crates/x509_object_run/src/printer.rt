@@ -2,11 +2,12 @@
 
 ghost use Rattle.std.specs.Option.{option_map};
 ghost use Rattle.std.specs.Prelude.{◌≡◌, ℕ, List, Option, map};
-ghost use Rattle.x509_object_run.specs.Object.{IsPrinted, Subject};
+ghost use Rattle.x509_object_run.specs.Object.{IsPrinted, Subject, heading_text};
 ghost use Rattle.x509_object_run.specs.Program.{Program};
 ghost use Rattle.x509_tool_run.specs.Answer.{as_line};
 
 use crate::fault::PrintError;
+use crate::heading::Heading;
 use std::alloc::Global;
 use x509_tool_run::Sink;
 
@@ -42,16 +43,22 @@ pub trait Printer: Sized + Drop {
     fn no_object(&self) -> &'static [u8]
         ensures { result.now ≡ (subject self.now).no_object };
 
-    /// Whether the objects of several inputs stand under headings.
+    /// Whether the objects of several inputs have headings.
     fn has_headings(&self) -> bool
         ensures { result ≡ (subject self.now).has_headings };
 
-    /// Writes what is printed of the bytes, and answers the status of the program.
+    /// Writes what is printed of the bytes under a heading, and answers the status of the program.
     ///
     /// # Errors
     ///
     /// `NoObject` where the bytes are no object of the kind that is asked for; nothing is written then. `Unwritten` where the output
     /// can't be written, and `Memory` when out of memory; a part of the text may be written then.
-    fn print<W: Sink>(&self, alloc: Global, bytes: &[u8], writer: &mut W) -> Result<u8, PrintError>
-        ensures { IsPrinted ((subject self.now).prints bytes.now) ((subject self.now).is_none bytes.now) W.takes writer.old writer.new result };
+    fn print<W: Sink>(
+        &self,
+        alloc: Global,
+        heading: Heading<'_>,
+        bytes: &[u8],
+        writer: &mut W,
+    ) -> Result<u8, PrintError>
+        ensures { IsPrinted ((subject self.now).prints (heading_text heading.entry) bytes.now) ((subject self.now).is_none bytes.now) W.takes writer.old writer.new result };
 }

@@ -1,54 +1,23 @@
 //! What is printed of an input.
 
-ghost use Rattle.std.specs.Prelude.{◌≡◌, ℕ, List, Result, map, max, MatchResult, OnErr, OnOk};
+ghost use Rattle.std.specs.Prelude.{◌≡◌, ℕ, List, Result, map, max, MatchResult};
 ghost use Rattle.x509_object_run.specs.Labels.{is_standard, label_of};
-ghost use Rattle.x509_object_run.specs.Object.{AreShown, IsPrinted, IsSourceShown, fault_of, heading, object_bytes, unread_fault, with_looks};
+ghost use Rattle.x509_object_run.specs.Object.{AreShown, IsSourceShown, fault_of, heading_for, object_bytes, unread_fault};
 ghost use Rattle.x509_object_run.specs.Program.{AreDone, IsDone, IsFileShown, IsNamedShown, streams, world_of};
-ghost use Rattle.x509_object_run.specs.declared.fault.PrintError.{PrintError};
 ghost use Rattle.x509_tool_run.specs.Input.{Input, IsRead, Whole};
-ghost use Rattle.x509_tool_run.specs.Program.{IsCutOff, IsWritten};
 
 use crate::fault::{Fault, OpenError, PrintError, looks_of};
 use crate::files::Opener;
+use crate::heading::heading_of;
 use crate::input::object_bytes;
 use crate::label::{is_standard, label_of};
 use crate::messages::complain;
 use crate::printer::Printer;
 use std::alloc::{AllocError, Global};
 use x509_der::ErrorKind;
-use x509_tool_run::{Refusal, Sink, Source, WriteError, read_input, write_texts};
+use x509_tool_run::{Refusal, Sink, Source, read_input};
 
-/// Writes a heading, where one is wanted.
-fn write_heading<W: Sink>(headed: bool, label: &[u8], writer: &mut W) -> Result<(), WriteError>
-    ensures ok { OnOk result (IsWritten W.takes writer.old (heading headed label.now) writer.new) }
-    ensures err { OnErr result (IsCutOff W.takes writer.old (heading headed label.now) writer.new) }
-{
-    if !headed {
-        return Ok(());
-    }
-    write_texts(writer, &[label, b":\n"])
-}
-
-/// Writes what is printed of bytes; where they are no object it is told what they look like.
-fn print_bytes<P: Printer, W: Sink>(
-    alloc: Global,
-    printer: &P,
-    bytes: &[u8],
-    writer: &mut W,
-) -> Result<u8, Fault>
-    ensures { (printed : Result ℕ PrintError)
-        × IsPrinted ((P.subject printer.now).prints bytes.now) ((P.subject printer.now).is_none bytes.now) W.takes writer.old writer.new printed
-        × (result ≡ with_looks bytes.now printed) }
-{
-    match printer.print(alloc, bytes, writer) {
-        Ok(status) => Ok(status),
-        Err(PrintError::NoObject) => Err(Fault::NoObject(looks_of(bytes))),
-        Err(PrintError::Unwritten) => Err(Fault::Unwritten),
-        Err(PrintError::Memory) => Err(Fault::Memory),
-    }
-}
-
-/// Writes what is printed of bytes, under a heading where one is wanted.
+/// Writes what is printed of bytes, under a heading where one is wanted; where they are no object it is told what they look like.
 fn show_bytes<P: Printer, W: Sink>(
     alloc: Global,
     printer: &P,
@@ -57,11 +26,13 @@ fn show_bytes<P: Printer, W: Sink>(
     bytes: &[u8],
     writer: &mut W,
 ) -> Result<u8, Fault>
-    ensures { AreShown (P.subject printer.now) (heading headed label.now) bytes.now W.takes writer.old writer.new result }
+    ensures { AreShown (P.subject printer.now) (heading_for headed label.now) bytes.now W.takes writer.old writer.new result }
 {
-    match write_heading(headed, label, writer) {
-        Ok(()) => print_bytes(alloc, printer, bytes, writer),
-        Err(WriteError) => Err(Fault::Unwritten),
+    match printer.print(alloc, heading_of(headed, label), bytes, writer) {
+        Ok(status) => Ok(status),
+        Err(PrintError::NoObject) => Err(Fault::NoObject(looks_of(bytes))),
+        Err(PrintError::Unwritten) => Err(Fault::Unwritten),
+        Err(PrintError::Memory) => Err(Fault::Memory),
     }
 }
 
@@ -100,7 +71,7 @@ fn show_source<P: Printer, R: Source, W: Sink>(
     reader: &mut R,
     writer: &mut W,
 ) -> Result<u8, Fault>
-    ensures { IsSourceShown (P.subject printer.now) (heading headed label.now) R.gives reader.old reader.new W.takes writer.old writer.new result }
+    ensures { IsSourceShown (P.subject printer.now) (heading_for headed label.now) R.gives reader.old reader.new W.takes writer.old writer.new result }
 {
     match read_object(alloc, reader) {
         Ok(bytes) => show_bytes(alloc, printer, headed, label, bytes.as_slice(), writer),
@@ -117,7 +88,7 @@ fn show_file<P: Printer, F: Source + Drop, W: Sink>(
     opened: Result<F, OpenError>,
     writer: &mut W,
 ) -> Result<u8, Fault>
-    ensures { IsFileShown (P.subject printer.now) (heading headed label.now) F.gives opened W.takes writer.old writer.new result }
+    ensures { IsFileShown (P.subject printer.now) (heading_for headed label.now) F.gives opened W.takes writer.old writer.new result }
 {
     match opened {
         Ok(mut file) => show_source(alloc, printer, headed, label, &mut file, writer),
@@ -135,7 +106,7 @@ fn show_named<P: Printer, R: Source, F: Source + Drop, O: Opener<F>, W: Sink>(
     reader: &mut R,
     writer: &mut W,
 ) -> Result<u8, Fault>
-    ensures { IsNamedShown (P.subject printer.now) (heading headed (label_of name.now)) R.gives (O.opens opener.now) F.gives W.takes
+    ensures { IsNamedShown (P.subject printer.now) (heading_for headed (label_of name.now)) R.gives (O.opens opener.now) F.gives W.takes
         (is_standard name.now) name.now reader.old reader.new writer.old writer.new result }
 {
     let label = label_of(name);
