@@ -1,13 +1,14 @@
--- What the program prints of the bytes of an object, and with which status it ends.
-use Rattle.std.specs.Prelude.{◌≡◌, ℕ, List, [], ◌∷◌, Option, Some, None, bytes_eq, codes, if◌then◌else◌}
+-- What the program prints of the bytes of an object, and what its words ask for.
+use Rattle.std.specs.Prelude.{◌≡◌, ℕ, Bool, true, false, List, [], ◌∷◌, ◌++◌, Option, Some, None, bytes_eq, codes, if◌then◌else◌}
 use Rattle.std.specs.Option.{option_map}
+use Rattle.x509_object_run.specs.Object.{Subject}
+use Rattle.x509_object_run.specs.Program.{Program}
 use Rattle.x509_show.specs.declared.show.Show.{Show}
 use Rattle.x509_text.specs.Objects.{shown, shown_as}
 use Rattle.x509_text.specs.declared.line.Style.{Style}
 use Rattle.x509_text.specs.declared.line.Style.TheVariants.{Text, Json}
 use Rattle.x509_text.specs.declared.objects.Kind.{Kind}
 use Rattle.x509_text.specs.declared.objects.Kind.TheVariants.{Certificate, Crl, Csr, Anchor}
-use Rattle.x509_tool_run.specs.Answer.{as_line}
 
 -- ---- words
 
@@ -26,52 +27,75 @@ of_kind style kind = record { kind = Some kind; style = style }
 abbrev pub of_any_kind : Style → Show
 of_any_kind style = record { kind = None; style = style }
 
--- what one word asks for: JSON, or a kind of object
-abbrev pub asked_by : List ℕ → Option Show
-asked_by word = if bytes_eq word (codes "--json") then Some (of_any_kind Json) else option_map (of_kind Text) (kind_of word)
+-- a text for people, or with `--json` JSON
+abbrev pub style_of : List (List ℕ) → Option Style
+style_of [] = Some Text
+style_of (option ∷ []) = if bytes_eq option (codes "--json") then Some Json else None
+style_of (first ∷ second ∷ options) = None
 
--- what two ask for: a kind of object and JSON, in either order
-abbrev pub asked_by_two : List ℕ → List ℕ → Option Show
-asked_by_two first second =
-    if bytes_eq first (codes "--json") then option_map (of_kind Json) (kind_of second)
-    else if bytes_eq second (codes "--json") then option_map (of_kind Json) (kind_of first)
-    else None
+-- the first name, which may be a kind's, and the others
+abbrev pub asked_with : Style → Option Kind → List ℕ → List (List ℕ) → Show × List (List ℕ)
+asked_with style (Some kind) name names = (of_kind style kind, names)
+asked_with style None name names = (of_any_kind style, name ∷ names)
 
--- with no word a text for people, of an object of any kind
-abbrev pub asked : List (List ℕ) → Option Show
-asked [] = Some (of_any_kind Text)
-asked (word ∷ []) = asked_by word
-asked (first ∷ second ∷ []) = asked_by_two first second
-asked (first ∷ second ∷ third ∷ words) = None
+-- a kind of object in front of the names of inputs, or objects of any kind
+abbrev pub asked_of : Style → List (List ℕ) → Show × List (List ℕ)
+asked_of style [] = (of_any_kind style, [])
+asked_of style (name ∷ names) = asked_with style (kind_of name) name names
 
--- how the program is called
+abbrev pub asked : List (List ℕ) → List (List ℕ) → Option (Show × List (List ℕ))
+asked options names = option_map (λ style. asked_of style names) (style_of options)
+
+-- ---- what the program says of itself
+
 abbrev pub usage : List ℕ
-usage = codes "usage: x509_show [certificate|crl|csr|anchor] [--json], with such an object on standard input, DER or hex"
+usage = codes "usage: x509_show [certificate|crl|csr|anchor] [--json] [FILE..]"
+
+abbrev pub help : List ℕ
+help =
+    codes "usage: x509_show [certificate|crl|csr|anchor] [--json] [FILE..]\n\n"
+    ++ codes "Prints certificates, CRLs, CSRs and trust anchors, in DER or hex: a line for each thing\n"
+    ++ codes "in them. Without a FILE, and where FILE is -, it reads standard input.\n\n"
+    ++ codes "  certificate, crl, csr, anchor  what each input is; without such a word it is tried\n"
+    ++ codes "                                 as each of them, in this order\n"
+    ++ codes "  --json                         prints a JSON array for each input\n"
+    ++ codes "  --                             ends the options\n"
+    ++ codes "  --help                         prints this text\n"
+    ++ codes "  --version                      prints the version\n\n"
+    ++ codes "Status: 0 where each input is printed, 2 where one is refused or the words are wrong.\n"
+
+abbrev pub program : Program
+program = record { name = codes "x509_show"; usage = usage; help = help }
 
 -- ---- what is printed
 
--- the line for bytes that are no encoding of what was asked for
+-- how it is told that bytes are no encoding of what was asked for
 abbrev pub no_object : Option Kind → List ℕ
-no_object None = codes "refused: not a certificate, a CRL, a CSR or a trust anchor"
-no_object (Some Certificate) = codes "refused: not a certificate"
-no_object (Some Crl) = codes "refused: not a CRL"
-no_object (Some Csr) = codes "refused: not a CSR"
-no_object (Some Anchor) = codes "refused: not a trust anchor"
+no_object None = codes "not a certificate, CRL, CSR or trust anchor in DER or hex"
+no_object (Some Certificate) = codes "not a certificate in DER or hex"
+no_object (Some Crl) = codes "not a CRL in DER or hex"
+no_object (Some Csr) = codes "not a CSR in DER or hex"
+no_object (Some Anchor) = codes "not a trust anchor in DER or hex"
 
 -- the document of the object that was asked for
 abbrev pub document_of : Option Kind → Style → List ℕ → Option (List ℕ)
 document_of None style bytes = shown style bytes
 document_of (Some kind) style bytes = shown_as kind style bytes
 
--- this text, with status 0
-abbrev pub IsText : List ℕ → List ℕ → ℕ → Type 0
-IsText document text status = (text ≡ document) × (status ≡ 0)
+-- this document under a heading, with status 0
+abbrev pub IsDocument : List ℕ → Option (List ℕ) → List ℕ → ℕ → Type 0
+IsDocument heading (Some document) text status = (text ≡ heading ++ document) × (status ≡ 0)
+IsDocument heading None text status = ⊥
 
--- a document, or the line that refuses the bytes
-abbrev pub IsDocument : Option Kind → Option (List ℕ) → List ℕ → ℕ → Type 0
-IsDocument kind (Some document) text status = IsText document text status
-IsDocument kind None text status = (text ≡ as_line (no_object kind)) × (status ≡ 1)
+-- JSON has no headings
+abbrev pub is_text : Style → Bool
+is_text Text = true
+is_text Json = false
 
--- the document of the object that the bytes are of
-abbrev pub prints : Show → List ℕ → List ℕ → ℕ → Type 0
-prints show bytes text status = IsDocument show.kind (document_of show.kind show.style bytes) text status
+abbrev pub subject : Show → Subject
+subject show = record {
+  prints = λ heading bytes text status. IsDocument heading (document_of show.kind show.style bytes) text status;
+  is_none = λ bytes. document_of show.kind show.style bytes ≡ None;
+  no_object = no_object show.kind;
+  has_headings = is_text show.style;
+}

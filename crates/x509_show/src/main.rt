@@ -1,20 +1,30 @@
-//! A certificate, a CRL, a CSR or a trust anchor on standard input, in lines that a person reads or in JSON.
+//! Certificates, CRLs, CSRs and trust anchors in files or on standard input, in lines that a person reads or in JSON.
 #![tactic(auto)]
 
 mod pieces;
 mod show;
 
 use crate::show::Show;
+use std::fs::File;
 use std::process::ExitCode;
-use x509_object_run::run;
-use x509_tool_run::{refuse_memory, words};
+use x509_object_run::{refuse_memory, run};
+use x509_tool_run::words;
 
 fn main(rt: HostRuntime) -> ExitCode {
     let alloc = rt.alloc();
+    let mut reader = rt.stdin();
     let mut writer = rt.stdout();
+    let mut errors = rt.stderr();
     let status = match words(alloc, &rt) {
-        Ok(words) => run::<Show, _, _>(alloc, words.as_slice(), &mut rt.stdin(), &mut writer),
-        Err(_) => refuse_memory(&mut writer),
+        Ok(words) => run::<Show, _, File, _, _, _>(
+            alloc,
+            words.as_slice(),
+            &rt,
+            &mut reader,
+            &mut writer,
+            &mut errors,
+        ),
+        Err(_) => refuse_memory::<Show, _>(&mut errors),
     };
     ExitCode::from(status)
 }

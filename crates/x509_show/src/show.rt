@@ -1,19 +1,33 @@
 //! What the program prints of an object.
 
 ghost use Rattle.std.specs.Option.{option_map};
-ghost use Rattle.std.specs.Prelude.{◌≡◌, IfOk};
-ghost use Rattle.x509_show.specs.Show.{asked_by, asked_by_two, document_of, kind_of, no_object, of_kind};
+ghost use Rattle.std.specs.Prelude.{◌≡◌, IfOk, None, Some, map};
+ghost use Rattle.x509_object_run.specs.Object.{IsPrinted, heading_text};
+ghost use Rattle.x509_show.specs.Show.{IsDocument, asked_of, document_of, is_text, kind_of, no_object, style_of};
 ghost use Rattle.x509_text.specs.Pieces.{text_of};
-ghost use Rattle.x509_text.specs.declared.line.Style.TheVariants.{Json};
-ghost use Rattle.x509_tool_run.specs.Answer.{as_line};
 
 use crate::pieces::write_pieces;
 use std::alloc::{AllocError, Global};
-use x509_object_run::{Printer, end};
+use x509_object_run::{Heading, PrintError, Printer, write_headed};
 use x509_text::{Document, Kind, Style, document_of_bytes, document_of_kind};
-use x509_tool_run::{Sink, refuse_memory};
+use x509_tool_run::{Sink, WriteError};
 
-/// What is printed, which the words tell: an object of one kind, or of any, as a text for people or with `--json` as JSON.
+const HELP: &[u8] = b"usage: x509_show [certificate|crl|csr|anchor] [--json] [FILE..]
+
+Prints certificates, CRLs, CSRs and trust anchors, in DER or hex: a line for each thing
+in them. Without a FILE, and where FILE is -, it reads standard input.
+
+  certificate, crl, csr, anchor  what each input is; without such a word it is tried
+                                 as each of them, in this order
+  --json                         prints a JSON array for each input
+  --                             ends the options
+  --help                         prints this text
+  --version                      prints the version
+
+Status: 0 where each input is printed, 2 where one is refused or the words are wrong.
+";
+
+/// What is printed, which the words tell: objects of one kind, or of any, as a text for people or with `--json` as JSON.
 #[derive(Clone, Copy, Debug, PartialEq, Eq)]
 pub(crate) struct Show {
     kind: Option<Kind>,
@@ -33,55 +47,54 @@ fn kind_of(word: &str) -> Option<Kind>
     }
 }
 
-/// What one word asks for.
-fn asked_by(word: &str) -> Option<Show>
-    ensures { result ≡ asked_by word.now }
+/// The style that options ask for.
+fn style_of(options: &[&str]) -> Option<Style>
+    ensures { result ≡ style_of (map (λ option. option.now) options.now) }
 {
-    if word == "--json" {
-        return Some(Show {
-            kind: None,
-            style: Style::Json,
-        });
+    match options {
+        [] => Some(Style::Text),
+        [option] if *option == "--json" => Some(Style::Json),
+        _ => None,
     }
-    kind_of(word).map(|kind| Show {
-        kind: Some(kind),
-        style: Style::Text,
-    })
 }
 
-/// JSON of an object of the kind that a word names.
-fn json_of(word: &str) -> Option<Show>
-    ensures { result ≡ option_map (λ kind. of_kind Json kind) (kind_of word.now) }
+/// What names ask for, the first of which may be a kind's, and the names of inputs among them.
+fn asked_of<'a, 'b>(style: Style, names: &'a [&'b str]) -> (Show, &'a [&'b str])
+    ensures { (result.0, map (λ name. name.now) result.1.now) ≡ asked_of style (map (λ name. name.now) names.now) }
 {
-    kind_of(word).map(|kind| Show {
-        kind: Some(kind),
-        style: Style::Json,
-    })
+    if let [name, others @ ..] = names {
+        if let Some(kind) = kind_of(name) {
+            return (
+                Show {
+                    kind: Some(kind),
+                    style,
+                },
+                others,
+            );
+        }
+    }
+    (Show { kind: None, style }, names)
 }
 
-/// What two words ask for.
-fn asked_by_two(first: &str, second: &str) -> Option<Show>
-    ensures { result ≡ asked_by_two first.now second.now }
-{
-    if first == "--json" {
-        return json_of(second);
-    }
-    if second == "--json" {
-        return json_of(first);
-    }
-    None
-}
-
-/// The line for bytes that are the encoding of no object of this kind, or of none at all.
-fn no_object(kind: Option<Kind>) -> &'static str
-    ensures { result.now ≡ as_line (no_object kind) }
+/// How it is told that bytes are the encoding of no object of this kind, or of none at all.
+fn no_object(kind: Option<Kind>) -> &'static [u8]
+    ensures { result.now ≡ no_object kind }
 {
     match kind {
-        None => "refused: not a certificate, a CRL, a CSR or a trust anchor\n",
-        Some(Kind::Certificate) => "refused: not a certificate\n",
-        Some(Kind::Crl) => "refused: not a CRL\n",
-        Some(Kind::Csr) => "refused: not a CSR\n",
-        Some(Kind::Anchor) => "refused: not a trust anchor\n",
+        None => b"not a certificate, CRL, CSR or trust anchor in DER or hex",
+        Some(Kind::Certificate) => b"not a certificate in DER or hex",
+        Some(Kind::Crl) => b"not a CRL in DER or hex",
+        Some(Kind::Csr) => b"not a CSR in DER or hex",
+        Some(Kind::Anchor) => b"not a trust anchor in DER or hex",
+    }
+}
+
+fn is_text(style: Style) -> bool
+    ensures { result ≡ is_text style }
+{
+    match style {
+        Style::Text => true,
+        Style::Json => false,
     }
 }
 
@@ -100,39 +113,70 @@ fn document_of(
     }
 }
 
-/// The document of an object, with status 0; for other bytes one line that refuses them, with status 1. Nothing is written before the
-/// object is known to be one. The document of a CRL is written piece by piece.
+/// Writes a document under a heading.
+fn write_whole<'a, W: Sink>(
+    heading: Heading<'a>,
+    document: &'a str,
+    writer: &mut W,
+) -> Result<u8, PrintError>
+    ensures { IsPrinted (IsDocument (heading_text heading.entry) (Some document.now)) (Some document.now ≡ None) W.takes writer.old writer.new result }
+{
+    match write_headed(writer, heading, document.as_bytes()) {
+        Ok(()) => Ok(0),
+        Err(WriteError) => Err(PrintError::Unwritten),
+    }
+}
+
+/// The document of an object under a heading. Nothing is written before the object is known to be one. The document of a CRL is
+/// written piece by piece.
 impl Printer for Show {
-    ghost use Rattle.x509_show.specs.Show.{asked, prints, usage};
+    ghost use Rattle.x509_show.specs.Show.{asked, program, subject};
 
     ghost asked = { asked };
 
-    ghost usage = { usage };
+    ghost program = { program };
 
-    ghost prints = { prints };
+    ghost subject = { subject };
 
-    fn from_words(words: &[String]) -> Option<Show> {
-        match words {
-            [] => Some(Show {
-                kind: None,
-                style: Style::Text,
-            }),
-            [word] => asked_by(word.as_str()),
-            [first, second] => asked_by_two(first.as_str(), second.as_str()),
-            _ => None,
+    fn from_words<'a, 'b>(options: &[&str], names: &'a [&'b str]) -> Option<(Show, &'a [&'b str])> {
+        match style_of(options) {
+            Some(style) => Some(asked_of(style, names)),
+            None => None,
         }
     }
 
-    fn usage() -> &'static [u8] {
-        b"usage: x509_show [certificate|crl|csr|anchor] [--json], with such an object on standard input, DER or hex\n"
+    fn name() -> &'static [u8] {
+        b"x509_show"
     }
 
-    fn print<W: Sink>(&self, alloc: Global, bytes: &[u8], writer: &mut W) -> u8 {
+    fn usage() -> &'static [u8] {
+        b"usage: x509_show [certificate|crl|csr|anchor] [--json] [FILE..]\n"
+    }
+
+    fn help() -> &'static [u8] {
+        HELP
+    }
+
+    fn no_object(&self) -> &'static [u8] {
+        no_object(self.kind)
+    }
+
+    fn has_headings(&self) -> bool {
+        is_text(self.style)
+    }
+
+    fn print<W: Sink>(
+        &self,
+        alloc: Global,
+        heading: Heading<'_>,
+        bytes: &[u8],
+        writer: &mut W,
+    ) -> Result<u8, PrintError> {
         match document_of(alloc, self.kind, self.style, bytes) {
-            Ok(Some(Document::Whole(text))) => end(writer, text.as_str().as_bytes(), 0),
-            Ok(Some(Document::Crl(pieces))) => write_pieces(alloc, pieces, writer),
-            Ok(None) => end(writer, no_object(self.kind).as_bytes(), 1),
-            Err(AllocError) => refuse_memory(writer),
+            Ok(Some(Document::Whole(text))) => write_whole(heading, text.as_str(), writer),
+            Ok(Some(Document::Crl(pieces))) => write_pieces(alloc, heading, pieces, writer),
+            Ok(None) => Err(PrintError::NoObject),
+            Err(AllocError) => Err(PrintError::Memory),
         }
     }
 }
