@@ -440,7 +440,7 @@ def said_of(data, kind, shown, names, *words):
 def printed(program, data):
     """The lines that x509_show prints of an object, from its JSON; None where it refuses it."""
     run = subprocess.run([program, "--json"], input=data, capture_output=True, check=False)
-    if run.returncode == 1 and run.stdout.startswith(b"refused: not a"):
+    if run.returncode == 2 and b": not a" in run.stderr:
         return None
     run.check_returncode()
     return json.loads(run.stdout)

@@ -6,12 +6,13 @@ written there too, as NAME.der.
 """
 import argparse
 import pathlib
-import subprocess
 import sys
+import tempfile
 
 sys.path.insert(0, str(pathlib.Path(__file__).resolve().parents[1]))
 from common.der import BIT_STRING, BMP_STRING, GENERALIZED_TIME, IA5_STRING, PRINTABLE_STRING, TRUE, UTC_TIME, UTF8_STRING, VISIBLE_STRING
 from common.der import bit_string, context, element, integer, object_identifier, octet_string, sequence, set_of
+from object_runs import Program, ended
 
 ECDSA_SHA256 = sequence(object_identifier(1, 2, 840, 10045, 4, 3, 2))
 ECDSA_SHA384 = sequence(object_identifier(1, 2, 840, 10045, 4, 3, 3))
@@ -362,8 +363,8 @@ CERTIFICATE_RULES = (
     constraint_rules,
     point_rules,
 )
-REFUSED = "refused: neither a certificate nor a CRL\n"
-USAGE = "usage: x509_linter, with a certificate or a CRL on standard input, DER or hex\n"
+USAGE = "usage: x509_linter [-v] [FILE..]\n"
+NO_OBJECT = "neither a certificate nor a CRL in DER or hex"
 
 
 def cases():
@@ -388,34 +389,61 @@ def runs():
     yield "hex", [], digits.encode(), line, 1
     yield "upper-case hex", [], digits.upper().encode() + b"\r\n", line, 1
     yield "hex in lines", [], "\n".join(digits[at : at + 60] for at in range(0, len(digits), 60)).encode() + b"\n", line, 1
+    clean = certificate()
+    yield "nothing found, and said so", ["-v"], clean, "nothing found\n", 0
+    yield "findings, and no more is said", ["-v"], odd, line, 1
+    weak, warned = certificate(extensions=(AKI, SKI, ce(15, DIGITAL_SIGNATURE))), "certificate: warning key_usage_not_critical (RFC 5280 4.2.1.3)\n"
+    yield "a warning, and no more is said", ["-v"], weak, warned, 0
+
+
+def refused(program):
+    """For each run over what is no object a name, whether it ended as stated, and how it ended."""
+    odd = certificate(serial=integer(0))
     for name, data in (
-        ("nothing", b""),
-        ("a line feed", b"\n"),
         ("an octet", b"\x30"),
-        ("hex of an odd length", digits[:-1].encode()),
+        ("hex of an odd length", odd.hex()[:-1].encode()),
         ("an octet too few", odd[:-1]),
         ("an octet too many", odd + b"\0"),
         ("a line feed behind DER", odd + b"\n"),
         ("an element of another type", octet_string(odd)),
-        ("PEM", b"-----BEGIN CERTIFICATE-----\n"),
     ):
-        yield name, [], data, REFUSED, 1
-    yield "an input of 16 MiB", [], b"\0" * 16777216, REFUSED, 1
-    yield "a longer input", [], b"\0" * 16777217, "refused: Overlength\n", 1
-    yield "a word", ["--help"], certificate(), USAGE, 2
+        found = ended(program, [], data)
+        yield name, found == (2, "", f"x509_linter: standard input: {NO_OBJECT}\n"), found
+    for name, words in (("-v twice", ["-v", "-v"]), ("two options", ["-v", "--json"]), ("-v with more behind it", ["-vv"])):
+        found = ended(program, words, odd)
+        yield name, found == (2, "", USAGE), found
+
+
+def alike(program):
+    """The runs that the programs over objects have to end alike, and those over several files with `-v`."""
+    odd, line = certificate(serial=integer(0)), "certificate: error serial_number_not_positive (RFC 5280 4.1.2.2)\n"
+    objects = [(certificate(), "", 0), (odd, line, 1), (crl(), "", 0)]
+    yield from refused(program)
+    yield from Program(program, USAGE, NO_OBJECT, objects).checked()
+    with tempfile.TemporaryDirectory() as folder:
+        paths = [f"{folder}/{at}" for at in range(3)]
+        for path, (data, _, _) in zip(paths, objects):
+            pathlib.Path(path).write_bytes(data)
+        found = ended(program, [paths[0], "-v", *paths[1:]])
+        text = f"{paths[0]}:\nnothing found\n{paths[1]}:\n{line}{paths[2]}:\nnothing found\n"
+        yield "several files with -v", found == (1, text, ""), found
 
 
 def main(program, folder):
     failed = count = 0
     for name, words, data, printed, status in runs():
-        ended = subprocess.run([program, *words], input=data, capture_output=True, check=False)
         count += 1
-        if (ended.stdout.decode(), ended.returncode) != (printed, status):
+        if (found := ended(program, words, data)) != (status, printed, ""):
             failed += 1
-            print(f"failed: x509_linter, {name}: status {ended.returncode}, not {status}; it printed\n{ended.stdout.decode()}and not\n{printed}", end="")
+            print(f"failed: x509_linter, {name}: {found}, and not {status} and\n{printed}", end="")
         if folder:
             folder.mkdir(parents=True, exist_ok=True)
             (folder / f"{name.replace(' ', '_')}.der").write_bytes(data)
+    for name, is_so, found in alike(program):
+        count += 1
+        if not is_so:
+            failed += 1
+            print(f"failed: x509_linter, {name}: {found}")
     print(f"{'failed' if failed else 'passed'}: x509_linter, {count} runs, {failed} of them not as stated")
     return int(failed > 0)
 

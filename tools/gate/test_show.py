@@ -2,7 +2,7 @@
 """Runs x509_show over objects of each kind, with hostile texts among them, in each style, and over what is no object.
 
 The lines of the objects of `shown_objects.py` are those that are stated there by hand, and their JSON has the same. So are those of a CRL that is
-printed in many pieces, of which each front may be written that fits, with status 1. No text of an object may forge
+printed in many pieces, of which each front may be written that fits, with status 2. No text of an object may forge
 a line: what is printed as a text has as many lines as the JSON has entries, each of these lines begins with the label of its entry, and no control
 character stands there but the line feeds at the ends of lines.
 """
@@ -11,25 +11,33 @@ import json
 import pathlib
 import subprocess
 import sys
+import tempfile
 
 sys.path.insert(0, str(pathlib.Path(__file__).resolve().parents[1]))
 sys.path.insert(0, str(pathlib.Path(__file__).resolve().parents[1] / "robustness"))
 from common.der import UTF8_STRING, element, sequence
 from hostile_payloads import NAME_ROWS, alternative_names, certificate, key_usage, relative_name
+from object_runs import Program, ended
 from shown_objects import anchors, crls, long_crl, objects, requests
 from test_linter import SIGNATURE
 
 FORGED = "x\nserial: 00\r\u2028issuer: y\u202e\x1b[2J\x00\x85\\\""
-REFUSED = "refused: not a certificate, a CRL, a CSR or a trust anchor\n"
-USAGE = "usage: x509_show [certificate|crl|csr|anchor] [--json], with such an object on standard input, DER or hex\n"
+NO_OBJECT = "not a certificate, CRL, CSR or trust anchor in DER or hex"
+REFUSED = f"x509_show: standard input: {NO_OBJECT}\n"
+USAGE = "usage: x509_show [certificate|crl|csr|anchor] [--json] [FILE..]\n"
 # What is refused with each word.
 WORDS = {"certificate": "a certificate", "crl": "a CRL", "csr": "a CSR", "anchor": "a trust anchor"}
 HIDDEN = {*range(0x20), *range(0x7F, 0xA0), 0x61C, 0x200E, 0x200F, *range(0x2028, 0x202F), *range(0x2066, 0x206A)}
 
 
 def run(program, data, *words):
-    ended = subprocess.run([program, *words], input=data, capture_output=True, check=False)
-    return ended.returncode, ended.stdout.decode("utf-8")
+    """The status of a run, and what it prints, with what it writes to standard error behind."""
+    status, printed, said = ended(program, words, data)
+    return status, printed + said
+
+
+def no_such(word):
+    return f"x509_show: standard input: not {WORDS[word]} in DER or hex\n"
 
 
 def is_forged(program, data):
@@ -57,8 +65,8 @@ def visible(text):
 def is_otherwise(program, data, lines, *words):
     """What is printed of an object in place of these lines, in either style; None where it is these."""
     wanted = (0, "".join(line + "\n" for line in lines))
-    if (ended := run(program, data, *words)) != wanted:
-        return f"{ended} and not {wanted}"
+    if (found := run(program, data, *words)) != wanted:
+        return f"{found} and not {wanted}"
     status, document = run(program, data, *words, "--json")
     said = ["  " * it["depth"] + it["label"] + ":" + (" " if it["text"] else "") + visible(it["text"]) for it in json.loads(document)]
     return None if (status, said) == (0, lines) else f"as JSON {status}, {said}, and not {lines}"
@@ -89,24 +97,26 @@ def wrong_kinds():
 def refusals(whole):
     """For each run that refuses bytes or words a name, its bytes, its words, and how it ends."""
     for name, data, word in wrong_kinds():
-        yield name, data, [word], (1, f"refused: not {WORDS[word]}\n")
+        yield name, data, [word], (2, no_such(word))
     for name, word, data, _ in objects():
-        yield f"{name} with an octet too few", data[:-1], [], (1, REFUSED)
-        yield f"{name} with an octet too many", data + b"\0", [word], (1, f"refused: not {WORDS[word]}\n")
+        yield f"{name} with an octet too few", data[:-1], [], (2, REFUSED)
+        yield f"{name} with an octet too many", data + b"\0", [word], (2, no_such(word))
     for name, words in (
         ("another word", ["--xml"]),
         ("JSON twice", ["--json", "--json"]),
-        ("two kinds", ["crl", "csr"]),
-        ("a kind twice", ["crl", "crl"]),
-        ("a kind in capitals", ["CRL"]),
-        ("three words", ["crl", "--json", "--json"]),
-        ("an empty word", [""]),
+        ("JSON thrice, and a kind", ["--json", "crl", "--json", "--json"]),
+        ("JSON and another word", ["--json", "--xml"]),
     ):
         yield name, whole, words, (2, USAGE)
-    yield "nothing", b"", [], (1, REFUSED)
-    yield "an octet too few", whole[:-1], [], (1, REFUSED)
-    yield "an octet too many", whole + b"\0", [], (1, REFUSED)
-    yield "hex of an odd length", whole.hex()[:-1].encode(), [], (1, REFUSED)
+    for name, words, file in (
+        ("two kinds", ["crl", "no-such"], "no-such"),
+        ("a kind in capitals", ["CRL/x"], "CRL/x"),
+        ("a kind behind a file", ["no-such/", "--json"], "no-such/"),
+    ):
+        yield name, whole, words, (2, f"x509_show: {file}: no such file\n")
+    yield "an octet too few", whole[:-1], [], (2, REFUSED)
+    yield "an octet too many", whole + b"\0", [], (2, REFUSED)
+    yield "hex of an odd length", whole.hex()[:-1].encode(), [], (2, REFUSED)
 
 
 def closed_early(program, data, front, *words):
@@ -123,7 +133,7 @@ def is_unwritable(program, data, *words):
     """What is wrong where the output can't be written; None where nothing is."""
     with open("/dev/full", "wb") as full:
         status = subprocess.run([program, *words], input=data, stdout=full, check=False).returncode
-    return None if status == 1 else f"status {status}"
+    return None if status == 2 else f"status {status}"
 
 
 def many_pieces(program):
@@ -133,13 +143,13 @@ def many_pieces(program):
         yield f"a long crl {words}", is_otherwise(program, data, lines, *words)
     yield "a long crl as hex", is_otherwise(program, data.hex().encode(), lines)
     # A fault behind all entries: the signature is no BIT STRING.
-    ended = run(program, data[: -len(SIGNATURE)] + b"\x04" + SIGNATURE[1:])
-    yield "a long crl without a signature", None if ended == (1, REFUSED) else f"{ended[0]}, {ended[1][:80]!r}"
+    found = run(program, data[: -len(SIGNATURE)] + b"\x04" + SIGNATURE[1:])
+    yield "a long crl without a signature", None if found == (2, REFUSED) else f"{found[0]}, {found[1][:80]!r}"
     for words in ([], ["--json"]):
         whole = run(program, data, *words)[1]
         # A pipe holds 64 KiB, so that at least one write of several fails.
         status, read = closed_early(program, data, 20_000, *words)
-        is_front = status == 1 and len(whole) > 300_000 and whole.startswith(read)
+        is_front = status == 2 and len(whole) > 300_000 and whole.startswith(read)
         yield f"a long crl, its reader gone {words}", None if is_front else f"status {status}, {len(whole)} in all"
         yield f"a long crl without room {words}", is_unwritable(program, data, *words)
 
@@ -147,6 +157,7 @@ def many_pieces(program):
 def checked(program):
     """For each run a name, and what is wrong with it, None where nothing is."""
     yield from many_pieces(program)
+    yield from with_files(program)
     yield "a certificate without room", is_unwritable(program, certificate())
     cases = {name: certificate(extensions=(key_usage(), alternative_names(row[0]))) for name, row in NAME_ROWS.items()}
     cases["a subject with line feeds"] = certificate(subject=sequence(relative_name(3, element(UTF8_STRING, FORGED.encode()))))
@@ -158,8 +169,8 @@ def checked(program):
         yield name, is_otherwise(program, data, lines, *words)
     whole = certificate()
     for name, data, words, wanted in refusals(whole):
-        ended = run(program, data, *words)
-        yield name, None if ended == wanted else f"{ended}, and not {wanted}"
+        found = run(program, data, *words)
+        yield name, None if found == wanted else f"{found}, and not {wanted}"
     for name, data, words, same in (
         ("hex", whole.hex().encode() + b"\n", [], []),
         ("hex, as JSON", whole.hex().encode(), ["--json"], ["--json"]),
@@ -167,6 +178,29 @@ def checked(program):
         ("JSON of a kind, the words the other way round", whole, ["certificate", "--json"], ["--json"]),
     ):
         yield name, None if run(program, data, *words) == run(program, whole, *same) else "not as the other"
+
+
+def with_files(program):
+    """The runs that the programs over objects have to end alike, and those of kinds and JSON over several files."""
+    shown = [(data, "".join(line + "\n" for line in lines), 0) for _, _, data, lines in [*objects()][:3]]
+    for name, is_so, found in Program(program, USAGE, NO_OBJECT, shown).checked():
+        yield name, None if is_so else f"{found}"
+    with tempfile.TemporaryDirectory() as folder:
+        paths = [f"{folder}/{at}" for at in range(2)]
+        for path in paths:
+            pathlib.Path(path).write_bytes(certificate())
+        (_, text), (_, document) = run(program, certificate()), run(program, certificate(), "--json")
+        for words, wanted in (
+            (["certificate", *paths], f"{paths[0]}:\n{text}{paths[1]}:\n{text}"),
+            (["--json", *paths], document * 2),
+            ([paths[0], "--json", paths[1]], document * 2),
+            (["certificate", paths[0], "--json"], document),
+            (["--json", "certificate", "--", paths[0]], document),
+        ):
+            found = ended(program, words)
+            yield f"files {words}", None if found == (0, wanted, "") else f"{found}, and not {wanted}"
+        found, wanted = ended(program, ["crl", *paths]), "".join(f"x509_show: {path}: not a CRL in DER or hex\n" for path in paths)
+        yield "files of another kind", None if found == (2, "", wanted) else f"{found}, and not {wanted}"
 
 
 def main(program):

@@ -1,0 +1,142 @@
+"""Runs that x509_show and x509_linter have to end alike: help and version, files, what is refused, and an output that can't be written.
+
+What is to be printed is stated here by hand, but for the texts that are handed in.
+"""
+import os
+import pathlib
+import subprocess
+import tempfile
+import tomllib
+
+TOP = pathlib.Path(__file__).resolve().parents[2]
+PEM = {
+    b"-----BEGIN CERTIFICATE-----\nMAA=\n-----END CERTIFICATE-----\n": "x509",
+    b"-----BEGIN TRUSTED CERTIFICATE-----\n": "x509",
+    b"-----BEGIN ": "x509",
+    b"-----BEGIN X509 CRL-----\nMAA=\n-----END X509 CRL-----\n": "crl",
+    b"-----BEGIN CERTIFICATE REQUEST-----\r\n": "req",
+}
+GARBAGE = b"-----BEGIN", b"\xff" * 40, b"\x30\x80\0\0", b"no certificate\n", b" -----BEGIN CERTIFICATE-----\n", b"\n" + b"ab" * 20
+
+
+def version():
+    """The version of the package for Rust, which the programs have too."""
+    return tomllib.loads((TOP / "bindings/rust/Cargo.toml").read_text(encoding="utf-8"))["package"]["version"]
+
+
+def ended(program, words, data=b"", stdout=subprocess.PIPE, stderr=subprocess.PIPE):
+    """The status of a run, and what it writes to each stream."""
+    run = subprocess.run([program, *words], input=data, stdout=stdout, stderr=stderr, check=False)
+    return run.returncode, (run.stdout or b"").decode(), (run.stderr or b"").decode()
+
+
+class Program:
+    """A program: its file, its name, its line of usage, how it tells that an input is no object, and objects with their texts and statuses."""
+
+    def __init__(self, path, usage, no_object, objects):
+        self.path, self.name, self.usage, self.no_object, self.objects = path, usage.split()[1], usage, no_object, objects
+
+    def told(self, label, reason):
+        return 2, "", f"{self.name}: {label}: {reason}\n"
+
+    def itself(self):
+        """What the program says of itself."""
+        for words in (["--help"], ["--version", "--help"], ["no such file", "--help", "--no-option"]):
+            status, out, said = ended(self.path, words)
+            yield f"{words}", (status, said) == (0, "") and out.startswith(self.usage + "\n") and out.count("\n") > 8, out
+        yield from self.compared(
+            [
+                ("--version", ["--version"], b"", (0, f"{self.name} {version()}\n", "")),
+                ("--version behind a name", ["no such file", "--version"], b"", (0, f"{self.name} {version()}\n", "")),
+                ("an option that is none", ["--xml"], b"", (2, "", self.usage)),
+                ("an option that is none, and a file", ["-x", "no such file"], b"", (2, "", self.usage)),
+                ("help with something behind it", ["--help=all"], b"", (2, "", self.usage)),
+            ]
+        )
+
+    def compared(self, runs):
+        for name, words, data, wanted in runs:
+            found = ended(self.path, words, data)
+            yield name, found == wanted, f"{found}, and not {wanted}"
+
+    def refused(self):
+        """Inputs that are no object."""
+        yield "nothing", [], b"", self.told("standard input", f"{self.no_object}; it is empty")
+        yield "white space", [], b" \r\n", self.told("standard input", f"{self.no_object}; it is empty")
+        for data, command in PEM.items():
+            hint = f"; this looks like PEM: `openssl {command} -outform DER`"
+            yield f"PEM {data[:30]}", [], data, self.told("standard input", self.no_object + hint)
+        for data in GARBAGE:
+            yield f"garbage {data[:30]}", [], data, self.told("standard input", self.no_object)
+        yield "an input of 16 MiB", [], b"\1" * 16777216, self.told("standard input", self.no_object)
+        yield "a longer input", [], b"\1" * 16777217, self.told("standard input", "longer than 16777216 bytes")
+
+    def files(self, folder):
+        """Files, one or several, and names that are none."""
+        paths = []
+        for at, (data, text, status) in enumerate(self.objects):
+            path = str(folder / f"{at} ö.der")
+            pathlib.Path(path).write_bytes(data)
+            paths.append(path)
+            for words in ([path], ["--", path], [str(folder / "." / path)]):
+                yield f"the file {at}, {len(words)} words", words, b"", (status, text, "")
+            yield f"the object {at} on standard input, by name", ["-"], data, (status, text, "")
+        missing, hidden, strange = str(folder / "no such file"), str(folder / "hidden"), str(folder / "a\nb\x1b[2J")
+        yield "no file", [missing], b"", self.told(missing, "no such file")
+        yield "a file below a file", [paths[0] + "/x"], b"", self.told(paths[0] + "/x", "can't be opened")
+        yield "a directory", [str(folder)], b"", self.told(folder, "is a directory")
+        yield "an empty name", [""], b"", self.told("(an empty name)", "no such file")
+        yield "a name that isn't UTF-8", [b"\xff"], b"", self.told("(an empty name)", "no such file")
+        yield "a name that could end a line", [strange], b"", self.told("(a name with control characters)", "no such file")
+        yield "a name behind --", ["--", "--help"], b"", self.told("--help", "no such file")
+        pathlib.Path(hidden).write_bytes(b"")
+        os.chmod(hidden, 0)
+        if os.geteuid():
+            yield "a file that may not be read", [hidden], b"", self.told(hidden, "permission denied")
+        if os.path.exists("/proc/self/mem"):
+            yield "a file of which a read fails", ["/proc/self/mem"], b"", self.told("/proc/self/mem", "can't be read")
+        yield from self.several(paths, missing)
+
+    def several(self, paths, missing):
+        data = self.objects[0][0]
+        texts = [f"{path}:\n{text}" if text else "" for path, (_, text, _) in zip(paths, self.objects)]
+        statuses = [status for _, _, status in self.objects]
+        yield "all files", paths, b"", (max(statuses), "".join(texts), "")
+        yield "all files, turned round", paths[::-1], b"", (max(statuses), "".join(texts[::-1]), "")
+        yield "one twice", [paths[0]] * 2, b"", (statuses[0], texts[0] * 2, "")
+        said = f"{self.name}: {missing}: no such file\n"
+        yield "one that is missing between two", [paths[0], missing, paths[-1]], b"", (2, texts[0] + texts[-1], said)
+        heading = f"standard input:\n{self.objects[0][1]}" if self.objects[0][1] else ""
+        yield "a file and standard input", [paths[-1], "-"], data, (max(statuses[-1], statuses[0]), texts[-1] + heading, "")
+        again = f"{self.name}: standard input: {self.no_object}; it is empty\n"
+        yield "standard input twice", ["-", "-"], data, (2, heading, again)
+
+    def unwritten(self, folder):
+        """An output that takes nothing, and messages that can't be written."""
+        data, text, _ = next(it for it in self.objects if it[1])
+        path = folder / "full.der"
+        path.write_bytes(data)
+        with open("/dev/full", "wb") as full:
+            for words, said in (
+                ([], f"{self.name}: standard input: the output can't be written\n"),
+                ([str(path)], f"{self.name}: {path}: the output can't be written\n"),
+                ([str(path), "-"], f"{self.name}: {path}: the output can't be written\n{self.name}: standard input: the output can't be written\n"),
+                (["--help"], f"{self.name}: the output can't be written\n"),
+                (["--version"], f"{self.name}: the output can't be written\n"),
+            ):
+                found = ended(self.path, words, data, stdout=full)
+                yield f"a full output {len(words)} {words[:1]}", found == (2, "", said), found
+            for words, wanted in (([], 2), (["--xml"], 2), (["no such file"], 2)):
+                found = ended(self.path, words, b"", stderr=full)
+                yield f"messages that can't be written {words}", found == (wanted, "", ""), found
+                found = ended(self.path, words, data if not words else b"", stdout=full, stderr=full)
+                yield f"neither can be written {words}", found == (2, "", ""), found
+
+    def checked(self):
+        """For each run a name, whether it ended as stated, and how it ended."""
+        with tempfile.TemporaryDirectory() as name:
+            folder = pathlib.Path(name)
+            yield from self.itself()
+            yield from self.compared(self.refused())
+            yield from self.compared(self.files(folder))
+            yield from self.unwritten(folder)
