@@ -10,6 +10,7 @@ import subprocess
 import sys
 import tempfile
 import time
+import tomllib
 
 TOP = pathlib.Path(__file__).resolve().parents[2]
 BUILD, RUN = "tools/build/build_program.py", "tools/build/run_unproved.py"
@@ -44,6 +45,7 @@ with open("crates/x509_tool/out/x509_tool", "w") as it:
     it.write("#!/bin/sh\necho proved $*\nexit 5\n")
 os.chmod("crates/x509_tool/out/x509_tool", 0o755)
 """
+USAGE = b"usage: x509_tool reencode TYPE [rfc5280|raw] | name | encode-name | path MOMENT\n"
 failed = []
 
 
@@ -111,6 +113,15 @@ def real():
     for given, words, status, printed in ((b"0603550406\n", ["oid"], 0, b"0603550406\n"), (b"06035504\n", ["oid"], 1, b"refused: Malformed\n")):
         ended = run(tool + words, TOP, given)
         check(f"the sources answer {printed}", (ended.returncode, ended.stdout) == (status, printed), ended)
+    version = tomllib.loads((TOP / "bindings/rust/Cargo.toml").read_text(encoding="utf-8"))["package"]["version"]
+    ended = run([TOP / RUN, "x509_tool", "--version"], TOP, b"")
+    check("the version is that of the package for Rust", (ended.returncode, ended.stdout.decode()) == (0, f"x509_tool {version}\n"), ended)
+    ended = run([TOP / RUN, "x509_tool", "--help"], TOP, b"")
+    is_help = ended.returncode == 0 and ended.stdout.startswith(USAGE + b"\n") and ended.stdout.count(b"\n") > 8
+    check("--help begins with the usage", is_help, ended)
+    for words in (["--help", "x"], ["-h"], ["version"], []):
+        ended = run([TOP / RUN, "x509_tool", *words], TOP, b"")
+        check(f"other words get the usage alone: {words}", (ended.returncode, ended.stdout) == (2, USAGE), ended)
     octets = b"04830F4240" + b"00" * 1_000_000 + b"\n"
     ended = run(tool + ["any"], TOP, octets)
     is_none = (ended.returncode, ended.stdout) == (3, b"") and b"no answer" in ended.stderr

@@ -24,6 +24,7 @@ from test_linter import SIGNATURE
 FORGED = "x\nserial: 00\r\u2028issuer: y\u202e\x1b[2J\x00\x85\\\""
 NO_OBJECT = "not a certificate, CRL, CSR or trust anchor in DER or hex"
 REFUSED = f"x509_show: standard input: {NO_OBJECT}\n"
+UNWRITTEN = "x509_show: standard input: the output can't be written\n"
 USAGE = "usage: x509_show [certificate|crl|csr|anchor] [--json] [FILE..]\n"
 # What is refused with each word.
 WORDS = {"certificate": "a certificate", "crl": "a CRL", "csr": "a CSR", "anchor": "a trust anchor"}
@@ -120,20 +121,22 @@ def refusals(whole):
 
 
 def closed_early(program, data, front, *words):
-    """The status of a program of whose output so many bytes are read, and what was read."""
-    with subprocess.Popen([program, *words], stdin=subprocess.PIPE, stdout=subprocess.PIPE, restore_signals=False) as child:
+    """The status of a program of whose output so many bytes are read, what was read, and what it says."""
+    pipes = {"stdin": subprocess.PIPE, "stdout": subprocess.PIPE, "stderr": subprocess.PIPE}
+    with subprocess.Popen([program, *words], **pipes, restore_signals=False) as child:
         child.stdin.write(data)
         child.stdin.close()
         read = child.stdout.read(front)
         child.stdout.close()
-        return child.wait(), read.decode("utf-8")
+        said = child.stderr.read()
+        return child.wait(), read.decode("utf-8"), said.decode("utf-8")
 
 
 def is_unwritable(program, data, *words):
     """What is wrong where the output can't be written; None where nothing is."""
     with open("/dev/full", "wb") as full:
-        status = subprocess.run([program, *words], input=data, stdout=full, check=False).returncode
-    return None if status == 2 else f"status {status}"
+        found = ended(program, words, data, stdout=full)
+    return None if found == (2, "", UNWRITTEN) else f"{found}"
 
 
 def many_pieces(program):
@@ -148,8 +151,8 @@ def many_pieces(program):
     for words in ([], ["--json"]):
         whole = run(program, data, *words)[1]
         # A pipe holds 64 KiB, so that at least one write of several fails.
-        status, read = closed_early(program, data, 20_000, *words)
-        is_front = status == 2 and len(whole) > 300_000 and whole.startswith(read)
+        status, read, said = closed_early(program, data, 20_000, *words)
+        is_front = (status, said) == (2, UNWRITTEN) and len(whole) > 300_000 and whole.startswith(read)
         yield f"a long crl, its reader gone {words}", None if is_front else f"status {status}, {len(whole)} in all"
         yield f"a long crl without room {words}", is_unwritable(program, data, *words)
 
