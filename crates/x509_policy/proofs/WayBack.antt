@@ -36,8 +36,7 @@ split level levels more reached above here back r v u w other alive way lead fro
 pub goes_back : {levels : List Level} {reached found : List Policy} → GoesBack levels reached found → AllHang levels → (r : Policy) → In r found ↔ Found levels reached r
 goes_back at_root root r = ((λ h. absurd h), (λ (other, (v, alive, (first, any))). absurd (other first)))
 goes_back {levels = level ∷ levels} {reached} (one_back {above} {here} back before all) (hangs h more) r =
-    let earlier = goes_back before more r in
-    (
+    let earlier = goes_back before more r in (
       (λ is. elim ((all r).0 is) [
         | inl now ↦ found_here level levels h more reached above here back r now
         | inr later ↦ found_above level levels reached above here back r (earlier.0 later)
