@@ -116,12 +116,15 @@ names_match-length [] (y ∷ ys) h = absurd h
 names_match-length (x ∷ xs) [] h = absurd h
 
 pub too_short : (ks ls : List RdnKey) (x y : List (List AttributeTypeAndValue)) → AreRdnKeys ks x → AreRdnKeys ls y → length ks < length ls → IsTrue false ↔ BeginsWith x y
-too_short ks ls x y h i lt = (λ e. absurd cc, λ m.
-  let same = names_match-length (take (length y) x) y m in
-  let own = keys-length ks x h in
-  let other = keys-length ls y i in
-  let less = length-take (length y) x in
-  absurd (omega arith))
+too_short ks ls x y h i lt = (
+  λ e. absurd cc,
+  λ m.
+      let same = names_match-length (take (length y) x) y m in
+      let own = keys-length ks x h in
+      let other = keys-length ls y i in
+      let less = length-take (length y) x in
+      absurd (omega arith),
+)
 
 pub first_keys : (ks ls front : List RdnKey) (r : Bool) (x y : List (List AttributeTypeAndValue)) → AreRdnKeys ks x → AreRdnKeys ls y → front ≡ take (length ls) ks → r ≡ pointwise rdn_eq.ghosts.eq front ls
     → IsTrue r ↔ BeginsWith x y

@@ -1,5 +1,5 @@
 -- RDNs match where as many attributes of the one as of the other match each of the one.
-use Rattle.std.proofs.Common.{◌≡◌, ℕ, zero, suc, ◌+◌, ◌<◌, ◌≤◌, Bool, true, false, cond, bytes_eq, ◌↔◌, ◌≢◌, not, if◌then◌else◌, IsTrue, take, List, [], ◌∷◌, ◌++◌, length, get_or, map, sum_by, All, refl, sym, ap, ◌∙◌, subst, arith, inl, inr, suc-le-suc, zero-le, le_of_suc-le-suc}
+use Rattle.std.proofs.Common.{◌≡◌, ℕ, zero, suc, ◌+◌, ◌<◌, ◌≤◌, Bool, true, false, cond, bytes_eq, ◌↔◌, ◌≢◌, not, if◌then◌else◌, IsTrue, take, List, [], ◌∷◌, ◌++◌, length, get_or, map, All, refl, sym, ap, ◌∙◌, subst, arith, inl, inr, suc-le-suc, zero-le, le_of_suc-le-suc}
 use Rattle.std.proofs.lemmas.Bool.{cases_Bool}
 use Rattle.std.proofs.lemmas.List.{nil_from_length, take_more, take_all, map_push, length-map}
 use Rattle.std.proofs.lemmas.List.Elements.{All-push}

@@ -1,17 +1,17 @@
 -- ASCII texts, prepared.
-use Rattle.std.proofs.Common.{◌≡◌, ℕ, zero, suc, ◌+◌, ◌-◌, ◌<◌, ◌≤◌, Bool, true, false, cond, not, ◌&&◌, ◌||◌, nat_eq, nat_lt, nat_le, List, [], ◌∷◌, ◌++◌, length, take, drop, get_or, map, filter, All, IsAscii, chars, Option, Some, None, if◌then◌else◌, refl, sym, ap, ap₂, ◌∙◌, subst, inl, inr, lit<, arith, suc-le-suc, le_of_suc-le-suc, zero-le}
-use Rattle.std.proofs.lemmas.Bool.{agree_below_at, cases_Bool, and_parts, and_from, ltb-true, lt-ltb, eqb-true}
+use Rattle.std.proofs.Common.{◌≡◌, ℕ, zero, suc, ◌-◌, ◌<◌, ◌≤◌, Bool, true, false, not, ◌&&◌, ◌||◌, nat_eq, List, [], ◌∷◌, ◌++◌, length, take, drop, get_or, map, All, Some, if◌then◌else◌, refl, sym, ap, ap₂, ◌∙◌, inl, inr, lit<, arith, le_of_suc-le-suc}
+use Rattle.std.proofs.lemmas.Bool.{agree_below_at, cases_Bool, and_parts, and_from, lt-ltb, eqb-true}
 use Rattle.std.proofs.lemmas.Bool.Decides.{nat_tests}
 use Rattle.std.proofs.lemmas.List.{take_all}
 use Rattle.std.specs.Char.{to_ascii_lowercase}
 use Rattle.std.specs.List.{list_all, list_any}
 use Rattle.caseless.proofs.CaselessLemmas.{default_case_fold-ascii}
 use Rattle.unicode_normalization.proofs.FormsLemmas.{normalize-ascii}
-use Rattle.unicode_normalization.specs.Forms.{Nfkc, nfkc}
+use Rattle.unicode_normalization.specs.Forms.{Nfkc}
 use Rattle.x509_prim.specs.Alphabet.{is_ia5, ia5_ascii}
 use Rattle.x509_match.specs.Plain.{is_letter, is_white, plain_behind}
 use Rattle.x509_match.specs.declared.text.TheConstants.{WHITE_SPACE}
-use Rattle.x509_match.specs.Prepared.{is_kept, spaced, is_mark, is_prohibited, mapped, folded, begins_with_mark, is_within, squeezed_behind, squeezed, prepared}
+use Rattle.x509_match.specs.Prepared.{is_kept, spaced, is_mark, is_prohibited, mapped, folded, begins_with_mark, is_within, squeezed, prepared}
 
 -- ---- the characters below 80, by computation
 

@@ -16,7 +16,7 @@ use Rattle.x509_prim.specs.Alphabet.{is_ia5}
 use Rattle.x509_match.proofs.AttributesAgree.{attributes_agree}
 use Rattle.x509_match.proofs.PlainTexts.{prepared_ascii}
 use Rattle.x509_match.proofs.Values.{ascii_is}
-use Rattle.x509_match.specs.Keys.{ascii_characters, utf8_characters, characters, mailbox, compared, compared_value, octets_key, attribute_key}
+use Rattle.x509_match.specs.Keys.{ascii_characters, utf8_characters, characters, mailbox, compared, compared_value, octets_key}
 use Rattle.x509_match.specs.Plain.{plain_behind, IsPlainText}
 
 pub ascii_text : (content : List ℕ) → list_all is_ia5 content ≡ true → ascii_characters content ≡ Some content

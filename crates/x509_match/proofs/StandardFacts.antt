@@ -1,5 +1,5 @@
 -- Texts that RFC 4518 prepares, computed from the definitions.
-use Rattle.std.proofs.Common.{◌≡◌, ℕ, false, List, [], ◌∷◌, codes, refl}
+use Rattle.std.proofs.Common.{◌≡◌, false, [], ◌∷◌, codes, refl}
 use Rattle.x509_match.specs.Keys.{mailbox}
 use Rattle.x509_match.specs.Plain.{plain_behind}
 use Rattle.x509_match.specs.Prepared.{is_kept, is_mark, mapped, spaced, squeezed}

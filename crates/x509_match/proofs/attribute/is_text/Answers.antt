@@ -1,4 +1,3 @@
-use Rattle.std.proofs.Common.{sym, ◌∙◌, subst}
 use Rattle.x509_match.proofs.PlainValues.{printable_text, ia5_text, utf8_text}
 use Rattle.x509_match.proofs.attribute.is_text.Goals as goal
 

@@ -1,4 +1,4 @@
-use Rattle.std.proofs.Common.{sym, ◌∙◌, inl, inr}
+use Rattle.std.proofs.Common.{inl, inr}
 use Rattle.x509_match.proofs.PlainValues.{not_alike, no_text, a_text, text_keys}
 use Rattle.x509_match.proofs.attribute.plain_values_match.Goals as goal
 

@@ -1,5 +1,4 @@
-use Rattle.std.proofs.Common.{sym, ◌∙◌, subst, arith, Some, refl, ap, rules, get_or, ◌∷◌}
-use Rattle.x509_match.specs.Plain.{plain_behind}
+use Rattle.std.proofs.Common.{sym, ◌∙◌, refl, rules, get_or}
 use Rattle.x509_match.proofs.PlainTexts.{next-space, next-letter, next-skipped, next-none}
 use Rattle.x509_match.proofs.plain.next_octet.Goals as goal
 
