@@ -1,0 +1,4 @@
+pub mod Ends
+pub mod Keys
+pub mod Sweep
+pub mod Search

@@ -1,0 +1,13 @@
+//! Name constraints (RFC 5280 4.2.1.10, 6.1.3 (b), (c), 6.1.4 (g)): which names are within a subtree, over the octets of
+//! hosts, addresses of e-mail, URIs and IP addresses.
+//!
+//! Words of our own are explained in `docs/MAP.md`.
+#![tactic(auto)]
+
+mod host;
+mod key;
+mod prefixes;
+
+pub use host::{is_within_dns, is_within_host};
+pub use key::Key;
+pub use prefixes::Prefixes;
