@@ -2,3 +2,4 @@ pub mod Ends
 pub mod Keys
 pub mod Sweep
 pub mod Search
+pub mod Anys

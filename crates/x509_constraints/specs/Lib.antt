@@ -1,3 +1,5 @@
 pub mod Host
 pub mod Prefixes
 pub mod KeyOrder
+pub mod Keys
+pub mod KeyLaws

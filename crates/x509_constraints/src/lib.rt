@@ -4,10 +4,16 @@
 //! Words of our own are explained in `docs/MAP.md`.
 #![tactic(auto)]
 
+mod form;
 mod host;
 mod key;
 mod prefixes;
+mod subtrees;
+mod turned;
 
+pub use form::Form;
 pub use host::{is_within_dns, is_within_host};
 pub use key::Key;
 pub use prefixes::Prefixes;
+pub use subtrees::Subtrees;
+pub use turned::{DnsName, Host};

@@ -1,0 +1,31 @@
+-- Keys by which names are looked up: a name is within a subtree exactly where its key begins with one of the subtree's.
+use Rattle.std.specs.Prelude.{ℕ, ◌+◌, ◌==◌, Bool, true, List, [], ◌∷◌, ◌++◌, map, reverse, if◌then◌else◌}
+use Rattle.x509_constraints.specs.Host.{dot, lower}
+
+-- behind the octets of a host
+abbrev pub stop : ℕ
+stop = 0
+
+-- octets as symbols, none of which is a stop
+abbrev pub symbols : List ℕ → List ℕ
+symbols octets = map (λ c. c + 1) octets
+
+-- a host from its end to its front, in lower case
+unfoldable pub turned : List ℕ → List ℕ
+turned host = symbols (reverse (lower host))
+
+abbrev pub host_key : List ℕ → List ℕ
+host_key host = turned host ++ stop ∷ []
+
+-- it has no host of its own: it is empty, or has a dot in front
+abbrev pub is_open : List ℕ → Bool
+is_open [] = true
+is_open (c ∷ rest) = c == dot
+
+-- where the keys of the hosts begin that are within the subtree
+abbrev pub host_prefix : List ℕ → List ℕ
+host_prefix subtree = if is_open subtree then turned subtree else turned subtree ++ stop ∷ []
+
+-- and those of DNS names: of such a host, or of one that ends so behind a dot
+abbrev pub dns_prefixes : List ℕ → List (List ℕ)
+dns_prefixes subtree = host_prefix subtree ∷ turned (dot ∷ subtree) ∷ []
