@@ -3,3 +3,4 @@ pub mod Keys
 pub mod Sweep
 pub mod Search
 pub mod Anys
+pub mod Mailboxes

@@ -3,3 +3,5 @@ pub mod Prefixes
 pub mod KeyOrder
 pub mod Keys
 pub mod KeyLaws
+pub mod Email
+pub mod EmailLaws

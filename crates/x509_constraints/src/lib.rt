@@ -4,6 +4,7 @@
 //! Words of our own are explained in `docs/MAP.md`.
 #![tactic(auto)]
 
+mod email;
 mod form;
 mod host;
 mod key;
@@ -11,6 +12,7 @@ mod prefixes;
 mod subtrees;
 mod turned;
 
+pub use email::{EmailAddress, is_within_email, split_mailbox};
 pub use form::Form;
 pub use host::{is_within_dns, is_within_host};
 pub use key::Key;

@@ -1,0 +1,51 @@
+-- Addresses of e-mail under constraints (RFC 5280 4.2.1.10).
+use Rattle.std.specs.Prelude.{◌≡◌, ◌⊎◌, ℕ, ◌==◌, List, [], ◌∷◌, ◌++◌, Option, None, Some, if◌then◌else◌}
+use Rattle.x509_constraints.specs.Host.{IsSame, IsWithinHost}
+use Rattle.x509_constraints.specs.Keys.{host_prefix, stop, symbols, turned}
+
+-- '@'
+abbrev pub at : ℕ
+at = 0x40
+
+-- an octet in front of a text, of which the parts round its last '@' are known
+abbrev pub in_front : ℕ → List ℕ → Option (List ℕ × List ℕ) → Option (List ℕ × List ℕ)
+in_front c rest (Some (local, host)) = Some (c ∷ local, host)
+in_front c rest None = if c == at then Some ([], rest) else None
+
+-- what stands before the last '@' and what behind it, if there is one
+abbrev pub mailbox_of : List ℕ → Option (List ℕ × List ℕ)
+mailbox_of [] = None
+mailbox_of (c ∷ rest) = in_front c rest (mailbox_of rest)
+
+-- a mailbox is within a subtree that is a mailbox where both are the same, and else where its host is
+abbrev pub IsWithinParts : List ℕ → List ℕ → List ℕ → Option (List ℕ × List ℕ) → Type 0
+IsWithinParts local host subtree (Some (own_local, own_host)) = (local ≡ own_local) × IsSame host own_host
+IsWithinParts local host subtree None = IsWithinHost host subtree
+
+abbrev pub IsMailboxWithin : Option (List ℕ × List ℕ) → List ℕ → Type 0
+IsMailboxWithin None subtree = ⊥
+IsMailboxWithin (Some (local, host)) subtree = IsWithinParts local host subtree (mailbox_of subtree)
+
+-- An address of e-mail: an empty subtree has all, one with an '@' that mailbox, any other the mailboxes of its hosts. The case of
+-- the local part makes a difference.
+abbrev pub IsWithinEmail : List ℕ → List ℕ → Type 0
+IsWithinEmail name subtree = (subtree ≡ []) ⊎ IsMailboxWithin (mailbox_of name) subtree
+
+-- ---- keys: the host as that of hosts, then the local part
+
+abbrev pub mailbox_key : List ℕ → List ℕ → List ℕ
+mailbox_key local host = turned host ++ stop ∷ (symbols local ++ stop ∷ [])
+
+abbrev pub email_key_at : Option (List ℕ × List ℕ) → List ℕ
+email_key_at None = []
+email_key_at (Some (local, host)) = mailbox_key local host
+
+abbrev pub email_key : List ℕ → List ℕ
+email_key name = email_key_at (mailbox_of name)
+
+abbrev pub email_prefix_at : List ℕ → Option (List ℕ × List ℕ) → List ℕ
+email_prefix_at subtree None = host_prefix subtree
+email_prefix_at subtree (Some (local, host)) = mailbox_key local host
+
+abbrev pub email_prefix : List ℕ → List ℕ
+email_prefix subtree = email_prefix_at subtree (mailbox_of subtree)
