@@ -5,3 +5,4 @@ pub mod Keys
 pub mod KeyLaws
 pub mod Email
 pub mod EmailLaws
+pub mod Address

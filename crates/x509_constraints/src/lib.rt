@@ -4,6 +4,7 @@
 //! Words of our own are explained in `docs/MAP.md`.
 #![tactic(auto)]
 
+mod address;
 mod email;
 mod form;
 mod host;
@@ -12,6 +13,7 @@ mod prefixes;
 mod subtrees;
 mod turned;
 
+pub use address::{is_address_subtree, is_within_address};
 pub use email::{EmailAddress, is_within_email, split_mailbox};
 pub use form::Form;
 pub use host::{is_within_dns, is_within_host};
