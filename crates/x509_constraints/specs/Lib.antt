@@ -6,3 +6,5 @@ pub mod KeyLaws
 pub mod Email
 pub mod EmailLaws
 pub mod Address
+pub mod AddressKeys
+pub mod AddressLaws
