@@ -1,5 +1,5 @@
 -- IP addresses under constraints (RFC 5280 4.2.1.10).
-use Rattle.std.specs.Prelude.{◌≡◌, ℕ, ◌+◌, ◌/◌, ◌%◌, ◌<◌, ◌==◌, ◌&&◌, ◌||◌, Bool, true, false, List, [], ◌∷◌, ◌++◌, length, take, drop, bit_and, slice_index, if◌then◌else◌}
+use Rattle.std.specs.Prelude.{◌≡◌, ℕ, ◌+◌, ◌<◌, ◌==◌, ◌&&◌, ◌||◌, Bool, true, List, [], ◌∷◌, length, take, drop, bit_and, slice_index, if◌then◌else◌}
 use Rattle.std.specs.List.{list_any}
 
 -- ---- masks

@@ -1,5 +1,6 @@
 -- Keys of IP addresses: for each octet how it begins, by one bit more at a time.
-use Rattle.std.specs.Prelude.{ℕ, ◌/◌, ◌%◌, ◌==◌, ◌||◌, List, [], ◌∷◌, ◌++◌, length, take, drop, flat_map, if◌then◌else◌}
+use Rattle.std.specs.Prelude.{ℕ, Bool, ◌/◌, ◌%◌, ◌==◌, ◌||◌, List, [], ◌∷◌, ◌++◌, length, take, drop, if◌then◌else◌}
+use Rattle.std.specs.List.{flat_map}
 use Rattle.x509_constraints.specs.Address.{is_address_subtree}
 
 -- the first bit of an octet, its first two, and so on
@@ -16,8 +17,7 @@ ones m = if m == 0xFF then 8 else if m == 0xFE then 7 else if m == 0xFC then 6 e
     else if m == 0xC0 then 2 else if m == 0x80 then 1 else 0
 
 abbrev pub spread : List ℕ → List ℕ
-spread [] = []
-spread (x ∷ xs) = octet_symbols x ++ spread xs
+spread octets = flat_map octet_symbols octets
 
 -- what the mask leaves of it
 abbrev pub narrowed : List ℕ → List ℕ → List ℕ
@@ -25,9 +25,12 @@ narrowed [] mask = []
 narrowed (a ∷ address) [] = []
 narrowed (a ∷ address) (m ∷ mask) = take (ones m) (octet_symbols a) ++ narrowed address mask
 
+abbrev pub is_address : List ℕ → Bool
+is_address name = (length name == 4) || (length name == 16)
+
 -- behind the length, by which the two kinds differ
 abbrev pub address_key : List ℕ → List ℕ
-address_key name = length name ∷ spread name
+address_key name = if is_address name then length name ∷ spread name else []
 
 abbrev pub address_prefix : ℕ → List ℕ → List ℕ
 address_prefix half subtree = half ∷ narrowed (take half subtree) (drop half subtree)

@@ -1,5 +1,5 @@
 -- Keys of e-mail addresses say which subtrees have them.
-use Rattle.std.proofs.Common.{if◌then◌else◌, ◌==◌, ◌+◌, ◌≡◌, ◌⊎◌, inl, inr, ◌↔◌, ℕ, Bool, true, false, List, [], ◌∷◌, ◌++◌, Option, None, Some, reverse, refl, sym, ◌∙◌, ap, subst}
+use Rattle.std.proofs.Common.{if◌then◌else◌, ◌==◌, ◌+◌, ◌≡◌, ◌⊎◌, inl, inr, ◌↔◌, ℕ, Bool, true, false, List, [], ◌∷◌, ◌++◌, Option, None, Some, reverse, refl, sym, ◌∙◌, ap}
 use Rattle.std.proofs.lemmas.List.{reverse-reverse}
 use Rattle.std.specs.Char.{to_ascii_lowercase}
 use Rattle.x509_constraints.specs.Email.{IsMailboxWithin, IsWithinEmail, IsWithinParts, email_key, email_key_at, email_prefix, email_prefix_at, mailbox_key, mailbox_of}
@@ -23,6 +23,9 @@ host_prefix-some c rest = by_first (c == dot)
 clash : (b : Bool) → b ≡ true → b ≡ false → ⊥
 clash b t f = let e : true ≡ false = sym t ∙ f in cc
 
+is_no_mailbox : (parts : List ℕ × List ℕ) → mailbox_of [] ≡ Some parts → ⊥
+is_no_mailbox parts h = cc
+
 -- a name without a mailbox is within an empty subtree alone
 none_answers : (subtree : List ℕ) (own : Option (List ℕ × List ℕ)) → mailbox_of subtree ≡ own → (begins [] (email_prefix_at subtree own) ≡ true) ↔ ((subtree ≡ []) ⊎ ⊥)
 unfolding turned
@@ -30,7 +33,7 @@ none_answers subtree (Some (local, host)) is =
     ((λ h. absurd (clash _ h (begins_none (turned host) (symbols local ++ stop ∷ []) stop))), back)
   where
     back : (subtree ≡ []) ⊎ ⊥ → begins [] (mailbox_key local host) ≡ true
-    back (inl empty) = let e : None ≡ Some (local, host) = sym (ap mailbox_of empty) ∙ is in absurd (cc)
+    back (inl empty) = absurd (is_no_mailbox (local, host) (sym (ap mailbox_of empty) ∙ is))
     back (inr never) = absurd never
 none_answers [] None is = ((λ h. inl refl), (λ h. refl))
 none_answers (c ∷ rest) None is = ((λ h. absurd (clash _ h (host_prefix-some c rest))), back)
@@ -47,15 +50,16 @@ some_answers local host subtree (Some (l, h)) is = (forth, back)
   where
     forth : begins (mailbox_key local host) (mailbox_key l h) ≡ true → (subtree ≡ []) ⊎ ((local ≡ l) × IsSame host h)
     forth begun =
-      let hosts = stops_meet (reverse (lower host)) (reverse (lower h)) (symbols local ++ stop ∷ []) (symbols l ++ stop ∷ []) begun in
-      let locals = stops_meet local l [] [] hosts.1 in
-      inr (locals.0, sym (reverse-reverse (lower host)) ∙ (ap reverse hosts.0 ∙ reverse-reverse (lower h)))
+        let hosts = stops_meet (reverse (lower host)) (reverse (lower h)) (symbols local ++ stop ∷ []) (symbols l ++ stop ∷ []) begun in
+        let locals = stops_meet local l [] [] hosts.1 in
+        inr (locals.0, sym (reverse-reverse (lower host)) ∙ (ap reverse hosts.0 ∙ reverse-reverse (lower h)))
+
     back : (subtree ≡ []) ⊎ ((local ≡ l) × IsSame host h) → begins (mailbox_key local host) (mailbox_key l h) ≡ true
-    back (inl empty) = let e : None ≡ Some (l, h) = sym (ap mailbox_of empty) ∙ is in absurd (cc)
+    back (inl empty) = absurd (is_no_mailbox (l, h) (sym (ap mailbox_of empty) ∙ is))
     back (inr (same_local, same_host)) =
-      ap (λ x. begins (symbols (reverse x) ++ stop ∷ (symbols local ++ stop ∷ [])) (mailbox_key l h)) same_host
-      ∙ (ap (λ x. begins (turned h ++ stop ∷ (symbols x ++ stop ∷ [])) (mailbox_key l h)) same_local
-      ∙ stops_same (reverse (lower h)) (symbols l ++ stop ∷ []) (symbols l ++ stop ∷ []) (stops_same l [] [] refl))
+        ap (λ x. begins (symbols (reverse x) ++ stop ∷ (symbols local ++ stop ∷ [])) (mailbox_key l h)) same_host
+        ∙ (ap (λ x. begins (turned h ++ stop ∷ (symbols x ++ stop ∷ [])) (mailbox_key l h)) same_local
+        ∙ stops_same (reverse (lower h)) (symbols l ++ stop ∷ []) (symbols l ++ stop ∷ []) (stops_same l [] [] refl))
 some_answers local host subtree None is =
     let answers = host_answers host subtree (symbols local ++ stop ∷ []) in
     ((λ h. inr (answers.0 h)), (λ within. answers.1 (without within)))

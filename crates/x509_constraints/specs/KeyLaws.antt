@@ -1,12 +1,12 @@
 -- Hosts that are turned round: one that ends with another begins with it.
-use Rattle.std.proofs.Common.{if◌then◌else◌, ◌≡◌, ◌⊎◌, inl, inr, ◌↔◌, ℕ, ◌+◌, ◌-◌, ◌==◌, ◌<◌, ◌≤◌, Bool, true, false, ◌||◌, List, [], ◌∷◌, ◌++◌, length, map, reverse, drop, get_or, refl, sym, ◌∙◌, ap, subst, arith, append_assoc, add-one, drop-cons}
+use Rattle.std.proofs.Common.{if◌then◌else◌, ◌≡◌, ◌⊎◌, inl, inr, ◌↔◌, ℕ, ◌+◌, ◌-◌, ◌<◌, Bool, true, false, ◌||◌, List, [], ◌∷◌, ◌++◌, length, map, reverse, drop, get_or, refl, sym, ◌∙◌, ap, subst, arith, append_assoc, add-one, drop-cons}
 use Rattle.std.proofs.Math.Seq.{drop-length}
 use Rattle.std.proofs.lemmas.Bool.{or_cases}
 use Rattle.std.proofs.lemmas.Bool.Decides.{eqb_tells, nat_tests}
 use Rattle.std.proofs.lemmas.Grind.{reverse_onto}
 use Rattle.std.proofs.lemmas.List.{append-nil, map-append, reverse-append, reverse-reverse}
 use Rattle.std.specs.Char.{to_ascii_lowercase}
-use Rattle.x509_constraints.specs.Host.{EndsWith, IsDotted, IsSame, IsWithinDns, IsWithinHost, dot, lower}
+use Rattle.x509_constraints.specs.Host.{EndsWith, IsDotted, IsWithinDns, IsWithinHost, dot, lower}
 use Rattle.x509_constraints.specs.Keys.{dns_prefixes, host_key, host_prefix, stop, symbols, turned}
 use Rattle.x509_constraints.specs.Prefixes.{begins, has_prefix}
 

@@ -1,17 +1,20 @@
 //! IP addresses (RFC 5280 4.2.1.10).
 
-ghost use Rattle.std.specs.Prelude.{◌≡◌, ◌↔◌, ◌≤◌, IsTrue, length};
+ghost use Rattle.std.specs.Prelude.{◌≡◌, ◌↔◌, ◌≤◌, ◌+◌, ◌++◌, ◌∷◌, IsTrue, IfOk, OnOk, length, take};
 ghost use Rattle.x509_constraints.specs.Address as addresses;
 ghost use Rattle.x509_constraints.specs.Address.{IsSameMasked, IsWithinAddress};
+ghost use Rattle.x509_constraints.specs.AddressKeys as address_keys;
+ghost use Rattle.x509_constraints.specs.AddressKeys.{address_key, address_prefix, address_prefixes, narrowed, octet_symbols, spread};
+
+use crate::form::Form;
+use crate::key::Key;
+use std::alloc::{AllocError, Global};
 
 /// Whether the octet begins with ones, or none, and has a zero behind them.
 fn is_partial(octet: u8) -> bool
     ensures { result ≡ addresses.is_partial octet }
 {
-    matches!(
-        octet,
-        0x00 | 0x80 | 0xC0 | 0xE0 | 0xF0 | 0xF8 | 0xFC | 0xFE
-    )
+    matches!(octet, 0x00 | 0x80 | 0xC0 | 0xE0 | 0xF0 | 0xF8 | 0xFC | 0xFE)
 }
 
 /// Whether the mask's ones come first.
@@ -68,4 +71,138 @@ pub fn is_within_address(name: &[u8], subtree: &[u8]) -> bool
     }
     let (address, mask) = subtree.split_at(name.len());
     are_same_masked(name, address, mask)
+}
+
+/// How many ones an octet of a mask begins with.
+fn ones(octet: u8) -> usize
+    ensures value { result ≡ address_keys.ones octet }
+    ensures few { result ≤ 8 }
+{
+    match octet {
+        0xFF => 8,
+        0xFE => 7,
+        0xFC => 6,
+        0xF8 => 5,
+        0xF0 => 4,
+        0xE0 => 3,
+        0xC0 => 2,
+        0x80 => 1,
+        _ => 0,
+    }
+}
+
+/// Adds the octets as symbols.
+fn push_octets(key: &mut Key, octets: &[u8]) -> Result<(), AllocError>
+    ensures { OnOk result (key.new ≡ key.old ++ octets.now) }
+{
+    for octet in octets {
+        key.push(u16::from(*octet))?;
+    }
+    Ok(())
+}
+
+/// Adds the first bit of the octet, its first two, and so on, as many as are asked for.
+fn push_beginnings(key: &mut Key, octet: u8, count: usize) -> Result<(), AllocError>
+    requires { count ≤ 8 }
+    ensures { OnOk result (key.new ≡ key.old ++ take count (octet_symbols octet)) }
+{
+    let symbols = [
+        octet / 128,
+        octet / 64,
+        octet / 32,
+        octet / 16,
+        octet / 8,
+        octet / 4,
+        octet / 2,
+        octet,
+    ];
+    push_octets(key, &symbols[..count])
+}
+
+/// Adds what the mask leaves of the address.
+fn push_narrowed(key: &mut Key, address: &[u8], mask: &[u8]) -> Result<(), AllocError>
+    requires { length address.now ≡ length mask.now }
+    ensures { OnOk result (key.new ≡ key.old ++ narrowed address.now mask.now) }
+{
+    for i in 0..address.len() {
+        push_beginnings(key, address[i], ones(mask[i]))?;
+    }
+    Ok(())
+}
+
+/// Adds the whole address.
+fn push_spread(key: &mut Key, name: &[u8]) -> Result<(), AllocError>
+    ensures { OnOk result (key.new ≡ key.old ++ spread name.now) }
+{
+    for octet in name {
+        push_beginnings(key, *octet, 8)?;
+    }
+    Ok(())
+}
+
+/// The prefix of the addresses of that length that are within the subtree.
+fn prefix_of_addresses(alloc: Global, half: u16, subtree: &[u8]) -> Result<Key, AllocError>
+    requires { length subtree.now ≡ half + half }
+    ensures { IfOk result (λ key. key ≡ address_prefix half subtree.now) }
+{
+    let mut key = Key::new(alloc);
+    key.push(half)?;
+    let (address, mask) = subtree.split_at(usize::from(half));
+    push_narrowed(&mut key, address, mask)?;
+    Ok(key)
+}
+
+/// The key of an address of that length.
+fn key_of_address(alloc: Global, len: u16, name: &[u8]) -> Result<Key, AllocError>
+    ensures { IfOk result (λ key. key ≡ len ∷ spread name.now) }
+{
+    let mut key = Key::new(alloc);
+    key.push(len)?;
+    push_spread(&mut key, name)?;
+    Ok(key)
+}
+
+/// IP addresses (RFC 5280 4.2.1.10).
+#[derive(Drop)]
+pub struct IpAddress;
+
+impl Form for IpAddress {
+    ghost use Rattle.x509_constraints.specs.AddressLaws.{address_answers};
+
+    ghost IsWithin = { IsWithinAddress };
+
+    ghost key_of = { address_key };
+
+    ghost prefixes_of = { address_prefixes };
+
+    ghost answers = { address_answers };
+
+    fn is_within(name: &[u8], subtree: &[u8]) -> bool {
+        is_within_address(name, subtree)
+    }
+
+    fn key(alloc: Global, name: &[u8]) -> Result<Key, AllocError> {
+        match name.len() {
+            4 => key_of_address(alloc, 4, name),
+            16 => key_of_address(alloc, 16, name),
+            _ => Ok(Key::new(alloc)),
+        }
+    }
+
+    fn push_prefixes(
+        alloc: Global,
+        prefixes: &mut Vec<Key>,
+        subtree: &[u8],
+    ) -> Result<(), AllocError> {
+        if !is_address_subtree(subtree) {
+            return Ok(());
+        }
+        let prefix = if subtree.len() == 8 {
+            prefix_of_addresses(alloc, 4, subtree)?
+        } else {
+            prefix_of_addresses(alloc, 16, subtree)?
+        };
+        prefixes.push(prefix)?;
+        Ok(())
+    }
 }

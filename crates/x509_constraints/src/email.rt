@@ -29,9 +29,7 @@ fn is_within_parts(local: &[u8], host: &[u8], subtree: &[u8]) -> bool
     ensures { IsTrue result ↔ IsWithinParts local.now host.now subtree.now (mailbox_of subtree.now) }
 {
     match split_mailbox(subtree) {
-        Some((own_local, own_host)) => {
-            local == own_local && host.eq_ignore_ascii_case(own_host)
-        }
+        Some((own_local, own_host)) => { local == own_local && host.eq_ignore_ascii_case(own_host) }
         None => is_within_host(host, subtree),
     }
 }
@@ -85,6 +83,10 @@ impl Form for EmailAddress {
     ghost prefixes_of = { λ subtree. email_prefix subtree ∷ [] };
 
     ghost answers = { email_answers };
+
+    fn is_within(name: &[u8], subtree: &[u8]) -> bool {
+        is_within_email(name, subtree)
+    }
 
     fn key(alloc: Global, name: &[u8]) -> Result<Key, AllocError> {
         match split_mailbox(name) {

@@ -5,7 +5,7 @@ use std::alloc::{AllocError, Global};
 
 /// A form of names. A name is within a subtree exactly where its key begins with one of the subtree's prefixes.
 pub trait Form {
-    ghost use Rattle.std.specs.Prelude.{◌≡◌, ◌↔◌, ◌++◌, List, ℕ, IfOk, OnOk, true};
+    ghost use Rattle.std.specs.Prelude.{◌≡◌, ◌↔◌, ◌++◌, List, ℕ, IfOk, IsTrue, OnOk, true};
     ghost use Rattle.x509_constraints.specs.Prefixes.{has_prefix};
 
     ghost IsWithin: { List ℕ → List ℕ → Type 0 };
@@ -15,6 +15,10 @@ pub trait Form {
     ghost prefixes_of: { List ℕ → List (List ℕ) };
 
     ghost answers: { (name subtree : List ℕ) → (has_prefix (prefixes_of subtree) (key_of name) ≡ true) ↔ IsWithin name subtree };
+
+    /// Whether the name is within the subtree.
+    fn is_within(name: &[u8], subtree: &[u8]) -> bool
+        ensures { IsTrue result ↔ IsWithin name.now subtree.now };
 
     /// The key of a name.
     ///

@@ -9,15 +9,17 @@ mod email;
 mod form;
 mod host;
 mod key;
+mod permitted;
 mod prefixes;
 mod subtrees;
 mod turned;
 
-pub use address::{is_address_subtree, is_within_address};
+pub use address::{IpAddress, is_address_subtree, is_within_address};
 pub use email::{EmailAddress, is_within_email, split_mailbox};
 pub use form::Form;
 pub use host::{is_within_dns, is_within_host};
 pub use key::Key;
+pub use permitted::{is_excluded, is_permitted, is_within_one};
 pub use prefixes::Prefixes;
 pub use subtrees::Subtrees;
 pub use turned::{DnsName, Host};

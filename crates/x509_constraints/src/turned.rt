@@ -6,6 +6,7 @@ ghost use Rattle.x509_constraints.specs.Keys as keys;
 ghost use Rattle.x509_constraints.specs.Keys.{dns_prefixes, host_key, host_prefix, stop, turned};
 
 use crate::form::Form;
+use crate::host::{is_within_dns, is_within_host};
 use crate::key::Key;
 use std::alloc::{AllocError, Global};
 
@@ -90,6 +91,10 @@ impl Form for Host {
 
     ghost answers = { host_key_answers };
 
+    fn is_within(name: &[u8], subtree: &[u8]) -> bool {
+        is_within_host(name, subtree)
+    }
+
     fn key(alloc: Global, name: &[u8]) -> Result<Key, AllocError> {
         key_of_host(alloc, name)
     }
@@ -119,6 +124,10 @@ impl Form for DnsName {
     ghost prefixes_of = { dns_prefixes };
 
     ghost answers = { dns_answers };
+
+    fn is_within(name: &[u8], subtree: &[u8]) -> bool {
+        is_within_dns(name, subtree)
+    }
 
     fn key(alloc: Global, name: &[u8]) -> Result<Key, AllocError> {
         key_of_host(alloc, name)
