@@ -4,3 +4,4 @@ pub mod Sweep
 pub mod Search
 pub mod Anys
 pub mod Mailboxes
+pub mod Firsts

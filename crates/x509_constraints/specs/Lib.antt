@@ -8,3 +8,4 @@ pub mod EmailLaws
 pub mod Address
 pub mod AddressKeys
 pub mod AddressLaws
+pub mod Uri

@@ -48,6 +48,13 @@ pub fn is_address_subtree(subtree: &[u8]) -> bool
     }
 }
 
+/// Whether the octets are an IP address: four for IPv4, 16 for IPv6.
+pub fn is_address(name: &[u8]) -> bool
+    ensures { result ≡ address_keys.is_address name.now }
+{
+    name.len() == 4 || name.len() == 16
+}
+
 /// Whether the two are the same where the mask has ones.
 fn are_same_masked(name: &[u8], address: &[u8], mask: &[u8]) -> bool
     requires address { length name.now ≤ length address.now }

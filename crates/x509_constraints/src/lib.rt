@@ -13,8 +13,9 @@ mod permitted;
 mod prefixes;
 mod subtrees;
 mod turned;
+mod uri;
 
-pub use address::{IpAddress, is_address_subtree, is_within_address};
+pub use address::{IpAddress, is_address, is_address_subtree, is_within_address};
 pub use email::{EmailAddress, is_within_email, split_mailbox};
 pub use form::Form;
 pub use host::{is_within_dns, is_within_host};
@@ -23,3 +24,4 @@ pub use permitted::{is_excluded, is_permitted, is_within_one};
 pub use prefixes::Prefixes;
 pub use subtrees::Subtrees;
 pub use turned::{DnsName, Host};
+pub use uri::{host_of_uri, is_within_uri};

@@ -1,0 +1,69 @@
+-- The host of a URI (RFC 3986 3), as constraints compare it (RFC 5280 4.2.1.10).
+use Rattle.std.specs.Prelude.{ℕ, ◌==◌, ◌&&◌, ◌||◌, not, Bool, false, List, [], ◌∷◌, drop, Option, None, Some, if◌then◌else◌}
+use Rattle.std.specs.Char.{is_ascii_alphabetic, is_ascii_alphanumeric, is_ascii_digit}
+use Rattle.std.specs.List.{before_first, list_all, position_or_len}
+use Rattle.x509_constraints.specs.Email.{mailbox_of}
+use Rattle.x509_constraints.specs.Host.{IsWithinHost, dot}
+
+-- a letter, a digit, '+', '-' or '.'
+abbrev pub is_scheme_octet : ℕ → Bool
+is_scheme_octet c = is_ascii_alphanumeric c || (c == 0x2B || (c == 0x2D || c == 0x2E))
+
+-- '/', '?' or '#'
+abbrev pub ends_authority : ℕ → Bool
+ends_authority c = c == 0x2F || (c == 0x3F || c == 0x23)
+
+-- what stands behind "://" in front
+abbrev pub behind_slashes : List ℕ → Option (List ℕ)
+behind_slashes (a ∷ b ∷ c ∷ rest) = if (a == 0x3A) && ((b == 0x2F) && (c == 0x2F)) then Some rest else None
+behind_slashes (a ∷ b ∷ []) = None
+behind_slashes (a ∷ []) = None
+behind_slashes [] = None
+
+abbrev pub begins_with_letter : List ℕ → Bool
+begins_with_letter [] = false
+begins_with_letter (c ∷ rest) = is_ascii_alphabetic c
+
+-- behind a scheme and "://"
+abbrev pub behind_scheme : List ℕ → Option (List ℕ)
+behind_scheme uri = if begins_with_letter uri then behind_slashes (drop (position_or_len (λ c. not (is_scheme_octet c)) uri) uri) else None
+
+-- behind the user information, if there is any
+abbrev pub behind_user : List ℕ → Option (List ℕ × List ℕ) → List ℕ
+behind_user authority None = authority
+behind_user authority (Some (user, rest)) = rest
+
+-- without user information and port
+abbrev pub host_in : List ℕ → List ℕ
+host_in authority = before_first (λ c. c == 0x3A) (behind_user authority (mailbox_of authority))
+
+-- an octet of a dotted quad: no name of a host has such alone (RFC 1123 2.1)
+abbrev pub is_digit_or_dot : ℕ → Bool
+is_digit_or_dot c = is_ascii_digit c || c == dot
+
+abbrev pub is_bracketed : List ℕ → Bool
+is_bracketed [] = false
+is_bracketed (c ∷ rest) = c == 0x5B
+
+-- it is empty, or an address: in digits and dots, or in brackets
+abbrev pub is_no_host : List ℕ → Bool
+is_no_host host = list_all is_digit_or_dot host || is_bracketed host
+
+abbrev pub host_unless : List ℕ → Option (List ℕ)
+host_unless host = if is_no_host host then None else Some host
+
+abbrev pub host_behind : Option (List ℕ) → Option (List ℕ)
+host_behind None = None
+host_behind (Some rest) = host_unless (host_in (before_first ends_authority rest))
+
+-- the host of the URI, if it has one that is no address
+abbrev pub host_of : List ℕ → Option (List ℕ)
+host_of uri = host_behind (behind_scheme uri)
+
+abbrev pub IsHostWithin : Option (List ℕ) → List ℕ → Type 0
+IsHostWithin None subtree = ⊥
+IsHostWithin (Some host) subtree = IsWithinHost host subtree
+
+-- a URI whose host is within the subtree
+abbrev pub IsWithinUri : List ℕ → List ℕ → Type 0
+IsWithinUri name subtree = IsHostWithin (host_of name) subtree
