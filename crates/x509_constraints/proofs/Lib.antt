@@ -5,3 +5,4 @@ pub mod Search
 pub mod Anys
 pub mod Mailboxes
 pub mod Firsts
+pub mod Directories

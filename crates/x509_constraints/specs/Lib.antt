@@ -9,3 +9,4 @@ pub mod Address
 pub mod AddressKeys
 pub mod AddressLaws
 pub mod Uri
+pub mod Directory

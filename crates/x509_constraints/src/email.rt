@@ -49,7 +49,7 @@ pub fn is_within_email(name: &[u8], subtree: &[u8]) -> bool
 }
 
 /// Adds the symbols of the octets, and a stop.
-fn push_stopped(key: &mut Key, octets: &[u8]) -> Result<(), AllocError>
+pub(crate) fn push_stopped(key: &mut Key, octets: &[u8]) -> Result<(), AllocError>
     ensures { OnOk result (key.new ≡ key.old ++ (symbols octets.now ++ stop ∷ [])) }
 {
     for octet in octets {

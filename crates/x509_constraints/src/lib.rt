@@ -5,6 +5,7 @@
 #![tactic(auto)]
 
 mod address;
+mod directory;
 mod email;
 mod form;
 mod host;
@@ -16,6 +17,7 @@ mod turned;
 mod uri;
 
 pub use address::{IpAddress, is_address, is_address_subtree, is_within_address};
+pub use directory::DirectorySubtrees;
 pub use email::{EmailAddress, is_within_email, split_mailbox};
 pub use form::Form;
 pub use host::{is_within_dns, is_within_host};
