@@ -26,27 +26,32 @@ directory_answers [] (s ∷ subtree) = (
     never (rest, is) = absurd (cc)
 directory_answers (n ∷ name) (s ∷ subtree) = (forth (directory_answers name subtree), back (directory_answers name subtree))
   where
-    forth : (begins (directory_key name) (directory_key subtree) ≡ true) ↔ IsWithinDirectory name subtree → begins (directory_key (n ∷ name)) (directory_key (s ∷ subtree)) ≡ true → IsWithinDirectory (n ∷ name) (s ∷ subtree)
+    forth : (begins (directory_key name) (directory_key subtree) ≡ true) ↔ IsWithinDirectory name subtree →
+        begins (directory_key (n ∷ name)) (directory_key (s ∷ subtree)) ≡ true → IsWithinDirectory (n ∷ name) (s ∷ subtree)
     forth others h =
         let met = stops_meet n s (directory_key name) (directory_key subtree)
-        (sym (ap (λ k. begins k (symbols s ++ stop ∷ directory_key subtree)) (key-cons n name)) ∙ (sym (ap (begins (directory_key (n ∷ name))) (key-cons s subtree)) ∙ h)) in
+        (sym (ap (λ k. begins k (symbols s ++ stop ∷ directory_key subtree)) (key-cons n name))
+        ∙ (sym (ap (begins (directory_key (n ∷ name))) (key-cons s subtree)) ∙ h)) in
         let more = others.0 met.1 in
         (more.0, ap (λ r. r ∷ name) met.0 ∙ ap (λ l. s ∷ l) more.1)
 
-    back : (begins (directory_key name) (directory_key subtree) ≡ true) ↔ IsWithinDirectory name subtree → IsWithinDirectory (n ∷ name) (s ∷ subtree) → begins (directory_key (n ∷ name)) (directory_key (s ∷ subtree)) ≡ true
+    back : (begins (directory_key name) (directory_key subtree) ≡ true) ↔ IsWithinDirectory name subtree → IsWithinDirectory (n ∷ name) (s ∷ subtree) →
+        begins (directory_key (n ∷ name)) (directory_key (s ∷ subtree)) ≡ true
     back others (rest, is) =
         let same : n ≡ s = cc in
         let tail : name ≡ subtree ++ rest = cc in
         let more = others.1 (rest, tail) in
         ap (begins (directory_key (n ∷ name))) (key-cons s subtree) ∙ (ap (λ k. begins k (symbols s ++ stop ∷ directory_key subtree)) (key-cons n name)
-        ∙ (ap (λ r. begins (symbols r ++ stop ∷ directory_key name) (symbols s ++ stop ∷ directory_key subtree)) same ∙ stops_same s (directory_key name) (directory_key subtree) more))
+        ∙ (ap (λ r. begins (symbols r ++ stop ∷ directory_key name) (symbols s ++ stop ∷ directory_key subtree)) same
+        ∙ stops_same s (directory_key name) (directory_key subtree) more))
 
 pub flat_map-map : {X : Type 0} (g : X → List ℕ) (xs : List X) → flat_map rdn_key (map g xs) ≡ flat_map (λ x. rdn_key (g x)) xs
 flat_map-map g [] = refl
 flat_map-map g (x ∷ xs) = ap (λ l. rdn_key (g x) ++ l) (flat_map-map g xs)
 
 -- the key as the loop leaves it
-pub key_of_taken : {X : Type 0} (g : X → List ℕ) (xs : List X) (n : ℕ) (key : List ℕ) → length xs ≤ n → key ≡ flat_map (λ x. rdn_key (g x)) (take n xs) → key ≡ directory_key (map g xs)
+pub key_of_taken : {X : Type 0} (g : X → List ℕ) (xs : List X) (n : ℕ) (key : List ℕ) → length xs ≤ n → key ≡ flat_map (λ x. rdn_key (g x)) (take n xs) →
+    key ≡ directory_key (map g xs)
 key_of_taken g xs n key all is = is ∙ (ap (flat_map (λ x. rdn_key (g x))) (take_all n xs all) ∙ sym (flat_map-map g xs))
 
 -- what a set of subtrees answers of a name
@@ -55,4 +60,5 @@ pub one_directory : {X : Type 0} (g : X → List (List ℕ)) (name : List (List 
     (has_prefix set (directory_key name) ≡ true) ↔ Any (λ x. IsWithinDirectory name (g x)) xs
 one_directory g name xs n prefixes set all are same =
     one_of_taken (λ x. directory_key (g x) ∷ []) (directory_key name) (λ x. IsWithinDirectory name (g x))
-    (λ x. has_prefix-one (directory_key name) (directory_key (g x)) (IsWithinDirectory name (g x)) (directory_answers name (g x))) xs n prefixes set all are same
+    (λ x. has_prefix-one (directory_key name) (directory_key (g x)) (IsWithinDirectory name (g x)) (directory_answers name (g x))) xs n prefixes set
+    all are same

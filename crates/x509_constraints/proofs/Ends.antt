@@ -11,8 +11,11 @@ pub drop-append_of : (xs ys : List ℕ) (n : ℕ) → n ≡ length xs → drop n
 drop-append_of xs ys n h = rw h (drop-append_seam xs ys)
 
 pub EndsWith-back : (host end : List ℕ) (n : ℕ) → IsSame (drop n host) end → EndsWith host end
-EndsWith-back host end n same =
-    (lower (take n host), sym (ap lower (take-append-drop n host)) ∙ (map-append to_ascii_lowercase (take n host) (drop n host) ∙ ap (λ back. lower (take n host) ++ back) same))
+EndsWith-back host end n same = (
+  lower (take n host),
+  sym (ap lower (take-append-drop n host)) ∙ (map-append to_ascii_lowercase (take n host) (drop n host)
+      ∙ ap (λ back. lower (take n host) ++ back) same),
+)
 
 pub back-EndsWith : (host end : List ℕ) (n : ℕ) → n + length end ≡ length host → EndsWith host end → IsSame (drop n host) end
 back-EndsWith host end n fits (front, is) =
@@ -30,7 +33,8 @@ pub lowercase-dot : (c : ℕ) → to_ascii_lowercase c ≡ dot → c ≡ dot
 lowercase-dot c is = grind (arith, lowercase_is)
 
 -- a test of what stands behind as many octets as are too many
-pub ends_by : (host end back : List ℕ) (r : Bool) → back ≡ drop (length host - length end) host → length end ≤ length host → IsTrue r ↔ IsSame back end → IsTrue r ↔ EndsWith host end
+pub ends_by : (host end back : List ℕ) (r : Bool) → back ≡ drop (length host - length end) host → length end ≤ length host → IsTrue r ↔ IsSame back end →
+    IsTrue r ↔ EndsWith host end
 ends_by host end back r is fits test =
     let n = length host - length end in
     let sum : n + length end ≡ length host = omega arith in (
@@ -48,7 +52,8 @@ drop-before host end fits =
     drop-cons host n 0 inside ∙ ap (λ m. get_or host n 0 ∷ drop m host) (sym (add-one n) ∙ next)
 
 -- a dot and the end behind it
-pub dotted_ends : (host end : List ℕ) (r : Bool) → length end < length host → get_or host (length host - length end - 1) 0 ≡ dot → IsTrue r ↔ EndsWith host end → IsTrue r ↔ EndsWith host (dot ∷ end)
+pub dotted_ends : (host end : List ℕ) (r : Bool) → length end < length host → get_or host (length host - length end - 1) 0 ≡ dot →
+    IsTrue r ↔ EndsWith host end → IsTrue r ↔ EndsWith host (dot ∷ end)
 dotted_ends host end r fits is_dot test =
     let n = length host - length end - 1 in
     let m = length host - length end in

@@ -14,7 +14,8 @@ pub mailbox_at : (xs : List ℕ) (n left : ℕ) → n < length xs → left ≡ n
 mailbox_at xs n left inside after is_at none =
     let whole : take (length xs - (n + 1)) (drop (n + 1) xs) ≡ drop left xs =
     take_all (length xs - (n + 1)) (drop (n + 1) xs) (omega (arith, length-drop (n + 1) xs)) ∙ ap (λ m. drop m xs) (sym after) in
-    let front : drop n xs ≡ at ∷ drop left xs = drop-cons xs n 0 inside ∙ (ap (λ c. c ∷ drop (suc n) xs) is_at ∙ ap (λ m. at ∷ drop m xs) (sym (after ∙ add-one n))) in
+    let front : drop n xs ≡ at ∷ drop left xs = drop-cons xs n 0 inside ∙ (ap (λ c. c ∷ drop (suc n) xs) is_at ∙ ap (λ m. at ∷ drop m xs) (sym (after
+    ∙ add-one n))) in
     let found : mailbox_of (drop n xs) ≡ Some ([], drop left xs) = ap mailbox_of front ∙ ap (in_front at (drop left xs)) none in
     sym (ap mailbox_of (take-append-drop n xs)) ∙ (mailbox_of-append (take n xs) (drop n xs) [] (drop left xs) found
     ∙ (ap (λ l. Some (l, drop left xs)) (append-nil (take n xs)) ∙ ap (λ h. Some (take n xs, h)) (sym whole)))

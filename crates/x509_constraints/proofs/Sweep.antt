@@ -46,7 +46,13 @@ pub record IsSwept (all kept rest : List (List ℕ)) : Type 0 where
   pub behind : (k : List ℕ) → last_of kept ≡ Some k → Rises k rest
 
 pub swept_none : (all : List (List ℕ)) → IsSorted (slice_cmp nat_cmp) all → IsSwept all [] all
-swept_none all sorted = record { apart = λ i j d before inside. absurd (omega arith); same = λ key. refl; rising = IsRising-from_sort all sorted; behind = λ k is. absurd (cc) }
+swept_none all sorted = record {
+  apart = λ i j d before inside. absurd (omega arith);
+  same = λ key. refl;
+  rising =
+      IsRising-from_sort all sorted;
+  behind = λ k is. absurd (cc);
+}
 
 -- whether the key begins with the last of those that are kept
 pub over_cases : (o : Option (List ℕ)) (s : List ℕ) (r : Bool) → begins_one s o ≡ r →
@@ -65,7 +71,8 @@ or_absorb false false c h = refl
 or_absorb false true c h = let e : false ≡ true = h refl in cc
 
 -- one that begins with the last that is kept goes
-pub swept_drop : (all kept rest : List (List ℕ)) (s k : List ℕ) → IsSwept all kept (s ∷ rest) → last_of kept ≡ Some k → begins s k ≡ true → IsSwept all kept rest
+pub swept_drop : (all kept rest : List (List ℕ)) (s k : List ℕ) → IsSwept all kept (s ∷ rest) → last_of kept ≡ Some k → begins s k ≡ true →
+    IsSwept all kept rest
 swept_drop all kept rest s k was last over = record {
   apart = was.apart;
   same = λ key.
@@ -81,13 +88,17 @@ swept_drop all kept rest s k was last over = record {
 }
 
 -- another is kept
-pub swept_push : (all kept rest : List (List ℕ)) (s : List ℕ) → IsSwept all kept (s ∷ rest) → ((k : List ℕ) → last_of kept ≡ Some k → begins s k ≡ false) → IsSwept all (kept ++ s ∷ []) rest
+pub swept_push : (all kept rest : List (List ℕ)) (s : List ℕ) → IsSwept all kept (s ∷ rest) → ((k : List ℕ) → last_of kept ≡ Some k →
+    begins s k ≡ false) → IsSwept all (kept ++ s ∷ []) rest
 swept_push all kept rest s was over = record {
   apart = all_pairs_push (λ a b. forks a b ≡ true) kept s was.apart (λ i d inside. forked i d inside (last_case inside));
   same = λ key. ap (list_any (λ p. begins key p)) (append_assoc kept (s ∷ []) rest) ∙ was.same key;
   rising = Rises-tail s rest was.rising;
   behind = λ k is.
-      let pushed : get_or (kept ++ s ∷ []) (length (kept ++ s ∷ []) - 1) k ≡ s = get_or_push kept s k (length (kept ++ s ∷ []) - 1) (omega (arith, length-append kept (s ∷ []))) in
+      let pushed : get_or (kept ++ s ∷ []) (length (kept ++ s ∷ []) - 1) k ≡ s = get_or_push kept s k (length (kept ++ s ∷ []) - 1) (omega (
+        arith,
+        length-append kept (s ∷ []),
+      )) in
       let same_last : s ≡ k = sym pushed ∙ get_or_from_slice_get (kept ++ s ∷ []) (length (kept ++ s ∷ []) - 1) k k is in
       let P : List ℕ → Type 0 = λ x. Rises x rest in subst P same_last was.rising;
 }
@@ -104,7 +115,8 @@ swept_push all kept rest s was over = record {
         let at : get_or kept (length kept - 1) d ≡ k = get_or_from_slice_get kept (length kept - 1) k d last in
         elim (cases_order i (length kept - 1)) [
           | inl same ↦ ap (λ y. forks y s) (ap (λ j. get_or kept j d) same ∙ at) ∙ fork
-          | inr (inl before) ↦ forks-trans (get_or kept i d) k s (ap (forks (get_or kept i d)) (sym at) ∙ was.apart i (length kept - 1) d before (omega arith)) fork
+          | inr (inl before) ↦ forks-trans (get_or kept i d) k s (ap (forks (get_or kept i d)) (sym at)
+              ∙ was.apart i (length kept - 1) d before (omega arith)) fork
           | inr (inr past) ↦ absurd (omega arith)
         ]
 
@@ -127,6 +139,7 @@ swept_push_step all kept kept' rest rest' s r was is answer apart pushed =
     (λ k last. sym (ap (begins_one s) last) ∙ (sym answer ∙ apart)))
 
 -- a set of the keys in another order
-pub same_set : (keys sorted : List (List ℕ)) → IsPermutation keys sorted → (set : List (List ℕ)) → ((key : List ℕ) → has_prefix set key ≡ has_prefix sorted key) →
+pub same_set : (keys sorted : List (List ℕ)) → IsPermutation keys sorted → (set : List (List ℕ)) → ((key : List ℕ) →
+    has_prefix set key ≡ has_prefix sorted key) →
     (key : List ℕ) → has_prefix set key ≡ has_prefix keys key
 same_set keys sorted moved set same key = same key ∙ sym (list_any-IsPermutation (λ p. begins key p) keys sorted moved)

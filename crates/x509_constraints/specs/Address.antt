@@ -25,7 +25,8 @@ is_address_subtree subtree = ((length subtree == 8) && is_mask (drop 4 subtree))
 
 -- they are the same where the mask has ones
 abbrev pub IsSameMasked : List ℕ → List ℕ → List ℕ → Type 0
-IsSameMasked name address mask = (k : ℕ) → k < length name → bit_and (slice_index name k) (slice_index mask k) ≡ bit_and (slice_index address k) (slice_index mask k)
+IsSameMasked name address mask =
+    (k : ℕ) → k < length name → bit_and (slice_index name k) (slice_index mask k) ≡ bit_and (slice_index address k) (slice_index mask k)
 
 -- the subtree is the address and the mask, each as long as the name
 abbrev pub IsWithinAddress : List ℕ → List ℕ → Type 0

@@ -48,7 +48,8 @@ partial_3 x a tail small_x small_a =
     let mx : bit_and x 0xE0 ≡ x / 32 * 32 = masked_by x 5 0xE0 (omega arith) refl small_x in
     let ma : bit_and a 0xE0 ≡ a / 32 * 32 = masked_by a 5 0xE0 (omega arith) refl small_a in (
       (λ h. let e : x / 32 ≡ a / 32 = grind (arith, nat_tests) in mx ∙ (ap (λ q. q * 32) e ∙ sym ma)),
-      (λ h. let e : x / 32 ≡ a / 32 = omega arith in let e6 : x / 64 ≡ a / 64 = omega arith in let e7 : x / 128 ≡ a / 128 = omega arith in grind (arith, nat_tests)),
+      (λ h. let e : x / 32 ≡ a / 32 = omega arith in let e6 : x / 64 ≡ a / 64 = omega arith in let e7 : x / 128 ≡ a / 128 = omega arith in
+          grind (arith, nat_tests)),
     )
 
 partial_4 : (x a : ℕ) (tail : List ℕ) → x < 256 → a < 256 → (begins (beginnings x ++ tail) (take 4 (beginnings a)) ≡ true) ↔ (bit_and x 0xF0 ≡ bit_and a 0xF0)
@@ -56,7 +57,8 @@ partial_4 x a tail small_x small_a =
     let mx : bit_and x 0xF0 ≡ x / 16 * 16 = masked_by x 4 0xF0 (omega arith) refl small_x in
     let ma : bit_and a 0xF0 ≡ a / 16 * 16 = masked_by a 4 0xF0 (omega arith) refl small_a in (
       (λ h. let e : x / 16 ≡ a / 16 = grind (arith, nat_tests) in mx ∙ (ap (λ q. q * 16) e ∙ sym ma)),
-      (λ h. let e : x / 16 ≡ a / 16 = omega arith in let e5 : x / 32 ≡ a / 32 = omega arith in let e6 : x / 64 ≡ a / 64 = omega arith in let e7 : x / 128 ≡ a / 128 = omega arith in grind (arith, nat_tests)),
+      (λ h. let e : x / 16 ≡ a / 16 = omega arith in let e5 : x / 32 ≡ a / 32 = omega arith in let e6 : x / 64 ≡ a / 64 = omega arith in
+          let e7 : x / 128 ≡ a / 128 = omega arith in grind (arith, nat_tests)),
     )
 
 partial_5 : (x a : ℕ) (tail : List ℕ) → x < 256 → a < 256 → (begins (beginnings x ++ tail) (take 5 (beginnings a)) ≡ true) ↔ (bit_and x 0xF8 ≡ bit_and a 0xF8)
@@ -64,7 +66,8 @@ partial_5 x a tail small_x small_a =
     let mx : bit_and x 0xF8 ≡ x / 8 * 8 = masked_by x 3 0xF8 (omega arith) refl small_x in
     let ma : bit_and a 0xF8 ≡ a / 8 * 8 = masked_by a 3 0xF8 (omega arith) refl small_a in (
       (λ h. let e : x / 8 ≡ a / 8 = grind (arith, nat_tests) in mx ∙ (ap (λ q. q * 8) e ∙ sym ma)),
-      (λ h. let e : x / 8 ≡ a / 8 = omega arith in let e4 : x / 16 ≡ a / 16 = omega arith in let e5 : x / 32 ≡ a / 32 = omega arith in let e6 : x / 64 ≡ a / 64 = omega arith in let e7 : x / 128 ≡ a / 128 = omega arith in grind (arith, nat_tests)),
+      (λ h. let e : x / 8 ≡ a / 8 = omega arith in let e4 : x / 16 ≡ a / 16 = omega arith in let e5 : x / 32 ≡ a / 32 = omega arith in
+          let e6 : x / 64 ≡ a / 64 = omega arith in let e7 : x / 128 ≡ a / 128 = omega arith in grind (arith, nat_tests)),
     )
 
 partial_6 : (x a : ℕ) (tail : List ℕ) → x < 256 → a < 256 → (begins (beginnings x ++ tail) (take 6 (beginnings a)) ≡ true) ↔ (bit_and x 0xFC ≡ bit_and a 0xFC)
@@ -72,7 +75,9 @@ partial_6 x a tail small_x small_a =
     let mx : bit_and x 0xFC ≡ x / 4 * 4 = masked_by x 2 0xFC (omega arith) refl small_x in
     let ma : bit_and a 0xFC ≡ a / 4 * 4 = masked_by a 2 0xFC (omega arith) refl small_a in (
       (λ h. let e : x / 4 ≡ a / 4 = grind (arith, nat_tests) in mx ∙ (ap (λ q. q * 4) e ∙ sym ma)),
-      (λ h. let e : x / 4 ≡ a / 4 = omega arith in let e3 : x / 8 ≡ a / 8 = omega arith in let e4 : x / 16 ≡ a / 16 = omega arith in let e5 : x / 32 ≡ a / 32 = omega arith in let e6 : x / 64 ≡ a / 64 = omega arith in let e7 : x / 128 ≡ a / 128 = omega arith in grind (arith, nat_tests)),
+      (λ h. let e : x / 4 ≡ a / 4 = omega arith in let e3 : x / 8 ≡ a / 8 = omega arith in let e4 : x / 16 ≡ a / 16 = omega arith in
+          let e5 : x / 32 ≡ a / 32 = omega arith in let e6 : x / 64 ≡ a / 64 = omega arith in let e7 : x / 128 ≡ a / 128 = omega arith in
+          grind (arith, nat_tests)),
     )
 
 partial_7 : (x a : ℕ) (tail : List ℕ) → x < 256 → a < 256 → (begins (beginnings x ++ tail) (take 7 (beginnings a)) ≡ true) ↔ (bit_and x 0xFE ≡ bit_and a 0xFE)
@@ -80,7 +85,9 @@ partial_7 x a tail small_x small_a =
     let mx : bit_and x 0xFE ≡ x / 2 * 2 = masked_by x 1 0xFE (omega arith) refl small_x in
     let ma : bit_and a 0xFE ≡ a / 2 * 2 = masked_by a 1 0xFE (omega arith) refl small_a in (
       (λ h. let e : x / 2 ≡ a / 2 = grind (arith, nat_tests) in mx ∙ (ap (λ q. q * 2) e ∙ sym ma)),
-      (λ h. let e : x / 2 ≡ a / 2 = omega arith in let e2 : x / 4 ≡ a / 4 = omega arith in let e3 : x / 8 ≡ a / 8 = omega arith in let e4 : x / 16 ≡ a / 16 = omega arith in let e5 : x / 32 ≡ a / 32 = omega arith in let e6 : x / 64 ≡ a / 64 = omega arith in let e7 : x / 128 ≡ a / 128 = omega arith in grind (arith, nat_tests)),
+      (λ h. let e : x / 2 ≡ a / 2 = omega arith in let e2 : x / 4 ≡ a / 4 = omega arith in let e3 : x / 8 ≡ a / 8 = omega arith in
+          let e4 : x / 16 ≡ a / 16 = omega arith in let e5 : x / 32 ≡ a / 32 = omega arith in let e6 : x / 64 ≡ a / 64 = omega arith in
+          let e7 : x / 128 ≡ a / 128 = omega arith in grind (arith, nat_tests)),
     )
 
 -- eight ones compare the whole octet, and then what follows
@@ -107,7 +114,8 @@ low_same x a m is =
 iff_trans : {P Q R : Type 0} → P ↔ Q → Q ↔ R → P ↔ R
 iff_trans f g = ((λ p. g.0 (f.0 p)), (λ r. f.1 (g.1 r)))
 
-whole_low : (x a : ℕ) (tail rest : List ℕ) → (begins (octet_symbols x ++ tail) (octet_symbols a ++ rest) ≡ true) ↔ ((bit_and x 0xFF ≡ bit_and a 0xFF) × (begins tail rest ≡ true))
+whole_low : (x a : ℕ) (tail rest : List ℕ) → (begins (octet_symbols x ++ tail) (octet_symbols a ++ rest) ≡ true) ↔ ((bit_and x 0xFF ≡ bit_and a 0xFF) ×
+    (begins tail rest ≡ true))
 whole_low x a tail rest =
     let low = low_same x a 0xFF refl in
     let here = whole (x % 256) (a % 256) tail rest (omega arith) (omega arith) in
@@ -200,16 +208,20 @@ zeros_same name address mask h k inside = none name address mask k (zero_at mask
     zero_at (m ∷ mask) zero h = eqb-true m 0 (and_both (m == 0) (is_zeros mask) h).0
     zero_at (m ∷ mask) (suc k) h = zero_at mask k (and_both (m == 0) (is_zeros mask) h).1
 
-    none : (name address mask : List ℕ) (k : ℕ) → slice_index mask k ≡ 0 → bit_and (slice_index name k) (slice_index mask k) ≡ bit_and (slice_index address k) (slice_index mask k)
+    none : (name address mask : List ℕ) (k : ℕ) → slice_index mask k ≡ 0 → bit_and (slice_index name k) (slice_index mask k) ≡ bit_and (slice_index
+        address k) (slice_index mask k)
     none name address mask k is =
-        ap (bit_and (slice_index name k)) is ∙ (and_none (slice_index name k) ∙ sym (ap (bit_and (slice_index address k)) is ∙ and_none (slice_index address k)))
+        ap (bit_and (slice_index name k)) is ∙ (and_none (slice_index name k) ∙ sym (ap (bit_and (slice_index address k)) is
+        ∙ and_none (slice_index address k)))
 
 -- the first octets, and the others
-pub IsSameMasked-cons : (x a m : ℕ) (name address mask : List ℕ) → bit_and x m ≡ bit_and a m → IsSameMasked name address mask → IsSameMasked (x ∷ name) (a ∷ address) (m ∷ mask)
+pub IsSameMasked-cons : (x a m : ℕ) (name address mask : List ℕ) → bit_and x m ≡ bit_and a m → IsSameMasked name address mask →
+    IsSameMasked (x ∷ name) (a ∷ address) (m ∷ mask)
 IsSameMasked-cons x a m name address mask first others zero inside = first
 IsSameMasked-cons x a m name address mask first others (suc k) inside = others k (omega arith)
 
-pub IsSameMasked-tail : (x a m : ℕ) (name address mask : List ℕ) → IsSameMasked (x ∷ name) (a ∷ address) (m ∷ mask) → (bit_and x m ≡ bit_and a m) × IsSameMasked name address mask
+pub IsSameMasked-tail : (x a m : ℕ) (name address mask : List ℕ) → IsSameMasked (x ∷ name) (a ∷ address) (m ∷ mask) →
+    (bit_and x m ≡ bit_and a m) × IsSameMasked name address mask
 IsSameMasked-tail x a m name address mask h = (h 0 (omega arith), (λ k inside. h (suc k) (omega arith)))
 
 pub narrowed_answers : (name address mask : List ℕ) → length name ≡ length address → length name ≡ length mask → is_mask mask ≡ true →
@@ -220,8 +232,10 @@ narrowed_answers (x ∷ name) [] mask fits fits' is = absurd (omega arith)
 narrowed_answers (x ∷ name) (a ∷ address) [] fits fits' is = absurd (omega arith)
 narrowed_answers (x ∷ name) (a ∷ address) (m ∷ mask) fits fits' is = elim (eqb_tells m 0xFF) [
   | inl (test, same) ↦
-      let more = narrowed_answers name address mask (omega arith) (omega arith) (sym (ap (λ b. if b then is_mask mask else (is_partial m && is_zeros mask)) test) ∙ is) in
-      let P : ℕ → Type 0 = λ n. (begins (spread (x ∷ name)) (take (ones n) (octet_symbols a) ++ narrowed address mask) ≡ true) ↔ IsSameMasked (x ∷ name) (a ∷ address) (n ∷ mask) in
+      let more = narrowed_answers name address mask (omega arith) (omega arith) (sym (ap (λ b. if b then is_mask mask else (is_partial m && is_zeros
+      mask)) test) ∙ is) in
+      let P : ℕ → Type 0 = λ n. (begins (spread (x ∷ name)) (take (ones n) (octet_symbols a) ++ narrowed address mask) ≡ true) ↔ IsSameMasked (x ∷
+      name) (a ∷ address) (n ∷ mask) in
       let here = whole_low x a (spread name) (narrowed address mask) in
       let at_ones : P 0xFF = (
         (λ h. let both = here.0 h in IsSameMasked-cons x a 0xFF name address mask both.0 (more.0 both.1)),
@@ -249,7 +263,8 @@ head_begins x p xs ps e h = grind (arith, nat_tests)
 none_begins : (key p : List ℕ) (x : ℕ) → key ≡ [] → begins key (x ∷ p) ≡ true → ⊥
 none_begins key p x is h = let e : false ≡ true = sym (ap (λ k. begins k (x ∷ p)) is) ∙ h in cc
 
-address_at : (n : ℕ) (name subtree : List ℕ) → ((n == 4) || (n == 16)) ≡ true → length subtree ≡ n + n → is_mask (drop n subtree) ≡ true → is_address_subtree subtree ≡ true →
+address_at : (n : ℕ) (name subtree : List ℕ) → ((n == 4) || (n == 16)) ≡ true → length subtree ≡ n + n → is_mask (drop n subtree) ≡ true →
+    is_address_subtree subtree ≡ true →
     (begins (address_key name) (address_prefix (length subtree / 2) subtree) ≡ true) ↔ IsWithinAddress name subtree
 address_at n name subtree kind fits mask sub = ((λ h. forth (is_address name) refl h), back)
   where
@@ -283,7 +298,8 @@ address_at n name subtree kind fits mask sub = ((λ h. forth (is_address name) r
         let begun = (narrowed_answers name (take n subtree) (drop n subtree) (same ∙ sym address_len) (same ∙ sym mask_len) mask).1
         (subst (λ m. IsSameMasked name (take m subtree) (drop m subtree)) same masked) in
         ap (λ b. begins (if b then length name ∷ spread name else []) (address_prefix (length subtree / 2) subtree)) is
-        ∙ head_begins (length name) (length subtree / 2) (spread name) (narrowed (take (length subtree / 2) subtree) (drop (length subtree / 2) subtree)) (same ∙ sym half)
+        ∙ head_begins (length name) (length subtree / 2) (spread name) (narrowed (take (length subtree / 2) subtree) (drop (length subtree / 2)
+        subtree)) (same ∙ sym half)
         (ap (λ m. begins (spread name) (narrowed (take m subtree) (drop m subtree))) half ∙ begun)
 
 pub address_answers : (name subtree : List ℕ) → (has_prefix (address_prefixes subtree) (address_key name) ≡ true) ↔ IsWithinAddress name subtree
@@ -291,25 +307,32 @@ address_answers name subtree = by_kind (is_address_subtree subtree) refl
   where
     by_kind : (b : Bool) → is_address_subtree subtree ≡ b → (has_prefix (address_prefixes subtree) (address_key name) ≡ true) ↔ IsWithinAddress name subtree
     by_kind false is = (
-      (λ h. let e : false ≡ true = sym (ap (λ b. has_prefix (if b then address_prefix (length subtree / 2) subtree ∷ [] else []) (address_key name)) is) ∙ h in absurd (cc)),
+      (λ h. let e : false ≡ true = sym (ap (λ b. has_prefix (if b then address_prefix (length subtree / 2) subtree ∷ [] else []) (address_key name))
+          is) ∙ h in absurd (cc)),
       (λ within. let e : false ≡ true = sym is ∙ within.0 in absurd (cc)),
     )
     by_kind true is =
         let P : List (List ℕ) → Type 0 = λ prefixes. (has_prefix prefixes (address_key name) ≡ true) ↔ IsWithinAddress name subtree in
-        let four : (length subtree == 8) && is_mask (drop 4 subtree) ≡ true → (begins (address_key name) (address_prefix (length subtree / 2) subtree) ≡ true) ↔ IsWithinAddress name subtree =
+        let four : (length subtree == 8) && is_mask (drop 4 subtree) ≡ true → (begins (address_key name) (address_prefix (length subtree / 2) subtree)
+        ≡ true) ↔ IsWithinAddress name subtree =
         λ h. (let both = and_both (length subtree == 8) (is_mask (drop 4 subtree)) h in
         address_at 4 name subtree refl (eqb-true (length subtree) 8 both.0) both.1 is) in
-        let sixteen : (length subtree == 32) && is_mask (drop 16 subtree) ≡ true → (begins (address_key name) (address_prefix (length subtree / 2) subtree) ≡ true) ↔ IsWithinAddress name subtree =
+        let sixteen : (length subtree == 32) && is_mask (drop 16 subtree) ≡ true →
+        (begins (address_key name) (address_prefix (length subtree / 2) subtree) ≡ true) ↔ IsWithinAddress name subtree =
         λ h. (let both = and_both (length subtree == 32) (is_mask (drop 16 subtree)) h in
         address_at 16 name subtree refl (eqb-true (length subtree) 32 both.0) both.1 is) in
         subst P (sym (ap (λ b. if b then address_prefix (length subtree / 2) subtree ∷ [] else []) is))
         (has_prefix-one (address_key name) (address_prefix (length subtree / 2) subtree) (IsWithinAddress name subtree)
-        (elim (or_cases ((length subtree == 8) && is_mask (drop 4 subtree)) ((length subtree == 32) && is_mask (drop 16 subtree)) is) [ inl h ↦ four h | inr h ↦ sixteen h ]))
+        (elim (or_cases ((length subtree == 8) && is_mask (drop 4 subtree)) ((length subtree == 32) && is_mask (drop 16 subtree)) is) [
+          | inl h ↦ four h
+          | inr h ↦ sixteen h
+        ]))
 
 -- ---- one more octet, for the loops
 
 pub narrowed-more : (address mask : List ℕ) (i : ℕ) → i < length address → length address ≡ length mask →
-    narrowed (take (i + 1) address) (take (i + 1) mask) ≡ narrowed (take i address) (take i mask) ++ take (ones (get_or mask i 0)) (octet_symbols (get_or address i 0))
+    narrowed (take (i + 1) address) (take (i + 1) mask) ≡ narrowed (take i address) (take i mask) ++ take (ones (get_or mask i 0)) (octet_symbols
+    (get_or address i 0))
 narrowed-more [] mask i inside fits = absurd (omega arith)
 narrowed-more (a ∷ address) [] i inside fits = absurd (omega arith)
 narrowed-more (a ∷ address) (m ∷ mask) zero inside fits = append-nil (take (ones m) (octet_symbols a))
@@ -317,14 +340,17 @@ narrowed-more (a ∷ address) (m ∷ mask) (suc i) inside fits =
     let step : suc i + 1 ≡ suc (i + 1) = omega arith in
     ap (λ n. narrowed (take n (a ∷ address)) (take n (m ∷ mask))) step
     ∙ (ap (λ l. take (ones m) (octet_symbols a) ++ l) (narrowed-more address mask i (omega arith) (omega arith))
-    ∙ sym (append_assoc (take (ones m) (octet_symbols a)) (narrowed (take i address) (take i mask)) (take (ones (get_or mask i 0)) (octet_symbols (get_or address i 0)))))
+    ∙ sym (append_assoc (take (ones m) (octet_symbols a)) (narrowed (take i address) (take i mask)) (take (ones (get_or mask i 0)) (octet_symbols
+    (get_or address i 0)))))
 
 pub octet_symbols-small : (octet : ℕ) → octet < 256 → octet_symbols octet ≡ beginnings octet
 octet_symbols-small octet small = let e : octet % 256 ≡ octet = omega arith in ap beginnings e
 
-pub narrowed_step : (start key address mask : List ℕ) (i count : ℕ) → i < length address → length address ≡ length mask → key ≡ start ++ narrowed (take i address) (take i mask) →
+pub narrowed_step : (start key address mask : List ℕ) (i count : ℕ) → i < length address → length address ≡ length mask →
+    key ≡ start ++ narrowed (take i address) (take i mask) →
     count ≡ ones (get_or mask i 0) → key ++ take count (octet_symbols (get_or address i 0)) ≡ start ++ narrowed (take (i + 1) address) (take (i + 1) mask)
 narrowed_step start key address mask i count inside fits is counted =
     ap (λ l. l ++ take count (octet_symbols (get_or address i 0))) is
     ∙ (append_assoc start (narrowed (take i address) (take i mask)) (take count (octet_symbols (get_or address i 0)))
-    ∙ ap (λ l. start ++ l) (ap (λ n. narrowed (take i address) (take i mask) ++ take n (octet_symbols (get_or address i 0))) counted ∙ sym (narrowed-more address mask i inside fits)))
+    ∙ ap (λ l. start ++ l) (ap (λ n. narrowed (take i address) (take i mask) ++ take n (octet_symbols (get_or address i 0))) counted
+    ∙ sym (narrowed-more address mask i inside fits)))

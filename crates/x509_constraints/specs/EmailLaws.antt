@@ -27,7 +27,8 @@ is_no_mailbox : (parts : List ℕ × List ℕ) → mailbox_of [] ≡ Some parts 
 is_no_mailbox parts h = cc
 
 -- a name without a mailbox is within an empty subtree alone
-none_answers : (subtree : List ℕ) (own : Option (List ℕ × List ℕ)) → mailbox_of subtree ≡ own → (begins [] (email_prefix_at subtree own) ≡ true) ↔ ((subtree ≡ []) ⊎ ⊥)
+none_answers : (subtree : List ℕ) (own : Option (List ℕ × List ℕ)) → mailbox_of subtree ≡ own →
+    (begins [] (email_prefix_at subtree own) ≡ true) ↔ ((subtree ≡ []) ⊎ ⊥)
 unfolding turned
 none_answers subtree (Some (local, host)) is =
     ((λ h. absurd (clash _ h (begins_none (turned host) (symbols local ++ stop ∷ []) stop))), back)

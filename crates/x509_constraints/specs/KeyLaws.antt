@@ -60,7 +60,8 @@ octets_of-symbols (x ∷ xs) = let e : x + 1 - 1 ≡ x = omega arith in ap (λ c
 
 pub turned-cons : (c : ℕ) (rest : List ℕ) → turned (c ∷ rest) ≡ turned rest ++ (to_ascii_lowercase c + 1) ∷ []
 unfolding turned
-turned-cons c rest = ap symbols (reverse_onto (lower rest) (to_ascii_lowercase c) []) ∙ map-append (λ x. x + 1) (reverse (lower rest)) (to_ascii_lowercase c ∷ [])
+turned-cons c rest = ap symbols (reverse_onto (lower rest) (to_ascii_lowercase c) [])
+    ∙ map-append (λ x. x + 1) (reverse (lower rest)) (to_ascii_lowercase c ∷ [])
 
 pub ends_begins : (host end : List ℕ) → EndsWith host end → begins (turned host) (turned end) ≡ true
 unfolding turned
@@ -90,7 +91,8 @@ or_none false = refl
 pub dotted_answers : (host subtree tail : List ℕ) → IsDotted subtree → (begins (turned host ++ stop ∷ tail) (turned subtree) ≡ true) ↔ IsWithinHost host subtree
 unfolding turned
 dotted_answers host subtree tail (rest, is) =
-    let unstopped : begins (turned host ++ stop ∷ tail) (turned subtree) ≡ begins (turned host) (turned subtree) = begins-stopped (reverse (lower host)) (reverse (lower subtree)) tail in
+    let unstopped : begins (turned host ++ stop ∷ tail) (turned subtree) ≡ begins (turned host) (turned subtree) =
+    begins-stopped (reverse (lower host)) (reverse (lower subtree)) tail in
     ((λ h. inr (inr ((rest, is), begins_ends host subtree (sym unstopped ∙ h)))), (λ h. unstopped ∙ back h))
   where
     back : IsWithinHost host subtree → begins (turned host) (turned subtree) ≡ true
@@ -98,7 +100,8 @@ dotted_answers host subtree tail (rest, is) =
     back (inr (inl same)) = ends_begins host subtree ([], same)
     back (inr (inr (dotted, ends))) = ends_begins host subtree ends
 
-pub undotted_answers : (host : List ℕ) (c : ℕ) (rest tail : List ℕ) → (c ≡ dot → ⊥) → (begins (turned host ++ stop ∷ tail) (turned (c ∷ rest) ++ stop ∷ []) ≡ true) ↔ IsWithinHost host (c ∷ rest)
+pub undotted_answers : (host : List ℕ) (c : ℕ) (rest tail : List ℕ) → (c ≡ dot → ⊥) →
+    (begins (turned host ++ stop ∷ tail) (turned (c ∷ rest) ++ stop ∷ []) ≡ true) ↔ IsWithinHost host (c ∷ rest)
 unfolding turned
 undotted_answers host c rest tail other = (
   (λ h. let met = stops_meet (reverse (lower host)) (reverse (lower (c ∷ rest))) tail [] h in
@@ -108,15 +111,18 @@ undotted_answers host c rest tail other = (
   where
     back : IsWithinHost host (c ∷ rest) → begins (turned host ++ stop ∷ tail) (turned (c ∷ rest) ++ stop ∷ []) ≡ true
     back (inl empty) = absurd (cc)
-    back (inr (inl same)) = ap (λ l. begins (symbols (reverse l) ++ stop ∷ tail) (turned (c ∷ rest) ++ stop ∷ [])) same ∙ stops_same (reverse (lower (c ∷ rest))) tail [] refl
+    back (inr (inl same)) = ap (λ l. begins (symbols (reverse l) ++ stop ∷ tail) (turned (c ∷ rest) ++ stop ∷ [])) same
+        ∙ stops_same (reverse (lower (c ∷ rest))) tail [] refl
     back (inr (inr ((rest', dotted), ends))) = let e : c ≡ dot = cc in absurd (other e)
 
 pub host_answers : (host subtree tail : List ℕ) → (begins (turned host ++ stop ∷ tail) (host_prefix subtree) ≡ true) ↔ IsWithinHost host subtree
 unfolding turned
 host_answers host [] tail = ((λ h. inl refl), (λ h. refl))
 host_answers host (c ∷ rest) tail = elim (eqb_tells c dot) [
-  | inl (test, is) ↦ one (turned (c ∷ rest)) (ap (λ b. if b then turned (c ∷ rest) else turned (c ∷ rest) ++ stop ∷ []) test) (dotted_answers host (c ∷ rest) tail (rest, ap (λ x. x ∷ rest) is))
-  | inr (test, other) ↦ one (turned (c ∷ rest) ++ stop ∷ []) (ap (λ b. if b then turned (c ∷ rest) else turned (c ∷ rest) ++ stop ∷ []) test) (undotted_answers host c rest tail other)
+  | inl (test, is) ↦ one (turned (c ∷ rest)) (ap (λ b. if b then turned (c ∷ rest) else turned (c ∷ rest) ++ stop ∷ []) test) (dotted_answers host (c ∷
+      rest) tail (rest, ap (λ x. x ∷ rest) is))
+  | inr (test, other) ↦ one (turned (c ∷ rest) ++ stop ∷ []) (ap (λ b. if b then turned (c ∷ rest) else turned (c ∷ rest) ++ stop ∷ []) test)
+      (undotted_answers host c rest tail other)
 ]
   where
     one : (p : List ℕ) → host_prefix (c ∷ rest) ≡ p → (begins (turned host ++ stop ∷ tail) p ≡ true) ↔ IsWithinHost host (c ∷ rest) →
@@ -158,17 +164,21 @@ host_key_answers host subtree = has_prefix-one (host_key host) (host_prefix subt
 pub below_answers : (name parent : List ℕ) → (begins (host_key name) (turned (dot ∷ parent)) ≡ true) ↔ EndsWith name (dot ∷ parent)
 unfolding turned
 below_answers name parent =
-    let unstopped : begins (host_key name) (turned (dot ∷ parent)) ≡ begins (turned name) (turned (dot ∷ parent)) = begins-stopped (reverse (lower name)) (reverse (lower (dot ∷ parent))) [] in
+    let unstopped : begins (host_key name) (turned (dot ∷ parent)) ≡ begins (turned name) (turned (dot ∷ parent)) =
+    begins-stopped (reverse (lower name)) (reverse (lower (dot ∷ parent))) [] in
     ((λ h. begins_ends name (dot ∷ parent) (sym unstopped ∙ h)), (λ ends. unstopped ∙ ends_begins name (dot ∷ parent) ends))
 
 pub dns_answers : (name subtree : List ℕ) → (has_prefix (dns_prefixes subtree) (host_key name) ≡ true) ↔ IsWithinDns name subtree
-dns_answers name subtree = has_prefix-two (host_key name) (host_prefix subtree) (turned (dot ∷ subtree)) (IsWithinHost name subtree) (EndsWith name (dot ∷ subtree)) (host_answers name subtree []) (below_answers name subtree)
+dns_answers name subtree = has_prefix-two (host_key name) (host_prefix subtree) (turned (dot ∷ subtree)) (IsWithinHost name subtree) (EndsWith name
+    (dot ∷ subtree)) (host_answers name subtree []) (below_answers name subtree)
 
 -- one more octet of a host, from its end
-pub turned_more : (host : List ℕ) (left next : ℕ) (key start : List ℕ) (s : ℕ) → left < length host → next ≡ left + 1 → s ≡ to_ascii_lowercase (get_or host left 0) + 1 →
+pub turned_more : (host : List ℕ) (left next : ℕ) (key start : List ℕ) (s : ℕ) → left < length host → next ≡ left + 1 →
+    s ≡ to_ascii_lowercase (get_or host left 0) + 1 →
     key ≡ start ++ turned (drop next host) → key ++ s ∷ [] ≡ start ++ turned (drop left host)
 turned_more host left next key start s inside after is_symbol is =
-    let front : drop left host ≡ get_or host left 0 ∷ drop next host = drop-cons host left 0 inside ∙ ap (λ m. get_or host left 0 ∷ drop m host) (sym (after ∙ add-one left)) in
+    let front : drop left host ≡ get_or host left 0 ∷ drop next host = drop-cons host left 0 inside
+    ∙ ap (λ m. get_or host left 0 ∷ drop m host) (sym (after ∙ add-one left)) in
     ap (λ l. l ++ s ∷ []) is ∙ (append_assoc start (turned (drop next host)) (s ∷ [])
     ∙ ap (λ l. start ++ l) (ap (λ c. turned (drop next host) ++ c ∷ []) is_symbol ∙ sym (ap turned front ∙ turned-cons (get_or host left 0) (drop next host))))
 
