@@ -49,14 +49,18 @@ fn general_name(it: &GeneralName) -> String {
     }
 }
 
-/// What is told of a value, and `written otherwise` where its DER isn't what it was read from.
+/// What is told of a value, and `written otherwise` where its DER isn't what it was read from, or `not written` where RFC 5280 allows no such value.
 fn told<'a, T: ExtensionValue<'a> + ToExtension>(
     value: &'a [u8],
     tell: impl FnOnce(&T) -> String,
 ) -> Told {
     let read = T::from_der(value)?;
-    let is_same = read.to_der()? == value;
-    let behind = if is_same { "" } else { " written otherwise" };
+    let behind = match read.to_der() {
+        Ok(written) if written == value => "",
+        Ok(_) => " written otherwise",
+        Err(Error::Value) => " not written",
+        Err(error) => return Err(error),
+    };
     Ok(tell(&read) + behind)
 }
 

@@ -1,19 +1,21 @@
 //! Builders of certificates, CRLs and CSRs (RFC 5280 4.1, 5.1; RFC 2986 4.1), with a signer of yours.
 //!
 //! A builder writes the bytes to be signed, the signer signs them, and the library puts both together. What is built is then read again as what it
-//! is. That the signature is one of these bytes isn't checked.
+//! is. That the signature is one of these bytes isn't checked. All that is given to a builder is in what it builds, or refused before anything is signed; of
+//! moments the parts of a second are left out.
 use crate::certificate::{Certificate, CertificateRef, Validity};
 use crate::crl::Crl;
 use crate::csr::Csr;
 use crate::error::Error;
-use crate::extension::{CrlReason, SubjectAltName, ToExtension};
-use crate::ffi::build;
+use crate::extension::{is_crl_number, CrlReason, KeyUsage, SubjectAltName, ToExtension};
+use crate::ffi::{self, build, Members};
 use crate::general_name::GeneralName;
 use crate::integer::{Integer, SerialNumber};
 use crate::name::Name;
-use crate::oid::ObjectIdentifier;
+use crate::oid::{self, ObjectIdentifier};
 use crate::time::seconds;
 use crate::writing::{self, OBJECT_IDENTIFIER, SEQUENCE, SET};
+use std::collections::HashSet;
 use std::fmt;
 use std::time::SystemTime;
 
@@ -84,7 +86,7 @@ pub enum BuildError<E> {
     /// What was given makes none.
     Refused(Error),
 
-    /// The signer's key isn't that of the issuer's certificate.
+    /// The signer's key isn't that of the issuer's certificate, or of a root not its own.
     OtherKey,
 
     /// The signer failed, by its own error.
@@ -176,11 +178,13 @@ macro_rules! with_extensions {
     };
 }
 
-/// A kind of certificates, whose extensions the library makes, behind those that were added. A key is told by the SHA-1 digest of its octets (RFC 5280 4.2.1.2).
+/// A kind of certificates, whose extensions the library makes, behind those that were added, of which none may be one of them. A key is told by the SHA-1 digest
+/// of its octets (RFC 5280 4.2.1.2). What a profile doesn't take is refused, with [`Error::NotInProfile`].
 #[derive(Clone, Debug)]
 #[non_exhaustive]
 pub enum CertificateProfile<'a> {
-    /// A root (CA/Browser Forum, Baseline Requirements 7.1.2.1), which is its own issuer and signs with its own key: AKI, basic constraints, key usage, SKI.
+    /// A root (CA/Browser Forum, Baseline Requirements 7.1.2.1), which is its own issuer, so that this is to be its subject, and signs with its own key: AKI,
+    /// basic constraints, key usage, SKI.
     Root {
         /// Whether it signs OCSP responses.
         signs_ocsp_responses: bool,
@@ -196,16 +200,16 @@ pub enum CertificateProfile<'a> {
         client_auth: bool,
     },
 
-    /// A TLS server of which control of its domains was validated (7.1.2.7): of the subject the country and the common names are kept; AKI, extended key
+    /// A TLS server of which control of its domains was validated (7.1.2.7), whose subject has nothing but a country and common names: AKI, extended key
     /// usage, basic constraints, key usage. The SAN is one of the added extensions.
     Subscriber {
         /// Whether it may be a TLS client, too.
         client_auth: bool,
-        /// Of an RSA key, whether keys are encrypted.
+        /// Of an RSA key, whether keys are encrypted. Refused of another key.
         key_encipherment: bool,
-        /// Of an elliptic curve key, whether keys are agreed on.
+        /// Of an elliptic curve key, whether keys are agreed on. Refused of another key.
         key_agreement: bool,
-        /// Of an RSA key, whether data is encrypted.
+        /// Of an RSA key, whether data is encrypted. Refused of another key.
         data_encipherment: bool,
     },
 
@@ -214,6 +218,28 @@ pub enum CertificateProfile<'a> {
         /// Its names.
         names: &'a [GeneralName<'a>],
     },
+}
+
+impl CertificateProfile<'_> {
+    /// The key usages that are asked for.
+    fn uses(&self) -> KeyUsage {
+        let CertificateProfile::Subscriber {
+            key_encipherment,
+            key_agreement,
+            data_encipherment,
+            ..
+        } = *self
+        else {
+            return KeyUsage::default();
+        };
+        let asked = [
+            (key_encipherment, KeyUsage::KEY_ENCIPHERMENT),
+            (key_agreement, KeyUsage::KEY_AGREEMENT),
+            (data_encipherment, KeyUsage::DATA_ENCIPHERMENT),
+        ];
+        let asked = asked.into_iter().filter(|(is_asked, _)| *is_asked);
+        asked.fold(KeyUsage::default(), |all, (_, one)| all | one)
+    }
 }
 
 /// Builds a certificate: of v3 where extensions are added, else of v1.
@@ -281,8 +307,8 @@ impl CertificateBuilder {
     /// The bytes to be signed, a whole TBSCertificate, for a signature by an algorithm, which is a whole AlgorithmIdentifier.
     ///
     /// # Errors
-    /// [`Error::Malformed`] where the key or the algorithm is none; [`Error::Value`] where a moment is before 1970 or after 9999;
-    /// [`Error::Overlength`] or [`Error::Memory`].
+    /// [`Error::Malformed`] where the key or the algorithm is none; [`Error::Value`] where a moment is before 1970 or after 9999, or the last is before the
+    /// first; [`Error::Overlength`] or [`Error::Memory`].
     pub fn tbs_certificate(&self, algorithm: &[u8]) -> Result<Vec<u8>, Error> {
         self.with_fields(algorithm, build::certificate)
     }
@@ -306,18 +332,23 @@ impl CertificateBuilder {
     }
 
     /// The bytes to be signed of a certificate of a kind, for a signature by an algorithm and for the issuer's key, which are a whole AlgorithmIdentifier and a
-    /// whole SubjectPublicKeyInfo. Of a root the issuer's name and key aren't looked at: they are its own.
+    /// whole SubjectPublicKeyInfo.
     ///
     /// # Errors
     /// As of [`tbs_certificate`](CertificateBuilder::tbs_certificate); [`Error::Malformed`] also where the issuer's key is none, [`Error::Failed`] where a root can't
-    /// have that name, or where no name of a device is that of a hardware module.
+    /// have that name, or where no name of a device is that of a hardware module; [`Error::Repeated`] where an added extension is one that the profile makes;
+    /// [`Error::NotInProfile`] where the issuer's name or key aren't a root's own, or where a server's subject has another attribute or its key no such use.
     pub fn tbs_certificate_as(
         &self,
         profile: &CertificateProfile<'_>,
         algorithm: &[u8],
         issuer_key: &[u8],
     ) -> Result<Vec<u8>, Error> {
-        self.with_fields(algorithm, |fields| match *profile {
+        let is_root = matches!(profile, CertificateProfile::Root { .. });
+        if is_root && issuer_key != self.key {
+            return Err(Error::NotInProfile);
+        }
+        let part = self.with_fields(algorithm, |fields| match *profile {
             CertificateProfile::Root {
                 signs_ocsp_responses,
             } => build::root(fields, signs_ocsp_responses),
@@ -352,19 +383,32 @@ impl CertificateBuilder {
                 let names = SubjectAltName(names.to_vec()).to_der()?;
                 build::device(fields, issuer_key, &names)
             }
-        })
+        })?;
+        // without a signature it can be read as any certificate
+        let der = build::assemble(&part, algorithm, &[])?;
+        let made = CertificateRef::from_der(&der)?;
+        let has_names = made.issuer() == self.issuer && made.subject() == self.subject;
+        let uses = made.key_usage()?.unwrap_or_default();
+        if !has_names || !uses.contains(profile.uses()) {
+            return Err(Error::NotInProfile);
+        }
+        Ok(part)
     }
 
     /// The certificate of a kind, signed by the issuer's signer.
     ///
     /// # Errors
-    /// [`BuildError::Refused`] as of [`tbs_certificate_as`](CertificateBuilder::tbs_certificate_as), [`BuildError::Signer`] where the signer fails.
+    /// [`BuildError::OtherKey`] where the signer's key isn't that of a root; [`BuildError::Refused`] as of
+    /// [`tbs_certificate_as`](CertificateBuilder::tbs_certificate_as), [`BuildError::Signer`] where the signer fails.
     pub fn build_as<S: Signer>(
         &self,
         profile: &CertificateProfile<'_>,
         signer: &S,
     ) -> Result<Certificate, BuildError<S::Error>> {
         let key = signer.subject_public_key_info();
+        if matches!(profile, CertificateProfile::Root { .. }) && key != self.key {
+            return Err(BuildError::OtherKey);
+        }
         let part = self.tbs_certificate_as(profile, signer.algorithm(), key)?;
         Ok(Certificate::from_der(signed(&part, signer)?)?)
     }
@@ -380,7 +424,7 @@ impl CertificateBuilder {
 }
 
 /// Builds a CRL of v2. Its first extensions are the number and the AKI, which is the SKI in the issuer's certificate, and where that has none, the
-/// SHA-1 digest of its key (RFC 5280 4.2.1.2).
+/// SHA-1 digest of its key (RFC 5280 4.2.1.2). Neither may be added.
 ///
 /// ```
 /// use std::time::SystemTime;
@@ -443,12 +487,21 @@ impl CrlBuilder {
         date: SystemTime,
         reason: Option<CrlReason>,
     ) -> Result<&mut CrlBuilder, Error> {
-        let mut extensions = ExtensionList::default();
+        let mut entry = CrlEntryBuilder::new(serial_number, date);
         if let Some(reason) = reason {
-            extensions.add(reason.oid(), false, &reason.to_der()?)?;
+            entry.add_extension(false, &reason)?;
         }
-        let serial_number = serial_number.element()?;
-        let entry = build::crl_entry(&serial_number, seconds(date)?, &extensions.joined())?;
+        self.add_entry_of(&entry)
+    }
+
+    /// Adds an entry behind the others, with extensions of its own.
+    ///
+    /// # Errors
+    /// As of [`add_entry`](CrlBuilder::add_entry).
+    pub fn add_entry_of(&mut self, entry: &CrlEntryBuilder) -> Result<&mut CrlBuilder, Error> {
+        let serial_number = Integer(&entry.serial_number).element()?;
+        let date = seconds(entry.date)?;
+        let entry = build::crl_entry(&serial_number, date, &entry.extensions.joined())?;
         self.entries.extend_from_slice(&entry);
         Ok(self)
     }
@@ -459,8 +512,12 @@ impl CrlBuilder {
     ///
     /// # Errors
     /// [`Error::Malformed`] where the algorithm is none; [`Error::Failed`] where the issuer's certificate has two SKIs; [`Error::Value`] where the number
-    /// has no octets, or a moment is before 1970 or after 9999; [`Error::Overlength`] or [`Error::Memory`].
+    /// has no octets, or more than 20 content octets (RFC 5280 5.2.3), or a moment is before 1970 or after 9999, or the next update before this one;
+    /// [`Error::Repeated`] where a number or an AKI was added; [`Error::Overlength`] or [`Error::Memory`].
     pub fn tbs_cert_list(&self, algorithm: &[u8]) -> Result<Vec<u8>, Error> {
+        if !is_crl_number(&writing::unsigned(&self.number)) {
+            return Err(Error::Value);
+        }
         build::crl(&build::CrlFields {
             issuer: self.issuer.as_der(),
             algorithm,
@@ -486,6 +543,72 @@ impl CrlBuilder {
     }
 }
 
+/// Builds an entry of a CRL with extensions of its own, for [`CrlBuilder::add_entry_of`].
+///
+/// ```
+/// use std::time::SystemTime;
+/// use x509_rattle::extension::{CertificateIssuer, CrlReason};
+/// use x509_rattle::{CrlBuilder, CrlEntryBuilder, Error, GeneralName, Integer, NameRef};
+///
+/// /// Revokes a certificate of another issuer (RFC 5280 5.3.3).
+/// fn revoke(list: &mut CrlBuilder, serial: Integer, issuer: NameRef, now: SystemTime) -> Result<(), Error> {
+///     let mut entry = CrlEntryBuilder::new(serial, now);
+///     entry.add_extension(false, &CrlReason::CessationOfOperation)?;
+///     entry.add_extension(true, &CertificateIssuer(vec![GeneralName::DirectoryName(issuer)]))?;
+///     list.add_entry_of(&entry)?;
+///     Ok(())
+/// }
+/// ```
+#[derive(Clone, Debug)]
+pub struct CrlEntryBuilder {
+    serial_number: Vec<u8>,
+    date: SystemTime,
+    extensions: ExtensionList,
+}
+
+impl CrlEntryBuilder {
+    /// An entry that says that the certificate with that serial number is revoked since that moment.
+    pub fn new(serial_number: Integer<'_>, date: SystemTime) -> CrlEntryBuilder {
+        CrlEntryBuilder {
+            serial_number: serial_number.as_bytes().to_vec(),
+            date,
+            extensions: ExtensionList::default(),
+        }
+    }
+
+    with_extensions!();
+}
+
+/// The member of a list that has just one.
+fn only<T: Default>(mut members: Members<'_, T>) -> Result<T, Error> {
+    let found = members.next().ok_or(Error::Malformed)??;
+    match members.next() {
+        None => Ok(found),
+        Some(Ok(_)) => Err(Error::Malformed),
+        Some(Err(error)) => Err(error),
+    }
+}
+
+/// The DER of an attribute of a CSR with these values, of which each has to be one whole element.
+fn attribute(oid: ObjectIdentifier, values: &[&[u8]]) -> Result<Vec<u8>, Error> {
+    for value in values {
+        only(ffi::ATTRIBUTE_VALUES.over(&writing::element(SET, value)))?;
+    }
+    let mut values: Vec<Vec<u8>> = values.iter().map(|it| it.to_vec()).collect();
+    // the members of a SET OF stand in the order of their encodings (X.690 11.6)
+    values.sort();
+    let values = writing::elements(SET, values);
+    let oid = writing::element(OBJECT_IDENTIFIER, oid.as_bytes());
+    Ok(writing::elements(SEQUENCE, [oid, values]))
+}
+
+/// The type of the attribute that the bytes are.
+fn attribute_type(attribute: &[u8]) -> Result<ObjectIdentifier, Error> {
+    let list = writing::element(writing::context_elements(0), attribute);
+    let found = only(ffi::REQUEST_ATTRIBUTES.over(&list))?;
+    ObjectIdentifier::found(found.oid.of(&list)?)
+}
+
 /// Builds a CSR, a PKCS #10 request. It asks for the extensions that are added, with an attribute that stands there where there are none too.
 ///
 /// ```
@@ -503,7 +626,7 @@ impl CrlBuilder {
 #[derive(Clone, Debug)]
 pub struct CsrBuilder {
     subject: Name,
-    attributes: Vec<u8>,
+    attributes: Vec<Result<Vec<u8>, Error>>,
     extensions: ExtensionList,
 }
 
@@ -518,7 +641,7 @@ impl CsrBuilder {
     }
 
     /// Adds a further attribute with these values, each a whole element, in any order; see [`oid::request`](crate::oid::request). It is checked when the CSR is
-    /// built.
+    /// built. None may ask for extensions, as the builder's own does.
     ///
     /// ```
     /// use x509_rattle::{oid, CsrBuilder};
@@ -529,17 +652,13 @@ impl CsrBuilder {
     /// # Ok::<(), x509_rattle::Error>(())
     /// ```
     pub fn add_attribute(&mut self, oid: ObjectIdentifier, values: &[&[u8]]) -> &mut CsrBuilder {
-        let mut values: Vec<Vec<u8>> = values.iter().map(|it| it.to_vec()).collect();
-        // the members of a SET OF stand in the order of their encodings (X.690 11.6)
-        values.sort();
-        let values = writing::elements(SET, values);
-        let oid = writing::element(OBJECT_IDENTIFIER, oid.as_bytes());
-        self.add_attribute_der(&writing::elements(SEQUENCE, [oid, values]))
+        self.attributes.push(attribute(oid, values));
+        self
     }
 
     /// Adds a further attribute by its DER, a whole Attribute, which is checked when the CSR is built.
     pub fn add_attribute_der(&mut self, attribute: &[u8]) -> &mut CsrBuilder {
-        self.attributes.extend_from_slice(attribute);
+        self.attributes.push(Ok(attribute.to_vec()));
         self
     }
 
@@ -548,16 +667,25 @@ impl CsrBuilder {
     /// The bytes to be signed, a whole CertificationRequestInfo, for a key, which is a whole SubjectPublicKeyInfo.
     ///
     /// # Errors
-    /// [`Error::Malformed`] where the key or an attribute is none; [`Error::SetDuplicate`] where two attributes are equal; [`Error::Overlength`] or
-    /// [`Error::Memory`].
+    /// [`Error::Malformed`] where the key or an attribute is none; [`Error::Repeated`] where two attributes are of one type, or one asks for extensions;
+    /// [`Error::Overlength`] or [`Error::Memory`].
     pub fn certification_request_info(
         &self,
         subject_public_key_info: &[u8],
     ) -> Result<Vec<u8>, Error> {
+        let mut types = HashSet::from([oid::request::EXTENSION_REQUEST]);
+        let mut attributes = Vec::new();
+        for attribute in &self.attributes {
+            let attribute = attribute.as_ref().map_err(|error| *error)?;
+            if !types.insert(attribute_type(attribute)?) {
+                return Err(Error::Repeated);
+            }
+            attributes.extend_from_slice(attribute);
+        }
         build::request(
             self.subject.as_der(),
             subject_public_key_info,
-            &self.attributes,
+            &attributes,
             &self.extensions.joined(),
         )
     }

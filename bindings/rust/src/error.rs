@@ -14,20 +14,23 @@ pub enum Error {
     /// The bytes are not the DER of such a value.
     Malformed,
 
-    /// A text is not of its form, there is no such type, or an extension of an entry of a CRL is there twice.
+    /// A text is not of its form, there is no such type, an attribute doesn't have a string type, or an extension of an entry of a CRL is there twice.
     Failed,
 
     /// A relative distinguished name says one attribute twice.
     SetDuplicate,
 
-    /// A value can't be made or written, as a moment before 1970 or after 9999.
+    /// A value can't be made or written, as a moment before 1970 or after 9999, or a validity that ends before it begins.
     Value,
 
     /// What was asked for isn't there.
     Absent,
 
-    /// An extension that was asked for is there more than once.
+    /// An extension or an attribute is there more than once, or would be in what is to be built.
     Repeated,
+
+    /// What was given has no place in a certificate of the profile, as an issuer of a root that isn't its subject.
+    NotInProfile,
 
     /// The library answered what its header rules out: it is of another version.
     Unexpected,
@@ -39,11 +42,14 @@ impl Error {
             Error::Memory => "out of memory",
             Error::Overlength => "longer than 268,435,455 bytes",
             Error::Malformed => "not the DER of such a value",
-            Error::Failed => "a text is not of its form, or an extension stands there twice",
+            Error::Failed => {
+                "a text or a type is not of its form, or an extension stands there twice"
+            }
             Error::SetDuplicate => "a relative distinguished name has an attribute twice",
             Error::Value => "a value can't be made or written",
             Error::Absent => "it isn't there",
-            Error::Repeated => "the extension is there more than once",
+            Error::Repeated => "an extension or an attribute is there more than once",
+            Error::NotInProfile => "the profile doesn't take what was given",
             Error::Unexpected => "the C library is of another version",
         }
     }

@@ -14,7 +14,9 @@ pub use crl::{BaseCrlNumber, CrlNumber, CrlReason};
 pub(crate) use flags::flags;
 pub use flags::{KeyUsage, ReasonFlags};
 pub use keys::{AuthorityKeyIdentifier, BasicConstraints, ExtendedKeyUsage, SubjectKeyIdentifier};
-pub use names::{GeneralSubtree, IssuerAltName, NameConstraints, SubjectAltName};
+pub use names::{
+    CertificateIssuer, GeneralSubtree, IssuerAltName, NameConstraints, SubjectAltName,
+};
 pub use points::{
     CrlDistributionPoints, DistributionPoint, DistributionPointName, FreshestCrl,
     IssuingDistributionPoint,
@@ -24,6 +26,7 @@ pub use policies::{
     PolicyMappings, PolicyQualifierInfo,
 };
 pub use timestamps::{SignedCertificateTimestamp, SignedCertificateTimestamps};
+pub(crate) use writing::is_crl_number;
 pub use writing::ToExtension;
 
 use crate::error::Error;
@@ -166,6 +169,7 @@ parsed! {
     CrlNumber(CrlNumber<'a>),
     BaseCrlNumber(BaseCrlNumber<'a>),
     CrlReason(CrlReason),
+    CertificateIssuer(CertificateIssuer<'a>),
     SignedCertificateTimestamps(SignedCertificateTimestamps<'a>),
 }
 

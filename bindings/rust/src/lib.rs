@@ -42,7 +42,8 @@ mod writing;
 
 pub use anchor::{AnchorKind, TrustAnchor};
 pub use builder::{
-    BuildError, CertificateBuilder, CertificateProfile, CrlBuilder, CsrBuilder, Signer,
+    BuildError, CertificateBuilder, CertificateProfile, CrlBuilder, CrlEntryBuilder, CsrBuilder,
+    Signer,
 };
 pub use certificate::{Certificate, CertificateRef, Signature, Validity, Version};
 pub use controls::{PathControls, PolicyFlags};
@@ -54,8 +55,8 @@ pub use general_name::{GeneralName, GeneralNames};
 pub use integer::{Integer, SerialNumber};
 pub use key::{AlgorithmIdentifier, KeyKind, PublicKey, SignatureKind};
 pub use name::{
-    AttributeTypeAndValue, Attributes, Name, NameAttributes, NameRef, Rdns,
-    RelativeDistinguishedName,
+    escape_value, AttributeTypeAndValue, Attributes, Name, NameAttributes, NameBuilder, NameRef,
+    Rdns, RelativeDistinguishedName, StringType,
 };
 pub use oid::ObjectIdentifier;
 pub use path::{check_path, FaultReason, PathError, PathFault, Verifier};

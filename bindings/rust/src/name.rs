@@ -6,6 +6,10 @@ use std::borrow::Cow;
 use std::fmt;
 use std::str::FromStr;
 
+mod builder;
+
+pub use builder::{escape_value, NameBuilder, StringType};
+
 /// A distinguished name, by its DER. Names are equal byte for byte, as they are compared in a path.
 #[derive(Clone, Copy, PartialEq, Eq, Hash)]
 pub struct NameRef<'a> {
@@ -101,12 +105,14 @@ impl<'a> TryFrom<&'a [u8]> for NameRef<'a> {
     }
 }
 
-/// A distinguished name that has bytes of its own.
+/// A distinguished name that has bytes of its own: of values ([`builder`](Name::builder)), of a text of RFC 4514, in which a value is to be escaped
+/// ([`escape_value`]), or of its DER.
 ///
 /// ```
 /// use x509_rattle::{oid, Name};
 ///
 /// let name: Name = "CN=www.example.org,C=DE".parse()?;
+/// assert_eq!(name, Name::builder().country_name("DE").common_name("www.example.org").build()?);
 /// assert_eq!(name.to_string(), "CN=www.example.org,C=DE");
 /// for attribute in name.to_ref().attributes_for(oid::attribute::COMMON_NAME) {
 ///     assert_eq!(attribute?.text().as_deref(), Some("www.example.org"));
@@ -119,6 +125,11 @@ pub struct Name {
 }
 
 impl Name {
+    /// Builds a name of values.
+    pub fn builder() -> NameBuilder {
+        NameBuilder::new()
+    }
+
     /// The name that the bytes are.
     ///
     /// # Errors

@@ -143,10 +143,14 @@ pub mod extension {
         CRL_NUMBER = "2.5.29.20", b"\x55\x1d\x14";
         /// The reason code of an entry of a CRL
         CRL_REASON = "2.5.29.21", b"\x55\x1d\x15";
+        /// When the key was perhaps known to another, of an entry of a CRL
+        INVALIDITY_DATE = "2.5.29.24", b"\x55\x1d\x18";
         /// DeltaCRLIndicator, which holds a BaseCRLNumber
         DELTA_CRL_INDICATOR = "2.5.29.27", b"\x55\x1d\x1b";
         /// IssuingDistributionPoint
         ISSUING_DISTRIBUTION_POINT = "2.5.29.28", b"\x55\x1d\x1c";
+        /// The issuer of the certificate of an entry of a CRL
+        CERTIFICATE_ISSUER = "2.5.29.29", b"\x55\x1d\x1d";
         /// NameConstraints
         NAME_CONSTRAINTS = "2.5.29.30", b"\x55\x1d\x1e";
         /// CRLDistributionPoints
@@ -176,7 +180,7 @@ pub mod extension {
     }
 }
 
-/// Of attributes of names (RFC 4519, RFC 5280 A.1).
+/// Of attributes of names (RFC 4519, RFC 5280 A.1; CA/Browser Forum, EV Guidelines 9.2).
 pub mod attribute {
     use super::ObjectIdentifier;
 
@@ -201,14 +205,50 @@ pub mod attribute {
         ORGANIZATIONAL_UNIT_NAME = "2.5.4.11", b"\x55\x04\x0b";
         /// title
         TITLE = "2.5.4.12", b"\x55\x04\x0c";
+        /// businessCategory
+        BUSINESS_CATEGORY = "2.5.4.15", b"\x55\x04\x0f";
+        /// postalAddress
+        POSTAL_ADDRESS = "2.5.4.16", b"\x55\x04\x10";
+        /// postalCode
+        POSTAL_CODE = "2.5.4.17", b"\x55\x04\x11";
+        /// name
+        NAME = "2.5.4.41", b"\x55\x04\x29";
         /// givenName
         GIVEN_NAME = "2.5.4.42", b"\x55\x04\x2a";
+        /// initials
+        INITIALS = "2.5.4.43", b"\x55\x04\x2b";
+        /// generationQualifier
+        GENERATION_QUALIFIER = "2.5.4.44", b"\x55\x04\x2c";
+        /// dnQualifier
+        DN_QUALIFIER = "2.5.4.46", b"\x55\x04\x2e";
+        /// pseudonym
+        PSEUDONYM = "2.5.4.65", b"\x55\x04\x41";
+        /// organizationIdentifier
+        ORGANIZATION_IDENTIFIER = "2.5.4.97", b"\x55\x04\x61";
         /// UID
         USER_ID = "0.9.2342.19200300.100.1.1", b"\x09\x92\x26\x89\x93\xf2\x2c\x64\x01\x01";
         /// DC
         DOMAIN_COMPONENT = "0.9.2342.19200300.100.1.25", b"\x09\x92\x26\x89\x93\xf2\x2c\x64\x01\x19";
         /// emailAddress
         EMAIL_ADDRESS = "1.2.840.113549.1.9.1", b"\x2a\x86\x48\x86\xf7\x0d\x01\x09\x01";
+        /// unstructuredName
+        UNSTRUCTURED_NAME = "1.2.840.113549.1.9.2", b"\x2a\x86\x48\x86\xf7\x0d\x01\x09\x02";
+        /// jurisdictionLocalityName
+        JURISDICTION_LOCALITY_NAME = "1.3.6.1.4.1.311.60.2.1.1", b"\x2b\x06\x01\x04\x01\x82\x37\x3c\x02\x01\x01";
+        /// jurisdictionStateOrProvinceName
+        JURISDICTION_STATE_OR_PROVINCE_NAME = "1.3.6.1.4.1.311.60.2.1.2", b"\x2b\x06\x01\x04\x01\x82\x37\x3c\x02\x01\x02";
+        /// jurisdictionCountryName
+        JURISDICTION_COUNTRY_NAME = "1.3.6.1.4.1.311.60.2.1.3", b"\x2b\x06\x01\x04\x01\x82\x37\x3c\x02\x01\x03";
+    }
+}
+
+/// Of policies (RFC 5280 4.2.1.4).
+pub mod policy {
+    use super::ObjectIdentifier;
+
+    identifiers! {
+        /// anyPolicy
+        ANY_POLICY = "2.5.29.32.0", b"\x55\x1d\x20\x00";
     }
 }
 
@@ -269,6 +309,7 @@ mod tests {
         for group in [
             extension::ALL,
             attribute::ALL,
+            policy::ALL,
             purpose::ALL,
             access::ALL,
             request::ALL,

@@ -94,7 +94,7 @@ fn each_octet_changed() {
 }
 
 /// The list holds each extension that can be read.
-fn identifiers() -> [ObjectIdentifier; 20] {
+fn identifiers() -> [ObjectIdentifier; 21] {
     use oid::extension::*;
     [
         KEY_USAGE,
@@ -117,6 +117,7 @@ fn identifiers() -> [ObjectIdentifier; 20] {
         CRL_NUMBER,
         DELTA_CRL_INDICATOR,
         CRL_REASON,
+        CERTIFICATE_ISSUER,
     ]
 }
 

@@ -214,7 +214,7 @@ fn attributes_of_requests() {
     assert_eq!(other.certification_request_info(KEY), part);
     other.add_attribute_der(by_der);
     let twice = other.certification_request_info(KEY);
-    assert_eq!(twice, Err(Error::SetDuplicate));
+    assert_eq!(twice, Err(Error::Repeated));
     // values may come in any order; one that is no element is refused
     let mut sorted = CsrBuilder::new(&subject);
     sorted.add_attribute(oid::attribute::COMMON_NAME, &[b"\x0c\x01b", b"\x0c\x01a"]);
@@ -381,15 +381,15 @@ fn sent_between_threads() {
 const KEY_DIGEST: &[u8] =
     b"\xde\x8a\x84\x7b\xff\x8c\x34\x3d\x69\xb8\x53\xa2\x15\xe6\xee\x77\x5e\xf2\xef\x96";
 
-/// The certificate of that kind, for the subject and the key of zeros, and the OIDs of its extensions.
+/// The certificate of that kind, by an issuer and for a subject with the key of zeros, and the OIDs of its extensions.
 fn of_kind(
+    issuer: &str,
     subject: &str,
     profile: &CertificateProfile<'_>,
 ) -> Result<(Certificate, Vec<x509_rattle::ObjectIdentifier>), BuildError<Locked>> {
     let serial_number = SerialNumber::try_from(1).expect("a number");
-    let subject = name(subject);
-    let mut builder =
-        CertificateBuilder::new(serial_number, &name("CN=I"), validity(), &subject, KEY);
+    let (issuer, subject) = (name(issuer), name(subject));
+    let mut builder = CertificateBuilder::new(serial_number, &issuer, validity(), &subject, KEY);
     builder.add_extension_der(oid::extension::PRECERT_POISON, true, b"\x05\x00")?;
     let signer = fixed();
     let made = builder.build_as(profile, &signer)?;
@@ -408,7 +408,7 @@ fn kinds_of_certificates() {
     let root = CertificateProfile::Root {
         signs_ocsp_responses: false,
     };
-    let (made, told) = of_kind("CN=R,O=O,C=DE", &root).expect("a root");
+    let (made, told) = of_kind("CN=R,O=O,C=DE", "CN=R,O=O,C=DE", &root).expect("a root");
     let expected = [
         PRECERT_POISON,
         AUTHORITY_KEY_IDENTIFIER,
@@ -425,7 +425,7 @@ fn kinds_of_certificates() {
         .expect("one")
         .expect("one");
     assert_eq!(ski.0, KEY_DIGEST);
-    let refused = of_kind("CN=R", &root).err();
+    let refused = of_kind("CN=R", "CN=R", &root).err();
     assert_eq!(refused, Some(BuildError::Refused(Error::Failed)));
 
     let subordinate = CertificateProfile::Subordinate {
@@ -433,7 +433,7 @@ fn kinds_of_certificates() {
         signs_ocsp_responses: true,
         client_auth: true,
     };
-    let (made, told) = of_kind("CN=M", &subordinate).expect("an authority");
+    let (made, told) = of_kind("CN=I", "CN=M", &subordinate).expect("an authority");
     assert_eq!(told[..5], expected);
     assert_eq!(told[5..], [EXTENDED_KEY_USAGE]);
     let constraints = made
@@ -454,7 +454,7 @@ fn kinds_of_certificates() {
         key_agreement: false,
         data_encipherment: false,
     };
-    let (made, told) = of_kind("CN=a.example,O=O,C=DE", &subscriber).expect("a server");
+    let (made, told) = of_kind("CN=I", "CN=a.example,C=DE", &subscriber).expect("a server");
     let expected = [
         PRECERT_POISON,
         AUTHORITY_KEY_IDENTIFIER,
@@ -471,7 +471,7 @@ fn kinds_of_certificates() {
 fn devices() {
     use oid::extension::*;
     let without = CertificateProfile::Device { names: &[] };
-    let (_, told) = of_kind("CN=D", &without).expect("a device");
+    let (_, told) = of_kind("CN=I", "CN=D", &without).expect("a device");
     assert_eq!(told, [PRECERT_POISON, AUTHORITY_KEY_IDENTIFIER, KEY_USAGE]);
     // id-on-hardwareModuleName with a HardwareModuleName (RFC 4108 5)
     let hardware = GeneralName::OtherName {
@@ -479,8 +479,12 @@ fn devices() {
         value: b"\x30\x07\x06\x02\x2a\x03\x04\x01\x05",
     };
     let names = [GeneralName::DnsName("d"), hardware];
-    let (made, told) =
-        of_kind("CN=D", &CertificateProfile::Device { names: &names }).expect("a device");
+    let (made, told) = of_kind(
+        "CN=I",
+        "CN=D",
+        &CertificateProfile::Device { names: &names },
+    )
+    .expect("a device");
     assert_eq!(
         told,
         [
@@ -492,6 +496,11 @@ fn devices() {
     );
     let (critical, found) = made.get::<SubjectAltName>().expect("one").expect("one");
     assert_eq!((critical, &found.0[..]), (false, &names[..]));
-    let refused = of_kind("CN=D", &CertificateProfile::Device { names: &names[..1] }).err();
+    let refused = of_kind(
+        "CN=I",
+        "CN=D",
+        &CertificateProfile::Device { names: &names[..1] },
+    )
+    .err();
     assert_eq!(refused, Some(BuildError::Refused(Error::Failed)));
 }

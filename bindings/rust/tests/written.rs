@@ -29,7 +29,10 @@ fn of_keys() {
         KeyUsage::KEY_CERT_SIGN | KeyUsage::CRL_SIGN,
         b"\x03\x02\x01\x06",
     );
-    is(KeyUsage::DECIPHER_ONLY, b"\x03\x03\x07\x00\x80");
+    is(
+        KeyUsage::KEY_AGREEMENT | KeyUsage::DECIPHER_ONLY,
+        b"\x03\x03\x07\x08\x80",
+    );
     let constraints = |ca, path_len_constraint| BasicConstraints {
         ca,
         path_len_constraint,
@@ -85,18 +88,18 @@ fn of_names() {
         type_id: oid("1.2.3"),
         value: b"\x05",
     }]));
-    let subtree = |base, minimum, maximum| GeneralSubtree {
+    let subtree = |base| GeneralSubtree {
         base,
-        minimum,
-        maximum,
+        minimum: 0,
+        maximum: None,
     };
     let constraints = NameConstraints {
-        permitted_subtrees: Some(vec![subtree(GeneralName::DnsName("b"), 0, None)]),
-        excluded_subtrees: Some(vec![subtree(GeneralName::DnsName("c"), 1, Some(2))]),
+        permitted_subtrees: Some(vec![subtree(GeneralName::DnsName("b"))]),
+        excluded_subtrees: Some(vec![subtree(GeneralName::DnsName("c"))]),
     };
     is(
         constraints,
-        b"\x30\x14\xa0\x05\x30\x03\x82\x01b\xa1\x0b\x30\x09\x82\x01c\x80\x01\x01\x81\x01\x02",
+        b"\x30\x0e\xa0\x05\x30\x03\x82\x01b\xa1\x05\x30\x03\x82\x01c",
     );
 }
 
@@ -152,13 +155,13 @@ fn of_policies() {
         policy_qualifier_id: oid("1.3.6.1.5.5.7.2.1"),
         qualifier: Some(b"\x16\x02c:"),
     };
-    let policy = |policy_qualifiers| PolicyInformation {
-        policy_identifier: oid("2.5.29.32.0"),
+    let policy = |identifier, policy_qualifiers| PolicyInformation {
+        policy_identifier: oid(identifier),
         policy_qualifiers,
     };
     is(
-        CertificatePolicies(vec![policy(None), policy(Some(vec![qualifier]))]),
-        b"\x30\x22\x30\x06\x06\x04\x55\x1d\x20\x00\x30\x18\x06\x04\x55\x1d\x20\x00\x30\x10\x30\x0e\x06\x08\x2b\x06\x01\x05\x05\x07\x02\x01\x16\x02c:",
+        CertificatePolicies(vec![policy("2.5.29.32.0", None), policy("2.5.29.32.1", Some(vec![qualifier]))]),
+        b"\x30\x22\x30\x06\x06\x04\x55\x1d\x20\x00\x30\x18\x06\x04\x55\x1d\x20\x01\x30\x10\x30\x0e\x06\x08\x2b\x06\x01\x05\x05\x07\x02\x01\x16\x02c:",
     );
     let mapping = PolicyMapping {
         issuer_domain_policy: oid("1.2.3"),

@@ -15,13 +15,18 @@ list! {
     IssuerAltName, ISSUER_ALT_NAME, GeneralName<'a>, |value| GeneralNames::new(value).collect()
 }
 
+list! {
+    /// Who issued the certificate of an entry of a CRL, and those of the entries behind it (RFC 5280 5.3.3).
+    CertificateIssuer, CERTIFICATE_ISSUER, GeneralName<'a>, |value| GeneralNames::new(value).collect()
+}
+
 /// Names at and below a root.
 #[derive(Clone, Copy, Debug, PartialEq, Eq, Hash)]
 pub struct GeneralSubtree<'a> {
     /// The name at the root; of an address the octets of a mask stand behind it (see [`GeneralName::ip_network`]).
     pub base: GeneralName<'a>,
 
-    /// How far below the root the subtree begins: 0 in certificates of RFC 5280, which isn't looked at here.
+    /// How far below the root the subtree begins: 0 in certificates of RFC 5280. That isn't looked at where it is read.
     pub minimum: u32,
 
     /// Where it ends, which RFC 5280 doesn't allow.

@@ -56,7 +56,7 @@ impl<'a> PolicyInformation<'a> {
 }
 
 list! {
-    /// Policies under which a certificate was issued (RFC 5280 4.2.1.4). A policy may come twice.
+    /// Policies under which a certificate was issued (RFC 5280 4.2.1.4). A policy may come twice where they are read.
     CertificatePolicies, CERTIFICATE_POLICIES, PolicyInformation<'a>, |value| all(ffi::CERTIFICATE_POLICIES.over(value), PolicyInformation::found)
 }
 

@@ -1,20 +1,22 @@
-//! Values of extensions as DER, for builders. What is written is read back by the library, and has to be the value, before it is given out.
+//! Values of extensions as DER, for builders. What is written is read back by the library, and has to be the value, before it is given out. Values that
+//! RFC 5280 doesn't allow in their own extension are refused.
 use super::{
     AccessDescription, AuthorityInfoAccess, AuthorityKeyIdentifier, BaseCrlNumber,
-    BasicConstraints, CertificatePolicies, CrlDistributionPoints, CrlNumber, CrlReason,
-    DistributionPoint, DistributionPointName, ExtendedKeyUsage, ExtensionValue, FreshestCrl,
-    GeneralSubtree, InhibitAnyPolicy, IssuerAltName, IssuingDistributionPoint, KeyUsage,
-    NameConstraints, PolicyConstraints, PolicyInformation, PolicyMappings, PolicyQualifierInfo,
-    ReasonFlags, SignedCertificateTimestamps, SubjectAltName, SubjectInfoAccess,
-    SubjectKeyIdentifier,
+    BasicConstraints, CertificateIssuer, CertificatePolicies, CrlDistributionPoints, CrlNumber,
+    CrlReason, DistributionPoint, DistributionPointName, ExtendedKeyUsage, ExtensionValue,
+    FreshestCrl, GeneralSubtree, InhibitAnyPolicy, IssuerAltName, IssuingDistributionPoint,
+    KeyUsage, NameConstraints, PolicyConstraints, PolicyInformation, PolicyMapping, PolicyMappings,
+    PolicyQualifierInfo, ReasonFlags, SignedCertificateTimestamps, SubjectAltName,
+    SubjectInfoAccess, SubjectKeyIdentifier,
 };
 use crate::error::Error;
 use crate::general_name::GeneralName;
-use crate::oid::ObjectIdentifier;
+use crate::oid::{policy, ObjectIdentifier};
 use crate::writing::{
     context, context_elements, element, elements, named_bits, unsigned, BIT_STRING, BOOLEAN,
     ENUMERATED, INTEGER, OBJECT_IDENTIFIER, OCTET_STRING, SEQUENCE,
 };
+use std::collections::HashSet;
 
 /// What builders can put into an extension.
 pub trait ToExtension {
@@ -31,16 +33,33 @@ pub trait ToExtension {
     /// assert_eq!(authority.to_der()?, b"\x30\x06\x01\x01\xff\x02\x01\x00");
     /// let too_long = BasicConstraints { ca: true, path_len_constraint: Some(256) };
     /// assert_eq!(too_long.to_der(), Err(Error::Value));
+    /// let no_authority = BasicConstraints { ca: false, path_len_constraint: Some(0) };
+    /// assert_eq!(no_authority.to_der(), Err(Error::Value));
     /// # Ok::<(), Error>(())
     /// ```
     ///
     /// # Errors
-    /// [`Error::Value`] where [`from_der`](ExtensionValue::from_der) takes no encoding for the value, as one of a DNS name that isn't ASCII; [`Error::Memory`].
+    /// [`Error::Value`] where [`from_der`](ExtensionValue::from_der) takes no encoding for the value, as one of a DNS name that isn't ASCII, or where RFC 5280
+    /// allows no such value:
+    ///
+    /// - a path length constraint without an authority (4.2.1.9);
+    /// - key usages that are none, or encipherOnly or decipherOnly without keyAgreement (4.2.1.3);
+    /// - of an AKI the issuer without the serial number, or the other way round (A.2);
+    /// - an address that is neither of IPv4 nor of IPv6 (4.2.1.6), or in a name constraint no network (4.2.1.10);
+    /// - a minimum or a maximum in a name constraint (4.2.1.10);
+    /// - constraints of names or of policies, or an issuing distribution point, that say nothing (4.2.1.10, 4.2.1.11, 5.2.5);
+    /// - a policy twice (4.2.1.4), or anyPolicy in a mapping (4.2.1.5);
+    /// - a distribution point without a name and an issuer (4.2.1.13);
+    /// - a CRL that speaks of more than one of users, authorities and attribute certificates alone (5.2.5);
+    /// - a number of a CRL of more than 20 octets (5.2.3);
+    /// - an empty list of SCTs (RFC 6962 3.3).
+    ///
+    /// [`Error::Memory`].
     fn to_der(&self) -> Result<Vec<u8>, Error>;
 }
 
 macro_rules! written {
-    ($($kind:ty, $it:ident => $der:expr;)*) => {
+    ($($kind:ty, $it:ident $(if $is_allowed:expr)? => $der:expr;)*) => {
         $(
             impl ToExtension for $kind {
                 fn oid(&self) -> ObjectIdentifier {
@@ -49,6 +68,11 @@ macro_rules! written {
 
                 fn to_der(&self) -> Result<Vec<u8>, Error> {
                     let $it = self;
+                    $(
+                        if !$is_allowed {
+                            return Err(Error::Value);
+                        }
+                    )?
                     let der: Vec<u8> = $der;
                     match <$kind>::from_der(&der).map(|read| read == *self) {
                         Ok(true) => {}
@@ -63,27 +87,28 @@ macro_rules! written {
 }
 
 written! {
-    KeyUsage, it => named_bits(BIT_STRING, it.bits());
-    BasicConstraints, it => {
+    KeyUsage, it if is_usage(*it) => named_bits(BIT_STRING, it.bits());
+    BasicConstraints, it if it.ca || it.path_len_constraint.is_none() => {
         let limit = it.path_len_constraint.map(|number| integer(INTEGER, number));
         elements(SEQUENCE, flag(BOOLEAN, it.ca).into_iter().chain(limit))
     };
     ExtendedKeyUsage, it => elements(SEQUENCE, it.0.iter().map(identifier));
     SubjectKeyIdentifier<'_>, it => element(OCTET_STRING, it.0);
-    AuthorityKeyIdentifier<'_>, it => {
+    AuthorityKeyIdentifier<'_>, it if is_key_identifier(it) => {
         let key = it.key_identifier.map(|octets| element(context(0), octets));
         let issuer = it.authority_cert_issuer.as_deref();
         let issuer = issuer.map(|names| general_names(context_elements(1), names));
         let serial = it.authority_cert_serial_number.map(|number| element(context(2), number.as_bytes()));
         elements(SEQUENCE, key.into_iter().chain(issuer).chain(serial))
     };
-    SubjectAltName<'_>, it => general_names(SEQUENCE, &it.0);
-    IssuerAltName<'_>, it => general_names(SEQUENCE, &it.0);
-    AuthorityInfoAccess<'_>, it => elements(SEQUENCE, it.0.iter().map(access));
-    SubjectInfoAccess<'_>, it => elements(SEQUENCE, it.0.iter().map(access));
-    CrlDistributionPoints<'_>, it => elements(SEQUENCE, it.0.iter().map(point));
-    FreshestCrl<'_>, it => elements(SEQUENCE, it.0.iter().map(point));
-    IssuingDistributionPoint<'_>, it => {
+    SubjectAltName<'_>, it if it.0.iter().all(is_name) => general_names(SEQUENCE, &it.0);
+    IssuerAltName<'_>, it if it.0.iter().all(is_name) => general_names(SEQUENCE, &it.0);
+    CertificateIssuer<'_>, it if it.0.iter().all(is_name) => general_names(SEQUENCE, &it.0);
+    AuthorityInfoAccess<'_>, it if it.0.iter().all(is_access) => elements(SEQUENCE, it.0.iter().map(access));
+    SubjectInfoAccess<'_>, it if it.0.iter().all(is_access) => elements(SEQUENCE, it.0.iter().map(access));
+    CrlDistributionPoints<'_>, it if it.0.iter().all(is_point) => elements(SEQUENCE, it.0.iter().map(point));
+    FreshestCrl<'_>, it if it.0.iter().all(is_point) => elements(SEQUENCE, it.0.iter().map(point));
+    IssuingDistributionPoint<'_>, it if is_issuing_point(it) => {
         let name = it.distribution_point.as_ref().map(point_name);
         let kinds = [(1, it.only_contains_user_certs), (2, it.only_contains_ca_certs)];
         let others = [(4, it.indirect_crl), (5, it.only_contains_attribute_certs)];
@@ -92,7 +117,7 @@ written! {
         let front = name.into_iter().chain(kinds.into_iter().filter_map(told)).chain(some);
         elements(SEQUENCE, front.chain(others.into_iter().filter_map(told)))
     };
-    NameConstraints<'_>, it => {
+    NameConstraints<'_>, it if are_constraints(it) => {
         let of = |number, list: &Option<Vec<GeneralSubtree<'_>>>| {
             let list = list.as_deref();
             list.map(|list| elements(context_elements(number), list.iter().map(subtree)))
@@ -100,24 +125,104 @@ written! {
         let permitted = of(0, &it.permitted_subtrees);
         elements(SEQUENCE, permitted.into_iter().chain(of(1, &it.excluded_subtrees)))
     };
-    CertificatePolicies<'_>, it => elements(SEQUENCE, it.0.iter().map(policy));
-    PolicyMappings, it => {
+    CertificatePolicies<'_>, it if are_policies(it) => elements(SEQUENCE, it.0.iter().map(policy));
+    PolicyMappings, it if it.0.iter().all(is_mapping) => {
         let pairs = it.0.iter().map(|pair| [pair.issuer_domain_policy, pair.subject_domain_policy]);
         elements(SEQUENCE, pairs.map(|pair| elements(SEQUENCE, pair.iter().map(identifier))))
     };
-    PolicyConstraints, it => {
+    PolicyConstraints, it if it.require_explicit_policy.is_some() || it.inhibit_policy_mapping.is_some() => {
         let explicit = it.require_explicit_policy.map(|number| integer(context(0), number));
         let mapping = it.inhibit_policy_mapping.map(|number| integer(context(1), number));
         elements(SEQUENCE, explicit.into_iter().chain(mapping))
     };
     InhibitAnyPolicy, it => integer(INTEGER, it.0);
-    CrlNumber<'_>, it => element(INTEGER, it.0.as_bytes());
-    BaseCrlNumber<'_>, it => element(INTEGER, it.0.as_bytes());
+    CrlNumber<'_>, it if is_crl_number(it.0.as_bytes()) => element(INTEGER, it.0.as_bytes());
+    BaseCrlNumber<'_>, it if is_crl_number(it.0.as_bytes()) => element(INTEGER, it.0.as_bytes());
     CrlReason, it => integer(ENUMERATED, *it as u32);
-    SignedCertificateTimestamps<'_>, it => {
+    SignedCertificateTimestamps<'_>, it if !it.0.is_empty() => {
         let members: Vec<u8> = it.0.iter().flat_map(|octets| with_length(octets)).collect();
         element(OCTET_STRING, &with_length(&members))
     };
+}
+
+/// A set that isn't empty, of which the last two need the fifth (RFC 5280 4.2.1.3).
+fn is_usage(it: KeyUsage) -> bool {
+    let is_only = it.encipher_only() || it.decipher_only();
+    it != KeyUsage::default() && (it.key_agreement() || !is_only)
+}
+
+/// The issuer and the serial number are both there, or neither is (RFC 5280 A.2).
+fn is_key_identifier(it: &AuthorityKeyIdentifier<'_>) -> bool {
+    let issuer = it.authority_cert_issuer.as_deref();
+    are_names(issuer) && issuer.is_some() == it.authority_cert_serial_number.is_some()
+}
+
+/// An address has the octets of one of IPv4 or of IPv6 (RFC 5280 4.2.1.6).
+fn is_name(name: &GeneralName<'_>) -> bool {
+    !matches!(name, GeneralName::IpAddress(_)) || name.ip_addr().is_some()
+}
+
+fn are_names(names: Option<&[GeneralName<'_>]>) -> bool {
+    names.into_iter().flatten().all(is_name)
+}
+
+fn is_access(it: &AccessDescription<'_>) -> bool {
+    is_name(&it.access_location)
+}
+
+fn is_point_name(name: Option<&DistributionPointName<'_>>) -> bool {
+    match name {
+        Some(DistributionPointName::FullName(names)) => names.iter().all(is_name),
+        Some(DistributionPointName::NameRelativeToCrlIssuer(_)) | None => true,
+    }
+}
+
+/// It has a name or an issuer (RFC 5280 4.2.1.13).
+fn is_point(it: &DistributionPoint<'_>) -> bool {
+    let (name, issuer) = (it.distribution_point.as_ref(), it.crl_issuer.as_deref());
+    (name.is_some() || issuer.is_some()) && is_point_name(name) && are_names(issuer)
+}
+
+/// It says something, and no two of the kinds of certificates alone (RFC 5280 5.2.5).
+fn is_issuing_point(it: &IssuingDistributionPoint<'_>) -> bool {
+    let kinds = [
+        it.only_contains_user_certs,
+        it.only_contains_ca_certs,
+        it.only_contains_attribute_certs,
+    ];
+    let alone = kinds.into_iter().filter(|is_set| *is_set).count();
+    let name = it.distribution_point.as_ref();
+    let says_more = name.is_some() || it.only_some_reasons.is_some() || it.indirect_crl;
+    is_point_name(name) && (alone == 1 || alone == 0 && says_more)
+}
+
+/// From the root on, and an address with its mask (RFC 5280 4.2.1.10).
+fn is_subtree(it: &GeneralSubtree<'_>) -> bool {
+    let is_address = matches!(it.base, GeneralName::IpAddress(_));
+    it.minimum == 0 && it.maximum.is_none() && (!is_address || it.base.ip_network().is_some())
+}
+
+/// There is one of the lists (RFC 5280 4.2.1.10).
+fn are_constraints(it: &NameConstraints<'_>) -> bool {
+    let (permitted, excluded) = (&it.permitted_subtrees, &it.excluded_subtrees);
+    let mut all = permitted.iter().chain(excluded).flatten();
+    (permitted.is_some() || excluded.is_some()) && all.all(is_subtree)
+}
+
+/// None is there twice (RFC 5280 4.2.1.4).
+fn are_policies(it: &CertificatePolicies<'_>) -> bool {
+    let mut seen = HashSet::new();
+    it.0.iter().all(|it| seen.insert(it.policy_identifier))
+}
+
+/// Neither is anyPolicy (RFC 5280 4.2.1.5).
+fn is_mapping(it: &PolicyMapping) -> bool {
+    ![it.issuer_domain_policy, it.subject_domain_policy].contains(&policy::ANY_POLICY)
+}
+
+/// The content octets are at most 20 (RFC 5280 5.2.3).
+pub(crate) fn is_crl_number(octets: &[u8]) -> bool {
+    octets.len() <= 20
 }
 
 fn integer(identifier: u8, number: u32) -> Vec<u8> {
