@@ -1,8 +1,7 @@
 //! Builders of certificates, CRLs and CSRs (RFC 5280 4.1, 5.1; RFC 2986 4.1), with a signer of yours.
 //!
 //! A builder writes the bytes to be signed, the signer signs them, and the library puts both together. What is built is then read again as what it
-//! is. That the signature is one of these bytes isn't checked. All that is given to a builder is in what it builds, or refused before anything is signed; of
-//! moments the parts of a second are left out.
+//! is. That the signature is one of these bytes isn't checked.
 use crate::certificate::{Certificate, CertificateRef, Validity};
 use crate::crl::Crl;
 use crate::csr::Csr;
@@ -470,7 +469,7 @@ impl CrlBuilder {
         }
     }
 
-    /// Says by when the next one will be issued.
+    /// Says by when the next one will be issued, in place of what was said before.
     pub fn next_update(&mut self, moment: SystemTime) -> &mut CrlBuilder {
         self.next_update = Some(moment);
         self

@@ -234,8 +234,9 @@ impl<'a> RelativeDistinguishedName<'a> {
 }
 
 impl PartialEq for RelativeDistinguishedName<'_> {
+    /// Byte for byte, but for the tag.
     fn eq(&self, other: &Self) -> bool {
-        self.der == other.der
+        self.der.get(1..) == other.der.get(1..)
     }
 }
 

@@ -249,6 +249,7 @@ fn of_names(table: &mut Table) {
         let base = GeneralName::IpAddress(octets);
         table.refuses("GeneralSubtree base", permitted(one(base)));
     }
+    table.refuses("GeneralSubtree base", permitted(one(dns("*.b"))));
     let from = GeneralSubtree {
         minimum: 1,
         ..subtree(dns("b"))

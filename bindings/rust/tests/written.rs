@@ -139,14 +139,15 @@ fn a_point_relative_to_the_issuer() {
     let der = b"\x30\x10\x30\x0e\xa0\x0c\xa1\x0a\x30\x08\x06\x03\x55\x04\x03\x0c\x01a";
     let points = CrlDistributionPoints::from_der(der).expect("points");
     is(points, der);
-    // a relative name of a whole name has another tag
-    let name: Name = "CN=a".parse().expect("a name");
+    // one of a whole name has another tag
+    let name = Name::builder().common_name("a").build().expect("a name");
     let rdn = name.to_ref().rdns().next().expect("one").expect("one");
-    refused(&CrlDistributionPoints(vec![DistributionPoint {
+    let of_name = CrlDistributionPoints(vec![DistributionPoint {
         distribution_point: Some(DistributionPointName::NameRelativeToCrlIssuer(rdn)),
         reasons: None,
         crl_issuer: None,
-    }]));
+    }]);
+    assert_eq!(of_name.to_der().as_deref(), Ok(&der[..]));
 }
 
 #[test]

@@ -12,7 +12,7 @@ pub enum DistributionPointName<'a> {
     /// Names of the point.
     FullName(Vec<GeneralName<'a>>),
 
-    /// Its name relative to the issuer of the CRL.
+    /// Its name relative to the issuer of the CRL. Builders take one of a whole name, too, whose tag is another one.
     NameRelativeToCrlIssuer(RelativeDistinguishedName<'a>),
 }
 

@@ -45,8 +45,8 @@ pub trait ToExtension {
     /// - a path length constraint without an authority (4.2.1.9);
     /// - key usages that are none, or encipherOnly or decipherOnly without keyAgreement (4.2.1.3);
     /// - of an AKI the issuer without the serial number, or the other way round (A.2);
-    /// - an address that is neither of IPv4 nor of IPv6 (4.2.1.6), or in a name constraint no network (4.2.1.10);
-    /// - a minimum or a maximum in a name constraint (4.2.1.10);
+    /// - an address that is neither of IPv4 nor of IPv6 (4.2.1.6);
+    /// - in a name constraint an address that is no network, a wildcard, a minimum or a maximum (4.2.1.10);
     /// - constraints of names or of policies, or an issuing distribution point, that say nothing (4.2.1.10, 4.2.1.11, 5.2.5);
     /// - a policy twice (4.2.1.4), or anyPolicy in a mapping (4.2.1.5);
     /// - a distribution point without a name and an issuer (4.2.1.13);
@@ -196,10 +196,14 @@ fn is_issuing_point(it: &IssuingDistributionPoint<'_>) -> bool {
     is_point_name(name) && (alone == 1 || alone == 0 && says_more)
 }
 
-/// From the root on, and an address with its mask (RFC 5280 4.2.1.10).
+/// From the root on, of an address with its mask, and of a domain without a wildcard (RFC 5280 4.2.1.10).
 fn is_subtree(it: &GeneralSubtree<'_>) -> bool {
-    let is_address = matches!(it.base, GeneralName::IpAddress(_));
-    it.minimum == 0 && it.maximum.is_none() && (!is_address || it.base.ip_network().is_some())
+    let is_base = match it.base {
+        GeneralName::IpAddress(_) => it.base.ip_network().is_some(),
+        GeneralName::DnsName(text) => !text.contains('*'),
+        _ => true,
+    };
+    is_base && it.minimum == 0 && it.maximum.is_none()
 }
 
 /// There is one of the lists (RFC 5280 4.2.1.10).
@@ -283,7 +287,9 @@ fn point_name(name: &DistributionPointName<'_>) -> Vec<u8> {
             [general_names(context_elements(0), names)],
         ),
         DistributionPointName::NameRelativeToCrlIssuer(name) => {
-            element(context_elements(0), name.as_der())
+            let behind = name.as_der().get(1..).unwrap_or_default();
+            let tagged = [&[context_elements(1)], behind].concat();
+            element(context_elements(0), &tagged)
         }
     }
 }

@@ -8,8 +8,8 @@ use crate::oid::{attribute, ObjectIdentifier};
 #[derive(Clone, Copy, Debug, Default, PartialEq, Eq, Hash)]
 #[non_exhaustive]
 pub enum StringType {
-    /// The one that the attribute wants: PrintableString of a country, a serial number or a DN qualifier, IA5String of an e-mail address or a domain component,
-    /// and else UTF8String (RFC 5280 4.1.2.4, A.1).
+    /// The one that the attribute wants: PrintableString of a country, a serial number and a DN qualifier, IA5String of an e-mail address and a domain component,
+    /// which have no other one (RFC 5280 A.1), and else UTF8String (4.1.2.4).
     #[default]
     AsWanted = 0,
 
@@ -21,6 +21,9 @@ pub enum StringType {
 
     /// IA5String: ASCII.
     Ia5String = 0x16,
+
+    /// BMPString: the characters up to U+FFFF.
+    BmpString = 0x1e,
 }
 
 #[derive(Clone, Debug)]
@@ -119,7 +122,7 @@ impl NameBuilder {
         self
     }
 
-    /// Doesn't ask how long texts are, which is bounded for some attributes (RFC 5280 A.1), as to 64 characters for a CN.
+    /// Doesn't ask how many characters texts have: of some attributes there are bounds (RFC 5280 A.1), as 1 to 64 of a CN.
     pub fn without_bounds(&mut self) -> &mut NameBuilder {
         self.is_bounded = false;
         self
@@ -128,10 +131,9 @@ impl NameBuilder {
     /// The name.
     ///
     /// # Errors
-    /// [`Error::Value`] where a text has a character that its string type doesn't have, or is shorter or longer than its attribute may be (RFC 5280 A.1), of which
-    /// the latter isn't looked at [`without_bounds`](NameBuilder::without_bounds); [`Error::Failed`] where the attribute doesn't have the string type (RFC 5280 A.1);
-    /// [`Error::SetDuplicate`] where a relative name has one attribute twice; [`Error::Malformed`] where it has none; [`Error::Overlength`] or
-    /// [`Error::Memory`].
+    /// [`Error::Value`] where a text has a character that its string type doesn't have, or is shorter or longer than its attribute may be (RFC 5280 A.1), which
+    /// isn't looked at [`without_bounds`](NameBuilder::without_bounds), or where a relative name has no attributes; [`Error::Failed`] where the attribute doesn't
+    /// allow the string type (RFC 5280 A.1); [`Error::SetDuplicate`] where a relative name has one attribute twice; [`Error::Overlength`] or [`Error::Memory`].
     pub fn build(&self) -> Result<Name, Error> {
         let mut rdns = Vec::new();
         for attributes in &self.rdns {
