@@ -605,6 +605,9 @@ fn attribute(oid: ObjectIdentifier, values: &[&[u8]]) -> Result<Vec<u8>, Error> 
 fn attribute_type(attribute: &[u8]) -> Result<ObjectIdentifier, Error> {
     let list = writing::element(writing::context_elements(0), attribute);
     let found = only(ffi::REQUEST_ATTRIBUTES.over(&list))?;
+    // there is a value (RFC 2986 4.1)
+    let mut values = ffi::ATTRIBUTE_VALUES.over(found.values.of(&list)?);
+    values.next().ok_or(Error::Malformed)??;
     ObjectIdentifier::found(found.oid.of(&list)?)
 }
 

@@ -660,6 +660,8 @@ fn of_requests() -> BTreeSet<String> {
             Ok(&[("1.2.3", "none"), ("1.2.4", "0c0163")]);
         "CsrBuilder::add_attribute_der attribute", it.attributes.push(it.attributes[0]) => refused(Error::Repeated);
         "CsrBuilder::add_attribute_der attribute", it.attributes.push(b"") => refused(Error::Malformed);
+        // without a value
+        "CsrBuilder::add_attribute_der attribute", it.attributes[0] = b"\x30\x06\x06\x02\x2a\x03\x31\x00" => refused(Error::Malformed);
         // one attribute, and not two
         "CsrBuilder::add_attribute_der attribute", it.attributes[0] = b"\x30\x09\x06\x02\x2a\x03\x31\x03\x0c\x01b\x30\x09\x06\x02\x2a\x04\x31\x03\x0c\x01c" =>
             refused(Error::Malformed);

@@ -42,6 +42,7 @@ pub trait ToExtension {
     /// [`Error::Value`] where [`from_der`](ExtensionValue::from_der) takes no encoding for the value, as one of a DNS name that isn't ASCII, or where RFC 5280
     /// allows no such value:
     ///
+    /// - an empty list (A.1, A.2);
     /// - a path length constraint without an authority (4.2.1.9);
     /// - key usages that are none, or encipherOnly or decipherOnly without keyAgreement (4.2.1.3);
     /// - of an AKI the issuer without the serial number, or the other way round (A.2);
@@ -51,8 +52,7 @@ pub trait ToExtension {
     /// - a policy twice (4.2.1.4), or anyPolicy in a mapping (4.2.1.5);
     /// - a distribution point without a name and an issuer (4.2.1.13);
     /// - a CRL that speaks of more than one of users, authorities and attribute certificates alone (5.2.5);
-    /// - a number of a CRL of more than 20 octets (5.2.3);
-    /// - an empty list of SCTs (RFC 6962 3.3).
+    /// - a number of a CRL of more than 20 octets (5.2.3).
     ///
     /// [`Error::Memory`].
     fn to_der(&self) -> Result<Vec<u8>, Error>;
@@ -92,7 +92,7 @@ written! {
         let limit = it.path_len_constraint.map(|number| integer(INTEGER, number));
         elements(SEQUENCE, flag(BOOLEAN, it.ca).into_iter().chain(limit))
     };
-    ExtendedKeyUsage, it => elements(SEQUENCE, it.0.iter().map(identifier));
+    ExtendedKeyUsage, it if !it.0.is_empty() => elements(SEQUENCE, it.0.iter().map(identifier));
     SubjectKeyIdentifier<'_>, it => element(OCTET_STRING, it.0);
     AuthorityKeyIdentifier<'_>, it if is_key_identifier(it) => {
         let key = it.key_identifier.map(|octets| element(context(0), octets));
@@ -101,13 +101,13 @@ written! {
         let serial = it.authority_cert_serial_number.map(|number| element(context(2), number.as_bytes()));
         elements(SEQUENCE, key.into_iter().chain(issuer).chain(serial))
     };
-    SubjectAltName<'_>, it if it.0.iter().all(is_name) => general_names(SEQUENCE, &it.0);
-    IssuerAltName<'_>, it if it.0.iter().all(is_name) => general_names(SEQUENCE, &it.0);
-    CertificateIssuer<'_>, it if it.0.iter().all(is_name) => general_names(SEQUENCE, &it.0);
-    AuthorityInfoAccess<'_>, it if it.0.iter().all(is_access) => elements(SEQUENCE, it.0.iter().map(access));
-    SubjectInfoAccess<'_>, it if it.0.iter().all(is_access) => elements(SEQUENCE, it.0.iter().map(access));
-    CrlDistributionPoints<'_>, it if it.0.iter().all(is_point) => elements(SEQUENCE, it.0.iter().map(point));
-    FreshestCrl<'_>, it if it.0.iter().all(is_point) => elements(SEQUENCE, it.0.iter().map(point));
+    SubjectAltName<'_>, it if are_names(&it.0) => general_names(SEQUENCE, &it.0);
+    IssuerAltName<'_>, it if are_names(&it.0) => general_names(SEQUENCE, &it.0);
+    CertificateIssuer<'_>, it if are_names(&it.0) => general_names(SEQUENCE, &it.0);
+    AuthorityInfoAccess<'_>, it if has_only(&it.0, is_access) => elements(SEQUENCE, it.0.iter().map(access));
+    SubjectInfoAccess<'_>, it if has_only(&it.0, is_access) => elements(SEQUENCE, it.0.iter().map(access));
+    CrlDistributionPoints<'_>, it if has_only(&it.0, is_point) => elements(SEQUENCE, it.0.iter().map(point));
+    FreshestCrl<'_>, it if has_only(&it.0, is_point) => elements(SEQUENCE, it.0.iter().map(point));
     IssuingDistributionPoint<'_>, it if is_issuing_point(it) => {
         let name = it.distribution_point.as_ref().map(point_name);
         let kinds = [(1, it.only_contains_user_certs), (2, it.only_contains_ca_certs)];
@@ -126,7 +126,7 @@ written! {
         elements(SEQUENCE, permitted.into_iter().chain(of(1, &it.excluded_subtrees)))
     };
     CertificatePolicies<'_>, it if are_policies(it) => elements(SEQUENCE, it.0.iter().map(policy));
-    PolicyMappings, it if it.0.iter().all(is_mapping) => {
+    PolicyMappings, it if has_only(&it.0, is_mapping) => {
         let pairs = it.0.iter().map(|pair| [pair.issuer_domain_policy, pair.subject_domain_policy]);
         elements(SEQUENCE, pairs.map(|pair| elements(SEQUENCE, pair.iter().map(identifier))))
     };
@@ -145,6 +145,11 @@ written! {
     };
 }
 
+/// A list SIZE (1..MAX) of such members, as all lists are in RFC 5280.
+fn has_only<T>(list: &[T], is_member: impl Fn(&T) -> bool) -> bool {
+    !list.is_empty() && list.iter().all(is_member)
+}
+
 /// A set that isn't empty, of which the last two need the fifth (RFC 5280 4.2.1.3).
 fn is_usage(it: KeyUsage) -> bool {
     let is_only = it.encipher_only() || it.decipher_only();
@@ -154,7 +159,8 @@ fn is_usage(it: KeyUsage) -> bool {
 /// The issuer and the serial number are both there, or neither is (RFC 5280 A.2).
 fn is_key_identifier(it: &AuthorityKeyIdentifier<'_>) -> bool {
     let issuer = it.authority_cert_issuer.as_deref();
-    are_names(issuer) && issuer.is_some() == it.authority_cert_serial_number.is_some()
+    issuer.is_some() == it.authority_cert_serial_number.is_some()
+        && issuer.into_iter().all(are_names)
 }
 
 /// An address has the octets of one of IPv4 or of IPv6 (RFC 5280 4.2.1.6).
@@ -162,8 +168,8 @@ fn is_name(name: &GeneralName<'_>) -> bool {
     !matches!(name, GeneralName::IpAddress(_)) || name.ip_addr().is_some()
 }
 
-fn are_names(names: Option<&[GeneralName<'_>]>) -> bool {
-    names.into_iter().flatten().all(is_name)
+fn are_names(names: &[GeneralName<'_>]) -> bool {
+    has_only(names, is_name)
 }
 
 fn is_access(it: &AccessDescription<'_>) -> bool {
@@ -172,7 +178,7 @@ fn is_access(it: &AccessDescription<'_>) -> bool {
 
 fn is_point_name(name: Option<&DistributionPointName<'_>>) -> bool {
     match name {
-        Some(DistributionPointName::FullName(names)) => names.iter().all(is_name),
+        Some(DistributionPointName::FullName(names)) => are_names(names),
         Some(DistributionPointName::NameRelativeToCrlIssuer(_)) | None => true,
     }
 }
@@ -180,7 +186,7 @@ fn is_point_name(name: Option<&DistributionPointName<'_>>) -> bool {
 /// It has a name or an issuer (RFC 5280 4.2.1.13).
 fn is_point(it: &DistributionPoint<'_>) -> bool {
     let (name, issuer) = (it.distribution_point.as_ref(), it.crl_issuer.as_deref());
-    (name.is_some() || issuer.is_some()) && is_point_name(name) && are_names(issuer)
+    (name.is_some() || issuer.is_some()) && is_point_name(name) && issuer.into_iter().all(are_names)
 }
 
 /// It says something, and no two of the kinds of certificates alone (RFC 5280 5.2.5).
@@ -209,14 +215,18 @@ fn is_subtree(it: &GeneralSubtree<'_>) -> bool {
 /// There is one of the lists (RFC 5280 4.2.1.10).
 fn are_constraints(it: &NameConstraints<'_>) -> bool {
     let (permitted, excluded) = (&it.permitted_subtrees, &it.excluded_subtrees);
-    let mut all = permitted.iter().chain(excluded).flatten();
-    (permitted.is_some() || excluded.is_some()) && all.all(is_subtree)
+    let mut lists = permitted.iter().chain(excluded);
+    (permitted.is_some() || excluded.is_some()) && lists.all(|list| has_only(list, is_subtree))
 }
 
 /// None is there twice (RFC 5280 4.2.1.4).
 fn are_policies(it: &CertificatePolicies<'_>) -> bool {
-    let mut seen = HashSet::new();
-    it.0.iter().all(|it| seen.insert(it.policy_identifier))
+    let identifiers: HashSet<_> = it.0.iter().map(|it| it.policy_identifier).collect();
+    identifiers.len() == it.0.len() && has_only(&it.0, is_policy)
+}
+
+fn is_policy(it: &PolicyInformation<'_>) -> bool {
+    it.policy_qualifiers.as_ref().map(Vec::len) != Some(0)
 }
 
 /// Neither is anyPolicy (RFC 5280 4.2.1.5).
