@@ -8,7 +8,7 @@ use x509_rattle::extension::{
 };
 use x509_rattle::oid::{self, attribute};
 use x509_rattle::{
-    time_text, BuildError, Certificate, CertificateBuilder, CertificateProfile, CrlBuilder,
+    time_text, BuildError, Certificate, CertificateBuilder, CertificateProfile, Crl, CrlBuilder,
     CrlEntryBuilder, Csr, CsrBuilder, Error, Extensions, GeneralName, Name, NameBuilder, NameRef,
     ObjectIdentifier, SerialNumber, Signer, StringType, Validity,
 };
@@ -224,6 +224,10 @@ impl CertificateCall {
                 builder.tbs_certificate_as(profile, signer.algorithm, issuer_key)?,
             ),
         };
+        Ok(CertificateCall::read(&made, &part).expect("the parts"))
+    }
+
+    fn read(made: &Certificate, part: &[u8]) -> Result<Parts, Error> {
         let signature = made.signature()?;
         let is_signed = signature.signed_part == part;
         let (order, mut parts) = told_extensions(made.extensions());
@@ -487,6 +491,10 @@ impl ListCall {
         }
         let made = builder.build(&self.signer)?;
         let part = builder.tbs_cert_list(self.signer.algorithm)?;
+        Ok(ListCall::read(&made, &part).expect("the parts"))
+    }
+
+    fn read(made: &Crl, part: &[u8]) -> Result<Parts, Error> {
         let signature = made.signature()?;
         assert_eq!(signature.signed_part, part);
         let (order, mut parts) = told_extensions(made.extensions());
@@ -618,7 +626,11 @@ impl RequestCall {
         }
         let der = builder.build(&self.signer)?;
         let part = builder.certification_request_info(self.signer.key)?;
-        let made = Csr::from_der(&der)?;
+        Ok(RequestCall::read(&der, &part).expect("the parts"))
+    }
+
+    fn read(der: &[u8], part: &[u8]) -> Result<Parts, Error> {
+        let made = Csr::from_der(der)?;
         let signature = made.signature()?;
         assert_eq!(signature.signed_part, part);
         let (order, mut parts) = told_extensions(made.extensions()?);
@@ -722,7 +734,7 @@ impl NameCall {
         builder.attribute(*oid, *string_type, text).rdn(&self.rdn);
         (self.add)(&mut builder);
         let name = builder.build()?;
-        Ok(told_name(name.to_ref())?)
+        Ok(told_name(name.to_ref()).expect("the parts"))
     }
 }
 
