@@ -1,3 +1,4 @@
+pub mod NameFacts
 mod OrderFacts
 mod DomainFacts
 mod ModuleFacts

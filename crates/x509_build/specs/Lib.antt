@@ -1,3 +1,4 @@
+pub mod NameValues
 pub mod Order
 pub mod CaNaming
 pub mod Answer

@@ -27,6 +27,12 @@ use x509_prim::BitString;
 /// The profile says what the subject is and who the issuer is. A certificate without extensions is of version 1, else
 /// of version 3; it has no unique identifiers (RFC 5280 4.1.2.8).
 ///
+/// That no OID stands twice among the extensions, which RFC 5280 4.2 forbids, isn't checked: where one is added that the
+/// profile makes too, the certificate has it twice, and readers refuse that. Who wants to know before a signature is
+/// made asks [`has_repeated_extension`](x509_ext::has_repeated_extension) of the extensions of
+/// [`current_part`](CertificateBuilder::current_part), between [`finalize`](Builder::finalize) and
+/// [`assemble`](Builder::assemble).
+///
 /// A root, signed by a [`Signer`] that is `ABC`:
 ///
 /// ```rust
@@ -98,7 +104,7 @@ impl<P: BuilderProfile> CertificateBuilder<P> {
     }
 
     /// Adds an extension behind those that were added before; it is made for the subject and for those. The profile's
-    /// extensions come behind all that are added.
+    /// extensions come behind all that are added. That none of these has its OID isn't checked.
     ///
     /// # Errors
     ///
@@ -117,7 +123,7 @@ impl<P: BuilderProfile> CertificateBuilder<P> {
     }
 
     /// The builder, with these extensions, as they are, behind those that were added before. The profile's extensions
-    /// come behind all that are added.
+    /// come behind all that are added. That no OID stands there twice isn't checked.
     ///
     /// # Errors
     ///
@@ -137,6 +143,14 @@ impl<P: BuilderProfile> CertificateBuilder<P> {
             tbs,
             extensions,
         })
+    }
+
+    /// The signed part as it stands: that of the last [`finalize`](Builder::finalize), and before any the part with which
+    /// the builder was made.
+    pub fn current_part(&self) -> &TbsCertificate
+        ensures { result.now ≡ ⟦<CertificateBuilder<P> as Builder>⟧.current self.now }
+    {
+        &self.tbs
     }
 
     /// The signed part with which the profile is asked: it has the signer's algorithm, and no extensions.

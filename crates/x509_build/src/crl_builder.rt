@@ -27,7 +27,7 @@ use x509_cert::certificate::{Certificate, Version};
 use x509_cert::crl::{CertificateList, RevokedCert, TbsCertList};
 use x509_der::{Decode, Encode, Error, Grammar, SequenceOf, TryClone};
 use x509_ext::pkix::{CrlNumber, SubjectKeyIdentifier};
-use x509_ext::{Extensions, ToExtension};
+use x509_ext::{Extension, Extensions, ToExtension};
 use x509_name::name::Name;
 use x509_prim::BitString;
 
@@ -154,6 +154,15 @@ impl<P: Profile> CrlBuilder<P> {
             extensions,
             finalized,
         })
+    }
+
+    /// The extensions that the next [`finalize`](Builder::finalize) puts into the signed part: the CRL number, the AKI and
+    /// those that were added. Whether an OID stands there twice says
+    /// [`has_repeated_extension`](x509_ext::has_repeated_extension).
+    pub fn extensions(&self) -> &[Extension]
+        ensures { result.now ≡ self.now.extensions }
+    {
+        self.extensions.as_slice()
     }
 
     /// The builder, with that time by which the next CRL will be issued, or with none. The next

@@ -1,9 +1,10 @@
 //! What holds of all that is built. Each law is a function whose contract is the law.
 
-ghost use Rattle.std.specs.Prelude.{◌≡◌, ◌↔◌, ℕ, List, true};
+ghost use Rattle.std.specs.Prelude.{◌≡◌, ◌↔◌, ◌++◌, ◌∷◌, [], ℕ, List, Some, true};
 ghost use Rattle.x509_base.specs.declared.algorithm_identifier.AlgorithmIdentifier.{AlgorithmIdentifier};
 ghost use Rattle.x509_base.specs.declared.subject_public_key_info.SubjectPublicKeyInfo.{SubjectPublicKeyInfo};
 ghost use Rattle.x509_build.specs.Answer.{IsSame};
+ghost use Rattle.x509_build.specs.NameValues as values;
 ghost use Rattle.x509_build.specs.Parts.{Encodes};
 ghost use Rattle.x509_build.specs.declared.certificate_builder.CertificateBuilder as certificates;
 ghost use Rattle.x509_build.specs.declared.crl_builder.CrlBuilder as crls;
@@ -12,6 +13,11 @@ ghost use Rattle.x509_build.specs.declared.profile.cabf.tls.CertificateType as t
 ghost use Rattle.x509_build.specs.declared.profile.cabf.tls.DomainValidated as validated;
 ghost use Rattle.x509_der.specs.Form.{Spells};
 ghost use Rattle.x509_der.specs.Writing.{IsStable, writes};
+ghost use Rattle.x509_name.specs.AttributeNames.{Key};
+ghost use Rattle.x509_name.specs.Attributes.{ReadsBack, is_text};
+ghost use Rattle.x509_name.specs.Escapes.{escaped};
+ghost use Rattle.x509_name.specs.Keys.{key_of};
+ghost use Rattle.x509_name.specs.NameText.{NameReads};
 ghost use Rattle.x509_prim.specs.BitString.{BitParts};
 
 use crate::Builder;
@@ -67,4 +73,19 @@ pub fn what_is_signed_is_read_as_meant<T: Encode + Spelled, B: Builder<Signed = 
 pub fn equality_of_subscribers_is_exact()
     ensures kinds { (a b : types.CertificateType) → (⟦<CertificateType as PartialEq>⟧.eq a b ≡ true) ↔ (a ≡ b) }
     ensures domains { (a b : validated.DomainValidated) → (⟦<DomainValidated as PartialEq>⟧.eq a b ≡ true) ↔ (a ≡ b) }
+{}
+
+/// A text with escapes, behind the name of an attribute type and an equals sign, reads as the name of one attribute: of
+/// that type, with the text as its content, whatever it holds.
+#[tactic(auto, using(crate::proofs::NameFacts::reads_escaped))]
+pub fn an_escaped_text_is_one_value()
+    ensures { (key : Key) (text : List ℕ) → key_of key.octets ≡ Some key → is_text key.tag text ≡ true
+        → ReadsBack key.octets (record { tag = key.tag; value = text })
+        → NameReads (key.name ++ 61 ∷ escaped text) ((record { oid = key.octets; value = record { tag = key.tag; value = text } } ∷ []) ∷ []) }
+{}
+
+/// The string type that an attribute is given where none is told is one that it allows.
+#[tactic(auto, using(crate::proofs::NameFacts::wanted_allowed))]
+pub fn what_is_wanted_is_allowed()
+    ensures { (oid : List ℕ) → values.allows oid (values.wanted oid) ≡ true }
 {}

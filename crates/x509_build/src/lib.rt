@@ -2,8 +2,8 @@
 //! `builder` of the Rust crate `x509-cert` has.
 //!
 //! A builder is made of what its signed part is to hold; [`Builder::build`] has a [`Signer`] sign the encoding of that
-//! part. What is promised stands at these traits; what each builder makes, in the definitions beside its struct. Words
-//! of our own are explained in `docs/MAP.md`.
+//! part. What is promised stands at these traits; what each builder makes, in the definitions beside its struct. A name
+//! is made of values by [`name`]. Words of our own are explained in `docs/MAP.md`.
 #![tactic(auto)]
 
 mod builder;
@@ -12,6 +12,7 @@ mod crl_builder;
 mod error;
 mod extensions;
 pub mod laws;
+pub mod name;
 pub mod profile;
 pub mod request;
 mod signer;

@@ -10,7 +10,8 @@ use x509_name::name::Name;
 /// What the certificates of one kind have: their subject, their issuer, and their extensions.
 ///
 /// A profile says by definitions what its calls answer. No law is asked of them, so a user's profile may add anything,
-/// and refuse with any error.
+/// and refuse with any error. What is added to a builder beside it may have an OID that the profile's extensions have
+/// too: see [`CertificateBuilder`](crate::CertificateBuilder).
 pub trait BuilderProfile: Drop {
     ghost use Rattle.std.specs.Prelude.{List};
     ghost use Rattle.x509_base.specs.declared.subject_public_key_info.SubjectPublicKeyInfo.{SubjectPublicKeyInfo};
