@@ -45,7 +45,7 @@ typedef int x509_status;
 #define X509_VALUE 5
 /* What was asked for isn't there. */
 #define X509_ABSENT 6
-/* An extension that was asked for is there more than once. */
+/* An extension that was asked for is there more than once; or what is to be built would have it more than once. */
 #define X509_REPEATED 7
 /* A certificate of a path has a fault. */
 #define X509_FAULT 8
@@ -395,6 +395,34 @@ x509_status x509_relative_name_under_next(uint32_t number, const uint8_t *rdn, s
  * Answers X509_OK, X509_MEMORY, X509_OVERLENGTH, X509_MALFORMED, X509_ABSENT. */
 x509_status x509_name_find(const uint8_t *name, size_t len, const uint8_t *oid, size_t oid_len, x509_attribute *found);
 
+/* Names of values. Here no character of a text is taken for a part of the name, as it is where a text of a name is put together by hand. Rooms are as said under
+ * whole values.
+ *
+ * Writes an attribute: of the type with an OID, given by its content octets, and of a text (UTF-8), in the string type with this identifier octet: 0x0c UTF8String, 0x13
+ * PrintableString, 0x16 IA5String, 0x1e BMPString, or 0 for the one that the attribute wants, which is PrintableString or IA5String where it allows that alone, else
+ * UTF8String. Where `is_bounded` isn't 0, the text has as many characters as RFC 5280 appendix A.1 says of the type, as 1 to 64 of a common name and just 2 of a country; where
+ * the appendix says no SIZE, any number. X509_MALFORMED where no OID has the content octets. X509_FAILED where the text isn't UTF-8, or the string type is none of these, or one that the
+ * attribute doesn't allow: of a country, a serial number and a DN qualifier all but PrintableString, of an e-mail address and a domain component all but IA5String,
+ * of the other types of the appendix IA5String. X509_VALUE where a character isn't one of the string type's, or there are too few or too many.
+ * Answers X509_OK, X509_ROOM, X509_MEMORY, X509_OVERLENGTH, X509_MALFORMED, X509_FAILED, X509_VALUE. */
+x509_status x509_attribute_encode(const uint8_t *oid, size_t oid_len, uint32_t string_type, const uint8_t *text, size_t text_len, uint32_t is_bounded,
+                                  uint8_t *out, size_t room, size_t *written);
+
+/* Writes a relative name: the set of these attributes, their encodings one after the other, in any order. X509_SET_DUPLICATE where two are equal, X509_VALUE where
+ * there are none.
+ * Answers X509_OK, X509_ROOM, X509_MEMORY, X509_OVERLENGTH, X509_MALFORMED, X509_SET_DUPLICATE, X509_VALUE. */
+x509_status x509_relative_name_encode(const uint8_t *attributes, size_t attributes_len, uint8_t *out, size_t room, size_t *written);
+
+/* Writes a Name: of these relative names, their encodings one after the other, of which the first is the topmost, as the country. Of none it is the empty name. X509_VALUE
+ * where one of them has no attribute.
+ * Answers X509_OK, X509_ROOM, X509_MEMORY, X509_OVERLENGTH, X509_MALFORMED, X509_VALUE. */
+x509_status x509_name_build(const uint8_t *relative_names, size_t relative_names_len, uint8_t *out, size_t room, size_t *written);
+
+/* Writes a text (UTF-8) as it stands for one value in the text of a name (RFC 4514 2.4): behind "CN=", x509_name_from_text reads just that text, whatever it holds.
+ * X509_FAILED where it isn't UTF-8.
+ * Answers X509_OK, X509_ROOM, X509_MEMORY, X509_FAILED. */
+x509_status x509_name_escape(const uint8_t *text, size_t text_len, uint8_t *out, size_t room, size_t *written);
+
 /* ---- texts; rooms are as said under whole values */
 
 /* Reads a serial number under RFC 5280, as `serial_number` of x509_certificate, and says where the content octets of its INTEGER stand. X509_MALFORMED also where there
@@ -739,9 +767,9 @@ x509_status x509_timestamp_view(const uint8_t *in, size_t len, x509_timestamp *v
  * A certificate, a CRL and a CSR are built in two steps, since the private key stays with the caller: the x509_build_ calls write the bytes to be signed,
  * the caller signs them, and x509_assemble puts them and the signature together. That the signature is one of these bytes isn't checked.
  *
- * Names are whole Names, as x509_name_from_text writes them; keys are SubjectPublicKeyInfo and algorithms AlgorithmIdentifier, in DER. A list of extensions or
- * attributes is given as the encodings of its members one after the other, as x509_extension_encode writes them; a length of 0 is the empty list. Where several inputs are bad, any of
- * their answers may come. Rooms are as said under whole values. */
+ * Names are whole Names, as x509_name_build and x509_name_from_text write them; keys are SubjectPublicKeyInfo and algorithms AlgorithmIdentifier, in DER. A list of extensions or
+ * attributes is given as the encodings of its members one after the other, as x509_extension_encode writes them; a length of 0 is the empty list. X509_REPEATED where what
+ * is to be built would have two extensions of one OID in one list (RFC 5280 4.2); nothing is written then. Where several inputs are bad, any of their answers may come. Rooms are as said under whole values. */
 
 /* Writes an extension: with an OID, given by its content octets, critical where `critical` isn't 0, and holding these bytes, the encoding of its value, which isn't
  * decoded. X509_MALFORMED where no OID has the content octets.
@@ -751,34 +779,34 @@ x509_status x509_extension_encode(const uint8_t *oid, size_t oid_len, uint32_t c
 
 /* Writes an entry of a CRL: of the certificate with this serial number (the DER encoding of an INTEGER, as the view of a certificate has it), revoked at that time, with
  * these extensions. X509_VALUE where the time is after 9999-12-31T23:59:59Z.
- * Answers X509_OK, X509_ROOM, X509_MEMORY, X509_OVERLENGTH, X509_MALFORMED, X509_VALUE. */
+ * Answers X509_OK, X509_ROOM, X509_MEMORY, X509_OVERLENGTH, X509_MALFORMED, X509_VALUE, X509_REPEATED. */
 x509_status x509_crl_entry_encode(const uint8_t *serial_number, size_t serial_number_len, uint64_t date, const uint8_t *extensions, size_t extensions_len,
                                   uint8_t *out, size_t room, size_t *written);
 
 /* Writes the bytes to be signed of a CSR (RFC 2986 4.1): for that subject and key, with these attributes, in any order, and with one that asks for these extensions, which stands
  * there where there are none too. X509_SET_DUPLICATE where two attributes are equal.
- * Answers X509_OK, X509_ROOM, X509_MEMORY, X509_OVERLENGTH, X509_MALFORMED, X509_SET_DUPLICATE. */
+ * Answers X509_OK, X509_ROOM, X509_MEMORY, X509_OVERLENGTH, X509_MALFORMED, X509_SET_DUPLICATE, X509_REPEATED. */
 x509_status x509_build_request(const uint8_t *subject, size_t subject_len, const uint8_t *key, size_t key_len, const uint8_t *attributes, size_t attributes_len,
                                const uint8_t *extensions, size_t extensions_len, uint8_t *out, size_t room, size_t *written);
 
 /* Writes the bytes to be signed of a certificate (TBSCertificate, RFC 5280 4.1): with that serial number (the DER encoding of an INTEGER), for a signature by that algorithm, by that
  * issuer, from the one moment to the other, which are UTCTime through 2049 and else GeneralizedTime, for that subject and key, and with these extensions in their order. It is of v3
  * where there are extensions, else of v1, and has no unique identifiers. That the certificate keeps the further rules of RFC 5280 isn't looked at. X509_VALUE where a date is after
- * 9999-12-31T23:59:59Z.
- * Answers X509_OK, X509_ROOM, X509_MEMORY, X509_OVERLENGTH, X509_MALFORMED, X509_VALUE. */
+ * 9999-12-31T23:59:59Z, or `not_after` is before `not_before`.
+ * Answers X509_OK, X509_ROOM, X509_MEMORY, X509_OVERLENGTH, X509_MALFORMED, X509_VALUE, X509_REPEATED. */
 x509_status x509_build_certificate(const uint8_t *serial_number, size_t serial_number_len, const uint8_t *algorithm, size_t algorithm_len,
                                    const uint8_t *issuer, size_t issuer_len, uint64_t not_before, uint64_t not_after, const uint8_t *subject, size_t subject_len,
                                    const uint8_t *key, size_t key_len, const uint8_t *extensions, size_t extensions_len, uint8_t *out, size_t room, size_t *written);
 
 /* The next four write the bytes to be signed of certificates of one kind each, with the extensions that the kind has: those that are said there, in that order. `extensions`
- * are put in front of them, as they are; whether one comes twice then isn't looked at. A key identifier is the SHA-1 digest of a key's octets (RFC 5280 4.2.1.2). Dates are as
+ * are put in front of them, as they are; X509_REPEATED also where one of them is one that the kind has. A key identifier is the SHA-1 digest of a key's octets (RFC 5280 4.2.1.2). Dates are as
  * said above. What is asked for by a number is asked for where it isn't 0.
  *
  * A root authority (CA/Browser Forum, Baseline Requirements 7.1.2.1), which is its own issuer and signs with its own key: AKI; BasicConstraints of an authority, without a path
  * length constraint; KeyUsage with keyCertSign and cRLSign, and with digitalSignature where it signs OCSP responses; SKI. X509_FAILED where an authority can't have that
  * subject: it has a country, an organization and a common name, and may have state, locality, street address and postal code; each is alone in its relative name, is there once,
  * and stands in the order of 7.1.4.2.
- * Answers X509_OK, X509_ROOM, X509_MEMORY, X509_OVERLENGTH, X509_MALFORMED, X509_FAILED, X509_VALUE. */
+ * Answers X509_OK, X509_ROOM, X509_MEMORY, X509_OVERLENGTH, X509_MALFORMED, X509_FAILED, X509_VALUE, X509_REPEATED. */
 x509_status x509_build_root(const uint8_t *serial_number, size_t serial_number_len, const uint8_t *algorithm, size_t algorithm_len,
                             uint64_t not_before, uint64_t not_after, const uint8_t *subject, size_t subject_len, const uint8_t *key, size_t key_len,
                             uint32_t signs_ocsp_responses, const uint8_t *extensions, size_t extensions_len, uint8_t *out, size_t room, size_t *written);
@@ -786,7 +814,7 @@ x509_status x509_build_root(const uint8_t *serial_number, size_t serial_number_l
 /* An authority for TLS below another one, which has that name and that key (7.1.2.6): AKI of the issuer's key; BasicConstraints of an authority, with that path length
  * constraint where `has_path_len` isn't 0; KeyUsage as of a root; SKI; ExtendedKeyUsage with serverAuth, and with clientAuth where asked for. X509_VALUE also where the path
  * length constraint is above 255.
- * Answers X509_OK, X509_ROOM, X509_MEMORY, X509_OVERLENGTH, X509_MALFORMED, X509_VALUE. */
+ * Answers X509_OK, X509_ROOM, X509_MEMORY, X509_OVERLENGTH, X509_MALFORMED, X509_VALUE, X509_REPEATED. */
 x509_status x509_build_subordinate(const uint8_t *serial_number, size_t serial_number_len, const uint8_t *algorithm, size_t algorithm_len,
                                    const uint8_t *issuer, size_t issuer_len, const uint8_t *issuer_key, size_t issuer_key_len, uint64_t not_before, uint64_t not_after,
                                    const uint8_t *subject, size_t subject_len, const uint8_t *key, size_t key_len, uint32_t has_path_len, uint32_t path_len,
@@ -796,7 +824,7 @@ x509_status x509_build_subordinate(const uint8_t *serial_number, size_t serial_n
 /* A TLS server of which control of its domains was validated (7.1.2.7): of the subject only the country and the common names are kept. AKI of the issuer's key;
  * ExtendedKeyUsage with serverAuth, and with clientAuth where asked for; BasicConstraints of no authority; KeyUsage with digitalSignature, and where asked for of an RSA key with
  * keyEncipherment and dataEncipherment, of an elliptic curve key with keyAgreement. The SAN isn't made: it is one of `extensions`.
- * Answers X509_OK, X509_ROOM, X509_MEMORY, X509_OVERLENGTH, X509_MALFORMED, X509_VALUE. */
+ * Answers X509_OK, X509_ROOM, X509_MEMORY, X509_OVERLENGTH, X509_MALFORMED, X509_VALUE, X509_REPEATED. */
 x509_status x509_build_subscriber(const uint8_t *serial_number, size_t serial_number_len, const uint8_t *algorithm, size_t algorithm_len,
                                   const uint8_t *issuer, size_t issuer_len, const uint8_t *issuer_key, size_t issuer_key_len, uint64_t not_before, uint64_t not_after,
                                   const uint8_t *subject, size_t subject_len, const uint8_t *key, size_t key_len, uint32_t client_auth, uint32_t key_encipherment,
@@ -806,7 +834,7 @@ x509_status x509_build_subscriber(const uint8_t *serial_number, size_t serial_nu
 /* A device (IEEE 802.1AR 8): AKI of the issuer's key; KeyUsage with digitalSignature; a SAN of `names`, a whole GeneralNames, which is left out where there are no bytes, and is
  * critical where the subject is the empty name. One of the names has to be that of a hardware module (RFC 4108 5): X509_FAILED where none says that it is, X509_MALFORMED where
  * the first that says so isn't one.
- * Answers X509_OK, X509_ROOM, X509_MEMORY, X509_OVERLENGTH, X509_MALFORMED, X509_FAILED, X509_VALUE. */
+ * Answers X509_OK, X509_ROOM, X509_MEMORY, X509_OVERLENGTH, X509_MALFORMED, X509_FAILED, X509_VALUE, X509_REPEATED. */
 x509_status x509_build_device(const uint8_t *serial_number, size_t serial_number_len, const uint8_t *algorithm, size_t algorithm_len,
                               const uint8_t *issuer, size_t issuer_len, const uint8_t *issuer_key, size_t issuer_key_len, uint64_t not_before, uint64_t not_after,
                               const uint8_t *subject, size_t subject_len, const uint8_t *key, size_t key_len, const uint8_t *names, size_t names_len,
@@ -816,8 +844,9 @@ x509_status x509_build_device(const uint8_t *serial_number, size_t serial_number
  * algorithm, with that next update where `has_next_update` isn't 0, with these entries, and with these extensions behind two: the CRL number, whose octets stand most
  * significant first, and the AKI, which is the SKI in the issuer's certificate, and where that has none, the SHA-1 digest of its public key (RFC 5280 4.2.1.2).
  * `issuer` is a certificate, and entries are given as extensions are, as x509_crl_entry_encode writes them. X509_FAILED where the issuer's certificate has two SKIs;
- * X509_VALUE where the number has no octets, or a time is after 9999-12-31T23:59:59Z.
- * Answers X509_OK, X509_ROOM, X509_MEMORY, X509_OVERLENGTH, X509_MALFORMED, X509_FAILED, X509_VALUE. */
+ * X509_VALUE where the number has no octets, a time is after 9999-12-31T23:59:59Z, or the next update is before this one; X509_REPEATED also where `extensions` has a CRL
+ * number or an AKI. The extensions of entries aren't looked at here, but by x509_crl_entry_encode.
+ * Answers X509_OK, X509_ROOM, X509_MEMORY, X509_OVERLENGTH, X509_MALFORMED, X509_FAILED, X509_VALUE, X509_REPEATED. */
 x509_status x509_build_crl(const uint8_t *issuer, size_t issuer_len, const uint8_t *algorithm, size_t algorithm_len, const uint8_t *number, size_t number_len,
                            uint64_t this_update, uint32_t has_next_update, uint64_t next_update, const uint8_t *entries, size_t entries_len,
                            const uint8_t *extensions, size_t extensions_len, uint8_t *out, size_t room, size_t *written);

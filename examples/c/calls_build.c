@@ -128,10 +128,13 @@ static void built_certificates(void)
 #define CLIENT_AUTH "\x06\x08\x2b\x06\x01\x05\x05\x07\x03\x02"
 #define FOR_SERVERS "\x30\x13\x06\x03\x55\x1d\x25\x04\x0c\x30\x0a" SERVER_AUTH
 #define FOR_BOTH "\x30\x1d\x06\x03\x55\x1d\x25\x04\x16\x30\x14" SERVER_AUTH CLIENT_AUTH
+/* an extension 1.2.3 that no profile has */
+#define OTHER "\x30\x08\x06\x02\x2a\x03\x04\x02\x05\x00"
 /* What stands in front of the issuer and behind it in each of these parts. */
 #define V3 "\xa0\x03\x02\x01\x02\x02\x01\x01" ALGORITHM
 #define ROOT_PART "\x30\x81\xf1" V3 ROOT_NAME VALIDITY ROOT_NAME KEY "\xa3\x63\x30\x61" AKI_OF(ABC_DIGEST) AUTHORITY KEY_USAGE("\x01\x06") SKI_OF(ABC_DIGEST)
-#define ROOT_PART_WITH_SKI "\x30\x81\xfe" V3 ROOT_NAME VALIDITY ROOT_NAME KEY "\xa3\x70\x30\x6e" SKI AKI_OF(ABC_DIGEST) AUTHORITY KEY_USAGE("\x01\x86") SKI_OF(ABC_DIGEST)
+#define ROOT_PART_WITH_OTHER "\x30\x81\xfb" V3 ROOT_NAME VALIDITY ROOT_NAME KEY "\xa3\x6d\x30\x6b" OTHER AKI_OF(ABC_DIGEST) AUTHORITY KEY_USAGE("\x01\x86") \
+                             SKI_OF(ABC_DIGEST)
 #define SUBORDINATE_PART "\x30\x81\xd7" V3 NAME VALIDITY NAME KEY "\xa3\x7b\x30\x79" AKI_OF(EMPTY_DIGEST) AUTHORITY_ABOVE_LEAVES KEY_USAGE("\x01\x06") \
                          SKI_OF(ABC_DIGEST) FOR_SERVERS
 #define SUBSCRIBER_PART "\x30\x81\xbf" V3 NAME VALIDITY KEPT_NAME KEY "\xa3\x56\x30\x54" AKI_OF(EMPTY_DIGEST) FOR_SERVERS NO_AUTHORITY KEY_USAGE("\x07\x80")
@@ -150,7 +153,7 @@ static void built_roots(void)
 {
     WANT(WROTE(x509_build_root(NUMBER_AND_ALGORITHM, MOMENT, A_MONTH_LATER, BYTES(ROOT_NAME), BYTES(KEY), 0, nothing, 0, OUT), ROOT_PART));
     WANT(WROTE(x509_build_root(NUMBER_AND_ALGORITHM, MOMENT, A_MONTH_LATER, BYTES(ROOT_NAME), BYTES(KEY), 0, NULL, 0, OUT), ROOT_PART));
-    WANT(WROTE(x509_build_root(NUMBER_AND_ALGORITHM, MOMENT, A_MONTH_LATER, BYTES(ROOT_NAME), BYTES(KEY), 1, BYTES(SKI), OUT), ROOT_PART_WITH_SKI));
+    WANT(WROTE(x509_build_root(NUMBER_AND_ALGORITHM, MOMENT, A_MONTH_LATER, BYTES(ROOT_NAME), BYTES(KEY), 1, BYTES(OTHER), OUT), ROOT_PART_WITH_OTHER));
     WANT(x509_build_root(NUMBER_AND_ALGORITHM, MOMENT, A_MONTH_LATER, BYTES(ROOT_NAME), BYTES(KEY), 0, nothing, 0, room, 9, &written) == X509_ROOM);
     WANT(written == sizeof ROOT_PART - 1);
     written = 77;
@@ -255,6 +258,130 @@ static void reassembled(const uint8_t *whole, size_t len, x509_status other)
     WANT(x509_assemble(signed_part, part.len, algorithm, algorithm_len - 1, bits, bits_len, room, sizeof room, &written) == X509_MALFORMED && written == 77);
 }
 
+/* Two extensions of one OID (RFC 5280 4.2), those of a profile and of a CRL among them; and dates that are turned round. Nothing is written then. */
+static void refused_combinations(void)
+{
+    static uint8_t before[sizeof room];
+    memset(room, 9, sizeof room);
+    memcpy(before, room, sizeof room);
+    written = 77;
+    WANT(build_certificate("\x02\x01\x01", 3, A_MONTH_LATER, SKI SKI, 2 * (sizeof SKI - 1)) == X509_REPEATED);
+    WANT(build_certificate("\x02\x01\x01", 3, A_MONTH_LATER, OTHER SKI "\x30\x0b\x06\x02\x2a\x03\x01\x01\xff\x04\x02\x05\x00", 36) == X509_REPEATED);
+    WANT(x509_build_root(NUMBER_AND_ALGORITHM, MOMENT, A_MONTH_LATER, BYTES(ROOT_NAME), BYTES(KEY), 0, BYTES(SKI), OUT) == X509_REPEATED);
+    WANT(x509_build_root(NUMBER_AND_ALGORITHM, MOMENT, A_MONTH_LATER, BYTES(ROOT_NAME), BYTES(KEY), 0, BYTES(OTHER OTHER), OUT) == X509_REPEATED);
+    WANT(x509_build_subordinate(NUMBER_AND_ALGORITHM, ISSUER_AND_DATES, BYTES(NAME), BYTES(KEY), 1, 0, 0, 0, BYTES(AUTHORITY), OUT) == X509_REPEATED);
+    WANT(x509_build_subscriber(NUMBER_AND_ALGORITHM, ISSUER_AND_DATES, BYTES(NAME), BYTES(KEY), 0, 0, 0, 0, BYTES(FOR_SERVERS), OUT) == X509_REPEATED);
+    WANT(x509_build_device(NUMBER_AND_ALGORITHM, ISSUER_AND_DATES, BYTES(NAME), BYTES(KEY), BYTES(MODULE), BYTES("\x30\x20\x06\x03\x55\x1d\x11\x04\x19" MODULE), OUT)
+         == X509_REPEATED);
+    WANT(build_crl("\x07", 1, 0, "", 0, CRL_EXTENSIONS, 12) == X509_REPEATED);
+    WANT(build_crl("\x07", 1, 0, "", 0, CRL_EXTENSIONS, sizeof CRL_EXTENSIONS - 1) == X509_REPEATED);
+    WANT(build_crl("\x07", 1, 0, "", 0, DELTA DELTA, 2 * (sizeof DELTA - 1)) == X509_REPEATED);
+    WANT(x509_build_request(BYTES("\x30\x00"), BYTES(KEY), nothing, 0, BYTES(SKI OTHER SKI), OUT) == X509_REPEATED);
+    WANT(x509_crl_entry_encode(BYTES("\x02\x01\x05"), MOMENT, BYTES(OTHER OTHER), OUT) == X509_REPEATED);
+
+    WANT(build_certificate("\x02\x01\x01", 3, MOMENT - 1, "", 0) == X509_VALUE);
+    WANT(x509_build_root(NUMBER_AND_ALGORITHM, MOMENT, MOMENT - 1, BYTES(ROOT_NAME), BYTES(KEY), 0, nothing, 0, OUT) == X509_VALUE);
+    WANT(x509_build_subordinate(NUMBER_AND_ALGORITHM, BYTES(NAME), BYTES(EMPTY_KEY), MOMENT, 0, BYTES(NAME), BYTES(KEY), 1, 0, 0, 0, nothing, 0, OUT) == X509_VALUE);
+    WANT(x509_build_subscriber(NUMBER_AND_ALGORITHM, BYTES(NAME), BYTES(EMPTY_KEY), MOMENT, 0, BYTES(NAME), BYTES(KEY), 0, 0, 0, 0, nothing, 0, OUT) == X509_VALUE);
+    WANT(x509_build_device(NUMBER_AND_ALGORITHM, BYTES(NAME), BYTES(EMPTY_KEY), MOMENT, 0, BYTES(NAME), BYTES(KEY), nothing, 0, nothing, 0, OUT) == X509_VALUE);
+    WANT(build_crl("\x07", 1, MOMENT - 1, "", 0, "", 0) == X509_VALUE);
+    WANT(written == 77 && memcmp(before, room, sizeof room) == 0);
+
+    /* one moment twice is in order */
+    WANT(build_certificate("\x02\x01\x01", 3, MOMENT, "", 0) == X509_OK);
+    WANT(build_crl("\x07", 1, MOMENT, "", 0, "", 0) == X509_OK);
+}
+
+/* The attributes C=US, O=T and CN=a, and names of them, as OpenSSL encodes them too. */
+#define US "\x30\x09\x06\x03\x55\x04\x06\x13\x02" "US"
+#define T "\x30\x08\x06\x03\x55\x04\x0a\x0c\x01" "T"
+#define A "\x30\x08\x06\x03\x55\x04\x03\x0c\x01" "a"
+#define CN BYTES("\x55\x04\x03")
+#define COUNTRY_TYPE BYTES("\x55\x04\x06")
+#define EMAIL BYTES("\x2a\x86\x48\x86\xf7\x0d\x01\x09\x01")
+#define QUALIFIER BYTES("\x55\x04\x2e")
+
+/* RFC 5280 4.1.2.4 and appendix A.1 */
+static void attributes(void)
+{
+    static char many[32769];
+    memset(many, 'x', sizeof many);
+    const uint8_t *const x = (const uint8_t *)many;
+    WANT(WROTE(x509_attribute_encode(CN, 0, BYTES("a"), 1, OUT), A));
+    WANT(WROTE(x509_attribute_encode(COUNTRY_TYPE, 0, BYTES("US"), 1, OUT), US));
+    WANT(WROTE(x509_attribute_encode(CN, 0, BYTES("a,O=Evil"), 1, OUT), "\x30\x0f\x06\x03\x55\x04\x03\x0c\x08" "a,O=Evil"));
+    WANT(WROTE(x509_attribute_encode(CN, 0x13, BYTES("a"), 1, OUT), "\x30\x08\x06\x03\x55\x04\x03\x13\x01" "a"));
+    WANT(WROTE(x509_attribute_encode(CN, 0x0c, BYTES("\xc3\xbc"), 1, OUT), "\x30\x09\x06\x03\x55\x04\x03\x0c\x02\xc3\xbc"));
+    WANT(WROTE(x509_attribute_encode(CN, 0x1e, BYTES("\xc3\xbc" "a"), 1, OUT), "\x30\x0b\x06\x03\x55\x04\x03\x1e\x04\x00\xfc\x00" "a"));
+    WANT(WROTE(x509_attribute_encode(EMAIL, 0, BYTES("a@b"), 1, OUT), "\x30\x10\x06\x09\x2a\x86\x48\x86\xf7\x0d\x01\x09\x01\x16\x03" "a@b"));
+    WANT(WROTE(x509_attribute_encode(QUALIFIER, 0, nothing, 0, 1, OUT), "\x30\x07\x06\x03\x55\x04\x2e\x13\x00"));
+    WANT(WROTE(x509_attribute_encode(BYTES("\x2a\x03"), 0x16, nothing, 0, 1, OUT), "\x30\x06\x06\x02\x2a\x03\x16\x00"));
+    WANT(WROTE(x509_attribute_encode(CN, 0, NULL, 0, 0, OUT), "\x30\x07\x06\x03\x55\x04\x03\x0c\x00"));
+    WANT(x509_attribute_encode(CN, 0, BYTES("a"), 1, room, 9, &written) == X509_ROOM && written == 10);
+    written = 77;
+    /* an OID that is none, a text that isn't UTF-8, and unknown string types, TeletexString among them */
+    WANT(x509_attribute_encode(BYTES("\x80"), 0, BYTES("a"), 1, OUT) == X509_MALFORMED);
+    WANT(x509_attribute_encode(nothing, 0, 0, BYTES("a"), 1, OUT) == X509_MALFORMED);
+    WANT(x509_attribute_encode(CN, 0, BYTES("\xff"), 1, OUT) == X509_FAILED);
+    WANT(x509_attribute_encode(CN, 0, BYTES("\xed\xa0\x80"), 1, OUT) == X509_FAILED);
+    WANT(x509_attribute_encode(CN, 0x14, BYTES("a"), 1, OUT) == X509_FAILED && x509_attribute_encode(CN, 0x10c, BYTES("a"), 1, OUT) == X509_FAILED);
+    /* string types that the attribute doesn't allow */
+    WANT(x509_attribute_encode(CN, 0x16, BYTES("a"), 1, OUT) == X509_FAILED);
+    WANT(x509_attribute_encode(COUNTRY_TYPE, 0x0c, BYTES("US"), 1, OUT) == X509_FAILED && x509_attribute_encode(COUNTRY_TYPE, 0x1e, BYTES("US"), 1, OUT) == X509_FAILED);
+    WANT(x509_attribute_encode(EMAIL, 0x0c, BYTES("a"), 1, OUT) == X509_FAILED && x509_attribute_encode(EMAIL, 0x13, BYTES("a"), 1, OUT) == X509_FAILED);
+    /* characters outside of the alphabet: @ and _ in a PrintableString, U+00FC in an IA5String, U+1F600 in a BMPString */
+    WANT(x509_attribute_encode(CN, 0x13, BYTES("a@b"), 0, OUT) == X509_VALUE && x509_attribute_encode(CN, 0x13, BYTES("a_b"), 0, OUT) == X509_VALUE);
+    WANT(x509_attribute_encode(EMAIL, 0, BYTES("\xc3\xbc"), 0, OUT) == X509_VALUE && x509_attribute_encode(CN, 0x1e, BYTES("\xf0\x9f\x98\x80"), 0, OUT) == X509_VALUE);
+    /* too few and too many characters */
+    WANT(x509_attribute_encode(CN, 0, nothing, 0, 1, OUT) == X509_VALUE && x509_attribute_encode(CN, 0, x, 65, 1, OUT) == X509_VALUE);
+    WANT(x509_attribute_encode(COUNTRY_TYPE, 0, BYTES("U"), 1, OUT) == X509_VALUE && x509_attribute_encode(COUNTRY_TYPE, 0, BYTES("USA"), 1, OUT) == X509_VALUE);
+    WANT(x509_attribute_encode(EMAIL, 0, x, 256, 1, OUT) == X509_VALUE && x509_attribute_encode(BYTES("\x55\x04\x07"), 0, x, 129, 1, OUT) == X509_VALUE);
+    WANT(x509_attribute_encode(BYTES("\x55\x04\x29"), 0, x, 32769, 1, OUT) == X509_VALUE && written == 77);
+    WANT(x509_attribute_encode(CN, 0, x, 64, 1, OUT) == X509_OK && x509_attribute_encode(EMAIL, 0, x, 255, 1, OUT) == X509_OK);
+    WANT(x509_attribute_encode(BYTES("\x55\x04\x29"), 0, x, 32768, 1, OUT) == X509_OK && x509_attribute_encode(CN, 0, x, 65, 0, OUT) == X509_OK);
+}
+
+static void names_of_values(void)
+{
+    /* a set is in the order of its encodings, however it is given (X.690 10.3) */
+    WANT(WROTE(x509_relative_name_encode(BYTES(US), OUT), "\x31\x0b" US));
+    WANT(WROTE(x509_relative_name_encode(BYTES(US T A), OUT), "\x31\x1f" A T US));
+    WANT(WROTE(x509_relative_name_encode(BYTES(A T US), OUT), "\x31\x1f" A T US));
+    WANT(x509_relative_name_encode(BYTES(US), room, 12, &written) == X509_ROOM && written == 13);
+    written = 77;
+    WANT(x509_relative_name_encode(BYTES(A US A), OUT) == X509_SET_DUPLICATE && x509_relative_name_encode(nothing, 0, OUT) == X509_VALUE);
+    WANT(x509_relative_name_encode(NULL, 0, OUT) == X509_VALUE && x509_relative_name_encode(BYTES("\x30\x00"), OUT) == X509_MALFORMED && written == 77);
+
+    WANT(WROTE(x509_name_build(BYTES("\x31\x0b" US "\x31\x0a" T "\x31\x0a" A), OUT), "\x30\x25\x31\x0b" US "\x31\x0a" T "\x31\x0a" A));
+    WANT(WROTE(x509_name_build(nothing, 0, OUT), "\x30\x00"));
+    WANT(WROTE(x509_name_build(NULL, 0, OUT), "\x30\x00"));
+    WANT(x509_name_build(BYTES("\x31\x0a" A), room, 13, &written) == X509_ROOM && written == 14);
+    written = 77;
+    /* a set out of order, one of none, and an attribute without its set */
+    WANT(x509_name_build(BYTES("\x31\x15" US A), OUT) == X509_MALFORMED && x509_name_build(BYTES("\x31\x0a" A "\x31\x00"), OUT) == X509_VALUE);
+    WANT(x509_name_build(BYTES(A), OUT) == X509_MALFORMED && written == 77);
+}
+
+/* RFC 4514 2.4: what is escaped stands for one value, whatever it holds. */
+static void escapes(void)
+{
+    static const char *const texts[][2] = {
+        {"a", "a"}, {"a,O=Evil", "a\\,O=Evil"}, {" a ", "\\ a\\ "}, {"#a#", "\\#a#"}, {"a+b", "a\\+b"}, {"\\\"<;>", "\\\\\\\"\\<\\;\\>"}, {"\x1b\x7f", "\\1b\\7f"}, {"\xc3\xbc", "\xc3\xbc"}, {"", ""}};
+    for (size_t i = 0; i < sizeof texts / sizeof texts[0]; i++) {
+        const size_t len = strlen(texts[i][0]);
+        uint8_t text[64] = "CN=", name[64], value[64];
+        size_t text_len, name_len;
+        WANT(x509_name_escape((const uint8_t *)texts[i][0], len, text + 3, sizeof text - 3, &text_len) == X509_OK);
+        WANT(text_len == strlen(texts[i][1]) && memcmp(text + 3, texts[i][1], text_len) == 0);
+        WANT(x509_name_from_text(text, 3 + text_len, name, sizeof name, &name_len) == X509_OK);
+        WANT(x509_attribute_encode(CN, 0, (const uint8_t *)texts[i][0], len, 0, value, sizeof value, &written) == X509_OK);
+        WANT(name_len == written + 4 && memcmp(name + 4, value, written) == 0);
+    }
+    WANT(x509_name_escape(BYTES(","), room, 1, &written) == X509_ROOM && written == 2);
+    written = 77;
+    WANT(x509_name_escape(BYTES("\xff"), OUT) == X509_FAILED && written == 77);
+}
+
 static void assembled(void)
 {
     reassembled(certificate, certificate_len, X509_FAILED);
@@ -276,6 +403,10 @@ int main(int argc, char **argv)
     built_subscribers();
     built_devices();
     built_crls();
+    refused_combinations();
+    attributes();
+    names_of_values();
+    escapes();
     assembled();
     return ended();
 }

@@ -119,6 +119,11 @@ static void no_pointers(void)
     WANT(x509_assemble(NULL, 0, NULL, 0, NULL, 0, NULL, 0, &written) == X509_MALFORMED && written == 77);
     WANT(x509_extension_encode(NULL, 0, 0, NULL, 0, NULL, 0, &written) == X509_MALFORMED && written == 77);
     WANT(x509_crl_entry_encode(NULL, 0, MOMENT, NULL, 0, NULL, 0, &written) == X509_MALFORMED && written == 77);
+    WANT(x509_attribute_encode(NULL, 0, 0, NULL, 0, 1, NULL, 0, &written) == X509_MALFORMED && written == 77);
+    WANT(x509_relative_name_encode(NULL, 0, NULL, 0, &written) == X509_VALUE && written == 77);
+    WANT(x509_name_build(NULL, 0, NULL, 0, &written) == X509_ROOM && written == 2);
+    WANT(x509_name_escape(NULL, 0, NULL, 0, &written) == X509_OK && written == 0);
+    written = 77;
     WANT(x509_build_request(NULL, 0, NULL, 0, NULL, 0, NULL, 0, NULL, 0, &written) == X509_MALFORMED && written == 77);
     WANT(x509_build_certificate(NULL, 0, NULL, 0, NULL, 0, MOMENT, MOMENT, NULL, 0, NULL, 0, NULL, 0, NULL, 0, &written) == X509_MALFORMED && written == 77);
     WANT(x509_build_crl(NULL, 0, NULL, 0, NULL, 0, MOMENT, 0, 0, NULL, 0, NULL, 0, NULL, 0, &written) == X509_MALFORMED && written == 77);

@@ -121,6 +121,9 @@ authority() {
 
 echo 'certificate: refused with 2' >"$folder/refused.txt"
 echo 'all calls answer as they should' >"$folder/calls.txt"
+# RFC 4514 2.4, by hand, and twice: as the library prints the name, and as its values are escaped
+printf '%s\n%s\n' 'CN=a\,O=Evil,O=Haus\, Hof \+ Söhne,C=US' 'CN=a\,O=Evil,O=Haus\, Hof \+ Söhne,C=US' >"$folder/name.txt"
+echo 'refused with 5' >"$folder/no_name.txt"
 : >"$folder/nothing"
 printf '0' >"$folder/one"
 head -c -1 "$data/certificate.der" >"$folder/short"
@@ -169,7 +172,7 @@ fi
 [ ! -d "$folder/paths" ] || python3 -B "$robustness/spoil_paths.py" "$folder/paths" "$folder/spoilt" "$folder/libx509.so" || failed=1
 
 compiler=("${CC:-cc}" -std=c11 -Wall -Wextra -Werror -O1 -g -I "$top/include")
-callers=(show calls calls_values calls_build calls_documents rules payloads)
+callers=(show name calls calls_values calls_build calls_documents rules payloads)
 printf '%s\n' '#include <openssl/evp.h>' 'int main(void) { return EVP_DigestVerifyInit_ex == NULL; }' >"$folder/tried.c"
 if "${CC:-cc}" "$folder/tried.c" -lcrypto -o "$folder/tried" 2>"$folder/said"; then
     callers+=(path authority)
@@ -196,6 +199,8 @@ run_c() {
     for asked in calls calls_values calls_build calls_documents; do
         wants "$name, $asked" 0 "$folder/calls.txt" "$@" "$folder/$asked$suffix" "${files[@]}"
     done
+    wants "$name, a name of values" 0 "$folder/name.txt" "$@" "$folder/name$suffix" C US O 'Haus, Hof + Söhne' CN 'a,O=Evil'
+    wants "$name, a country of three letters" 1 "$folder/no_name.txt" "$@" "$folder/name$suffix" C USA CN a
     hostile "$name" "$@" "$folder/show$suffix"
     payloads "$name" "$@" "$folder/payloads$suffix"
     [ -z "${rules:-}" ] || wants "$name, the rules of the header" 0 "$folder/calls.txt" "$@" "$folder/rules$suffix" "${rules[@]}"

@@ -73,7 +73,7 @@ static void wrong(const char *what, long number)
 
 /* ---- each call */
 
-enum { CALLS = 47 };
+enum { CALLS = 51 };
 
 static uint8_t certificate[65536], list[65536], request[65536], room[65536];
 static size_t certificate_len, list_len, request_len;
@@ -220,6 +220,16 @@ static x509_status call(int number)
         return x509_anchor_text(certificate, certificate_len, room, sizeof room, &count);
     case 45:
         return x509_anchor_json(certificate, certificate_len, room, sizeof room, &count);
+    case 46:
+        return x509_attribute_encode(BYTES("\x55\x04\x03"), 0x1e, BYTES("aaaaaaaaaaaaaaaaaaaaaaaaaaaaaa"), 1, room, sizeof room, &count);
+    case 47:
+        return x509_relative_name_encode(BYTES("\x30\x25\x06\x03\x55\x04\x03\x0c\x1e" "aaaaaaaaaaaaaaaaaaaaaaaaaaaaaa" "\x30\x08\x06\x03\x55\x04\x0a\x0c\x01" "T"),
+                                         room, sizeof room, &count);
+    case 48:
+        return x509_name_build(BYTES("\x31\x27\x30\x25\x06\x03\x55\x04\x03\x0c\x1e" "aaaaaaaaaaaaaaaaaaaaaaaaaaaaaa" "\x31\x0a\x30\x08\x06\x03\x55\x04\x0a\x0c\x01" "T"),
+                               room, sizeof room, &count);
+    case 49:
+        return x509_name_escape(BYTES("a,b"), room, sizeof room, &count);
     default:
         /* in the first second of the validity */
         return x509_path_check(certificate, certificate_len, certificate, certificate_len, &certificate_len, 1, 1767323045, &fault);

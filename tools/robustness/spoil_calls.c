@@ -179,6 +179,7 @@ static const source SOURCES[] = {
     {NULL, "issuer", "x509_name_text"},
     {NULL, "subject", "x509_name_text"},
     {NULL, "oid", "x509_oid_text"},
+    {NULL, "text", "x509_name_escape"},
     {NULL, "serial_number", "x509_serial_number"},
     {NULL, "algorithm", "x509_algorithm_view"},
     {NULL, "key", "x509_key_view"},
@@ -375,14 +376,17 @@ static x509_status ask_any(asker *by, arguments *with, int is_front)
 static uint64_t any_number(asker *by, const char *name, octets first)
 {
     static const uint64_t numbers[] = {0, 1, 2, 30, 31, 255, UINT32_MAX, 253402300799, 253402300800, UINT64_MAX};
+    static const uint8_t string_types[] = {0x00, 0x0c, 0x13, 0x16, 0x1e, 0x14};
     const uint64_t choice = below(&by->state, 8);
     if (choice == 0)
         return numbers[below(&by->state, sizeof numbers / sizeof *numbers)];
     if (strcmp(name, "number") == 0)
         return first.len > 0 ? first.bytes[0] & 0x1f : 0;
+    if (strcmp(name, "string_type") == 0)
+        return string_types[below(&by->state, sizeof string_types)];
     if (strcmp(name, "status") == 0)
         return below(&by->state, 12) - 2;
-    if (strcmp(name, "profile") == 0 || strncmp(name, "has_", 4) == 0 || strcmp(name, "critical") == 0)
+    if (strcmp(name, "profile") == 0 || strncmp(name, "has_", 4) == 0 || strcmp(name, "critical") == 0 || strcmp(name, "is_bounded") == 0)
         return below(&by->state, 2);
     return choice == 1 ? below(&by->state, UINT64_MAX) : 1767323045 + below(&by->state, 1u << 29);
 }

@@ -27,3 +27,5 @@ mod servers;
 mod signers;
 #[cfg(test)]
 mod source;
+#[cfg(test)]
+mod values;

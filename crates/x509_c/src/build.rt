@@ -3,6 +3,7 @@
 ghost use Rattle.std.specs.Prelude.{◌≡◌, None, Some, if◌then◌else◌, nat_eq, not};
 ghost use Rattle.x509_c_calls.specs.Assembly.{Assembles};
 ghost use Rattle.x509_c_calls.specs.BuildMembers.{EncodesEntry, EncodesExtension};
+ghost use Rattle.x509_c_calls.specs.Built.{FillsUnrepeated};
 ghost use Rattle.x509_c_calls.specs.Certificates.{BuildsCertificate};
 ghost use Rattle.x509_c_calls.specs.Crls.{BuildsCrl};
 ghost use Rattle.x509_c_calls.specs.Requests.{BuildsRequest};
@@ -49,7 +50,7 @@ pub extern "C" fn x509_build_certificate(
     room: &mut [u8],
     written: &mut usize,
 ) -> i32
-    ensures { Tells (λ status. Fills (BuildsCertificate ⟦<TbsCertificate as Encode>⟧.writing serial_number.now algorithm.now issuer.now not_before not_after
+    ensures { Tells (λ status. FillsUnrepeated (BuildsCertificate ⟦<TbsCertificate as Encode>⟧.writing serial_number.now algorithm.now issuer.now not_before not_after
         subject.now key.now extensions.now) room.old room.new written.old written.new status) result }
 {
     build_certificate(
@@ -90,7 +91,7 @@ pub extern "C" fn x509_build_crl(
     room: &mut [u8],
     written: &mut usize,
 ) -> i32
-    ensures { Tells (λ status. Fills (BuildsCrl (λ part. Finds ⟦<SubjectKeyIdentifier as Grammar>⟧.form ⟦<SubjectKeyIdentifier as Decode>⟧.refuses
+    ensures { Tells (λ status. FillsUnrepeated (BuildsCrl (λ part. Finds ⟦<SubjectKeyIdentifier as Grammar>⟧.form ⟦<SubjectKeyIdentifier as Decode>⟧.refuses
         ⟦<SubjectKeyIdentifier as Decode>⟧.wants_memory (with_oid (id_ce 14) (members part.extensions))) issuer.now algorithm.now number.now this_update
         (if nat_eq has_next_update 0 then None else Some next_update) entries.now extensions.now) room.old room.new written.old written.new status) result }
 {
@@ -121,7 +122,7 @@ pub extern "C" fn x509_build_request(
     room: &mut [u8],
     written: &mut usize,
 ) -> i32
-    ensures { Tells (λ status. Fills (BuildsRequest subject.now key.now attributes.now extensions.now) room.old room.new written.old written.new status)
+    ensures { Tells (λ status. FillsUnrepeated (BuildsRequest subject.now key.now attributes.now extensions.now) room.old room.new written.old written.new status)
         result }
 {
     build_request(alloc, subject, key, attributes, extensions, room, written).code()
@@ -152,7 +153,7 @@ pub extern "C" fn x509_crl_entry_encode(
     room: &mut [u8],
     written: &mut usize,
 ) -> i32
-    ensures { Tells (λ status. Fills (EncodesEntry serial_number.now date extensions.now) room.old room.new written.old written.new status) result }
+    ensures { Tells (λ status. FillsUnrepeated (EncodesEntry serial_number.now date extensions.now) room.old room.new written.old written.new status) result }
 {
     entry_encode(alloc, serial_number, date, extensions, room, written).code()
 }

@@ -10,6 +10,7 @@ mod document;
 mod key;
 mod list;
 mod name;
+mod name_values;
 mod party;
 mod path;
 mod payload;

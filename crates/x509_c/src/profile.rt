@@ -2,9 +2,10 @@
 
 ghost use Rattle.std.specs.Prelude.{◌≡◌, ◌⊎◌, None, Some, if◌then◌else◌, nat_eq, not};
 ghost use Rattle.x509_base.specs.SubjectPublicKeyInfo.{subject_public_key_info};
+ghost use Rattle.x509_c_calls.specs.Built.{FillsUnrepeated};
 ghost use Rattle.x509_c_calls.specs.ProfileInputs.{Inputs, IsDevice, IsRoot, IsSubordinate, IsSubscriber, RefusesDevice, RefusesRoot, RefusesSubordinate, RefusesSubscriber};
 ghost use Rattle.x509_c_calls.specs.ProfileParts.{ArePartInputs, BuildsProfile, RefusesPartInputs};
-ghost use Rattle.x509_c_calls.specs.Status.{Fills, Tells};
+ghost use Rattle.x509_c_calls.specs.Status.{Tells};
 ghost use Rattle.x509_der.specs.Form.{Spells};
 ghost use Rattle.x509_types.specs.Reencoding.{IsRefused};
 
@@ -32,7 +33,7 @@ pub extern "C" fn x509_build_root(
     room: &mut [u8],
     written: &mut usize,
 ) -> i32
-    ensures { Tells (λ status. Fills (BuildsProfile (record {
+    ensures { Tells (λ status. FillsUnrepeated (BuildsProfile (record {
       subject_of = ⟦<Root as BuilderProfile>⟧.subject_of;
       issuer_of =
           ⟦<Root as BuilderProfile>⟧.issuer_of;
@@ -84,7 +85,7 @@ pub extern "C" fn x509_build_subordinate(
     room: &mut [u8],
     written: &mut usize,
 ) -> i32
-    ensures { Tells (λ status. Fills (BuildsProfile (record {
+    ensures { Tells (λ status. FillsUnrepeated (BuildsProfile (record {
       subject_of = ⟦<Subordinate as BuilderProfile>⟧.subject_of;
       issuer_of =
           ⟦<Subordinate as BuilderProfile>⟧.issuer_of;
@@ -133,7 +134,7 @@ pub extern "C" fn x509_build_subscriber(
     room: &mut [u8],
     written: &mut usize,
 ) -> i32
-    ensures { Tells (λ status. Fills (BuildsProfile (record {
+    ensures { Tells (λ status. FillsUnrepeated (BuildsProfile (record {
       subject_of = ⟦<Subscriber as BuilderProfile>⟧.subject_of;
       issuer_of =
           ⟦<Subscriber as BuilderProfile>⟧.issuer_of;
@@ -183,7 +184,7 @@ pub extern "C" fn x509_build_device(
     room: &mut [u8],
     written: &mut usize,
 ) -> i32
-    ensures { Tells (λ status. Fills (BuildsProfile (record {
+    ensures { Tells (λ status. FillsUnrepeated (BuildsProfile (record {
       subject_of = ⟦<DevId as BuilderProfile>⟧.subject_of;
       issuer_of =
           ⟦<DevId as BuilderProfile>⟧.issuer_of;

@@ -7,6 +7,7 @@ pub mod SctWalks
 pub mod SctParts
 pub mod AnchorFields
 pub mod Filled
+pub mod Unrepeated
 pub mod Wholes
 pub mod Each
 pub mod BuildParts

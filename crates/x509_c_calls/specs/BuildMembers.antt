@@ -7,6 +7,8 @@ use Rattle.x509_base.specs.Time.{IsTimeAt}
 use Rattle.x509_base.specs.declared.profile.Rfc5280.{Rfc5280}
 use Rattle.x509_c_calls.specs.Input.{RefusesEach, RefusesTime, SpellEach, unless_empty}
 use Rattle.x509_c_calls.specs.Calls.{Encodes}
+use Rattle.x509_c_calls.specs.declared.status.status.Status.{Status}
+use Rattle.x509_c_calls.specs.declared.status.status.Status.TheVariants.{Repeated, Refused}
 use Rattle.x509_cert.specs.RevokedCert.{revoked_cert}
 use Rattle.x509_cert.specs.declared.crl.revoked_cert.RevokedCert.{RevokedCert}
 use Rattle.x509_der.specs.Arcs.{AreArcs, content_of}
@@ -16,6 +18,7 @@ use Rattle.x509_der.specs.declared.error.ErrorKind.TheVariants.{Malformed, Overl
 use Rattle.x509_der.specs.Form.{Spells, spelling}
 use Rattle.x509_der.specs.Writing.{plain, writes}
 use Rattle.x509_ext.specs.Extension.{extension}
+use Rattle.x509_ext.specs.LookUp.{IsRepeated, members}
 use Rattle.x509_ext.specs.declared.extension.Extension.{Extension}
 use Rattle.x509_prim.specs.OctetString.{octet_string}
 use Rattle.x509_types.specs.Reencoding.{IsRefused}
@@ -50,7 +53,15 @@ abbrev pub RefusesEntry : List ℕ → ℕ → List ℕ → ErrorKind → Type 0
 RefusesEntry number date extensions e =
     IsRefused (serial_number rfc5280_serial_number) (CheckRefuses rfc5280_serial_number) number e ⊎ (RefusesTime date e ⊎ RefusesEach extension (λ e. ⊥) extensions e)
 
-abbrev pub EncodesEntry : List ℕ → ℕ → List ℕ → Result (List ℕ) ErrorKind → Type 0
-EncodesEntry number date extensions (Ok bytes) = (entry : RevokedCert Rfc5280) × IsEntryOf number date extensions entry × Encodes (revoked_cert rfc5280_serial_number) (writes plain entry) (Ok bytes)
-EncodesEntry number date extensions (Err e) =
-    RefusesEntry number date extensions e ⊎ ((entry : RevokedCert Rfc5280) × IsEntryOf number date extensions entry × Encodes (revoked_cert rfc5280_serial_number) (writes plain entry) (Err e))
+-- its encoding, where no two of its extensions have one OID; or why there is none
+abbrev pub EncodesEntry : List ℕ → ℕ → List ℕ → Result (List ℕ) Status → Type 0
+EncodesEntry number date extensions (Ok bytes) =
+    (entry : RevokedCert Rfc5280) × IsEntryOf number date extensions entry × (¬ IsRepeated (members entry.crl_entry_extensions))
+    × Encodes (revoked_cert rfc5280_serial_number) (writes plain entry) (Ok bytes)
+EncodesEntry number date extensions (Err Repeated) =
+    (entry : RevokedCert Rfc5280) × IsEntryOf number date extensions entry × IsRepeated (members entry.crl_entry_extensions)
+EncodesEntry number date extensions (Err (Refused e)) =
+    RefusesEntry number date extensions e
+    ⊎ ((entry : RevokedCert Rfc5280) × IsEntryOf number date extensions entry × (¬ IsRepeated (members entry.crl_entry_extensions))
+    × Encodes (revoked_cert rfc5280_serial_number) (writes plain entry) (Err e))
+EncodesEntry number date extensions (Err _) = ⊥

@@ -20,6 +20,10 @@ RefusesEach {X} form refuses bytes e =
 abbrev pub RefusesTime : ℕ → ErrorKind → Type 0
 RefusesTime seconds e = (e ≡ Value) × (unix_seconds last_date_time < seconds)
 
+-- a moment that is before the one that it may not be before
+abbrev pub RefusesOrder : ℕ → ℕ → ErrorKind → Type 0
+RefusesOrder first second e = (e ≡ Value) × (second < first)
+
 -- a list that is left out where it has no members
 abbrev pub unless_empty : {X : Type 0} → List X → Option (List X)
 unless_empty [] = None

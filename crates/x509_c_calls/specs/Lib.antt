@@ -18,10 +18,12 @@ pub mod Refusals
 pub mod Requests
 pub mod BuildMembers
 pub mod Crls
+pub mod NameMembers
 pub mod Certificates
 pub mod ProfileParts
 pub mod ProfileInputs
 pub mod Status
+pub mod Built
 pub mod Calls
 pub mod Place
 pub mod SignedPlace

@@ -5,6 +5,8 @@ use Rattle.x509_base.specs.SubjectPublicKeyInfo.{subject_public_key_info}
 use Rattle.x509_build.specs.RequestParts.{next_part}
 use Rattle.x509_c_calls.specs.Input.{RefusesEach, SpellEach}
 use Rattle.x509_c_calls.specs.Refusals.{Finalizes}
+use Rattle.x509_c_calls.specs.declared.status.status.Status.{Status}
+use Rattle.x509_c_calls.specs.declared.status.status.Status.TheVariants.{Repeated, Refused}
 use Rattle.x509_c_calls.specs.declared.build.request.RequestInputs.{RequestInputs}
 use Rattle.x509_cert.specs.CertReq.{cert_req_info}
 use Rattle.x509_der.specs.Set.{AreDistinct}
@@ -13,6 +15,7 @@ use Rattle.x509_der.specs.declared.error.ErrorKind.TheVariants.{SetDuplicate}
 use Rattle.x509_der.specs.Form.{Spells}
 use Rattle.x509_der.specs.Writing.{plain}
 use Rattle.x509_ext.specs.Extension.{extension}
+use Rattle.x509_ext.specs.LookUp.{IsRepeated}
 use Rattle.x509_name.specs.Names.{name}
 use Rattle.x509_name.specs.Attribute.{attribute, attribute_cmp}
 use Rattle.x509_name.specs.declared.attr.attribute.Attribute.{Attribute}
@@ -42,12 +45,16 @@ RefusesRequestInputs subject key attributes extensions e =
 
 -- ---- what it answers
 
--- The part that the builder finalizes to for a signer with the key (x509_build's RequestParts); or why there is none.
-abbrev pub BuildsRequest : List ℕ → List ℕ → List ℕ → List ℕ → Result (List ℕ) ErrorKind → Type 0
+-- The part that the builder finalizes to for a signer with the key (x509_build's RequestParts), where no two of the extensions to be asked for have
+-- one OID; or why there is none.
+abbrev pub BuildsRequest : List ℕ → List ℕ → List ℕ → List ℕ → Result (List ℕ) Status → Type 0
 BuildsRequest subject key attributes extensions (Ok bytes) =
-    (inputs : RequestInputs) × AreRequestInputs subject key attributes extensions inputs
+    (inputs : RequestInputs) × AreRequestInputs subject key attributes extensions inputs × (¬ IsRepeated inputs.extensions.items)
     × Finalizes cert_req_info plain (next_part inputs.subject inputs.attributes inputs.extensions.items inputs.key) (Ok bytes)
-BuildsRequest subject key attributes extensions (Err e) =
+BuildsRequest subject key attributes extensions (Err Repeated) =
+    (inputs : RequestInputs) × AreRequestInputs subject key attributes extensions inputs × IsRepeated inputs.extensions.items
+BuildsRequest subject key attributes extensions (Err (Refused e)) =
     RefusesRequestInputs subject key attributes extensions e
-    ⊎ ((inputs : RequestInputs) × AreRequestInputs subject key attributes extensions inputs
+    ⊎ ((inputs : RequestInputs) × AreRequestInputs subject key attributes extensions inputs × (¬ IsRepeated inputs.extensions.items)
     × Finalizes cert_req_info plain (next_part inputs.subject inputs.attributes inputs.extensions.items inputs.key) (Err e))
+BuildsRequest subject key attributes extensions (Err _) = ⊥

@@ -16,33 +16,105 @@ mod request;
 mod sct;
 mod status;
 
-pub use anchor::{AnchorView, PathControlsView};
-pub use build::{
-    SubscriberUses, assemble, build_certificate, build_crl, build_device, build_request,
-    build_root, build_subordinate, build_subscriber, entry_encode, extension_encode,
-};
-pub use certificate::{
-    CertificateView, ExtensionView, SignatureView, certificate_extension, certificate_signature,
-    certificate_view, is_written, seconds,
-};
-pub use crl::{CrlEntryView, CrlView, Revocation, crl_lookup, crl_view, crl_walk};
+pub use anchor::AnchorView;
+pub use anchor::PathControlsView;
+pub use build::SubscriberUses;
+pub use build::assemble;
+pub use build::attribute_encode;
+pub use build::build_certificate;
+pub use build::build_crl;
+pub use build::build_device;
+pub use build::build_name;
+pub use build::build_request;
+pub use build::build_root;
+pub use build::build_subordinate;
+pub use build::build_subscriber;
+pub use build::entry_encode;
+pub use build::escape;
+pub use build::extension_encode;
+pub use build::relative_name_encode;
+pub use certificate::CertificateView;
+pub use certificate::ExtensionView;
+pub use certificate::SignatureView;
+pub use certificate::certificate_extension;
+pub use certificate::certificate_signature;
+pub use certificate::certificate_view;
+pub use certificate::is_written;
+pub use certificate::seconds;
+pub use crl::CrlEntryView;
+pub use crl::CrlView;
+pub use crl::Revocation;
+pub use crl::crl_lookup;
+pub use crl::crl_view;
+pub use crl::crl_walk;
 pub use document::show_object;
-pub use key::{AlgorithmView, KeyKind, KeyView, SignatureKind, signature_at};
-pub use named::{name_from_text, name_text, reencode_named};
-pub use path::{Fault, path_check};
-pub use payloads::{
-    AccessView, AttributeView, AuthorityKeyIdentifierView, BasicConstraintsView,
-    DistributionPointView, ElementView, ExtensionEntry, GeneralNameView,
-    IssuingDistributionPointView, MappingView, NOWHERE, NameConstraintsView, Numbered,
-    PolicyConstraintsView, PolicyView, QualifierView, SubtreeView, View, bits_at, content,
-    content_at, decimal_text, element_next, identifiers_next, member_next, member_under_next,
-    name_attribute, next, oid_from_text, oid_text, optional_number, payload, read_number,
-    serial_text, status_text, step_content, step_optional, step_optional_content, time_text,
-    unused_at,
-};
-pub use place::{Span, enter, pass, signed_place, signed_span, step};
-pub use request::{
-    RequestAttributeView, RequestView, request_attribute, request_extensions, request_view,
-};
-pub use sct::{TimestampView, timestamp_next, timestamp_view};
-pub use status::{Status, check, fill, read, reencode, write};
+pub use key::AlgorithmView;
+pub use key::KeyKind;
+pub use key::KeyView;
+pub use key::SignatureKind;
+pub use key::signature_at;
+pub use named::name_from_text;
+pub use named::name_text;
+pub use named::reencode_named;
+pub use path::Fault;
+pub use path::path_check;
+pub use payloads::AccessView;
+pub use payloads::AttributeView;
+pub use payloads::AuthorityKeyIdentifierView;
+pub use payloads::BasicConstraintsView;
+pub use payloads::DistributionPointView;
+pub use payloads::ElementView;
+pub use payloads::ExtensionEntry;
+pub use payloads::GeneralNameView;
+pub use payloads::IssuingDistributionPointView;
+pub use payloads::MappingView;
+pub use payloads::NOWHERE;
+pub use payloads::NameConstraintsView;
+pub use payloads::Numbered;
+pub use payloads::PolicyConstraintsView;
+pub use payloads::PolicyView;
+pub use payloads::QualifierView;
+pub use payloads::SubtreeView;
+pub use payloads::View;
+pub use payloads::bits_at;
+pub use payloads::content;
+pub use payloads::content_at;
+pub use payloads::decimal_text;
+pub use payloads::element_next;
+pub use payloads::identifiers_next;
+pub use payloads::member_next;
+pub use payloads::member_under_next;
+pub use payloads::name_attribute;
+pub use payloads::next;
+pub use payloads::oid_from_text;
+pub use payloads::oid_text;
+pub use payloads::optional_number;
+pub use payloads::payload;
+pub use payloads::read_number;
+pub use payloads::serial_text;
+pub use payloads::status_text;
+pub use payloads::step_content;
+pub use payloads::step_optional;
+pub use payloads::step_optional_content;
+pub use payloads::time_text;
+pub use payloads::unused_at;
+pub use place::Span;
+pub use place::enter;
+pub use place::pass;
+pub use place::signed_place;
+pub use place::signed_span;
+pub use place::step;
+pub use request::RequestAttributeView;
+pub use request::RequestView;
+pub use request::request_attribute;
+pub use request::request_extensions;
+pub use request::request_view;
+pub use sct::TimestampView;
+pub use sct::timestamp_next;
+pub use sct::timestamp_view;
+pub use status::Status;
+pub use status::check;
+pub use status::fill;
+pub use status::read;
+pub use status::reencode;
+pub use status::write;

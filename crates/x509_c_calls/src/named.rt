@@ -6,3 +6,4 @@ mod text;
 
 pub use name::{name_from_text, name_text};
 pub use reencode::reencode_named;
+pub(crate) use text::text_of;

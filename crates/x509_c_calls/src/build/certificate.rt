@@ -1,17 +1,17 @@
 //! The bytes to be signed of a certificate.
 
 ghost use Rattle.std.specs.Prelude.{◌≡◌, ◌⊎◌, MatchResult};
+ghost use Rattle.x509_c_calls.specs.Built.{FillsUnrepeated};
 ghost use Rattle.x509_c_calls.specs.Certificates.{BuildsCertificate, IsPartOf, RefusesPart, version_with};
-ghost use Rattle.x509_c_calls.specs.Status.{Fills};
 ghost use Rattle.x509_der.specs.declared.error.ErrorKind.TheVariants.{Memory};
 
-use crate::build::input::{read_each, time_at, unless_empty};
+use crate::build::input::{check_order, check_repeated, read_each, time_at, unless_empty};
 use crate::{Status, read, write};
 use std::alloc::Global;
 use x509_base::{AlgorithmIdentifier, Rfc5280, SerialNumber, SubjectPublicKeyInfo, Validity};
 use x509_cert::certificate::{TbsCertificate, Version};
 use x509_der::{Encode, ErrorKind};
-use x509_ext::Extension;
+use x509_ext::{Extension, members};
 use x509_name::name::Name;
 
 /// The version of a certificate with these extensions.
@@ -44,13 +44,14 @@ fn part_of(
     let serial_number = read::<SerialNumber<Rfc5280>>(alloc, serial_number)?;
     let algorithm = read::<AlgorithmIdentifier>(alloc, algorithm)?;
     let issuer = read::<Name>(alloc, issuer)?;
+    check_order(not_before, not_after)?;
     let not_before = time_at(not_before)?;
     let not_after = time_at(not_after)?;
     let subject = read::<Name>(alloc, subject)?;
     let key = read::<SubjectPublicKeyInfo>(alloc, key)?;
-    let members = read_each::<Extension>(alloc, extensions)?;
+    let extensions = read_each::<Extension>(alloc, extensions)?;
     Ok(TbsCertificate::from_parts(
-        version_with(members.as_slice()),
+        version_with(extensions.as_slice()),
         serial_number,
         algorithm,
         issuer,
@@ -59,7 +60,7 @@ fn part_of(
         key,
         None,
         None,
-        unless_empty(members),
+        unless_empty(extensions),
     ))
 }
 
@@ -69,9 +70,9 @@ fn part_of(
 ///
 /// # Errors
 ///
-/// [`Status::NoRoom`] where the buffer is too small; then `written` is the needed length. The error of decoding an input; `Value` where a date is after the year 9999; where several are bad, any
-/// of theirs. `Overlength` where the part is too long. `Memory` when out of memory.
-#[tactic(auto, unfolding(crate::specs::Status::Fills, crate::specs::Calls::Encodes))]
+/// [`Status::NoRoom`] where the buffer is too small; then `written` is the needed length. The error of decoding an input; `Value` where a date is after the year 9999, or the second before the
+/// first; where several are bad, any of theirs. Else [`Status::Repeated`] exactly where two extensions have one OID; then nothing is written. `Overlength` where the part is too long. `Memory` when
+/// out of memory.
 pub fn build_certificate(
     alloc: Global,
     serial_number: &[u8],
@@ -85,10 +86,10 @@ pub fn build_certificate(
     room: &mut [u8],
     written: &mut usize,
 ) -> Status
-    ensures { Fills (BuildsCertificate ⟦<TbsCertificate as Encode>⟧.writing serial_number.now algorithm.now issuer.now not_before not_after subject.now
+    ensures { FillsUnrepeated (BuildsCertificate ⟦<TbsCertificate as Encode>⟧.writing serial_number.now algorithm.now issuer.now not_before not_after subject.now
         key.now extensions.now) room.old room.new written.old written.new result }
 {
-    match part_of(
+    let part = match part_of(
         alloc,
         serial_number,
         algorithm,
@@ -99,7 +100,11 @@ pub fn build_certificate(
         key,
         extensions,
     ) {
-        Ok(part) => write(&part, room, written),
-        Err(e) => Status::Refused(e),
+        Ok(part) => part,
+        Err(e) => return Status::Refused(e),
+    };
+    match check_repeated(alloc, members(part.extensions())) {
+        Ok(()) => write(&part, room, written),
+        Err(status) => status,
     }
 }

@@ -1,17 +1,17 @@
 //! The bytes to be signed of a CRL.
 
-ghost use Rattle.std.specs.Prelude.{◌≡◌, ◌⊎◌, [], None, IfOk, IfErr, MatchResult};
+ghost use Rattle.std.specs.Prelude.{◌≡◌, ◌⊎◌, [], None, IfOk, IfErr, MatchOption, MatchResult};
 ghost use Rattle.x509_base.specs.Serial.{number_content};
 ghost use Rattle.x509_build.specs.Refusals.{LacksMemory};
+ghost use Rattle.x509_c_calls.specs.Built.{FillsUnrepeated};
 ghost use Rattle.x509_c_calls.specs.Input.{unless_empty};
-ghost use Rattle.x509_c_calls.specs.Crls.{AreCrlInputs, BuildsCrl, IsTimeOrNone, CrlParts, RefusesCrlInputs, RefusesCrlPart, RefusesTimeOrNone};
+ghost use Rattle.x509_c_calls.specs.Crls.{AreCrlInputs, BuildsCrl, CrlParts, InOrder, IsTimeOrNone, RefusesCrlInputs, RefusesCrlPart, RefusesTimeOrNone, RefusesUpdates, RepeatsCrlExtension};
 ghost use Rattle.x509_c_calls.specs.Refusals.{kind_of};
-ghost use Rattle.x509_c_calls.specs.Status.{Fills};
 ghost use Rattle.x509_der.specs.declared.error.ErrorKind.TheVariants.{Memory, Value};
 ghost use Rattle.x509_ext.specs.Identifiers.{id_ce};
 ghost use Rattle.x509_ext.specs.LookUp.{Finds, members, with_oid};
 
-use crate::build::input::{read_each, time_at};
+use crate::build::input::{check_order, read_each, time_at};
 use crate::build::teller::{Teller, finalized, kind_of};
 use crate::{Status, fill, read};
 use std::alloc::Global;
@@ -22,7 +22,7 @@ use x509_cert::certificate::Certificate;
 use x509_cert::crl::RevokedCert;
 use x509_der::{Decode, ErrorKind, Grammar};
 use x509_ext::pkix::{CrlNumber, SubjectKeyIdentifier};
-use x509_ext::{Extension, Extensions};
+use x509_ext::{Extension, Extensions, has_repeated_extension};
 use x509_prim::{BitString, Uint};
 
 /// What a CRL is built of.
@@ -44,6 +44,16 @@ fn time_or_none(seconds: Option<u64>) -> Result<Option<Time>, ErrorKind>
     match seconds {
         Some(seconds) => Ok(Some(time_at(seconds)?)),
         None => Ok(None),
+    }
+}
+
+/// That the next update, where there is one, isn't before this one.
+fn check_updates(this_update: u64, next_update: Option<u64>) -> Result<(), ErrorKind>
+    ensures { MatchResult result (λ unit. InOrder this_update next_update) (λ e. RefusesUpdates this_update next_update e) }
+{
+    match next_update {
+        Some(next_update) => check_order(this_update, next_update),
+        None => Ok(()),
     }
 }
 
@@ -75,6 +85,7 @@ fn read_inputs(
     let issuer = read::<Certificate>(alloc, issuer)?;
     let algorithm = read::<AlgorithmIdentifier>(alloc, algorithm)?;
     let number = crl_number(alloc, number)?;
+    check_updates(this_update, next_update)?;
     let this_update = time_at(this_update)?;
     let next_update = time_or_none(next_update)?;
     let entries = read_each::<RevokedCert<Rfc5280>>(alloc, entries)?;
@@ -120,10 +131,12 @@ fn signer_by(alloc: Global, algorithm: AlgorithmIdentifier) -> Result<Teller, Er
     })
 }
 
-/// The bytes that the builder finalizes to.
-fn crl_part(alloc: Global, inputs: CrlInputs) -> Result<Vec<u8>, Error>
+/// The bytes that the builder finalizes to; `None` exactly where two of the extensions have one OID.
+fn crl_part(alloc: Global, inputs: CrlInputs) -> Result<Option<Vec<u8>>, Error>
     ensures { MatchResult result
-        (λ bytes. CrlParts (Finds ⟦<SubjectKeyIdentifier as Grammar>⟧.form ⟦<SubjectKeyIdentifier as Decode>⟧.refuses ⟦<SubjectKeyIdentifier as Decode>⟧.wants_memory (with_oid (id_ce 14) (members inputs.issuer.tbs_certificate.extensions))) inputs bytes.items)
+        (λ made. MatchOption made
+        (RepeatsCrlExtension (Finds ⟦<SubjectKeyIdentifier as Grammar>⟧.form ⟦<SubjectKeyIdentifier as Decode>⟧.refuses ⟦<SubjectKeyIdentifier as Decode>⟧.wants_memory (with_oid (id_ce 14) (members inputs.issuer.tbs_certificate.extensions))) inputs)
+        (λ bytes. CrlParts (Finds ⟦<SubjectKeyIdentifier as Grammar>⟧.form ⟦<SubjectKeyIdentifier as Decode>⟧.refuses ⟦<SubjectKeyIdentifier as Decode>⟧.wants_memory (with_oid (id_ce 14) (members inputs.issuer.tbs_certificate.extensions))) inputs bytes.items))
         (λ e. (kind_of e ≡ Memory) ⊎ RefusesCrlPart (Finds ⟦<SubjectKeyIdentifier as Grammar>⟧.form ⟦<SubjectKeyIdentifier as Decode>⟧.refuses ⟦<SubjectKeyIdentifier as Decode>⟧.wants_memory (with_oid (id_ce 14) (members inputs.issuer.tbs_certificate.extensions))) inputs e) }
 {
     let CrlInputs {
@@ -138,9 +151,12 @@ fn crl_part(alloc: Global, inputs: CrlInputs) -> Result<Vec<u8>, Error>
     let start = CrlBuilder::<Rfc5280>::new_with_this_update(alloc, &issuer, number, this_update)?;
     let builder = with_entries(alloc, start.with_next_update(next_update), entries)?;
     let whole = builder.with_extensions(Extensions::from(extensions))?;
+    if has_repeated_extension(alloc, whole.extensions())? {
+        return Ok(None);
+    }
     let teller = signer_by(alloc, algorithm)?;
     let bytes = finalized(alloc, whole, &teller)?;
-    Ok(bytes)
+    Ok(Some(bytes))
 }
 
 /// Puts the bytes to be signed of a CRL, TBSCertList (RFC 5280 5.1.2), at the front of the buffer `room`: those that [`CrlBuilder`] finalizes to for a signer
@@ -150,9 +166,9 @@ fn crl_part(alloc: Global, inputs: CrlInputs) -> Result<Vec<u8>, Error>
 /// # Errors
 ///
 /// [`Status::NoRoom`] where the buffer is too small; then `written` is the needed length. The error of decoding an input, among them that of the SKI of the
-/// issuer's certificate (`Failed` where it is repeated); `Value` where the number has no octets or a time is after the year 9999; where several are bad, any of
-/// theirs. `Overlength` where an extension or the part is too long. `Memory` when out of memory.
-#[tactic(auto, unfolding(crate::specs::Status::Fills))]
+/// issuer's certificate (`Failed` where it is repeated); `Value` where the number has no octets, a time is after the year 9999, or the next update before this
+/// one; where several are bad, any of theirs. Else [`Status::Repeated`] exactly where two extensions have one OID, the CRL number and the AKI among them; then
+/// nothing is written. `Overlength` where an extension or the part is too long. `Memory` when out of memory.
 pub fn build_crl(
     alloc: Global,
     issuer: &[u8],
@@ -165,7 +181,7 @@ pub fn build_crl(
     room: &mut [u8],
     written: &mut usize,
 ) -> Status
-    ensures { Fills (BuildsCrl (λ part. Finds ⟦<SubjectKeyIdentifier as Grammar>⟧.form ⟦<SubjectKeyIdentifier as Decode>⟧.refuses
+    ensures { FillsUnrepeated (BuildsCrl (λ part. Finds ⟦<SubjectKeyIdentifier as Grammar>⟧.form ⟦<SubjectKeyIdentifier as Decode>⟧.refuses
         ⟦<SubjectKeyIdentifier as Decode>⟧.wants_memory (with_oid (id_ce 14) (members part.extensions))) issuer.now algorithm.now number.now this_update
         next_update entries.now extensions.now) room.old room.new written.old written.new result }
 {
@@ -183,7 +199,8 @@ pub fn build_crl(
         Err(e) => return Status::Refused(e),
     };
     match crl_part(alloc, inputs) {
-        Ok(bytes) => fill(bytes.as_slice(), room, written),
+        Ok(Some(bytes)) => fill(bytes.as_slice(), room, written),
+        Ok(None) => Status::Repeated,
         Err(e) => Status::Refused(kind_of(&e)),
     }
 }

@@ -2,9 +2,9 @@
 
 ghost use Rattle.std.specs.Prelude.{◌≡◌, ◌⊎◌, MatchResult};
 ghost use Rattle.x509_base.specs.SubjectPublicKeyInfo.{subject_public_key_info};
+ghost use Rattle.x509_c_calls.specs.Built.{FillsUnrepeated};
 ghost use Rattle.x509_c_calls.specs.ProfileInputs.{Inputs, IsDevice, RefusesDevice, RefusesNames, SpellsNames};
 ghost use Rattle.x509_c_calls.specs.ProfileParts.{ArePartInputs, BuildsProfile, RefusesPartInputs};
-ghost use Rattle.x509_c_calls.specs.Status.{Fills};
 ghost use Rattle.x509_der.specs.declared.error.ErrorKind.TheVariants.{Memory};
 ghost use Rattle.x509_der.specs.Form.{Spells};
 ghost use Rattle.x509_types.specs.Reencoding.{IsRefused};
@@ -92,7 +92,8 @@ fn read_device(
 ///
 /// [`Status::NoRoom`] where the buffer is too small; then `written` is the needed length. The error of decoding an input; `Failed` where none of the
 /// alternative names says that it is that of a hardware module, and `Malformed` where the first that says it is none; `Value` where a date is after
-/// the year 9999; where several are bad, any of theirs. `Overlength` where the part is too long. `Memory` when out of memory.
+/// the year 9999, or the second before the first; where several are bad, any of theirs. Else [`Status::Repeated`] exactly where two extensions have
+/// one OID; then nothing is written. `Overlength` where the part is too long. `Memory` when out of memory.
 pub fn build_device(
     alloc: Global,
     serial_number: &[u8],
@@ -108,7 +109,7 @@ pub fn build_device(
     room: &mut [u8],
     written: &mut usize,
 ) -> Status
-    ensures { Fills (BuildsProfile (record {
+    ensures { FillsUnrepeated (BuildsProfile (record {
       subject_of = ⟦<DevId as BuilderProfile>⟧.subject_of;
       issuer_of = ⟦<DevId as BuilderProfile>⟧.issuer_of;
       extensions_of = ⟦<DevId as BuilderProfile>⟧.extensions_of;

@@ -1,17 +1,18 @@
 //! Encodings of extensions and of entries of CRLs.
 
 ghost use Rattle.std.specs.Prelude.{◌≡◌, ◌⊎◌, MatchResult};
+ghost use Rattle.x509_c_calls.specs.Built.{FillsUnrepeated};
 ghost use Rattle.x509_c_calls.specs.BuildMembers.{EncodesEntry, EncodesExtension, IsEntryOf, IsExtensionOf, RefusesEntry, RefusesExtension};
 ghost use Rattle.x509_c_calls.specs.Status.{Fills};
 ghost use Rattle.x509_der.specs.declared.error.ErrorKind.TheVariants.{Memory};
 
-use crate::build::input::{read_each, time_at, unless_empty};
+use crate::build::input::{check_repeated, read_each, time_at, unless_empty};
 use crate::{Status, read, write};
 use std::alloc::Global;
 use x509_base::{Rfc5280, SerialNumber};
 use x509_cert::crl::RevokedCert;
 use x509_der::{Error, ErrorKind, ObjectIdentifier};
-use x509_ext::Extension;
+use x509_ext::{Extension, members};
 use x509_prim::OctetString;
 
 /// The extension with an OID of these content octets, which holds those octets.
@@ -63,11 +64,11 @@ fn entry_of(
 {
     let serial_number = read::<SerialNumber<Rfc5280>>(alloc, serial_number)?;
     let revocation_date = time_at(date)?;
-    let members = read_each::<Extension>(alloc, extensions)?;
+    let extensions = read_each::<Extension>(alloc, extensions)?;
     Ok(RevokedCert {
         serial_number,
         revocation_date,
-        crl_entry_extensions: unless_empty(members),
+        crl_entry_extensions: unless_empty(extensions),
     })
 }
 
@@ -78,8 +79,8 @@ fn entry_of(
 /// # Errors
 ///
 /// [`Status::NoRoom`] where the buffer is too small; then `written` is the needed length. The error of decoding an input; `Value` where the time is after
-/// the year 9999; where several are bad, any of theirs. `Overlength` where the entry is too long. `Memory` when out of memory.
-#[tactic(auto, unfolding(crate::specs::Status::Fills, crate::specs::Calls::Encodes))]
+/// the year 9999; where several are bad, any of theirs. Else [`Status::Repeated`] exactly where two extensions have one OID; then nothing is written.
+/// `Overlength` where the entry is too long. `Memory` when out of memory.
 pub fn entry_encode(
     alloc: Global,
     serial_number: &[u8],
@@ -88,10 +89,14 @@ pub fn entry_encode(
     room: &mut [u8],
     written: &mut usize,
 ) -> Status
-    ensures { Fills (EncodesEntry serial_number.now date extensions.now) room.old room.new written.old written.new result }
+    ensures { FillsUnrepeated (EncodesEntry serial_number.now date extensions.now) room.old room.new written.old written.new result }
 {
-    match entry_of(alloc, serial_number, date, extensions) {
-        Ok(entry) => write(&entry, room, written),
-        Err(e) => Status::Refused(e),
+    let entry = match entry_of(alloc, serial_number, date, extensions) {
+        Ok(entry) => entry,
+        Err(e) => return Status::Refused(e),
+    };
+    match check_repeated(alloc, members(entry.crl_entry_extensions.as_ref())) {
+        Ok(()) => write(&entry, room, written),
+        Err(status) => status,
     }
 }

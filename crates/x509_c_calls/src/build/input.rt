@@ -1,16 +1,19 @@
 //! What the calls take.
 
-ghost use Rattle.std.specs.Prelude.{◌≡◌, ◌⊎◌, ◌<◌, MatchResult};
+ghost use Rattle.std.specs.Prelude.{◌≡◌, ◌⊎◌, ◌<◌, ◌≤◌, IfErr, OnOk, MatchResult};
 ghost use Rattle.x509_base.specs.CivilTime.{last_date_time, unix_seconds};
 ghost use Rattle.x509_base.specs.Time.{IsTimeAt};
-ghost use Rattle.x509_c_calls.specs.Input.{RefusesEach, SpellEach, unless_empty};
+ghost use Rattle.x509_c_calls.specs.Input.{RefusesEach, RefusesOrder, SpellEach, unless_empty};
+ghost use Rattle.x509_c_calls.specs.declared.status.status.Status.TheVariants.{Refused, Repeated};
 ghost use Rattle.x509_der.specs.declared.error.ErrorKind.TheVariants.{Memory, Value};
+ghost use Rattle.x509_ext.specs.LookUp.{IsRepeated};
 
+use crate::Status;
 use std::alloc::Global;
 use std::time::Duration;
 use x509_base::{DateTime, Time};
 use x509_der::{Decode, ErrorKind, read_members};
-use x509_ext::{Extension, Extensions};
+use x509_ext::{Extension, Extensions, has_repeated_extension};
 
 /// The values whose encodings the bytes are, one after the other.
 ///
@@ -39,6 +42,36 @@ pub(crate) fn time_at(seconds: u64) -> Result<Time, ErrorKind>
     match DateTime::from_unix_duration(Duration::from_secs(seconds)) {
         Ok(moment) => Ok(Time::from(moment)),
         Err(e) => Err(e.kind()),
+    }
+}
+
+/// That the second moment isn't before the first.
+///
+/// # Errors
+///
+/// `Value` exactly where it is.
+pub(crate) fn check_order(first: u64, second: u64) -> Result<(), ErrorKind>
+    ensures { MatchResult result (λ unit. first ≤ second) (λ e. RefusesOrder first second e) }
+{
+    if second < first {
+        return Err(ErrorKind::Value);
+    }
+    Ok(())
+}
+
+/// That no two of the extensions have one OID (RFC 5280 4.2).
+///
+/// # Errors
+///
+/// [`Status::Repeated`] exactly where two have. `Memory` when out of memory.
+pub(crate) fn check_repeated(alloc: Global, extensions: &[Extension]) -> Result<(), Status>
+    ensures ok { OnOk result (¬ IsRepeated extensions.now) }
+    ensures err { IfErr result (λ status. (status ≡ Refused Memory) ⊎ ((status ≡ Repeated) × IsRepeated extensions.now)) }
+{
+    match has_repeated_extension(alloc, extensions) {
+        Ok(false) => Ok(()),
+        Ok(true) => Err(Status::Repeated),
+        Err(e) => Err(e.into()),
     }
 }
 

@@ -1,13 +1,13 @@
 //! The bytes to be signed of a certificate that is built with a profile, whichever it is.
 
-ghost use Rattle.std.specs.Prelude.{◌≡◌, ◌⊎◌, IfErr, MatchResult};
-ghost use Rattle.x509_c_calls.specs.ProfileParts.{ArePartInputs, Makes, ProfileParts, RefusesPartInputs, RefusesProfilePart};
+ghost use Rattle.std.specs.Prelude.{◌≡◌, ◌⊎◌, IfErr, MatchOption, MatchResult};
+ghost use Rattle.x509_c_calls.specs.Built.{FillsUnrepeated};
+ghost use Rattle.x509_c_calls.specs.ProfileParts.{ArePartInputs, Makes, ProfileParts, RefusesPartInputs, RefusesProfilePart, RepeatsExtension};
 ghost use Rattle.x509_c_calls.specs.Refusals.{kind_of};
-ghost use Rattle.x509_c_calls.specs.Status.{Fills};
 ghost use Rattle.x509_der.specs.declared.error.ErrorKind.TheVariants.{Memory};
 
-use crate::build::input::{read_each, time_at};
-use crate::build::teller::{Teller, finalized, kind_of};
+use crate::build::input::{check_order, read_each, time_at};
+use crate::build::teller::{Teller, finalized_with, kind_of};
 use crate::{Status, fill, read};
 use std::alloc::Global;
 use x509_base::{AlgorithmIdentifier, Rfc5280, SerialNumber, SubjectPublicKeyInfo, Validity};
@@ -15,7 +15,7 @@ use x509_build::profile::no_algorithm;
 use x509_build::{BuilderProfile, CertificateBuilder, Error};
 use x509_cert::certificate::TbsCertificate;
 use x509_der::{Encode, ErrorKind};
-use x509_ext::{Extension, Extensions};
+use x509_ext::{Extension, Extensions, has_repeated_extension, members};
 use x509_prim::BitString;
 
 /// What a certificate is built of, whatever its profile: of its extensions those that are added to the profile's.
@@ -65,6 +65,7 @@ pub(crate) fn read_part(
 {
     let serial_number = read::<SerialNumber<Rfc5280>>(alloc, serial_number)?;
     let algorithm = read::<AlgorithmIdentifier>(alloc, algorithm)?;
+    check_order(not_before, not_after)?;
     let not_before = time_at(not_before)?;
     let not_after = time_at(not_after)?;
     let key = read::<SubjectPublicKeyInfo>(alloc, key)?;
@@ -78,14 +79,16 @@ pub(crate) fn read_part(
     })
 }
 
-/// The bytes that the builder finalizes to.
+/// The bytes that the builder finalizes to; `None` exactly where two of the extensions have one OID.
 #[tactic(auto, unfolding(crate::specs::ProfileParts::RefusesProfilePart))]
 fn profile_part<P: BuilderProfile>(
     alloc: Global,
     inputs: ProfileInputs<P>,
-) -> Result<Vec<u8>, Error>
+) -> Result<Option<Vec<u8>>, Error>
     ensures { MatchResult result
-        (λ bytes. ProfileParts (record { subject_of = P.subject_of; issuer_of = P.issuer_of; extensions_of = P.extensions_of }) ⟦<TbsCertificate as Encode>⟧.writing inputs bytes.items)
+        (λ made. MatchOption made (RepeatsExtension (record { subject_of = P.subject_of; issuer_of = P.issuer_of; extensions_of = P.extensions_of }) inputs)
+        (λ bytes. ProfileParts (record { subject_of = P.subject_of; issuer_of = P.issuer_of; extensions_of = P.extensions_of }) ⟦<TbsCertificate as Encode>⟧.writing inputs bytes.items
+        × (¬ RepeatsExtension (record { subject_of = P.subject_of; issuer_of = P.issuer_of; extensions_of = P.extensions_of }) inputs)))
         (λ e. (kind_of e ≡ Memory) ⊎ RefusesProfilePart (record { subject_of = P.subject_of; issuer_of = P.issuer_of; extensions_of = P.extensions_of }) ⟦<TbsCertificate as Encode>⟧.writing inputs e) }
 {
     let ProfileInputs {
@@ -106,24 +109,27 @@ fn profile_part<P: BuilderProfile>(
         algorithm,
         key: issuer_key,
     };
-    let bytes = finalized(alloc, builder, &teller)?;
-    Ok(bytes)
+    let (finalized, bytes) = finalized_with(alloc, builder, &teller)?;
+    if has_repeated_extension(alloc, members(finalized.current_part().extensions()))? {
+        return Ok(None);
+    }
+    Ok(Some(bytes))
 }
 
 /// Puts the bytes to be signed of the certificate at the front of the buffer `room`; or tells why the inputs were refused.
 ///
 /// # Errors
 ///
-/// [`Status::NoRoom`] where the buffer is too small; then `written` is the needed length. The refusal of the inputs; that of the builder. `Memory`
-/// when out of memory.
-#[tactic(auto, unfolding(crate::specs::ProfileParts::Makes, crate::specs::Status::Fills))]
+/// [`Status::NoRoom`] where the buffer is too small; then `written` is the needed length. The refusal of the inputs; that of the builder;
+/// [`Status::Repeated`] where two of the extensions have one OID, and then nothing is written. `Memory` when out of memory.
+#[tactic(auto, unfolding(crate::specs::ProfileParts::Makes))]
 pub(crate) fn fill_part<P: BuilderProfile>(
     alloc: Global,
     inputs: Result<ProfileInputs<P>, ErrorKind>,
     room: &mut [u8],
     written: &mut usize,
 ) -> Status
-    ensures { Fills (Makes (record { subject_of = P.subject_of; issuer_of = P.issuer_of; extensions_of = P.extensions_of })
+    ensures { FillsUnrepeated (Makes (record { subject_of = P.subject_of; issuer_of = P.issuer_of; extensions_of = P.extensions_of })
         ⟦<TbsCertificate as Encode>⟧.writing inputs) room.old room.new written.old written.new result }
 {
     let inputs = match inputs {
@@ -131,7 +137,8 @@ pub(crate) fn fill_part<P: BuilderProfile>(
         Err(e) => return Status::Refused(e),
     };
     match profile_part(alloc, inputs) {
-        Ok(bytes) => fill(bytes.as_slice(), room, written),
+        Ok(Some(bytes)) => fill(bytes.as_slice(), room, written),
+        Ok(None) => Status::Repeated,
         Err(e) => Status::Refused(kind_of(&e)),
     }
 }

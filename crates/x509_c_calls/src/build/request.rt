@@ -2,14 +2,15 @@
 
 ghost use Rattle.std.specs.Prelude.{◌≡◌, ◌⊎◌, MatchResult};
 ghost use Rattle.x509_build.specs.RequestParts.{next_part};
-ghost use Rattle.x509_c_calls.specs.Refusals.{FinalizesTo};
-ghost use Rattle.x509_c_calls.specs.Requests.{AreRequestInputs, BuildsRequest, IsSetOf, RefusesRequestInputs, RefusesSet};
+ghost use Rattle.x509_c_calls.specs.Refusals.{Finalizes, FinalizesTo};
 ghost use Rattle.x509_c_calls.specs.Status.{Fills};
+ghost use Rattle.x509_c_calls.specs.Requests.{AreRequestInputs, BuildsRequest, IsSetOf, RefusesRequestInputs, RefusesSet};
+ghost use Rattle.x509_c_calls.specs.Built.{FillsUnrepeated};
 ghost use Rattle.x509_cert.specs.CertReq.{cert_req_info};
 ghost use Rattle.x509_der.specs.declared.error.ErrorKind.TheVariants.{Memory};
 ghost use Rattle.x509_der.specs.Writing.{plain};
 
-use crate::build::input::read_each;
+use crate::build::input::{check_repeated, read_each};
 use crate::build::teller::{Teller, finalized, kind_of};
 use crate::{Status, fill, read};
 use std::alloc::Global;
@@ -87,6 +88,22 @@ fn request_part(alloc: Global, inputs: RequestInputs) -> Result<Vec<u8>, Error>
     finalized(alloc, builder, &teller)
 }
 
+/// Puts the bytes that the builder finalizes to at the front of the buffer `room`.
+///
+/// # Errors
+///
+/// [`Status::NoRoom`] where the buffer is too small; then `written` is the needed length. Those of the builder.
+#[tactic(auto, unfolding(crate::specs::Status::Fills))]
+fn fill_part(alloc: Global, inputs: RequestInputs, room: &mut [u8], written: &mut usize) -> Status
+    ensures { Fills (Finalizes cert_req_info plain (next_part inputs.subject inputs.attributes inputs.extensions.items inputs.key)) room.old room.new
+        written.old written.new result }
+{
+    match request_part(alloc, inputs) {
+        Ok(bytes) => fill(bytes.as_slice(), room, written),
+        Err(e) => Status::Refused(kind_of(&e)),
+    }
+}
+
 /// Puts the bytes to be signed of a CSR, CertificationRequestInfo (RFC 2986 4.1), at the front of the buffer `room`: those that
 /// [`RequestBuilder`] finalizes to for a signer with that public key. The subject is a Name and the key a SubjectPublicKeyInfo; attributes and
 /// extensions to be asked for are encodings of them one after the other, or none.
@@ -94,9 +111,9 @@ fn request_part(alloc: Global, inputs: RequestInputs) -> Result<Vec<u8>, Error>
 /// # Errors
 ///
 /// [`Status::NoRoom`] where the buffer is too small; then `written` is the needed length. The error of decoding an input; where several are bad,
-/// any of theirs. `SetDuplicate` where two attributes are equal, or one is that which asks for the extensions. `Overlength` where the part is too
+/// any of theirs; `SetDuplicate` among them where two attributes are equal. Else [`Status::Repeated`] exactly where two of the extensions have one
+/// OID; then nothing is written. `SetDuplicate` where one of the attributes is that which asks for the extensions. `Overlength` where the part is too
 /// long. `Memory` when out of memory.
-#[tactic(auto, unfolding(crate::specs::Status::Fills))]
 pub fn build_request(
     alloc: Global,
     subject: &[u8],
@@ -106,14 +123,14 @@ pub fn build_request(
     room: &mut [u8],
     written: &mut usize,
 ) -> Status
-    ensures { Fills (BuildsRequest subject.now key.now attributes.now extensions.now) room.old room.new written.old written.new result }
+    ensures { FillsUnrepeated (BuildsRequest subject.now key.now attributes.now extensions.now) room.old room.new written.old written.new result }
 {
     let inputs = match read_inputs(alloc, subject, key, attributes, extensions) {
         Ok(inputs) => inputs,
         Err(e) => return Status::Refused(e),
     };
-    match request_part(alloc, inputs) {
-        Ok(bytes) => fill(bytes.as_slice(), room, written),
-        Err(e) => Status::Refused(kind_of(&e)),
+    match check_repeated(alloc, inputs.extensions.as_slice()) {
+        Ok(()) => fill_part(alloc, inputs, room, written),
+        Err(status) => status,
     }
 }

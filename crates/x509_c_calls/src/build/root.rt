@@ -2,9 +2,9 @@
 
 ghost use Rattle.std.specs.Prelude.{◌≡◌, ◌⊎◌, MatchResult};
 ghost use Rattle.x509_base.specs.declared.subject_public_key_info.SubjectPublicKeyInfo.{SubjectPublicKeyInfo};
+ghost use Rattle.x509_c_calls.specs.Built.{FillsUnrepeated};
 ghost use Rattle.x509_c_calls.specs.ProfileInputs.{Inputs, IsRoot, RefusesRoot};
 ghost use Rattle.x509_c_calls.specs.ProfileParts.{ArePartInputs, BuildsProfile, RefusesPartInputs};
-ghost use Rattle.x509_c_calls.specs.Status.{Fills};
 ghost use Rattle.x509_der.specs.declared.error.ErrorKind.TheVariants.{Memory};
 
 use crate::build::profile::{ProfileInputs, fill_part, no_key, read_part};
@@ -70,8 +70,9 @@ fn read_inputs(
 /// # Errors
 ///
 /// [`Status::NoRoom`] where the buffer is too small; then `written` is the needed length. The error of decoding an input; `Failed` where the subject
-/// isn't a name that an authority may have; `Value` where a date is after the year 9999; where several are bad, any of theirs. `Overlength` where the
-/// part is too long. `Memory` when out of memory.
+/// isn't a name that an authority may have; `Value` where a date is after the year 9999, or the second before the first; where several are bad, any of
+/// theirs. Else [`Status::Repeated`] exactly where two extensions have one OID; then nothing is written. `Overlength` where the part is too long.
+/// `Memory` when out of memory.
 pub fn build_root(
     alloc: Global,
     serial_number: &[u8],
@@ -85,7 +86,7 @@ pub fn build_root(
     room: &mut [u8],
     written: &mut usize,
 ) -> Status
-    ensures { Fills (BuildsProfile (record {
+    ensures { FillsUnrepeated (BuildsProfile (record {
       subject_of = ⟦<Root as BuilderProfile>⟧.subject_of;
       issuer_of = ⟦<Root as BuilderProfile>⟧.issuer_of;
       extensions_of = ⟦<Root as BuilderProfile>⟧.extensions_of;

@@ -1,6 +1,6 @@
 //! Signers elsewhere, and why nothing is built for them.
 
-ghost use Rattle.std.specs.Prelude.{◌≡◌};
+ghost use Rattle.std.specs.Prelude.{◌≡◌, IfOk};
 ghost use Rattle.x509_c_calls.specs.Refusals.{FinalizesTo, kind_of};
 
 use rand_core::CryptoRng;
@@ -60,6 +60,23 @@ impl Signer for Teller {
     }
 }
 
+/// The builder with the part that it finalizes to for that signer, and the bytes to be signed of that.
+///
+/// # Errors
+///
+/// Those of [`Builder::finalize_once`].
+pub(crate) fn finalized_with<B: Builder>(
+    alloc: Global,
+    builder: B,
+    teller: &Teller,
+) -> Result<(B, Vec<u8>), Error>
+    ensures bytes { FinalizesTo (λ made. made.1.items) B.Signed.form B.Signed.writing (B.next builder teller.now.algorithm teller.now.key) result }
+    ensures part { IfOk result (λ made. B.current made.0 ≡ (B.next builder teller.now.algorithm teller.now.key).value) }
+{
+    let made = builder.finalize_once(alloc, teller)?;
+    Ok(made)
+}
+
 /// The bytes to be signed, as the builder finalizes them for that signer.
 ///
 /// # Errors
@@ -72,7 +89,7 @@ pub(crate) fn finalized<B: Builder>(
 ) -> Result<Vec<u8>, Error>
     ensures { FinalizesTo (λ bytes. bytes.items) B.Signed.form B.Signed.writing (B.next builder teller.now.algorithm teller.now.key) result }
 {
-    let (_, bytes) = builder.finalize_once(alloc, teller)?;
+    let (_, bytes) = finalized_with(alloc, builder, teller)?;
     Ok(bytes)
 }
 

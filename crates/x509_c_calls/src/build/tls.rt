@@ -2,9 +2,9 @@
 
 ghost use Rattle.std.specs.Prelude.{◌≡◌, ◌⊎◌, MatchResult};
 ghost use Rattle.x509_base.specs.SubjectPublicKeyInfo.{subject_public_key_info};
+ghost use Rattle.x509_c_calls.specs.Built.{FillsUnrepeated};
 ghost use Rattle.x509_c_calls.specs.ProfileInputs.{Inputs, IsPathLen, IsSubordinate, IsSubscriber, RefusesPathLen, RefusesSubordinate, RefusesSubscriber};
 ghost use Rattle.x509_c_calls.specs.ProfileParts.{ArePartInputs, BuildsProfile, RefusesPartInputs};
-ghost use Rattle.x509_c_calls.specs.Status.{Fills};
 ghost use Rattle.x509_der.specs.declared.error.ErrorKind.TheVariants.{Memory};
 ghost use Rattle.x509_der.specs.Form.{Spells};
 ghost use Rattle.x509_types.specs.Reencoding.{IsRefused};
@@ -157,8 +157,9 @@ fn read_subordinate(
 /// # Errors
 ///
 /// [`Status::NoRoom`] where the buffer is too small; then `written` is the needed length. The error of decoding an input; `Value` where the path
-/// length constraint is above 255, or a date is after the year 9999; where several are bad, any of theirs. `Overlength` where the part is too long.
-/// `Memory` when out of memory.
+/// length constraint is above 255, a date is after the year 9999, or the second before the first; where several are bad, any of theirs. Else
+/// [`Status::Repeated`] exactly where two extensions have one OID; then nothing is written. `Overlength` where the part is too long. `Memory` when out
+/// of memory.
 pub fn build_subordinate(
     alloc: Global,
     serial_number: &[u8],
@@ -176,7 +177,7 @@ pub fn build_subordinate(
     room: &mut [u8],
     written: &mut usize,
 ) -> Status
-    ensures { Fills (BuildsProfile (record {
+    ensures { FillsUnrepeated (BuildsProfile (record {
       subject_of = ⟦<Subordinate as BuilderProfile>⟧.subject_of;
       issuer_of =
           ⟦<Subordinate as BuilderProfile>⟧.issuer_of;
@@ -248,7 +249,8 @@ fn read_subscriber(
 /// # Errors
 ///
 /// [`Status::NoRoom`] where the buffer is too small; then `written` is the needed length. The error of decoding an input; `Value` where a date is
-/// after the year 9999; where several are bad, any of theirs. `Overlength` where the part is too long. `Memory` when out of memory.
+/// after the year 9999, or the second before the first; where several are bad, any of theirs. Else [`Status::Repeated`] exactly where two extensions
+/// have one OID; then nothing is written. `Overlength` where the part is too long. `Memory` when out of memory.
 pub fn build_subscriber(
     alloc: Global,
     serial_number: &[u8],
@@ -264,7 +266,7 @@ pub fn build_subscriber(
     room: &mut [u8],
     written: &mut usize,
 ) -> Status
-    ensures { Fills (BuildsProfile (record {
+    ensures { FillsUnrepeated (BuildsProfile (record {
       subject_of = ⟦<Subscriber as BuilderProfile>⟧.subject_of;
       issuer_of =
           ⟦<Subscriber as BuilderProfile>⟧.issuer_of;

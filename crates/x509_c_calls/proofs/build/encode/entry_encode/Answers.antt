@@ -1,0 +1,17 @@
+use Rattle.std.proofs.Common.{inl, subst}
+use Rattle.x509_c_calls.proofs.Exits.{mapped}
+use Rattle.x509_c_calls.proofs.Filled.{checked_as, refused_as, unrepeated_as}
+use Rattle.x509_c_calls.proofs.Unrepeated.{entry_built, lent_members}
+use Rattle.x509_c_calls.proofs.build.encode.entry_encode.Goals as goal
+use Rattle.x509_ext.specs.LookUp.{IsRepeated}
+
+pub returns-in-Err : goal.returns-in-Err
+returns-in-Err c = refused_as _ _ _ _ (mapped (λ r. inl r) c.in-Err.ensures)
+
+pub returns-in-Ok-check_repeated : goal.returns-in-Ok-check_repeated
+returns-in-Ok-check_repeated c =
+    unrepeated_as _ _ (entry_built _ _ _ _ c.in-Ok.ensures (subst (λ l. ¬ IsRepeated l) (lent_members _ _ _ c.members.ensures c.as_ref.ensures.value) c.in-Ok-check_repeated.ensures.ok)) _ _ _ _ _ c.write.ensures.filled
+
+pub returns : goal.returns
+returns c =
+    checked_as _ _ _ _ _ (λ repeated. (c.in-Ok.entry, c.in-Ok.ensures, subst IsRepeated (lent_members _ _ _ c.members.ensures c.as_ref.ensures.value) repeated)) c.in-Err-check_repeated.ensures.err
