@@ -42,6 +42,12 @@ def signer(key: object) -> tuple[bytes, x509.Signer]:
     return ED25519, key.sign
 
 
+def name_of(common_name: str) -> x509.Name:
+    """A name of values, which stay values, whatever is in them."""
+    values = ((x509.NameOID.COUNTRY_NAME, "US"), (x509.NameOID.ORGANIZATION_NAME, "Test"), (x509.NameOID.COMMON_NAME, common_name))
+    return x509.Name([x509.NameAttribute(oid, value) for oid, value in values])
+
+
 def certificate(serial: int, issuer: x509.Name, issuer_key: object, subject: x509.Name, public_key: bytes, extensions: list) -> x509.Certificate:
     """A certificate with these extensions behind the AKI."""
     aki = x509.AuthorityKeyIdentifier.from_issuer_public_key_bytes(key_bytes(issuer_key))
@@ -80,8 +86,7 @@ def request_of(subject: x509.Name, key: object, host: str) -> x509.CertificateSi
 def crl_of(issuer: x509.Certificate, key: object, number: int, revoked: list[int]) -> x509.CertificateRevocationList:
     builder = x509.CertificateRevocationListBuilder().issuer(issuer).crl_number(number).last_update(START).next_update(END)
     for serial in revoked:
-        reason = x509.Extension(x509.ExtensionOID.CRL_REASON, False, x509.CRLReason(x509.ReasonFlags.key_compromise).data)
-        builder = builder.add_revoked_certificate(x509.RevokedCertificate(serial, START, None, x509.Extensions([reason])))
+        builder = builder.add_revoked_certificate(x509.RevokedCertificate(serial, START, x509.ReasonFlags.key_compromise))
     return builder.sign(*signer(key))
 
 
@@ -94,10 +99,10 @@ def main() -> None:
     folder.mkdir(parents=True, exist_ok=True)
     root_key = rsa.generate_private_key(public_exponent=65537, key_size=2048)
     middle_key, server_key = ec.generate_private_key(ec.SECP256R1()), ed25519.Ed25519PrivateKey.generate()
-    root_name, middle_name = (x509.Name.from_rfc4514_string(text) for text in ("CN=Root,O=Test,C=US", "CN=Intermediate,O=Test,C=US"))
+    root_name, middle_name = name_of("Root"), name_of("Intermediate")
     root = of_authority(1, root_name, root_key, root_name, root_key, None)
     middle = of_authority(2, root_name, root_key, middle_name, middle_key, 0)
-    request = request_of(x509.Name.from_rfc4514_string("CN=www.example.org"), server_key, "www.example.org")
+    request = request_of(x509.Name([x509.NameAttribute(x509.NameOID.COMMON_NAME, "www.example.org")]), server_key, "www.example.org")
     server = of_server(middle_name, middle_key, request)
     before, after = (crl_of(middle, middle_key, number, revoked) for number, revoked in ((1, []), (2, [SERVER_SERIAL])))
     for name, label, made in (

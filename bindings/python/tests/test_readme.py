@@ -20,7 +20,7 @@ DATA = HERE.parents[2] / "examples/data"
 
 class Readme(unittest.TestCase):
     def test_snippets(self) -> None:
-        reads, builds = re.findall(r"^```python\n(.*?)^```$", (HERE.parent / "README.md").read_text(encoding="utf-8"), re.S | re.M)
+        reads, name_made, builds = re.findall(r"^```python\n(.*?)^```$", (HERE.parent / "README.md").read_text(encoding="utf-8"), re.S | re.M)
         names = {"data": (DATA / "certificate.der").read_bytes()}
         said = io.StringIO()
         with contextlib.redirect_stdout(said):
@@ -28,6 +28,9 @@ class Readme(unittest.TestCase):
         # what examples/data/make.py puts into it
         subject = "CN=www.example.org,O=Beispiel\\, Söhne & Co,C=DE"
         self.assertEqual(said.getvalue(), f"{subject} 2055-06-07 08:09:10+00:00\n['www.example.org', 'example.org']\n")
+        names = {"x509": x509, "user": "a,O=b"}
+        exec(name_made, names)
+        self.assertEqual([names[it].rfc4514_string() for it in ("subject", "issuer")], ["CN=a\\,O=b,C=DE", "CN=a\\,O=b CA,C=DE"])
         name = x509.Name.from_rfc4514_string("CN=a")
         start = datetime.datetime(2026, 1, 1, tzinfo=datetime.timezone.utc)
         key = bytes.fromhex("302a300506032b6570032100") + bytes(32)

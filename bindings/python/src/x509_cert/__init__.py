@@ -60,7 +60,7 @@ from .general_name import (
     UniformResourceIdentifier,
 )
 from .key import AlgorithmIdentifier, KeyKind, PublicKey, SignatureKind
-from .name import Name, NameAttribute, RelativeDistinguishedName
+from .name import ASN1Type, Name, NameAttribute, RelativeDistinguishedName, escape_rfc4514_value
 from .oid import AttributeOID, AuthorityInformationAccessOID, ExtendedKeyUsageOID, ExtensionOID, NameOID, ObjectIdentifier
 from .policies import CertificatePolicies, InhibitAnyPolicy, PolicyConstraints, PolicyInformation, PolicyMappings, PolicyQualifier
 from .request import (

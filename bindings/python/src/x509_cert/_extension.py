@@ -5,6 +5,7 @@ from __future__ import annotations
 import ctypes
 from typing import ClassVar, Self
 
+from ._given import octets
 from ._library import Span
 from .oid import ObjectIdentifier
 
@@ -19,7 +20,7 @@ class ExtensionType:
     def from_der(cls, data: bytes) -> Self:
         """What these octets say, all of them; an X509Error where they are no value of the type."""
         made = cls.__new__(cls)
-        made._read(bytes(data))
+        made._read(octets(data, "what an extension holds"))
         return made
 
     def _read(self, data: bytes) -> None:

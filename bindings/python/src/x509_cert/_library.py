@@ -21,10 +21,10 @@ class X509Error(ValueError):
     TEXTS = {
         OVERLENGTH: "longer than 268,435,455 bytes",
         MALFORMED: "not the DER of such a value",
-        FAILED: "a text is not of its form, or an extension stands there twice",
+        FAILED: "a text is not of its form, a type is not known or not taken there, or an extension stands there twice",
         SET_DUPLICATE: "a relative distinguished name has an attribute twice",
-        VALUE: "a value can't be made or written",
-        REPEATED: "the extension is there more than once",
+        VALUE: "a value is out of range, or can't be written",
+        REPEATED: "an extension is there more than once",
     }
 
     def __init__(self, call: str, status: int) -> None:
@@ -252,9 +252,11 @@ def _library() -> ctypes.CDLL:
 
 
 def _words(arguments: tuple[Any, ...]) -> list[Any]:
-    """Bytes go in as a pointer and a length."""
+    """Bytes go in as a pointer and a length, and all else by the types of `ctypes`: it would take a text or a number for a word of its own making."""
     words: list[Any] = []
     for it in arguments:
+        if isinstance(it, (str, int, bytearray, memoryview)):
+            raise TypeError(f"{type(it).__name__} isn't bytes")
         words += [ctypes.c_char_p(it), ctypes.c_size_t(len(it))] if isinstance(it, bytes) else [it]
     return words
 

@@ -3,8 +3,9 @@
 from __future__ import annotations
 
 import ipaddress
-from typing import Iterable
+from typing import Any, Iterable
 
+from ._given import octets, some
 from .general_name import (
     DirectoryName,
     DNSName,
@@ -16,7 +17,7 @@ from .general_name import (
     RFC822Name,
     UniformResourceIdentifier,
 )
-from .name import NameAttribute, RelativeDistinguishedName
+from .name import RelativeDistinguishedName
 from .oid import ObjectIdentifier
 
 BOOLEAN, INTEGER, BIT_STRING, OCTET_STRING, NULL, OBJECT_IDENTIFIER, ENUMERATED, SEQUENCE, SET = 1, 2, 3, 4, 5, 6, 10, 0x30, 0x31
@@ -63,14 +64,12 @@ def identifier_of(oid: ObjectIdentifier) -> bytes:
 _TEXTS: dict[type[GeneralName], int] = {RFC822Name: 1, DNSName: 2, UniformResourceIdentifier: 6}
 
 
-def _address(value: object) -> bytes:
+def _address(value: Any) -> bytes:
     if isinstance(value, (ipaddress.IPv4Address, ipaddress.IPv6Address)):
         return value.packed
     if isinstance(value, (ipaddress.IPv4Network, ipaddress.IPv6Network)):
         return value.network_address.packed + value.netmask.packed
-    if isinstance(value, bytes):
-        return value
-    raise ValueError(f"{value!r} is no address")
+    return octets(value, "an address")
 
 
 def general_name_der(name: GeneralName) -> bytes:
@@ -92,13 +91,9 @@ def general_name_der(name: GeneralName) -> bytes:
 
 
 def general_names_der(names: Iterable[GeneralName], identifier: int = SEQUENCE) -> bytes:
-    return element(identifier, *map(general_name_der, names))
-
-
-def _attribute(it: NameAttribute) -> bytes:
-    return element(SEQUENCE, identifier_of(it.oid), it.element)
+    return element(identifier, *map(general_name_der, some(names, GeneralName, "general names")))
 
 
 def relative_name_der(name: RelativeDistinguishedName, identifier: int) -> bytes:
-    """A relative name, whose attributes stand in the order of their encodings (X.690 11.6)."""
-    return element(identifier, *sorted(map(_attribute, name)))
+    """A relative name under another tag than its own."""
+    return bytes([identifier]) + name.public_bytes()[1:]

@@ -9,6 +9,7 @@ import hashlib
 import itertools
 from typing import Callable, Iterator, Sequence
 
+from ._given import instance, octets, seconds, whole, whole_seconds
 from ._library import (
     ABSENT,
     FAULT,
@@ -28,7 +29,7 @@ from ._library import (
     view,
     walk,
 )
-from .extensions import CRLReason, DuplicateExtension, Extensions, ReasonFlags
+from .extensions import CRLReason, DuplicateExtension, Extension, Extensions, ReasonFlags
 from .key import AlgorithmIdentifier, PublicKey
 from .name import Name
 from .oid import ObjectIdentifier
@@ -36,18 +37,8 @@ from .oid import ObjectIdentifier
 _EPOCH = datetime.datetime(1970, 1, 1, tzinfo=datetime.timezone.utc)
 
 
-def _moment(seconds: int) -> datetime.datetime:
-    return _EPOCH + datetime.timedelta(seconds=seconds)
-
-
-def _seconds(moment: datetime.datetime) -> int:
-    """The whole seconds since 1970-01-01T00:00:00Z."""
-    if moment.tzinfo is None:
-        raise ValueError("a moment has a time zone")
-    seconds = int((moment - _EPOCH).total_seconds() // 1)
-    if seconds < 0:
-        raise ValueError("a moment is from 1970 on")
-    return seconds
+def _moment(since: int) -> datetime.datetime:
+    return _EPOCH + datetime.timedelta(seconds=since)
 
 
 def _serial_element(number: int) -> bytes:
@@ -75,7 +66,7 @@ class Certificate:
     """A certificate, by its DER."""
 
     def __init__(self, data: bytes) -> None:
-        self._data = bytes(data)
+        self._data = octets(data, "a certificate")
         self._view = view("x509_certificate_view", CertificateView, self._data)
 
     def public_bytes(self) -> bytes:
@@ -192,32 +183,61 @@ def load_der_x509_certificate(data: bytes) -> Certificate:
 
 
 class RevokedCertificate:
-    """An entry of a CRL."""
+    """An entry of a CRL. Its extensions are all that it has: a reason that is given is one of them (RFC 5280 5.3.1), behind those that are given."""
 
     def __init__(
         self, serial_number: int, revocation_date_utc: datetime.datetime, reason: ReasonFlags | None, extensions: Extensions | None = None
     ) -> None:
-        self.serial_number, self.revocation_date_utc, self.reason = serial_number, revocation_date_utc, reason
-        self.extensions = Extensions([]) if extensions is None else extensions
+        _serial_element(whole(serial_number, "a serial number"))
+        whole_seconds(revocation_date_utc, "the revocation date")
+        given = Extensions([]) if extensions is None else instance(extensions, Extensions, "the extensions")
+        told = _told_reason(given)
+        if reason is not None and told is None:
+            given = Extensions([*given, Extension(CRLReason.oid, False, CRLReason(reason).data)])
+        elif reason is not None and told != reason:
+            raise ValueError(f"the extensions say {told}, and not {reason}")
+        self._serial_number, self._revocation_date_utc, self._extensions = serial_number, revocation_date_utc, given
+        self._reason = told if reason is None else reason
+
+    @property
+    def serial_number(self) -> int:
+        return self._serial_number
+
+    @property
+    def revocation_date_utc(self) -> datetime.datetime:
+        return self._revocation_date_utc
+
+    @property
+    def reason(self) -> ReasonFlags | None:
+        """Why it was revoked, where that is said."""
+        return self._reason
+
+    @property
+    def extensions(self) -> Extensions:
+        return self._extensions
 
     def __repr__(self) -> str:
         return f"<RevokedCertificate(serial_number={self.serial_number}, {self.revocation_date_utc:%Y-%m-%dT%H:%M:%SZ}, {self.reason})>"
 
 
-def _entry(found: CrlEntryView, entries: bytes) -> RevokedCertificate:
-    extensions = Extensions.from_der(found.extensions.of(entries))
+def _told_reason(extensions: Extensions) -> ReasonFlags | None:
+    """The reason that extensions of an entry tell; a DuplicateExtension where two do."""
     told = [it for it in extensions if it.oid == CRLReason.oid]
     if len(told) > 1:
         raise DuplicateExtension(CRLReason.oid)
-    reason = CRLReason.from_der(told[0].data).reason if told else None
-    return RevokedCertificate(_serial_number(found.serial_number.of(entries)), _moment(int(found.date)), reason, extensions)
+    return CRLReason.from_der(told[0].data).reason if told else None
+
+
+def _entry(found: CrlEntryView, entries: bytes) -> RevokedCertificate:
+    extensions = Extensions.from_der(found.extensions.of(entries))
+    return RevokedCertificate(_serial_number(found.serial_number.of(entries)), _moment(int(found.date)), None, extensions)
 
 
 class CertificateRevocationList:
     """A CRL, by its DER."""
 
     def __init__(self, data: bytes) -> None:
-        self._data = bytes(data)
+        self._data = octets(data, "a CRL")
         self._view = view("x509_crl_view", CrlView, self._data)
         self._entries = self._view.entries.of(self._data)
         self._len = sum(1 for _ in self._walk())
@@ -327,7 +347,7 @@ def load_der_x509_crl(data: bytes) -> CertificateRevocationList:
 
 def reencode(kind: str, data: bytes, raw: bool = True) -> bytes:
     """Reads a value of the type with that name, and writes it again: the same bytes, but without `raw` the dates of a validity as RFC 5280 spells them."""
-    return fill("x509_reencode", kind.encode("ascii"), ctypes.c_uint32(RAW if raw else RFC5280), bytes(data))
+    return fill("x509_reencode", kind.encode("ascii"), ctypes.c_uint32(RAW if raw else RFC5280), octets(data, "a value"))
 
 
 class PathFault(Exception):
@@ -354,13 +374,13 @@ def check_path(anchor: Certificate, path: Sequence[bytes], moment: datetime.date
     `verify(public_key, algorithm, message, signature)` says whether the bits are a signature of the message: it is given the DER of the key and of the
     algorithm. Policies, name constraints and revocation aren't looked at.
     """
-    seconds = _seconds(moment)
-    path = [bytes(data) for data in path]
+    begun = seconds(moment, "the moment")
+    path = [octets(data, "a certificate") for data in path]
     if not path:
         raise ValueError("a path has a certificate")
     fault = PathFaultView()
     lens = (ctypes.c_size_t * len(path))(*map(len, path))
-    words = (lens, ctypes.c_size_t(len(path)), ctypes.c_uint64(seconds), ctypes.byref(fault))
+    words = (lens, ctypes.c_size_t(len(path)), ctypes.c_uint64(begun), ctypes.byref(fault))
     status = status_of("x509_path_check", anchor.public_bytes(), b"".join(path), *words)
     if status not in (OK, FAULT):
         raise X509Error("x509_path_check", status)

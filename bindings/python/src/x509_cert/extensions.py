@@ -5,9 +5,11 @@ from __future__ import annotations
 import datetime
 import enum
 import hashlib
+import ipaddress
 from typing import Generic, Iterable, Iterator, TypeVar
 
 from ._extension import ExtensionType, _number, _part
+from ._given import instance, listed, octets, some, whole
 from ._library import (
     AccessView,
     AuthorityKeyIdentifierView,
@@ -39,9 +41,9 @@ from ._writing import (
     named_bits,
     relative_name_der,
 )
-from .general_name import GeneralName, GeneralNames, general_name
+from .general_name import DNSName, GeneralName, GeneralNames, IPAddress, general_name
 from .key import PublicKey
-from .name import RelativeDistinguishedName, attributes_of
+from .name import RelativeDistinguishedName
 from .oid import ExtensionOID, ObjectIdentifier
 from .policies import CertificatePolicies, InhibitAnyPolicy, PolicyConstraints, PolicyMappings
 
@@ -66,8 +68,8 @@ class UnrecognizedExtension(ExtensionType):
     """An extension of another type, or one that can't be read: `value` are its octets."""
 
     def __init__(self, oid: ObjectIdentifier, value: bytes) -> None:
-        self._read(bytes(value))
-        self.oid = oid  # type: ignore[misc]
+        self._read(octets(value, "the value of an extension"))
+        self.oid = instance(oid, ObjectIdentifier, "the type of an extension")  # type: ignore[misc]
         self.value = self.data
 
     def __eq__(self, other: object) -> bool:
@@ -78,7 +80,7 @@ class UnrecognizedExtension(ExtensionType):
 
 
 class KeyUsage(ExtensionType):
-    """What a key may be used for (RFC 5280 4.2.1.3)."""
+    """What a key may be used for (RFC 5280 4.2.1.3). `encipher_only` and `decipher_only` mean something beside `key_agreement`, and are refused without."""
 
     oid = ExtensionOID.KEY_USAGE
 
@@ -95,7 +97,9 @@ class KeyUsage(ExtensionType):
         decipher_only: bool = False,
     ) -> None:
         front = (digital_signature, content_commitment, key_encipherment, data_encipherment, key_agreement)
-        uses = (*front, key_cert_sign, crl_sign, encipher_only, decipher_only)
+        uses = listed((*front, key_cert_sign, crl_sign, encipher_only, decipher_only), bool, "usages")
+        if (encipher_only or decipher_only) and not key_agreement:
+            raise ValueError("encipher_only and decipher_only are said of key_agreement")
         bits = sum(1 << bit for bit, is_set in enumerate(uses) if is_set)
         self._write(named_bits(bits), bits=bits)
 
@@ -121,8 +125,10 @@ class BasicConstraints(ExtensionType):
     oid = ExtensionOID.BASIC_CONSTRAINTS
 
     def __init__(self, ca: bool, path_length: int | None) -> None:
-        limit = b"" if path_length is None else integer(path_length)
-        self._write(element(SEQUENCE, flag(ca), limit), ca=ca, path_length=path_length)
+        limit = b"" if path_length is None else integer(whole(path_length, "path_length"))
+        if path_length is not None and not instance(ca, bool, "ca"):
+            raise ValueError("a path length is one of an authority")
+        self._write(element(SEQUENCE, flag(instance(ca, bool, "ca")), limit), ca=ca, path_length=path_length)
 
     def _read(self, data: bytes) -> None:
         super()._read(data)
@@ -137,7 +143,7 @@ class ExtendedKeyUsage(ExtensionType):
     oid = ExtensionOID.EXTENDED_KEY_USAGE
 
     def __init__(self, usages: Iterable[ObjectIdentifier]) -> None:
-        usages = list(usages)
+        usages = some(usages, ObjectIdentifier, "usages")
         self._write(element(SEQUENCE, *map(identifier_of, usages)), usages=usages)
 
     def _read(self, data: bytes) -> None:
@@ -153,7 +159,7 @@ class ExtendedKeyUsage(ExtensionType):
 
 class _AlternativeNames(ExtensionType):
     def __init__(self, general_names: Iterable[GeneralName]) -> None:
-        names = GeneralNames(list(general_names))
+        names = GeneralNames(general_names)
         self._write(general_names_der(names), names=names)
 
     def _read(self, data: bytes) -> None:
@@ -189,7 +195,8 @@ class SubjectKeyIdentifier(ExtensionType):
     oid = ExtensionOID.SUBJECT_KEY_IDENTIFIER
 
     def __init__(self, digest: bytes) -> None:
-        self._write(element(OCTET_STRING, digest), key_identifier=bytes(digest))
+        digest = octets(digest, "a key identifier")
+        self._write(element(OCTET_STRING, digest), key_identifier=digest)
 
     @classmethod
     def from_public_key_bytes(cls, public_key: bytes) -> SubjectKeyIdentifier:
@@ -206,7 +213,7 @@ class SubjectKeyIdentifier(ExtensionType):
 
 
 class AuthorityKeyIdentifier(ExtensionType):
-    """Which key signed (RFC 5280 4.2.1.1)."""
+    """Which key signed (RFC 5280 4.2.1.1). The issuer and the serial number of its certificate are given both, or neither of them."""
 
     oid = ExtensionOID.AUTHORITY_KEY_IDENTIFIER
 
@@ -216,17 +223,21 @@ class AuthorityKeyIdentifier(ExtensionType):
         authority_cert_issuer: Iterable[GeneralName] | None,
         authority_cert_serial_number: int | None,
     ) -> None:
-        issuer = None if authority_cert_issuer is None else GeneralNames(list(authority_cert_issuer))
+        identifier = None if key_identifier is None else octets(key_identifier, "a key identifier")
+        issuer = None if authority_cert_issuer is None else GeneralNames(authority_cert_issuer)
+        serial = None if authority_cert_serial_number is None else whole(authority_cert_serial_number, "a serial number")
+        if (issuer is None) != (serial is None):
+            raise ValueError("the issuer and the serial number of a certificate are given both, or neither of them")
         self._write(
             element(
                 SEQUENCE,
-                b"" if key_identifier is None else element(context(0), key_identifier),
+                b"" if identifier is None else element(context(0), identifier),
                 b"" if issuer is None else general_names_der(issuer, context(1, True)),
-                b"" if authority_cert_serial_number is None else integer(authority_cert_serial_number, context(2)),
+                b"" if serial is None else integer(serial, context(2)),
             ),
-            key_identifier=None if key_identifier is None else bytes(key_identifier),
+            key_identifier=identifier,
             authority_cert_issuer=issuer,
-            authority_cert_serial_number=authority_cert_serial_number,
+            authority_cert_serial_number=serial,
         )
 
     @classmethod
@@ -237,7 +248,7 @@ class AuthorityKeyIdentifier(ExtensionType):
     @classmethod
     def from_issuer_subject_key_identifier(cls, ski: SubjectKeyIdentifier) -> AuthorityKeyIdentifier:
         """The SKI in the issuer's certificate."""
-        return cls(ski.key_identifier, None, None)
+        return cls(instance(ski, SubjectKeyIdentifier, "an identifier").key_identifier, None, None)
 
     def _read(self, data: bytes) -> None:
         super()._read(data)
@@ -252,7 +263,8 @@ class AccessDescription:
     """Where something is found, and by which means (RFC 5280 4.2.2.1)."""
 
     def __init__(self, access_method: ObjectIdentifier, access_location: GeneralName) -> None:
-        self.access_method, self.access_location = access_method, access_location
+        self.access_method = instance(access_method, ObjectIdentifier, "a means of access")
+        self.access_location = instance(access_location, GeneralName, "a place")
 
     def __eq__(self, other: object) -> bool:
         theirs = (other.access_method, other.access_location) if isinstance(other, AccessDescription) else None
@@ -267,7 +279,7 @@ class AccessDescription:
 
 class _Access(ExtensionType):
     def __init__(self, descriptions: Iterable[AccessDescription]) -> None:
-        descriptions = list(descriptions)
+        descriptions = some(descriptions, AccessDescription, "descriptions")
         members = [element(SEQUENCE, identifier_of(it.access_method), general_name_der(it.access_location)) for it in descriptions]
         self._write(element(SEQUENCE, *members), descriptions=descriptions)
 
@@ -304,16 +316,31 @@ REASONS = (
 
 
 class DistributionPoint:
-    """Where a CRL is found, for which reasons, and who issues it (RFC 5280 4.2.1.13)."""
+    """Where a CRL is found, for which reasons, and who issues it (RFC 5280 4.2.1.13): it has a full name, or one relative to the issuer of the CRL, or an
+    issuer. Reasons are given as ReasonFlags or by the names of their bits, as keyCompromise, which `reasons` has; None means all."""
 
     def __init__(
         self,
-        full_name: GeneralNames | None,
+        full_name: Iterable[GeneralName] | None,
         relative_name: RelativeDistinguishedName | None,
-        reasons: frozenset[str] | None,
-        crl_issuer: GeneralNames | None,
+        reasons: Iterable[ReasonFlags | str] | None,
+        crl_issuer: Iterable[GeneralName] | None,
     ) -> None:
-        self.full_name, self.relative_name, self.reasons, self.crl_issuer = full_name, relative_name, reasons, crl_issuer
+        self.full_name, self.relative_name = _point_name(full_name, relative_name)
+        self.reasons = _reason_names(reasons)
+        self.crl_issuer = None if crl_issuer is None else GeneralNames(crl_issuer)
+        if full_name is None and relative_name is None and crl_issuer is None:
+            raise ValueError("a point has a name or an issuer")
+
+    @classmethod
+    def _read(cls, found: DistributionPointView, data: bytes) -> DistributionPoint:
+        """One of a list that was read, which may have nothing."""
+        made = cls.__new__(cls)
+        made.full_name = _names_under(0, found.full_name, data)
+        made.relative_name = _relative(found.relative_name, data)
+        made.reasons = _reasons(int(found.reasons)) if found.has_reasons else None
+        made.crl_issuer = _names_under(2, found.crl_issuer, data)
+        return made
 
     def __eq__(self, other: object) -> bool:
         return isinstance(other, DistributionPoint) and vars(self) == vars(other)
@@ -335,16 +362,42 @@ def _reasons(bits: int) -> frozenset[str]:
 
 
 def _reason_bits(reasons: frozenset[str]) -> int:
-    """The bits of these names; a ValueError where one is none."""
+    """The bits of these names."""
     return sum(1 << REASONS.index(name) for name in reasons)
 
 
-def _point_name_der(full: GeneralNames | None, relative: RelativeDistinguishedName | None) -> bytes:
+def _reason_names(reasons: Iterable[ReasonFlags | str] | None) -> frozenset[str] | None:
+    """The names of these reasons; a ValueError where one has no bit, as the one of none."""
+    if reasons is None:
+        return None
+    if isinstance(reasons, str):
+        raise TypeError("reasons are a set, not a str")
+    return frozenset(map(_reason_name, reasons))
+
+
+def _reason_name(reason: ReasonFlags | str) -> str:
+    if isinstance(reason, ReasonFlags):
+        if reason in (ReasonFlags.unspecified, ReasonFlags.remove_from_crl):
+            raise ValueError(f"{reason.name} is no reason of a point")
+        # the bits are numbered without removeFromCRL, and without a number that isn't used
+        return REASONS[reason.value if reason.value <= 6 else reason.value - 2]
+    if instance(reason, str, "a reason") not in REASONS:
+        raise ValueError(f"{reason!r} is no reason of a point")
+    return reason
+
+
+def _point_name(
+    full: Iterable[GeneralName] | None, relative: RelativeDistinguishedName | None
+) -> tuple[GeneralNames | None, RelativeDistinguishedName | None]:
     """The name of a point, which is full, or relative to the issuer of the CRL, or left out."""
-    if full is None and relative is None:
-        return b""
     if full is not None and relative is not None:
         raise ValueError("a point has a full name or a relative one")
+    return None if full is None else GeneralNames(full), None if relative is None else instance(relative, RelativeDistinguishedName, "a relative name")
+
+
+def _point_name_der(full: GeneralNames | None, relative: RelativeDistinguishedName | None) -> bytes:
+    if full is None and relative is None:
+        return b""
     if relative is not None:
         return element(context(0, True), relative_name_der(relative, context(1, True)))
     return element(context(0, True), general_names_der(full or (), context(0, True)))
@@ -352,26 +405,17 @@ def _point_name_der(full: GeneralNames | None, relative: RelativeDistinguishedNa
 
 def _relative(span: Span, data: bytes) -> RelativeDistinguishedName | None:
     part = _part(span, data)
-    return None if part is None else attributes_of(part, "x509_relative_name_under_next", _number(1))
-
-
-def _point(found: DistributionPointView, data: bytes) -> DistributionPoint:
-    return DistributionPoint(
-        _names_under(0, found.full_name, data),
-        _relative(found.relative_name, data),
-        _reasons(int(found.reasons)) if found.has_reasons else None,
-        _names_under(2, found.crl_issuer, data),
-    )
+    return None if part is None else RelativeDistinguishedName._read(part, "x509_relative_name_under_next", _number(1))
 
 
 class _DistributionPoints(ExtensionType):
     def __init__(self, distribution_points: Iterable[DistributionPoint]) -> None:
-        points = list(distribution_points)
+        points = some(distribution_points, DistributionPoint, "points")
         self._write(element(SEQUENCE, *(it._der() for it in points)), points=points)
 
     def _read(self, data: bytes) -> None:
         super()._read(data)
-        self.points = [_point(it, data) for it in walk("x509_distribution_points_next", DistributionPointView, data)]
+        self.points = [DistributionPoint._read(it, data) for it in walk("x509_distribution_points_next", DistributionPointView, data)]
 
     def __iter__(self) -> Iterator[DistributionPoint]:
         return iter(self.points)
@@ -393,13 +437,15 @@ class FreshestCRL(_DistributionPoints):
 
 
 class NameConstraints(ExtensionType):
-    """Where the names of certificates further down must lie (RFC 5280 4.2.1.10)."""
+    """Where the names of certificates further down must lie (RFC 5280 4.2.1.10): one of the lists is given at least, and none is empty. Addresses are
+    networks there, and a DNS name has no wildcard."""
 
     oid = ExtensionOID.NAME_CONSTRAINTS
 
     def __init__(self, permitted_subtrees: Iterable[GeneralName] | None, excluded_subtrees: Iterable[GeneralName] | None) -> None:
-        permitted = None if permitted_subtrees is None else list(permitted_subtrees)
-        excluded = None if excluded_subtrees is None else list(excluded_subtrees)
+        permitted, excluded = map(_given_subtrees, (permitted_subtrees, excluded_subtrees))
+        if permitted is None and excluded is None:
+            raise ValueError("a list of names has to be given")
         lists = (_subtrees_der(number, names) for number, names in enumerate((permitted, excluded)))
         self._write(element(SEQUENCE, *lists), permitted_subtrees=permitted, excluded_subtrees=excluded)
 
@@ -416,7 +462,7 @@ class CRLNumber(ExtensionType):
     oid = ExtensionOID.CRL_NUMBER
 
     def __init__(self, crl_number: int) -> None:
-        self._write(integer(crl_number), crl_number=crl_number)
+        self._write(integer(whole(crl_number, "a CRL number")), crl_number=crl_number)
 
     def _read(self, data: bytes) -> None:
         super()._read(data)
@@ -429,7 +475,7 @@ class DeltaCRLIndicator(ExtensionType):
     oid = ExtensionOID.DELTA_CRL_INDICATOR
 
     def __init__(self, crl_number: int) -> None:
-        self._write(integer(crl_number), crl_number=crl_number)
+        self._write(integer(whole(crl_number, "a CRL number")), crl_number=crl_number)
 
     def _read(self, data: bytes) -> None:
         super()._read(data)
@@ -437,7 +483,8 @@ class DeltaCRLIndicator(ExtensionType):
 
 
 class IssuingDistributionPoint(ExtensionType):
-    """Of what certificates a CRL speaks (RFC 5280 5.2.5). `only_some_reasons` are names of reasons; None means all."""
+    """Of what certificates a CRL speaks (RFC 5280 5.2.5): of some kind of them, and of one at most. `only_some_reasons` are given as those of a
+    DistributionPoint."""
 
     oid = ExtensionOID.ISSUING_DISTRIBUTION_POINT
 
@@ -447,26 +494,32 @@ class IssuingDistributionPoint(ExtensionType):
         relative_name: RelativeDistinguishedName | None,
         only_contains_user_certs: bool,
         only_contains_ca_certs: bool,
-        only_some_reasons: frozenset[str] | None,
+        only_some_reasons: Iterable[ReasonFlags | str] | None,
         indirect_crl: bool,
         only_contains_attribute_certs: bool,
     ) -> None:
-        full = None if full_name is None else GeneralNames(list(full_name))
+        full, relative = _point_name(full_name, relative_name)
+        reasons = _reason_names(only_some_reasons)
+        kinds = listed((only_contains_user_certs, only_contains_ca_certs, only_contains_attribute_certs), bool, "kinds of certificates")
+        if sum(kinds) > 1:
+            raise ValueError("a CRL speaks of one kind of certificates alone")
+        if full is None and relative is None and not reasons and not any(kinds) and not instance(indirect_crl, bool, "indirect_crl"):
+            raise ValueError("a CRL of all certificates that the issuer has doesn't say so")
         self._write(
             element(
                 SEQUENCE,
-                _point_name_der(full, relative_name),
+                _point_name_der(full, relative),
                 flag(only_contains_user_certs, context(1)),
                 flag(only_contains_ca_certs, context(2)),
-                b"" if only_some_reasons is None else named_bits(_reason_bits(only_some_reasons), context(3)),
-                flag(indirect_crl, context(4)),
+                b"" if reasons is None else named_bits(_reason_bits(reasons), context(3)),
+                flag(instance(indirect_crl, bool, "indirect_crl"), context(4)),
                 flag(only_contains_attribute_certs, context(5)),
             ),
             full_name=full,
-            relative_name=relative_name,
+            relative_name=relative,
             only_contains_user_certs=only_contains_user_certs,
             only_contains_ca_certs=only_contains_ca_certs,
-            only_some_reasons=only_some_reasons,
+            only_some_reasons=reasons,
             indirect_crl=indirect_crl,
             only_contains_attribute_certs=only_contains_attribute_certs,
         )
@@ -504,7 +557,7 @@ class CRLReason(ExtensionType):
     oid = ExtensionOID.CRL_REASON
 
     def __init__(self, reason: ReasonFlags) -> None:
-        self._write(integer(reason.value, ENUMERATED), reason=reason)
+        self._write(integer(instance(reason, ReasonFlags, "a reason").value, ENUMERATED), reason=reason)
 
     def _read(self, data: bytes) -> None:
         super()._read(data)
@@ -515,7 +568,7 @@ class SignedCertificateTimestamp:
     """A log's promise to have a certificate (RFC 6962 3.2), by its octets. An X509Error where they aren't a timestamp of version 1."""
 
     def __init__(self, data: bytes) -> None:
-        self.data = bytes(data)
+        self.data = octets(data, "a timestamp")
         found = view("x509_timestamp_view", TimestampView, self.data)
         self.log_id = found.log_id.of(self.data)
         self.milliseconds = int(found.timestamp)
@@ -544,7 +597,7 @@ class PrecertificateSignedCertificateTimestamps(ExtensionType):
     oid = ExtensionOID.PRECERT_SIGNED_CERTIFICATE_TIMESTAMPS
 
     def __init__(self, signed_certificate_timestamps: Iterable[SignedCertificateTimestamp]) -> None:
-        timestamps = list(signed_certificate_timestamps)
+        timestamps = some(signed_certificate_timestamps, SignedCertificateTimestamp, "timestamps")
         members = b"".join(len(it.data).to_bytes(2, "big") + it.data for it in timestamps)
         self._write(element(OCTET_STRING, len(members).to_bytes(2, "big"), members), timestamps=timestamps)
 
@@ -602,10 +655,16 @@ Held = TypeVar("Held", bound=ExtensionType)
 
 
 class Extension(Generic[Held]):
-    """An extension: its identifier, whether it is critical, and what it holds, which is read when it is asked for."""
+    """An extension: its identifier, whether it is critical, and what it holds, by its octets, which are read when it is asked for, or by a value."""
 
-    def __init__(self, oid: ObjectIdentifier, critical: bool, data: bytes) -> None:
-        self.oid, self.critical, self.data = oid, critical, data
+    def __init__(self, oid: ObjectIdentifier, critical: bool, data: bytes | ExtensionType) -> None:
+        self.oid = instance(oid, ObjectIdentifier, "the type of an extension")
+        self.critical = instance(critical, bool, "critical")
+        if isinstance(data, ExtensionType):
+            if data.oid != oid:
+                raise ValueError(f"a {type(data).__name__} is no extension {oid.dotted_string}")
+            data = data.data
+        self.data = octets(data, "what an extension holds")
 
     @property
     def value(self) -> Held:
@@ -621,8 +680,8 @@ class Extension(Generic[Held]):
 class Extensions:
     """The extensions of a certificate, in order. An identifier may stand there twice; look-ups refuse that."""
 
-    def __init__(self, extensions: list[Extension[ExtensionType]]) -> None:
-        self._extensions = tuple(extensions)
+    def __init__(self, extensions: Iterable[Extension[ExtensionType]]) -> None:
+        self._extensions = tuple(listed(extensions, Extension, "extensions"))
 
     @classmethod
     def from_der(cls, data: bytes) -> Extensions:
@@ -652,11 +711,24 @@ class Extensions:
 
 
 def _key_digest(public_key: bytes) -> bytes:
-    return hashlib.sha1(PublicKey(public_key).bits).digest()
+    return hashlib.sha1(PublicKey(octets(public_key, "a public key")).bits).digest()
 
 
 def _subtrees_der(number: int, names: list[GeneralName] | None) -> bytes:
     return b"" if names is None else element(context(number, True), *(element(SEQUENCE, general_name_der(it)) for it in names))
+
+
+def _given_subtrees(names: Iterable[GeneralName] | None) -> list[GeneralName] | None:
+    """Names that are to be those of trees; a ValueError where one can't be."""
+    if names is None:
+        return None
+    made = some(names, GeneralName, "names of trees")
+    for it in made:
+        if isinstance(it, IPAddress) and isinstance(it.value, (ipaddress.IPv4Address, ipaddress.IPv6Address)):
+            raise ValueError("the addresses of a tree are a network")
+        if isinstance(it, DNSName) and "*" in it.value:
+            raise ValueError("a DNS name of a tree has no wildcard")
+    return made
 
 
 def _names_under(tag: int, span: Span, data: bytes) -> GeneralNames | None:

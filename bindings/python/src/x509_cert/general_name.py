@@ -3,8 +3,10 @@
 from __future__ import annotations
 
 import ipaddress
-from typing import Any, Iterator, Union
+from email.utils import parseaddr
+from typing import Any, Iterable, Iterator, Self, Union
 
+from ._given import instance, listed, octets
 from ._library import GeneralNameView, walk
 from .name import Name
 from .oid import ObjectIdentifier
@@ -14,9 +16,17 @@ class GeneralName:
     """A name of one of the kinds below. `value` is what it holds."""
 
     __slots__ = ("value",)
+    value: Any
 
     def __init__(self, value: Any) -> None:
-        self.value = value
+        raise TypeError("a general name is of one of its kinds, as a DNSName")
+
+    @classmethod
+    def _read(cls, value: Any) -> Self:
+        """What stands in a name that was read, which may be no proper value of the kind."""
+        made = cls.__new__(cls)
+        made.value = value
+        return made
 
     def __eq__(self, other: object) -> bool:
         return type(self) is type(other) and self.value == other.value  # type: ignore[attr-defined]
@@ -28,22 +38,31 @@ class GeneralName:
         return f"<{type(self).__name__}(value={self.value!r})>"
 
 
-class RFC822Name(GeneralName):
+class _Text(GeneralName):
+    value: str
+
+    def __init__(self, value: str) -> None:
+        if not instance(value, str, "a name").isascii():
+            raise ValueError(f"a {type(self).__name__} has ASCII characters, which of a domain are those of its A-labels (RFC 5280 7.2)")
+        self.value = value
+
+
+class RFC822Name(_Text):
     """An e-mail address."""
 
-    value: str
+    def __init__(self, value: str) -> None:
+        super().__init__(value)
+        name, address = parseaddr(value)
+        if name or not address:
+            raise ValueError("an e-mail address stands alone, without a name beside it")
 
 
-class DNSName(GeneralName):
+class DNSName(_Text):
     """A DNS name."""
 
-    value: str
 
-
-class UniformResourceIdentifier(GeneralName):
+class UniformResourceIdentifier(_Text):
     """A URI."""
-
-    value: str
 
 
 class DirectoryName(GeneralName):
@@ -51,19 +70,30 @@ class DirectoryName(GeneralName):
 
     value: Name
 
+    def __init__(self, value: Name) -> None:
+        self.value = instance(value, Name, "a directory name")
+
 
 class RegisteredID(GeneralName):
     """A registered identifier."""
 
     value: ObjectIdentifier
 
+    def __init__(self, value: ObjectIdentifier) -> None:
+        self.value = instance(value, ObjectIdentifier, "a registered identifier")
+
+
+_Address = Union[ipaddress.IPv4Address, ipaddress.IPv6Address, ipaddress.IPv4Network, ipaddress.IPv6Network, bytes]
+
 
 class IPAddress(GeneralName):
     """An address; with a mask behind it, as name constraints have it, a network. Octets that are neither stay octets."""
 
-    value: Union[
-        ipaddress.IPv4Address, ipaddress.IPv6Address, ipaddress.IPv4Network, ipaddress.IPv6Network, bytes
-    ]
+    value: _Address
+
+    def __init__(self, value: _Address) -> None:
+        networks = (ipaddress.IPv4Address, ipaddress.IPv6Address, ipaddress.IPv4Network, ipaddress.IPv6Network)
+        self.value = value if isinstance(value, networks) else octets(value, "an address that is none of `ipaddress`")
 
 
 class OtherName(GeneralName):
@@ -73,8 +103,8 @@ class OtherName(GeneralName):
     value: ObjectIdentifier
 
     def __init__(self, type_id: ObjectIdentifier, data: bytes) -> None:
-        super().__init__(type_id)
-        self.data = data
+        self.value = instance(type_id, ObjectIdentifier, "the type of a name")
+        self.data = octets(data, "the value of a name")
 
     @property
     def type_id(self) -> ObjectIdentifier:
@@ -91,6 +121,9 @@ class EDIPartyName(GeneralName):
     """A name of EDI, by the octets of its fields."""
 
     value: bytes
+
+    def __init__(self, value: bytes) -> None:
+        self.value = octets(value, "the fields of a name")
 
 
 def _address(octets: bytes) -> Any:
@@ -116,8 +149,8 @@ def general_name(view: GeneralNameView, data: bytes) -> GeneralName:
     if kind == 0:
         return OtherName(ObjectIdentifier.from_content(view.type_id.of(data)), view.value.of(data))
     if kind in (1, 2, 6):
-        texts = {1: RFC822Name, 2: DNSName, 6: UniformResourceIdentifier}
-        return texts[kind](content.decode("ascii"))
+        texts: dict[int, type[_Text]] = {1: RFC822Name, 2: DNSName, 6: UniformResourceIdentifier}
+        return texts[kind]._read(content.decode("ascii"))
     if kind == 4:
         return DirectoryName(Name(content))
     if kind == 5:
@@ -132,8 +165,8 @@ class GeneralNames:
 
     __slots__ = ("_names",)
 
-    def __init__(self, names: list[GeneralName]) -> None:
-        self._names = tuple(names)
+    def __init__(self, names: Iterable[GeneralName]) -> None:
+        self._names = tuple(listed(names, GeneralName, "general names"))
 
     @classmethod
     def from_der(cls, data: bytes) -> GeneralNames:

@@ -5,6 +5,7 @@ from __future__ import annotations
 import enum
 
 from ._extension import _part
+from ._given import octets
 from ._library import AlgorithmView, KeyView, view
 from .oid import ObjectIdentifier
 
@@ -52,7 +53,7 @@ class PublicKey:
     """A public key, by what its SubjectPublicKeyInfo says: its kind, its algorithm with the DER of the parameters, and its bits, which aren't looked into."""
 
     def __init__(self, data: bytes) -> None:
-        self._data = bytes(data)
+        self._data = octets(data, "a public key")
         found = view("x509_key_view", KeyView, self._data)
         self.kind = KeyKind(int(found.kind))
         self.algorithm_oid = ObjectIdentifier.from_content(found.oid.of(self._data))
@@ -78,7 +79,7 @@ class AlgorithmIdentifier:
     """An algorithm, by its DER: its kind, its OID, and the DER of its parameters."""
 
     def __init__(self, data: bytes) -> None:
-        self._data = bytes(data)
+        self._data = octets(data, "an algorithm")
         found = view("x509_algorithm_view", AlgorithmView, self._data)
         self.kind = SignatureKind(int(found.kind))
         self.oid = ObjectIdentifier.from_content(found.oid.of(self._data))

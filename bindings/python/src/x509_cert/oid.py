@@ -2,6 +2,7 @@
 
 from __future__ import annotations
 
+from ._given import instance, octets
 from ._library import fill
 
 
@@ -11,12 +12,13 @@ class ObjectIdentifier:
     __slots__ = ("_content", "_text")
 
     def __init__(self, dotted_string: str) -> None:
-        self._content = fill("x509_oid_from_text", dotted_string.encode("utf-8"))
+        self._content = fill("x509_oid_from_text", instance(dotted_string, str, "an identifier").encode("utf-8"))
         self._text = dotted_string
 
     @classmethod
     def from_content(cls, content: bytes) -> ObjectIdentifier:
         """The identifier with these content octets (X.690 8.19)."""
+        content = octets(content, "the content of an identifier")
         text = fill("x509_oid_text", content).decode("ascii")
         made = cls.__new__(cls)
         made._content, made._text = content, text
@@ -70,7 +72,7 @@ class ExtensionOID:
 
 
 class NameOID:
-    """Of attributes of names (RFC 4519, RFC 5280 A.1)."""
+    """Of attributes of names (RFC 4519, RFC 5280 A.1, RFC 2985 5.4, ITU-T X.520, CA/Browser Forum EV Guidelines 7.1.4.2), and of some Russian ones."""
 
     COMMON_NAME = ObjectIdentifier("2.5.4.3")
     SURNAME = ObjectIdentifier("2.5.4.4")
@@ -82,10 +84,26 @@ class NameOID:
     ORGANIZATION_NAME = ObjectIdentifier("2.5.4.10")
     ORGANIZATIONAL_UNIT_NAME = ObjectIdentifier("2.5.4.11")
     TITLE = ObjectIdentifier("2.5.4.12")
+    BUSINESS_CATEGORY = ObjectIdentifier("2.5.4.15")
+    POSTAL_ADDRESS = ObjectIdentifier("2.5.4.16")
+    POSTAL_CODE = ObjectIdentifier("2.5.4.17")
     GIVEN_NAME = ObjectIdentifier("2.5.4.42")
+    INITIALS = ObjectIdentifier("2.5.4.43")
+    GENERATION_QUALIFIER = ObjectIdentifier("2.5.4.44")
+    X500_UNIQUE_IDENTIFIER = ObjectIdentifier("2.5.4.45")
+    DN_QUALIFIER = ObjectIdentifier("2.5.4.46")
+    PSEUDONYM = ObjectIdentifier("2.5.4.65")
+    ORGANIZATION_IDENTIFIER = ObjectIdentifier("2.5.4.97")
     USER_ID = ObjectIdentifier("0.9.2342.19200300.100.1.1")
     DOMAIN_COMPONENT = ObjectIdentifier("0.9.2342.19200300.100.1.25")
     EMAIL_ADDRESS = ObjectIdentifier("1.2.840.113549.1.9.1")
+    UNSTRUCTURED_NAME = ObjectIdentifier("1.2.840.113549.1.9.2")
+    JURISDICTION_LOCALITY_NAME = ObjectIdentifier("1.3.6.1.4.1.311.60.2.1.1")
+    JURISDICTION_STATE_OR_PROVINCE_NAME = ObjectIdentifier("1.3.6.1.4.1.311.60.2.1.2")
+    JURISDICTION_COUNTRY_NAME = ObjectIdentifier("1.3.6.1.4.1.311.60.2.1.3")
+    INN = ObjectIdentifier("1.2.643.3.131.1.1")
+    OGRN = ObjectIdentifier("1.2.643.100.1")
+    SNILS = ObjectIdentifier("1.2.643.100.3")
 
 
 class ExtendedKeyUsageOID:

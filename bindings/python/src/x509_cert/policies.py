@@ -5,6 +5,7 @@ from __future__ import annotations
 from typing import Iterable, Iterator
 
 from ._extension import ExtensionType, _number, _part
+from ._given import instance, listed, octets, some, whole
 from ._library import PolicyConstraintsView, PolicyMappingView, PolicyQualifierView, PolicyView, Span, number, view, walk
 from ._writing import SEQUENCE, context, element, identifier_of, integer
 from .oid import ExtensionOID, ObjectIdentifier
@@ -14,7 +15,8 @@ class PolicyQualifier:
     """What qualifies a policy: the identifier of its type, and its DER."""
 
     def __init__(self, oid: ObjectIdentifier, data: bytes | None) -> None:
-        self.oid, self.data = oid, data
+        self.oid = instance(oid, ObjectIdentifier, "the type of a qualifier")
+        self.data = None if data is None else octets(data, "a qualifier")
 
     def __eq__(self, other: object) -> bool:
         return isinstance(other, PolicyQualifier) and (self.oid, self.data) == (other.oid, other.data)
@@ -29,8 +31,9 @@ class PolicyQualifier:
 class PolicyInformation:
     """A policy, and what qualifies it (RFC 5280 4.2.1.4)."""
 
-    def __init__(self, policy_identifier: ObjectIdentifier, policy_qualifiers: list[PolicyQualifier] | None) -> None:
-        self.policy_identifier, self.policy_qualifiers = policy_identifier, policy_qualifiers
+    def __init__(self, policy_identifier: ObjectIdentifier, policy_qualifiers: Iterable[PolicyQualifier] | None) -> None:
+        self.policy_identifier = instance(policy_identifier, ObjectIdentifier, "a policy")
+        self.policy_qualifiers = None if policy_qualifiers is None else listed(policy_qualifiers, PolicyQualifier, "qualifiers")
 
     def __eq__(self, other: object) -> bool:
         theirs = (other.policy_identifier, other.policy_qualifiers) if isinstance(other, PolicyInformation) else None
@@ -43,6 +46,8 @@ class PolicyInformation:
         return f"<PolicyInformation({self.policy_identifier!r})>"
 
     def _der(self) -> bytes:
+        if self.policy_qualifiers is not None and not self.policy_qualifiers:
+            raise ValueError("qualifiers are one at least; where there are none, None")
         of = [element(SEQUENCE, identifier_of(it.oid), it.data or b"") for it in self.policy_qualifiers or ()]
         return element(SEQUENCE, identifier_of(self.policy_identifier), b"" if self.policy_qualifiers is None else element(SEQUENCE, *of))
 
@@ -73,7 +78,7 @@ class CertificatePolicies(ExtensionType):
     oid = ExtensionOID.CERTIFICATE_POLICIES
 
     def __init__(self, policies: Iterable[PolicyInformation]) -> None:
-        policies = list(policies)
+        policies = some(policies, PolicyInformation, "policies")
         self._write(element(SEQUENCE, *(it._der() for it in policies)), policies=policies)
 
     def _read(self, data: bytes) -> None:
@@ -87,13 +92,20 @@ class CertificatePolicies(ExtensionType):
         return len(self.policies)
 
 
+def _pair(given: tuple[ObjectIdentifier, ObjectIdentifier]) -> tuple[ObjectIdentifier, ObjectIdentifier]:
+    issuer, subject = listed(given, ObjectIdentifier, "a pair of policies")
+    return issuer, subject
+
+
 class PolicyMappings(ExtensionType):
     """Pairs of policies that are taken for the same (RFC 5280 4.2.1.5)."""
 
     oid = ExtensionOID.POLICY_MAPPINGS
 
     def __init__(self, mappings: Iterable[tuple[ObjectIdentifier, ObjectIdentifier]]) -> None:
-        mappings = list(mappings)
+        mappings = [_pair(it) for it in mappings]
+        if not mappings:
+            raise ValueError("mappings are one at least")
         self._write(element(SEQUENCE, *(element(SEQUENCE, *map(identifier_of, it)) for it in mappings)), mappings=mappings)
 
     def _read(self, data: bytes) -> None:
@@ -110,8 +122,10 @@ class PolicyConstraints(ExtensionType):
     oid = ExtensionOID.POLICY_CONSTRAINTS
 
     def __init__(self, require_explicit_policy: int | None, inhibit_policy_mapping: int | None) -> None:
-        explicit = b"" if require_explicit_policy is None else integer(require_explicit_policy, context(0))
-        mapping = b"" if inhibit_policy_mapping is None else integer(inhibit_policy_mapping, context(1))
+        if require_explicit_policy is None and inhibit_policy_mapping is None:
+            raise ValueError("a constraint on policies has to be given")
+        explicit = b"" if require_explicit_policy is None else integer(whole(require_explicit_policy, "a number of certificates"), context(0))
+        mapping = b"" if inhibit_policy_mapping is None else integer(whole(inhibit_policy_mapping, "a number of certificates"), context(1))
         given = {"require_explicit_policy": require_explicit_policy, "inhibit_policy_mapping": inhibit_policy_mapping}
         self._write(element(SEQUENCE, explicit, mapping), **given)
 
@@ -128,7 +142,7 @@ class InhibitAnyPolicy(ExtensionType):
     oid = ExtensionOID.INHIBIT_ANY_POLICY
 
     def __init__(self, skip_certs: int) -> None:
-        self._write(integer(skip_certs), skip_certs=skip_certs)
+        self._write(integer(whole(skip_certs, "a number of certificates")), skip_certs=skip_certs)
 
     def _read(self, data: bytes) -> None:
         super()._read(data)

@@ -22,6 +22,7 @@ from ._library import (
     walk,
 )
 from ._extension import _part
+from ._given import octets
 from .certificate import Certificate
 from .extensions import Extensions, _subtrees
 from .key import AlgorithmIdentifier, PublicKey
@@ -58,7 +59,7 @@ class CertificateSigningRequest:
     """A CSR, by its DER."""
 
     def __init__(self, data: bytes) -> None:
-        self._data = bytes(data)
+        self._data = octets(data, "a CSR")
         self._view = view("x509_request_view", RequestView, self._data)
 
     def public_bytes(self) -> bytes:
@@ -192,7 +193,7 @@ class PathControls:
     INHIBIT_POLICY_MAPPING, REQUIRE_EXPLICIT_POLICY, INHIBIT_ANY_POLICY = 1, 2, 4
 
     def __init__(self, data: bytes) -> None:
-        self._data = bytes(data)
+        self._data = octets(data, "constraints on paths")
         found = view("x509_path_controls_view", PathControlsView, self._data)
         self.name = Name(found.name.of(self._data))
         element = _part(found.certificate, self._data)
@@ -222,7 +223,7 @@ class TrustAnchor:
     """A trust anchor, by its DER."""
 
     def __init__(self, data: bytes) -> None:
-        self._data = bytes(data)
+        self._data = octets(data, "a trust anchor")
         self._view = view("x509_anchor_view", AnchorView, self._data)
 
     def public_bytes(self) -> bytes:

@@ -1,0 +1,61 @@
+"""What is given: each value is taken as it is, or refused. A TypeError says that it is of another type, a ValueError that it can't be held."""
+
+from __future__ import annotations
+
+import datetime
+from typing import Iterable, TypeVar
+
+_Kind = TypeVar("_Kind")
+
+_EPOCH = datetime.datetime(1970, 1, 1, tzinfo=datetime.timezone.utc)
+
+
+def instance(given: object, kind: type[_Kind], what: str) -> _Kind:
+    if not isinstance(given, kind):
+        raise TypeError(f"{what} is a {kind.__name__}, not a {type(given).__name__}")
+    return given
+
+
+def whole(given: int, what: str) -> int:
+    """An integer, which a bool isn't here."""
+    if isinstance(given, bool):
+        raise TypeError(f"{what} is an int, not a bool")
+    return instance(given, int, what)
+
+
+def octets(given: bytes, what: str) -> bytes:
+    """Bytes, also those of a bytearray or a memoryview; of a number there are none."""
+    if not isinstance(given, (bytes, bytearray, memoryview)):
+        raise TypeError(f"{what} is bytes, not a {type(given).__name__}")
+    return bytes(given)
+
+
+def listed(given: Iterable[_Kind], kind: type[_Kind], what: str) -> list[_Kind]:
+    """The members, each of which is of the kind. An iterator is used up once, here."""
+    return [instance(it, kind, f"a member of {what}") for it in given]
+
+
+def some(given: Iterable[_Kind], kind: type[_Kind], what: str) -> list[_Kind]:
+    """The same of a list that has members, as RFC 5280 has its lists."""
+    made = listed(given, kind, what)
+    if not made:
+        raise ValueError(f"{what} are one at least")
+    return made
+
+
+def seconds(moment: datetime.datetime, what: str) -> int:
+    """The seconds since 1970-01-01T00:00:00Z of a moment with a time zone, from then on, rounded down."""
+    if instance(moment, datetime.datetime, what).utcoffset() is None:
+        raise ValueError(f"{what} has a time zone")
+    found = (moment - _EPOCH) // datetime.timedelta(seconds=1)
+    if found < 0:
+        raise ValueError(f"{what} is from 1970 on")
+    return found
+
+
+def whole_seconds(moment: datetime.datetime, what: str) -> int:
+    """The seconds of a moment that is to be encoded: no encoding has fractions of a second (RFC 5280 4.1.2.5), so none are taken."""
+    found = seconds(moment, what)
+    if (moment - _EPOCH) % datetime.timedelta(seconds=1):
+        raise ValueError(f"{what} has fractions of a second, which aren't encoded: .replace(microsecond=0) leaves them out")
+    return found
