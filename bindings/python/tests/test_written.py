@@ -221,6 +221,22 @@ class Refused(unittest.TestCase):
             self.assertEqual(asked, [(bytes, bytes, bytes, bytes)])
         self.assertEqual(ours.library_version(), (0, 1, 0))
 
+    def test_what_rfc_5280_has_no_value_for_is_refused_and_still_read(self) -> None:
+        policy, other, any_policy = (ours.ObjectIdentifier(it) for it in ("1.2.3", "1.2.4", "2.5.29.32.0"))
+        once = ours.PolicyInformation(policy, None)
+        name = [ours.UniformResourceIdentifier("http://a.example/crl")]
+        for made in (
+            lambda: ours.CertificatePolicies([once, ours.PolicyInformation(other, None), once]),
+            lambda: ours.PolicyMappings([(policy, other), (any_policy, other)]),
+            lambda: ours.PolicyMappings([(policy, any_policy)]),
+            lambda: ours.DistributionPoint(name, None, [], None),
+            lambda: ours.IssuingDistributionPoint(name, None, False, False, frozenset(), False, False),
+        ):
+            with self.assertRaises(ValueError):
+                made()
+        self.assertEqual(len(ours.CertificatePolicies.from_der(bytes.fromhex("300c300406022a03300406022a03"))), 2)
+        self.assertEqual(ours.PolicyMappings.from_der(bytes.fromhex("300c300a0604551d200006022a03")).mappings, [(any_policy, policy)])
+
 
 if __name__ == "__main__":
     unittest.main()

@@ -367,12 +367,15 @@ def _reason_bits(reasons: frozenset[str]) -> int:
 
 
 def _reason_names(reasons: Iterable[ReasonFlags | str] | None) -> frozenset[str] | None:
-    """The names of these reasons; a ValueError where one has no bit, as the one of none."""
+    """The names of these reasons, which are one at least; a ValueError where one has no bit, as the one of none."""
     if reasons is None:
         return None
     if isinstance(reasons, str):
         raise TypeError("reasons are a set, not a str")
-    return frozenset(map(_reason_name, reasons))
+    names = frozenset(map(_reason_name, reasons))
+    if not names:
+        raise ValueError("reasons are one at least, or None for all")
+    return names
 
 
 def _reason_name(reason: ReasonFlags | str) -> str:

@@ -73,12 +73,14 @@ def policies_under(tag: int, span: Span, data: bytes) -> list[PolicyInformation]
 
 
 class CertificatePolicies(ExtensionType):
-    """Policies under which a certificate was issued (RFC 5280 4.2.1.4)."""
+    """Policies under which a certificate was issued (RFC 5280 4.2.1.4), each of which stands there once."""
 
     oid = ExtensionOID.CERTIFICATE_POLICIES
 
     def __init__(self, policies: Iterable[PolicyInformation]) -> None:
         policies = some(policies, PolicyInformation, "policies")
+        if len({it.policy_identifier for it in policies}) < len(policies):
+            raise ValueError("a policy stands there once")
         self._write(element(SEQUENCE, *(it._der() for it in policies)), policies=policies)
 
     def _read(self, data: bytes) -> None:
@@ -92,13 +94,16 @@ class CertificatePolicies(ExtensionType):
         return len(self.policies)
 
 
+_ANY_POLICY = ObjectIdentifier("2.5.29.32.0")
+
+
 def _pair(given: tuple[ObjectIdentifier, ObjectIdentifier]) -> tuple[ObjectIdentifier, ObjectIdentifier]:
     issuer, subject = listed(given, ObjectIdentifier, "a pair of policies")
     return issuer, subject
 
 
 class PolicyMappings(ExtensionType):
-    """Pairs of policies that are taken for the same (RFC 5280 4.2.1.5)."""
+    """Pairs of policies that are taken for the same (RFC 5280 4.2.1.5), none of which is any-policy."""
 
     oid = ExtensionOID.POLICY_MAPPINGS
 
@@ -106,6 +111,8 @@ class PolicyMappings(ExtensionType):
         mappings = [_pair(it) for it in mappings]
         if not mappings:
             raise ValueError("mappings are one at least")
+        if any(_ANY_POLICY in pair for pair in mappings):
+            raise ValueError("any-policy isn't mapped, nor mapped to")
         self._write(element(SEQUENCE, *(element(SEQUENCE, *map(identifier_of, it)) for it in mappings)), mappings=mappings)
 
     def _read(self, data: bytes) -> None:
