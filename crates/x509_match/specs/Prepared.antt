@@ -32,7 +32,7 @@ mapped text = map spaced (filter is_kept text)
 unfoldable pub folded : List ℕ → List ℕ
 folded text = nfkc (default_case_fold (nfkc (default_case_fold text)))
 
--- ---- RFC 4518 2.4: prohibit. What changes the display is left out by 2.2 or decomposed by 2.3. No ASCII character is prohibited.
+-- ---- RFC 4518 2.4: prohibit. What RFC 3454 C.8 lists is left out by 2.2 or decomposed by 2.3. No ASCII character is prohibited.
 
 abbrev pub has_no_meaning : GeneralCategory → Bool
 has_no_meaning Unassigned = true

@@ -76,7 +76,7 @@ fn plain_values_match(oid: &[u8], a_tag: Tag, a: &[u8], b_tag: Tag, b: &[u8]) ->
 ///
 /// # Errors
 ///
-/// When out of memory, only where one is a text beyond ASCII.
+/// When out of memory, only where one is a BMPString or a UTF8String beyond ASCII.
 pub(crate) fn values_match(
     alloc: Global,
     oid: &[u8],

@@ -1,6 +1,6 @@
 //! Whether encoded names match.
 
-ghost use Rattle.std.specs.Prelude.{◌≡◌, ◌↔◌, IfOk, IfErr, IsTrue, List, Ok, true};
+ghost use Rattle.std.specs.Prelude.{◌≡◌, ◌⊎◌, ◌↔◌, IfOk, IfErr, IsTrue, List, Ok, true};
 ghost use Rattle.x509_der.specs.Form.{Spells};
 ghost use Rattle.x509_der.specs.declared.error.ErrorKind.TheVariants as errors;
 ghost use Rattle.x509_match.specs.Matching.{NamesMatch};
@@ -25,6 +25,8 @@ pub fn encoded_names_match(alloc: Global, a: &[u8], b: &[u8]) -> Result<bool, Er
         → IfOk result (λ same. IsTrue same ↔ NamesMatch x y) }
     ensures err { (x y : List (List AttributeTypeAndValue)) → Spells name x a.now → Spells name y b.now
         → IfErr result (λ e. e.kind ≡ errors.Memory) }
+    ensures named { IfOk result (λ same. (a.now ≡ b.now) ⊎ ((x : List (List AttributeTypeAndValue)) × (y : List (List AttributeTypeAndValue))
+        × Spells name x a.now × Spells name y b.now)) }
     ensures equal { a.now ≡ b.now → result ≡ Ok true }
 {
     if a == b {

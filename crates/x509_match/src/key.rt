@@ -104,6 +104,7 @@ impl MatchedName {
     /// Where it is the encoding of a name, `Memory` alone, when out of memory. Else an error of `Name::from_der`.
     pub fn from_der(alloc: Global, bytes: &[u8]) -> Result<MatchedName, Error>
         ensures found { (x : List (List AttributeTypeAndValue)) → Spells name x bytes.now → IfOk result (λ key. IsNameKey key x) }
+        ensures named { IfOk result (λ key. (x : List (List AttributeTypeAndValue)) × Spells name x bytes.now × IsNameKey key x) }
         ensures err { (x : List (List AttributeTypeAndValue)) → Spells name x bytes.now → IfErr result (λ e. e.kind ≡ errors.Memory) }
     {
         let decoded = Name::from_der(alloc, bytes)?;
