@@ -29,7 +29,8 @@ pub fn has_policy(policies: &[&[u8]], policy: &[u8]) -> bool
     false
 }
 
-/// Whether a policy is twice among these, as it may not be in a certificate (RFC 5280 4.2.1.4).
+/// Whether a policy is twice among these, as it may not be in a certificate (RFC 5280 4.2.1.4). Each is compared with
+/// those behind it, so the time is quadratic in their number.
 pub fn has_repeated_policy(policies: &[&[u8]]) -> bool
     ensures { result ≡ values.is_repeated (octets_of policies.now) }
 {

@@ -21,8 +21,8 @@ pub fn the_graph_answers_as_the_tree()
     ensures { (settings : Settings) (c : Certificate) (rest : List Certificate) → Alike (outcome_by_graph settings c rest) (outcome settings c rest) }
 {}
 
-/// A certificate adds to the graph no more than what it says: behind it no more policies are expected than before it, and
-/// one for each of its policies and of its mappings. So the graph doesn't grow exponentially, as the tree may.
+/// A certificate adds to what is expected no more than what it says: behind it no more policies are expected than before
+/// it, and one for each of its policies and of its mappings, where the nodes of the tree may grow exponentially.
 #[tactic(auto, using(crate::proofs::Sizes::grows_by))]
 pub fn the_graph_grows_by_what_certificates_say()
     ensures { (policies : List Policy) (others : Bool) (mappings : List Mapping) (inhibited : Bool) (above : Level) → is_repeated policies ≡ false
