@@ -7,3 +7,4 @@ pub mod PlainTexts
 pub mod PlainValues
 pub mod Partners
 pub mod StandardFacts
+pub mod Fronts

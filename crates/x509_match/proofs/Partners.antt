@@ -1,7 +1,7 @@
 -- RDNs match where as many attributes of the one as of the other match each of the one.
-use Rattle.std.proofs.Common.{◌≡◌, ℕ, zero, suc, ◌+◌, ◌<◌, ◌≤◌, Bool, true, false, cond, bytes_eq, ◌↔◌, ◌≢◌, not, if◌then◌else◌, IsTrue, take, List, [], ◌∷◌, ◌++◌, length, get_or, map, All, refl, sym, ap, ◌∙◌, subst, arith, inl, inr, suc-le-suc, zero-le, le_of_suc-le-suc}
+use Rattle.std.proofs.Common.{◌≡◌, ℕ, zero, suc, ◌+◌, ◌<◌, ◌≤◌, Bool, true, false, cond, bytes_eq, ◌↔◌, ◌≢◌, not, if◌then◌else◌, IsTrue, take, append_assoc, List, [], ◌∷◌, ◌++◌, length, get_or, map, All, refl, sym, ap, ◌∙◌, subst, arith, inl, inr, suc-le-suc, zero-le, le_of_suc-le-suc}
 use Rattle.std.proofs.lemmas.Bool.{cases_Bool}
-use Rattle.std.proofs.lemmas.List.{nil_from_length, take_more, take_all, map_push, length-map}
+use Rattle.std.proofs.lemmas.List.{append-nil, nil_from_length, take_more, take_all, map_push, length-map}
 use Rattle.std.proofs.lemmas.List.Elements.{All-push}
 use Rattle.std.proofs.lemmas.List.Sorted.{IsPermutation-refl, IsPermutation-sym, IsPermutation-trans, IsPermutation-cons, IsPermutation-middle, length_permutation, sum_by-IsPermutation}
 use Rattle.std.proofs.lemmas.List.Sums.{sum_by-cons, sum_by-append}
@@ -105,3 +105,30 @@ one_partner_more a b xs i x lt at h e =
 
 pub lengths_apart : (a b : List AttributeTypeAndValue) → length a ≢ length b → IsTrue false ↔ RdnsMatch a b
 lengths_apart a b apart = (λ t. absurd cc, λ p. absurd (apart (sym (length-map a attribute_key) ∙ sym (length_permutation _ _ p) ∙ length-map b attribute_key)))
+
+pub lent_apart : (a b : AttributeTypeAndValue) (x y : List ℕ) (r : Bool) → x ≡ a.oid → y ≡ b.oid → r ≡ not (bytes_eq x y) → r ≡ true → IsTrue false ↔ (attribute_key a ≡ attribute_key b)
+lent_apart a b x y r p q h e = types_apart a b r (h ∙ ap (λ z. not (bytes_eq z y)) p ∙ ap (λ z. not (bytes_eq a.oid z)) q) e
+
+-- ---- over what is lent
+
+-- one attribute less is left, and the count has it where it matches
+pub tally_less : (one : List ℕ) (a : AttributeTypeAndValue) (behind : List AttributeTypeAndValue) (attributes : List AttributeTypeAndValue) (count more total : ℕ) (r : Bool)
+    → (IsTrue r ↔ (one ≡ attribute_key a)) → attributes ≡ a ∷ behind → more ≡ (if r then 1 else 0) + count
+    → count + tally one (map attribute_key attributes) ≡ total → more + tally one (map attribute_key behind) ≡ total
+tally_less one a behind attributes count more total r is are e h =
+    let same = own-is one (attribute_key a) r is in
+    let here : tally one (map attribute_key attributes) ≡ own one (attribute_key a) + tally one (map attribute_key behind) = ap (λ z. tally one (map attribute_key z)) are ∙ tally-cons one (attribute_key a) (map attribute_key behind) in
+    omega (arith, same, here, h, e)
+
+pub partners_of_all : (a b front behind : List AttributeTypeAndValue) → a ≡ front ++ behind → behind ≡ [] → length a ≡ length b → All (HasPartners a b) front → RdnsMatch a b
+partners_of_all a b front behind split none len h =
+    let whole : a ≡ front = split ∙ ap (λ z. front ++ z) none ∙ append-nil front in
+    let all : take (length a) a ≡ a = take_all (length a) a (omega arith) in
+    all_partners a b (length a) (omega arith) len (subst (All (HasPartners a b)) (sym (all ∙ whole)) h)
+
+-- a partner more behind those before
+pub one_more_front : (a b front behind left : List AttributeTypeAndValue) (x : AttributeTypeAndValue) → a ≡ front ++ left → left ≡ x ∷ behind → a ≡ (front ++ x ∷ []) ++ behind
+one_more_front a b front behind left x split are = split ∙ ap (λ z. front ++ z) are ∙ sym (append_assoc front (x ∷ []) behind)
+
+pub without_partners : (a b : List AttributeTypeAndValue) (x : AttributeTypeAndValue) → (HasPartners a b x → ⊥) → IsTrue false ↔ RdnsMatch a b
+without_partners a b x apart = (λ t. absurd cc, λ p. absurd (apart (tally-permutation (attribute_key x) (map attribute_key a) (map attribute_key b) p)))

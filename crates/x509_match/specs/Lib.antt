@@ -3,3 +3,4 @@ pub mod Keys
 pub mod Matching
 pub mod NameKeys
 pub mod Plain
+pub mod Encoded

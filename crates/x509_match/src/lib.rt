@@ -4,14 +4,17 @@
 #![tactic(auto)]
 
 mod attribute;
+mod checked;
 mod encoded;
 mod key;
 pub mod laws;
+mod lent;
 mod names;
 mod plain;
 mod text;
 mod value;
 
+pub use checked::checked_names_match;
 pub use encoded::encoded_names_match;
 pub use key::{MatchedName, RdnKey, attribute_key};
 pub use names::{MAX_IN_PLACE, attributes_match, names_match, rdns_match};

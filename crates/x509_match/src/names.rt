@@ -43,7 +43,7 @@ pub fn attributes_match(
 }
 
 /// The count, with one more where it matches.
-fn with_one_more(count: usize, matches: bool) -> usize
+pub(crate) fn with_one_more(count: usize, matches: bool) -> usize
     requires { count + 1 < 2 ^ 64 }
     ensures value { result ≡ (if matches then 1 else 0) + count }
     ensures at_most { result ≤ count + 1 }
