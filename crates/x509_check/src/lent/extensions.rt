@@ -145,6 +145,7 @@ impl<'a> Iterator for ExtensionRefs<'a> {
 
     ghost remaining = { item_count extensions_left };
 
+    #[inline(always)]
     fn next(&mut self) -> Option<ExtensionRef<'a>> {
         let Ok((extension, others)) = split_extension(self.rest) else {
             return None;

@@ -15,7 +15,7 @@ ghost use Rattle.x509_der.specs.declared.error.ErrorKind.TheVariants as errors;
 
 use crate::element::next_element;
 use crate::lent::checked::{take_field, take_optional_explicit};
-use crate::lent::entry::{RevokedCertRef, split_entry};
+use crate::lent::entry::{RevokedCertRef, front_entry, pass_entry};
 use crate::lent::fields::{take_optional_plain, take_optional_time, take_time};
 use x509_base::{AlgorithmIdentifier, Profile, Time};
 use x509_cert::certificate::Version;
@@ -107,10 +107,10 @@ fn find_in_entries<'a, P: Profile>(
     let mut rest = octets;
     let mut found: Option<RevokedCertRef<'a>> = None;
     while !rest.is_empty() {
-        match split_entry::<P>(rest) {
-            Ok((entry, others)) => {
-                if found.is_none() && entry.serial_number == serial_number {
-                    found = Some(entry);
+        match pass_entry::<P>(rest) {
+            Ok((number, others)) => {
+                if found.is_none() && number == serial_number {
+                    found = front_entry::<P>(rest);
                 }
                 rest = others;
             }
