@@ -11,7 +11,7 @@ has_prefix-flat_map f key [] = refl
 has_prefix-flat_map f key (x ∷ xs) = list_any-append (λ p. begins key p) (f x) (flat_map f xs)
     ∙ ap (λ b. has_prefix (f x) key || b) (has_prefix-flat_map f key xs)
 
-Any-by : {X : Type 0} (P Q : X → Type 0) → ((x : X) → P x → Q x) → (xs : List X) → Any P xs → Any Q xs
+pub Any-by : {X : Type 0} (P Q : X → Type 0) → ((x : X) → P x → Q x) → (xs : List X) → Any P xs → Any Q xs
 Any-by P Q each xs (k, x, inside, at, holds) = (k, x, inside, at, each x holds)
 
 -- where the prefixes of each subtree answer whether a name is within it, those of all answer whether it is within one

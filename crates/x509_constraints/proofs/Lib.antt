@@ -6,3 +6,10 @@ pub mod Anys
 pub mod Mailboxes
 pub mod Firsts
 pub mod Directories
+pub mod Merges
+pub mod Meets
+pub mod InOrder
+pub mod Gathering
+pub mod Withins
+pub mod Allowed
+pub mod Asked

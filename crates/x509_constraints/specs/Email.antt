@@ -1,7 +1,8 @@
 -- Addresses of e-mail under constraints (RFC 5280 4.2.1.10).
-use Rattle.std.specs.Prelude.{◌≡◌, ◌⊎◌, ℕ, ◌==◌, List, [], ◌∷◌, ◌++◌, Option, None, Some, if◌then◌else◌}
-use Rattle.x509_constraints.specs.Host.{IsSame, IsWithinHost}
-use Rattle.x509_constraints.specs.Keys.{host_prefix, stop, symbols, turned}
+use Rattle.std.specs.Prelude.{◌≡◌, ◌⊎◌, ℕ, ◌==◌, ◌&&◌, nat_le, Bool, true, false, List, [], ◌∷◌, ◌++◌, Option, None, Some, if◌then◌else◌}
+use Rattle.std.specs.List.{list_all}
+use Rattle.x509_constraints.specs.Host.{IsSame, IsWithinHost, is_host}
+use Rattle.x509_constraints.specs.Keys.{host_prefix, key_if, stop, symbols, turned}
 
 -- '@'
 abbrev pub at : ℕ
@@ -17,6 +18,22 @@ abbrev pub mailbox_of : List ℕ → Option (List ℕ × List ℕ)
 mailbox_of [] = None
 mailbox_of (c ∷ rest) = in_front c rest (mailbox_of rest)
 
+-- a character of ASCII that is printed, or a space
+abbrev pub is_local_octet : ℕ → Bool
+is_local_octet c = nat_le 0x20 c && nat_le c 0x7E
+
+abbrev pub is_local : List ℕ → Bool
+is_local [] = false
+is_local (c ∷ rest) = list_all is_local_octet (c ∷ rest)
+
+abbrev pub is_mailbox_at : Option (List ℕ × List ℕ) → Bool
+is_mailbox_at None = false
+is_mailbox_at (Some (local, host)) = is_local local && is_host host
+
+-- an address of e-mail that can be compared: a local part, '@' and a host
+abbrev pub is_mailbox : List ℕ → Bool
+is_mailbox name = is_mailbox_at (mailbox_of name)
+
 -- a mailbox is within a subtree that is a mailbox where both are the same, and else where its host is
 abbrev pub IsWithinParts : List ℕ → List ℕ → List ℕ → Option (List ℕ × List ℕ) → Type 0
 IsWithinParts local host subtree (Some (own_local, own_host)) = (local ≡ own_local) × IsSame host own_host
@@ -27,9 +44,9 @@ IsMailboxWithin None subtree = ⊥
 IsMailboxWithin (Some (local, host)) subtree = IsWithinParts local host subtree (mailbox_of subtree)
 
 -- An address of e-mail: an empty subtree has all, one with an '@' that mailbox, any other the mailboxes of its hosts. The case of
--- the local part makes a difference.
+-- the local part makes a difference. What can't be compared is within an empty subtree alone.
 abbrev pub IsWithinEmail : List ℕ → List ℕ → Type 0
-IsWithinEmail name subtree = (subtree ≡ []) ⊎ IsMailboxWithin (mailbox_of name) subtree
+IsWithinEmail name subtree = (subtree ≡ []) ⊎ ((is_mailbox name ≡ true) × IsMailboxWithin (mailbox_of name) subtree)
 
 -- ---- keys: the host as that of hosts, then the local part
 
@@ -41,7 +58,7 @@ email_key_at None = []
 email_key_at (Some (local, host)) = mailbox_key local host
 
 abbrev pub email_key : List ℕ → List ℕ
-email_key name = email_key_at (mailbox_of name)
+email_key name = key_if (is_mailbox name) (email_key_at (mailbox_of name))
 
 abbrev pub email_prefix_at : List ℕ → Option (List ℕ × List ℕ) → List ℕ
 email_prefix_at subtree None = host_prefix subtree

@@ -1,13 +1,13 @@
 -- Hosts that are turned round: one that ends with another begins with it.
-use Rattle.std.proofs.Common.{if◌then◌else◌, ◌≡◌, ◌⊎◌, inl, inr, ◌↔◌, ℕ, ◌+◌, ◌-◌, ◌<◌, Bool, true, false, ◌||◌, List, [], ◌∷◌, ◌++◌, length, map, reverse, drop, get_or, refl, sym, ◌∙◌, ap, subst, arith, append_assoc, add-one, drop-cons}
+use Rattle.std.proofs.Common.{◌==◌, if◌then◌else◌, ◌≡◌, ◌⊎◌, inl, inr, ◌↔◌, ℕ, ◌+◌, ◌-◌, ◌<◌, Bool, true, false, ◌||◌, List, [], ◌∷◌, ◌++◌, length, map, reverse, drop, get_or, refl, sym, ◌∙◌, ap, subst, arith, append_assoc, add-one, drop-cons}
 use Rattle.std.proofs.Math.Seq.{drop-length}
 use Rattle.std.proofs.lemmas.Bool.{or_cases}
 use Rattle.std.proofs.lemmas.Bool.Decides.{eqb_tells, nat_tests}
 use Rattle.std.proofs.lemmas.Grind.{reverse_onto}
 use Rattle.std.proofs.lemmas.List.{append-nil, map-append, reverse-append, reverse-reverse}
 use Rattle.std.specs.Char.{to_ascii_lowercase}
-use Rattle.x509_constraints.specs.Host.{EndsWith, IsDotted, IsWithinDns, IsWithinHost, dot, lower}
-use Rattle.x509_constraints.specs.Keys.{dns_prefixes, host_key, host_prefix, stop, symbols, turned}
+use Rattle.x509_constraints.specs.Host.{EndsWith, IsDotted, IsHostOf, IsWithinDns, IsWithinHost, dot, is_dns_name, is_host, lower}
+use Rattle.x509_constraints.specs.Keys.{dns_key, dns_prefixes, host_key, host_prefix, key_if, stop, stopped, symbols, turned}
 use Rattle.x509_constraints.specs.Prefixes.{begins, has_prefix}
 
 -- ---- what begins with what
@@ -84,24 +84,28 @@ begins_ends host end h =
 
 -- ---- hosts within subtrees
 
+-- the subtree is empty, or has the octets, whether or not they are a host
+abbrev pub IsUnder : List ℕ → List ℕ → Type 0
+IsUnder host subtree = (subtree ≡ []) ⊎ IsHostOf host subtree
+
 or_none : (b : Bool) → (b || false) ≡ b
 or_none true = refl
 or_none false = refl
 
-pub dotted_answers : (host subtree tail : List ℕ) → IsDotted subtree → (begins (turned host ++ stop ∷ tail) (turned subtree) ≡ true) ↔ IsWithinHost host subtree
+pub dotted_answers : (host subtree tail : List ℕ) → IsDotted subtree → (begins (turned host ++ stop ∷ tail) (turned subtree) ≡ true) ↔ IsUnder host subtree
 unfolding turned
 dotted_answers host subtree tail (rest, is) =
     let unstopped : begins (turned host ++ stop ∷ tail) (turned subtree) ≡ begins (turned host) (turned subtree) =
     begins-stopped (reverse (lower host)) (reverse (lower subtree)) tail in
     ((λ h. inr (inr ((rest, is), begins_ends host subtree (sym unstopped ∙ h)))), (λ h. unstopped ∙ back h))
   where
-    back : IsWithinHost host subtree → begins (turned host) (turned subtree) ≡ true
+    back : IsUnder host subtree → begins (turned host) (turned subtree) ≡ true
     back (inl empty) = let e : [] ≡ dot ∷ rest = sym empty ∙ is in absurd (cc)
     back (inr (inl same)) = ends_begins host subtree ([], same)
     back (inr (inr (dotted, ends))) = ends_begins host subtree ends
 
 pub undotted_answers : (host : List ℕ) (c : ℕ) (rest tail : List ℕ) → (c ≡ dot → ⊥) →
-    (begins (turned host ++ stop ∷ tail) (turned (c ∷ rest) ++ stop ∷ []) ≡ true) ↔ IsWithinHost host (c ∷ rest)
+    (begins (turned host ++ stop ∷ tail) (turned (c ∷ rest) ++ stop ∷ []) ≡ true) ↔ IsUnder host (c ∷ rest)
 unfolding turned
 undotted_answers host c rest tail other = (
   (λ h. let met = stops_meet (reverse (lower host)) (reverse (lower (c ∷ rest))) tail [] h in
@@ -109,13 +113,13 @@ undotted_answers host c rest tail other = (
   back,
 )
   where
-    back : IsWithinHost host (c ∷ rest) → begins (turned host ++ stop ∷ tail) (turned (c ∷ rest) ++ stop ∷ []) ≡ true
+    back : IsUnder host (c ∷ rest) → begins (turned host ++ stop ∷ tail) (turned (c ∷ rest) ++ stop ∷ []) ≡ true
     back (inl empty) = absurd (cc)
     back (inr (inl same)) = ap (λ l. begins (symbols (reverse l) ++ stop ∷ tail) (turned (c ∷ rest) ++ stop ∷ [])) same
         ∙ stops_same (reverse (lower (c ∷ rest))) tail [] refl
     back (inr (inr ((rest', dotted), ends))) = let e : c ≡ dot = cc in absurd (other e)
 
-pub host_answers : (host subtree tail : List ℕ) → (begins (turned host ++ stop ∷ tail) (host_prefix subtree) ≡ true) ↔ IsWithinHost host subtree
+pub host_answers : (host subtree tail : List ℕ) → (begins (turned host ++ stop ∷ tail) (host_prefix subtree) ≡ true) ↔ IsUnder host subtree
 unfolding turned
 host_answers host [] tail = ((λ h. inl refl), (λ h. refl))
 host_answers host (c ∷ rest) tail = elim (eqb_tells c dot) [
@@ -125,10 +129,10 @@ host_answers host (c ∷ rest) tail = elim (eqb_tells c dot) [
       (undotted_answers host c rest tail other)
 ]
   where
-    one : (p : List ℕ) → host_prefix (c ∷ rest) ≡ p → (begins (turned host ++ stop ∷ tail) p ≡ true) ↔ IsWithinHost host (c ∷ rest) →
-        (begins (turned host ++ stop ∷ tail) (host_prefix (c ∷ rest)) ≡ true) ↔ IsWithinHost host (c ∷ rest)
+    one : (p : List ℕ) → host_prefix (c ∷ rest) ≡ p → (begins (turned host ++ stop ∷ tail) p ≡ true) ↔ IsUnder host (c ∷ rest) →
+        (begins (turned host ++ stop ∷ tail) (host_prefix (c ∷ rest)) ≡ true) ↔ IsUnder host (c ∷ rest)
     one p is answers =
-        let F : List ℕ → Type 0 = λ q. (begins (turned host ++ stop ∷ tail) q ≡ true) ↔ IsWithinHost host (c ∷ rest) in
+        let F : List ℕ → Type 0 = λ q. (begins (turned host ++ stop ∷ tail) q ≡ true) ↔ IsUnder host (c ∷ rest) in
         subst F (sym is) answers
 
 or_left : (a b : Bool) → a ≡ true → (a || b) ≡ true
@@ -158,19 +162,92 @@ has_prefix-two key p q P Q first second =
     back last (inl h) = or_left _ _ (first.1 h)
     back last (inr h) = or_right _ _ (last.1 h)
 
-pub host_key_answers : (host subtree : List ℕ) → (has_prefix (host_prefix subtree ∷ []) (host_key host) ≡ true) ↔ IsWithinHost host subtree
-host_key_answers host subtree = has_prefix-one (host_key host) (host_prefix subtree) (IsWithinHost host subtree) (host_answers host subtree [])
+-- nothing that has symbols is a prefix of nothing
+pub begins_none : (xs ys : List ℕ) (y : ℕ) → begins [] (xs ++ y ∷ ys) ≡ false
+begins_none [] ys y = refl
+begins_none (x ∷ xs) ys y = refl
 
-pub below_answers : (name parent : List ℕ) → (begins (host_key name) (turned (dot ∷ parent)) ≡ true) ↔ EndsWith name (dot ∷ parent)
+pub begins-turned : (c : ℕ) (rest : List ℕ) → begins [] (turned (c ∷ rest)) ≡ false
+begins-turned c rest = ap (begins []) (turned-cons c rest) ∙ begins_none (turned rest) [] (to_ascii_lowercase c + 1)
+
+pub host_prefix-some : (c : ℕ) (rest : List ℕ) → begins [] (host_prefix (c ∷ rest)) ≡ false
+host_prefix-some c rest = by_first (c == dot)
+  where
+    by_first : (b : Bool) → begins [] (if b then turned (c ∷ rest) else turned (c ∷ rest) ++ stop ∷ []) ≡ false
+    by_first true = begins-turned c rest
+    by_first false = begins_none (turned (c ∷ rest)) [] stop
+
+clash : (b : Bool) → b ≡ true → b ≡ false → ⊥
+clash b t f = let e : true ≡ false = sym t ∙ f in cc
+
+-- no key begins with the prefix of an empty subtree alone
+pub empty_answers : (subtree : List ℕ) → (begins [] (host_prefix subtree) ≡ true) ↔ (subtree ≡ [])
+unfolding turned
+empty_answers [] = ((λ h. refl), (λ h. refl))
+empty_answers (c ∷ rest) = ((λ h. absurd (clash _ h (host_prefix-some c rest))), (λ h. absurd (cc)))
+
+-- a key that not all names have
+pub key_if-answers : (has : Bool) (prefixes : List (List ℕ)) (key subtree : List ℕ) (Q : Type 0) →
+    ((has ≡ true) → (has_prefix prefixes key ≡ true) ↔ ((subtree ≡ []) ⊎ Q)) → (has_prefix prefixes [] ≡ true) ↔ (subtree ≡ []) →
+    (has_prefix prefixes (key_if has key) ≡ true) ↔ ((subtree ≡ []) ⊎ ((has ≡ true) × Q))
+key_if-answers true prefixes key subtree Q answers none = ((λ h. forth ((answers refl).0 h)), (λ either. (answers refl).1 (back either)))
+  where
+    forth : (subtree ≡ []) ⊎ Q → (subtree ≡ []) ⊎ ((true ≡ true) × Q)
+    forth (inl empty) = inl empty
+    forth (inr holds) = inr (refl, holds)
+
+    back : (subtree ≡ []) ⊎ ((true ≡ true) × Q) → (subtree ≡ []) ⊎ Q
+    back (inl empty) = inl empty
+    back (inr (is, holds)) = inr holds
+key_if-answers false prefixes key subtree Q answers none = ((λ h. inl (none.0 h)), (λ either. none.1 (back either)))
+  where
+    back : (subtree ≡ []) ⊎ ((false ≡ true) × Q) → subtree ≡ []
+    back (inl empty) = empty
+    back (inr (is, holds)) = absurd (cc)
+
+pub host_key_answers : (host subtree : List ℕ) → (has_prefix (host_prefix subtree ∷ []) (host_key host) ≡ true) ↔ IsWithinHost host subtree
+host_key_answers host subtree = key_if-answers (is_host host) (host_prefix subtree ∷ []) (stopped host) subtree (IsHostOf host subtree)
+    (λ has. has_prefix-one (stopped host) (host_prefix subtree) (IsUnder host subtree) (host_answers host subtree []))
+    (has_prefix-one [] (host_prefix subtree) (subtree ≡ []) (empty_answers subtree))
+
+pub below_answers : (name parent : List ℕ) → (begins (stopped name) (turned (dot ∷ parent)) ≡ true) ↔ EndsWith name (dot ∷ parent)
 unfolding turned
 below_answers name parent =
-    let unstopped : begins (host_key name) (turned (dot ∷ parent)) ≡ begins (turned name) (turned (dot ∷ parent)) =
+    let unstopped : begins (stopped name) (turned (dot ∷ parent)) ≡ begins (turned name) (turned (dot ∷ parent)) =
     begins-stopped (reverse (lower name)) (reverse (lower (dot ∷ parent))) [] in
     ((λ h. begins_ends name (dot ∷ parent) (sym unstopped ∙ h)), (λ ends. unstopped ∙ ends_begins name (dot ∷ parent) ends))
 
-pub dns_answers : (name subtree : List ℕ) → (has_prefix (dns_prefixes subtree) (host_key name) ≡ true) ↔ IsWithinDns name subtree
-dns_answers name subtree = has_prefix-two (host_key name) (host_prefix subtree) (turned (dot ∷ subtree)) (IsWithinHost name subtree) (EndsWith name
-    (dot ∷ subtree)) (host_answers name subtree []) (below_answers name subtree)
+-- the two prefixes of a subtree of DNS names
+dns_answers_both : (name subtree : List ℕ) → (has_prefix (dns_prefixes subtree) (stopped name) ≡ true)
+    ↔ ((subtree ≡ []) ⊎ (IsHostOf name subtree ⊎ EndsWith name (dot ∷ subtree)))
+dns_answers_both name subtree =
+    let both = has_prefix-two (stopped name) (host_prefix subtree) (turned (dot ∷ subtree)) (IsUnder name subtree) (EndsWith name (dot ∷ subtree))
+    (host_answers name subtree []) (below_answers name subtree) in
+    ((λ h. forth (both.0 h)), (λ either. both.1 (back either)))
+  where
+    forth : IsUnder name subtree ⊎ EndsWith name (dot ∷ subtree) → (subtree ≡ []) ⊎ (IsHostOf name subtree ⊎ EndsWith name (dot ∷ subtree))
+    forth (inl (inl empty)) = inl empty
+    forth (inl (inr own)) = inr (inl own)
+    forth (inr ends) = inr (inr ends)
+
+    back : (subtree ≡ []) ⊎ (IsHostOf name subtree ⊎ EndsWith name (dot ∷ subtree)) → IsUnder name subtree ⊎ EndsWith name (dot ∷ subtree)
+    back (inl empty) = inl (inl empty)
+    back (inr (inl own)) = inl (inr own)
+    back (inr (inr ends)) = inr ends
+
+dns_answers_none : (subtree : List ℕ) → (has_prefix (dns_prefixes subtree) [] ≡ true) ↔ (subtree ≡ [])
+dns_answers_none subtree =
+    let both = has_prefix-two [] (host_prefix subtree) (turned (dot ∷ subtree)) (subtree ≡ []) ⊥ (empty_answers subtree)
+    ((λ h. clash _ h (begins-turned dot subtree)), (λ never. absurd never)) in
+    ((λ h. forth (both.0 h)), (λ empty. both.1 (inl empty)))
+  where
+    forth : (subtree ≡ []) ⊎ ⊥ → subtree ≡ []
+    forth (inl empty) = empty
+    forth (inr never) = absurd never
+
+pub dns_answers : (name subtree : List ℕ) → (has_prefix (dns_prefixes subtree) (dns_key name) ≡ true) ↔ IsWithinDns name subtree
+dns_answers name subtree = key_if-answers (is_dns_name name) (dns_prefixes subtree) (stopped name) subtree (IsHostOf name subtree ⊎ EndsWith name (dot ∷ subtree))
+    (λ has. dns_answers_both name subtree) (dns_answers_none subtree)
 
 -- one more octet of a host, from its end
 pub turned_more : (host : List ℕ) (left next : ℕ) (key start : List ℕ) (s : ℕ) → left < length host → next ≡ left + 1 →

@@ -1,6 +1,6 @@
 -- Keys by which names are looked up: a name is within a subtree exactly where its key begins with one of the subtree's.
 use Rattle.std.specs.Prelude.{ℕ, ◌+◌, ◌==◌, Bool, true, List, [], ◌∷◌, ◌++◌, map, reverse, if◌then◌else◌}
-use Rattle.x509_constraints.specs.Host.{dot, lower}
+use Rattle.x509_constraints.specs.Host.{dot, is_dns_name, is_host, lower}
 
 -- behind the octets of a host
 abbrev pub stop : ℕ
@@ -14,8 +14,18 @@ symbols octets = map (λ c. c + 1) octets
 unfoldable pub turned : List ℕ → List ℕ
 turned host = symbols (reverse (lower host))
 
+abbrev pub stopped : List ℕ → List ℕ
+stopped host = turned host ++ stop ∷ []
+
+-- the key, and none of what has none
+abbrev pub key_if : Bool → List ℕ → List ℕ
+key_if has key = if has then key else []
+
 abbrev pub host_key : List ℕ → List ℕ
-host_key host = turned host ++ stop ∷ []
+host_key host = key_if (is_host host) (stopped host)
+
+abbrev pub dns_key : List ℕ → List ℕ
+dns_key name = key_if (is_dns_name name) (stopped name)
 
 -- it has no host of its own: it is empty, or has a dot in front
 abbrev pub is_open : List ℕ → Bool

@@ -10,3 +10,8 @@ pub mod AddressKeys
 pub mod AddressLaws
 pub mod Uri
 pub mod Directory
+pub mod Constraints
+pub mod Merging
+pub mod Stacks
+pub mod SubtreeKeys
+pub mod Applied

@@ -3,7 +3,7 @@ use Rattle.std.specs.Prelude.{ℕ, ◌==◌, ◌&&◌, ◌||◌, not, Bool, fals
 use Rattle.std.specs.Char.{is_ascii_alphabetic, is_ascii_alphanumeric, is_ascii_digit}
 use Rattle.std.specs.List.{before_first, list_all, position_or_len}
 use Rattle.x509_constraints.specs.Email.{mailbox_of}
-use Rattle.x509_constraints.specs.Host.{IsWithinHost, dot}
+use Rattle.x509_constraints.specs.Host.{IsWithinHost, dot, is_host}
 
 -- a letter, a digit, '+', '-' or '.'
 abbrev pub is_scheme_octet : ℕ → Bool
@@ -41,20 +41,16 @@ host_in authority = before_first (λ c. c == 0x3A) (behind_user authority (mailb
 abbrev pub is_digit_or_dot : ℕ → Bool
 is_digit_or_dot c = is_ascii_digit c || c == dot
 
-abbrev pub is_bracketed : List ℕ → Bool
-is_bracketed [] = false
-is_bracketed (c ∷ rest) = c == 0x5B
+-- a host that is no address; one in brackets is no host
+abbrev pub is_named : List ℕ → Bool
+is_named host = is_host host && not (list_all is_digit_or_dot host)
 
--- it is empty, or an address: in digits and dots, or in brackets
-abbrev pub is_no_host : List ℕ → Bool
-is_no_host host = list_all is_digit_or_dot host || is_bracketed host
-
-abbrev pub host_unless : List ℕ → Option (List ℕ)
-host_unless host = if is_no_host host then None else Some host
+abbrev pub host_where : List ℕ → Option (List ℕ)
+host_where host = if is_named host then Some host else None
 
 abbrev pub host_behind : Option (List ℕ) → Option (List ℕ)
 host_behind None = None
-host_behind (Some rest) = host_unless (host_in (before_first ends_authority rest))
+host_behind (Some rest) = host_where (host_in (before_first ends_authority rest))
 
 -- the host of the URI, if it has one that is no address
 abbrev pub host_of : List ℕ → Option (List ℕ)

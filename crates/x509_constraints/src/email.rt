@@ -1,11 +1,13 @@
 //! Addresses of e-mail (RFC 5280 4.2.1.10).
 
 ghost use Rattle.std.specs.Prelude.{◌≡◌, ◌↔◌, ◌++◌, ◌∷◌, [], IsTrue, IfOk, OnOk, MatchOption, None, Some};
-ghost use Rattle.x509_constraints.specs.Email.{IsWithinEmail, IsWithinParts, email_key, email_prefix, mailbox_key, mailbox_of};
+ghost use Rattle.std.specs.List.{list_all};
+ghost use Rattle.x509_constraints.specs.Email as emails;
+ghost use Rattle.x509_constraints.specs.Email.{IsMailboxWithin, IsWithinEmail, IsWithinParts, email_key, email_key_at, email_prefix, mailbox_key, mailbox_of};
 ghost use Rattle.x509_constraints.specs.Keys.{stop, symbols};
 
 use crate::form::Form;
-use crate::host::is_within_host;
+use crate::host::{is_host, is_within_host};
 use crate::key::Key;
 use crate::turned::{STOP, prefix_of_hosts, push_turned, symbol};
 use std::alloc::{AllocError, Global};
@@ -24,6 +26,41 @@ pub fn split_mailbox(address: &[u8]) -> Option<(&[u8], &[u8])>
     None
 }
 
+/// Whether the octet is a character of ASCII that is printed, or a space.
+fn is_local_octet(octet: u8) -> bool
+    ensures { result ≡ emails.is_local_octet octet }
+{
+    0x20 <= octet && octet <= 0x7E
+}
+
+/// Whether all octets are such.
+fn are_local_octets(octets: &[u8]) -> bool
+    ensures { result ≡ list_all emails.is_local_octet octets.now }
+{
+    octets.iter().all(|octet| is_local_octet(*octet))
+}
+
+/// Whether a mailbox can have the local part.
+fn is_local(local: &[u8]) -> bool
+    ensures { result ≡ emails.is_local local.now }
+{
+    match local {
+        [] => false,
+        [_, ..] => are_local_octets(local),
+    }
+}
+
+/// Whether the octets are an address of e-mail that is compared: a local part, an '@', and a host. The local part isn't
+/// empty, and has printed characters of ASCII and spaces alone.
+pub fn is_mailbox(name: &[u8]) -> bool
+    ensures { result ≡ emails.is_mailbox name.now }
+{
+    match split_mailbox(name) {
+        Some((local, host)) => is_local(local) && is_host(host),
+        None => false,
+    }
+}
+
 /// Whether the mailbox is that of the subtree, if it is one, and else whether its host is within the subtree.
 fn is_within_parts(local: &[u8], host: &[u8], subtree: &[u8]) -> bool
     ensures { IsTrue result ↔ IsWithinParts local.now host.now subtree.now (mailbox_of subtree.now) }
@@ -34,18 +71,23 @@ fn is_within_parts(local: &[u8], host: &[u8], subtree: &[u8]) -> bool
     }
 }
 
-/// Whether the address of e-mail is within the subtree: an empty one has all, one with an '@' that mailbox, and any other
-/// the mailboxes of the hosts that are within it. The case of the local part makes a difference.
-pub fn is_within_email(name: &[u8], subtree: &[u8]) -> bool
-    ensures { IsTrue result ↔ IsWithinEmail name.now subtree.now }
+/// Whether the address has an '@' and is within the subtree.
+fn is_mailbox_within(name: &[u8], subtree: &[u8]) -> bool
+    ensures { IsTrue result ↔ IsMailboxWithin (mailbox_of name.now) subtree.now }
 {
-    if subtree.is_empty() {
-        return true;
-    }
     match split_mailbox(name) {
         Some((local, host)) => is_within_parts(local, host, subtree),
         None => false,
     }
+}
+
+/// Whether the address of e-mail is within the subtree: an empty one has all, one with an '@' that mailbox, and any other
+/// the mailboxes of the hosts that are within it. The case of the local part makes a difference. Octets that are no
+/// mailbox ([`is_mailbox`]) are within an empty subtree alone.
+pub fn is_within_email(name: &[u8], subtree: &[u8]) -> bool
+    ensures { IsTrue result ↔ IsWithinEmail name.now subtree.now }
+{
+    subtree.is_empty() || (is_mailbox(name) && is_mailbox_within(name, subtree))
 }
 
 /// Adds the symbols of the octets, and a stop.
@@ -69,6 +111,16 @@ fn key_of_mailbox(alloc: Global, local: &[u8], host: &[u8]) -> Result<Key, Alloc
     Ok(key)
 }
 
+/// The key of what stands before and behind the last '@'.
+fn key_of_parts(alloc: Global, name: &[u8]) -> Result<Key, AllocError>
+    ensures { IfOk result (λ key. key ≡ email_key_at (mailbox_of name.now)) }
+{
+    match split_mailbox(name) {
+        Some((local, host)) => key_of_mailbox(alloc, local, host),
+        None => Ok(Key::new(alloc)),
+    }
+}
+
 /// Addresses of e-mail (RFC 5280 4.2.1.10).
 #[derive(Drop)]
 pub struct EmailAddress;
@@ -89,9 +141,10 @@ impl Form for EmailAddress {
     }
 
     fn key(alloc: Global, name: &[u8]) -> Result<Key, AllocError> {
-        match split_mailbox(name) {
-            Some((local, host)) => key_of_mailbox(alloc, local, host),
-            None => Ok(Key::new(alloc)),
+        if is_mailbox(name) {
+            key_of_parts(alloc, name)
+        } else {
+            Ok(Key::new(alloc))
         }
     }
 

@@ -1,6 +1,6 @@
 //! Keys, of which one may begin with another.
 
-ghost use Rattle.std.specs.Prelude.{◌≡◌, ◌++◌, ◌∷◌, [], List, ℕ, OnOk, bytes_eq};
+ghost use Rattle.std.specs.Prelude.{◌≡◌, ◌++◌, ◌∷◌, [], List, ℕ, IfOk, OnOk, bytes_eq};
 ghost use Rattle.std.specs.Cmp.{partial_equiv_from_equiv, po};
 ghost use Rattle.std.specs.Cmp.Lexicographic.{nat_list_eq_equiv, slice_cmp};
 ghost use Rattle.std.specs.Ordering.{as_partial_cmp, nat_cmp};
@@ -51,6 +51,15 @@ impl Key {
         self.symbols
             .as_slice()
             .starts_with(other.symbols.as_slice())
+    }
+
+    /// The key behind another symbol.
+    pub(crate) fn behind(self, symbol: u16) -> Result<Key, AllocError>
+        ensures { IfOk result (λ key. key ≡ symbol ∷ self) }
+    {
+        let Key { mut symbols } = self;
+        symbols.insert(0, symbol)?;
+        Ok(Key { symbols })
     }
 
     /// Whether the key is at or before the other in the order.

@@ -13,7 +13,7 @@ use std::marker::Model;
 /// Keys in ascending order, none of which begins with another. Contracts see their list.
 #[derive(Drop)]
 pub struct Prefixes {
-    keys: Vec<Key>,
+    pub(crate) keys: Vec<Key>,
 }
 
 impl Model for Prefixes {
@@ -25,7 +25,7 @@ impl Model for Prefixes {
 }
 
 /// Whether there is a last key, and this one begins with it.
-fn begins_with_last(kept: &[Key], key: &Key) -> bool
+pub(crate) fn begins_with_last(kept: &[Key], key: &Key) -> bool
     ensures { result ≡ begins_one key.now (slice_get kept.now (length kept.now - 1)) }
 {
     match kept.last() {

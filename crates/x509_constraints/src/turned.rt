@@ -3,10 +3,10 @@
 ghost use Rattle.std.specs.Prelude.{◌≡◌, ◌+◌, ◌++◌, ◌∷◌, [], OnOk, IfOk};
 ghost use Rattle.x509_constraints.specs.Host.{dot};
 ghost use Rattle.x509_constraints.specs.Keys as keys;
-ghost use Rattle.x509_constraints.specs.Keys.{dns_prefixes, host_key, host_prefix, stop, turned};
+ghost use Rattle.x509_constraints.specs.Keys.{dns_key, dns_prefixes, host_key, host_prefix, stop, stopped, turned};
 
 use crate::form::Form;
-use crate::host::{is_within_dns, is_within_host};
+use crate::host::{is_dns_name, is_host, is_within_dns, is_within_host};
 use crate::key::Key;
 use std::alloc::{AllocError, Global};
 
@@ -65,14 +65,36 @@ fn prefix_of_hosts_below(alloc: Global, subtree: &[u8]) -> Result<Key, AllocErro
     Ok(key)
 }
 
-/// The key of a host.
-pub(crate) fn key_of_host(alloc: Global, host: &[u8]) -> Result<Key, AllocError>
-    ensures { IfOk result (λ key. key ≡ host_key host.now) }
+/// The octets of a host as a key.
+fn stopped(alloc: Global, host: &[u8]) -> Result<Key, AllocError>
+    ensures { IfOk result (λ key. key ≡ stopped host.now) }
 {
     let mut key = Key::new(alloc);
     push_turned(&mut key, host)?;
     key.push(STOP)?;
     Ok(key)
+}
+
+/// The key of a host.
+pub(crate) fn key_of_host(alloc: Global, host: &[u8]) -> Result<Key, AllocError>
+    ensures { IfOk result (λ key. key ≡ host_key host.now) }
+{
+    if is_host(host) {
+        stopped(alloc, host)
+    } else {
+        Ok(Key::new(alloc))
+    }
+}
+
+/// The key of a DNS name.
+pub(crate) fn key_of_dns_name(alloc: Global, name: &[u8]) -> Result<Key, AllocError>
+    ensures { IfOk result (λ key. key ≡ dns_key name.now) }
+{
+    if is_dns_name(name) {
+        stopped(alloc, name)
+    } else {
+        Ok(Key::new(alloc))
+    }
 }
 
 /// Hosts of URIs (RFC 5280 4.2.1.10).
@@ -119,7 +141,7 @@ impl Form for DnsName {
 
     ghost IsWithin = { IsWithinDns };
 
-    ghost key_of = { host_key };
+    ghost key_of = { dns_key };
 
     ghost prefixes_of = { dns_prefixes };
 
@@ -130,7 +152,7 @@ impl Form for DnsName {
     }
 
     fn key(alloc: Global, name: &[u8]) -> Result<Key, AllocError> {
-        key_of_host(alloc, name)
+        key_of_dns_name(alloc, name)
     }
 
     fn push_prefixes(

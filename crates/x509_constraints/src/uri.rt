@@ -7,7 +7,7 @@ ghost use Rattle.x509_constraints.specs.Uri as uris;
 ghost use Rattle.x509_constraints.specs.Uri.{IsWithinUri, host_of};
 
 use crate::email::split_mailbox;
-use crate::host::is_within_host;
+use crate::host::{is_host, is_within_host};
 
 /// Whether the octet may stand in a scheme (RFC 3986 3.1).
 fn is_scheme_octet(octet: u8) -> bool
@@ -109,22 +109,22 @@ fn is_digits_and_dots(host: &[u8]) -> bool
     host.iter().all(|octet| is_digit_or_dot(*octet))
 }
 
-/// Whether the host is empty, or an address: in digits and dots, or in brackets.
-fn is_no_host(host: &[u8]) -> bool
-    ensures { result ≡ uris.is_no_host host.now }
+/// Whether it is a host, and no address.
+pub(crate) fn is_named(host: &[u8]) -> bool
+    ensures { result ≡ uris.is_named host.now }
 {
-    is_digits_and_dots(host) || matches!(host, [b'[', ..])
+    is_host(host) && !is_digits_and_dots(host)
 }
 
-/// The host of the URI; `None` where it has no scheme or no authority, where its host is empty, and where it is an address,
-/// in brackets or in digits and dots.
+/// The host of the URI; `None` where it has no scheme or no authority, where its host is an address, in brackets or in
+/// digits and dots, and where it is empty or no host ([`is_host`]).
 pub fn host_of_uri(uri: &[u8]) -> Option<&[u8]>
     ensures { MatchOption result (host_of uri.now ≡ None) (λ host. host_of uri.now ≡ Some host.now) }
 {
     let rest = behind_scheme(uri)?;
     let (authority, _) = rest.split_at(authority_len(rest));
     let host = host_in(authority);
-    if is_no_host(host) { None } else { Some(host) }
+    if is_named(host) { Some(host) } else { None }
 }
 
 /// Whether the URI has a host that is within the subtree, as hosts of e-mail addresses are.

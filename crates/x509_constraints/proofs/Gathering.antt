@@ -1,0 +1,27 @@
+-- The prefixes of subtrees, as loops gather them.
+use Rattle.std.proofs.Common.{◌≡◌, ℕ, suc, ◌+◌, ◌<◌, List, [], ◌∷◌, ◌++◌, map, take, length, get_or, refl, sym, ap, ◌∙◌, add-one, append_assoc}
+use Rattle.std.proofs.lemmas.List.{append-nil, take_more}
+use Rattle.std.specs.List.{flat_map}
+use Rattle.x509_ext.specs.declared.pkix.general_subtree.GeneralSubtree.{GeneralSubtree}
+use Rattle.x509_constraints.specs.Constraints.{form_of}
+use Rattle.x509_constraints.specs.SubtreeKeys.{base_prefixes, open_below, open_form, own_prefixes, prefixes_of}
+
+flat_map-push : {X : Type 0} (f : X → List (List ℕ)) (xs : List X) (x : X) → flat_map f (xs ++ x ∷ []) ≡ flat_map f xs ++ f x
+flat_map-push f [] x = append-nil (f x)
+flat_map-push f (y ∷ xs) x = ap (λ l. f y ++ l) (flat_map-push f xs x) ∙ sym (append_assoc (f y) (flat_map f xs) (f x))
+
+pub prefixes_more : (subtrees : List GeneralSubtree) (i : ℕ) (item : GeneralSubtree) (prefixes more own : List (List ℕ)) (form : ℕ) → i < length subtrees →
+    item ≡ get_or subtrees i item → prefixes ≡ prefixes_of (take i subtrees) → own ≡ own_prefixes item.base → form ≡ form_of item.base →
+    more ≡ prefixes ++ map (λ prefix. form ∷ prefix) own → more ≡ prefixes_of (take (i + 1) subtrees)
+prefixes_more subtrees i item prefixes more own form inside at so_far are is pushed =
+    let longer : take (i + 1) subtrees ≡ take i subtrees ++ item ∷ [] = take_more subtrees i item inside ∙ ap (λ z. take i subtrees ++ z ∷ []) (sym at) in
+    pushed ∙ (ap (λ l. l ++ map (λ prefix. form ∷ prefix) own) so_far
+    ∙ (ap (λ l. prefixes_of (take i subtrees) ++ map (λ prefix. form ∷ prefix) l) are
+    ∙ (ap (λ n. prefixes_of (take i subtrees) ++ map (λ prefix. n ∷ prefix) (own_prefixes item.base)) is
+    ∙ (sym (flat_map-push (λ subtree. base_prefixes subtree.base) (take i subtrees) item) ∙ ap prefixes_of (sym longer)))))
+
+pub open_more : (subtrees : List GeneralSubtree) (start prefixes more : List (List ℕ)) (form : ℕ) → prefixes ≡ start ++ open_below subtrees form →
+    more ≡ prefixes ++ open_form subtrees form → more ≡ start ++ open_below subtrees (form + 1)
+open_more subtrees start prefixes more form so_far pushed =
+    pushed ∙ (ap (λ l. l ++ open_form subtrees form) so_far ∙ (append_assoc start (open_below subtrees form) (open_form subtrees form)
+    ∙ ap (λ n. start ++ open_below subtrees n) (sym (add-one form))))
