@@ -12,7 +12,7 @@ parts zero xs = refl
 parts (suc n) [] = refl
 parts (suc n) (x ∷ xs) = ap (λ ys. x ∷ ys) (parts n xs)
 
-parts_at : {X : Type 0} (xs : List X) (i : ℕ) (d : X) → i < length xs → xs ≡ take i xs ++ get_or xs i d ∷ drop (suc i) xs
+pub parts_at : {X : Type 0} (xs : List X) (i : ℕ) (d : X) → i < length xs → xs ≡ take i xs ++ get_or xs i d ∷ drop (suc i) xs
 parts_at xs i d less = parts i xs ∙ ap (λ ys. take i xs ++ ys) (drop-cons xs i d less)
 
 module _ (P : PathReason → Type 0) where

@@ -4,6 +4,16 @@ pub mod Payloads
 pub mod PathLengths
 pub mod Firsts
 pub mod Places
+pub mod Many
 pub mod Judged
 pub mod OneAnswer
 pub mod SignaturesApart
+pub mod Others
+pub mod FirstReasons
+pub mod AllowedNames
+pub mod Verdicts
+pub mod Stepping
+pub mod Values
+pub mod Initials
+pub mod Unusable
+pub mod OneValidation

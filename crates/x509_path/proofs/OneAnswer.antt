@@ -11,7 +11,7 @@ use Rattle.x509_path.specs.declared.fault.PathFault.TheVariants.{Memory, Empty, 
 use Rattle.x509_path.specs.declared.fault.PathReason.{PathReason}
 use Rattle.x509_path.proofs.Firsts.{one_first}
 
-one_lowest : (p q : ℕ) (P : ℕ → Type 0) → P p → P q → ((n : ℕ) → n < p → P n → ⊥) → ((n : ℕ) → n < q → P n → ⊥) → p ≡ q
+pub one_lowest : (p q : ℕ) (P : ℕ → Type 0) → P p → P q → ((n : ℕ) → n < p → P n → ⊥) → ((n : ℕ) → n < q → P n → ⊥) → p ≡ q
 one_lowest p q P hp hq below_p below_q = elim (cases_lt p q) [
   | inl less ↦ absurd (below_q p less hp)
   | inr le ↦ elim (eq-or-lt_of_le le) [ inl same ↦ sym same | inr less ↦ absurd (below_p q less hq) ]

@@ -1,5 +1,5 @@
 -- What a certificate's bytes lend to the check of a path.
-use Rattle.std.specs.Prelude.{ℕ, List, map, Option, Some, None}
+use Rattle.std.specs.Prelude.{◌<◌, ℕ, List, length, map, Option, Some, None}
 use Rattle.x509_cert.specs.Certificate.{rfc5280_certificate}
 use Rattle.x509_cert.specs.base.SubjectPublicKeyInfo.{subject_public_key_info}
 use Rattle.x509_cert.specs.der.Form.{Spells}
@@ -7,13 +7,17 @@ use Rattle.x509_cert.specs.ext.declared.extension.Extension.{Extension}
 use Rattle.x509_cert.specs.name.Names.{name}
 use Rattle.x509_check.specs.ExtensionRefs.{lent_extension}
 use Rattle.x509_check.specs.declared.lent.extension.ExtensionRef.{ExtensionRef}
-use Rattle.x509_path.specs.Certificates.{Certificate}
+use Rattle.x509_path.specs.Certificates.{Certificate, extensions_of}
 use Rattle.x509_path.specs.declared.anchor_ref.AnchorRef.{AnchorRef}
 use Rattle.x509_path.specs.declared.anchor.Anchor.{Anchor}
 
 -- the bytes are those of the certificate
 abbrev pub Lends : List ℕ → Certificate → Type 0
 Lends bytes c = Spells rfc5280_certificate c bytes
+
+-- the bytes are those of a certificate of more than 16 extensions
+abbrev pub HasMany : List ℕ → Type 0
+HasMany bytes = (c : Certificate) × Lends bytes c × (16 < length (extensions_of c))
 
 -- the extensions that are lent
 abbrev pub lent_extensions : List ExtensionRef → List Extension

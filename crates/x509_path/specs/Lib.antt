@@ -4,3 +4,8 @@ pub mod Fault
 pub mod PathLength
 pub mod Equality
 pub mod Lent
+pub mod Inputs
+pub mod Trusts
+pub mod Validation
+pub mod ValidationFault
+pub mod Steps

@@ -1,6 +1,6 @@
 //! The extensions of a certificate that say where it may stand in a path.
 
-ghost use Rattle.std.specs.Prelude.{◌≡◌, ◌↔◌, [], ◌∷◌, true, List, IfOk, IfErr, IfSome, IsTrue, MatchOption, None, Some, false, drop, length, take, ◌+◌, ◌<◌, ◌≤◌, ℕ};
+ghost use Rattle.std.specs.Prelude.{◌≡◌, ◌↔◌, [], ◌∷◌, true, List, IfOk, IfErr, IfSome, IsTrue, MatchOption, None, Some, bytes_eq, false, drop, get_or, length, take, ◌+◌, ◌-◌, ◌<◌, ◌≤◌, ℕ};
 ghost use Rattle.x509_cert.specs.ext.LookUp.{IsRepeated, with_oid};
 ghost use Rattle.x509_cert.specs.ext.declared.extension.Extension.{Extension};
 ghost use Rattle.x509_check.specs.ExtensionRefs.{extensions_left, lent_extension};
@@ -114,13 +114,32 @@ fn behind<'s, 'a>(extensions: &'s [ExtensionRef<'a>], index: usize) -> &'s [Exte
     &extensions[index + 1..]
 }
 
+/// The last octet of the OID.
+#[inline(always)]
+fn last_octet(oid: &ObjectIdentifier) -> u8
+    ensures { result ≡ get_or oid.now (length oid.now - 1) 0 }
+{
+    match oid.as_bytes() {
+        [.., last] => *last,
+        [] => 0,
+    }
+}
+
+/// Whether the extension has the OID. The last octets are compared first, which mostly tells two OIDs apart.
+#[inline(always)]
+fn is_of(extension: &ExtensionRef<'_>, oid: &ObjectIdentifier) -> bool
+    ensures { result ≡ bytes_eq extension.now.extn_id oid.now }
+{
+    last_octet(&extension.extn_id) == last_octet(oid) && extension.extn_id == *oid
+}
+
 /// Whether an extension has the OID.
 fn has_any(extensions: &[ExtensionRef<'_>], oid: ObjectIdentifier) -> bool
     ensures none { result ≡ false → with_oid oid (lent_extensions extensions.now) ≡ [] }
     ensures some { result ≡ true → 1 ≤ length (with_oid oid (lent_extensions extensions.now)) }
 {
     for extension in extensions {
-        if extension.extn_id == oid {
+        if is_of(extension, &oid) {
             return true;
         }
     }
@@ -128,12 +147,15 @@ fn has_any(extensions: &[ExtensionRef<'_>], oid: ObjectIdentifier) -> bool
 }
 
 /// The octets of the one extension with the OID; `None` where there are none or several.
-fn find_one<'a>(extensions: &[ExtensionRef<'a>], oid: ObjectIdentifier) -> Option<&'a [u8]>
+pub(crate) fn find_one<'a>(
+    extensions: &[ExtensionRef<'a>],
+    oid: ObjectIdentifier,
+) -> Option<&'a [u8]>
     ensures { MatchOption result ((e : Extension) → with_oid oid (lent_extensions extensions.now) ≡ e ∷ [] → ⊥)
         (λ octets. (e : Extension) × (with_oid oid (lent_extensions extensions.now) ≡ e ∷ []) × (octets.now ≡ e.extn_value)) }
 {
     for (index, extension) in extensions.iter().enumerate() {
-        if extension.extn_id == oid {
+        if is_of(extension, &oid) {
             if has_any(behind(extensions, index), oid) {
                 return None;
             }
@@ -159,7 +181,7 @@ fn is_any_repeated(extensions: &[ExtensionRef<'_>]) -> bool
 /// Whether two of the extensions have one OID. O(n log n) comparisons. It takes memory for more than 16.
 pub(crate) fn is_repeated(alloc: Global, extensions: &[ExtensionRef<'_>]) -> Result<bool, PathFault>
     ensures ok { IfOk result (λ b. IsTrue b ↔ IsRepeated (lent_extensions extensions.now)) }
-    ensures err { IfErr result (λ e. e ≡ Memory) }
+    ensures err { IfErr result (λ e. (e ≡ Memory) × (16 < length extensions.now)) }
 {
     if extensions.len() <= FEW {
         return Ok(is_any_repeated(extensions));
@@ -178,7 +200,7 @@ pub(crate) fn is_repeated(alloc: Global, extensions: &[ExtensionRef<'_>]) -> Res
 }
 
 /// Whether the extension has the OID of the type, and its octets are an encoding of the type.
-fn is_readable<T: AssociatedOid + Check>(extension: &ExtensionRef<'_>) -> bool
+pub(crate) fn is_readable<T: AssociatedOid + Check>(extension: &ExtensionRef<'_>) -> bool
     ensures { IsTrue result ↔ certificates.IsReadable T.form T.OID (lent_extension extension.now) }
 {
     if extension.extn_id != T::OID {
@@ -188,7 +210,7 @@ fn is_readable<T: AssociatedOid + Check>(extension: &ExtensionRef<'_>) -> bool
 }
 
 /// Whether the extension is of a type that is processed here, and can be decoded.
-fn is_known(extension: &ExtensionRef<'_>) -> bool
+pub(crate) fn is_known(extension: &ExtensionRef<'_>) -> bool
     ensures { IsTrue result ↔ certificates.IsKnown (lent_extension extension.now) }
 {
     is_readable::<BasicConstraints>(extension)

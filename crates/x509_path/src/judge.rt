@@ -54,7 +54,7 @@ pub(crate) struct Place<'a> {
 
 /// Whether the algorithm in the signed part isn't the one outside it.
 #[tactic(auto, using(crate::proofs::Lent::two_algorithms))]
-fn has_two_algorithms(certificate: &CertificateRef<'_>) -> bool
+pub(crate) fn has_two_algorithms(certificate: &CertificateRef<'_>) -> bool
     ensures { (c : certificates.Certificate) → Lends certificate.now.bytes.now c → IsTrue result ↔ certificates.HasTwoAlgorithms c }
 {
     let slices = certificate.slices();
@@ -62,7 +62,7 @@ fn has_two_algorithms(certificate: &CertificateRef<'_>) -> bool
 }
 
 /// Whether the moment is before or after the validity.
-fn is_outside(moment: DateTime, certificate: &CertificateRef<'_>) -> bool
+pub(crate) fn is_outside(moment: DateTime, certificate: &CertificateRef<'_>) -> bool
     ensures { (c : certificates.Certificate) → Lends certificate.now.bytes.now c → IsTrue result ↔ certificates.IsOutside moment c.tbs_certificate.validity }
 {
     !certificate.validity().contains(moment)
@@ -77,7 +77,7 @@ fn is_self_issued(certificate: &CertificateRef<'_>) -> bool
 }
 
 /// What is signed of the certificate.
-fn signed_of<'a>(certificate: &CertificateRef<'a>) -> Signed<'a>
+pub(crate) fn signed_of<'a>(certificate: &CertificateRef<'a>) -> Signed<'a>
     ensures algorithm { (c : certificates.Certificate) → Lends certificate.now.bytes.now c → Spells algorithm_identifier c.signature_algorithm result.algorithm.now }
     ensures message { IsSignedPart certificate.now.bytes.now result.message.now }
     ensures signature { (c : certificates.Certificate) → Lends certificate.now.bytes.now c → Spells bit_string c.signature result.signature.now }
@@ -172,9 +172,9 @@ pub(crate) struct Judge<'t, T> {
 }
 
 impl<T: Trust> Judge<'_, T> {
-    ghost use Rattle.std.specs.Prelude.{◌≡◌, ◌≢◌, ◌↔◌, List, Ok, Err, IfOk, IfErr, IsTrue, MatchResult, false};
+    ghost use Rattle.std.specs.Prelude.{◌≡◌, ◌≢◌, ◌↔◌, ◌<◌, ◌⊎◌, length, min, List, Ok, Err, IfOk, IfErr, IsTrue, MatchResult, false};
     ghost use Rattle.x509_path.specs.Certificates as certificates;
-    ghost use Rattle.x509_path.specs.Lent.{Lends, StandsAbove, lent_extensions};
+    ghost use Rattle.x509_path.specs.Lent.{HasMany, Lends, StandsAbove, lent_extensions};
     ghost use Rattle.x509_path.specs.Path.{Breaks};
     ghost use Rattle.x509_path.specs.PathLength.{HasConstraints, Judges, Leaves, standing};
     ghost use Rattle.x509_path.specs.declared.anchor.Anchor.{Anchor};
@@ -188,7 +188,7 @@ impl<T: Trust> Judge<'_, T> {
     ) -> Result<bool, PathFault>
         ensures ok { IfOk result (λ b. (c : certificates.Certificate) (above : Anchor) → Lends certificate.now.bytes.now c
             → StandsAbove (T.is_anchor self.now.trust.now) place.now.above above → IsTrue b ↔ (c.tbs_certificate.issuer ≢ above.name)) }
-        ensures err { IfErr result (λ e. e ≡ Memory) }
+        ensures err { IfErr result (λ e. (e ≡ Memory) × T.takes_memory) }
     {
         match &place.above {
             Some(above) => Ok(certificate.issuer() != above.name),
@@ -208,7 +208,7 @@ impl<T: Trust> Judge<'_, T> {
         ensures ok { IfOk result (λ b. (c : certificates.Certificate) (above : Anchor) → Lends certificate.now.bytes.now c
             → StandsAbove (T.is_anchor self.now.trust.now) place.now.above above
             → IsTrue b ↔ certificates.IsSigned (T.accepts self.now.trust.now) above.key certificate.now.bytes.now c) }
-        ensures err { IfErr result (λ e. e ≡ Memory) }
+        ensures err { IfErr result (λ e. (e ≡ Memory) × T.takes_memory) }
     {
         one_signed_part();
         let signed = signed_of(certificate);
@@ -230,7 +230,7 @@ impl<T: Trust> Judge<'_, T> {
             → (before : List certificates.Certificate) → Leaves before place.now.max_path_length → IsTrue b
             ↔ Breaks (T.accepts self.now.trust.now) self.now.moment (standing above.name above.key before place.now.is_last) lent.now.certificate.now.bytes.now c
             reason) }
-        ensures err { IfErr result (λ e. e ≡ Memory) }
+        ensures err { IfErr result (λ e. (e ≡ Memory) × (T.takes_memory ⊎ (16 < length lent.now.extensions.now))) }
     {
         let certificate = lent.certificate;
         let extensions = lent.extensions;
@@ -261,7 +261,7 @@ impl<T: Trust> Judge<'_, T> {
         extensions: &[ExtensionRef<'_>],
         index: usize,
     ) -> Result<Option<BasicConstraints>, PathFault>
-        ensures { (c : certificates.Certificate) (above : Anchor) → Lends certificate.now.bytes.now c → lent_extensions extensions.now ≡ certificates.extensions_of c
+        ensures judged { (c : certificates.Certificate) (above : Anchor) → Lends certificate.now.bytes.now c → lent_extensions extensions.now ≡ certificates.extensions_of c
             → StandsAbove (T.is_anchor self.now.trust.now) place.now.above above → (before : List certificates.Certificate)
             → Leaves before place.now.max_path_length → MatchResult result
             (λ constraints. (place.now.is_last ≡ false → HasConstraints (certificates.extensions_of c) constraints)
@@ -269,6 +269,7 @@ impl<T: Trust> Judge<'_, T> {
             (Ok c))
             (λ e. Judges (T.accepts self.now.trust.now) self.now.moment (standing above.name above.key before place.now.is_last) certificate.now.bytes.now index
             (Err e)) }
+        ensures memory { result ≡ Err Memory → T.takes_memory ⊎ (16 < length extensions.now) }
     {
         let constraints = basic_constraints(self.alloc, place.is_last, extensions);
         let lent = Lent {
@@ -317,7 +318,7 @@ impl<T: Trust> Judge<'_, T> {
         few: &mut [ExtensionRef<'a>],
         index: usize,
     ) -> Result<Option<BasicConstraints>, PathFault>
-        ensures { (c : certificates.Certificate) (above : Anchor) → Lends certificate.now.bytes.now c
+        ensures judged { (c : certificates.Certificate) (above : Anchor) → Lends certificate.now.bytes.now c
             → StandsAbove (T.is_anchor self.now.trust.now) place.now.above above → (before : List certificates.Certificate)
             → Leaves before place.now.max_path_length → MatchResult result
             (λ constraints. (place.now.is_last ≡ false → HasConstraints (certificates.extensions_of c) constraints)
@@ -325,6 +326,8 @@ impl<T: Trust> Judge<'_, T> {
             (Ok c))
             (λ e. Judges (T.accepts self.now.trust.now) self.now.moment (standing above.name above.key before place.now.is_last) certificate.now.bytes.now index
             (Err e)) }
+        ensures memory { (c : certificates.Certificate) → Lends certificate.now.bytes.now c → result ≡ Err Memory
+            → T.takes_memory ⊎ (min (length few.old) 16 < length (certificates.extensions_of c)) }
     {
         match gather(certificate.extensions(), few) {
             Some(count) => {
@@ -342,7 +345,7 @@ impl<T: Trust> Judge<'_, T> {
         certificate: &CertificateRef<'_>,
         index: usize,
     ) -> Result<Option<BasicConstraints>, PathFault>
-        ensures { (c : certificates.Certificate) (above : Anchor) → Lends certificate.now.bytes.now c
+        ensures judged { (c : certificates.Certificate) (above : Anchor) → Lends certificate.now.bytes.now c
             → StandsAbove (T.is_anchor self.now.trust.now) place.now.above above → (before : List certificates.Certificate)
             → Leaves before place.now.max_path_length → MatchResult result
             (λ constraints. (place.now.is_last ≡ false → HasConstraints (certificates.extensions_of c) constraints)
@@ -350,6 +353,8 @@ impl<T: Trust> Judge<'_, T> {
             (Ok c))
             (λ e. Judges (T.accepts self.now.trust.now) self.now.moment (standing above.name above.key before place.now.is_last) certificate.now.bytes.now index
             (Err e)) }
+        ensures memory { (c : certificates.Certificate) → Lends certificate.now.bytes.now c → result ≡ Err Memory
+            → T.takes_memory ⊎ (16 < length (certificates.extensions_of c)) }
     {
         let mut few = places();
         self.judge_within(place, certificate, &mut few, index)
@@ -362,12 +367,13 @@ impl<T: Trust> Judge<'_, T> {
         bytes: &'a [u8],
         index: usize,
     ) -> Result<Judged<'a>, PathFault>
-        ensures { (above : Anchor) → StandsAbove (T.is_anchor self.now.trust.now) place.now.above above → (before : List certificates.Certificate)
+        ensures judged { (above : Anchor) → StandsAbove (T.is_anchor self.now.trust.now) place.now.above above → (before : List certificates.Certificate)
             → Leaves before place.now.max_path_length → MatchResult result
             (λ judged. (c : certificates.Certificate) × Lends judged.certificate.bytes.now c
             × (place.now.is_last ≡ false → HasConstraints (certificates.extensions_of c) judged.constraints)
             × Judges (T.accepts self.now.trust.now) self.now.moment (standing above.name above.key before place.now.is_last) bytes.now index (Ok c))
             (λ e. Judges (T.accepts self.now.trust.now) self.now.moment (standing above.name above.key before place.now.is_last) bytes.now index (Err e)) }
+        ensures memory { result ≡ Err Memory → T.takes_memory ⊎ HasMany bytes.now }
     {
         let certificate = match CertificateRef::from_der(bytes) {
             Ok(certificate) => certificate,

@@ -9,6 +9,14 @@ ghost use Rattle.x509_path.specs.declared.fault.PathFault.{PathFault};
 ghost use Rattle.x509_path.specs.declared.fault.PathFault.TheVariants.{At, Memory};
 ghost use Rattle.x509_path.specs.declared.fault.PathReason.{PathReason};
 ghost use Rattle.x509_path.specs.declared.fault.PathReason.TheVariants.{Signature};
+ghost use Rattle.std.specs.Prelude.{IsOk};
+ghost use Rattle.x509_path.specs.Inputs.{Inputs};
+ghost use Rattle.x509_path.specs.Validation as validation;
+ghost use Rattle.x509_path.specs.Validation.{AreUnusable, PathIsValid};
+ghost use Rattle.x509_path.specs.declared.validated.Validated.{Validated};
+ghost use Rattle.x509_path.specs.declared.validation_fault.ValidationFault.{ValidationFault};
+ghost use Rattle.x509_path.specs.declared.validation_fault.ValidationFault.TheVariants as validation_faults;
+ghost use Rattle.x509_path.specs.declared.validation_fault.ValidationReason.{ValidationReason};
 
 use crate::{Anchor, PathFault, PathReason};
 use x509_cert::certificate::Rfc5280;
@@ -34,6 +42,16 @@ pub fn signatures_may_be_verified_apart()
 {
     signed_bytes_spell_the_signed_part::<Rfc5280>();
 }
+
+/// Apart from out of memory there is one answer to a path that is validated: that it is valid, exactly where it is, and
+/// else the first fault of the lowest place that has one.
+pub fn one_validation()
+    ensures valid { (accepts : Accepting) (inputs : Inputs) (path : List (List ℕ)) (a : Result Validated ValidationFault)
+        → PathIsValid accepts inputs path → validation.Answers accepts inputs path a → IsOk a ⊎ (a ≡ Err validation_faults.Memory) }
+    ensures fault { (accepts : Accepting) (inputs : Inputs) (path : List (List ℕ)) (place : ℕ) (reason : ValidationReason)
+        (a : Result Validated ValidationFault) → (AreUnusable inputs → ⊥) → validation.IsFirstFault accepts inputs path place reason
+        → validation.Answers accepts inputs path a → (a ≡ Err (validation_faults.At place reason)) ⊎ (a ≡ Err validation_faults.Memory) }
+{}
 
 /// `==` of trust anchors, of faults and of reasons holds exactly of equal values.
 #[tactic(auto, using(crate::specs::Equality::exact_anchor, crate::specs::Equality::exact_fault, crate::specs::Equality::exact_reason))]

@@ -1,9 +1,10 @@
 //! Checking a path.
 
-ghost use Rattle.std.specs.Prelude.{◌≡◌, map, IfOk, List, ℕ};
-ghost use Rattle.x509_path.specs.Lent.{LendsAnchor};
+ghost use Rattle.std.specs.Prelude.{◌≡◌, ◌⊎◌, map, Contains, Err, IfOk, List, ℕ};
+ghost use Rattle.x509_path.specs.Lent.{HasMany, LendsAnchor};
 ghost use Rattle.x509_path.specs.Path.{Answers};
 ghost use Rattle.x509_path.specs.declared.anchor.Anchor as anchors;
+ghost use Rattle.x509_path.specs.declared.fault.PathFault.TheVariants.{Memory};
 
 use crate::anchor::Anchor;
 use crate::anchor_ref::AnchorRef;
@@ -32,7 +33,8 @@ fn walk<T: Trust>(
     path: &[&[u8]],
     moment: DateTime,
 ) -> Result<(), PathFault>
-    ensures { (anchor : anchors.Anchor) → T.is_anchor trust.now anchor → Answers (T.accepts trust.now) moment anchor (map (λ input. input.now) path.now) result }
+    ensures answers { (anchor : anchors.Anchor) → T.is_anchor trust.now anchor → Answers (T.accepts trust.now) moment anchor (map (λ input. input.now) path.now) result }
+    ensures memory { result ≡ Err Memory → T.takes_memory ⊎ ((input : List ℕ) × Contains (map (λ input. input.now) path.now) input × HasMany input) }
 {
     if path.is_empty() {
         return Err(PathFault::Empty);
@@ -118,7 +120,7 @@ pub fn check_path_slices<V: Verifier>(
 ///
 /// # Errors
 ///
-/// Those of [`check_path`].
+/// Those of [`check_path`]; [`PathFault::Memory`] only where some input is a certificate of more than 16 extensions.
 pub fn check_path_lent<V: SliceVerifier>(
     alloc: Global,
     anchor: &AnchorRef<'_>,
@@ -126,7 +128,8 @@ pub fn check_path_lent<V: SliceVerifier>(
     moment: DateTime,
     verifier: &V,
 ) -> Result<(), PathFault>
-    ensures { (value : anchors.Anchor) → LendsAnchor anchor.now value → Answers (V.accepts verifier.now) moment value (map (λ input. input.now) path.now) result }
+    ensures answers { (value : anchors.Anchor) → LendsAnchor anchor.now value → Answers (V.accepts verifier.now) moment value (map (λ input. input.now) path.now) result }
+    ensures memory { result ≡ Err Memory → (input : List ℕ) × Contains (map (λ input. input.now) path.now) input × HasMany input }
 {
     let trust = Slices { anchor, verifier };
     walk(alloc, &trust, path, moment)

@@ -48,11 +48,14 @@ pub(crate) trait Trust {
     /// What the verifier answers.
     ghost accepts: { Self → Accepting };
 
+    /// Whether a call may take memory.
+    ghost takes_memory: { Type 0 };
+
     /// Whether the bytes, which are a name's, are that of the anchor's name.
     fn is_name(&self, alloc: Global, bytes: &[u8]) -> Result<bool, PathFault>
         ensures ok { IfOk result (λ b. (value : List (List attributes.AttributeTypeAndValue)) (above : anchors.Anchor) → Spells name value bytes.now
             → is_anchor self.now above → IsTrue b ↔ (value ≡ above.name)) }
-        ensures err { IfErr result (λ e. e ≡ Memory) };
+        ensures err { IfErr result (λ e. (e ≡ Memory) × takes_memory) };
 
     /// Whether the verifier accepts the signature for the key of what stands above.
     fn verify(
@@ -64,7 +67,7 @@ pub(crate) trait Trust {
         ensures ok { IfOk result (λ b. (over : anchors.Anchor) (algorithm : algorithms.AlgorithmIdentifier) (bits : BitParts)
             → StandsAbove (is_anchor self.now) above.now over → Spells algorithm_identifier algorithm signed.now.algorithm.now
             → Spells bit_string bits signed.now.signature.now → b ≡ accepts self.now algorithm over.key signed.now.message.now bits) }
-        ensures err { IfErr result (λ e. e ≡ Memory) };
+        ensures err { IfErr result (λ e. (e ≡ Memory) × takes_memory) };
 }
 
 /// An anchor and a verifier, which are handed values.
@@ -94,6 +97,8 @@ impl<V: Verifier> Trust for Values<'_, V> {
     ghost is_anchor = { λ trust anchor. anchor ≡ trust.anchor.now };
 
     ghost accepts = { λ trust. V.accepts trust.verifier.now };
+
+    ghost takes_memory = { Unit };
 
     fn is_name(&self, alloc: Global, bytes: &[u8]) -> Result<bool, PathFault> {
         equal_names_are_one_value();
@@ -141,6 +146,8 @@ impl<V: SliceVerifier> Trust for Slices<'_, V> {
     ghost is_anchor = { λ trust anchor. LendsAnchor trust.anchor.now anchor };
 
     ghost accepts = { λ trust. V.accepts trust.verifier.now };
+
+    ghost takes_memory = { ⊥ };
 
     fn is_name(&self, _alloc: Global, bytes: &[u8]) -> Result<bool, PathFault> {
         Ok(bytes == self.anchor.name)

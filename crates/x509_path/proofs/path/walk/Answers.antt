@@ -1,6 +1,7 @@
 use Rattle.std.proofs.Common.{◌∙◌, ◌<◌, Bool, List, [], ℕ, Bor, Ok, Err, Some, length, map, get_or, subst, arith}
 use Rattle.std.proofs.lemmas.List.{length-map}
 use Rattle.x509_path.specs.PathLength.{Judges, anchor_behind, standing}
+use Rattle.x509_path.proofs.Many.{one_of, refused_too}
 use Rattle.x509_path.proofs.Places.{counted, done, further, given_at, refused, some_left}
 use Rattle.x509_path.proofs.path.walk.Goals as goal
 
@@ -8,8 +9,8 @@ use Rattle.x509_path.proofs.path.walk.Goals as goal
 abbrev nothing : Bor (List ℕ)
 nothing = record { ref_ptr = (0, 0); now = [] }
 
-pub returns-in-Err : goal.returns-in-Err
-returns-in-Err g c = λ anchor is.
+pub returns-in-Err-clause-answers : goal.returns-in-Err-clause-answers
+returns-in-Err-clause-answers g c = λ anchor is.
     let accepts = g.T.Trust.accepts c.args.trust.now in
     let inputs = map (λ (input : Bor (List ℕ)). input.now) c.args.path.now in
     let bytes = (get_or c.args.path.now c.loop-index.index nothing).now in
@@ -19,7 +20,7 @@ returns-in-Err g c = λ anchor is.
     let passed = (c.loop-index.invariant anchor is).2 in
     let within : c.loop-index.index < length inputs = omega (arith, length-map c.args.path.now (λ (input : Bor (List ℕ)). input.now), c.loop-index-test.true) in
     let said = subst (λ (l : Bool). Judges accepts c.args.moment (standing above.name above.key passed.before l) bytes c.loop-index.index (Err c.in-Err.e)) (counted (λ (input : Bor (List ℕ)). input.now) c.args.path.now c.loop-index.index)
-    (c.in-Err.ensures above (c.loop-index.invariant anchor is).1 passed.before (passed.leaves within)) in
+    (c.in-Err.ensures.judged above (c.loop-index.invariant anchor is).1 passed.before (passed.leaves within)) in
     refused accepts c.args.moment anchor inputs c.loop-index.index over c.loop-index.max_path_length bytes passed input c.in-Err.e (some_left (λ (input : Bor (List ℕ)). input.now) c.args.path.now c.if-is_empty.ensures) said
 
 pub loop-index-preserved : goal.loop-index-preserved
@@ -33,7 +34,7 @@ loop-index-preserved g c = λ anchor is.
     let passed = (c.loop-index.invariant anchor is).2 in
     let within : c.loop-index.index < length inputs = omega (arith, length-map c.args.path.now (λ (input : Bor (List ℕ)). input.now), c.loop-index-test.true) in
     let counts = counted (λ (input : Bor (List ℕ)). input.now) c.args.path.now c.loop-index.index in
-    let judged = c.in-Ok.ensures above (c.loop-index.invariant anchor is).1 passed.before (passed.leaves within) in
+    let judged = c.in-Ok.ensures.judged above (c.loop-index.invariant anchor is).1 passed.before (passed.leaves within) in
     let certificate = judged.0 in
     let lends = judged.1 in
     let said = subst (λ (l : Bool). Judges accepts c.args.moment (standing above.name above.key passed.before l) bytes c.loop-index.index (Ok certificate)) counts judged.3 in (
@@ -43,8 +44,12 @@ loop-index-preserved g c = λ anchor is.
           (λ early. c.max_path_length_behind-max_path_length.ensures certificate lends (judged.2 (counts ∙ early))),
     )
 
-pub returns : goal.returns
-returns g c = λ anchor is.
+pub returns-clause-answers : goal.returns-clause-answers
+returns-clause-answers g c = λ anchor is.
     let inv = (c.loop-index.invariant anchor is) in
     done (g.T.Trust.accepts c.args.trust.now) c.args.moment anchor (map (λ (input : Bor (List ℕ)). input.now) c.args.path.now) c.loop-index.index inv.0 c.loop-index.max_path_length inv.2
     (omega (arith, length-map c.args.path.now (λ (input : Bor (List ℕ)). input.now), c.loop-index-test.false)) (some_left (λ (input : Bor (List ℕ)). input.now) c.args.path.now c.if-is_empty.ensures)
+
+pub returns-in-Err-clause-memory : goal.returns-in-Err-clause-memory
+returns-in-Err-clause-memory g c = λ lacks.
+    one_of (λ (input : Bor (List ℕ)). input.now) c.args.path.now c.loop-index.index nothing c.loop-index-test.true (c.in-Err.ensures.memory (refused_too _ _ lacks))

@@ -2,27 +2,34 @@ use Rattle.std.proofs.Common.{Err, Ok, refl, sym, subst}
 use Rattle.x509_path.specs.Lent.{Lends}
 use Rattle.x509_path.specs.PathLength.{Judges, standing}
 use Rattle.x509_path.proofs.Judged.{unreadable}
+use Rattle.x509_path.proofs.Many.{of_these, refused_too}
 use Rattle.x509_path.proofs.judge.Judge.judge.Goals as goal
 
-pub returns-in-Err : goal.returns-in-Err
-returns-in-Err g c = λ above stands before leaves.
+pub returns-in-Err-clause-judged : goal.returns-in-Err-clause-judged
+returns-in-Err-clause-judged g c = λ above stands before leaves.
     rw c.unreadable.ensures (
       refl,
       unreadable (g.T.Trust.accepts c.args.self.now.trust.now) c.args.self.now.moment (standing above.name above.key before c.args.place.now.is_last) c.args.bytes.now (λ v s. let ok = c.in-Err.ensures.every v s in cc),
     )
 
-pub returns-in-Ok-judge_read : goal.returns-in-Ok-judge_read
-returns-in-Ok-judge_read g c = λ above stands before leaves.
+pub returns-in-Ok-judge_read-clause-judged : goal.returns-in-Ok-judge_read-clause-judged
+returns-in-Ok-judge_read-clause-judged g c = λ above stands before leaves.
     let same = c.in-Ok.ensures.found.0 in
     let certificate = c.in-Ok.ensures.found.1.0 in
     let lends = subst (λ b. Lends b certificate) (sym same) c.in-Ok.ensures.found.1.1 in
-    let said = c.in-Ok-judge_read.ensures certificate above lends stands before leaves in
+    let said = c.in-Ok-judge_read.ensures.judged certificate above lends stands before leaves in
     (certificate, lends, said.0, subst (λ b. Judges (g.T.Trust.accepts c.args.self.now.trust.now) c.args.self.now.moment (standing above.name above.key before c.args.place.now.is_last) b c.args.index (Ok certificate)) same said.1)
 
-pub returns-in-Err-judge_read : goal.returns-in-Err-judge_read
-returns-in-Err-judge_read g c = λ above stands before leaves.
+pub returns-in-Err-judge_read-clause-judged : goal.returns-in-Err-judge_read-clause-judged
+returns-in-Err-judge_read-clause-judged g c = λ above stands before leaves.
     let same = c.in-Ok.ensures.found.0 in
     let certificate = c.in-Ok.ensures.found.1.0 in
     let lends = subst (λ b. Lends b certificate) (sym same) c.in-Ok.ensures.found.1.1 in
-    let said = c.in-Err-judge_read.ensures certificate above lends stands before leaves in
+    let said = c.in-Err-judge_read.ensures.judged certificate above lends stands before leaves in
     subst (λ b. Judges (g.T.Trust.accepts c.args.self.now.trust.now) c.args.self.now.moment (standing above.name above.key before c.args.place.now.is_last) b c.args.index (Err c.in-Err-judge_read.e)) same said
+
+pub returns-in-Err-judge_read-clause-memory : goal.returns-in-Err-judge_read-clause-memory
+returns-in-Err-judge_read-clause-memory g c = λ lacks.
+    let certificate = c.in-Ok.ensures.found.1.0 in
+    let lends = subst (λ b. Lends b certificate) (sym c.in-Ok.ensures.found.0) c.in-Ok.ensures.found.1.1 in
+    of_these certificate c.args.bytes.now c.in-Ok.ensures.found.1.1 (c.in-Err-judge_read.ensures.memory certificate lends (refused_too _ _ lacks))

@@ -16,8 +16,8 @@ loop-reason-preserved g c = λ certificate above lends same stands before leaves
     reasons c.loop-reason.reason-index Decode c.loop-reason-test.true (c.loop-reason.invariant certificate above lends same stands before leaves)
     (λ is. true≢false (sym ((c.in_ok-breaks.ensures.ok certificate above lends same said stands before leaves).1 is) ∙ c.if-branch.false))
 
-pub returns-then-branch : goal.returns-then-branch
-returns-then-branch g c = λ certificate above lends same stands before leaves.
+pub returns-then-branch-clause-judged : goal.returns-then-branch-clause-judged
+returns-then-branch-clause-judged g c = λ certificate above lends same stands before leaves.
     let said = λ (early : c.args.place.now.is_last ≡ false). subst (λ es. HasConstraints es c.basic_constraints-constraints.result) same (c.basic_constraints-constraints.ensures early) in (
       refl,
       first_wrong (g.T.Trust.accepts c.args.self.now.trust.now) c.args.self.now.moment (standing above.name above.key before c.args.place.now.is_last) c.args.certificate.now.bytes.now certificate lends
@@ -25,8 +25,8 @@ returns-then-branch g c = λ certificate above lends same stands before leaves.
           ((c.in_ok-breaks.ensures.ok certificate above lends same said stands before leaves).0 c.if-branch.true),
     )
 
-pub returns : goal.returns
-returns g c = λ certificate above lends same stands before leaves.
+pub returns-clause-judged : goal.returns-clause-judged
+returns-clause-judged g c = λ certificate above lends same stands before leaves.
     let said = λ (early : c.args.place.now.is_last ≡ false). subst (λ es. HasConstraints es c.basic_constraints-constraints.result) same (c.basic_constraints-constraints.ensures early) in
     let free = subst (All (λ r. Breaks (g.T.Trust.accepts c.args.self.now.trust.now) c.args.self.now.moment (standing above.name above.key before c.args.place.now.is_last) c.args.certificate.now.bytes.now certificate r → ⊥))
     (take_all c.loop-reason.reason-index reasons c.loop-reason-test.false) (c.loop-reason.invariant certificate above lends same stands before leaves) in (

@@ -1,0 +1,182 @@
+-- Going down a path that is validated.
+use Rattle.std.proofs.Common.{◌≡◌, ◌≢◌, ◌↔◌, ◌∙◌, ℕ, zero, suc, ◌+◌, ◌<◌, ◌≤◌, inl, inr, Bool, true, false, List, [], ◌∷◌, ◌++◌, length, drop, slice_get, get_or, map, Bor, Option, Some, Ok, Err, refl, sym, ap, subst, arith}
+use Rattle.std.specs.Option.{option_to_list}
+use Rattle.std.proofs.Math.Nat.{eq-or-lt_of_le}
+use Rattle.std.proofs.Math.Seq.{drop-cons}
+use Rattle.std.proofs.lemmas.Bool.{cases_lt}
+use Rattle.std.proofs.lemmas.Option.{slice_get_within, get_or_from_slice_get}
+use Rattle.x509_cert.specs.base.CivilTime.{CivilTime}
+use Rattle.x509_cert.specs.ext.declared.pkix.name_constraints.NameConstraints.{NameConstraints}
+use Rattle.x509_path.specs.Certificates.{Accepting, Certificate}
+use Rattle.x509_path.specs.Inputs.{Inputs, LendsInputs}
+use Rattle.x509_path.specs.Lent.{LendsAnchor}
+use Rattle.x509_path.specs.Path.{Standing, is_empty, subject_of}
+use Rattle.x509_path.specs.Steps.{AreConstraintsOf, Holds, Judges, Leaves, Stands, Starts, standing}
+use Rattle.x509_path.specs.Validation.{Answers, AreUnusable, HasFault, HasFaultBehind, IsFault, IsFirst, IsFirstFault, IsOver}
+use Rattle.x509_path.specs.declared.anchor.Anchor.{Anchor}
+use Rattle.x509_path.specs.declared.anchor_ref.AnchorRef.{AnchorRef}
+use Rattle.x509_path.specs.declared.applied.Applied.{Applied}
+use Rattle.x509_path.specs.declared.settings.PathSettings.{PathSettings}
+use Rattle.x509_path.specs.declared.trusted.Trusted.{Trusted}
+use Rattle.x509_path.specs.declared.validation_fault.ValidationFault.{ValidationFault}
+use Rattle.x509_path.specs.declared.validation_fault.ValidationFault.TheVariants.{Memory, Empty, Initial, At}
+use Rattle.x509_path.specs.declared.validation_fault.ValidationReason.{ValidationReason}
+use Rattle.x509_path.specs.declared.validation_fault.ValidationReason.TheVariants.{PathLen}
+use Rattle.x509_path.proofs.AllowedNames.{collected}
+use Rattle.x509_path.proofs.Others.{too_many}
+use Rattle.x509_path.proofs.FirstReasons.{first_along}
+use Rattle.x509_path.proofs.Places.{one_certificate}
+use Rattle.x509_path.proofs.Verdicts.{wrong}
+
+-- ---- a path, and its last input
+
+pub not_empty : (front : List (List ℕ)) (last : List ℕ) → front ++ last ∷ [] ≢ []
+not_empty [] last none = cc
+not_empty (x ∷ front) last none = cc
+
+some_left : (front : List (List ℕ)) (last : List ℕ) → is_empty (front ++ last ∷ []) ≡ false
+some_left [] last = refl
+some_left (x ∷ front) last = refl
+
+-- another input follows one that isn't the last
+pub some_behind : (front : List (List ℕ)) (last : List ℕ) (i : ℕ) → i < length front → is_empty (drop (suc i) (front ++ last ∷ [])) ≡ false
+some_behind [] last i less = absurd (omega (arith, less))
+some_behind (x ∷ front) last zero less = some_left front last
+some_behind (x ∷ front) last (suc i) less = some_behind front last i (omega (arith, less))
+
+pub none_behind : (front : List (Bor (List ℕ))) (last : List ℕ) → is_empty (drop (suc (length front)) (map (λ input. input.now) front ++ last ∷ [])) ≡ true
+none_behind [] last = refl
+none_behind (x ∷ front) last = none_behind front last
+
+pub at_front : (front : List (Bor (List ℕ))) (last : List ℕ) (i : ℕ) (d : Bor (List ℕ)) → i < length front → slice_get (map (λ input. input.now) front ++ last ∷ []) i ≡ Some (get_or front i d).now
+at_front [] last i d less = absurd (omega (arith, less))
+at_front (x ∷ front) last zero d less = refl
+at_front (x ∷ front) last (suc i) d less = at_front front last i d (omega (arith, less))
+
+pub at_last : (front : List (Bor (List ℕ))) (last : List ℕ) → slice_get (map (λ input. input.now) front ++ last ∷ []) (length front) ≡ Some last
+at_last [] last = refl
+at_last (x ∷ front) last = at_last front last
+
+pub whole_length : (front : List (Bor (List ℕ))) (last : List ℕ) → length (map (λ input. input.now) front ++ last ∷ []) ≡ length front + 1
+whole_length [] last = refl
+whole_length (x ∷ front) last = omega (arith, whole_length front last)
+
+module _ (accepts : Accepting) (inputs : Inputs) where
+  -- behind the last input there is no fault
+  beyond : (above : Anchor) (before : List Certificate) (path : List (List ℕ)) (place : ℕ) (r : ValidationReason) → length path ≤ place → HasFaultBehind accepts inputs above before path place r → ⊥
+  beyond above before [] place r past fault = fault
+  beyond above before (bytes ∷ path) zero r past fault = omega (arith, past)
+  beyond above before (bytes ∷ path) (suc place) r past (c, spells, fault) = beyond (subject_of c) (before ++ c ∷ []) path place r (omega (arith, past)) fault
+
+  module _ (path : List (List ℕ)) where
+    -- what holds before the input at a place is judged: what is carried to it, and what is left of the path stands behind those before it
+    pub record Passed (i : ℕ) (moment : CivilTime) (lent : AnchorRef) (max_path_length : Option ℕ) (sets : Applied) : Type 0 where
+      pub above : Anchor
+      pub before : List Certificate
+      pub stands : Stands inputs above before moment lent max_path_length sets
+      pub left : (place p : ℕ) → place ≡ i + p → (r : ValidationReason) → HasFault accepts inputs path place r ↔ HasFaultBehind accepts inputs above before (drop i path) p r
+      pub clean : (p : ℕ) → p < i → (r : ValidationReason) → HasFault accepts inputs path p r → ⊥
+
+    begins : (limit : Option ℕ) → Leaves limit [] limit
+    begins limit behind = ((λ h. h), (λ h. h))
+
+    pub starting : (trusted : Trusted) (settings : PathSettings) (sets : Applied) → LendsInputs trusted settings inputs → Starts inputs (Ok sets) → Passed 0 settings.moment trusted.anchor trusted.max_path_length sets
+    starting trusted settings sets lends starts = record {
+      above = inputs.trust.anchor;
+      before = [];
+      stands = record {
+        constraints = starts.0.0;
+        at = lends.moment;
+        lends = lends.trust.anchor;
+        leaves = subst (λ m. Leaves inputs.trust.max_path_length [] m) lends.trust.max_path_length (begins inputs.trust.max_path_length);
+        applied = starts.0.1;
+        collects = starts.0.2;
+      };
+      left = λ place p is r. let same : place ≡ p = omega (arith, is) in rw same ((λ h. h), (λ h. h));
+      clean = λ p less. absurd (omega (arith, less));
+    }
+
+    module _ (i : ℕ) (moment : CivilTime) (lent : AnchorRef) (max_path_length : Option ℕ) (sets : Applied) (bytes : List ℕ) (is_last : Bool)
+        (passed : Passed i moment lent max_path_length sets) (input : slice_get path i ≡ Some bytes) (last : is_empty (drop (suc i) path) ≡ is_last) where
+      within : i < length path
+      within = slice_get_within path i bytes input
+
+      front : drop i path ≡ bytes ∷ drop (suc i) path
+      front = drop-cons path i bytes within ∙ ap (λ b. b ∷ drop (suc i) path) (get_or_from_slice_get path i bytes bytes input)
+
+      -- where the input stands
+      abbrev pub here : Standing
+      here = standing passed.above passed.before is_last
+
+      abbrev Left : List (List ℕ) → ℕ → ValidationReason → Type 0
+      Left rest p r = HasFaultBehind accepts inputs passed.above passed.before rest p r
+
+      left : (place p : ℕ) → place ≡ i + p → (r : ValidationReason) → HasFault accepts inputs path place r ↔ Left (bytes ∷ drop (suc i) path) p r
+      left place p is r = subst (λ rest. HasFault accepts inputs path place r ↔ Left rest p r) front (passed.left place p is r)
+
+      abbrev At_last : Bool → ValidationReason → Type 0
+      At_last l r = IsFault accepts inputs (standing passed.above passed.before l) bytes r
+
+      local : (r : ValidationReason) → HasFault accepts inputs path i r ↔ IsFault accepts inputs here bytes r
+      local r = subst (λ l. HasFault accepts inputs path i r ↔ At_last l r) last (left i 0 (omega arith) r)
+
+      first_fault : (r : ValidationReason) → IsFirst (IsFault accepts inputs here bytes) r → IsFirstFault accepts inputs path i r
+      first_fault r h = record {
+        first = first_along (IsFault accepts inputs here bytes) (HasFault accepts inputs path i) r (local r).1 (λ s. (local s).0) h;
+        lowest = passed.clean;
+      }
+
+      -- what is answered where it is refused
+      pub refused : (e : ValidationFault) → path ≢ [] → (AreUnusable inputs → ⊥) → Judges accepts inputs here bytes i (Err e) → Answers accepts inputs path (Err e)
+      refused Memory some usable h = some
+      refused Empty some usable h = absurd h
+      refused Initial some usable h = absurd h
+      refused (At p r) some usable h = rw h.0 (usable, first_fault r h.1)
+
+      module _ (c : Certificate) (judged : Judges accepts inputs here bytes i (Ok c)) where
+        clean : (p : ℕ) → p < i + 1 → (r : ValidationReason) → HasFault accepts inputs path p r → ⊥
+        clean p less r fault = elim (eq-or-lt_of_le less) [
+          | inl same ↦ judged.1 r (wrong accepts inputs here bytes c judged.0 r ((local r).0 (subst (λ q. HasFault accepts inputs path q r) (omega (arith, same)) fault)))
+          | inr before ↦ passed.clean p (omega (arith, before)) r fault
+        ]
+
+        abbrev Behind : ℕ → ValidationReason → Certificate → ℕ → Type 0
+        Behind n r d p = HasFaultBehind accepts inputs (subject_of d) (passed.before ++ d ∷ []) (drop n path) p r
+
+        next : suc i ≡ i + 1
+        next = omega arith
+
+        module _ (names : Option NameConstraints) (next_lent : AnchorRef) (next_length : Option ℕ) (next_sets : Applied) where
+          next_stands : is_last ≡ false → AreConstraintsOf c names → LendsAnchor next_lent (subject_of c)
+              → ((IsOver max_path_length (c ∷ []) → ⊥) → Leaves inputs.trust.max_path_length (passed.before ++ c ∷ []) next_length)
+              → Holds next_sets (passed.stands.constraints ++ option_to_list names) → Stands inputs (subject_of c) (passed.before ++ c ∷ []) moment next_lent next_length next_sets
+          next_stands early of_names lends leaves applied = record {
+            constraints = passed.stands.constraints ++ option_to_list names;
+            at = passed.stands.at;
+            lends = lends;
+            leaves = leaves (λ over. judged.1 PathLen (early, (too_many inputs.trust.max_path_length passed.before max_path_length c passed.stands.leaves).1 over));
+            applied = applied;
+            collects = collected inputs passed.before c passed.stands.constraints names passed.stands.collects of_names;
+          }
+
+          pub further : is_last ≡ false → AreConstraintsOf c names → LendsAnchor next_lent (subject_of c)
+              → ((IsOver max_path_length (c ∷ []) → ⊥) → Leaves inputs.trust.max_path_length (passed.before ++ c ∷ []) next_length)
+              → Holds next_sets (passed.stands.constraints ++ option_to_list names) → Passed (i + 1) moment next_lent next_length next_sets
+          further early of_names lends leaves applied = record {
+            above = subject_of c;
+            before = passed.before ++ c ∷ [];
+            stands = next_stands early of_names lends leaves applied;
+            left = λ place p at r. (
+              (λ h. let (d, other, fault) = (left place (suc p) (omega (arith, at)) r).0 h in
+                  subst (λ n. Behind n r c p) next (subst (λ x. Behind (suc i) r x p) (one_certificate d c bytes other judged.0) fault)),
+              (λ h. (left place (suc p) (omega (arith, at)) r).1 (c, judged.0, subst (λ n. Behind n r c p) (sym next) h)),
+            );
+            clean = clean;
+          }
+
+        -- it is the last one
+        pub none : length path ≡ i + 1 → (place : ℕ) (r : ValidationReason) → HasFault accepts inputs path place r → ⊥
+        none whole place r fault = elim (cases_lt place (i + 1)) [
+          | inl less ↦ clean place less r fault
+          | inr past ↦ beyond inputs.trust.anchor [] path place r (omega (arith, past, whole)) fault
+        ]

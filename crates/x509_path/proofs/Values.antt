@@ -1,0 +1,20 @@
+-- What a look-up of the value of one extension says.
+use Rattle.std.proofs.Common.{◌≡◌, Bool, List, [], ◌∷◌, Option, Some, None, Ok, refl, subst}
+use Rattle.x509_cert.specs.der.Form.{Form, Spells}
+use Rattle.x509_cert.specs.der.declared.error.ErrorKind.{ErrorKind}
+use Rattle.x509_cert.specs.ext.LookUp.{Finds}
+use Rattle.x509_cert.specs.ext.declared.extension.Extension.{Extension}
+
+module _ {T : Type 0} (form : Form T) (refuses : ErrorKind → Type 0) (wants : Type 0) where
+  pub no_value : (es : List Extension) → Finds form refuses wants es (Ok None) → es ≡ []
+  no_value [] h = refl
+  no_value (e ∷ []) h = absurd h
+  no_value (e ∷ f ∷ es) h = absurd h
+
+  one_value : (es : List Extension) (found : Bool × T) → Finds form refuses wants es (Ok (Some found)) → (e : Extension) × (es ≡ e ∷ []) × Spells form found.1 e.extn_value
+  one_value [] found h = absurd (let e : Ok (Some found) ≡ Ok None = h in cc)
+  one_value (e ∷ []) found h = (e, refl, h.1.found)
+  one_value (e ∷ f ∷ es) found h = absurd h
+
+  pub value_of : (es : List Extension) (answer : Option (Bool × T)) (found : Bool × T) → answer ≡ Some found → Finds form refuses wants es (Ok answer) → (e : Extension) × (es ≡ e ∷ []) × Spells form found.1 e.extn_value
+  value_of es answer found is h = one_value es found (subst (λ a. Finds form refuses wants es (Ok a)) is h)
