@@ -5,7 +5,8 @@ use Rattle.std.proofs.lemmas.Bool.Decides.{Decides-eqb}
 use Rattle.x509_policy.specs.Values.{Policy, any_policy, is_any, has, Mapping, maps_any_policy, Certificate, Settings}
 use Rattle.x509_policy.specs.Path.{Counters, initial_counters, next_counters, last_explicit_policy, takes_others, has_repeated, outcome, Outcome, Refused, Valid, RepeatedPolicy, MapsAnyPolicy, NoPolicy}
 use Rattle.x509_policy.specs.Leaves.{first_of_way}
-use Rattle.x509_policy.specs.Levels.{In, Entry, Level, IsAt, Expects, LeadsTo, initial_level, last_level, IsProcessed, IsNext, IsPrepared, Way, Leads, IsConstrained, ByLevels, repeated, none_left, maps_any, goes_on, none_constrained, valid, Alike}
+use Rattle.x509_policy.specs.Levels.{In, Entry, Level, IsAt, LeadsTo, initial_level, last_level, IsProcessed, IsNext, IsPrepared, Way, Leads, IsConstrained, ByLevels, repeated, none_left, maps_any, goes_on, none_constrained, valid, Alike}
+use Rattle.x509_policy.specs.Stands.{Hangs, AllHang, root, hangs, Stands}
 use Rattle.x509_policy.specs.Graph.{is_at, next_level, prepared_level, firsts, leading, constrained, is_empty_level, is_empty_set, graph_from, outcome_by_graph}
 use Rattle.x509_policy.proofs.Leaves.{way_of_any, way_of_other}
 use Rattle.x509_policy.proofs.Ends.{is_any-same}
@@ -14,16 +15,6 @@ use Rattle.x509_policy.proofs.Mappings.{issuer_or_not}
 use Rattle.x509_policy.proofs.Steps.{at_of_expects, at_of_leads, first_any}
 use Rattle.x509_policy.proofs.Graphs.{In-map, map-In, at_is, is_at_of, next_right, prepared_right}
 use Rattle.x509_policy.proofs.Outcomes.{none_from, none_to, outcome_by_levels}
-
--- levels that hang together, from the root on, last first
-pub record Hangs (level above : Level) : Type 0 where
-  pub from_above : (u v : Policy) → LeadsTo level u v → IsAt above u
-  pub follows : (v : Policy) → IsAt level v → (u : Policy) × LeadsTo level u v
-  pub any_alone : (u : Policy) → LeadsTo level u any_policy → u ≡ any_policy
-
-pub data AllHang : List Level → Type 0 where
-  root : AllHang []
-  hangs : {level : Level} {levels : List Level} → Hangs level (last_level levels) → AllHang levels → AllHang (level ∷ levels)
 
 at_root : (v : Policy) → IsAt initial_level v → v ≡ any_policy
 at_root v (e, inl here, same) = sym same ∙ sym (ap (λ (k : Entry). k.valid) here)
@@ -201,11 +192,6 @@ module _ (level : Level) (levels : List Level) (all : AllHang (level ∷ levels)
   constrained_right user p = constrained-case user (has user any_policy) refl p
 
 -- ---- a path
-
--- what holds of the levels where a certificate is looked at
-pub record Stands (levels : List Level) : Type 0 where
-  pub all : AllHang levels
-  pub any_expected : (v : Policy) → Expects (last_level levels) v any_policy → v ≡ any_policy
 
 pub at_start : Stands []
 at_start = record { all = root; any_expected = λ v (e, is, same, ex). at_root v (e, is, same) }

@@ -11,3 +11,9 @@ pub mod GraphEnds
 pub mod Octets
 pub mod Sizes
 pub mod WayBack
+pub mod Pairs
+pub mod PairsBack
+pub mod States
+pub mod Paths
+pub mod Sets
+pub mod Merged

@@ -8,7 +8,7 @@ use Rattle.x509_policy.specs.Values.{Policy, has, is_any, is_repeated, maps_any_
 use Rattle.x509_policy.specs.Views.{octets_of, mapping_of}
 use Rattle.x509_policy.specs.declared.values.MappingView.{MappingView}
 
-has-first : (q : Policy) (ps : List Policy) (p : Policy) → has (q ∷ ps) p ≡ (bytes_eq q p || has ps p)
+pub has-first : (q : Policy) (ps : List Policy) (p : Policy) → has (q ∷ ps) p ≡ (bytes_eq q p || has ps p)
 unfolding has
 has-first q ps p = refl
 

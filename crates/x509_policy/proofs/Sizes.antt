@@ -1,12 +1,12 @@
 -- The graph grows by no more than what certificates say.
-use Rattle.std.proofs.Common.{◌≡◌, ◌∙◌, ℕ, zero, suc, ◌+◌, ◌<◌, ◌≤◌, inl, inr, Bool, true, false, not, ◌&&◌, ◌||◌, cond, List, [], ◌∷◌, ◌++◌, length, map, filter, Option, Some, None, refl, sym, ap, subst, arith, length-append}
+use Rattle.std.proofs.Common.{◌≡◌, ◌∙◌, ℕ, ◌+◌, ◌≤◌, inl, inr, Bool, true, false, not, ◌&&◌, ◌||◌, cond, List, [], ◌∷◌, ◌++◌, length, map, filter, Option, Some, None, refl, sym, ap, subst, arith, length-append}
 use Rattle.std.specs.List.{flat_map, filter_map, cons_option}
 use Rattle.x509_policy.specs.Values.{Policy, any_policy, is_any, has, is_repeated, Mapping}
 use Rattle.x509_policy.specs.Tree.{subjects}
 use Rattle.x509_policy.specs.Levels.{In, Entry, Level, IsAt}
 use Rattle.x509_policy.specs.Graph.{is_at, some_expects, expecting, entry, named_entry, with_new, next_level, is_issuer, mapped_entry, parents_of_any, prepared_level, count_expected}
 use Rattle.x509_policy.proofs.Ends.{has_one}
-use Rattle.x509_policy.proofs.Members.{In-left, In-cases, In-has, not_both, or_left, or_right}
+use Rattle.x509_policy.proofs.Members.{In-cases, In-has, not_both}
 use Rattle.x509_policy.proofs.Graphs.{In-map, In-filter_map, not_at}
 
 count-append : (xs ys : Level) → count_expected (xs ++ ys) ≡ count_expected xs + count_expected ys

@@ -1,12 +1,13 @@
 -- The way back through levels finds the policies right below any-policy that lead to the last one.
-use Rattle.std.proofs.Common.{◌≡◌, ◌∙◌, ◌↔◌, ◌⊎◌, inl, inr, Bool, true, false, List, [], ◌∷◌, refl, sym, ap, subst}
+use Rattle.std.proofs.Common.{◌≡◌, ◌∙◌, ◌↔◌, ◌⊎◌, inl, inr, Bool, true, false, List, ◌∷◌, refl, sym, subst}
 use Rattle.x509_policy.specs.Values.{Policy, any_policy, is_any}
 use Rattle.x509_policy.specs.Leaves.{first_of_way}
-use Rattle.x509_policy.specs.Levels.{In, Level, IsAt, LeadsTo, last_level, Way, IsBack, GoesBack, at_root, one_back}
+use Rattle.x509_policy.specs.Levels.{In, Level, LeadsTo, last_level, Way, IsBack, GoesBack, at_root, one_back}
 use Rattle.x509_policy.proofs.Leaves.{way_of_any, way_of_other}
 use Rattle.x509_policy.proofs.Ends.{is_any-same}
 use Rattle.x509_policy.proofs.Members.{any_is, other_is}
-use Rattle.x509_policy.proofs.GraphEnds.{AllHang, root, hangs, Hangs, reached_by, any_way}
+use Rattle.x509_policy.specs.Stands.{AllHang, root, hangs, Hangs}
+use Rattle.x509_policy.proofs.GraphEnds.{reached_by, any_way}
 
 abbrev Found : List Level → List Policy → Policy → Type 0
 Found levels reached r = (r ≡ any_policy → ⊥) × ((v : Policy) × In v reached × Way levels r v)

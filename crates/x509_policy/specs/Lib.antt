@@ -6,3 +6,7 @@ pub mod Levels
 pub mod Worked
 pub mod Graph
 pub mod Views
+pub mod Stands
+pub mod Edges
+pub mod Follows
+pub mod Anchors

@@ -11,14 +11,15 @@ pub struct MappingView<'a> {
 }
 
 /// What one certificate says of policies: those of its extensions that speak of them, without qualifiers. A policy is
-/// given by the contents octets of its OBJECT IDENTIFIER.
+/// given by the contents octets of its OBJECT IDENTIFIER, lent for longer than the lists are. No path has 2^32 certificates,
+/// so a number that is greater than a u32 can hold means what the greatest u32 means.
 #[derive(Clone, Copy)]
-pub struct PolicyView<'a> {
+pub struct PolicyView<'v, 'a> {
     /// The policies of CertificatePolicies, where there is one (RFC 5280 4.2.1.4).
-    pub policies: Option<&'a [&'a [u8]]>,
+    pub policies: Option<&'v [&'a [u8]]>,
 
     /// The pairs of PolicyMappings, none where there isn't one (RFC 5280 4.2.1.5).
-    pub mappings: &'a [MappingView<'a>],
+    pub mappings: &'v [MappingView<'a>],
 
     /// The requireExplicitPolicy of PolicyConstraints (RFC 5280 4.2.1.11).
     pub require_explicit_policy: Option<u32>,
@@ -35,9 +36,9 @@ pub struct PolicyView<'a> {
 
 /// What a caller asks of the policies of a path (RFC 5280 6.1.1 (c), (e), (f), (g)).
 #[derive(Clone, Copy)]
-pub struct PolicySettings<'a> {
+pub struct PolicySettings<'s, 'a> {
     /// The policies that the caller accepts, any-policy among them where it isn't concerned.
-    pub user_initial_policy_set: &'a [&'a [u8]],
+    pub user_initial_policy_set: &'s [&'a [u8]],
 
     /// Whether policies may not be mapped from the start.
     pub initial_policy_mapping_inhibit: bool,

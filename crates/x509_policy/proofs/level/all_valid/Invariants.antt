@@ -1,0 +1,8 @@
+use Rattle.std.proofs.Common.{◌≡◌, take}
+use Rattle.x509_policy.specs.Edges as edges
+use Rattle.x509_policy.specs.Edges.{leads_of, expectation_of}
+use Rattle.x509_policy.specs.Views.{octets_of}
+use Rattle.x509_policy.proofs.level.all_valid.Given as goal
+
+abbrev pub invariant-loop-lead : goal.invariant-loop-lead
+invariant-loop-lead l = octets_of l.found.items ≡ edges.ends (leads_of (take l.lead-index l.leads))
