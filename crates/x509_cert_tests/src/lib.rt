@@ -29,3 +29,5 @@ mod program;
 mod requests;
 #[cfg(test)]
 mod slices;
+#[cfg(test)]
+mod validations;

@@ -1,0 +1,42 @@
+-- One CRL after the other.
+use Rattle.std.proofs.Common.{ℕ, suc, inl, inr, List, [], ◌∷◌, Some, None, refl, subst}
+use Rattle.x509_base.specs.declared.time.Time.{Time}
+use Rattle.x509_ext.specs.declared.pkix.crl_reason.CrlReason.{CrlReason}
+use Rattle.x509_ext.specs.declared.pkix.reasons.Reasons.{Reasons}
+use Rattle.x509_revocation.specs.Lent.{LendsAll, LendsGiven, Steps}
+use Rattle.x509_revocation.specs.Says.{GivenCrl, Question}
+use Rattle.x509_revocation.specs.Status.{Answers, AnswersFrom, last_status}
+use Rattle.x509_revocation.specs.declared.revocation.Step.TheVariants.{Left, Revoked}
+use Rattle.x509_revocation.specs.declared.signed_crl.SignedCrl.{SignedCrl}
+use Rattle.x509_revocation.specs.declared.status.RevocationStatus.{RevocationStatus}
+use Rattle.x509_revocation.specs.declared.status.RevocationStatus.TheVariants as status
+
+module _ (question : Question) (given : List GivenCrl) where
+  -- what is answered to these CRLs, from that place on and with these reasons left, is the answer to all
+  abbrev pub Goes : List SignedCrl → ℕ → Reasons → Type 0
+  Goes lent place left = (others : List GivenCrl) × LendsAll lent others × ((answer : RevocationStatus) → AnswersFrom question place left others answer → Answers question given answer)
+
+  module _ (place : ℕ) (left : Reasons) where
+    -- a CRL is left where one is lent
+    pub some_given : {P : Type 0} (first : SignedCrl) (lent : List SignedCrl) → Goes (first ∷ lent) place left → ((g : GivenCrl) → LendsGiven first g → P) → P
+    some_given first lent ([], lends, then) h = absurd lends
+    some_given first lent (g ∷ others, lends, then) h = h g lends.0
+
+    pub further : (first : SignedCrl) (lent : List SignedCrl) (rest : Reasons) → Goes (first ∷ lent) place left → ((g : GivenCrl) → LendsGiven first g → Steps question left g (Left rest)) → Goes lent (suc place) rest
+    further first lent rest ([], lends, then) h = absurd lends
+    further first lent rest (g ∷ others, lends, then) h = (
+      others,
+      lends.1,
+      λ answer answers. elim (h g lends.0) [
+        | inl (unused, same) ↦ then answer (inl (unused, subst (λ l. AnswersFrom question (suc place) l others answer) same answers))
+        | inr (reasons, says, adds, same) ↦ then answer (inr (reasons, None, says, adds, subst (λ l. AnswersFrom question (suc place) l others answer) same answers))
+      ],
+    )
+
+    pub decided : (first : SignedCrl) (lent : List SignedCrl) (reason : CrlReason) (date : Time) → Goes (first ∷ lent) place left → ((g : GivenCrl) → LendsGiven first g → Steps question left g (Revoked reason date)) → Answers question given (status.Revoked place date reason)
+    decided first lent reason date ([], lends, then) h = absurd lends
+    decided first lent reason date (g ∷ others, lends, then) h = let s = h g lends.0 in then (status.Revoked place date reason) (inr (s.0, Some (reason, date), s.1, s.2, refl))
+
+    pub done : Goes [] place left → Answers question given (last_status left)
+    done ([], lends, then) = then (last_status left) refl
+    done (g ∷ others, lends, then) = absurd lends

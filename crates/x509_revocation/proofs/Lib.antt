@@ -1,0 +1,6 @@
+pub mod Payloads
+pub mod Parts
+pub mod Coverings
+pub mod Looks
+pub mod Answered
+pub mod OneStatus

@@ -1,0 +1,4 @@
+pub mod Crls
+pub mod Says
+pub mod Status
+pub mod Lent

@@ -1,0 +1,40 @@
+//! Extensions of CRLs and of their entries.
+
+ghost use Rattle.std.specs.List.{All};
+ghost use Rattle.std.specs.Prelude.{◌≡◌, ◌↔◌, [], true, IsTrue};
+ghost use Rattle.x509_check.specs.ExtensionRefs.{extensions_left, lent_extension};
+ghost use Rattle.x509_ext.specs.LookUp.{with_oid};
+ghost use Rattle.x509_path.specs.Certificates.{IsReadable};
+
+use x509_check::{Check, ExtensionRef, ExtensionRefs};
+use x509_der::{AssociatedOid, ObjectIdentifier};
+
+/// Whether the extension has the OID of the type, and its octets are an encoding of the type.
+fn is_readable<T: AssociatedOid + Check>(extension: &ExtensionRef<'_>) -> bool
+    ensures { IsTrue result ↔ IsReadable T.form T.OID (lent_extension extension.now) }
+{
+    if extension.extn_id != T::OID {
+        return false;
+    }
+    T::check(extension.extn_value).is_ok()
+}
+
+/// Whether each critical extension is of the type, and can be decoded.
+pub(crate) fn are_processed<T: AssociatedOid + Check>(extensions: ExtensionRefs<'_>) -> bool
+    ensures { IsTrue result ↔ All (λ e. e.critical ≡ true → IsReadable T.form T.OID e) (extensions_left extensions.entry) }
+{
+    let mut rest = extensions;
+    while let Some(extension) = rest.next() {
+        if extension.critical && !is_readable::<T>(&extension) {
+            return false;
+        }
+    }
+    true
+}
+
+/// Whether no extension has the OID.
+pub(crate) fn has_none(extensions: &ExtensionRefs<'_>, oid: ObjectIdentifier) -> bool
+    ensures { IsTrue result ↔ (with_oid oid (extensions_left extensions.now) ≡ []) }
+{
+    matches!(extensions.find_extension(oid), Ok(None))
+}

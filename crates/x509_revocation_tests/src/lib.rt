@@ -1,0 +1,5 @@
+//! Tests of the status of a certificate by CRLs.
+#![tactic(auto)]
+
+#[cfg(test)]
+mod statuses;
