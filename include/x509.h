@@ -9,12 +9,12 @@
  * output. The buffers and results of one call must not overlap its input.
  *
  * Status. Each call answers one of the numbers below, and no other than those that it lists. Where it isn't X509_OK, what the call fills in is
- * unchanged, apart from buffers, `*written` after X509_ROOM, and `*fault` after X509_FAULT.
+ * unchanged, apart from buffers, `*written` after X509_ROOM, and `*fault` and `*answer` after X509_FAULT.
  *
  * Places are offsets from the first byte of the input, and lengths are numbers of bytes. Times are seconds since 1970-01-01T00:00:00Z. Dates
  * are those from 1970 to 9999: an input with an earlier one, which UTCTime has from 1950 on (RFC 5280 4.1.2.5.1), is X509_MALFORMED.
  *
- * Link with libx509_c.a and liblibc_c.a of the toolchain. */
+ * Link with -lx509 (pkg-config x509); or with libx509_c.a of crates/x509_c and liblibc_c.a of the toolchain. */
 #ifndef X509_H
 #define X509_H
 
@@ -395,6 +395,15 @@ x509_status x509_relative_name_under_next(uint32_t number, const uint8_t *rdn, s
  * Answers X509_OK, X509_MEMORY, X509_OVERLENGTH, X509_MALFORMED, X509_ABSENT. */
 x509_status x509_name_find(const uint8_t *name, size_t len, const uint8_t *oid, size_t oid_len, x509_attribute *found);
 
+/* Decodes two Names, and says whether they match (RFC 5280 7.1): `*matches` is 1 where they do, else 0. They have as many relative names, in order, and in each as
+ * many attributes, in any order, each with a partner of its own of the same type whose value is the same element or the same text. Texts are PrintableString, UTF8String,
+ * BMPString and IA5String, compared without regard to case, to spaces at their ends and to how many stand within, as RFC 4518 prepares them, with the data of Unicode 18;
+ * a text with a character that RFC 4518 2.4 prohibits matches only the same element. Of an e-mail address what stands before the last @ is compared as it is, and the
+ * rest, as a domain component, without regard to the case of ASCII. Equal bytes, and texts in ASCII, are compared without memory.
+ * Refused as the first is that is no Name.
+ * Answers X509_OK, X509_MEMORY, X509_OVERLENGTH, X509_MALFORMED. */
+x509_status x509_names_match(const uint8_t *a, size_t a_len, const uint8_t *b, size_t b_len, uint32_t *matches);
+
 /* Names of values. Here no character of a text is taken for a part of the name, as it is where a text of a name is put together by hand. Rooms are as said under
  * whole values.
  *
@@ -513,6 +522,66 @@ typedef struct {
  * Answers X509_OK, X509_MEMORY, X509_OVERLENGTH, X509_MALFORMED, X509_FAILED, X509_VALUE, X509_ABSENT, X509_FAULT. */
 x509_status x509_path_check(const uint8_t *anchor, size_t anchor_len, const uint8_t *path, size_t path_len, const size_t *lens, size_t count,
                             uint64_t moment, x509_path_fault *fault);
+
+/* Further reasons, of x509_path_validate and x509_path_validate_under_key alone. */
+
+/* An extension can't be decoded that is one of those of X509_PATH_CRITICAL, a NameConstraints, a CertificatePolicies, a PolicyMappings, a PolicyConstraints or an
+ * InhibitAnyPolicy, critical or not. */
+#define X509_PATH_EXTENSION 11
+/* A name isn't within what the name constraints above permit, or is within what they exclude. Asked of the last, and of those that aren't self-issued. */
+#define X509_PATH_NAMES 12
+/* Asked of all but the last: there is a NameConstraints that can't be used, with a minimum other than 0, a maximum, or an address or a mask that is none. */
+#define X509_PATH_CONSTRAINTS 13
+
+/* What is asked of a path. A caller hands over its size too, so that later versions of this library can ask for more: what stands behind what the library knows has to be
+ * zeros, which ask for nothing, or the answer is X509_VALUE. So set all of it to zeros first. */
+typedef struct {
+    uint64_t moment; /* the time at which the path is to be valid */
+} x509_path_settings;
+
+/* What is answered to a path: its first fault, or where the name and the public key of its last certificate stand. Of the other all numbers are 0. */
+typedef struct {
+    size_t place;    /* the index of the certificate in the path, from 0 */
+    uint32_t reason; /* one of X509_PATH_DECODE to X509_PATH_CONSTRAINTS */
+    x509_span name;  /* a whole Name, in the bytes of the last certificate, which begin at 0 */
+    x509_span key;   /* a whole SubjectPublicKeyInfo, in the bytes of the last certificate */
+} x509_path_answer;
+
+/* Validates a path of `count` certificates, topmost first, under an anchor's certificate (RFC 5280 6.1, RFC 5937 2): its subject, its public key, the name constraints
+ * and the path length constraint that it has, of which nothing else is checked. BUT NOT THE SIGNATURES, which the caller verifies as x509_path_check says; without that
+ * X509_OK gives no security. Policies and revocation aren't checked; a critical extension about policies is X509_PATH_CRITICAL.
+ *
+ * It is x509_path_check with these differences: issuers and subjects are compared as x509_names_match does, also where it is asked whether a certificate is self-issued;
+ * name constraints hold, those of the anchor, those of `name_constraints`, which are the initial permitted and excluded subtrees (6.1.1 (h), (i)) as the encoding of a
+ * NameConstraints, or none where there are no bytes, and those of each certificate above; and extensions of the types that X509_PATH_EXTENSION names have to be such that
+ * can be decoded. Of several faults of one certificate the one with the lowest number is reported, but X509_PATH_EXTENSION comes behind X509_PATH_CRITICAL.
+ *
+ * The certificates stand one after the other in path[0..path_len), and lens[i] is the length of the i-th. `settings_size` is the size of `*settings`.
+ *
+ * X509_FAILED where the lengths don't add up to `path_len`, or where the anchor has one of the two extensions more than once; X509_VALUE where there are no settings, as
+ * said there, or `moment` is after 9999-12-31T23:59:59Z; X509_OVERLENGTH or X509_MALFORMED where decoding the anchor's certificate, one of its two extensions or the name
+ * constraints answers that; where several of these are bad, any of their answers may come. Else X509_ABSENT where `count` is 0. Else X509_VALUE where the name
+ * constraints of the anchor or of the caller can't be used, as X509_PATH_CONSTRAINTS says. Else X509_FAULT where there is a fault: `*answer` is the lowest place that has
+ * one other than a signature's, and the first of its faults there. Else X509_OK: there is no fault, except perhaps of signatures, and `*answer` says where the name and
+ * the key of the last certificate stand.
+ * Answers X509_OK, X509_MEMORY, X509_OVERLENGTH, X509_MALFORMED, X509_FAILED, X509_VALUE, X509_ABSENT, X509_FAULT. */
+x509_status x509_path_validate(const uint8_t *anchor, size_t anchor_len, const uint8_t *path, size_t path_len, const size_t *lens, size_t count,
+                               const uint8_t *name_constraints, size_t name_constraints_len, const x509_path_settings *settings, size_t settings_size,
+                               x509_path_answer *answer);
+
+/* The same under a name and a public key that are trusted, a whole Name and a whole SubjectPublicKeyInfo.
+ * Answers X509_OK, X509_MEMORY, X509_OVERLENGTH, X509_MALFORMED, X509_FAILED, X509_VALUE, X509_ABSENT, X509_FAULT. */
+x509_status x509_path_validate_under_key(const uint8_t *name, size_t name_len, const uint8_t *key, size_t key_len, const uint8_t *path, size_t path_len,
+                                         const size_t *lens, size_t count, const uint8_t *name_constraints, size_t name_constraints_len,
+                                         const x509_path_settings *settings, size_t settings_size, x509_path_answer *answer);
+
+/* The same under a trust anchor (RFC 5914, RFC 5937 2), the encoding of a TrustAnchorChoice, as x509_anchor_view reads: of a certificate or a TBSCertificate as
+ * x509_path_validate says; of a description its key, and the name, the name constraints and the path length constraint of its constraints on paths; where one of the last
+ * two isn't there, that of the certificate there, if it has one. X509_FAILED also where a description has no name.
+ * Answers X509_OK, X509_MEMORY, X509_OVERLENGTH, X509_MALFORMED, X509_FAILED, X509_VALUE, X509_ABSENT, X509_FAULT. */
+x509_status x509_path_validate_under_anchor(const uint8_t *anchor, size_t anchor_len, const uint8_t *path, size_t path_len, const size_t *lens, size_t count,
+                                            const uint8_t *name_constraints, size_t name_constraints_len, const x509_path_settings *settings,
+                                            size_t settings_size, x509_path_answer *answer);
 
 /* ---- CRLs */
 

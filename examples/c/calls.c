@@ -216,6 +216,91 @@ static void paths(void)
     WANT(x509_path_check(certificate, len, path, len, one, 1, 253402300799, &fault) == X509_FAULT && fault.place == 0 && fault.reason == X509_PATH_MOMENT);
 }
 
+/* NameConstraints (RFC 5280 4.2.1.10) by hand: of the names of directories all are permitted, or all are excluded; and a subtree with a minimum of 1. */
+#define ALL_PERMITTED "\x30\x08\xa0\x06\x30\x04\xa4\x02\x30\x00"
+#define ALL_EXCLUDED "\x30\x08\xa1\x06\x30\x04\xa4\x02\x30\x00"
+#define UNUSABLE "\x30\x0b\xa1\x09\x30\x07\xa4\x02\x30\x00\x80\x01\x01"
+
+/* The certificate of the examples as a path under itself, with settings of so many bytes and constraints. */
+static x509_status validate(const void *settings, size_t size, const uint8_t *constraints, size_t constraints_len, x509_path_answer *answer)
+{
+    return x509_path_validate(certificate, certificate_len, certificate, certificate_len, &certificate_len, 1, constraints, constraints_len, settings, size, answer);
+}
+
+static int is_fault(x509_status status, const x509_path_answer *answer, size_t place, uint32_t reason)
+{
+    return status == X509_FAULT && answer->place == place && answer->reason == reason && is_at(answer->name, 0, 0) && is_at(answer->key, 0, 0);
+}
+
+static const x509_path_answer UNTOUCHED = {7, 7, {7, 7}, {7, 7}};
+
+static int is_untouched(x509_path_answer answer)
+{
+    return answer.place == 7 && answer.reason == 7 && is_at(answer.name, 7, 7) && is_at(answer.key, 7, 7);
+}
+
+static void settings_of_paths(void)
+{
+    /* a caller of a later header, who asks for nothing of what this library doesn't know, and one who does */
+    struct { x509_path_settings known; uint64_t more[4]; } later = {{1767323045}, {0, 0, 0, 0}};
+    x509_path_answer answer = UNTOUCHED;
+    WANT(validate(NULL, 0, NULL, 0, &answer) == X509_VALUE && is_untouched(answer));
+    WANT(validate(&later, 1, NULL, 0, &answer) == X509_VALUE && is_untouched(answer));
+    WANT(validate(&later, sizeof later.known - 1, NULL, 0, &answer) == X509_VALUE && is_untouched(answer));
+    WANT(validate(&later, sizeof later, NULL, 0, &answer) == X509_OK);
+    WANT(validate(&later, sizeof later - 1, NULL, 0, &answer) == X509_OK);
+    answer = UNTOUCHED;
+    later.more[3] = 1;
+    WANT(validate(&later, sizeof later, NULL, 0, &answer) == X509_VALUE && is_untouched(answer));
+    later.known.moment = 253402300800;
+    WANT(validate(&later, sizeof later.known, NULL, 0, &answer) == X509_VALUE && is_untouched(answer));
+    later.known.moment = UINT64_MAX;
+    WANT(validate(&later, sizeof later.known, NULL, 0, &answer) == X509_VALUE && is_untouched(answer));
+}
+
+static void validated_paths(void)
+{
+    const x509_path_settings first = {1767323045}, before = {1767323044}, last = {2695968550}, behind = {2695968551};
+    const size_t len = certificate_len, around[] = {len, SIZE_MAX};
+    x509_path_answer answer = UNTOUCHED;
+    x509_certificate view;
+    WANT(x509_certificate_view(certificate, len, &view) == X509_OK);
+    WANT(validate(&first, sizeof first, NULL, 0, &answer) == X509_OK && answer.place == 0 && answer.reason == 0);
+    WANT(is_at(answer.name, view.subject.place, view.subject.len));
+    WANT(is_at(answer.key, view.subject_public_key_info.place, view.subject_public_key_info.len));
+    WANT(validate(&last, sizeof last, NULL, 0, &answer) == X509_OK);
+    WANT(is_fault(validate(&before, sizeof before, NULL, 0, &answer), &answer, 0, X509_PATH_MOMENT));
+    WANT(is_fault(validate(&behind, sizeof behind, NULL, 0, &answer), &answer, 0, X509_PATH_MOMENT));
+    settings_of_paths();
+
+    WANT(validate(&first, sizeof first, BYTES(ALL_PERMITTED), &answer) == X509_OK);
+    WANT(is_fault(validate(&first, sizeof first, BYTES(ALL_EXCLUDED), &answer), &answer, 0, X509_PATH_NAMES));
+    answer = UNTOUCHED;
+    WANT(validate(&first, sizeof first, BYTES(UNUSABLE), &answer) == X509_VALUE && is_untouched(answer));
+    WANT(validate(&first, sizeof first, BYTES("\x30\x01"), &answer) == X509_MALFORMED && is_untouched(answer));
+
+    WANT(x509_path_validate(certificate, len, NULL, 0, NULL, 0, NULL, 0, &first, sizeof first, &answer) == X509_ABSENT && is_untouched(answer));
+    WANT(x509_path_validate(certificate, len, certificate, len - 1, &len, 1, NULL, 0, &first, sizeof first, &answer) == X509_FAILED && is_untouched(answer));
+    WANT(x509_path_validate(certificate, len, certificate, len, around, 2, NULL, 0, &first, sizeof first, &answer) == X509_FAILED && is_untouched(answer));
+    WANT(x509_path_validate(NULL, 0, certificate, len, &len, 1, NULL, 0, &first, sizeof first, &answer) == X509_MALFORMED && is_untouched(answer));
+    WANT(is_fault(x509_path_validate(certificate, len, list, list_len, &list_len, 1, NULL, 0, &first, sizeof first, &answer), &answer, 0, X509_PATH_DECODE));
+
+    const uint8_t *name = certificate + view.subject.place, *key = certificate + view.subject_public_key_info.place;
+    const size_t name_len = view.subject.len, key_len = view.subject_public_key_info.len;
+    answer = UNTOUCHED;
+    WANT(x509_path_validate_under_anchor(list, list_len, certificate, len, &len, 1, NULL, 0, &first, sizeof first, &answer) == X509_MALFORMED && is_untouched(answer));
+    WANT(x509_path_validate_under_key(name, name_len - 1, key, key_len, certificate, len, &len, 1, NULL, 0, &first, sizeof first, &answer) == X509_MALFORMED);
+    WANT(x509_path_validate_under_key(name, name_len, key, key_len - 1, certificate, len, &len, 1, NULL, 0, &first, sizeof first, &answer) == X509_MALFORMED);
+    WANT(is_untouched(answer));
+    WANT(x509_path_validate_under_anchor(certificate, len, certificate, len, &len, 1, NULL, 0, &first, sizeof first, &answer) == X509_OK);
+    WANT(is_at(answer.name, view.subject.place, name_len) && is_at(answer.key, view.subject_public_key_info.place, key_len));
+    answer = UNTOUCHED;
+    WANT(x509_path_validate_under_key(name, name_len, key, key_len, certificate, len, &len, 1, NULL, 0, &first, sizeof first, &answer) == X509_OK);
+    WANT(is_at(answer.name, view.subject.place, name_len) && is_at(answer.key, view.subject_public_key_info.place, key_len));
+    WANT(is_fault(x509_path_validate_under_key(BYTES(NAME), key, key_len, certificate, len, &len, 1, NULL, 0, &first, sizeof first, &answer), &answer, 0,
+                  X509_PATH_ISSUER));
+}
+
 static void lists(void)
 {
     size_t entries = 77;
@@ -386,6 +471,7 @@ int main(int argc, char **argv)
     signatures();
     faults();
     paths();
+    validated_paths();
     certificates();
     lists();
     crl_parts();

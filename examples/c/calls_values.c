@@ -217,6 +217,88 @@ static void first_attributes(void)
     WANT(x509_name_find((const uint8_t *)LONG_NAME, sizeof LONG_NAME - 2, BYTES("\x55\x04\x0a"), &found) == X509_MALFORMED && is_at(found.oid, 31, 3));
 }
 
+/* Whether two names match, or 7 where the call refuses. */
+static uint32_t match(const uint8_t *a, size_t a_len, const uint8_t *b, size_t b_len)
+{
+    uint32_t matches = 7, turned = 7;
+    const x509_status status = x509_names_match(a, a_len, b, b_len, &matches);
+    WANT(x509_names_match(b, b_len, a, a_len, &turned) == status && turned == matches);
+    WANT(status == X509_OK ? matches <= 1 : matches == 7);
+    return matches;
+}
+
+/* Whether two names of one CN match, whose elements these are. */
+static uint32_t match_values(const char *a, size_t a_len, const char *b, size_t b_len)
+{
+    const struct { const char *bytes; size_t len; } values[2] = {{a, a_len}, {b, b_len}};
+    uint8_t names[2][64];
+    for (int at = 0; at < 2; at++) {
+        const uint8_t len = (uint8_t)values[at].len;
+        const uint8_t head[] = {0x30, (uint8_t)(len + 9), 0x31, (uint8_t)(len + 7), 0x30, (uint8_t)(len + 5), 0x06, 0x03, 0x55, 0x04, 0x03};
+        memcpy(names[at], head, sizeof head);
+        memcpy(names[at] + sizeof head, values[at].bytes, len);
+    }
+    return match(names[0], a_len + 11, names[1], b_len + 11);
+}
+
+#define MATCH(a, b) match_values(a, sizeof(a) - 1, b, sizeof(b) - 1)
+
+/* O=T and C=US in one RDN; C=us and O="t " in one, which stand in the other order in DER; and the first two in that order, which isn't DER (X.690 11.6). */
+#define TWO "\x30\x17\x31\x15" "\x30\x08\x06\x03\x55\x04\x0a\x0c\x01" "T" "\x30\x09\x06\x03\x55\x04\x06\x13\x02" "US"
+#define TWO_OTHERS "\x30\x18\x31\x16" "\x30\x09\x06\x03\x55\x04\x06\x13\x02" "us" "\x30\x09\x06\x03\x55\x04\x0a\x13\x02" "t "
+#define TURNED "\x30\x17\x31\x15" "\x30\x09\x06\x03\x55\x04\x06\x13\x02" "US" "\x30\x08\x06\x03\x55\x04\x0a\x0c\x01" "T"
+
+/* emailAddress and DC of these IA5Strings (RFC 5280 A.1) */
+#define EMAIL(len3, len2, len1, len, text) "\x30" len3 "\x31" len2 "\x30" len1 "\x06\x09\x2a\x86\x48\x86\xf7\x0d\x01\x09\x01\x16" len text
+#define DOMAIN(len3, len2, len1, len, text) "\x30" len3 "\x31" len2 "\x30" len1 "\x06\x0a\x09\x92\x26\x89\x93\xf2\x2c\x64\x01\x19\x16" len text
+
+static void matching_names(void)
+{
+    uint32_t matches = 7;
+    WANT(x509_names_match(nothing, 0, nothing, 0, &matches) == X509_MALFORMED && matches == 7);
+    WANT(x509_names_match(BYTES(NAME), nothing, 0, &matches) == X509_MALFORMED && matches == 7);
+    WANT(x509_names_match(nothing, 0, BYTES(NAME), &matches) == X509_MALFORMED && matches == 7);
+    WANT(x509_names_match(BYTES(TURNED), BYTES(TURNED), &matches) == X509_MALFORMED && matches == 7);
+    WANT(match(BYTES(NAME), BYTES(NAME)) == 1);
+    WANT(match(BYTES("\x30\x00"), BYTES("\x30\x00")) == 1);
+    WANT(match(BYTES("\x30\x00"), BYTES(NAME)) == 0);
+    WANT(match(BYTES(NAME), BYTES(LONG_NAME)) == 0);
+    WANT(match(BYTES(TWO), BYTES(TWO_OTHERS)) == 1);
+
+    /* case, and the type of the string (RFC 4518 2.1, 2.2) */
+    WANT(MATCH("\x0c\x01" "a", "\x0c\x01" "A") == 1);
+    WANT(MATCH("\x0c\x01" "a", "\x13\x01" "A") == 1);
+    WANT(MATCH("\x1e\x02\x00" "a", "\x16\x01" "A") == 1);
+    WANT(MATCH("\x0c\x01" "a", "\x0c\x01" "b") == 0);
+    /* T61String is compared by its octets */
+    WANT(MATCH("\x14\x01" "a", "\x14\x01" "a") == 1);
+    WANT(MATCH("\x14\x01" "a", "\x14\x01" "A") == 0);
+    WANT(MATCH("\x14\x01" "a", "\x0c\x01" "a") == 0);
+    /* spaces at the ends and within (RFC 4518 2.6.1), and what is mapped to them or to nothing (2.2) */
+    WANT(MATCH("\x0c\x05" " a  b", "\x0c\x04" "A b ") == 1);
+    WANT(MATCH("\x0c\x03" "a b", "\x0c\x02" "ab") == 0);
+    WANT(MATCH("\x0c\x03" "a\tb", "\x0c\x03" "a b") == 1);
+    WANT(MATCH("\x0c\x04" "a\xc2\xad" "b", "\x0c\x02" "ab") == 1);
+    WANT(MATCH("\x0c\x05" "a\xe3\x80\x80" "b", "\x0c\x03" "a b") == 1);
+    /* NFKC (2.3): a with a diaeresis, in one character and in two; the ligature fi; sharp s, whose case is folded; full width */
+    WANT(MATCH("\x0c\x02\xc3\xa4", "\x0c\x03" "A\xcc\x88") == 1);
+    WANT(MATCH("\x0c\x02\xc3\xa4", "\x1e\x02\x00\xc4") == 1);
+    WANT(MATCH("\x0c\x02\xc3\xa4", "\x0c\x01" "a") == 0);
+    WANT(MATCH("\x0c\x03\xef\xac\x81", "\x0c\x02" "FI") == 1);
+    WANT(MATCH("\x0c\x02\xc3\x9f", "\x0c\x02" "SS") == 1);
+    WANT(MATCH("\x0c\x03\xef\xbc\xa1", "\x0c\x01" "a") == 1);
+    /* prohibited (2.4): for private use, and the replacement character */
+    WANT(MATCH("\x0c\x04" "a\xee\x80\x80", "\x0c\x04" "a\xee\x80\x80") == 1);
+    WANT(MATCH("\x0c\x04" "a\xee\x80\x80", "\x0c\x04" "A\xee\x80\x80") == 0);
+    WANT(MATCH("\x0c\x04" "a\xef\xbf\xbd", "\x0c\x04" "A\xef\xbf\xbd") == 0);
+
+    /* the host of an e-mail address without regard to case, and what stands before it as it is; a domain component (RFC 5280 7.3, 7.5) */
+    WANT(match(BYTES(EMAIL("\x16", "\x14", "\x12", "\x05", "a@b.c")), BYTES(EMAIL("\x16", "\x14", "\x12", "\x05", "a@B.C"))) == 1);
+    WANT(match(BYTES(EMAIL("\x16", "\x14", "\x12", "\x05", "a@b.c")), BYTES(EMAIL("\x16", "\x14", "\x12", "\x05", "A@b.c"))) == 0);
+    WANT(match(BYTES(DOMAIN("\x15", "\x13", "\x11", "\x03", "a b")), BYTES(DOMAIN("\x15", "\x13", "\x11", "\x03", "A B"))) == 1);
+    WANT(match(BYTES(DOMAIN("\x15", "\x13", "\x11", "\x03", "a b")), BYTES(DOMAIN("\x16", "\x14", "\x12", "\x04", "a  b"))) == 0);
+}
+
 static void key_identifiers(void)
 {
     x509_span octets = {7, 7};
@@ -405,6 +487,7 @@ int main(int argc, char **argv)
     timestamps();
     attributes();
     first_attributes();
+    matching_names();
     key_identifiers();
     accesses();
     policies();

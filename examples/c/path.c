@@ -2,12 +2,14 @@
  * signatures, and says what is to be verified of each certificate; here OpenSSL's libcrypto verifies that. Policies, name constraints and revocation
  * aren't looked at, nor for whom and for which use the last certificate is.
  *
+ * With `validate` in front it validates the path: names are compared as they match (RFC 5280 7.1), and name constraints hold, those of the anchor too.
+ *
  * It prints `holds`; or `fault PLACE REASON`, the lowest place that has a fault, from 0, and the first of its faults in the order of x509.h; or
  * `refused STATUS`. It ends with 0 where the path holds, and with 1 else.
  *
  * Link with libx509_c.a liblibc_c.a -lcrypto.
  *
- * usage: path MOMENT ANCHOR CERTIFICATE.., the moment in seconds since 1970-01-01T00:00:00Z, the others files of DER */
+ * usage: path [validate] MOMENT ANCHOR CERTIFICATE.., the moment in seconds since 1970-01-01T00:00:00Z, the others files of DER */
 #include <openssl/core_names.h>
 #include <openssl/err.h>
 #include <openssl/evp.h>
@@ -139,17 +141,40 @@ static x509_status verify(octets certificate, octets above, int *is_signed)
 
 /* ---- a path */
 
-/* X509_OK where the path holds; X509_FAULT where it has a fault, with the first; else why it wasn't checked. */
-static x509_status check(octets anchor, octets path, const size_t *lens, size_t count, uint64_t moment, x509_path_fault *fault)
+/* A path, at a moment, and whether it is validated. */
+typedef struct {
+    octets anchor, path;
+    const size_t *lens;
+    size_t count;
+    uint64_t moment;
+    int is_validated;
+} question;
+
+/* The same apart from signatures. */
+static x509_status ask(const question *it, x509_path_fault *fault)
 {
-    const x509_status status = x509_path_check(anchor.bytes, anchor.len, path.bytes, path.len, lens, count, moment, fault);
+    if (!it->is_validated)
+        return x509_path_check(it->anchor.bytes, it->anchor.len, it->path.bytes, it->path.len, it->lens, it->count, it->moment, fault);
+    const x509_path_settings settings = {it->moment};
+    x509_path_answer answer = {0, 0, {0, 0}, {0, 0}};
+    const x509_status status = x509_path_validate(it->anchor.bytes, it->anchor.len, it->path.bytes, it->path.len, it->lens, it->count, NULL, 0, &settings,
+                                                  sizeof settings, &answer);
+    *fault = (x509_path_fault){answer.place, answer.reason};
+    return status;
+}
+
+/* X509_OK where the path holds; X509_FAULT where it has a fault, with the first; else why it wasn't checked. */
+static x509_status check(const question *it, x509_path_fault *fault)
+{
+    const x509_status status = ask(it, fault);
     if (status != X509_OK && status != X509_FAULT)
         return status;
     /* A signature's fault comes first where it stands above the other, or at its place and in front of it in the order. */
-    const size_t end = status == X509_OK ? count : fault->place + (fault->reason > X509_PATH_SIGNATURE);
-    octets above = anchor;
+    const size_t end = status == X509_OK ? it->count : fault->place + (fault->reason > X509_PATH_SIGNATURE);
+    octets above = it->anchor;
+    const uint8_t *at = it->path.bytes;
     for (size_t place = 0; place < end; place++) {
-        const octets certificate = {path.bytes, lens[place]};
+        const octets certificate = {at, it->lens[place]};
         int is_signed = 0;
         const x509_status verified = verify(certificate, above, &is_signed);
         if (verified != X509_OK)
@@ -158,7 +183,7 @@ static x509_status check(octets anchor, octets path, const size_t *lens, size_t 
             *fault = (x509_path_fault){place, X509_PATH_SIGNATURE};
             return X509_FAULT;
         }
-        path.bytes += lens[place];
+        at += it->lens[place];
         above = certificate;
     }
     return status;
@@ -167,11 +192,12 @@ static x509_status check(octets anchor, octets path, const size_t *lens, size_t 
 /* Prints the answer, and says with what the program ends. */
 static int tell(x509_status status, x509_path_fault fault)
 {
-    static const char *const reasons[] = {"?", "Decode", "Algorithm", "Issuer", "Moment", "Signature", "Repeated", "Critical", "NotCa", "KeyUsage", "PathLen"};
+    static const char *const reasons[] = {"?",     "Decode",   "Algorithm", "Issuer",    "Moment", "Signature", "Repeated", "Critical",
+                                          "NotCa", "KeyUsage", "PathLen",   "Extension", "Names",  "Constraints"};
     if (status == X509_OK)
         printf("holds\n");
     else if (status == X509_FAULT)
-        printf("fault %zu %s\n", fault.place, reasons[fault.reason <= X509_PATH_PATH_LEN ? fault.reason : 0]);
+        printf("fault %zu %s\n", fault.place, reasons[fault.reason <= X509_PATH_CONSTRAINTS ? fault.reason : 0]);
     else
         printf("refused %d\n", status);
     return status == X509_OK ? 0 : 1;
@@ -243,8 +269,11 @@ static int read_moment(const char *text, uint64_t *moment)
 int main(int argc, char **argv)
 {
     uint64_t moment = 0;
+    const int is_validated = argc > 1 && strcmp(argv[1], "validate") == 0;
+    argc -= is_validated;
+    argv += is_validated;
     if (argc < 3 || !read_moment(argv[1], &moment)) {
-        fprintf(stderr, "usage: path MOMENT ANCHOR CERTIFICATE..\n");
+        fprintf(stderr, "usage: path [validate] MOMENT ANCHOR CERTIFICATE..\n");
         return 1;
     }
     const size_t count = (size_t)argc - 3;
@@ -253,7 +282,8 @@ int main(int argc, char **argv)
     int ended = 1;
     if (lens != NULL && read_file(&anchor, argv[2]) && read_files(&path, lens, count, argv + 3)) {
         x509_path_fault fault = {0, 0};
-        const x509_status status = check((octets){anchor.bytes, anchor.len}, (octets){path.bytes, path.len}, lens, count, moment, &fault);
+        const question asked = {{anchor.bytes, anchor.len}, {path.bytes, path.len}, lens, count, moment, is_validated};
+        const x509_status status = check(&asked, &fault);
         ended = tell(status, fault);
     } else {
         fprintf(stderr, "path: a file can't be read, or there is too little memory\n");

@@ -200,6 +200,7 @@ static void refused_values(const uint8_t *bytes, size_t len, x509_status status)
     WANT(x509_request_extensions(bytes, len, &part) == status);
     WANT(x509_name_find(bytes, len, OID, 3, &attribute) == status);
     WANT(x509_name_find(bytes, len, NULL, 0, &attribute) == status);
+    WANT(x509_names_match(bytes, len, bytes, len, &number) == status);
     WANT(x509_attribute_value_next(bytes, len, &at, &element) == status);
     WANT(x509_key_view(bytes, len, &key) == status);
     WANT(x509_algorithm_view(bytes, len, &algorithm) == status);

@@ -34,6 +34,11 @@ def row(call, number, known, numbers):
             rest.pop(0)
             words += [f"a->in[{len(inputs)}].bytes", f"a->in[{len(inputs)}].len"]
             inputs.append(it.name)
+        elif it.is_const and it.kind in known and behind is not None and behind.name == f"{it.name}_size" and behind.kind == "size_t":
+            # the bytes of a struct, which the library may find anywhere
+            rest.pop(0)
+            words += [f"(const void *)a->in[{len(inputs)}].bytes", f"a->in[{len(inputs)}].len"]
+            inputs.append(it.name)
         elif it.is_const and it.kind == "size_t" and behind is not None and behind.name == "count":
             rest.pop(0)
             words += ["a->lens", "a->count"]

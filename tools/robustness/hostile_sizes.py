@@ -33,7 +33,7 @@ from common.der import NULL, TRUE, UTF8_STRING, element, header_len, integer, ne
 from hostile_calls import ABSENT, FAILED, FAULT, KEPT, MALFORMED, OK, OVERLENGTH, RAW, REPEATED, RFC5280, ROOM, SET_DUPLICATE
 from hostile_calls import Library, Trial, checks, in_child, keep_memory, looks, reencodes, writes
 from hostile_inputs import ALGORITHM, BITS, COMMON_NAME, COUNTS, DEEP, LEVELS, LISTS, ONE, REASON, SECONDS, SETS, STRINGS
-from hostile_inputs import attribute, certificate, common_name, crl, entry, extension, relative_name, request, rising, valued
+from hostile_inputs import attribute, certificate, common_name, crl, dns_name, entry, extension, relative_name, request, rising, valued
 
 LIMIT = 268_435_455
 STACK = 65_536
@@ -225,15 +225,22 @@ def other_calls():
 
 
 def path_calls():
-    """The same of paths: of one certificate with many extensions, and of many certificates of authorities."""
+    """The same of paths: of one certificate with many extensions or names, and of many certificates of authorities, also with a hundred extensions or names each."""
     anchor = certificate()
-    above = certificate(extensions=[sequence(object_identifier(2, 5, 29, 19), octet_string(sequence(TRUE)))])
+    is_ca = sequence(object_identifier(2, 5, 29, 19), octet_string(sequence(TRUE)))
+    named = lambda size: sequence(object_identifier(2, 5, 29, 17), TRUE, octet_string(sequence(*rising(dns_name, size))))
     one = lambda name: lambda library, data: library.path(anchor, data, [len(data)], SECONDS)
-    each = lambda name: lambda library, data: library.path(anchor, data, [len(above)] * (len(data) // len(above)), SECONDS)
+    each = lambda member: lambda name: lambda library, data: library.path(anchor, data, [len(member)] * (len(data) // len(member)), SECONDS)
     twice = lambda size: certificate(extensions=rising(extension, size) + [extension(size // 2)])
+    above = certificate(extensions=[is_ca])
+    extended = certificate(extensions=[is_ca, *rising(extension, 99)])
+    titled = certificate(extensions=[is_ca, named(100)])
     yield "x509_path_check, extensions", lambda size: certificate(extensions=rising(extension, size)), one, lambda size, data: (OK, KEPT)
     yield "x509_path_check, one of them twice", twice, one, lambda size, data: (FAULT, (0, 6))
-    yield "x509_path_check, certificates", lambda size: above * size, each, lambda size, data: (OK, KEPT)
+    yield "x509_path_check, names of a SAN", lambda size: certificate(extensions=[named(size)]), one, lambda size, data: (OK, KEPT)
+    yield "x509_path_check, certificates", lambda size: above * size, each(above), lambda size, data: (OK, KEPT)
+    yield "x509_path_check, certificates of 100 extensions", lambda size: extended * (size // 100), each(extended), lambda size, data: (OK, KEPT)
+    yield "x509_path_check, certificates of 100 names", lambda size: titled * (size // 100), each(titled), lambda size, data: (OK, KEPT)
 
 
 def write_rows(folder):

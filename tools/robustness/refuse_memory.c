@@ -73,15 +73,16 @@ static void wrong(const char *what, long number)
 
 /* ---- each call */
 
-enum { CALLS = 51 };
+enum { CALLS = 55 };
 
 static uint8_t certificate[65536], list[65536], request[65536], room[65536];
 static size_t certificate_len, list_len, request_len;
-static x509_certificate view;
+static x509_certificate view, own;
 static x509_extension extension;
 static x509_revocation revocation;
 static x509_signature signature;
 static x509_path_fault fault;
+static x509_path_answer answer;
 static x509_span part;
 static x509_request_attribute wanted;
 static x509_attribute attribute;
@@ -96,6 +97,7 @@ static x509_key key;
 static x509_anchor anchor;
 static x509_timestamp timestamp;
 static size_t count, at;
+static uint32_t matches;
 
 /* A value that stands in the source, with its length. */
 #define BYTES(text) (const uint8_t *)(text), sizeof(text) - 1
@@ -108,6 +110,10 @@ static size_t count, at;
 #define ROOT_NAME "\x30\x25\x31\x0b\x30\x09\x06\x03\x55\x04\x06\x13\x02" "US" "\x31\x0a\x30\x08\x06\x03\x55\x04\x0a\x0c\x01" "T" \
                   "\x31\x0a\x30\x08\x06\x03\x55\x04\x03\x0c\x01" "R"
 #define REQUEST "\x30\x27\x02\x01\x00\x30\x00" KEY "\xa0\x11\x30\x0f\x06\x09\x2a\x86\x48\x86\xf7\x0d\x01\x09\x0e\x31\x02\x30\x00"
+
+/* The first second of the validity of the certificate; and constraints that permit each name of a directory. */
+static const x509_path_settings FIRST_SECOND = {1767323045};
+#define CONSTRAINTS "\x30\x08\xa0\x06\x30\x04\xa4\x02\x30\x00"
 
 static x509_status call(int number)
 {
@@ -230,6 +236,19 @@ static x509_status call(int number)
                                room, sizeof room, &count);
     case 49:
         return x509_name_escape(BYTES("a,b"), room, sizeof room, &count);
+    case 50:
+        return x509_names_match(BYTES("\x30\x0c\x31\x0a\x30\x08\x06\x03\x55\x04\x03\x0c\x01" "a"),
+                                BYTES("\x30\x0d\x31\x0b\x30\x09\x06\x03\x55\x04\x03\x0c\x02\xc3\xa4"), &matches);
+    case 51:
+        return x509_path_validate(certificate, certificate_len, certificate, certificate_len, &certificate_len, 1, NULL, 0, &FIRST_SECOND, sizeof FIRST_SECOND,
+                                  &answer);
+    case 52:
+        return x509_path_validate_under_anchor(certificate, certificate_len, certificate, certificate_len, &certificate_len, 1, BYTES(CONSTRAINTS), &FIRST_SECOND,
+                                               sizeof FIRST_SECOND, &answer);
+    case 53:
+        return x509_path_validate_under_key(certificate + own.subject.place, own.subject.len, certificate + own.subject_public_key_info.place,
+                                            own.subject_public_key_info.len, certificate, certificate_len, &certificate_len, 1, NULL, 0, &FIRST_SECOND,
+                                            sizeof FIRST_SECOND, &answer);
     default:
         /* in the first second of the validity */
         return x509_path_check(certificate, certificate_len, certificate, certificate_len, &certificate_len, 1, 1767323045, &fault);
@@ -257,6 +276,8 @@ static int holds(int number, long from, long to)
     const x509_anchor old_anchor = anchor;
     const x509_timestamp old_timestamp = timestamp;
     const size_t old_count = count;
+    const uint32_t old_matches = matches;
+    const x509_path_answer old_answer = answer;
     const long old_standing = standing;
     refuse(from, to);
     const x509_status status = call(number);
@@ -273,7 +294,8 @@ static int holds(int number, long from, long to)
            memcmp(&policy, &old_policy, sizeof policy) == 0 && memcmp(&point, &old_point, sizeof point) == 0 &&
            memcmp(&names, &old_names, sizeof names) == 0 && memcmp(&crl, &old_crl, sizeof crl) == 0 &&
            memcmp(&entry, &old_entry, sizeof entry) == 0 && memcmp(&csr, &old_csr, sizeof csr) == 0 && memcmp(&key, &old_key, sizeof key) == 0 &&
-           memcmp(&anchor, &old_anchor, sizeof anchor) == 0 && memcmp(&timestamp, &old_timestamp, sizeof timestamp) == 0 && count == old_count && at == 0;
+           memcmp(&anchor, &old_anchor, sizeof anchor) == 0 && memcmp(&timestamp, &old_timestamp, sizeof timestamp) == 0 && count == old_count && matches == old_matches &&
+           memcmp(&answer, &old_answer, sizeof answer) == 0 && at == 0;
 }
 
 /* whether the call takes no memory: it answers what it is for, whatever is refused */
@@ -451,6 +473,8 @@ int main(int argc, char **argv)
     certificate_len = read_file(argv[1], certificate, sizeof certificate);
     list_len = read_file(argv[2], list, sizeof list);
     request_len = read_file(argv[3], request, sizeof request);
+    if (x509_certificate_view(certificate, certificate_len, &own) != X509_OK)
+        return 2;
     for (int number = 0; number < CALLS; number++)
         refuse_call(number);
     if (argc == 6) {

@@ -156,7 +156,7 @@ static void put(pool *to, size_t number)
 }
 
 /* Which pool an input is of: that of what the call with one input accepts, or `found:` and the call whose first span it is, or `kind:` and the type of rows,
- * or `paths`, certificates that are a path under themselves. For a call with one input it is its own. */
+ * or `paths`, certificates that are a path under themselves, `constraints`, NameConstraints and no bytes, or `settings` of a path. For a call with one input it is its own. */
 typedef struct {
     const char *call, *input, *pool;
 } source;
@@ -165,8 +165,10 @@ static const source SOURCES[] = {
     {"x509_reencode", "name", "kind:typename"},
     {"x509_build_crl", "issuer", "x509_certificate_check"},
     {"x509_build_crl", "number", "x509_oid_text"},
-    {"x509_path_check", "path", "paths"},
-    {"x509_path_check", "anchor", "x509_certificate_check"},
+    {NULL, "path", "paths"},
+    {NULL, "anchor", "x509_certificate_check"},
+    {NULL, "name_constraints", "constraints"},
+    {NULL, "settings", "settings"},
     {"x509_certificate_extension", "in", "x509_certificate_check"},
     {"x509_certificate_extension", "oid", "found:x509_extensions_next"},
     {"x509_crl_lookup", "in", "x509_crl_check"},
@@ -174,6 +176,8 @@ static const source SOURCES[] = {
     {"x509_request_attribute_find", "in", "x509_request_check"},
     {"x509_request_attribute_find", "oid", "found:x509_request_attribute_next"},
     {"x509_name_find", "oid", "found:x509_relative_name_next"},
+    {"x509_names_match", "a", "x509_name_text"},
+    {"x509_names_match", "b", "x509_name_text"},
     {NULL, "name", "x509_name_text"},
     {NULL, "names", "x509_general_names_next"},
     {NULL, "issuer", "x509_name_text"},
@@ -204,6 +208,15 @@ static const char *source_of(const call *of, int input)
     printf("%s: ", of->name);
     stop(of->inputs[input]);
     return NULL;
+}
+
+/* The number of the input with that name; -1 where the call has none. */
+static int input_of(const call *of, const char *name)
+{
+    for (int input = 0; input < of->input_count; input++)
+        if (strcmp(of->inputs[input], name) == 0)
+            return input;
+    return -1;
 }
 
 /* ---- one asking: its memory and what it looks at */
@@ -283,7 +296,9 @@ static x509_status ask(asker *by, const arguments *with)
         if (!now->fields[at].is_span)
             continue;
         memcpy(&span, found, sizeof span);
-        if (span.place > with->in[0].len || span.len > with->in[0].len - span.place)
+        /* places in a path are those of its last certificate */
+        const size_t len = with->count > 0 ? with->lens[with->count - 1] : with->in[0].len;
+        if (span.place > len || span.len > len - span.place)
             wrong(by, "a place outside of the input", with, status);
     }
     return status;
@@ -365,7 +380,8 @@ static x509_status ask_any(asker *by, arguments *with, int is_front)
     if (status == X509_FAULT) {
         x509_path_fault fault;
         memcpy(&fault, with->found, sizeof fault);
-        if (fault.place >= with->count || fault.reason < X509_PATH_DECODE || fault.reason > X509_PATH_PATH_LEN || fault.reason == X509_PATH_SIGNATURE)
+        const uint32_t last = input_of(by->now, "settings") < 0 ? X509_PATH_PATH_LEN : X509_PATH_CONSTRAINTS;
+        if (fault.place >= with->count || fault.reason < X509_PATH_DECODE || fault.reason > last || fault.reason == X509_PATH_SIGNATURE)
             wrong(by, "a fault that is none", with, status);
     }
     return status;
@@ -463,6 +479,30 @@ static void take_apart(asker *by)
     copy_in(by, 2, whole->bytes + signature.bits.place, signature.bits.len);
 }
 
+/* The anchor of a path is its first certificate: the bytes of that, or its name and its key. */
+static void take_anchor(asker *by, int path)
+{
+    const uint8_t *first = by->copies[path];
+    x509_certificate view;
+    if (input_of(by->now, "anchor") == 0) {
+        copy_in(by, 0, first, by->lens[0]);
+    } else if (x509_certificate_view(first, by->lens[0], &view) == X509_OK) {
+        copy_in(by, 0, first + view.subject.place, view.subject.len);
+        copy_in(by, 1, first + view.subject_public_key_info.place, view.subject_public_key_info.len);
+    }
+}
+
+/* Where a call takes settings, the moment in them is the first second of the first certificate. */
+static void take_moment(asker *by, int path)
+{
+    const int input = input_of(by->now, "settings");
+    x509_certificate view;
+    if (input < 0 || x509_certificate_view(by->copies[path], by->lens[0], &view) != X509_OK)
+        return;
+    const x509_path_settings settings = {view.not_before};
+    copy_in(by, input, (const uint8_t *)&settings, sizeof settings);
+}
+
 /* Good inputs: of x509_reencode a row and the name of its type; of a path one or two certificates. */
 static void take_inputs(asker *by, arguments *with)
 {
@@ -480,7 +520,7 @@ static void take_inputs(asker *by, arguments *with)
             copy_in(by, 0, (const uint8_t *)it->kind, strlen(it->kind));
     }
     if (now->flags & HAS_LENS) {
-        const int path = now->input_count - 1;
+        const int path = input_of(now, "path");
         const base *second = one_of(by, "x509_certificate_check");
         by->lens[0] = by->kept[path].len;
         by->lens[1] = second->len;
@@ -491,7 +531,8 @@ static void take_inputs(asker *by, arguments *with)
         }
         /* the anchor is often the first certificate, which its own issuer may have signed */
         if (below(&by->state, 4) != 0)
-            copy_in(by, 0, by->copies[path], by->lens[0]);
+            take_anchor(by, path);
+        take_moment(by, path);
         with->lens = by->lens;
     }
 }
@@ -505,7 +546,7 @@ static void ask_spoilt(asker *by, int number)
     for (uint64_t spoilt = by->now->input_count == 0 ? 0 : 1 + (below(&by->state, 8) == 0); spoilt > 0; spoilt--) {
         const size_t input = (size_t)below(&by->state, (uint64_t)by->now->input_count);
         const size_t len = spoil(by, by->copies[input], by->kept[input].len);
-        if ((by->now->flags & HAS_LENS) && (int)input == by->now->input_count - 1 && below(&by->state, 16) != 0)
+        if ((by->now->flags & HAS_LENS) && (int)input == input_of(by->now, "path") && below(&by->state, 16) != 0)
             by->lens[with.count - 1] += len - by->kept[input].len;
         by->kept[input].len = len;
     }
@@ -656,6 +697,14 @@ static void fill_pools(void)
     for (size_t at = 0; at < certificates->len; at++)
         if (is_path(&bases[certificates->bases[at]]))
             put(pool_of("paths"), certificates->bases[at]);
+    /* no constraints, and any; no settings, and the moment 1 */
+    const pool *constraints = pool_of("x509_name_constraints");
+    for (size_t at = 0; at < constraints->len; at++) {
+        put(pool_of("constraints"), constraints->bases[at]);
+        put(pool_of("constraints"), keep("none", NULL, 0));
+    }
+    put(pool_of("settings"), keep("none", NULL, 0));
+    put(pool_of("settings"), keep("", (const uint8_t *)"\1\0\0\0\0\0\0", 8));
     for (size_t number = 0; number < base_count; number++) {
         const base *it = &bases[number];
         if (strcmp(it->kind, "extensions") == 0)

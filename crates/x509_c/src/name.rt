@@ -4,14 +4,15 @@ ghost use Rattle.std.specs.Prelude.{◌≡◌, ◌≤◌, ◌<◌, ◌+◌};
 ghost use Rattle.x509_c_calls.specs.Attributes.{IsAttribute};
 ghost use Rattle.x509_c_calls.specs.Cursor.{Steps};
 ghost use Rattle.x509_c_calls.specs.FirstAttribute.{FindsAttribute};
+ghost use Rattle.x509_c_calls.specs.NamesMatch.{TellsWhetherNamesMatch};
 ghost use Rattle.x509_c_calls.specs.Status.{Tells};
 ghost use Rattle.x509_c_calls.specs.declared.status.status.Status.TheVariants.{Refused};
-ghost use Rattle.x509_der.specs.declared.error.ErrorKind.TheVariants.{Malformed};
+ghost use Rattle.x509_der.specs.declared.error.ErrorKind.TheVariants.{Malformed, Memory};
 ghost use Rattle.x509_name.specs.Names.{relative_distinguished_name};
 
 use std::alloc::Global;
 use x509_c_calls::{
-    AttributeView, Span, element_next, member_next, member_under_next, name_attribute,
+    AttributeView, Span, element_next, member_next, member_under_next, name_attribute, names_match,
 };
 use x509_der::{Decode, Grammar, Tag};
 use x509_name::attr::AttributeTypeAndValue;
@@ -74,4 +75,13 @@ pub extern "C" fn x509_name_find(
     ensures { Tells (λ status. FindsAttribute ⟦<Name as Grammar>⟧.form ⟦<Name as Grammar>⟧.refuses input.now oid.now found.old found.new status) result }
 {
     name_attribute(alloc, input, oid, found).code()
+}
+
+/// Fills in whether two encoded names match (RFC 5280 7.1): 1 where they do, else 0.
+#[unsafe(no_mangle)]
+pub extern "C" fn x509_names_match(alloc: Global, a: &[u8], b: &[u8], matches: &mut u32) -> i32
+    ensures { Tells (λ status. TellsWhetherNamesMatch ⟦<Name as Grammar>⟧.form ⟦<Name as Grammar>⟧.refuses a.now b.now matches.old matches.new status
+        × (a.now ≡ b.now → status ≡ Refused Memory → ⊥)) result }
+{
+    names_match(alloc, a, b, matches).code()
 }

@@ -1,13 +1,19 @@
-//! Checking a path of certificates.
+//! Checking and validating a path of certificates.
 
+ghost use Rattle.x509_c_calls.specs.PathValidation.{ValidatesUnderAnchor, ValidatesUnderCertificate, ValidatesUnderKey};
 ghost use Rattle.x509_c_calls.specs.Paths.{ChecksPath};
 ghost use Rattle.x509_c_calls.specs.Status.{Tells};
 
 use std::alloc::Global;
-use x509_base::Rfc5280;
-use x509_c_calls::{Fault, path_check};
+use x509_base::{Rfc5280, SubjectPublicKeyInfo};
+use x509_c_calls::{
+    Fault, PathAnswer, PathQuestion, path_check, path_validate, path_validate_under_anchor,
+    path_validate_under_key,
+};
 use x509_cert::certificate::CertificateInner;
 use x509_der::Grammar;
+use x509_ext::pkix::NameConstraints;
+use x509_name::name::Name;
 
 /// Checks a path of certificates at a time, in seconds since 1970-01-01T00:00:00Z, under the subject and the key of an
 /// anchor's certificate, apart from the signatures, and fills in its first fault.
@@ -24,4 +30,75 @@ pub extern "C" fn x509_path_check(
         result }
 {
     path_check(alloc, anchor, path, lens, moment, fault).code()
+}
+
+/// Validates a path of certificates apart from the signatures, under what an anchor's certificate gives that is trusted, and
+/// fills in its first fault, or where the subject and the key of its last certificate stand.
+#[unsafe(no_mangle)]
+pub extern "C" fn x509_path_validate(
+    alloc: Global,
+    anchor: &[u8],
+    path: &[u8],
+    lens: &[usize],
+    name_constraints: &[u8],
+    settings: &[u8],
+    answer: &mut PathAnswer,
+) -> i32
+    ensures { Tells (λ status. ValidatesUnderCertificate ⟦<CertificateInner<Rfc5280> as Grammar>⟧.refuses ⟦<NameConstraints as Grammar>⟧.refuses anchor.now
+        (record { path = path; lens = lens; name_constraints = name_constraints; settings = settings }) answer.old answer.new status) result }
+{
+    let question = PathQuestion {
+        path,
+        lens,
+        name_constraints,
+        settings,
+    };
+    path_validate(alloc, anchor, &question, answer).code()
+}
+
+/// The same under a name and a public key that are trusted.
+#[unsafe(no_mangle)]
+pub extern "C" fn x509_path_validate_under_key(
+    alloc: Global,
+    name: &[u8],
+    key: &[u8],
+    path: &[u8],
+    lens: &[usize],
+    name_constraints: &[u8],
+    settings: &[u8],
+    answer: &mut PathAnswer,
+) -> i32
+    ensures { Tells (λ status. ValidatesUnderKey ⟦<Name as Grammar>⟧.refuses ⟦<SubjectPublicKeyInfo as Grammar>⟧.refuses ⟦<NameConstraints as Grammar>⟧.refuses
+        name.now key.now (record { path = path; lens = lens; name_constraints = name_constraints; settings = settings }) answer.old answer.new status) result }
+{
+    let question = PathQuestion {
+        path,
+        lens,
+        name_constraints,
+        settings,
+    };
+    path_validate_under_key(alloc, name, key, &question, answer).code()
+}
+
+/// The same under what a trust anchor gives that is trusted.
+#[unsafe(no_mangle)]
+pub extern "C" fn x509_path_validate_under_anchor(
+    alloc: Global,
+    anchor: &[u8],
+    path: &[u8],
+    lens: &[usize],
+    name_constraints: &[u8],
+    settings: &[u8],
+    answer: &mut PathAnswer,
+) -> i32
+    ensures { Tells (λ status. ValidatesUnderAnchor ⟦<NameConstraints as Grammar>⟧.refuses anchor.now
+        (record { path = path; lens = lens; name_constraints = name_constraints; settings = settings }) answer.old answer.new status) result }
+{
+    let question = PathQuestion {
+        path,
+        lens,
+        name_constraints,
+        settings,
+    };
+    path_validate_under_anchor(alloc, anchor, &question, answer).code()
 }

@@ -22,6 +22,7 @@ pub mod Parts
 pub mod Members
 pub mod Bits
 pub mod CrlFields
+pub mod EntryCounts
 pub mod Cuts
 pub mod Walks
 pub mod PayloadMembers
@@ -31,8 +32,10 @@ pub mod Optional
 pub mod Fields
 pub mod Texts
 pub mod Names
+pub mod NameAnswers
 pub mod Refusals
 pub mod Serials
 pub mod Lent
 pub mod PointNames
 pub mod Ends
+pub mod Settings

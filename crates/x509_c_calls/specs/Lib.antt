@@ -36,6 +36,7 @@ pub mod CrlView
 pub mod CrlEntries
 pub mod Pieces
 pub mod Paths
+pub mod PathValidation
 pub mod Cursor
 pub mod Optional
 pub mod PayloadExtensions
@@ -44,6 +45,7 @@ pub mod Identifiers
 pub mod GeneralNames
 pub mod Attributes
 pub mod FirstAttribute
+pub mod NamesMatch
 pub mod Elements
 pub mod KeyIdentifiers
 pub mod Access

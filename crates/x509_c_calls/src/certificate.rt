@@ -7,5 +7,6 @@ mod whole;
 
 pub use extension::{ExtensionView, certificate_extension};
 pub use signature::{SignatureView, certificate_signature};
+pub(crate) use view::view_of;
 pub use view::{CertificateView, is_written, seconds};
 pub use whole::certificate_view;

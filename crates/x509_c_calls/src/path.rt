@@ -1,6 +1,12 @@
-//! Paths of certificates, checked apart from their signatures.
+//! Paths of certificates, checked or validated apart from their signatures.
 
+mod answer;
 mod path;
 mod pieces;
+mod question;
+mod validate;
 
+pub use answer::PathAnswer;
 pub use path::{Fault, path_check};
+pub use question::PathQuestion;
+pub use validate::{path_validate, path_validate_under_anchor, path_validate_under_key};

@@ -27,6 +27,7 @@ pub use cursor::next;
 pub use decimal::decimal_text;
 pub use element::ElementView;
 pub use extension::ExtensionEntry;
+pub(crate) use extension::flag;
 pub use first::name_attribute;
 pub use general_name::GeneralNameView;
 pub use identifiers::{identifiers_next, oid_from_text, oid_text};

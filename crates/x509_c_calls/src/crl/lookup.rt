@@ -55,7 +55,7 @@ fn revocation_of(alloc: Global, entry: &RevokedCertRef<'_>) -> Result<Revocation
 }
 
 /// The content octets of the element that the bytes are.
-fn content_of(bytes: &[u8]) -> &[u8]
+pub(crate) fn content_of(bytes: &[u8]) -> &[u8]
     ensures { (tag : ℕ) (content : List ℕ) → is_identifier tag ≡ true → bytes.now ≡ element tag content → result.now ≡ content }
 {
     match split_element(bytes) {

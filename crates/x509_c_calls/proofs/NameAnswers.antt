@@ -1,0 +1,13 @@
+-- The number that says whether names match.
+use Rattle.std.proofs.Common.{◌≡◌, ℕ, Bool, true, false, List, inl, inr, refl}
+use Rattle.std.proofs.lemmas.Bool.{false≢true}
+use Rattle.std.specs.Prelude.{◌↔◌, IsTrue}
+use Rattle.x509_c_calls.specs.NamesMatch.{IsAnswer}
+use Rattle.x509_c_calls.specs.PayloadExtensions.{flag}
+use Rattle.x509_match.specs.Matching.{NamesMatch}
+use Rattle.x509_name.specs.declared.attr.type_and_value.AttributeTypeAndValue.{AttributeTypeAndValue}
+
+pub flag-answers : (left right : List (List AttributeTypeAndValue)) → (found : Bool) → (IsTrue found ↔ NamesMatch left right) → (answer : ℕ) → answer ≡ flag found
+    → IsAnswer left right answer
+flag-answers left right true same answer is = inl (is, same.0 refl)
+flag-answers left right false same answer is = inr (is, λ matches. false≢true (same.1 matches))

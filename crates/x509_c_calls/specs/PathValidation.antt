@@ -1,0 +1,154 @@
+-- What a call leaves that validates a path of certificates apart from their signatures (RFC 5280 6.1).
+use Rattle.std.specs.Int.{to_le_bytes, w64}
+use Rattle.std.specs.List.{All}
+use Rattle.std.specs.Prelude.{◌≡◌, ◌≢◌, ◌<◌, ◌⊎◌, ℕ, List, [], ◌∷◌, ◌++◌, Option, Some, None}
+use Rattle.x509_base.specs.CivilTime.{CivilTime, IsDateTime, last_date_time, unix_seconds}
+use Rattle.x509_base.specs.SubjectPublicKeyInfo.{subject_public_key_info}
+use Rattle.x509_base.specs.declared.profile.Rfc5280.{Rfc5280}
+use Rattle.x509_c_calls.specs.Pieces.{AreCut}
+use Rattle.x509_c_calls.specs.Place.{IsAt}
+use Rattle.x509_c_calls.specs.View.{behind_key, behind_subject}
+use Rattle.x509_c_calls.specs.declared.path.answer.PathAnswer.{PathAnswer}
+use Rattle.x509_c_calls.specs.declared.path.question.PathQuestion.{PathQuestion}
+use Rattle.x509_c_calls.specs.declared.status.status.Status.{Status}
+use Rattle.x509_c_calls.specs.declared.status.status.Status.TheVariants as statuses
+use Rattle.x509_cert.specs.Certificate.{rfc5280_certificate}
+use Rattle.x509_cert.specs.TrustAnchorChoice.{rfc5280_trust_anchor_choice}
+use Rattle.x509_cert.specs.declared.anchor.trust_anchor_choice.TrustAnchorChoice.{TrustAnchorChoice}
+use Rattle.x509_der.specs.Form.{Spells, spelling}
+use Rattle.x509_der.specs.declared.error.ErrorKind.{ErrorKind}
+use Rattle.x509_der.specs.declared.error.ErrorKind.TheVariants as kinds
+use Rattle.x509_ext.specs.NameConstraints.{name_constraints}
+use Rattle.x509_ext.specs.declared.pkix.name_constraints.NameConstraints.{NameConstraints}
+use Rattle.x509_name.specs.Names.{name}
+use Rattle.x509_path.specs.Certificates.{Certificate, accept_all}
+use Rattle.x509_path.specs.Inputs.{Inputs, Trust}
+use Rattle.x509_path.specs.Trusts.{IsTrustOf, IsTrustOfAnchor}
+use Rattle.x509_path.specs.Validation.{AreUnusable, IsFirstFault, PathIsValid}
+use Rattle.x509_path.specs.declared.anchor.Anchor.{Anchor}
+use Rattle.x509_path.specs.declared.validation_fault.ValidationReason.{ValidationReason}
+use Rattle.x509_path.specs.declared.validation_fault.ValidationReason.TheVariants.{Decode, Algorithm, Issuer, Moment, Signature, Repeated, Critical, Extension, NotCa, KeyUsage, PathLen, Names, Constraints}
+use Rattle.x509_types.specs.Reencoding.{IsRefused}
+
+-- the number of a reason: that of Paths.antt, and further ones behind these
+abbrev pub validation_code : ValidationReason → ℕ
+validation_code Decode = 1
+validation_code Algorithm = 2
+validation_code Issuer = 3
+validation_code Moment = 4
+validation_code Signature = 5
+validation_code Repeated = 6
+validation_code Critical = 7
+validation_code NotCa = 8
+validation_code KeyUsage = 9
+validation_code PathLen = 10
+validation_code Extension = 11
+validation_code Names = 12
+validation_code Constraints = 13
+
+-- ---- what is asked
+
+-- a number of seconds of eight octets, the lowest first, and behind it zeros
+abbrev pub AreSettings : List ℕ → ℕ → Type 0
+AreSettings octets seconds = (behind : List ℕ) × (octets ≡ to_le_bytes w64 seconds ++ behind) × All (λ octet. octet ≡ 0) behind
+
+pub record HasMoment (octets : List ℕ) (moment : CivilTime) : Type 0 where
+  pub seconds : ℕ
+  pub settings : AreSettings octets seconds
+  pub real : IsDateTime moment
+  pub at : unix_seconds moment ≡ seconds
+
+-- they are no settings, or those of a moment after the year 9999
+abbrev pub HasNoMoment : List ℕ → Type 0
+HasNoMoment octets = ((seconds : ℕ) → AreSettings octets seconds → ⊥) ⊎ ((seconds : ℕ) × AreSettings octets seconds × (unix_seconds last_date_time < seconds))
+
+-- no octets are no constraints
+abbrev pub AreConstraints : List ℕ → Option NameConstraints → Type 0
+AreConstraints octets None = octets ≡ []
+AreConstraints octets (Some constraints) = Spells name_constraints constraints octets
+
+-- what the question asks of a path under what is trusted
+pub record Asks (question : PathQuestion) (trusted : Trust) (inputs : Inputs) (path : List (List ℕ)) : Type 0 where
+  pub trust : inputs.trust ≡ trusted
+  pub moment : HasMoment question.settings.now inputs.moment
+  pub constraints : AreConstraints question.name_constraints.now inputs.constraints
+  pub cut : AreCut question.path.now question.lens.now path
+
+-- why nothing is asked. refuses are the errors of a NameConstraints's own in reading.
+abbrev pub AsksNothing : (ErrorKind → Type 0) → PathQuestion → ErrorKind → Type 0
+AsksNothing refuses question e =
+    (e ≡ kinds.Memory)
+    ⊎ (((e ≡ kinds.Value) × HasNoMoment question.settings.now)
+    ⊎ (((e ≡ kinds.Failed) × ((path : List (List ℕ)) → AreCut question.path.now question.lens.now path → ⊥))
+    ⊎ ((question.name_constraints.now ≢ []) × IsRefused name_constraints refuses question.name_constraints.now e)))
+
+-- ---- what is answered
+
+-- where the subject and the key of a certificate stand in its bytes
+pub record IsSubject (bytes : List ℕ) (certificate : Certificate) (answer : PathAnswer) : Type 0 where
+  pub no_place : answer.place ≡ 0
+  pub no_reason : answer.reason ≡ 0
+  pub name : IsAt (spelling name certificate.tbs_certificate.subject) (behind_subject certificate) bytes answer.name
+  pub key : IsAt (spelling subject_public_key_info certificate.tbs_certificate.subject_public_key_info) (behind_key certificate) bytes answer.key
+
+-- the same of the last certificate of a path
+abbrev pub IsSubjectOfLast : List (List ℕ) → PathAnswer → Type 0
+IsSubjectOfLast path answer =
+    (above : List (List ℕ)) × (bytes : List ℕ) × (certificate : Certificate)
+    × (path ≡ above ++ bytes ∷ []) × Spells rfc5280_certificate certificate bytes × IsSubject bytes certificate answer
+
+-- the number of a reason at that place, and nothing else
+pub record IsFault (at : ℕ) (what : ValidationReason) (answer : PathAnswer) : Type 0 where
+  pub place : answer.place ≡ at
+  pub reason : answer.reason ≡ validation_code what
+  pub name : answer.name ≡ record { place = 0; len = 0 }
+  pub key : answer.key ≡ record { place = 0; len = 0 }
+
+-- What is left of a path of these inputs, where all bits are taken for signatures. Done: it is valid, and what it gives is filled in. Faulty: its first
+-- fault is. Absent: there is no certificate. Else the constraints of the caller or of what is trusted can't be used, or memory was refused.
+unfoldable pub TellsValidation : Inputs → List (List ℕ) → PathAnswer → PathAnswer → Status → Type 0
+TellsValidation inputs path was is statuses.Done = PathIsValid accept_all inputs path × IsSubjectOfLast path is
+TellsValidation inputs path was is statuses.Faulty =
+    (place : ℕ) × (reason : ValidationReason) × (AreUnusable inputs → ⊥) × IsFirstFault accept_all inputs path place reason × IsFault place reason is
+TellsValidation inputs path was is statuses.Absent = (path ≡ []) × (is ≡ was)
+TellsValidation inputs path was is (statuses.Refused e) = ((e ≡ kinds.Memory) ⊎ ((e ≡ kinds.Value) × AreUnusable inputs)) × (is ≡ was)
+TellsValidation inputs path was is statuses.NoRoom = ⊥
+TellsValidation inputs path was is statuses.Repeated = ⊥
+
+-- what a call leaves that is asked this under what is trusted
+unfoldable pub Validates : (ErrorKind → Type 0) → PathQuestion → Trust → PathAnswer → PathAnswer → Status → Type 0
+Validates refuses question trust was is status =
+    ((inputs : Inputs) × (path : List (List ℕ)) × Asks question trust inputs path × TellsValidation inputs path was is status)
+    ⊎ ((e : ErrorKind) × (status ≡ statuses.Refused e) × (is ≡ was) × AsksNothing refuses question e)
+
+-- ---- what is trusted
+
+-- the certificate's bytes are refused, or its extensions say nothing that can be followed
+abbrev pub IsUntrusted : (ErrorKind → Type 0) → List ℕ → ErrorKind → Type 0
+IsUntrusted refuses anchor e =
+    IsRefused rfc5280_certificate refuses anchor e
+    ⊎ ((c : Certificate) × Spells rfc5280_certificate c anchor × ((trust : Trust) → IsTrustOf c.tbs_certificate trust → ⊥))
+
+-- what a call leaves that is asked it under the certificate of an anchor
+unfoldable pub ValidatesUnderCertificate : (ErrorKind → Type 0) → (ErrorKind → Type 0) → List ℕ → PathQuestion → PathAnswer → PathAnswer → Status → Type 0
+ValidatesUnderCertificate certificates constraints anchor question was is status =
+    ((c : Certificate) × (trust : Trust) × Spells rfc5280_certificate c anchor × IsTrustOf c.tbs_certificate trust × Validates constraints question trust was is status)
+    ⊎ ((e : ErrorKind) × (status ≡ statuses.Refused e) × (is ≡ was) × IsUntrusted certificates anchor e)
+
+-- the name or the key is refused
+abbrev pub IsNoAnchor : (ErrorKind → Type 0) → (ErrorKind → Type 0) → List ℕ → List ℕ → ErrorKind → Type 0
+IsNoAnchor names keys anchor_name key e = IsRefused name names anchor_name e ⊎ IsRefused subject_public_key_info keys key e
+
+-- what a call leaves that is asked it under a name and a key
+unfoldable pub ValidatesUnderKey : (ErrorKind → Type 0) → (ErrorKind → Type 0) → (ErrorKind → Type 0) → List ℕ → List ℕ → PathQuestion → PathAnswer → PathAnswer → Status → Type 0
+ValidatesUnderKey names keys constraints anchor_name key question was is status =
+    ((anchor : Anchor) × Spells name anchor.name anchor_name × Spells subject_public_key_info anchor.key key
+    × Validates constraints question (record { anchor = anchor; constraints = None; max_path_length = None }) was is status)
+    ⊎ ((e : ErrorKind) × (status ≡ statuses.Refused e) × (is ≡ was) × IsNoAnchor names keys anchor_name key e)
+
+-- what a call leaves that is asked it under a trust anchor. Why an anchor is refused isn't said.
+unfoldable pub ValidatesUnderAnchor : (ErrorKind → Type 0) → List ℕ → PathQuestion → PathAnswer → PathAnswer → Status → Type 0
+ValidatesUnderAnchor constraints bytes question was is status =
+    ((anchor : TrustAnchorChoice Rfc5280) × (trust : Trust) × Spells rfc5280_trust_anchor_choice anchor bytes × IsTrustOfAnchor anchor trust
+    × Validates constraints question trust was is status)
+    ⊎ ((e : ErrorKind) × (status ≡ statuses.Refused e) × (is ≡ was))

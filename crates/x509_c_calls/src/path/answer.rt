@@ -1,0 +1,85 @@
+//! What is answered to a path.
+
+ghost use Rattle.std.specs.Prelude.{◌≡◌};
+ghost use Rattle.x509_c_calls.specs.PathValidation.{IsFault, IsSubject, validation_code};
+ghost use Rattle.x509_cert.specs.Certificate.{rfc5280_certificate};
+ghost use Rattle.x509_der.specs.Form.{Spells};
+ghost use Rattle.x509_path.specs.Certificates.{Certificate};
+
+use crate::Span;
+use crate::certificate::view_of;
+use x509_base::Rfc5280;
+use x509_check::CertificateRef;
+use x509_path::ValidationReason;
+
+/// What is answered to a path: what is wrong with it, or what it gives where it is valid. Of the other all numbers are 0.
+#[derive(Clone, Copy, Debug, PartialEq, Eq)]
+#[repr(C)]
+pub struct PathAnswer {
+    /// The number of the certificate in the path, from 0.
+    pub place: usize,
+
+    /// The number of what is wrong with it: for a [`ValidationReason`] that is a [`PathReason`](x509_path::PathReason) too the
+    /// number of that, from 11 on the others in their order.
+    pub reason: u32,
+
+    /// The subject of the last certificate, whose bytes begin at 0.
+    pub name: Span,
+
+    /// The public key of the last certificate.
+    pub key: Span,
+}
+
+const NOWHERE: Span = Span { place: 0, len: 0 };
+
+/// The number of a reason.
+fn number_of(reason: ValidationReason) -> u32
+    ensures { result ≡ validation_code reason }
+{
+    match reason {
+        ValidationReason::Decode => 1,
+        ValidationReason::Algorithm => 2,
+        ValidationReason::Issuer => 3,
+        ValidationReason::Moment => 4,
+        ValidationReason::Signature => 5,
+        ValidationReason::Repeated => 6,
+        ValidationReason::Critical => 7,
+        ValidationReason::NotCa => 8,
+        ValidationReason::KeyUsage => 9,
+        ValidationReason::PathLen => 10,
+        ValidationReason::Extension => 11,
+        ValidationReason::Names => 12,
+        ValidationReason::Constraints => 13,
+    }
+}
+
+/// What is wrong at a place.
+pub(crate) fn fault_at(place: usize, reason: ValidationReason) -> PathAnswer
+    ensures { IsFault place reason result }
+{
+    PathAnswer {
+        place,
+        reason: number_of(reason),
+        name: NOWHERE,
+        key: NOWHERE,
+    }
+}
+
+/// Where the subject and the key of a certificate stand.
+pub(crate) fn subject_of(bytes: &[u8]) -> PathAnswer
+    ensures { (c : Certificate) → Spells rfc5280_certificate c bytes.now → IsSubject bytes.now c result }
+{
+    let (name, key) = match CertificateRef::<Rfc5280>::from_der(bytes) {
+        Ok(certificate) => {
+            let view = view_of(bytes, &certificate);
+            (view.subject, view.subject_public_key_info)
+        }
+        Err(_) => (NOWHERE, NOWHERE),
+    };
+    PathAnswer {
+        place: 0,
+        reason: 0,
+        name,
+        key,
+    }
+}

@@ -1,0 +1,198 @@
+//! Validating a path apart from its signatures.
+
+ghost use Rattle.std.specs.Prelude.{◌≢◌, [], map, MatchOption, MatchResult, Option, ℕ};
+ghost use Rattle.x509_c_calls.specs.PathValidation.{AreConstraints, AreSettings, HasMoment, HasNoMoment, TellsValidation, Validates, ValidatesUnderAnchor, ValidatesUnderCertificate, ValidatesUnderKey};
+ghost use Rattle.x509_ext.specs.declared.pkix.name_constraints.NameConstraints as values;
+ghost use Rattle.x509_ext.specs.NameConstraints.{name_constraints};
+ghost use Rattle.x509_path.specs.Inputs.{Inputs, LendsConstraints, LendsInputs, LendsTrust, Trust};
+ghost use Rattle.x509_types.specs.Reencoding.{IsRefused};
+
+use crate::Status;
+use crate::path::answer::{PathAnswer, fault_at, subject_of};
+use crate::path::pieces::cut;
+use crate::path::question::PathQuestion;
+use std::alloc::Global;
+use std::time::Duration;
+use x509_base::{DateTime, Rfc5280, SubjectPublicKeyInfo};
+use x509_cert::Certificate;
+use x509_check::{CertificateRef, Check};
+use x509_der::{ErrorKind, Grammar};
+use x509_ext::pkix::NameConstraints;
+use x509_name::name::Name;
+use x509_path::{
+    AnchorRef, AnySignature, PathSettings, Trusted, TrustedBuf, ValidationFault, validate_path_lent,
+};
+
+/// The seconds of the settings, if they are any.
+fn seconds_of(settings: &[u8]) -> Option<u64>
+    ensures { MatchOption result ((seconds : ℕ) → AreSettings settings.now seconds → ⊥) (λ seconds. AreSettings settings.now seconds) }
+{
+    let (front, behind) = settings.split_first_chunk::<8>()?;
+    if behind.iter().any(|octet| *octet != 0) {
+        return None;
+    }
+    Some(u64::from_le_bytes(*front))
+}
+
+/// The moment of the settings, if they are any and it is one.
+fn moment_of(settings: &[u8]) -> Option<DateTime>
+    ensures { MatchOption result (HasNoMoment settings.now) (λ moment. HasMoment settings.now moment) }
+{
+    let seconds = seconds_of(settings)?;
+    match DateTime::from_unix_duration(Duration::from_secs(seconds)) {
+        Ok(moment) => Some(moment),
+        Err(_) => None,
+    }
+}
+
+/// The constraints, if there are any.
+fn constraints_of(octets: &[u8]) -> Result<Option<&[u8]>, ErrorKind>
+    ensures { MatchResult result (λ lent. (constraints : Option values.NameConstraints) × AreConstraints octets.now constraints × LendsConstraints lent constraints)
+        (λ e. (octets.now ≢ []) × IsRefused name_constraints ⟦<NameConstraints as Grammar>⟧.refuses octets.now e) }
+{
+    if octets.is_empty() {
+        return Ok(None);
+    }
+    match NameConstraints::check(octets) {
+        Ok(()) => Ok(Some(octets)),
+        Err(e) => Err(e.kind()),
+    }
+}
+
+/// Validates the path of these inputs apart from their signatures, and fills in its first fault, or what it gives.
+#[tactic(auto, unfolding(crate::specs::PathValidation::TellsValidation))]
+fn tell(
+    alloc: Global,
+    trusted: &Trusted<'_>,
+    path: &[&[u8]],
+    settings: &PathSettings<'_>,
+    answer: &mut PathAnswer,
+) -> Status
+    ensures { (inputs : Inputs) → LendsInputs trusted.now settings.now inputs
+        → TellsValidation inputs (map (λ input. input.now) path.now) answer.old answer.new result }
+{
+    let [.., last] = path else {
+        return Status::Absent;
+    };
+    match validate_path_lent(alloc, trusted, path, settings, &AnySignature) {
+        Ok(_) => {
+            *answer = subject_of(last);
+            Status::Done
+        }
+        Err(ValidationFault::Empty) => Status::Absent,
+        Err(ValidationFault::Memory) => Status::Refused(ErrorKind::Memory),
+        Err(ValidationFault::Initial) => Status::Refused(ErrorKind::Value),
+        Err(ValidationFault::At { place, reason }) => {
+            *answer = fault_at(place, reason);
+            Status::Faulty
+        }
+    }
+}
+
+/// Validates a path under what is trusted.
+#[tactic(auto, unfolding(crate::specs::PathValidation::Validates))]
+fn validate_under(
+    alloc: Global,
+    trusted: &Trusted<'_>,
+    question: &PathQuestion<'_>,
+    answer: &mut PathAnswer,
+) -> Status
+    ensures { (trust : Trust) → LendsTrust trusted.now trust
+        → Validates ⟦<NameConstraints as Grammar>⟧.refuses question.now trust answer.old answer.new result }
+{
+    let Some(moment) = moment_of(question.settings) else {
+        return Status::Refused(ErrorKind::Value);
+    };
+    let path = match cut(alloc, question.path, question.lens) {
+        Ok(Some(path)) => path,
+        Ok(None) => return Status::Refused(ErrorKind::Failed),
+        Err(_) => return Status::Refused(ErrorKind::Memory),
+    };
+    let name_constraints = match constraints_of(question.name_constraints) {
+        Ok(name_constraints) => name_constraints,
+        Err(e) => return Status::Refused(e),
+    };
+    let settings = PathSettings {
+        moment,
+        name_constraints,
+    };
+    tell(alloc, trusted, path.as_slice(), &settings, answer)
+}
+
+/// Validates a path of certificates apart from the signatures, of which any bits are accepted as one (RFC 5280 6.1), under
+/// what an anchor's certificate gives that is trusted (RFC 5937 2), as [`Trusted::from_certificate`] says.
+///
+/// # Errors
+///
+/// `Value` where the settings are none, where the time is after the year 9999, or where name constraints of the settings or of
+/// the anchor can't be used; `Failed` where the lengths don't add up, or an extension of the anchor is repeated; the errors
+/// of decoding the anchor's certificate, its extensions that are followed, and the name constraints; where several of these
+/// are bad, any of them. Else [`Status::Absent`] where there is no certificate, and [`Status::Faulty`] where one has a fault,
+/// the first of which is filled in. `Memory` when out of memory. `answer` is unchanged except on [`Status::Faulty`].
+#[tactic(auto, unfolding(crate::specs::PathValidation::ValidatesUnderCertificate))]
+pub fn path_validate(
+    alloc: Global,
+    anchor: &[u8],
+    question: &PathQuestion<'_>,
+    answer: &mut PathAnswer,
+) -> Status
+    ensures { ValidatesUnderCertificate ⟦<Certificate as Grammar>⟧.refuses ⟦<NameConstraints as Grammar>⟧.refuses anchor.now question.now answer.old answer.new
+        result }
+{
+    let certificate = match CertificateRef::<Rfc5280>::from_der(anchor) {
+        Ok(certificate) => certificate,
+        Err(e) => return e.into(),
+    };
+    match Trusted::from_certificate(alloc, &certificate) {
+        Ok(trusted) => validate_under(alloc, &trusted, question, answer),
+        Err(e) => e.into(),
+    }
+}
+
+/// The same under a name and a public key that are trusted, each as its encoding.
+///
+/// # Errors
+///
+/// Those of [`path_validate`], and in place of those of the anchor's certificate `Overlength` or `Malformed` where the bytes of
+/// the name or of the key are too long or are none.
+#[tactic(auto, unfolding(crate::specs::PathValidation::ValidatesUnderKey))]
+pub fn path_validate_under_key(
+    alloc: Global,
+    name: &[u8],
+    key: &[u8],
+    question: &PathQuestion<'_>,
+    answer: &mut PathAnswer,
+) -> Status
+    ensures { ValidatesUnderKey ⟦<Name as Grammar>⟧.refuses ⟦<SubjectPublicKeyInfo as Grammar>⟧.refuses ⟦<NameConstraints as Grammar>⟧.refuses name.now key.now
+        question.now answer.old answer.new result }
+{
+    if let Err(e) = Name::check(name) {
+        return e.into();
+    }
+    if let Err(e) = SubjectPublicKeyInfo::check(key) {
+        return e.into();
+    }
+    let trusted = Trusted::new(AnchorRef { name, key });
+    validate_under(alloc, &trusted, question, answer)
+}
+
+/// The same under what a trust anchor gives that is trusted (RFC 5914, RFC 5937 2), as [`TrustedBuf::from_trust_anchor`] says, of the
+/// encoding of a `TrustAnchorChoice`.
+///
+/// # Errors
+///
+/// Those of [`path_validate`], and in place of those of the anchor's certificate those of [`TrustedBuf::from_der`].
+#[tactic(auto, unfolding(crate::specs::PathValidation::ValidatesUnderAnchor))]
+pub fn path_validate_under_anchor(
+    alloc: Global,
+    anchor: &[u8],
+    question: &PathQuestion<'_>,
+    answer: &mut PathAnswer,
+) -> Status
+    ensures { ValidatesUnderAnchor ⟦<NameConstraints as Grammar>⟧.refuses anchor.now question.now answer.old answer.new result }
+{
+    match TrustedBuf::from_der(alloc, anchor) {
+        Ok(trusted) => validate_under(alloc, &trusted.as_trusted(), question, answer),
+        Err(e) => e.into(),
+    }
+}
