@@ -6,7 +6,7 @@ use std::error::Error as StdError;
 use std::fmt::Write;
 use std::time::{SystemTime, UNIX_EPOCH};
 use x509_rattle::extension::*;
-use x509_rattle::{oid, CertificateRef, Error, GeneralName, NameRef, ObjectIdentifier};
+use x509_rattle::{oid, CertificateRef, Error, GeneralName, NameRef, ObjectIdentifier, PublicKey};
 
 type Told = Result<String, Error>;
 
@@ -106,9 +106,9 @@ fn of_others(id: ObjectIdentifier, value: &[u8]) -> Option<Told> {
                 format!("{}:{}", it.access_method, general_name(&it.access_location))
             })
         }),
-        _ if id == CERTIFICATE_POLICIES => told::<CertificatePolicies>(value, |it| {
-            joined(&it.0, |it| it.policy_identifier.to_string())
-        }),
+        _ if id == CERTIFICATE_POLICIES => {
+            told::<CertificatePolicies>(value, |it| joined(&it.0, policy))
+        }
         _ if id == CRL_DISTRIBUTION_POINTS => kept::<CrlDistributionPoints>(value),
         _ if id == NAME_CONSTRAINTS => kept::<NameConstraints>(value),
         _ if id == POLICY_CONSTRAINTS => kept::<PolicyConstraints>(value),
@@ -116,6 +116,47 @@ fn of_others(id: ObjectIdentifier, value: &[u8]) -> Option<Told> {
         _ if id == INHIBIT_ANY_POLICY => kept::<InhibitAnyPolicy>(value),
         _ => return None,
     })
+}
+
+/// The size of a key, and its numbers or its curve and its point.
+fn parts(key: &PublicKey<'_>) -> Told {
+    let size = key
+        .size()?
+        .map_or_else(|| "none".to_owned(), |it| it.to_string());
+    if let Some(numbers) = key.rsa()? {
+        let numbers = [numbers.modulus, numbers.public_exponent];
+        return Ok(size + " " + &joined(numbers, |it| hex(it.as_bytes())));
+    }
+    Ok(match (key.curve()?, key.point()) {
+        (Some(curve), Some(point)) => format!("{size} {curve} {}", hex(point)),
+        _ => "other".to_owned(),
+    })
+}
+
+fn policy(it: &PolicyInformation<'_>) -> String {
+    let qualifiers = it.policy_qualifiers.iter().flatten();
+    let told = qualifiers.map(|it| " ".to_owned() + &qualifier(it));
+    it.policy_identifier.to_string() + &told.collect::<String>()
+}
+
+fn qualifier(it: &PolicyQualifierInfo<'_>) -> String {
+    match (it.cps_uri(), it.user_notice()) {
+        (Ok(Some(uri)), _) => format!("cps:{}", hex(uri.as_bytes())),
+        (_, Ok(Some(notice))) => {
+            let reference = notice.notice_ref.iter().flat_map(|it| {
+                let numbers = it.notice_numbers.iter().map(|it| hex(it.as_bytes()));
+                std::iter::once(hex(it.organization.as_bytes())).chain(numbers)
+            });
+            let reference: Vec<_> = reference.collect();
+            let text = notice.explicit_text.map(|it| hex(it.as_bytes()));
+            format!(
+                "notice:{}:{}",
+                reference.join(","),
+                text.as_deref().unwrap_or("none")
+            )
+        }
+        _ => "unread".to_owned(),
+    }
 }
 
 fn print(file: &str) -> Result<(), Box<dyn StdError>> {
@@ -130,6 +171,7 @@ fn print(file: &str) -> Result<(), Box<dyn StdError>> {
     println!("subject {}", name(it.subject())?);
     println!("issuer {}", name(it.issuer())?);
     println!("key {}", hex(it.subject_public_key_info()));
+    println!("parts {}", parts(&it.public_key()?)?);
     println!("signature {}", hex(it.signature()?.bits));
     println!("signed {}", it.signature()?.signed_part.len());
     for extension in it.extensions() {

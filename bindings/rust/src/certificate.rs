@@ -456,12 +456,52 @@ impl Certificate {
         self.to_ref().get()
     }
 
+    /// What the key may be used for.
+    ///
+    /// # Errors
+    /// As of [`CertificateRef::get`].
+    pub fn key_usage(&self) -> Result<Option<KeyUsage>, Error> {
+        self.to_ref().key_usage()
+    }
+
+    /// Whether the key may sign certificates, and how many authorities may follow.
+    ///
+    /// # Errors
+    /// As of [`CertificateRef::get`].
+    pub fn basic_constraints(&self) -> Result<Option<BasicConstraints>, Error> {
+        self.to_ref().basic_constraints()
+    }
+
+    /// Further names of the subject.
+    ///
+    /// # Errors
+    /// As of [`CertificateRef::get`].
+    pub fn subject_alt_name(&self) -> Result<Option<SubjectAltName<'_>>, Error> {
+        self.to_ref().subject_alt_name()
+    }
+
+    /// The bytes that the signature is over, as they stand in the DER: a whole TBSCertificate.
+    ///
+    /// # Errors
+    /// None but [`Error::Unexpected`].
+    pub fn tbs_certificate(&self) -> Result<&[u8], Error> {
+        self.to_ref().tbs_certificate()
+    }
+
     /// What is to be verified of it.
     ///
     /// # Errors
     /// [`Error::Memory`].
     pub fn signature(&self) -> Result<Signature<'_>, Error> {
         self.to_ref().signature()
+    }
+
+    /// Its DER with the dates as RFC 5280 4.1.2.5 spells them. Where that isn't how they stood, the signature doesn't hold of these bytes.
+    ///
+    /// # Errors
+    /// [`Error::Memory`].
+    pub fn canonical_der(&self) -> Result<Vec<u8>, Error> {
+        self.to_ref().canonical_der()
     }
 
     /// All that it has, as lines for people.

@@ -7,6 +7,7 @@ use crate::key::PublicKey;
 use crate::name::NameRef;
 use crate::oid::ObjectIdentifier;
 use std::fmt;
+use std::hash::{Hash, Hasher};
 
 /// An attribute of a CSR (RFC 2986 4.1), as a challenge password.
 #[derive(Clone, Copy, Debug, PartialEq, Eq, Hash)]
@@ -76,7 +77,7 @@ impl<'a> Iterator for CsrAttributes<'a> {
     }
 }
 
-/// A CSR, by its bytes, which are borrowed. CSRs are equal byte for byte.
+/// A CSR, by its bytes, which are borrowed. CSRs are equal byte for byte. [`CsrBuf`] has bytes of its own.
 ///
 /// ```
 /// use x509_rattle::extension::ParsedExtension;
@@ -191,6 +192,22 @@ impl<'a> Csr<'a> {
     pub fn to_json(&self) -> Result<String, Error> {
         ffi::REQUEST_JSON.text_of(self.der)
     }
+
+    /// The bytes that the signature is over, as they stand in the DER: a whole CertificationRequestInfo.
+    ///
+    /// # Errors
+    /// None but [`Error::Unexpected`].
+    pub fn certification_request_info(&self) -> Result<&'a [u8], Error> {
+        ffi::SIGNED_SLICE.of(self.der)?.of(self.der)
+    }
+
+    /// The CSR, with bytes of its own.
+    pub fn to_owned(&self) -> CsrBuf {
+        CsrBuf {
+            der: self.der.to_vec(),
+            view: self.view,
+        }
+    }
 }
 
 impl PartialEq for Csr<'_> {
@@ -201,10 +218,180 @@ impl PartialEq for Csr<'_> {
 
 impl Eq for Csr<'_> {}
 
+impl Hash for Csr<'_> {
+    fn hash<H: Hasher>(&self, state: &mut H) {
+        self.der.hash(state);
+    }
+}
+
+impl AsRef<[u8]> for Csr<'_> {
+    fn as_ref(&self) -> &[u8] {
+        self.der
+    }
+}
+
+impl<'a> TryFrom<&'a [u8]> for Csr<'a> {
+    type Error = Error;
+
+    fn try_from(der: &'a [u8]) -> Result<Csr<'a>, Error> {
+        Csr::from_der(der)
+    }
+}
+
 impl fmt::Debug for Csr<'_> {
     fn fmt(&self, f: &mut fmt::Formatter<'_>) -> fmt::Result {
         f.debug_struct("Csr")
             .field("subject", &self.subject())
             .finish_non_exhaustive()
+    }
+}
+
+/// A CSR that has bytes of its own. All that it says it says by [`to_ref`](CsrBuf::to_ref).
+///
+/// ```
+/// use x509_rattle::CsrBuf;
+///
+/// # let der = include_bytes!("../../../examples/data/request.der").to_vec();
+/// let csr = CsrBuf::from_der(der)?;
+/// assert_eq!(csr.subject().to_string(), "CN=www.example.org,O=Beispiel\\, Söhne & Co,C=DE");
+/// # Ok::<(), x509_rattle::Error>(())
+/// ```
+#[derive(Clone)]
+pub struct CsrBuf {
+    der: Vec<u8>,
+    view: ffi::Request,
+}
+
+impl CsrBuf {
+    /// The CSR that the bytes are.
+    ///
+    /// # Errors
+    /// As of [`Csr::from_der`].
+    pub fn from_der(der: Vec<u8>) -> Result<CsrBuf, Error> {
+        let view = Csr::from_der(&der)?.view;
+        Ok(CsrBuf { der, view })
+    }
+
+    /// The same CSR, borrowed, with all that it says.
+    pub fn to_ref(&self) -> Csr<'_> {
+        Csr {
+            der: &self.der,
+            view: self.view,
+        }
+    }
+
+    /// Its DER.
+    pub fn as_der(&self) -> &[u8] {
+        &self.der
+    }
+
+    /// Its DER, taken out.
+    pub fn into_der(self) -> Vec<u8> {
+        self.der
+    }
+
+    /// The name of the subject.
+    pub fn subject(&self) -> NameRef<'_> {
+        self.to_ref().subject()
+    }
+
+    /// The key and its algorithm: a whole SubjectPublicKeyInfo.
+    pub fn subject_public_key_info(&self) -> &[u8] {
+        self.to_ref().subject_public_key_info()
+    }
+
+    /// The key, by its kind and its bits.
+    ///
+    /// # Errors
+    /// [`Error::Memory`].
+    pub fn public_key(&self) -> Result<PublicKey<'_>, Error> {
+        self.to_ref().public_key()
+    }
+
+    /// Its attributes, in order.
+    pub fn attributes(&self) -> CsrAttributes<'_> {
+        self.to_ref().attributes()
+    }
+
+    /// Its attribute of a type; see [`oid::request`](crate::oid::request).
+    ///
+    /// # Errors
+    /// As of [`Csr::attribute`].
+    pub fn attribute(&self, oid: ObjectIdentifier) -> Result<Option<CsrAttribute<'_>>, Error> {
+        self.to_ref().attribute(oid)
+    }
+
+    /// The extensions that it asks for (RFC 2985 5.4.2), in order; none where no attribute asks for any.
+    ///
+    /// # Errors
+    /// As of [`Csr::extensions`].
+    pub fn extensions(&self) -> Result<Extensions<'_>, Error> {
+        self.to_ref().extensions()
+    }
+
+    /// The bytes that the signature is over, as they stand in the DER: a whole CertificationRequestInfo.
+    ///
+    /// # Errors
+    /// None but [`Error::Unexpected`].
+    pub fn certification_request_info(&self) -> Result<&[u8], Error> {
+        self.to_ref().certification_request_info()
+    }
+
+    /// What is to be verified of it, for its own key.
+    ///
+    /// # Errors
+    /// None but [`Error::Unexpected`].
+    pub fn signature(&self) -> Result<Signature<'_>, Error> {
+        self.to_ref().signature()
+    }
+
+    /// All that it has, as lines for people.
+    ///
+    /// # Errors
+    /// As of [`Csr::to_text`].
+    pub fn to_text(&self) -> Result<String, Error> {
+        self.to_ref().to_text()
+    }
+
+    /// The same lines as JSON.
+    ///
+    /// # Errors
+    /// As of [`Csr::to_json`].
+    pub fn to_json(&self) -> Result<String, Error> {
+        self.to_ref().to_json()
+    }
+}
+
+impl PartialEq for CsrBuf {
+    fn eq(&self, other: &Self) -> bool {
+        self.der == other.der
+    }
+}
+
+impl Eq for CsrBuf {}
+
+impl Hash for CsrBuf {
+    fn hash<H: Hasher>(&self, state: &mut H) {
+        self.der.hash(state);
+    }
+}
+
+impl AsRef<[u8]> for CsrBuf {
+    fn as_ref(&self) -> &[u8] {
+        &self.der
+    }
+}
+
+impl fmt::Debug for CsrBuf {
+    fn fmt(&self, f: &mut fmt::Formatter<'_>) -> fmt::Result {
+        self.to_ref().fmt(f)
+    }
+}
+
+impl TryFrom<Vec<u8>> for CsrBuf {
+    type Error = Error;
+
+    fn try_from(der: Vec<u8>) -> Result<CsrBuf, Error> {
+        CsrBuf::from_der(der)
     }
 }

@@ -1,22 +1,30 @@
 //! Extensions (RFC 5280 4.2, 5.2, 5.3), and what they hold.
 mod access;
+mod attributes;
 mod crl;
 mod flags;
 mod keys;
+mod marks;
 mod names;
+mod notices;
+mod periods;
 mod points;
 mod policies;
 mod timestamps;
 mod writing;
 
 pub use access::{AccessDescription, AuthorityInfoAccess, SubjectInfoAccess};
+pub use attributes::{DirectoryAttribute, SubjectDirectoryAttributes};
 pub use crl::{BaseCrlNumber, CrlNumber, CrlReason};
 pub(crate) use flags::flags;
 pub use flags::{KeyUsage, ReasonFlags};
 pub use keys::{AuthorityKeyIdentifier, BasicConstraints, ExtendedKeyUsage, SubjectKeyIdentifier};
+pub use marks::{OcspNoCheck, PrecertPoison, TlsFeature};
 pub use names::{
     CertificateIssuer, GeneralSubtree, IssuerAltName, NameConstraints, SubjectAltName,
 };
+pub use notices::{NoticeReference, UserNotice};
+pub use periods::{InvalidityDate, PrivateKeyUsagePeriod};
 pub use points::{
     CrlDistributionPoints, DistributionPoint, DistributionPointName, FreshestCrl,
     IssuingDistributionPoint,
@@ -171,6 +179,12 @@ parsed! {
     CrlReason(CrlReason),
     CertificateIssuer(CertificateIssuer<'a>),
     SignedCertificateTimestamps(SignedCertificateTimestamps<'a>),
+    PrivateKeyUsagePeriod(PrivateKeyUsagePeriod),
+    SubjectDirectoryAttributes(SubjectDirectoryAttributes<'a>),
+    InvalidityDate(InvalidityDate),
+    PrecertPoison(PrecertPoison),
+    OcspNoCheck(OcspNoCheck),
+    TlsFeature(TlsFeature),
 }
 
 /// A type that is a list, under its identifier.
@@ -221,7 +235,7 @@ mod tests {
 
     #[test]
     fn unknown_identifiers() {
-        let extension = Extension::new(crate::oid::extension::PRECERT_POISON, true, b"\x05\x00");
+        let extension = Extension::new(crate::oid::policy::ANY_POLICY, true, b"\x05\x00");
         assert_eq!(
             extension.parsed(),
             Ok(ParsedExtension::Unrecognized(b"\x05\x00"))

@@ -200,6 +200,21 @@ pub(crate) struct PathFault {
 
 #[repr(C)]
 #[derive(Clone, Copy, Debug, Default)]
+pub(crate) struct PathSettings {
+    pub(crate) moment: u64,
+}
+
+#[repr(C)]
+#[derive(Clone, Copy, Debug, Default)]
+pub(crate) struct PathAnswer {
+    pub(crate) place: usize,
+    pub(crate) reason: u32,
+    pub(crate) name: Span,
+    pub(crate) key: Span,
+}
+
+#[repr(C)]
+#[derive(Clone, Copy, Debug, Default)]
 pub(crate) struct Revocation {
     pub(crate) date: u64,
     pub(crate) reason: i32,
@@ -311,6 +326,19 @@ pub(crate) struct Timestamp {
 }
 
 /// Bytes go in as a pointer and a length.
+type ValidateCall = unsafe extern "C" fn(
+    *const u8,
+    usize,
+    *const u8,
+    usize,
+    *const usize,
+    usize,
+    *const u8,
+    usize,
+    *const PathSettings,
+    usize,
+    *mut PathAnswer,
+) -> c_int;
 type ViewCall<T> = unsafe extern "C" fn(*const u8, usize, *mut T) -> c_int;
 type FindCall<T> = unsafe extern "C" fn(*const u8, usize, *const u8, usize, *mut T) -> c_int;
 type FillCall = unsafe extern "C" fn(*const u8, usize, *mut u8, usize, *mut usize) -> c_int;
@@ -352,6 +380,7 @@ extern "C" {
     fn x509_oid_from_text(text: *const u8, len: usize, out: *mut u8, room: usize, written: *mut usize) -> c_int;
     fn x509_name_next(name: *const u8, len: usize, at: *mut usize, found: *mut Span) -> c_int;
     fn x509_name_find(name: *const u8, len: usize, oid: *const u8, oid_len: usize, found: *mut Attribute) -> c_int;
+    fn x509_names_match(a: *const u8, a_len: usize, b: *const u8, b_len: usize, matches: *mut u32) -> c_int;
     fn x509_relative_name_next(rdn: *const u8, len: usize, at: *mut usize, found: *mut Attribute) -> c_int;
     fn x509_relative_name_under_next(number: u32, rdn: *const u8, len: usize, at: *mut usize, found: *mut Attribute) -> c_int;
     fn x509_serial_number(input: *const u8, len: usize, found: *mut Span) -> c_int;
@@ -360,6 +389,9 @@ extern "C" {
     fn x509_time_text(moment: u64, out: *mut u8, room: usize, written: *mut usize) -> c_int;
     fn x509_certificate_signature(input: *const u8, len: usize, signature: *mut Signature) -> c_int;
     fn x509_path_check(anchor: *const u8, anchor_len: usize, path: *const u8, path_len: usize, lens: *const usize, count: usize, moment: u64, fault: *mut PathFault) -> c_int;
+    fn x509_path_validate(anchor: *const u8, anchor_len: usize, path: *const u8, path_len: usize, lens: *const usize, count: usize, name_constraints: *const u8, name_constraints_len: usize, settings: *const PathSettings, settings_size: usize, answer: *mut PathAnswer) -> c_int;
+    fn x509_path_validate_under_key(name: *const u8, name_len: usize, key: *const u8, key_len: usize, path: *const u8, path_len: usize, lens: *const usize, count: usize, name_constraints: *const u8, name_constraints_len: usize, settings: *const PathSettings, settings_size: usize, answer: *mut PathAnswer) -> c_int;
+    fn x509_path_validate_under_anchor(anchor: *const u8, anchor_len: usize, path: *const u8, path_len: usize, lens: *const usize, count: usize, name_constraints: *const u8, name_constraints_len: usize, settings: *const PathSettings, settings_size: usize, answer: *mut PathAnswer) -> c_int;
     fn x509_crl_lookup(input: *const u8, len: usize, serial_number: *const u8, serial_number_len: usize, revocation: *mut Revocation) -> c_int;
     fn x509_crl_view(input: *const u8, len: usize, view: *mut Crl) -> c_int;
     fn x509_crl_entry_next(value: *const u8, len: usize, at: *mut usize, found: *mut CrlEntry) -> c_int;
@@ -693,6 +725,15 @@ pub(crate) const CRL_LOOKUP: Find<Revocation> = Find(x509_crl_lookup);
 pub(crate) const NAME_FIND: Find<Attribute> = Find(x509_name_find);
 pub(crate) const REQUEST_ATTRIBUTE: Find<RequestAttribute> = Find(x509_request_attribute_find);
 
+/// Whether two names match.
+pub(crate) fn names_match(a: &[u8], b: &[u8]) -> Result<bool, Error> {
+    let mut matches = 0;
+    // SAFETY: the header lets the call read both slices, which are lent for it, and fill in `matches`.
+    let status =
+        unsafe { x509_names_match(a.as_ptr(), a.len(), b.as_ptr(), b.len(), &mut matches) };
+    accepted(status, matches == 1)
+}
+
 /// The first fault of a path, but those of signatures.
 pub(crate) fn path_check(
     anchor: &[u8],
@@ -717,6 +758,95 @@ pub(crate) fn path_check(
     };
     match status {
         FAULT => Ok(Some(fault)),
+        status => accepted(status, None),
+    }
+}
+
+/// What a path is to be valid under.
+#[derive(Clone, Copy)]
+pub(crate) enum Trusted<'a> {
+    Certificate(&'a [u8]),
+    Anchor(&'a [u8]),
+    NameAndKey(&'a [u8], &'a [u8]),
+}
+
+/// A path with what is asked of it.
+struct Question<'a> {
+    joined: Vec<u8>,
+    lens: Vec<usize>,
+    name_constraints: &'a [u8],
+    settings: PathSettings,
+}
+
+impl Question<'_> {
+    /// The status of a call under a certificate or another trust anchor.
+    fn ask(&self, call: ValidateCall, anchor: &[u8], answer: &mut PathAnswer) -> c_int {
+        // SAFETY: the header lets the call read the slices, which are lent for it, `lens` of as many numbers as it is told and `settings` of the size that it
+        // is told, and fill in `answer`.
+        unsafe {
+            call(
+                anchor.as_ptr(),
+                anchor.len(),
+                self.joined.as_ptr(),
+                self.joined.len(),
+                self.lens.as_ptr(),
+                self.lens.len(),
+                self.name_constraints.as_ptr(),
+                self.name_constraints.len(),
+                &self.settings,
+                size_of::<PathSettings>(),
+                answer,
+            )
+        }
+    }
+
+    /// The status of the call under a name and a key.
+    fn ask_under_key(&self, name: &[u8], key: &[u8], answer: &mut PathAnswer) -> c_int {
+        // SAFETY: as of `ask`.
+        unsafe {
+            x509_path_validate_under_key(
+                name.as_ptr(),
+                name.len(),
+                key.as_ptr(),
+                key.len(),
+                self.joined.as_ptr(),
+                self.joined.len(),
+                self.lens.as_ptr(),
+                self.lens.len(),
+                self.name_constraints.as_ptr(),
+                self.name_constraints.len(),
+                &self.settings,
+                size_of::<PathSettings>(),
+                answer,
+            )
+        }
+    }
+}
+
+/// The first fault of a path that is to be valid, but those of signatures. Where there are no name constraints, these are no bytes.
+pub(crate) fn path_validate(
+    trusted: Trusted<'_>,
+    path: &[&[u8]],
+    name_constraints: &[u8],
+    settings: PathSettings,
+) -> Result<Option<PathFault>, Error> {
+    let question = Question {
+        joined: path.concat(),
+        lens: path.iter().map(|data| data.len()).collect(),
+        name_constraints,
+        settings,
+    };
+    let mut answer = PathAnswer::default();
+    let status = match trusted {
+        Trusted::Certificate(der) => question.ask(x509_path_validate, der, &mut answer),
+        Trusted::Anchor(der) => question.ask(x509_path_validate_under_anchor, der, &mut answer),
+        Trusted::NameAndKey(name, key) => question.ask_under_key(name, key, &mut answer),
+    };
+    match status {
+        FAULT => Ok(Some(PathFault {
+            place: answer.place,
+            reason: answer.reason,
+        })),
         status => accepted(status, None),
     }
 }

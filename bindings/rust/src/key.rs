@@ -1,7 +1,10 @@
 //! Public keys and algorithms (RFC 5280 4.1.1.2, 4.1.2.7).
+use crate::elements::{elements, natural, only};
 use crate::error::Error;
 use crate::ffi;
+use crate::integer::Integer;
 use crate::oid::ObjectIdentifier;
+use crate::writing::{OBJECT_IDENTIFIER, SEQUENCE};
 
 macro_rules! kinds {
     ($(#[$said:meta])* $name:ident { $($(#[$kind_said:meta])* $kind:ident = $number:literal,)* }) => {
@@ -96,7 +99,7 @@ kinds! {
     }
 }
 
-/// A public key, by what its SubjectPublicKeyInfo says. The key isn't looked into.
+/// A public key, by what its SubjectPublicKeyInfo says. The key isn't looked into, but where its size or its parts are asked for.
 ///
 /// ```
 /// use x509_rattle::{CertificateRef, KeyKind};
@@ -141,6 +144,122 @@ impl<'a> PublicKey<'a> {
             unused_bits: view.unused_bits,
         })
     }
+
+    /// The numbers of an RSA key; none of a key of another kind.
+    ///
+    /// # Errors
+    /// [`Error::Malformed`] where the bits are no RSAPublicKey (RFC 8017 A.1.1); [`Error::Memory`].
+    pub fn rsa(&self) -> Result<Option<RsaPublicKey<'a>>, Error> {
+        if !matches!(self.kind, KeyKind::Rsa | KeyKind::RsaPss) {
+            return Ok(None);
+        }
+        let [modulus, public_exponent] = numbers(self.bits)?;
+        Ok(Some(RsaPublicKey {
+            modulus,
+            public_exponent,
+        }))
+    }
+
+    /// The curve of a key, where it names one (RFC 5480 2.1.1); none of a key of another kind.
+    ///
+    /// # Errors
+    /// [`Error::Malformed`] where the parameters are no such name; [`Error::Memory`].
+    pub fn curve(&self) -> Result<Option<ObjectIdentifier>, Error> {
+        let Some(parameters) = self.parameters.filter(|_| self.is_of_a_curve()) else {
+            return Ok(None);
+        };
+        match elements(parameters)?[..] {
+            [found] if found.tag == OBJECT_IDENTIFIER => {
+                ObjectIdentifier::from_bytes(found.content).map(Some)
+            }
+            _ => Ok(None),
+        }
+    }
+
+    /// The octets of the point of a key of an elliptic curve (SEC 1 2.3.3), or those of a key of RFC 8410; none of a key of another kind.
+    pub fn point(&self) -> Option<&'a [u8]> {
+        let is_point = self.is_of_a_curve() || self.is_of_rfc_8410();
+        is_point.then_some(self.bits)
+    }
+
+    /// Its size in bits: of an RSA key that of the modulus, of a DSA key that of the prime, of the curves P-256, P-384 and P-521 that of a coordinate, and of a key of
+    /// RFC 8410 that of its octets; none of others.
+    ///
+    /// # Errors
+    /// [`Error::Malformed`] where the numbers of an RSA or a DSA key aren't there; [`Error::Memory`].
+    pub fn size(&self) -> Result<Option<usize>, Error> {
+        Ok(match self.kind {
+            KeyKind::Rsa | KeyKind::RsaPss => self.rsa()?.map(|it| bits_of(it.modulus)),
+            KeyKind::Dsa => match self.parameters {
+                Some(parameters) => {
+                    let [prime, _, _] = numbers(parameters)?;
+                    Some(bits_of(prime))
+                }
+                None => None,
+            },
+            KeyKind::EcP256 => Some(256),
+            KeyKind::EcP384 => Some(384),
+            KeyKind::EcP521 => Some(521),
+            _ if self.is_of_rfc_8410() => self.bits.len().checked_mul(8),
+            _ => None,
+        })
+    }
+
+    fn is_of_a_curve(&self) -> bool {
+        let kind = self.kind;
+        matches!(
+            kind,
+            KeyKind::EcP256 | KeyKind::EcP384 | KeyKind::EcP521 | KeyKind::EcOther
+        )
+    }
+
+    fn is_of_rfc_8410(&self) -> bool {
+        let kind = self.kind;
+        matches!(
+            kind,
+            KeyKind::Ed25519 | KeyKind::Ed448 | KeyKind::X25519 | KeyKind::X448
+        )
+    }
+}
+
+/// The numbers of an RSA key (RFC 8017 A.1.1).
+///
+/// ```
+/// use x509_rattle::PublicKey;
+///
+/// let der = b"\x30\x1a\x30\x0d\x06\x09\x2a\x86\x48\x86\xf7\x0d\x01\x01\x01\x05\x00\x03\x09\x00\x30\x06\x02\x01\x33\x02\x01\x03";
+/// let key = PublicKey::from_der(der)?;
+/// let numbers = key.rsa()?.expect("it is one of RSA");
+/// assert_eq!((numbers.modulus.to_u128(), numbers.public_exponent.to_u128()), (Some(51), Some(3)));
+/// assert_eq!(key.size()?, Some(6));
+/// # Ok::<(), x509_rattle::Error>(())
+/// ```
+#[derive(Clone, Copy, Debug, PartialEq, Eq, Hash)]
+pub struct RsaPublicKey<'a> {
+    /// The modulus.
+    pub modulus: Integer<'a>,
+
+    /// The exponent.
+    pub public_exponent: Integer<'a>,
+}
+
+/// The numbers of a SEQUENCE of so many of them, none of which is negative.
+fn numbers<const COUNT: usize>(der: &[u8]) -> Result<[Integer<'_>; COUNT], Error> {
+    let found = elements(only(der, SEQUENCE)?)?;
+    let found: Vec<_> = found
+        .iter()
+        .map(|it| natural(it.der))
+        .collect::<Result<_, _>>()?;
+    found.try_into().map_err(|_| Error::Malformed)
+}
+
+/// How many bits a number has that isn't negative.
+fn bits_of(number: Integer<'_>) -> usize {
+    let octets = number.as_bytes();
+    let zeros = octets.iter().take_while(|octet| **octet == 0).count();
+    let digits = octets.get(zeros..).unwrap_or_default();
+    let unused = digits.first().map_or(0, |first| first.leading_zeros());
+    (digits.len() * 8).saturating_sub(unused as usize)
 }
 
 /// An algorithm, by what its AlgorithmIdentifier says.

@@ -28,6 +28,7 @@ mod certificate;
 mod controls;
 mod crl;
 mod csr;
+mod elements;
 mod error;
 pub mod extension;
 #[allow(unsafe_code)]
@@ -48,19 +49,22 @@ pub use builder::{
 };
 pub use certificate::{Certificate, CertificateRef, Signature, Validity, Version};
 pub use controls::{PathControls, PolicyFlags};
-pub use crl::{Crl, CrlEntries, CrlEntry, Revocation};
-pub use csr::{AttributeValue, AttributeValues, Csr, CsrAttribute, CsrAttributes};
+pub use crl::{Crl, CrlEntries, CrlEntry, CrlRef, Revocation};
+pub use csr::{AttributeValue, AttributeValues, Csr, CsrAttribute, CsrAttributes, CsrBuf};
 pub use error::Error;
 pub use extension::{Extension, Extensions, ParsedExtension};
 pub use general_name::{GeneralName, GeneralNames};
 pub use integer::{Integer, SerialNumber};
-pub use key::{AlgorithmIdentifier, KeyKind, PublicKey, SignatureKind};
+pub use key::{AlgorithmIdentifier, KeyKind, PublicKey, RsaPublicKey, SignatureKind};
 pub use name::{
     escape_value, AttributeTypeAndValue, Attributes, Name, NameAttributes, NameBuilder, NameRef,
     Rdns, RelativeDistinguishedName, StringType,
 };
 pub use oid::ObjectIdentifier;
-pub use path::{check_path, FaultReason, PathError, PathFault, Verifier};
+pub use path::{
+    check_path, validate_path, FaultReason, PathError, PathFault, PathSettings, Trusted, Validated,
+    Verifier,
+};
 pub use time::time_text;
 
 /// The rules under which a value is read.

@@ -76,6 +76,16 @@ impl<'a> NameRef<'a> {
         found.map(read).transpose()
     }
 
+    /// Whether the names match (RFC 5280 7.1): they have as many relative names, in order, and in each as many attributes, in any order, of the same types, whose
+    /// values are the same or are texts that differ in case, in spaces at their ends or in how many stand within alone, as RFC 4518 prepares texts. `==` compares
+    /// the bytes.
+    ///
+    /// # Errors
+    /// [`Error::Memory`].
+    pub fn matches(&self, other: &NameRef<'_>) -> Result<bool, Error> {
+        ffi::names_match(self.der, other.der)
+    }
+
     /// The name, with bytes of its own.
     pub fn to_owned(&self) -> Name {
         Name {
@@ -137,6 +147,23 @@ impl Name {
     pub fn from_der(der: Vec<u8>) -> Result<Name, Error> {
         NameRef::from_der(&der)?;
         Ok(Name { der })
+    }
+
+    /// Whether the names match, as of [`NameRef::matches`].
+    ///
+    /// ```
+    /// use x509_rattle::Name;
+    ///
+    /// let name: Name = "O=Straße,C=DE".parse()?;
+    /// assert!(name.matches(&"O=\\ STRASSE,C=de".parse()?)?);
+    /// assert!(!name.matches(&"C=DE,O=Straße".parse()?)?);
+    /// # Ok::<(), x509_rattle::Error>(())
+    /// ```
+    ///
+    /// # Errors
+    /// As of [`NameRef::matches`].
+    pub fn matches(&self, other: &Name) -> Result<bool, Error> {
+        self.to_ref().matches(&other.to_ref())
     }
 
     /// The same name, borrowed, with all that it says.

@@ -133,6 +133,8 @@ pub mod extension {
         SUBJECT_KEY_IDENTIFIER = "2.5.29.14", b"\x55\x1d\x0e";
         /// KeyUsage
         KEY_USAGE = "2.5.29.15", b"\x55\x1d\x0f";
+        /// PrivateKeyUsagePeriod (RFC 3280 4.2.1.4)
+        PRIVATE_KEY_USAGE_PERIOD = "2.5.29.16", b"\x55\x1d\x10";
         /// SubjectAltName
         SUBJECT_ALT_NAME = "2.5.29.17", b"\x55\x1d\x11";
         /// IssuerAltName
@@ -173,6 +175,10 @@ pub mod extension {
         AUTHORITY_INFO_ACCESS = "1.3.6.1.5.5.7.1.1", b"\x2b\x06\x01\x05\x05\x07\x01\x01";
         /// SubjectInfoAccess
         SUBJECT_INFO_ACCESS = "1.3.6.1.5.5.7.1.11", b"\x2b\x06\x01\x05\x05\x07\x01\x0b";
+        /// Extensions of TLS that a server must offer (RFC 7633 4.1)
+        TLS_FEATURE = "1.3.6.1.5.5.7.1.24", b"\x2b\x06\x01\x05\x05\x07\x01\x18";
+        /// What says that the revocation of a responder isn't looked up (RFC 6960 4.2.2.2.1)
+        OCSP_NO_CHECK = "1.3.6.1.5.5.7.48.1.5", b"\x2b\x06\x01\x05\x05\x07\x30\x01\x05";
         /// Signed certificate timestamps (RFC 6962 3.3)
         SIGNED_CERTIFICATE_TIMESTAMPS = "1.3.6.1.4.1.11129.2.4.2", b"\x2b\x06\x01\x04\x01\xd6\x79\x02\x04\x02";
         /// What marks a precertificate (RFC 6962 3.1)
@@ -242,13 +248,17 @@ pub mod attribute {
     }
 }
 
-/// Of policies (RFC 5280 4.2.1.4).
+/// Of policies and of what qualifies them (RFC 5280 4.2.1.4).
 pub mod policy {
     use super::ObjectIdentifier;
 
     identifiers! {
         /// anyPolicy
         ANY_POLICY = "2.5.29.32.0", b"\x55\x1d\x20\x00";
+        /// The qualifier that says where a practice statement is found, id-qt-cps
+        CPS_URI = "1.3.6.1.5.5.7.2.1", b"\x2b\x06\x01\x05\x05\x07\x02\x01";
+        /// The qualifier that is a notice to the user, id-qt-unotice
+        USER_NOTICE = "1.3.6.1.5.5.7.2.2", b"\x2b\x06\x01\x05\x05\x07\x02\x02";
     }
 }
 

@@ -1,7 +1,9 @@
 //! Paths of certificates (RFC 5280 6.1).
+use crate::anchor::TrustAnchor;
 use crate::certificate::{CertificateRef, Signature};
 use crate::error::Error;
 use crate::ffi;
+use crate::name::NameRef;
 use crate::time::seconds;
 use std::fmt;
 use std::time::SystemTime;
@@ -18,14 +20,15 @@ impl<F: Fn(&[u8], &Signature<'_>) -> bool> Verifier for F {
     }
 }
 
-/// What is wrong with a certificate of a path. Of several faults of one certificate the first of this order is told.
+/// What is wrong with a certificate of a path. Of several faults of one certificate the first of this order is told, but for
+/// [`Extension`](FaultReason::Extension), which comes behind [`Critical`](FaultReason::Critical). The last three are told by [`validate_path`] alone.
 #[derive(Clone, Copy, Debug, PartialEq, Eq, PartialOrd, Ord, Hash)]
 pub enum FaultReason {
     /// The bytes are those of no certificate.
     Decode = 1,
     /// The algorithm in the signed part isn't the one outside it (RFC 5280 4.1.1.2).
     Algorithm = 2,
-    /// The issuer isn't the subject of the certificate above, byte for byte.
+    /// The issuer isn't the subject of the certificate above: byte for byte for [`check_path`], as names match (RFC 5280 7.1) for [`validate_path`].
     Issuer = 3,
     /// The moment is before the first or after the last second of the validity.
     Moment = 4,
@@ -33,7 +36,8 @@ pub enum FaultReason {
     Signature = 5,
     /// An extension identifier is there twice.
     Repeated = 6,
-    /// A critical extension is none of BasicConstraints, KeyUsage, ExtendedKeyUsage and SubjectAltName, or one of these that can't be read.
+    /// A critical extension is none of BasicConstraints, KeyUsage, ExtendedKeyUsage and SubjectAltName, or one of these that can't be read. For
+    /// [`validate_path`] NameConstraints is one of these too.
     Critical = 7,
     /// Asked of all but the last: there is no BasicConstraints that can be read and says cA.
     NotCa = 8,
@@ -41,6 +45,13 @@ pub enum FaultReason {
     KeyUsage = 9,
     /// Asked of all but the last: more certificates that aren't self-issued follow one above than its path length allows.
     PathLen = 10,
+    /// An extension can't be read, critical or not, that is one of those or of those about policies: CertificatePolicies, PolicyMappings, PolicyConstraints and
+    /// InhibitAnyPolicy.
+    Extension = 11,
+    /// A name isn't within what the name constraints above permit, or is within what they exclude (RFC 5280 4.2.1.10).
+    Names = 12,
+    /// Asked of all but the last: there is a NameConstraints that can't be used, with a minimum other than 0, a maximum, or an address or a mask that is none.
+    Constraints = 13,
 }
 
 impl FaultReason {
@@ -56,6 +67,9 @@ impl FaultReason {
             8 => FaultReason::NotCa,
             9 => FaultReason::KeyUsage,
             10 => FaultReason::PathLen,
+            11 => FaultReason::Extension,
+            12 => FaultReason::Names,
+            13 => FaultReason::Constraints,
             _ => return Err(Error::Unexpected),
         })
     }
@@ -72,6 +86,9 @@ impl FaultReason {
             FaultReason::NotCa => "is no authority",
             FaultReason::KeyUsage => "may not sign certificates",
             FaultReason::PathLen => "has more below it than its path length allows",
+            FaultReason::Extension => "has an extension that can't be read",
+            FaultReason::Names => "has a name that the constraints above don't allow",
+            FaultReason::Constraints => "has name constraints that can't be used",
         }
     }
 }
@@ -162,8 +179,23 @@ pub fn check_path<'a, B: AsRef<[u8]>>(
     moment: SystemTime,
     verifier: &impl Verifier,
 ) -> Result<Vec<CertificateRef<'a>>, PathError> {
-    let path: Vec<&[u8]> = path.iter().map(AsRef::as_ref).collect();
-    let found = match ffi::path_check(anchor.as_der(), &path, seconds(moment)?)? {
+    let path = slices(path);
+    let found = ffi::path_check(anchor.as_der(), &path, seconds(moment)?)?;
+    verified(anchor.subject_public_key_info(), path, found, verifier)
+}
+
+fn slices<B: AsRef<[u8]>>(path: &[B]) -> Vec<&[u8]> {
+    path.iter().map(AsRef::as_ref).collect()
+}
+
+/// The certificates of a path under a key, of which that is the first fault but those of signatures.
+fn verified<'a>(
+    key: &[u8],
+    path: Vec<&'a [u8]>,
+    found: Option<ffi::PathFault>,
+    verifier: &impl Verifier,
+) -> Result<Vec<CertificateRef<'a>>, PathError> {
+    let found = match found {
         Some(fault) => Some(PathFault {
             place: fault.place,
             reason: FaultReason::found(fault.reason)?,
@@ -171,7 +203,7 @@ pub fn check_path<'a, B: AsRef<[u8]>>(
         None => None,
     };
     let mut certificates: Vec<CertificateRef<'a>> = Vec::new();
-    let mut key = anchor.subject_public_key_info();
+    let mut above = key;
     for (place, der) in path.into_iter().enumerate() {
         let of_signature = PathFault {
             place,
@@ -181,14 +213,155 @@ pub fn check_path<'a, B: AsRef<[u8]>>(
             break;
         }
         let certificate = CertificateRef::from_der(der)?;
-        if !is_signed(key, &certificate, verifier)? {
+        if !is_signed(above, &certificate, verifier)? {
             return Err(PathError::Fault(of_signature));
         }
-        key = certificate.subject_public_key_info();
+        above = certificate.subject_public_key_info();
         certificates.push(certificate);
     }
     match found {
         Some(fault) => Err(PathError::Fault(fault)),
         None => Ok(certificates),
     }
+}
+
+/// What a path is to be valid under.
+#[derive(Clone, Copy, Debug)]
+pub enum Trusted<'a> {
+    /// The subject and the key of a certificate, for the paths that its name constraints and its path length allow (RFC 5937 2). Nothing else of it is looked
+    /// at.
+    Certificate(CertificateRef<'a>),
+
+    /// The same of a trust anchor (RFC 5914, RFC 5937 2): of a description the key, and what its constraints on paths say.
+    Anchor(TrustAnchor<'a>),
+
+    /// A name and a key, for all paths.
+    NameAndKey {
+        /// The name under which the key signs.
+        name: NameRef<'a>,
+
+        /// The DER of its SubjectPublicKeyInfo.
+        subject_public_key_info: &'a [u8],
+    },
+}
+
+impl<'a> Trusted<'a> {
+    fn bytes(&self) -> ffi::Trusted<'a> {
+        match self {
+            Trusted::Certificate(certificate) => ffi::Trusted::Certificate(certificate.as_der()),
+            Trusted::Anchor(anchor) => ffi::Trusted::Anchor(anchor.as_der()),
+            Trusted::NameAndKey {
+                name,
+                subject_public_key_info,
+            } => ffi::Trusted::NameAndKey(name.as_der(), subject_public_key_info),
+        }
+    }
+
+    fn key(&self) -> &'a [u8] {
+        match self {
+            Trusted::Certificate(certificate) => certificate.subject_public_key_info(),
+            Trusted::Anchor(anchor) => anchor.subject_public_key_info(),
+            Trusted::NameAndKey {
+                subject_public_key_info,
+                ..
+            } => subject_public_key_info,
+        }
+    }
+}
+
+impl<'a> From<CertificateRef<'a>> for Trusted<'a> {
+    fn from(certificate: CertificateRef<'a>) -> Trusted<'a> {
+        Trusted::Certificate(certificate)
+    }
+}
+
+impl<'a> From<TrustAnchor<'a>> for Trusted<'a> {
+    fn from(anchor: TrustAnchor<'a>) -> Trusted<'a> {
+        Trusted::Anchor(anchor)
+    }
+}
+
+/// What is asked of a path.
+#[derive(Clone, Debug)]
+pub struct PathSettings {
+    moment: SystemTime,
+    name_constraints: Vec<u8>,
+}
+
+impl PathSettings {
+    /// That it is valid at the moment.
+    pub fn new(moment: SystemTime) -> PathSettings {
+        PathSettings {
+            moment,
+            name_constraints: Vec::new(),
+        }
+    }
+
+    /// That all names are within the initial permitted and excluded subtrees (RFC 5280 6.1.1 (h), (i)), by the DER of a NameConstraints; no bytes are none.
+    pub fn name_constraints(&mut self, der: &[u8]) -> &mut PathSettings {
+        self.name_constraints = der.to_vec();
+        self
+    }
+}
+
+/// What a valid path gives (RFC 5280 6.1.6).
+#[derive(Clone, Debug)]
+pub struct Validated<'a> {
+    certificates: Vec<CertificateRef<'a>>,
+    last: CertificateRef<'a>,
+}
+
+impl<'a> Validated<'a> {
+    /// Its certificates, topmost first.
+    pub fn certificates(&self) -> &[CertificateRef<'a>] {
+        &self.certificates
+    }
+
+    /// The last certificate, of which the path says that the key is its subject's.
+    pub fn certificate(&self) -> CertificateRef<'a> {
+        self.last
+    }
+}
+
+/// What a path gives, where it is valid under what is trusted (RFC 5280 6.1), given by the DER of its certificates, topmost first. Beyond what [`check_path`]
+/// looks at names are compared as they match (RFC 5280 7.1), name constraints hold, those of what is trusted, of the settings and of each certificate above, and
+/// each extension of a type that is looked at is to be one that can be read. Policies and revocation aren't looked at: a critical extension about policies is
+/// refused.
+///
+/// ```
+/// use std::time::{Duration, UNIX_EPOCH};
+/// use x509_rattle::{validate_path, CertificateRef, FaultReason, PathError, PathSettings, Signature};
+///
+/// # let der: &[u8] = include_bytes!("../../../examples/data/certificate.der");
+/// let anchor = CertificateRef::from_der(der)?;
+/// // a program verifies here by a library of signatures; this accepts none
+/// let verifier = |_key: &[u8], _signature: &Signature| false;
+/// let settings = PathSettings::new(UNIX_EPOCH + Duration::from_secs(1_767_323_045));
+/// match validate_path(anchor, &[der], &settings, &verifier) {
+///     Err(PathError::Fault(fault)) => assert_eq!((fault.place, fault.reason), (0, FaultReason::Signature)),
+///     other => panic!("{other:?}"),
+/// }
+/// # Ok::<(), x509_rattle::Error>(())
+/// ```
+///
+/// # Errors
+/// [`PathError::Fault`] and the verifier's turns as of [`check_path`].
+///
+/// [`PathError::Refused`] with [`Error::Absent`] where the path is empty; with [`Error::Value`] where the moment is before 1970 or after 9999, and where name
+/// constraints of the settings or of what is trusted can't be used; with [`Error::Failed`] where what is trusted has one of the extensions that are looked at
+/// twice, or no name; with [`Error::Malformed`] or [`Error::Overlength`] where these, the name constraints or the key are none; and with [`Error::Memory`].
+pub fn validate_path<'a, 'b, B: AsRef<[u8]>>(
+    trusted: impl Into<Trusted<'b>>,
+    path: &'a [B],
+    settings: &PathSettings,
+    verifier: &impl Verifier,
+) -> Result<Validated<'a>, PathError> {
+    let (trusted, path) = (trusted.into(), slices(path));
+    let asked = ffi::PathSettings {
+        moment: seconds(settings.moment)?,
+    };
+    let found = ffi::path_validate(trusted.bytes(), &path, &settings.name_constraints, asked)?;
+    let certificates = verified(trusted.key(), path, found, verifier)?;
+    let last = *certificates.last().ok_or(Error::Unexpected)?;
+    Ok(Validated { certificates, last })
 }

@@ -206,3 +206,17 @@ fn between_threads() {
     moves::<ParsedExtension>();
     moves::<x509_rattle::PathError>();
 }
+
+/// What the borrowed one says the owned one says too.
+#[test]
+fn owned() {
+    let it = Certificate::from_der(DER.to_vec()).expect("a certificate");
+    let borrowed = it.to_ref();
+    assert_eq!(it.key_usage(), borrowed.key_usage());
+    assert_eq!(it.basic_constraints(), borrowed.basic_constraints());
+    assert_eq!(it.subject_alt_name(), borrowed.subject_alt_name());
+    assert_eq!(it.tbs_certificate(), borrowed.tbs_certificate());
+    assert_eq!(it.canonical_der(), borrowed.canonical_der());
+    assert!(it.key_usage().is_ok_and(|usage| usage.is_some()));
+    assert!(it.subject_alt_name().is_ok_and(|names| names.is_some()));
+}

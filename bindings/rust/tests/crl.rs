@@ -1,7 +1,7 @@
 //! The CRL of the examples, by what `examples/data/make.py` puts into it.
 use std::time::{Duration, UNIX_EPOCH};
 use x509_rattle::extension::CrlReason;
-use x509_rattle::{Certificate, Crl, Error, Revocation};
+use x509_rattle::{Certificate, Crl, CrlRef, Error, Revocation};
 
 const DER: &[u8] = include_bytes!("../../../examples/data/list.der");
 const CERTIFICATE: &[u8] = include_bytes!("../../../examples/data/certificate.der");
@@ -103,4 +103,36 @@ fn bytes() {
     assert_eq!(signed[0], 0x30);
     assert_eq!(it.clone(), it);
     assert_eq!(it.into_der(), DER);
+}
+
+#[test]
+fn borrowed_and_owned() {
+    let owned = crl();
+    let borrowed = CrlRef::from_der(DER).expect("a CRL");
+    assert_eq!(borrowed, owned.to_ref());
+    assert_eq!(borrowed.to_owned(), owned);
+    assert_eq!(CrlRef::try_from(DER), Ok(borrowed));
+    assert_eq!(Crl::try_from(DER.to_vec()), Ok(owned.clone()));
+    assert_eq!((borrowed.len(), borrowed.is_empty()), (3, false));
+    assert_eq!(
+        (borrowed.version(), borrowed.issuer()),
+        (owned.version(), owned.issuer())
+    );
+    assert_eq!(borrowed.this_update(), owned.this_update());
+    assert_eq!(borrowed.next_update(), owned.next_update());
+    assert_eq!(borrowed.signature(), owned.signature());
+    assert_eq!(borrowed.tbs_cert_list(), owned.tbs_cert_list());
+    assert_eq!(borrowed.revocation(&[1]), owned.revocation(&[1]));
+    assert_eq!(borrowed.extensions().count(), owned.extensions().count());
+    assert_eq!(borrowed.to_text(), owned.to_text());
+    assert_eq!(borrowed.to_json(), owned.to_json());
+    assert_eq!(format!("{borrowed:?}"), format!("{owned:?}"));
+    assert_eq!(
+        (borrowed.as_der(), borrowed.as_ref()),
+        (owned.as_der(), owned.as_ref())
+    );
+    // what is lent lives as long as the bytes, and not only as what lends it
+    let entries = { CrlRef::from_der(DER).expect("a CRL").entries() };
+    assert_eq!(entries.count(), 3);
+    assert_eq!(CrlRef::from_der(&DER[1..]), Err(Error::Malformed));
 }

@@ -1,6 +1,6 @@
 //! The CSR of the examples, by what `examples/data/make.py` puts into it.
 use x509_rattle::extension::ParsedExtension;
-use x509_rattle::{Csr, Error, GeneralName, ObjectIdentifier};
+use x509_rattle::{oid, Csr, CsrBuf, Error, GeneralName, ObjectIdentifier};
 
 const DER: &[u8] = include_bytes!("../../../examples/data/request.der");
 
@@ -69,4 +69,41 @@ fn refusals() {
             }
         }
     }
+}
+
+#[test]
+fn borrowed_and_owned() {
+    let owned = CsrBuf::from_der(DER.to_vec()).expect("a CSR");
+    let borrowed = Csr::from_der(DER).expect("a CSR");
+    assert_eq!(
+        (owned.to_ref(), borrowed.to_owned()),
+        (borrowed, owned.clone())
+    );
+    assert_eq!(Csr::try_from(DER), Ok(borrowed));
+    assert_eq!(CsrBuf::try_from(DER.to_vec()), Ok(owned.clone()));
+    assert_eq!(owned.subject(), borrowed.subject());
+    assert_eq!(owned.public_key(), borrowed.public_key());
+    assert_eq!(
+        owned.subject_public_key_info(),
+        borrowed.subject_public_key_info()
+    );
+    assert_eq!(owned.signature(), borrowed.signature());
+    assert_eq!(owned.attributes().count(), borrowed.attributes().count());
+    let password = oid::request::CHALLENGE_PASSWORD;
+    assert_eq!(owned.attribute(password), borrowed.attribute(password));
+    assert_eq!(owned.extensions().expect("a list").count(), 1);
+    let part = owned.certification_request_info();
+    assert_eq!(part, borrowed.certification_request_info());
+    assert_eq!(part, owned.signature().map(|it| it.signed_part));
+    assert_eq!(
+        (owned.to_text(), owned.to_json()),
+        (borrowed.to_text(), borrowed.to_json())
+    );
+    assert_eq!(format!("{owned:?}"), format!("{borrowed:?}"));
+    assert_eq!(
+        (owned.as_der(), owned.as_ref()),
+        (borrowed.as_der(), borrowed.as_ref())
+    );
+    assert_eq!(owned.into_der(), DER);
+    assert_eq!(CsrBuf::from_der(DER[1..].to_vec()), Err(Error::Malformed));
 }

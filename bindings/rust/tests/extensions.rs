@@ -312,3 +312,195 @@ fn of_crls() {
     );
     assert_eq!(CrlReason::from_der(b"\x0a\x01\x07"), Err(Error::Malformed));
 }
+
+/// None of these is a value of the type.
+fn refuses<'a, T: ExtensionValue<'a> + std::fmt::Debug + PartialEq>(bad: &[&'a [u8]]) {
+    for der in bad {
+        assert_eq!(T::from_der(der), Err(Error::Malformed), "{der:02x?}");
+    }
+}
+
+#[test]
+fn marks() {
+    assert_eq!(PrecertPoison::from_der(b"\x05\x00"), Ok(PrecertPoison));
+    assert_eq!(OcspNoCheck::from_der(b"\x05\x00"), Ok(OcspNoCheck));
+    let bad: [&[u8]; 7] = [
+        b"",
+        b"\x05",
+        b"\x05\x01\x00",
+        b"\x05\x00\x05\x00",
+        b"\x05\x81\x00",
+        b"\x30\x00",
+        b"\x05\x00\x00",
+    ];
+    refuses::<PrecertPoison>(&bad);
+    refuses::<OcspNoCheck>(&bad);
+}
+
+#[test]
+fn features() {
+    // RFC 7633 6
+    assert_eq!(
+        TlsFeature::from_der(b"\x30\x03\x02\x01\x05"),
+        Ok(TlsFeature(vec![5]))
+    );
+    assert_eq!(TlsFeature::from_der(b"\x30\x00"), Ok(TlsFeature(vec![])));
+    refuses::<TlsFeature>(&[
+        b"",
+        b"\x05\x00",
+        b"\x30\x03\x04\x01\x05",
+        b"\x30\x04\x02\x02\x00\x05",
+        b"\x30\x03\x02\x01\xff",
+        b"\x30\x05\x02\x03\x01\x00\x00",
+        b"\x30\x03\x02\x01\x05\x00",
+    ]);
+}
+
+#[test]
+fn moments() {
+    refuses::<InvalidityDate>(&[
+        b"",
+        b"\x17\x0d300102030405Z",
+        b"\x18\x1120300102030405.5Z",
+        b"\x18\x1320300102030405+0100",
+        b"\x18\x0d203001020304Z",
+        b"\x18\x0f20301302030405Z",
+        b"\x18\x0f20300102030405Z\x00",
+    ]);
+    refuses::<PrivateKeyUsagePeriod>(&[
+        b"",
+        b"\x05\x00",
+        b"\x30\x11\x82\x0f20300102030405Z",
+        b"\x30\x11\x18\x0f20300102030405Z",
+        b"\x30\x22\x81\x0f20300102030405Z\x80\x0f20300102030405Z",
+        b"\x30\x22\x80\x0f20300102030405Z\x80\x0f20300102030405Z",
+        b"\x30\x11\x80\x0f20300102030405Z\x00",
+    ]);
+}
+
+#[test]
+fn attributes_of_subjects() {
+    // RFC 3739 3.2.2: the country of citizenship DE
+    let der = b"\x30\x12\x30\x10\x06\x08\x2b\x06\x01\x05\x05\x07\x09\x04\x31\x04\x13\x02DE";
+    let found = SubjectDirectoryAttributes::from_der(der).expect("attributes");
+    let expected = DirectoryAttribute {
+        oid: oid("1.3.6.1.5.5.7.9.4"),
+        values: vec![b"\x13\x02DE"],
+    };
+    assert_eq!(found.0, [expected]);
+    assert_eq!(found.into_iter().count(), 1);
+    refuses::<SubjectDirectoryAttributes>(&[
+        b"",
+        b"\x05\x00",
+        b"\x30\x02\x05\x00",
+        b"\x30\x0d\x30\x0b\x06\x02\x2a\x03\x31\x05\x0c\x01a\x05\x00",
+    ]);
+}
+
+/// Each of them is read by its identifier.
+#[test]
+fn further_payloads_by_identifier() {
+    use x509_rattle::{Extensions, ParsedExtension as Parsed};
+    let read = |oid: &[u8], value: &[u8], is: fn(&Parsed<'_>) -> bool| {
+        let part = |tag: u8, content: &[u8]| [&[tag, content.len() as u8], content].concat();
+        let entry = [part(0x06, oid), part(0x04, value)].concat();
+        let list = part(0x30, &part(0x30, &entry));
+        let found = Extensions::new(&list).next().expect("one").expect("one");
+        assert!(is(&found.parsed().expect("a value")), "{oid:02x?}");
+    };
+    let ct = b"\x2b\x06\x01\x04\x01\xd6\x79\x02\x04\x03";
+    read(ct, b"\x05\x00", |it| matches!(it, Parsed::PrecertPoison(_)));
+    let no_check = b"\x2b\x06\x01\x05\x05\x07\x30\x01\x05";
+    read(no_check, b"\x05\x00", |it| {
+        matches!(it, Parsed::OcspNoCheck(_))
+    });
+    let feature = b"\x2b\x06\x01\x05\x05\x07\x01\x18";
+    read(feature, b"\x30\x03\x02\x01\x05", |it| {
+        matches!(it, Parsed::TlsFeature(_))
+    });
+    read(b"\x55\x1d\x18", b"\x18\x0f20300102030405Z", |it| {
+        matches!(it, Parsed::InvalidityDate(_))
+    });
+    let period = b"\x30\x11\x80\x0f20300102030405Z";
+    read(b"\x55\x1d\x10", period, |it| {
+        matches!(it, Parsed::PrivateKeyUsagePeriod(_))
+    });
+    let attributes = b"\x30\x0a\x30\x08\x06\x02\x2a\x03\x31\x02\x05\x00";
+    read(b"\x55\x1d\x09", attributes, |it| {
+        matches!(it, Parsed::SubjectDirectoryAttributes(_))
+    });
+    read(b"\x55\x1d\x1d", b"\x30\x03\x82\x01a", |it| {
+        matches!(it, Parsed::CertificateIssuer(_))
+    });
+}
+
+#[test]
+fn qualifiers_of_policies() {
+    use oid::policy::{ANY_POLICY, CPS_URI, USER_NOTICE};
+    let of = |policy_qualifier_id, qualifier| PolicyQualifierInfo {
+        policy_qualifier_id,
+        qualifier,
+    };
+    // RFC 5280 4.2.1.4: an IA5String
+    let pointer = of(CPS_URI, Some(&b"\x16\x05https"[..]));
+    assert_eq!(pointer.cps_uri(), Ok(Some("https")));
+    assert_eq!(pointer.user_notice(), Ok(None));
+    for bad in [
+        None,
+        Some(&b""[..]),
+        Some(b"\x0c\x01a"),
+        Some(b"\x16\x01\xff"),
+        Some(b"\x16\x01a\x00"),
+    ] {
+        assert_eq!(
+            of(CPS_URI, bad).cps_uri(),
+            Err(Error::Malformed),
+            "{bad:02x?}"
+        );
+    }
+    // SEQUENCE { SEQUENCE { UTF8String Org, SEQUENCE { 1, 300 } }, UTF8String text }
+    let both = b"\x30\x16\x30\x0e\x0c\x03Org\x30\x07\x02\x01\x01\x02\x02\x01\x2c\x0c\x04text";
+    let notice = of(USER_NOTICE, Some(&both[..]));
+    let found = notice.user_notice().expect("a notice").expect("it is one");
+    let reference = found.notice_ref.expect("a reference");
+    let numbers: Vec<_> = reference
+        .notice_numbers
+        .iter()
+        .map(|it| it.to_u128())
+        .collect();
+    assert_eq!(reference.organization, "Org");
+    assert_eq!(numbers, [Some(1), Some(300)]);
+    assert_eq!(found.explicit_text.as_deref(), Some("text"));
+    assert_eq!(notice.cps_uri(), Ok(None));
+    // each of the types of a DisplayText
+    for (der, text) in [
+        (&b"\x30\x04\x0c\x02\xc3\xb6"[..], "ö"),
+        (b"\x30\x03\x16\x01a", "a"),
+        (b"\x30\x03\x1a\x01b", "b"),
+        (b"\x30\x06\x1e\x04\x00a\x00\xf6", "aö"),
+    ] {
+        let found = of(USER_NOTICE, Some(der)).user_notice();
+        let notice_ref = None;
+        let explicit_text = Some(text.to_owned());
+        assert_eq!(
+            found,
+            Ok(Some(UserNotice {
+                notice_ref,
+                explicit_text
+            }))
+        );
+    }
+    for bad in [
+        None,
+        Some(&b"\x05\x00"[..]),
+        Some(b"\x30\x03\x13\x01a"),
+        Some(b"\x30\x03\x1e\x01a"),
+        Some(b"\x30\x04\x1e\x02\xd8\x00"),
+        Some(b"\x30\x06\x0c\x01a\x0c\x01b"),
+    ] {
+        let found = of(USER_NOTICE, bad).user_notice();
+        assert_eq!(found, Err(Error::Malformed), "{bad:02x?}");
+    }
+    let other = of(ANY_POLICY, Some(&both[..]));
+    assert_eq!((other.cps_uri(), other.user_notice()), (Ok(None), Ok(None)));
+}

@@ -2,12 +2,16 @@
 //! each field that the sources declare.
 use std::collections::BTreeSet;
 use std::fmt::Debug;
+use std::time::{Duration, SystemTime, UNIX_EPOCH};
 use x509_rattle::extension::*;
 use x509_rattle::oid::{access, policy, purpose};
 use x509_rattle::{Certificate, CertificateRef, Error, GeneralName, Name, ObjectIdentifier};
 
-const SOURCES: [&str; 8] = [
+const SOURCES: [&str; 11] = [
     include_str!("../src/extension/access.rs"),
+    include_str!("../src/extension/attributes.rs"),
+    include_str!("../src/extension/marks.rs"),
+    include_str!("../src/extension/periods.rs"),
     include_str!("../src/extension/crl.rs"),
     include_str!("../src/extension/keys.rs"),
     include_str!("../src/extension/names.rs"),
@@ -599,6 +603,97 @@ fn of_lists(table: &mut Table) {
     );
 }
 
+// 2030-01-02T03:04:05Z, and the first second that no GeneralizedTime of RFC 5280 has
+const MOMENT: Duration = Duration::from_secs(1_893_553_445);
+const TOO_LATE: Duration = Duration::from_secs(253_402_300_800);
+
+fn of_moments(table: &mut Table) {
+    let at = |since: Duration| UNIX_EPOCH + since;
+    let second = Duration::from_secs(1);
+    let early = UNIX_EPOCH - second;
+    table.is(
+        "InvalidityDate 0",
+        InvalidityDate(at(MOMENT)),
+        b"\x18\x0f20300102030405Z",
+    );
+    table.is(
+        "InvalidityDate 0",
+        InvalidityDate(UNIX_EPOCH),
+        b"\x18\x0f19700101000000Z",
+    );
+    for moment in [early, at(TOO_LATE), at(MOMENT + Duration::from_millis(1))] {
+        table.refuses("InvalidityDate 0", InvalidityDate(moment));
+    }
+    let period = |not_before: Option<SystemTime>, not_after| PrivateKeyUsagePeriod {
+        not_before,
+        not_after,
+    };
+    let (first, last) = (
+        "PrivateKeyUsagePeriod not_before",
+        "PrivateKeyUsagePeriod not_after",
+    );
+    let both = b"\x30\x22\x80\x0f20300102030405Z\x81\x0f20300102030406Z";
+    table.is(
+        first,
+        period(Some(at(MOMENT)), Some(at(MOMENT + second))),
+        both,
+    );
+    table.is(
+        first,
+        period(Some(at(MOMENT)), None),
+        b"\x30\x11\x80\x0f20300102030405Z",
+    );
+    table.is(
+        last,
+        period(None, Some(at(MOMENT))),
+        b"\x30\x11\x81\x0f20300102030405Z",
+    );
+    table.refuses(first, period(None, None));
+    table.refuses(first, period(Some(at(MOMENT + second)), Some(at(MOMENT))));
+    table.refuses(first, period(Some(early), None));
+    table.refuses(last, period(None, Some(at(TOO_LATE))));
+    table.refuses(
+        last,
+        period(None, Some(at(MOMENT + Duration::from_nanos(1)))),
+    );
+}
+
+fn of_subjects(table: &mut Table) {
+    let of = |values: &[&'static [u8]]| {
+        let values = values.to_vec();
+        SubjectDirectoryAttributes(vec![DirectoryAttribute {
+            oid: oid("1.2.3"),
+            values,
+        }])
+    };
+    // RFC 5280 4.2.1.8, by hand
+    let one = b"\x30\x0a\x30\x08\x06\x02\x2a\x03\x31\x02\x05\x00";
+    table.is("DirectoryAttribute oid", of(&[b"\x05\x00"]), one);
+    table.is(
+        "DirectoryAttribute values",
+        of(&[b"\x05\x00", b"\x0c\x01a"]),
+        b"\x30\x0d\x30\x0b\x06\x02\x2a\x03\x31\x05\x05\x00\x0c\x01a",
+    );
+    table.refuses(
+        "DirectoryAttribute values",
+        of(&[b"\x0c\x01a", b"\x05\x00"]),
+    );
+    table.refuses("DirectoryAttribute values", of(&[]));
+    table.refuses("DirectoryAttribute values", of(&[b"\x05"]));
+    table.is("SubjectDirectoryAttributes 0", of(&[b"\x05\x00"]), one);
+    table.refuses(
+        "SubjectDirectoryAttributes 0",
+        SubjectDirectoryAttributes(vec![]),
+    );
+    table.is("TlsFeature 0", TlsFeature(vec![5]), b"\x30\x03\x02\x01\x05");
+    table.is(
+        "TlsFeature 0",
+        TlsFeature(vec![17, 255, 65_535]),
+        b"\x30\x0c\x02\x01\x11\x02\x02\x00\xff\x02\x03\x00\xff\xff",
+    );
+    table.refuses("TlsFeature 0", TlsFeature(vec![]));
+}
+
 /// `NAME FIELD` of each public field of a struct, `NAME 0` of one without names, and `NAME` of a set of flags, as the sources declare them.
 fn declared() -> BTreeSet<String> {
     let mut found = BTreeSet::new();
@@ -652,6 +747,8 @@ fn each_field_is_written_or_refused() {
     of_places(&mut table);
     of_policies(&mut table);
     of_lists(&mut table);
+    of_moments(&mut table);
+    of_subjects(&mut table);
     let named: BTreeSet<_> = table.0.into_iter().map(str::to_owned).collect();
     assert!(named.len() > 30);
     assert_eq!(named, declared());

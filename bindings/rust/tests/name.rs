@@ -100,3 +100,126 @@ fn escapes() {
     assert_eq!(escape_value("#a").as_deref(), Ok(r"\#a"));
     assert_eq!(escape_value("\0").as_deref(), Ok(r"\00"));
 }
+
+/// The DER of a name of relative names, each of attributes: the last octet of its type (RFC 5280 A.1: 3 CN, 6 C, 10 O), the tag of its value and that.
+fn encoded(rdns: &[&[(&[u8], u8, &[u8])]]) -> Name {
+    let element = |tag: u8, content: Vec<u8>| [vec![tag, content.len() as u8], content].concat();
+    let attribute = |&(oid, tag, value): &(&[u8], u8, &[u8])| {
+        element(
+            0x30,
+            [element(6, oid.to_vec()), element(tag, value.to_vec())].concat(),
+        )
+    };
+    let rdn = |rdn: &&[(&[u8], u8, &[u8])]| element(0x31, rdn.iter().flat_map(attribute).collect());
+    Name::from_der(element(0x30, rdns.iter().flat_map(rdn).collect())).expect("a name")
+}
+
+const CN: &[u8] = b"\x55\x04\x03";
+const C: &[u8] = b"\x55\x04\x06";
+const O: &[u8] = b"\x55\x04\x0a";
+const EMAIL: &[u8] = b"\x2a\x86\x48\x86\xf7\x0d\x01\x09\x01";
+const DC: &[u8] = b"\x09\x92\x26\x89\x93\xf2\x2c\x64\x01\x19";
+// PrintableString, UTF8String, T61String, IA5String, BMPString
+const PRINTABLE: u8 = 0x13;
+const UTF8: u8 = 0x0c;
+const T61: u8 = 0x14;
+const IA5: u8 = 0x16;
+const BMP: u8 = 0x1e;
+
+fn match_both_ways(a: &Name, b: &Name) -> bool {
+    let found = a.matches(b).expect("an answer");
+    assert_eq!(b.matches(a), Ok(found), "{a} {b}");
+    assert_eq!(a.to_ref().matches(&b.to_ref()), Ok(found), "{a} {b}");
+    found
+}
+
+// RFC 5280 7.1, RFC 4518 2
+#[test]
+fn matching_values() {
+    let of = |oid, (tag, value): (u8, &[u8])| encoded(&[&[(oid, tag, value)]]);
+    type Value<'a> = (u8, &'a [u8]);
+    let rows: &[(&[u8], Value<'_>, Value<'_>, bool)] = &[
+        (CN, (UTF8, b"a"), (UTF8, b"a"), true),
+        (CN, (UTF8, b"a"), (UTF8, b"b"), false),
+        // case, and the type of the string
+        (CN, (UTF8, b"a"), (PRINTABLE, b"A"), true),
+        (CN, (BMP, b"\0a"), (IA5, b"A"), true),
+        (CN, (T61, b"a"), (T61, b"A"), false),
+        (CN, (T61, b"a"), (UTF8, b"a"), false),
+        // spaces, and what is mapped to one or to nothing
+        (CN, (UTF8, b" a  b"), (UTF8, b"A b "), true),
+        (CN, (UTF8, b"a b"), (UTF8, b"ab"), false),
+        (CN, (UTF8, b"a\tb"), (UTF8, b"a b"), true),
+        (CN, (UTF8, "a\u{ad}b".as_bytes()), (UTF8, b"ab"), true),
+        (CN, (UTF8, "a\u{3000}b".as_bytes()), (UTF8, b"a b"), true),
+        // one character or two, a ligature, sharp s, full width
+        (
+            CN,
+            (UTF8, "ä".as_bytes()),
+            (UTF8, "A\u{308}".as_bytes()),
+            true,
+        ),
+        (CN, (UTF8, "ä".as_bytes()), (BMP, b"\0\xc4"), true),
+        (CN, (UTF8, "ä".as_bytes()), (UTF8, b"a"), false),
+        (CN, (UTF8, "\u{fb01}".as_bytes()), (UTF8, b"FI"), true),
+        (CN, (UTF8, "ß".as_bytes()), (UTF8, b"SS"), true),
+        (CN, (UTF8, "\u{ff21}".as_bytes()), (UTF8, b"a"), true),
+        // prohibited characters: for private use, and the replacement character
+        (
+            CN,
+            (UTF8, "a\u{e000}".as_bytes()),
+            (UTF8, "a\u{e000}".as_bytes()),
+            true,
+        ),
+        (
+            CN,
+            (UTF8, "a\u{e000}".as_bytes()),
+            (UTF8, "A\u{e000}".as_bytes()),
+            false,
+        ),
+        (
+            CN,
+            (UTF8, "a\u{fffd}".as_bytes()),
+            (UTF8, "A\u{fffd}".as_bytes()),
+            false,
+        ),
+        // RFC 5280 7.5, 7.3
+        (EMAIL, (IA5, b"a@b.c"), (IA5, b"a@B.C"), true),
+        (EMAIL, (IA5, b"a@b.c"), (IA5, b"A@b.c"), false),
+        (DC, (IA5, b"a b"), (IA5, b"A B"), true),
+        (DC, (IA5, b"a b"), (IA5, b"a  b"), false),
+    ];
+    for &(oid, a, b, wanted) in rows {
+        assert_eq!(
+            match_both_ways(&of(oid, a), &of(oid, b)),
+            wanted,
+            "{a:?} {b:?}"
+        );
+    }
+}
+
+// as many relative names, in order, and in each as many attributes, in any order (RFC 5280 7.1)
+#[test]
+fn matching_names() {
+    let one = encoded(&[&[(O, UTF8, b"T"), (C, PRINTABLE, b"US")]]);
+    let other = encoded(&[&[(C, PRINTABLE, b"us"), (O, PRINTABLE, b"t ")]]);
+    let two = encoded(&[&[(C, PRINTABLE, b"US")], &[(O, UTF8, b"T")]]);
+    let turned = encoded(&[&[(O, UTF8, b"T")], &[(C, PRINTABLE, b"US")]]);
+    let empty = Name::builder().build().expect("a name");
+    assert!(match_both_ways(&one, &other) && one != other);
+    assert!(!match_both_ways(&one, &two));
+    assert!(!match_both_ways(&two, &turned));
+    assert!(!match_both_ways(
+        &two,
+        &encoded(&[&[(C, PRINTABLE, b"US")]])
+    ));
+    assert!(match_both_ways(&empty, &empty) && !match_both_ways(&empty, &one));
+    // twice the same type in one relative name: each has a partner of its own
+    let twice = encoded(&[&[(CN, UTF8, b"a"), (CN, UTF8, b"b")]]);
+    let same = encoded(&[&[(CN, UTF8, b"A"), (CN, UTF8, b"a")]]);
+    assert!(!match_both_ways(&twice, &same));
+    assert!(match_both_ways(
+        &twice,
+        &encoded(&[&[(CN, UTF8, b"A"), (CN, UTF8, b"B")]])
+    ));
+}

@@ -3,20 +3,23 @@
 use super::{
     AccessDescription, AuthorityInfoAccess, AuthorityKeyIdentifier, BaseCrlNumber,
     BasicConstraints, CertificateIssuer, CertificatePolicies, CrlDistributionPoints, CrlNumber,
-    CrlReason, DistributionPoint, DistributionPointName, ExtendedKeyUsage, ExtensionValue,
-    FreshestCrl, GeneralSubtree, InhibitAnyPolicy, IssuerAltName, IssuingDistributionPoint,
-    KeyUsage, NameConstraints, PolicyConstraints, PolicyInformation, PolicyMapping, PolicyMappings,
-    PolicyQualifierInfo, ReasonFlags, SignedCertificateTimestamps, SubjectAltName,
-    SubjectInfoAccess, SubjectKeyIdentifier,
+    CrlReason, DirectoryAttribute, DistributionPoint, DistributionPointName, ExtendedKeyUsage,
+    ExtensionValue, FreshestCrl, GeneralSubtree, InhibitAnyPolicy, InvalidityDate, IssuerAltName,
+    IssuingDistributionPoint, KeyUsage, NameConstraints, OcspNoCheck, PolicyConstraints,
+    PolicyInformation, PolicyMapping, PolicyMappings, PolicyQualifierInfo, PrecertPoison,
+    PrivateKeyUsagePeriod, ReasonFlags, SignedCertificateTimestamps, SubjectAltName,
+    SubjectDirectoryAttributes, SubjectInfoAccess, SubjectKeyIdentifier, TlsFeature,
 };
 use crate::error::Error;
 use crate::general_name::GeneralName;
 use crate::oid::{policy, ObjectIdentifier};
+use crate::time::time_text;
 use crate::writing::{
     context, context_elements, element, elements, named_bits, unsigned, BIT_STRING, BOOLEAN,
-    ENUMERATED, INTEGER, OBJECT_IDENTIFIER, OCTET_STRING, SEQUENCE,
+    ENUMERATED, GENERALIZED_TIME, INTEGER, NULL, OBJECT_IDENTIFIER, OCTET_STRING, SEQUENCE, SET,
 };
 use std::collections::HashSet;
+use std::time::SystemTime;
 
 /// What builders can put into an extension.
 pub trait ToExtension {
@@ -52,7 +55,10 @@ pub trait ToExtension {
     /// - a policy twice (4.2.1.4), or anyPolicy in a mapping (4.2.1.5);
     /// - a distribution point without a name and an issuer (4.2.1.13);
     /// - a CRL that speaks of more than one of users, authorities and attribute certificates alone (5.2.5);
-    /// - a number of a CRL of more than 20 octets (5.2.3).
+    /// - a number of a CRL of more than 20 octets (5.2.3);
+    /// - an attribute of a subject without a value (4.2.1.8), or with values that aren't in the order of their encodings (X.690 11.6);
+    /// - a period of a private key that says nothing, or ends before it begins (RFC 3280 4.2.1.4);
+    /// - a moment before 1970 or after 9999, or with parts of a second (4.1.2.5.2).
     ///
     /// [`Error::Memory`].
     fn to_der(&self) -> Result<Vec<u8>, Error>;
@@ -142,6 +148,20 @@ written! {
     SignedCertificateTimestamps<'_>, it if !it.0.is_empty() => {
         let members: Vec<u8> = it.0.iter().flat_map(|octets| with_length(octets)).collect();
         element(OCTET_STRING, &with_length(&members))
+    };
+    PrivateKeyUsagePeriod, it if is_period(it) => {
+        let first = it.not_before.map(|moment| generalized_time(context(0), moment)).transpose()?;
+        let last = it.not_after.map(|moment| generalized_time(context(1), moment)).transpose()?;
+        elements(SEQUENCE, first.into_iter().chain(last))
+    };
+    InvalidityDate, it => generalized_time(GENERALIZED_TIME, it.0)?;
+    SubjectDirectoryAttributes<'_>, it if has_only(&it.0, |of| !of.values.is_empty()) => {
+        elements(SEQUENCE, it.0.iter().map(directory_attribute))
+    };
+    PrecertPoison, _it => element(NULL, b"");
+    OcspNoCheck, _it => element(NULL, b"");
+    TlsFeature, it if !it.0.is_empty() => {
+        elements(SEQUENCE, it.0.iter().map(|number| integer(INTEGER, u32::from(*number))))
     };
 }
 
@@ -234,6 +254,14 @@ fn is_mapping(it: &PolicyMapping) -> bool {
     ![it.issuer_domain_policy, it.subject_domain_policy].contains(&policy::ANY_POLICY)
 }
 
+/// It says something, and doesn't end before it begins (RFC 3280 4.2.1.4).
+fn is_period(it: &PrivateKeyUsagePeriod) -> bool {
+    match (it.not_before, it.not_after) {
+        (Some(first), Some(last)) => first <= last,
+        (first, last) => first.or(last).is_some(),
+    }
+}
+
 /// The content octets are at most 20 (RFC 5280 5.2.3).
 pub(crate) fn is_crl_number(octets: &[u8]) -> bool {
     octets.len() <= 20
@@ -246,6 +274,18 @@ fn integer(identifier: u8, number: u32) -> Vec<u8> {
 /// A BOOLEAN that is left out where it is false, its default.
 fn flag(identifier: u8, is_set: bool) -> Option<Vec<u8>> {
     is_set.then(|| element(identifier, &[0xff]))
+}
+
+/// A GeneralizedTime (RFC 5280 4.1.2.5.2) under an identifier octet: the digits of the text of a moment, and a Z.
+fn generalized_time(identifier: u8, moment: SystemTime) -> Result<Vec<u8>, Error> {
+    let text = time_text(moment)?;
+    let content: String = text.chars().filter(|it| it.is_ascii_digit()).collect();
+    Ok(element(identifier, (content + "Z").as_bytes()))
+}
+
+fn directory_attribute(it: &DirectoryAttribute<'_>) -> Vec<u8> {
+    let values = elements(SET, it.values.iter().map(|value| value.to_vec()));
+    elements(SEQUENCE, [identifier(&it.oid), values])
 }
 
 fn identifier(oid: &ObjectIdentifier) -> Vec<u8> {

@@ -1,0 +1,329 @@
+//! Paths that are valid under what is trusted, of certificates that are built here, with signatures that say nothing.
+use std::cell::RefCell;
+use std::convert::Infallible;
+use std::time::{Duration, SystemTime, UNIX_EPOCH};
+use x509_rattle::extension::{
+    BasicConstraints, GeneralSubtree, NameConstraints, SubjectAltName, ToExtension,
+};
+use x509_rattle::{
+    check_path, oid, validate_path, Certificate, CertificateBuilder, CertificateRef, Error,
+    FaultReason, GeneralName, Name, PathError, PathFault, PathSettings, SerialNumber, Signature,
+    Signer, TrustAnchor, Trusted, Validity,
+};
+
+// an AlgorithmIdentifier and a key of Ed25519 (RFC 8410 3, 4), whose bits are no key
+const ED25519: &[u8] = b"\x30\x05\x06\x03\x2b\x65\x70";
+const KEY: &[u8] = b"\x30\x0a\x30\x05\x06\x03\x2b\x65\x70\x03\x01\x00";
+const OTHER_KEY: &[u8] = b"\x30\x0d\x30\x05\x06\x03\x2b\x65\x70\x03\x04\x00abc";
+const MOMENT: u64 = 1_893_456_000;
+
+struct Nothing;
+
+impl Signer for Nothing {
+    type Error = Infallible;
+
+    fn algorithm(&self) -> &[u8] {
+        ED25519
+    }
+
+    fn subject_public_key_info(&self) -> &[u8] {
+        KEY
+    }
+
+    fn sign(&self, _: &[u8]) -> Result<Vec<u8>, Infallible> {
+        Ok(vec![1])
+    }
+}
+
+fn at(seconds: u64) -> SystemTime {
+    UNIX_EPOCH + Duration::from_secs(seconds)
+}
+
+fn name(text: &str) -> Name {
+    text.parse().expect("a name")
+}
+
+fn subtree(base: GeneralName<'static>) -> GeneralSubtree<'static> {
+    GeneralSubtree {
+        base,
+        minimum: 0,
+        maximum: None,
+    }
+}
+
+fn permitted(base: GeneralName<'static>) -> NameConstraints<'static> {
+    NameConstraints {
+        permitted_subtrees: Some(vec![subtree(base)]),
+        excluded_subtrees: None,
+    }
+}
+
+/// A certificate with these extensions, by their DER.
+fn certificate(
+    issuer: &str,
+    subject: &str,
+    key: &[u8],
+    extensions: &[&dyn Fn(&mut CertificateBuilder)],
+) -> Certificate {
+    let validity = Validity {
+        not_before: at(MOMENT),
+        not_after: at(MOMENT + 1),
+    };
+    let number = SerialNumber::try_from(1u64).expect("a number");
+    let (issuer, subject) = (name(issuer), name(subject));
+    let mut builder = CertificateBuilder::new(number, &issuer, validity, &subject, key);
+    for add in extensions {
+        add(&mut builder);
+    }
+    builder.build(&Nothing).expect("a certificate")
+}
+
+fn add(
+    builder: &mut CertificateBuilder,
+    oid: x509_rattle::ObjectIdentifier,
+    value: &impl ToExtension,
+) {
+    let der = value.to_der().expect("a value");
+    builder
+        .add_extension_der(oid, true, &der)
+        .expect("an extension");
+}
+
+fn is_ca(builder: &mut CertificateBuilder) {
+    let constraints = BasicConstraints {
+        ca: true,
+        path_len_constraint: None,
+    };
+    add(builder, oid::extension::BASIC_CONSTRAINTS, &constraints);
+}
+
+fn for_host(host: &'static str) -> impl Fn(&mut CertificateBuilder) {
+    move |builder| {
+        let names = SubjectAltName(vec![GeneralName::DnsName(host)].into());
+        add(builder, oid::extension::SUBJECT_ALT_NAME, &names);
+    }
+}
+
+fn constrained(constraints: NameConstraints<'static>) -> impl Fn(&mut CertificateBuilder) {
+    move |builder| add(builder, oid::extension::NAME_CONSTRAINTS, &constraints)
+}
+
+fn accepts(_: &[u8], _: &Signature<'_>) -> bool {
+    true
+}
+
+fn fault(place: usize, reason: FaultReason) -> PathError {
+    PathError::Fault(PathFault { place, reason })
+}
+
+/// The number of certificates of a path that is valid, or why it isn't.
+fn validate(
+    anchor: &Certificate,
+    path: &[&Certificate],
+    settings: &PathSettings,
+) -> Result<usize, PathError> {
+    let path: Vec<&[u8]> = path.iter().map(|it| it.as_der()).collect();
+    let found = validate_path(anchor.to_ref(), &path, settings, &accepts)?;
+    assert_eq!(found.certificate().as_der(), path[path.len() - 1]);
+    Ok(found.certificates().len())
+}
+
+#[test]
+fn names_match_and_constraints_hold() {
+    let settings = PathSettings::new(at(MOMENT));
+    let example = || constrained(permitted(GeneralName::DnsName("example.org")));
+    let root = certificate("CN=Root", "CN=Root", KEY, &[&is_ca, &example()]);
+    let plain = certificate("CN=Root", "CN=Root", KEY, &[&is_ca]);
+    // RFC 5280 7.1: case, and spaces
+    let authority = certificate("CN=\\ ROOT", "O=CA,C=DE", OTHER_KEY, &[&is_ca]);
+    let server = |host| certificate("O=ca,C=DE", "CN=S", KEY, &[&for_host(host)]);
+    let (good, bad) = (server("www.example.org"), server("www.example.com"));
+    assert_eq!(validate(&root, &[&authority, &good], &settings), Ok(2));
+    assert_eq!(validate(&plain, &[&authority, &bad], &settings), Ok(2));
+    let path = [authority.as_der(), good.as_der()];
+    let by_bytes = check_path(plain.to_ref(), &path, at(MOMENT), &accepts).map(|it| it.len());
+    assert_eq!(by_bytes, Err(fault(0, FaultReason::Issuer)));
+    // those of the anchor, and of an authority
+    assert_eq!(
+        validate(&root, &[&authority, &bad], &settings),
+        Err(fault(1, FaultReason::Names))
+    );
+    let narrow = certificate("CN=Root", "O=CA,C=DE", OTHER_KEY, &[&is_ca, &example()]);
+    assert_eq!(
+        validate(&plain, &[&narrow, &bad], &settings),
+        Err(fault(1, FaultReason::Names))
+    );
+    assert_eq!(validate(&plain, &[&narrow, &good], &settings), Ok(2));
+    // those of the caller
+    let mut wide = settings.clone();
+    let der = permitted(GeneralName::DnsName("example.com"))
+        .to_der()
+        .expect("constraints");
+    wide.name_constraints(&der);
+    assert_eq!(
+        validate(&plain, &[&authority, &good], &wide),
+        Err(fault(1, FaultReason::Names))
+    );
+    assert_eq!(validate(&plain, &[&authority, &bad], &wide), Ok(2));
+    // no two of them have a name in common
+    assert_eq!(
+        validate(&root, &[&authority, &bad], &wide),
+        Err(fault(1, FaultReason::Names))
+    );
+}
+
+#[test]
+fn constraints_and_extensions_that_cannot_be_followed() {
+    let settings = PathSettings::new(at(MOMENT));
+    let root = certificate("CN=Root", "CN=Root", KEY, &[&is_ca]);
+    // a minimum of 1 (RFC 5280 4.2.1.10)
+    let der = b"\x30\x0b\xa0\x09\x30\x07\xa4\x02\x30\x00\x80\x01\x01";
+    let unusable = |builder: &mut CertificateBuilder| {
+        let oid = oid::extension::NAME_CONSTRAINTS;
+        builder
+            .add_extension_der(oid, true, der)
+            .expect("an extension");
+    };
+    let authority = certificate("CN=Root", "CN=CA", OTHER_KEY, &[&is_ca, &unusable]);
+    let server = certificate("CN=CA", "CN=S", KEY, &[]);
+    assert_eq!(
+        validate(&root, &[&authority, &server], &settings),
+        Err(fault(0, FaultReason::Constraints))
+    );
+    let mut asked = settings.clone();
+    asked.name_constraints(der);
+    assert_eq!(
+        validate(&root, &[&server], &asked),
+        Err(PathError::Refused(Error::Value))
+    );
+    asked.name_constraints(b"\x30\x01");
+    assert_eq!(
+        validate(&root, &[&server], &asked),
+        Err(PathError::Refused(Error::Malformed))
+    );
+    // an extension of a type that is looked at, which isn't critical and can't be read
+    let garbled = |builder: &mut CertificateBuilder| {
+        let oid = oid::extension::CERTIFICATE_POLICIES;
+        builder
+            .add_extension_der(oid, false, b"\x05\x00")
+            .expect("an extension");
+    };
+    let other = certificate("CN=Root", "CN=S", KEY, &[&garbled]);
+    assert_eq!(
+        validate(&root, &[&other], &settings),
+        Err(fault(0, FaultReason::Extension))
+    );
+}
+
+#[test]
+fn moments_and_empty_paths() {
+    let root = certificate("CN=Root", "CN=Root", KEY, &[&is_ca]);
+    let at_moment = |moment| validate(&root, &[&root], &PathSettings::new(moment));
+    assert_eq!(at_moment(at(MOMENT)), Ok(1));
+    assert_eq!(
+        at_moment(at(MOMENT + 2)),
+        Err(fault(0, FaultReason::Moment))
+    );
+    assert_eq!(
+        at_moment(at(253_402_300_800)),
+        Err(PathError::Refused(Error::Value))
+    );
+    assert_eq!(
+        at_moment(UNIX_EPOCH - Duration::from_secs(1)),
+        Err(PathError::Refused(Error::Value))
+    );
+    let nothing: [&[u8]; 0] = [];
+    let found = validate_path(
+        root.to_ref(),
+        &nothing,
+        &PathSettings::new(at(MOMENT)),
+        &accepts,
+    );
+    assert_eq!(found.map(|_| 0), Err(PathError::Refused(Error::Absent)));
+}
+
+#[test]
+fn what_is_trusted() {
+    let settings = PathSettings::new(at(MOMENT));
+    let root = certificate(
+        "CN=Root",
+        "CN=Root",
+        KEY,
+        &[
+            &is_ca,
+            &constrained(permitted(GeneralName::DnsName("example.org"))),
+        ],
+    );
+    let server = certificate(
+        "CN=root",
+        "CN=S",
+        OTHER_KEY,
+        &[&for_host("www.example.com")],
+    );
+    let of = |trusted: Trusted<'_>| {
+        let keys = RefCell::new(Vec::new());
+        let verifier = |key: &[u8], _: &Signature<'_>| {
+            keys.borrow_mut().push(key.to_vec());
+            true
+        };
+        let path = [server.as_der()];
+        let found =
+            validate_path(trusted, &path, &settings, &verifier).map(|it| it.certificates().len());
+        (found, keys.into_inner())
+    };
+    let refused = Err(fault(0, FaultReason::Names));
+    assert_eq!(
+        of(root.to_ref().into()),
+        (refused.clone(), vec![KEY.to_vec()])
+    );
+    let anchor = TrustAnchor::from_der(root.as_der()).expect("an anchor");
+    assert_eq!(of(anchor.into()), (refused, vec![KEY.to_vec()]));
+    let of_name = |text: &str, key: &'static [u8]| {
+        let name = name(text);
+        of(Trusted::NameAndKey {
+            name: name.to_ref(),
+            subject_public_key_info: key,
+        })
+    };
+    assert_eq!(
+        of_name("CN=ROOT", OTHER_KEY),
+        (Ok(1), vec![OTHER_KEY.to_vec()])
+    );
+    assert_eq!(
+        of_name("CN=Other", KEY),
+        (Err(fault(0, FaultReason::Issuer)), vec![])
+    );
+    assert_eq!(
+        of_name("CN=Root", b"\x30\x00"),
+        (Err(PathError::Refused(Error::Malformed)), vec![])
+    );
+}
+
+#[test]
+fn each_signature_is_for_the_key_above() {
+    let settings = PathSettings::new(at(MOMENT));
+    let root = certificate("CN=Root", "CN=Root", KEY, &[&is_ca]);
+    let authority = certificate("CN=Root", "CN=CA", OTHER_KEY, &[&is_ca]);
+    let server = certificate("CN=CA", "CN=S", KEY, &[]);
+    let path = [authority.as_der(), server.as_der()];
+    for no_at in [None, Some(0), Some(1)] {
+        let keys = RefCell::new(Vec::new());
+        let verifier = |key: &[u8], _: &Signature<'_>| {
+            keys.borrow_mut().push(key.to_vec());
+            no_at != Some(keys.borrow().len() - 1)
+        };
+        let found = validate_path(
+            CertificateRef::from_der(root.as_der()).expect("one"),
+            &path,
+            &settings,
+            &verifier,
+        );
+        let expected = no_at.map_or(Ok(2), |place| Err(fault(place, FaultReason::Signature)));
+        assert_eq!(found.map(|it| it.certificates().len()), expected);
+        let asked = no_at.map_or(2, |place| place + 1);
+        assert_eq!(
+            keys.into_inner(),
+            [KEY, OTHER_KEY].map(<[u8]>::to_vec)[..asked]
+        );
+    }
+}
