@@ -44,7 +44,7 @@ class AgainstCryptography(unittest.TestCase):
             their = theirs.load_der_x509_certificate(data)
             our = ours.load_der_x509_certificate(data)
             self.assertEqual(our.serial_number, their.serial_number)
-            self.assertEqual(our.version.value, their.version.value + 1)
+            self.assertEqual(our.version.value, their.version.value)
             self.assertEqual(our.not_valid_before_utc, their.not_valid_before_utc)
             self.assertEqual(our.not_valid_after_utc, their.not_valid_after_utc)
             self.assertEqual(our.tbs_certificate_bytes, their.tbs_certificate_bytes)

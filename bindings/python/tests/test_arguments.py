@@ -21,7 +21,8 @@ import x509_cert as ours
 
 try:
     from cryptography import x509 as theirs
-    from cryptography.hazmat.primitives import serialization
+    from cryptography.hazmat.primitives import hashes, serialization
+    from cryptography.hazmat.primitives.asymmetric import ed25519, padding, rsa, x25519
 except ImportError:  # what it says is left out then
     theirs = None  # type: ignore[assignment]
 
@@ -106,6 +107,8 @@ def tree(it: Any) -> Any:
     if isinstance(it, ours.ExtensionType):
         return {name: tree(value) for name, value in vars(it).items() if name not in ("data", "bits", "serialized") and not name.startswith("_")}
     if isinstance(it, (ours.DistributionPoint, ours.AccessDescription, ours.PolicyInformation, ours.PolicyQualifier, ours.SignedCertificateTimestamp)):
+        return {name: tree(value) for name, value in vars(it).items()}
+    if isinstance(it, (ours.NoticeReference, ours.DirectoryAttribute)):
         return {name: tree(value) for name, value in vars(it).items()}
     assert it is None or isinstance(it, (str, bytes, int, ipaddress.IPv4Address, ipaddress.IPv4Network)), it
     return it
@@ -230,6 +233,26 @@ def crl_builder(**changed: Any) -> ours.CertificateRevocationListBuilder:
     return made
 
 
+def named_crl(**changed: Any) -> ours.CertificateRevocationList:
+    given = {"issuer_name": SUBJECT, "crl_number": 1, "last_update": NOW} | changed
+    made = ours.CertificateRevocationListBuilder()
+    for name, value in given.items():
+        made = getattr(made, name)(value)
+    return made.add_extension(ours.AuthorityKeyIdentifier(b"a", None, None), critical=False).sign(ED25519, signs)
+
+
+def entry_builder(**changed: Any) -> ours.RevokedCertificateBuilder:
+    given = {"serial_number": 2, "revocation_date": NOW} | changed
+    made = ours.RevokedCertificateBuilder()
+    for name, value in given.items():
+        made = getattr(made, name)(value)
+    return made
+
+
+def built(made: ours.RevokedCertificateBuilder, **words: Any) -> ours.CertificateRevocationList:
+    return crl_builder().add_revoked_certificate(made.build(**words)).sign(ED25519, signs)
+
+
 def crl(**changed: Any) -> ours.CertificateRevocationList:
     return crl_builder(**changed).sign(ED25519, signs)
 
@@ -332,14 +355,57 @@ def usages() -> dict[str, Row]:
 
 ALGORITHMS = ((ED25519, ED448), (*NO_BYTES, b"", b"\x30\x00"))
 SIGNERS = ((signs, signs_otherwise), (None, lambda part: 64, lambda part: "ab", lambda part: None))
+# private keys of `cryptography`, paddings of RSA with the algorithms that these make (RFC 4055 5, 3.1, by hand), and what is none
+KEYS: tuple[Any, ...] = ()
+NO_KEYS: tuple[Any, ...] = (5, b"ab", "key", signs)
+RSA_PRIVATE: Any = None
+PADDINGS: tuple[Any, ...] = ()
+NO_PADDINGS: tuple[Any, ...] = (5, "PKCS1v15")
+PSS_SHA256 = "304106092a864886f70d01010a3034a00f300d06096086480165030402010500a11c301a06092a864886f70d010108300d06096086480165030402010500a203020120"
+PSS_SHORT = "303c06092a864886f70d01010a302fa00f300d06096086480165030402010500a11c301a06092a864886f70d010108300d06096086480165030402020500"
+if theirs is not None:
+    KEYS = tuple(ed25519.Ed25519PrivateKey.from_private_bytes(bytes([octet]) * 32) for octet in (1, 2))
+    NO_KEYS += (x25519.X25519PrivateKey.generate(), KEYS[0].public_key())
+    RSA_PRIVATE = rsa.generate_private_key(65537, 2048)
+    pads = [padding.PSS(padding.MGF1(mask), salt) for mask, salt in ((hashes.SHA256(), 32), (hashes.SHA384(), 20), (hashes.SHA256(), padding.PSS.AUTO))]
+    PADDINGS, NO_PADDINGS = (padding.PKCS1v15(), *pads[:2]), (*NO_PADDINGS, pads[2])
 
 
-def signing(made: Callable[..., Made]) -> dict[str, Row]:
-    """The two arguments that each method has that signs."""
+def signed_part(it: Made) -> bytes:
+    if isinstance(it, ours.Certificate):
+        return it.tbs_certificate_bytes
+    return it.tbs_certlist_bytes if isinstance(it, ours.CertificateRevocationList) else it.tbs_certrequest_bytes
+
+
+def padded(made: Callable[..., Made], pad: Any) -> Made:
+    """With the algorithm that an RSA key with the padding has, and another signature."""
+    by_key = made(private_key=RSA_PRIVATE, algorithm=hashes.SHA256() if theirs is not None else None, signer=None, rsa_padding=pad)
+    return made(algorithm=by_key.signature_algorithm_bytes)
+
+
+def of_padding(pad: Any) -> bytes:
+    return bytes.fromhex(dict(zip(map(id, PADDINGS), ("300d06092a864886f70d01010b0500", PSS_SHA256, PSS_SHORT)))[id(pad)])
+
+
+def signing(made: Callable[..., Made], keys: tuple[Any, ...] = KEYS, padding_made: Callable[..., Made] | None = None) -> dict[str, Row]:
+    """The arguments that each method has that signs."""
+    by_key = lambda it: made(private_key=it, algorithm=None, signer=None)  # noqa: E731
     return {
         "algorithm": Row(lambda it: made(algorithm=it), ("algorithm",), *ALGORITHMS),
         "signer": Row(lambda it: made(signer=it), ("signature",), *SIGNERS, means=lambda it: it(b"")),
+        "private_key": Row(by_key, ("signature",), keys, NO_KEYS, means=lambda it: it.sign(signed_part(by_key(it)))),
+        "rsa_padding": Row(lambda it: padded(padding_made or made, it), ("algorithm",), PADDINGS, NO_PADDINGS, means=of_padding),
     }
+
+
+def signing_otherwise(made: Callable[..., Made], **words: Any) -> dict[str, Row]:
+    """The same of `sign`, which takes an argument more that `cryptography` has and that means nothing."""
+    return signing(made, **words) | {"backend": Row(lambda it: made(backend=it), ("signature",), (None,), (), lambda it: bytes(64))}
+
+
+def signed_csr(key: Any) -> Callable[..., ours.CertificateSigningRequest]:
+    """A CSR of a key, whichever way it is signed."""
+    return lambda **words: csr_builder(public_key=KEY if key is None else key.public_key()).sign(**({"algorithm": ED25519, "signer": signs} | words))
 
 
 def extending(made: Callable[[], Any]) -> dict[str, Row]:
@@ -403,6 +469,22 @@ def in_qualifier(name: str, taken: tuple[Any, ...], refused: tuple[Any, ...], **
 
 
 
+def in_attribute(name: str, taken: tuple[Any, ...], refused: tuple[Any, ...], **rest: Any) -> Row:
+    path = ("extensions", "2.5.29.9", "value", "attributes", 0, name)
+    return Row(lambda it: holding(ours.SubjectDirectoryAttributes([ours.DirectoryAttribute(**(rest | {name: it}))])), path, taken, refused)
+
+
+def qualified(it: ours.PolicyQualifier) -> ours.Certificate:
+    return holding(ours.CertificatePolicies([ours.PolicyInformation(OID, [it])]))
+
+
+def ia5(text: str) -> bytes:
+    return b"\x16" + bytes([len(text)]) + text.encode()
+
+
+QUALIFIED: Path = ("extensions", "2.5.29.32", "value", "policies", 0, "policy_qualifiers", 0)
+REFERENCES = (ours.NoticeReference("Org", [1]), ours.NoticeReference("Org", [2]), ours.NoticeReference("Other", []))
+ATTRIBUTES = [ours.DirectoryAttribute(OID, [b"\x05\x00"]), ours.DirectoryAttribute(OTHER_OID, [b"\x0c\x01a", b"\x13\x01a"])]
 POINTS = [ours.DistributionPoint(NAMES, None, None, None)]
 OTHER_POINTS = [ours.DistributionPoint(None, SUBJECT.rdns[0], None, None), ours.DistributionPoint(None, None, {"superseded"}, NAMES)]
 DESCRIPTIONS = [ours.AccessDescription(ours.AuthorityInformationAccessOID.OCSP, NAMES[0])]
@@ -477,7 +559,7 @@ TABLE: dict[str, dict[str, Row]] = {
     "CertificateBuilder.tbs_certificate_bytes": {
         "algorithm": Row(lambda it: ours.Certificate(assembled(builder().tbs_certificate_bytes(it), it)), ("algorithm",), *ALGORITHMS),
     },
-    "CertificateBuilder.sign": signing(lambda **words: builder().sign(**({"algorithm": ED25519, "signer": signs} | words))),
+    "CertificateBuilder.sign": signing_otherwise(lambda **words: builder().sign(**({"algorithm": ED25519, "signer": signs} | words))),
     "CertificateBuilder.sign_root": signing(root)
     | {"signs_ocsp_responses": use(lambda it: root(signs_ocsp_responses=it), "digital_signature")},
     "CertificateBuilder.sign_subordinate": signing(subordinate)
@@ -512,6 +594,9 @@ TABLE: dict[str, dict[str, Row]] = {
             lambda it: crl(issuer=it), ("issuer",), (AUTHORITY, OTHER_AUTHORITY), (AUTHORITY.public_bytes(), SUBJECT, None), lambda it: tree(it.subject)
         ),
     },
+    "CertificateRevocationListBuilder.issuer_name": {
+        "name": Row(lambda it: named_crl(issuer_name=it), ("issuer",), (ISSUER, SUBJECT, ROOT), NO_NAME),
+    },
     "CertificateRevocationListBuilder.crl_number": {
         "number": Row(
             lambda it: crl(crl_number=it), ("extensions", "2.5.29.20", "value", "crl_number"), (0, 1, 127, 128, 1 << 64), (*NO_NUMBER, -1)
@@ -532,7 +617,7 @@ TABLE: dict[str, dict[str, Row]] = {
     "CertificateRevocationListBuilder.tbs_certlist_bytes": {
         "algorithm": Row(lambda it: ours.CertificateRevocationList(assembled(crl_builder().tbs_certlist_bytes(it), it)), ("algorithm",), *ALGORITHMS),
     },
-    "CertificateRevocationListBuilder.sign": signing(lambda **words: crl_builder().sign(**({"algorithm": ED25519, "signer": signs} | words))),
+    "CertificateRevocationListBuilder.sign": signing_otherwise(lambda **words: crl_builder().sign(**({"algorithm": ED25519, "signer": signs} | words))),
     "CertificateSigningRequestBuilder.subject_name": {"name": Row(lambda it: csr(subject_name=it), ("subject",), (ISSUER, SUBJECT, ROOT), NO_NAME)},
     "CertificateSigningRequestBuilder.public_key": {
         "public_key": Row(lambda it: csr(public_key=it), ("public_key",), (KEY, OTHER_KEY, EC_KEY), (*NO_BYTES, b"", KEY[:-1], KEY + b"\x00")),
@@ -548,6 +633,13 @@ TABLE: dict[str, dict[str, Row]] = {
             (*NO_NUMBER, -1, 256, 0x1F),
             lambda it: it.value if isinstance(it, ours.ASN1Type) else it,
         ),
+        "_tag": attribute(
+            "_tag",
+            1,
+            (None, ours.ASN1Type.PrintableString, ours.ASN1Type.IA5String, ours.ASN1Type.OctetString),
+            (12, "UTF8String", True),
+            lambda it: 0x0C if it is None else it.value,
+        ),
     },
     "CertificateSigningRequestBuilder.add_attribute_bytes": {
         "attribute": Row(
@@ -559,7 +651,31 @@ TABLE: dict[str, dict[str, Row]] = {
         ),
     },
     "CertificateSigningRequestBuilder.tbs_certrequest_bytes": {},
-    "CertificateSigningRequestBuilder.sign": signing(lambda **words: csr_builder().sign(**({"algorithm": ED25519, "signer": signs} | words))),
+    "CertificateSigningRequestBuilder.sign": signing_otherwise(
+        signed_csr(KEYS[0] if KEYS else None), keys=KEYS[:1], padding_made=signed_csr(RSA_PRIVATE)
+    ),
+    "RevokedCertificateBuilder.serial_number": {
+        "number": Row(lambda it: built(entry_builder(serial_number=it)), (*ENTRY, "serial_number"), (1, 128, (1 << 159) - 1), (*NO_NUMBER, 0, -1, 1 << 159)),
+    },
+    "RevokedCertificateBuilder.revocation_date": {
+        "time": Row(lambda it: built(entry_builder(revocation_date=it)), (*ENTRY, "date"), (NOW, EARLIER, LATER), (*NO_TIME, None)),
+    },
+    "RevokedCertificateBuilder.add_extension": {
+        "extval": Row(
+            lambda it: built(entry_builder().add_extension(it, critical=False)),
+            (*ENTRY, "extensions"),
+            (ours.CRLReason(ours.ReasonFlags.superseded), ours.InvalidityDate(NOW), ours.CertificateIssuer(NAMES)),
+            (None, REASON, b"\x05\x00", ours.CRLReason, OID),
+            lambda it: {it.oid.dotted_string: {"critical": False, "value": tree(it)}},
+        ),
+        "critical": Row(
+            lambda it: built(entry_builder().add_extension(ours.CertificateIssuer(NAMES), critical=it)),
+            (*ENTRY, "extensions", "2.5.29.29", "critical"),
+            (False, True),
+            NO_FLAG,
+        ),
+    },
+    "RevokedCertificateBuilder.build": {"backend": Row(lambda it: built(entry_builder(), backend=it), (*ENTRY, "serial_number"), (None,), (), lambda it: 2)},
     "RevokedCertificate": {
         "serial_number": entry("serial_number", ("serial_number",), (2, 128, 0, -1, (1 << 167) - 1), (*NO_NUMBER, 1 << 167)),
         "revocation_date_utc": entry("revocation_date_utc", ("date",), (NOW, EARLIER, LATER), (*NO_TIME, None)),
@@ -678,6 +794,30 @@ TABLE: dict[str, dict[str, Row]] = {
         ),
     },
     "PrecertPoison": {},
+    "OCSPNoCheck": {},
+    "TLSFeature": {
+        "features": held(
+            ours.TLSFeature,
+            "features",
+            ([ours.TLSFeatureType.status_request], [ours.TLSFeatureType.status_request_v2, ours.TLSFeatureType.status_request]),
+            (*NO_LIST, None, [], [True], ["5"]),
+        ),
+    },
+    "PrivateKeyUsagePeriod": {
+        "not_before": held(ours.PrivateKeyUsagePeriod, "not_before", (None, NOW, EARLIER), (*NO_TIME, LATER), not_after=NOW),
+        "not_after": held(ours.PrivateKeyUsagePeriod, "not_after", (None, NOW, LATER), (*NO_TIME, EARLIER), not_before=NOW),
+    },
+    "InvalidityDate": {
+        "invalidity_date": held(ours.InvalidityDate, "invalidity_date", (NOW, EARLIER, LATER), (*NO_TIME, None), "invalidity_date_utc"),
+    },
+    "CertificateIssuer": {"general_names": held(ours.CertificateIssuer, "general_names", LISTS, (*NO_LISTS, None), "names")},
+    "SubjectDirectoryAttributes": {
+        "attributes": held(ours.SubjectDirectoryAttributes, "attributes", (ATTRIBUTES, ATTRIBUTES[::-1]), (*NO_LIST, None, [], ATTRIBUTES[0], NAMES)),
+    },
+    "DirectoryAttribute": {
+        "oid": in_attribute("oid", (OID, OTHER_OID), NO_IDENTIFIER, values=[b"\x05\x00"]),
+        "values": in_attribute("values", ([b"\x05\x00"], [b"\x0c\x01a", b"\x0c\x01b"]), (*NO_LIST, None, [], [b"\x05"], [5], b"\x05\x00"), oid=OID),
+    },
     "UnrecognizedExtension": {
         "oid": Row(
             lambda it: holding(ours.UnrecognizedExtension(it, b"\x05\x00")),
@@ -703,6 +843,39 @@ TABLE: dict[str, dict[str, Row]] = {
     "PolicyQualifier": {
         "oid": in_qualifier("oid", (OID, OTHER_OID), NO_IDENTIFIER, data=b"\x05\x00"),
         "data": in_qualifier("data", (b"\x05\x00", b"\x16\x01a"), (5, "ab", [1], b"\x05"), oid=OID),
+    },
+    "CPSPointer": {
+        "uri": Row(
+            lambda it: qualified(ours.CPSPointer(it)), (*QUALIFIED, "data"), ("urn:a", "https://a.example/"), (*NO_TEXT, "", "a", ":a", "https://ö.example"), ia5
+        ),
+    },
+    "UserNotice": {
+        "notice_reference": Row(
+            lambda it: qualified(ours.UserNotice(it, "text")), QUALIFIED, (None, *REFERENCES), ("Org", 5, ["Org", [1]]), lambda it: tree(ours.UserNotice(it, "text"))
+        ),
+        "explicit_text": Row(
+            lambda it: qualified(ours.UserNotice(None, it)),
+            QUALIFIED,
+            (None, "a", "ö" * 200),
+            (5, b"a", "", "a" * 201, "\ud800"),
+            lambda it: tree(ours.UserNotice(None, it)),
+        ),
+    },
+    "NoticeReference": {
+        "organization": Row(
+            lambda it: qualified(ours.UserNotice(ours.NoticeReference(it, [1]), None)),
+            QUALIFIED,
+            ("Org", "Ör,g"),
+            (*NO_TEXT, "\ud800"),
+            lambda it: tree(ours.UserNotice(ours.NoticeReference(it, [1]), None)),
+        ),
+        "notice_numbers": Row(
+            lambda it: qualified(ours.UserNotice(ours.NoticeReference("Org", it), None)),
+            QUALIFIED,
+            ([1], [1, 300, 0], []),
+            (*NO_LIST, None, ["1"], [True], [1.0]),
+            lambda it: tree(ours.UserNotice(ours.NoticeReference("Org", it), None)),
+        ),
     },
     "PolicyMappings": {
         "mappings": held(
@@ -784,17 +957,26 @@ TABLE: dict[str, dict[str, Row]] = {
 
 # ---- what is called
 
-BUILDERS = (ours.CertificateBuilder, ours.CertificateRevocationListBuilder, ours.CertificateSigningRequestBuilder)
+BUILDERS = (
+    ours.CertificateBuilder,
+    ours.CertificateRevocationListBuilder,
+    ours.CertificateSigningRequestBuilder,
+    ours.RevokedCertificateBuilder,
+)
 # what is read and never made of values, and what others are made of
 READ = {
     ours.Certificate,
     ours.CertificateRevocationList,
     ours.CertificateSigningRequest,
     ours.TrustAnchor,
+    ours.ValidatedPath,
     ours.PathControls,
     ours.PublicKey,
     ours.AlgorithmIdentifier,
     ours.Attribute,
+    ours.Attributes,
+    ours.HashAlgorithm,
+    ours.SignatureAlgorithm,
     ours.ExtensionType,
     ours.GeneralName,
 }
@@ -825,7 +1007,7 @@ class Arguments(unittest.TestCase):
 
     def test_each_has_a_row(self) -> None:
         self.assertEqual({call: set(rows) for call, rows in TABLE.items()}, calls())
-        self.assertEqual([list(inspect.signature(kind).parameters) for kind in BUILDERS], [[], [], []])
+        self.assertEqual([list(inspect.signature(kind).parameters) for kind in BUILDERS], [[], [], [], []])
 
     def test_what_is_taken(self) -> None:
         for name, row in self.rows():

@@ -154,6 +154,93 @@ class Made(unittest.TestCase):
         self.assertEqual([ours.Name(kind(whole)) for kind in (bytes, bytearray, memoryview)], [one("a")] * 3)
 
 
+def encoded(*rdns: list[tuple[bytes, int, bytes]]) -> ours.Name:
+    """A name of relative names, each of attributes: the content octets of the type's OID, the tag of the value, and that."""
+
+    def element(tag: int, content: bytes) -> bytes:
+        return bytes((tag, len(content))) + content
+
+    def attribute(oid: bytes, tag: int, value: bytes) -> bytes:
+        return element(0x30, element(6, oid) + element(tag, value))
+
+    return ours.Name(element(0x30, b"".join(element(0x31, b"".join(attribute(*it) for it in rdn)) for rdn in rdns)))
+
+
+class Matching(unittest.TestCase):
+    """Names that match by RFC 5280 7.1, 7.3, 7.5 and RFC 4518 2, by hand."""
+
+    CN, C, O = (bytes.fromhex(it) for it in ("550403", "550406", "55040a"))
+    EMAIL, DC = bytes.fromhex("2a864886f70d010901"), bytes.fromhex("0992268993f22c640119")
+    UTF8, PRINTABLE, T61, IA5, BMP = 0x0C, 0x13, 0x14, 0x16, 0x1E
+
+    def matches(self, a: ours.Name, b: ours.Name) -> bool:
+        found = a.matches(b)
+        self.assertIs(b.matches(a), found)
+        self.assertTrue(a.matches(a) and b.matches(b))
+        return found
+
+    def test_values(self) -> None:
+        rows = [
+            ((self.UTF8, "a"), (self.UTF8, "a"), True),
+            ((self.UTF8, "a"), (self.UTF8, "b"), False),
+            # case, and the type of the string
+            ((self.UTF8, "a"), (self.PRINTABLE, "A"), True),
+            ((self.BMP, "\0a"), (self.IA5, "A"), True),
+            ((self.T61, "a"), (self.T61, "A"), False),
+            ((self.T61, "a"), (self.UTF8, "a"), False),
+            # spaces, and what is mapped to one or to nothing
+            ((self.UTF8, " a  b"), (self.UTF8, "A b "), True),
+            ((self.UTF8, "a b"), (self.UTF8, "ab"), False),
+            ((self.UTF8, "a\tb"), (self.UTF8, "a b"), True),
+            ((self.UTF8, "a\u00adb"), (self.UTF8, "ab"), True),
+            ((self.UTF8, "a\u3000b"), (self.UTF8, "a b"), True),
+            # one character or two, a ligature, sharp s, full width
+            ((self.UTF8, "\u00e4"), (self.UTF8, "A\u0308"), True),
+            ((self.UTF8, "\u00e4"), (self.UTF8, "a"), False),
+            ((self.UTF8, "\ufb01"), (self.UTF8, "FI"), True),
+            ((self.UTF8, "\u00df"), (self.UTF8, "SS"), True),
+            ((self.UTF8, "\uff21"), (self.UTF8, "a"), True),
+            # prohibited characters: for private use, and the replacement character
+            ((self.UTF8, "a\ue000"), (self.UTF8, "a\ue000"), True),
+            ((self.UTF8, "a\ue000"), (self.UTF8, "A\ue000"), False),
+            ((self.UTF8, "a\ufffd"), (self.UTF8, "A\ufffd"), False),
+        ]
+        for (tag, text), (other_tag, other), wanted in rows:
+            with self.subTest(a=text, b=other):
+                a, b = encoded([(self.CN, tag, text.encode())]), encoded([(self.CN, other_tag, other.encode())])
+                self.assertIs(self.matches(a, b), wanted)
+
+    def test_mailboxes_and_domains(self) -> None:
+        rows = [
+            (self.EMAIL, b"a@b.c", b"a@B.C", True),
+            (self.EMAIL, b"a@b.c", b"A@b.c", False),
+            (self.DC, b"a b", b"A B", True),
+            (self.DC, b"a b", b"a  b", False),
+        ]
+        for oid, a, b, wanted in rows:
+            with self.subTest(a=a, b=b):
+                self.assertIs(self.matches(encoded([(oid, self.IA5, a)]), encoded([(oid, self.IA5, b)])), wanted)
+
+    def test_relative_names(self) -> None:
+        country, organization = (self.C, self.PRINTABLE, b"US"), (self.O, self.UTF8, b"T")
+        one, other = encoded([organization, country]), encoded([(self.C, self.PRINTABLE, b"us"), (self.O, self.PRINTABLE, b"t ")])
+        self.assertTrue(self.matches(one, other))
+        self.assertNotEqual(one, other)
+        self.assertFalse(self.matches(one, encoded([country], [organization])))
+        self.assertFalse(self.matches(encoded([country], [organization]), encoded([organization], [country])))
+        self.assertFalse(self.matches(encoded([country]), encoded([country], [organization])))
+        self.assertFalse(self.matches(encoded(), one))
+        # two attributes of one type: each has a partner of its own
+        pairs = [encoded([(self.CN, self.UTF8, a), (self.CN, self.UTF8, b)]) for a, b in ((b"a", b"b"), (b"A", b"a"), (b"A", b"B"))]
+        self.assertFalse(self.matches(pairs[0], pairs[1]))
+        self.assertTrue(self.matches(pairs[0], pairs[2]))
+
+    def test_what_is_no_name(self) -> None:
+        for value in ("CN=a", one("a").public_bytes(), None, one("a").rdns[0]):
+            with self.subTest(value), self.assertRaises(TypeError):
+                one("a").matches(value)  # type: ignore[arg-type]
+
+
 @unittest.skipIf(theirs is None, "cryptography isn't installed")
 class AgainstCryptography(unittest.TestCase):
     def test_identifiers(self) -> None:

@@ -7,6 +7,7 @@ from __future__ import annotations
 
 import contextlib
 import datetime
+import hashlib
 import io
 import pathlib
 import re
@@ -20,7 +21,7 @@ DATA = HERE.parents[2] / "examples/data"
 
 class Readme(unittest.TestCase):
     def test_snippets(self) -> None:
-        reads, name_made, builds = re.findall(r"^```python\n(.*?)^```$", (HERE.parent / "README.md").read_text(encoding="utf-8"), re.S | re.M)
+        reads, asks, name_made, builds = re.findall(r"^```python\n(.*?)^```$", (HERE.parent / "README.md").read_text(encoding="utf-8"), re.S | re.M)
         names = {"data": (DATA / "certificate.der").read_bytes()}
         said = io.StringIO()
         with contextlib.redirect_stdout(said):
@@ -28,6 +29,11 @@ class Readme(unittest.TestCase):
         # what examples/data/make.py puts into it
         subject = "CN=www.example.org,O=Beispiel\\, Söhne & Co,C=DE"
         self.assertEqual(said.getvalue(), f"{subject} 2055-06-07 08:09:10+00:00\n['www.example.org', 'example.org']\n")
+        said = io.StringIO()
+        with contextlib.redirect_stdout(said):
+            exec(asks, names)
+        digest = hashlib.sha256(names["data"]).hexdigest()
+        self.assertEqual(said.getvalue(), f"ec_p256 256 sha256\n{digest[:16]}\n")
         names = {"x509": x509, "user": "a,O=b"}
         exec(name_made, names)
         self.assertEqual([names[it].rfc4514_string() for it in ("subject", "issuer")], ["CN=a\\,O=b,C=DE", "CN=a\\,O=b CA,C=DE"])

@@ -3,10 +3,11 @@
 from __future__ import annotations
 
 import ctypes
-from typing import ClassVar, Self
+from typing import ClassVar, Generic, Iterator, Self, Sequence, TypeVar, overload
 
 from ._given import octets
 from ._library import Span
+from ._pem import Encoding, encoded
 from .oid import ObjectIdentifier
 
 
@@ -22,6 +23,10 @@ class ExtensionType:
         made = cls.__new__(cls)
         made._read(octets(data, "what an extension holds"))
         return made
+
+    def public_bytes(self, encoding: object = Encoding.DER) -> bytes:
+        """Its DER; there is no PEM of it."""
+        return encoded(self.data, None, encoding)
 
     def _read(self, data: bytes) -> None:
         self.data = data
@@ -50,3 +55,29 @@ def _part(span: Span, data: bytes) -> bytes | None:
 
 def _number(n: int) -> object:
     return ctypes.c_uint32(n)
+
+
+_Member = TypeVar("_Member")
+
+
+class ListExtension(ExtensionType, Generic[_Member]):
+    """An extension that is a list of members: they are gone over, counted and indexed."""
+
+    def _members(self) -> Sequence[_Member]:
+        raise NotImplementedError
+
+    def __iter__(self) -> Iterator[_Member]:
+        return iter(self._members())
+
+    def __len__(self) -> int:
+        return len(self._members())
+
+    @overload
+    def __getitem__(self, at: int) -> _Member: ...
+
+    @overload
+    def __getitem__(self, at: slice) -> list[_Member]: ...
+
+    def __getitem__(self, at: int | slice) -> _Member | list[_Member]:
+        found = self._members()
+        return list(found[at]) if isinstance(at, slice) else found[at]

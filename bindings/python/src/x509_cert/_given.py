@@ -23,6 +23,13 @@ def whole(given: int, what: str) -> int:
     return instance(given, int, what)
 
 
+def whole_list(given: Iterable[int], what: str) -> list[int]:
+    """Integers, of which bytes are no list here."""
+    if isinstance(given, (bytes, bytearray, memoryview)):
+        raise TypeError(f"{what} are a list of numbers, not bytes")
+    return [whole(it, f"a member of {what}") for it in given]
+
+
 def octets(given: bytes, what: str) -> bytes:
     """Bytes, also those of a bytearray or a memoryview; of a number there are none."""
     if not isinstance(given, (bytes, bytearray, memoryview)):

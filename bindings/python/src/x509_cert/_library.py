@@ -1,6 +1,7 @@
 """The C library of `include/x509.h`, by `ctypes`: its structs, its statuses, and one way to call it.
 
-The library is the file that the environment variable X509_LIBRARY names, or else `libx509.so` as the system finds it.
+The library is the one that the environment variable X509_LIBRARY names, by its file or by the folder of its `libx509.so`, as for the crate for Rust; or else
+the one that this package carries; or else that with this package's soname, or `libx509.so`, as the system finds it.
 """
 
 from __future__ import annotations
@@ -8,6 +9,7 @@ from __future__ import annotations
 import ctypes
 import ctypes.util
 import os
+import pathlib
 from typing import Any, Iterator, TypeVar
 
 OK, MEMORY, ROOM = 0, -1, -2
@@ -27,8 +29,8 @@ class X509Error(ValueError):
         REPEATED: "an extension is there more than once",
     }
 
-    def __init__(self, call: str, status: int) -> None:
-        super().__init__(f"{call}: {self.TEXTS.get(status, f'status {status}')}")
+    def __init__(self, call: str, status: int, hint: str = "") -> None:
+        super().__init__(f"{call}: {self.TEXTS.get(status, f'status {status}')}{hint}")
         self.status = status
 
 
@@ -236,18 +238,39 @@ class PathFaultView(ctypes.Structure):
     _fields_ = [("place", ctypes.c_size_t), *_numbers("reason")]
 
 
+class PathSettings(ctypes.Structure):
+    _fields_ = [("moment", ctypes.c_uint64)]
+
+
+class PathAnswerView(ctypes.Structure):
+    _fields_ = [("place", ctypes.c_size_t), *_numbers("reason"), *_spans("name", "key")]
+
+
 View = TypeVar("View", bound=ctypes.Structure)
 
 _loaded: ctypes.CDLL | None = None
 
 
+def _found() -> ctypes.CDLL:
+    named = os.environ.get("X509_LIBRARY")
+    carried = pathlib.Path(__file__).with_name("libx509.so")
+    if named:
+        return ctypes.CDLL(os.path.join(named, "libx509.so") if os.path.isdir(named) else named)
+    if carried.is_file():
+        return ctypes.CDLL(str(carried))
+    try:
+        return ctypes.CDLL("libx509.so.0")
+    except OSError:
+        found = ctypes.util.find_library("x509")
+    if found is None:
+        raise ImportError("libx509.so isn't found: install the C library, or name it in X509_LIBRARY")
+    return ctypes.CDLL(found)
+
+
 def _library() -> ctypes.CDLL:
     global _loaded
     if _loaded is None:
-        found = os.environ.get("X509_LIBRARY") or ctypes.util.find_library("x509")
-        if found is None:
-            raise ImportError("libx509.so isn't found: install it (tools/build/install_c.sh), or name it in X509_LIBRARY")
-        _loaded = ctypes.CDLL(found)
+        _loaded = _found()
     return _loaded
 
 

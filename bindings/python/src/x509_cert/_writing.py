@@ -2,10 +2,11 @@
 
 from __future__ import annotations
 
+import datetime
 import ipaddress
 from typing import Any, Iterable
 
-from ._given import octets, some
+from ._given import octets, some, whole_seconds
 from .general_name import (
     DirectoryName,
     DNSName,
@@ -21,6 +22,10 @@ from .name import RelativeDistinguishedName
 from .oid import ObjectIdentifier
 
 BOOLEAN, INTEGER, BIT_STRING, OCTET_STRING, NULL, OBJECT_IDENTIFIER, ENUMERATED, SEQUENCE, SET = 1, 2, 3, 4, 5, 6, 10, 0x30, 0x31
+UTF8_STRING, IA5_STRING, GENERALIZED_TIME = 0x0C, 0x16, 0x18
+
+# 9999-12-31T23:59:59Z, in seconds since 1970-01-01T00:00:00Z
+_LAST_SECOND = 253_402_300_799
 
 
 def context(number: int, of_elements: bool = False) -> int:
@@ -47,6 +52,13 @@ def integer(number: int, identifier: int = INTEGER) -> bytes:
 def flag(is_set: bool, identifier: int = BOOLEAN) -> bytes:
     """A BOOLEAN that is left out where it is false, its default."""
     return element(identifier, b"\xff") if is_set else b""
+
+
+def generalized_time_der(moment: datetime.datetime, what: str, identifier: int = GENERALIZED_TIME) -> bytes:
+    """A GeneralizedTime (RFC 5280 4.1.2.5.2) of a moment with a time zone and without fractions of a second."""
+    if whole_seconds(moment, what) > _LAST_SECOND:
+        raise ValueError(f"{what} is through the year 9999")
+    return element(identifier, f"{moment.astimezone(datetime.timezone.utc):%Y%m%d%H%M%SZ}".encode("ascii"))
 
 
 def named_bits(bits: int, identifier: int = BIT_STRING) -> bytes:

@@ -6,9 +6,11 @@ import datetime
 import enum
 import hashlib
 import ipaddress
-from typing import Generic, Iterable, Iterator, TypeVar
+from typing import Generic, Iterable, Iterator, Sequence, TypeVar
 
-from ._extension import ExtensionType, _number, _part
+from . import _cryptography
+from ._cryptography import AnyPublicKey
+from ._extension import ExtensionType, ListExtension, _number, _part
 from ._given import instance, listed, octets, some, whole
 from ._library import (
     AccessView,
@@ -28,7 +30,6 @@ from ._library import (
 )
 from ._writing import (
     ENUMERATED,
-    NULL,
     OCTET_STRING,
     SEQUENCE,
     context,
@@ -45,6 +46,15 @@ from .general_name import DNSName, GeneralName, GeneralNames, IPAddress, general
 from .key import PublicKey
 from .name import RelativeDistinguishedName
 from .oid import ExtensionOID, ObjectIdentifier
+from .other_extensions import (
+    CertificateIssuer,
+    InvalidityDate,
+    OCSPNoCheck,
+    PrecertPoison,
+    PrivateKeyUsagePeriod,
+    SubjectDirectoryAttributes,
+    TLSFeature,
+)
 from .policies import CertificatePolicies, InhibitAnyPolicy, PolicyConstraints, PolicyMappings
 
 
@@ -137,7 +147,7 @@ class BasicConstraints(ExtensionType):
         self.path_length: int | None = int(found.path_len) if found.has_path_len else None
 
 
-class ExtendedKeyUsage(ExtensionType):
+class ExtendedKeyUsage(ListExtension[ObjectIdentifier]):
     """Purposes of a key (RFC 5280 4.2.1.12)."""
 
     oid = ExtensionOID.EXTENDED_KEY_USAGE
@@ -150,14 +160,11 @@ class ExtendedKeyUsage(ExtensionType):
         super()._read(data)
         self.usages = [ObjectIdentifier.from_content(it.of(data)) for it in walk("x509_extended_key_usage_next", Span, data)]
 
-    def __iter__(self) -> Iterator[ObjectIdentifier]:
-        return iter(self.usages)
-
-    def __len__(self) -> int:
-        return len(self.usages)
+    def _members(self) -> Sequence[ObjectIdentifier]:
+        return self.usages
 
 
-class _AlternativeNames(ExtensionType):
+class _AlternativeNames(ListExtension[GeneralName]):
     def __init__(self, general_names: Iterable[GeneralName]) -> None:
         names = GeneralNames(general_names)
         self._write(general_names_der(names), names=names)
@@ -170,11 +177,8 @@ class _AlternativeNames(ExtensionType):
         """What the names of that kind hold."""
         return self.names.get_values_for_type(kind)
 
-    def __iter__(self) -> Iterator[GeneralName]:
-        return iter(self.names)
-
-    def __len__(self) -> int:
-        return len(self.names)
+    def _members(self) -> Sequence[GeneralName]:
+        return list(self.names)
 
 
 class SubjectAlternativeName(_AlternativeNames):
@@ -197,6 +201,11 @@ class SubjectKeyIdentifier(ExtensionType):
     def __init__(self, digest: bytes) -> None:
         digest = octets(digest, "a key identifier")
         self._write(element(OCTET_STRING, digest), key_identifier=digest)
+
+    @classmethod
+    def from_public_key(cls, public_key: AnyPublicKey) -> SubjectKeyIdentifier:
+        """The SHA-1 digest of the bits of a key (RFC 5280 4.2.1.2): of one of `cryptography`, of a PublicKey or of a SubjectPublicKeyInfo."""
+        return cls(_key_digest(_cryptography.key_bytes(public_key, "a public key")))
 
     @classmethod
     def from_public_key_bytes(cls, public_key: bytes) -> SubjectKeyIdentifier:
@@ -241,6 +250,11 @@ class AuthorityKeyIdentifier(ExtensionType):
         )
 
     @classmethod
+    def from_issuer_public_key(cls, public_key: AnyPublicKey) -> AuthorityKeyIdentifier:
+        """The SHA-1 digest of the bits of the issuer's key (RFC 5280 4.2.1.2): of one of `cryptography`, of a PublicKey or of a SubjectPublicKeyInfo."""
+        return cls(_key_digest(_cryptography.key_bytes(public_key, "a public key")), None, None)
+
+    @classmethod
     def from_issuer_public_key_bytes(cls, public_key: bytes) -> AuthorityKeyIdentifier:
         """The SHA-1 digest of the bits of the issuer's key (RFC 5280 4.2.1.2), by its SubjectPublicKeyInfo."""
         return cls(_key_digest(public_key), None, None)
@@ -277,7 +291,7 @@ class AccessDescription:
         return f"<AccessDescription({self.access_method!r}, {self.access_location!r})>"
 
 
-class _Access(ExtensionType):
+class _Access(ListExtension[AccessDescription]):
     def __init__(self, descriptions: Iterable[AccessDescription]) -> None:
         descriptions = some(descriptions, AccessDescription, "descriptions")
         members = [element(SEQUENCE, identifier_of(it.access_method), general_name_der(it.access_location)) for it in descriptions]
@@ -290,11 +304,8 @@ class _Access(ExtensionType):
             for it in walk("x509_access_next", AccessView, data)
         ]
 
-    def __iter__(self) -> Iterator[AccessDescription]:
-        return iter(self.descriptions)
-
-    def __len__(self) -> int:
-        return len(self.descriptions)
+    def _members(self) -> Sequence[AccessDescription]:
+        return self.descriptions
 
 
 class AuthorityInformationAccess(_Access):
@@ -317,7 +328,8 @@ REASONS = (
 
 class DistributionPoint:
     """Where a CRL is found, for which reasons, and who issues it (RFC 5280 4.2.1.13): it has a full name, or one relative to the issuer of the CRL, or an
-    issuer. Reasons are given as ReasonFlags or by the names of their bits, as keyCompromise, which `reasons` has; None means all."""
+    issuer. Reasons are given as ReasonFlags or by the names of their bits, as keyCompromise; `reasons` has ReasonFlags, each of which is that text too. None means
+    all."""
 
     def __init__(
         self,
@@ -327,7 +339,7 @@ class DistributionPoint:
         crl_issuer: Iterable[GeneralName] | None,
     ) -> None:
         self.full_name, self.relative_name = _point_name(full_name, relative_name)
-        self.reasons = _reason_names(reasons)
+        self.reasons = _given_reasons(reasons)
         self.crl_issuer = None if crl_issuer is None else GeneralNames(crl_issuer)
         if full_name is None and relative_name is None and crl_issuer is None:
             raise ValueError("a point has a name or an issuer")
@@ -357,36 +369,36 @@ class DistributionPoint:
         return f"<DistributionPoint(full_name={self.full_name!r}, reasons={self.reasons!r}, crl_issuer={self.crl_issuer!r})>"
 
 
-def _reasons(bits: int) -> frozenset[str]:
-    return frozenset(name for bit, name in enumerate(REASONS) if bits >> bit & 1)
+def _reasons(bits: int) -> frozenset[ReasonFlags | str]:
+    """The reasons of these bits; the first bit isn't used, and has a name alone."""
+    return frozenset(_flag(name) for bit, name in enumerate(REASONS) if bits >> bit & 1)
 
 
-def _reason_bits(reasons: frozenset[str]) -> int:
-    """The bits of these names."""
+def _flag(name: str) -> ReasonFlags | str:
+    return name if name == REASONS[0] else ReasonFlags(name)
+
+
+def _reason_bits(reasons: frozenset[ReasonFlags | str]) -> int:
+    """The bits of these reasons, by their names."""
     return sum(1 << REASONS.index(name) for name in reasons)
 
 
-def _reason_names(reasons: Iterable[ReasonFlags | str] | None) -> frozenset[str] | None:
-    """The names of these reasons, which are one at least; a ValueError where one has no bit, as the one of none."""
+def _given_reasons(reasons: Iterable[ReasonFlags | str] | None) -> frozenset[ReasonFlags | str] | None:
+    """These reasons, which are one at least; a ValueError where one has no bit, as the one of none."""
     if reasons is None:
         return None
     if isinstance(reasons, str):
         raise TypeError("reasons are a set, not a str")
-    names = frozenset(map(_reason_name, reasons))
-    if not names:
+    given = frozenset(map(_reason, listed(reasons, str, "reasons")))
+    if not given:
         raise ValueError("reasons are one at least, or None for all")
-    return names
+    return given
 
 
-def _reason_name(reason: ReasonFlags | str) -> str:
-    if isinstance(reason, ReasonFlags):
-        if reason in (ReasonFlags.unspecified, ReasonFlags.remove_from_crl):
-            raise ValueError(f"{reason.name} is no reason of a point")
-        # the bits are numbered without removeFromCRL, and without a number that isn't used
-        return REASONS[reason.value if reason.value <= 6 else reason.value - 2]
-    if instance(reason, str, "a reason") not in REASONS:
-        raise ValueError(f"{reason!r} is no reason of a point")
-    return reason
+def _reason(given: str) -> ReasonFlags | str:
+    if given not in REASONS:
+        raise ValueError(f"{given!r} is no reason of a point")
+    return _flag(given)
 
 
 def _point_name(
@@ -411,7 +423,7 @@ def _relative(span: Span, data: bytes) -> RelativeDistinguishedName | None:
     return None if part is None else RelativeDistinguishedName._read(part, "x509_relative_name_under_next", _number(1))
 
 
-class _DistributionPoints(ExtensionType):
+class _DistributionPoints(ListExtension[DistributionPoint]):
     def __init__(self, distribution_points: Iterable[DistributionPoint]) -> None:
         points = some(distribution_points, DistributionPoint, "points")
         self._write(element(SEQUENCE, *(it._der() for it in points)), points=points)
@@ -420,11 +432,8 @@ class _DistributionPoints(ExtensionType):
         super()._read(data)
         self.points = [DistributionPoint._read(it, data) for it in walk("x509_distribution_points_next", DistributionPointView, data)]
 
-    def __iter__(self) -> Iterator[DistributionPoint]:
-        return iter(self.points)
-
-    def __len__(self) -> int:
-        return len(self.points)
+    def _members(self) -> Sequence[DistributionPoint]:
+        return self.points
 
 
 class CRLDistributionPoints(_DistributionPoints):
@@ -502,7 +511,7 @@ class IssuingDistributionPoint(ExtensionType):
         only_contains_attribute_certs: bool,
     ) -> None:
         full, relative = _point_name(full_name, relative_name)
-        reasons = _reason_names(only_some_reasons)
+        reasons = _given_reasons(only_some_reasons)
         kinds = listed((only_contains_user_certs, only_contains_ca_certs, only_contains_attribute_certs), bool, "kinds of certificates")
         if sum(kinds) > 1:
             raise ValueError("a CRL speaks of one kind of certificates alone")
@@ -539,19 +548,38 @@ class IssuingDistributionPoint(ExtensionType):
         self.only_contains_attribute_certs = bool(found.only_contains_attribute_certs)
 
 
-class ReasonFlags(enum.Enum):
-    """Why a certificate was revoked (RFC 5280 5.3.1)."""
+class ReasonFlags(str, enum.Enum):
+    """Why a certificate was revoked (RFC 5280 5.3.1). Each is the text that names it there, as keyCompromise, which is its value in `cryptography`; `value` is its
+    number. Both the number and the text give the reason: ReasonFlags(1), ReasonFlags("keyCompromise")."""
 
-    unspecified = 0
-    key_compromise = 1
-    ca_compromise = 2
-    affiliation_changed = 3
-    superseded = 4
-    cessation_of_operation = 5
-    certificate_hold = 6
-    remove_from_crl = 8
-    privilege_withdrawn = 9
-    aa_compromise = 10
+    unspecified = 0, "unspecified"
+    key_compromise = 1, "keyCompromise"
+    ca_compromise = 2, "cACompromise"
+    affiliation_changed = 3, "affiliationChanged"
+    superseded = 4, "superseded"
+    cessation_of_operation = 5, "cessationOfOperation"
+    certificate_hold = 6, "certificateHold"
+    remove_from_crl = 8, "removeFromCRL"
+    privilege_withdrawn = 9, "privilegeWithdrawn"
+    aa_compromise = 10, "aACompromise"
+
+    def __new__(cls, value: int | str, text: str = "") -> ReasonFlags:
+        made = str.__new__(cls, text)
+        made._value_ = value
+        return made
+
+    def __repr__(self) -> str:
+        return f"<ReasonFlags.{self.name}: {self.value}>"
+
+    def __str__(self) -> str:
+        return f"ReasonFlags.{self.name}"
+
+    def __format__(self, spec: str) -> str:
+        return format(str(self), spec)
+
+    @classmethod
+    def _missing_(cls, value: object) -> ReasonFlags | None:
+        return next((it for it in cls if isinstance(value, str) and str.__eq__(it, value)), None)
 
 
 class CRLReason(ExtensionType):
@@ -560,7 +588,7 @@ class CRLReason(ExtensionType):
     oid = ExtensionOID.CRL_REASON
 
     def __init__(self, reason: ReasonFlags) -> None:
-        self._write(integer(instance(reason, ReasonFlags, "a reason").value, ENUMERATED), reason=reason)
+        self._write(integer(int(instance(reason, ReasonFlags, "a reason").value), ENUMERATED), reason=reason)
 
     def _read(self, data: bytes) -> None:
         super()._read(data)
@@ -594,7 +622,7 @@ class SignedCertificateTimestamp:
         return f"<SignedCertificateTimestamp(log_id={self.log_id.hex()}, milliseconds={self.milliseconds})>"
 
 
-class PrecertificateSignedCertificateTimestamps(ExtensionType):
+class PrecertificateSignedCertificateTimestamps(ListExtension[SignedCertificateTimestamp]):
     """The timestamps of a certificate (RFC 6962 3.3), of which those of an unknown version are passed over; `serialized` has the octets of all."""
 
     oid = ExtensionOID.PRECERT_SIGNED_CERTIFICATE_TIMESTAMPS
@@ -609,23 +637,8 @@ class PrecertificateSignedCertificateTimestamps(ExtensionType):
         self.serialized = [it.of(data) for it in walk("x509_timestamp_next", Span, data)]
         self.timestamps = [SignedCertificateTimestamp(it) for it in self.serialized if it[:1] == b"\x00"]
 
-    def __iter__(self) -> Iterator[SignedCertificateTimestamp]:
-        return iter(self.timestamps)
-
-    def __len__(self) -> int:
-        return len(self.timestamps)
-
-    def __getitem__(self, at: int) -> SignedCertificateTimestamp:
-        return self.timestamps[at]
-
-
-class PrecertPoison(ExtensionType):
-    """What marks a precertificate (RFC 6962 3.1)."""
-
-    oid = ExtensionOID.PRECERT_POISON
-
-    def __init__(self) -> None:
-        self._write(element(NULL))
+    def _members(self) -> Sequence[SignedCertificateTimestamp]:
+        return self.timestamps
 
 
 _TYPES: tuple[type[ExtensionType], ...] = (
@@ -651,6 +664,12 @@ _TYPES: tuple[type[ExtensionType], ...] = (
     CRLReason,
     PrecertificateSignedCertificateTimestamps,
     PrecertPoison,
+    OCSPNoCheck,
+    TLSFeature,
+    PrivateKeyUsagePeriod,
+    SubjectDirectoryAttributes,
+    InvalidityDate,
+    CertificateIssuer,
 )
 KINDS = {it.oid: it for it in _TYPES}
 
@@ -675,6 +694,12 @@ class Extension(Generic[Held]):
         kind = KINDS.get(self.oid)
         held = UnrecognizedExtension(self.oid, self.data) if kind is None else kind.from_der(self.data)
         return held  # type: ignore[return-value]
+
+    def __eq__(self, other: object) -> bool:
+        return isinstance(other, Extension) and (self.oid, self.critical, self.data) == (other.oid, other.critical, other.data)
+
+    def __hash__(self) -> int:
+        return hash((self.oid, self.critical, self.data))
 
     def __repr__(self) -> str:
         return f"<Extension(oid={self.oid!r}, critical={self.critical})>"

@@ -4,7 +4,7 @@ from __future__ import annotations
 
 import ipaddress
 from email.utils import parseaddr
-from typing import Any, Iterable, Iterator, Self, Union
+from typing import Any, Iterable, Iterator, Self, Union, overload
 
 from ._given import instance, listed, octets
 from ._library import GeneralNameView, walk
@@ -161,7 +161,7 @@ def general_name(view: GeneralNameView, data: bytes) -> GeneralName:
 
 
 class GeneralNames:
-    """A list of general names."""
+    """A list of general names, which equals a list or a tuple of the same names."""
 
     __slots__ = ("_names",)
 
@@ -182,10 +182,18 @@ class GeneralNames:
     def __len__(self) -> int:
         return len(self._names)
 
-    def __getitem__(self, at: int) -> GeneralName:
-        return self._names[at]
+    @overload
+    def __getitem__(self, at: int) -> GeneralName: ...
+
+    @overload
+    def __getitem__(self, at: slice) -> list[GeneralName]: ...
+
+    def __getitem__(self, at: int | slice) -> GeneralName | list[GeneralName]:
+        return list(self._names[at]) if isinstance(at, slice) else self._names[at]
 
     def __eq__(self, other: object) -> bool:
+        if isinstance(other, (list, tuple)):
+            return self._names == tuple(other)
         return isinstance(other, GeneralNames) and self._names == other._names
 
     def __hash__(self) -> int:

@@ -4,9 +4,12 @@ from __future__ import annotations
 
 import enum
 
+from ._elements import elements, natural_number, only
 from ._extension import _part
 from ._given import octets
-from ._library import AlgorithmView, KeyView, view
+from ._library import MALFORMED, AlgorithmView, KeyView, X509Error, view
+from ._pem import Encoding, encoded
+from ._writing import OBJECT_IDENTIFIER, SEQUENCE
 from .oid import ObjectIdentifier
 
 
@@ -49,8 +52,26 @@ class SignatureKind(enum.Enum):
     ed448 = 16
 
 
+# elliptic curves: what they are called, and the bits of a coordinate (RFC 5480 2.1.1.1, SEC 2, RFC 5639 3)
+_CURVES = {
+    "1.2.840.10045.3.1.1": ("secp192r1", 192),
+    "1.3.132.0.33": ("secp224r1", 224),
+    "1.2.840.10045.3.1.7": ("secp256r1", 256),
+    "1.3.132.0.34": ("secp384r1", 384),
+    "1.3.132.0.35": ("secp521r1", 521),
+    "1.3.132.0.10": ("secp256k1", 256),
+    "1.3.36.3.3.2.8.1.1.7": ("brainpoolP256r1", 256),
+    "1.3.36.3.3.2.8.1.1.11": ("brainpoolP384r1", 384),
+    "1.3.36.3.3.2.8.1.1.13": ("brainpoolP512r1", 512),
+}
+_CURVE_KINDS = (KeyKind.ec_p256, KeyKind.ec_p384, KeyKind.ec_p521, KeyKind.ec_other)
+_RSA_KINDS = (KeyKind.rsa, KeyKind.rsa_pss)
+
+
 class PublicKey:
-    """A public key, by what its SubjectPublicKeyInfo says: its kind, its algorithm with the DER of the parameters, and its bits, which aren't looked into."""
+    """A public key, by what its SubjectPublicKeyInfo says: its kind, its algorithm with the DER of the parameters, and its bits. The numbers of an RSA or DSA key,
+    the curve and the point of one of an elliptic curve are read when they are asked for: each is an X509Error where the key hasn't that form, and None where
+    its kind has no such part."""
 
     def __init__(self, data: bytes) -> None:
         self._data = octets(data, "a public key")
@@ -61,9 +82,59 @@ class PublicKey:
         self.bits = found.bits.of(self._data)
         self.unused_bits = int(found.unused_bits)
 
-    def public_bytes(self) -> bytes:
-        """The DER of the SubjectPublicKeyInfo."""
-        return self._data
+    def public_bytes(self, encoding: object = Encoding.DER, format: object = None) -> bytes:
+        """Its SubjectPublicKeyInfo, the one format that there is here: as DER, or as PEM, a PUBLIC KEY (RFC 7468 13)."""
+        if format is not None and str(format) != "PublicFormat.SubjectPublicKeyInfo":
+            raise ValueError("a key is written as its SubjectPublicKeyInfo")
+        return encoded(self._data, "PUBLIC KEY", encoding)
+
+    @property
+    def modulus(self) -> int | None:
+        """The modulus of an RSA key (RFC 8017 A.1.1)."""
+        return self._rsa_numbers[0] if self.kind in _RSA_KINDS else None
+
+    @property
+    def exponent(self) -> int | None:
+        """The exponent of an RSA key (RFC 8017 A.1.1)."""
+        return self._rsa_numbers[1] if self.kind in _RSA_KINDS else None
+
+    @property
+    def _rsa_numbers(self) -> tuple[int, int]:
+        modulus, exponent = _numbers(self.bits, 2)
+        return modulus, exponent
+
+    @property
+    def curve_oid(self) -> ObjectIdentifier | None:
+        """The identifier of the curve, where the key names one (RFC 5480 2.1.1)."""
+        if self.kind not in _CURVE_KINDS or self.parameters is None:
+            return None
+        found = elements(self.parameters)
+        return ObjectIdentifier.from_content(found[0].content) if [it.tag for it in found] == [OBJECT_IDENTIFIER] else None
+
+    @property
+    def curve(self) -> str | None:
+        """What the curve is called, as secp256r1; its dotted text where it isn't known here."""
+        oid = self.curve_oid
+        return None if oid is None else _CURVES.get(oid.dotted_string, (oid.dotted_string, 0))[0]
+
+    @property
+    def point(self) -> bytes | None:
+        """The octets of the point of a key of an elliptic curve (SEC 1 2.3.3), or those of a key of RFC 8410."""
+        is_point = self.kind in (*_CURVE_KINDS, KeyKind.ed25519, KeyKind.ed448, KeyKind.x25519, KeyKind.x448)
+        return self.bits if is_point else None
+
+    @property
+    def key_size(self) -> int | None:
+        """Its size in bits: of an RSA key that of the modulus, of a DSA key that of the prime, of an elliptic curve that of a coordinate, and of a key of RFC
+        8410 that of its octets; None where it isn't known."""
+        if self.kind in _RSA_KINDS:
+            return self._rsa_numbers[0].bit_length()
+        if self.kind == KeyKind.dsa:
+            return None if self.parameters is None else _numbers(self.parameters, 3)[0].bit_length()
+        if self.kind in _CURVE_KINDS:
+            oid = self.curve_oid
+            return None if oid is None else _CURVES.get(oid.dotted_string, ("", None))[1]
+        return None if self.point is None else 8 * len(self.point)
 
     def __eq__(self, other: object) -> bool:
         return isinstance(other, PublicKey) and self._data == other._data
@@ -73,6 +144,14 @@ class PublicKey:
 
     def __repr__(self) -> str:
         return f"<PublicKey(kind={self.kind.name}, algorithm_oid={self.algorithm_oid!r})>"
+
+
+def _numbers(data: bytes, count: int) -> list[int]:
+    """The numbers of a SEQUENCE of so many of them, none of which is negative."""
+    found = elements(only(data, SEQUENCE, "the numbers of a key").content)
+    if len(found) != count:
+        raise X509Error("the numbers of a key", MALFORMED)
+    return [natural_number(it.data) for it in found]
 
 
 class AlgorithmIdentifier:
@@ -85,9 +164,9 @@ class AlgorithmIdentifier:
         self.oid = ObjectIdentifier.from_content(found.oid.of(self._data))
         self.parameters = _part(found.parameters, self._data)
 
-    def public_bytes(self) -> bytes:
-        """Its DER."""
-        return self._data
+    def public_bytes(self, encoding: object = Encoding.DER) -> bytes:
+        """Its DER; there is no PEM of it."""
+        return encoded(self._data, None, encoding)
 
     def __eq__(self, other: object) -> bool:
         return isinstance(other, AlgorithmIdentifier) and self._data == other._data

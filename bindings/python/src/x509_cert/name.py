@@ -7,7 +7,8 @@ import enum
 from typing import Iterable, Iterator
 
 from ._given import instance, listed, octets
-from ._library import AttributeView, ElementView, Span, fill, walk
+from ._library import MALFORMED, AttributeView, ElementView, Span, X509Error, fill, number, walk
+from ._pem import Encoding, encoded
 from .oid import NameOID, ObjectIdentifier
 
 # the identifier octets of texts (X.680 41, X.690 8.23) and how their octets are read
@@ -36,6 +37,14 @@ _ASN1Type = ASN1Type
 
 # what attributes want of which RFC 5280 says nothing (CA/Browser Forum, EV Guidelines 7.1.4.2.4)
 _WANTED = {NameOID.JURISDICTION_COUNTRY_NAME: ASN1Type.PrintableString}
+
+
+def text_of(tag: int, content: bytes) -> str:
+    """The text that a string type's octets are; an X509Error where they are none."""
+    try:
+        return content.decode(_ENCODINGS[tag])
+    except (KeyError, UnicodeDecodeError) as error:
+        raise X509Error("a text", MALFORMED) from error
 
 
 class NameAttribute:
@@ -79,9 +88,9 @@ class NameAttribute:
         except (KeyError, UnicodeDecodeError):
             return self.content
 
-    def public_bytes(self) -> bytes:
-        """The DER of the AttributeTypeAndValue."""
-        return self._data
+    def public_bytes(self, encoding: object = Encoding.DER) -> bytes:
+        """The DER of the AttributeTypeAndValue; there is no PEM of it."""
+        return encoded(self._data, None, encoding)
 
     def rfc4514_string(self) -> str:
         """Its text, as CN=a."""
@@ -118,9 +127,9 @@ class RelativeDistinguishedName:
         made._attributes = _relative_name(data, call, *words)
         return made
 
-    def public_bytes(self) -> bytes:
-        """Its DER."""
-        return self._data
+    def public_bytes(self, encoding: object = Encoding.DER) -> bytes:
+        """Its DER; there is no PEM of it."""
+        return encoded(self._data, None, encoding)
 
     def get_attributes_for_oid(self, oid: ObjectIdentifier) -> list[NameAttribute]:
         return [it for it in self if it.oid == oid]
@@ -180,9 +189,15 @@ class Name:
         """The text of the name, the last relative name first."""
         return fill("x509_name_text", self._data).decode("utf-8")
 
-    def public_bytes(self) -> bytes:
-        """Its DER."""
-        return self._data
+    def public_bytes(self, encoding: object = Encoding.DER) -> bytes:
+        """Its DER; there is no PEM of it."""
+        return encoded(self._data, None, encoding)
+
+    def matches(self, other: Name) -> bool:
+        """Whether the names match (RFC 5280 7.1): they have as many relative names, in order, and in each as many attributes, in any order, of the same types, whose
+        values are the same or are texts that differ in case, in spaces at their ends or in how many stand within alone, as RFC 4518 prepares texts. `==` compares
+        the bytes."""
+        return number("x509_names_match", self._data, instance(other, Name, "the other name").public_bytes()) == 1
 
     @property
     def rdns(self) -> list[RelativeDistinguishedName]:

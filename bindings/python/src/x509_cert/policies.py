@@ -2,13 +2,16 @@
 
 from __future__ import annotations
 
-from typing import Iterable, Iterator
+from typing import Iterable, Sequence
 
-from ._extension import ExtensionType, _number, _part
-from ._given import instance, listed, octets, some, whole
-from ._library import PolicyConstraintsView, PolicyMappingView, PolicyQualifierView, PolicyView, Span, number, view, walk
-from ._writing import SEQUENCE, context, element, identifier_of, integer
-from .oid import ExtensionOID, ObjectIdentifier
+from ._elements import Element, checked, elements, only
+from ._extension import ExtensionType, ListExtension, _number, _part
+from ._given import instance, listed, octets, some, whole, whole_list
+from ._library import MALFORMED, PolicyConstraintsView, PolicyMappingView, PolicyQualifierView, PolicyView, Span, X509Error, number, view, walk
+from ._numbers import whole_number
+from ._writing import IA5_STRING, SEQUENCE, UTF8_STRING, context, element, identifier_of, integer
+from .name import text_of
+from .oid import CertificatePoliciesOID, ExtensionOID, ObjectIdentifier
 
 
 class PolicyQualifier:
@@ -22,18 +25,131 @@ class PolicyQualifier:
         return isinstance(other, PolicyQualifier) and (self.oid, self.data) == (other.oid, other.data)
 
     def __hash__(self) -> int:
-        return hash((self.oid, self.data))
+        same = _qualifier(self.oid, self.data)
+        return hash(same) if isinstance(same, CPSPointer) else hash((self.oid, self.data))
 
     def __repr__(self) -> str:
-        return f"<PolicyQualifier({self.oid!r}, {self.data!r})>"
+        return f"<{type(self).__name__}({self.oid!r}, {self.data!r})>"
+
+
+class CPSPointer(PolicyQualifier, str):
+    """Where a certification practice statement is found, a URI (RFC 5280 4.2.1.4): a text, as of `cryptography`, and a qualifier. It equals the text, and each
+    qualifier with the same DER."""
+
+    def __new__(cls, uri: str) -> CPSPointer:
+        return str.__new__(cls, instance(uri, str, "a pointer to a practice statement"))
+
+    def __init__(self, uri: str) -> None:
+        scheme, colon, _ = uri.partition(":")
+        if not uri.isascii() or not colon or not scheme[:1].isalpha():
+            raise ValueError("a pointer to a practice statement is a URI (RFC 3986), of ASCII characters")
+        super().__init__(CertificatePoliciesOID.CPS_QUALIFIER, element(IA5_STRING, uri.encode("ascii")))
+
+    @classmethod
+    def _of(cls, data: bytes) -> CPSPointer:
+        """That which was read, an IA5String; an X509Error where it is none."""
+        text = text_of(*_string(only(checked("DisplayText", data), IA5_STRING, "CPSuri")))
+        made = str.__new__(cls, text)
+        PolicyQualifier.__init__(made, CertificatePoliciesOID.CPS_QUALIFIER, data)
+        return made
+
+    def __eq__(self, other: object) -> bool:
+        return PolicyQualifier.__eq__(self, other) if isinstance(other, PolicyQualifier) else str.__eq__(self, other)
+
+    def __ne__(self, other: object) -> bool:
+        return not self == other
+
+    def __hash__(self) -> int:
+        return str.__hash__(self)
+
+
+class NoticeReference:
+    """Texts of an organization, by their numbers (RFC 5280 4.2.1.4)."""
+
+    def __init__(self, organization: str, notice_numbers: Iterable[int]) -> None:
+        self.organization = instance(organization, str, "an organization")
+        self.notice_numbers = whole_list(notice_numbers, "the numbers of notices")
+
+    def __eq__(self, other: object) -> bool:
+        theirs = (other.organization, other.notice_numbers) if isinstance(other, NoticeReference) else None
+        return (self.organization, self.notice_numbers) == theirs
+
+    def __hash__(self) -> int:
+        return hash((self.organization, tuple(self.notice_numbers)))
+
+    def __repr__(self) -> str:
+        return f"<NoticeReference(organization={self.organization!r}, notice_numbers={self.notice_numbers!r})>"
+
+    def _der(self) -> bytes:
+        return element(SEQUENCE, _text(self.organization), element(SEQUENCE, *map(integer, self.notice_numbers)))
+
+    @classmethod
+    def _of(cls, found: Element) -> NoticeReference:
+        organization, numbers = elements(found.content)
+        return cls(text_of(*_string(organization)), [whole_number(it.data) for it in elements(numbers.content)])
+
+
+class UserNotice(PolicyQualifier):
+    """What is shown to who relies on a certificate (RFC 5280 4.2.1.4): a text, or a reference to texts, or both. Texts are written as a UTF8String, and read of
+    each type that they may have."""
+
+    def __init__(self, notice_reference: NoticeReference | None, explicit_text: str | None) -> None:
+        self.notice_reference = None if notice_reference is None else instance(notice_reference, NoticeReference, "a reference")
+        self.explicit_text = None if explicit_text is None else instance(explicit_text, str, "a text")
+        if self.explicit_text is not None and not 0 < len(self.explicit_text) <= 200:
+            raise ValueError("a text has 1 to 200 characters (RFC 5280 4.2.1.4)")
+        reference = b"" if self.notice_reference is None else self.notice_reference._der()
+        text = b"" if self.explicit_text is None else _text(self.explicit_text)
+        super().__init__(CertificatePoliciesOID.CPS_USER_NOTICE, checked("UserNotice", element(SEQUENCE, reference, text)))
+
+    @classmethod
+    def _of(cls, data: bytes) -> UserNotice:
+        """That which was read; an X509Error where it is none."""
+        found = elements(only(checked("UserNotice", data), SEQUENCE, "UserNotice").content)
+        references = [it for it in found if it.tag == SEQUENCE]
+        texts = [text_of(*_string(it)) for it in found if it.tag != SEQUENCE]
+        made = cls.__new__(cls)
+        PolicyQualifier.__init__(made, CertificatePoliciesOID.CPS_USER_NOTICE, data)
+        made.notice_reference = NoticeReference._of(references[0]) if references else None
+        made.explicit_text = texts[0] if texts else None
+        return made
+
+    def __repr__(self) -> str:
+        return f"<UserNotice(notice_reference={self.notice_reference!r}, explicit_text={self.explicit_text!r})>"
+
+
+def _text(text: str) -> bytes:
+    """A DisplayText; a ValueError where a character has no UTF-8."""
+    return element(UTF8_STRING, text.encode("utf-8"))
+
+
+def _string(found: Element) -> tuple[int, bytes]:
+    return found.tag, found.content
+
+
+def _qualifier(oid: ObjectIdentifier, data: bytes | None) -> PolicyQualifier:
+    """A qualifier that was read: of the two kinds of RFC 5280 what it says, where that can be read."""
+    kind = _KINDS.get(oid)
+    if kind is None or data is None:
+        return PolicyQualifier(oid, data)
+    try:
+        return kind._of(data)
+    except X509Error:
+        return PolicyQualifier(oid, data)
+
+
+_KINDS: dict[ObjectIdentifier, type[CPSPointer] | type[UserNotice]] = {
+    CertificatePoliciesOID.CPS_QUALIFIER: CPSPointer,
+    CertificatePoliciesOID.CPS_USER_NOTICE: UserNotice,
+}
 
 
 class PolicyInformation:
-    """A policy, and what qualifies it (RFC 5280 4.2.1.4)."""
+    """A policy, and what qualifies it (RFC 5280 4.2.1.4): a URI, which is a CPSPointer then, a UserNotice, or another PolicyQualifier."""
 
-    def __init__(self, policy_identifier: ObjectIdentifier, policy_qualifiers: Iterable[PolicyQualifier] | None) -> None:
+    def __init__(self, policy_identifier: ObjectIdentifier, policy_qualifiers: Iterable[PolicyQualifier | str] | None) -> None:
         self.policy_identifier = instance(policy_identifier, ObjectIdentifier, "a policy")
-        self.policy_qualifiers = None if policy_qualifiers is None else listed(policy_qualifiers, PolicyQualifier, "qualifiers")
+        self.policy_qualifiers = None if policy_qualifiers is None else _given_qualifiers(policy_qualifiers)
 
     def __eq__(self, other: object) -> bool:
         theirs = (other.policy_identifier, other.policy_qualifiers) if isinstance(other, PolicyInformation) else None
@@ -52,12 +168,19 @@ class PolicyInformation:
         return element(SEQUENCE, identifier_of(self.policy_identifier), b"" if self.policy_qualifiers is None else element(SEQUENCE, *of))
 
 
+def _given_qualifiers(given: Iterable[PolicyQualifier | str]) -> list[PolicyQualifier]:
+    if isinstance(given, (str, bytes)):
+        raise TypeError("qualifiers are a list")
+    made = [CPSPointer(it) if isinstance(it, str) and not isinstance(it, PolicyQualifier) else it for it in given]
+    return listed(made, PolicyQualifier, "qualifiers")
+
+
 def _qualifiers(span: Span, data: bytes) -> list[PolicyQualifier] | None:
     part = _part(span, data)
     if part is None:
         return None
     found = walk("x509_policy_qualifiers_next", PolicyQualifierView, part)
-    return [PolicyQualifier(ObjectIdentifier.from_content(it.identifier.of(part)), _part(it.qualifier, part)) for it in found]
+    return [_qualifier(ObjectIdentifier.from_content(it.identifier.of(part)), _part(it.qualifier, part)) for it in found]
 
 
 def _policy(found: PolicyView, data: bytes) -> PolicyInformation:
@@ -72,7 +195,7 @@ def policies_under(tag: int, span: Span, data: bytes) -> list[PolicyInformation]
     return [_policy(it, part) for it in walk("x509_certificate_policies_under_next", PolicyView, _number(tag), part)]
 
 
-class CertificatePolicies(ExtensionType):
+class CertificatePolicies(ListExtension[PolicyInformation]):
     """Policies under which a certificate was issued (RFC 5280 4.2.1.4), each of which stands there once."""
 
     oid = ExtensionOID.CERTIFICATE_POLICIES
@@ -87,14 +210,11 @@ class CertificatePolicies(ExtensionType):
         super()._read(data)
         self.policies = [_policy(it, data) for it in walk("x509_certificate_policies_next", PolicyView, data)]
 
-    def __iter__(self) -> Iterator[PolicyInformation]:
-        return iter(self.policies)
-
-    def __len__(self) -> int:
-        return len(self.policies)
+    def _members(self) -> Sequence[PolicyInformation]:
+        return self.policies
 
 
-_ANY_POLICY = ObjectIdentifier("2.5.29.32.0")
+_ANY_POLICY = CertificatePoliciesOID.ANY_POLICY
 
 
 def _pair(given: tuple[ObjectIdentifier, ObjectIdentifier]) -> tuple[ObjectIdentifier, ObjectIdentifier]:
@@ -102,7 +222,7 @@ def _pair(given: tuple[ObjectIdentifier, ObjectIdentifier]) -> tuple[ObjectIdent
     return issuer, subject
 
 
-class PolicyMappings(ExtensionType):
+class PolicyMappings(ListExtension[tuple[ObjectIdentifier, ObjectIdentifier]]):
     """Pairs of policies that are taken for the same (RFC 5280 4.2.1.5), none of which is any-policy."""
 
     oid = ExtensionOID.POLICY_MAPPINGS
@@ -121,6 +241,9 @@ class PolicyMappings(ExtensionType):
             (ObjectIdentifier.from_content(it.issuer_policy.of(data)), ObjectIdentifier.from_content(it.subject_policy.of(data)))
             for it in walk("x509_policy_mappings_next", PolicyMappingView, data)
         ]
+
+    def _members(self) -> Sequence[tuple[ObjectIdentifier, ObjectIdentifier]]:
+        return self.mappings
 
 
 class PolicyConstraints(ExtensionType):

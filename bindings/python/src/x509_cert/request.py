@@ -4,7 +4,7 @@ from __future__ import annotations
 
 import ctypes
 import enum
-from typing import Iterator
+from typing import Any, Iterator
 
 from ._library import (
     ABSENT,
@@ -14,6 +14,7 @@ from ._library import (
     PathControlsView,
     RequestAttributeView,
     RequestView,
+    SignatureView,
     Span,
     X509Error,
     fill,
@@ -21,11 +22,14 @@ from ._library import (
     view,
     walk,
 )
+from . import _cryptography
 from ._extension import _part
 from ._given import octets
+from ._pem import Encoding, blocks, encoded, refuse_pem
+from ._signed import Signed
 from .certificate import Certificate
 from .extensions import Extensions, _subtrees
-from .key import AlgorithmIdentifier, PublicKey
+from .key import PublicKey
 from .name import Name
 from .oid import ObjectIdentifier
 from .policies import policies_under
@@ -45,6 +49,11 @@ class Attribute:
     def __init__(self, oid: ObjectIdentifier, tag: int, value: bytes) -> None:
         self.oid, self.tag, self.value = oid, tag, value
 
+    @property
+    def _type(self) -> int:
+        """The same as `tag`, as of `cryptography`."""
+        return self.tag
+
     def __eq__(self, other: object) -> bool:
         return isinstance(other, Attribute) and (self.oid, self.tag, self.value) == (other.oid, other.tag, other.value)
 
@@ -55,16 +64,26 @@ class Attribute:
         return f"<Attribute(oid={self.oid!r}, value={self.value!r})>"
 
 
-class CertificateSigningRequest:
+class Attributes(list[Attribute]):
+    """Attributes of a CSR with a value each: an attribute with several values stands there once for each."""
+
+    def get_attribute_for_oid(self, oid: ObjectIdentifier) -> Attribute:
+        """The first of a type; an AttributeNotFound where there is none."""
+        for it in self:
+            if it.oid == oid:
+                return it
+        raise AttributeNotFound(oid)
+
+
+class CertificateSigningRequest(Signed):
     """A CSR, by its DER."""
+
+    _label = "CERTIFICATE REQUEST"
 
     def __init__(self, data: bytes) -> None:
         self._data = octets(data, "a CSR")
+        refuse_pem(self._data, "x509_request_view", "load_pem_x509_csr")
         self._view = view("x509_request_view", RequestView, self._data)
-
-    def public_bytes(self) -> bytes:
-        """The DER that it was read from."""
-        return self._data
 
     @property
     def subject(self) -> Name:
@@ -80,15 +99,19 @@ class CertificateSigningRequest:
         """The key, by its kind and its bits."""
         return PublicKey(self.public_key_bytes)
 
+    def public_key(self) -> Any:
+        """The key as `cryptography` reads it, where that is there; else `public_key_info`."""
+        return _cryptography.public_key(self.public_key_bytes)
+
     @property
     def public_key_algorithm_oid(self) -> ObjectIdentifier:
         """The identifier of the key's algorithm."""
         return self.public_key_info.algorithm_oid
 
     @property
-    def attributes(self) -> list[Attribute]:
+    def attributes(self) -> Attributes:
         """The values of the attributes, in order: an attribute with several stands there once for each."""
-        return list(self._attributes())
+        return Attributes(self._attributes())
 
     def _attributes(self) -> Iterator[Attribute]:
         data = self._view.attributes.of(self._data)
@@ -136,24 +159,13 @@ class CertificateSigningRequest:
         return self._view.signature.signed_part.of(self._data)
 
     @property
-    def signature(self) -> bytes:
-        """The octets of the signature's bits."""
-        return self._view.signature.bits.of(self._data)
+    def _signature(self) -> SignatureView:
+        return self._view.signature
 
     @property
-    def signature_algorithm_bytes(self) -> bytes:
-        """The DER of the AlgorithmIdentifier of the signature."""
-        return self._view.signature.algorithm.of(self._data)
-
-    @property
-    def signature_algorithm(self) -> AlgorithmIdentifier:
-        """The algorithm of the signature, by its kind and its parameters."""
-        return AlgorithmIdentifier(self.signature_algorithm_bytes)
-
-    @property
-    def signature_algorithm_oid(self) -> ObjectIdentifier:
-        """The identifier of the algorithm of the signature."""
-        return self.signature_algorithm.oid
+    def is_signature_valid(self) -> bool:
+        """Whether the signature is one by its own key, by `cryptography`; False also where the algorithm isn't one for such keys."""
+        return self._is_valid(self.public_key_bytes)
 
     def to_text(self) -> str:
         """All that it has, as lines for people: each is a label and a text, and no text of the CSR can forge a line or turn its order round."""
@@ -163,19 +175,18 @@ class CertificateSigningRequest:
         """The lines of `to_text` as JSON (RFC 8259): an array of objects, each with its `depth`, its `label` and its `text`."""
         return fill("x509_request_json", self._data).decode("utf-8")
 
-    def __eq__(self, other: object) -> bool:
-        return isinstance(other, CertificateSigningRequest) and self._data == other._data
-
-    def __hash__(self) -> int:
-        return hash(self._data)
-
     def __repr__(self) -> str:
         return f"<CertificateSigningRequest(subject={self.subject!r})>"
 
 
-def load_der_x509_csr(data: bytes) -> CertificateSigningRequest:
+def load_der_x509_csr(data: bytes, backend: object = None) -> CertificateSigningRequest:
     """The CSR that the bytes are; an X509Error where they are none."""
     return CertificateSigningRequest(data)
+
+
+def load_pem_x509_csr(data: bytes, backend: object = None) -> CertificateSigningRequest:
+    """The first CSR in PEM (RFC 7468 7); a ValueError where there is none."""
+    return CertificateSigningRequest(blocks(data, ("CERTIFICATE REQUEST", "NEW CERTIFICATE REQUEST"))[0])
 
 
 class AnchorKind(enum.Enum):
@@ -205,9 +216,9 @@ class PathControls:
         self.excluded_subtrees = _subtrees(1, found.excluded, self._data)
         self.path_length: int | None = int(found.path_len) if found.has_path_len else None
 
-    def public_bytes(self) -> bytes:
-        """The DER that it was read from."""
-        return self._data
+    def public_bytes(self, encoding: object = Encoding.DER) -> bytes:
+        """The DER that it was read from; there is no PEM of it."""
+        return encoded(self._data, None, encoding)
 
     def __eq__(self, other: object) -> bool:
         return isinstance(other, PathControls) and self._data == other._data
@@ -224,11 +235,12 @@ class TrustAnchor:
 
     def __init__(self, data: bytes) -> None:
         self._data = octets(data, "a trust anchor")
+        refuse_pem(self._data, "x509_anchor_view", "of a certificate load_pem_x509_certificate")
         self._view = view("x509_anchor_view", AnchorView, self._data)
 
-    def public_bytes(self) -> bytes:
-        """The DER that it was read from."""
-        return self._data
+    def public_bytes(self, encoding: object = Encoding.DER) -> bytes:
+        """The DER that it was read from. In PEM it is that of a certificate, and there is none of the other kinds."""
+        return encoded(self._data, "CERTIFICATE" if self.kind == AnchorKind.certificate else None, encoding)
 
     @property
     def kind(self) -> AnchorKind:
@@ -253,6 +265,10 @@ class TrustAnchor:
     def public_key_info(self) -> PublicKey:
         """The key, by its kind and its bits."""
         return PublicKey(self.public_key_bytes)
+
+    def public_key(self) -> Any:
+        """The key as `cryptography` reads it, where that is there; else `public_key_info`."""
+        return _cryptography.public_key(self.public_key_bytes)
 
     @property
     def public_key_algorithm_oid(self) -> ObjectIdentifier:

@@ -1,0 +1,55 @@
+"""Values that no call of their own divides: the library checks them, finds the elements in them and reads these. Nothing here parses DER."""
+
+from __future__ import annotations
+
+import ctypes
+from typing import NamedTuple
+
+from ._library import MALFORMED, RAW, CrlEntryView, ElementView, Span, X509Error, fill, view, walk
+from ._writing import GENERALIZED_TIME, SEQUENCE, SET, element, integer
+
+
+class Element(NamedTuple):
+    """An element: its identifier octet, all of it, and its content octets."""
+
+    tag: int
+    data: bytes
+    content: bytes
+
+
+def elements(data: bytes) -> list[Element]:
+    """The elements that stand one behind the other; an X509Error where something else does."""
+    # the values of an attribute may be of any type, so the walk over them is one over any elements
+    within = element(SET, data)
+    return [Element(int(it.tag), it.element.of(within), it.content.of(within)) for it in walk("x509_attribute_value_next", ElementView, within)]
+
+
+def only(data: bytes, tag: int, what: str) -> Element:
+    """The one element that the bytes are, which has this identifier octet; an X509Error where they are no such element."""
+    found = elements(data)
+    if len(found) != 1 or found[0].tag != tag:
+        raise X509Error(what, MALFORMED)
+    return found[0]
+
+
+def checked(kind: str, data: bytes) -> bytes:
+    """The same bytes, where the library decodes them as a value of the type with that name; an X509Error where it doesn't."""
+    return fill("x509_reencode", kind.encode("ascii"), ctypes.c_uint32(RAW), data)
+
+
+def natural_number(data: bytes) -> int:
+    """The number that an INTEGER of any size is, which isn't negative, by its DER."""
+    return int.from_bytes(view("x509_crl_number", Span, data).of(data), "big")
+
+
+def generalized_time(data: bytes) -> int:
+    """The seconds since 1970-01-01T00:00:00Z of a GeneralizedTime, by its DER: the library tells them of an entry of a CRL that has this date."""
+    checked("GeneralizedTime", data)
+    entries = element(SEQUENCE, element(SEQUENCE, integer(1), data))
+    (entry,) = walk("x509_crl_entry_next", CrlEntryView, entries)
+    return int(entry.date)
+
+
+def generalized_time_of(content: bytes) -> int:
+    """The same of its content octets, as they stand under a tag of their own."""
+    return generalized_time(element(GENERALIZED_TIME, content))

@@ -1,0 +1,27 @@
+"""Serial numbers and moments, as the library has them and as Python does."""
+
+from __future__ import annotations
+
+import datetime
+
+from ._library import Span, view
+
+_EPOCH = datetime.datetime(1970, 1, 1, tzinfo=datetime.timezone.utc)
+
+
+def moment(since: int) -> datetime.datetime:
+    """The moment so many seconds after 1970-01-01T00:00:00Z."""
+    return _EPOCH + datetime.timedelta(seconds=since)
+
+
+def serial_element(number: int) -> bytes:
+    """The DER of an INTEGER of at most 21 octets, which serial numbers have; a ValueError where it has more."""
+    size = (number + (number < 0)).bit_length() // 8 + 1
+    if size > 21:
+        raise ValueError("a serial number has at most 21 octets")
+    return bytes([2, size]) + number.to_bytes(size, "big", signed=True)
+
+
+def whole_number(element: bytes) -> int:
+    """The number that an INTEGER of at most 21 octets is, by its DER, as of a serial number."""
+    return int.from_bytes(view("x509_serial_number", Span, element).of(element), "big", signed=True)

@@ -1,0 +1,77 @@
+"""PEM (RFC 7468): the armour around DER, by the standard library alone."""
+
+from __future__ import annotations
+
+import base64
+import binascii
+import enum
+
+from ._given import octets
+from ._library import MALFORMED, X509Error
+
+_BEGIN, _END, _DASHES = b"-----BEGIN ", b"-----END ", b"-----"
+_COLUMNS = 64
+
+
+class Encoding(enum.Enum):
+    """How an object is written: as its DER, or as that in PEM. The encodings of `cryptography` are taken too."""
+
+    DER = "DER"
+    PEM = "PEM"
+
+
+def encoded(data: bytes, label: str | None, encoding: object) -> bytes:
+    """The DER as it is asked for; of what has no label there is no PEM."""
+    # those of `cryptography` have no value in each of its versions, but this text
+    wanted = str(encoding) if type(encoding).__name__ == "Encoding" else None
+    if wanted not in ("Encoding.DER", "Encoding.PEM"):
+        raise TypeError("an encoding is Encoding.DER or Encoding.PEM")
+    if wanted == "Encoding.DER":
+        return data
+    if label is None:
+        raise ValueError("there is no PEM of this: no label is registered for it (RFC 7468)")
+    text = base64.b64encode(data)
+    lines = [text[at : at + _COLUMNS] for at in range(0, len(text), _COLUMNS)]
+    name = label.encode("ascii")
+    return b"\n".join([_BEGIN + name + _DASHES, *lines, _END + name + _DASHES, b""])
+
+
+def blocks(data: bytes, labels: tuple[str, ...]) -> list[bytes]:
+    """The DER in each block with one of these labels, in order; other blocks, and what stands between blocks, are passed over. A ValueError where there is none,
+    one has no end, or one isn't base64."""
+    found: list[bytes] = []
+    label: str | None = None
+    lines: list[bytes] = []
+    for line in map(bytes.strip, octets(data, "PEM").splitlines()):
+        if label is None:
+            label, lines = _label(line, _BEGIN), []
+        elif _label(line, _END) == label:
+            if label in labels:
+                found.append(_decoded(lines, label))
+            label = None
+        else:
+            lines.append(line)
+    if label in labels:
+        raise ValueError(f"the PEM of a {label} has no end")
+    if not found:
+        raise ValueError(f"no PEM of a {labels[0]} is there; DER is read by the calls with load_der_ in front")
+    return found
+
+
+def _label(line: bytes, mark: bytes) -> str | None:
+    if not line.startswith(mark) or not line.endswith(_DASHES):
+        return None
+    return line[len(mark) : -len(_DASHES)].decode("ascii", "replace")
+
+
+def _decoded(lines: list[bytes], label: str) -> bytes:
+    try:
+        return base64.b64decode(b"".join(b"".join(lines).split()), validate=True)
+    except binascii.Error as error:
+        raise ValueError(f"the PEM of a {label} isn't base64: {error}") from error
+
+
+def refuse_pem(data: bytes, call: str, reader: str) -> None:
+    """An X509Error where what should be DER looks like PEM, which names the call that reads that."""
+    if data.lstrip().startswith(_BEGIN):
+        raise X509Error(call, MALFORMED, f": this looks like PEM, which {reader} reads")

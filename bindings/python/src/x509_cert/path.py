@@ -1,0 +1,80 @@
+"""Paths of certificates (RFC 5280 6.1)."""
+
+from __future__ import annotations
+
+import datetime
+from typing import Callable, Iterable
+
+from . import _cryptography
+from ._given import octets, seconds
+from .certificate import Certificate, path_fault
+from .key import AlgorithmIdentifier
+
+
+class PathFault(Exception):
+    """What is wrong with a path: the place of a certificate in it, from 0, and the reason, of which `validate_path` alone tells the last three."""
+
+    REASONS = (
+        "is no certificate; has another algorithm in its signed part; has another issuer than the certificate above; isn't valid at the moment; "
+        "has a signature that isn't accepted; has an extension twice; has a critical extension that isn't known; is no authority; may not sign "
+        "certificates; has more below it than its path length allows; has an extension that can't be read; has a name that the constraints above don't allow; "
+        "has name constraints that can't be used"
+    ).split("; ")
+
+    def __init__(self, place: int, reason: int) -> None:
+        super().__init__(f"certificate {place} {self.REASONS[reason - 1]}")
+        self.place, self.reason = place, reason
+
+
+SIGNATURE_FAULT = 5
+# what says whether bits are a signature: of the DER of a key and of an algorithm, of a message, and of the bits
+Verifier = Callable[[bytes, bytes, bytes, bytes], bool]
+
+
+def check_path(
+    anchor: Certificate | bytes, path: Iterable[Certificate | bytes], moment: datetime.datetime, verify: Verifier | None = None
+) -> list[Certificate]:
+    """The certificates of a path, topmost first, where it holds at the moment under the subject and the key of the anchor; a PathFault else.
+
+    The anchor and the certificates are a Certificate or its DER each. `verify(public_key, algorithm, message, signature)` says whether the bits are a signature of
+    the message: it is given the DER of the key and of the algorithm. Where it isn't given, `cryptography` verifies. Policies, name constraints and revocation
+    aren't looked at.
+    """
+    begun = seconds(moment, "the moment")
+    anchor = anchor if isinstance(anchor, Certificate) else Certificate(anchor)
+    given = _encodings(path)
+    return _verified(anchor.public_key_bytes, given, path_fault(anchor.public_bytes(), given, begun), verify)
+
+
+def _encodings(path: Iterable[Certificate | bytes]) -> list[bytes]:
+    if isinstance(path, (bytes, bytearray, memoryview)):
+        raise TypeError("a path is a list of certificates, not the bytes of one")
+    given = [it.public_bytes() if isinstance(it, Certificate) else octets(it, "a certificate") for it in path]
+    if not given:
+        raise ValueError("a path has a certificate")
+    return given
+
+
+def _verified(key: bytes, path: list[bytes], fault: tuple[int, int] | None, verify: Verifier | None) -> list[Certificate]:
+    """The certificates of a path under a key, of which that is the first fault but those of signatures.
+
+    The first fault is that of the lowest place; of one place that with the lowest number.
+    """
+    verify = _verifies if verify is None else verify
+    certificates: list[Certificate] = []
+    for place, data in enumerate(path):
+        if fault is not None and (place, SIGNATURE_FAULT) > fault:
+            break
+        certificate = Certificate(data)
+        told = certificate._signature
+        if int(told.unused_bits) != 0 or not verify(key, told.algorithm.of(data), told.signed_part.of(data), told.bits.of(data)):
+            raise PathFault(place, SIGNATURE_FAULT)
+        certificates.append(certificate)
+        key = certificate.public_key_bytes
+    if fault is not None:
+        raise PathFault(*fault)
+    return certificates
+
+
+def _verifies(key: bytes, algorithm: bytes, message: bytes, signature: bytes) -> bool:
+    return _cryptography.is_valid(key, AlgorithmIdentifier(algorithm), message, signature, 0)

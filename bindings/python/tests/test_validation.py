@@ -1,0 +1,216 @@
+"""Paths that are valid under what is trusted: names that match, name constraints, each argument of `validate_path`, and chains that `cryptography` signs and verifies.
+
+usage: X509_LIBRARY=.../libx509.so PYTHONPATH=bindings/python/src python3 -m unittest discover -s bindings/python/tests
+"""
+
+from __future__ import annotations
+
+import datetime
+import inspect
+import ipaddress
+import unittest
+from typing import Any
+
+import x509_cert as ours
+
+try:
+    from cryptography import x509 as theirs
+    from cryptography.exceptions import InvalidSignature
+    from cryptography.hazmat.primitives import hashes, serialization
+    from cryptography.hazmat.primitives.asymmetric import ec
+except ImportError:  # the tests are left out then
+    theirs = None  # type: ignore[assignment]
+
+NOW = datetime.datetime(2030, 1, 1, tzinfo=datetime.timezone.utc)
+SECOND = datetime.timedelta(seconds=1)
+# an AlgorithmIdentifier and keys of Ed25519 (RFC 8410 3, 4)
+ED25519 = bytes.fromhex("300506032b6570")
+KEY, OTHER_KEY = (bytes.fromhex("302a300506032b6570032100") + bytes([octet]) * 32 for octet in (0, 1))
+
+MOMENT, SIGNATURE, ISSUER, CRITICAL, NOT_CA, EXTENSION, NAMES, CONSTRAINTS = 4, 5, 3, 7, 8, 11, 12, 13
+
+
+def name(text: str) -> ours.Name:
+    return ours.Name.from_rfc4514_string(text)
+
+
+def made(issuer: str, subject: str, key: bytes, *extensions: ours.ExtensionType) -> ours.Certificate:
+    """A certificate whose signature says nothing."""
+    builder = ours.CertificateBuilder().serial_number(1).issuer_name(name(issuer)).subject_name(name(subject)).public_key(key)
+    builder = builder.not_valid_before(NOW).not_valid_after(NOW + SECOND)
+    for it in extensions:
+        builder = builder.add_extension(it, critical=not isinstance(it, ours.UnrecognizedExtension))
+    return builder.sign(ED25519, lambda part: bytes(64))
+
+
+def permitted(*names: ours.GeneralName) -> ours.NameConstraints:
+    return ours.NameConstraints(list(names), None)
+
+
+CA = ours.BasicConstraints(True, None)
+EXAMPLE = permitted(ours.DNSName("example.org"))
+ROOT = made("CN=Root", "CN=Root", KEY, CA)
+CONSTRAINED = made("CN=Root", "CN=Root", KEY, CA, EXAMPLE)
+# RFC 5280 7.1: another case, and a space in front
+AUTHORITY = made("CN=\\ ROOT", "O=CA,C=DE", OTHER_KEY, CA)
+
+
+def server(host: str) -> ours.Certificate:
+    return made("O=ca,C=DE", "CN=S", KEY, ours.SubjectAlternativeName([ours.DNSName(host)]))
+
+
+def accepts(key: bytes, algorithm: bytes, message: bytes, signature: bytes) -> bool:
+    return True
+
+
+class Validation(unittest.TestCase):
+    def fault(self, *arguments: Any, **words: Any) -> tuple[int, int]:
+        with self.assertRaises(ours.PathFault) as caught:
+            ours.validate_path(*arguments, **words)
+        return caught.exception.place, caught.exception.reason
+
+    def test_names_that_match(self) -> None:
+        leaf = server("www.example.com")
+        found = ours.validate_path(ROOT, [AUTHORITY, leaf.public_bytes()], NOW, accepts)
+        self.assertEqual([it.public_bytes() for it in found.certificates], [AUTHORITY.public_bytes(), leaf.public_bytes()])
+        self.assertEqual((found.subject, found.public_key_bytes), (name("CN=S"), KEY))
+        with self.assertRaises(ours.PathFault) as caught:
+            ours.check_path(ROOT, [AUTHORITY.public_bytes(), leaf.public_bytes()], NOW, accepts)
+        self.assertEqual((caught.exception.place, caught.exception.reason), (0, ISSUER))
+        self.assertEqual(self.fault(ROOT, [made("CN=Toor", "CN=S", KEY)], NOW, accepts), (0, ISSUER))
+
+    def test_name_constraints(self) -> None:
+        good, bad = server("www.example.org"), server("www.example.com")
+        self.assertEqual(len(ours.validate_path(CONSTRAINED, [AUTHORITY, good], NOW, accepts).certificates), 2)
+        self.assertEqual(self.fault(CONSTRAINED, [AUTHORITY, bad], NOW, accepts), (1, NAMES))
+        narrow = made("CN=Root", "O=CA,C=DE", OTHER_KEY, CA, EXAMPLE)
+        self.assertEqual(self.fault(ROOT, [narrow, bad], NOW, accepts), (1, NAMES))
+        self.assertEqual(len(ours.validate_path(ROOT, [narrow, good], NOW, accepts).certificates), 2)
+        # what is said of other forms of names says nothing of this one
+        network = permitted(ours.IPAddress(ipaddress.ip_network("192.0.2.0/24")))
+        other = made("CN=Root", "O=CA,C=DE", OTHER_KEY, CA, network)
+        self.assertEqual(len(ours.validate_path(ROOT, [other, bad], NOW, accepts).certificates), 2)
+
+    def test_what_cannot_be_followed(self) -> None:
+        policies = ours.UnrecognizedExtension(ours.ExtensionOID.CERTIFICATE_POLICIES, b"\x05\x00")
+        self.assertEqual(self.fault(ROOT, [made("CN=Root", "CN=S", KEY, policies)], NOW, accepts), (0, EXTENSION))
+        self.assertEqual(self.fault(ROOT, [ROOT, ROOT], NOW + 2 * SECOND, accepts), (0, MOMENT))
+        self.assertEqual(self.fault(ROOT, [made("CN=Root", "CN=A", KEY), server("a")], NOW, accepts), (0, NOT_CA))
+        self.assertEqual(self.fault(ROOT, [b"\x30\x00"], NOW, accepts), (0, 1))
+        # a minimum of 1 (RFC 5280 4.2.1.10), by hand
+        unusable = bytes.fromhex("300ba0093007a4023000800101")
+        authority = made("CN=Root", "O=CA,C=DE", OTHER_KEY, CA, ours.UnrecognizedExtension(ours.ExtensionOID.NAME_CONSTRAINTS, unusable))
+        self.assertEqual(self.fault(ROOT, [authority, server("a")], NOW, accepts), (0, CONSTRAINTS))
+        for data in (unusable, b"\x30\x01"):
+            with self.subTest(data), self.assertRaises(ours.X509Error):
+                ours.validate_path(ROOT, [AUTHORITY, server("a")], NOW, accepts, name_constraints=data)
+
+    def test_anchors(self) -> None:
+        leaf = made("CN=root", "CN=S", OTHER_KEY, ours.SubjectAlternativeName([ours.DNSName("www.example.com")]))
+        self.assertEqual(self.fault(CONSTRAINED, [leaf], NOW, accepts), (0, NAMES))
+        self.assertEqual(self.fault(ours.TrustAnchor(CONSTRAINED.public_bytes()), [leaf], NOW, accepts), (0, NAMES))
+        self.assertEqual(ours.validate_path((name("CN=ROOT"), KEY), [leaf], NOW, accepts).public_key_bytes, OTHER_KEY)
+        self.assertEqual(self.fault((name("CN=Other"), KEY), [leaf], NOW, accepts), (0, ISSUER))
+        with self.assertRaises(ours.X509Error):
+            ours.validate_path((name("CN=ROOT"), b"\x30\x00"), [leaf], NOW, accepts)
+
+    def test_each_signature_is_for_the_key_above(self) -> None:
+        path = [AUTHORITY, server("www.example.org")]
+        for no_at in (None, 0, 1):
+            asked: list[tuple[bytes, bytes, bytes, bytes]] = []
+
+            def verify(*words: bytes) -> bool:
+                asked.append(words)  # type: ignore[arg-type]
+                return len(asked) - 1 != no_at
+
+            with self.subTest(no_at):
+                if no_at is None:
+                    ours.validate_path(ROOT, path, NOW, verify)
+                else:
+                    self.assertEqual(self.fault(ROOT, path, NOW, verify), (no_at, SIGNATURE))
+                wanted = [(key, ED25519, it.tbs_certificate_bytes, it.signature) for key, it in zip((KEY, OTHER_KEY), path)]
+                self.assertEqual(asked, wanted[: 2 if no_at is None else no_at + 1])
+
+
+class Arguments(unittest.TestCase):
+    """Each argument of `validate_path`: other values that another answer comes of, and what is refused."""
+
+    GOOD = {"anchor": ROOT, "path": [AUTHORITY, server("www.example.com")], "moment": NOW, "verify": accepts}
+    CHANGED: dict[str, list[tuple[Any, tuple[int, int]]]] = {
+        "anchor": [(AUTHORITY, (0, ISSUER)), ((name("CN=S"), KEY), (0, ISSUER)), (CONSTRAINED, (1, NAMES))],
+        "path": [([AUTHORITY, ROOT], (1, ISSUER)), ([AUTHORITY, b""], (1, 1))],
+        "moment": [(NOW - SECOND, (0, MOMENT)), (NOW + 2 * SECOND, (0, MOMENT))],
+        "verify": [(lambda *words: False, (0, SIGNATURE))],
+        "name_constraints": [(EXAMPLE.data, (1, NAMES)), (ours.NameConstraints(None, [ours.DirectoryName(name(""))]).data, (0, NAMES))],
+    }
+    REFUSED: dict[str, list[tuple[Any, type[Exception]]]] = {
+        "anchor": [(None, TypeError), (ROOT.public_bytes(), TypeError), ((name("CN=R"),), TypeError), (("CN=R", KEY), TypeError), ((name("CN=R"), 5), TypeError)],
+        "path": [([], ValueError), (ROOT.public_bytes(), TypeError), ([5], TypeError), (None, TypeError)],
+        "moment": [(None, TypeError), (5, TypeError), (NOW.replace(tzinfo=None), ValueError), (NOW.replace(year=1969), ValueError)],
+        "verify": [(5, TypeError)],
+        "name_constraints": [(5, TypeError), ("", TypeError), (b"", ValueError), (b"\x30\x01", ours.X509Error)],
+    }
+
+    def test_each_has_a_row(self) -> None:
+        names = set(inspect.signature(ours.validate_path).parameters)
+        self.assertEqual((set(self.CHANGED), set(self.REFUSED)), (names, names))
+
+    def test_changed(self) -> None:
+        self.assertEqual(ours.validate_path(**self.GOOD).subject, name("CN=S"))
+        for argument, rows in self.CHANGED.items():
+            for value, fault in rows:
+                with self.subTest(argument, value=value), self.assertRaises(ours.PathFault) as caught:
+                    ours.validate_path(**(self.GOOD | {argument: value}))
+                self.assertEqual((caught.exception.place, caught.exception.reason), fault)
+
+    def test_refused(self) -> None:
+        for argument, rows in self.REFUSED.items():
+            for value, error in rows:
+                with self.subTest(argument, value=value), self.assertRaises(error):
+                    ours.validate_path(**(self.GOOD | {argument: value}))
+
+
+@unittest.skipIf(theirs is None, "cryptography isn't installed")
+class SignedByCryptography(unittest.TestCase):
+    """A chain of three that `cryptography` makes and verifies."""
+
+    def setUp(self) -> None:
+        self.keys = [ec.generate_private_key(ec.SECP256R1()) for _ in range(3)]
+        ca, leaf = theirs.BasicConstraints(True, None), theirs.SubjectAlternativeName([theirs.DNSName("www.example.org")])
+        limits = theirs.NameConstraints([theirs.DNSName("example.org")], None)
+        self.chain = [self.sign(0, 0, ca), self.sign(0, 1, ca, limits), self.sign(1, 2, leaf)]
+
+    def sign(self, issuer: int, subject: int, *extensions: Any) -> bytes:
+        names = [theirs.Name([theirs.NameAttribute(theirs.NameOID.COMMON_NAME, text)]) for text in ("Root", "Authority", "Server")]
+        builder = theirs.CertificateBuilder().serial_number(1).issuer_name(names[issuer]).subject_name(names[subject])
+        builder = builder.public_key(self.keys[subject].public_key()).not_valid_before(NOW).not_valid_after(NOW)
+        for it in extensions:
+            builder = builder.add_extension(it, critical=True)
+        return builder.sign(self.keys[issuer], hashes.SHA256()).public_bytes(serialization.Encoding.DER)
+
+    def verify(self, key: bytes, algorithm: bytes, message: bytes, signature: bytes) -> bool:
+        # ecdsa-with-SHA256 (RFC 5758 3.2)
+        if algorithm != bytes.fromhex("300a06082a8648ce3d040302"):
+            return False
+        try:
+            serialization.load_der_public_key(key).verify(signature, message, ec.ECDSA(hashes.SHA256()))  # type: ignore[union-attr, call-arg, arg-type]
+        except InvalidSignature:
+            return False
+        return True
+
+    def test_it_is_valid(self) -> None:
+        root, *path = self.chain
+        found = ours.validate_path(ours.Certificate(root), path, NOW, self.verify)
+        spki = self.keys[2].public_key().public_bytes(serialization.Encoding.DER, serialization.PublicFormat.SubjectPublicKeyInfo)
+        self.assertEqual(found.public_key_bytes, spki)
+
+    def test_a_signature_that_is_changed(self) -> None:
+        root, above, leaf = self.chain
+        for place, path in enumerate(([above[:-1] + bytes([above[-1] ^ 1]), leaf], [above, leaf[:-1] + bytes([leaf[-1] ^ 1])])):
+            with self.subTest(place), self.assertRaises(ours.PathFault) as caught:
+                ours.validate_path(ours.Certificate(root), path, NOW, self.verify)
+            self.assertEqual((caught.exception.place, caught.exception.reason), (place, SIGNATURE))
+
+
+if __name__ == "__main__":
+    unittest.main()
