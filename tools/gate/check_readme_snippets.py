@@ -1,5 +1,5 @@
 #!/usr/bin/env python3
-"""Looks whether each snippet of README.md in C, Rust or Python stands in a file that a test runs: its lines, one behind the other, indented as a whole.
+"""Looks whether each snippet of README.md in C, C++, CMake, Rust or Python stands in a file that a test runs: its lines, one behind the other, indented as a whole.
 So it does for the examples in docs of the crates, the blocks ```rust: each of their parts, between empty lines, stands so in a file of a crate of tests.
 """
 import argparse
@@ -9,7 +9,8 @@ import sys
 import textwrap
 
 TOP = pathlib.Path(__file__).resolve().parents[2]
-FILES = ("crates/x509_cert_tests/src/example.rt", "examples/c/show.c", "examples/rust/src/main.rs", "examples/python/show.py")
+INSTALLED = ("text.c", "text.cc", "CMakeLists.txt", "text.rs", "text.py")
+FILES = ("crates/x509_cert_tests/src/example.rt", *(f"examples/installed/{name}" for name in INSTALLED))
 ENTRIES = (
     "x509_build/src/certificate_builder.rt",
     "x509_cert/src/crl/certificate_list.rt",
@@ -42,7 +43,7 @@ def examples_of(file):
 def main():
     argparse.ArgumentParser(description=__doc__).parse_args()
     text = (TOP / "README.md").read_text(encoding="utf-8")
-    snippets = [found[1].split("\n") for found in re.finditer(r"^```(?:c|rust|python)\n(.*?)\n```$", text, re.M | re.S)]
+    snippets = [found[1].split("\n") for found in re.finditer(r"^```(?:c|cpp|cmake|rust|python)\n(.*?)\n```$", text, re.M | re.S)]
     files = [lines_of(TOP / name) for name in FILES]
     sources = sorted(it for it in (TOP / "crates").glob("*/src/**/*.rt") if not it.parts[len(TOP.parts) + 1].endswith("_tests"))
     tests = [lines_of(it) for it in sorted((TOP / "crates").glob("*_tests/src/*.rt"))]

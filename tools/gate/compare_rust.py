@@ -1,6 +1,6 @@
 #!/usr/bin/env python3
 """Compares what the crate for Rust says of the certificates of the system's store with what `cryptography` says of them: version, serial number, dates,
-names, key, signature, and extensions. FACTS is the program of `bindings/rust/examples/facts.rs`. The crate refuses values that aren't DER, as a KeyUsage that
+names, key with its size and parts, signature, and extensions, policies with their qualifiers. FACTS is the program of `bindings/rust/examples/facts.rs`. The crate refuses values that aren't DER, as a KeyUsage that
 ends with zero bits (X.690 11.2.2); these are counted, and have to be such that `cryptography` writes them otherwise.
 """
 import argparse
@@ -13,6 +13,7 @@ import warnings
 
 from cryptography import x509
 from cryptography.hazmat.primitives import serialization
+from cryptography.hazmat.primitives.asymmetric import ec, rsa
 
 TOP = pathlib.Path(__file__).resolve().parents[2]
 STORE = "/etc/ssl/certs/*.pem"
@@ -76,6 +77,30 @@ def names_in(it):
     return " ".join(map(general_name, it))
 
 
+def qualifier(it):
+    if isinstance(it, str):
+        return "cps:" + it.encode("ascii").hex()
+    reference = it.notice_reference
+    told = [] if reference is None else [reference.organization.encode().hex(), *map(integer, reference.notice_numbers)]
+    return f"notice:{','.join(told)}:{'none' if it.explicit_text is None else it.explicit_text.encode().hex()}"
+
+
+def policy(it):
+    return " ".join([it.policy_identifier.dotted_string, *map(qualifier, it.policy_qualifiers or ())])
+
+
+def key_parts(key):
+    """The size of a key, and its numbers or its curve and its point."""
+    if isinstance(key, rsa.RSAPublicKey):
+        numbers = key.public_numbers()
+        return f"{key.key_size} {integer(numbers.n)} {integer(numbers.e)}"
+    if isinstance(key, ec.EllipticCurvePublicKey):
+        point = key.public_bytes(serialization.Encoding.X962, serialization.PublicFormat.UncompressedPoint)
+        return f"{key.key_size} {CURVES[key.curve.name]} {point.hex()}"
+    return "other"
+
+
+CURVES = {"secp256r1": "1.2.840.10045.3.1.7", "secp384r1": "1.3.132.0.34", "secp521r1": "1.3.132.0.35"}
 TELL = {
     x509.KeyUsage: key_usage,
     x509.ExtendedKeyUsage: lambda it: " ".join(oid.dotted_string for oid in it),
@@ -85,7 +110,7 @@ TELL = {
     x509.SubjectAlternativeName: names_in,
     x509.IssuerAlternativeName: names_in,
     x509.AuthorityInformationAccess: lambda it: " ".join(f"{part.access_method.dotted_string}:{general_name(part.access_location)}" for part in it),
-    x509.CertificatePolicies: lambda it: " ".join(part.policy_identifier.dotted_string for part in it),
+    x509.CertificatePolicies: lambda it: " ".join(map(policy, it)),
     **dict.fromkeys((x509.CRLDistributionPoints, x509.NameConstraints, x509.PolicyConstraints, x509.InhibitAnyPolicy), lambda it: "read"),
 }
 
@@ -101,6 +126,7 @@ def facts(data):
     yield f"subject {name(it.subject)}"
     yield f"issuer {name(it.issuer)}"
     yield f"key {key.hex()}"
+    yield f"parts {key_parts(it.public_key())}"
     yield f"signature {it.signature.hex()}"
     yield f"signed {len(it.tbs_certificate_bytes)}"
     for extension in it.extensions:

@@ -2,8 +2,8 @@
 # Tries ./x509_tool, builds the C library and the callers of examples/, and runs them on a certificate, on bad input, on hostile payloads of
 # extensions and on paths, under valgrind and with sanitizers where these are there. What isn't installed is left out, with a line that says so. What
 # they print is compared with what Python's `cryptography` says (examples/data/make.py), and with what tools/robustness/hostile_payloads.py and
-# examples/data/make_path.py state by hand. Before that it checks the rows, the snippets of README.md and the names in docs/PROMISES.md and
-# docs/OPERATIONS.md; and it asks each call of the header about spoilt inputs.
+# examples/data/make_path.py state by hand. Before that it checks the rows, the snippets of README.md, the names in docs/PROMISES.md and
+# docs/OPERATIONS.md, the version and the C interface; and it asks each call of the header about spoilt inputs.
 set -eu
 top=$(cd "$(dirname "${BASH_SOURCE[0]}")/../.." && pwd)
 gate=$top/tools/gate
@@ -133,6 +133,7 @@ if has python3 "hostile payloads, the rows, the snippets of README.md, the names
     python3 -B "$gate/check_readme_snippets.py" || failed=1
     python3 -B "$gate/check_promises.py" || failed=1
     python3 -B "$gate/check_operations.py" || failed=1
+    python3 -B "$gate/check_version.py" || failed=1
     python3 -B "$gate/test_first_command.py" real || failed=1
     python3 -B "$robustness/hostile_payloads.py" "$folder/hostile"
     rules=("$data/certificate.der" "$data/list.der" "$folder/hostile/generalized_time_before_2050.der")
@@ -228,8 +229,10 @@ spoil() {
     fi
 }
 
-if has python3 "the exports beside the header, and each call about spoilt inputs"; then
+if has python3 "the exports beside the header, the interface beside include/abi.txt, and each call about spoilt inputs"; then
     python3 -B "$gate/compare_exports.py" "$folder/libx509_c.a" || failed=1
+    python3 -B "$gate/check_abi.py" || failed=1
+    python3 -B "$gate/test_abi.py" || failed=1
     python3 -B "$robustness/calls_table.py" >"$folder/calls_table.h"
 fi
 
@@ -270,6 +273,22 @@ run_tests() {
     fi
 }
 
+# the tests of the crate for Rust under valgrind, and with AddressSanitizer where the compiler has it, as that of a release has behind RUSTC_BOOTSTRAP. Some lend bytes
+# for good, so leaks aren't looked for here: the library's are above.
+test_watched() {
+    local tests=(cargo test -q --offline --lib --tests --manifest-path "$top/bindings/rust/Cargo.toml") host
+    host=$(rustc -vV | sed -n 's/^host: //p')
+    ! has valgrind "the tests of the crate for Rust under valgrind" ||
+        run_tests "Rust under valgrind, the tests of the crate" \
+            env "CARGO_TARGET_$(echo "$host" | tr 'a-z-' 'A-Z_')_RUNNER=valgrind -q --error-exitcode=9" "${tests[@]}"
+    if echo 'fn main() {}' | RUSTC_BOOTSTRAP=1 rustc -Zsanitizer=address -o "$folder/tried" - 2>"$folder/said" && "$folder/tried" 2>"$folder/said"; then
+        run_tests "Rust with a sanitizer, the tests of the crate" \
+            env RUSTC_BOOTSTRAP=1 RUSTFLAGS=-Zsanitizer=address ASAN_OPTIONS=detect_leaks=0 "${tests[@]}" --target "$host"
+    else
+        echo "left out, since rustc lacks it: the tests of the crate for Rust with AddressSanitizer"
+    fi
+}
+
 if has cargo "the caller in Rust"; then
     has openssl "the authority in Rust" || true
     X509_LIBRARY=$folder CARGO_TARGET_DIR=$folder/target cargo build -q --offline --manifest-path "$top/examples/rust/Cargo.toml"
@@ -284,6 +303,7 @@ if has cargo "the caller in Rust"; then
     export X509_LIBRARY=$folder CARGO_TARGET_DIR=$folder/target
     run_tests "Rust, the tests of the wrapper" cargo test -q --offline --manifest-path "$top/examples/rust/Cargo.toml"
     run_tests "Rust, the tests of the crate" cargo test -q --offline --manifest-path "$top/bindings/rust/Cargo.toml"
+    test_watched
     cargo build -q --offline --example facts --manifest-path "$top/bindings/rust/Cargo.toml"
     if ! python3 -c 'import cryptography' 2>"$folder/said" || [ ! -d /etc/ssl/certs ]; then
         echo "left out, since Python's cryptography isn't installed, or the system has no store of certificates: Rust beside cryptography"
@@ -301,6 +321,7 @@ if has python3 "the caller in Python, and wide and deep values"; then
         python3 -B -m unittest discover -s "$top/bindings/python/tests"
     ! has mypy "the types of the package for Python" ||
         run_tests "Python, the types of the package" mypy --strict --no-warn-unused-ignores --cache-dir "$folder/mypy" "$top/bindings/python/src/x509_cert"
+    env X509_LIBRARY="$folder/libx509.so" PYTHONPATH="$top/bindings/python/src" python3 -B "$gate/try_pkits.py" || failed=1
     python3 -B "$robustness/hostile_sizes.py" --rows "$folder"
     wants "C, each allocation refused of wide and deep values" 0 "$folder/calls.txt" "$folder/refuse_memory" "${files[@]}" "$folder/rows" "$folder/answers"
 fi

@@ -1,0 +1,148 @@
+#!/usr/bin/env python3
+"""Asks `validate_path` of the package for Python about NIST's path validation tests (PKITS, in the public domain), compares its answers with what they
+are to be, and prints for each section how many are right. Signatures are verified by `cryptography`; where that isn't installed, all are taken for good.
+
+tools/data/pkits.json.gz has the anchor and, of each case, the path (topmost first), whether it is valid (`want` is 0, and else the number of what
+`openssl verify` says of it). Revocation isn't asked: a case whose only fault is a CRL's has to be valid. The cases on policies (4.8 to 4.12) are left out.
+"""
+import argparse
+import collections
+import datetime
+import gzip
+import json
+import pathlib
+import sys
+
+try:
+    from cryptography.exceptions import InvalidSignature, UnsupportedAlgorithm
+    from cryptography.hazmat.primitives import hashes, serialization
+    from cryptography.hazmat.primitives.asymmetric import dsa, padding, rsa
+except ImportError:  # signatures are left out then
+    hashes = None
+
+sys.path.insert(0, str(pathlib.Path(__file__).resolve().parents[1] / "common"))
+import der
+from x509_cert import (
+    AlgorithmIdentifier,
+    KeyKind,
+    PathFault,
+    PublicKey,
+    SignatureKind,
+    load_der_x509_certificate,
+    validate_path,
+)
+
+CASES = pathlib.Path(__file__).resolve().parents[1] / "data" / "pkits.json.gz"
+MOMENT = datetime.datetime(2020, 1, 1, tzinfo=datetime.timezone.utc)
+
+# What `openssl verify` says of CRLs (X509_V_ERR_..): there is none, its signature, it has expired, revoked, its signer has no cRLSign, a critical
+# extension, its scope, the path of its signer.
+OF_CRLS = {3, 8, 12, 23, 35, 36, 44, 54}
+
+# That a signature is bad.
+OF_SIGNATURES = {7}
+
+# Valid for NIST, and refused here: a date of 1950, as the library's times begin with 1970.
+REFUSED = {"4.2.3"}
+
+# Policies aren't looked at.
+OF_POLICIES = {"4.8", "4.9", "4.10", "4.11", "4.12"}
+
+HASHES = {
+    SignatureKind.rsa_sha1: "SHA1",
+    SignatureKind.rsa_sha256: "SHA256",
+    SignatureKind.dsa_sha1: "SHA1",
+    SignatureKind.dsa_sha256: "SHA256",
+}
+
+
+class Verifier:
+    """Verifies the signatures of one path, topmost first: a DSA key without parameters has those of the key above it (RFC 5280 6.1.4 (f))."""
+
+    def __init__(self):
+        self.parameters = None
+
+    def key(self, data):
+        key = PublicKey(data)
+        if key.kind is KeyKind.dsa and key.parameters is None and self.parameters is not None:
+            data = der.sequence(der.sequence(der.object_identifier(1, 2, 840, 10040, 4, 1), self.parameters), der.bit_string(key.bits))
+        elif key.kind is KeyKind.dsa:
+            self.parameters = key.parameters
+        return serialization.load_der_public_key(data)
+
+    def __call__(self, key, algorithm, message, signature):
+        name = HASHES.get(AlgorithmIdentifier(algorithm).kind)
+        if name is None:
+            return False
+        digest = getattr(hashes, name)
+        try:
+            public = self.key(key)
+            if isinstance(public, rsa.RSAPublicKey):
+                public.verify(signature, message, padding.PKCS1v15(), digest())
+            elif isinstance(public, dsa.DSAPublicKey):
+                public.verify(signature, message, digest())
+            else:
+                return False
+        except (InvalidSignature, UnsupportedAlgorithm, ValueError):
+            return False
+        return True
+
+
+def accept_all(_key, _algorithm, _message, _signature):
+    return True
+
+
+def fault_of(anchor, case):
+    """What is wrong with the path, or nothing."""
+    path = [bytes.fromhex(it) for it in case["path"]]
+    try:
+        validate_path(anchor, path, MOMENT, Verifier() if hashes else accept_all)
+    except PathFault as fault:
+        return str(fault)
+    return None
+
+
+def section(case):
+    """Such as "4.13" of "4.13.2"."""
+    return ".".join(case["number"].split(".")[:2])
+
+
+def told(case, fault):
+    """What is wrong with the answer, or nothing."""
+    is_valid = case["want"] == 0 or case["want"] in (OF_CRLS if hashes else OF_CRLS | OF_SIGNATURES)
+    is_accepted = fault is None
+    if is_accepted == (is_valid and case["number"] not in REFUSED):
+        return None
+    return f"{case['number']} {case['title']}: {fault or 'accepted'}"
+
+
+def ask(cases):
+    anchor = load_der_x509_certificate(bytes.fromhex(cases["anchor"]))
+    right, every, wrong = collections.Counter(), collections.Counter(), []
+    for case in cases["cases"]:
+        if section(case) in OF_POLICIES:
+            continue
+        fault = told(case, fault_of(anchor, case))
+        every[section(case)] += 1
+        if fault:
+            wrong.append(fault)
+        elif case["number"] not in REFUSED:
+            right[section(case)] += 1
+    if hashes is None:
+        print("left out, since Python's cryptography isn't installed: the signatures of PKITS")
+    for name, count in every.items():
+        print(f"PKITS {name}: {right[name]} of {count}")
+    for fault in wrong:
+        print("failed: PKITS,", fault)
+    print(f"{'failed' if wrong else 'passed'}: PKITS, {sum(right.values())} of {sum(every.values())} paths are judged as NIST says, where no CRL decides")
+    return int(bool(wrong))
+
+
+def main():
+    argparse.ArgumentParser(description=__doc__, formatter_class=argparse.RawDescriptionHelpFormatter).parse_args()
+    with gzip.open(CASES, "rt", encoding="ascii") as file:
+        return ask(json.load(file))
+
+
+if __name__ == "__main__":
+    sys.exit(main())
