@@ -17,3 +17,12 @@ pub mod Values
 pub mod Initials
 pub mod Unusable
 pub mod OneValidation
+pub mod Sequences
+pub mod PolicyPaths
+pub mod Refusals
+pub mod PolicyOctets
+pub mod Founds
+pub mod OneSaid
+pub mod Merges
+pub mod PolicySteps
+pub mod Starts

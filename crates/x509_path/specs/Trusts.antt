@@ -1,6 +1,6 @@
 -- What is trusted of a certificate, and of a trust anchor (RFC 5937 2, RFC 5914 2.5).
 use Rattle.std.specs.Borrow.{Bor}
-use Rattle.std.specs.Prelude.{◌≡◌, ℕ, List, [], Option, Some, None, option_map}
+use Rattle.std.specs.Prelude.{◌≡◌, ℕ, false, List, [], Option, Some, None, option_map}
 use Rattle.x509_cert.specs.base.declared.profile.Rfc5280.{Rfc5280}
 use Rattle.x509_cert.specs.declared.certificate.tbs_certificate.TbsCertificateInner.{TbsCertificateInner}
 use Rattle.x509_cert.specs.der.Form.{Form, Spells}
@@ -82,6 +82,8 @@ pub record HoldsTrust (trusted : TrustedBuf) (trust : Trust) : Type 0 where
   pub key : Spells subject_public_key_info trust.anchor.key trusted.key.items
   pub constraints : HoldsConstraints (option_map (λ octets. octets.items) trusted.name_constraints) trust.constraints
   pub max_path_length : trust.max_path_length ≡ trusted.max_path_length
+  pub policies : trust.policies ≡ None
+  pub flags : trust.flags ≡ record { inhibit_policy_mapping = false; require_explicit_policy = false; inhibit_any_policy = false }
 
 -- ---- tools of the proofs
 

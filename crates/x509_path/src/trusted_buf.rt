@@ -13,7 +13,7 @@ ghost use Rattle.x509_path.specs.Inputs.{Trust};
 ghost use Rattle.x509_path.specs.Trusts.{AreLimits, AreOwnLimits, HasLimit, HasNoLimit, HoldsConstraints, HoldsTrust, IsTrustOf, IsTrustOfInfo, IsValueOf, or_else};
 
 use crate::anchor_ref::AnchorRef;
-use crate::trusted::{Trusted, length_of};
+use crate::trusted::{NO_FLAGS, Trusted, length_of};
 use std::alloc::Global;
 use x509_cert::anchor::{TrustAnchorChoice, TrustAnchorInfo};
 use x509_cert::certificate::TbsCertificate;
@@ -234,6 +234,8 @@ impl TrustedBuf {
             },
             name_constraints: self.name_constraints.as_deref(),
             max_path_length: self.max_path_length,
+            policies: None,
+            policy_flags: NO_FLAGS,
         }
     }
 }
