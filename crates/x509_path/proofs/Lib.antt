@@ -17,3 +17,4 @@ pub mod Values
 pub mod Initials
 pub mod Unusable
 pub mod OneValidation
+pub mod VerifiedApart
