@@ -18,3 +18,5 @@ pub mod Initials
 pub mod Unusable
 pub mod OneValidation
 pub mod VerifiedApart
+pub mod Refusals
+pub mod AnchorLengths
