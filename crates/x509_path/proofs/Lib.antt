@@ -19,10 +19,13 @@ pub mod Unusable
 pub mod OneValidation
 pub mod Sequences
 pub mod PolicyPaths
-pub mod Refusals
+pub mod PolicyRefusals
 pub mod PolicyOctets
 pub mod Founds
 pub mod OneSaid
 pub mod Merges
 pub mod PolicySteps
 pub mod Starts
+pub mod VerifiedApart
+pub mod Refusals
+pub mod AnchorLengths

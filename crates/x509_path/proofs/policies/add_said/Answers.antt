@@ -2,7 +2,7 @@ use Rattle.std.proofs.Common.{◌++◌, ◌∷◌, [], refl, subst, sym}
 use Rattle.std.specs.Option.{option_map}
 use Rattle.x509_path.specs.Policies.{IsRefused}
 use Rattle.x509_path.specs.Steps.{StopsAt, said_by}
-use Rattle.x509_path.proofs.Refusals.{refused_on}
+use Rattle.x509_path.proofs.PolicyRefusals.{refused_on}
 use Rattle.x509_policy.specs.Follows.{Follows, IsAnswered, reason_of}
 use Rattle.x509_policy.specs.Views.{certificate_of}
 use Rattle.x509_path.proofs.policies.add_said.Goals as goal

@@ -1,7 +1,7 @@
 use Rattle.std.proofs.Common.{◌++◌, ◌∷◌, [], suc, length, refl, subst, sym}
 use Rattle.x509_path.specs.Policies.{IsRefused}
 use Rattle.x509_path.specs.Steps.{StopsAt, said_by}
-use Rattle.x509_path.proofs.Refusals.{refused_last}
+use Rattle.x509_path.proofs.PolicyRefusals.{refused_last}
 use Rattle.x509_policy.specs.Follows.{IsOutcome, outcome_of, reason_of}
 use Rattle.x509_policy.specs.Views.{certificate_of}
 use Rattle.x509_path.proofs.policies.end_said.Goals as goal
