@@ -109,8 +109,8 @@ impl<'a> Trusted<'a> {
     }
 
     /// What a certificate gives that is trusted (RFC 5937 2): its subject and its public key, the constraints of its
-    /// NameConstraints, and the path length of its BasicConstraints. The caller trusts it: nothing else of it is checked. It
-    /// takes no memory.
+    /// NameConstraints, and the path length of its BasicConstraints; no policies and no flags about these, which are the
+    /// caller's to set. The caller trusts it: nothing else of it is checked. It takes no memory.
     ///
     /// # Errors
     ///

@@ -282,12 +282,12 @@ impl TrustedBuf {
     ghost use Rattle.x509_path.specs.Inputs.{LendsTrust, Trust};
     ghost use Rattle.x509_path.specs.Trusts.{HoldsTrust, IsNoAnchor, IsTrustOfAnchor, IsUntrusted, RefusesAnchor, RefusesTrust};
 
-    /// What a trust anchor gives that is trusted (RFC 5937 2, RFC 5914 2.5). Of a certificate, or of a TBSCertificate: its
-    /// subject and its public key, the constraints of its NameConstraints, and the path length of its BasicConstraints. Of
-    /// a description: the name, the constraints and the path length of its `certPath`, and its public key; where those
-    /// constraints or that path length are absent, what the extensions of its certificate give, if it has one. That
-    /// certificate has to be of the anchor: its subject is the name, its public key the key, and its key identifier, if it
-    /// has one, `keyId`; each is compared as a value, so that encodings are equal.
+    /// What a trust anchor gives that is trusted (RFC 5937 2, RFC 5914 2.5), its policies and the flags about these apart. Of
+    /// a certificate, or of a TBSCertificate: its subject and its public key, the constraints of its NameConstraints, and the
+    /// path length of its BasicConstraints. Of a description: the name, the constraints and the path length of its
+    /// `certPath`, and its public key; where those constraints or that path length are absent, what the extensions of its
+    /// certificate give, if it has one. That certificate has to be of the anchor: its subject is the name, its public key the
+    /// key, and its key identifier, if it has one, `keyId`; each is compared as a value, so that encodings are equal.
     ///
     /// # Errors
     ///
