@@ -1,7 +1,7 @@
 -- What a call leaves that validates a path of certificates apart from their signatures (RFC 5280 6.1).
 use Rattle.std.specs.Int.{to_le_bytes, w64}
 use Rattle.std.specs.List.{All}
-use Rattle.std.specs.Prelude.{◌≡◌, ◌≢◌, ◌<◌, ◌⊎◌, ℕ, List, [], ◌∷◌, ◌++◌, Option, Some, None}
+use Rattle.std.specs.Prelude.{◌≡◌, ◌≢◌, ◌<◌, ◌⊎◌, ℕ, false, List, [], ◌∷◌, ◌++◌, Option, Some, None}
 use Rattle.x509_base.specs.CivilTime.{CivilTime, IsDateTime, last_date_time, unix_seconds}
 use Rattle.x509_base.specs.SubjectPublicKeyInfo.{subject_public_key_info}
 use Rattle.x509_base.specs.declared.profile.Rfc5280.{Rfc5280}
@@ -27,7 +27,9 @@ use Rattle.x509_path.specs.Trusts.{IsTrustOf, IsTrustOfAnchor}
 use Rattle.x509_path.specs.Validation.{AreUnusable, IsFirstFault, PathIsValid}
 use Rattle.x509_path.specs.declared.anchor.Anchor.{Anchor}
 use Rattle.x509_path.specs.declared.validation_fault.ValidationReason.{ValidationReason}
-use Rattle.x509_path.specs.declared.validation_fault.ValidationReason.TheVariants.{Decode, Algorithm, Issuer, Moment, Signature, Repeated, Critical, Extension, NotCa, KeyUsage, PathLen, Names, Constraints}
+use Rattle.x509_path.specs.declared.validation_fault.ValidationReason.TheVariants.{Decode, Algorithm, Issuer, Moment, Signature, Repeated, Critical, Extension, NotCa, KeyUsage, PathLen, Names, Constraints, RepeatedPolicy, Policy, PolicyMapping}
+use Rattle.x509_policy.specs.Values.{Settings, any_policy}
+use Rattle.x509_policy.specs.declared.anchor.AnchorFlags.{AnchorFlags}
 use Rattle.x509_types.specs.Reencoding.{IsRefused}
 
 -- the number of a reason: that of Paths.antt, and further ones behind these
@@ -45,6 +47,9 @@ validation_code PathLen = 10
 validation_code Extension = 11
 validation_code Names = 12
 validation_code Constraints = 13
+validation_code RepeatedPolicy = 14
+validation_code Policy = 15
+validation_code PolicyMapping = 16
 
 -- ---- what is asked
 
@@ -67,11 +72,21 @@ abbrev pub AreConstraints : List ℕ → Option NameConstraints → Type 0
 AreConstraints octets None = octets ≡ []
 AreConstraints octets (Some constraints) = Spells name_constraints constraints octets
 
+-- any policies, or none
+abbrev pub any_policies : Settings
+any_policies = record {
+  user_initial_policy_set = any_policy ∷ [];
+  initial_policy_mapping_inhibit = false;
+  initial_explicit_policy = false;
+  initial_any_policy_inhibit = false;
+}
+
 -- what the question asks of a path under what is trusted
 pub record Asks (question : PathQuestion) (trusted : Trust) (inputs : Inputs) (path : List (List ℕ)) : Type 0 where
   pub trust : inputs.trust ≡ trusted
   pub moment : HasMoment question.settings.now inputs.moment
   pub constraints : AreConstraints question.name_constraints.now inputs.constraints
+  pub asked : inputs.asked ≡ any_policies
   pub cut : AreCut question.path.now question.lens.now path
 
 -- why nothing is asked. refuses are the errors of a NameConstraints's own in reading.
@@ -135,6 +150,9 @@ ValidatesUnderCertificate certificates constraints anchor question was is status
     ((c : Certificate) × (trust : Trust) × Spells rfc5280_certificate c anchor × IsTrustOf c.tbs_certificate trust × Validates constraints question trust was is status)
     ⊎ ((e : ErrorKind) × (status ≡ statuses.Refused e) × (is ≡ was) × IsUntrusted certificates anchor e)
 
+abbrev pub no_flags : AnchorFlags
+no_flags = record { inhibit_policy_mapping = false; require_explicit_policy = false; inhibit_any_policy = false }
+
 -- the name or the key is refused
 abbrev pub IsNoAnchor : (ErrorKind → Type 0) → (ErrorKind → Type 0) → List ℕ → List ℕ → ErrorKind → Type 0
 IsNoAnchor names keys anchor_name key e = IsRefused name names anchor_name e ⊎ IsRefused subject_public_key_info keys key e
@@ -143,7 +161,7 @@ IsNoAnchor names keys anchor_name key e = IsRefused name names anchor_name e ⊎
 unfoldable pub ValidatesUnderKey : (ErrorKind → Type 0) → (ErrorKind → Type 0) → (ErrorKind → Type 0) → List ℕ → List ℕ → PathQuestion → PathAnswer → PathAnswer → Status → Type 0
 ValidatesUnderKey names keys constraints anchor_name key question was is status =
     ((anchor : Anchor) × Spells name anchor.name anchor_name × Spells subject_public_key_info anchor.key key
-    × Validates constraints question (record { anchor = anchor; constraints = None; max_path_length = None }) was is status)
+    × Validates constraints question (record { anchor = anchor; constraints = None; max_path_length = None; policies = None; flags = no_flags }) was is status)
     ⊎ ((e : ErrorKind) × (status ≡ statuses.Refused e) × (is ≡ was) × IsNoAnchor names keys anchor_name key e)
 
 -- what a call leaves that is asked it under a trust anchor. Why an anchor is refused isn't said.

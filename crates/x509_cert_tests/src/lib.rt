@@ -30,4 +30,6 @@ mod requests;
 #[cfg(test)]
 mod slices;
 #[cfg(test)]
+mod trust_anchors;
+#[cfg(test)]
 mod validations;

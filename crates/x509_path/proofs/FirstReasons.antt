@@ -1,11 +1,17 @@
 -- The first of the reasons that hold against a certificate of a path that is validated.
-use Rattle.std.proofs.Common.{◌≡◌, ◌∙◌, ℕ, suc, ◌<◌, List, [], ◌∷◌, ◌++◌, length, take, drop, get_or, refl, sym, ap, arith}
-use Rattle.std.proofs.lemmas.List.Elements.{All-nil, All-cons, All-head, All-tail}
+use Rattle.std.proofs.Common.{◌≡◌, ◌∙◌, ℕ, suc, ◌<◌, List, [], ◌∷◌, ◌++◌, length, take, drop, get_or, refl, sym, ap, append_assoc, arith}
+use Rattle.std.proofs.lemmas.List.Elements.{All-append, All-nil, All-cons, All-head, All-tail}
 use Rattle.std.specs.List.{All}
 use Rattle.x509_path.proofs.Firsts.{parts_at}
-use Rattle.x509_path.specs.Validation.{IsFirst, reasons}
+use Rattle.x509_path.specs.Steps.{reason_for}
+use Rattle.x509_path.specs.Validation.{IsFirst, own_reasons, reasons}
 use Rattle.x509_path.specs.declared.validation_fault.ValidationReason.{ValidationReason}
-use Rattle.x509_path.specs.declared.validation_fault.ValidationReason.TheVariants.{Decode, Algorithm, Issuer, Moment, Signature, Repeated, Critical, Extension, NotCa, KeyUsage, PathLen, Names, Constraints}
+use Rattle.x509_path.specs.declared.validation_fault.ValidationReason.TheVariants.{Decode, Algorithm, Issuer, Moment, Signature, Repeated, Critical, Extension, NotCa, KeyUsage, PathLen, Names, Constraints, RepeatedPolicy, Policy, PolicyMapping}
+use Rattle.x509_policy.specs.Path as refusals
+use Rattle.x509_policy.specs.Path.{Reason}
+
+abbrev policy_reasons : List ValidationReason
+policy_reasons = RepeatedPolicy ∷ Policy ∷ PolicyMapping ∷ []
 
 module _ (P : ValidationReason → Type 0) where
   abbrev pub Free : List ValidationReason → Type 0
@@ -15,30 +21,63 @@ module _ (P : ValidationReason → Type 0) where
   decode_first has = record { earlier = []; later = reasons; order = refl; has = has; none_earlier = All-nil (λ r. P r → ⊥) }
 
   -- the one at a place behind Decode, where none before it holds
-  pub first_at : (i : ℕ) (d : ValidationReason) → i < length reasons → (P Decode → ⊥) → Free (take i reasons) → P (get_or reasons i d) → IsFirst P (get_or reasons i d)
+  pub first_at : (i : ℕ) (d : ValidationReason) → i < length own_reasons → (P Decode → ⊥) → Free (take i own_reasons) → P (get_or own_reasons i d) → IsFirst P (get_or own_reasons i d)
   first_at i d less readable free has = record {
-    earlier = Decode ∷ take i reasons;
-    later = drop (suc i) reasons;
-    order = ap (λ rs. Decode ∷ rs) (parts_at reasons i d less);
+    earlier = Decode ∷ take i own_reasons;
+    later = drop (suc i) own_reasons ++ policy_reasons;
+    order = ap (λ rs. Decode ∷ rs) (ap (λ rs. rs ++ policy_reasons) (parts_at own_reasons i d less) ∙ append_assoc (take i own_reasons) (get_or own_reasons i d ∷ drop (suc i) own_reasons) policy_reasons);
     has = has;
-    none_earlier = All-cons (λ r. P r → ⊥) Decode (take i reasons) readable free;
+    none_earlier = All-cons (λ r. P r → ⊥) Decode (take i own_reasons) readable free;
   }
 
-  -- the list has all reasons but Decode
-  pub none : (P Decode → ⊥) → Free reasons → (r : ValidationReason) → P r → ⊥
-  none readable free Decode = readable
-  none readable free Algorithm = free 0 Decode (omega arith)
-  none readable free Issuer = free 1 Decode (omega arith)
-  none readable free Moment = free 2 Decode (omega arith)
-  none readable free Signature = free 3 Decode (omega arith)
-  none readable free Repeated = free 4 Decode (omega arith)
-  none readable free Critical = free 5 Decode (omega arith)
-  none readable free Extension = free 6 Decode (omega arith)
-  none readable free NotCa = free 7 Decode (omega arith)
-  none readable free KeyUsage = free 8 Decode (omega arith)
-  none readable free PathLen = free 9 Decode (omega arith)
-  none readable free Names = free 10 Decode (omega arith)
-  none readable free Constraints = free 11 Decode (omega arith)
+  -- one of policies, where none of the others holds
+  module _ (readable : P Decode → ⊥) (free : Free own_reasons) where
+    before : (rs : List ValidationReason) → Free rs → Free (Decode ∷ own_reasons ++ rs)
+    before rs more = All-cons (λ r. P r → ⊥) Decode (own_reasons ++ rs) readable (All-append (λ r. P r → ⊥) own_reasons rs free more)
+
+    pub first_policy : (q : Reason) → P (reason_for q) → ((o : Reason) → P (reason_for o) → q ≡ o) → IsFirst P (reason_for q)
+    first_policy refusals.RepeatedPolicy has alone = record {
+      earlier = Decode ∷ own_reasons;
+      later = Policy ∷ PolicyMapping ∷ [];
+      order = refl;
+      has = has;
+      none_earlier = All-cons (λ r. P r → ⊥) Decode own_reasons readable free;
+    }
+    first_policy refusals.NoPolicy has alone = record {
+      earlier = Decode ∷ own_reasons ++ RepeatedPolicy ∷ [];
+      later = PolicyMapping ∷ [];
+      order = refl;
+      has = has;
+      none_earlier = before (RepeatedPolicy ∷ []) (All-cons (λ r. P r → ⊥) RepeatedPolicy [] (λ h. let e = alone refusals.RepeatedPolicy h in cc) (All-nil (λ r. P r → ⊥)));
+    }
+    first_policy refusals.MapsAnyPolicy has alone = record {
+      earlier = Decode ∷ own_reasons ++ RepeatedPolicy ∷ Policy ∷ [];
+      later = [];
+      order = refl;
+      has = has;
+      none_earlier = before (RepeatedPolicy ∷ Policy ∷ [])
+          (All-cons (λ r. P r → ⊥) RepeatedPolicy (Policy ∷ []) (λ h. let e = alone refusals.RepeatedPolicy h in cc)
+          (All-cons (λ r. P r → ⊥) Policy [] (λ h. let e = alone refusals.NoPolicy h in cc) (All-nil (λ r. P r → ⊥))));
+    }
+
+  -- these are all reasons but Decode
+  pub none : (P Decode → ⊥) → Free own_reasons → ((q : Reason) → P (reason_for q) → ⊥) → (r : ValidationReason) → P r → ⊥
+  none readable free policies Decode = readable
+  none readable free policies Algorithm = free 0 Decode (omega arith)
+  none readable free policies Issuer = free 1 Decode (omega arith)
+  none readable free policies Moment = free 2 Decode (omega arith)
+  none readable free policies Signature = free 3 Decode (omega arith)
+  none readable free policies Repeated = free 4 Decode (omega arith)
+  none readable free policies Critical = free 5 Decode (omega arith)
+  none readable free policies Extension = free 6 Decode (omega arith)
+  none readable free policies NotCa = free 7 Decode (omega arith)
+  none readable free policies KeyUsage = free 8 Decode (omega arith)
+  none readable free policies PathLen = free 9 Decode (omega arith)
+  none readable free policies Names = free 10 Decode (omega arith)
+  none readable free policies Constraints = free 11 Decode (omega arith)
+  none readable free policies RepeatedPolicy = policies refusals.RepeatedPolicy
+  none readable free policies Policy = policies refusals.NoPolicy
+  none readable free policies PolicyMapping = policies refusals.MapsAnyPolicy
 
   one_split : (xs ys zs ws : List ValidationReason) (r s : ValidationReason) → xs ++ r ∷ ys ≡ zs ++ s ∷ ws → Free xs → Free zs → P r → P s → r ≡ s
   one_split [] ys [] ws r s same f g p q = cc

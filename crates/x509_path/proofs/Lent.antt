@@ -48,7 +48,7 @@ one_test false false h k = refl
 
 -- ---- the parts of a certificate
 
-content_within : (tag : ℕ) (x : List ℕ) → length x ≤ length (element tag x)
+pub content_within : (tag : ℕ) (x : List ℕ) → length x ≤ length (element tag x)
 unfolding element
 content_within tag x = grind (arith, length-append)
 

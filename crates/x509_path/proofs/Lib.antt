@@ -17,3 +17,15 @@ pub mod Values
 pub mod Initials
 pub mod Unusable
 pub mod OneValidation
+pub mod Sequences
+pub mod PolicyPaths
+pub mod PolicyRefusals
+pub mod PolicyOctets
+pub mod Founds
+pub mod OneSaid
+pub mod Merges
+pub mod PolicySteps
+pub mod Starts
+pub mod VerifiedApart
+pub mod Refusals
+pub mod AnchorLengths

@@ -1,5 +1,5 @@
 -- What a look-up of the value of one extension says.
-use Rattle.std.proofs.Common.{◌≡◌, Bool, List, [], ◌∷◌, Option, Some, None, Ok, refl, subst}
+use Rattle.std.proofs.Common.{◌≡◌, Bool, List, [], ◌∷◌, Option, Some, None, Ok, refl, sym, subst}
 use Rattle.x509_cert.specs.der.Form.{Form, Spells}
 use Rattle.x509_cert.specs.der.declared.error.ErrorKind.{ErrorKind}
 use Rattle.x509_cert.specs.ext.LookUp.{Finds}
@@ -18,3 +18,12 @@ module _ {T : Type 0} (form : Form T) (refuses : ErrorKind → Type 0) (wants : 
 
   pub value_of : (es : List Extension) (answer : Option (Bool × T)) (found : Bool × T) → answer ≡ Some found → Finds form refuses wants es (Ok answer) → (e : Extension) × (es ≡ e ∷ []) × Spells form found.1 e.extn_value
   value_of es answer found is h = one_value es found (subst (λ a. Finds form refuses wants es (Ok a)) is h)
+
+  only_value : (es : List Extension) (found : Bool × T) (value : T) → Finds form refuses wants es (Ok (Some found)) → (e : Extension) → es ≡ e ∷ [] → Spells form value e.extn_value → found.1 ≡ value
+  only_value [] found value h e is spells = absurd (cc)
+  only_value (x ∷ []) found value h e is spells = let same : x ≡ e = cc in h.1.value value (subst (λ y. Spells form value y.extn_value) (sym same) spells)
+  only_value (x ∷ y ∷ es) found value h e is spells = absurd h
+
+  -- the value that is found is the one that is there
+  pub same_value : (es : List Extension) (answer : Option (Bool × T)) (found : Bool × T) (value : T) → answer ≡ Some found → Finds form refuses wants es (Ok answer) → (e : Extension) → es ≡ e ∷ [] → Spells form value e.extn_value → found.1 ≡ value
+  same_value es answer found value is h = only_value es found value (subst (λ a. Finds form refuses wants es (Ok a)) is h)

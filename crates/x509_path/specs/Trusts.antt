@@ -1,13 +1,21 @@
 -- What is trusted of a certificate, and of a trust anchor (RFC 5937 2, RFC 5914 2.5).
 use Rattle.std.specs.Borrow.{Bor}
-use Rattle.std.specs.Prelude.{◌≡◌, ℕ, List, [], Option, Some, None, option_map}
+use Rattle.std.specs.Prelude.{◌≡◌, ◌<◌, ◌≤◌, ◌⊎◌, ℕ, false, List, [], ◌∷◌, length, Option, Some, None, option_map}
+use Rattle.x509_cert.specs.TrustAnchorChoice.{rfc5280_trust_anchor_choice}
+use Rattle.x509_cert.specs.base.Checked.{CheckRefuses}
+use Rattle.x509_cert.specs.base.Profiles.{rfc5280_serial_number}
 use Rattle.x509_cert.specs.base.declared.profile.Rfc5280.{Rfc5280}
 use Rattle.x509_cert.specs.declared.certificate.tbs_certificate.TbsCertificateInner.{TbsCertificateInner}
-use Rattle.x509_cert.specs.der.Form.{Form, Spells}
+use Rattle.x509_cert.specs.der.Element.{limit}
+use Rattle.x509_cert.specs.der.Form.{Form, Spells, spelling, whole_reading}
+use Rattle.x509_cert.specs.der.Outcome.{IsRefusal}
+use Rattle.x509_cert.specs.der.declared.error.ErrorKind.{ErrorKind}
+use Rattle.x509_cert.specs.der.declared.error.ErrorKind.TheVariants.{Failed, Malformed, Memory, Overlength}
 use Rattle.x509_cert.specs.ext.BasicConstraints.{basic_constraints}
 use Rattle.x509_cert.specs.ext.Identifiers.{id_ce}
 use Rattle.x509_cert.specs.ext.LookUp.{members, with_oid}
 use Rattle.x509_cert.specs.ext.NameConstraints.{name_constraints}
+use Rattle.x509_cert.specs.ext.SubjectKeyIdentifier.{subject_key_identifier}
 use Rattle.x509_cert.specs.ext.declared.extension.Extension.{Extension}
 use Rattle.x509_cert.specs.ext.declared.pkix.basic_constraints.BasicConstraints.{BasicConstraints}
 use Rattle.x509_cert.specs.ext.declared.pkix.name_constraints.NameConstraints.{NameConstraints}
@@ -17,8 +25,9 @@ use Rattle.x509_cert.specs.declared.anchor.trust_anchor_choice.TrustAnchorChoice
 use Rattle.x509_cert.specs.declared.anchor.trust_anchor_info.TrustAnchorInfo.{TrustAnchorInfo}
 use Rattle.x509_cert.specs.base.SubjectPublicKeyInfo.{subject_public_key_info}
 use Rattle.x509_cert.specs.name.Names.{name}
+use Rattle.x509_cert.specs.name.declared.attr.type_and_value.AttributeTypeAndValue.{AttributeTypeAndValue}
 use Rattle.x509_path.specs.declared.trusted_buf.TrustedBuf.{TrustedBuf}
-use Rattle.x509_path.specs.Certificates.{Certificate, HasPayload}
+use Rattle.x509_path.specs.Certificates.{Certificate, HasPayload, extensions_of}
 use Rattle.x509_path.specs.Inputs.{LendsConstraints, Trust}
 
 -- the value of the one extension with the identifier, where there is any
@@ -49,17 +58,33 @@ abbrev pub AreOwnLimits : Option Certificate → Option NameConstraints → Opti
 AreOwnLimits None constraints length = (constraints ≡ None) × (length ≡ None)
 AreOwnLimits (Some c) constraints length = AreLimits (members c.tbs_certificate.extensions) constraints length
 
+-- the key identifier that the extensions give is this one, if they give any (RFC 5280 4.2.1.2)
+abbrev pub HasKeyId : List Extension → List ℕ → Type 0
+HasKeyId extensions key_id = (with_oid (id_ce 14) extensions ≡ []) ⊎ HasPayload subject_key_identifier (id_ce 14) extensions (record { 0 = key_id })
+
+-- the certificate is of the description: it has this name, the key and, if it has any, the key identifier (RFC 5914 2.5)
+pub record IsCertificateOf (info : TrustAnchorInfo Rfc5280) (ta_name : List (List AttributeTypeAndValue)) (signed : TbsCertificateInner Rfc5280) : Type 0 where
+  pub subject : signed.subject ≡ ta_name
+  pub key : signed.subject_public_key_info ≡ info.pub_key
+  pub key_id : HasKeyId (members signed.extensions) info.key_id
+
+-- so is the certificate in the description, if there is one
+abbrev pub HasItsCertificate : TrustAnchorInfo Rfc5280 → CertPathControls Rfc5280 → Option Certificate → Type 0
+HasItsCertificate info controls None = Unit {0}
+HasItsCertificate info controls (Some c) = IsCertificateOf info controls.ta_name c.tbs_certificate
+
 abbrev pub or_else : {X : Type 0} → Option X → Option X → Option X
 or_else None other = other
 or_else (Some x) other = Some x
 
 -- a description is trusted: under the name of its controls, with its key, for the paths that its controls allow; limits that these don't have are
--- those of the certificate in them
+-- those of the certificate in them, which has to be of this anchor
 pub record IsTrustOfInfo (info : TrustAnchorInfo Rfc5280) (trust : Trust) : Type 0 where
   pub controls : CertPathControls Rfc5280
   pub constraints : Option NameConstraints
   pub length : Option ℕ
   pub has_controls : info.cert_path ≡ Some controls
+  pub certificate : HasItsCertificate info controls controls.certificate
   pub own : AreOwnLimits controls.certificate constraints length
   pub anchor : trust.anchor ≡ record { name = controls.ta_name; key = info.pub_key }
   pub are_constraints : trust.constraints ≡ or_else controls.name_constr constraints
@@ -82,8 +107,85 @@ pub record HoldsTrust (trusted : TrustedBuf) (trust : Trust) : Type 0 where
   pub key : Spells subject_public_key_info trust.anchor.key trusted.key.items
   pub constraints : HoldsConstraints (option_map (λ octets. octets.items) trusted.name_constraints) trust.constraints
   pub max_path_length : trust.max_path_length ≡ trusted.max_path_length
+  pub policies : trust.policies ≡ None
+  pub flags : trust.flags ≡ record { inhibit_policy_mapping = false; require_explicit_policy = false; inhibit_any_policy = false }
+
+-- ---- refusals
+
+-- the name, the key or the constraints are longer than an element may be
+abbrev pub IsOverlong : Trust → Type 0
+IsOverlong trust =
+    (limit < length (spelling name trust.anchor.name))
+    ⊎ ((limit < length (spelling subject_public_key_info trust.anchor.key))
+    ⊎ ((constraints : NameConstraints) × (trust.constraints ≡ Some constraints) × (limit < length (spelling name_constraints constraints))))
+
+-- The bytes are refused as those of no value: they are too long; or they spell none, as Malformed or as a refusal of the type's own, and which of
+-- them says reading. refuses are the errors of the type's own in reading.
+abbrev pub IsRefused : {X : Type 0} → Form X → (ErrorKind → Type 0) → List ℕ → ErrorKind → Type 0
+IsRefused {X} form refuses bytes e =
+    ((limit < length bytes) × (e ≡ Overlength))
+    ⊎ ((length bytes ≤ limit) × ((e ≡ Malformed) ⊎ refuses e) × ((value : X) → Spells form value bytes → ⊥) × IsRefusal e (whole_reading form.reading bytes))
+
+-- the bytes are those of no trust anchor
+abbrev pub IsNoAnchor : List ℕ → ErrorKind → Type 0
+IsNoAnchor bytes e = IsRefused rfc5280_trust_anchor_choice (CheckRefuses rfc5280_serial_number) bytes e
+
+-- the one extension with the identifier gives no value: there are several, or its octets are refused
+abbrev pub RefusesValue : {X : Type 0} → Form X → List ℕ → List Extension → ErrorKind → Type 0
+RefusesValue form oid extensions e =
+    ((2 ≤ length (with_oid oid extensions)) × (e ≡ Failed))
+    ⊎ ((x : Extension) × (with_oid oid extensions ≡ x ∷ []) × IsRefused form (λ k. ⊥) x.extn_value e)
+
+-- one of the two extensions that limit paths gives no value
+abbrev pub RefusesLimits : List Extension → ErrorKind → Type 0
+RefusesLimits extensions e = RefusesValue name_constraints (id_ce 30) extensions e ⊎ RefusesValue basic_constraints (id_ce 19) extensions e
+
+-- the certificate in a description is of another anchor, or one of its extensions gives no value
+abbrev pub RefusesItsCertificate : TrustAnchorInfo Rfc5280 → CertPathControls Rfc5280 → Option Certificate → ErrorKind → Type 0
+RefusesItsCertificate info controls None e = ⊥
+RefusesItsCertificate info controls (Some c) e =
+    ((e ≡ Failed) × (IsCertificateOf info controls.ta_name c.tbs_certificate → ⊥))
+    ⊎ (RefusesValue subject_key_identifier (id_ce 14) (extensions_of c) e ⊎ RefusesLimits (extensions_of c) e)
+
+-- so of a description, or it has no name
+abbrev pub RefusesInfo : TrustAnchorInfo Rfc5280 → ErrorKind → Type 0
+RefusesInfo info e =
+    ((e ≡ Failed) × (info.cert_path ≡ None))
+    ⊎ ((controls : CertPathControls Rfc5280) × (info.cert_path ≡ Some controls) × RefusesItsCertificate info controls controls.certificate e)
+
+-- why nothing is trusted of an anchor
+abbrev pub RefusesAnchor : TrustAnchorChoice Rfc5280 → ErrorKind → Type 0
+RefusesAnchor (Whole c) e = RefusesLimits (extensions_of c) e
+RefusesAnchor (TbsCertificate signed) e = RefusesLimits (members signed.extensions) e
+RefusesAnchor (TaInfo info) e = RefusesInfo info e
+
+-- Why nothing is made of what is trusted: out of memory; or nothing is trusted, and refuses says why; or a part of what is trusted is too long, as
+-- none is of an anchor that was decoded.
+abbrev pub RefusesTrust : (Trust → Type 0) → (ErrorKind → Type 0) → ErrorKind → Type 0
+RefusesTrust is_trust refuses e =
+    (e ≡ Memory)
+    ⊎ ((((trust : Trust) → is_trust trust → ⊥) × refuses e) ⊎ ((e ≡ Overlength) × ((trust : Trust) × is_trust trust × IsOverlong trust)))
+
+-- the bytes are those of a trust anchor of which nothing is trusted
+abbrev pub IsUntrusted : List ℕ → ErrorKind → Type 0
+IsUntrusted bytes e =
+    (anchor : TrustAnchorChoice Rfc5280) × Spells rfc5280_trust_anchor_choice anchor bytes × ((trust : Trust) → IsTrustOfAnchor anchor trust → ⊥) × RefusesAnchor anchor e
 
 -- ---- tools of the proofs
+
+-- an encoding is refused: out of memory, or it would be longer than an element may be
+abbrev pub RefusesEncoding : {X : Type 0} → Form X → X → ErrorKind → Type 0
+RefusesEncoding form value e = (e ≡ Memory) ⊎ ((e ≡ Overlength) × (limit < length (spelling form value)))
+
+-- the same of an encoding that may be absent
+abbrev pub RefusesOption : {X : Type 0} → Form X → Option X → ErrorKind → Type 0
+RefusesOption form None e = ⊥
+RefusesOption form (Some value) e = RefusesEncoding form value e
+
+-- the limits that the certificate in a description gives are refused
+abbrev pub RefusesOwnLimits : Option Certificate → ErrorKind → Type 0
+RefusesOwnLimits None e = ⊥
+RefusesOwnLimits (Some c) e = RefusesLimits (extensions_of c) e
 
 abbrev pub LendsOwn : List Extension → Option (Bor (List ℕ)) → Type 0
 LendsOwn extensions lent = (constraints : Option NameConstraints) × IsValueOf name_constraints (id_ce 30) extensions constraints × LendsConstraints lent constraints

@@ -1,6 +1,6 @@
 -- Validation of paths, topmost certificate first (RFC 5280 6.1): which fault stands at which place, and what is answered. Names are compared
--- as they match (7.1), and name constraints hold.
-use Rattle.std.specs.Prelude.{◌≡◌, ◌≢◌, ◌<◌, ◌⊎◌, ◌↔◌, ℕ, zero, suc, Bool, true, false, List, [], ◌∷◌, ◌++◌, Option, Some, None, Contains, Result, Ok, Err}
+-- as they match (7.1), name constraints hold, and policies are followed.
+use Rattle.std.specs.Prelude.{◌≡◌, ◌≢◌, ◌<◌, ◌+◌, ◌⊎◌, ◌↔◌, ℕ, zero, suc, length, Bool, true, false, List, [], ◌∷◌, ◌++◌, Option, Some, None, Contains, Result, Ok, Err}
 use Rattle.std.specs.List.{All}
 use Rattle.x509_cert.specs.der.Form.{Form, Spells}
 use Rattle.x509_cert.specs.Certificate.{rfc5280_certificate}
@@ -24,19 +24,36 @@ use Rattle.x509_path.specs.Certificates as certificates
 use Rattle.x509_path.specs.Certificates.{Accepting, Certificate, HasPathLen, HasPayload, IsReadable, extensions_of}
 use Rattle.x509_path.specs.Inputs.{Inputs}
 use Rattle.x509_path.specs.Lent.{LendsAnchor}
-use Rattle.x509_path.specs.Path.{IsUnreadable, Standing, is_empty, subject_of}
+use Rattle.x509_path.specs.Path.{IsUnreadable, is_empty, subject_of}
+use Rattle.x509_path.specs.Policies.{AreRefused, AreSettings}
+use Rattle.x509_path.specs.Says.{Say}
 use Rattle.x509_path.specs.declared.anchor.Anchor.{Anchor}
 use Rattle.x509_path.specs.declared.validated.Validated.{Validated}
 use Rattle.x509_path.specs.declared.validation_fault.ValidationFault.{ValidationFault}
 use Rattle.x509_path.specs.declared.validation_fault.ValidationFault.TheVariants.{Memory, Empty, Initial, At}
 use Rattle.x509_path.specs.declared.validation_fault.ValidationReason.{ValidationReason}
-use Rattle.x509_path.specs.declared.validation_fault.ValidationReason.TheVariants.{Decode, Algorithm, Issuer, Moment, Signature, Repeated, Critical, Extension as Undecodable, NotCa, KeyUsage, PathLen, Names, Constraints}
+use Rattle.x509_path.specs.declared.validation_fault.ValidationReason.TheVariants.{Decode, Algorithm, Issuer, Moment, Signature, Repeated, Critical, Extension as Undecodable, NotCa, KeyUsage, PathLen, Names, Constraints, RepeatedPolicy, Policy as NoPolicy, PolicyMapping as MapsAnyPolicy}
+use Rattle.x509_policy.specs.Follows.{IsOutcome}
+use Rattle.x509_policy.specs.Path as refusals
+use Rattle.x509_policy.specs.Path.{Valid}
+use Rattle.x509_policy.specs.Values as policies
+use Rattle.x509_policy.specs.Values.{Policy, Settings}
+use Rattle.x509_policy.specs.Views.{octets_of}
 
 -- ---- extensions (RFC 5280 4.2)
 
 -- it is a NameConstraints that can be read, or one of those of Certificates.antt
+abbrev pub IsOfUse : Extension → Type 0
+IsOfUse e = certificates.IsKnown e ⊎ IsReadable name_constraints (id_ce 30) e
+
+-- it is one about policies that can be read
+abbrev pub IsAboutPolicies : Extension → Type 0
+IsAboutPolicies e =
+    IsReadable certificate_policies (id_ce 32) e ⊎ (IsReadable policy_mappings (id_ce 33) e
+    ⊎ (IsReadable policy_constraints (id_ce 36) e ⊎ IsReadable inhibit_any_policy (id_ce 54) e))
+
 abbrev pub IsProcessed : Extension → Type 0
-IsProcessed e = certificates.IsKnown e ⊎ IsReadable name_constraints (id_ce 30) e
+IsProcessed e = IsOfUse e ⊎ IsAboutPolicies e
 
 -- each critical extension is processed (6.1.4 (o), 6.1.5 (f))
 abbrev pub AreProcessed : List Extension → Type 0
@@ -123,6 +140,14 @@ HasUnusable c = (constraints : NameConstraints) × HasConstraints c constraints 
 
 -- ---- one certificate
 
+-- where a certificate stands: under which name and key, behind which certificates of the path, whether as the last, and in a path of how many
+-- certificates (n of RFC 5280 6.1)
+pub record Standing : Type 0 where
+  pub above : Anchor
+  pub before : List Certificate
+  pub is_last : Bool
+  pub n : ℕ
+
 -- What is wrong with a certificate of these bytes that stands there. The letters are those of RFC 5280 6.1.3 and 6.1.4.
 abbrev pub Breaks : Accepting → Inputs → Standing → List ℕ → Certificate → ValidationReason → Type 0
 Breaks accepts inputs standing bytes c Decode = ⊥
@@ -148,6 +173,12 @@ Breaks accepts inputs standing bytes c PathLen =
 Breaks accepts inputs standing bytes c Names = IsAsked standing.is_last c × (AreNamesAllowed inputs standing.before c → ⊥)
 -- 6.1.4 (g)
 Breaks accepts inputs standing bytes c Constraints = (standing.is_last ≡ false) × HasUnusable c
+-- 4.2.1.4
+Breaks accepts inputs standing bytes c RepeatedPolicy = AreRefused inputs standing.n standing.before c refusals.RepeatedPolicy
+-- 6.1.3 (d), (e), (f), 6.1.4 (b), (h), (i), (j), 6.1.5 (a), (b), (g)
+Breaks accepts inputs standing bytes c NoPolicy = AreRefused inputs standing.n standing.before c refusals.NoPolicy
+-- 6.1.4 (a)
+Breaks accepts inputs standing bytes c MapsAnyPolicy = AreRefused inputs standing.n standing.before c refusals.MapsAnyPolicy
 
 -- the bytes that stand there are those of no certificate, or of one with which that is wrong
 abbrev pub IsFault : Accepting → Inputs → Standing → List ℕ → ValidationReason → Type 0
@@ -162,7 +193,7 @@ IsFault accepts inputs standing bytes reason =
 abbrev pub HasFaultBehind : Accepting → Inputs → Anchor → List Certificate → List (List ℕ) → ℕ → ValidationReason → Type 0
 HasFaultBehind accepts inputs above before [] place reason = ⊥
 HasFaultBehind accepts inputs above before (bytes ∷ path) zero reason =
-    IsFault accepts inputs (record { above = above; before = before; is_last = is_empty path }) bytes reason
+    IsFault accepts inputs (record { above = above; before = before; is_last = is_empty path; n = length before + suc (length path) }) bytes reason
 HasFaultBehind accepts inputs above before (bytes ∷ path) (suc place) reason =
     (c : Certificate) × Spells rfc5280_certificate c bytes × HasFaultBehind accepts inputs (subject_of c) (before ++ c ∷ []) path place reason
 
@@ -181,9 +212,12 @@ pub record PathIsValid (accepts : Accepting) (inputs : Inputs) (path : List (Lis
 
 -- ---- the answer
 
--- the order in which faults of one certificate are told, behind Decode
+-- the order in which faults of one certificate are told, behind Decode; last those of policies
+abbrev pub own_reasons : List ValidationReason
+own_reasons = Algorithm ∷ Issuer ∷ Moment ∷ Signature ∷ Repeated ∷ Critical ∷ Undecodable ∷ NotCa ∷ KeyUsage ∷ PathLen ∷ Names ∷ Constraints ∷ []
+
 abbrev pub reasons : List ValidationReason
-reasons = Algorithm ∷ Issuer ∷ Moment ∷ Signature ∷ Repeated ∷ Critical ∷ Undecodable ∷ NotCa ∷ KeyUsage ∷ PathLen ∷ Names ∷ Constraints ∷ []
+reasons = own_reasons ++ RepeatedPolicy ∷ NoPolicy ∷ MapsAnyPolicy ∷ []
 
 -- it holds of that reason, and of none that stands earlier in the order
 pub record IsFirst (holds : ValidationReason → Type 0) (reason : ValidationReason) : Type 0 where
@@ -207,9 +241,26 @@ pub record IsOfLast (validated : Validated) (path : List (List ℕ)) : Type 0 wh
   pub spells : Spells rfc5280_certificate certificate bytes
   pub lends : LendsAnchor validated.subject (subject_of certificate)
 
+-- the inputs are those of the certificates
+abbrev pub AreOf : List Certificate → List (List ℕ) → Type 0
+AreOf [] [] = Unit {0}
+AreOf [] (bytes ∷ path) = ⊥
+AreOf (c ∷ certificates) [] = ⊥
+AreOf (c ∷ certificates) (bytes ∷ path) = Spells rfc5280_certificate c bytes × AreOf certificates path
+
+-- the path is valid under these policies, which are its user-constrained policy set (6.1.5 (g), 6.1.6)
+pub record IsUnder (inputs : Inputs) (path : List (List ℕ)) (found : List Policy) : Type 0 where
+  pub certificates : List Certificate
+  pub said : List policies.Certificate
+  pub settings : Settings
+  pub are : AreOf certificates path
+  pub say : Say certificates said
+  pub at_start : AreSettings inputs settings
+  pub outcome : IsOutcome settings said (Valid found)
+
 -- What is answered to a path. Memory may be refused wherever there is an input.
 abbrev pub Answers : Accepting → Inputs → List (List ℕ) → Result Validated ValidationFault → Type 0
-Answers accepts inputs path (Ok validated) = PathIsValid accepts inputs path × IsOfLast validated path
+Answers accepts inputs path (Ok validated) = PathIsValid accepts inputs path × (IsOfLast validated path × IsUnder inputs path (octets_of validated.policies.items))
 Answers accepts inputs path (Err Memory) = path ≢ []
 Answers accepts inputs path (Err Empty) = path ≡ []
 Answers accepts inputs path (Err Initial) = (path ≢ []) × AreUnusable inputs

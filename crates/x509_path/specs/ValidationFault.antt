@@ -4,7 +4,7 @@ use Rattle.std.specs.Fmt.{decimal}
 use Rattle.x509_path.specs.declared.validation_fault.ValidationFault.{ValidationFault}
 use Rattle.x509_path.specs.declared.validation_fault.ValidationFault.TheVariants.{Memory, Empty, Initial, At}
 use Rattle.x509_path.specs.declared.validation_fault.ValidationReason.{ValidationReason}
-use Rattle.x509_path.specs.declared.validation_fault.ValidationReason.TheVariants.{Decode, Algorithm, Issuer, Moment, Signature, Repeated, Critical, Extension, NotCa, KeyUsage, PathLen, Names, Constraints}
+use Rattle.x509_path.specs.declared.validation_fault.ValidationReason.TheVariants.{Decode, Algorithm, Issuer, Moment, Signature, Repeated, Critical, Extension, NotCa, KeyUsage, PathLen, Names, Constraints, RepeatedPolicy, Policy, PolicyMapping}
 
 -- the variant's name
 abbrev pub reason_text : ValidationReason → List ℕ
@@ -21,6 +21,9 @@ reason_text KeyUsage = codes "KeyUsage"
 reason_text PathLen = codes "PathLen"
 reason_text Names = codes "Names"
 reason_text Constraints = codes "Constraints"
+reason_text RepeatedPolicy = codes "RepeatedPolicy"
+reason_text Policy = codes "Policy"
+reason_text PolicyMapping = codes "PolicyMapping"
 
 -- the variant's name, or the place, a space and the reason
 abbrev pub fault_text : ValidationFault → List ℕ

@@ -233,7 +233,10 @@ pub(crate) fn are_handled(extensions: &[ExtensionRef<'_>]) -> bool
 
 /// The value of the one extension of the type; `None` where there isn't one that can be decoded. The type is one that
 /// takes no memory.
-fn payload<T: AssociatedOid + Decode>(alloc: Global, extensions: &[ExtensionRef<'_>]) -> Option<T>
+pub(crate) fn payload<T: AssociatedOid + Decode>(
+    alloc: Global,
+    extensions: &[ExtensionRef<'_>],
+) -> Option<T>
     requires { T.wants_memory → ⊥ }
     ensures { (value : T) → certificates.HasPayload T.form T.OID (lent_extensions extensions.now) value ↔ (result ≡ Some value) }
 {

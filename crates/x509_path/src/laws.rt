@@ -17,6 +17,7 @@ ghost use Rattle.x509_path.specs.declared.validated.Validated.{Validated};
 ghost use Rattle.x509_path.specs.declared.validation_fault.ValidationFault.{ValidationFault};
 ghost use Rattle.x509_path.specs.declared.validation_fault.ValidationFault.TheVariants as validation_faults;
 ghost use Rattle.x509_path.specs.declared.validation_fault.ValidationReason.{ValidationReason};
+ghost use Rattle.x509_path.specs.declared.validation_fault.ValidationReason.TheVariants as validation_reasons;
 
 use crate::{Anchor, PathFault, PathReason};
 use x509_cert::certificate::Rfc5280;
@@ -52,6 +53,16 @@ pub fn one_validation()
         (a : Result Validated ValidationFault) → (AreUnusable inputs → ⊥) → validation.IsFirstFault accepts inputs path place reason
         → validation.Answers accepts inputs path a → (a ≡ Err (validation_faults.At place reason)) ⊎ (a ≡ Err validation_faults.Memory) }
 {}
+
+/// A path is valid exactly where it is with all bits taken for signatures ([`AnySignature`](crate::AnySignature)), and the
+/// signature of each of its certificates is accepted, for the key above it. So signatures may be verified apart from the
+/// rest, when a path was validated.
+pub fn signatures_of_validated_paths_may_be_verified_apart()
+    ensures { (accepts : Accepting) (inputs : Inputs) (path : List (List ℕ)) → PathIsValid accepts inputs path
+        ↔ (PathIsValid accept_all inputs path × ((place : ℕ) → validation.HasFault accepts inputs path place validation_reasons.Signature → ⊥)) }
+{
+    signed_bytes_spell_the_signed_part::<Rfc5280>();
+}
 
 /// `==` of trust anchors, of faults and of reasons holds exactly of equal values.
 #[tactic(auto, using(crate::specs::Equality::exact_anchor, crate::specs::Equality::exact_fault, crate::specs::Equality::exact_reason))]

@@ -1,6 +1,7 @@
 //! Certification paths under a trust anchor (RFC 5280 6.1): whether each certificate is signed by the one above it, has
-//! its subject as issuer, is valid at the time, and may have others below it. Policies, name constraints and revocation
-//! aren't checked, and names are compared as they are encoded.
+//! its subject as issuer, is valid at the time, has names that those above allow, is under acceptable policies, and may have
+//! others below it. [`validate_path`] is all of that; [`check_path`] knows no policies and no name constraints, and compares
+//! names as they are encoded. Revocation isn't checked.
 //!
 //! The library has no signature algorithm: the caller hands in a [`Verifier`]. Words of our own are explained in
 //! `docs/MAP.md`.
@@ -15,7 +16,9 @@ mod initial;
 mod judge;
 pub mod laws;
 mod matching;
+mod oids;
 mod path;
+mod policies;
 mod processed;
 mod settings;
 mod signatures;
@@ -39,3 +42,4 @@ pub use validate::{validate_path, validate_path_lent};
 pub use validated::Validated;
 pub use validation_fault::{ValidationFault, ValidationReason};
 pub use verifier::{AnySignature, SliceVerifier, Verifier};
+pub use x509_policy::AnchorFlags;

@@ -5,7 +5,7 @@ ghost use Rattle.std.specs.List.{All};
 ghost use Rattle.x509_check.specs.ExtensionRefs.{lent_extension};
 ghost use Rattle.x509_path.specs.Certificates as certificates;
 ghost use Rattle.x509_path.specs.Lent.{lent_extensions};
-ghost use Rattle.x509_path.specs.Validation.{AreProcessed, AreSpelled, IsDecodable, IsPolicySpelled, IsProcessed, IsSpelled, IsUseSpelled};
+ghost use Rattle.x509_path.specs.Validation.{AreProcessed, AreSpelled, IsAboutPolicies, IsDecodable, IsOfUse, IsPolicySpelled, IsProcessed, IsSpelled, IsUseSpelled};
 
 use crate::extensions::{find_one, is_known, is_readable};
 use std::alloc::{AllocError, Global};
@@ -32,7 +32,24 @@ pub(crate) fn are_processed(extensions: &[ExtensionRef<'_>]) -> bool
 fn is_processed(extension: &ExtensionRef<'_>) -> bool
     ensures { IsTrue result ↔ IsProcessed (lent_extension extension.now) }
 {
+    is_of_use(extension) || is_about_policies(extension)
+}
+
+/// Whether the extension says what the certificate is for, or which names are allowed, and can be decoded.
+fn is_of_use(extension: &ExtensionRef<'_>) -> bool
+    ensures { IsTrue result ↔ IsOfUse (lent_extension extension.now) }
+{
     is_known(extension) || is_readable::<NameConstraints>(extension)
+}
+
+/// Whether the extension is about policies, and can be decoded.
+fn is_about_policies(extension: &ExtensionRef<'_>) -> bool
+    ensures { IsTrue result ↔ IsAboutPolicies (lent_extension extension.now) }
+{
+    is_readable::<CertificatePolicies>(extension)
+        || is_readable::<PolicyMappings>(extension)
+        || is_readable::<PolicyConstraints>(extension)
+        || is_readable::<InhibitAnyPolicy>(extension)
 }
 
 /// Whether the octets of the extension are an encoding of the type, if it has the OID of it.

@@ -13,6 +13,7 @@ use std::alloc::Global;
 use x509_cert::der::{AssociatedOid, Error};
 use x509_cert::ext::pkix::{BasicConstraints, NameConstraints};
 use x509_check::{CertificateRef, Check, ExtensionRefs};
+use x509_policy::AnchorFlags;
 
 /// What is trusted, lent: a name and a public key, and for which paths (RFC 5280 6.1.1 (d), RFC 5937 2).
 #[derive(Clone, Copy, Debug)]
@@ -25,7 +26,20 @@ pub struct Trusted<'a> {
 
     /// How many certificates that aren't self-issued may stand between it and the last one; any number where absent.
     pub max_path_length: Option<u32>,
+
+    /// The policies under which paths below may be valid, as the encoding of a CertificatePolicies; any where absent.
+    pub policies: Option<&'a [u8]>,
+
+    /// Whether policies may not be mapped, have to be named, and any-policy counts for nothing.
+    pub policy_flags: AnchorFlags,
 }
+
+/// No flag.
+pub(crate) const NO_FLAGS: AnchorFlags = AnchorFlags {
+    inhibit_policy_mapping: false,
+    require_explicit_policy: false,
+    inhibit_any_policy: false,
+};
 
 /// The octets, where they are those of a NameConstraints.
 fn checked_constraints(octets: &[u8]) -> Result<Option<&[u8]>, Error>
@@ -71,7 +85,7 @@ fn own_path_len(alloc: Global, extensions: &ExtensionRefs<'_>) -> Result<Option<
 }
 
 impl<'a> Trusted<'a> {
-    ghost use Rattle.std.specs.Prelude.{◌≡◌, MatchResult, None};
+    ghost use Rattle.std.specs.Prelude.{◌≡◌, MatchResult, None, false};
     ghost use Rattle.x509_path.specs.Certificates as certificates;
     ghost use Rattle.x509_path.specs.Inputs.{LendsTrust, Trust};
     ghost use Rattle.x509_path.specs.Lent.{Lends};
@@ -82,17 +96,21 @@ impl<'a> Trusted<'a> {
         ensures anchor { result.anchor ≡ anchor.entry }
         ensures constraints { result.name_constraints ≡ None }
         ensures length { result.max_path_length ≡ None }
+        ensures policies { result.policies ≡ None }
+        ensures flags { result.policy_flags ≡ record { inhibit_policy_mapping = false; require_explicit_policy = false; inhibit_any_policy = false } }
     {
         Trusted {
             anchor,
             name_constraints: None,
             max_path_length: None,
+            policies: None,
+            policy_flags: NO_FLAGS,
         }
     }
 
     /// What a certificate gives that is trusted (RFC 5937 2): its subject and its public key, the constraints of its
-    /// NameConstraints, and the path length of its BasicConstraints. The caller trusts it: nothing else of it is checked. It
-    /// takes no memory.
+    /// NameConstraints, and the path length of its BasicConstraints; no policies and no flags about these, which are the
+    /// caller's to set. The caller trusts it: nothing else of it is checked. It takes no memory.
     ///
     /// # Errors
     ///
@@ -110,6 +128,8 @@ impl<'a> Trusted<'a> {
             anchor: AnchorRef::from_certificate(certificate),
             name_constraints: lent_constraints(&extensions)?,
             max_path_length: own_path_len(alloc, &extensions)?,
+            policies: None,
+            policy_flags: NO_FLAGS,
         })
     }
 }

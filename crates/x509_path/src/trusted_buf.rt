@@ -1,24 +1,28 @@
 //! What is trusted, owned.
 
-ghost use Rattle.std.specs.Prelude.{◌≡◌, IfOk, List, MatchResult, Option, Some, ℕ, option_map};
+ghost use Rattle.std.specs.Prelude.{◌≡◌, ◌⊎◌, ◌↔◌, IsTrue, MatchResult, None, false, option_map};
 ghost use Rattle.x509_cert.specs.base.SubjectPublicKeyInfo.{subject_public_key_info};
 ghost use Rattle.x509_cert.specs.der.Form.{Spells};
 ghost use Rattle.x509_cert.specs.der.declared.error.ErrorKind.TheVariants as errors;
 ghost use Rattle.x509_cert.specs.ext.Identifiers.{id_ce};
 ghost use Rattle.x509_cert.specs.ext.LookUp.{members};
+ghost use Rattle.x509_cert.specs.ext.BasicConstraints.{basic_constraints};
 ghost use Rattle.x509_cert.specs.ext.NameConstraints.{name_constraints};
+ghost use Rattle.x509_cert.specs.ext.SubjectKeyIdentifier.{subject_key_identifier};
 ghost use Rattle.x509_cert.specs.name.Names.{name as name_form};
-ghost use Rattle.x509_cert.specs.ext.declared.pkix.name_constraints.NameConstraints as values;
 ghost use Rattle.x509_path.specs.Inputs.{Trust};
-ghost use Rattle.x509_path.specs.Trusts.{AreLimits, AreOwnLimits, HasLimit, HasNoLimit, HoldsConstraints, HoldsTrust, IsTrustOf, IsTrustOfInfo, IsValueOf, or_else};
+ghost use Rattle.x509_path.specs.Trusts.{AreLimits, AreOwnLimits, HasItsCertificate, HasKeyId, HasLimit, HoldsConstraints, HoldsTrust, IsCertificateOf, IsOverlong, IsTrustOf, IsTrustOfInfo, IsValueOf, RefusesEncoding, RefusesInfo, RefusesItsCertificate, RefusesLimits, RefusesOption, RefusesOwnLimits, RefusesTrust, RefusesValue, or_else};
 
 use crate::anchor_ref::AnchorRef;
-use crate::trusted::{Trusted, length_of};
+use crate::trusted::{NO_FLAGS, Trusted, length_of};
 use std::alloc::Global;
-use x509_cert::anchor::{TrustAnchorChoice, TrustAnchorInfo};
+use x509_cert::anchor::{CertPathControls, TrustAnchorChoice, TrustAnchorInfo};
 use x509_cert::certificate::TbsCertificate;
+use x509_cert::der::asn1::OctetString;
 use x509_cert::der::{Decode, Encode, Error, ErrorKind, Spelled};
-use x509_cert::ext::pkix::{BasicConstraints, NameConstraints};
+use x509_cert::ext::pkix::{BasicConstraints, NameConstraints, SubjectKeyIdentifier};
+use x509_cert::laws::base::equality_of_keys_is_exact;
+use x509_cert::laws::name::equal_names_are_one_value;
 use x509_cert::name::Name;
 use x509_cert::{Certificate, SubjectPublicKeyInfo};
 
@@ -44,7 +48,7 @@ struct Limits {
 /// The value of the NameConstraints, if there is one.
 fn own_constraints(alloc: Global, signed: &TbsCertificate) -> Result<Option<NameConstraints>, Error>
     ensures { MatchResult result (λ found. IsValueOf name_constraints (id_ce 30) (members signed.now.extensions) found)
-        (λ e. (found : Option values.NameConstraints) → IsValueOf name_constraints (id_ce 30) (members signed.now.extensions) found → e.kind ≡ errors.Memory) }
+        (λ e. (e.kind ≡ errors.Memory) ⊎ RefusesValue name_constraints (id_ce 30) (members signed.now.extensions) e.kind) }
 {
     match signed.get_extension::<NameConstraints>(alloc) {
         Ok(Some((_, constraints))) => Ok(Some(constraints)),
@@ -56,7 +60,7 @@ fn own_constraints(alloc: Global, signed: &TbsCertificate) -> Result<Option<Name
 /// The path length of the BasicConstraints, if there is one.
 fn own_length(alloc: Global, signed: &TbsCertificate) -> Result<Option<u32>, Error>
     ensures { MatchResult result (λ limit. HasLimit (members signed.now.extensions) limit)
-        (λ e. HasNoLimit (members signed.now.extensions)) }
+        (λ e. RefusesValue basic_constraints (id_ce 19) (members signed.now.extensions) e.kind) }
 {
     match signed.get_extension::<BasicConstraints>(alloc) {
         Ok(Some((_, constraints))) => Ok(length_of(&constraints)),
@@ -68,8 +72,7 @@ fn own_length(alloc: Global, signed: &TbsCertificate) -> Result<Option<u32>, Err
 /// The constraints and the path length that the extensions of the signed part give.
 fn limits_of(alloc: Global, signed: &TbsCertificate) -> Result<Limits, Error>
     ensures { MatchResult result (λ limits. AreLimits (members signed.now.extensions) limits.constraints limits.max_path_length)
-        (λ e. (constraints : Option values.NameConstraints) (length : Option ℕ) → AreLimits (members signed.now.extensions) constraints length
-        → e.kind ≡ errors.Memory) }
+        (λ e. (e.kind ≡ errors.Memory) ⊎ RefusesLimits (members signed.now.extensions) e.kind) }
 {
     let constraints = own_constraints(alloc, signed)?;
     let max_path_length = own_length(alloc, signed)?;
@@ -82,8 +85,7 @@ fn limits_of(alloc: Global, signed: &TbsCertificate) -> Result<Limits, Error>
 /// The same of the certificate in the description of an anchor, if there is one.
 fn own_limits(alloc: Global, certificate: &Option<Certificate>) -> Result<Limits, Error>
     ensures { MatchResult result (λ limits. AreOwnLimits certificate.now limits.constraints limits.max_path_length)
-        (λ e. (constraints : Option values.NameConstraints) (length : Option ℕ) → AreOwnLimits certificate.now constraints length
-        → e.kind ≡ errors.Memory) }
+        (λ e. (e.kind ≡ errors.Memory) ⊎ RefusesOwnLimits certificate.now e.kind) }
 {
     match certificate {
         Some(certificate) => limits_of(alloc, certificate.tbs_certificate()),
@@ -94,9 +96,68 @@ fn own_limits(alloc: Global, certificate: &Option<Certificate>) -> Result<Limits
     }
 }
 
+/// Whether the key identifier of the signed part is that one, if it has one.
+fn has_key_id(alloc: Global, signed: &TbsCertificate, key_id: &OctetString) -> Result<bool, Error>
+    ensures { MatchResult result (λ same. IsTrue same ↔ HasKeyId (members signed.now.extensions) key_id.now)
+        (λ e. (e.kind ≡ errors.Memory) ⊎ RefusesValue subject_key_identifier (id_ce 14) (members signed.now.extensions) e.kind) }
+{
+    match signed.get_extension::<SubjectKeyIdentifier>(alloc) {
+        Ok(Some((_, found))) => Ok(found.0 == *key_id),
+        Ok(None) => Ok(true),
+        Err(e) => Err(e),
+    }
+}
+
+/// Whether the signed part has that subject and that key.
+fn has_name_and_key(signed: &TbsCertificate, name: &Name, key: &SubjectPublicKeyInfo) -> bool
+    ensures { IsTrue result ↔ ((signed.now.subject ≡ name.now) × (signed.now.subject_public_key_info ≡ key.now)) }
+{
+    equal_names_are_one_value();
+    equality_of_keys_is_exact();
+    *signed.subject() == *name && *signed.subject_public_key_info() == *key
+}
+
+/// Whether the signed part is that of a certificate of the anchor that is described, under that name.
+fn is_certificate_of(
+    alloc: Global,
+    info: &TrustAnchorInfo,
+    ta_name: &Name,
+    signed: &TbsCertificate,
+) -> Result<bool, Error>
+    ensures { MatchResult result (λ same. IsTrue same ↔ IsCertificateOf info.now ta_name.now signed.now)
+        (λ e. (e.kind ≡ errors.Memory) ⊎ RefusesValue subject_key_identifier (id_ce 14) (members signed.now.extensions) e.kind) }
+{
+    if !has_name_and_key(signed, ta_name, &info.pub_key) {
+        return Ok(false);
+    }
+    has_key_id(alloc, signed, &info.key_id)
+}
+
+/// Whether the certificate in the description, if there is one, is of the anchor that is described.
+fn has_its_certificate(
+    alloc: Global,
+    info: &TrustAnchorInfo,
+    controls: &CertPathControls,
+) -> Result<bool, Error>
+    ensures { MatchResult result (λ same. IsTrue same ↔ HasItsCertificate info.now controls.now controls.now.certificate)
+        (λ e. (e.kind ≡ errors.Memory) ⊎ RefusesItsCertificate info.now controls.now controls.now.certificate e.kind) }
+{
+    match &controls.certificate {
+        Some(certificate) => {
+            is_certificate_of(
+                alloc,
+                info,
+                &controls.ta_name,
+                certificate.tbs_certificate(),
+            )
+        }
+        None => Ok(true),
+    }
+}
+
 /// The encoding of the name.
 fn encoded_name(alloc: Global, name: &Name) -> Result<Vec<u8>, Error>
-    ensures { IfOk result (λ octets. Spells name_form name.now octets.items) }
+    ensures { MatchResult result (λ octets. Spells name_form name.now octets.items) (λ e. RefusesEncoding name_form name.now e.kind) }
 {
     name.has_spelling();
     name.to_der(alloc)
@@ -104,7 +165,7 @@ fn encoded_name(alloc: Global, name: &Name) -> Result<Vec<u8>, Error>
 
 /// The encoding of the key.
 fn encoded_key(alloc: Global, key: &SubjectPublicKeyInfo) -> Result<Vec<u8>, Error>
-    ensures { IfOk result (λ octets. Spells subject_public_key_info key.now octets.items) }
+    ensures { MatchResult result (λ octets. Spells subject_public_key_info key.now octets.items) (λ e. RefusesEncoding subject_public_key_info key.now e.kind) }
 {
     key.has_spelling();
     key.to_der(alloc)
@@ -115,7 +176,8 @@ fn encoded_constraints(
     alloc: Global,
     constraints: &Option<NameConstraints>,
 ) -> Result<Option<Vec<u8>>, Error>
-    ensures { IfOk result (λ octets. HoldsConstraints (option_map (λ o. o.items) octets) constraints.now) }
+    ensures { MatchResult result (λ octets. HoldsConstraints (option_map (λ o. o.items) octets) constraints.now)
+        (λ e. RefusesOption name_constraints constraints.now e.kind) }
 {
     let Some(constraints) = constraints else {
         return Ok(None);
@@ -125,31 +187,58 @@ fn encoded_constraints(
     Ok(Some(octets))
 }
 
-/// What the signed part of a certificate gives.
-fn of_signed(alloc: Global, signed: &TbsCertificate) -> Result<TrustedBuf, Error>
-    ensures { IfOk result (λ trusted. (trust : Trust) × IsTrustOf signed.now trust × HoldsTrust trusted trust) }
+/// What has that name, that key, those constraints and that path length.
+fn held(
+    alloc: Global,
+    name: &Name,
+    key: &SubjectPublicKeyInfo,
+    constraints: &Option<NameConstraints>,
+    max_path_length: Option<u32>,
+) -> Result<TrustedBuf, Error>
+    ensures { (trust : Trust) → trust ≡ record {
+      anchor = record { name = name.now; key = key.now };
+      constraints = constraints.now;
+      max_path_length = max_path_length;
+      policies = None;
+      flags = record { inhibit_policy_mapping = false; require_explicit_policy = false; inhibit_any_policy = false };
+    }
+        → MatchResult result (λ trusted. HoldsTrust trusted trust) (λ e. (e.kind ≡ errors.Memory) ⊎ ((e.kind ≡ errors.Overlength) × IsOverlong trust)) }
 {
-    let limits = limits_of(alloc, signed)?;
     Ok(TrustedBuf {
-        name: encoded_name(alloc, signed.subject())?,
-        key: encoded_key(alloc, signed.subject_public_key_info())?,
-        name_constraints: encoded_constraints(alloc, &limits.constraints)?,
-        max_path_length: limits.max_path_length,
+        name: encoded_name(alloc, name)?,
+        key: encoded_key(alloc, key)?,
+        name_constraints: encoded_constraints(alloc, constraints)?,
+        max_path_length,
     })
 }
 
+/// What the signed part of a certificate gives.
+fn of_signed(alloc: Global, signed: &TbsCertificate) -> Result<TrustedBuf, Error>
+    ensures { MatchResult result (λ trusted. (trust : Trust) × IsTrustOf signed.now trust × HoldsTrust trusted trust)
+        (λ e. RefusesTrust (IsTrustOf signed.now) (RefusesLimits (members signed.now.extensions)) e.kind) }
+{
+    let limits = limits_of(alloc, signed)?;
+    held(
+        alloc,
+        signed.subject(),
+        signed.subject_public_key_info(),
+        &limits.constraints,
+        limits.max_path_length,
+    )
+}
+
 /// The constraints of the controls, or else those.
-fn constraints_or(
-    alloc: Global,
-    constraints: &Option<NameConstraints>,
-    others: &Option<NameConstraints>,
-) -> Result<Option<Vec<u8>>, Error>
-    ensures { IfOk result (λ octets. HoldsConstraints (option_map (λ o. o.items) octets) (or_else constraints.now others.now)) }
+fn constraints_or<'a>(
+    constraints: &'a Option<NameConstraints>,
+    others: &'a Option<NameConstraints>,
+) -> &'a Option<NameConstraints>
+    ensures { result.now ≡ or_else constraints.now others.now }
 {
     if constraints.is_some() {
-        return encoded_constraints(alloc, constraints);
+        constraints
+    } else {
+        others
     }
-    encoded_constraints(alloc, others)
 }
 
 /// The path length of the controls, or else that one.
@@ -164,42 +253,51 @@ fn length_or(length: Option<u32>, other: Option<u32>) -> Option<u32>
 
 /// What a description gives.
 fn of_info(alloc: Global, info: &TrustAnchorInfo) -> Result<TrustedBuf, Error>
-    ensures { IfOk result (λ trusted. (trust : Trust) × IsTrustOfInfo info.now trust × HoldsTrust trusted trust) }
+    ensures { MatchResult result (λ trusted. (trust : Trust) × IsTrustOfInfo info.now trust × HoldsTrust trusted trust)
+        (λ e. RefusesTrust (IsTrustOfInfo info.now) (RefusesInfo info.now) e.kind) }
 {
     let Some(controls) = &info.cert_path else {
         return Err(ErrorKind::Failed.into());
     };
+    if !has_its_certificate(alloc, info, controls)? {
+        return Err(ErrorKind::Failed.into());
+    }
     let own = own_limits(alloc, &controls.certificate)?;
-    let max_path_length = length_or(controls.path_len_constraint, own.max_path_length);
-    Ok(TrustedBuf {
-        name: encoded_name(alloc, &controls.ta_name)?,
-        key: encoded_key(alloc, &info.pub_key)?,
-        name_constraints: constraints_or(alloc, &controls.name_constr, &own.constraints)?,
-        max_path_length,
-    })
+    held(
+        alloc,
+        &controls.ta_name,
+        &info.pub_key,
+        constraints_or(&controls.name_constr, &own.constraints),
+        length_or(controls.path_len_constraint, own.max_path_length),
+    )
 }
 
 impl TrustedBuf {
-    ghost use Rattle.std.specs.Prelude.{IfOk};
+    ghost use Rattle.std.specs.Prelude.{◌≡◌, ◌⊎◌, MatchResult};
     ghost use Rattle.x509_cert.specs.TrustAnchorChoice.{rfc5280_trust_anchor_choice};
     ghost use Rattle.x509_cert.specs.declared.anchor.trust_anchor_choice.TrustAnchorChoice as choices;
     ghost use Rattle.x509_cert.specs.base.declared.profile.Rfc5280.{Rfc5280};
     ghost use Rattle.x509_cert.specs.der.Form.{Spells};
+    ghost use Rattle.x509_cert.specs.der.declared.error.ErrorKind.TheVariants as errors;
     ghost use Rattle.x509_path.specs.Inputs.{LendsTrust, Trust};
-    ghost use Rattle.x509_path.specs.Trusts.{HoldsTrust, IsTrustOfAnchor};
+    ghost use Rattle.x509_path.specs.Trusts.{HoldsTrust, IsNoAnchor, IsTrustOfAnchor, IsUntrusted, RefusesAnchor, RefusesTrust};
 
-    /// What a trust anchor gives that is trusted (RFC 5937 2, RFC 5914 2.5). Of a certificate, or of a TBSCertificate: its
-    /// subject and its public key, the constraints of its NameConstraints, and the path length of its BasicConstraints. Of
-    /// a description: the name, the constraints and the path length of its `certPath`, and its public key; where those
-    /// constraints or that path length are absent, what the extensions of its certificate give, if it has one.
+    /// What a trust anchor gives that is trusted (RFC 5937 2, RFC 5914 2.5), its policies and the flags about these apart. Of
+    /// a certificate, or of a TBSCertificate: its subject and its public key, the constraints of its NameConstraints, and the
+    /// path length of its BasicConstraints. Of a description: the name, the constraints and the path length of its
+    /// `certPath`, and its public key; where those constraints or that path length are absent, what the extensions of its
+    /// certificate give, if it has one. That certificate has to be of the anchor: its subject is the name, its public key the
+    /// key, and its key identifier, if it has one, `keyId`; each is compared as a value, so that encodings are equal.
     ///
     /// # Errors
     ///
-    /// `Failed` where a description has no name, and where one of the two extensions is repeated; where one can't be
-    /// decoded, the error of that; `Memory` when out of memory; where the anchor wasn't decoded, the error of encoding a
-    /// part of it.
+    /// Where nothing is trusted: `Failed` where a description has no name, or has a certificate of another name, key or key
+    /// identifier, and where one of the extensions that are looked at is repeated; where one can't be decoded, the error of
+    /// that. `Memory` when out of memory. Of an anchor that wasn't decoded `Overlength` where the name, the key or the
+    /// constraints are longer than [`Length::MAX`](x509_cert::der::Length::MAX).
     pub fn from_trust_anchor(alloc: Global, anchor: &TrustAnchorChoice) -> Result<TrustedBuf, Error>
-        ensures { IfOk result (λ trusted. (trust : Trust) × IsTrustOfAnchor anchor.now trust × HoldsTrust trusted trust) }
+        ensures { MatchResult result (λ trusted. (trust : Trust) × IsTrustOfAnchor anchor.now trust × HoldsTrust trusted trust)
+            (λ e. RefusesTrust (IsTrustOfAnchor anchor.now) (RefusesAnchor anchor.now) e.kind) }
     {
         match anchor {
             TrustAnchorChoice::Certificate(certificate) => {
@@ -214,10 +312,12 @@ impl TrustedBuf {
     ///
     /// # Errors
     ///
-    /// Those of decoding a `TrustAnchorChoice`, and of [`TrustedBuf::from_trust_anchor`].
+    /// Those of decoding a `TrustAnchorChoice`; else those of [`TrustedBuf::from_trust_anchor`] where nothing is trusted of
+    /// the anchor. `Memory` when out of memory.
     pub fn from_der(alloc: Global, bytes: &[u8]) -> Result<TrustedBuf, Error>
-        ensures { IfOk result (λ trusted. (anchor : choices.TrustAnchorChoice Rfc5280) × (trust : Trust) × Spells rfc5280_trust_anchor_choice anchor bytes.now
-            × IsTrustOfAnchor anchor trust × HoldsTrust trusted trust) }
+        ensures { MatchResult result (λ trusted. (anchor : choices.TrustAnchorChoice Rfc5280) × (trust : Trust) × Spells rfc5280_trust_anchor_choice anchor bytes.now
+            × IsTrustOfAnchor anchor trust × HoldsTrust trusted trust)
+            (λ e. (e.kind ≡ errors.Memory) ⊎ (IsNoAnchor bytes.now e.kind ⊎ IsUntrusted bytes.now e.kind)) }
     {
         let anchor = TrustAnchorChoice::from_der(alloc, bytes)?;
         TrustedBuf::from_trust_anchor(alloc, &anchor)
@@ -234,6 +334,8 @@ impl TrustedBuf {
             },
             name_constraints: self.name_constraints.as_deref(),
             max_path_length: self.max_path_length,
+            policies: None,
+            policy_flags: NO_FLAGS,
         }
     }
 }

@@ -30,12 +30,11 @@ pub enum ValidationReason {
     /// Two extensions have one OID (RFC 5280 4.2).
     Repeated,
 
-    /// A critical extension isn't a BasicConstraints, KeyUsage, ExtendedKeyUsage, SAN or NameConstraints, or can't be
-    /// decoded (RFC 5280 6.1.4 (o), 6.1.5 (f)).
+    /// A critical extension isn't a BasicConstraints, KeyUsage, ExtendedKeyUsage, SAN, NameConstraints, CertificatePolicies,
+    /// PolicyMappings, PolicyConstraints or InhibitAnyPolicy, or can't be decoded (RFC 5280 6.1.4 (o), 6.1.5 (f)).
     Critical,
 
-    /// An extension can't be decoded that is of one of those types, or a CertificatePolicies, PolicyMappings,
-    /// PolicyConstraints or InhibitAnyPolicy, whether it is critical or not.
+    /// An extension of one of those types can't be decoded, whether it is critical or not.
     Extension,
 
     /// There is no BasicConstraints that can be decoded and has cA set (RFC 5280 6.1.4 (k)). It is asked of all
@@ -57,6 +56,16 @@ pub enum ValidationReason {
     /// There is a NameConstraints that can't be used (RFC 5280 4.2.1.10): a minimum other than 0, a maximum, or an
     /// address or a mask that is none. It is asked of all certificates but the last.
     Constraints,
+
+    /// A policy is twice in the CertificatePolicies (RFC 5280 4.2.1.4).
+    RepeatedPolicy,
+
+    /// No acceptable policy is left, and one is asked for (RFC 5280 6.1.3 (f), 6.1.5 (g)).
+    Policy,
+
+    /// A PolicyMappings maps any-policy, or another policy to it (RFC 5280 6.1.4 (a)). It is asked of all certificates but
+    /// the last.
+    PolicyMapping,
 }
 
 /// Why a path isn't valid. It is printed as the variant's name, and a fault as its place and its reason, as `1 PathLen`.
@@ -99,6 +108,9 @@ impl fmt::Display for ValidationReason {
             ValidationReason::PathLen => "PathLen",
             ValidationReason::Names => "Names",
             ValidationReason::Constraints => "Constraints",
+            ValidationReason::RepeatedPolicy => "RepeatedPolicy",
+            ValidationReason::Policy => "Policy",
+            ValidationReason::PolicyMapping => "PolicyMapping",
         })
     }
 }

@@ -16,6 +16,7 @@ use crate::extensions::{
 };
 use crate::judge::{has_two_algorithms, is_outside, signed_of};
 use crate::matching::{is_asked, is_over, names_match};
+use crate::policies::{Said, said_of};
 use crate::processed::{are_processed, are_spelled, owned_payload};
 use crate::signatures::{Signatures, known_value};
 use crate::validation_fault::{ValidationFault, ValidationReason};
@@ -27,7 +28,7 @@ use x509_cert::time::DateTime;
 use x509_check::{CertificateRef, ExtensionRef};
 use x509_constraints::is_usable;
 
-/// The reasons after `Decode`, in their order.
+/// The reasons after `Decode`, in their order, those of policies apart.
 const REASONS: [ValidationReason; 12] = [
     ValidationReason::Algorithm,
     ValidationReason::Issuer,
@@ -77,12 +78,15 @@ struct Parts<'s, 'a> {
 
 /// What a certificate says of those below it.
 #[derive(Drop)]
-pub(crate) struct Limits {
+pub(crate) struct Limits<'a> {
     /// The value of its BasicConstraints.
     pub(crate) basic_constraints: Option<BasicConstraints>,
 
     /// The value of its NameConstraints.
     pub(crate) name_constraints: Option<NameConstraints>,
+
+    /// What it says of policies.
+    pub(crate) policies: Said<'a>,
 }
 
 /// What the certificates of a path are checked with.
@@ -136,12 +140,13 @@ fn has_repeated(alloc: Global, extensions: &[ExtensionRef<'_>]) -> Result<bool, 
 }
 
 impl<S: Signatures> Validator<'_, S> {
-    ghost use Rattle.std.specs.Prelude.{◌≡◌, ◌↔◌, ◌⊎◌, List, Ok, Err, IfOk, IsTrue, MatchResult, true, false};
+    ghost use Rattle.std.specs.Prelude.{◌≡◌, ◌↔◌, ◌⊎◌, ℕ, List, Ok, Err, IfOk, IsTrue, MatchResult, true, false};
     ghost use Rattle.x509_match.specs.Matching.{NamesMatch};
     ghost use Rattle.x509_path.specs.Certificates as certificates;
     ghost use Rattle.x509_path.specs.Inputs.{Inputs};
     ghost use Rattle.x509_path.specs.Lent.{Lends, LendsAnchor, lent_extensions};
-    ghost use Rattle.x509_path.specs.Steps.{IsLimitOf, Judges, Knows, Stands, standing};
+    ghost use Rattle.x509_path.specs.Says.{Says};
+    ghost use Rattle.x509_path.specs.Steps.{IsLimitOf, IsOwn, JudgesAlone, Knows, Stands, said_by, standing};
     ghost use Rattle.x509_path.specs.Validation.{AreNamesAllowed, Breaks};
     ghost use Rattle.x509_path.specs.declared.anchor.Anchor.{Anchor};
     ghost use Rattle.x509_path.specs.declared.validation_fault.ValidationReason.TheVariants as reasons;
@@ -182,9 +187,9 @@ impl<S: Signatures> Validator<'_, S> {
         stand: &Stand<'_, '_>,
         certificate: &CertificateRef<'_>,
     ) -> Result<bool, AllocError>
-        ensures { IfOk result (λ b. (inputs : Inputs) (above : Anchor) (before : List certificates.Certificate) (c : certificates.Certificate)
+        ensures { IfOk result (λ b. (inputs : Inputs) (above : Anchor) (before : List certificates.Certificate) (n : ℕ) (c : certificates.Certificate)
             → Stands inputs above before self.now.moment stand.now.above stand.now.max_path_length stand.now.sets.now → Lends certificate.now.bytes.now c
-            → IsTrue b ↔ Breaks (S.accepts self.now.signatures.now) inputs (standing above before stand.now.is_last) certificate.now.bytes.now c
+            → IsTrue b ↔ Breaks (S.accepts self.now.signatures.now) inputs (standing above before stand.now.is_last n) certificate.now.bytes.now c
             reasons.PathLen) }
     {
         if stand.is_last {
@@ -216,10 +221,10 @@ impl<S: Signatures> Validator<'_, S> {
         stand: &Stand<'_, '_>,
         parts: &Parts<'_, '_>,
     ) -> Result<bool, AllocError>
-        ensures { IfOk result (λ b. (inputs : Inputs) (above : Anchor) (before : List certificates.Certificate) (c : certificates.Certificate)
+        ensures { IfOk result (λ b. (inputs : Inputs) (above : Anchor) (before : List certificates.Certificate) (n : ℕ) (c : certificates.Certificate)
             → Stands inputs above before self.now.moment stand.now.above stand.now.max_path_length stand.now.sets.now
             → Knows c parts.now.certificate.now.bytes.now parts.now.extensions.now stand.now.is_last parts.now.basic_constraints parts.now.name_constraints.now
-            → IsTrue b ↔ Breaks (S.accepts self.now.signatures.now) inputs (standing above before stand.now.is_last) parts.now.certificate.now.bytes.now c
+            → IsTrue b ↔ Breaks (S.accepts self.now.signatures.now) inputs (standing above before stand.now.is_last n) parts.now.certificate.now.bytes.now c
             reasons.Names) }
     {
         if !stand.sets.is_any {
@@ -232,18 +237,18 @@ impl<S: Signatures> Validator<'_, S> {
         Ok(!are_allowed)
     }
 
-    /// Whether the certificate has that fault.
+    /// Whether the certificate has that fault, its policies apart.
     fn breaks(
         &self,
         stand: &Stand<'_, '_>,
         parts: &Parts<'_, '_>,
         reason: ValidationReason,
     ) -> Result<bool, AllocError>
-        ensures { IfOk result (λ b. (inputs : Inputs) (above : Anchor) (before : List certificates.Certificate) (c : certificates.Certificate)
+        ensures { IfOk result (λ b. (inputs : Inputs) (above : Anchor) (before : List certificates.Certificate) (n : ℕ) (c : certificates.Certificate)
             → Stands inputs above before self.now.moment stand.now.above stand.now.max_path_length stand.now.sets.now
             → Knows c parts.now.certificate.now.bytes.now parts.now.extensions.now stand.now.is_last parts.now.basic_constraints parts.now.name_constraints.now
-            → IsTrue b ↔ Breaks (S.accepts self.now.signatures.now) inputs (standing above before stand.now.is_last) parts.now.certificate.now.bytes.now c
-            reason) }
+            → IsOwn reason → IsTrue b
+            ↔ Breaks (S.accepts self.now.signatures.now) inputs (standing above before stand.now.is_last n) parts.now.certificate.now.bytes.now c reason) }
     {
         let certificate = parts.certificate;
         let extensions = parts.extensions;
@@ -265,23 +270,26 @@ impl<S: Signatures> Validator<'_, S> {
             ValidationReason::Constraints => {
                 Ok(!stand.is_last && is_unusable(parts.name_constraints))
             }
+            ValidationReason::RepeatedPolicy
+            | ValidationReason::Policy
+            | ValidationReason::PolicyMapping => Ok(false),
         }
     }
 
-    /// What a certificate says of those below it with which nothing is wrong; `index` is its place.
-    fn judge_parts(
+    /// What a certificate says of those below it with which nothing is wrong, its policies apart; `index` is its place.
+    fn judge_parts<'a>(
         &self,
         stand: &Stand<'_, '_>,
-        certificate: &CertificateRef<'_>,
-        extensions: &[ExtensionRef<'_>],
+        certificate: &CertificateRef<'a>,
+        extensions: &[ExtensionRef<'a>],
         index: usize,
-    ) -> Result<Limits, ValidationFault>
-        ensures { (inputs : Inputs) (above : Anchor) (before : List certificates.Certificate) (c : certificates.Certificate)
+    ) -> Result<Limits<'a>, ValidationFault>
+        ensures { (inputs : Inputs) (above : Anchor) (before : List certificates.Certificate) (n : ℕ) (c : certificates.Certificate)
             → Stands inputs above before self.now.moment stand.now.above stand.now.max_path_length stand.now.sets.now → Lends certificate.now.bytes.now c
             → lent_extensions extensions.now ≡ certificates.extensions_of c → MatchResult result
             (λ limits. (stand.now.is_last ≡ false → IsLimitOf c limits.basic_constraints limits.name_constraints)
-            × Judges (S.accepts self.now.signatures.now) inputs (standing above before stand.now.is_last) certificate.now.bytes.now index (Ok c))
-            (λ e. Judges (S.accepts self.now.signatures.now) inputs (standing above before stand.now.is_last) certificate.now.bytes.now index (Err e)) }
+            × (Says c (said_by limits.policies) × JudgesAlone (S.accepts self.now.signatures.now) inputs (standing above before stand.now.is_last n) certificate.now.bytes.now index (Ok c)))
+            (λ e. JudgesAlone (S.accepts self.now.signatures.now) inputs (standing above before stand.now.is_last n) certificate.now.bytes.now index (Err e)) }
     {
         let basic_constraints = basic_constraints(self.alloc, stand.is_last, extensions);
         let name_constraints = name_constraints(self.alloc, stand.is_last, extensions)?;
@@ -299,25 +307,27 @@ impl<S: Signatures> Validator<'_, S> {
                 });
             }
         }
+        let policies = said_of(self.alloc, certificate, extensions)?;
         Ok(Limits {
             basic_constraints,
             name_constraints,
+            policies,
         })
     }
 
     /// The same of a certificate with any number of extensions.
-    fn judge_many(
+    fn judge_many<'a>(
         &self,
         stand: &Stand<'_, '_>,
-        certificate: &CertificateRef<'_>,
+        certificate: &CertificateRef<'a>,
         index: usize,
-    ) -> Result<Limits, ValidationFault>
-        ensures { (inputs : Inputs) (above : Anchor) (before : List certificates.Certificate) (c : certificates.Certificate)
+    ) -> Result<Limits<'a>, ValidationFault>
+        ensures { (inputs : Inputs) (above : Anchor) (before : List certificates.Certificate) (n : ℕ) (c : certificates.Certificate)
             → Stands inputs above before self.now.moment stand.now.above stand.now.max_path_length stand.now.sets.now → Lends certificate.now.bytes.now c
             → MatchResult result
             (λ limits. (stand.now.is_last ≡ false → IsLimitOf c limits.basic_constraints limits.name_constraints)
-            × Judges (S.accepts self.now.signatures.now) inputs (standing above before stand.now.is_last) certificate.now.bytes.now index (Ok c))
-            (λ e. Judges (S.accepts self.now.signatures.now) inputs (standing above before stand.now.is_last) certificate.now.bytes.now index (Err e)) }
+            × (Says c (said_by limits.policies) × JudgesAlone (S.accepts self.now.signatures.now) inputs (standing above before stand.now.is_last n) certificate.now.bytes.now index (Ok c)))
+            (λ e. JudgesAlone (S.accepts self.now.signatures.now) inputs (standing above before stand.now.is_last n) certificate.now.bytes.now index (Err e)) }
     {
         match collect(self.alloc, certificate.extensions()) {
             Ok(many) => self.judge_parts(stand, certificate, many.as_slice(), index),
@@ -332,13 +342,13 @@ impl<S: Signatures> Validator<'_, S> {
         certificate: &CertificateRef<'a>,
         few: &mut [ExtensionRef<'a>],
         index: usize,
-    ) -> Result<Limits, ValidationFault>
-        ensures { (inputs : Inputs) (above : Anchor) (before : List certificates.Certificate) (c : certificates.Certificate)
+    ) -> Result<Limits<'a>, ValidationFault>
+        ensures { (inputs : Inputs) (above : Anchor) (before : List certificates.Certificate) (n : ℕ) (c : certificates.Certificate)
             → Stands inputs above before self.now.moment stand.now.above stand.now.max_path_length stand.now.sets.now → Lends certificate.now.bytes.now c
             → MatchResult result
             (λ limits. (stand.now.is_last ≡ false → IsLimitOf c limits.basic_constraints limits.name_constraints)
-            × Judges (S.accepts self.now.signatures.now) inputs (standing above before stand.now.is_last) certificate.now.bytes.now index (Ok c))
-            (λ e. Judges (S.accepts self.now.signatures.now) inputs (standing above before stand.now.is_last) certificate.now.bytes.now index (Err e)) }
+            × (Says c (said_by limits.policies) × JudgesAlone (S.accepts self.now.signatures.now) inputs (standing above before stand.now.is_last n) certificate.now.bytes.now index (Ok c)))
+            (λ e. JudgesAlone (S.accepts self.now.signatures.now) inputs (standing above before stand.now.is_last n) certificate.now.bytes.now index (Err e)) }
     {
         match gather(certificate.extensions(), few) {
             Some(count) => {
@@ -350,36 +360,36 @@ impl<S: Signatures> Validator<'_, S> {
     }
 
     /// The same, without memory for up to 16 extensions.
-    fn judge_read(
+    fn judge_read<'a>(
         &self,
         stand: &Stand<'_, '_>,
-        certificate: &CertificateRef<'_>,
+        certificate: &CertificateRef<'a>,
         index: usize,
-    ) -> Result<Limits, ValidationFault>
-        ensures { (inputs : Inputs) (above : Anchor) (before : List certificates.Certificate) (c : certificates.Certificate)
+    ) -> Result<Limits<'a>, ValidationFault>
+        ensures { (inputs : Inputs) (above : Anchor) (before : List certificates.Certificate) (n : ℕ) (c : certificates.Certificate)
             → Stands inputs above before self.now.moment stand.now.above stand.now.max_path_length stand.now.sets.now → Lends certificate.now.bytes.now c
             → MatchResult result
             (λ limits. (stand.now.is_last ≡ false → IsLimitOf c limits.basic_constraints limits.name_constraints)
-            × Judges (S.accepts self.now.signatures.now) inputs (standing above before stand.now.is_last) certificate.now.bytes.now index (Ok c))
-            (λ e. Judges (S.accepts self.now.signatures.now) inputs (standing above before stand.now.is_last) certificate.now.bytes.now index (Err e)) }
+            × (Says c (said_by limits.policies) × JudgesAlone (S.accepts self.now.signatures.now) inputs (standing above before stand.now.is_last n) certificate.now.bytes.now index (Ok c)))
+            (λ e. JudgesAlone (S.accepts self.now.signatures.now) inputs (standing above before stand.now.is_last n) certificate.now.bytes.now index (Err e)) }
     {
         let mut few = places();
         self.judge_within(stand, certificate, &mut few, index)
     }
 
-    /// The certificate of these bytes, where nothing is wrong with it, and what it says of those below it; `index` is its
-    /// place.
+    /// The certificate of these bytes, where nothing is wrong with it, its policies apart, and what it says of those below it;
+    /// `index` is its place.
     pub(crate) fn judge<'a>(
         &self,
         stand: &Stand<'_, '_>,
         bytes: &'a [u8],
         index: usize,
-    ) -> Result<(CertificateRef<'a>, Limits), ValidationFault>
-        ensures { (inputs : Inputs) (above : Anchor) (before : List certificates.Certificate)
+    ) -> Result<(CertificateRef<'a>, Limits<'a>), ValidationFault>
+        ensures { (inputs : Inputs) (above : Anchor) (before : List certificates.Certificate) (n : ℕ)
             → Stands inputs above before self.now.moment stand.now.above stand.now.max_path_length stand.now.sets.now → MatchResult result
             (λ judged. (c : certificates.Certificate) × Lends judged.0.bytes.now c × (stand.now.is_last ≡ false → IsLimitOf c judged.1.basic_constraints judged.1.name_constraints)
-            × Judges (S.accepts self.now.signatures.now) inputs (standing above before stand.now.is_last) bytes.now index (Ok c))
-            (λ e. Judges (S.accepts self.now.signatures.now) inputs (standing above before stand.now.is_last) bytes.now index (Err e)) }
+            × (Says c (said_by judged.1.policies) × JudgesAlone (S.accepts self.now.signatures.now) inputs (standing above before stand.now.is_last n) bytes.now index (Ok c)))
+            (λ e. JudgesAlone (S.accepts self.now.signatures.now) inputs (standing above before stand.now.is_last n) bytes.now index (Err e)) }
     {
         let certificate = match CertificateRef::from_der(bytes) {
             Ok(certificate) => certificate,

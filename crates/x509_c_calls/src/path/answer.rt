@@ -50,6 +50,9 @@ fn number_of(reason: ValidationReason) -> u32
         ValidationReason::Extension => 11,
         ValidationReason::Names => 12,
         ValidationReason::Constraints => 13,
+        ValidationReason::RepeatedPolicy => 14,
+        ValidationReason::Policy => 15,
+        ValidationReason::PolicyMapping => 16,
     }
 }
 

@@ -115,6 +115,10 @@ fn validate_under(
     let settings = PathSettings {
         moment,
         name_constraints,
+        user_initial_policy_set: None,
+        initial_policy_mapping_inhibit: false,
+        initial_explicit_policy: false,
+        initial_any_policy_inhibit: false,
     };
     tell(alloc, trusted, path.as_slice(), &settings, answer)
 }

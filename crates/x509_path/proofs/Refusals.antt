@@ -1,0 +1,125 @@
+-- Why nothing is made of what is trusted.
+use Rattle.std.proofs.Common.{◌≡◌, ◌⊎◌, ◌∙◌, inl, inr, ◌<◌, ◌≤◌, ℕ, List, [], ◌∷◌, length, Option, Some, None, Result, Ok, Err, ap, arith, refl, sym, subst}
+use Rattle.std.proofs.lemmas.Bool.{cases_lt}
+use Rattle.std.specs.Prelude.{MatchResult}
+use Rattle.x509_cert.specs.TrustAnchorChoice.{rfc5280_trust_anchor_choice}
+use Rattle.x509_cert.specs.base.Checked.{CheckRefuses}
+use Rattle.x509_cert.specs.base.Profiles.{rfc5280_serial_number}
+use Rattle.x509_cert.specs.base.declared.profile.Rfc5280.{Rfc5280}
+use Rattle.x509_cert.specs.declared.anchor.cert_path_controls.CertPathControls.{CertPathControls}
+use Rattle.x509_cert.specs.declared.anchor.trust_anchor_choice.TrustAnchorChoice.{TrustAnchorChoice}
+use Rattle.x509_cert.specs.declared.anchor.trust_anchor_info.TrustAnchorInfo.{TrustAnchorInfo}
+use Rattle.x509_cert.specs.der.Element.{limit}
+use Rattle.x509_cert.specs.der.Form.{Form, Spells, whole_reading}
+use Rattle.x509_cert.specs.der.Outcome.{IsRefusal}
+use Rattle.x509_cert.specs.der.declared.error.Error.{Error}
+use Rattle.x509_cert.specs.der.declared.error.ErrorKind.{ErrorKind}
+use Rattle.x509_cert.specs.der.declared.error.ErrorKind.TheVariants.{Failed, Malformed, Memory, Overlength, SetDuplicate, Value}
+use Rattle.x509_cert.specs.ext.BasicConstraints.{basic_constraints}
+use Rattle.x509_cert.specs.ext.Identifiers.{id_ce}
+use Rattle.x509_cert.specs.ext.NameConstraints.{name_constraints}
+use Rattle.x509_cert.specs.ext.SubjectKeyIdentifier.{subject_key_identifier}
+use Rattle.x509_cert.specs.ext.declared.extension.Extension.{Extension}
+use Rattle.x509_cert.specs.ext.declared.pkix.name_constraints.NameConstraints.{NameConstraints}
+use Rattle.x509_path.specs.Certificates.{Certificate, extensions_of}
+use Rattle.x509_path.specs.Inputs.{Trust}
+use Rattle.x509_path.specs.Trusts.{AreLimits, AreOwnLimits, HasItsCertificate, HasKeyId, HoldsTrust, IsNoAnchor, IsOverlong, IsTrustOfInfo, IsValueOf, RefusesInfo, RefusesItsCertificate, RefusesLimits, RefusesOwnLimits, RefusesTrust, RefusesValue}
+use Rattle.x509_path.specs.declared.trusted_buf.TrustedBuf.{TrustedBuf}
+
+-- ---- what gives no value
+
+pub no_value : {X : Type 0} (form : Form X) (oid : List ℕ) (es : List Extension) (e : ErrorKind) → RefusesValue form oid es e → (found : Option X) → IsValueOf form oid es found → ⊥
+no_value form oid es e (inl (many, is)) None none = omega (arith, many, ap length none)
+no_value form oid es e (inl (many, is)) (Some value) (x, one, spells) = omega (arith, many, ap length one)
+no_value form oid es e (inr (x, one, refused)) None none = let k : x ∷ [] ≡ [] = sym one ∙ none in cc
+no_value form oid es e (inr (x, one, inl (long, is))) (Some value) (y, other, spells) =
+    let same : x ∷ [] ≡ y ∷ [] = sym one ∙ other in
+    let fits : length x.extn_value ≤ limit = let k : y ≡ x = cc in subst (λ z. length z.extn_value ≤ limit) k spells.2 in
+    omega (arith, long, fits)
+no_value form oid es e (inr (x, one, inr (fits, kind, none, which))) (Some value) (y, other, spells) =
+    let same : x ∷ [] ≡ y ∷ [] = sym one ∙ other in
+    let k : y ≡ x = cc in
+    none value (subst (λ z. Spells form value z.extn_value) k spells)
+
+pub no_limits : (es : List Extension) (e : ErrorKind) → RefusesLimits es e → (constraints : Option NameConstraints) (limit_ : Option ℕ) → AreLimits es constraints limit_ → ⊥
+no_limits es e (inl refused) constraints limit_ limits = no_value name_constraints (id_ce 30) es e refused constraints limits.are_constraints
+no_limits es e (inr refused) constraints limit_ limits = no_value basic_constraints (id_ce 19) es e refused limits.basic limits.is_basic
+
+no_key_id : (es : List Extension) (key_id : List ℕ) (e : ErrorKind) → RefusesValue subject_key_identifier (id_ce 14) es e → HasKeyId es key_id → ⊥
+no_key_id es key_id e refused (inl none) = no_value subject_key_identifier (id_ce 14) es e refused None none
+no_key_id es key_id e refused (inr some) = no_value subject_key_identifier (id_ce 14) es e refused (Some (record { 0 = key_id })) some
+
+-- ---- what is answered
+
+module _ (is_trust : Trust → Type 0) (refuses : ErrorKind → Type 0) where
+  pub none_trusted : (e : ErrorKind) → (refuses e → (trust : Trust) → is_trust trust → ⊥) → (e ≡ Memory) ⊎ refuses e → RefusesTrust is_trust refuses e
+  none_trusted e none (inl memory) = inl memory
+  none_trusted e none (inr refused) = inr (inl (none refused, refused))
+
+  pub answered : (trust : Trust) (answer : Result TrustedBuf Error) → is_trust trust
+      → MatchResult answer (λ trusted. HoldsTrust trusted trust) (λ e. (e.kind ≡ Memory) ⊎ ((e.kind ≡ Overlength) × IsOverlong trust))
+      → MatchResult answer (λ trusted. (t : Trust) × is_trust t × HoldsTrust trusted t) (λ e. RefusesTrust is_trust refuses e.kind)
+  answered trust (Ok trusted) is h = (trust, is, h)
+  answered trust (Err e) is (inl memory) = inl memory
+  answered trust (Err e) is (inr (long, part)) = inr (inr (long, (trust, is, part)))
+
+-- ---- descriptions
+
+no_certificate : (info : TrustAnchorInfo Rfc5280) (controls : CertPathControls Rfc5280) (own : Option Certificate) (e : ErrorKind) → RefusesItsCertificate info controls own e → HasItsCertificate info controls own → (constraints : Option NameConstraints) (limit_ : Option ℕ) → AreOwnLimits own constraints limit_ → ⊥
+no_certificate info controls None e refused has constraints limit_ limits = refused
+no_certificate info controls (Some c) e (inl (failed, other)) has constraints limit_ limits = other has
+no_certificate info controls (Some c) e (inr (inl refused)) has constraints limit_ limits = no_key_id (extensions_of c) info.key_id e refused has.key_id
+no_certificate info controls (Some c) e (inr (inr refused)) has constraints limit_ limits = no_limits (extensions_of c) e refused constraints limit_ limits
+
+pub its_limits : (info : TrustAnchorInfo Rfc5280) (controls : CertPathControls Rfc5280) (own : Option Certificate) (e : ErrorKind) → (e ≡ Memory) ⊎ RefusesOwnLimits own e → (e ≡ Memory) ⊎ RefusesItsCertificate info controls own e
+its_limits info controls own e (inl memory) = inl memory
+its_limits info controls None e (inr refused) = inr refused
+its_limits info controls (Some c) e (inr refused) = inr (inr (inr refused))
+
+pub other_certificate : (info : TrustAnchorInfo Rfc5280) (controls : CertPathControls Rfc5280) (own : Option Certificate) → (HasItsCertificate info controls own → ⊥) → RefusesItsCertificate info controls own Failed
+other_certificate info controls None other = other tt
+other_certificate info controls (Some c) other = inl (refl, other)
+
+-- of a description with these controls
+module _ (info : TrustAnchorInfo Rfc5280) (controls : CertPathControls Rfc5280) (has : info.cert_path ≡ Some controls) where
+  same : (trust : Trust) (t : IsTrustOfInfo info trust) → t.controls ≡ controls
+  same trust t = let e : Some t.controls ≡ Some controls = sym t.has_controls ∙ has in cc
+
+  pub certified : (trust : Trust) → IsTrustOfInfo info trust → HasItsCertificate info controls controls.certificate
+  certified trust t = subst (λ c. HasItsCertificate info c c.certificate) (same trust t) t.certificate
+
+  pub untrusted : (e : ErrorKind) → RefusesItsCertificate info controls controls.certificate e → (trust : Trust) → IsTrustOfInfo info trust → ⊥
+  untrusted e refused trust t =
+      no_certificate info controls controls.certificate e refused (certified trust t) t.constraints t.length (subst (λ c. AreOwnLimits c.certificate t.constraints t.length) (same trust t) t.own)
+
+  -- its certificate is refused
+  pub described : (e : ErrorKind) → (e ≡ Memory) ⊎ RefusesItsCertificate info controls controls.certificate e → RefusesTrust (IsTrustOfInfo info) (RefusesInfo info) e
+  described e (inl memory) = inl memory
+  described e (inr refused) = inr (inl (untrusted e refused, inr (controls, has, refused)))
+
+-- ---- bytes
+
+is_memory : (e : ErrorKind) → (e ≡ Memory) ⊎ (e ≡ Memory → ⊥)
+is_memory Memory = inl refl
+is_memory Overlength = inr (λ is. cc)
+is_memory Malformed = inr (λ is. cc)
+is_memory Failed = inr (λ is. cc)
+is_memory SetDuplicate = inr (λ is. cc)
+is_memory Value = inr (λ is. cc)
+
+-- what decoding says of bytes that it refuses
+module _ (bytes : List ℕ) (e : ErrorKind) (over : limit < length bytes → e ≡ Overlength)
+    (refused : length bytes ≤ limit → ((e ≡ Memory) × Unit {0}) ⊎ ((e ≡ Malformed) ⊎ CheckRefuses rfc5280_serial_number e))
+    (only : length bytes ≤ limit → (anchor : TrustAnchorChoice Rfc5280) → Spells rfc5280_trust_anchor_choice anchor bytes → (e ≡ Memory) × Unit {0})
+    (which : length bytes ≤ limit → IsRefusal e (whole_reading rfc5280_trust_anchor_choice.reading bytes)) where
+  none_spelled : length bytes ≤ limit → (e ≡ Malformed) ⊎ CheckRefuses rfc5280_serial_number e → (e ≡ Memory) ⊎ IsNoAnchor bytes e
+  none_spelled fits kind = elim (is_memory e) [
+    | inl memory ↦ inl memory
+    | inr other ↦ inr (inr (fits, kind, (λ anchor spells. other (only fits anchor spells).0), which fits))
+  ]
+
+  pub no_anchor : (e ≡ Memory) ⊎ IsNoAnchor bytes e
+  no_anchor = elim (cases_lt limit (length bytes)) [
+    | inl long ↦ inr (inl (long, over long))
+    | inr fits ↦ elim (refused fits) [ inl memory ↦ inl memory.0 | inr kind ↦ none_spelled fits kind ]
+  ]
