@@ -14,7 +14,8 @@
  * Places are offsets from the first byte of the input, and lengths are numbers of bytes. Times are seconds since 1970-01-01T00:00:00Z. Dates
  * are those from 1970 to 9999: an input with an earlier one, which UTCTime has from 1950 on (RFC 5280 4.1.2.5.1), is X509_MALFORMED.
  *
- * Link with -lx509 (pkg-config x509); or with libx509_c.a of crates/x509_c and liblibc_c.a of the toolchain. */
+ * Link as pkg-config tells of the package x509, by `cc main.c $(pkg-config --cflags --libs x509)`, or as CMake does, by find_package(x509) and x509::x509,
+ * where the library is installed. Sections are those of the standard that is named in front of them, as RFC 5280 4.2; else of the one that is named last. */
 #ifndef X509_H
 #define X509_H
 
@@ -104,6 +105,78 @@ x509_status x509_name_from_text(const uint8_t *text, size_t len, uint8_t *out, s
  * Answers X509_OK, X509_MALFORMED. */
 x509_status x509_signed_slice(const uint8_t *in, size_t len, x509_span *part);
 
+/* ---- object identifiers and algorithms
+ *
+ * Object identifiers by their content octets, as the calls take them and say where they stand: a call takes one by its bytes, the constant as a
+ * `const uint8_t *`, and its length, as sizeof(X509_OID_KEY_USAGE) - 1. */
+
+/* Of extensions (RFC 5280 4.2, 5.2, 5.3; RFC 3280 4.2.1.4; RFC 6960 4.2.2.2.1; RFC 6962 3.1, 3.3; RFC 7633). */
+#define X509_OID_SUBJECT_DIRECTORY_ATTRIBUTES "\x55\x1d\x09" /* 2.5.29.9 */
+#define X509_OID_SUBJECT_KEY_IDENTIFIER "\x55\x1d\x0e" /* 2.5.29.14 */
+#define X509_OID_KEY_USAGE "\x55\x1d\x0f" /* 2.5.29.15 */
+#define X509_OID_PRIVATE_KEY_USAGE_PERIOD "\x55\x1d\x10" /* 2.5.29.16 */
+#define X509_OID_SUBJECT_ALT_NAME "\x55\x1d\x11" /* 2.5.29.17 */
+#define X509_OID_ISSUER_ALT_NAME "\x55\x1d\x12" /* 2.5.29.18 */
+#define X509_OID_BASIC_CONSTRAINTS "\x55\x1d\x13" /* 2.5.29.19 */
+#define X509_OID_CRL_NUMBER "\x55\x1d\x14" /* 2.5.29.20 */
+#define X509_OID_CRL_REASON "\x55\x1d\x15" /* 2.5.29.21 */
+#define X509_OID_INVALIDITY_DATE "\x55\x1d\x18" /* 2.5.29.24 */
+#define X509_OID_DELTA_CRL_INDICATOR "\x55\x1d\x1b" /* 2.5.29.27 */
+#define X509_OID_ISSUING_DISTRIBUTION_POINT "\x55\x1d\x1c" /* 2.5.29.28 */
+#define X509_OID_CERTIFICATE_ISSUER "\x55\x1d\x1d" /* 2.5.29.29 */
+#define X509_OID_NAME_CONSTRAINTS "\x55\x1d\x1e" /* 2.5.29.30 */
+#define X509_OID_CRL_DISTRIBUTION_POINTS "\x55\x1d\x1f" /* 2.5.29.31 */
+#define X509_OID_CERTIFICATE_POLICIES "\x55\x1d\x20" /* 2.5.29.32 */
+#define X509_OID_POLICY_MAPPINGS "\x55\x1d\x21" /* 2.5.29.33 */
+#define X509_OID_AUTHORITY_KEY_IDENTIFIER "\x55\x1d\x23" /* 2.5.29.35 */
+#define X509_OID_POLICY_CONSTRAINTS "\x55\x1d\x24" /* 2.5.29.36 */
+#define X509_OID_EXTENDED_KEY_USAGE "\x55\x1d\x25" /* 2.5.29.37 */
+#define X509_OID_FRESHEST_CRL "\x55\x1d\x2e" /* 2.5.29.46 */
+#define X509_OID_INHIBIT_ANY_POLICY "\x55\x1d\x36" /* 2.5.29.54 */
+#define X509_OID_AUTHORITY_INFO_ACCESS "\x2b\x06\x01\x05\x05\x07\x01\x01" /* 1.3.6.1.5.5.7.1.1 */
+#define X509_OID_SUBJECT_INFO_ACCESS "\x2b\x06\x01\x05\x05\x07\x01\x0b" /* 1.3.6.1.5.5.7.1.11 */
+#define X509_OID_TLS_FEATURE "\x2b\x06\x01\x05\x05\x07\x01\x18" /* 1.3.6.1.5.5.7.1.24 */
+#define X509_OID_OCSP_NO_CHECK "\x2b\x06\x01\x05\x05\x07\x30\x01\x05" /* 1.3.6.1.5.5.7.48.1.5 */
+#define X509_OID_SIGNED_CERTIFICATE_TIMESTAMPS "\x2b\x06\x01\x04\x01\xd6\x79\x02\x04\x02" /* 1.3.6.1.4.1.11129.2.4.2 */
+#define X509_OID_PRECERT_POISON "\x2b\x06\x01\x04\x01\xd6\x79\x02\x04\x03" /* 1.3.6.1.4.1.11129.2.4.3 */
+
+/* Of purposes (RFC 5280 4.2.1.12), means of access (4.2.2.1) and policies (4.2.1.4). */
+#define X509_OID_SERVER_AUTH "\x2b\x06\x01\x05\x05\x07\x03\x01" /* 1.3.6.1.5.5.7.3.1 */
+#define X509_OID_CLIENT_AUTH "\x2b\x06\x01\x05\x05\x07\x03\x02" /* 1.3.6.1.5.5.7.3.2 */
+#define X509_OID_CODE_SIGNING "\x2b\x06\x01\x05\x05\x07\x03\x03" /* 1.3.6.1.5.5.7.3.3 */
+#define X509_OID_EMAIL_PROTECTION "\x2b\x06\x01\x05\x05\x07\x03\x04" /* 1.3.6.1.5.5.7.3.4 */
+#define X509_OID_TIME_STAMPING "\x2b\x06\x01\x05\x05\x07\x03\x08" /* 1.3.6.1.5.5.7.3.8 */
+#define X509_OID_OCSP_SIGNING "\x2b\x06\x01\x05\x05\x07\x03\x09" /* 1.3.6.1.5.5.7.3.9 */
+#define X509_OID_ANY_EXTENDED_KEY_USAGE "\x55\x1d\x25\x00" /* 2.5.29.37.0 */
+#define X509_OID_OCSP "\x2b\x06\x01\x05\x05\x07\x30\x01" /* 1.3.6.1.5.5.7.48.1 */
+#define X509_OID_CA_ISSUERS "\x2b\x06\x01\x05\x05\x07\x30\x02" /* 1.3.6.1.5.5.7.48.2 */
+#define X509_OID_ANY_POLICY "\x55\x1d\x20\x00" /* 2.5.29.32.0 */
+#define X509_OID_CPS "\x2b\x06\x01\x05\x05\x07\x02\x01" /* 1.3.6.1.5.5.7.2.1 */
+#define X509_OID_USER_NOTICE "\x2b\x06\x01\x05\x05\x07\x02\x02" /* 1.3.6.1.5.5.7.2.2 */
+
+/* Of attributes of names (RFC 5280 appendix A.1) and of CSRs (RFC 2985 5.4). */
+#define X509_OID_COMMON_NAME "\x55\x04\x03" /* 2.5.4.3 */
+#define X509_OID_SERIAL_NUMBER "\x55\x04\x05" /* 2.5.4.5 */
+#define X509_OID_COUNTRY "\x55\x04\x06" /* 2.5.4.6 */
+#define X509_OID_LOCALITY "\x55\x04\x07" /* 2.5.4.7 */
+#define X509_OID_STATE_OR_PROVINCE "\x55\x04\x08" /* 2.5.4.8 */
+#define X509_OID_ORGANIZATION "\x55\x04\x0a" /* 2.5.4.10 */
+#define X509_OID_ORGANIZATIONAL_UNIT "\x55\x04\x0b" /* 2.5.4.11 */
+#define X509_OID_EMAIL_ADDRESS "\x2a\x86\x48\x86\xf7\x0d\x01\x09\x01" /* 1.2.840.113549.1.9.1 */
+#define X509_OID_DOMAIN_COMPONENT "\x09\x92\x26\x89\x93\xf2\x2c\x64\x01\x19" /* 0.9.2342.19200300.100.1.25 */
+#define X509_OID_CHALLENGE_PASSWORD "\x2a\x86\x48\x86\xf7\x0d\x01\x09\x07" /* 1.2.840.113549.1.9.7 */
+#define X509_OID_EXTENSION_REQUEST "\x2a\x86\x48\x86\xf7\x0d\x01\x09\x0e" /* 1.2.840.113549.1.9.14 */
+
+/* Signature algorithms, each a whole AlgorithmIdentifier in DER, with its parameters, for the calls of building. */
+#define X509_ALGORITHM_RSA_SHA256 "\x30\x0d\x06\x09\x2a\x86\x48\x86\xf7\x0d\x01\x01\x0b\x05\x00" /* RFC 4055 5 */
+#define X509_ALGORITHM_RSA_SHA384 "\x30\x0d\x06\x09\x2a\x86\x48\x86\xf7\x0d\x01\x01\x0c\x05\x00"
+#define X509_ALGORITHM_RSA_SHA512 "\x30\x0d\x06\x09\x2a\x86\x48\x86\xf7\x0d\x01\x01\x0d\x05\x00"
+#define X509_ALGORITHM_ECDSA_SHA256 "\x30\x0a\x06\x08\x2a\x86\x48\xce\x3d\x04\x03\x02" /* RFC 5758 3.2 */
+#define X509_ALGORITHM_ECDSA_SHA384 "\x30\x0a\x06\x08\x2a\x86\x48\xce\x3d\x04\x03\x03"
+#define X509_ALGORITHM_ECDSA_SHA512 "\x30\x0a\x06\x08\x2a\x86\x48\xce\x3d\x04\x03\x04"
+#define X509_ALGORITHM_ED25519 "\x30\x05\x06\x03\x2b\x65\x70" /* RFC 8410 3 */
+#define X509_ALGORITHM_ED448 "\x30\x05\x06\x03\x2b\x65\x71"
+
 /* ---- certificates */
 
 /* Each span is a whole element, with its identifier and length octets. */
@@ -178,6 +251,17 @@ typedef struct {
  * Answers X509_OK, X509_OVERLENGTH, X509_MALFORMED. */
 x509_status x509_basic_constraints(const uint8_t *value, size_t len, x509_basic_constraints_view *view);
 
+typedef struct {
+    uint32_t has_not_before; /* 1 where a first moment is said, else 0 */
+    uint64_t not_before;     /* 0 where it isn't said */
+    uint32_t has_not_after;  /* 1 where a last moment is said, else 0 */
+    uint64_t not_after;      /* 0 where it isn't said */
+} x509_private_key_usage_period_view;
+
+/* Reads a PrivateKeyUsagePeriod (2.5.29.16), and says in which period the private key may sign. It takes no memory.
+ * Answers X509_OK, X509_OVERLENGTH, X509_MALFORMED. */
+x509_status x509_private_key_usage_period(const uint8_t *value, size_t len, x509_private_key_usage_period_view *view);
+
 /* Kinds of general names, by their tag numbers (RFC 5280 4.2.1.6). An X.400 address, 3, is X509_MALFORMED. */
 #define X509_GENERAL_NAME_OTHER 0
 #define X509_GENERAL_NAME_EMAIL 1
@@ -196,6 +280,8 @@ typedef struct {
                         * registered OID; of the other two kinds their fields */
     x509_span type_id; /* of an otherName the content octets of its type's OID; else 0 and 0 */
     x509_span value;   /* of an otherName its value, a whole element; else 0 and 0 */
+    x509_span name_assigner; /* of an ediPartyName the name of its assigner, a whole element, for x509_string_text; 0 and 0 where it has none, and else */
+    x509_span party_name;    /* of an ediPartyName the name of the party, a whole element, for x509_string_text; else 0 and 0 */
 } x509_general_name;
 
 /* The names of a GeneralNames, one after the other, such as those of a SAN (2.5.29.17) or an IssuerAltName (2.5.29.18).
@@ -254,9 +340,27 @@ typedef struct {
     x509_span qualifier;  /* a whole element, which isn't looked into; 0 and 0 where it is left out */
 } x509_policy_qualifier;
 
-/* What qualifies a policy, one after the other.
+/* What qualifies a policy, one after the other. The address of a practice statement, 1.3.6.1.5.5.7.2.1, is a text, for x509_string_text, and a user notice,
+ * 1.3.6.1.5.5.7.2.2, is for x509_user_notice.
  * Answers X509_OK, X509_MEMORY, X509_OVERLENGTH, X509_MALFORMED, X509_ABSENT. */
 x509_status x509_policy_qualifiers_next(const uint8_t *value, size_t len, size_t *at, x509_policy_qualifier *found);
+
+/* Of what is left out both numbers are 0. */
+typedef struct {
+    x509_span organization;   /* who wrote the notices that are referred to, a whole element, for x509_string_text */
+    x509_span notice_numbers; /* their numbers, a whole SEQUENCE, for x509_numbers_next */
+    x509_span explicit_text;  /* the text of the notice, a whole element, for x509_string_text */
+} x509_user_notice_view;
+
+/* Reads a UserNotice (RFC 5280 4.2.1.4), and says where its parts stand.
+ * Answers X509_OK, X509_MEMORY, X509_OVERLENGTH, X509_MALFORMED. */
+x509_status x509_user_notice(const uint8_t *value, size_t len, x509_user_notice_view *view);
+
+/* The numbers of a SEQUENCE OF INTEGER, one after the other, as those of a reference to notices, of TLS features (1.3.6.1.5.5.7.1.24; RFC 7633 4), or
+ * the parameters of a DSA key (RFC 3279 2.3.2): the content octets of their INTEGERs, the most significant octet first, behind a 00 where the first bit
+ * would be 1, as x509_serial_decimal takes them. X509_MALFORMED also for a number below 0.
+ * Answers X509_OK, X509_MEMORY, X509_OVERLENGTH, X509_MALFORMED, X509_ABSENT. */
+x509_status x509_numbers_next(const uint8_t *value, size_t len, size_t *at, x509_span *found);
 
 typedef struct {
     x509_span issuer_policy;  /* the content octets of the identifier in the issuer's domain */
@@ -332,6 +436,10 @@ x509_status x509_base_crl_number(const uint8_t *value, size_t len, x509_span *fo
 /* Reads the reason code of an entry of a CRL (2.5.29.21), and says its number (RFC 5280 5.3.1): 0 to 10, but not 7. It takes no memory.
  * Answers X509_OK, X509_OVERLENGTH, X509_MALFORMED. */
 x509_status x509_crl_reason(const uint8_t *value, size_t len, uint32_t *reason);
+
+/* Reads the invalidity date of an entry of a CRL (2.5.29.24), since when the certificate is suspected to be invalid. It takes no memory.
+ * Answers X509_OK, X509_OVERLENGTH, X509_MALFORMED. */
+x509_status x509_invalidity_date(const uint8_t *value, size_t len, uint64_t *moment);
 
 /* Of what is left out both numbers are 0. */
 typedef struct {
@@ -434,6 +542,13 @@ x509_status x509_name_escape(const uint8_t *text, size_t text_len, uint8_t *out,
 
 /* ---- texts; rooms are as said under whole values */
 
+/* Reads a character string, a whole element, and writes its text (UTF-8, no zero at the end): of the types UTF8String, NumericString, PrintableString,
+ * TeletexString, IA5String, VisibleString and BMPString, as `element` of x509_attribute, of x509_element, or what qualifies a policy. A TeletexString is read
+ * in its characters up to 7F alone. Characters of control, NUL among them, stand as they are. X509_MALFORMED where it is an element of another type, or has a
+ * character that its type hasn't.
+ * Answers X509_OK, X509_ROOM, X509_MEMORY, X509_OVERLENGTH, X509_MALFORMED. */
+x509_status x509_string_text(const uint8_t *element, size_t len, uint8_t *out, size_t room, size_t *written);
+
 /* Reads a serial number under RFC 5280, as `serial_number` of x509_certificate, and says where the content octets of its INTEGER stand. X509_MALFORMED also where there
  * are more than 21.
  * Answers X509_OK, X509_MEMORY, X509_OVERLENGTH, X509_MALFORMED. */
@@ -452,6 +567,11 @@ x509_status x509_serial_decimal(const uint8_t *content, size_t len, uint8_t *out
 /* Writes the text of a moment, in seconds since 1970-01-01T00:00:00Z: 20 bytes, as "2026-01-02T03:04:05Z" (no zero at the end). X509_VALUE after 9999-12-31T23:59:59Z.
  * Answers X509_OK, X509_ROOM, X509_MEMORY, X509_VALUE. */
 x509_status x509_time_text(uint64_t moment, uint8_t *out, size_t room, size_t *written);
+
+/* Reads the text of a moment, as x509_time_text writes it, and says how many seconds it is after 1970-01-01T00:00:00Z. X509_FAILED where it is a bad
+ * text, that of no moment through 9999. It takes no memory.
+ * Answers X509_OK, X509_FAILED. */
+x509_status x509_time_from_text(const uint8_t *text, size_t len, uint64_t *moment);
 
 /* Writes what a status means in a few words, such as "out of memory" (ASCII, no zero at the end). X509_FAILED where no status has the number. It takes
  * no memory.
@@ -625,7 +745,8 @@ typedef struct {
 } x509_crl_entry;
 
 /* The entries of a CRL, one after the other; `value` is `entries` of its view, and the walk is as said under values of extensions. All steps together
- * take time in proportion to the bytes.
+ * take time in proportion to the bytes. Of the extensions of an entry x509_crl_reason reads the reason code, x509_invalidity_date the invalidity date, and
+ * x509_general_names_next the issuer (2.5.29.29), which is in force for that entry and those behind it up to the next one that has it (RFC 5280 5.3.3).
  * Answers X509_OK, X509_MEMORY, X509_OVERLENGTH, X509_MALFORMED, X509_ABSENT. */
 x509_status x509_crl_entry_next(const uint8_t *value, size_t len, size_t *at, x509_crl_entry *found);
 
@@ -665,6 +786,10 @@ typedef struct {
     x509_span content; /* its content octets, which aren't looked at */
 } x509_element;
 
+/* The attributes of a SubjectDirectoryAttributes (2.5.29.9), one after the other.
+ * Answers X509_OK, X509_MEMORY, X509_OVERLENGTH, X509_MALFORMED, X509_ABSENT. */
+x509_status x509_subject_directory_attributes_next(const uint8_t *value, size_t len, size_t *at, x509_request_attribute *found);
+
 /* The values of an attribute, a SET, one after the other. Whether they are in order, and all different, isn't looked at.
  * Answers X509_OK, X509_MEMORY, X509_OVERLENGTH, X509_MALFORMED, X509_ABSENT. */
 x509_status x509_attribute_value_next(const uint8_t *value, size_t len, size_t *at, x509_element *found);
@@ -697,11 +822,25 @@ typedef struct {
     x509_span parameters; /* the parameters of its algorithm, a whole element, looked at for the name of a curve alone; 0 and 0 where absent */
     x509_span bits;       /* the octets of the key: what its BIT STRING holds after the first octet */
     uint32_t unused_bits; /* how many bits of the last of these octets are unused, 0 to 7 */
+    x509_span curve;      /* of a key of an elliptic curve the content octets of the OID of the curve; 0 and 0 where the curve isn't named, and of other keys */
 } x509_key;
 
-/* Decodes a SubjectPublicKeyInfo, such as `subject_public_key_info` of x509_certificate, and says what it holds and where. The key isn't looked into.
+/* Decodes a SubjectPublicKeyInfo, such as `subject_public_key_info` of x509_certificate, and says what it holds and where. The key isn't looked into: its
+ * bits are the point of an elliptic curve (RFC 5480 2.2), or what x509_rsa_key_view reads.
  * Answers X509_OK, X509_MEMORY, X509_OVERLENGTH, X509_MALFORMED. */
 x509_status x509_key_view(const uint8_t *in, size_t len, x509_key *view);
+
+/* The numbers are the content octets of their INTEGERs: the most significant octet first, behind a 00 where the first bit would be 1. */
+typedef struct {
+    x509_span modulus;
+    x509_span public_exponent;
+    uint32_t modulus_bits; /* how many bits the modulus has, as 2048 */
+} x509_rsa_key;
+
+/* Decodes an RSAPublicKey (RFC 8017 A.1.1), which the bits of a key of the kind X509_KEY_RSA or X509_KEY_RSA_PSS are, and says where its parts stand. The
+ * numbers aren't below 0; whether they are good ones isn't checked.
+ * Answers X509_OK, X509_MEMORY, X509_OVERLENGTH, X509_MALFORMED. */
+x509_status x509_rsa_key_view(const uint8_t *in, size_t len, x509_rsa_key *view);
 
 /* Kinds of signature algorithms, by their OIDs. */
 #define X509_SIGNATURE_OTHER 0

@@ -160,6 +160,10 @@ static x509_anchor anchor;
 static x509_path_controls controls;
 static x509_timestamp timestamp;
 static uint32_t number = 7;
+static uint64_t moment = 7;
+static x509_user_notice_view notice;
+static x509_private_key_usage_period_view period;
+static x509_rsa_key rsa;
 
 /* Each call on a payload or a name, with these bytes, gives that status, and fills in nothing. */
 static void refused_values(const uint8_t *bytes, size_t len, x509_status status)
@@ -180,6 +184,13 @@ static void refused_values(const uint8_t *bytes, size_t len, x509_status status)
     WANT(x509_access_next(bytes, len, &at, &access_found) == status);
     WANT(x509_certificate_policies_next(bytes, len, &at, &policy) == status);
     WANT(x509_policy_qualifiers_next(bytes, len, &at, &qualifier) == status);
+    WANT(x509_user_notice(bytes, len, &notice) == status);
+    WANT(x509_numbers_next(bytes, len, &at, &part) == status);
+    WANT(x509_private_key_usage_period(bytes, len, &period) == status);
+    WANT(x509_invalidity_date(bytes, len, &moment) == status);
+    WANT(x509_subject_directory_attributes_next(bytes, len, &at, &asked) == status);
+    WANT(x509_rsa_key_view(bytes, len, &rsa) == status);
+    WANT(x509_string_text(bytes, len, NULL, 0, &written) == status);
     WANT(x509_policy_mappings_next(bytes, len, &at, &mapping) == status);
     WANT(x509_policy_constraints(bytes, len, &constraints) == status);
     WANT(x509_inhibit_any_policy(bytes, len, &number) == status);
@@ -215,6 +226,7 @@ static void refused_values(const uint8_t *bytes, size_t len, x509_status status)
     WANT(access_found.location.kind == 0 && policy.identifier.len == 0 && qualifier.identifier.len == 0 && mapping.subject_policy.len == 0);
     WANT(constraints.has_require_explicit_policy == 0 && point.has_reasons == 0 && issuing.full_name.len == 0 && names.excluded.len == 0);
     WANT(subtree.base.element.len == 0 && extension.oid.len == 0 && basic.ca == 0 && general.element.len == 0);
+    WANT(notice.explicit_text.len == 0 && period.has_not_before == 0 && moment == 7 && rsa.modulus.len == 0);
 }
 
 /* Each span is a whole element; behind the signed SEQUENCE stands nothing. */

@@ -173,7 +173,7 @@ fi
 [ ! -d "$folder/paths" ] || python3 -B "$robustness/spoil_paths.py" "$folder/paths" "$folder/spoilt" "$folder/libx509.so" || failed=1
 
 compiler=("${CC:-cc}" -std=c11 -Wall -Wextra -Werror -O1 -g -I "$top/include")
-callers=(show name calls calls_values calls_build calls_documents rules payloads)
+callers=(show name calls calls_values calls_parts calls_build calls_documents rules payloads)
 printf '%s\n' '#include <openssl/evp.h>' 'int main(void) { return EVP_DigestVerifyInit_ex == NULL; }' >"$folder/tried.c"
 if "${CC:-cc}" "$folder/tried.c" -lcrypto -o "$folder/tried" 2>"$folder/said"; then
     callers+=(path authority)
@@ -197,7 +197,7 @@ run_c() {
     local name=$1 suffix=$2 asked
     shift 2
     show "$name" "$@" "$folder/show$suffix"
-    for asked in calls calls_values calls_build calls_documents; do
+    for asked in calls calls_values calls_parts calls_build calls_documents; do
         wants "$name, $asked" 0 "$folder/calls.txt" "$@" "$folder/$asked$suffix" "${files[@]}"
     done
     wants "$name, a name of values" 0 "$folder/name.txt" "$@" "$folder/name$suffix" C US O 'Haus, Hof + Söhne' CN 'a,O=Evil'

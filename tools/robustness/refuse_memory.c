@@ -73,7 +73,7 @@ static void wrong(const char *what, long number)
 
 /* ---- each call */
 
-enum { CALLS = 55 };
+enum { CALLS = 60 };
 
 static uint8_t certificate[65536], list[65536], request[65536], room[65536];
 static size_t certificate_len, list_len, request_len;
@@ -94,6 +94,8 @@ static x509_crl crl;
 static x509_crl_entry entry;
 static x509_request csr;
 static x509_key key;
+static x509_rsa_key rsa;
+static x509_user_notice_view notice;
 static x509_anchor anchor;
 static x509_timestamp timestamp;
 static size_t count, at;
@@ -249,6 +251,17 @@ static x509_status call(int number)
         return x509_path_validate_under_key(certificate + own.subject.place, own.subject.len, certificate + own.subject_public_key_info.place,
                                             own.subject_public_key_info.len, certificate, certificate_len, &certificate_len, 1, NULL, 0, &FIRST_SECOND,
                                             sizeof FIRST_SECOND, &answer);
+    case 54:
+        return x509_string_text(BYTES("\x1e\x1e" "\x00" "a\x00" "a\x00" "a\x00" "a\x00" "a\x00" "a\x00" "a\x00" "a\x00" "a\x00" "a\x00" "a\x00" "a\x00" "a\x00" "a\x00" "a"),
+                                room, sizeof room, &count);
+    case 55:
+        return x509_user_notice(BYTES("\x30\x20\x0c\x1e" "aaaaaaaaaaaaaaaaaaaaaaaaaaaaaa"), &notice);
+    case 56:
+        return x509_numbers_next(BYTES("\x30\x20\x02\x1e" "aaaaaaaaaaaaaaaaaaaaaaaaaaaaaa"), &at, &part);
+    case 57:
+        return x509_subject_directory_attributes_next(BYTES("\x30\x29\x30\x27\x06\x03\x55\x04\x03\x31\x20\x0c\x1e" "aaaaaaaaaaaaaaaaaaaaaaaaaaaaaa"), &at, &wanted);
+    case 58:
+        return x509_rsa_key_view(BYTES("\x30\x23\x02\x1e" "aaaaaaaaaaaaaaaaaaaaaaaaaaaaaa" "\x02\x01\x03"), &rsa);
     default:
         /* in the first second of the validity */
         return x509_path_check(certificate, certificate_len, certificate, certificate_len, &certificate_len, 1, 1767323045, &fault);
@@ -273,6 +286,8 @@ static int holds(int number, long from, long to)
     const x509_crl_entry old_entry = entry;
     const x509_request old_csr = csr;
     const x509_key old_key = key;
+    const x509_rsa_key old_rsa = rsa;
+    const x509_user_notice_view old_notice = notice;
     const x509_anchor old_anchor = anchor;
     const x509_timestamp old_timestamp = timestamp;
     const size_t old_count = count;
@@ -295,7 +310,7 @@ static int holds(int number, long from, long to)
            memcmp(&names, &old_names, sizeof names) == 0 && memcmp(&crl, &old_crl, sizeof crl) == 0 &&
            memcmp(&entry, &old_entry, sizeof entry) == 0 && memcmp(&csr, &old_csr, sizeof csr) == 0 && memcmp(&key, &old_key, sizeof key) == 0 &&
            memcmp(&anchor, &old_anchor, sizeof anchor) == 0 && memcmp(&timestamp, &old_timestamp, sizeof timestamp) == 0 && count == old_count && matches == old_matches &&
-           memcmp(&answer, &old_answer, sizeof answer) == 0 && at == 0;
+           memcmp(&rsa, &old_rsa, sizeof rsa) == 0 && memcmp(&notice, &old_notice, sizeof notice) == 0 && memcmp(&answer, &old_answer, sizeof answer) == 0 && at == 0;
 }
 
 /* whether the call takes no memory: it answers what it is for, whatever is refused */

@@ -728,10 +728,14 @@ static void fill_pools(void)
 
 static void gather(const char *rows, int files, char **names)
 {
-    static const char *const texts[] = {"CN=a", "CN=a+O=b,C=DE", "CN=a,O=b,C=DE", "1.2.3=#0500", "O=\\2c\\ c,DC=d", "2.5.29.15", "1.3.6.1.4.1.11129.2.4.2"};
+    static const char *const texts[] = {"CN=a", "CN=a+O=b,C=DE", "CN=a,O=b,C=DE", "1.2.3=#0500", "O=\\2c\\ c,DC=d", "2.5.29.15", "1.3.6.1.4.1.11129.2.4.2",
+                                        "1970-01-01T00:00:00Z", "2026-01-02T03:04:05Z"};
     /* an OCTET STRING with a list of one timestamp (RFC 6962 3.3): v1, an ID of zeros, a moment, no extensions, SHA-256 with ECDSA, two octets */
     static const uint8_t timestamps[55] = {0x04, 53, 0, 51, 0, 49, [44] = 1, [49] = 4, [50] = 3, [52] = 2, [53] = 7, [54] = 7};
+    /* RSAPublicKey (RFC 8017 A.1.1): 51 and 3 */
+    static const uint8_t rsa_key[] = {0x30, 6, 2, 1, 0x33, 2, 1, 3};
     keep("", timestamps, sizeof timestamps);
+    keep("", rsa_key, sizeof rsa_key);
     for (size_t at = 0; at < sizeof texts / sizeof *texts; at++)
         keep("", (const uint8_t *)texts[at], strlen(texts[at]));
     for (int at = 0; at < files; at++)

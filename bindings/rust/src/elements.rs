@@ -3,16 +3,7 @@ use crate::csr::AttributeValue;
 use crate::error::Error;
 use crate::ffi::{self, Span};
 use crate::integer::Integer;
-use crate::oid::ObjectIdentifier;
-use crate::time::moment;
-use crate::writing::{self, context_elements, element, GENERALIZED_TIME, INTEGER, SEQUENCE, SET};
-use crate::Profile;
-use std::time::SystemTime;
-
-/// The same bytes, which the library decodes as a value of the type with that name.
-pub(crate) fn checked<'a>(kind: &str, der: &'a [u8]) -> Result<&'a [u8], Error> {
-    ffi::reencode(kind, Profile::Raw as u32, der).map(|_| der)
-}
+use crate::writing::{element, SET};
 
 /// The part of the bytes, where so many octets more stood in front of them.
 fn behind(span: Span, front: usize, data: &[u8]) -> Result<&[u8], Error> {
@@ -21,15 +12,10 @@ fn behind(span: Span, front: usize, data: &[u8]) -> Result<&[u8], Error> {
     Span { place, len }.of(data)
 }
 
-/// How many octets stand in front of a content, by its element.
-fn front(within: &[u8], content: &[u8]) -> usize {
-    within.len().saturating_sub(content.len())
-}
-
 /// The elements that stand one behind the other. The values of an attribute may be of any type, so the walk over them is one over any elements.
-pub(crate) fn elements(data: &[u8]) -> Result<Vec<AttributeValue<'_>>, Error> {
+fn elements(data: &[u8]) -> Result<Vec<AttributeValue<'_>>, Error> {
     let within = element(SET, data);
-    let front = front(&within, data);
+    let front = within.len().saturating_sub(data.len());
     let members = ffi::ATTRIBUTE_VALUES.over(&within);
     let found = members.map(|view| {
         let view = view?;
@@ -50,39 +36,14 @@ pub(crate) fn only(data: &[u8], tag: u8) -> Result<&[u8], Error> {
     }
 }
 
-/// The attributes that stand one behind the other, each with its values, a whole SET. A CSR has them under the tag `[0]`.
-pub(crate) fn attributes(data: &[u8]) -> Result<Vec<(ObjectIdentifier, &[u8])>, Error> {
-    let within = element(context_elements(0), data);
-    let front = front(&within, data);
-    let members = ffi::REQUEST_ATTRIBUTES.over(&within);
-    let found = members.map(|view| {
-        let view = view?;
-        let oid = ObjectIdentifier::found(behind(view.oid, front, data)?)?;
-        Ok((oid, behind(view.values, front, data)?))
-    });
-    found.collect()
+/// The values of an attribute, a whole SET, each a whole element.
+pub(crate) fn values(set: &[u8]) -> Result<Vec<&[u8]>, Error> {
+    let members = ffi::ATTRIBUTE_VALUES.over(set);
+    members.map(|view| view?.element.of(set)).collect()
 }
 
-/// The number that an INTEGER of at most 21 octets is, by its DER, as that of a serial number.
-pub(crate) fn integer(der: &[u8]) -> Result<Integer<'_>, Error> {
-    ffi::SERIAL_NUMBER.of(der)?.of(der).map(Integer)
-}
-
-/// The number that an INTEGER of any size is, by its DER, which isn't negative, as that of a CRL.
-pub(crate) fn natural(der: &[u8]) -> Result<Integer<'_>, Error> {
-    ffi::CRL_NUMBER.of(der)?.of(der).map(Integer)
-}
-
-/// The moment that a GeneralizedTime is, by its DER: the library tells it of an entry of a CRL that has this date.
-pub(crate) fn generalized_time(der: &[u8]) -> Result<SystemTime, Error> {
-    checked("GeneralizedTime", der)?;
-    let entry = writing::elements(SEQUENCE, [element(INTEGER, &[1]), der.to_vec()]);
-    let entries = element(SEQUENCE, &entry);
-    let found = ffi::CRL_ENTRIES.over(&entries).next();
-    moment(found.ok_or(Error::Unexpected)??.date)
-}
-
-/// The same of its content octets, as they stand under a tag of their own.
-pub(crate) fn generalized_time_of(content: &[u8]) -> Result<SystemTime, Error> {
-    generalized_time(&element(GENERALIZED_TIME, content))
+/// The numbers of a SEQUENCE of them, none of which is negative.
+pub(crate) fn numbers(der: &[u8]) -> Result<Vec<Integer<'_>>, Error> {
+    let members = ffi::NUMBERS.over(der);
+    members.map(|span| span?.of(der).map(Integer)).collect()
 }

@@ -87,6 +87,8 @@ pub(crate) struct GeneralName {
     pub(crate) content: Span,
     pub(crate) type_id: Span,
     pub(crate) value: Span,
+    pub(crate) name_assigner: Span,
+    pub(crate) party_name: Span,
 }
 
 #[repr(C)]
@@ -116,6 +118,23 @@ pub(crate) struct Policy {
 pub(crate) struct PolicyQualifier {
     pub(crate) identifier: Span,
     pub(crate) qualifier: Span,
+}
+
+#[repr(C)]
+#[derive(Clone, Copy, Debug, Default)]
+pub(crate) struct UserNoticeView {
+    pub(crate) organization: Span,
+    pub(crate) notice_numbers: Span,
+    pub(crate) explicit_text: Span,
+}
+
+#[repr(C)]
+#[derive(Clone, Copy, Debug, Default)]
+pub(crate) struct PrivateKeyUsagePeriodView {
+    pub(crate) has_not_before: u32,
+    pub(crate) not_before: u64,
+    pub(crate) has_not_after: u32,
+    pub(crate) not_after: u64,
 }
 
 #[repr(C)]
@@ -275,6 +294,15 @@ pub(crate) struct Key {
     pub(crate) parameters: Span,
     pub(crate) bits: Span,
     pub(crate) unused_bits: u32,
+    pub(crate) curve: Span,
+}
+
+#[repr(C)]
+#[derive(Clone, Copy, Debug, Default)]
+pub(crate) struct RsaKey {
+    pub(crate) modulus: Span,
+    pub(crate) public_exponent: Span,
+    pub(crate) modulus_bits: u32,
 }
 
 #[repr(C)]
@@ -366,6 +394,11 @@ extern "C" {
     fn x509_certificate_policies_next(value: *const u8, len: usize, at: *mut usize, found: *mut Policy) -> c_int;
     fn x509_certificate_policies_under_next(number: u32, value: *const u8, len: usize, at: *mut usize, found: *mut Policy) -> c_int;
     fn x509_policy_qualifiers_next(value: *const u8, len: usize, at: *mut usize, found: *mut PolicyQualifier) -> c_int;
+    fn x509_user_notice(value: *const u8, len: usize, view: *mut UserNoticeView) -> c_int;
+    fn x509_numbers_next(value: *const u8, len: usize, at: *mut usize, found: *mut Span) -> c_int;
+    fn x509_private_key_usage_period(value: *const u8, len: usize, view: *mut PrivateKeyUsagePeriodView) -> c_int;
+    fn x509_invalidity_date(value: *const u8, len: usize, moment: *mut u64) -> c_int;
+    fn x509_string_text(element: *const u8, len: usize, out: *mut u8, room: usize, written: *mut usize) -> c_int;
     fn x509_policy_mappings_next(value: *const u8, len: usize, at: *mut usize, found: *mut PolicyMapping) -> c_int;
     fn x509_policy_constraints(value: *const u8, len: usize, view: *mut PolicyConstraintsView) -> c_int;
     fn x509_inhibit_any_policy(value: *const u8, len: usize, certificates: *mut u32) -> c_int;
@@ -397,10 +430,12 @@ extern "C" {
     fn x509_crl_entry_next(value: *const u8, len: usize, at: *mut usize, found: *mut CrlEntry) -> c_int;
     fn x509_request_view(input: *const u8, len: usize, view: *mut Request) -> c_int;
     fn x509_request_attribute_next(value: *const u8, len: usize, at: *mut usize, found: *mut RequestAttribute) -> c_int;
+    fn x509_subject_directory_attributes_next(value: *const u8, len: usize, at: *mut usize, found: *mut RequestAttribute) -> c_int;
     fn x509_attribute_value_next(value: *const u8, len: usize, at: *mut usize, found: *mut Element) -> c_int;
     fn x509_request_attribute_find(input: *const u8, len: usize, oid: *const u8, oid_len: usize, found: *mut RequestAttribute) -> c_int;
     fn x509_request_extensions(input: *const u8, len: usize, found: *mut Span) -> c_int;
     fn x509_key_view(input: *const u8, len: usize, view: *mut Key) -> c_int;
+    fn x509_rsa_key_view(input: *const u8, len: usize, view: *mut RsaKey) -> c_int;
     fn x509_algorithm_view(input: *const u8, len: usize, view: *mut Algorithm) -> c_int;
     fn x509_anchor_view(input: *const u8, len: usize, view: *mut Anchor) -> c_int;
     fn x509_path_controls_view(value: *const u8, len: usize, view: *mut PathControls) -> c_int;
@@ -598,6 +633,7 @@ pub(crate) const CRL: View<Crl> = View(x509_crl_view);
 pub(crate) const REQUEST: View<Request> = View(x509_request_view);
 pub(crate) const REQUEST_EXTENSIONS: View<Span> = View(x509_request_extensions);
 pub(crate) const KEY: View<Key> = View(x509_key_view);
+pub(crate) const RSA_KEY: View<RsaKey> = View(x509_rsa_key_view);
 pub(crate) const ALGORITHM: View<Algorithm> = View(x509_algorithm_view);
 pub(crate) const ANCHOR: View<Anchor> = View(x509_anchor_view);
 pub(crate) const PATH_CONTROLS: View<PathControls> = View(x509_path_controls_view);
@@ -607,6 +643,10 @@ pub(crate) const BASIC_CONSTRAINTS: View<BasicConstraintsView> = View(x509_basic
 pub(crate) const SUBJECT_KEY_IDENTIFIER: View<Span> = View(x509_subject_key_identifier);
 pub(crate) const AUTHORITY_KEY_IDENTIFIER: View<AuthorityKeyIdentifierView> =
     View(x509_authority_key_identifier);
+pub(crate) const USER_NOTICE: View<UserNoticeView> = View(x509_user_notice);
+pub(crate) const PRIVATE_KEY_USAGE_PERIOD: View<PrivateKeyUsagePeriodView> =
+    View(x509_private_key_usage_period);
+pub(crate) const INVALIDITY_DATE: View<u64> = View(x509_invalidity_date);
 pub(crate) const POLICY_CONSTRAINTS: View<PolicyConstraintsView> = View(x509_policy_constraints);
 pub(crate) const INHIBIT_ANY_POLICY: View<u32> = View(x509_inhibit_any_policy);
 pub(crate) const ISSUING_DISTRIBUTION_POINT: View<IssuingDistributionPointView> =
@@ -619,6 +659,7 @@ pub(crate) const NAME_CONSTRAINTS: View<NameConstraintsView> = View(x509_name_co
 pub(crate) const CERTIFICATE_REENCODE: Fill = Fill(x509_certificate_reencode);
 pub(crate) const NAME_TEXT: Fill = Fill(x509_name_text);
 pub(crate) const NAME_FROM_TEXT: Fill = Fill(x509_name_from_text);
+pub(crate) const STRING_TEXT: Fill = Fill(x509_string_text);
 pub(crate) const OID_TEXT: Fill = Fill(x509_oid_text);
 pub(crate) const OID_FROM_TEXT: Fill = Fill(x509_oid_from_text);
 pub(crate) const SERIAL_TEXT: Fill = Fill(x509_serial_text);
@@ -648,6 +689,7 @@ pub(crate) static POLICIES_UNDER_1: Walk<Policy> =
     Walk(Next::Under(1, x509_certificate_policies_under_next));
 pub(crate) static POLICY_QUALIFIERS: Walk<PolicyQualifier> =
     Walk(Next::Plain(x509_policy_qualifiers_next));
+pub(crate) static NUMBERS: Walk<Span> = Walk(Next::Plain(x509_numbers_next));
 pub(crate) static POLICY_MAPPINGS: Walk<PolicyMapping> =
     Walk(Next::Plain(x509_policy_mappings_next));
 pub(crate) static DISTRIBUTION_POINTS: Walk<DistributionPoint> =
@@ -657,6 +699,8 @@ pub(crate) static SUBTREES_UNDER_1: Walk<Subtree> = Walk(Next::Under(1, x509_sub
 pub(crate) static CRL_ENTRIES: Walk<CrlEntry> = Walk(Next::Plain(x509_crl_entry_next));
 pub(crate) static REQUEST_ATTRIBUTES: Walk<RequestAttribute> =
     Walk(Next::Plain(x509_request_attribute_next));
+pub(crate) static DIRECTORY_ATTRIBUTES: Walk<RequestAttribute> =
+    Walk(Next::Plain(x509_subject_directory_attributes_next));
 pub(crate) static ATTRIBUTE_VALUES: Walk<Element> = Walk(Next::Plain(x509_attribute_value_next));
 pub(crate) static TIMESTAMPS: Walk<Span> = Walk(Next::Plain(x509_timestamp_next));
 pub(crate) static NAME: Walk<Span> = Walk(Next::Plain(x509_name_next));

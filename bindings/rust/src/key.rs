@@ -1,10 +1,9 @@
 //! Public keys and algorithms (RFC 5280 4.1.1.2, 4.1.2.7).
-use crate::elements::{elements, natural, only};
+use crate::elements::numbers;
 use crate::error::Error;
 use crate::ffi;
 use crate::integer::Integer;
 use crate::oid::ObjectIdentifier;
-use crate::writing::{OBJECT_IDENTIFIER, SEQUENCE};
 
 macro_rules! kinds {
     ($(#[$said:meta])* $name:ident { $($(#[$kind_said:meta])* $kind:ident = $number:literal,)* }) => {
@@ -127,6 +126,9 @@ pub struct PublicKey<'a> {
 
     /// How many bits of the last of these octets are unused, 0 to 7.
     pub unused_bits: u32,
+
+    /// The content octets of the OID of its curve.
+    curve: Option<&'a [u8]>,
 }
 
 impl<'a> PublicKey<'a> {
@@ -142,6 +144,7 @@ impl<'a> PublicKey<'a> {
             parameters: view.parameters.part(der)?,
             bits: view.bits.of(der)?,
             unused_bits: view.unused_bits,
+            curve: view.curve.part(der)?,
         })
     }
 
@@ -153,10 +156,10 @@ impl<'a> PublicKey<'a> {
         if !matches!(self.kind, KeyKind::Rsa | KeyKind::RsaPss) {
             return Ok(None);
         }
-        let [modulus, public_exponent] = numbers(self.bits)?;
+        let view = ffi::RSA_KEY.of(self.bits)?;
         Ok(Some(RsaPublicKey {
-            modulus,
-            public_exponent,
+            modulus: Integer(view.modulus.of(self.bits)?),
+            public_exponent: Integer(view.public_exponent.of(self.bits)?),
         }))
     }
 
@@ -165,15 +168,7 @@ impl<'a> PublicKey<'a> {
     /// # Errors
     /// [`Error::Malformed`] where the parameters are no such name; [`Error::Memory`].
     pub fn curve(&self) -> Result<Option<ObjectIdentifier>, Error> {
-        let Some(parameters) = self.parameters.filter(|_| self.is_of_a_curve()) else {
-            return Ok(None);
-        };
-        match elements(parameters)?[..] {
-            [found] if found.tag == OBJECT_IDENTIFIER => {
-                ObjectIdentifier::from_bytes(found.content).map(Some)
-            }
-            _ => Ok(None),
-        }
+        self.curve.map(ObjectIdentifier::from_bytes).transpose()
     }
 
     /// The octets of the point of a key of an elliptic curve (SEC 1 2.3.3), or those of a key of RFC 8410; none of a key of another kind.
@@ -192,7 +187,9 @@ impl<'a> PublicKey<'a> {
             KeyKind::Rsa | KeyKind::RsaPss => self.rsa()?.map(|it| bits_of(it.modulus)),
             KeyKind::Dsa => match self.parameters {
                 Some(parameters) => {
-                    let [prime, _, _] = numbers(parameters)?;
+                    let [prime, _, _] = numbers(parameters)?[..] else {
+                        return Err(Error::Malformed);
+                    };
                     Some(bits_of(prime))
                 }
                 None => None,
@@ -241,16 +238,6 @@ pub struct RsaPublicKey<'a> {
 
     /// The exponent.
     pub public_exponent: Integer<'a>,
-}
-
-/// The numbers of a SEQUENCE of so many of them, none of which is negative.
-fn numbers<const COUNT: usize>(der: &[u8]) -> Result<[Integer<'_>; COUNT], Error> {
-    let found = elements(only(der, SEQUENCE)?)?;
-    let found: Vec<_> = found
-        .iter()
-        .map(|it| natural(it.der))
-        .collect::<Result<_, _>>()?;
-    found.try_into().map_err(|_| Error::Malformed)
 }
 
 /// How many bits a number has that isn't negative.

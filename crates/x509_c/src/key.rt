@@ -3,12 +3,13 @@
 ghost use Rattle.std.specs.Prelude.{◌≡◌, []};
 ghost use Rattle.x509_c_calls.specs.Algorithms.{IsAlgorithm};
 ghost use Rattle.x509_c_calls.specs.Keys.{IsKey};
+ghost use Rattle.x509_c_calls.specs.RsaKeys.{IsRsaKey};
 ghost use Rattle.x509_c_calls.specs.Calls.{Reads};
 ghost use Rattle.x509_c_calls.specs.Status.{Tells};
 
 use std::alloc::Global;
 use x509_base::{AlgorithmIdentifier, SubjectPublicKeyInfo};
-use x509_c_calls::{AlgorithmView, KeyView, payload};
+use x509_c_calls::{AlgorithmView, KeyView, RsaKeyView, RsaPublicKey, payload, rsa_key};
 use x509_der::Grammar;
 
 /// Decodes a SubjectPublicKeyInfo, and fills in of which kind the key is and where its parts stand.
@@ -27,4 +28,13 @@ pub extern "C" fn x509_algorithm_view(alloc: Global, input: &[u8], view: &mut Al
         (λ algorithm. IsAlgorithm input.now algorithm [] view.new) (view.new ≡ view.old) status) result }
 {
     payload::<AlgorithmView>(alloc, input, view).code()
+}
+
+/// Decodes an RSA public key, and fills in where its parts stand and how long its modulus is.
+#[unsafe(no_mangle)]
+pub extern "C" fn x509_rsa_key_view(alloc: Global, input: &[u8], view: &mut RsaKeyView) -> i32
+    ensures { Tells (λ status. Reads ⟦<RsaPublicKey as Grammar>⟧.form ⟦<RsaPublicKey as Grammar>⟧.refuses input.now
+        (λ key. IsRsaKey input.now key view.new) (view.new ≡ view.old) status) result }
+{
+    rsa_key(alloc, input, view).code()
 }

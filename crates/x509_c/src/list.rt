@@ -1,6 +1,7 @@
 //! What a CRL says.
 
 ghost use Rattle.std.specs.Prelude.{◌≡◌, [], length};
+ghost use Rattle.x509_base.specs.CivilTime.{unix_seconds};
 ghost use Rattle.x509_c_calls.specs.CrlEntries.{IsEntry};
 ghost use Rattle.x509_c_calls.specs.Revoked.{LooksUp};
 ghost use Rattle.x509_c_calls.specs.CrlView.{IsCrl};
@@ -13,9 +14,10 @@ ghost use Rattle.x509_der.specs.declared.error.ErrorKind.TheVariants.{Memory};
 ghost use Rattle.x509_ext.specs.LookUp.{Finds, members, with_oid};
 
 use std::alloc::Global;
-use x509_base::{Rfc5280, SerialNumber};
+use x509_base::{GeneralizedTime, Rfc5280, SerialNumber};
 use x509_c_calls::{
-    CrlEntryView, CrlView, Revocation, crl_lookup, crl_view, crl_walk, member_next,
+    CrlEntryView, CrlView, Revocation, crl_lookup, crl_view, crl_walk, generalized_time,
+    member_next,
 };
 use x509_cert::crl::{CertificateList, RevokedCert};
 use x509_der::{AssociatedOid, Decode, Grammar, Tag};
@@ -69,4 +71,13 @@ pub extern "C" fn x509_crl_entry_next(
         (λ entry behind span. IsEntry input.now entry behind found.new) (found.new ≡ found.old) status) result }
 {
     member_next::<CrlEntryView>(alloc, Tag::Sequence, input, at, found).code()
+}
+
+/// Reads an invalidity date, and fills in its seconds since 1970-01-01T00:00:00Z.
+#[unsafe(no_mangle)]
+pub extern "C" fn x509_invalidity_date(alloc: Global, input: &[u8], moment: &mut u64) -> i32
+    ensures { Tells (λ status. Reads ⟦<GeneralizedTime as Grammar>⟧.form ⟦<GeneralizedTime as Grammar>⟧.refuses input.now
+        (λ time. moment.new ≡ unix_seconds time) (moment.new ≡ moment.old) status × (status ≡ Refused Memory → ⊥)) result }
+{
+    generalized_time(alloc, input, moment).code()
 }

@@ -6,6 +6,7 @@ ghost use Rattle.x509_c_calls.specs.Cursor.{Steps};
 ghost use Rattle.x509_c_calls.specs.PayloadExtensions.{IsExtensionEntry};
 ghost use Rattle.x509_c_calls.specs.GeneralNames.{IsGeneralName};
 ghost use Rattle.x509_c_calls.specs.Identifiers.{IsDotted, IsIdentified};
+ghost use Rattle.x509_c_calls.specs.Periods.{IsPeriod};
 ghost use Rattle.x509_c_calls.specs.Place.{IsAt};
 ghost use Rattle.x509_c_calls.specs.Calls.{Reads};
 ghost use Rattle.x509_c_calls.specs.Status.{Fills, Tells};
@@ -15,13 +16,14 @@ ghost use Rattle.x509_der.specs.declared.error.ErrorKind.TheVariants.{Malformed,
 
 use std::alloc::Global;
 use x509_c_calls::{
-    BasicConstraintsView, ExtensionEntry, GeneralNameView, Span, identifiers_next, member_next,
-    member_under_next, oid_from_text, oid_text, payload, read_number,
+    BasicConstraintsView, ExtensionEntry, GeneralNameView, PrivateKeyUsagePeriodView, Span,
+    identifiers_next, member_next, member_under_next, oid_from_text, oid_text, payload,
+    read_number,
 };
 use x509_der::{Decode, Grammar, ObjectIdentifier, Tag};
 use x509_ext::Extension;
 use x509_ext::pkix::name::GeneralName;
-use x509_ext::pkix::{BasicConstraints, KeyUsage};
+use x509_ext::pkix::{BasicConstraints, KeyUsage, PrivateKeyUsagePeriod};
 
 /// Fills in the next extension of a list of extensions.
 #[unsafe(no_mangle)]
@@ -57,6 +59,19 @@ pub extern "C" fn x509_basic_constraints(
         (λ constraints. IsBasicConstraints constraints view.new) (view.new ≡ view.old) status × (status ≡ Refused Memory → ⊥)) result }
 {
     payload::<BasicConstraintsView>(alloc, input, view).code()
+}
+
+/// Reads a PrivateKeyUsagePeriod, and fills in its moments.
+#[unsafe(no_mangle)]
+pub extern "C" fn x509_private_key_usage_period(
+    alloc: Global,
+    input: &[u8],
+    view: &mut PrivateKeyUsagePeriodView,
+) -> i32
+    ensures { Tells (λ status. Reads ⟦<PrivateKeyUsagePeriod as Grammar>⟧.form ⟦<PrivateKeyUsagePeriod as Grammar>⟧.refuses input.now
+        (λ period. IsPeriod period view.new) (view.new ≡ view.old) status × (status ≡ Refused Memory → ⊥)) result }
+{
+    payload::<PrivateKeyUsagePeriodView>(alloc, input, view).code()
 }
 
 /// Fills in the next name of a list of general names.

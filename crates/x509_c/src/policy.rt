@@ -1,7 +1,9 @@
 //! What extensions say of policies.
 
-ghost use Rattle.std.specs.Prelude.{◌≡◌, ◌≤◌, ◌<◌, ◌+◌};
+ghost use Rattle.std.specs.Prelude.{◌≡◌, ◌≤◌, ◌<◌, ◌+◌, []};
 ghost use Rattle.x509_c_calls.specs.Cursor.{Steps};
+ghost use Rattle.x509_c_calls.specs.Notices.{IsUserNotice};
+ghost use Rattle.x509_c_calls.specs.Place.{IsAt};
 ghost use Rattle.x509_c_calls.specs.Policies.{IsMapping, IsPolicy, IsPolicyConstraints, IsQualifier};
 ghost use Rattle.x509_c_calls.specs.Calls.{Reads};
 ghost use Rattle.x509_c_calls.specs.Status.{Tells};
@@ -10,12 +12,13 @@ ghost use Rattle.x509_der.specs.declared.error.ErrorKind.TheVariants.{Malformed,
 
 use std::alloc::Global;
 use x509_c_calls::{
-    MappingView, PolicyConstraintsView, PolicyView, QualifierView, member_next, member_under_next,
-    payload, read_number,
+    MappingView, PolicyConstraintsView, PolicyView, QualifierView, Span, UserNoticeView,
+    content_next, member_next, member_under_next, payload, read_number,
 };
 use x509_der::{Decode, Grammar, Tag};
-use x509_ext::pkix::certpolicy::{PolicyInformation, PolicyQualifierInfo};
+use x509_ext::pkix::certpolicy::{PolicyInformation, PolicyQualifierInfo, UserNotice};
 use x509_ext::pkix::{InhibitAnyPolicy, PolicyConstraints, PolicyMapping};
+use x509_prim::Uint;
 
 /// Fills in the next policy of a CertificatePolicies.
 #[unsafe(no_mangle)]
@@ -62,6 +65,29 @@ pub extern "C" fn x509_policy_qualifiers_next(
         (λ info behind span. IsQualifier input.now info behind found.new) (found.new ≡ found.old) status) result }
 {
     member_next::<QualifierView>(alloc, Tag::Sequence, input, at, found).code()
+}
+
+/// Reads a UserNotice, and fills in where its parts stand.
+#[unsafe(no_mangle)]
+pub extern "C" fn x509_user_notice(alloc: Global, input: &[u8], view: &mut UserNoticeView) -> i32
+    ensures { Tells (λ status. Reads ⟦<UserNotice as Grammar>⟧.form ⟦<UserNotice as Grammar>⟧.refuses input.now
+        (λ notice. IsUserNotice input.now notice [] view.new) (view.new ≡ view.old) status) result }
+{
+    payload::<UserNoticeView>(alloc, input, view).code()
+}
+
+/// Fills in where the content octets of the next number of a list of numbers stand.
+#[unsafe(no_mangle)]
+pub extern "C" fn x509_numbers_next(
+    alloc: Global,
+    input: &[u8],
+    at: &mut usize,
+    found: &mut Span,
+) -> i32
+    ensures { Tells (λ status. Steps ⟦<Uint as Grammar>⟧.form ⟦<Uint as Grammar>⟧.refuses ⟦<Uint as Decode>⟧.wants_memory 48 input.now at.old at.new
+        (λ number behind span. IsAt number behind input.now found.new) (found.new ≡ found.old) status) result }
+{
+    content_next::<Uint>(alloc, Tag::Sequence, input, at, found).code()
 }
 
 /// Fills in how a policy maps next.

@@ -43,6 +43,20 @@ pub extern "C" fn x509_request_attribute_next(
     member_under_next::<RequestAttributeView>(alloc, 0, input, at, found).code()
 }
 
+/// Fills in the next attribute of a SubjectDirectoryAttributes.
+#[unsafe(no_mangle)]
+pub extern "C" fn x509_subject_directory_attributes_next(
+    alloc: Global,
+    input: &[u8],
+    at: &mut usize,
+    found: &mut RequestAttributeView,
+) -> i32
+    ensures { Tells (λ status. Steps ⟦<Attribute as Grammar>⟧.form ⟦<Attribute as Grammar>⟧.refuses ⟦<Attribute as Decode>⟧.wants_memory 48 input.now
+        at.old at.new (λ attribute behind span. IsRequestAttribute input.now attribute behind found.new) (found.new ≡ found.old) status) result }
+{
+    member_next::<RequestAttributeView>(alloc, Tag::Sequence, input, at, found).code()
+}
+
 /// Fills in the next value of a set of values.
 #[unsafe(no_mangle)]
 pub extern "C" fn x509_attribute_value_next(

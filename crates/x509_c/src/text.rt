@@ -4,7 +4,8 @@ ghost use Rattle.std.specs.Prelude.{◌≡◌, ◌≤◌, []};
 ghost use Rattle.x509_base.specs.CivilTime.{last_date_time, unix_seconds};
 ghost use Rattle.x509_c_calls.specs.Decimals.{IsDecimalText};
 ghost use Rattle.x509_c_calls.specs.StatusTexts.{IsStatusText};
-ghost use Rattle.x509_c_calls.specs.Texts.{IsSerialText, IsTimeText};
+ghost use Rattle.x509_c_calls.specs.StringTexts.{IsStringText};
+ghost use Rattle.x509_c_calls.specs.Texts.{IsSerialText, IsTimeText, ReadsMoment};
 ghost use Rattle.x509_c_calls.specs.Place.{IsAt};
 ghost use Rattle.x509_c_calls.specs.Calls.{Reads};
 ghost use Rattle.x509_c_calls.specs.Status.{Fills, Tells};
@@ -13,7 +14,9 @@ ghost use Rattle.x509_der.specs.declared.error.ErrorKind.TheVariants.{Memory};
 
 use std::alloc::Global;
 use x509_base::{Rfc5280, SerialNumber};
-use x509_c_calls::{Span, content, decimal_text, serial_text, status_text, time_text};
+use x509_c_calls::{
+    Span, content, decimal_text, serial_text, status_text, string_text, time_from_text, time_text,
+};
 use x509_der::Grammar;
 
 /// Reads a serial number under the rules of RFC 5280, and fills in where its content octets stand.
@@ -59,6 +62,27 @@ pub extern "C" fn x509_time_text(
         × (status ≡ Refused Memory → moment ≤ unix_seconds last_date_time)) result }
 {
     time_text(alloc, moment, room, written).code()
+}
+
+/// Reads the text of a moment, and fills in its seconds since 1970-01-01T00:00:00Z.
+#[unsafe(no_mangle)]
+pub extern "C" fn x509_time_from_text(text: &[u8], moment: &mut u64) -> i32
+    ensures { Tells (λ status. ReadsMoment text.now moment.old moment.new status) result }
+{
+    time_from_text(text, moment).code()
+}
+
+/// Reads a character string, and puts its text in UTF-8 at the front of the room.
+#[unsafe(no_mangle)]
+pub extern "C" fn x509_string_text(
+    alloc: Global,
+    input: &[u8],
+    room: &mut [u8],
+    written: &mut usize,
+) -> i32
+    ensures { Tells (λ status. Fills (IsStringText input.now) room.old room.new written.old written.new status) result }
+{
+    string_text(alloc, input, room, written).code()
 }
 
 /// Puts what the status with that number means, in a few words, at the front of the room.

@@ -39,3 +39,7 @@ pub mod Lent
 pub mod PointNames
 pub mod Ends
 pub mod Settings
+pub mod Notices
+pub mod Strings
+pub mod RsaKeys
+pub mod Moments

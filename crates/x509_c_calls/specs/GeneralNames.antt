@@ -1,12 +1,13 @@
 -- A general name in a list of them, by its place (RFC 5280 4.2.1.6).
 use Rattle.std.specs.Prelude.{◌≡◌, ℕ, List, ◌++◌}
-use Rattle.x509_c_calls.specs.Optional.{IsNowhere}
+use Rattle.x509_c_calls.specs.Optional.{IsNowhere, IsPerhapsAt}
 use Rattle.x509_c_calls.specs.declared.payloads.general_name.GeneralNameView.{GeneralNameView}
 use Rattle.x509_c_calls.specs.Place.{IsAt}
 use Rattle.x509_c_calls.specs.declared.place.span.Span.{Span}
 use Rattle.x509_der.specs.Any.{any}
 use Rattle.x509_der.specs.Frames.{explicit}
 use Rattle.x509_der.specs.Form.{spelling}
+use Rattle.x509_name.specs.DirectoryString.{directory_string}
 use Rattle.x509_name.specs.Names.{name}
 use Rattle.x509_ext.specs.EdiPartyName.{edi_party_name}
 use Rattle.x509_ext.specs.GeneralName.{general_name}
@@ -47,9 +48,23 @@ IsOther (UniformResourceIdentifier text) behind bytes type_id value = IsNowhere 
 IsOther (IpAddress octets) behind bytes type_id value = IsNowhere type_id × IsNowhere value
 IsOther (RegisteredId oid) behind bytes type_id value = IsNowhere type_id × IsNowhere value
 
+-- where the names of an ediPartyName stand, its assigner's and the party's, behind which those octets stand; of other names nowhere
+abbrev pub IsParty : GeneralName → List ℕ → List ℕ → Span → Span → Type 0
+IsParty (EdiPartyName party) behind bytes assigner name =
+    IsPerhapsAt (spelling directory_string) party.name_assigner (spelling (explicit 1 directory_string) party.party_name ++ behind) bytes assigner
+    × IsAt (spelling directory_string party.party_name) behind bytes name
+IsParty (OtherName other) behind bytes assigner name = IsNowhere assigner × IsNowhere name
+IsParty (Rfc822Name text) behind bytes assigner name = IsNowhere assigner × IsNowhere name
+IsParty (DnsName text) behind bytes assigner name = IsNowhere assigner × IsNowhere name
+IsParty (DirectoryName rdns) behind bytes assigner name = IsNowhere assigner × IsNowhere name
+IsParty (UniformResourceIdentifier text) behind bytes assigner name = IsNowhere assigner × IsNowhere name
+IsParty (IpAddress octets) behind bytes assigner name = IsNowhere assigner × IsNowhere name
+IsParty (RegisteredId oid) behind bytes assigner name = IsNowhere assigner × IsNowhere name
+
 -- what the view says of a name in these bytes, behind which those others stand
 pub record IsGeneralName (bytes : List ℕ) (value : GeneralName) (behind : List ℕ) (view : GeneralNameView) : Type 0 where
   pub kind : view.kind ≡ kind_of value
   pub element : IsAt (spelling general_name value) behind bytes view.element
   pub content : IsAt (held value) behind bytes view.content
   pub other : IsOther value behind bytes view.type_id view.value
+  pub party : IsParty value behind bytes view.name_assigner view.party_name

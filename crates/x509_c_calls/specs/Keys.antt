@@ -2,7 +2,7 @@
 use Rattle.std.specs.Prelude.{◌≡◌, ℕ, List, ◌++◌}
 use Rattle.x509_base.specs.declared.subject_public_key_info.SubjectPublicKeyInfo.{SubjectPublicKeyInfo}
 use Rattle.x509_c_calls.specs.Algorithms.{parameters_text}
-use Rattle.x509_c_calls.specs.Kinds.{key_kind, key_number}
+use Rattle.x509_c_calls.specs.Kinds.{key_kind, key_number, named_curve}
 use Rattle.x509_c_calls.specs.declared.key.key.KeyView.{KeyView}
 use Rattle.x509_c_calls.specs.Optional.{IsPerhapsAt}
 use Rattle.x509_c_calls.specs.Place.{IsAt}
@@ -21,3 +21,4 @@ pub record IsKey (bytes : List ℕ) (key : SubjectPublicKeyInfo) (behind : List 
   pub parameters : IsPerhapsAt (spelling any) key.algorithm.parameters (bits_text key ++ behind) bytes view.parameters
   pub bits : IsAt key.subject_public_key.octets behind bytes view.bits
   pub unused_bits : view.unused_bits ≡ key.subject_public_key.unused
+  pub curve : IsPerhapsAt (λ octets. octets) (named_curve key.algorithm) (bits_text key ++ behind) bytes view.curve

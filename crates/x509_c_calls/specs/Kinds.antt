@@ -42,6 +42,15 @@ unfoldable pub curve_kind : Option Any → KeyKind
 curve_kind None = keys.EcOther
 curve_kind (Some parameters) = if nat_eq (octet_of parameters.tag) 6 then named_in keys.EcOther curves parameters.value else keys.EcOther
 
+-- the content octets of that OBJECT IDENTIFIER
+abbrev pub curve_oid : Option Any → Option (List ℕ)
+curve_oid None = None
+curve_oid (Some parameters) = if nat_eq (octet_of parameters.tag) 6 then Some parameters.value else None
+
+-- the content octets of the OID of the curve of an algorithm's keys, where they are of an elliptic curve and it is named
+unfoldable pub named_curve : AlgorithmIdentifier → Option (List ℕ)
+named_curve algorithm = if bytes_eq algorithm.oid ec_public_key then curve_oid algorithm.parameters else None
+
 -- the kind of the keys of an algorithm
 unfoldable pub key_kind : AlgorithmIdentifier → KeyKind
 key_kind algorithm = if bytes_eq algorithm.oid ec_public_key then curve_kind algorithm.parameters else named_in keys.Other key_algorithms algorithm.oid

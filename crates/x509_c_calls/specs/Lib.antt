@@ -2,6 +2,7 @@ pub mod Kinds
 pub mod Algorithms
 pub mod Keys
 pub mod KeySigned
+pub mod RsaKeys
 pub mod RequestView
 pub mod RequestAttributes
 pub mod AskedExtensions
@@ -50,9 +51,12 @@ pub mod Elements
 pub mod KeyIdentifiers
 pub mod Access
 pub mod Policies
+pub mod Notices
 pub mod Points
 pub mod Subtrees
 pub mod Texts
+pub mod StringTexts
+pub mod Periods
 pub mod Decimals
 pub mod StatusTexts
 pub mod Documents

@@ -3,9 +3,11 @@
 mod algorithm;
 mod key;
 mod kinds;
+mod rsa;
 mod signed;
 
 pub use algorithm::AlgorithmView;
 pub use key::KeyView;
 pub use kinds::{KeyKind, SignatureKind};
+pub use rsa::{RsaKeyView, RsaPublicKey, rsa_key};
 pub use signed::signature_at;

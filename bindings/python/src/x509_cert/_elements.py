@@ -5,8 +5,8 @@ from __future__ import annotations
 import ctypes
 from typing import NamedTuple
 
-from ._library import MALFORMED, RAW, CrlEntryView, ElementView, Span, X509Error, fill, view, walk
-from ._writing import GENERALIZED_TIME, SEQUENCE, SET, element, integer
+from ._library import MALFORMED, RAW, ElementView, X509Error, fill, walk
+from ._writing import SET, element
 
 
 class Element(NamedTuple):
@@ -37,19 +37,6 @@ def checked(kind: str, data: bytes) -> bytes:
     return fill("x509_reencode", kind.encode("ascii"), ctypes.c_uint32(RAW), data)
 
 
-def natural_number(data: bytes) -> int:
-    """The number that an INTEGER of any size is, which isn't negative, by its DER."""
-    return int.from_bytes(view("x509_crl_number", Span, data).of(data), "big")
-
-
-def generalized_time(data: bytes) -> int:
-    """The seconds since 1970-01-01T00:00:00Z of a GeneralizedTime, by its DER: the library tells them of an entry of a CRL that has this date."""
-    checked("GeneralizedTime", data)
-    entries = element(SEQUENCE, element(SEQUENCE, integer(1), data))
-    (entry,) = walk("x509_crl_entry_next", CrlEntryView, entries)
-    return int(entry.date)
-
-
-def generalized_time_of(content: bytes) -> int:
-    """The same of its content octets, as they stand under a tag of their own."""
-    return generalized_time(element(GENERALIZED_TIME, content))
+def text_of(data: bytes) -> str:
+    """The text of a character string of any type, by its DER; an X509Error where it is none."""
+    return fill("x509_string_text", data).decode("utf-8")

@@ -82,7 +82,7 @@ class ExtensionEntry(ctypes.Structure):
 
 
 class GeneralNameView(ctypes.Structure):
-    _fields_ = [*_numbers("kind"), *_spans("element", "content", "type_id", "value")]
+    _fields_ = [*_numbers("kind"), *_spans("element", "content", "type_id", "value", "name_assigner", "party_name")]
 
 
 class BasicConstraintsView(ctypes.Structure):
@@ -103,6 +103,23 @@ class PolicyView(ctypes.Structure):
 
 class PolicyQualifierView(ctypes.Structure):
     _fields_ = _spans("identifier", "qualifier")
+
+
+class UserNoticeView(ctypes.Structure):
+    organization: Span
+    notice_numbers: Span
+    explicit_text: Span
+
+    _fields_ = _spans("organization", "notice_numbers", "explicit_text")
+
+
+class PrivateKeyUsagePeriodView(ctypes.Structure):
+    _fields_ = [
+        *_numbers("has_not_before"),
+        ("not_before", ctypes.c_uint64),
+        *_numbers("has_not_after"),
+        ("not_after", ctypes.c_uint64),
+    ]
 
 
 class PolicyMappingView(ctypes.Structure):
@@ -187,7 +204,14 @@ class ElementView(ctypes.Structure):
 
 
 class KeyView(ctypes.Structure):
-    _fields_ = [*_numbers("kind"), *_spans("oid", "parameters", "bits"), *_numbers("unused_bits")]
+    _fields_ = [*_numbers("kind"), *_spans("oid", "parameters", "bits"), *_numbers("unused_bits"), *_spans("curve")]
+
+
+class RsaKeyView(ctypes.Structure):
+    modulus: Span
+    public_exponent: Span
+
+    _fields_ = [*_spans("modulus", "public_exponent"), *_numbers("modulus_bits")]
 
 
 class AlgorithmView(ctypes.Structure):
@@ -317,6 +341,13 @@ def view(name: str, kind: type[View], *arguments: Any) -> View:
 def number(name: str, *arguments: Any) -> int:
     """The number that a call fills in."""
     found = ctypes.c_uint32()
+    call(name, *arguments, ctypes.byref(found))
+    return found.value
+
+
+def seconds(name: str, *arguments: Any) -> int:
+    """The moment that a call fills in, in seconds since 1970-01-01T00:00:00Z."""
+    found = ctypes.c_uint64()
     call(name, *arguments, ctypes.byref(found))
     return found.value
 

@@ -4,7 +4,7 @@ from __future__ import annotations
 
 import datetime
 
-from ._library import Span, view
+from ._library import Span, view, walk
 
 _EPOCH = datetime.datetime(1970, 1, 1, tzinfo=datetime.timezone.utc)
 
@@ -25,3 +25,8 @@ def serial_element(number: int) -> bytes:
 def whole_number(element: bytes) -> int:
     """The number that an INTEGER of at most 21 octets is, by its DER, as of a serial number."""
     return int.from_bytes(view("x509_serial_number", Span, element).of(element), "big", signed=True)
+
+
+def natural_numbers(data: bytes) -> list[int]:
+    """The numbers of a SEQUENCE OF INTEGER, by its DER, none of which is negative."""
+    return [int.from_bytes(it.of(data), "big") for it in walk("x509_numbers_next", Span, data)]

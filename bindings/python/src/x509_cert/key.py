@@ -4,12 +4,11 @@ from __future__ import annotations
 
 import enum
 
-from ._elements import elements, natural_number, only
 from ._extension import _part
 from ._given import octets
-from ._library import MALFORMED, AlgorithmView, KeyView, X509Error, view
+from ._library import MALFORMED, AlgorithmView, KeyView, RsaKeyView, X509Error, view
+from ._numbers import natural_numbers
 from ._pem import Encoding, encoded
-from ._writing import OBJECT_IDENTIFIER, SEQUENCE
 from .oid import ObjectIdentifier
 
 
@@ -81,6 +80,7 @@ class PublicKey:
         self.parameters = _part(found.parameters, self._data)
         self.bits = found.bits.of(self._data)
         self.unused_bits = int(found.unused_bits)
+        self._curve = _part(found.curve, self._data)
 
     def public_bytes(self, encoding: object = Encoding.DER, format: object = None) -> bytes:
         """Its SubjectPublicKeyInfo, the one format that there is here: as DER, or as PEM, a PUBLIC KEY (RFC 7468 13)."""
@@ -100,16 +100,13 @@ class PublicKey:
 
     @property
     def _rsa_numbers(self) -> tuple[int, int]:
-        modulus, exponent = _numbers(self.bits, 2)
-        return modulus, exponent
+        found = view("x509_rsa_key_view", RsaKeyView, self.bits)
+        return int.from_bytes(found.modulus.of(self.bits), "big"), int.from_bytes(found.public_exponent.of(self.bits), "big")
 
     @property
     def curve_oid(self) -> ObjectIdentifier | None:
         """The identifier of the curve, where the key names one (RFC 5480 2.1.1)."""
-        if self.kind not in _CURVE_KINDS or self.parameters is None:
-            return None
-        found = elements(self.parameters)
-        return ObjectIdentifier.from_content(found[0].content) if [it.tag for it in found] == [OBJECT_IDENTIFIER] else None
+        return None if self._curve is None else ObjectIdentifier.from_content(self._curve)
 
     @property
     def curve(self) -> str | None:
@@ -130,7 +127,7 @@ class PublicKey:
         if self.kind in _RSA_KINDS:
             return self._rsa_numbers[0].bit_length()
         if self.kind == KeyKind.dsa:
-            return None if self.parameters is None else _numbers(self.parameters, 3)[0].bit_length()
+            return None if self.parameters is None else _prime(self.parameters).bit_length()
         if self.kind in _CURVE_KINDS:
             oid = self.curve_oid
             return None if oid is None else _CURVES.get(oid.dotted_string, ("", None))[1]
@@ -146,12 +143,12 @@ class PublicKey:
         return f"<PublicKey(kind={self.kind.name}, algorithm_oid={self.algorithm_oid!r})>"
 
 
-def _numbers(data: bytes, count: int) -> list[int]:
-    """The numbers of a SEQUENCE of so many of them, none of which is negative."""
-    found = elements(only(data, SEQUENCE, "the numbers of a key").content)
-    if len(found) != count:
+def _prime(data: bytes) -> int:
+    """The first of the three numbers of the parameters of a DSA key (RFC 3279 2.3.2)."""
+    found = natural_numbers(data)
+    if len(found) != 3:
         raise X509Error("the numbers of a key", MALFORMED)
-    return [natural_number(it.data) for it in found]
+    return found[0]
 
 
 class AlgorithmIdentifier:

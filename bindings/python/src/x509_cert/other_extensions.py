@@ -7,11 +7,11 @@ import datetime
 import enum
 from typing import Any, Iterable, Sequence
 
-from ._elements import checked, elements, generalized_time, generalized_time_of, only
+from ._elements import only
 from ._extension import ExtensionType, ListExtension
 from ._given import instance, octets, some, whole_list
-from ._library import MALFORMED, RequestAttributeView, X509Error, walk
-from ._numbers import moment, whole_number
+from ._library import MALFORMED, ElementView, PrivateKeyUsagePeriodView, RequestAttributeView, X509Error, seconds, view, walk
+from ._numbers import moment, natural_numbers
 from ._writing import NULL, SEQUENCE, SET, context, element, general_names_der, generalized_time_der, identifier_of, integer
 from .general_name import GeneralName, GeneralNames
 from .oid import ExtensionOID, ObjectIdentifier
@@ -61,7 +61,7 @@ class TLSFeature(ListExtension["TLSFeatureType | int"]):
 
     def _read(self, data: bytes) -> None:
         super()._read(data)
-        self.features = [_feature(whole_number(it.data)) for it in elements(only(data, SEQUENCE, "TLSFeature").content)]
+        self.features = [_feature(it) for it in natural_numbers(data)]
 
     def _members(self) -> Sequence[TLSFeatureType | int]:
         return self.features
@@ -94,8 +94,9 @@ class PrivateKeyUsagePeriod(ExtensionType):
 
     def _read(self, data: bytes) -> None:
         super()._read(data)
-        found = {it.tag: it.content for it in elements(only(checked("PrivateKeyUsagePeriod", data), SEQUENCE, "PrivateKeyUsagePeriod").content)}
-        self.not_before, self.not_after = (moment(generalized_time_of(found[tag])) if tag in found else None for tag in (context(0), context(1)))
+        found = view("x509_private_key_usage_period", PrivateKeyUsagePeriodView, data)
+        self.not_before = moment(int(found.not_before)) if found.has_not_before else None
+        self.not_after = moment(int(found.not_after)) if found.has_not_after else None
 
 
 class InvalidityDate(ExtensionType):
@@ -113,7 +114,7 @@ class InvalidityDate(ExtensionType):
 
     def _read(self, data: bytes) -> None:
         super()._read(data)
-        self.invalidity_date_utc = moment(generalized_time(data))
+        self.invalidity_date_utc = moment(seconds("x509_invalidity_date", data))
 
 
 class CertificateIssuer(ListExtension[GeneralName]):
@@ -177,12 +178,9 @@ class SubjectDirectoryAttributes(ListExtension[DirectoryAttribute]):
 
     def _read(self, data: bytes) -> None:
         super()._read(data)
-        content = only(checked("SubjectDirectoryAttributes", data), SEQUENCE, "SubjectDirectoryAttributes").content
-        # they are those of a CSR, which stand under the tag [0]
-        under = element(context(0, True), content)
         self.attributes = [
-            DirectoryAttribute._of(ObjectIdentifier.from_content(it.oid.of(under)), _values(it.values.of(under)))
-            for it in walk("x509_request_attribute_next", RequestAttributeView, under)
+            DirectoryAttribute._of(ObjectIdentifier.from_content(it.oid.of(data)), _values(it.values.of(data)))
+            for it in walk("x509_subject_directory_attributes_next", RequestAttributeView, data)
         ]
 
     def _members(self) -> Sequence[DirectoryAttribute]:
@@ -191,4 +189,4 @@ class SubjectDirectoryAttributes(ListExtension[DirectoryAttribute]):
 
 def _values(data: bytes) -> list[bytes]:
     """The DER of the values of an attribute, a SET."""
-    return [it.data for it in elements(only(data, SET, "the values of an attribute").content)]
+    return [it.element.of(data) for it in walk("x509_attribute_value_next", ElementView, data)]

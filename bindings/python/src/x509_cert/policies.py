@@ -4,13 +4,23 @@ from __future__ import annotations
 
 from typing import Iterable, Sequence
 
-from ._elements import Element, checked, elements, only
+from ._elements import checked, only, text_of
 from ._extension import ExtensionType, ListExtension, _number, _part
 from ._given import instance, listed, octets, some, whole, whole_list
-from ._library import MALFORMED, PolicyConstraintsView, PolicyMappingView, PolicyQualifierView, PolicyView, Span, X509Error, number, view, walk
-from ._numbers import whole_number
+from ._library import (
+    PolicyConstraintsView,
+    PolicyMappingView,
+    PolicyQualifierView,
+    PolicyView,
+    Span,
+    UserNoticeView,
+    X509Error,
+    number,
+    view,
+    walk,
+)
+from ._numbers import natural_numbers
 from ._writing import IA5_STRING, SEQUENCE, UTF8_STRING, context, element, identifier_of, integer
-from .name import text_of
 from .oid import CertificatePoliciesOID, ExtensionOID, ObjectIdentifier
 
 
@@ -48,8 +58,7 @@ class CPSPointer(PolicyQualifier, str):
     @classmethod
     def _of(cls, data: bytes) -> CPSPointer:
         """That which was read, an IA5String; an X509Error where it is none."""
-        text = text_of(*_string(only(checked("DisplayText", data), IA5_STRING, "CPSuri")))
-        made = str.__new__(cls, text)
+        made = str.__new__(cls, text_of(only(data, IA5_STRING, "CPSuri").data))
         PolicyQualifier.__init__(made, CertificatePoliciesOID.CPS_QUALIFIER, data)
         return made
 
@@ -84,9 +93,10 @@ class NoticeReference:
         return element(SEQUENCE, _text(self.organization), element(SEQUENCE, *map(integer, self.notice_numbers)))
 
     @classmethod
-    def _of(cls, found: Element) -> NoticeReference:
-        organization, numbers = elements(found.content)
-        return cls(text_of(*_string(organization)), [whole_number(it.data) for it in elements(numbers.content)])
+    def _of(cls, found: UserNoticeView, data: bytes) -> NoticeReference | None:
+        """That of a notice which was read, where it has one."""
+        organization, numbers = _part(found.organization, data), _part(found.notice_numbers, data)
+        return None if organization is None else cls(text_of(organization), [] if numbers is None else natural_numbers(numbers))
 
 
 class UserNotice(PolicyQualifier):
@@ -105,13 +115,12 @@ class UserNotice(PolicyQualifier):
     @classmethod
     def _of(cls, data: bytes) -> UserNotice:
         """That which was read; an X509Error where it is none."""
-        found = elements(only(checked("UserNotice", data), SEQUENCE, "UserNotice").content)
-        references = [it for it in found if it.tag == SEQUENCE]
-        texts = [text_of(*_string(it)) for it in found if it.tag != SEQUENCE]
+        found = view("x509_user_notice", UserNoticeView, data)
+        text = _part(found.explicit_text, data)
         made = cls.__new__(cls)
         PolicyQualifier.__init__(made, CertificatePoliciesOID.CPS_USER_NOTICE, data)
-        made.notice_reference = NoticeReference._of(references[0]) if references else None
-        made.explicit_text = texts[0] if texts else None
+        made.notice_reference = NoticeReference._of(found, data)
+        made.explicit_text = None if text is None else text_of(text)
         return made
 
     def __repr__(self) -> str:
@@ -121,10 +130,6 @@ class UserNotice(PolicyQualifier):
 def _text(text: str) -> bytes:
     """A DisplayText; a ValueError where a character has no UTF-8."""
     return element(UTF8_STRING, text.encode("utf-8"))
-
-
-def _string(found: Element) -> tuple[int, bytes]:
-    return found.tag, found.content
 
 
 def _qualifier(oid: ObjectIdentifier, data: bytes | None) -> PolicyQualifier:

@@ -1,9 +1,9 @@
 //! The extension of a subject's attributes.
 use super::list;
-use crate::elements::{attributes, checked, elements, only};
+use crate::elements::values;
 use crate::error::Error;
+use crate::ffi::{self, RequestAttribute};
 use crate::oid::ObjectIdentifier;
-use crate::writing::{SEQUENCE, SET};
 
 /// An attribute of a subject (RFC 5280 4.2.1.8).
 #[derive(Clone, Debug, PartialEq, Eq, Hash)]
@@ -16,18 +16,17 @@ pub struct DirectoryAttribute<'a> {
 }
 
 impl<'a> DirectoryAttribute<'a> {
-    /// One with its values, a whole SET.
-    fn found((oid, values): (ObjectIdentifier, &'a [u8])) -> Result<DirectoryAttribute<'a>, Error> {
-        let found = elements(only(values, SET)?)?;
-        let values = found.into_iter().map(|it| it.der).collect();
-        Ok(DirectoryAttribute { oid, values })
+    fn found(view: RequestAttribute, data: &'a [u8]) -> Result<DirectoryAttribute<'a>, Error> {
+        Ok(DirectoryAttribute {
+            oid: ObjectIdentifier::found(view.oid.of(data)?)?,
+            values: values(view.values.of(data)?)?,
+        })
     }
 }
 
 list! {
     /// Attributes of the subject (RFC 5280 4.2.1.8).
     SubjectDirectoryAttributes, SUBJECT_DIRECTORY_ATTRIBUTES, DirectoryAttribute<'a>, |value| {
-        let content = only(checked("SubjectDirectoryAttributes", value)?, SEQUENCE)?;
-        attributes(content)?.into_iter().map(DirectoryAttribute::found).collect()
+        ffi::DIRECTORY_ATTRIBUTES.over(value).map(|view| DirectoryAttribute::found(view?, value)).collect()
     }
 }

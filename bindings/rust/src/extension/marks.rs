@@ -1,9 +1,10 @@
 //! Extensions that hold nothing but that they are there, and the one of features of TLS.
 use super::ExtensionValue;
-use crate::elements::{elements, integer, only};
+use crate::elements::{numbers, only};
 use crate::error::Error;
+use crate::integer::Integer;
 use crate::oid::{self, ObjectIdentifier};
-use crate::writing::{NULL, SEQUENCE};
+use crate::writing::NULL;
 
 /// What marks a precertificate (RFC 6962 3.1).
 #[derive(Clone, Copy, Debug, Default, PartialEq, Eq, Hash)]
@@ -46,17 +47,16 @@ impl ExtensionValue<'_> for TlsFeature {
 
     /// A number that no extension of TLS has is refused: one below 0 or above 65,535.
     fn from_der(value: &[u8]) -> Result<TlsFeature, Error> {
-        let found = elements(only(value, SEQUENCE)?)?;
-        let numbers = found.iter().map(|it| feature(it.der));
-        numbers.collect::<Result<_, _>>().map(TlsFeature)
+        let found = numbers(value)?.into_iter().map(feature);
+        found.collect::<Result<_, _>>().map(TlsFeature)
     }
 }
 
-/// The number that an INTEGER is, by its DER, as that of a serial number.
-fn feature(der: &[u8]) -> Result<u16, Error> {
-    match *integer(der)?.as_bytes() {
-        [low @ 0..=0x7f] => Ok(u16::from(low)),
-        [high @ 0..=0x7f, low] | [0, high, low] => Ok(u16::from_be_bytes([high, low])),
+/// The number of an extension of TLS.
+fn feature(number: Integer<'_>) -> Result<u16, Error> {
+    match *number.as_bytes() {
+        [low] => Ok(u16::from(low)),
+        [high, low] | [0, high, low] => Ok(u16::from_be_bytes([high, low])),
         _ => Err(Error::Malformed),
     }
 }

@@ -1,11 +1,11 @@
 //! What qualifiers of policies say (RFC 5280 4.2.1.4).
 use super::PolicyQualifierInfo;
-use crate::csr::AttributeValue;
-use crate::elements::{checked, elements, integer, only};
+use crate::elements::{numbers, only};
 use crate::error::Error;
+use crate::ffi::{self, UserNoticeView};
 use crate::integer::Integer;
 use crate::oid::policy;
-use crate::writing::{BMP_STRING, IA5_STRING, SEQUENCE, UTF8_STRING, VISIBLE_STRING};
+use crate::writing::IA5_STRING;
 
 /// Texts of an organization, by their numbers (RFC 5280 4.2.1.4).
 #[derive(Clone, Debug, PartialEq, Eq, Hash)]
@@ -46,8 +46,7 @@ impl<'a> PolicyQualifierInfo<'a> {
             return Ok(None);
         }
         let value = self.qualifier.ok_or(Error::Malformed)?;
-        let content = only(checked("DisplayText", value)?, IA5_STRING)?;
-        ascii(content).map(Some)
+        ascii(only(value, IA5_STRING)?).map(Some)
     }
 
     /// The notice to the user; none of a qualifier of another type.
@@ -59,47 +58,28 @@ impl<'a> PolicyQualifierInfo<'a> {
             return Ok(None);
         }
         let value = self.qualifier.ok_or(Error::Malformed)?;
-        let parts = elements(only(checked("UserNotice", value)?, SEQUENCE)?)?;
-        let (references, texts): (Vec<_>, Vec<_>) =
-            parts.into_iter().partition(|it| it.tag == SEQUENCE);
+        let view = ffi::USER_NOTICE.of(value)?;
+        let text = view.explicit_text.part(value)?;
         Ok(Some(UserNotice {
-            notice_ref: references.first().map(reference).transpose()?,
-            explicit_text: texts.first().map(display_text).transpose()?,
+            notice_ref: reference(view, value)?,
+            explicit_text: text.map(|it| ffi::STRING_TEXT.text_of(it)).transpose()?,
         }))
     }
 }
 
-fn reference<'a>(found: &AttributeValue<'a>) -> Result<NoticeReference<'a>, Error> {
-    let [organization, numbers] = elements(found.content)?[..] else {
-        return Err(Error::Unexpected);
+/// The reference of a notice, where it has one.
+fn reference(view: UserNoticeView, notice: &[u8]) -> Result<Option<NoticeReference<'_>>, Error> {
+    let Some(organization) = view.organization.part(notice)? else {
+        return Ok(None);
     };
-    let numbers = elements(numbers.content)?;
-    let notice_numbers = numbers.iter().map(|it| integer(it.der));
-    Ok(NoticeReference {
-        organization: display_text(&organization)?,
-        notice_numbers: notice_numbers.collect::<Result<_, _>>()?,
-    })
+    let notice_numbers = view.notice_numbers.part(notice)?.map(numbers).transpose()?;
+    Ok(Some(NoticeReference {
+        organization: ffi::STRING_TEXT.text_of(organization)?,
+        notice_numbers: notice_numbers.unwrap_or_default(),
+    }))
 }
 
 fn ascii(content: &[u8]) -> Result<&str, Error> {
     let text = std::str::from_utf8(content).ok();
     text.filter(|it| it.is_ascii()).ok_or(Error::Malformed)
-}
-
-/// The text of a DisplayText, of whichever of its types.
-fn display_text(found: &AttributeValue<'_>) -> Result<String, Error> {
-    let content = found.content;
-    match found.tag {
-        IA5_STRING | VISIBLE_STRING => ascii(content).map(str::to_owned),
-        UTF8_STRING => String::from_utf8(content.to_vec()).map_err(|_| Error::Malformed),
-        BMP_STRING => {
-            let units = content.chunks(2).map(|it| match *it {
-                [high, low] => Ok(u16::from_be_bytes([high, low])),
-                _ => Err(Error::Malformed),
-            });
-            let units: Vec<u16> = units.collect::<Result<_, _>>()?;
-            String::from_utf16(&units).map_err(|_| Error::Malformed)
-        }
-        _ => Err(Error::Unexpected),
-    }
 }

@@ -1,9 +1,9 @@
 //! Extensions of moments.
 use super::ExtensionValue;
-use crate::elements::{checked, elements, generalized_time, generalized_time_of, only};
 use crate::error::Error;
+use crate::ffi;
 use crate::oid::{self, ObjectIdentifier};
-use crate::writing::{context, SEQUENCE};
+use crate::time::moment;
 use std::time::SystemTime;
 
 /// When the private key may sign (RFC 3280 4.2.1.4).
@@ -20,15 +20,11 @@ impl ExtensionValue<'_> for PrivateKeyUsagePeriod {
     const OID: ObjectIdentifier = oid::extension::PRIVATE_KEY_USAGE_PERIOD;
 
     fn from_der(value: &[u8]) -> Result<PrivateKeyUsagePeriod, Error> {
-        let content = only(checked("PrivateKeyUsagePeriod", value)?, SEQUENCE)?;
-        let found = elements(content)?;
-        let moment = |number| {
-            let part = found.iter().find(|it| it.tag == context(number));
-            part.map(|it| generalized_time_of(it.content)).transpose()
-        };
+        let view = ffi::PRIVATE_KEY_USAGE_PERIOD.of(value)?;
+        let said = |has, seconds| (has != 0).then(|| moment(seconds)).transpose();
         Ok(PrivateKeyUsagePeriod {
-            not_before: moment(0)?,
-            not_after: moment(1)?,
+            not_before: said(view.has_not_before, view.not_before)?,
+            not_after: said(view.has_not_after, view.not_after)?,
         })
     }
 }
@@ -41,6 +37,6 @@ impl ExtensionValue<'_> for InvalidityDate {
     const OID: ObjectIdentifier = oid::extension::INVALIDITY_DATE;
 
     fn from_der(value: &[u8]) -> Result<InvalidityDate, Error> {
-        generalized_time(value).map(InvalidityDate)
+        moment(ffi::INVALIDITY_DATE.of(value)?).map(InvalidityDate)
     }
 }

@@ -1,6 +1,7 @@
 //! Kinds of public keys and of signature algorithms, by their OIDs.
 
-ghost use Rattle.std.specs.Prelude.{◌≡◌, map};
+ghost use Rattle.std.specs.Prelude.{◌≡◌, bytes_eq, is_some, map};
+ghost use Rattle.x509_base.specs.KeyAlgorithms.{ec_public_key};
 ghost use Rattle.x509_c_calls.specs.Kinds as kinds;
 
 use x509_base::AlgorithmIdentifier;
@@ -229,6 +230,31 @@ fn of_curve(parameters: &Option<Any>) -> KeyKind
             }
         }
     }
+}
+
+/// Whether keys of the algorithm are of an elliptic curve (RFC 5480 2.1.1).
+fn is_elliptic(algorithm: &AlgorithmIdentifier) -> bool
+    ensures { result ≡ bytes_eq algorithm.now.oid ec_public_key }
+{
+    algorithm.oid.as_bytes() == EC_PUBLIC_KEY.as_slice()
+}
+
+/// Whether parameters are an OID, which names a curve.
+fn are_named(parameters: &Option<Any>) -> bool
+    ensures { result ≡ is_some (kinds.curve_oid parameters.now) }
+{
+    match parameters {
+        None => false,
+        Some(curve) => curve.tag().octet() == 0x06,
+    }
+}
+
+/// Whether the algorithm names the curve of its keys.
+#[tactic(auto, unfolding(crate::specs::Kinds::named_curve))]
+pub(crate) fn names_curve(algorithm: &AlgorithmIdentifier) -> bool
+    ensures { result ≡ is_some (kinds.named_curve algorithm.now) }
+{
+    is_elliptic(algorithm) && are_named(&algorithm.parameters)
 }
 
 impl KeyKind {

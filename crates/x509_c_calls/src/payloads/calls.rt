@@ -124,6 +124,29 @@ pub fn element_next<T: Decode + Drop>(
     }
 }
 
+/// Fills in where the content octets stand of the next member of a list under a tag, which the bytes are, and moves the
+/// place behind it.
+#[tactic(auto, unfolding(crate::specs::Cursor::Steps))]
+pub fn content_next<T: Decode + Drop>(
+    alloc: Global,
+    list: Tag,
+    input: &[u8],
+    at: &mut usize,
+    found: &mut Span,
+) -> Status
+    ensures { Steps T.form T.refuses T.wants_memory (octet_of list) input.now at.old at.new
+        (λ value behind span. IsAt (T.form.content value) behind input.now found.new) (found.new ≡ found.old) result }
+{
+    match next::<T>(alloc, list, input, at) {
+        Ok(Some((_value, span))) => {
+            *found = content_at(input, span.place);
+            Status::Done
+        }
+        Ok(None) => Status::Absent,
+        Err(e) => Status::Refused(e),
+    }
+}
+
 /// Reads a value, and fills in where its content octets stand. Where it is refused, the span stays as it was.
 #[tactic(auto, unfolding(crate::specs::Calls::Reads))]
 pub fn content<T: Decode + Drop>(alloc: Global, input: &[u8], found: &mut Span) -> Status

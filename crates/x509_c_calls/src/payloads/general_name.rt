@@ -1,10 +1,10 @@
 //! General names, one after the other.
 
 ghost use Rattle.std.specs.Prelude.{◌≡◌, ◌≤◌, ◌++◌, drop, length, List, ℕ};
-ghost use Rattle.x509_c_calls.specs.GeneralNames.{IsOther, held, kind_of};
+ghost use Rattle.x509_c_calls.specs.GeneralNames.{IsOther, IsParty, held, kind_of};
 
 use crate::payloads::calls::View;
-use crate::payloads::walk::{NOWHERE, content_at, step_content};
+use crate::payloads::walk::{NOWHERE, content_at, step_content, step_optional_content};
 use crate::{Span, enter, step};
 use x509_ext::pkix::name::GeneralName;
 
@@ -27,6 +27,14 @@ pub struct GeneralNameView {
 
     /// Of an otherName where its value stands, a whole element; of other names both numbers are 0.
     pub value: Span,
+
+    /// Of an ediPartyName where the name of its assigner stands, the whole element of a text; both numbers are 0 where it
+    /// is left out, and of other names.
+    pub name_assigner: Span,
+
+    /// Of an ediPartyName where the name of the party stands, the whole element of a text; of other names both numbers
+    /// are 0.
+    pub party_name: Span,
 }
 
 /// The tag number of a name.
@@ -66,6 +74,27 @@ fn other_at(input: &[u8], place: usize, name: &GeneralName) -> (Span, Span)
     }
 }
 
+/// Where the names of an ediPartyName stand whose content begins at the place.
+fn party_at(input: &[u8], place: usize, name: &GeneralName) -> (Span, Span)
+    requires { place ≤ length input.now }
+    ensures { (behind : List ℕ) → drop place input.now ≡ held name.now ++ behind → IsParty name.now behind input.now result.0 result.1 }
+{
+    match name {
+        GeneralName::EdiPartyName(party) => {
+            let mut at = place;
+            let assigner = step_optional_content(input, &mut at, party.name_assigner.is_some());
+            (assigner, step_content(input, &mut at))
+        }
+        GeneralName::OtherName(_) => (NOWHERE, NOWHERE),
+        GeneralName::Rfc822Name(_) => (NOWHERE, NOWHERE),
+        GeneralName::DnsName(_) => (NOWHERE, NOWHERE),
+        GeneralName::DirectoryName(_) => (NOWHERE, NOWHERE),
+        GeneralName::UniformResourceIdentifier(_) => (NOWHERE, NOWHERE),
+        GeneralName::IpAddress(_) => (NOWHERE, NOWHERE),
+        GeneralName::RegisteredId(_) => (NOWHERE, NOWHERE),
+    }
+}
+
 impl View for GeneralNameView {
     ghost use Rattle.x509_c_calls.specs.GeneralNames.{IsGeneralName};
 
@@ -78,12 +107,15 @@ impl View for GeneralNameView {
         let element = step(input, &mut at, true);
         let content = content_at(input, place);
         let (type_id, other) = other_at(input, content.place, value);
+        let (name_assigner, party_name) = party_at(input, content.place, value);
         GeneralNameView {
             kind: kind_of(value),
             element,
             content,
             type_id,
             value: other,
+            name_assigner,
+            party_name,
         }
     }
 }

@@ -2,14 +2,16 @@
 
 ghost use Rattle.std.specs.Prelude.{◌≡◌, ◌≤◌, ◌⊎◌, true, false, IfOk, IfErr};
 ghost use Rattle.x509_base.specs.CivilTime.{last_date_time, unix_seconds};
-ghost use Rattle.x509_c_calls.specs.Texts.{IsSerialText, IsTimeText};
+ghost use Rattle.x509_c_calls.specs.Texts.{IsSerialText, IsTimeText, ReadsMoment};
 ghost use Rattle.x509_c_calls.specs.Status.{Fills};
 ghost use Rattle.x509_c_calls.specs.declared.status.status.Status.TheVariants.{Refused};
 ghost use Rattle.x509_der.specs.declared.error.ErrorKind.TheVariants.{Malformed, Memory};
 ghost use Rattle.x509_prim.specs.Integer.{is_integer};
 
+use crate::named::text_of;
 use crate::{Status, fill};
 use std::alloc::Global;
+use std::str::FromStr;
 use std::time::Duration;
 use x509_base::{DateTime, Raw, SerialNumber};
 use x509_der::{Decode, ErrorKind, Tag};
@@ -69,5 +71,27 @@ pub fn time_text(alloc: Global, moment: u64, room: &mut [u8], written: &mut usiz
     match date_time.to_string(alloc) {
         Ok(text) => fill(text.as_str().as_bytes(), room, written),
         Err(_) => Status::Refused(ErrorKind::Memory),
+    }
+}
+
+/// Reads the text of a moment, as [`time_text`] writes it, and fills in its seconds since 1970-01-01T00:00:00Z. It takes
+/// no memory.
+///
+/// # Errors
+///
+/// `Failed` exactly where it is a bad text: that of no moment from 1970 to 9999. `moment` is unchanged then.
+#[tactic(auto, unfolding(crate::specs::Texts::ReadsMoment))]
+pub fn time_from_text(text: &[u8], moment: &mut u64) -> Status
+    ensures { ReadsMoment text.now moment.old moment.new result }
+{
+    let Some(text) = text_of(text) else {
+        return Status::Refused(ErrorKind::Failed);
+    };
+    match DateTime::from_str(text) {
+        Ok(date_time) => {
+            *moment = date_time.unix_duration().as_secs();
+            Status::Done
+        }
+        Err(e) => e.into(),
     }
 }

@@ -23,4 +23,5 @@ returns c = λ behind e.
       parameters = algorithm.parameters;
       bits = c.bits_at.ensures 3 it.subject_public_key.unused it.subject_public_key.octets behind is_bits passed.1;
       unused_bits = c.from.ensures ∙ c.unused_bits.ensures.unused;
+      curve = c.curve_at-curve.ensures (bits_text it ++ behind) laid_out;
     }

@@ -12,4 +12,4 @@ returns c = λ behind e.
     let element = c.step-element.ensures.stands (spelling general_name it) behind (general_name.tag it, general_name.content it, is_name it, refl) e in
     let inside = c.content_at-content.ensures.stands (general_name.tag it) (general_name.content it) behind (is_name it) e in
     let content : IsAt (held it) behind c.args.input.now c.content_at-content.result = rw content_is at inside in
-    record { kind = c.kind_of.ensures; element = element.0; content = content; other = c.other_at.ensures behind content.0 }
+    record { kind = c.kind_of.ensures; element = element.0; content = content; other = c.other_at.ensures behind content.0; party = c.party_at.ensures behind content.0 }
