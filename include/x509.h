@@ -189,6 +189,11 @@ typedef struct {
     x509_span extensions;              /* the SEQUENCE of extensions, from its 30 on, within the tag [3]; 0 and 0 where absent */
     uint64_t not_before;
     uint64_t not_after;
+    x509_span inner_algorithm;         /* the algorithm within the signed part, which is to be that of its signature (RFC 5280 4.1.1.2); that isn't checked */
+    x509_span issuer_unique_id;        /* the octets of the bits of the issuer's unique identifier (RFC 5280 4.1.2.8); 0 and 0 where absent */
+    uint32_t issuer_unused_bits;       /* how many bits of the last of these octets are unused, 0 to 7 */
+    x509_span subject_unique_id;       /* the same of the subject's unique identifier */
+    uint32_t subject_unused_bits;
 } x509_certificate;
 
 /* Checks a certificate under RFC 5280, and says what it holds and where. No memory is taken.

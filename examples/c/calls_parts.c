@@ -139,6 +139,27 @@ static void keys(void)
     WANT(key.kind == X509_KEY_RSA && is_at(key.curve, 0, 0));
 }
 
+/* The unique identifiers abf (12 bits) and none of the bits, put behind the key of a certificate (RFC 5280 4.1). */
+static void unique_identifiers(void)
+{
+    x509_certificate view, other;
+    WANT(x509_certificate_view(certificate, certificate_len, &view) == X509_OK);
+    WANT(is_at(view.inner_algorithm, view.serial_number.place + view.serial_number.len, view.issuer.place - view.serial_number.place - view.serial_number.len));
+    WANT(is_at(view.issuer_unique_id, 0, 0) && view.issuer_unused_bits == 0 && is_at(view.subject_unique_id, 0, 0) && view.subject_unused_bits == 0);
+    const size_t end = view.subject_public_key_info.place + view.subject_public_key_info.len;
+    memcpy(room, certificate, end);
+    memcpy(room + end, "\x81\x03\x04\xab\xf0\x82\x01\x00", 8);
+    memcpy(room + end + 8, certificate + end, certificate_len - end);
+    /* both lengths have two octets, and the last doesn't overflow */
+    WANT(room[1] == 0x82 && room[5] == 0x82 && room[3] < 248 && room[7] < 248);
+    room[3] = (uint8_t)(room[3] + 8);
+    room[7] = (uint8_t)(room[7] + 8);
+    WANT(x509_certificate_view(room, certificate_len + 8, &other) == X509_OK);
+    WANT(is_at(other.issuer_unique_id, end + 3, 2) && other.issuer_unused_bits == 4);
+    WANT(is_at(other.subject_unique_id, end + 8, 0) && other.subject_unused_bits == 0);
+    WANT(is_at(other.extensions, view.extensions.place + 8, view.extensions.len) && is_at(other.inner_algorithm, view.inner_algorithm.place, view.inner_algorithm.len));
+}
+
 static int is_dotted(const uint8_t *oid, size_t len, const char *text)
 {
     return x509_oid_text(oid, len, room, sizeof room, &written) == X509_OK && is_written(text);
@@ -223,6 +244,7 @@ int main(int argc, char **argv)
     moments();
     names();
     keys();
+    unique_identifiers();
     constants();
     return ended();
 }

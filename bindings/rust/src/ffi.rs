@@ -54,6 +54,11 @@ pub(crate) struct Certificate {
     pub(crate) extensions: Span,
     pub(crate) not_before: u64,
     pub(crate) not_after: u64,
+    pub(crate) inner_algorithm: Span,
+    pub(crate) issuer_unique_id: Span,
+    pub(crate) issuer_unused_bits: u32,
+    pub(crate) subject_unique_id: Span,
+    pub(crate) subject_unused_bits: u32,
 }
 
 #[repr(C)]

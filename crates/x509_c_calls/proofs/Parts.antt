@@ -1,12 +1,12 @@
 -- Where the parts of a certificate stand in the bytes that spell it.
-use Rattle.std.proofs.Common.{◌≡◌, ℕ, Bool, true, false, not, List, [], ◌++◌, drop, Option, Some, None, is_some, Result, refl, sym, ap, ◌∙◌, append_assoc, Bor}
+use Rattle.std.proofs.Common.{◌≡◌, ℕ, Bool, true, false, not, List, [], ◌∷◌, ◌++◌, drop, Option, Some, None, is_some, Result, refl, sym, ap, ◌∙◌, append_assoc, Bor}
 use Rattle.std.proofs.lemmas.List.{append-nil}
 use Rattle.std.specs.Option.{option_copied}
 use Rattle.x509_base.specs.AlgorithmIdentifier.{algorithm_identifier}
 use Rattle.x509_base.specs.SubjectPublicKeyInfo.{subject_public_key_info}
 use Rattle.x509_base.specs.Serial.{serial_number}
 use Rattle.x509_base.specs.Validity.{validity}
-use Rattle.x509_c_calls.specs.View.{IsOptionAt}
+use Rattle.x509_c_calls.specs.View.{AreBitsAt, IsOptionAt}
 use Rattle.x509_c_calls.specs.Place.{IsAt, IsField}
 use Rattle.x509_c_calls.specs.declared.place.span.Span.{Span}
 use Rattle.x509_cert.specs.Certificate.{certificate, certificate_fields}
@@ -75,6 +75,14 @@ pub extensions_at : (o : Option (List Extension)) (bytes more : List ℕ) (place
     → (is_there ≡ false → span ≡ record { place = 0; len = 0 }) → IsOptionAt extensions o more bytes span
 extensions_at None bytes more place span is_there is stands there absent = absent is
 extensions_at (Some xs) bytes more place span is_there is stands there absent = there is 163 48 (extensions.content xs) more is_wrapped is_sequence stands
+
+-- bits under a tag that may be left out
+pub bits_are : (tag : ℕ) (o : Option BitParts) (bytes more : List ℕ) (place : ℕ) (span : Span) (unused : ℕ) (is_there : Bool) → is_identifier tag ≡ true → is_there ≡ is_some o
+    → drop place bytes ≡ optional_octets (λ bits. element tag (bit_string.content bits)) o ++ more
+    → (is_there ≡ true → (t u : ℕ) (octets behind : List ℕ) → is_identifier t ≡ true → drop place bytes ≡ element t (u ∷ octets) ++ behind → IsAt octets behind bytes span × (unused ≡ u))
+    → (is_there ≡ false → (span ≡ record { place = 0; len = 0 }) × (unused ≡ 0)) → AreBitsAt o more bytes span unused
+bits_are tag None bytes more place span unused is_there is_tag is stands there absent = absent is
+bits_are tag (Some bits) bytes more place span unused is_there is_tag is stands there absent = there is tag bits.unused bits.octets more is_tag stands
 
 -- parts in two groups stand one behind the other
 one_after_the_other : (a b c d e f g h i j more : List ℕ) → ((a ++ (b ++ (c ++ (d ++ e)))) ++ (f ++ (g ++ (h ++ (i ++ j))))) ++ more ≡ a ++ (b ++ (c ++ (d ++ (e ++ (f ++ (g ++ (h ++ (i ++ (j ++ more)))))))))

@@ -66,6 +66,10 @@ class CertificateView(ctypes.Structure):
         *_spans("serial_number", "issuer", "subject", "subject_public_key_info", "extensions"),
         ("not_before", ctypes.c_uint64),
         ("not_after", ctypes.c_uint64),
+        *_spans("inner_algorithm", "issuer_unique_id"),
+        *_numbers("issuer_unused_bits"),
+        *_spans("subject_unique_id"),
+        *_numbers("subject_unused_bits"),
     ]
 
 

@@ -1,6 +1,6 @@
 //! Where the parts of a certificate stand.
 
-ghost use Rattle.std.specs.Prelude.{◌≡◌, ◌≤◌, ◌++◌, not, true, false, option_copied, drop, length, List, ℕ};
+ghost use Rattle.std.specs.Prelude.{◌≡◌, ◌≤◌, ◌∷◌, ◌++◌, not, true, false, option_copied, drop, length, List, ℕ};
 ghost use Rattle.x509_base.specs.CivilTime.{unix_seconds};
 ghost use Rattle.x509_base.specs.Time.{date_time_of};
 ghost use Rattle.x509_base.specs.declared.profile.Rfc5280 as rules;
@@ -12,7 +12,7 @@ ghost use Rattle.x509_der.specs.Element.{element, is_identifier};
 ghost use Rattle.x509_der.specs.Form.{Spells};
 ghost use Rattle.x509_der.specs.Frames.{optional_octets};
 
-use crate::{Span, enter, pass, step};
+use crate::{NOWHERE, Span, bits_at, enter, pass, step, unused_at};
 use x509_base::{Rfc5280, Time};
 use x509_cert::certificate::{CertificateInner, Version};
 use x509_check::CertificateRef;
@@ -46,6 +46,21 @@ pub struct CertificateView {
 
     /// Until when it is valid, in seconds since 1970-01-01T00:00:00Z.
     pub not_after: u64,
+
+    /// The algorithm in the signed part, a whole AlgorithmIdentifier.
+    pub inner_algorithm: Span,
+
+    /// The octets of the bits of the issuer's unique identifier; where it is absent, both numbers are 0.
+    pub issuer_unique_id: Span,
+
+    /// How many bits of the last of these octets are unused, 0 to 7.
+    pub issuer_unused_bits: u32,
+
+    /// The octets of the bits of the subject's unique identifier; where it is absent, both numbers are 0.
+    pub subject_unique_id: Span,
+
+    /// How many bits of the last of these octets are unused, 0 to 7.
+    pub subject_unused_bits: u32,
 }
 
 /// The number of a version, from 1.
@@ -100,6 +115,19 @@ pub(crate) fn wrapped(input: &[u8], place: usize, is_there: bool) -> Span
     enter(input, &mut at)
 }
 
+/// Where the octets of bits stand, of a BIT STRING under any tag that may be absent, and how many bits are unused.
+fn optional_bits(input: &[u8], place: usize, is_there: bool) -> (Span, u32)
+    requires { place ≤ length input.now }
+    ensures there { is_there ≡ true → (tag unused : ℕ) (octets more : List ℕ) → is_identifier tag ≡ true
+        → drop place input.now ≡ element tag (unused ∷ octets) ++ more → IsAt octets more input.now result.0 × (result.1 ≡ unused) }
+    ensures absent { is_there ≡ false → (result.0 ≡ record { place = 0; len = 0 }) × (result.1 ≡ 0) }
+{
+    if !is_there {
+        return (NOWHERE, 0);
+    }
+    (bits_at(input, place), unused_at(input, place))
+}
+
 /// What the certificate says, and where its parts stand in the bytes, which it is lent from.
 pub(crate) fn view_of(input: &[u8], lent: &CertificateRef<'_>) -> CertificateView
     ensures { (certificate : whole.CertificateInner rules.Rfc5280) → Spells ⟦<CertificateInner<Rfc5280> as Grammar>⟧.form certificate input.now
@@ -113,12 +141,22 @@ pub(crate) fn view_of(input: &[u8], lent: &CertificateRef<'_>) -> CertificateVie
     enter(input, &mut at);
     step(input, &mut at, is_written(version));
     let serial_number = pass(input, &mut at, fields.serial_number.len());
-    pass(input, &mut at, fields.signature.len());
+    let inner_algorithm = pass(input, &mut at, fields.signature.len());
     let issuer = pass(input, &mut at, fields.issuer.len());
     pass(input, &mut at, fields.validity.len());
     let subject = pass(input, &mut at, fields.subject.len());
     let subject_public_key_info = pass(input, &mut at, fields.subject_public_key_info.len());
+    let (issuer_unique_id, issuer_unused_bits) = optional_bits(
+        input,
+        at,
+        fields.issuer_unique_id.is_some(),
+    );
     pass(input, &mut at, len_of(fields.issuer_unique_id));
+    let (subject_unique_id, subject_unused_bits) = optional_bits(
+        input,
+        at,
+        fields.subject_unique_id.is_some(),
+    );
     pass(input, &mut at, len_of(fields.subject_unique_id));
     CertificateView {
         version: version_number(version),
@@ -129,5 +167,10 @@ pub(crate) fn view_of(input: &[u8], lent: &CertificateRef<'_>) -> CertificateVie
         extensions: wrapped(input, at, fields.extensions.is_some()),
         not_before: seconds(&validity.not_before),
         not_after: seconds(&validity.not_after),
+        inner_algorithm,
+        issuer_unique_id,
+        issuer_unused_bits,
+        subject_unique_id,
+        subject_unused_bits,
     }
 }
