@@ -1,4 +1,5 @@
 use Rattle.std.proofs.Common.{inl, refl}
+use Rattle.std.proofs.lemmas.Bool.{false≢true}
 use Rattle.x509_c_calls.proofs.NameAnswers.{flag-answers}
 use Rattle.x509_c_calls.proofs.named.matching.names_match.Goals as goal
 use Rattle.x509_c_calls.specs.NamesMatch.{TellsWhetherNamesMatch}
@@ -17,4 +18,4 @@ returns-in-Err-checked_names_match-clause-told c =
     let left = c.in_default.ensures.found in
     let right = c.in_default-check.ensures.found in
     let plain = c.in-Err-checked_names_match.ensures.plain left.0 right.0 left.1 right.1 in
-    (inl (refl, record { left = left.0; right = right.0; left_spelled = left.1; right_spelled = right.1 }, plain), refl)
+    (inl (refl, record { left = left.0; right = right.0; left_spelled = left.1; right_spelled = right.1 }, λ is_left is_right. false≢true (plain is_left is_right)), refl)
