@@ -648,7 +648,7 @@ typedef struct {
 x509_status x509_path_check(const uint8_t *anchor, size_t anchor_len, const uint8_t *path, size_t path_len, const size_t *lens, size_t count,
                             uint64_t moment, x509_path_fault *fault);
 
-/* Further reasons, of x509_path_validate and x509_path_validate_under_key alone. */
+/* Further reasons, of x509_path_validate and the two calls like it alone. */
 
 /* An extension can't be decoded that is one of those of X509_PATH_CRITICAL, a NameConstraints, a CertificatePolicies, a PolicyMappings, a PolicyConstraints or an
  * InhibitAnyPolicy, critical or not. */
@@ -657,56 +657,78 @@ x509_status x509_path_check(const uint8_t *anchor, size_t anchor_len, const uint
 #define X509_PATH_NAMES 12
 /* Asked of all but the last: there is a NameConstraints that can't be used, with a minimum other than 0, a maximum, or an address or a mask that is none. */
 #define X509_PATH_CONSTRAINTS 13
+/* A policy is in a CertificatePolicies twice. */
+#define X509_PATH_REPEATED_POLICY 14
+/* No policy is left under which the path is valid, and one is asked for. */
+#define X509_PATH_POLICY 15
+/* Asked of all but the last: a PolicyMappings maps any-policy, or something to it. */
+#define X509_PATH_POLICY_MAPPING 16
+
+/* What may be asked of policies, added up. A policy is asked for (RFC 5280 6.1.1 (f)). */
+#define X509_PATH_EXPLICIT_POLICY 1
+/* Policies may not be mapped (6.1.1 (e)). */
+#define X509_PATH_INHIBIT_POLICY_MAPPING 2
+/* Any-policy in a certificate counts for nothing (6.1.1 (g)). */
+#define X509_PATH_INHIBIT_ANY_POLICY 4
 
 /* What is asked of a path. A caller hands over its size too, so that later versions of this library can ask for more: what stands behind what the library knows has to be
  * zeros, which ask for nothing, or the answer is X509_VALUE. So set all of it to zeros first. */
 typedef struct {
     uint64_t moment; /* the time at which the path is to be valid */
+    uint64_t flags;  /* X509_PATH_EXPLICIT_POLICY and the others; any other number is X509_VALUE */
 } x509_path_settings;
 
-/* What is answered to a path: its first fault, or where the name and the public key of its last certificate stand. Of the other all numbers are 0. */
+/* What is answered to a path: its first fault, or what it gives. Of the other all numbers are 0. */
 typedef struct {
-    size_t place;    /* the index of the certificate in the path, from 0 */
-    uint32_t reason; /* one of X509_PATH_DECODE to X509_PATH_CONSTRAINTS */
-    x509_span name;  /* a whole Name, in the bytes of the last certificate, which begin at 0 */
-    x509_span key;   /* a whole SubjectPublicKeyInfo, in the bytes of the last certificate */
+    size_t place;        /* the index of the certificate in the path, from 0 */
+    uint32_t reason;     /* one of X509_PATH_DECODE to X509_PATH_POLICY_MAPPING */
+    x509_span name;      /* a whole Name, in the bytes of the last certificate, which begin at 0 */
+    x509_span key;       /* a whole SubjectPublicKeyInfo, in the bytes of the last certificate */
+    size_t policies_len; /* how many bytes the policies have, whether they fit into the buffer or not */
 } x509_path_answer;
 
 /* Validates a path of `count` certificates, topmost first, under an anchor's certificate (RFC 5280 6.1, RFC 5937 2): its subject, its public key, the name constraints
- * and the path length constraint that it has, of which nothing else is checked. BUT NOT THE SIGNATURES, which the caller verifies as x509_path_check says; without that
- * X509_OK gives no security. Policies and revocation aren't checked; a critical extension about policies is X509_PATH_CRITICAL.
+ * and the path length constraint that it has, of which nothing else is checked; what it says of policies is not followed. BUT NOT THE SIGNATURES, which the caller verifies
+ * as x509_path_check says; without that X509_OK gives no security. Revocation isn't checked.
  *
  * It is x509_path_check with these differences: issuers and subjects are compared as x509_names_match does, also where it is asked whether a certificate is self-issued;
  * name constraints hold, those of the anchor, those of `name_constraints`, which are the initial permitted and excluded subtrees (6.1.1 (h), (i)) as the encoding of a
- * NameConstraints, or none where there are no bytes, and those of each certificate above; and extensions of the types that X509_PATH_EXTENSION names have to be such that
- * can be decoded. Of several faults of one certificate the one with the lowest number is reported, but X509_PATH_EXTENSION comes behind X509_PATH_CRITICAL.
+ * NameConstraints, or none where there are no bytes, and those of each certificate above; policies are followed, where `policies` are those that the caller accepts
+ * (6.1.1 (c)) as the encoding of a CertificatePolicies, whose qualifiers aren't looked at, or any where there are no bytes; critical extensions of the types that
+ * X509_PATH_EXTENSION names are no fault, and each of them has to be such that can be decoded. Of several faults of one certificate the one with the lowest number is
+ * reported, but X509_PATH_EXTENSION comes behind X509_PATH_CRITICAL.
  *
  * The certificates stand one after the other in path[0..path_len), and lens[i] is the length of the i-th. `settings_size` is the size of `*settings`.
  *
- * X509_FAILED where the lengths don't add up to `path_len`, or where the anchor has one of the two extensions more than once; X509_VALUE where there are no settings, as
- * said there, or `moment` is after 9999-12-31T23:59:59Z; X509_OVERLENGTH or X509_MALFORMED where decoding the anchor's certificate, one of its two extensions or the name
- * constraints answers that; where several of these are bad, any of their answers may come. Else X509_ABSENT where `count` is 0. Else X509_VALUE where the name
- * constraints of the anchor or of the caller can't be used, as X509_PATH_CONSTRAINTS says. Else X509_FAULT where there is a fault: `*answer` is the lowest place that has
- * one other than a signature's, and the first of its faults there. Else X509_OK: there is no fault, except perhaps of signatures, and `*answer` says where the name and
- * the key of the last certificate stand.
+ * X509_FAILED where the lengths don't add up to `path_len`, or where the anchor has one of the extensions that are followed more than once; X509_VALUE where there are no
+ * settings, as said there, or `moment` is after 9999-12-31T23:59:59Z; X509_OVERLENGTH or X509_MALFORMED where decoding the anchor's certificate, one of its extensions, the
+ * name constraints or the policies answers that; where several of these are bad, any of their answers may come. Else X509_ABSENT where `count` is 0. Else X509_VALUE where
+ * the name constraints of the anchor or of the caller can't be used, as X509_PATH_CONSTRAINTS says. Else X509_FAULT where there is a fault: `*answer` is the lowest place
+ * that has one other than a signature's, and the first of its faults there. Else X509_OK: there is no fault, except perhaps of signatures, and `*answer` says where the name
+ * and the key of the last certificate stand. The policies under which the path is valid (6.1.6) are put into out[0..room), where they fit, as the encoding of a
+ * CertificatePolicies without qualifiers, which x509_certificate_policies_next goes over; any-policy may be one of them, and none is no fault where none is asked for.
+ * X509_OVERLENGTH also where that encoding would be more than 268,435,455 bytes.
  * Answers X509_OK, X509_MEMORY, X509_OVERLENGTH, X509_MALFORMED, X509_FAILED, X509_VALUE, X509_ABSENT, X509_FAULT. */
 x509_status x509_path_validate(const uint8_t *anchor, size_t anchor_len, const uint8_t *path, size_t path_len, const size_t *lens, size_t count,
-                               const uint8_t *name_constraints, size_t name_constraints_len, const x509_path_settings *settings, size_t settings_size,
-                               x509_path_answer *answer);
+                               const uint8_t *name_constraints, size_t name_constraints_len, const uint8_t *policies, size_t policies_len,
+                               const x509_path_settings *settings, size_t settings_size, uint8_t *out, size_t room, x509_path_answer *answer);
 
 /* The same under a name and a public key that are trusted, a whole Name and a whole SubjectPublicKeyInfo.
  * Answers X509_OK, X509_MEMORY, X509_OVERLENGTH, X509_MALFORMED, X509_FAILED, X509_VALUE, X509_ABSENT, X509_FAULT. */
 x509_status x509_path_validate_under_key(const uint8_t *name, size_t name_len, const uint8_t *key, size_t key_len, const uint8_t *path, size_t path_len,
                                          const size_t *lens, size_t count, const uint8_t *name_constraints, size_t name_constraints_len,
-                                         const x509_path_settings *settings, size_t settings_size, x509_path_answer *answer);
+                                         const uint8_t *policies, size_t policies_len, const x509_path_settings *settings, size_t settings_size,
+                                         uint8_t *out, size_t room, x509_path_answer *answer);
 
 /* The same under a trust anchor (RFC 5914, RFC 5937 2), the encoding of a TrustAnchorChoice, as x509_anchor_view reads: of a certificate or a TBSCertificate as
  * x509_path_validate says; of a description its key, and the name, the name constraints and the path length constraint of its constraints on paths; where one of the last
- * two isn't there, that of the certificate there, if it has one. X509_FAILED also where a description has no name.
+ * two isn't there, that of the certificate there, if it has one, whose subject, key and key identifier have to be the description's (RFC 5914 2.5). Its policies and the flags
+ * about them are not followed: `policies` and `flags` can say the same. X509_FAILED also where a description has no name, or a certificate of another anchor.
  * Answers X509_OK, X509_MEMORY, X509_OVERLENGTH, X509_MALFORMED, X509_FAILED, X509_VALUE, X509_ABSENT, X509_FAULT. */
 x509_status x509_path_validate_under_anchor(const uint8_t *anchor, size_t anchor_len, const uint8_t *path, size_t path_len, const size_t *lens, size_t count,
-                                            const uint8_t *name_constraints, size_t name_constraints_len, const x509_path_settings *settings,
-                                            size_t settings_size, x509_path_answer *answer);
+                                            const uint8_t *name_constraints, size_t name_constraints_len, const uint8_t *policies, size_t policies_len,
+                                            const x509_path_settings *settings, size_t settings_size, uint8_t *out, size_t room,
+                                            x509_path_answer *answer);
 
 /* ---- CRLs */
 

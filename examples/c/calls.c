@@ -224,25 +224,27 @@ static void paths(void)
 /* The certificate of the examples as a path under itself, with settings of so many bytes and constraints. */
 static x509_status validate(const void *settings, size_t size, const uint8_t *constraints, size_t constraints_len, x509_path_answer *answer)
 {
-    return x509_path_validate(certificate, certificate_len, certificate, certificate_len, &certificate_len, 1, constraints, constraints_len, settings, size, answer);
+    return x509_path_validate(certificate, certificate_len, certificate, certificate_len, &certificate_len, 1, constraints, constraints_len, NULL, 0, settings, size, NULL, 0,
+                              answer);
 }
 
 static int is_fault(x509_status status, const x509_path_answer *answer, size_t place, uint32_t reason)
 {
-    return status == X509_FAULT && answer->place == place && answer->reason == reason && is_at(answer->name, 0, 0) && is_at(answer->key, 0, 0);
+    return status == X509_FAULT && answer->place == place && answer->reason == reason && is_at(answer->name, 0, 0) && is_at(answer->key, 0, 0) &&
+           answer->policies_len == 0;
 }
 
-static const x509_path_answer UNTOUCHED = {7, 7, {7, 7}, {7, 7}};
+static const x509_path_answer UNTOUCHED = {7, 7, {7, 7}, {7, 7}, 7};
 
 static int is_untouched(x509_path_answer answer)
 {
-    return answer.place == 7 && answer.reason == 7 && is_at(answer.name, 7, 7) && is_at(answer.key, 7, 7);
+    return answer.place == 7 && answer.reason == 7 && is_at(answer.name, 7, 7) && is_at(answer.key, 7, 7) && answer.policies_len == 7;
 }
 
 static void settings_of_paths(void)
 {
     /* a caller of a later header, who asks for nothing of what this library doesn't know, and one who does */
-    struct { x509_path_settings known; uint64_t more[4]; } later = {{1767323045}, {0, 0, 0, 0}};
+    struct { x509_path_settings known; uint64_t more[4]; } later = {{1767323045, 0}, {0, 0, 0, 0}};
     x509_path_answer answer = UNTOUCHED;
     WANT(validate(NULL, 0, NULL, 0, &answer) == X509_VALUE && is_untouched(answer));
     WANT(validate(&later, 1, NULL, 0, &answer) == X509_VALUE && is_untouched(answer));
@@ -258,9 +260,45 @@ static void settings_of_paths(void)
     WANT(validate(&later, sizeof later.known, NULL, 0, &answer) == X509_VALUE && is_untouched(answer));
 }
 
+/* CertificatePolicies (RFC 5280 4.2.1.4) by hand: any-policy, 1.2.3, and none. */
+#define ANY_POLICY "\x30\x08\x30\x06\x06\x04\x55\x1d\x20\x00"
+#define ONE_POLICY "\x30\x06\x30\x04\x06\x02\x2a\x03"
+#define NO_POLICY "\x30\x00"
+
+/* The certificate of the examples has no policies, so its path is valid under none. */
+static void policies_of_paths(void)
+{
+    x509_path_settings asked = {1767323045, 0};
+    uint8_t out[8];
+    x509_path_answer answer = UNTOUCHED;
+    const size_t len = certificate_len;
+    memset(out, 7, sizeof out);
+    WANT(x509_path_validate(certificate, len, certificate, len, &len, 1, NULL, 0, BYTES(ONE_POLICY), &asked, sizeof asked, out, sizeof out, &answer) == X509_OK);
+    WANT(answer.policies_len == 2 && memcmp(out, NO_POLICY "\7", 3) == 0);
+    memset(out, 7, sizeof out);
+    WANT(x509_path_validate(certificate, len, certificate, len, &len, 1, NULL, 0, NULL, 0, &asked, sizeof asked, out, 1, &answer) == X509_OK);
+    WANT(answer.policies_len == 2 && out[0] == 7);
+    for (asked.flags = 0; asked.flags < 8; asked.flags++) {
+        const int is_asked = (asked.flags & X509_PATH_EXPLICIT_POLICY) != 0;
+        answer = UNTOUCHED;
+        const x509_status status = validate(&asked, sizeof asked, NULL, 0, &answer);
+        WANT(is_asked ? is_fault(status, &answer, 0, X509_PATH_POLICY) : status == X509_OK && answer.policies_len == 2);
+    }
+    answer = UNTOUCHED;
+    WANT(validate(&asked, sizeof asked, NULL, 0, &answer) == X509_VALUE && is_untouched(answer));
+    asked.flags = UINT64_MAX;
+    WANT(validate(&asked, sizeof asked, NULL, 0, &answer) == X509_VALUE && is_untouched(answer));
+    asked.flags = X509_PATH_EXPLICIT_POLICY;
+    WANT(is_fault(x509_path_validate(certificate, len, certificate, len, &len, 1, NULL, 0, BYTES(ANY_POLICY), &asked, sizeof asked, NULL, 0, &answer), &answer, 0,
+                  X509_PATH_POLICY));
+    answer = UNTOUCHED;
+    WANT(x509_path_validate(certificate, len, certificate, len, &len, 1, NULL, 0, BYTES("\x30\x01"), &asked, sizeof asked, NULL, 0, &answer) == X509_MALFORMED);
+    WANT(is_untouched(answer));
+}
+
 static void validated_paths(void)
 {
-    const x509_path_settings first = {1767323045}, before = {1767323044}, last = {2695968550}, behind = {2695968551};
+    const x509_path_settings first = {1767323045, 0}, before = {1767323044, 0}, last = {2695968550, 0}, behind = {2695968551, 0};
     const size_t len = certificate_len, around[] = {len, SIZE_MAX};
     x509_path_answer answer = UNTOUCHED;
     x509_certificate view;
@@ -272,6 +310,7 @@ static void validated_paths(void)
     WANT(is_fault(validate(&before, sizeof before, NULL, 0, &answer), &answer, 0, X509_PATH_MOMENT));
     WANT(is_fault(validate(&behind, sizeof behind, NULL, 0, &answer), &answer, 0, X509_PATH_MOMENT));
     settings_of_paths();
+    policies_of_paths();
 
     WANT(validate(&first, sizeof first, BYTES(ALL_PERMITTED), &answer) == X509_OK);
     WANT(is_fault(validate(&first, sizeof first, BYTES(ALL_EXCLUDED), &answer), &answer, 0, X509_PATH_NAMES));
@@ -279,25 +318,25 @@ static void validated_paths(void)
     WANT(validate(&first, sizeof first, BYTES(UNUSABLE), &answer) == X509_VALUE && is_untouched(answer));
     WANT(validate(&first, sizeof first, BYTES("\x30\x01"), &answer) == X509_MALFORMED && is_untouched(answer));
 
-    WANT(x509_path_validate(certificate, len, NULL, 0, NULL, 0, NULL, 0, &first, sizeof first, &answer) == X509_ABSENT && is_untouched(answer));
-    WANT(x509_path_validate(certificate, len, certificate, len - 1, &len, 1, NULL, 0, &first, sizeof first, &answer) == X509_FAILED && is_untouched(answer));
-    WANT(x509_path_validate(certificate, len, certificate, len, around, 2, NULL, 0, &first, sizeof first, &answer) == X509_FAILED && is_untouched(answer));
-    WANT(x509_path_validate(NULL, 0, certificate, len, &len, 1, NULL, 0, &first, sizeof first, &answer) == X509_MALFORMED && is_untouched(answer));
-    WANT(is_fault(x509_path_validate(certificate, len, list, list_len, &list_len, 1, NULL, 0, &first, sizeof first, &answer), &answer, 0, X509_PATH_DECODE));
+    WANT(x509_path_validate(certificate, len, NULL, 0, NULL, 0, NULL, 0, NULL, 0, &first, sizeof first, NULL, 0, &answer) == X509_ABSENT && is_untouched(answer));
+    WANT(x509_path_validate(certificate, len, certificate, len - 1, &len, 1, NULL, 0, NULL, 0, &first, sizeof first, NULL, 0, &answer) == X509_FAILED && is_untouched(answer));
+    WANT(x509_path_validate(certificate, len, certificate, len, around, 2, NULL, 0, NULL, 0, &first, sizeof first, NULL, 0, &answer) == X509_FAILED && is_untouched(answer));
+    WANT(x509_path_validate(NULL, 0, certificate, len, &len, 1, NULL, 0, NULL, 0, &first, sizeof first, NULL, 0, &answer) == X509_MALFORMED && is_untouched(answer));
+    WANT(is_fault(x509_path_validate(certificate, len, list, list_len, &list_len, 1, NULL, 0, NULL, 0, &first, sizeof first, NULL, 0, &answer), &answer, 0, X509_PATH_DECODE));
 
     const uint8_t *name = certificate + view.subject.place, *key = certificate + view.subject_public_key_info.place;
     const size_t name_len = view.subject.len, key_len = view.subject_public_key_info.len;
     answer = UNTOUCHED;
-    WANT(x509_path_validate_under_anchor(list, list_len, certificate, len, &len, 1, NULL, 0, &first, sizeof first, &answer) == X509_MALFORMED && is_untouched(answer));
-    WANT(x509_path_validate_under_key(name, name_len - 1, key, key_len, certificate, len, &len, 1, NULL, 0, &first, sizeof first, &answer) == X509_MALFORMED);
-    WANT(x509_path_validate_under_key(name, name_len, key, key_len - 1, certificate, len, &len, 1, NULL, 0, &first, sizeof first, &answer) == X509_MALFORMED);
+    WANT(x509_path_validate_under_anchor(list, list_len, certificate, len, &len, 1, NULL, 0, NULL, 0, &first, sizeof first, NULL, 0, &answer) == X509_MALFORMED && is_untouched(answer));
+    WANT(x509_path_validate_under_key(name, name_len - 1, key, key_len, certificate, len, &len, 1, NULL, 0, NULL, 0, &first, sizeof first, NULL, 0, &answer) == X509_MALFORMED);
+    WANT(x509_path_validate_under_key(name, name_len, key, key_len - 1, certificate, len, &len, 1, NULL, 0, NULL, 0, &first, sizeof first, NULL, 0, &answer) == X509_MALFORMED);
     WANT(is_untouched(answer));
-    WANT(x509_path_validate_under_anchor(certificate, len, certificate, len, &len, 1, NULL, 0, &first, sizeof first, &answer) == X509_OK);
+    WANT(x509_path_validate_under_anchor(certificate, len, certificate, len, &len, 1, NULL, 0, NULL, 0, &first, sizeof first, NULL, 0, &answer) == X509_OK);
     WANT(is_at(answer.name, view.subject.place, name_len) && is_at(answer.key, view.subject_public_key_info.place, key_len));
     answer = UNTOUCHED;
-    WANT(x509_path_validate_under_key(name, name_len, key, key_len, certificate, len, &len, 1, NULL, 0, &first, sizeof first, &answer) == X509_OK);
+    WANT(x509_path_validate_under_key(name, name_len, key, key_len, certificate, len, &len, 1, NULL, 0, NULL, 0, &first, sizeof first, NULL, 0, &answer) == X509_OK);
     WANT(is_at(answer.name, view.subject.place, name_len) && is_at(answer.key, view.subject_public_key_info.place, key_len));
-    WANT(is_fault(x509_path_validate_under_key(BYTES(NAME), key, key_len, certificate, len, &len, 1, NULL, 0, &first, sizeof first, &answer), &answer, 0,
+    WANT(is_fault(x509_path_validate_under_key(BYTES(NAME), key, key_len, certificate, len, &len, 1, NULL, 0, NULL, 0, &first, sizeof first, NULL, 0, &answer), &answer, 0,
                   X509_PATH_ISSUER));
 }
 

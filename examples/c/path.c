@@ -155,10 +155,10 @@ static x509_status ask(const question *it, x509_path_fault *fault)
 {
     if (!it->is_validated)
         return x509_path_check(it->anchor.bytes, it->anchor.len, it->path.bytes, it->path.len, it->lens, it->count, it->moment, fault);
-    const x509_path_settings settings = {it->moment};
-    x509_path_answer answer = {0, 0, {0, 0}, {0, 0}};
-    const x509_status status = x509_path_validate(it->anchor.bytes, it->anchor.len, it->path.bytes, it->path.len, it->lens, it->count, NULL, 0, &settings,
-                                                  sizeof settings, &answer);
+    const x509_path_settings settings = {it->moment, 0};
+    x509_path_answer answer = {0, 0, {0, 0}, {0, 0}, 0};
+    const x509_status status = x509_path_validate(it->anchor.bytes, it->anchor.len, it->path.bytes, it->path.len, it->lens, it->count, NULL, 0, NULL, 0,
+                                                  &settings, sizeof settings, NULL, 0, &answer);
     *fault = (x509_path_fault){answer.place, answer.reason};
     return status;
 }

@@ -44,10 +44,16 @@ def row(call, number, known, numbers):
             words += ["a->lens", "a->count"]
             flags.add("HAS_LENS")
         elif it.is_pointer and not it.is_const and it.kind == "uint8_t" and behind is not None and behind.name == "room":
-            words += ["a->out", "a->room", "a->written"]
-            if [(it.name, it.kind) for it in (rest.pop(0), rest.pop(0))] != [("room", "size_t"), ("written", "size_t")]:
+            words += ["a->out", "a->room"]
+            if rest.pop(0).kind != "size_t" or not rest:
                 raise ValueError(f"{call.name}: a buffer without a room")
-            flags.add("WRITES")
+            if rest[0].name == "written" and rest[0].kind == "size_t":
+                rest.pop(0)
+                words.append("a->written")
+                flags.add("WRITES")
+            else:
+                # a struct says how many bytes there are, whether they fit or not
+                flags.add("WRITES_ASIDE")
         elif it.is_pointer and it.name == "at" and it.kind == "size_t":
             words.append("a->at")
             flags.add("WALKS")

@@ -114,7 +114,9 @@ static uint32_t matches;
 #define REQUEST "\x30\x27\x02\x01\x00\x30\x00" KEY "\xa0\x11\x30\x0f\x06\x09\x2a\x86\x48\x86\xf7\x0d\x01\x09\x0e\x31\x02\x30\x00"
 
 /* The first second of the validity of the certificate; and constraints that permit each name of a directory. */
-static const x509_path_settings FIRST_SECOND = {1767323045};
+static const x509_path_settings FIRST_SECOND = {1767323045, 0};
+/* the CertificatePolicies of 1.2.3 */
+#define POLICIES "\x30\x06\x30\x04\x06\x02\x2a\x03"
 #define CONSTRAINTS "\x30\x08\xa0\x06\x30\x04\xa4\x02\x30\x00"
 
 static x509_status call(int number)
@@ -242,15 +244,15 @@ static x509_status call(int number)
         return x509_names_match(BYTES("\x30\x0c\x31\x0a\x30\x08\x06\x03\x55\x04\x03\x0c\x01" "a"),
                                 BYTES("\x30\x0d\x31\x0b\x30\x09\x06\x03\x55\x04\x03\x0c\x02\xc3\xa4"), &matches);
     case 51:
-        return x509_path_validate(certificate, certificate_len, certificate, certificate_len, &certificate_len, 1, NULL, 0, &FIRST_SECOND, sizeof FIRST_SECOND,
-                                  &answer);
+        return x509_path_validate(certificate, certificate_len, certificate, certificate_len, &certificate_len, 1, NULL, 0, BYTES(POLICIES), &FIRST_SECOND,
+                                  sizeof FIRST_SECOND, room, sizeof room, &answer);
     case 52:
-        return x509_path_validate_under_anchor(certificate, certificate_len, certificate, certificate_len, &certificate_len, 1, BYTES(CONSTRAINTS), &FIRST_SECOND,
-                                               sizeof FIRST_SECOND, &answer);
+        return x509_path_validate_under_anchor(certificate, certificate_len, certificate, certificate_len, &certificate_len, 1, BYTES(CONSTRAINTS), NULL, 0,
+                                               &FIRST_SECOND, sizeof FIRST_SECOND, room, sizeof room, &answer);
     case 53:
         return x509_path_validate_under_key(certificate + own.subject.place, own.subject.len, certificate + own.subject_public_key_info.place,
-                                            own.subject_public_key_info.len, certificate, certificate_len, &certificate_len, 1, NULL, 0, &FIRST_SECOND,
-                                            sizeof FIRST_SECOND, &answer);
+                                            own.subject_public_key_info.len, certificate, certificate_len, &certificate_len, 1, NULL, 0, NULL, 0, &FIRST_SECOND,
+                                            sizeof FIRST_SECOND, room, sizeof room, &answer);
     case 54:
         return x509_string_text(BYTES("\x1e\x1e" "\x00" "a\x00" "a\x00" "a\x00" "a\x00" "a\x00" "a\x00" "a\x00" "a\x00" "a\x00" "a\x00" "a\x00" "a\x00" "a\x00" "a\x00" "a"),
                                 room, sizeof room, &count);

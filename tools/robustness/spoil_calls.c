@@ -24,7 +24,7 @@
 #include "x509.h"
 
 enum { MOST_INPUTS = 10, MOST_NUMBERS = 8, MOST_LENS = 4, MOST_FIELDS = 32, MOST_THREADS = 64 };
-enum { HAS_LENS = 1, WRITES = 2, WALKS = 4 };
+enum { HAS_LENS = 1, WRITES = 2, WALKS = 4, WRITES_ASIDE = 8 };
 
 /* statuses are from -2 to 8 */
 #define ANSWERS(status) (1u << ((status) + 2))
@@ -156,7 +156,7 @@ static void put(pool *to, size_t number)
 }
 
 /* Which pool an input is of: that of what the call with one input accepts, or `found:` and the call whose first span it is, or `kind:` and the type of rows,
- * or `paths`, certificates that are a path under themselves, `constraints`, NameConstraints and no bytes, or `settings` of a path. For a call with one input it is its own. */
+ * or `paths`, certificates that are a path under themselves, `constraints` and `policies`, NameConstraints, CertificatePolicies and no bytes, or `settings` of a path. For a call with one input it is its own. */
 typedef struct {
     const char *call, *input, *pool;
 } source;
@@ -168,6 +168,7 @@ static const source SOURCES[] = {
     {NULL, "path", "paths"},
     {NULL, "anchor", "x509_certificate_check"},
     {NULL, "name_constraints", "constraints"},
+    {NULL, "policies", "policies"},
     {NULL, "settings", "settings"},
     {"x509_certificate_extension", "in", "x509_certificate_check"},
     {"x509_certificate_extension", "oid", "found:x509_extensions_next"},
@@ -376,11 +377,15 @@ static x509_status ask_any(asker *by, arguments *with, int is_front)
         return ask_room(by, with, is_front);
     if (by->now->flags & WALKS)
         return ask_walk(by, with);
+    if (by->now->flags & WRITES_ASIDE) {
+        with->room = (size_t)below(&by->state, 64);
+        with->out = place(by->out, with->room, is_front);
+    }
     const x509_status status = ask(by, with);
     if (status == X509_FAULT) {
         x509_path_fault fault;
         memcpy(&fault, with->found, sizeof fault);
-        const uint32_t last = input_of(by->now, "settings") < 0 ? X509_PATH_PATH_LEN : X509_PATH_CONSTRAINTS;
+        const uint32_t last = input_of(by->now, "settings") < 0 ? X509_PATH_PATH_LEN : X509_PATH_POLICY_MAPPING;
         if (fault.place >= with->count || fault.reason < X509_PATH_DECODE || fault.reason > last || fault.reason == X509_PATH_SIGNATURE)
             wrong(by, "a fault that is none", with, status);
     }
@@ -499,7 +504,7 @@ static void take_moment(asker *by, int path)
     x509_certificate view;
     if (input < 0 || x509_certificate_view(by->copies[path], by->lens[0], &view) != X509_OK)
         return;
-    const x509_path_settings settings = {view.not_before};
+    const x509_path_settings settings = {view.not_before, below(&by->state, 8)};
     copy_in(by, input, (const uint8_t *)&settings, sizeof settings);
 }
 
@@ -703,8 +708,14 @@ static void fill_pools(void)
         put(pool_of("constraints"), constraints->bases[at]);
         put(pool_of("constraints"), keep("none", NULL, 0));
     }
+    /* no policies, and any */
+    const pool *policies = pool_of("x509_certificate_policies_next");
+    for (size_t at = 0; at < policies->len; at++) {
+        put(pool_of("policies"), policies->bases[at]);
+        put(pool_of("policies"), keep("none", NULL, 0));
+    }
     put(pool_of("settings"), keep("none", NULL, 0));
-    put(pool_of("settings"), keep("", (const uint8_t *)"\1\0\0\0\0\0\0", 8));
+    put(pool_of("settings"), keep("", (const uint8_t *)"\1\0\0\0\0\0\0\0\1\0\0\0\0\0\0", 16));
     for (size_t number = 0; number < base_count; number++) {
         const base *it = &bases[number];
         if (strcmp(it->kind, "extensions") == 0)

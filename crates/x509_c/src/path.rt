@@ -12,7 +12,7 @@ use x509_c_calls::{
 };
 use x509_cert::certificate::CertificateInner;
 use x509_der::Grammar;
-use x509_ext::pkix::NameConstraints;
+use x509_ext::pkix::{CertificatePolicies, NameConstraints};
 use x509_name::name::Name;
 
 /// Checks a path of certificates at a time, in seconds since 1970-01-01T00:00:00Z, under the subject and the key of an
@@ -33,7 +33,8 @@ pub extern "C" fn x509_path_check(
 }
 
 /// Validates a path of certificates apart from the signatures, under what an anchor's certificate gives that is trusted, and
-/// fills in its first fault, or where the subject and the key of its last certificate stand.
+/// fills in its first fault, or where the subject and the key of its last certificate stand; its policies go into the buffer,
+/// where they fit.
 #[unsafe(no_mangle)]
 pub extern "C" fn x509_path_validate(
     alloc: Global,
@@ -41,19 +42,24 @@ pub extern "C" fn x509_path_validate(
     path: &[u8],
     lens: &[usize],
     name_constraints: &[u8],
+    policies: &[u8],
     settings: &[u8],
+    room: &mut [u8],
     answer: &mut PathAnswer,
 ) -> i32
-    ensures { Tells (λ status. ValidatesUnderCertificate ⟦<CertificateInner<Rfc5280> as Grammar>⟧.refuses ⟦<NameConstraints as Grammar>⟧.refuses anchor.now
-        (record { path = path; lens = lens; name_constraints = name_constraints; settings = settings }) answer.old answer.new status) result }
+    ensures { Tells (λ status. ValidatesUnderCertificate ⟦<CertificateInner<Rfc5280> as Grammar>⟧.refuses ⟦<NameConstraints as Grammar>⟧.refuses
+        ⟦<CertificatePolicies as Grammar>⟧.refuses anchor.now
+        (record { path = path; lens = lens; name_constraints = name_constraints; policies = policies; settings = settings })
+        (record { room = room.old; answer = answer.old }) (record { room = room.new; answer = answer.new }) status) result }
 {
     let question = PathQuestion {
         path,
         lens,
         name_constraints,
+        policies,
         settings,
     };
-    path_validate(alloc, anchor, &question, answer).code()
+    path_validate(alloc, anchor, &question, room, answer).code()
 }
 
 /// The same under a name and a public key that are trusted.
@@ -65,19 +71,24 @@ pub extern "C" fn x509_path_validate_under_key(
     path: &[u8],
     lens: &[usize],
     name_constraints: &[u8],
+    policies: &[u8],
     settings: &[u8],
+    room: &mut [u8],
     answer: &mut PathAnswer,
 ) -> i32
     ensures { Tells (λ status. ValidatesUnderKey ⟦<Name as Grammar>⟧.refuses ⟦<SubjectPublicKeyInfo as Grammar>⟧.refuses ⟦<NameConstraints as Grammar>⟧.refuses
-        name.now key.now (record { path = path; lens = lens; name_constraints = name_constraints; settings = settings }) answer.old answer.new status) result }
+        ⟦<CertificatePolicies as Grammar>⟧.refuses name.now key.now
+        (record { path = path; lens = lens; name_constraints = name_constraints; policies = policies; settings = settings })
+        (record { room = room.old; answer = answer.old }) (record { room = room.new; answer = answer.new }) status) result }
 {
     let question = PathQuestion {
         path,
         lens,
         name_constraints,
+        policies,
         settings,
     };
-    path_validate_under_key(alloc, name, key, &question, answer).code()
+    path_validate_under_key(alloc, name, key, &question, room, answer).code()
 }
 
 /// The same under what a trust anchor gives that is trusted.
@@ -88,17 +99,21 @@ pub extern "C" fn x509_path_validate_under_anchor(
     path: &[u8],
     lens: &[usize],
     name_constraints: &[u8],
+    policies: &[u8],
     settings: &[u8],
+    room: &mut [u8],
     answer: &mut PathAnswer,
 ) -> i32
-    ensures { Tells (λ status. ValidatesUnderAnchor ⟦<NameConstraints as Grammar>⟧.refuses anchor.now
-        (record { path = path; lens = lens; name_constraints = name_constraints; settings = settings }) answer.old answer.new status) result }
+    ensures { Tells (λ status. ValidatesUnderAnchor ⟦<NameConstraints as Grammar>⟧.refuses ⟦<CertificatePolicies as Grammar>⟧.refuses anchor.now
+        (record { path = path; lens = lens; name_constraints = name_constraints; policies = policies; settings = settings })
+        (record { room = room.old; answer = answer.old }) (record { room = room.new; answer = answer.new }) status) result }
 {
     let question = PathQuestion {
         path,
         lens,
         name_constraints,
+        policies,
         settings,
     };
-    path_validate_under_anchor(alloc, anchor, &question, answer).code()
+    path_validate_under_anchor(alloc, anchor, &question, room, answer).code()
 }

@@ -43,3 +43,4 @@ pub mod Notices
 pub mod Strings
 pub mod RsaKeys
 pub mod Moments
+pub mod PolicyOctets

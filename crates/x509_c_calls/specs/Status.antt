@@ -1,5 +1,5 @@
 -- The statuses of calls from C as numbers, and what a call leaves that hands over bytes.
-use Rattle.std.specs.Prelude.{◌≡◌, ◌<◌, ◌⊎◌, ℕ, ℤ, pos, negsuc, List, length, take, Result, Ok, Err}
+use Rattle.std.specs.Prelude.{◌≡◌, ◌<◌, ◌≤◌, ◌⊎◌, ℕ, ℤ, pos, negsuc, List, length, take, Result, Ok, Err}
 use Rattle.x509_der.specs.declared.error.ErrorKind.{ErrorKind}
 use Rattle.x509_der.specs.declared.error.ErrorKind.TheVariants.{Memory, Overlength, Malformed, Failed, SetDuplicate, Value}
 use Rattle.x509_c_calls.specs.declared.status.status.Status.{Status}
@@ -26,6 +26,10 @@ code_of (Refused e) = refusal_code e
 -- a number that tells of a status of which this holds
 abbrev pub Tells : (Status → Type 0) → ℤ → Type 0
 Tells holds code = (status : Status) × (code ≡ code_of status) × holds status
+
+-- where the octets fit, they stand at the front of the buffer; else it is as it was
+abbrev pub IsPut : List ℕ → List ℕ → List ℕ → Type 0
+IsPut octets room filled = ((length octets ≤ length room) × (take (length octets) filled ≡ octets)) ⊎ ((length room < length octets) × (filled ≡ room))
 
 -- What a call leaves that hands over bytes, by a room before and after it, and by a number before and after it. Done: the room
 -- begins with the bytes, and the number is how many they are. NoRoom: there are more bytes than the room has, and the number is how many.

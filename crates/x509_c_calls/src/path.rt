@@ -3,7 +3,9 @@
 mod answer;
 mod path;
 mod pieces;
+mod policies;
 mod question;
+mod settings;
 mod validate;
 
 pub use answer::PathAnswer;

@@ -7,5 +7,6 @@ mod writing;
 
 pub use reading::{check, read};
 pub use room::fill;
+pub(crate) use room::put;
 pub use status::Status;
 pub use writing::{reencode, write};

@@ -28,6 +28,9 @@ pub struct PathAnswer {
 
     /// The public key of the last certificate.
     pub key: Span,
+
+    /// How many octets the policies take under which the path is valid, as the encoding of a CertificatePolicies.
+    pub policies_len: usize,
 }
 
 const NOWHERE: Span = Span { place: 0, len: 0 };
@@ -65,12 +68,14 @@ pub(crate) fn fault_at(place: usize, reason: ValidationReason) -> PathAnswer
         reason: number_of(reason),
         name: NOWHERE,
         key: NOWHERE,
+        policies_len: 0,
     }
 }
 
-/// Where the subject and the key of a certificate stand.
-pub(crate) fn subject_of(bytes: &[u8]) -> PathAnswer
-    ensures { (c : Certificate) → Spells rfc5280_certificate c bytes.now → IsSubject bytes.now c result }
+/// Where the subject and the key of a certificate stand, and how many octets the policies take.
+pub(crate) fn subject_of(bytes: &[u8], policies_len: usize) -> PathAnswer
+    ensures subject { (c : Certificate) → Spells rfc5280_certificate c bytes.now → IsSubject bytes.now c result }
+    ensures policies { result.policies_len ≡ policies_len }
 {
     let (name, key) = match CertificateRef::<Rfc5280>::from_der(bytes) {
         Ok(certificate) => {
@@ -84,5 +89,6 @@ pub(crate) fn subject_of(bytes: &[u8]) -> PathAnswer
         reason: 0,
         name,
         key,
+        policies_len,
     }
 }

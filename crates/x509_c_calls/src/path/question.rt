@@ -12,6 +12,11 @@ pub struct PathQuestion<'a> {
     /// The initial permitted and excluded subtrees (RFC 5280 6.1.1 (h), (i)), as the encoding of a NameConstraints; no bytes where there are none.
     pub name_constraints: &'a [u8],
 
-    /// The time, in seconds since 1970-01-01T00:00:00Z, in eight octets, the lowest first, and any number of zeros.
+    /// The policies that the caller accepts (RFC 5280 6.1.1 (c)), as the encoding of a CertificatePolicies, whose qualifiers aren't looked at; no bytes
+    /// where any.
+    pub policies: &'a [u8],
+
+    /// The time, in seconds since 1970-01-01T00:00:00Z, and flags (RFC 5280 6.1.1 (e), (f), (g)): 1 where a policy is asked for, 2 where policies may not be
+    /// mapped, 4 where any-policy counts for nothing, added up. Each number stands in eight octets, the lowest first; behind both is any number of zeros.
     pub settings: &'a [u8],
 }

@@ -1,7 +1,7 @@
 //! Validating a path apart from its signatures.
 
 ghost use Rattle.std.specs.Prelude.{◌≢◌, [], map, MatchOption, MatchResult, Option, ℕ};
-ghost use Rattle.x509_c_calls.specs.PathValidation.{AreConstraints, AreSettings, HasMoment, HasNoMoment, TellsValidation, Validates, ValidatesUnderAnchor, ValidatesUnderCertificate, ValidatesUnderKey};
+ghost use Rattle.x509_c_calls.specs.PathValidation.{AreConstraints, TellsValidation, Validates, ValidatesUnderAnchor, ValidatesUnderCertificate, ValidatesUnderKey};
 ghost use Rattle.x509_ext.specs.declared.pkix.name_constraints.NameConstraints as values;
 ghost use Rattle.x509_ext.specs.NameConstraints.{name_constraints};
 ghost use Rattle.x509_path.specs.Inputs.{Inputs, LendsConstraints, LendsInputs, LendsTrust, Trust};
@@ -10,40 +10,20 @@ ghost use Rattle.x509_types.specs.Reencoding.{IsRefused};
 use crate::Status;
 use crate::path::answer::{PathAnswer, fault_at, subject_of};
 use crate::path::pieces::cut;
+use crate::path::policies::{encoded_policies, lent_set, named_set, policies_of};
 use crate::path::question::PathQuestion;
+use crate::path::settings::settings_of;
+use crate::status::put;
 use std::alloc::Global;
-use std::time::Duration;
-use x509_base::{DateTime, Rfc5280, SubjectPublicKeyInfo};
+use x509_base::{Rfc5280, SubjectPublicKeyInfo};
 use x509_cert::Certificate;
 use x509_check::{CertificateRef, Check};
 use x509_der::{ErrorKind, Grammar};
-use x509_ext::pkix::NameConstraints;
+use x509_ext::pkix::{CertificatePolicies, NameConstraints};
 use x509_name::name::Name;
 use x509_path::{
     AnchorRef, AnySignature, PathSettings, Trusted, TrustedBuf, ValidationFault, validate_path_lent,
 };
-
-/// The seconds of the settings, if they are any.
-fn seconds_of(settings: &[u8]) -> Option<u64>
-    ensures { MatchOption result ((seconds : ℕ) → AreSettings settings.now seconds → ⊥) (λ seconds. AreSettings settings.now seconds) }
-{
-    let (front, behind) = settings.split_first_chunk::<8>()?;
-    if behind.iter().any(|octet| *octet != 0) {
-        return None;
-    }
-    Some(u64::from_le_bytes(*front))
-}
-
-/// The moment of the settings, if they are any and it is one.
-fn moment_of(settings: &[u8]) -> Option<DateTime>
-    ensures { MatchOption result (HasNoMoment settings.now) (λ moment. HasMoment settings.now moment) }
-{
-    let seconds = seconds_of(settings)?;
-    match DateTime::from_unix_duration(Duration::from_secs(seconds)) {
-        Ok(moment) => Some(moment),
-        Err(_) => None,
-    }
-}
 
 /// The constraints, if there are any.
 fn constraints_of(octets: &[u8]) -> Result<Option<&[u8]>, ErrorKind>
@@ -66,19 +46,25 @@ fn tell(
     trusted: &Trusted<'_>,
     path: &[&[u8]],
     settings: &PathSettings<'_>,
+    room: &mut [u8],
     answer: &mut PathAnswer,
 ) -> Status
     ensures { (inputs : Inputs) → LendsInputs trusted.now settings.now inputs
-        → TellsValidation inputs (map (λ input. input.now) path.now) answer.old answer.new result }
+        → TellsValidation inputs (map (λ input. input.now) path.now) (record { room = room.old; answer = answer.old })
+        (record { room = room.new; answer = answer.new }) result }
 {
     let [.., last] = path else {
         return Status::Absent;
     };
     match validate_path_lent(alloc, trusted, path, settings, &AnySignature) {
-        Ok(_) => {
-            *answer = subject_of(last);
-            Status::Done
-        }
+        Ok(validated) => match encoded_policies(alloc, validated.policies.as_slice()) {
+            Ok(policies) => {
+                put(policies.as_slice(), room);
+                *answer = subject_of(last, policies.len());
+                Status::Done
+            }
+            Err(e) => e.into(),
+        },
         Err(ValidationFault::Empty) => Status::Absent,
         Err(ValidationFault::Memory) => Status::Refused(ErrorKind::Memory),
         Err(ValidationFault::Initial) => Status::Refused(ErrorKind::Value),
@@ -95,12 +81,14 @@ fn validate_under(
     alloc: Global,
     trusted: &Trusted<'_>,
     question: &PathQuestion<'_>,
+    room: &mut [u8],
     answer: &mut PathAnswer,
 ) -> Status
     ensures { (trust : Trust) → LendsTrust trusted.now trust
-        → Validates ⟦<NameConstraints as Grammar>⟧.refuses question.now trust answer.old answer.new result }
+        → Validates ⟦<NameConstraints as Grammar>⟧.refuses ⟦<CertificatePolicies as Grammar>⟧.refuses question.now trust
+        (record { room = room.old; answer = answer.old }) (record { room = room.new; answer = answer.new }) result }
 {
-    let Some(moment) = moment_of(question.settings) else {
+    let Some(asked) = settings_of(question.settings) else {
         return Status::Refused(ErrorKind::Value);
     };
     let path = match cut(alloc, question.path, question.lens) {
@@ -112,15 +100,22 @@ fn validate_under(
         Ok(name_constraints) => name_constraints,
         Err(e) => return Status::Refused(e),
     };
-    let settings = PathSettings {
-        moment,
-        name_constraints,
-        user_initial_policy_set: None,
-        initial_policy_mapping_inhibit: false,
-        initial_explicit_policy: false,
-        initial_any_policy_inhibit: false,
+    let named = match policies_of(alloc, question.policies) {
+        Ok(named) => named,
+        Err(e) => return Status::Refused(e),
     };
-    tell(alloc, trusted, path.as_slice(), &settings, answer)
+    let Ok(set) = named_set(alloc, &named) else {
+        return Status::Refused(ErrorKind::Memory);
+    };
+    let settings = PathSettings {
+        moment: asked.moment,
+        name_constraints,
+        user_initial_policy_set: lent_set(&set),
+        initial_policy_mapping_inhibit: asked.inhibit_policy_mapping,
+        initial_explicit_policy: asked.explicit_policy,
+        initial_any_policy_inhibit: asked.inhibit_any_policy,
+    };
+    tell(alloc, trusted, path.as_slice(), &settings, room, answer)
 }
 
 /// Validates a path of certificates apart from the signatures, of which any bits are accepted as one (RFC 5280 6.1), under
@@ -128,27 +123,29 @@ fn validate_under(
 ///
 /// # Errors
 ///
-/// `Value` where the settings are none, where the time is after the year 9999, or where name constraints of the settings or of
+/// `Value` where the settings are none, where the time is after the year 9999, or where name constraints of the question or of
 /// the anchor can't be used; `Failed` where the lengths don't add up, or an extension of the anchor is repeated; the errors
-/// of decoding the anchor's certificate, its extensions that are followed, and the name constraints; where several of these
-/// are bad, any of them. Else [`Status::Absent`] where there is no certificate, and [`Status::Faulty`] where one has a fault,
-/// the first of which is filled in. `Memory` when out of memory. `answer` is unchanged except on [`Status::Faulty`].
+/// of decoding the anchor's certificate, its extensions that are followed, the name constraints and the policies; where several
+/// of these are bad, any of them. Else [`Status::Absent`] where there is no certificate, and [`Status::Faulty`] where one has a
+/// fault, the first of which is filled in; `Overlength` where the path is valid, and the encoding of its policies would be too
+/// long. `Memory` when out of memory. `answer` is unchanged except on [`Status::Faulty`], `room` on each.
 #[tactic(auto, unfolding(crate::specs::PathValidation::ValidatesUnderCertificate))]
 pub fn path_validate(
     alloc: Global,
     anchor: &[u8],
     question: &PathQuestion<'_>,
+    room: &mut [u8],
     answer: &mut PathAnswer,
 ) -> Status
-    ensures { ValidatesUnderCertificate ⟦<Certificate as Grammar>⟧.refuses ⟦<NameConstraints as Grammar>⟧.refuses anchor.now question.now answer.old answer.new
-        result }
+    ensures { ValidatesUnderCertificate ⟦<Certificate as Grammar>⟧.refuses ⟦<NameConstraints as Grammar>⟧.refuses ⟦<CertificatePolicies as Grammar>⟧.refuses
+        anchor.now question.now (record { room = room.old; answer = answer.old }) (record { room = room.new; answer = answer.new }) result }
 {
     let certificate = match CertificateRef::<Rfc5280>::from_der(anchor) {
         Ok(certificate) => certificate,
         Err(e) => return e.into(),
     };
     match Trusted::from_certificate(alloc, &certificate) {
-        Ok(trusted) => validate_under(alloc, &trusted, question, answer),
+        Ok(trusted) => validate_under(alloc, &trusted, question, room, answer),
         Err(e) => e.into(),
     }
 }
@@ -165,10 +162,12 @@ pub fn path_validate_under_key(
     name: &[u8],
     key: &[u8],
     question: &PathQuestion<'_>,
+    room: &mut [u8],
     answer: &mut PathAnswer,
 ) -> Status
-    ensures { ValidatesUnderKey ⟦<Name as Grammar>⟧.refuses ⟦<SubjectPublicKeyInfo as Grammar>⟧.refuses ⟦<NameConstraints as Grammar>⟧.refuses name.now key.now
-        question.now answer.old answer.new result }
+    ensures { ValidatesUnderKey ⟦<Name as Grammar>⟧.refuses ⟦<SubjectPublicKeyInfo as Grammar>⟧.refuses ⟦<NameConstraints as Grammar>⟧.refuses
+        ⟦<CertificatePolicies as Grammar>⟧.refuses name.now key.now question.now (record { room = room.old; answer = answer.old })
+        (record { room = room.new; answer = answer.new }) result }
 {
     if let Err(e) = Name::check(name) {
         return e.into();
@@ -177,7 +176,7 @@ pub fn path_validate_under_key(
         return e.into();
     }
     let trusted = Trusted::new(AnchorRef { name, key });
-    validate_under(alloc, &trusted, question, answer)
+    validate_under(alloc, &trusted, question, room, answer)
 }
 
 /// The same under what a trust anchor gives that is trusted (RFC 5914, RFC 5937 2), as [`TrustedBuf::from_trust_anchor`] says, of the
@@ -191,12 +190,14 @@ pub fn path_validate_under_anchor(
     alloc: Global,
     anchor: &[u8],
     question: &PathQuestion<'_>,
+    room: &mut [u8],
     answer: &mut PathAnswer,
 ) -> Status
-    ensures { ValidatesUnderAnchor ⟦<NameConstraints as Grammar>⟧.refuses anchor.now question.now answer.old answer.new result }
+    ensures { ValidatesUnderAnchor ⟦<NameConstraints as Grammar>⟧.refuses ⟦<CertificatePolicies as Grammar>⟧.refuses anchor.now question.now
+        (record { room = room.old; answer = answer.old }) (record { room = room.new; answer = answer.new }) result }
 {
     match TrustedBuf::from_der(alloc, anchor) {
-        Ok(trusted) => validate_under(alloc, &trusted.as_trusted(), question, answer),
+        Ok(trusted) => validate_under(alloc, &trusted.as_trusted(), question, room, answer),
         Err(e) => e.into(),
     }
 }

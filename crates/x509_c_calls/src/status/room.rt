@@ -1,7 +1,7 @@
 //! Handing over bytes.
 
 ghost use Rattle.std.specs.Prelude.{◌≡◌, ◌⊎◌, Ok};
-ghost use Rattle.x509_c_calls.specs.Status.{Fills};
+ghost use Rattle.x509_c_calls.specs.Status.{Fills, IsPut};
 ghost use Rattle.x509_c_calls.specs.declared.status.status.Status.TheVariants as statuses;
 
 use crate::status::status::Status;
@@ -23,4 +23,13 @@ pub fn fill(bytes: &[u8], room: &mut [u8], written: &mut usize) -> Status
     }
     room[..bytes.len()].copy_from_slice(bytes);
     Status::Done
+}
+
+/// Puts the bytes at the front of the buffer `room`, where they fit; else it is unchanged.
+pub(crate) fn put(bytes: &[u8], room: &mut [u8])
+    ensures { IsPut bytes.now room.old room.new }
+{
+    if bytes.len() <= room.len() {
+        room[..bytes.len()].copy_from_slice(bytes);
+    }
 }
