@@ -28,6 +28,7 @@ ED25519 = bytes.fromhex("300506032b6570")
 KEY, OTHER_KEY = (bytes.fromhex("302a300506032b6570032100") + bytes([octet]) * 32 for octet in (0, 1))
 
 MOMENT, SIGNATURE, ISSUER, CRITICAL, NOT_CA, EXTENSION, NAMES, CONSTRAINTS = 4, 5, 3, 7, 8, 11, 12, 13
+REPEATED_POLICY, POLICY, POLICY_MAPPING = 14, 15, 16
 
 
 def name(text: str) -> ours.Name:
@@ -53,6 +54,17 @@ ROOT = made("CN=Root", "CN=Root", KEY, CA)
 CONSTRAINED = made("CN=Root", "CN=Root", KEY, CA, EXAMPLE)
 # RFC 5280 7.1: another case, and a space in front
 AUTHORITY = made("CN=\\ ROOT", "O=CA,C=DE", OTHER_KEY, CA)
+
+
+POLICIES = [ours.ObjectIdentifier(it) for it in ("1.2.3", "1.2.4", "1.2.5")]
+
+
+def under(*policies: ours.ObjectIdentifier) -> ours.CertificatePolicies:
+    return ours.CertificatePolicies([ours.PolicyInformation(it, None) for it in policies])
+
+
+def authority(*extensions: ours.ExtensionType) -> ours.Certificate:
+    return made("CN=Root", "O=CA,C=DE", OTHER_KEY, CA, *extensions)
 
 
 def server(host: str) -> ours.Certificate:
@@ -105,6 +117,44 @@ class Validation(unittest.TestCase):
             with self.subTest(data), self.assertRaises(ours.X509Error):
                 ours.validate_path(ROOT, [AUTHORITY, server("a")], NOW, accepts, name_constraints=data)
 
+    def test_policies(self) -> None:
+        mapping = ours.PolicyMappings([(POLICIES[0], POLICIES[2])])
+        plain, any_of = authority(under(*POLICIES[:2])), authority(under(ours.CertificatePoliciesOID.ANY_POLICY))
+        mapped = authority(under(*POLICIES[:2]), mapping)
+        one, other = (made("O=CA,C=DE", "CN=S", KEY, under(POLICIES[it])) for it in (0, 2))
+        valid: list[tuple[list[Any], dict[str, Any], list[int]]] = [
+            ([plain, one], {}, [0]),
+            ([plain, other], {}, []),
+            ([mapped, other], {}, [0]),
+            ([any_of, other], {}, [2]),
+            ([plain, one], {"require_explicit_policy": True}, [0]),
+            ([plain, one], {"policies": iter(POLICIES)}, [0]),
+            ([plain, one], {"policies": []}, []),
+            ([plain, one], {"policies": POLICIES[1:2]}, []),
+        ]
+        for path, words, found in valid:
+            with self.subTest(path=path, words=words):
+                self.assertEqual(ours.validate_path(ROOT, path, NOW, accepts, **words).policies, tuple(POLICIES[it] for it in found))
+        refused: list[tuple[list[Any], dict[str, Any], int]] = [
+            ([plain, other], {}, 1),
+            ([plain, one], {"policies": POLICIES[1:2]}, 1),
+            ([mapped, other], {"inhibit_policy_mapping": True}, 1),
+            ([any_of, other], {"inhibit_any_policy": True}, 0),
+        ]
+        for path, words, place in refused:
+            with self.subTest(path=path, words=words):
+                self.assertEqual(self.fault(ROOT, path, NOW, accepts, require_explicit_policy=True, **words), (place, POLICY))
+        # any-policy mapped, and a policy twice, by hand
+        maps_any = ours.UnrecognizedExtension(ours.ExtensionOID.POLICY_MAPPINGS, bytes.fromhex("300c300a0604551d200006022a03"))
+        self.assertEqual(self.fault(ROOT, [authority(under(POLICIES[0]), maps_any), one], NOW, accepts), (0, POLICY_MAPPING))
+        twice = ours.UnrecognizedExtension(ours.ExtensionOID.CERTIFICATE_POLICIES, bytes.fromhex("300c300406022a03300406022a03"))
+        self.assertEqual(self.fault(ROOT, [authority(twice), one], NOW, accepts), (0, REPEATED_POLICY))
+
+    def test_policies_that_take_more_room(self) -> None:
+        many = [ours.ObjectIdentifier(f"1.2.{it}") for it in range(1000)]
+        found = ours.validate_path(ROOT, [made("CN=Root", "CN=S", KEY, under(*many))], NOW, accepts).policies
+        self.assertEqual(sorted(found, key=str), sorted(many, key=str))
+
     def test_anchors(self) -> None:
         leaf = made("CN=root", "CN=S", OTHER_KEY, ours.SubjectAlternativeName([ours.DNSName("www.example.com")]))
         self.assertEqual(self.fault(CONSTRAINED, [leaf], NOW, accepts), (0, NAMES))
@@ -135,13 +185,34 @@ class Validation(unittest.TestCase):
 class Arguments(unittest.TestCase):
     """Each argument of `validate_path`: other values that another answer comes of, and what is refused."""
 
-    GOOD = {"anchor": ROOT, "path": [AUTHORITY, server("www.example.com")], "moment": NOW, "verify": accepts}
+    GOOD: dict[str, Any] = {"anchor": ROOT, "path": [AUTHORITY, server("www.example.com")], "moment": NOW, "verify": accepts}
     CHANGED: dict[str, list[tuple[Any, tuple[int, int]]]] = {
         "anchor": [(AUTHORITY, (0, ISSUER)), ((name("CN=S"), KEY), (0, ISSUER)), (CONSTRAINED, (1, NAMES))],
         "path": [([AUTHORITY, ROOT], (1, ISSUER)), ([AUTHORITY, b""], (1, 1))],
         "moment": [(NOW - SECOND, (0, MOMENT)), (NOW + 2 * SECOND, (0, MOMENT))],
         "verify": [(lambda *words: False, (0, SIGNATURE))],
         "name_constraints": [(EXAMPLE.data, (1, NAMES)), (ours.NameConstraints(None, [ours.DirectoryName(name(""))]).data, (0, NAMES))],
+        "policies": [(POLICIES[1:], (1, POLICY))],
+        "require_explicit_policy": [(True, (1, POLICY))],
+        "inhibit_policy_mapping": [(True, (2, POLICY))],
+        "inhibit_any_policy": [(True, (0, POLICY))],
+    }
+    # paths on which a setting of policies tells
+    ASKED: dict[str, dict[str, Any]] = {
+        "policies": {"path": [authority(under(*POLICIES)), made("O=CA,C=DE", "CN=S", KEY, under(POLICIES[0]))], "require_explicit_policy": True},
+        "require_explicit_policy": {"path": [authority(under(*POLICIES)), server("a")]},
+        "inhibit_policy_mapping": {
+            "path": [
+                authority(under(POLICIES[0]), ours.PolicyMappings([(POLICIES[0], POLICIES[1])])),
+                made("O=CA,C=DE", "CN=B", KEY, CA, under(POLICIES[1])),
+                made("CN=B", "CN=S", KEY, under(POLICIES[1])),
+            ],
+            "require_explicit_policy": True,
+        },
+        "inhibit_any_policy": {
+            "path": [authority(under(ours.CertificatePoliciesOID.ANY_POLICY)), made("O=CA,C=DE", "CN=S", KEY, under(POLICIES[0]))],
+            "require_explicit_policy": True,
+        },
     }
     REFUSED: dict[str, list[tuple[Any, type[Exception]]]] = {
         "anchor": [(None, TypeError), (ROOT.public_bytes(), TypeError), ((name("CN=R"),), TypeError), (("CN=R", KEY), TypeError), ((name("CN=R"), 5), TypeError)],
@@ -149,6 +220,10 @@ class Arguments(unittest.TestCase):
         "moment": [(None, TypeError), (5, TypeError), (NOW.replace(tzinfo=None), ValueError), (NOW.replace(year=1969), ValueError)],
         "verify": [(5, TypeError)],
         "name_constraints": [(5, TypeError), ("", TypeError), (b"", ValueError), (b"\x30\x01", ours.X509Error)],
+        "policies": [(5, TypeError), (["1.2.3"], TypeError), (b"\x2a\x03", TypeError)],
+        "require_explicit_policy": [(1, TypeError), (None, TypeError)],
+        "inhibit_policy_mapping": [(1, TypeError), (None, TypeError)],
+        "inhibit_any_policy": [(1, TypeError), (None, TypeError)],
     }
 
     def test_each_has_a_row(self) -> None:
@@ -158,9 +233,11 @@ class Arguments(unittest.TestCase):
     def test_changed(self) -> None:
         self.assertEqual(ours.validate_path(**self.GOOD).subject, name("CN=S"))
         for argument, rows in self.CHANGED.items():
+            good: dict[str, Any] = self.GOOD | self.ASKED.get(argument, {})
+            ours.validate_path(**good)
             for value, fault in rows:
                 with self.subTest(argument, value=value), self.assertRaises(ours.PathFault) as caught:
-                    ours.validate_path(**(self.GOOD | {argument: value}))
+                    ours.validate_path(**(good | {argument: value}))
                 self.assertEqual((caught.exception.place, caught.exception.reason), fault)
 
     def test_refused(self) -> None:

@@ -226,6 +226,7 @@ pub(crate) struct PathFault {
 #[derive(Clone, Copy, Debug, Default)]
 pub(crate) struct PathSettings {
     pub(crate) moment: u64,
+    pub(crate) flags: u64,
 }
 
 #[repr(C)]
@@ -235,6 +236,7 @@ pub(crate) struct PathAnswer {
     pub(crate) reason: u32,
     pub(crate) name: Span,
     pub(crate) key: Span,
+    pub(crate) policies_len: usize,
 }
 
 #[repr(C)]
@@ -368,7 +370,11 @@ type ValidateCall = unsafe extern "C" fn(
     usize,
     *const u8,
     usize,
+    *const u8,
+    usize,
     *const PathSettings,
+    usize,
+    *mut u8,
     usize,
     *mut PathAnswer,
 ) -> c_int;
@@ -427,9 +433,9 @@ extern "C" {
     fn x509_time_text(moment: u64, out: *mut u8, room: usize, written: *mut usize) -> c_int;
     fn x509_certificate_signature(input: *const u8, len: usize, signature: *mut Signature) -> c_int;
     fn x509_path_check(anchor: *const u8, anchor_len: usize, path: *const u8, path_len: usize, lens: *const usize, count: usize, moment: u64, fault: *mut PathFault) -> c_int;
-    fn x509_path_validate(anchor: *const u8, anchor_len: usize, path: *const u8, path_len: usize, lens: *const usize, count: usize, name_constraints: *const u8, name_constraints_len: usize, settings: *const PathSettings, settings_size: usize, answer: *mut PathAnswer) -> c_int;
-    fn x509_path_validate_under_key(name: *const u8, name_len: usize, key: *const u8, key_len: usize, path: *const u8, path_len: usize, lens: *const usize, count: usize, name_constraints: *const u8, name_constraints_len: usize, settings: *const PathSettings, settings_size: usize, answer: *mut PathAnswer) -> c_int;
-    fn x509_path_validate_under_anchor(anchor: *const u8, anchor_len: usize, path: *const u8, path_len: usize, lens: *const usize, count: usize, name_constraints: *const u8, name_constraints_len: usize, settings: *const PathSettings, settings_size: usize, answer: *mut PathAnswer) -> c_int;
+    fn x509_path_validate(anchor: *const u8, anchor_len: usize, path: *const u8, path_len: usize, lens: *const usize, count: usize, name_constraints: *const u8, name_constraints_len: usize, policies: *const u8, policies_len: usize, settings: *const PathSettings, settings_size: usize, out: *mut u8, room: usize, answer: *mut PathAnswer) -> c_int;
+    fn x509_path_validate_under_key(name: *const u8, name_len: usize, key: *const u8, key_len: usize, path: *const u8, path_len: usize, lens: *const usize, count: usize, name_constraints: *const u8, name_constraints_len: usize, policies: *const u8, policies_len: usize, settings: *const PathSettings, settings_size: usize, out: *mut u8, room: usize, answer: *mut PathAnswer) -> c_int;
+    fn x509_path_validate_under_anchor(anchor: *const u8, anchor_len: usize, path: *const u8, path_len: usize, lens: *const usize, count: usize, name_constraints: *const u8, name_constraints_len: usize, policies: *const u8, policies_len: usize, settings: *const PathSettings, settings_size: usize, out: *mut u8, room: usize, answer: *mut PathAnswer) -> c_int;
     fn x509_crl_lookup(input: *const u8, len: usize, serial_number: *const u8, serial_number_len: usize, revocation: *mut Revocation) -> c_int;
     fn x509_crl_view(input: *const u8, len: usize, view: *mut Crl) -> c_int;
     fn x509_crl_entry_next(value: *const u8, len: usize, at: *mut usize, found: *mut CrlEntry) -> c_int;
@@ -821,17 +827,25 @@ pub(crate) enum Trusted<'a> {
 
 /// A path with what is asked of it.
 struct Question<'a> {
+    trusted: Trusted<'a>,
     joined: Vec<u8>,
     lens: Vec<usize>,
     name_constraints: &'a [u8],
+    policies: &'a [u8],
     settings: PathSettings,
 }
 
 impl Question<'_> {
     /// The status of a call under a certificate or another trust anchor.
-    fn ask(&self, call: ValidateCall, anchor: &[u8], answer: &mut PathAnswer) -> c_int {
+    fn call(
+        &self,
+        call: ValidateCall,
+        anchor: &[u8],
+        out: &mut [u8],
+        answer: &mut PathAnswer,
+    ) -> c_int {
         // SAFETY: the header lets the call read the slices, which are lent for it, `lens` of as many numbers as it is told and `settings` of the size that it
-        // is told, and fill in `answer`.
+        // is told, write into `out`, and fill in `answer`.
         unsafe {
             call(
                 anchor.as_ptr(),
@@ -842,16 +856,26 @@ impl Question<'_> {
                 self.lens.len(),
                 self.name_constraints.as_ptr(),
                 self.name_constraints.len(),
+                self.policies.as_ptr(),
+                self.policies.len(),
                 &self.settings,
                 size_of::<PathSettings>(),
+                out.as_mut_ptr(),
+                out.len(),
                 answer,
             )
         }
     }
 
     /// The status of the call under a name and a key.
-    fn ask_under_key(&self, name: &[u8], key: &[u8], answer: &mut PathAnswer) -> c_int {
-        // SAFETY: as of `ask`.
+    fn call_under_key(
+        &self,
+        name: &[u8],
+        key: &[u8],
+        out: &mut [u8],
+        answer: &mut PathAnswer,
+    ) -> c_int {
+        // SAFETY: as of `call`.
         unsafe {
             x509_path_validate_under_key(
                 name.as_ptr(),
@@ -864,39 +888,62 @@ impl Question<'_> {
                 self.lens.len(),
                 self.name_constraints.as_ptr(),
                 self.name_constraints.len(),
+                self.policies.as_ptr(),
+                self.policies.len(),
                 &self.settings,
                 size_of::<PathSettings>(),
+                out.as_mut_ptr(),
+                out.len(),
                 answer,
             )
         }
     }
+
+    /// The status with that buffer for the policies.
+    fn ask(&self, out: &mut [u8], answer: &mut PathAnswer) -> c_int {
+        match self.trusted {
+            Trusted::Certificate(der) => self.call(x509_path_validate, der, out, answer),
+            Trusted::Anchor(der) => self.call(x509_path_validate_under_anchor, der, out, answer),
+            Trusted::NameAndKey(name, key) => self.call_under_key(name, key, out, answer),
+        }
+    }
 }
 
-/// The first fault of a path that is to be valid, but those of signatures. Where there are no name constraints, these are no bytes.
+/// What is answered to a path: the policies under which it is valid, as the DER of a CertificatePolicies, or its first fault, but those of signatures.
+pub(crate) type Judged = Result<Vec<u8>, PathFault>;
+
+/// What is answered to a path that is to be valid. Where there are no name constraints, these are no bytes; where any policies are accepted, so are these.
 pub(crate) fn path_validate(
     trusted: Trusted<'_>,
     path: &[&[u8]],
     name_constraints: &[u8],
+    policies: &[u8],
     settings: PathSettings,
-) -> Result<Option<PathFault>, Error> {
+) -> Result<Judged, Error> {
     let question = Question {
+        trusted,
         joined: path.concat(),
         lens: path.iter().map(|data| data.len()).collect(),
         name_constraints,
+        policies,
         settings,
     };
-    let mut answer = PathAnswer::default();
-    let status = match trusted {
-        Trusted::Certificate(der) => question.ask(x509_path_validate, der, &mut answer),
-        Trusted::Anchor(der) => question.ask(x509_path_validate_under_anchor, der, &mut answer),
-        Trusted::NameAndKey(name, key) => question.ask_under_key(name, key, &mut answer),
-    };
-    match status {
-        FAULT => Ok(Some(PathFault {
-            place: answer.place,
-            reason: answer.reason,
-        })),
-        status => accepted(status, None),
+    let mut out = vec![0; 256];
+    loop {
+        let mut answer = PathAnswer::default();
+        match question.ask(&mut out, &mut answer) {
+            FAULT => {
+                return Ok(Err(PathFault {
+                    place: answer.place,
+                    reason: answer.reason,
+                }))
+            }
+            OK if answer.policies_len > out.len() => out.resize(answer.policies_len, 0),
+            status => {
+                out.truncate(answer.policies_len);
+                return accepted(status, Ok(out));
+            }
+        }
     }
 }
 

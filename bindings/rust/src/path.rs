@@ -2,9 +2,12 @@
 use crate::anchor::TrustAnchor;
 use crate::certificate::{CertificateRef, Signature};
 use crate::error::Error;
+use crate::extension::{CertificatePolicies, ExtensionValue};
 use crate::ffi;
 use crate::name::NameRef;
+use crate::oid::ObjectIdentifier;
 use crate::time::seconds;
+use crate::writing::{elements, identifier, SEQUENCE};
 use std::fmt;
 use std::time::SystemTime;
 
@@ -21,7 +24,7 @@ impl<F: Fn(&[u8], &Signature<'_>) -> bool> Verifier for F {
 }
 
 /// What is wrong with a certificate of a path. Of several faults of one certificate the first of this order is told, but for
-/// [`Extension`](FaultReason::Extension), which comes behind [`Critical`](FaultReason::Critical). The last three are told by [`validate_path`] alone.
+/// [`Extension`](FaultReason::Extension), which comes behind [`Critical`](FaultReason::Critical). Those from [`Extension`](FaultReason::Extension) on are told by [`validate_path`] alone.
 #[derive(Clone, Copy, Debug, PartialEq, Eq, PartialOrd, Ord, Hash)]
 pub enum FaultReason {
     /// The bytes are those of no certificate.
@@ -37,7 +40,7 @@ pub enum FaultReason {
     /// An extension identifier is there twice.
     Repeated = 6,
     /// A critical extension is none of BasicConstraints, KeyUsage, ExtendedKeyUsage and SubjectAltName, or one of these that can't be read. For
-    /// [`validate_path`] NameConstraints is one of these too.
+    /// [`validate_path`] NameConstraints and those about policies are of these too.
     Critical = 7,
     /// Asked of all but the last: there is no BasicConstraints that can be read and says cA.
     NotCa = 8,
@@ -52,6 +55,12 @@ pub enum FaultReason {
     Names = 12,
     /// Asked of all but the last: there is a NameConstraints that can't be used, with a minimum other than 0, a maximum, or an address or a mask that is none.
     Constraints = 13,
+    /// A policy is there twice (RFC 5280 4.2.1.4).
+    RepeatedPolicy = 14,
+    /// No policy is left under which the path is valid, and one is asked for (RFC 5280 6.1.3 (f), 6.1.5 (g)).
+    Policy = 15,
+    /// Asked of all but the last: any-policy is mapped, or something to it (RFC 5280 6.1.4 (a)).
+    PolicyMapping = 16,
 }
 
 impl FaultReason {
@@ -70,6 +79,9 @@ impl FaultReason {
             11 => FaultReason::Extension,
             12 => FaultReason::Names,
             13 => FaultReason::Constraints,
+            14 => FaultReason::RepeatedPolicy,
+            15 => FaultReason::Policy,
+            16 => FaultReason::PolicyMapping,
             _ => return Err(Error::Unexpected),
         })
     }
@@ -89,6 +101,9 @@ impl FaultReason {
             FaultReason::Extension => "has an extension that can't be read",
             FaultReason::Names => "has a name that the constraints above don't allow",
             FaultReason::Constraints => "has name constraints that can't be used",
+            FaultReason::RepeatedPolicy => "has a policy twice",
+            FaultReason::Policy => "leaves no policy, and one is asked for",
+            FaultReason::PolicyMapping => "maps any-policy",
         }
     }
 }
@@ -229,10 +244,10 @@ fn verified<'a>(
 #[derive(Clone, Copy, Debug)]
 pub enum Trusted<'a> {
     /// The subject and the key of a certificate, for the paths that its name constraints and its path length allow (RFC 5937 2). Nothing else of it is looked
-    /// at.
+    /// at, what it says of policies neither.
     Certificate(CertificateRef<'a>),
 
-    /// The same of a trust anchor (RFC 5914, RFC 5937 2): of a description the key, and what its constraints on paths say.
+    /// The same of a trust anchor (RFC 5914, RFC 5937 2): of a description the key, and what its constraints on paths say, but of policies.
     Anchor(TrustAnchor<'a>),
 
     /// A name and a key, for all paths.
@@ -286,14 +301,22 @@ impl<'a> From<TrustAnchor<'a>> for Trusted<'a> {
 pub struct PathSettings {
     moment: SystemTime,
     name_constraints: Vec<u8>,
+    policies: Vec<u8>,
+    flags: u64,
 }
 
+const EXPLICIT_POLICY: u64 = 1;
+const INHIBIT_POLICY_MAPPING: u64 = 2;
+const INHIBIT_ANY_POLICY: u64 = 4;
+
 impl PathSettings {
-    /// That it is valid at the moment.
+    /// That it is valid at the moment, under any policy or none.
     pub fn new(moment: SystemTime) -> PathSettings {
         PathSettings {
             moment,
             name_constraints: Vec::new(),
+            policies: Vec::new(),
+            flags: 0,
         }
     }
 
@@ -302,6 +325,34 @@ impl PathSettings {
         self.name_constraints = der.to_vec();
         self
     }
+
+    /// That no policy is accepted but these (RFC 5280 6.1.1 (c)). A path may still be valid under none of them, unless
+    /// [`require_explicit_policy`](PathSettings::require_explicit_policy) asks for one.
+    pub fn policies(&mut self, accepted: &[ObjectIdentifier]) -> &mut PathSettings {
+        let information = |oid| elements(SEQUENCE, [identifier(oid)]);
+        self.policies = elements(SEQUENCE, accepted.iter().map(information));
+        self
+    }
+
+    fn flag(&mut self, flag: u64, is_set: bool) -> &mut PathSettings {
+        self.flags = self.flags & !flag | if is_set { flag } else { 0 };
+        self
+    }
+
+    /// Whether it is to be valid under one of the accepted policies at least (RFC 5280 6.1.1 (f)).
+    pub fn require_explicit_policy(&mut self, is_asked: bool) -> &mut PathSettings {
+        self.flag(EXPLICIT_POLICY, is_asked)
+    }
+
+    /// Whether policies may not be mapped (RFC 5280 6.1.1 (e)).
+    pub fn inhibit_policy_mapping(&mut self, is_asked: bool) -> &mut PathSettings {
+        self.flag(INHIBIT_POLICY_MAPPING, is_asked)
+    }
+
+    /// Whether any-policy in a certificate counts for nothing (RFC 5280 6.1.1 (g)).
+    pub fn inhibit_any_policy(&mut self, is_asked: bool) -> &mut PathSettings {
+        self.flag(INHIBIT_ANY_POLICY, is_asked)
+    }
 }
 
 /// What a valid path gives (RFC 5280 6.1.6).
@@ -309,6 +360,7 @@ impl PathSettings {
 pub struct Validated<'a> {
     certificates: Vec<CertificateRef<'a>>,
     last: CertificateRef<'a>,
+    policies: Vec<ObjectIdentifier>,
 }
 
 impl<'a> Validated<'a> {
@@ -321,12 +373,22 @@ impl<'a> Validated<'a> {
     pub fn certificate(&self) -> CertificateRef<'a> {
         self.last
     }
+
+    /// The policies under which it is valid, of those that the caller accepts; [`ANY_POLICY`](crate::oid::policy::ANY_POLICY) may be one of them.
+    pub fn policies(&self) -> &[ObjectIdentifier] {
+        &self.policies
+    }
+}
+
+/// The policies of a CertificatePolicies.
+fn identifiers(der: &[u8]) -> Result<Vec<ObjectIdentifier>, Error> {
+    let found = CertificatePolicies::from_der(der)?;
+    Ok(found.0.iter().map(|it| it.policy_identifier).collect())
 }
 
 /// What a path gives, where it is valid under what is trusted (RFC 5280 6.1), given by the DER of its certificates, topmost first. Beyond what [`check_path`]
-/// looks at names are compared as they match (RFC 5280 7.1), name constraints hold, those of what is trusted, of the settings and of each certificate above, and
-/// each extension of a type that is looked at is to be one that can be read. Policies and revocation aren't looked at: a critical extension about policies is
-/// refused.
+/// looks at names are compared as they match (RFC 5280 7.1), name constraints hold, those of what is trusted, of the settings and of each certificate above,
+/// policies are followed, and each extension of a type that is looked at is to be one that can be read. Revocation isn't looked at.
 ///
 /// ```
 /// use std::time::{Duration, UNIX_EPOCH};
@@ -359,9 +421,21 @@ pub fn validate_path<'a, 'b, B: AsRef<[u8]>>(
     let (trusted, path) = (trusted.into(), slices(path));
     let asked = ffi::PathSettings {
         moment: seconds(settings.moment)?,
+        flags: settings.flags,
     };
-    let found = ffi::path_validate(trusted.bytes(), &path, &settings.name_constraints, asked)?;
-    let certificates = verified(trusted.key(), path, found, verifier)?;
+    let (constraints, accepted) = (&settings.name_constraints, &settings.policies);
+    let judged = ffi::path_validate(trusted.bytes(), &path, constraints, accepted, asked)?;
+    let certificates = verified(
+        trusted.key(),
+        path,
+        judged.as_ref().err().copied(),
+        verifier,
+    )?;
     let last = *certificates.last().ok_or(Error::Unexpected)?;
-    Ok(Validated { certificates, last })
+    let policies = identifiers(&judged.map_err(|_| Error::Unexpected)?)?;
+    Ok(Validated {
+        certificates,
+        last,
+        policies,
+    })
 }

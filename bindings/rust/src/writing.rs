@@ -1,4 +1,5 @@
 //! DER that is written here (X.690 8.1). The library reads back what is made of it before anyone else does.
+use crate::oid::ObjectIdentifier;
 
 pub(crate) const BOOLEAN: u8 = 0x01;
 pub(crate) const INTEGER: u8 = 0x02;
@@ -45,6 +46,11 @@ pub(crate) fn element(identifier: u8, content: &[u8]) -> Vec<u8> {
 pub(crate) fn elements(identifier: u8, members: impl IntoIterator<Item = Vec<u8>>) -> Vec<u8> {
     let content: Vec<u8> = members.into_iter().flatten().collect();
     element(identifier, &content)
+}
+
+/// An OBJECT IDENTIFIER.
+pub(crate) fn identifier(oid: &ObjectIdentifier) -> Vec<u8> {
+    element(OBJECT_IDENTIFIER, oid.as_bytes())
 }
 
 /// The content octets of an INTEGER that isn't negative (X.690 8.3), of the octets of a number, the most significant first.

@@ -3,12 +3,13 @@ use std::cell::RefCell;
 use std::convert::Infallible;
 use std::time::{Duration, SystemTime, UNIX_EPOCH};
 use x509_rattle::extension::{
-    BasicConstraints, GeneralSubtree, NameConstraints, SubjectAltName, ToExtension,
+    BasicConstraints, CertificatePolicies, GeneralSubtree, NameConstraints, PolicyInformation,
+    PolicyMapping, PolicyMappings, SubjectAltName, ToExtension,
 };
 use x509_rattle::{
     check_path, oid, validate_path, Certificate, CertificateBuilder, CertificateRef, Error,
-    FaultReason, GeneralName, Name, PathError, PathFault, PathSettings, SerialNumber, Signature,
-    Signer, TrustAnchor, Trusted, Validity,
+    FaultReason, GeneralName, Name, ObjectIdentifier, PathError, PathFault, PathSettings,
+    SerialNumber, Signature, Signer, TrustAnchor, Trusted, Validity,
 };
 
 // an AlgorithmIdentifier and a key of Ed25519 (RFC 8410 3, 4), whose bits are no key
@@ -213,6 +214,76 @@ fn constraints_and_extensions_that_cannot_be_followed() {
         validate(&root, &[&other], &settings),
         Err(fault(0, FaultReason::Extension))
     );
+}
+
+fn policy(text: &str) -> ObjectIdentifier {
+    text.parse().expect("a policy")
+}
+
+fn under(policies: &'static [&'static str]) -> impl Fn(&mut CertificateBuilder) {
+    move |builder| {
+        let information = |text: &&str| PolicyInformation {
+            policy_identifier: policy(text),
+            policy_qualifiers: None,
+        };
+        let policies = CertificatePolicies(policies.iter().map(information).collect());
+        add(builder, oid::extension::CERTIFICATE_POLICIES, &policies);
+    }
+}
+
+/// RFC 5280 6.1: the policies of an authority and of a server under it, by what the caller asks for.
+#[test]
+fn policies_are_followed() {
+    let root = certificate("CN=Root", "CN=Root", KEY, &[&is_ca]);
+    let mapped = |builder: &mut CertificateBuilder| {
+        let mapping = PolicyMapping {
+            issuer_domain_policy: policy("1.2.3"),
+            subject_domain_policy: policy("1.2.5"),
+        };
+        let mappings = PolicyMappings(vec![mapping]);
+        add(builder, oid::extension::POLICY_MAPPINGS, &mappings);
+    };
+    let authority = |policies: &[&dyn Fn(&mut CertificateBuilder)]| {
+        let extensions: Vec<_> = [&is_ca as &dyn Fn(&mut CertificateBuilder)]
+            .into_iter()
+            .chain(policies.iter().copied())
+            .collect();
+        certificate("CN=Root", "CN=CA", OTHER_KEY, &extensions)
+    };
+    let plain = authority(&[&under(&["1.2.3", "1.2.4"])]);
+    let mapping = authority(&[&under(&["1.2.3", "1.2.4"]), &mapped]);
+    let any = authority(&[&under(&["2.5.29.32.0"])]);
+    let server = certificate("CN=CA", "CN=S", KEY, &[&under(&["1.2.3"])]);
+    let other = certificate("CN=CA", "CN=S", KEY, &[&under(&["1.2.5"])]);
+    let of = |path: [&Certificate; 2], settings: &PathSettings| {
+        let path = path.map(|it| it.as_der());
+        validate_path(root.to_ref(), &path, settings, &accepts).map(|it| it.policies().to_vec())
+    };
+    let settings = PathSettings::new(at(MOMENT));
+    assert_eq!(of([&plain, &server], &settings), Ok(vec![policy("1.2.3")]));
+    assert_eq!(of([&plain, &other], &settings), Ok(vec![]));
+    assert_eq!(of([&mapping, &other], &settings), Ok(vec![policy("1.2.3")]));
+    assert_eq!(of([&any, &other], &settings), Ok(vec![policy("1.2.5")]));
+    let mut asked = settings.clone();
+    asked.require_explicit_policy(true);
+    assert_eq!(of([&plain, &server], &asked), Ok(vec![policy("1.2.3")]));
+    let refused = Err(fault(1, FaultReason::Policy));
+    assert_eq!(of([&plain, &other], &asked), refused);
+    asked.inhibit_policy_mapping(true);
+    assert_eq!(of([&mapping, &other], &asked), refused);
+    asked.inhibit_any_policy(true);
+    assert_eq!(
+        of([&any, &other], &asked),
+        Err(fault(0, FaultReason::Policy))
+    );
+    asked.inhibit_any_policy(false);
+    assert_eq!(of([&any, &other], &asked), Ok(vec![policy("1.2.5")]));
+    asked.policies(&[policy("1.2.4")]);
+    assert_eq!(of([&plain, &server], &asked), refused);
+    asked.policies(&[]);
+    assert_eq!(of([&any, &other], &asked), refused);
+    asked.require_explicit_policy(false);
+    assert_eq!(of([&plain, &server], &asked), Ok(vec![]));
 }
 
 #[test]

@@ -267,11 +267,11 @@ class PathFaultView(ctypes.Structure):
 
 
 class PathSettings(ctypes.Structure):
-    _fields_ = [("moment", ctypes.c_uint64)]
+    _fields_ = [("moment", ctypes.c_uint64), ("flags", ctypes.c_uint64)]
 
 
 class PathAnswerView(ctypes.Structure):
-    _fields_ = [("place", ctypes.c_size_t), *_numbers("reason"), *_spans("name", "key")]
+    _fields_ = [("place", ctypes.c_size_t), *_numbers("reason"), *_spans("name", "key"), ("policies_len", ctypes.c_size_t)]
 
 
 View = TypeVar("View", bound=ctypes.Structure)

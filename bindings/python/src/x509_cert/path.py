@@ -12,13 +12,13 @@ from .key import AlgorithmIdentifier
 
 
 class PathFault(Exception):
-    """What is wrong with a path: the place of a certificate in it, from 0, and the reason, of which `validate_path` alone tells the last three."""
+    """What is wrong with a path: the place of a certificate in it, from 0, and the reason, of which `validate_path` alone tells those behind the first ten."""
 
     REASONS = (
         "is no certificate; has another algorithm in its signed part; has another issuer than the certificate above; isn't valid at the moment; "
         "has a signature that isn't accepted; has an extension twice; has a critical extension that isn't known; is no authority; may not sign "
         "certificates; has more below it than its path length allows; has an extension that can't be read; has a name that the constraints above don't allow; "
-        "has name constraints that can't be used"
+        "has name constraints that can't be used; has a policy twice; leaves no policy, and one is asked for; maps any-policy"
     ).split("; ")
 
     def __init__(self, place: int, reason: int) -> None:

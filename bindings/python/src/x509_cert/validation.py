@@ -7,21 +7,29 @@ import dataclasses
 import datetime
 from typing import Iterable
 
-from ._given import instance, octets, seconds
+from ._given import instance, listed, octets, seconds
 from ._library import FAULT, OK, PathAnswerView, PathSettings, X509Error, status_of
+from ._writing import SEQUENCE, element, identifier_of
 from .certificate import Certificate
 from .name import Name
+from .oid import ObjectIdentifier
 from .path import Verifier, _encodings, _verified
+from .policies import CertificatePolicies
 from .request import TrustAnchor
+
+# the flags of settings
+_EXPLICIT_POLICY, _INHIBIT_POLICY_MAPPING, _INHIBIT_ANY_POLICY = 1, 2, 4
 
 
 @dataclasses.dataclass(frozen=True)
 class ValidatedPath:
-    """A path that is valid: its certificates, topmost first, and what it gives (RFC 5280 6.1.6), the subject and the DER of the public key of the last one."""
+    """A path that is valid: its certificates, topmost first, and what it gives (RFC 5280 6.1.6), the subject and the DER of the public key of the last one, and the
+    policies under which it is valid, of those that the caller accepts. Any-policy may be one of them."""
 
     certificates: tuple[Certificate, ...]
     subject: Name
     public_key_bytes: bytes
+    policies: tuple[ObjectIdentifier, ...] = ()
 
 
 def validate_path(
@@ -31,30 +39,58 @@ def validate_path(
     verify: Verifier | None = None,
     *,
     name_constraints: bytes | None = None,
+    policies: Iterable[ObjectIdentifier] | None = None,
+    require_explicit_policy: bool = False,
+    inhibit_policy_mapping: bool = False,
+    inhibit_any_policy: bool = False,
 ) -> ValidatedPath:
     """What a path gives that is valid at the moment under what is trusted, topmost certificate first; a PathFault else.
 
     The anchor is a certificate, for the paths that its name constraints and its path length allow, and of which nothing else is looked at; a TrustAnchor; or a name
-    and the DER of a public key, for all paths. The certificates are a Certificate or its DER each. `verify(public_key, algorithm, message, signature)` says whether
+    and the DER of a public key, for all paths. What an anchor says of policies is not followed. The certificates are a Certificate or its DER each. `verify(public_key, algorithm, message, signature)` says whether
     the bits are a signature of the message: it is given the DER of the key and of the algorithm. Where it isn't given, `cryptography` verifies. `name_constraints` are
-    the initial permitted and excluded subtrees (RFC 5280 6.1.1 (h), (i)), as the DER of a NameConstraints.
+    the initial permitted and excluded subtrees (RFC 5280 6.1.1 (h), (i)), as the DER of a NameConstraints. `policies` are those that the caller accepts (6.1.1 (c)),
+    any where they aren't given; the path is to be valid under one of them at least where `require_explicit_policy` is true (6.1.1 (f)). The other two say that
+    policies may not be mapped (6.1.1 (e)), and that any-policy in a certificate counts for nothing (6.1.1 (g)).
 
-    Beyond what `check_path` looks at, names are compared as they match (RFC 5280 7.1), name constraints hold, and each extension of a type that is looked at is to
-    be one that can be read. Policies and revocation aren't looked at: a critical extension about policies is refused. An X509Error where the anchor or the name
-    constraints can't be followed.
+    Beyond what `check_path` looks at, names are compared as they match (RFC 5280 7.1), name constraints hold, policies are followed, and each extension of a type
+    that is looked at is to be one that can be read. Revocation isn't looked at. An X509Error where the anchor or the name constraints can't be followed.
     """
-    settings = PathSettings(seconds(moment, "the moment"))
+    flags = _flag(require_explicit_policy, _EXPLICIT_POLICY) | _flag(inhibit_policy_mapping, _INHIBIT_POLICY_MAPPING) | _flag(inhibit_any_policy, _INHIBIT_ANY_POLICY)
+    settings = PathSettings(seconds(moment, "the moment"), flags)
     call, trusted, key = _trusted(anchor)
     given = _encodings(path)
     lens = (ctypes.c_size_t * len(given))(*map(len, given))
-    words = (b"".join(given), lens, ctypes.c_size_t(len(given)), _constraints(name_constraints))
-    answer = PathAnswerView()
-    status = status_of(call, *trusted, *words, ctypes.byref(settings), ctypes.c_size_t(ctypes.sizeof(settings)), ctypes.byref(answer))
-    if status not in (OK, FAULT):
-        raise X509Error(call, status)
+    words = (b"".join(given), lens, ctypes.c_size_t(len(given)), _constraints(name_constraints), _accepted(policies))
+    answer, status, found = _asked(call, *trusted, *words, ctypes.byref(settings), ctypes.c_size_t(ctypes.sizeof(settings)))
     fault = (int(answer.place), int(answer.reason)) if status == FAULT else None
     certificates = _verified(key, given, fault, verify)
-    return ValidatedPath(tuple(certificates), Name(answer.name.of(given[-1])), answer.key.of(given[-1]))
+    valid = tuple(it.policy_identifier for it in CertificatePolicies.from_der(found))
+    return ValidatedPath(tuple(certificates), Name(answer.name.of(given[-1])), answer.key.of(given[-1]), valid)
+
+
+def _asked(call: str, *words: object) -> tuple[PathAnswerView, int, bytes]:
+    """What a call answers to a path, and the DER of its policies, in a buffer that they fit into."""
+    size = 256
+    while True:
+        answer, out = PathAnswerView(), ctypes.create_string_buffer(size)
+        status = status_of(call, *words, out, ctypes.c_size_t(size), ctypes.byref(answer))
+        if status not in (OK, FAULT):
+            raise X509Error(call, status)
+        if answer.policies_len <= size:
+            return answer, status, out.raw[: answer.policies_len]
+        size = answer.policies_len
+
+
+def _flag(given: bool, flag: int) -> int:
+    return flag if instance(given, bool, "a setting of policies") else 0
+
+
+def _accepted(given: Iterable[ObjectIdentifier] | None) -> bytes:
+    """The DER of the CertificatePolicies of these policies; no bytes where any are accepted."""
+    if given is None:
+        return b""
+    return element(SEQUENCE, *(element(SEQUENCE, identifier_of(it)) for it in listed(given, ObjectIdentifier, "the policies")))
 
 
 def _trusted(anchor: Certificate | TrustAnchor | tuple[Name, bytes]) -> tuple[str, tuple[bytes, ...], bytes]:

@@ -15,8 +15,8 @@ use crate::general_name::GeneralName;
 use crate::oid::{policy, ObjectIdentifier};
 use crate::time::time_text;
 use crate::writing::{
-    context, context_elements, element, elements, named_bits, unsigned, BIT_STRING, BOOLEAN,
-    ENUMERATED, GENERALIZED_TIME, INTEGER, NULL, OBJECT_IDENTIFIER, OCTET_STRING, SEQUENCE, SET,
+    context, context_elements, element, elements, identifier, named_bits, unsigned, BIT_STRING,
+    BOOLEAN, ENUMERATED, GENERALIZED_TIME, INTEGER, NULL, OCTET_STRING, SEQUENCE, SET,
 };
 use std::collections::HashSet;
 use std::time::SystemTime;
@@ -286,10 +286,6 @@ fn generalized_time(identifier: u8, moment: SystemTime) -> Result<Vec<u8>, Error
 fn directory_attribute(it: &DirectoryAttribute<'_>) -> Vec<u8> {
     let values = elements(SET, it.values.iter().map(|value| value.to_vec()));
     elements(SEQUENCE, [identifier(&it.oid), values])
-}
-
-fn identifier(oid: &ObjectIdentifier) -> Vec<u8> {
-    element(OBJECT_IDENTIFIER, oid.as_bytes())
 }
 
 /// A vector of TLS of up to 65,535 octets (RFC 6962 3.3), behind their number. Of more octets it is none, and isn't read as one.
