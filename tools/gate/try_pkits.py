@@ -3,7 +3,7 @@
 are to be, and prints for each section how many are right. Signatures are verified by `cryptography`; where that isn't installed, all are taken for good.
 
 tools/data/pkits.json.gz has the anchor and, of each case, the path (topmost first), whether it is valid (`want` is 0, and else the number of what
-`openssl verify` says of it). Revocation isn't asked: a case whose only fault is a CRL's has to be valid. The cases on policies (4.8 to 4.12) are left out.
+`openssl verify` says of it), and what is asked of policies. Revocation isn't asked: a case whose only fault is a CRL's has to be valid.
 """
 import argparse
 import collections
@@ -24,7 +24,9 @@ sys.path.insert(0, str(pathlib.Path(__file__).resolve().parents[1] / "common"))
 import der
 from x509_cert import (
     AlgorithmIdentifier,
+    CertificatePoliciesOID,
     KeyKind,
+    ObjectIdentifier,
     PathFault,
     PublicKey,
     SignatureKind,
@@ -45,8 +47,8 @@ OF_SIGNATURES = {7}
 # Valid for NIST, and refused here: a date of 1950, as the library's times begin with 1970.
 REFUSED = {"4.2.3"}
 
-# Policies aren't looked at.
-OF_POLICIES = {"4.8", "4.9", "4.10", "4.11", "4.12"}
+# What a case asks of policies, in the words of `openssl verify`.
+ASKED = {"-explicit_policy": "require_explicit_policy", "-inhibit_map": "inhibit_policy_mapping", "-inhibit_any": "inhibit_any_policy"}
 
 HASHES = {
     SignatureKind.rsa_sha1: "SHA1",
@@ -92,11 +94,23 @@ def accept_all(_key, _algorithm, _message, _signature):
     return True
 
 
+def asked(words):
+    """The keyword arguments of the settings."""
+    found, words = {}, iter(words.split())
+    for word in words:
+        if word == "-policy":
+            oid = next(words)
+            found.setdefault("policies", []).append(CertificatePoliciesOID.ANY_POLICY if oid == "anyPolicy" else ObjectIdentifier(oid))
+        else:
+            found[ASKED[word]] = True
+    return found
+
+
 def fault_of(anchor, case):
     """What is wrong with the path, or nothing."""
     path = [bytes.fromhex(it) for it in case["path"]]
     try:
-        validate_path(anchor, path, MOMENT, Verifier() if hashes else accept_all)
+        validate_path(anchor, path, MOMENT, Verifier() if hashes else accept_all, **asked(case["settings"]))
     except PathFault as fault:
         return str(fault)
     return None
@@ -120,8 +134,6 @@ def ask(cases):
     anchor = load_der_x509_certificate(bytes.fromhex(cases["anchor"]))
     right, every, wrong = collections.Counter(), collections.Counter(), []
     for case in cases["cases"]:
-        if section(case) in OF_POLICIES:
-            continue
         fault = told(case, fault_of(anchor, case))
         every[section(case)] += 1
         if fault:
