@@ -49,7 +49,7 @@ pub extern "C" fn x509_path_validate(
 ) -> i32
     ensures { Tells (λ status. ValidatesUnderCertificate ⟦<CertificateInner<Rfc5280> as Grammar>⟧.refuses ⟦<NameConstraints as Grammar>⟧.refuses
         ⟦<CertificatePolicies as Grammar>⟧.refuses anchor.now
-        (record { path = path; lens = lens; name_constraints = name_constraints; policies = policies; settings = settings })
+        (record { path = path.entry; lens = lens.entry; name_constraints = name_constraints.entry; policies = policies.entry; settings = settings.entry })
         (record { room = room.old; answer = answer.old }) (record { room = room.new; answer = answer.new }) status) result }
 {
     let question = PathQuestion {
@@ -78,7 +78,7 @@ pub extern "C" fn x509_path_validate_under_key(
 ) -> i32
     ensures { Tells (λ status. ValidatesUnderKey ⟦<Name as Grammar>⟧.refuses ⟦<SubjectPublicKeyInfo as Grammar>⟧.refuses ⟦<NameConstraints as Grammar>⟧.refuses
         ⟦<CertificatePolicies as Grammar>⟧.refuses name.now key.now
-        (record { path = path; lens = lens; name_constraints = name_constraints; policies = policies; settings = settings })
+        (record { path = path.entry; lens = lens.entry; name_constraints = name_constraints.entry; policies = policies.entry; settings = settings.entry })
         (record { room = room.old; answer = answer.old }) (record { room = room.new; answer = answer.new }) status) result }
 {
     let question = PathQuestion {
@@ -105,7 +105,7 @@ pub extern "C" fn x509_path_validate_under_anchor(
     answer: &mut PathAnswer,
 ) -> i32
     ensures { Tells (λ status. ValidatesUnderAnchor ⟦<NameConstraints as Grammar>⟧.refuses ⟦<CertificatePolicies as Grammar>⟧.refuses anchor.now
-        (record { path = path; lens = lens; name_constraints = name_constraints; policies = policies; settings = settings })
+        (record { path = path.entry; lens = lens.entry; name_constraints = name_constraints.entry; policies = policies.entry; settings = settings.entry })
         (record { room = room.old; answer = answer.old }) (record { room = room.new; answer = answer.new }) status) result }
 {
     let question = PathQuestion {
