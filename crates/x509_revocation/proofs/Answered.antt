@@ -1,15 +1,30 @@
 -- One CRL after the other.
-use Rattle.std.proofs.Common.{ℕ, suc, inl, inr, List, [], ◌∷◌, Some, None, refl, subst}
+use Rattle.std.proofs.Common.{◌≡◌, ℕ, suc, ◌-◌, ◌^◌, inl, inr, List, [], ◌∷◌, Some, None, ap, refl, subst}
+use Rattle.std.specs.Int.Bits.{and_zero_l}
 use Rattle.x509_base.specs.declared.time.Time.{Time}
 use Rattle.x509_ext.specs.declared.pkix.crl_reason.CrlReason.{CrlReason}
 use Rattle.x509_ext.specs.declared.pkix.reasons.Reasons.{Reasons}
 use Rattle.x509_revocation.specs.Lent.{LendsAll, LendsGiven, Steps}
 use Rattle.x509_revocation.specs.Says.{GivenCrl, Question}
-use Rattle.x509_revocation.specs.Status.{Answers, AnswersFrom, last_status}
-use Rattle.x509_revocation.specs.declared.revocation.Step.TheVariants.{Left, Revoked}
+use Rattle.x509_revocation.specs.Status.{Answers, AnswersFrom, last_status, minus}
+use Rattle.x509_revocation.specs.declared.says.Step.TheVariants.{Left, Revoked}
 use Rattle.x509_revocation.specs.declared.signed_crl.SignedCrl.{SignedCrl}
 use Rattle.x509_revocation.specs.declared.status.RevocationStatus.{RevocationStatus}
 use Rattle.x509_revocation.specs.declared.status.RevocationStatus.TheVariants as status
+
+-- ---- where no reason is left
+
+still : (left reasons : Reasons) → left.0 ≡ 0 → minus left reasons ≡ left
+still left reasons none = ap (λ n. record { 0 = n }) (rw none (and_zero_l (2 ^ 16 - 1 - reasons.0)))
+
+last : (left : Reasons) → left.0 ≡ 0 → status.Unrevoked ≡ last_status left
+last left none = rw none refl
+
+all_ended : (question : Question) (place : ℕ) (left : Reasons) → left.0 ≡ 0 → (others : List GivenCrl) → AnswersFrom question place left others status.Unrevoked
+all_ended question place left none [] = last left none
+all_ended question place left none (given ∷ others) = inl ((λ reasons revoked says adds. adds (still left reasons none)), all_ended question (suc place) left none others)
+
+-- ---- one CRL after the other
 
 module _ (question : Question) (given : List GivenCrl) where
   -- what is answered to these CRLs, from that place on and with these reasons left, is the answer to all
@@ -40,3 +55,7 @@ module _ (question : Question) (given : List GivenCrl) where
     pub done : Goes [] place left → Answers question given (last_status left)
     done ([], lends, then) = then (last_status left) refl
     done (g ∷ others, lends, then) = absurd lends
+
+    -- where no reason is left, none of the others is used
+    pub ended : (lent : List SignedCrl) → left.0 ≡ 0 → Goes lent place left → Answers question given status.Unrevoked
+    ended lent none (others, lends, then) = then status.Unrevoked (all_ended question place left none others)

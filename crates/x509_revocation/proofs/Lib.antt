@@ -1,6 +1,7 @@
 pub mod Payloads
 pub mod Parts
-pub mod Coverings
 pub mod Looks
 pub mod Answered
+pub mod Matches
+pub mod OneCover
 pub mod OneStatus

@@ -3,45 +3,28 @@ use Rattle.std.proofs.Common.{◌≡◌, ◌∙◌, ℕ, suc, inl, inr, List, []
 use Rattle.std.specs.Prelude.{MatchOption}
 use Rattle.x509_base.specs.declared.time.Time.{Time}
 use Rattle.x509_cert.specs.Revoked.{IsFirstWith}
-use Rattle.x509_der.specs.Form.{Form, IsForm, Spells}
-use Rattle.x509_der.specs.FormLaws.{universal_lawful}
-use Rattle.x509_der.specs.SpellingLaws.{values}
-use Rattle.x509_der.specs.declared.error.ErrorKind.{ErrorKind}
-use Rattle.x509_der.specs.declared.tag.Tag.TheVariants.{Enumerated, Sequence}
+use Rattle.x509_der.specs.Form.{IsForm}
+use Rattle.x509_der.specs.declared.tag.Tag.TheVariants.{Enumerated}
 use Rattle.x509_ext.specs.CrlReason.{crl_reason, crl_reason_names}
 use Rattle.x509_ext.specs.Identifiers.{id_ce}
-use Rattle.x509_ext.specs.IssuingDistributionPoint.{issuing_distribution_point, issuing_distribution_point_contents, issuing_distribution_point_contents_lawful}
-use Rattle.x509_ext.specs.declared.extension.Extension.{Extension}
 use Rattle.x509_ext.specs.declared.pkix.crl_reason.CrlReason.{CrlReason}
 use Rattle.x509_ext.specs.declared.pkix.crl_reason.CrlReason.TheVariants.{RemoveFromCRL}
-use Rattle.x509_ext.specs.declared.pkix.issuing_distribution_point.IssuingDistributionPoint.{IssuingDistributionPoint}
 use Rattle.x509_ext.specs.declared.pkix.reasons.Reasons.{Reasons}
-use Rattle.x509_path.specs.Certificates.{Certificate, HasPayload}
 use Rattle.x509_prim.specs.NamesLaws.{named_lawful}
-use Rattle.x509_revocation.specs.Crls.{Crl, Entry, crl_extensions, entries_of, entry_extensions}
-use Rattle.x509_revocation.specs.Says.{Covers, GivenCrl, HasReason, Question, TellsOf, or_all}
+use Rattle.x509_revocation.specs.Crls.{Crl, Entry, entries_of, entry_extensions}
+use Rattle.x509_revocation.specs.Says.{GivenCrl, HasReason, Question, TellsOf}
 use Rattle.x509_revocation.specs.Status.{Answers, AnswersFrom, minus}
 use Rattle.x509_revocation.specs.declared.status.RevocationStatus.{RevocationStatus}
 use Rattle.x509_revocation.specs.declared.status.RevocationStatus.TheVariants.{Revoked}
+use Rattle.x509_revocation.proofs.OneCover.{Never, one_cover, one_payload}
 
-abbrev Never : ErrorKind → Type 0
-Never e = ⊥
-
--- ---- the value of an extension
-
-one_payload : {T : Type 0} (form : Form T) → IsForm Never form → (oid : List ℕ) (extensions : List Extension) (v w : T) → HasPayload form oid extensions v → HasPayload form oid extensions w → v ≡ w
-one_payload form lawful oid extensions v w (e, is, spells) (f, so, other) =
-    let both : e ∷ [] ≡ f ∷ [] = sym is ∙ so in
-    let same : f ≡ e = cc in
-    values form lawful v w e.extn_value spells (subst (λ (x : Extension). Spells form w x.extn_value) same other)
+-- ---- the entry of a certificate
 
 one_reason : (entry : Entry) (r s : CrlReason) → HasReason entry r → HasReason entry s → r ≡ s
 one_reason entry r s (inl h) (inl k) = let law : IsForm Never crl_reason = named_lawful Enumerated crl_reason_names in one_payload crl_reason law (id_ce 21) (entry_extensions entry) r s h k
 one_reason entry r s (inl h) (inr k) = absurd (k.0 r h)
 one_reason entry r s (inr h) (inl k) = absurd (h.0 s k)
 one_reason entry r s (inr h) (inr k) = h.1 ∙ sym k.1
-
--- ---- the entry of a certificate
 
 one_entry : (number : List ℕ) (entries : List Entry) (a b : Entry) → IsFirstWith number entries a → IsFirstWith number entries b → a ≡ b
 one_entry number entries a b (others, is) (rest, so) = let both : a ∷ others ≡ b ∷ rest = sym is ∙ so in cc
@@ -61,17 +44,6 @@ one_told number crl (Some (r, d)) (Some (s, t)) (a, first, gives, kept, at) (b, 
     let date : d ≡ t = at ∙ ap (λ (e : Entry). e.revocation_date) same ∙ sym when in
     ap (λ q. Some (q, d)) reason ∙ ap (λ q. Some (s, q)) date
 
--- ---- the reasons
-
-one_cover : (c : Certificate) (crl : Crl) (r s : Reasons) → Covers c crl r → Covers c crl s → r ≡ s
-one_cover c crl r s (inl h) (inl k) = h.1 ∙ sym k.1
-one_cover c crl r s (inl h) (inr (point, (e, is, spells), scope, so)) = let both : [] ≡ e ∷ [] = sym h.0 ∙ is in absurd cc
-one_cover c crl r s (inr (point, (e, is, spells), scope, so)) (inl k) = let both : [] ≡ e ∷ [] = sym k.0 ∙ is in absurd cc
-one_cover c crl r s (inr (point, has, scope, so)) (inr (other, holds, within, is)) =
-    let law : IsForm Never issuing_distribution_point = universal_lawful Sequence issuing_distribution_point_contents issuing_distribution_point_contents_lawful in
-    let same : point ≡ other = one_payload issuing_distribution_point law (id_ce 28) (crl_extensions crl) point other has holds in
-    so ∙ ap (λ (p : IssuingDistributionPoint). or_all p.only_some_reasons) same ∙ sym is
-
 -- ---- the status
 
 module _ (question : Question) where
@@ -85,7 +57,7 @@ module _ (question : Question) where
   one_from (g ∷ given) place left s t (inl h) (inr (r, e, says, adds, then)) = absurd (h.0 r e says adds)
   one_from (g ∷ given) place left s t (inr (r, e, says, adds, then)) (inl k) = absurd (k.0 r e says adds)
   one_from (g ∷ given) place left s t (inr (r, e, says, adds, then)) (inr (q, f, tells, joins, after)) =
-      let reasons : q ≡ r = one_cover question.certificate g.crl q r tells.covers says.covers in
+      let reasons : q ≡ r = one_cover question.certificate g.crl tells.list says.list q r tells.covers says.covers in
       let revoked : f ≡ e = one_told question.certificate.tbs_certificate.serial_number g.crl f e tells.tells says.tells in
       let here = subst (λ (x : Reasons). MatchOption f (AnswersFrom question (suc place) (minus left x) given t) (λ found. t ≡ Revoked place found.1 found.0)) reasons after in
       let there = subst (λ (o : Option (CrlReason × Time)). MatchOption o (AnswersFrom question (suc place) (minus left r) given t) (λ found. t ≡ Revoked place found.1 found.0)) revoked here in

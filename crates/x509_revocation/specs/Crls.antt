@@ -14,7 +14,8 @@ use Rattle.x509_ext.specs.Identifiers.{id_ce}
 use Rattle.x509_ext.specs.IssuingDistributionPoint.{issuing_distribution_point}
 use Rattle.x509_ext.specs.LookUp.{members, with_oid}
 use Rattle.x509_ext.specs.declared.extension.Extension.{Extension}
-use Rattle.x509_path.specs.Certificates.{Accepting, IsReadable}
+use Rattle.x509_ext.specs.declared.pkix.issuing_distribution_point.IssuingDistributionPoint.{IssuingDistributionPoint}
+use Rattle.x509_path.specs.Certificates.{Accepting, HasPayload, IsReadable}
 use Rattle.x509_path.specs.declared.anchor.Anchor.{Anchor}
 
 abbrev pub Crl : Type 0
@@ -31,6 +32,11 @@ crl_extensions crl = members crl.tbs_cert_list.crl_extensions
 
 abbrev pub entry_extensions : Entry → List Extension
 entry_extensions entry = members entry.crl_entry_extensions
+
+-- its IssuingDistributionPoint (5.2.5)
+abbrev pub HasList : Crl → Option IssuingDistributionPoint → Type 0
+HasList crl None = with_oid (id_ce 28) (crl_extensions crl) ≡ []
+HasList crl (Some point) = HasPayload issuing_distribution_point (id_ce 28) (crl_extensions crl) point
 
 -- ---- dates (5.1.2.4, 5.1.2.5)
 

@@ -10,9 +10,8 @@ use Rattle.x509_path.specs.Lent.{LendsAnchor}
 use Rattle.x509_revocation.specs.Crls.{Crl}
 use Rattle.x509_revocation.specs.Says.{GivenCrl, Question, Says}
 use Rattle.x509_revocation.specs.Status.{AddsTo, IsUnused, minus}
-use Rattle.x509_revocation.specs.declared.revocation.Step.{Step}
-use Rattle.x509_revocation.specs.declared.revocation.Step.TheVariants.{Left, Revoked}
-use Rattle.x509_revocation.specs.declared.says.Said.{Said}
+use Rattle.x509_revocation.specs.declared.says.Step.{Step}
+use Rattle.x509_revocation.specs.declared.says.Step.TheVariants.{Left, Revoked}
 use Rattle.x509_revocation.specs.declared.settings.RevocationSettings.{RevocationSettings}
 use Rattle.x509_revocation.specs.declared.signed_crl.SignedCrl.{SignedCrl}
 
@@ -35,13 +34,6 @@ abbrev pub question : Accepting → RevocationSettings → Certificate → Quest
 question accepts settings certificate = record { certificate = certificate; moment = settings.moment; without_next = settings.without_next_update; accepts = accepts }
 
 -- ---- what is answered of one CRL
-
--- what it says, of which reasons alone; None where it says nothing
-abbrev pub SaysSo : Question → GivenCrl → Option Said → Type 0
-SaysSo question given None = (reasons : Reasons) (revoked : Option (CrlReason × Time)) → Says question given reasons revoked → ⊥
-SaysSo question given (Some said) =
-    Says question given said.reasons said.revoked
-    × ((reasons : Reasons) (revoked : Option (CrlReason × Time)) → Says question given reasons revoked → reasons ≡ said.reasons)
 
 -- where these reasons are left: it is used and says when the certificate was revoked, or it leaves the others, or it isn't used
 abbrev pub Steps : Question → Reasons → GivenCrl → Step → Type 0

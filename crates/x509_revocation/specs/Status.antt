@@ -4,7 +4,8 @@ use Rattle.bitflags.specs.Sets.{without}
 use Rattle.x509_base.specs.declared.time.Time.{Time}
 use Rattle.x509_ext.specs.declared.pkix.crl_reason.CrlReason.{CrlReason}
 use Rattle.x509_ext.specs.declared.pkix.reasons.Reasons.{Reasons}
-use Rattle.x509_revocation.specs.Says.{GivenCrl, Question, Says, all_reasons}
+use Rattle.x509_revocation.specs.Points.{all_reasons}
+use Rattle.x509_revocation.specs.Says.{GivenCrl, Question, Says}
 use Rattle.x509_revocation.specs.declared.status.RevocationStatus.{RevocationStatus}
 use Rattle.x509_revocation.specs.declared.status.RevocationStatus.TheVariants.{Unrevoked, Revoked, Undetermined}
 

@@ -1,37 +1,22 @@
 //! Which certificates a CRL is about, and which reasons it covers.
 
-ghost use Rattle.std.specs.Prelude.{◌≡◌, ◌↔◌, Some, IfOk, IfErr, IsTrue};
-ghost use Rattle.x509_der.specs.declared.error.ErrorKind.TheVariants as errors;
-ghost use Rattle.x509_ext.specs.declared.pkix.reasons.Reasons.{Reasons};
+ghost use Rattle.std.specs.Prelude.{◌≡◌, ◌↔◌, IfOk, IsTrue, MatchOption, Option};
+ghost use Rattle.x509_ext.specs.declared.pkix.issuing_distribution_point.IssuingDistributionPoint as lists;
+ghost use Rattle.x509_ext.specs.declared.pkix.reasons.Reasons as reason_sets;
 ghost use Rattle.x509_path.specs.Certificates.{Certificate, IsCa, extensions_of};
 ghost use Rattle.x509_path.specs.Lent.{Lends};
-ghost use Rattle.x509_revocation.specs.Crls.{Crl};
+ghost use Rattle.x509_revocation.specs.Crls.{Crl, HasList};
 ghost use Rattle.x509_revocation.specs.Lent.{LendsCrl};
-ghost use Rattle.x509_revocation.specs.Says.{Covers, IsInScope, all_reasons, or_all};
+ghost use Rattle.x509_revocation.specs.Points.{HasPoints};
+ghost use Rattle.x509_revocation.specs.Says.{AreInScope, Covers, IsInScope};
 
-use bitflags::Flags;
-use std::alloc::Global;
+use crate::names::encoded_match;
+use crate::points::Sides;
+use std::alloc::{AllocError, Global};
 use x509_check::{CertificateRef, CrlRef};
-use x509_der::{Error, ErrorKind};
-use x509_ext::pkix::crl::dp::ReasonFlags;
+use x509_der::ErrorKind;
+use x509_ext::pkix::crl::dp::{DistributionPoint, ReasonFlags};
 use x509_ext::pkix::{BasicConstraints, IssuingDistributionPoint};
-
-/// All reasons: the bits 1 to 8.
-pub(crate) fn all_reasons() -> ReasonFlags
-    ensures { result ≡ all_reasons }
-{
-    ReasonFlags::from_bits_retain(0x1FE)
-}
-
-/// The reasons, or all.
-fn or_all(reasons: Option<ReasonFlags>) -> ReasonFlags
-    ensures { result ≡ or_all reasons }
-{
-    match reasons {
-        Some(reasons) => reasons,
-        None => all_reasons(),
-    }
-}
 
 /// Whether the certificate is that of a certification authority.
 fn is_ca(alloc: Global, certificate: &CertificateRef<'_>) -> bool
@@ -47,10 +32,7 @@ fn is_ca(alloc: Global, certificate: &CertificateRef<'_>) -> bool
 fn is_in_scope(point: &IssuingDistributionPoint, is_ca: bool) -> bool
     ensures { (c : Certificate) → (IsTrue is_ca ↔ IsCa (extensions_of c)) → IsTrue result ↔ IsInScope c point.now }
 {
-    if point.distribution_point.is_some() {
-        return false;
-    }
-    if point.only_contains_attribute_certs || point.indirect_crl {
+    if point.only_contains_attribute_certs {
         return false;
     }
     if point.only_contains_user_certs && is_ca {
@@ -59,32 +41,63 @@ fn is_in_scope(point: &IssuingDistributionPoint, is_ca: bool) -> bool
     !point.only_contains_ca_certs || is_ca
 }
 
-/// The reasons that the CRL covers; `None` where the certificate isn't in its scope.
-///
-/// # Errors
-///
-/// `Memory` when out of memory, and nothing else.
-pub(crate) fn covered(
+/// The same of a CRL that may have no IssuingDistributionPoint.
+fn are_in_scope(
     alloc: Global,
     certificate: &CertificateRef<'_>,
+    list: &Option<IssuingDistributionPoint>,
+) -> bool
+    ensures { (c : Certificate) → Lends certificate.now.bytes.now c → IsTrue result ↔ AreInScope c list.now }
+{
+    match list {
+        Some(point) => is_in_scope(point, is_ca(alloc, certificate)),
+        None => true,
+    }
+}
+
+/// The IssuingDistributionPoint of the CRL, if there is one; `None` where there is one that can't be decoded.
+pub(crate) fn list_of(
+    alloc: Global,
     crl: &CrlRef<'_>,
-) -> Result<Option<ReasonFlags>, Error>
-    ensures ok { IfOk result (λ covered. (c : Certificate) (list : Crl) (reasons : Reasons) → Lends certificate.now.bytes.now c
-        → LendsCrl crl.now.bytes.now list → Covers c list reasons ↔ (covered ≡ Some reasons)) }
-    ensures err { IfErr result (λ e. e.kind ≡ errors.Memory) }
+) -> Result<Option<Option<IssuingDistributionPoint>>, AllocError>
+    ensures { IfOk result (λ found. (of : Crl) → LendsCrl crl.now.bytes.now of
+        → MatchOption found ((list : Option lists.IssuingDistributionPoint) → HasList of list → ⊥) (HasList of)) }
 {
     match crl.get_extension::<IssuingDistributionPoint>(alloc) {
-        Ok(None) => Ok(Some(all_reasons())),
-        Ok(Some((_, point))) => {
-            let is_ca = is_ca(alloc, certificate);
-            if !is_in_scope(&point, is_ca) {
-                return Ok(None);
-            }
-            Ok(Some(or_all(point.only_some_reasons)))
-        }
+        Ok(None) => Ok(Some(None)),
+        Ok(Some((_, point))) => Ok(Some(Some(point))),
         Err(e) => match e.kind() {
-            ErrorKind::Memory => Err(e),
+            ErrorKind::Memory => Err(AllocError),
             _ => Ok(None),
         },
     }
+}
+
+/// The reasons that the CRL covers, of those points and of the one that is assumed; `None` where the certificate isn't in its scope.
+pub(crate) fn covered(
+    alloc: Global,
+    certificate: &CertificateRef<'_>,
+    points: &[DistributionPoint],
+    crl: &CrlRef<'_>,
+    list: &Option<IssuingDistributionPoint>,
+) -> Result<Option<ReasonFlags>, AllocError>
+    ensures { IfOk result (λ covered. (c : Certificate) (of : Crl) → Lends certificate.now.bytes.now c → LendsCrl crl.now.bytes.now of
+        → HasPoints c points.now → HasList of list.now
+        → MatchOption covered ((reasons : reason_sets.Reasons) → Covers c of list.now reasons → ⊥) (Covers c of list.now)) }
+{
+    if !are_in_scope(alloc, certificate, list) {
+        return Ok(None);
+    }
+    let issuer = certificate.issuer();
+    let own = crl.issuer();
+    let is_issuers = encoded_match(alloc, own, issuer)?;
+    let sides = Sides {
+        alloc,
+        issuer,
+        own,
+        is_issuers,
+        list,
+    };
+    let reasons = sides.gather(points)?;
+    Ok(Some(reasons))
 }

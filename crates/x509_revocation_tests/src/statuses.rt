@@ -11,15 +11,15 @@ use x509_path::{AnchorRef, AnySignature};
 use x509_revocation::{RevocationSettings, RevocationStatus, SignedCrl, revocation_status};
 
 /// The empty name.
-const NAME: &[u8] = &[0x30, 0x00];
+pub(crate) const NAME: &[u8] = &[0x30, 0x00];
 
 /// A key without bits, of the algorithm 1.2.3.4.
-const KEY: &[u8] = &[
+pub(crate) const KEY: &[u8] = &[
     0x30, 0x0A, 0x30, 0x05, 0x06, 0x03, 0x2A, 0x03, 0x04, 0x03, 0x01, 0x00,
 ];
 
 /// Of the serial number 1. Its name and that of its issuer are empty, as those of the CRLs' issuers.
-const LEAF: &[u8] = &[
+pub(crate) const LEAF: &[u8] = &[
     0x30, 0x4B, 0x30, 0x3F, 0xA0, 0x03, 0x02, 0x01, 0x02, 0x02, 0x01, 0x01, 0x30, 0x05, 0x06, 0x03,
     0x2A, 0x03, 0x04, 0x30, 0x00, 0x30, 0x1E, 0x17, 0x0D, 0x31, 0x30, 0x30, 0x31, 0x30, 0x31, 0x30,
     0x38, 0x33, 0x30, 0x30, 0x30, 0x5A, 0x17, 0x0D, 0x33, 0x30, 0x31, 0x32, 0x33, 0x31, 0x30, 0x38,
@@ -91,7 +91,7 @@ fn status(alloc: Global, list: &[u8], moment: DateTime) -> Option<RevocationStat
 }
 
 /// Whether the certificate isn't revoked.
-fn is_unrevoked(status: Option<RevocationStatus>) -> bool {
+pub(crate) fn is_unrevoked(status: Option<RevocationStatus>) -> bool {
     matches!(status, Some(RevocationStatus::Unrevoked))
 }
 
@@ -111,7 +111,7 @@ fn is_compromised(status: Option<RevocationStatus>) -> bool {
 }
 
 /// The reasons that no CRL covered.
-fn left(status: Option<RevocationStatus>) -> Option<u16> {
+pub(crate) fn left(status: Option<RevocationStatus>) -> Option<u16> {
     match status {
         Some(RevocationStatus::Undetermined { reasons }) => Some(reasons.bits()),
         _ => None,
