@@ -1,0 +1,130 @@
+#!/usr/bin/env python3
+"""Makes docs/RULES.md: what RFC 5280 says MUST or SHOULD hold of certificates and CRLs, by section, with the rule of x509_lint that tells where it is
+broken, or why none does.
+
+The sentences and their answers stand in tools/data/rfc5280.txt; the rules, how bad it is to break each, its section and what was seen are taken
+from the code, crates/x509_lint/src/rule. With `--check` it fails where a rule of the code stands in no line of the sentences, where a line names a
+rule that isn't there, where a sentence has no answer, and where docs/RULES.md is another text.
+"""
+import argparse
+import pathlib
+import re
+import sys
+
+TOP = pathlib.Path(__file__).resolve().parents[2]
+SENTENCES = TOP / "tools/data/rfc5280.txt"
+RULES = TOP / "crates/x509_lint/src/rule"
+PAGE = TOP / "docs/RULES.md"
+LEVELS = ("MUST NOT", "SHOULD NOT", "MUST", "SHOULD", "GRAMMAR")
+SEVERITIES = {"must": "error", "should": "warning", "not_judged": "not judged"}
+# Why there is no rule, by the word that says so in the sentences.
+REASONS = {
+    "issuer": "needs what the issuer has, or has issued before",
+    "key": "needs to know how the key was made, or what it may do",
+    "world": "needs to know what stands outside: who the subject is, what an address leads to",
+    "encoding": "nothing else can be encoded, or the decoder refuses it",
+    "application": "says what applications do, and nothing about the object",
+    "open": "a rule could stand, and there is none yet",
+}
+HEAD = """# What RFC 5280 says, and the rules of `x509_lint`
+
+`tools/gate/list_rules.py` makes this page of `tools/data/rfc5280.txt` and of the rules in `crates/x509_lint/src/rule`. Each line has what a section of RFC 5280 says MUST or SHOULD hold, in our own
+words, and the rule that tells where it is broken, or why there is none. GRAMMAR stands for a size or a type of the ASN.1. Whether a rule is broken is a definition of `crates/x509_lint/specs`, in the
+file of its group, and `lint_certificate` and `lint_crl` are proved to find it exactly there.
+
+"""
+
+
+class Rules(dict):
+    """The rules of the code, by what the lines call them: `name` of a certificate's, `crl:name` of a CRL's."""
+
+    def __init__(self):
+        super().__init__()
+        for path in sorted(RULES.glob("*.rt")):
+            self.update(rules_of(path))
+
+
+def rules_of(path):
+    """The rules of a group: for each its severity, its section, and what was seen."""
+    text = path.read_text()
+    owner = "crl:" if path.stem.startswith("crl_") else ""
+    seen = dict((variant, " ".join(doc.replace("///", " ").split())) for doc, variant in re.findall(r"((?:    ///[^\n]*\n)+)    (\w+),\n", text))
+    for variant, severity, name, section in re.findall(r'::(\w+) => (\w+)\(\s*"([^"]*)",\s*"([^"]*)",?\s*\)', text):
+        sentence = re.split(r" \(RFC 5280 ", seen[variant])[0]
+        yield owner + name, (SEVERITIES[severity], section, sentence)
+
+
+def sections():
+    """The sections of the sentences: each its number and title, and its sentences with their rules and why there are none."""
+    found = []
+    for number, line in enumerate(SENTENCES.read_text().splitlines(), 1):
+        if section := re.fullmatch(r"# ([A-Z0-9.]*[0-9.][0-9]*) (.*)", line):
+            found.append((section[1], section[2], []))
+        elif line.startswith("= "):
+            found[-1][2][-1]["rules"] += [it.strip() for it in line[2:].split(",")]
+        elif line.startswith("- "):
+            kind, _, more = line[2:].partition(": ")
+            if kind not in REASONS:
+                sys.exit(f"{SENTENCES.name}:{number}: no reason is called {kind}")
+            found[-1][2][-1]["reasons"].append((kind, more))
+        elif line and not line.startswith("#"):
+            if not line.startswith(LEVELS):
+                sys.exit(f"{SENTENCES.name}:{number}: it begins with none of {', '.join(LEVELS)}")
+            found[-1][2].append({"text": line, "rules": [], "reasons": []})
+    return found
+
+
+def answer(sentence, rules):
+    """What the last column says of a sentence."""
+    told = [f"`{name.rpartition(':')[2]}` ({rules[name][0]})" if name in rules else f"`{name}`" for name in sentence["rules"]]
+    why = [f"{REASONS[kind]}{': ' + more if more else ''}" for kind, more in sentence["reasons"]]
+    return "; ".join(filter(None, [", ".join(told), "none: " * bool(why and not told) + "; ".join(why)]))
+
+
+def page(rules, all_sections):
+    lines = [HEAD]
+    count = sum(len(sentences) for _, _, sentences in all_sections)
+    ruled = sum(bool(it["rules"]) for _, _, sentences in all_sections for it in sentences)
+    still = sum(any(kind == "open" for kind, _ in it["reasons"]) for _, _, sentences in all_sections for it in sentences)
+    lines.append(f"{count} sentences, {ruled} of them with a rule, {still} for which one could stand and doesn't yet or not wholly; {len(rules)} rules.\n")
+    for number, title, sentences in all_sections:
+        lines += [f"\n## {number} {title}\n", "\n| RFC 5280 | Rule |\n|---|---|\n"]
+        for it in sentences:
+            level = next(level for level in LEVELS if it["text"].startswith(level))
+            lines.append(f"| **{level}** {it['text'][len(level) + 1:]} | {answer(it, rules)} |\n")
+    lines.append("\n## The rules\n")
+    lines.append("\nIn the order of their groups. What was seen, where the rule is told.\n\n| Of | Rule | | Section | Seen |\n|---|---|---|---|---|\n")
+    for name, (severity, section, seen) in rules.items():
+        owner, _, short = name.rpartition(":")
+        lines.append(f"| {'CRL' if owner else 'certificate'} | `{short}` | {severity} | {section} | {seen} |\n")
+    return "".join(lines)
+
+
+def faults(rules, all_sections):
+    """What is wrong with the sentences."""
+    named = {name for _, _, sentences in all_sections for it in sentences for name in it["rules"]}
+    yield from (f"the rule {name} stands on no line" for name in rules if name not in named)
+    yield from (f"there is no rule {name}" for name in sorted(named) if name not in rules)
+    for number, _, sentences in all_sections:
+        yield from (f"{number}: no answer: {it['text']}" for it in sentences if not it["rules"] and not it["reasons"])
+
+
+def main(is_check):
+    rules, all_sections = Rules(), sections()
+    said = list(faults(rules, all_sections))
+    text = page(rules, all_sections)
+    if not is_check:
+        PAGE.write_text(text)
+    elif not PAGE.exists() or PAGE.read_text() != text:
+        said.append("docs/RULES.md isn't what tools/gate/list_rules.py makes")
+    for fault in said:
+        print(f"failed: rules: {fault}")
+    if not said:
+        print(f"passed: docs/RULES.md, {len(rules)} rules")
+    return int(bool(said))
+
+
+if __name__ == "__main__":
+    parser = argparse.ArgumentParser(description=__doc__, formatter_class=argparse.RawDescriptionHelpFormatter)
+    parser.add_argument("--check", action="store_true", help="compares docs/RULES.md, and writes nothing")
+    sys.exit(main(parser.parse_args().check))
