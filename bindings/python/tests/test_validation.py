@@ -194,7 +194,7 @@ class Arguments(unittest.TestCase):
         "name_constraints": [(EXAMPLE.data, (1, NAMES)), (ours.NameConstraints(None, [ours.DirectoryName(name(""))]).data, (0, NAMES))],
         "policies": [(POLICIES[1:], (1, POLICY))],
         "require_explicit_policy": [(True, (1, POLICY))],
-        "inhibit_policy_mapping": [(True, (2, POLICY))],
+        "inhibit_policy_mapping": [(True, (1, POLICY))],
         "inhibit_any_policy": [(True, (0, POLICY))],
     }
     # paths on which a setting of policies tells
