@@ -113,7 +113,7 @@ static size_t keep(const char *kind, const uint8_t *bytes, size_t len)
     size_t place = digest_of(digest_of(0xcbf29ce484222325, kind, strlen(kind)), bytes, len) % (4 * MOST_BASES);
     for (; hashes[place] != 0; place = (place + 1) % (4 * MOST_BASES)) {
         const base *it = &bases[hashes[place] - 1];
-        if (it->len == len && strcmp(it->kind, kind) == 0 && memcmp(it->bytes, bytes, len) == 0)
+        if (it->len == len && strcmp(it->kind, kind) == 0 && (len == 0 || memcmp(it->bytes, bytes, len) == 0))
             return hashes[place] - 1;
     }
     uint8_t *copy = malloc(len + 1);
