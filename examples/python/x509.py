@@ -16,7 +16,9 @@ class Span(ctypes.Structure):
 class View(ctypes.Structure):
     _fields_ = [("version", ctypes.c_uint32)]
     _fields_ += [(part, Span) for part in ("serial_number", "issuer", "subject", "subject_public_key_info", "extensions")]
-    _fields_ += [("not_before", ctypes.c_uint64), ("not_after", ctypes.c_uint64)]
+    _fields_ += [("not_before", ctypes.c_uint64), ("not_after", ctypes.c_uint64), ("inner_algorithm", Span)]
+    _fields_ += [("issuer_unique_id", Span), ("issuer_unused_bits", ctypes.c_uint32)]
+    _fields_ += [("subject_unique_id", Span), ("subject_unused_bits", ctypes.c_uint32)]
 
 
 class Extension(ctypes.Structure):
@@ -28,7 +30,7 @@ class ExtensionEntry(ctypes.Structure):
 
 
 class GeneralName(ctypes.Structure):
-    _fields_ = [("kind", ctypes.c_uint32)] + [(part, Span) for part in ("element", "content", "type_id", "value")]
+    _fields_ = [("kind", ctypes.c_uint32)] + [(part, Span) for part in ("element", "content", "type_id", "value", "name_assigner", "party_name")]
 
 
 class BasicConstraints(ctypes.Structure):

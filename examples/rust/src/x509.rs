@@ -44,6 +44,11 @@ struct RawView {
     extensions: Span,
     not_before: u64,
     not_after: u64,
+    inner_algorithm: Span,
+    issuer_unique_id: Span,
+    issuer_unused_bits: u32,
+    subject_unique_id: Span,
+    subject_unused_bits: u32,
 }
 
 #[repr(C)]
@@ -69,6 +74,8 @@ struct RawName {
     content: Span,
     type_id: Span,
     value: Span,
+    name_assigner: Span,
+    party_name: Span,
 }
 
 #[repr(C)]
