@@ -44,8 +44,8 @@ class Library:
         return status, written.value if status == ROOM else KEPT if written.value == 77 else CHANGED
 
     def look(self, name, form, *inputs):
-        before = b"M" * 128
-        out = ctypes.create_string_buffer(before, 128)
+        before = b"M" * 256
+        out = ctypes.create_string_buffer(before, 256)
         status = self.call(name, *(part for data in inputs for part in lent(data)), out)
         if status == OK:
             return status, struct.unpack_from(form, out)
