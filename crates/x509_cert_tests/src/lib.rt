@@ -31,5 +31,3 @@ mod requests;
 mod slices;
 #[cfg(test)]
 mod trust_anchors;
-#[cfg(test)]
-mod validations;
