@@ -1,7 +1,7 @@
 #!/usr/bin/env python3
-"""Looks whether each call, clause, law, type and definition that docs/PROMISES.md names in its last column stands in the sources.
+"""Looks whether each call, clause, law, type and definition that docs/PROMISES.md names stands in the sources. An entry names them in front of its first colon.
 
-It has to stand in the crate of its row, in a crate that the row names, or in one that these stand on.
+It has to stand in the crate of its section, in a crate that the entry names there, or in one that these stand on. Each section is that of a crate.
 """
 import argparse
 import pathlib
@@ -28,23 +28,12 @@ def names_of(crate):
     return found
 
 
-def cells(line):
-    """The first and the last column of a row of three; of two, where the first is that of the row above, nothing and the last."""
-    if line.startswith("| `"):
-        first, _, last = (it.strip() for it in line.strip("| ").replace("\\|", " ").split(" | "))
-        return first, last
-    _, last = line[3:].strip("| ").split(" | ")
-    return "", last
-
-
-def rows():
-    """The crate of each row, and the names of its last column."""
-    crate = None
-    for line in (TOP / "docs" / "PROMISES.md").read_text(encoding="utf-8").splitlines():
-        if line.startswith("| ") and not line.startswith("| Crate"):
-            first, last = cells(line)
-            crate = first.strip("`") or crate
-            yield crate, re.findall(r"`([^`]+)`", last)
+def entries():
+    """The crate of each entry, and the names in front of its colon."""
+    text = (TOP / "docs" / "PROMISES.md").read_text(encoding="utf-8")
+    for section in re.finditer(r"^## `(\w+)`\n(.*?)(?=^## |\Z)", text, re.M | re.S):
+        for entry in re.findall(r"^- (.*?)(?=^- |^$|\Z)", section[2], re.M | re.S):
+            yield section[1], re.findall(r"`([^`]+)`", entry.partition(": ")[0])
 
 
 def stands(word, below, names):
@@ -55,11 +44,14 @@ def stands(word, below, names):
 
 
 def main():
-    argparse.ArgumentParser(description=__doc__).parse_args()
+    argparse.ArgumentParser(description=__doc__, formatter_class=argparse.RawDescriptionHelpFormatter).parse_args()
     named = crates_below()
     names = {crate: names_of(crate) for crate in named}
     missing, count = [], 0
-    for crate, words in rows():
+    for crate, words in entries():
+        if crate not in named:
+            missing.append(f"{crate}, a crate")
+            continue
         others = [it for it in words if it in named]
         below = set().union(*(path_of(it, named) for it in [crate, *others]))
         asked = [it for it in words if it not in named and it != "laws"]
