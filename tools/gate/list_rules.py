@@ -2,9 +2,9 @@
 """Makes docs/RULES.md: what RFC 5280 says MUST or SHOULD hold of certificates and CRLs, by section, with the rule of x509_lint that tells where it is
 broken, or why none does.
 
-The sentences and their answers stand in tools/data/rfc5280.txt; the rules, how bad it is to break each, its section and what was seen are taken
-from the code, crates/x509_lint/src/rule. With `--check` it fails where a rule of the code stands in no line of the sentences, where a line names a
-rule that isn't there, where a sentence has no answer, and where docs/RULES.md is another text.
+The sentences and their answers stand in tools/data/rfc5280.txt; the rules, and how bad it is to break each, are taken from the code,
+crates/x509_lint/src/rule. With `--check` it fails where a rule of the code stands in no line of the sentences, where a line names a rule that isn't
+there, where a sentence has no answer, and where docs/RULES.md is another text.
 """
 import argparse
 import pathlib
@@ -30,7 +30,7 @@ HEAD = """# What RFC 5280 says, and the rules of `x509_lint`
 
 `tools/gate/list_rules.py` makes this page of `tools/data/rfc5280.txt` and of the rules in `crates/x509_lint/src/rule`. Each line has what a section of RFC 5280 says MUST or SHOULD hold, in our own
 words, and the rule that tells where it is broken, or why there is none. GRAMMAR stands for a size or a type of the ASN.1. Whether a rule is broken is a definition of `crates/x509_lint/specs`, in the
-file of its group, and `lint_certificate` and `lint_crl` are proved to find it exactly there.
+file of its group, and `lint_certificate` and `lint_crl` are proved to find it exactly there; what was seen is said at the rule in the code. Why there is none:
 
 """
 
@@ -45,13 +45,11 @@ class Rules(dict):
 
 
 def rules_of(path):
-    """The rules of a group: for each its severity, its section, and what was seen."""
+    """The rules of a group, each with its severity."""
     text = path.read_text()
     owner = "crl:" if path.stem.startswith("crl_") else ""
-    seen = dict((variant, " ".join(doc.replace("///", " ").split())) for doc, variant in re.findall(r"((?:    ///[^\n]*\n)+)    (\w+),\n", text))
-    for variant, severity, name, section in re.findall(r'::(\w+) => (\w+)\(\s*"([^"]*)",\s*"([^"]*)",?\s*\)', text):
-        sentence = re.split(r" \(RFC 5280 ", seen[variant])[0]
-        yield owner + name, (SEVERITIES[severity], section, sentence)
+    for severity, name in re.findall(r'::\w+ => (\w+)\(\s*"([^"]*)",\s*"[^"]*",?\s*\)', text):
+        yield owner + name, SEVERITIES[severity]
 
 
 def sections():
@@ -76,13 +74,13 @@ def sections():
 
 def answer(sentence, rules):
     """What the last column says of a sentence."""
-    told = [f"`{name.rpartition(':')[2]}` ({rules[name][0]})" if name in rules else f"`{name}`" for name in sentence["rules"]]
-    why = [f"{REASONS[kind]}{': ' + more if more else ''}" for kind, more in sentence["reasons"]]
-    return "; ".join(filter(None, [", ".join(told), "none: " * bool(why and not told) + "; ".join(why)]))
+    told = [f"`{name.rpartition(':')[2]}` ({rules[name]})" if name in rules else f"`{name}`" for name in sentence["rules"]]
+    why = [f"*{kind}*{': ' + more if more else ''}" for kind, more in sentence["reasons"]]
+    return "; ".join(filter(None, [", ".join(told), "; ".join(why)]))
 
 
 def page(rules, all_sections):
-    lines = [HEAD]
+    lines = [HEAD, *(f"- *{kind}*: {why}.\n" for kind, why in REASONS.items()), "\n"]
     count = sum(len(sentences) for _, _, sentences in all_sections)
     ruled = sum(bool(it["rules"]) for _, _, sentences in all_sections for it in sentences)
     still = sum(any(kind == "open" for kind, _ in it["reasons"]) for _, _, sentences in all_sections for it in sentences)
@@ -92,11 +90,6 @@ def page(rules, all_sections):
         for it in sentences:
             level = next(level for level in LEVELS if it["text"].startswith(level))
             lines.append(f"| **{level}** {it['text'][len(level) + 1:]} | {answer(it, rules)} |\n")
-    lines.append("\n## The rules\n")
-    lines.append("\nIn the order of their groups. What was seen, where the rule is told.\n\n| Of | Rule | | Section | Seen |\n|---|---|---|---|---|\n")
-    for name, (severity, section, seen) in rules.items():
-        owner, _, short = name.rpartition(":")
-        lines.append(f"| {'CRL' if owner else 'certificate'} | `{short}` | {severity} | {section} | {seen} |\n")
     return "".join(lines)
 
 
