@@ -1,5 +1,6 @@
 #!/usr/bin/env python3
 """Makes the certificate, the list and the request of the examples, and what the examples print of them, by Python's `cryptography`."""
+import argparse
 import datetime
 import ipaddress
 import pathlib
@@ -112,6 +113,7 @@ def expected(certificate):
 
 
 def main():
+    argparse.ArgumentParser(description=__doc__).parse_args()
     key = ec.generate_private_key(ec.SECP256R1())
     certificate = make(key)
     (HERE / "certificate.der").write_bytes(certificate.public_bytes(serialization.Encoding.DER))

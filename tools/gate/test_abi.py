@@ -1,5 +1,6 @@
 #!/usr/bin/env python3
 """Changes the C interface of a header in each way, and looks what tools/gate/check_abi.py's rules say of it: what a change is, and which version it wants."""
+import argparse
 import pathlib
 import sys
 
@@ -61,6 +62,7 @@ def differences():
 
 
 def main():
+    argparse.ArgumentParser(description=__doc__).parse_args()
     found = list(differences())
     print("\n".join(found) or f"the rules of the C interface say what they should of {len(CHANGES)} changes and {len(VERSIONS)} versions")
     return int(bool(found))
