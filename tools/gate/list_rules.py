@@ -3,8 +3,8 @@
 broken, or why none does.
 
 The sentences and their answers stand in tools/data/rfc5280.txt; the rules, and how bad it is to break each, are taken from the code,
-crates/x509_lint/src/rule. With `--check` it fails where a rule of the code stands in no line of the sentences, where a line names a rule that isn't
-there, where a sentence has no answer, and where docs/RULES.md is another text.
+crates/x509_lint/src/rule. With `--check` it fails where a rule of the code stands in no line of the sentences, where its docs don't say its section,
+where a line names a rule that isn't there, where a sentence has no answer, and where docs/RULES.md is another text.
 """
 import argparse
 import pathlib
@@ -45,11 +45,12 @@ class Rules(dict):
 
 
 def rules_of(path):
-    """The rules of a group, each with its severity."""
+    """The rules of a group: for each its severity, its section and its docs."""
     text = path.read_text()
     owner = "crl:" if path.stem.startswith("crl_") else ""
-    for severity, name in re.findall(r'::\w+ => (\w+)\(\s*"([^"]*)",\s*"[^"]*",?\s*\)', text):
-        yield owner + name, SEVERITIES[severity]
+    docs = dict((variant, " ".join(said.replace("///", " ").split())) for said, variant in re.findall(r"((?:    ///[^\n]*\n)+)    (\w+),\n", text))
+    for variant, severity, name, section in re.findall(r'::(\w+) => (\w+)\(\s*"([^"]*)",\s*"([^"]*)",?\s*\)', text):
+        yield owner + name, (SEVERITIES[severity], section, docs.get(variant, ""))
 
 
 def sections():
@@ -74,7 +75,7 @@ def sections():
 
 def answer(sentence, rules):
     """What the last column says of a sentence."""
-    told = [f"`{name.rpartition(':')[2]}` ({rules[name]})" if name in rules else f"`{name}`" for name in sentence["rules"]]
+    told = [f"`{name.rpartition(':')[2]}` ({rules[name][0]})" if name in rules else f"`{name}`" for name in sentence["rules"]]
     why = [f"*{kind}*{': ' + more if more else ''}" for kind, more in sentence["reasons"]]
     return "; ".join(filter(None, [", ".join(told), "; ".join(why)]))
 
@@ -97,6 +98,7 @@ def faults(rules, all_sections):
     """What is wrong with the sentences."""
     named = {name for _, _, sentences in all_sections for it in sentences for name in it["rules"]}
     yield from (f"the rule {name} stands on no line" for name in rules if name not in named)
+    yield from (f"the docs of the rule {name} don't say its section, {section}" for name, (_, section, docs) in rules.items() if f"(RFC 5280 {section}" not in docs)
     yield from (f"there is no rule {name}" for name in sorted(named) if name not in rules)
     for number, _, sentences in all_sections:
         yield from (f"{number}: no answer: {it['text']}" for it in sentences if not it["rules"] and not it["reasons"])
