@@ -74,7 +74,7 @@ def sections():
 
 
 def answer(sentence, rules):
-    """What the last column says of a sentence."""
+    """What is said behind a sentence: its rules, and why there are none or not all."""
     told = [f"`{name.rpartition(':')[2]}` ({rules[name][0]})" if name in rules else f"`{name}`" for name in sentence["rules"]]
     why = [f"*{kind}*{': ' + more if more else ''}" for kind, more in sentence["reasons"]]
     return "; ".join(filter(None, [", ".join(told), "; ".join(why)]))
@@ -87,10 +87,10 @@ def page(rules, all_sections):
     still = sum(any(kind == "open" for kind, _ in it["reasons"]) for _, _, sentences in all_sections for it in sentences)
     lines.append(f"{count} sentences, {ruled} of them with a rule, {still} for which one could stand and doesn't yet or not wholly; {len(rules)} rules.\n")
     for number, title, sentences in all_sections:
-        lines += [f"\n## {number} {title}\n", "\n| RFC 5280 | Rule |\n|---|---|\n"]
+        lines.append(f"\n## {number} {title}\n\n")
         for it in sentences:
             level = next(level for level in LEVELS if it["text"].startswith(level))
-            lines.append(f"| **{level}** {it['text'][len(level) + 1:]} | {answer(it, rules)} |\n")
+            lines.append(f"- **{level}** {it['text'][len(level) + 1:]}. {answer(it, rules)}\n")
     return "".join(lines)
 
 
