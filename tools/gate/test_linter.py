@@ -10,9 +10,12 @@ import sys
 import tempfile
 
 sys.path.insert(0, str(pathlib.Path(__file__).resolve().parents[1]))
-from common.der import BIT_STRING, BMP_STRING, GENERALIZED_TIME, IA5_STRING, PRINTABLE_STRING, TRUE, UTC_TIME, UTF8_STRING, VISIBLE_STRING
+from common.der import BIT_STRING, BMP_STRING, GENERALIZED_TIME, IA5_STRING, NULL, PRINTABLE_STRING, TELETEX_STRING, TRUE, UTC_TIME, UTF8_STRING, VISIBLE_STRING
 from common.der import bit_string, context, element, integer, object_identifier, octet_string, sequence, set_of
 from object_runs import Program, ended
+
+ENUMERATED, NUMERIC_STRING, UNIVERSAL_STRING = 0x0A, 0x12, 0x1C
+EMAIL_ADDRESS, DOMAIN_COMPONENT = object_identifier(1, 2, 840, 113549, 1, 9, 1), object_identifier(0, 9, 2342, 19200300, 100, 1, 25)
 
 ECDSA_SHA256 = sequence(object_identifier(1, 2, 840, 10045, 4, 3, 2))
 ECDSA_SHA384 = sequence(object_identifier(1, 2, 840, 10045, 4, 3, 3))
@@ -121,6 +124,10 @@ def crl(
     return sequence(sequence(version, inner, issuer, this_update, next_update, entries, behind), outer, SIGNATURE)
 
 
+def entry_with(*extensions, serial=6):
+    return sequence(integer(serial), utc(b"260101000000Z"), sequence(*extensions))
+
+
 def leaf_with(*extensions):
     return certificate(extensions=(*LEAF, *extensions))
 
@@ -141,6 +148,10 @@ def warning(name, section):
     return f"warning {name} (RFC 5280 {section})"
 
 
+def not_judged(name, section):
+    return f"not judged {name} (RFC 5280 {section})"
+
+
 NO_AKI = error("authority_key_identifier_absent", "4.2.1.1")
 NO_SKI = warning("subject_key_identifier_absent", "4.2.1.2")
 
@@ -150,6 +161,16 @@ def field_rules():
     yield certificate(outer=ECDSA_SHA384), [error("signature_algorithms_differ", "4.1.1.2")]
     yield certificate(version=context(0, integer(1))), [error("extensions_without_v3", "4.1.2.1")]
     yield certificate(version=b""), [error("extensions_without_v3", "4.1.2.1")]
+    unique = implicit(1, b"\0\1")
+    yield certificate(subject=ISSUER, unique=unique, extensions=None), [
+        warning("version_above_v2", "4.1.2.1"),
+        error("unique_identifier_present", "4.1.2.8"),
+        NO_SKI,
+    ]
+    yield certificate(version=context(0, integer(1)), subject=ISSUER, unique=unique, extensions=None), [error("unique_identifier_present", "4.1.2.8"), NO_SKI]
+    for number in (1, 2):
+        yield certificate(version=context(0, integer(number)), subject=ISSUER, extensions=None), [warning("version_above_v1", "4.1.2.1"), NO_SKI]
+    yield certificate(version=b"", subject=ISSUER, extensions=None), [NO_SKI]
     yield certificate(serial=integer(0)), [error("serial_number_not_positive", "4.1.2.2")]
     yield certificate(serial=element(2, b"\xff")), [error("serial_number_not_positive", "4.1.2.2")]
     yield certificate(serial=integer(1 << 158)), []
@@ -181,12 +202,76 @@ def name_rules():
     yield certificate(subject=sequence(), extensions=(*LEAF, ce(17, NAMES, True))), []
 
 
+def texts(owner, section):
+    """For each text of a name what is to be told of it, where the name is that of this owner (RFC 5280 4.1.2.4, A.1)."""
+    kind, old = error(f"{owner}_text_type", "A.1"), warning(f"{owner}_text_old_type", section)
+    characters, size = error(f"{owner}_text_characters", section), error(f"{owner}_text_size", "A.1")
+    for number in (3, 4, 7, 8, 10, 11, 12, 41, 42, 43, 44, 65):
+        yield rdn((number, element(IA5_STRING, b"a"))), [kind]
+        yield rdn((number, element(PRINTABLE_STRING, b"a"))), []
+        yield rdn((number, element(TELETEX_STRING, b"a"))), [old]
+    yield rdn((10, element(BMP_STRING, b"\0a"))), [old]
+    yield rdn((10, element(UNIVERSAL_STRING, b"\0\0\0a"))), [old]
+    yield rdn((5, element(UTF8_STRING, b"a"))), [kind]
+    yield rdn((46, element(UTF8_STRING, b"a"))), [kind]
+    yield rdn((5, element(PRINTABLE_STRING, b"a")), (46, element(PRINTABLE_STRING, b"a"))), []
+    for oid in (DOMAIN_COMPONENT, EMAIL_ADDRESS):
+        yield set_of(sequence(oid, element(UTF8_STRING, b"a"))), [kind]
+    yield set_of(sequence(DOMAIN_COMPONENT, element(IA5_STRING, b"a"))), []
+    yield rdn((9, element(IA5_STRING, b"a"))), []
+    for tag, text in (
+        (UTF8_STRING, b"\xff"),
+        (UTF8_STRING, b"\xed\xa0\x80"),
+        (PRINTABLE_STRING, b"a*"),
+        (PRINTABLE_STRING, b"a@"),
+        (PRINTABLE_STRING, b"a_"),
+    ):
+        yield rdn((10, element(tag, text))), [characters]
+    yield rdn((9, element(IA5_STRING, b"\x80"))), [characters]
+    yield rdn((9, element(VISIBLE_STRING, b"\x1f"))), [characters]
+    yield rdn((9, element(VISIBLE_STRING, b"\x7f"))), [characters]
+    yield rdn((9, element(NUMERIC_STRING, b"1a"))), [characters]
+    yield rdn((9, element(NUMERIC_STRING, b"1 2"))), []
+    yield rdn((9, element(VISIBLE_STRING, b" ~"))), []
+    yield rdn((10, element(BMP_STRING, b"\0a\0"))), [old, characters]
+    yield rdn((10, element(UNIVERSAL_STRING, b"\0\0\0a\0\0"))), [old, characters]
+    yield rdn((10, element(PRINTABLE_STRING, b"Az09 '()+,-./:=?"))), []
+    for bound, numbers in ((64, (3, 10, 11, 12)), (128, (7, 8, 65)), (32768, (4, 41, 42, 43, 44))):
+        for number in numbers:
+            yield rdn((number, element(UTF8_STRING, b""))), [size]
+            yield rdn((number, element(UTF8_STRING, "ä".encode() * (bound + 1)))), [size]
+            yield rdn((number, element(UTF8_STRING, "ä".encode() * bound))), []
+    yield rdn((10, element(BMP_STRING, b"\0a" * 65))), [old, size]
+    yield rdn((10, element(BMP_STRING, b"\0a" * 64))), [old]
+    yield rdn((10, element(UNIVERSAL_STRING, b"\0\0\0a" * 65))), [old, size]
+    yield rdn((10, element(UNIVERSAL_STRING, b"\0\0\0a" * 64))), [old]
+    yield rdn((5, element(PRINTABLE_STRING, b""))), [size]
+    yield rdn((5, element(PRINTABLE_STRING, b"1" * 65))), [size]
+    yield rdn((5, element(PRINTABLE_STRING, b"1" * 64))), []
+
+
+def text_rules():
+    """The texts of the issuer and the subject of a certificate (RFC 5280 4.1.2.4, 4.1.2.6, A.1)."""
+    mailbox = ce(17, sequence(implicit(1, b"a@example.org")))
+    for text, findings in texts("issuer", "4.1.2.4"):
+        yield certificate(issuer=sequence(text)), findings
+    for text, findings in texts("subject", "4.1.2.6"):
+        yield certificate(subject=sequence(text), extensions=(*LEAF, mailbox)), findings
+    for owner in ("issuer", "subject"):
+        for count, findings in ((0, [error(f"{owner}_text_size", "A.1")]), (256, [error(f"{owner}_text_size", "A.1")]), (255, [])):
+            text = sequence(set_of(sequence(EMAIL_ADDRESS, element(IA5_STRING, b"a" * count))))
+            yield certificate(**{owner: text}, extensions=(*LEAF, mailbox)), findings
+
+
 def list_rules():
     """The extensions of a certificate as a list (RFC 5280 4.1.2.9, 4.2)."""
     yield certificate(subject=ISSUER, extensions=()), [error("extensions_empty", "4.1.2.9"), NO_SKI]
     yield leaf_with(OTHER, OTHER), [error("extension_repeated", "4.2")]
     yield leaf_with(OTHER), []
     yield ca_with(ce(54, b"\x05\x00", True)), [error("extension_malformed", "4.2")]
+    for number in (b"\xff", b"\0\1", b""):
+        yield certificate(extensions=(AKI, SKI, CA_KU, ce(19, sequence(TRUE, element(2, number)), True))), [error("extension_malformed", "4.2")]
+    yield certificate(extensions=(AKI, SKI, CA_KU, CA_BC, CA_BC)), [error("extension_repeated", "4.2")]
 
 
 def critical_rules():
@@ -221,6 +306,20 @@ def authority_rules():
     yield certificate(extensions=(AKI, SKI, CA_KU)), [error("key_cert_sign_without_ca", "4.2.1.9")]
     yield certificate(extensions=(AKI, SKI, CA_KU, ce(19, sequence(TRUE)))), [error("ca_basic_constraints_not_critical", "4.2.1.9")]
     yield leaf_with(ce(19, sequence(integer(0)), True)), [error("path_len_without_ca", "4.2.1.9")]
+    for number in (256, 65535, 1 << 200):
+        long = ce(19, sequence(TRUE, integer(number)), True)
+        yield certificate(extensions=(AKI, SKI, CA_KU, long)), [not_judged("path_len_above_255", "4.2.1.9")]
+        yield certificate(extensions=(AKI, SKI, CA_KU, ce(30, sequence(SUBTREES), True), long)), [not_judged("path_len_above_255", "4.2.1.9")]
+        yield certificate(extensions=(AKI, CA_KU, ce(19, sequence(integer(number))))), [not_judged("path_len_above_255", "4.2.1.9")]
+    for number in (0, 127, 128, 255):
+        yield certificate(extensions=(AKI, SKI, CA_KU, ce(19, sequence(TRUE, integer(number)), True))), []
+    nameless = [error("subject_empty_without_critical_alt_name", "4.1.2.6")]
+    crl_sign = ce(15, bit_string(b"\x02", 1), True)
+    certifies = (AKI, SKI, ce(15, bit_string(b"\x04", 2), True), CA_BC)
+    yield certificate(subject=sequence(), extensions=certifies), [*nameless, error("ca_subject_empty", "4.1.2.6")]
+    yield certificate(subject=sequence(), extensions=(*certifies, ce(17, NAMES, True))), [error("ca_subject_empty", "4.1.2.6")]
+    yield certificate(subject=sequence(), extensions=(AKI, SKI, crl_sign, ce(17, NAMES, True))), [error("crl_issuer_subject_empty", "4.1.2.6")]
+    yield certificate(extensions=(AKI, SKI, crl_sign)), []
     yield leaf_with(ce(19, sequence())), []
     yield leaf_with(ce(30, sequence(SUBTREES), True)), [error("name_constraints_in_leaf", "4.2.1.10")]
 
@@ -255,8 +354,28 @@ def alternative_rules():
             yield with_names(implicit(2, text)), [error(f"{who}_alt_name_dns_name_invalid", section)]
         for octets in (b"\1\2\3", b"\1\2\3\4\5", bytes(8), bytes(17)):
             yield with_names(implicit(7, octets)), [error(f"{who}_alt_name_address_length", section)]
+        for text in (b"a", b"@example.org", b"a@", b"a b@example.org", b".a@example.org", b"a.@example.org", b"a..b@example.org", b"a@b@example.org", b"a@-b.org", b"<a@b.org>"):
+            yield with_names(implicit(1, text)), [error(f"{who}_alt_name_mailbox_invalid", section)]
+        for text in (b"a@example.org", b"a.b@c", b"a!#$%&'*+-/=?^_`{|}~1@example.org", b"A@[192.0.2.1]", b'"a b"@example.org'):
+            yield with_names(implicit(1, text)), []
+        for text in (b"example.org", b"/a", b"//example.org/a", b"http:", b"1a:b", b":a", b"a_b:c", b"?a", b"#a"):
+            yield with_names(implicit(6, text)), [error(f"{who}_alt_name_uri_relative", section)]
+        for text in (b"http://example.org/", b"urn:a", b"a+b-c.1:d", b"LDAP://example.org"):
+            yield with_names(implicit(6, text)), []
         for text in (b"*.example", b"a", b"A-1.example", b"a" * 63, b".".join([b"a" * 63] * 3) + b"." + b"a" * 61):
             yield with_names(implicit(2, text), implicit(7, bytes(4)), implicit(7, bytes(16))), []
+
+
+def email_rules():
+    """E-mail addresses of subjects (RFC 5280 4.1.2.6)."""
+    subject = sequence(set_of(sequence(EMAIL_ADDRESS, element(IA5_STRING, b"a@example.org"))))
+    absent = [error("subject_email_not_in_alt_name", "4.1.2.6")]
+    yield certificate(subject=subject), absent
+    yield certificate(subject=subject, extensions=(*LEAF, ce(17, NAMES))), absent
+    yield certificate(subject=subject, extensions=(*LEAF, ce(17, sequence(DNS, implicit(1, b"a@example.org"))))), []
+    yield certificate(issuer=subject), []
+    yield certificate(subject=subject, extensions=(*LEAF, ce(17, b"\5\0"))), [error("extension_malformed", "4.2")]
+    yield certificate(subject=subject, extensions=(*LEAF, ce(17, NAMES), ce(17, NAMES))), [error("extension_repeated", "4.2")]
 
 
 CPS, NOTICE = object_identifier(1, 3, 6, 1, 5, 5, 7, 2, 1), object_identifier(1, 3, 6, 1, 5, 5, 7, 2, 2)
@@ -270,11 +389,23 @@ def with_text(text):
 def policy_rules():
     """Certificate policies, policy mappings and policy constraints (RFC 5280 4.2.1.4, 4.2.1.5, 4.2.1.11)."""
     yield leaf_with(ce(32, sequence())), [error("certificate_policies_empty", "4.2.1.4")]
+    yield leaf_with(ce(32, sequence(sequence(POLICY), sequence(ANY_POLICY), sequence(POLICY)))), [error("certificate_policy_repeated", "4.2.1.4")]
     yield leaf_with(ce(32, sequence(sequence(POLICY), sequence(ANY_POLICY, sequence())))), [error("policy_qualifiers_empty", "4.2.1.4")]
     yield leaf_with(ce(32, sequence(sequence(POLICY), sequence(ANY_POLICY)))), []
-    for tag, char in ((UTF8_STRING, "ä".encode()), (BMP_STRING, b"\0a"), (VISIBLE_STRING, b"a"), (IA5_STRING, b"a")):
-        yield leaf_with(with_text(element(tag, char * 201))), [error("explicit_text_too_long", "4.2.1.4")]
-        yield leaf_with(with_text(element(tag, char * 200))), []
+    old, ia5 = [error("explicit_text_type", "4.2.1.4")], [warning("explicit_text_not_utf8_string", "4.2.1.4")]
+    for tag, char, findings in ((UTF8_STRING, "ä".encode(), []), (BMP_STRING, b"\0a", old), (VISIBLE_STRING, b"a", old), (IA5_STRING, b"a", ia5)):
+        yield leaf_with(with_text(element(tag, char * 201))), [error("explicit_text_too_long", "4.2.1.4"), *findings]
+        yield leaf_with(with_text(element(tag, char * 200))), findings
+        yield leaf_with(with_text(element(tag))), [error("explicit_text_empty", "4.2.1.4"), *findings]
+    for char in (b"\0", b"\n", b"\x1f", b"\x7f"):
+        yield leaf_with(with_text(element(UTF8_STRING, b"a" + char))), [warning("explicit_text_control", "4.2.1.4")]
+        yield leaf_with(with_text(element(IA5_STRING, char + b"a"))), [*ia5, warning("explicit_text_control", "4.2.1.4")]
+    yield leaf_with(with_text(element(UTF8_STRING, "a ~ä".encode()))), []
+    reference = sequence(sequence(element(UTF8_STRING, b"a"), sequence(integer(1))))
+    yield leaf_with(ce(32, sequence(sequence(POLICY, sequence(sequence(NOTICE, reference)))))), [warning("notice_reference_present", "4.2.1.4")]
+    pointer, other = sequence(CPS, element(IA5_STRING, b"http://example.org/")), sequence(object_identifier(1, 2, 3), NULL)
+    yield leaf_with(ce(32, sequence(sequence(ANY_POLICY, sequence(pointer, other))))), [error("any_policy_qualifier_invalid", "4.2.1.4")]
+    yield leaf_with(ce(32, sequence(sequence(ANY_POLICY, sequence(pointer, sequence(NOTICE, sequence()))), sequence(POLICY, sequence(other))))), []
     long = element(UTF8_STRING, b"a" * 201)
     behind = sequence(sequence(CPS, element(IA5_STRING, b"a" * 201)), sequence(NOTICE, sequence()), sequence(NOTICE, sequence(long)))
     yield leaf_with(ce(32, sequence(sequence(ANY_POLICY), sequence(POLICY, behind)))), [error("explicit_text_too_long", "4.2.1.4")]
@@ -294,18 +425,65 @@ def constraint_rules():
         yield ca_with(ce(30, sequence(context(number, sequence(DNS, implicit(0, b"\1")))), True)), [error("name_constraints_minimum", "4.2.1.10")]
         yield ca_with(ce(30, sequence(context(number, sequence(DNS, implicit(1, b"\1")))), True)), [error("name_constraints_maximum", "4.2.1.10")]
 
+        def with_base(base, number=number):
+            return ca_with(ce(30, sequence(context(number, sequence(DNS), sequence(base))), True))
+
+        yield with_base(implicit(8, b"\x2a\3")), [warning("name_constraints_other_form", "4.2.1.10")]
+        yield with_base(context(5, context(1, element(UTF8_STRING, b"a")))), [warning("name_constraints_other_form", "4.2.1.10")]
+        yield with_base(context(4, ISSUER)), []
+        for text in (b"http://example.org", b"example.org/", b"", b".", b"..example.org", b"example.org.", b"*.example.org", b"example.org:80"):
+            yield with_base(implicit(6, text)), [error("name_constraints_uri_invalid", "4.2.1.10")]
+        for text in (b"example.org", b".example.org", b"a"):
+            yield with_base(implicit(6, text)), []
+        for octets in (b"", bytes(4), bytes(7), bytes(9), bytes(16), bytes(31), bytes(33)):
+            yield with_base(implicit(7, octets)), [error("name_constraints_address_length", "4.2.1.10")]
+        for mask in (b"\xff\0\xff\0", b"\0\0\0\1", b"\x7f\0\0\0", b"\xff\xfd\0\0", b"\xff\xfe\0\1", b"\x80\x80\0\0"):
+            yield with_base(implicit(7, bytes(4) + mask)), [error("name_constraints_address_mask", "4.2.1.10")]
+            yield with_base(implicit(7, bytes(16) + b"\xff" * 12 + mask)), [error("name_constraints_address_mask", "4.2.1.10")]
+        for bits in range(33):
+            mask = ((1 << bits) - 1 << 32 - bits).to_bytes(4, "big")
+            yield with_base(implicit(7, bytes(4) + mask)), []
+        for bits in (0, 1, 64, 127, 128):
+            mask = ((1 << bits) - 1 << 128 - bits).to_bytes(16, "big")
+            yield with_base(implicit(7, bytes(16) + mask)), []
+
 
 def point_rules():
     """Lists of attributes, of CRL distribution points and of access descriptions (RFC 5280 4.2.1.8, 4.2.1.13, 4.2.1.15, 4.2.2)."""
-    reasons, issuer = sequence(implicit(1, b"\6\x40")), sequence(context(2, context(4, ISSUER)))
+    reasons, issuer = sequence(implicit(1, b"\6\x40")), sequence(context(2, context(4, common_name(b"Another"))))
     yield leaf_with(ce(9, sequence())), [error("subject_directory_attributes_empty", "4.2.1.8")]
     yield leaf_with(ce(31, sequence())), [error("crl_distribution_points_empty", "4.2.1.13")]
     yield leaf_with(ce(31, sequence(POINT, reasons))), [error("distribution_point_empty", "4.2.1.13")]
     yield leaf_with(ce(31, sequence(issuer))), []
+    relative = sequence(context(0, context(1, sequence(object_identifier(2, 5, 4, 3), element(UTF8_STRING, b"a")))))
+    yield leaf_with(ce(31, sequence(POINT, relative))), [warning("distribution_point_relative", "4.2.1.13")]
+    for name in (implicit(6, b"https://example.org/"), implicit(6, b"ftp://example.org/"), implicit(6, b"http"), DNS, context(4, ISSUER)):
+        yield leaf_with(ce(31, sequence(POINT, sequence(context(0, context(0, name)))))), [warning("distribution_point_without_uri", "4.2.1.13")]
+    for name in (implicit(6, b"HTTP://example.org/"), implicit(6, b"ldap://example.org/cn=a?b"), implicit(6, b"lDaP:a")):
+        yield leaf_with(ce(31, sequence(sequence(context(0, context(0, DNS, name)))))), []
+    yield leaf_with(ce(31, sequence(sequence(context(2, context(4, common_name(b"Another")), DNS))))), [error("distribution_point_issuer_invalid", "4.2.1.13")]
+    yield leaf_with(ce(31, sequence(POINT, sequence(context(2, context(4, ISSUER)))))), [error("distribution_point_own_issuer", "4.2.1.13")]
+    some = sequence(context(0, context(0, URI)), implicit(1, b"\6\x40"))
+    yield leaf_with(ce(31, sequence(some, some))), [error("distribution_points_partial", "4.2.1.13")]
+    yield leaf_with(ce(31, sequence(some, POINT))), []
     yield leaf_with(ce(46, sequence())), [error("freshest_crl_empty", "4.2.1.15")]
     yield leaf_with(ce(46, sequence(sequence()))), [error("freshest_crl_point_empty", "4.2.1.15")]
+    several = sequence(context(0, context(1, sequence(object_identifier(2, 5, 4, 3), element(UTF8_STRING, b"a")))),
+                       context(2, context(4, common_name(b"Another")), context(4, common_name(b"One more"))))
+    for number, section, name in ((31, "4.2.1.13", "distribution_point"), (46, "4.2.1.15", "freshest_crl_point")):
+        yield leaf_with(ce(number, sequence(POINT, several))), [warning(f"{name}_relative", section), error(f"{name}_relative_to_several", section)]
+    yield leaf_with(ce(46, sequence(POINT, relative))), [warning("freshest_crl_point_relative", "4.2.1.15")]
+    yield leaf_with(ce(46, sequence(POINT, sequence(context(0, context(0, DNS)))))), [warning("freshest_crl_point_without_uri", "4.2.1.15")]
+    yield leaf_with(ce(46, sequence(sequence(context(2, context(4, common_name(b"Another")), DNS))))), [error("freshest_crl_point_issuer_invalid", "4.2.1.15")]
+    yield leaf_with(ce(46, sequence(POINT, sequence(context(2, context(4, ISSUER)))))), [error("freshest_crl_point_own_issuer", "4.2.1.15")]
+    yield leaf_with(ce(46, sequence(issuer))), []
     yield leaf_with(pe(1, sequence())), [error("authority_info_access_empty", "4.2.2.1")]
     yield ca_with(pe(11, sequence())), [error("subject_info_access_empty", "4.2.2.2")]
+    for number, method, name, section in ((1, 2, "ca_issuers_without_uri", "4.2.2.1"), (11, 5, "ca_repository_without_uri", "4.2.2.2")):
+        place, ocsp = object_identifier(1, 3, 6, 1, 5, 5, 7, 48, method), object_identifier(1, 3, 6, 1, 5, 5, 7, 48, 1)
+        yield ca_with(pe(number, sequence(sequence(place, DNS), sequence(ocsp, URI)))), [warning(name, section)]
+        yield ca_with(pe(number, sequence(sequence(place, DNS), sequence(place, URI)))), []
+        yield ca_with(pe(number, sequence(sequence(ocsp, DNS)))), []
 
 
 def crl_field_rules():
@@ -316,7 +494,14 @@ def crl_field_rules():
     yield crl(outer=ECDSA_SHA384), [error("signature_algorithms_differ", "5.1.1.2")]
     yield crl(version=b""), [error("extensions_without_v2", "5.1.2.1")]
     yield crl(version=b"", entries=sequence(reason), extensions=None), [error("extensions_without_v2", "5.1.2.1"), *without]
+    for number in (0, 2):
+        yield crl(version=integer(number), extensions=None), [error("version_not_v2", "5.1.2.1"), *without]
+    yield crl(version=integer(2)), [error("extensions_without_v2", "5.1.2.1"), error("version_not_v2", "5.1.2.1")]
     yield crl(issuer=sequence()), [error("issuer_empty", "5.1.2.3")]
+    yield crl(issuer=sequence(rdn())), [error("issuer_rdn_empty", "5.1.2.3")]
+    yield crl(issuer=sequence(rdn((6, element(PRINTABLE_STRING, b"DEU"))))), [error("issuer_country_name_invalid", "A.1")]
+    for text, findings in texts("issuer", "5.1.2.3"):
+        yield crl(issuer=sequence(text)), findings
     yield crl(this_update=general(b"20491231235959Z"), next_update=late), [error("this_update_not_utc_time", "5.1.2.4")]
     yield crl(next_update=b""), [error("next_update_absent", "5.1.2.5")]
     yield crl(next_update=general(b"20491231235959Z")), [error("next_update_not_utc_time", "5.1.2.5")]
@@ -324,11 +509,20 @@ def crl_field_rules():
     yield crl(next_update=late), []
     yield crl(entries=sequence()), [error("revoked_certificates_empty", "5.1.2.6")]
     yield crl(entries=b""), []
+    yield crl(entries=sequence(ENTRY, entry_with(OTHER), ENTRY)), [error("serial_number_repeated", "5.1.2.6")]
+    yield crl(entries=sequence(*(entry_with(OTHER, serial=number) for number in range(1, 200)))), []
+    issuer = ce(29, sequence(context(4, SUBJECT)), True)
+    yield crl(entries=sequence(ENTRY, entry_with(issuer, serial=5)), extensions=(CRL_AKI, CRL_NUMBER, ce(28, sequence(implicit(4, b"\xff")), True))), []
     yield crl(entries=sequence(ENTRY, sequence(integer(6), general(b"20260101000000Z")))), [error("revocation_date_not_utc_time", "5.1.2.6")]
     yield crl(extensions=()), [error("extensions_empty", "5.1.2.7"), *without]
     yield crl(extensions=None), without
     yield crl_with(OTHER, OTHER), [error("extension_repeated", "5.2")]
-    yield crl(entries=sequence(ENTRY, reason)), []
+    for number in (18, 27, 28, 46):
+        yield crl_with(ce(number, NULL, number in (27, 28))), [error("extension_malformed", "5.2")]
+    yield crl(extensions=(ce(35, NULL), CRL_NUMBER)), [error("extension_malformed", "5.2")]
+    yield crl(extensions=(CRL_AKI, ce(20, NULL))), [error("extension_malformed", "5.2")]
+    yield crl_with(pe(1, NULL)), [error("extension_malformed", "5.2")]
+    yield crl(entries=sequence(sequence(integer(6), utc(b"260101000000Z")), reason)), []
     yield crl(entries=sequence(ENTRY, sequence(integer(6), utc(b"260101000000Z"), sequence()))), [error("entry_extensions_empty", "5.3")]
 
 
@@ -349,11 +543,67 @@ def crl_extension_rules():
     yield crl_with(ce(28, sequence(), True)), [error("issuing_distribution_point_empty", "5.2.5")]
     yield crl_with(ce(28, indirect, True)), []
     yield crl_with(ce(46, sequence(POINT), True)), [error("freshest_crl_critical", "5.2.6")]
+    yield crl_with(ce(46, sequence(POINT))), []
+    yield crl_with(ce(27, integer(6), True), ce(46, sequence(POINT))), [error("freshest_crl_in_delta", "5.2.6")]
+    for more in (implicit(1, b"\6\x40"), context(2, context(4, ISSUER))):
+        yield crl_with(ce(46, sequence(POINT, sequence(context(0, context(0, URI)), more)))), [error("freshest_crl_reasons_or_issuer", "5.2.6")]
+    user, authority, attribute = implicit(1, b"\xff"), implicit(2, b"\xff"), implicit(5, b"\xff")
+    kinds, attributes = error("issuing_distribution_point_kinds", "5.2.5"), error("issuing_distribution_point_attribute_certs", "5.2.5")
+    yield crl_with(ce(28, sequence(user, authority), True)), [kinds]
+    yield crl_with(ce(28, sequence(user, attribute), True)), [kinds, attributes]
+    yield crl_with(ce(28, sequence(authority, attribute), True)), [kinds, attributes]
+    yield crl_with(ce(28, sequence(attribute), True)), [attributes]
+    yield crl_with(ce(28, sequence(user), True)), []
+    yield crl_with(ce(28, sequence(authority), True)), []
+    yield crl_with(pe(1, ACCESS, True)), [error("authority_info_access_critical", "5.2.7")]
+    yield crl_with(pe(1, ACCESS)), []
+    ca_issuers, ocsp = object_identifier(1, 3, 6, 1, 5, 5, 7, 48, 2), object_identifier(1, 3, 6, 1, 5, 5, 7, 48, 1)
+    for descriptions in (sequence(), sequence(sequence(ocsp, URI)), sequence(sequence(ca_issuers, URI), sequence(ocsp, URI))):
+        yield crl_with(pe(1, descriptions)), [error("authority_info_access_other_method", "5.2.7")]
+    yield crl_with(pe(1, sequence(sequence(ca_issuers, DNS)))), [warning("ca_issuers_without_uri", "5.2.7")]
+
+
+def crl_entry_rules():
+    """The extensions of a CRL's entries (RFC 5280 5.3)."""
+
+    def with_entry(*extensions, more=()):
+        return crl(entries=sequence(ENTRY, entry_with(*extensions)), extensions=(CRL_AKI, CRL_NUMBER, *more))
+
+    def reason(number, critical=False):
+        return ce(21, element(ENUMERATED, number), critical)
+
+    delta, indirect, direct = ce(27, integer(6), True), ce(28, sequence(implicit(4, b"\xff")), True), ce(28, sequence(implicit(1, b"\xff")), True)
+    date, issuer = element(GENERALIZED_TIME, b"20260101000000Z"), sequence(context(4, SUBJECT))
+    for number in (1, 2, 3, 4, 5, 6, 9, 10):
+        yield with_entry(reason(bytes([number]))), []
+    yield with_entry(reason(b"\1", True)), [error("entry_reason_critical", "5.3.1")]
+    yield with_entry(reason(b"\0")), [warning("entry_reason_unspecified", "5.3.1")]
+    yield with_entry(reason(b"\x08")), [error("entry_reason_remove_from_crl", "5.3.1")]
+    yield with_entry(reason(b"\x08"), more=(delta,)), []
+    for number in (b"\7", b"\x0b", b"\xff", b"\0\1", b""):
+        yield with_entry(reason(number)), [error("entry_reason_invalid", "5.3.1")]
+    for octets in (b"", NULL, integer(1), element(ENUMERATED, b"\1") + b"\0"):
+        yield with_entry(ce(21, octets)), [error("entry_reason_invalid", "5.3.1")]
+    yield with_entry(ce(24, date)), []
+    for octets in (b"", NULL, date[:-1], date + b"\0", element(GENERALIZED_TIME, b"202601010000Z"), element(UTC_TIME, b"260101000000Z"),
+                   element(GENERALIZED_TIME, b"20260101000000."), element(GENERALIZED_TIME, b"2026010100000aZ"), element(UTC_TIME, b"20260101000000Z")):
+        yield with_entry(ce(24, octets)), [error("entry_invalidity_date_invalid", "5.3.2")]
+    yield with_entry(ce(24, date, True)), [error("entry_invalidity_date_critical", "5.3.2")]
+    yield with_entry(ce(29, issuer, True), more=(indirect,)), []
+    yield with_entry(ce(29, issuer), more=(indirect,)), [error("entry_certificate_issuer_not_critical", "5.3.3")]
+    for more in ((), (direct,)):
+        yield with_entry(ce(29, issuer, True), more=more), [error("entry_certificate_issuer_not_indirect", "5.3.3")]
+    yield with_entry(ce(29, issuer, True), more=(ce(28, NULL, True),)), [error("extension_malformed", "5.2")]
+    yield with_entry(ce(29, issuer, True), more=(direct, direct)), [error("extension_repeated", "5.2")]
+    yield with_entry(OTHER, OTHER), [error("entry_extension_repeated", "5.3")]
+    yield crl(entries=sequence(entry_with(OTHER, serial=5), entry_with(OTHER))), []
 
 
 CERTIFICATE_RULES = (
     field_rules,
     name_rules,
+    text_rules,
+    email_rules,
     list_rules,
     critical_rules,
     authority_rules,
@@ -375,7 +625,7 @@ def cases():
     for rules in CERTIFICATE_RULES:
         for at, (data, findings) in enumerate(rules()):
             yield f"{rules.__name__} {at}", data, [f"certificate: {it}\n" for it in findings]
-    for rules in (crl_field_rules, crl_extension_rules):
+    for rules in (crl_field_rules, crl_extension_rules, crl_entry_rules):
         for at, (data, findings) in enumerate(rules()):
             yield f"{rules.__name__} {at}", data, [f"crl: {it}\n" for it in findings]
 

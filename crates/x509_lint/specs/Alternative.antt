@@ -1,13 +1,17 @@
 -- The rules on the alternative names of the subject and the issuer (RFC 5280 4.2.1.6, 4.2.1.7): what breaks each, their order, and how each is told.
-use Rattle.std.specs.Prelude.{◌&&◌, ◌||◌, ◌==◌, ◌-◌, ℕ, Bool, false, not, nat_le, List, [], ◌∷◌, length, codes, if◌then◌else◌}
+use Rattle.std.specs.Prelude.{Option, ◌&&◌, ◌||◌, ◌==◌, ◌-◌, ℕ, Bool, true, false, not, nat_le, List, [], ◌∷◌, length, codes, if◌then◌else◌}
 use Rattle.std.specs.List.{list_all, list_any, slice_get, slice_split}
 use Rattle.x509_cert.specs.ext.declared.pkix.name.general_name.GeneralName.{GeneralName}
 use Rattle.x509_cert.specs.ext.declared.pkix.name.general_name.GeneralName.TheVariants.{OtherName, Rfc822Name, DnsName, DirectoryName, EdiPartyName, UniformResourceIdentifier, IpAddress, RegisteredId}
 use Rattle.x509_lint.specs.Name.{is_letter}
-use Rattle.x509_lint.specs.Words.{Certificate, is_empty, passes}
+use Rattle.x509_cert.specs.ext.Identifiers.{id_ce}
+use Rattle.x509_cert.specs.ext.declared.extension.Extension.{Extension}
+use Rattle.x509_cert.specs.ext.declared.pkix.alternative_names.SubjectAltName.{SubjectAltName}
+use Rattle.x509_lint.specs.Text.{has_email}
+use Rattle.x509_lint.specs.Words.{Certificate, extensions_of, has, is_empty, passes}
 use Rattle.x509_lint.specs.declared.values.AlternativeValues.{AlternativeValues}
 use Rattle.x509_lint.specs.declared.rule.alternative.AlternativeRule.{AlternativeRule}
-use Rattle.x509_lint.specs.declared.rule.alternative.AlternativeRule.TheVariants.{SubjectAltNameEmpty, SubjectAltNameEmptyName, SubjectAltNameDnsNameInvalid, SubjectAltNameAddressLength, IssuerAltNameEmpty, IssuerAltNameEmptyName, IssuerAltNameDnsNameInvalid, IssuerAltNameAddressLength}
+use Rattle.x509_lint.specs.declared.rule.alternative.AlternativeRule.TheVariants.{SubjectEmailNotInAltName, SubjectAltNameEmpty, SubjectAltNameEmptyName, SubjectAltNameDnsNameInvalid, SubjectAltNameAddressLength, SubjectAltNameMailboxInvalid, SubjectAltNameUriRelative, IssuerAltNameEmpty, IssuerAltNameEmptyName, IssuerAltNameDnsNameInvalid, IssuerAltNameAddressLength, IssuerAltNameMailboxInvalid, IssuerAltNameUriRelative}
 use Rattle.x509_lint.specs.Wording.{Wording, must}
 
 -- ---- DNS names (RFC 1034 3.5, RFC 1123 2.1)
@@ -58,27 +62,100 @@ abbrev pub is_no_address : GeneralName → Bool
 is_no_address (IpAddress octets) = not (is_empty octets) && not (length octets == 4) && not (length octets == 16)
 is_no_address other = false
 
+-- ---- mailboxes (RFC 2821 4.1.2, RFC 2822 3.2.4)
+
+-- ! # $ % & ' * + - / = ? ^ _ ` { | } ~
+abbrev pub atom_marks : List ℕ
+atom_marks = 33 ∷ 35 ∷ 36 ∷ 37 ∷ 38 ∷ 39 ∷ 42 ∷ 43 ∷ 45 ∷ 47 ∷ 61 ∷ 63 ∷ 94 ∷ 95 ∷ 96 ∷ 123 ∷ 124 ∷ 125 ∷ 126 ∷ []
+
+-- the octets of an atom: letters, digits and these marks
+abbrev pub is_atom_octet : ℕ → Bool
+is_atom_octet octet = is_letter_or_digit octet || list_any (λ mark. mark == octet) atom_marks
+
+-- the text begins with the octet
+abbrev pub begins_with : ℕ → List ℕ → Bool
+begins_with octet text = passes (λ first. first == octet) (slice_get text 0)
+
+-- a domain: labels between dots, or an address in brackets, which isn't looked at
+abbrev pub is_domain : List ℕ → Bool
+is_domain text = list_all is_label (slice_split (λ octet. octet == 46) text) || begins_with 91 text
+
+-- atoms between dots, the sign @, and a domain; the octets before these end in an atom, or they end in a dot or are none
+abbrev pub is_mailbox_behind : Bool → List ℕ → Bool
+is_mailbox_behind in_atom [] = false
+is_mailbox_behind in_atom (octet ∷ octets) =
+    if octet == 64 then in_atom && is_domain octets
+    else if octet == 46 then in_atom && is_mailbox_behind false octets
+    else is_atom_octet octet && is_mailbox_behind true octets
+
+abbrev pub is_mailbox : List ℕ → Bool
+is_mailbox text = is_mailbox_behind false text
+
+-- an rfc822Name that isn't empty, has no quoted part in front, and isn't a mailbox
+abbrev pub is_no_mailbox : GeneralName → Bool
+is_no_mailbox (Rfc822Name text) = not (is_empty text) && (not (begins_with 34 text) && not (is_mailbox text))
+is_no_mailbox other = false
+
+abbrev pub is_rfc822_name : GeneralName → Bool
+is_rfc822_name (Rfc822Name text) = true
+is_rfc822_name other = false
+
+-- there is no SAN, or the one that there is is read and has no rfc822Name
+abbrev pub lacks_mailbox : List Extension → Option SubjectAltName → Bool
+lacks_mailbox extensions names = not (has (id_ce 17) extensions) || passes (λ s. not (list_any is_rfc822_name s.0)) names
+
+-- ---- URIs (RFC 3986 3.1)
+
+-- the octets of a scheme: letters, digits, and + - .
+abbrev pub is_scheme_octet : ℕ → Bool
+is_scheme_octet octet = is_letter_or_digit octet || ((octet == 43) || ((octet == 45) || (octet == 46)))
+
+-- octets of a scheme, a colon, and something behind it
+abbrev pub is_absolute_behind : List ℕ → Bool
+is_absolute_behind [] = false
+is_absolute_behind (octet ∷ octets) = if octet == 58 then not (is_empty octets) else is_scheme_octet octet && is_absolute_behind octets
+
+-- a scheme, which begins with a letter, a colon, and something behind it
+abbrev pub is_absolute : List ℕ → Bool
+is_absolute [] = false
+is_absolute (first ∷ octets) = is_letter first && is_absolute_behind octets
+
+-- a URI that isn't empty, and isn't absolute
+abbrev pub is_relative : GeneralName → Bool
+is_relative (UniformResourceIdentifier text) = not (is_empty text) && not (is_absolute text)
+is_relative other = false
+
 abbrev pub breaks_alternative : Certificate → AlternativeValues → AlternativeRule → Bool
+breaks_alternative c v SubjectEmailNotInAltName = has_email c.tbs_certificate.subject && lacks_mailbox (extensions_of c) v.subject_alt_name
 breaks_alternative c v SubjectAltNameEmpty = passes (λ s. is_empty s.0) v.subject_alt_name
 breaks_alternative c v SubjectAltNameEmptyName = passes (λ s. list_any is_empty_name s.0) v.subject_alt_name
 breaks_alternative c v SubjectAltNameDnsNameInvalid = passes (λ s. list_any is_no_dns_name s.0) v.subject_alt_name
 breaks_alternative c v SubjectAltNameAddressLength = passes (λ s. list_any is_no_address s.0) v.subject_alt_name
+breaks_alternative c v SubjectAltNameMailboxInvalid = passes (λ s. list_any is_no_mailbox s.0) v.subject_alt_name
+breaks_alternative c v SubjectAltNameUriRelative = passes (λ s. list_any is_relative s.0) v.subject_alt_name
 breaks_alternative c v IssuerAltNameEmpty = passes (λ s. is_empty s.0) v.issuer_alt_name
 breaks_alternative c v IssuerAltNameEmptyName = passes (λ s. list_any is_empty_name s.0) v.issuer_alt_name
 breaks_alternative c v IssuerAltNameDnsNameInvalid = passes (λ s. list_any is_no_dns_name s.0) v.issuer_alt_name
 breaks_alternative c v IssuerAltNameAddressLength = passes (λ s. list_any is_no_address s.0) v.issuer_alt_name
+breaks_alternative c v IssuerAltNameMailboxInvalid = passes (λ s. list_any is_no_mailbox s.0) v.issuer_alt_name
+breaks_alternative c v IssuerAltNameUriRelative = passes (λ s. list_any is_relative s.0) v.issuer_alt_name
 
 -- ---- the order, and how each is told
 
 abbrev pub alternative_rules : List AlternativeRule
-alternative_rules = SubjectAltNameEmpty ∷ SubjectAltNameEmptyName ∷ SubjectAltNameDnsNameInvalid ∷ SubjectAltNameAddressLength ∷ IssuerAltNameEmpty ∷ IssuerAltNameEmptyName ∷ IssuerAltNameDnsNameInvalid ∷ IssuerAltNameAddressLength ∷ []
+alternative_rules = SubjectEmailNotInAltName ∷ SubjectAltNameEmpty ∷ SubjectAltNameEmptyName ∷ SubjectAltNameDnsNameInvalid ∷ SubjectAltNameAddressLength ∷ SubjectAltNameMailboxInvalid ∷ SubjectAltNameUriRelative ∷ IssuerAltNameEmpty ∷ IssuerAltNameEmptyName ∷ IssuerAltNameDnsNameInvalid ∷ IssuerAltNameAddressLength ∷ IssuerAltNameMailboxInvalid ∷ IssuerAltNameUriRelative ∷ []
 
 abbrev pub alternative_wording : AlternativeRule → Wording
+alternative_wording SubjectEmailNotInAltName = must (codes "subject_email_not_in_alt_name") (codes "4.1.2.6")
 alternative_wording SubjectAltNameEmpty = must (codes "subject_alt_name_empty") (codes "4.2.1.6")
 alternative_wording SubjectAltNameEmptyName = must (codes "subject_alt_name_empty_name") (codes "4.2.1.6")
 alternative_wording SubjectAltNameDnsNameInvalid = must (codes "subject_alt_name_dns_name_invalid") (codes "4.2.1.6")
 alternative_wording SubjectAltNameAddressLength = must (codes "subject_alt_name_address_length") (codes "4.2.1.6")
+alternative_wording SubjectAltNameMailboxInvalid = must (codes "subject_alt_name_mailbox_invalid") (codes "4.2.1.6")
+alternative_wording SubjectAltNameUriRelative = must (codes "subject_alt_name_uri_relative") (codes "4.2.1.6")
 alternative_wording IssuerAltNameEmpty = must (codes "issuer_alt_name_empty") (codes "4.2.1.7")
 alternative_wording IssuerAltNameEmptyName = must (codes "issuer_alt_name_empty_name") (codes "4.2.1.7")
 alternative_wording IssuerAltNameDnsNameInvalid = must (codes "issuer_alt_name_dns_name_invalid") (codes "4.2.1.7")
 alternative_wording IssuerAltNameAddressLength = must (codes "issuer_alt_name_address_length") (codes "4.2.1.7")
+alternative_wording IssuerAltNameMailboxInvalid = must (codes "issuer_alt_name_mailbox_invalid") (codes "4.2.1.7")
+alternative_wording IssuerAltNameUriRelative = must (codes "issuer_alt_name_uri_relative") (codes "4.2.1.7")

@@ -1,18 +1,25 @@
 -- The rules on what makes a certificate one of a certification authority (RFC 5280 4.2.1.3, 4.2.1.9): what breaks each, their order, and how each is told.
-use Rattle.std.specs.Prelude.{◌&&◌, ◌==◌, Bool, not, List, [], ◌∷◌, Option, codes, is_some}
+use Rattle.std.specs.Prelude.{◌&&◌, ◌||◌, ◌==◌, ℕ, length, nat_lt, Bool, not, List, [], ◌∷◌, Option, codes, is_some}
 use Rattle.x509_cert.specs.ext.KeyUsage.{has_bit}
+use Rattle.x509_cert.specs.ext.declared.extension.Extension.{Extension}
+use Rattle.x509_cert.specs.prim.Integer.{without_zeros}
 use Rattle.x509_cert.specs.ext.declared.pkix.basic_constraints.BasicConstraints.{BasicConstraints}
 use Rattle.x509_cert.specs.ext.declared.pkix.key_usage.KeyUsage.{KeyUsage}
 use Rattle.x509_cert.specs.ext.Identifiers.{id_ce}
-use Rattle.x509_lint.specs.Words.{Certificate, extensions_of, has, has_uncritical, passes}
+use Rattle.x509_lint.specs.Words.{Certificate, extensions_of, has, has_uncritical, is_empty, passes}
+use Rattle.x509_lint.specs.declared.basic_constraints.AnyBasicConstraints.{AnyBasicConstraints}
 use Rattle.x509_lint.specs.declared.values.AuthorityValues.{AuthorityValues}
 use Rattle.x509_lint.specs.declared.rule.authority.AuthorityRule.{AuthorityRule}
-use Rattle.x509_lint.specs.declared.rule.authority.AuthorityRule.TheVariants.{CaWithoutSubjectKeyIdentifier, SubjectKeyIdentifierAbsent, CaWithoutKeyUsage, KeyUsageEmpty, CaWithoutKeyCertSign, KeyCertSignWithoutCa, CaBasicConstraintsNotCritical, PathLenWithoutCa, NameConstraintsInLeaf}
-use Rattle.x509_lint.specs.Wording.{Wording, must, should}
+use Rattle.x509_lint.specs.declared.rule.authority.AuthorityRule.TheVariants.{CaSubjectEmpty, CrlIssuerSubjectEmpty, CaWithoutSubjectKeyIdentifier, SubjectKeyIdentifierAbsent, CaWithoutKeyUsage, KeyUsageEmpty, CaWithoutKeyCertSign, KeyCertSignWithoutCa, CaBasicConstraintsNotCritical, PathLenWithoutCa, PathLenNotJudged, NameConstraintsInLeaf}
+use Rattle.x509_lint.specs.Wording.{Wording, must, should, not_judged}
 
 -- cA is set
 abbrev pub is_ca : Option BasicConstraints → Bool
 is_ca constraints = passes (λ b. b.ca) constraints
+
+-- there is no BasicConstraints, or the one that there is is read and doesn't set cA
+abbrev pub is_no_ca : List Extension → Option BasicConstraints → Bool
+is_no_ca extensions constraints = not (has (id_ce 19) extensions) || passes (λ b. not b.ca) constraints
 
 -- no bit is set
 abbrev pub has_no_bit : KeyUsage → Bool
@@ -21,23 +28,32 @@ has_no_bit usage = usage.0.0 == 0
 abbrev pub has_path_len : Option BasicConstraints → Bool
 has_path_len constraints = passes (λ b. is_some b.path_len_constraint) constraints
 
+-- a path length of two octets or more, which is above 255
+abbrev pub is_long_path : AnyBasicConstraints → Bool
+is_long_path constraints = passes (λ number. nat_lt 1 (length (without_zeros number))) constraints.path_len_constraint
+
 abbrev pub breaks_authority : Certificate → AuthorityValues → AuthorityRule → Bool
+breaks_authority c v CaSubjectEmpty = is_ca v.basic_constraints && is_empty c.tbs_certificate.subject
+breaks_authority c v CrlIssuerSubjectEmpty = passes (λ u. has_bit u 6) v.key_usage && is_empty c.tbs_certificate.subject
 breaks_authority c v CaWithoutSubjectKeyIdentifier = is_ca v.basic_constraints && not (has (id_ce 14) (extensions_of c))
-breaks_authority c v SubjectKeyIdentifierAbsent = not (is_ca v.basic_constraints) && not (has (id_ce 14) (extensions_of c))
+breaks_authority c v SubjectKeyIdentifierAbsent = is_no_ca (extensions_of c) v.basic_constraints && not (has (id_ce 14) (extensions_of c))
 breaks_authority c v CaWithoutKeyUsage = is_ca v.basic_constraints && not (has (id_ce 15) (extensions_of c))
 breaks_authority c v KeyUsageEmpty = passes has_no_bit v.key_usage
 breaks_authority c v CaWithoutKeyCertSign = is_ca v.basic_constraints && passes (λ u. not (has_no_bit u) && not (has_bit u 5)) v.key_usage
-breaks_authority c v KeyCertSignWithoutCa = not (is_ca v.basic_constraints) && passes (λ u. has_bit u 5) v.key_usage
+breaks_authority c v KeyCertSignWithoutCa = is_no_ca (extensions_of c) v.basic_constraints && passes (λ u. has_bit u 5) v.key_usage
 breaks_authority c v CaBasicConstraintsNotCritical = is_ca v.basic_constraints && has_uncritical (id_ce 19) (extensions_of c)
 breaks_authority c v PathLenWithoutCa = not (is_ca v.basic_constraints) && has_path_len v.basic_constraints
-breaks_authority c v NameConstraintsInLeaf = not (is_ca v.basic_constraints) && has (id_ce 30) (extensions_of c)
+breaks_authority c v PathLenNotJudged = passes is_long_path v.any_basic_constraints
+breaks_authority c v NameConstraintsInLeaf = is_no_ca (extensions_of c) v.basic_constraints && has (id_ce 30) (extensions_of c)
 
 -- ---- the order, and how each is told
 
 abbrev pub authority_rules : List AuthorityRule
-authority_rules = CaWithoutSubjectKeyIdentifier ∷ SubjectKeyIdentifierAbsent ∷ CaWithoutKeyUsage ∷ KeyUsageEmpty ∷ CaWithoutKeyCertSign ∷ KeyCertSignWithoutCa ∷ CaBasicConstraintsNotCritical ∷ PathLenWithoutCa ∷ NameConstraintsInLeaf ∷ []
+authority_rules = CaSubjectEmpty ∷ CrlIssuerSubjectEmpty ∷ CaWithoutSubjectKeyIdentifier ∷ SubjectKeyIdentifierAbsent ∷ CaWithoutKeyUsage ∷ KeyUsageEmpty ∷ CaWithoutKeyCertSign ∷ KeyCertSignWithoutCa ∷ CaBasicConstraintsNotCritical ∷ PathLenWithoutCa ∷ PathLenNotJudged ∷ NameConstraintsInLeaf ∷ []
 
 abbrev pub authority_wording : AuthorityRule → Wording
+authority_wording CaSubjectEmpty = must (codes "ca_subject_empty") (codes "4.1.2.6")
+authority_wording CrlIssuerSubjectEmpty = must (codes "crl_issuer_subject_empty") (codes "4.1.2.6")
 authority_wording CaWithoutSubjectKeyIdentifier = must (codes "ca_without_subject_key_identifier") (codes "4.2.1.2")
 authority_wording SubjectKeyIdentifierAbsent = should (codes "subject_key_identifier_absent") (codes "4.2.1.2")
 authority_wording CaWithoutKeyUsage = must (codes "ca_without_key_usage") (codes "4.2.1.3")
@@ -46,4 +62,5 @@ authority_wording CaWithoutKeyCertSign = must (codes "ca_without_key_cert_sign")
 authority_wording KeyCertSignWithoutCa = must (codes "key_cert_sign_without_ca") (codes "4.2.1.9")
 authority_wording CaBasicConstraintsNotCritical = must (codes "ca_basic_constraints_not_critical") (codes "4.2.1.9")
 authority_wording PathLenWithoutCa = must (codes "path_len_without_ca") (codes "4.2.1.9")
+authority_wording PathLenNotJudged = not_judged (codes "path_len_above_255") (codes "4.2.1.9")
 authority_wording NameConstraintsInLeaf = must (codes "name_constraints_in_leaf") (codes "4.2.1.10")

@@ -1,13 +1,16 @@
 -- The rules on the extensions of a CRL (RFC 5280 5.2): what breaks each, their order, and how each is told.
-use Rattle.std.specs.Prelude.{◌&&◌, Bool, not, nat_lt, List, [], ◌∷◌, length, codes, is_some}
-use Rattle.x509_cert.specs.ext.Identifiers.{id_ce}
+use Rattle.std.specs.Prelude.{◌&&◌, ◌||◌, Bool, not, nat_lt, List, [], ◌∷◌, length, codes, is_some}
+use Rattle.std.specs.List.{list_any}
+use Rattle.x509_cert.specs.ext.Identifiers.{id_ce, id_pkix}
 use Rattle.x509_cert.specs.ext.declared.pkix.crl_number.CrlNumber.{CrlNumber}
 use Rattle.x509_cert.specs.ext.declared.pkix.issuing_distribution_point.IssuingDistributionPoint.{IssuingDistributionPoint}
 use Rattle.x509_cert.specs.prim.Integer.{without_zeros}
+use Rattle.x509_lint.specs.Place.{ca_issuers, has_other_method, is_faulty_point, lacks_uri}
+use Rattle.x509_lint.specs.declared.places.PointFault.TheVariants.{ReasonsOrIssuer}
 use Rattle.x509_lint.specs.Words.{Crl, crl_extensions_of, has, has_critical, has_uncritical, passes}
 use Rattle.x509_lint.specs.declared.values.CrlValues.{CrlValues}
 use Rattle.x509_lint.specs.declared.rule.crl_extension.CrlExtensionRule.{CrlExtensionRule}
-use Rattle.x509_lint.specs.declared.rule.crl_extension.CrlExtensionRule.TheVariants.{AuthorityKeyIdentifierAbsent, AuthorityKeyIdentifierWithoutKey, AuthorityKeyIdentifierCritical, IssuerAltNameCritical, CrlNumberAbsent, CrlNumberCritical, CrlNumberTooLong, DeltaCrlIndicatorNotCritical, IssuingDistributionPointNotCritical, IssuingDistributionPointEmpty, FreshestCrlCritical}
+use Rattle.x509_lint.specs.declared.rule.crl_extension.CrlExtensionRule.TheVariants.{AuthorityKeyIdentifierAbsent, AuthorityKeyIdentifierWithoutKey, AuthorityKeyIdentifierCritical, IssuerAltNameCritical, CrlNumberAbsent, CrlNumberCritical, CrlNumberTooLong, DeltaCrlIndicatorNotCritical, IssuingDistributionPointNotCritical, IssuingDistributionPointEmpty, IssuingDistributionPointKinds, IssuingDistributionPointAttributeCerts, FreshestCrlCritical, FreshestCrlInDelta, FreshestCrlReasonsOrIssuer, AuthorityInfoAccessCritical, AuthorityInfoAccessOtherMethod, CaIssuersWithoutUri}
 use Rattle.x509_lint.specs.Wording.{Wording, must, should}
 
 -- each field is absent or has its default
@@ -20,6 +23,12 @@ is_empty_issuing_point p =
 abbrev pub is_long_number : CrlNumber → Bool
 is_long_number number = nat_lt 20 (length (without_zeros number.0))
 
+-- two or three of the kinds of certificates that a CRL may be about alone
+abbrev pub has_several_kinds : IssuingDistributionPoint → Bool
+has_several_kinds p =
+    (p.only_contains_user_certs && p.only_contains_ca_certs) || (p.only_contains_user_certs && p.only_contains_attribute_certs)
+    || (p.only_contains_ca_certs && p.only_contains_attribute_certs)
+
 abbrev pub breaks_crl_extension : Crl → CrlValues → CrlExtensionRule → Bool
 breaks_crl_extension l v AuthorityKeyIdentifierAbsent = not (has (id_ce 35) (crl_extensions_of l))
 breaks_crl_extension l v AuthorityKeyIdentifierWithoutKey = passes (λ a. not (is_some a.key_identifier)) v.authority_key_identifier
@@ -31,12 +40,19 @@ breaks_crl_extension l v CrlNumberTooLong = passes is_long_number v.crl_number
 breaks_crl_extension l v DeltaCrlIndicatorNotCritical = has_uncritical (id_ce 27) (crl_extensions_of l)
 breaks_crl_extension l v IssuingDistributionPointNotCritical = has_uncritical (id_ce 28) (crl_extensions_of l)
 breaks_crl_extension l v IssuingDistributionPointEmpty = passes is_empty_issuing_point v.issuing_distribution_point
+breaks_crl_extension l v IssuingDistributionPointKinds = passes has_several_kinds v.issuing_distribution_point
+breaks_crl_extension l v IssuingDistributionPointAttributeCerts = passes (λ p. p.only_contains_attribute_certs) v.issuing_distribution_point
 breaks_crl_extension l v FreshestCrlCritical = has_critical (id_ce 46) (crl_extensions_of l)
+breaks_crl_extension l v FreshestCrlInDelta = has (id_ce 46) (crl_extensions_of l) && has (id_ce 27) (crl_extensions_of l)
+breaks_crl_extension l v FreshestCrlReasonsOrIssuer = passes (λ p. list_any (is_faulty_point ReasonsOrIssuer) p.0) v.freshest_crl
+breaks_crl_extension l v AuthorityInfoAccessCritical = has_critical (id_pkix 1 1) (crl_extensions_of l)
+breaks_crl_extension l v AuthorityInfoAccessOtherMethod = passes (λ a. has_other_method ca_issuers a.0) v.authority_info_access
+breaks_crl_extension l v CaIssuersWithoutUri = passes (λ a. lacks_uri ca_issuers a.0) v.authority_info_access
 
 -- ---- the order, and how each is told
 
 abbrev pub crl_extension_rules : List CrlExtensionRule
-crl_extension_rules = AuthorityKeyIdentifierAbsent ∷ AuthorityKeyIdentifierWithoutKey ∷ AuthorityKeyIdentifierCritical ∷ IssuerAltNameCritical ∷ CrlNumberAbsent ∷ CrlNumberCritical ∷ CrlNumberTooLong ∷ DeltaCrlIndicatorNotCritical ∷ IssuingDistributionPointNotCritical ∷ IssuingDistributionPointEmpty ∷ FreshestCrlCritical ∷ []
+crl_extension_rules = AuthorityKeyIdentifierAbsent ∷ AuthorityKeyIdentifierWithoutKey ∷ AuthorityKeyIdentifierCritical ∷ IssuerAltNameCritical ∷ CrlNumberAbsent ∷ CrlNumberCritical ∷ CrlNumberTooLong ∷ DeltaCrlIndicatorNotCritical ∷ IssuingDistributionPointNotCritical ∷ IssuingDistributionPointEmpty ∷ IssuingDistributionPointKinds ∷ IssuingDistributionPointAttributeCerts ∷ FreshestCrlCritical ∷ FreshestCrlInDelta ∷ FreshestCrlReasonsOrIssuer ∷ AuthorityInfoAccessCritical ∷ AuthorityInfoAccessOtherMethod ∷ CaIssuersWithoutUri ∷ []
 
 abbrev pub crl_extension_wording : CrlExtensionRule → Wording
 crl_extension_wording AuthorityKeyIdentifierAbsent = must (codes "authority_key_identifier_absent") (codes "5.2.1")
@@ -49,4 +65,11 @@ crl_extension_wording CrlNumberTooLong = must (codes "crl_number_too_long") (cod
 crl_extension_wording DeltaCrlIndicatorNotCritical = must (codes "delta_crl_indicator_not_critical") (codes "5.2.4")
 crl_extension_wording IssuingDistributionPointNotCritical = must (codes "issuing_distribution_point_not_critical") (codes "5.2.5")
 crl_extension_wording IssuingDistributionPointEmpty = must (codes "issuing_distribution_point_empty") (codes "5.2.5")
+crl_extension_wording IssuingDistributionPointKinds = must (codes "issuing_distribution_point_kinds") (codes "5.2.5")
+crl_extension_wording IssuingDistributionPointAttributeCerts = must (codes "issuing_distribution_point_attribute_certs") (codes "5.2.5")
 crl_extension_wording FreshestCrlCritical = must (codes "freshest_crl_critical") (codes "5.2.6")
+crl_extension_wording FreshestCrlInDelta = must (codes "freshest_crl_in_delta") (codes "5.2.6")
+crl_extension_wording FreshestCrlReasonsOrIssuer = must (codes "freshest_crl_reasons_or_issuer") (codes "5.2.6")
+crl_extension_wording AuthorityInfoAccessCritical = must (codes "authority_info_access_critical") (codes "5.2.7")
+crl_extension_wording AuthorityInfoAccessOtherMethod = must (codes "authority_info_access_other_method") (codes "5.2.7")
+crl_extension_wording CaIssuersWithoutUri = should (codes "ca_issuers_without_uri") (codes "5.2.7")

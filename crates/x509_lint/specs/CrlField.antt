@@ -6,11 +6,16 @@ use Rattle.x509_cert.specs.base.declared.profile.Raw.{Raw}
 use Rattle.x509_cert.specs.declared.certificate.version.Version.{Version}
 use Rattle.x509_cert.specs.declared.certificate.version.Version.TheVariants.{V1, V2, V3}
 use Rattle.x509_cert.specs.declared.crl.revoked_cert.RevokedCert.{RevokedCert}
-use Rattle.x509_lint.specs.Words.{Crl, is_before, is_early_general, is_empty, passes}
+use Rattle.x509_cert.specs.ext.Identifiers.{id_ce}
+use Rattle.x509_cert.specs.ext.LookUp.{members}
+use Rattle.x509_lint.specs.Name.{has_empty_rdn, has_no_country}
+use Rattle.x509_lint.specs.Text.{has_faulty_text}
+use Rattle.x509_lint.specs.declared.texts.TextFault.TheVariants.{OtherType, OldType, OtherCharacter, Size}
+use Rattle.x509_lint.specs.Words.{Crl, has, is_before, is_early_general, is_empty, passes}
 use Rattle.x509_lint.specs.declared.facts.CrlFacts.{CrlFacts}
 use Rattle.x509_lint.specs.declared.rule.crl_field.CrlFieldRule.{CrlFieldRule}
-use Rattle.x509_lint.specs.declared.rule.crl_field.CrlFieldRule.TheVariants.{SignatureAlgorithmsDiffer, ExtensionsWithoutV2, IssuerEmpty, ThisUpdateNotUtcTime, NextUpdateAbsent, NextUpdateNotUtcTime, NextUpdateBeforeThisUpdate, RevokedCertificatesEmpty, RevocationDateNotUtcTime, ExtensionsEmpty, ExtensionRepeated, EntryExtensionsEmpty}
-use Rattle.x509_lint.specs.Wording.{Wording, must}
+use Rattle.x509_lint.specs.declared.rule.crl_field.CrlFieldRule.TheVariants.{SignatureAlgorithmsDiffer, ExtensionsWithoutV2, VersionNotV2, IssuerEmpty, IssuerRdnEmpty, IssuerCountryNameInvalid, IssuerTextType, IssuerTextOldType, IssuerTextCharacters, IssuerTextSize, ThisUpdateNotUtcTime, NextUpdateAbsent, NextUpdateNotUtcTime, NextUpdateBeforeThisUpdate, RevokedCertificatesEmpty, SerialNumberRepeated, RevocationDateNotUtcTime, ExtensionsEmpty, ExtensionRepeated, ExtensionMalformed, EntryExtensionsEmpty, EntryExtensionRepeated}
+use Rattle.x509_lint.specs.Wording.{Wording, must, should}
 
 abbrev pub is_v2 : Version → Bool
 is_v2 V1 = false
@@ -27,32 +32,52 @@ has_extensions l = is_some l.tbs_cert_list.crl_extensions || has_entry (λ e. is
 abbrev pub breaks_crl_field : Crl → CrlFacts → CrlFieldRule → Bool
 breaks_crl_field l facts SignatureAlgorithmsDiffer = facts.algorithms_differ
 breaks_crl_field l facts ExtensionsWithoutV2 = has_extensions l && not (passes is_v2 l.tbs_cert_list.version)
+breaks_crl_field l facts VersionNotV2 = passes (λ version. not (is_v2 version)) l.tbs_cert_list.version
 breaks_crl_field l facts IssuerEmpty = is_empty l.tbs_cert_list.issuer
+breaks_crl_field l facts IssuerRdnEmpty = has_empty_rdn l.tbs_cert_list.issuer
+breaks_crl_field l facts IssuerCountryNameInvalid = has_no_country l.tbs_cert_list.issuer
+breaks_crl_field l facts IssuerTextType = has_faulty_text OtherType l.tbs_cert_list.issuer
+breaks_crl_field l facts IssuerTextOldType = has_faulty_text OldType l.tbs_cert_list.issuer
+breaks_crl_field l facts IssuerTextCharacters = has_faulty_text OtherCharacter l.tbs_cert_list.issuer
+breaks_crl_field l facts IssuerTextSize = has_faulty_text Size l.tbs_cert_list.issuer
 breaks_crl_field l facts ThisUpdateNotUtcTime = is_early_general l.tbs_cert_list.this_update
 breaks_crl_field l facts NextUpdateAbsent = not (is_some l.tbs_cert_list.next_update)
 breaks_crl_field l facts NextUpdateNotUtcTime = passes is_early_general l.tbs_cert_list.next_update
 breaks_crl_field l facts NextUpdateBeforeThisUpdate = passes (λ next. is_before next l.tbs_cert_list.this_update) l.tbs_cert_list.next_update
 breaks_crl_field l facts RevokedCertificatesEmpty = passes is_empty l.tbs_cert_list.revoked_certificates
+breaks_crl_field l facts SerialNumberRepeated = not facts.are_serials_distinct && not (has_entry (λ e. has (id_ce 29) (members e.crl_entry_extensions)) l)
 breaks_crl_field l facts RevocationDateNotUtcTime = has_entry (λ e. is_early_general e.revocation_date) l
 breaks_crl_field l facts ExtensionsEmpty = passes is_empty l.tbs_cert_list.crl_extensions
 breaks_crl_field l facts ExtensionRepeated = facts.is_repeated
+breaks_crl_field l facts ExtensionMalformed = not facts.are_well_formed
 breaks_crl_field l facts EntryExtensionsEmpty = has_entry (λ e. passes is_empty e.crl_entry_extensions) l
+breaks_crl_field l facts EntryExtensionRepeated = not facts.are_entries_distinct
 
 -- ---- the order, and how each is told
 
 abbrev pub crl_field_rules : List CrlFieldRule
-crl_field_rules = SignatureAlgorithmsDiffer ∷ ExtensionsWithoutV2 ∷ IssuerEmpty ∷ ThisUpdateNotUtcTime ∷ NextUpdateAbsent ∷ NextUpdateNotUtcTime ∷ NextUpdateBeforeThisUpdate ∷ RevokedCertificatesEmpty ∷ RevocationDateNotUtcTime ∷ ExtensionsEmpty ∷ ExtensionRepeated ∷ EntryExtensionsEmpty ∷ []
+crl_field_rules = SignatureAlgorithmsDiffer ∷ ExtensionsWithoutV2 ∷ VersionNotV2 ∷ IssuerEmpty ∷ IssuerRdnEmpty ∷ IssuerCountryNameInvalid ∷ IssuerTextType ∷ IssuerTextOldType ∷ IssuerTextCharacters ∷ IssuerTextSize ∷ ThisUpdateNotUtcTime ∷ NextUpdateAbsent ∷ NextUpdateNotUtcTime ∷ NextUpdateBeforeThisUpdate ∷ RevokedCertificatesEmpty ∷ SerialNumberRepeated ∷ RevocationDateNotUtcTime ∷ ExtensionsEmpty ∷ ExtensionRepeated ∷ ExtensionMalformed ∷ EntryExtensionsEmpty ∷ EntryExtensionRepeated ∷ []
 
 abbrev pub crl_field_wording : CrlFieldRule → Wording
 crl_field_wording SignatureAlgorithmsDiffer = must (codes "signature_algorithms_differ") (codes "5.1.1.2")
 crl_field_wording ExtensionsWithoutV2 = must (codes "extensions_without_v2") (codes "5.1.2.1")
+crl_field_wording VersionNotV2 = must (codes "version_not_v2") (codes "5.1.2.1")
 crl_field_wording IssuerEmpty = must (codes "issuer_empty") (codes "5.1.2.3")
+crl_field_wording IssuerRdnEmpty = must (codes "issuer_rdn_empty") (codes "5.1.2.3")
+crl_field_wording IssuerCountryNameInvalid = must (codes "issuer_country_name_invalid") (codes "A.1")
+crl_field_wording IssuerTextType = must (codes "issuer_text_type") (codes "A.1")
+crl_field_wording IssuerTextOldType = should (codes "issuer_text_old_type") (codes "5.1.2.3")
+crl_field_wording IssuerTextCharacters = must (codes "issuer_text_characters") (codes "5.1.2.3")
+crl_field_wording IssuerTextSize = must (codes "issuer_text_size") (codes "A.1")
 crl_field_wording ThisUpdateNotUtcTime = must (codes "this_update_not_utc_time") (codes "5.1.2.4")
 crl_field_wording NextUpdateAbsent = must (codes "next_update_absent") (codes "5.1.2.5")
 crl_field_wording NextUpdateNotUtcTime = must (codes "next_update_not_utc_time") (codes "5.1.2.5")
 crl_field_wording NextUpdateBeforeThisUpdate = must (codes "next_update_before_this_update") (codes "5.1.2.5")
 crl_field_wording RevokedCertificatesEmpty = must (codes "revoked_certificates_empty") (codes "5.1.2.6")
+crl_field_wording SerialNumberRepeated = must (codes "serial_number_repeated") (codes "5.1.2.6")
 crl_field_wording RevocationDateNotUtcTime = must (codes "revocation_date_not_utc_time") (codes "5.1.2.6")
 crl_field_wording ExtensionsEmpty = must (codes "extensions_empty") (codes "5.1.2.7")
 crl_field_wording ExtensionRepeated = must (codes "extension_repeated") (codes "5.2")
+crl_field_wording ExtensionMalformed = must (codes "extension_malformed") (codes "5.2")
 crl_field_wording EntryExtensionsEmpty = must (codes "entry_extensions_empty") (codes "5.3")
+crl_field_wording EntryExtensionRepeated = must (codes "entry_extension_repeated") (codes "5.3")

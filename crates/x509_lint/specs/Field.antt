@@ -6,8 +6,8 @@ use Rattle.x509_cert.specs.prim.Integer.{integer_value}
 use Rattle.x509_lint.specs.Words.{Certificate, is_before, is_early_general, is_empty}
 use Rattle.x509_lint.specs.declared.facts.CertificateFacts.{CertificateFacts}
 use Rattle.x509_lint.specs.declared.rule.field.FieldRule.{FieldRule}
-use Rattle.x509_lint.specs.declared.rule.field.FieldRule.TheVariants.{SignatureAlgorithmsDiffer, ExtensionsWithoutV3, SerialNumberNotPositive, SerialNumberTooLong, IssuerEmpty, NotBeforeNotUtcTime, NotAfterNotUtcTime, NotAfterBeforeNotBefore, UniqueIdentifierInV1, UniqueIdentifierPresent}
-use Rattle.x509_lint.specs.Wording.{Wording, must}
+use Rattle.x509_lint.specs.declared.rule.field.FieldRule.TheVariants.{SignatureAlgorithmsDiffer, ExtensionsWithoutV3, VersionAboveV2, VersionAboveV1, SerialNumberNotPositive, SerialNumberTooLong, IssuerEmpty, NotBeforeNotUtcTime, NotAfterNotUtcTime, NotAfterBeforeNotBefore, UniqueIdentifierInV1, UniqueIdentifierPresent}
+use Rattle.x509_lint.specs.Wording.{Wording, must, should}
 
 abbrev pub is_v1 : Version → Bool
 is_v1 V1 = true
@@ -29,6 +29,8 @@ has_unique_identifier c = is_some c.tbs_certificate.issuer_unique_id || is_some 
 abbrev pub breaks_field : Certificate → CertificateFacts → FieldRule → Bool
 breaks_field c facts SignatureAlgorithmsDiffer = facts.algorithms_differ
 breaks_field c facts ExtensionsWithoutV3 = is_some c.tbs_certificate.extensions && not (is_v3 c.tbs_certificate.version)
+breaks_field c facts VersionAboveV2 = has_unique_identifier c && not (is_some c.tbs_certificate.extensions) && is_v3 c.tbs_certificate.version
+breaks_field c facts VersionAboveV1 = not (has_unique_identifier c) && not (is_some c.tbs_certificate.extensions) && not (is_v1 c.tbs_certificate.version)
 breaks_field c facts SerialNumberNotPositive = not (is_positive (integer_value c.tbs_certificate.serial_number))
 breaks_field c facts SerialNumberTooLong = nat_lt 20 (length c.tbs_certificate.serial_number)
 breaks_field c facts IssuerEmpty = is_empty c.tbs_certificate.issuer
@@ -41,11 +43,13 @@ breaks_field c facts UniqueIdentifierPresent = has_unique_identifier c
 -- ---- the order, and how each is told
 
 abbrev pub field_rules : List FieldRule
-field_rules = SignatureAlgorithmsDiffer ∷ ExtensionsWithoutV3 ∷ SerialNumberNotPositive ∷ SerialNumberTooLong ∷ IssuerEmpty ∷ NotBeforeNotUtcTime ∷ NotAfterNotUtcTime ∷ NotAfterBeforeNotBefore ∷ UniqueIdentifierInV1 ∷ UniqueIdentifierPresent ∷ []
+field_rules = SignatureAlgorithmsDiffer ∷ ExtensionsWithoutV3 ∷ VersionAboveV2 ∷ VersionAboveV1 ∷ SerialNumberNotPositive ∷ SerialNumberTooLong ∷ IssuerEmpty ∷ NotBeforeNotUtcTime ∷ NotAfterNotUtcTime ∷ NotAfterBeforeNotBefore ∷ UniqueIdentifierInV1 ∷ UniqueIdentifierPresent ∷ []
 
 abbrev pub field_wording : FieldRule → Wording
 field_wording SignatureAlgorithmsDiffer = must (codes "signature_algorithms_differ") (codes "4.1.1.2")
 field_wording ExtensionsWithoutV3 = must (codes "extensions_without_v3") (codes "4.1.2.1")
+field_wording VersionAboveV2 = should (codes "version_above_v2") (codes "4.1.2.1")
+field_wording VersionAboveV1 = should (codes "version_above_v1") (codes "4.1.2.1")
 field_wording SerialNumberNotPositive = must (codes "serial_number_not_positive") (codes "4.1.2.2")
 field_wording SerialNumberTooLong = must (codes "serial_number_too_long") (codes "4.1.2.2")
 field_wording IssuerEmpty = must (codes "issuer_empty") (codes "4.1.2.4")

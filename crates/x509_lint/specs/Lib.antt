@@ -1,8 +1,11 @@
 pub mod Wording
 pub mod Words
+pub mod BasicConstraints
 pub mod Notices
+pub mod Place
 pub mod Values
 pub mod Field
+pub mod Text
 pub mod Name
 pub mod List
 pub mod Critical
@@ -14,5 +17,6 @@ pub mod Constraint
 pub mod Point
 pub mod CrlField
 pub mod CrlExtension
+pub mod CrlEntry
 pub mod Rules
 pub mod Report

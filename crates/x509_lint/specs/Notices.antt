@@ -1,5 +1,5 @@
--- Texts of user notices that are too long (RFC 5280 4.2.1.4).
-use Rattle.std.specs.Prelude.{ℕ, ◌/◌, Bool, ◌&&◌, nat_lt, List, length, Option, Some, None, Result, Ok, Err, bytes_eq}
+-- What is wrong with user notices (RFC 5280 4.2.1.4).
+use Rattle.std.specs.Prelude.{ℕ, ◌/◌, Bool, true, false, ◌&&◌, ◌||◌, ◌==◌, nat_lt, List, length, Option, Some, None, Result, Ok, Err, bytes_eq, is_some}
 use Rattle.std.specs.List.{list_any}
 use Rattle.std.specs.Str.{chars}
 use Rattle.x509_cert.specs.der.Tag.{octet_of}
@@ -14,6 +14,8 @@ use Rattle.x509_cert.specs.ext.declared.pkix.policy_information.PolicyInformatio
 use Rattle.x509_cert.specs.ext.declared.pkix.policy_information.PolicyQualifierInfo.{PolicyQualifierInfo}
 use Rattle.x509_cert.specs.ext.declared.pkix.user_notice.UserNotice.{UserNotice}
 use Rattle.x509_lint.specs.Words.{passes}
+use Rattle.x509_lint.specs.declared.notices.NoticeFault.{NoticeFault}
+use Rattle.x509_lint.specs.declared.notices.NoticeFault.TheVariants.{Long, NoText, OldType, Ia5Type, Control, Reference}
 
 -- how many characters a text has: one for each octet, two octets for each (X.690 8.23.8), or those of UTF-8
 abbrev pub char_count : DisplayText → ℕ
@@ -22,31 +24,66 @@ char_count (VisibleString text) = length text
 char_count (BmpString octets) = length octets / 2
 char_count (Utf8String text) = length (chars text)
 
--- it has more than 200 characters, which is the size that DisplayText has at most
-abbrev pub is_long_text : DisplayText → Bool
-is_long_text text = nat_lt 200 (char_count text)
+-- a VisibleString or a BMPString, which authorities don't write
+abbrev pub is_old_text : DisplayText → Bool
+is_old_text (Ia5String text) = false
+is_old_text (VisibleString text) = true
+is_old_text (BmpString octets) = true
+is_old_text (Utf8String text) = false
 
-abbrev pub is_long_notice : UserNotice → Bool
-is_long_notice notice = passes is_long_text notice.explicit_text
+-- an IA5String, which they may write
+abbrev pub is_ia5_text : DisplayText → Bool
+is_ia5_text (Ia5String text) = true
+is_ia5_text (VisibleString text) = false
+is_ia5_text (BmpString octets) = false
+is_ia5_text (Utf8String text) = false
+
+-- U+0000 to U+001F, and U+007F
+abbrev pub is_control : ℕ → Bool
+is_control octet = nat_lt octet 32 || (octet == 127)
+
+-- a control character in a text of one octet for each character up to U+007F
+abbrev pub has_control : DisplayText → Bool
+has_control (Ia5String text) = list_any is_control text
+has_control (VisibleString text) = list_any is_control text
+has_control (BmpString octets) = false
+has_control (Utf8String text) = list_any is_control text
+
+-- what is wrong with an explicit text: it is outside of 1 to 200 characters, which is the size of DisplayText, of another type, or has control characters
+abbrev pub is_faulty_text : NoticeFault → DisplayText → Bool
+is_faulty_text Long text = nat_lt 200 (char_count text)
+is_faulty_text NoText text = char_count text == 0
+is_faulty_text OldType text = is_old_text text
+is_faulty_text Ia5Type text = is_ia5_text text
+is_faulty_text Control text = has_control text
+is_faulty_text Reference text = false
+
+abbrev pub is_reference : NoticeFault → Bool
+is_reference Reference = true
+is_reference other = false
+
+-- that, or that there is a noticeRef
+abbrev pub is_faulty_notice : NoticeFault → UserNotice → Bool
+is_faulty_notice fault notice = passes (is_faulty_text fault) notice.explicit_text || (is_reference fault && is_some notice.notice_ref)
 
 abbrev pub value_read : {X : Type 0} → Result X ErrorKind → Option X
 value_read (Ok x) = Some x
 value_read (Err e) = None
 
--- the user notice that an element is the encoding of, where it is that of one, has such an explicit text
-unfoldable pub is_long_element : Any → Bool
-is_long_element element = passes is_long_notice (value_read (user_notice.reading (octet_of element.tag) element.value))
+-- the user notice that an element is the encoding of, where it is that of one, has the fault
+unfoldable pub is_faulty_element : NoticeFault → Any → Bool
+is_faulty_element fault element = passes (is_faulty_notice fault) (value_read (user_notice.reading (octet_of element.tag) element.value))
 
--- a qualifier that is a user notice (id-qt-unotice) with such a text
-abbrev pub is_long_qualifier : PolicyQualifierInfo → Bool
-is_long_qualifier q = bytes_eq q.policy_qualifier_id (id_pkix 2 2) && passes is_long_element q.qualifier
+-- a qualifier that is a user notice (id-qt-unotice) with the fault
+abbrev pub is_faulty_qualifier : NoticeFault → PolicyQualifierInfo → Bool
+is_faulty_qualifier fault q = bytes_eq q.policy_qualifier_id (id_pkix 2 2) && passes (is_faulty_element fault) q.qualifier
 
-abbrev pub are_long_qualifiers : List PolicyQualifierInfo → Bool
-are_long_qualifiers qualifiers = list_any is_long_qualifier qualifiers
+abbrev pub are_faulty_qualifiers : NoticeFault → List PolicyQualifierInfo → Bool
+are_faulty_qualifiers fault qualifiers = list_any (is_faulty_qualifier fault) qualifiers
 
-abbrev pub is_long_policy : PolicyInformation → Bool
-is_long_policy policy = passes are_long_qualifiers policy.policy_qualifiers
+abbrev pub is_faulty_policy : NoticeFault → PolicyInformation → Bool
+is_faulty_policy fault policy = passes (are_faulty_qualifiers fault) policy.policy_qualifiers
 
--- some policy has a user notice with such a text
-abbrev pub has_long_text : Option CertificatePolicies → Bool
-has_long_text policies = passes (λ p. list_any is_long_policy p.0) policies
+-- some policy has a user notice with the fault
+abbrev pub has_faulty_notice : NoticeFault → Option CertificatePolicies → Bool
+has_faulty_notice fault policies = passes (λ p. list_any (is_faulty_policy fault) p.0) policies

@@ -2,11 +2,13 @@
 use Rattle.std.specs.Prelude.{◌&&◌, Bool, not, List, [], ◌∷◌, codes, is_some}
 use Rattle.std.specs.List.{list_any}
 use Rattle.x509_cert.specs.ext.declared.pkix.distribution_point.DistributionPoint.{DistributionPoint}
+use Rattle.x509_lint.specs.Place.{are_partial, ca_issuers, ca_repository, is_faulty_point, is_point_of, lacks_uri}
+use Rattle.x509_lint.specs.declared.places.PointFault.TheVariants.{Relative, RelativeToSeveral, NoUri, OtherIssuer}
 use Rattle.x509_lint.specs.Words.{Certificate, is_empty, passes}
 use Rattle.x509_lint.specs.declared.values.PointValues.{PointValues}
 use Rattle.x509_lint.specs.declared.rule.point.PointRule.{PointRule}
-use Rattle.x509_lint.specs.declared.rule.point.PointRule.TheVariants.{SubjectDirectoryAttributesEmpty, CrlDistributionPointsEmpty, DistributionPointEmpty, FreshestCrlEmpty, FreshestCrlPointEmpty, AuthorityInfoAccessEmpty, SubjectInfoAccessEmpty}
-use Rattle.x509_lint.specs.Wording.{Wording, must}
+use Rattle.x509_lint.specs.declared.rule.point.PointRule.TheVariants.{SubjectDirectoryAttributesEmpty, CrlDistributionPointsEmpty, DistributionPointEmpty, DistributionPointRelative, DistributionPointRelativeToSeveral, DistributionPointWithoutUri, DistributionPointIssuerInvalid, DistributionPointOwnIssuer, DistributionPointsPartial, FreshestCrlEmpty, FreshestCrlPointEmpty, FreshestCrlPointRelative, FreshestCrlPointRelativeToSeveral, FreshestCrlPointWithoutUri, FreshestCrlPointIssuerInvalid, FreshestCrlPointOwnIssuer, AuthorityInfoAccessEmpty, CaIssuersWithoutUri, SubjectInfoAccessEmpty, CaRepositoryWithoutUri}
+use Rattle.x509_lint.specs.Wording.{Wording, must, should}
 
 -- neither a name nor a CRL issuer (RFC 5280 4.2.1.13)
 abbrev pub is_empty_point : DistributionPoint → Bool
@@ -16,21 +18,47 @@ abbrev pub breaks_point : Certificate → PointValues → PointRule → Bool
 breaks_point c v SubjectDirectoryAttributesEmpty = passes (λ a. is_empty a.0) v.subject_directory_attributes
 breaks_point c v CrlDistributionPointsEmpty = passes (λ p. is_empty p.0) v.crl_distribution_points
 breaks_point c v DistributionPointEmpty = passes (λ p. list_any is_empty_point p.0) v.crl_distribution_points
+breaks_point c v DistributionPointRelative = passes (λ p. list_any (is_faulty_point Relative) p.0) v.crl_distribution_points
+breaks_point c v DistributionPointRelativeToSeveral = passes (λ p. list_any (is_faulty_point RelativeToSeveral) p.0) v.crl_distribution_points
+breaks_point c v DistributionPointWithoutUri = passes (λ p. list_any (is_faulty_point NoUri) p.0) v.crl_distribution_points
+breaks_point c v DistributionPointIssuerInvalid = passes (λ p. list_any (is_faulty_point OtherIssuer) p.0) v.crl_distribution_points
+breaks_point c v DistributionPointOwnIssuer = passes (λ p. list_any (is_point_of c.tbs_certificate.issuer) p.0) v.crl_distribution_points
+breaks_point c v DistributionPointsPartial = passes (λ p. are_partial p.0) v.crl_distribution_points
 breaks_point c v FreshestCrlEmpty = passes (λ p. is_empty p.0) v.freshest_crl
 breaks_point c v FreshestCrlPointEmpty = passes (λ p. list_any is_empty_point p.0) v.freshest_crl
+breaks_point c v FreshestCrlPointRelative = passes (λ p. list_any (is_faulty_point Relative) p.0) v.freshest_crl
+breaks_point c v FreshestCrlPointRelativeToSeveral = passes (λ p. list_any (is_faulty_point RelativeToSeveral) p.0) v.freshest_crl
+breaks_point c v FreshestCrlPointWithoutUri = passes (λ p. list_any (is_faulty_point NoUri) p.0) v.freshest_crl
+breaks_point c v FreshestCrlPointIssuerInvalid = passes (λ p. list_any (is_faulty_point OtherIssuer) p.0) v.freshest_crl
+breaks_point c v FreshestCrlPointOwnIssuer = passes (λ p. list_any (is_point_of c.tbs_certificate.issuer) p.0) v.freshest_crl
 breaks_point c v AuthorityInfoAccessEmpty = passes (λ a. is_empty a.0) v.authority_info_access
+breaks_point c v CaIssuersWithoutUri = passes (λ a. lacks_uri ca_issuers a.0) v.authority_info_access
 breaks_point c v SubjectInfoAccessEmpty = passes (λ a. is_empty a.0) v.subject_info_access
+breaks_point c v CaRepositoryWithoutUri = passes (λ a. lacks_uri ca_repository a.0) v.subject_info_access
 
 -- ---- the order, and how each is told
 
 abbrev pub point_rules : List PointRule
-point_rules = SubjectDirectoryAttributesEmpty ∷ CrlDistributionPointsEmpty ∷ DistributionPointEmpty ∷ FreshestCrlEmpty ∷ FreshestCrlPointEmpty ∷ AuthorityInfoAccessEmpty ∷ SubjectInfoAccessEmpty ∷ []
+point_rules = SubjectDirectoryAttributesEmpty ∷ CrlDistributionPointsEmpty ∷ DistributionPointEmpty ∷ DistributionPointRelative ∷ DistributionPointRelativeToSeveral ∷ DistributionPointWithoutUri ∷ DistributionPointIssuerInvalid ∷ DistributionPointOwnIssuer ∷ DistributionPointsPartial ∷ FreshestCrlEmpty ∷ FreshestCrlPointEmpty ∷ FreshestCrlPointRelative ∷ FreshestCrlPointRelativeToSeveral ∷ FreshestCrlPointWithoutUri ∷ FreshestCrlPointIssuerInvalid ∷ FreshestCrlPointOwnIssuer ∷ AuthorityInfoAccessEmpty ∷ CaIssuersWithoutUri ∷ SubjectInfoAccessEmpty ∷ CaRepositoryWithoutUri ∷ []
 
 abbrev pub point_wording : PointRule → Wording
 point_wording SubjectDirectoryAttributesEmpty = must (codes "subject_directory_attributes_empty") (codes "4.2.1.8")
 point_wording CrlDistributionPointsEmpty = must (codes "crl_distribution_points_empty") (codes "4.2.1.13")
 point_wording DistributionPointEmpty = must (codes "distribution_point_empty") (codes "4.2.1.13")
+point_wording DistributionPointRelative = should (codes "distribution_point_relative") (codes "4.2.1.13")
+point_wording DistributionPointRelativeToSeveral = must (codes "distribution_point_relative_to_several") (codes "4.2.1.13")
+point_wording DistributionPointWithoutUri = should (codes "distribution_point_without_uri") (codes "4.2.1.13")
+point_wording DistributionPointIssuerInvalid = must (codes "distribution_point_issuer_invalid") (codes "4.2.1.13")
+point_wording DistributionPointOwnIssuer = must (codes "distribution_point_own_issuer") (codes "4.2.1.13")
+point_wording DistributionPointsPartial = must (codes "distribution_points_partial") (codes "4.2.1.13")
 point_wording FreshestCrlEmpty = must (codes "freshest_crl_empty") (codes "4.2.1.15")
 point_wording FreshestCrlPointEmpty = must (codes "freshest_crl_point_empty") (codes "4.2.1.15")
+point_wording FreshestCrlPointRelative = should (codes "freshest_crl_point_relative") (codes "4.2.1.15")
+point_wording FreshestCrlPointRelativeToSeveral = must (codes "freshest_crl_point_relative_to_several") (codes "4.2.1.15")
+point_wording FreshestCrlPointWithoutUri = should (codes "freshest_crl_point_without_uri") (codes "4.2.1.15")
+point_wording FreshestCrlPointIssuerInvalid = must (codes "freshest_crl_point_issuer_invalid") (codes "4.2.1.15")
+point_wording FreshestCrlPointOwnIssuer = must (codes "freshest_crl_point_own_issuer") (codes "4.2.1.15")
 point_wording AuthorityInfoAccessEmpty = must (codes "authority_info_access_empty") (codes "4.2.2.1")
+point_wording CaIssuersWithoutUri = should (codes "ca_issuers_without_uri") (codes "4.2.2.1")
 point_wording SubjectInfoAccessEmpty = must (codes "subject_info_access_empty") (codes "4.2.2.2")
+point_wording CaRepositoryWithoutUri = should (codes "ca_repository_without_uri") (codes "4.2.2.2")

@@ -1,12 +1,15 @@
 -- The rules on certificate policies, policy mappings and policy constraints (RFC 5280 4.2.1.4, 4.2.1.5, 4.2.1.11): what breaks each, their order, and how each is told.
 use Rattle.std.specs.Prelude.{◌&&◌, ◌||◌, Bool, not, ℕ, List, [], ◌∷◌, bytes_eq, codes, is_some}
 use Rattle.std.specs.List.{list_any}
+use Rattle.x509_cert.specs.ext.Identifiers.{id_pkix}
+use Rattle.x509_cert.specs.ext.declared.pkix.policy_information.PolicyInformation.{PolicyInformation}
+use Rattle.x509_cert.specs.ext.declared.pkix.policy_information.PolicyQualifierInfo.{PolicyQualifierInfo}
 use Rattle.x509_cert.specs.ext.declared.pkix.policy_mapping.PolicyMapping.{PolicyMapping}
 use Rattle.x509_lint.specs.Words.{Certificate, is_empty, passes}
 use Rattle.x509_lint.specs.declared.values.PolicyValues.{PolicyValues}
 use Rattle.x509_lint.specs.declared.rule.policy.PolicyRule.{PolicyRule}
-use Rattle.x509_lint.specs.declared.rule.policy.PolicyRule.TheVariants.{CertificatePoliciesEmpty, PolicyQualifiersEmpty, ExplicitTextTooLong, PolicyMappingsEmpty, PolicyMappingAnyPolicy, PolicyConstraintsEmpty}
-use Rattle.x509_lint.specs.Wording.{Wording, must}
+use Rattle.x509_lint.specs.declared.rule.policy.PolicyRule.TheVariants.{CertificatePoliciesEmpty, CertificatePolicyRepeated, PolicyQualifiersEmpty, AnyPolicyQualifierInvalid, ExplicitTextTooLong, ExplicitTextEmpty, ExplicitTextType, ExplicitTextNotUtf8String, ExplicitTextControl, NoticeReferencePresent, PolicyMappingsEmpty, PolicyMappingAnyPolicy, PolicyConstraintsEmpty}
+use Rattle.x509_lint.specs.Wording.{Wording, must, should}
 
 -- the content octets of 2.5.29.32.0, anyPolicy (RFC 5280 4.2.1.4)
 abbrev pub any_policy : List ℕ
@@ -15,10 +18,25 @@ any_policy = 0x55 ∷ 0x1D ∷ 32 ∷ 0 ∷ []
 abbrev pub is_of_any_policy : PolicyMapping → Bool
 is_of_any_policy mapping = bytes_eq mapping.issuer_domain_policy any_policy || bytes_eq mapping.subject_domain_policy any_policy
 
+-- neither id-qt-cps nor id-qt-unotice
+abbrev pub is_other_qualifier : PolicyQualifierInfo → Bool
+is_other_qualifier q = not (bytes_eq q.policy_qualifier_id (id_pkix 2 1)) && not (bytes_eq q.policy_qualifier_id (id_pkix 2 2))
+
+-- anyPolicy with a qualifier that is neither
+abbrev pub has_other_qualifier : PolicyInformation → Bool
+has_other_qualifier p = bytes_eq p.policy_identifier any_policy && passes (λ qualifiers. list_any is_other_qualifier qualifiers) p.policy_qualifiers
+
 abbrev pub breaks_policy : Certificate → PolicyValues → PolicyRule → Bool
 breaks_policy c v CertificatePoliciesEmpty = passes (λ p. is_empty p.0) v.certificate_policies
+breaks_policy c v CertificatePolicyRepeated = not v.are_policies_distinct
 breaks_policy c v PolicyQualifiersEmpty = passes (λ p. list_any (λ policy. passes is_empty policy.policy_qualifiers) p.0) v.certificate_policies
+breaks_policy c v AnyPolicyQualifierInvalid = passes (λ p. list_any has_other_qualifier p.0) v.certificate_policies
 breaks_policy c v ExplicitTextTooLong = v.has_long_text
+breaks_policy c v ExplicitTextEmpty = v.has_empty_text
+breaks_policy c v ExplicitTextType = v.has_old_text
+breaks_policy c v ExplicitTextNotUtf8String = v.has_ia5_text
+breaks_policy c v ExplicitTextControl = v.has_control
+breaks_policy c v NoticeReferencePresent = v.has_reference
 breaks_policy c v PolicyMappingsEmpty = passes (λ m. is_empty m.0) v.policy_mappings
 breaks_policy c v PolicyMappingAnyPolicy = passes (λ m. list_any is_of_any_policy m.0) v.policy_mappings
 breaks_policy c v PolicyConstraintsEmpty = passes (λ p. not (is_some p.require_explicit_policy) && not (is_some p.inhibit_policy_mapping)) v.policy_constraints
@@ -26,12 +44,19 @@ breaks_policy c v PolicyConstraintsEmpty = passes (λ p. not (is_some p.require_
 -- ---- the order, and how each is told
 
 abbrev pub policy_rules : List PolicyRule
-policy_rules = CertificatePoliciesEmpty ∷ PolicyQualifiersEmpty ∷ ExplicitTextTooLong ∷ PolicyMappingsEmpty ∷ PolicyMappingAnyPolicy ∷ PolicyConstraintsEmpty ∷ []
+policy_rules = CertificatePoliciesEmpty ∷ CertificatePolicyRepeated ∷ PolicyQualifiersEmpty ∷ AnyPolicyQualifierInvalid ∷ ExplicitTextTooLong ∷ ExplicitTextEmpty ∷ ExplicitTextType ∷ ExplicitTextNotUtf8String ∷ ExplicitTextControl ∷ NoticeReferencePresent ∷ PolicyMappingsEmpty ∷ PolicyMappingAnyPolicy ∷ PolicyConstraintsEmpty ∷ []
 
 abbrev pub policy_wording : PolicyRule → Wording
 policy_wording CertificatePoliciesEmpty = must (codes "certificate_policies_empty") (codes "4.2.1.4")
+policy_wording CertificatePolicyRepeated = must (codes "certificate_policy_repeated") (codes "4.2.1.4")
 policy_wording PolicyQualifiersEmpty = must (codes "policy_qualifiers_empty") (codes "4.2.1.4")
+policy_wording AnyPolicyQualifierInvalid = must (codes "any_policy_qualifier_invalid") (codes "4.2.1.4")
 policy_wording ExplicitTextTooLong = must (codes "explicit_text_too_long") (codes "4.2.1.4")
+policy_wording ExplicitTextEmpty = must (codes "explicit_text_empty") (codes "4.2.1.4")
+policy_wording ExplicitTextType = must (codes "explicit_text_type") (codes "4.2.1.4")
+policy_wording ExplicitTextNotUtf8String = should (codes "explicit_text_not_utf8_string") (codes "4.2.1.4")
+policy_wording ExplicitTextControl = should (codes "explicit_text_control") (codes "4.2.1.4")
+policy_wording NoticeReferencePresent = should (codes "notice_reference_present") (codes "4.2.1.4")
 policy_wording PolicyMappingsEmpty = must (codes "policy_mappings_empty") (codes "4.2.1.5")
 policy_wording PolicyMappingAnyPolicy = must (codes "policy_mapping_any_policy") (codes "4.2.1.5")
 policy_wording PolicyConstraintsEmpty = must (codes "policy_constraints_empty") (codes "4.2.1.11")

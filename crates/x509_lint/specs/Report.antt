@@ -9,13 +9,14 @@ use Rattle.x509_lint.specs.Rules.{AreFindings, AreCrlFindings, rule_wording}
 use Rattle.x509_lint.specs.Wording.{wording_text}
 use Rattle.x509_lint.specs.Words.{Certificate, Crl}
 use Rattle.x509_lint.specs.declared.entry.Severity.{Severity}
-use Rattle.x509_lint.specs.declared.entry.Severity.TheVariants.{Error, Warning}
+use Rattle.x509_lint.specs.declared.entry.Severity.TheVariants.{Error, Warning, NotJudged}
 use Rattle.x509_lint.specs.declared.report.Report.{Report}
 use Rattle.x509_lint.specs.declared.rule.Rule.{Rule}
 
 abbrev pub is_bad : Severity → Bool
 is_bad Error = true
 is_bad Warning = false
+is_bad NotJudged = false
 
 abbrev pub is_error : Rule → Bool
 is_error rule = is_bad (rule_wording rule).severity

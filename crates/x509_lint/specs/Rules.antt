@@ -4,6 +4,7 @@ use Rattle.x509_lint.specs.Alternative as alternative
 use Rattle.x509_lint.specs.Authority as authority
 use Rattle.x509_lint.specs.Constraint as constraint
 use Rattle.x509_lint.specs.Critical as critical
+use Rattle.x509_lint.specs.CrlEntry as crl_entry
 use Rattle.x509_lint.specs.CrlExtension as crl_extension
 use Rattle.x509_lint.specs.CrlField as crl_field
 use Rattle.x509_lint.specs.Field as field
@@ -16,7 +17,7 @@ use Rattle.x509_lint.specs.Values.{AreCertificateParts, AreCrlParts, Certificate
 use Rattle.x509_lint.specs.Words.{Certificate, Crl}
 use Rattle.x509_lint.specs.Wording.{Wording}
 use Rattle.x509_lint.specs.declared.rule.Rule.{Rule}
-use Rattle.x509_lint.specs.declared.rule.Rule.TheVariants.{Field, Name, ExtensionList, Critical, Authority, Key, Alternative, Policy, Constraint, Point, CrlField, CrlExtension}
+use Rattle.x509_lint.specs.declared.rule.Rule.TheVariants.{Field, Name, ExtensionList, Critical, Authority, Key, Alternative, Policy, Constraint, Point, CrlField, CrlExtension, CrlEntry}
 
 abbrev pub rule_wording : Rule → Wording
 rule_wording (Field rule) = field.field_wording rule
@@ -31,6 +32,7 @@ rule_wording (Constraint rule) = constraint.constraint_wording rule
 rule_wording (Point rule) = point.point_wording rule
 rule_wording (CrlField rule) = crl_field.crl_field_wording rule
 rule_wording (CrlExtension rule) = crl_extension.crl_extension_wording rule
+rule_wording (CrlEntry rule) = crl_entry.crl_entry_wording rule
 
 -- ---- certificates (RFC 5280 4.1, 4.2)
 
@@ -54,15 +56,16 @@ breaks c parts (Constraint rule) = constraint.breaks_constraint c parts.constrai
 breaks c parts (Point rule) = point.breaks_point c parts.point rule
 breaks c parts (CrlField rule) = false
 breaks c parts (CrlExtension rule) = false
+breaks c parts (CrlEntry rule) = false
 
 -- the findings are those of the rules that the certificate breaks, in the order of the rules
 abbrev pub AreFindings : Certificate → List Rule → Type 0
 AreFindings c findings = (parts : CertificateParts) × AreCertificateParts c parts × (findings ≡ filter (breaks c parts) certificate_rules)
 
--- ---- CRLs (RFC 5280 5.1, 5.2)
+-- ---- CRLs (RFC 5280 5.1 to 5.3)
 
 abbrev pub crl_rules : List Rule
-crl_rules = map CrlField crl_field.crl_field_rules ++ map CrlExtension crl_extension.crl_extension_rules
+crl_rules = map CrlField crl_field.crl_field_rules ++ map CrlExtension crl_extension.crl_extension_rules ++ map CrlEntry crl_entry.crl_entry_rules
 
 abbrev pub crl_breaks : Crl → CrlParts → Rule → Bool
 crl_breaks l parts (Field rule) = false
@@ -77,6 +80,7 @@ crl_breaks l parts (Constraint rule) = false
 crl_breaks l parts (Point rule) = false
 crl_breaks l parts (CrlField rule) = crl_field.breaks_crl_field l parts.facts rule
 crl_breaks l parts (CrlExtension rule) = crl_extension.breaks_crl_extension l parts.values rule
+crl_breaks l parts (CrlEntry rule) = crl_entry.breaks_crl_entry l parts.values rule
 
 abbrev pub AreCrlFindings : Crl → List Rule → Type 0
 AreCrlFindings l findings = (parts : CrlParts) × AreCrlParts l parts × (findings ≡ filter (crl_breaks l parts) crl_rules)

@@ -1,5 +1,5 @@
 -- What rules look at, beside the object itself: the values of its extensions, and what is asked of it once.
-use Rattle.std.specs.Prelude.{◌≡◌, ◌≢◌, ◌↔◌, IsTrue, ℕ, List}
+use Rattle.std.specs.Prelude.{◌≡◌, ◌≢◌, ◌↔◌, IsTrue, ℕ, List, [], Option, Some, None, map}
 use Rattle.std.specs.List.{All}
 use Rattle.x509_cert.specs.der.Form.{Form, Spells}
 use Rattle.x509_cert.specs.ext.Access.{authority_info_access_syntax, subject_info_access_syntax}
@@ -12,17 +12,25 @@ use Rattle.x509_cert.specs.ext.PrivateKeyUsagePeriod.{private_key_usage_period}
 use Rattle.x509_cert.specs.ext.SubjectDirectoryAttributes.{subject_directory_attributes}
 use Rattle.x509_cert.specs.ext.SubjectKeyIdentifier.{subject_key_identifier}
 use Rattle.x509_cert.specs.ext.Identifiers.{id_ce, id_pkix}
-use Rattle.x509_cert.specs.ext.LookUp.{IsRepeated}
+use Rattle.x509_cert.specs.ext.LookUp.{IsRepeated, members}
 use Rattle.x509_cert.specs.ext.declared.extension.Extension.{Extension}
-use Rattle.x509_cert.specs.ext.CrlNumber.{crl_number}
+use Rattle.x509_cert.specs.Revoked.{entries}
+use Rattle.x509_cert.specs.base.declared.profile.Raw.{Raw}
+use Rattle.x509_cert.specs.declared.crl.revoked_cert.RevokedCert.{RevokedCert}
+use Rattle.x509_cert.specs.ext.CrlNumber.{base_crl_number, crl_number}
 use Rattle.x509_cert.specs.ext.DistributionPoint.{crl_distribution_points, freshest_crl}
 use Rattle.x509_cert.specs.ext.IssuingDistributionPoint.{issuing_distribution_point}
 use Rattle.x509_cert.specs.ext.NameConstraints.{name_constraints}
 use Rattle.x509_cert.specs.ext.CertificatePolicies.{certificate_policies}
+use Rattle.x509_cert.specs.ext.declared.pkix.certificate_policies.CertificatePolicies.{CertificatePolicies}
+use Rattle.x509_cert.specs.ext.declared.pkix.policy_information.PolicyInformation.{PolicyInformation}
+use Rattle.x509_der.specs.Set.{AreDistinct}
 use Rattle.x509_cert.specs.ext.InhibitAnyPolicy.{inhibit_any_policy}
 use Rattle.x509_cert.specs.ext.PolicyConstraints.{policy_constraints}
 use Rattle.x509_cert.specs.ext.PolicyMapping.{policy_mappings}
-use Rattle.x509_lint.specs.Notices.{has_long_text}
+use Rattle.x509_lint.specs.BasicConstraints.{any_basic_constraints}
+use Rattle.x509_lint.specs.Notices.{has_faulty_notice}
+use Rattle.x509_lint.specs.declared.notices.NoticeFault.TheVariants.{Long, NoText, OldType, Ia5Type, Control, Reference}
 use Rattle.x509_lint.specs.Words.{Certificate, Crl, IsValue, crl_extensions_of, extensions_of}
 use Rattle.x509_lint.specs.declared.facts.CertificateFacts.{CertificateFacts}
 use Rattle.x509_lint.specs.declared.facts.CrlFacts.{CrlFacts}
@@ -34,10 +42,25 @@ use Rattle.x509_lint.specs.declared.values.KeyValues.{KeyValues}
 use Rattle.x509_lint.specs.declared.values.PointValues.{PointValues}
 use Rattle.x509_lint.specs.declared.values.PolicyValues.{PolicyValues}
 
+-- ---- what may stand twice
+
+-- the serial numbers of entries, and the OIDs of policies, in their order
+abbrev pub serials : List (RevokedCert Raw) → List (List ℕ)
+serials entries = map (λ (e : RevokedCert Raw). e.serial_number) entries
+
+abbrev pub policy_identifiers : List PolicyInformation → List (List ℕ)
+policy_identifiers policies = map (λ (p : PolicyInformation). p.policy_identifier) policies
+
+abbrev pub policies_of : Option CertificatePolicies → List PolicyInformation
+policies_of None = []
+policies_of (Some policies) = policies.0
+
 -- ---- values of extensions
 
 abbrev pub AreAuthorityValues : List Extension → AuthorityValues → Type 0
-AreAuthorityValues extensions v = IsValue basic_constraints (id_ce 19) extensions v.basic_constraints × IsValue key_usage (id_ce 15) extensions v.key_usage
+AreAuthorityValues extensions v =
+    IsValue basic_constraints (id_ce 19) extensions v.basic_constraints × IsValue any_basic_constraints (id_ce 19) extensions v.any_basic_constraints
+    × IsValue key_usage (id_ce 15) extensions v.key_usage
 
 abbrev pub AreKeyValues : List Extension → KeyValues → Type 0
 AreKeyValues extensions v =
@@ -53,7 +76,13 @@ ArePolicyValues extensions v =
     IsValue certificate_policies (id_ce 32) extensions v.certificate_policies
     × IsValue policy_mappings (id_ce 33) extensions v.policy_mappings
     × IsValue policy_constraints (id_ce 36) extensions v.policy_constraints
-    × (v.has_long_text ≡ has_long_text v.certificate_policies)
+    × (IsTrue v.are_policies_distinct ↔ AreDistinct (policy_identifiers (policies_of v.certificate_policies)))
+    × (v.has_long_text ≡ has_faulty_notice Long v.certificate_policies)
+    × (v.has_empty_text ≡ has_faulty_notice NoText v.certificate_policies)
+    × (v.has_old_text ≡ has_faulty_notice OldType v.certificate_policies)
+    × (v.has_ia5_text ≡ has_faulty_notice Ia5Type v.certificate_policies)
+    × (v.has_control ≡ has_faulty_notice Control v.certificate_policies)
+    × (v.has_reference ≡ has_faulty_notice Reference v.certificate_policies)
 
 abbrev pub AreConstraintValues : List Extension → ConstraintValues → Type 0
 AreConstraintValues extensions v = IsValue name_constraints (id_ce 30) extensions v.name_constraints
@@ -71,6 +100,8 @@ AreCrlValues extensions v =
     IsValue authority_key_identifier (id_ce 35) extensions v.authority_key_identifier
     × IsValue crl_number (id_ce 20) extensions v.crl_number
     × IsValue issuing_distribution_point (id_ce 28) extensions v.issuing_distribution_point
+    × IsValue freshest_crl (id_ce 46) extensions v.freshest_crl
+    × IsValue authority_info_access_syntax (id_pkix 1 1) extensions v.authority_info_access
 
 -- ---- octets of extensions (RFC 5280 4.2)
 
@@ -81,7 +112,7 @@ IsWellFormedAs {T} form oid e = e.extn_id ≡ oid → (value : T) × Spells form
 unfoldable pub AreKeysWellFormed : Extension → Type 0
 AreKeysWellFormed e =
     IsWellFormedAs authority_key_identifier (id_ce 35) e × IsWellFormedAs subject_key_identifier (id_ce 14) e × IsWellFormedAs key_usage (id_ce 15) e
-    × IsWellFormedAs extended_key_usage (id_ce 37) e × IsWellFormedAs private_key_usage_period (id_ce 16) e × IsWellFormedAs basic_constraints (id_ce 19) e
+    × IsWellFormedAs extended_key_usage (id_ce 37) e × IsWellFormedAs private_key_usage_period (id_ce 16) e × IsWellFormedAs any_basic_constraints (id_ce 19) e
 
 unfoldable pub AreNamesWellFormed : Extension → Type 0
 AreNamesWellFormed e =
@@ -98,6 +129,17 @@ ArePoliciesWellFormed e =
 unfoldable pub IsWellFormed : Extension → Type 0
 IsWellFormed e = AreKeysWellFormed e × AreNamesWellFormed e × ArePoliciesWellFormed e
 
+-- where it has the OID of a type of RFC 5280 5.2, its octets spell a value of the type
+unfoldable pub IsCrlWellFormed : Extension → Type 0
+IsCrlWellFormed e =
+    IsWellFormedAs authority_key_identifier (id_ce 35) e × IsWellFormedAs issuer_alt_name (id_ce 18) e × IsWellFormedAs crl_number (id_ce 20) e
+    × IsWellFormedAs base_crl_number (id_ce 27) e × IsWellFormedAs issuing_distribution_point (id_ce 28) e × IsWellFormedAs freshest_crl (id_ce 46) e
+    × IsWellFormedAs authority_info_access_syntax (id_pkix 1 1) e
+
+-- no two extensions of the entry have one OID (RFC 5280 5.3)
+unfoldable pub IsDistinct : RevokedCert Raw → Type 0
+IsDistinct entry = IsRepeated (members entry.crl_entry_extensions) → ⊥
+
 -- ---- what is asked once
 
 abbrev pub AreCertificateFacts : Certificate → CertificateFacts → Type 0
@@ -110,6 +152,9 @@ abbrev pub AreCrlFacts : Crl → CrlFacts → Type 0
 AreCrlFacts l facts =
     (IsTrue facts.algorithms_differ ↔ (l.tbs_cert_list.signature ≢ l.signature_algorithm))
     × (IsTrue facts.is_repeated ↔ IsRepeated (crl_extensions_of l))
+    × (IsTrue facts.are_well_formed ↔ All IsCrlWellFormed (crl_extensions_of l))
+    × (IsTrue facts.are_serials_distinct ↔ AreDistinct (serials (entries l.tbs_cert_list.revoked_certificates)))
+    × (IsTrue facts.are_entries_distinct ↔ All IsDistinct (entries l.tbs_cert_list.revoked_certificates))
 
 -- ---- all of it
 

@@ -2,7 +2,7 @@
 use Rattle.std.specs.Prelude.{◌≡◌, ℕ, List, ◌++◌, codes}
 use Rattle.x509_lint.specs.declared.entry.Entry.{Entry}
 use Rattle.x509_lint.specs.declared.entry.Severity.{Severity}
-use Rattle.x509_lint.specs.declared.entry.Severity.TheVariants.{Error, Warning}
+use Rattle.x509_lint.specs.declared.entry.Severity.TheVariants.{Error, Warning, NotJudged}
 
 pub record Wording : Type 0 where
   pub severity : Severity
@@ -17,6 +17,10 @@ must name section = record { severity = Error; name = name; section = section }
 abbrev pub should : List ℕ → List ℕ → Wording
 should name section = record { severity = Warning; name = name; section = section }
 
+-- the section allows it, and this library doesn't read it
+abbrev pub not_judged : List ℕ → List ℕ → Wording
+not_judged name section = record { severity = NotJudged; name = name; section = section }
+
 -- the entry has this wording
 abbrev pub Says : Entry → Wording → Type 0
 Says entry wording = (entry.severity ≡ wording.severity) × (entry.name.now ≡ wording.name) × (entry.section.now ≡ wording.section)
@@ -24,6 +28,7 @@ Says entry wording = (entry.severity ≡ wording.severity) × (entry.name.now �
 abbrev pub severity_text : Severity → List ℕ
 severity_text Error = codes "error"
 severity_text Warning = codes "warning"
+severity_text NotJudged = codes "not judged"
 
 -- as `error serial_number_not_positive (RFC 5280 4.1.2.2)`
 abbrev pub wording_text : Wording → List ℕ

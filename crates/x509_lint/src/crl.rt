@@ -4,12 +4,14 @@ ghost use Rattle.std.specs.Prelude.{◌≡◌, IfErr, IfOk};
 ghost use Rattle.x509_cert.specs.der.declared.error.ErrorKind.TheVariants.{Memory};
 ghost use Rattle.x509_lint.specs.Rules.{AreCrlFindings};
 
+mod entry;
 mod extension;
 mod field;
 
 use crate::facts::crl_facts;
 use crate::group::add_broken;
 use crate::rule::Rule;
+use crate::rule::crl_entry::CRL_ENTRY_RULES;
 use crate::rule::crl_extension::CRL_EXTENSION_RULES;
 use crate::rule::crl_field::CRL_FIELD_RULES;
 use crate::values::crl_values;
@@ -20,7 +22,7 @@ use x509_cert::der::Error;
 use x509_cert::ext::members;
 
 /// The rules of RFC 5280 5.1 to 5.3 that the CRL breaks, in the order of `crl_rules` in `specs/Rules.antt`: those on its
-/// fields, then those on its extensions; in each of these by section.
+/// fields, then those on its extensions, then those on the extensions of its entries; in each of these by section.
 ///
 /// # Errors
 ///
@@ -34,5 +36,6 @@ pub fn lint_crl(alloc: Global, crl: &CertificateList<Raw>) -> Result<Vec<Rule>, 
     add_broken(crl, &facts, &CRL_FIELD_RULES, &mut findings)?;
     let values = crl_values(alloc, members(crl.tbs_cert_list.crl_extensions.as_ref()))?;
     add_broken(crl, &values, &CRL_EXTENSION_RULES, &mut findings)?;
+    add_broken(crl, &values, &CRL_ENTRY_RULES, &mut findings)?;
     Ok(findings)
 }

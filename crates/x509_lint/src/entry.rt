@@ -1,11 +1,11 @@
 //! How a rule is told.
 
 ghost use Rattle.std.specs.Prelude.{Some};
-ghost use Rattle.x509_lint.specs.Wording.{Says, must, should, severity_text};
+ghost use Rattle.x509_lint.specs.Wording.{Says, must, not_judged, should, severity_text};
 
 use std::fmt;
 
-/// How bad it is to break a rule. It is printed as `error` or `warning`.
+/// How bad it is to break a rule. It is printed as `error`, `warning` or `not judged`.
 #[derive(Clone, Copy, Debug, PartialEq, Eq)]
 pub enum Severity {
     /// RFC 5280 says MUST or MUST NOT, or its grammar has a size or a type that isn't met.
@@ -13,6 +13,9 @@ pub enum Severity {
 
     /// RFC 5280 says SHOULD or SHOULD NOT.
     Warning,
+
+    /// RFC 5280 allows it, and this library doesn't read it: rules on it aren't judged.
+    NotJudged,
 }
 
 /// How bad it is to break a rule, its name, and its section of RFC 5280.
@@ -50,6 +53,17 @@ pub(crate) fn should(name: &'static str, section: &'static str) -> Entry
     }
 }
 
+/// The entry of what RFC 5280 allows and this library doesn't read.
+pub(crate) fn not_judged(name: &'static str, section: &'static str) -> Entry
+    ensures { Says result (not_judged name.now section.now) }
+{
+    Entry {
+        severity: Severity::NotJudged,
+        name,
+        section,
+    }
+}
+
 impl fmt::Display for Severity {
     ghost output = { λ severity. Some (severity_text severity) };
 
@@ -57,6 +71,7 @@ impl fmt::Display for Severity {
         f.write_str(match self {
             Severity::Error => "error",
             Severity::Warning => "warning",
+            Severity::NotJudged => "not judged",
         })
     }
 }

@@ -5,18 +5,20 @@ ghost use Rattle.std.specs.Option.{option_copied};
 ghost use Rattle.std.specs.Prelude.{◌≡◌, ◌↔◌, ◌&&◌, not, Some, IfOk, IfErr, IsTrue};
 ghost use Rattle.x509_cert.specs.der.declared.error.ErrorKind.TheVariants.{Memory};
 ghost use Rattle.x509_cert.specs.der.Form.{Spells};
-ghost use Rattle.x509_lint.specs.Values.{AreKeysWellFormed, AreNamesWellFormed, ArePoliciesWellFormed, IsWellFormed, IsWellFormedAs};
+ghost use Rattle.x509_lint.specs.Values.{AreKeysWellFormed, AreNamesWellFormed, ArePoliciesWellFormed, IsCrlWellFormed, IsWellFormed, IsWellFormedAs};
 ghost use Rattle.x509_lint.specs.Words.{IsValue, extensions_of, has, has_critical, has_uncritical, is_empty, is_of, passes};
 
+use crate::basic_constraints::AnyBasicConstraints;
 use std::alloc::Global;
 use x509_cert::certificate::{CertificateInner, Raw};
 use x509_cert::der::asn1::SequenceOf;
 use x509_cert::der::{AssociatedOid, Decode, Error, ErrorKind};
 use x509_cert::ext::pkix::{
-    AuthorityInfoAccessSyntax, AuthorityKeyIdentifier, BasicConstraints, CertificatePolicies,
-    CrlDistributionPoints, ExtendedKeyUsage, FreshestCrl, InhibitAnyPolicy, IssuerAltName,
-    KeyUsage, NameConstraints, PolicyConstraints, PolicyMappings, PrivateKeyUsagePeriod,
-    SubjectAltName, SubjectDirectoryAttributes, SubjectInfoAccessSyntax, SubjectKeyIdentifier,
+    AuthorityInfoAccessSyntax, AuthorityKeyIdentifier, BaseCrlNumber, CertificatePolicies,
+    CrlDistributionPoints, CrlNumber, ExtendedKeyUsage, FreshestCrl, InhibitAnyPolicy,
+    IssuerAltName, IssuingDistributionPoint, KeyUsage, NameConstraints, PolicyConstraints,
+    PolicyMappings, PrivateKeyUsagePeriod, SubjectAltName, SubjectDirectoryAttributes,
+    SubjectInfoAccessSyntax, SubjectKeyIdentifier,
 };
 use x509_cert::ext::{Extension, Extensions, get_extension, members};
 
@@ -28,19 +30,19 @@ pub(crate) fn extensions_of(certificate: &CertificateInner<Raw>) -> &[Extension]
 }
 
 /// Whether the extension has the OID of the type.
-fn is_of<T: AssociatedOid>(extension: &Extension) -> bool
+pub(crate) fn is_of<T: AssociatedOid>(extension: &Extension) -> bool
     ensures { result ≡ is_of T.OID extension.now }
 {
     extension.extn_id == T::OID
 }
 
-fn is_critical<T: AssociatedOid>(extension: &Extension) -> bool
+pub(crate) fn is_critical<T: AssociatedOid>(extension: &Extension) -> bool
     ensures { result ≡ (is_of T.OID extension.now && extension.now.critical) }
 {
     is_of::<T>(extension) && extension.critical
 }
 
-fn is_uncritical<T: AssociatedOid>(extension: &Extension) -> bool
+pub(crate) fn is_uncritical<T: AssociatedOid>(extension: &Extension) -> bool
     ensures { result ≡ (is_of T.OID extension.now && not extension.now.critical) }
 {
     is_of::<T>(extension) && !extension.critical
@@ -148,7 +150,7 @@ fn are_keys_well_formed(alloc: Global, extension: &Extension) -> Result<bool, Er
             && is_well_formed_as::<KeyUsage>(alloc, extension)?
             && is_well_formed_as::<ExtendedKeyUsage>(alloc, extension)?
             && is_well_formed_as::<PrivateKeyUsagePeriod>(alloc, extension)?
-            && is_well_formed_as::<BasicConstraints>(alloc, extension)?,
+            && is_well_formed_as::<AnyBasicConstraints>(alloc, extension)?,
     )
 }
 
@@ -194,6 +196,35 @@ fn is_well_formed(alloc: Global, extension: &Extension) -> Result<bool, Error>
         return Ok(false);
     }
     are_policies_well_formed(alloc, extension)
+}
+
+#[tactic(auto, unfolding(crate::specs::Values::IsCrlWellFormed))]
+fn is_crl_well_formed(alloc: Global, extension: &Extension) -> Result<bool, Error>
+    ensures ok { IfOk result (λ b. IsTrue b ↔ IsCrlWellFormed extension.now) }
+    ensures err { IfErr result (λ e. e.kind ≡ Memory) }
+{
+    Ok(
+        is_well_formed_as::<AuthorityKeyIdentifier>(alloc, extension)?
+            && is_well_formed_as::<IssuerAltName>(alloc, extension)?
+            && is_well_formed_as::<CrlNumber>(alloc, extension)?
+            && is_well_formed_as::<BaseCrlNumber>(alloc, extension)?
+            && is_well_formed_as::<IssuingDistributionPoint>(alloc, extension)?
+            && is_well_formed_as::<FreshestCrl>(alloc, extension)?
+            && is_well_formed_as::<AuthorityInfoAccessSyntax>(alloc, extension)?,
+    )
+}
+
+/// Whether the octets of each extension of a CRL are an encoding of the type that RFC 5280 has for its OID, where it has one.
+pub(crate) fn are_crl_well_formed(alloc: Global, extensions: &[Extension]) -> Result<bool, Error>
+    ensures ok { IfOk result (λ b. IsTrue b ↔ All IsCrlWellFormed extensions.now) }
+    ensures err { IfErr result (λ e. e.kind ≡ Memory) }
+{
+    for extension in extensions {
+        if !is_crl_well_formed(alloc, extension)? {
+            return Ok(false);
+        }
+    }
+    Ok(true)
 }
 
 /// Whether the octets of each extension are an encoding of the type that RFC 5280 has for its OID, where it has one.

@@ -4,7 +4,9 @@ ghost use Rattle.std.specs.Prelude.{◌≡◌, ◌≢◌, ◌↔◌, IsTrue, IfO
 ghost use Rattle.x509_cert.specs.der.declared.error.ErrorKind.TheVariants.{Memory};
 ghost use Rattle.x509_lint.specs.Values.{AreCertificateFacts, AreCrlFacts};
 
-use crate::extensions::{are_well_formed, extensions_of};
+use crate::entries::are_entries_distinct;
+use crate::extensions::{are_crl_well_formed, are_well_formed, extensions_of};
+use crate::repeats::are_serials_distinct;
 use std::alloc::Global;
 use x509_cert::certificate::{CertificateInner, Raw};
 use x509_cert::crl::CertificateList;
@@ -33,6 +35,15 @@ pub(crate) struct CrlFacts {
 
     /// Two extensions have one OID.
     pub(crate) is_repeated: bool,
+
+    /// The octets of each extension are an encoding of the type that RFC 5280 has for its OID, where it has one.
+    pub(crate) are_well_formed: bool,
+
+    /// No two entries have one serial number.
+    pub(crate) are_serials_distinct: bool,
+
+    /// No two extensions of one entry have one OID.
+    pub(crate) are_entries_distinct: bool,
 }
 
 fn do_algorithms_differ(certificate: &CertificateInner<Raw>) -> bool
@@ -74,12 +85,16 @@ pub(crate) fn crl_facts(alloc: Global, crl: &CertificateList<Raw>) -> Result<Crl
     ensures err { IfErr result (λ e. e.kind ≡ Memory) }
 {
     let algorithms_differ = do_crl_algorithms_differ(crl);
-    let is_repeated = has_repeated_extension(
-        alloc,
-        members(crl.tbs_cert_list.crl_extensions.as_ref()),
-    )?;
+    let extensions = members(crl.tbs_cert_list.crl_extensions.as_ref());
+    let is_repeated = has_repeated_extension(alloc, extensions)?;
+    let are_well_formed = are_crl_well_formed(alloc, extensions)?;
+    let are_serials_distinct = are_serials_distinct(alloc, crl.tbs_cert_list.entries())?;
+    let are_entries_distinct = are_entries_distinct(alloc, crl.tbs_cert_list.entries())?;
     Ok(CrlFacts {
         algorithms_differ,
         is_repeated,
+        are_well_formed,
+        are_serials_distinct,
+        are_entries_distinct,
     })
 }

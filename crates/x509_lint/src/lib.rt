@@ -3,16 +3,21 @@
 //! Words of our own are explained in `docs/MAP.md`.
 #![tactic(auto)]
 
+mod basic_constraints;
 mod certificate;
 mod crl;
+mod entries;
 mod entry;
 mod extensions;
 mod facts;
 mod group;
 mod names;
 mod notices;
+mod places;
+mod repeats;
 mod report;
 pub mod rule;
+mod texts;
 mod times;
 mod values;
 

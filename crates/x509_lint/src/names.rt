@@ -2,8 +2,9 @@
 
 ghost use Rattle.std.specs.List.{list_all, list_any, slice_split};
 ghost use Rattle.std.specs.Option.{option_copied};
-ghost use Rattle.std.specs.Prelude.{◌≡◌, ◌==◌};
-ghost use Rattle.x509_lint.specs.Alternative.{behind_wildcard, is_dns_name, is_empty_name, is_label, is_letter_digit_hyphen, is_letter_or_digit, is_no_address, is_no_dns_name};
+ghost use Rattle.std.specs.Prelude.{◌≡◌, ◌==◌, ◌/◌, drop, length};
+ghost use Rattle.x509_lint.specs.Alternative.{atom_marks, begins_with, behind_wildcard, is_absolute, is_absolute_behind, is_atom_octet, is_dns_name, is_domain, is_mailbox, is_no_mailbox, is_relative, is_rfc822_name, is_scheme_octet, is_empty_name, is_label, is_letter_digit_hyphen, is_letter_or_digit, is_no_address, is_no_dns_name};
+ghost use Rattle.x509_lint.specs.Constraint.{behind_dot, has_fault, has_odd_mask, is_mask, is_no_host, is_no_range, is_other_form, is_partial, is_range};
 ghost use Rattle.x509_lint.specs.Name.{has_empty_rdn, has_no_country, is_country, is_letter, is_no_country, is_printable};
 ghost use Rattle.x509_lint.specs.Words.{is_empty, passes};
 
@@ -185,6 +186,244 @@ pub(crate) fn is_no_address(name: &GeneralName) -> bool
         GeneralName::IpAddress(octets) => {
             let len = octets.as_bytes().len();
             len != 0 && len != 4 && len != 16
+        }
+        _ => false,
+    }
+}
+
+/// What may be wrong with the base of a subtree (RFC 5280 4.2.1.10).
+#[derive(Clone, Copy, Debug, PartialEq, Eq)]
+pub(crate) enum BaseFault {
+    /// It is of a form that isn't to be constrained.
+    OtherForm,
+
+    /// It is a URI, and no host.
+    NoHost,
+
+    /// It is an address, and not one with a mask.
+    NoRange,
+
+    /// It is an address with a mask that isn't ones and zeros behind them.
+    OddMask,
+}
+
+fn behind_dot(text: &[u8]) -> &[u8]
+    ensures { result.now ≡ behind_dot text.now }
+{
+    match text {
+        [b'.', octets @ ..] => octets,
+        _ => text,
+    }
+}
+
+fn is_range(octets: &[u8]) -> bool
+    ensures { result ≡ is_range octets.now }
+{
+    octets.len() == 8 || octets.len() == 32
+}
+
+fn is_partial(octet: u8) -> bool
+    ensures { result ≡ is_partial octet }
+{
+    [0, 128, 192, 224, 240, 248, 252, 254]
+        .iter()
+        .any(|part| *part == octet)
+}
+
+fn are_zeros(octets: &[u8]) -> bool
+    ensures { result ≡ list_all (λ octet. octet == 0) octets.now }
+{
+    octets.iter().all(|octet| *octet == 0)
+}
+
+/// Whether the octets are ones and zeros behind them.
+fn is_mask(mut octets: &[u8]) -> bool
+    ensures { result ≡ is_mask octets.entry.now }
+{
+    while let [first, rest @ ..] = octets {
+        if *first != 255 {
+            return is_partial(*first) && are_zeros(rest);
+        }
+        octets = rest;
+    }
+    true
+}
+
+/// Whether the second half of the octets is such a mask.
+fn ends_in_mask(octets: &[u8]) -> bool
+    ensures { result ≡ is_mask (drop (length octets.now / 2) octets.now) }
+{
+    is_mask(&octets[octets.len() / 2..])
+}
+
+fn is_other_form(base: &GeneralName) -> bool
+    ensures { result ≡ is_other_form base.now }
+{
+    match base {
+        GeneralName::EdiPartyName(_) | GeneralName::RegisteredId(_) => true,
+        _ => false,
+    }
+}
+
+fn is_no_host(base: &GeneralName) -> bool
+    ensures { result ≡ is_no_host base.now }
+{
+    match base {
+        GeneralName::UniformResourceIdentifier(text) => {
+            !are_labels(behind_dot(text.as_str().as_bytes()))
+        }
+        _ => false,
+    }
+}
+
+fn is_no_range(base: &GeneralName) -> bool
+    ensures { result ≡ is_no_range base.now }
+{
+    match base {
+        GeneralName::IpAddress(octets) => !is_range(octets.as_bytes()),
+        _ => false,
+    }
+}
+
+fn has_odd_mask(base: &GeneralName) -> bool
+    ensures { result ≡ has_odd_mask base.now }
+{
+    match base {
+        GeneralName::IpAddress(octets) => {
+            is_range(octets.as_bytes()) && !ends_in_mask(octets.as_bytes())
+        }
+        _ => false,
+    }
+}
+
+/// Whether the base of a subtree has the fault.
+pub(crate) fn is_faulty_base(fault: BaseFault, base: &GeneralName) -> bool
+    ensures { result ≡ has_fault fault base.now }
+{
+    match fault {
+        BaseFault::OtherForm => is_other_form(base),
+        BaseFault::NoHost => is_no_host(base),
+        BaseFault::NoRange => is_no_range(base),
+        BaseFault::OddMask => has_odd_mask(base),
+    }
+}
+
+const ATOM_MARKS: [u8; 19] = *b"!#$%&'*+-/=?^_`{|}~";
+
+fn is_atom_octet(octet: u8) -> bool
+    ensures { result ≡ is_atom_octet octet }
+{
+    is_letter_or_digit(octet) || is_atom_mark(octet)
+}
+
+fn is_atom_mark(octet: u8) -> bool
+    ensures { result ≡ list_any (λ mark. mark == octet) atom_marks }
+{
+    ATOM_MARKS.iter().any(|mark| *mark == octet)
+}
+
+fn begins_with(octet: u8, text: &[u8]) -> bool
+    ensures { result ≡ begins_with octet text.now }
+{
+    match text.first() {
+        Some(first) => *first == octet,
+        None => false,
+    }
+}
+
+fn is_domain(text: &[u8]) -> bool
+    ensures { result ≡ is_domain text.now }
+{
+    are_labels(text) || begins_with(b'[', text)
+}
+
+/// Whether the text is a mailbox.
+fn is_mailbox(mut text: &[u8]) -> bool
+    ensures { result ≡ is_mailbox text.entry.now }
+{
+    let mut in_atom = false;
+    while let [first, rest @ ..] = text {
+        if *first == b'@' {
+            return in_atom && is_domain(rest);
+        }
+        if *first == b'.' {
+            if !in_atom {
+                return false;
+            }
+            in_atom = false;
+        } else {
+            if !is_atom_octet(*first) {
+                return false;
+            }
+            in_atom = true;
+        }
+        text = rest;
+    }
+    false
+}
+
+/// Whether the name is an rfc822Name that isn't empty, has no quoted part in front, and isn't a mailbox.
+pub(crate) fn is_no_mailbox(name: &GeneralName) -> bool
+    ensures { result ≡ is_no_mailbox name.now }
+{
+    match name {
+        GeneralName::Rfc822Name(text) => {
+            let text = text.as_str().as_bytes();
+            !text.is_empty() && (!begins_with(b'"', text) && !is_mailbox(text))
+        }
+        _ => false,
+    }
+}
+
+/// Whether the name is an rfc822Name.
+pub(crate) fn is_rfc822_name(name: &GeneralName) -> bool
+    ensures { result ≡ is_rfc822_name name.now }
+{
+    match name {
+        GeneralName::Rfc822Name(_) => true,
+        _ => false,
+    }
+}
+
+fn is_scheme_octet(octet: u8) -> bool
+    ensures { result ≡ is_scheme_octet octet }
+{
+    is_letter_or_digit(octet) || (octet == b'+' || (octet == b'-' || octet == b'.'))
+}
+
+/// Whether the octets are ones of a scheme, a colon, and something behind it.
+fn is_absolute_behind(mut text: &[u8]) -> bool
+    ensures { result ≡ is_absolute_behind text.entry.now }
+{
+    while let [first, rest @ ..] = text {
+        if *first == b':' {
+            return !rest.is_empty();
+        }
+        if !is_scheme_octet(*first) {
+            return false;
+        }
+        text = rest;
+    }
+    false
+}
+
+fn is_absolute(text: &[u8]) -> bool
+    ensures { result ≡ is_absolute text.now }
+{
+    match text {
+        [first, rest @ ..] => is_letter(*first) && is_absolute_behind(rest),
+        [] => false,
+    }
+}
+
+/// Whether the name is a URI that isn't empty, and has no scheme or nothing behind it.
+pub(crate) fn is_relative(name: &GeneralName) -> bool
+    ensures { result ≡ is_relative name.now }
+{
+    match name {
+        GeneralName::UniformResourceIdentifier(text) => {
+            let text = text.as_str().as_bytes();
+            !text.is_empty() && !is_absolute(text)
         }
         _ => false,
     }

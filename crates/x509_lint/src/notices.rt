@@ -1,10 +1,11 @@
-//! Texts of user notices that are too long (RFC 5280 4.2.1.4).
+//! What is asked of user notices (RFC 5280 4.2.1.4).
 
 ghost use Rattle.std.specs.List.{list_any};
 ghost use Rattle.std.specs.Prelude.{◌≡◌, IfOk, IfErr, length};
 ghost use Rattle.std.specs.Str.{chars};
 ghost use Rattle.x509_cert.specs.der.declared.error.ErrorKind.TheVariants.{Memory};
 ghost use Rattle.x509_lint.specs.Notices as notices;
+ghost use Rattle.x509_lint.specs.Words.{passes};
 
 use std::alloc::Global;
 use x509_cert::der::asn1::{Any, ObjectIdentifier};
@@ -16,13 +17,13 @@ use x509_cert::ext::pkix::certpolicy::{
 use x509_der::oid;
 
 /// id-qt-unotice, 1.3.6.1.5.5.7.2.2 (RFC 5280 4.2.1.4).
-const USER_NOTICE: ObjectIdentifier = oid!(0x2B, 0x06, 0x01, 0x05, 0x05, 0x07, 2, 2);
+pub(crate) const USER_NOTICE: ObjectIdentifier = oid!(0x2B, 0x06, 0x01, 0x05, 0x05, 0x07, 2, 2);
 
 /// The most characters that an explicit text has (RFC 5280 4.2.1.4).
 const MAX_CHARS: usize = 200;
 
 /// How many characters a text in UTF-8 has.
-fn count_chars(text: &str) -> usize
+pub(crate) fn count_chars(text: &str) -> usize
     ensures { result ≡ length (chars text.now) }
 {
     text.chars().count()
@@ -40,24 +41,110 @@ fn char_count(text: &DisplayText) -> usize
     }
 }
 
-/// Whether the explicit text of a notice is too long.
-fn is_long_notice(notice: &UserNotice) -> bool
-    ensures { result ≡ notices.is_long_notice notice.now }
+/// What may be wrong with a user notice (RFC 5280 4.2.1.4).
+#[derive(Clone, Copy, Debug, PartialEq, Eq)]
+pub(crate) enum NoticeFault {
+    /// Its explicit text is too long.
+    Long,
+
+    /// Its explicit text has no characters.
+    NoText,
+
+    /// Its explicit text is a VisibleString or a BMPString.
+    OldType,
+
+    /// Its explicit text is an IA5String.
+    Ia5Type,
+
+    /// Its explicit text has control characters.
+    Control,
+
+    /// There is a noticeRef.
+    Reference,
+}
+
+fn is_old_text(text: &DisplayText) -> bool
+    ensures { result ≡ notices.is_old_text text.now }
 {
-    match &notice.explicit_text {
-        Some(text) => char_count(text) > MAX_CHARS,
+    match text {
+        DisplayText::VisibleString(_) | DisplayText::BmpString(_) => true,
+        _ => false,
+    }
+}
+
+fn is_ia5_text(text: &DisplayText) -> bool
+    ensures { result ≡ notices.is_ia5_text text.now }
+{
+    match text {
+        DisplayText::Ia5String(_) => true,
+        _ => false,
+    }
+}
+
+fn are_controls(octets: &[u8]) -> bool
+    ensures { result ≡ list_any notices.is_control octets.now }
+{
+    octets.iter().any(|octet| *octet < 32 || *octet == 127)
+}
+
+fn has_control(text: &DisplayText) -> bool
+    ensures { result ≡ notices.has_control text.now }
+{
+    match text {
+        DisplayText::Ia5String(text) => are_controls(text.as_str().as_bytes()),
+        DisplayText::VisibleString(text) => are_controls(text.as_str().as_bytes()),
+        DisplayText::BmpString(_) => false,
+        DisplayText::Utf8String(text) => are_controls(text.as_str().as_bytes()),
+    }
+}
+
+fn is_faulty_text(fault: NoticeFault, text: &DisplayText) -> bool
+    ensures { result ≡ notices.is_faulty_text fault text.now }
+{
+    match fault {
+        NoticeFault::Long => char_count(text) > MAX_CHARS,
+        NoticeFault::NoText => char_count(text) == 0,
+        NoticeFault::OldType => is_old_text(text),
+        NoticeFault::Ia5Type => is_ia5_text(text),
+        NoticeFault::Control => has_control(text),
+        NoticeFault::Reference => false,
+    }
+}
+
+/// Whether a notice has the fault.
+fn is_faulty_notice(fault: NoticeFault, notice: &UserNotice) -> bool
+    ensures { result ≡ notices.is_faulty_notice fault notice.now }
+{
+    has_faulty_text(fault, &notice.explicit_text)
+        || (is_reference(fault) && notice.notice_ref.is_some())
+}
+
+fn has_faulty_text(fault: NoticeFault, text: &Option<DisplayText>) -> bool
+    ensures { result ≡ passes (notices.is_faulty_text fault) text.now }
+{
+    match text {
+        Some(text) => is_faulty_text(fault, text),
         None => false,
     }
 }
 
-/// Whether an element is the encoding of a notice with such a text.
-#[tactic(auto, unfolding(crate::specs::Notices::is_long_element))]
-fn is_long_element(alloc: Global, element: &Any) -> Result<bool, Error>
-    ensures ok { IfOk result (λ is_long. is_long ≡ notices.is_long_element element.now) }
+fn is_reference(fault: NoticeFault) -> bool
+    ensures { result ≡ notices.is_reference fault }
+{
+    match fault {
+        NoticeFault::Reference => true,
+        _ => false,
+    }
+}
+
+/// Whether an element is the encoding of a notice with the fault.
+#[tactic(auto, unfolding(crate::specs::Notices::is_faulty_element))]
+fn is_faulty_element(alloc: Global, fault: NoticeFault, element: &Any) -> Result<bool, Error>
+    ensures ok { IfOk result (λ is_faulty. is_faulty ≡ notices.is_faulty_element fault element.now) }
     ensures err { IfErr result (λ e. e.kind ≡ Memory) }
 {
     match element.decode_as::<UserNotice>(alloc) {
-        Ok(notice) => Ok(is_long_notice(&notice)),
+        Ok(notice) => Ok(is_faulty_notice(fault, &notice)),
         Err(e) => match e.kind() {
             ErrorKind::Memory => Err(ErrorKind::Memory.into()),
             _ => Ok(false),
@@ -65,27 +152,35 @@ fn is_long_element(alloc: Global, element: &Any) -> Result<bool, Error>
     }
 }
 
-/// Whether a qualifier is a notice with such a text.
-fn is_long_qualifier(alloc: Global, qualifier: &PolicyQualifierInfo) -> Result<bool, Error>
-    ensures ok { IfOk result (λ is_long. is_long ≡ notices.is_long_qualifier qualifier.now) }
+/// Whether a qualifier is a notice with the fault.
+fn is_faulty_qualifier(
+    alloc: Global,
+    fault: NoticeFault,
+    qualifier: &PolicyQualifierInfo,
+) -> Result<bool, Error>
+    ensures ok { IfOk result (λ is_faulty. is_faulty ≡ notices.is_faulty_qualifier fault qualifier.now) }
     ensures err { IfErr result (λ e. e.kind ≡ Memory) }
 {
     if qualifier.policy_qualifier_id != USER_NOTICE {
         return Ok(false);
     }
     match &qualifier.qualifier {
-        Some(element) => is_long_element(alloc, element),
+        Some(element) => is_faulty_element(alloc, fault, element),
         None => Ok(false),
     }
 }
 
 /// Whether one of the qualifiers is.
-fn are_long_qualifiers(alloc: Global, mut qualifiers: &[PolicyQualifierInfo]) -> Result<bool, Error>
-    ensures ok { IfOk result (λ is_long. is_long ≡ notices.are_long_qualifiers qualifiers.entry.now) }
+fn are_faulty_qualifiers(
+    alloc: Global,
+    fault: NoticeFault,
+    mut qualifiers: &[PolicyQualifierInfo],
+) -> Result<bool, Error>
+    ensures ok { IfOk result (λ is_faulty. is_faulty ≡ notices.are_faulty_qualifiers fault qualifiers.entry.now) }
     ensures err { IfErr result (λ e. e.kind ≡ Memory) }
 {
     while let [first, rest @ ..] = qualifiers {
-        if is_long_qualifier(alloc, first)? {
+        if is_faulty_qualifier(alloc, fault, first)? {
             return Ok(true);
         }
         qualifiers = rest;
@@ -94,23 +189,31 @@ fn are_long_qualifiers(alloc: Global, mut qualifiers: &[PolicyQualifierInfo]) ->
 }
 
 /// Whether a policy has such a qualifier.
-fn is_long_policy(alloc: Global, policy: &PolicyInformation) -> Result<bool, Error>
-    ensures ok { IfOk result (λ is_long. is_long ≡ notices.is_long_policy policy.now) }
+fn is_faulty_policy(
+    alloc: Global,
+    fault: NoticeFault,
+    policy: &PolicyInformation,
+) -> Result<bool, Error>
+    ensures ok { IfOk result (λ is_faulty. is_faulty ≡ notices.is_faulty_policy fault policy.now) }
     ensures err { IfErr result (λ e. e.kind ≡ Memory) }
 {
     match &policy.policy_qualifiers {
-        Some(qualifiers) => are_long_qualifiers(alloc, qualifiers.as_slice()),
+        Some(qualifiers) => are_faulty_qualifiers(alloc, fault, qualifiers.as_slice()),
         None => Ok(false),
     }
 }
 
 /// Whether one of the policies has.
-fn are_long_policies(alloc: Global, mut policies: &[PolicyInformation]) -> Result<bool, Error>
-    ensures ok { IfOk result (λ is_long. is_long ≡ list_any notices.is_long_policy policies.entry.now) }
+fn are_faulty_policies(
+    alloc: Global,
+    fault: NoticeFault,
+    mut policies: &[PolicyInformation],
+) -> Result<bool, Error>
+    ensures ok { IfOk result (λ is_faulty. is_faulty ≡ list_any (notices.is_faulty_policy fault) policies.entry.now) }
     ensures err { IfErr result (λ e. e.kind ≡ Memory) }
 {
     while let [first, rest @ ..] = policies {
-        if is_long_policy(alloc, first)? {
+        if is_faulty_policy(alloc, fault, first)? {
             return Ok(true);
         }
         policies = rest;
@@ -118,16 +221,17 @@ fn are_long_policies(alloc: Global, mut policies: &[PolicyInformation]) -> Resul
     Ok(false)
 }
 
-/// Whether some policy has a user notice whose explicit text has more than 200 characters.
-pub(crate) fn has_long_text(
+/// Whether some policy has a user notice with the fault.
+pub(crate) fn has_faulty_notice(
     alloc: Global,
+    fault: NoticeFault,
     policies: &Option<CertificatePolicies>,
 ) -> Result<bool, Error>
-    ensures ok { IfOk result (λ is_long. is_long ≡ notices.has_long_text policies.now) }
+    ensures ok { IfOk result (λ is_faulty. is_faulty ≡ notices.has_faulty_notice fault policies.now) }
     ensures err { IfErr result (λ e. e.kind ≡ Memory) }
 {
     match policies {
-        Some(policies) => are_long_policies(alloc, policies.0.as_slice()),
+        Some(policies) => are_faulty_policies(alloc, fault, policies.0.as_slice()),
         None => Ok(false),
     }
 }

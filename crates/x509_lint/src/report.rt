@@ -34,7 +34,7 @@ fn is_error(rule: &Rule) -> bool
 {
     match rule.severity() {
         Severity::Error => true,
-        Severity::Warning => false,
+        Severity::Warning | Severity::NotJudged => false,
     }
 }
 

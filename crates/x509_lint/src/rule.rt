@@ -11,6 +11,7 @@ pub(crate) mod alternative;
 pub(crate) mod authority;
 pub(crate) mod constraint;
 pub(crate) mod critical;
+pub(crate) mod crl_entry;
 pub(crate) mod crl_extension;
 pub(crate) mod crl_field;
 pub(crate) mod field;
@@ -24,6 +25,7 @@ pub use alternative::AlternativeRule;
 pub use authority::AuthorityRule;
 pub use constraint::ConstraintRule;
 pub use critical::CriticalRule;
+pub use crl_entry::CrlEntryRule;
 pub use crl_extension::CrlExtensionRule;
 pub use crl_field::CrlFieldRule;
 pub use field::FieldRule;
@@ -71,6 +73,9 @@ pub enum Rule {
 
     /// On the extensions of a CRL.
     CrlExtension(CrlExtensionRule),
+
+    /// On the extensions of a CRL's entries.
+    CrlEntry(CrlEntryRule),
 }
 
 impl Rule {
@@ -91,6 +96,7 @@ impl Rule {
             Rule::Point(rule) => rule.entry(),
             Rule::CrlField(rule) => rule.entry(),
             Rule::CrlExtension(rule) => rule.entry(),
+            Rule::CrlEntry(rule) => rule.entry(),
         }
     }
 

@@ -5,8 +5,10 @@ ghost use Rattle.std.specs.Prelude.{◌≡◌, IfOk, IfErr};
 ghost use Rattle.x509_cert.specs.der.declared.error.ErrorKind.TheVariants.{Memory};
 ghost use Rattle.x509_lint.specs.Values.{AreAlternativeValues, AreAuthorityValues, AreConstraintValues, AreCrlValues, AreKeyValues, ArePointValues, ArePolicyValues};
 
+use crate::basic_constraints::AnyBasicConstraints;
 use crate::extensions::payload;
-use crate::notices::has_long_text;
+use crate::notices::{NoticeFault, has_faulty_notice};
+use crate::repeats::are_policies_distinct;
 use std::alloc::Global;
 use x509_cert::der::Error;
 use x509_cert::ext::Extension;
@@ -21,6 +23,9 @@ use x509_cert::ext::pkix::{
 #[derive(Debug)]
 pub(crate) struct AuthorityValues {
     pub(crate) basic_constraints: Option<BasicConstraints>,
+
+    /// The basic constraints with a path length of any size.
+    pub(crate) any_basic_constraints: Option<AnyBasicConstraints>,
     pub(crate) key_usage: Option<KeyUsage>,
 }
 
@@ -28,6 +33,7 @@ impl Drop for AuthorityValues {
     fn drop(self) {
         let AuthorityValues {
             basic_constraints: _,
+            any_basic_constraints: _,
             key_usage: _,
         } = self;
     }
@@ -42,6 +48,7 @@ pub(crate) fn authority_values(
 {
     Ok(AuthorityValues {
         basic_constraints: payload(alloc, extensions)?,
+        any_basic_constraints: payload(alloc, extensions)?,
         key_usage: payload(alloc, extensions)?,
     })
 }
@@ -111,8 +118,26 @@ pub(crate) struct PolicyValues {
     pub(crate) policy_mappings: Option<PolicyMappings>,
     pub(crate) policy_constraints: Option<PolicyConstraints>,
 
+    /// No policy is there twice.
+    pub(crate) are_policies_distinct: bool,
+
     /// Some user notice among the qualifiers has an explicit text over 200 characters.
     pub(crate) has_long_text: bool,
+
+    /// One has an explicit text of no characters.
+    pub(crate) has_empty_text: bool,
+
+    /// One has an explicit text that is a VisibleString or a BMPString.
+    pub(crate) has_old_text: bool,
+
+    /// One has an explicit text that is an IA5String.
+    pub(crate) has_ia5_text: bool,
+
+    /// One has an explicit text with a control character.
+    pub(crate) has_control: bool,
+
+    /// One has a noticeRef.
+    pub(crate) has_reference: bool,
 }
 
 impl Drop for PolicyValues {
@@ -121,7 +146,13 @@ impl Drop for PolicyValues {
             certificate_policies: _,
             policy_mappings: _,
             policy_constraints: _,
+            are_policies_distinct: _,
             has_long_text: _,
+            has_empty_text: _,
+            has_old_text: _,
+            has_ia5_text: _,
+            has_control: _,
+            has_reference: _,
         } = self;
     }
 }
@@ -131,12 +162,24 @@ pub(crate) fn policy_values(alloc: Global, extensions: &[Extension]) -> Result<P
     ensures err { IfErr result (λ e. e.kind ≡ Memory) }
 {
     let certificate_policies = payload(alloc, extensions)?;
-    let has_long_text = has_long_text(alloc, &certificate_policies)?;
+    let are_policies_distinct = are_policies_distinct(alloc, &certificate_policies)?;
+    let has_long_text = has_faulty_notice(alloc, NoticeFault::Long, &certificate_policies)?;
+    let has_empty_text = has_faulty_notice(alloc, NoticeFault::NoText, &certificate_policies)?;
+    let has_old_text = has_faulty_notice(alloc, NoticeFault::OldType, &certificate_policies)?;
+    let has_ia5_text = has_faulty_notice(alloc, NoticeFault::Ia5Type, &certificate_policies)?;
+    let has_control = has_faulty_notice(alloc, NoticeFault::Control, &certificate_policies)?;
+    let has_reference = has_faulty_notice(alloc, NoticeFault::Reference, &certificate_policies)?;
     Ok(PolicyValues {
         certificate_policies,
         policy_mappings: payload(alloc, extensions)?,
         policy_constraints: payload(alloc, extensions)?,
+        are_policies_distinct,
         has_long_text,
+        has_empty_text,
+        has_old_text,
+        has_ia5_text,
+        has_control,
+        has_reference,
     })
 }
 
@@ -207,6 +250,8 @@ pub(crate) struct CrlValues {
     pub(crate) authority_key_identifier: Option<AuthorityKeyIdentifier>,
     pub(crate) crl_number: Option<CrlNumber>,
     pub(crate) issuing_distribution_point: Option<IssuingDistributionPoint>,
+    pub(crate) freshest_crl: Option<FreshestCrl>,
+    pub(crate) authority_info_access: Option<AuthorityInfoAccessSyntax>,
 }
 
 impl Drop for CrlValues {
@@ -215,6 +260,8 @@ impl Drop for CrlValues {
             authority_key_identifier: _,
             crl_number: _,
             issuing_distribution_point: _,
+            freshest_crl: _,
+            authority_info_access: _,
         } = self;
     }
 }
@@ -227,5 +274,7 @@ pub(crate) fn crl_values(alloc: Global, extensions: &[Extension]) -> Result<CrlV
         authority_key_identifier: payload(alloc, extensions)?,
         crl_number: payload(alloc, extensions)?,
         issuing_distribution_point: payload(alloc, extensions)?,
+        freshest_crl: payload(alloc, extensions)?,
+        authority_info_access: payload(alloc, extensions)?,
     })
 }

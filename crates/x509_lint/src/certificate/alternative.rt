@@ -1,14 +1,22 @@
 //! The rules on the alternative names of the subject and the issuer of a certificate.
 
 ghost use Rattle.std.specs.List.{list_any};
-ghost use Rattle.std.specs.Prelude.{◌≡◌};
+ghost use Rattle.std.specs.Prelude.{◌≡◌, not};
 ghost use Rattle.x509_lint.specs.Alternative as grammar;
+ghost use Rattle.x509_lint.specs.Words.{passes};
 
+use crate::extensions::{extensions_of, has};
 use crate::group::Group;
-use crate::names::{is_empty_general_name, is_no_address, is_no_dns_name};
+use crate::names::{
+    is_empty_general_name, is_no_address, is_no_dns_name, is_no_mailbox, is_relative,
+    is_rfc822_name,
+};
 use crate::rule::{AlternativeRule, Rule};
+use crate::texts::has_email;
 use crate::values::AlternativeValues;
 use x509_cert::certificate::{CertificateInner, Raw};
+use x509_cert::ext::Extension;
+use x509_cert::ext::pkix::SubjectAltName;
 use x509_cert::ext::pkix::name::GeneralName;
 
 fn has_empty_name(names: &[GeneralName]) -> bool
@@ -29,6 +37,40 @@ fn has_no_address(names: &[GeneralName]) -> bool
     names.iter().any(|name| is_no_address(name))
 }
 
+fn has_no_mailbox(names: &[GeneralName]) -> bool
+    ensures { result ≡ list_any grammar.is_no_mailbox names.now }
+{
+    names.iter().any(|name| is_no_mailbox(name))
+}
+
+fn has_relative_uri(names: &[GeneralName]) -> bool
+    ensures { result ≡ list_any grammar.is_relative names.now }
+{
+    names.iter().any(|name| is_relative(name))
+}
+
+fn has_mailbox(names: &[GeneralName]) -> bool
+    ensures { result ≡ list_any grammar.is_rfc822_name names.now }
+{
+    names.iter().any(|name| is_rfc822_name(name))
+}
+
+fn is_without_mailbox(names: &Option<SubjectAltName>) -> bool
+    ensures { result ≡ passes (λ s. not (list_any grammar.is_rfc822_name s.0)) names.now }
+{
+    match names {
+        Some(names) => !has_mailbox(names.0.as_slice()),
+        None => false,
+    }
+}
+
+/// Whether there is no SAN, or the one that there is is read and has no rfc822Name.
+fn lacks_mailbox(extensions: &[Extension], names: &Option<SubjectAltName>) -> bool
+    ensures { result ≡ grammar.lacks_mailbox extensions.now names.now }
+{
+    !has::<SubjectAltName>(extensions) || is_without_mailbox(names)
+}
+
 impl Group<CertificateInner<Raw>, AlternativeValues> for AlternativeRule {
     ghost use Rattle.x509_lint.specs.Alternative.{breaks_alternative};
     ghost use Rattle.x509_lint.specs.declared.rule.Rule.TheVariants.{Alternative};
@@ -37,8 +79,11 @@ impl Group<CertificateInner<Raw>, AlternativeValues> for AlternativeRule {
 
     ghost as_rule = { λ rule. Alternative rule };
 
-    fn is_broken(&self, _certificate: &CertificateInner<Raw>, values: &AlternativeValues) -> bool {
+    fn is_broken(&self, certificate: &CertificateInner<Raw>, values: &AlternativeValues) -> bool {
         match self {
+            AlternativeRule::SubjectEmailNotInAltName => has_email(
+                certificate.tbs_certificate().subject(),
+            ) && lacks_mailbox(extensions_of(certificate), &values.subject_alt_name),
             AlternativeRule::SubjectAltNameEmpty => match &values.subject_alt_name {
                 Some(names) => names.0.as_slice().is_empty(),
                 None => false,
@@ -55,6 +100,14 @@ impl Group<CertificateInner<Raw>, AlternativeValues> for AlternativeRule {
                 Some(names) => has_no_address(names.0.as_slice()),
                 None => false,
             },
+            AlternativeRule::SubjectAltNameMailboxInvalid => match &values.subject_alt_name {
+                Some(names) => has_no_mailbox(names.0.as_slice()),
+                None => false,
+            },
+            AlternativeRule::SubjectAltNameUriRelative => match &values.subject_alt_name {
+                Some(names) => has_relative_uri(names.0.as_slice()),
+                None => false,
+            },
             AlternativeRule::IssuerAltNameEmpty => match &values.issuer_alt_name {
                 Some(names) => names.0.as_slice().is_empty(),
                 None => false,
@@ -69,6 +122,14 @@ impl Group<CertificateInner<Raw>, AlternativeValues> for AlternativeRule {
             },
             AlternativeRule::IssuerAltNameAddressLength => match &values.issuer_alt_name {
                 Some(names) => has_no_address(names.0.as_slice()),
+                None => false,
+            },
+            AlternativeRule::IssuerAltNameMailboxInvalid => match &values.issuer_alt_name {
+                Some(names) => has_no_mailbox(names.0.as_slice()),
+                None => false,
+            },
+            AlternativeRule::IssuerAltNameUriRelative => match &values.issuer_alt_name {
+                Some(names) => has_relative_uri(names.0.as_slice()),
                 None => false,
             },
         }

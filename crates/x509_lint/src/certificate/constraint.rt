@@ -7,6 +7,7 @@ ghost use Rattle.x509_lint.specs.Words.{is_empty, passes};
 
 use crate::extensions::is_empty_sequence;
 use crate::group::Group;
+use crate::names::{BaseFault, is_faulty_base};
 use crate::rule::{ConstraintRule, Rule};
 use crate::values::ConstraintValues;
 use x509_cert::certificate::{CertificateInner, Raw};
@@ -90,6 +91,36 @@ fn has_subtree_with_maximum(constraints: &Option<NameConstraints>) -> bool
     }
 }
 
+fn has_fault(fault: BaseFault, subtrees: &[GeneralSubtree]) -> bool
+    ensures { result ≡ list_any (λ s. grammar.has_fault fault s.base) subtrees.now }
+{
+    subtrees
+        .iter()
+        .any(|subtree| is_faulty_base(fault, &subtree.base))
+}
+
+fn have_fault(fault: BaseFault, subtrees: &Option<GeneralSubtrees>) -> bool
+    ensures { result ≡ passes (λ subtrees. list_any (λ s. grammar.has_fault fault s.base) subtrees) subtrees.now }
+{
+    match subtrees {
+        Some(subtrees) => has_fault(fault, subtrees.as_slice()),
+        None => false,
+    }
+}
+
+/// Whether the base of a subtree has the fault.
+fn has_faulty_base(fault: BaseFault, constraints: &Option<NameConstraints>) -> bool
+    ensures { result ≡ passes (grammar.has_subtree (λ s. grammar.has_fault fault s.base)) constraints.now }
+{
+    match constraints {
+        Some(constraints) => {
+            have_fault(fault, &constraints.permitted_subtrees)
+                || have_fault(fault, &constraints.excluded_subtrees)
+        }
+        None => false,
+    }
+}
+
 impl Group<CertificateInner<Raw>, ConstraintValues> for ConstraintRule {
     ghost use Rattle.x509_lint.specs.Constraint.{breaks_constraint};
     ghost use Rattle.x509_lint.specs.declared.rule.Rule.TheVariants.{Constraint};
@@ -101,6 +132,10 @@ impl Group<CertificateInner<Raw>, ConstraintValues> for ConstraintRule {
     fn is_broken(&self, _certificate: &CertificateInner<Raw>, values: &ConstraintValues) -> bool {
         match self {
             ConstraintRule::NameConstraintsEmpty => has_no_list(&values.name_constraints),
+            ConstraintRule::NameConstraintsOtherForm => has_faulty_base(
+                BaseFault::OtherForm,
+                &values.name_constraints,
+            ),
             ConstraintRule::NameConstraintsSubtreesEmpty => has_empty_subtrees(
                 &values.name_constraints,
             ),
@@ -108,6 +143,18 @@ impl Group<CertificateInner<Raw>, ConstraintValues> for ConstraintRule {
                 &values.name_constraints,
             ),
             ConstraintRule::NameConstraintsMaximum => has_subtree_with_maximum(
+                &values.name_constraints,
+            ),
+            ConstraintRule::NameConstraintsUriInvalid => has_faulty_base(
+                BaseFault::NoHost,
+                &values.name_constraints,
+            ),
+            ConstraintRule::NameConstraintsAddressLength => has_faulty_base(
+                BaseFault::NoRange,
+                &values.name_constraints,
+            ),
+            ConstraintRule::NameConstraintsAddressMask => has_faulty_base(
+                BaseFault::OddMask,
                 &values.name_constraints,
             ),
         }

@@ -67,6 +67,12 @@ impl Group<CertificateInner<Raw>, CertificateFacts> for FieldRule {
         match self {
             FieldRule::SignatureAlgorithmsDiffer => facts.algorithms_differ,
             FieldRule::ExtensionsWithoutV3 => has_extensions(certificate) && !is_v3(part.version()),
+            FieldRule::VersionAboveV2 => has_unique_identifier(certificate)
+                && !has_extensions(certificate)
+                && is_v3(part.version()),
+            FieldRule::VersionAboveV1 => !has_unique_identifier(certificate)
+                && !has_extensions(certificate)
+                && !is_v1(part.version()),
             FieldRule::SerialNumberNotPositive => is_not_positive(part.serial_number()),
             FieldRule::SerialNumberTooLong => part.serial_number().as_bytes().len() > 20,
             FieldRule::IssuerEmpty => is_empty_name(part.issuer()),

@@ -5,6 +5,7 @@ use crate::facts::CertificateFacts;
 use crate::group::Group;
 use crate::names::{has_empty_rdn, has_no_country, is_empty_name};
 use crate::rule::{NameRule, Rule};
+use crate::texts::{TextFault, has_faulty_text};
 use x509_cert::certificate::{CertificateInner, Raw};
 use x509_cert::ext::members;
 use x509_cert::ext::pkix::SubjectAltName;
@@ -22,8 +23,22 @@ impl Group<CertificateInner<Raw>, CertificateFacts> for NameRule {
         match self {
             NameRule::IssuerRdnEmpty => has_empty_rdn(part.issuer()),
             NameRule::IssuerCountryNameInvalid => has_no_country(part.issuer()),
+            NameRule::IssuerTextType => has_faulty_text(TextFault::OtherType, part.issuer()),
+            NameRule::IssuerTextOldType => has_faulty_text(TextFault::OldType, part.issuer()),
+            NameRule::IssuerTextCharacters => has_faulty_text(
+                TextFault::OtherCharacter,
+                part.issuer(),
+            ),
+            NameRule::IssuerTextSize => has_faulty_text(TextFault::Size, part.issuer()),
             NameRule::SubjectRdnEmpty => has_empty_rdn(part.subject()),
             NameRule::SubjectCountryNameInvalid => has_no_country(part.subject()),
+            NameRule::SubjectTextType => has_faulty_text(TextFault::OtherType, part.subject()),
+            NameRule::SubjectTextOldType => has_faulty_text(TextFault::OldType, part.subject()),
+            NameRule::SubjectTextCharacters => has_faulty_text(
+                TextFault::OtherCharacter,
+                part.subject(),
+            ),
+            NameRule::SubjectTextSize => has_faulty_text(TextFault::Size, part.subject()),
             NameRule::SubjectEmptyWithoutCriticalAltName => is_empty_name(part.subject())
                 && !has_critical::<SubjectAltName>(members(part.extensions())),
         }

@@ -5,6 +5,9 @@ ghost use Rattle.std.specs.Prelude.{◌≡◌};
 ghost use Rattle.x509_lint.specs.Point as grammar;
 
 use crate::group::Group;
+use crate::places::{
+    CA_ISSUERS, CA_REPOSITORY, PointFault, are_partial, has_fault, has_point_of, lacks_uri,
+};
 use crate::rule::{PointRule, Rule};
 use crate::values::PointValues;
 use x509_cert::certificate::{CertificateInner, Raw};
@@ -31,7 +34,7 @@ impl Group<CertificateInner<Raw>, PointValues> for PointRule {
 
     ghost as_rule = { λ rule. Point rule };
 
-    fn is_broken(&self, _certificate: &CertificateInner<Raw>, values: &PointValues) -> bool {
+    fn is_broken(&self, certificate: &CertificateInner<Raw>, values: &PointValues) -> bool {
         match self {
             PointRule::SubjectDirectoryAttributesEmpty =>
                 match &values.subject_directory_attributes {
@@ -46,6 +49,33 @@ impl Group<CertificateInner<Raw>, PointValues> for PointRule {
                 Some(list) => has_empty_point(list.0.as_slice()),
                 None => false,
             },
+            PointRule::DistributionPointRelative => match &values.crl_distribution_points {
+                Some(list) => has_fault(PointFault::Relative, list.0.as_slice()),
+                None => false,
+            },
+            PointRule::DistributionPointRelativeToSeveral => match &values.crl_distribution_points {
+                Some(list) => has_fault(PointFault::RelativeToSeveral, list.0.as_slice()),
+                None => false,
+            },
+            PointRule::DistributionPointWithoutUri => match &values.crl_distribution_points {
+                Some(list) => has_fault(PointFault::NoUri, list.0.as_slice()),
+                None => false,
+            },
+            PointRule::DistributionPointIssuerInvalid => match &values.crl_distribution_points {
+                Some(list) => has_fault(PointFault::OtherIssuer, list.0.as_slice()),
+                None => false,
+            },
+            PointRule::DistributionPointOwnIssuer => match &values.crl_distribution_points {
+                Some(list) => has_point_of(
+                    certificate.tbs_certificate().issuer(),
+                    list.0.as_slice(),
+                ),
+                None => false,
+            },
+            PointRule::DistributionPointsPartial => match &values.crl_distribution_points {
+                Some(list) => are_partial(list.0.as_slice()),
+                None => false,
+            },
             PointRule::FreshestCrlEmpty => match &values.freshest_crl {
                 Some(list) => list.0.as_slice().is_empty(),
                 None => false,
@@ -54,12 +84,43 @@ impl Group<CertificateInner<Raw>, PointValues> for PointRule {
                 Some(list) => has_empty_point(list.0.as_slice()),
                 None => false,
             },
+            PointRule::FreshestCrlPointRelative => match &values.freshest_crl {
+                Some(list) => has_fault(PointFault::Relative, list.0.as_slice()),
+                None => false,
+            },
+            PointRule::FreshestCrlPointRelativeToSeveral => match &values.freshest_crl {
+                Some(list) => has_fault(PointFault::RelativeToSeveral, list.0.as_slice()),
+                None => false,
+            },
+            PointRule::FreshestCrlPointWithoutUri => match &values.freshest_crl {
+                Some(list) => has_fault(PointFault::NoUri, list.0.as_slice()),
+                None => false,
+            },
+            PointRule::FreshestCrlPointIssuerInvalid => match &values.freshest_crl {
+                Some(list) => has_fault(PointFault::OtherIssuer, list.0.as_slice()),
+                None => false,
+            },
+            PointRule::FreshestCrlPointOwnIssuer => match &values.freshest_crl {
+                Some(list) => has_point_of(
+                    certificate.tbs_certificate().issuer(),
+                    list.0.as_slice(),
+                ),
+                None => false,
+            },
             PointRule::AuthorityInfoAccessEmpty => match &values.authority_info_access {
                 Some(list) => list.0.as_slice().is_empty(),
                 None => false,
             },
+            PointRule::CaIssuersWithoutUri => match &values.authority_info_access {
+                Some(list) => lacks_uri(CA_ISSUERS, list.0.as_slice()),
+                None => false,
+            },
             PointRule::SubjectInfoAccessEmpty => match &values.subject_info_access {
                 Some(list) => list.0.as_slice().is_empty(),
+                None => false,
+            },
+            PointRule::CaRepositoryWithoutUri => match &values.subject_info_access {
+                Some(list) => lacks_uri(CA_REPOSITORY, list.0.as_slice()),
                 None => false,
             },
         }

@@ -7,16 +7,20 @@ ghost use Rattle.x509_lint.specs.Words.{is_empty, passes};
 
 use crate::extensions::is_empty_sequence;
 use crate::group::Group;
+use crate::notices::USER_NOTICE;
 use crate::rule::{PolicyRule, Rule};
 use crate::values::PolicyValues;
 use x509_cert::certificate::{CertificateInner, Raw};
 use x509_cert::der::asn1::ObjectIdentifier;
-use x509_cert::ext::pkix::certpolicy::PolicyInformation;
+use x509_cert::ext::pkix::certpolicy::{PolicyInformation, PolicyQualifierInfo};
 use x509_cert::ext::pkix::{PolicyConstraints, PolicyMapping};
 use x509_der::oid;
 
 /// anyPolicy, 2.5.29.32.0 (RFC 5280 4.2.1.4).
 const ANY_POLICY: ObjectIdentifier = oid!(0x55, 0x1D, 32, 0);
+
+/// id-qt-cps, 1.3.6.1.5.5.7.2.1 (RFC 5280 4.2.1.4).
+const CPS: ObjectIdentifier = oid!(0x2B, 0x06, 0x01, 0x05, 0x05, 0x07, 2, 1);
 
 fn is_of_any_policy(mapping: &PolicyMapping) -> bool
     ensures { result ≡ grammar.is_of_any_policy mapping.now }
@@ -50,6 +54,39 @@ fn has_no_number(constraints: &Option<PolicyConstraints>) -> bool
     }
 }
 
+/// Whether the qualifier is neither a CPS pointer nor a user notice.
+fn is_other_qualifier(qualifier: &PolicyQualifierInfo) -> bool
+    ensures { result ≡ grammar.is_other_qualifier qualifier.now }
+{
+    qualifier.policy_qualifier_id != CPS && qualifier.policy_qualifier_id != USER_NOTICE
+}
+
+fn are_other_qualifiers(qualifiers: &[PolicyQualifierInfo]) -> bool
+    ensures { result ≡ list_any grammar.is_other_qualifier qualifiers.now }
+{
+    qualifiers
+        .iter()
+        .any(|qualifier| is_other_qualifier(qualifier))
+}
+
+fn is_other_policy(policy: &PolicyInformation) -> bool
+    ensures { result ≡ grammar.has_other_qualifier policy.now }
+{
+    if policy.policy_identifier != ANY_POLICY {
+        return false;
+    }
+    match &policy.policy_qualifiers {
+        Some(qualifiers) => are_other_qualifiers(qualifiers.as_slice()),
+        None => false,
+    }
+}
+
+fn has_other_qualifier(policies: &[PolicyInformation]) -> bool
+    ensures { result ≡ list_any grammar.has_other_qualifier policies.now }
+{
+    policies.iter().any(|policy| is_other_policy(policy))
+}
+
 impl Group<CertificateInner<Raw>, PolicyValues> for PolicyRule {
     ghost use Rattle.x509_lint.specs.Policy.{breaks_policy};
     ghost use Rattle.x509_lint.specs.declared.rule.Rule.TheVariants.{Policy};
@@ -64,11 +101,21 @@ impl Group<CertificateInner<Raw>, PolicyValues> for PolicyRule {
                 Some(policies) => policies.0.as_slice().is_empty(),
                 None => false,
             },
+            PolicyRule::CertificatePolicyRepeated => !values.are_policies_distinct,
             PolicyRule::PolicyQualifiersEmpty => match &values.certificate_policies {
                 Some(policies) => has_empty_qualifiers(policies.0.as_slice()),
                 None => false,
             },
+            PolicyRule::AnyPolicyQualifierInvalid => match &values.certificate_policies {
+                Some(policies) => has_other_qualifier(policies.0.as_slice()),
+                None => false,
+            },
             PolicyRule::ExplicitTextTooLong => values.has_long_text,
+            PolicyRule::ExplicitTextEmpty => values.has_empty_text,
+            PolicyRule::ExplicitTextType => values.has_old_text,
+            PolicyRule::ExplicitTextNotUtf8String => values.has_ia5_text,
+            PolicyRule::ExplicitTextControl => values.has_control,
+            PolicyRule::NoticeReferencePresent => values.has_reference,
             PolicyRule::PolicyMappingsEmpty => match &values.policy_mappings {
                 Some(mappings) => mappings.0.as_slice().is_empty(),
                 None => false,

@@ -6,14 +6,15 @@ ghost use Rattle.x509_lint.specs.Words.{passes};
 
 use crate::extensions::{has, has_critical, has_uncritical};
 use crate::group::Group;
+use crate::places::{CA_ISSUERS, PointFault, has_fault, has_other_method, lacks_uri};
 use crate::rule::{CrlExtensionRule, Rule};
 use crate::values::CrlValues;
 use x509_cert::certificate::Raw;
 use x509_cert::crl::CertificateList;
 use x509_cert::ext::members;
 use x509_cert::ext::pkix::{
-    AuthorityKeyIdentifier, BaseCrlNumber, CrlNumber, FreshestCrl, IssuerAltName,
-    IssuingDistributionPoint,
+    AuthorityInfoAccessSyntax, AuthorityKeyIdentifier, BaseCrlNumber, CrlNumber, FreshestCrl,
+    IssuerAltName, IssuingDistributionPoint,
 };
 
 fn lacks_key_identifier(identifier: &Option<AuthorityKeyIdentifier>) -> bool
@@ -49,6 +50,26 @@ fn is_empty_point(point: &Option<IssuingDistributionPoint>) -> bool
         && !point.only_contains_attribute_certs
 }
 
+fn has_several_kinds(point: &Option<IssuingDistributionPoint>) -> bool
+    ensures { result ≡ passes grammar.has_several_kinds point.now }
+{
+    let Some(point) = point else {
+        return false;
+    };
+    (point.only_contains_user_certs && point.only_contains_ca_certs)
+        || (point.only_contains_user_certs && point.only_contains_attribute_certs)
+        || (point.only_contains_ca_certs && point.only_contains_attribute_certs)
+}
+
+fn has_attribute_certs(point: &Option<IssuingDistributionPoint>) -> bool
+    ensures { result ≡ passes (λ p. p.only_contains_attribute_certs) point.now }
+{
+    match point {
+        Some(point) => point.only_contains_attribute_certs,
+        None => false,
+    }
+}
+
 impl Group<CertificateList<Raw>, CrlValues> for CrlExtensionRule {
     ghost use Rattle.x509_lint.specs.CrlExtension.{breaks_crl_extension};
     ghost use Rattle.x509_lint.specs.declared.rule.Rule.TheVariants.{CrlExtension};
@@ -82,7 +103,31 @@ impl Group<CertificateList<Raw>, CrlValues> for CrlExtensionRule {
             CrlExtensionRule::IssuingDistributionPointEmpty => is_empty_point(
                 &values.issuing_distribution_point,
             ),
+            CrlExtensionRule::IssuingDistributionPointKinds => has_several_kinds(
+                &values.issuing_distribution_point,
+            ),
+            CrlExtensionRule::IssuingDistributionPointAttributeCerts => has_attribute_certs(
+                &values.issuing_distribution_point,
+            ),
             CrlExtensionRule::FreshestCrlCritical => has_critical::<FreshestCrl>(extensions),
+            CrlExtensionRule::FreshestCrlInDelta => has::<FreshestCrl>(extensions)
+                && has::<BaseCrlNumber>(extensions),
+            CrlExtensionRule::FreshestCrlReasonsOrIssuer => match &values.freshest_crl {
+                Some(list) => has_fault(PointFault::ReasonsOrIssuer, list.0.as_slice()),
+                None => false,
+            },
+            CrlExtensionRule::AuthorityInfoAccessCritical => has_critical::<
+                AuthorityInfoAccessSyntax,
+            >(extensions),
+            CrlExtensionRule::AuthorityInfoAccessOtherMethod =>
+                match &values.authority_info_access {
+                    Some(list) => has_other_method(CA_ISSUERS, list.0.as_slice()),
+                    None => false,
+                },
+            CrlExtensionRule::CaIssuersWithoutUri => match &values.authority_info_access {
+                Some(list) => lacks_uri(CA_ISSUERS, list.0.as_slice()),
+                None => false,
+            },
         }
     }
 

@@ -1,19 +1,24 @@
 //! The rules on the fields of a CRL.
 
 ghost use Rattle.std.specs.List.{list_any};
-ghost use Rattle.std.specs.Prelude.{◌≡◌, is_some};
+ghost use Rattle.std.specs.Prelude.{◌≡◌, is_some, not};
+ghost use Rattle.x509_cert.specs.ext.Identifiers.{id_ce};
+ghost use Rattle.x509_cert.specs.ext.LookUp.{members};
 ghost use Rattle.x509_lint.specs.CrlField as grammar;
-ghost use Rattle.x509_lint.specs.Words.{is_before, is_early_general, is_empty, passes};
+ghost use Rattle.x509_lint.specs.Words.{has, is_before, is_early_general, is_empty, passes};
 
-use crate::extensions::is_empty_sequence;
+use crate::extensions::{has, is_empty_sequence};
 use crate::facts::CrlFacts;
 use crate::group::Group;
-use crate::names::is_empty_name;
+use crate::names::{has_empty_rdn, has_no_country, is_empty_name};
 use crate::rule::{CrlFieldRule, Rule};
+use crate::texts::{TextFault, has_faulty_text};
 use crate::times::{is_before, is_early_general};
 use x509_cert::Version;
 use x509_cert::certificate::Raw;
 use x509_cert::crl::{CertificateList, RevokedCert};
+use x509_cert::ext::members;
+use x509_cert::ext::pkix::CertificateIssuer;
 use x509_cert::time::Time;
 
 fn is_v2(version: &Option<Version>) -> bool
@@ -22,6 +27,16 @@ fn is_v2(version: &Option<Version>) -> bool
     match version {
         Some(Version::V2) => true,
         Some(Version::V1 | Version::V3) => false,
+        None => false,
+    }
+}
+
+fn is_not_v2(version: &Option<Version>) -> bool
+    ensures { result ≡ passes (λ version. not (grammar.is_v2 version)) version.now }
+{
+    match version {
+        Some(Version::V2) => false,
+        Some(Version::V1 | Version::V3) => true,
         None => false,
     }
 }
@@ -40,6 +55,19 @@ fn have_empty_extensions(entries: &[RevokedCert<Raw>]) -> bool
     entries
         .iter()
         .any(|entry| is_empty_sequence(&entry.crl_entry_extensions))
+}
+
+fn has_issuer(entry: &RevokedCert<Raw>) -> bool
+    ensures { result ≡ has (id_ce 29) (members entry.now.crl_entry_extensions) }
+{
+    has::<CertificateIssuer>(members(entry.crl_entry_extensions.as_ref()))
+}
+
+/// Whether an entry has a certificateIssuer.
+fn has_certificate_issuer(entries: &[RevokedCert<Raw>]) -> bool
+    ensures { result ≡ list_any (λ e. has (id_ce 29) (members e.crl_entry_extensions)) entries.now }
+{
+    entries.iter().any(|entry| has_issuer(entry))
 }
 
 fn have_early_general_date(entries: &[RevokedCert<Raw>]) -> bool
@@ -83,7 +111,17 @@ impl Group<CertificateList<Raw>, CrlFacts> for CrlFieldRule {
             CrlFieldRule::ExtensionsWithoutV2 => (part.crl_extensions.is_some()
                 || have_extensions(part.entries()))
                 && !is_v2(&part.version),
+            CrlFieldRule::VersionNotV2 => is_not_v2(&part.version),
             CrlFieldRule::IssuerEmpty => is_empty_name(&part.issuer),
+            CrlFieldRule::IssuerRdnEmpty => has_empty_rdn(&part.issuer),
+            CrlFieldRule::IssuerCountryNameInvalid => has_no_country(&part.issuer),
+            CrlFieldRule::IssuerTextType => has_faulty_text(TextFault::OtherType, &part.issuer),
+            CrlFieldRule::IssuerTextOldType => has_faulty_text(TextFault::OldType, &part.issuer),
+            CrlFieldRule::IssuerTextCharacters => has_faulty_text(
+                TextFault::OtherCharacter,
+                &part.issuer,
+            ),
+            CrlFieldRule::IssuerTextSize => has_faulty_text(TextFault::Size, &part.issuer),
             CrlFieldRule::ThisUpdateNotUtcTime => is_early_general(part.this_update),
             CrlFieldRule::NextUpdateAbsent => !part.next_update.is_some(),
             CrlFieldRule::NextUpdateNotUtcTime => is_next_early_general(part.next_update),
@@ -92,10 +130,14 @@ impl Group<CertificateList<Raw>, CrlFacts> for CrlFieldRule {
                 part.this_update,
             ),
             CrlFieldRule::RevokedCertificatesEmpty => is_empty_sequence(&part.revoked_certificates),
+            CrlFieldRule::SerialNumberRepeated => !facts.are_serials_distinct
+                && !has_certificate_issuer(part.entries()),
             CrlFieldRule::RevocationDateNotUtcTime => have_early_general_date(part.entries()),
             CrlFieldRule::ExtensionsEmpty => is_empty_sequence(&part.crl_extensions),
             CrlFieldRule::ExtensionRepeated => facts.is_repeated,
+            CrlFieldRule::ExtensionMalformed => !facts.are_well_formed,
             CrlFieldRule::EntryExtensionsEmpty => have_empty_extensions(part.entries()),
+            CrlFieldRule::EntryExtensionRepeated => !facts.are_entries_distinct,
         }
     }
 

@@ -8,6 +8,9 @@ use crate::entry::{Entry, must};
 /// Rules on the alternative names of the subject and the issuer (RFC 5280 4.2.1.6, 4.2.1.7).
 #[derive(Clone, Copy, Debug, PartialEq, Eq)]
 pub enum AlternativeRule {
+    /// The subject has an emailAddress, and there is no SAN with an rfc822Name (RFC 5280 4.1.2.6, error).
+    SubjectEmailNotInAltName,
+
     /// The SAN has no name (RFC 5280 4.2.1.6, error).
     SubjectAltNameEmpty,
 
@@ -20,6 +23,12 @@ pub enum AlternativeRule {
     /// An iPAddress of the SAN has neither 4 nor 16 octets (RFC 5280 4.2.1.6, error).
     SubjectAltNameAddressLength,
 
+    /// An rfc822Name of the SAN isn't empty, and isn't a mailbox; one that begins with a quote isn't judged (RFC 5280 4.2.1.6, error).
+    SubjectAltNameMailboxInvalid,
+
+    /// A URI of the SAN isn't empty, and has no scheme or nothing behind it (RFC 5280 4.2.1.6, error).
+    SubjectAltNameUriRelative,
+
     /// The IAN has no name (RFC 5280 4.2.1.7, error).
     IssuerAltNameEmpty,
 
@@ -31,17 +40,28 @@ pub enum AlternativeRule {
 
     /// An iPAddress of the IAN has neither 4 nor 16 octets (RFC 5280 4.2.1.7, error).
     IssuerAltNameAddressLength,
+
+    /// An rfc822Name of the IAN isn't empty, and isn't a mailbox; one that begins with a quote isn't judged (RFC 5280 4.2.1.7, error).
+    IssuerAltNameMailboxInvalid,
+
+    /// A URI of the IAN isn't empty, and has no scheme or nothing behind it (RFC 5280 4.2.1.7, error).
+    IssuerAltNameUriRelative,
 }
 
-pub(crate) const ALTERNATIVE_RULES: [AlternativeRule; 8] = [
+pub(crate) const ALTERNATIVE_RULES: [AlternativeRule; 13] = [
+    AlternativeRule::SubjectEmailNotInAltName,
     AlternativeRule::SubjectAltNameEmpty,
     AlternativeRule::SubjectAltNameEmptyName,
     AlternativeRule::SubjectAltNameDnsNameInvalid,
     AlternativeRule::SubjectAltNameAddressLength,
+    AlternativeRule::SubjectAltNameMailboxInvalid,
+    AlternativeRule::SubjectAltNameUriRelative,
     AlternativeRule::IssuerAltNameEmpty,
     AlternativeRule::IssuerAltNameEmptyName,
     AlternativeRule::IssuerAltNameDnsNameInvalid,
     AlternativeRule::IssuerAltNameAddressLength,
+    AlternativeRule::IssuerAltNameMailboxInvalid,
+    AlternativeRule::IssuerAltNameUriRelative,
 ];
 
 impl AlternativeRule {
@@ -50,6 +70,10 @@ impl AlternativeRule {
         ensures { Says result (alternative_wording self) }
     {
         match self {
+            AlternativeRule::SubjectEmailNotInAltName => must(
+                "subject_email_not_in_alt_name",
+                "4.1.2.6",
+            ),
             AlternativeRule::SubjectAltNameEmpty => must("subject_alt_name_empty", "4.2.1.6"),
             AlternativeRule::SubjectAltNameEmptyName => must(
                 "subject_alt_name_empty_name",
@@ -63,6 +87,14 @@ impl AlternativeRule {
                 "subject_alt_name_address_length",
                 "4.2.1.6",
             ),
+            AlternativeRule::SubjectAltNameMailboxInvalid => must(
+                "subject_alt_name_mailbox_invalid",
+                "4.2.1.6",
+            ),
+            AlternativeRule::SubjectAltNameUriRelative => must(
+                "subject_alt_name_uri_relative",
+                "4.2.1.6",
+            ),
             AlternativeRule::IssuerAltNameEmpty => must("issuer_alt_name_empty", "4.2.1.7"),
             AlternativeRule::IssuerAltNameEmptyName => must(
                 "issuer_alt_name_empty_name",
@@ -74,6 +106,14 @@ impl AlternativeRule {
             ),
             AlternativeRule::IssuerAltNameAddressLength => must(
                 "issuer_alt_name_address_length",
+                "4.2.1.7",
+            ),
+            AlternativeRule::IssuerAltNameMailboxInvalid => must(
+                "issuer_alt_name_mailbox_invalid",
+                "4.2.1.7",
+            ),
+            AlternativeRule::IssuerAltNameUriRelative => must(
+                "issuer_alt_name_uri_relative",
                 "4.2.1.7",
             ),
         }

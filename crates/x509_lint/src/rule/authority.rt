@@ -3,11 +3,17 @@
 ghost use Rattle.x509_lint.specs.Authority.{authority_wording};
 ghost use Rattle.x509_lint.specs.Wording.{Says};
 
-use crate::entry::{Entry, must, should};
+use crate::entry::{Entry, must, not_judged, should};
 
 /// Rules on what makes a certificate one of a certification authority (RFC 5280 4.2.1.3, 4.2.1.9).
 #[derive(Clone, Copy, Debug, PartialEq, Eq)]
 pub enum AuthorityRule {
+    /// cA is set, and the subject is the empty name (RFC 5280 4.1.2.6, error).
+    CaSubjectEmpty,
+
+    /// The KeyUsage has cRLSign, and the subject is the empty name (RFC 5280 4.1.2.6, error).
+    CrlIssuerSubjectEmpty,
+
     /// cA is set, and there is no SKI (RFC 5280 4.2.1.2, error).
     CaWithoutSubjectKeyIdentifier,
 
@@ -32,11 +38,16 @@ pub enum AuthorityRule {
     /// There is a path length constraint, and cA isn't set (RFC 5280 4.2.1.9, error).
     PathLenWithoutCa,
 
+    /// The path length is above 255, which this library doesn't read: no rule on the BasicConstraints is judged (RFC 5280 4.2.1.9, not judged).
+    PathLenNotJudged,
+
     /// There is a NameConstraints, and cA isn't set (RFC 5280 4.2.1.10, error).
     NameConstraintsInLeaf,
 }
 
-pub(crate) const AUTHORITY_RULES: [AuthorityRule; 9] = [
+pub(crate) const AUTHORITY_RULES: [AuthorityRule; 12] = [
+    AuthorityRule::CaSubjectEmpty,
+    AuthorityRule::CrlIssuerSubjectEmpty,
     AuthorityRule::CaWithoutSubjectKeyIdentifier,
     AuthorityRule::SubjectKeyIdentifierAbsent,
     AuthorityRule::CaWithoutKeyUsage,
@@ -45,6 +56,7 @@ pub(crate) const AUTHORITY_RULES: [AuthorityRule; 9] = [
     AuthorityRule::KeyCertSignWithoutCa,
     AuthorityRule::CaBasicConstraintsNotCritical,
     AuthorityRule::PathLenWithoutCa,
+    AuthorityRule::PathLenNotJudged,
     AuthorityRule::NameConstraintsInLeaf,
 ];
 
@@ -54,6 +66,8 @@ impl AuthorityRule {
         ensures { Says result (authority_wording self) }
     {
         match self {
+            AuthorityRule::CaSubjectEmpty => must("ca_subject_empty", "4.1.2.6"),
+            AuthorityRule::CrlIssuerSubjectEmpty => must("crl_issuer_subject_empty", "4.1.2.6"),
             AuthorityRule::CaWithoutSubjectKeyIdentifier => must(
                 "ca_without_subject_key_identifier",
                 "4.2.1.2",
@@ -71,6 +85,7 @@ impl AuthorityRule {
                 "4.2.1.9",
             ),
             AuthorityRule::PathLenWithoutCa => must("path_len_without_ca", "4.2.1.9"),
+            AuthorityRule::PathLenNotJudged => not_judged("path_len_above_255", "4.2.1.9"),
             AuthorityRule::NameConstraintsInLeaf => must("name_constraints_in_leaf", "4.2.1.10"),
         }
     }

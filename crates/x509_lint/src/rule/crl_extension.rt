@@ -38,11 +38,32 @@ pub enum CrlExtensionRule {
     /// The IssuingDistributionPoint has no field: each is absent or the default (RFC 5280 5.2.5, error).
     IssuingDistributionPointEmpty,
 
+    /// The IssuingDistributionPoint asserts two or three of onlyContainsUserCerts, onlyContainsCACerts and onlyContainsAttributeCerts (RFC 5280 5.2.5, error).
+    IssuingDistributionPointKinds,
+
+    /// The IssuingDistributionPoint asserts onlyContainsAttributeCerts (RFC 5280 5.2.5, error).
+    IssuingDistributionPointAttributeCerts,
+
     /// A FreshestCRL is critical (RFC 5280 5.2.6, error).
     FreshestCrlCritical,
+
+    /// There are a FreshestCRL and a delta CRL indicator (RFC 5280 5.2.6, error).
+    FreshestCrlInDelta,
+
+    /// A point of the FreshestCRL has reasons or a cRLIssuer (RFC 5280 5.2.6, error).
+    FreshestCrlReasonsOrIssuer,
+
+    /// An AuthorityInfoAccess is critical (RFC 5280 5.2.7, error).
+    AuthorityInfoAccessCritical,
+
+    /// The AuthorityInfoAccess has no access description, or one of another method than id-ad-caIssuers (RFC 5280 5.2.7, error).
+    AuthorityInfoAccessOtherMethod,
+
+    /// The AuthorityInfoAccess has id-ad-caIssuers, and no HTTP or LDAP URI for it (RFC 5280 5.2.7, warning).
+    CaIssuersWithoutUri,
 }
 
-pub(crate) const CRL_EXTENSION_RULES: [CrlExtensionRule; 11] = [
+pub(crate) const CRL_EXTENSION_RULES: [CrlExtensionRule; 18] = [
     CrlExtensionRule::AuthorityKeyIdentifierAbsent,
     CrlExtensionRule::AuthorityKeyIdentifierWithoutKey,
     CrlExtensionRule::AuthorityKeyIdentifierCritical,
@@ -53,7 +74,14 @@ pub(crate) const CRL_EXTENSION_RULES: [CrlExtensionRule; 11] = [
     CrlExtensionRule::DeltaCrlIndicatorNotCritical,
     CrlExtensionRule::IssuingDistributionPointNotCritical,
     CrlExtensionRule::IssuingDistributionPointEmpty,
+    CrlExtensionRule::IssuingDistributionPointKinds,
+    CrlExtensionRule::IssuingDistributionPointAttributeCerts,
     CrlExtensionRule::FreshestCrlCritical,
+    CrlExtensionRule::FreshestCrlInDelta,
+    CrlExtensionRule::FreshestCrlReasonsOrIssuer,
+    CrlExtensionRule::AuthorityInfoAccessCritical,
+    CrlExtensionRule::AuthorityInfoAccessOtherMethod,
+    CrlExtensionRule::CaIssuersWithoutUri,
 ];
 
 impl CrlExtensionRule {
@@ -90,7 +118,29 @@ impl CrlExtensionRule {
                 "issuing_distribution_point_empty",
                 "5.2.5",
             ),
+            CrlExtensionRule::IssuingDistributionPointKinds => must(
+                "issuing_distribution_point_kinds",
+                "5.2.5",
+            ),
+            CrlExtensionRule::IssuingDistributionPointAttributeCerts => must(
+                "issuing_distribution_point_attribute_certs",
+                "5.2.5",
+            ),
             CrlExtensionRule::FreshestCrlCritical => must("freshest_crl_critical", "5.2.6"),
+            CrlExtensionRule::FreshestCrlInDelta => must("freshest_crl_in_delta", "5.2.6"),
+            CrlExtensionRule::FreshestCrlReasonsOrIssuer => must(
+                "freshest_crl_reasons_or_issuer",
+                "5.2.6",
+            ),
+            CrlExtensionRule::AuthorityInfoAccessCritical => must(
+                "authority_info_access_critical",
+                "5.2.7",
+            ),
+            CrlExtensionRule::AuthorityInfoAccessOtherMethod => must(
+                "authority_info_access_other_method",
+                "5.2.7",
+            ),
+            CrlExtensionRule::CaIssuersWithoutUri => should("ca_issuers_without_uri", "5.2.7"),
         }
     }
 }

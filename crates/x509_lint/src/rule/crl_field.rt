@@ -3,7 +3,7 @@
 ghost use Rattle.x509_lint.specs.CrlField.{crl_field_wording};
 ghost use Rattle.x509_lint.specs.Wording.{Says};
 
-use crate::entry::{Entry, must};
+use crate::entry::{Entry, must, should};
 
 /// Rules on the fields of a CRL (RFC 5280 5.1).
 #[derive(Clone, Copy, Debug, PartialEq, Eq)]
@@ -14,8 +14,29 @@ pub enum CrlFieldRule {
     /// There are extensions, of the CRL or of an entry, and the version isn't 2 (RFC 5280 5.1.2.1, error).
     ExtensionsWithoutV2,
 
+    /// The version is there, and isn't 2 (RFC 5280 5.1.2.1, error).
+    VersionNotV2,
+
     /// The issuer is the empty name (RFC 5280 5.1.2.3, error).
     IssuerEmpty,
+
+    /// An RDN of the issuer has no attribute (RFC 5280 5.1.2.3, error).
+    IssuerRdnEmpty,
+
+    /// A countryName of the issuer isn't a PrintableString of two letters (RFC 5280 A.1, error).
+    IssuerCountryNameInvalid,
+
+    /// The text of an attribute of the issuer is of a string type that the attribute doesn't have (RFC 5280 A.1, error).
+    IssuerTextType,
+
+    /// A DirectoryString of the issuer is a TeletexString, a BMPString or a UniversalString (RFC 5280 5.1.2.3, warning).
+    IssuerTextOldType,
+
+    /// A text of the issuer has characters that its string type doesn't have (RFC 5280 5.1.2.3, error).
+    IssuerTextCharacters,
+
+    /// The text of an attribute of the issuer is empty, or longer than its upper bound (RFC 5280 A.1, error).
+    IssuerTextSize,
 
     /// `thisUpdate` is a date through 2049, and a GeneralizedTime (RFC 5280 5.1.2.4, error).
     ThisUpdateNotUtcTime,
@@ -32,6 +53,9 @@ pub enum CrlFieldRule {
     /// The list of entries is there, and has none (RFC 5280 5.1.2.6, error).
     RevokedCertificatesEmpty,
 
+    /// Two entries have one serial number, and no entry has a certificateIssuer (RFC 5280 5.1.2.6, error).
+    SerialNumberRepeated,
+
     /// The date of an entry is one through 2049, and a GeneralizedTime (RFC 5280 5.1.2.6, error).
     RevocationDateNotUtcTime,
 
@@ -41,23 +65,39 @@ pub enum CrlFieldRule {
     /// Two extensions have one OID (RFC 5280 5.2, error).
     ExtensionRepeated,
 
+    /// The octets of an extension aren't an encoding of this library's type for its OID (RFC 5280 5.2, error).
+    ExtensionMalformed,
+
     /// The list of an entry's extensions is there, and has none (RFC 5280 5.3, error).
     EntryExtensionsEmpty,
+
+    /// Two extensions of an entry have one OID (RFC 5280 5.3, error).
+    EntryExtensionRepeated,
 }
 
-pub(crate) const CRL_FIELD_RULES: [CrlFieldRule; 12] = [
+pub(crate) const CRL_FIELD_RULES: [CrlFieldRule; 22] = [
     CrlFieldRule::SignatureAlgorithmsDiffer,
     CrlFieldRule::ExtensionsWithoutV2,
+    CrlFieldRule::VersionNotV2,
     CrlFieldRule::IssuerEmpty,
+    CrlFieldRule::IssuerRdnEmpty,
+    CrlFieldRule::IssuerCountryNameInvalid,
+    CrlFieldRule::IssuerTextType,
+    CrlFieldRule::IssuerTextOldType,
+    CrlFieldRule::IssuerTextCharacters,
+    CrlFieldRule::IssuerTextSize,
     CrlFieldRule::ThisUpdateNotUtcTime,
     CrlFieldRule::NextUpdateAbsent,
     CrlFieldRule::NextUpdateNotUtcTime,
     CrlFieldRule::NextUpdateBeforeThisUpdate,
     CrlFieldRule::RevokedCertificatesEmpty,
+    CrlFieldRule::SerialNumberRepeated,
     CrlFieldRule::RevocationDateNotUtcTime,
     CrlFieldRule::ExtensionsEmpty,
     CrlFieldRule::ExtensionRepeated,
+    CrlFieldRule::ExtensionMalformed,
     CrlFieldRule::EntryExtensionsEmpty,
+    CrlFieldRule::EntryExtensionRepeated,
 ];
 
 impl CrlFieldRule {
@@ -71,7 +111,14 @@ impl CrlFieldRule {
                 "5.1.1.2",
             ),
             CrlFieldRule::ExtensionsWithoutV2 => must("extensions_without_v2", "5.1.2.1"),
+            CrlFieldRule::VersionNotV2 => must("version_not_v2", "5.1.2.1"),
             CrlFieldRule::IssuerEmpty => must("issuer_empty", "5.1.2.3"),
+            CrlFieldRule::IssuerRdnEmpty => must("issuer_rdn_empty", "5.1.2.3"),
+            CrlFieldRule::IssuerCountryNameInvalid => must("issuer_country_name_invalid", "A.1"),
+            CrlFieldRule::IssuerTextType => must("issuer_text_type", "A.1"),
+            CrlFieldRule::IssuerTextOldType => should("issuer_text_old_type", "5.1.2.3"),
+            CrlFieldRule::IssuerTextCharacters => must("issuer_text_characters", "5.1.2.3"),
+            CrlFieldRule::IssuerTextSize => must("issuer_text_size", "A.1"),
             CrlFieldRule::ThisUpdateNotUtcTime => must("this_update_not_utc_time", "5.1.2.4"),
             CrlFieldRule::NextUpdateAbsent => must("next_update_absent", "5.1.2.5"),
             CrlFieldRule::NextUpdateNotUtcTime => must("next_update_not_utc_time", "5.1.2.5"),
@@ -80,13 +127,16 @@ impl CrlFieldRule {
                 "5.1.2.5",
             ),
             CrlFieldRule::RevokedCertificatesEmpty => must("revoked_certificates_empty", "5.1.2.6"),
+            CrlFieldRule::SerialNumberRepeated => must("serial_number_repeated", "5.1.2.6"),
             CrlFieldRule::RevocationDateNotUtcTime => must(
                 "revocation_date_not_utc_time",
                 "5.1.2.6",
             ),
             CrlFieldRule::ExtensionsEmpty => must("extensions_empty", "5.1.2.7"),
             CrlFieldRule::ExtensionRepeated => must("extension_repeated", "5.2"),
+            CrlFieldRule::ExtensionMalformed => must("extension_malformed", "5.2"),
             CrlFieldRule::EntryExtensionsEmpty => must("entry_extensions_empty", "5.3"),
+            CrlFieldRule::EntryExtensionRepeated => must("entry_extension_repeated", "5.3"),
         }
     }
 }

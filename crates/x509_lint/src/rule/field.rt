@@ -3,7 +3,7 @@
 ghost use Rattle.x509_lint.specs.Field.{field_wording};
 ghost use Rattle.x509_lint.specs.Wording.{Says};
 
-use crate::entry::{Entry, must};
+use crate::entry::{Entry, must, should};
 
 /// Rules on the fields of a certificate (RFC 5280 4.1).
 #[derive(Clone, Copy, Debug, PartialEq, Eq)]
@@ -13,6 +13,12 @@ pub enum FieldRule {
 
     /// There are extensions, and the version isn't 3 (RFC 5280 4.1.2.1, error).
     ExtensionsWithoutV3,
+
+    /// There is a unique identifier and no extensions, and the version is 3 (RFC 5280 4.1.2.1, warning).
+    VersionAboveV2,
+
+    /// There are neither unique identifiers nor extensions, and the version isn't 1 (RFC 5280 4.1.2.1, warning).
+    VersionAboveV1,
 
     /// The serial number is 0 or negative (RFC 5280 4.1.2.2, error).
     SerialNumberNotPositive,
@@ -39,9 +45,11 @@ pub enum FieldRule {
     UniqueIdentifierPresent,
 }
 
-pub(crate) const FIELD_RULES: [FieldRule; 10] = [
+pub(crate) const FIELD_RULES: [FieldRule; 12] = [
     FieldRule::SignatureAlgorithmsDiffer,
     FieldRule::ExtensionsWithoutV3,
+    FieldRule::VersionAboveV2,
+    FieldRule::VersionAboveV1,
     FieldRule::SerialNumberNotPositive,
     FieldRule::SerialNumberTooLong,
     FieldRule::IssuerEmpty,
@@ -60,6 +68,8 @@ impl FieldRule {
         match self {
             FieldRule::SignatureAlgorithmsDiffer => must("signature_algorithms_differ", "4.1.1.2"),
             FieldRule::ExtensionsWithoutV3 => must("extensions_without_v3", "4.1.2.1"),
+            FieldRule::VersionAboveV2 => should("version_above_v2", "4.1.2.1"),
+            FieldRule::VersionAboveV1 => should("version_above_v1", "4.1.2.1"),
             FieldRule::SerialNumberNotPositive => must("serial_number_not_positive", "4.1.2.2"),
             FieldRule::SerialNumberTooLong => must("serial_number_too_long", "4.1.2.2"),
             FieldRule::IssuerEmpty => must("issuer_empty", "4.1.2.4"),

@@ -14,8 +14,8 @@ pub enum ListRule {
     /// Two extensions have one OID (RFC 5280 4.2, error).
     ExtensionRepeated,
 
-    /// The octets of an extension aren't an encoding of this library's type for its OID (RFC 5280 4.2, error). RFC 5280 allows a few that it
-    /// refuses: a path length above 255, an X.400 address, an OID of more than 39 octets.
+    /// The octets of an extension aren't an encoding of this library's type for its OID (RFC 5280 4.2, error). RFC 5280 allows two that
+    /// it refuses: an X.400 address, and an OID of more than 39 octets. A path length above 255 isn't one: `path_len_above_255` tells it.
     ExtensionMalformed,
 }
 

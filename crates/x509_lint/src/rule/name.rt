@@ -3,7 +3,7 @@
 ghost use Rattle.x509_lint.specs.Name.{name_wording};
 ghost use Rattle.x509_lint.specs.Wording.{Says};
 
-use crate::entry::{Entry, must};
+use crate::entry::{Entry, must, should};
 
 /// Rules on the issuer and the subject of a certificate (RFC 5280 4.1.2.4, 4.1.2.6).
 #[derive(Clone, Copy, Debug, PartialEq, Eq)]
@@ -14,21 +14,53 @@ pub enum NameRule {
     /// A countryName of the issuer isn't a PrintableString of two letters (RFC 5280 A.1, error).
     IssuerCountryNameInvalid,
 
+    /// The text of an attribute of the issuer is of a string type that the attribute doesn't have (RFC 5280 A.1, error).
+    IssuerTextType,
+
+    /// A DirectoryString of the issuer is a TeletexString, a BMPString or a UniversalString (RFC 5280 4.1.2.4, warning).
+    IssuerTextOldType,
+
+    /// A text of the issuer has characters that its string type doesn't have (RFC 5280 4.1.2.4, error).
+    IssuerTextCharacters,
+
+    /// The text of an attribute of the issuer is empty, or longer than its upper bound (RFC 5280 A.1, error).
+    IssuerTextSize,
+
     /// An RDN of the subject has no attribute (RFC 5280 4.1.2.6, error).
     SubjectRdnEmpty,
 
     /// A countryName of the subject isn't a PrintableString of two letters (RFC 5280 A.1, error).
     SubjectCountryNameInvalid,
 
+    /// The text of an attribute of the subject is of a string type that the attribute doesn't have (RFC 5280 A.1, error).
+    SubjectTextType,
+
+    /// A DirectoryString of the subject is a TeletexString, a BMPString or a UniversalString (RFC 5280 4.1.2.6, warning).
+    SubjectTextOldType,
+
+    /// A text of the subject has characters that its string type doesn't have (RFC 5280 4.1.2.6, error).
+    SubjectTextCharacters,
+
+    /// The text of an attribute of the subject is empty, or longer than its upper bound (RFC 5280 A.1, error).
+    SubjectTextSize,
+
     /// The subject is the empty name, and there is no SAN that is critical (RFC 5280 4.1.2.6, error).
     SubjectEmptyWithoutCriticalAltName,
 }
 
-pub(crate) const NAME_RULES: [NameRule; 5] = [
+pub(crate) const NAME_RULES: [NameRule; 13] = [
     NameRule::IssuerRdnEmpty,
     NameRule::IssuerCountryNameInvalid,
+    NameRule::IssuerTextType,
+    NameRule::IssuerTextOldType,
+    NameRule::IssuerTextCharacters,
+    NameRule::IssuerTextSize,
     NameRule::SubjectRdnEmpty,
     NameRule::SubjectCountryNameInvalid,
+    NameRule::SubjectTextType,
+    NameRule::SubjectTextOldType,
+    NameRule::SubjectTextCharacters,
+    NameRule::SubjectTextSize,
     NameRule::SubjectEmptyWithoutCriticalAltName,
 ];
 
@@ -40,8 +72,16 @@ impl NameRule {
         match self {
             NameRule::IssuerRdnEmpty => must("issuer_rdn_empty", "4.1.2.4"),
             NameRule::IssuerCountryNameInvalid => must("issuer_country_name_invalid", "A.1"),
+            NameRule::IssuerTextType => must("issuer_text_type", "A.1"),
+            NameRule::IssuerTextOldType => should("issuer_text_old_type", "4.1.2.4"),
+            NameRule::IssuerTextCharacters => must("issuer_text_characters", "4.1.2.4"),
+            NameRule::IssuerTextSize => must("issuer_text_size", "A.1"),
             NameRule::SubjectRdnEmpty => must("subject_rdn_empty", "4.1.2.6"),
             NameRule::SubjectCountryNameInvalid => must("subject_country_name_invalid", "A.1"),
+            NameRule::SubjectTextType => must("subject_text_type", "A.1"),
+            NameRule::SubjectTextOldType => should("subject_text_old_type", "4.1.2.6"),
+            NameRule::SubjectTextCharacters => must("subject_text_characters", "4.1.2.6"),
+            NameRule::SubjectTextSize => must("subject_text_size", "A.1"),
             NameRule::SubjectEmptyWithoutCriticalAltName => must(
                 "subject_empty_without_critical_alt_name",
                 "4.1.2.6",

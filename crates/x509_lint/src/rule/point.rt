@@ -3,7 +3,7 @@
 ghost use Rattle.x509_lint.specs.Point.{point_wording};
 ghost use Rattle.x509_lint.specs.Wording.{Says};
 
-use crate::entry::{Entry, must};
+use crate::entry::{Entry, must, should};
 
 /// Rules on lists of attributes, of CRL distribution points and of access descriptions (RFC 5280 4.2.1.8, 4.2.1.13, 4.2.1.15, 4.2.2).
 #[derive(Clone, Copy, Debug, PartialEq, Eq)]
@@ -17,27 +17,79 @@ pub enum PointRule {
     /// A point of the CRLDistributionPoints has neither a name nor a CRL issuer (RFC 5280 4.2.1.13, error).
     DistributionPointEmpty,
 
+    /// The name of a point of the CRLDistributionPoints is relative to the issuer of the CRL (RFC 5280 4.2.1.13, warning).
+    DistributionPointRelative,
+
+    /// The name of a point of the CRLDistributionPoints is relative to a cRLIssuer of two names or more (RFC 5280 4.2.1.13, error).
+    DistributionPointRelativeToSeveral,
+
+    /// A point of the CRLDistributionPoints has general names, and no HTTP or LDAP URI among them (RFC 5280 4.2.1.13, warning).
+    DistributionPointWithoutUri,
+
+    /// The cRLIssuer of a point of the CRLDistributionPoints has a name that isn't a directoryName (RFC 5280 4.2.1.13, error).
+    DistributionPointIssuerInvalid,
+
+    /// The cRLIssuer of a point of the CRLDistributionPoints is the issuer of the certificate (RFC 5280 4.2.1.13, error).
+    DistributionPointOwnIssuer,
+
+    /// Each point of the CRLDistributionPoints has reasons, so that none covers all (RFC 5280 4.2.1.13, error).
+    DistributionPointsPartial,
+
     /// The FreshestCRL has no point (RFC 5280 4.2.1.15, error).
     FreshestCrlEmpty,
 
     /// A point of the FreshestCRL has neither a name nor a CRL issuer (RFC 5280 4.2.1.15, error).
     FreshestCrlPointEmpty,
 
+    /// The name of a point of the FreshestCRL is relative to the issuer of the CRL (RFC 5280 4.2.1.15, warning).
+    FreshestCrlPointRelative,
+
+    /// The name of a point of the FreshestCRL is relative to a cRLIssuer of two names or more (RFC 5280 4.2.1.15, error).
+    FreshestCrlPointRelativeToSeveral,
+
+    /// A point of the FreshestCRL has general names, and no HTTP or LDAP URI among them (RFC 5280 4.2.1.15, warning).
+    FreshestCrlPointWithoutUri,
+
+    /// The cRLIssuer of a point of the FreshestCRL has a name that isn't a directoryName (RFC 5280 4.2.1.15, error).
+    FreshestCrlPointIssuerInvalid,
+
+    /// The cRLIssuer of a point of the FreshestCRL is the issuer of the certificate (RFC 5280 4.2.1.15, error).
+    FreshestCrlPointOwnIssuer,
+
     /// The AuthorityInfoAccess has no access description (RFC 5280 4.2.2.1, error).
     AuthorityInfoAccessEmpty,
 
+    /// The AuthorityInfoAccess has id-ad-caIssuers, and no HTTP or LDAP URI for it (RFC 5280 4.2.2.1, warning).
+    CaIssuersWithoutUri,
+
     /// The SubjectInfoAccess has no access description (RFC 5280 4.2.2.2, error).
     SubjectInfoAccessEmpty,
+
+    /// The SubjectInfoAccess has id-ad-caRepository, and no HTTP or LDAP URI for it (RFC 5280 4.2.2.2, warning).
+    CaRepositoryWithoutUri,
 }
 
-pub(crate) const POINT_RULES: [PointRule; 7] = [
+pub(crate) const POINT_RULES: [PointRule; 20] = [
     PointRule::SubjectDirectoryAttributesEmpty,
     PointRule::CrlDistributionPointsEmpty,
     PointRule::DistributionPointEmpty,
+    PointRule::DistributionPointRelative,
+    PointRule::DistributionPointRelativeToSeveral,
+    PointRule::DistributionPointWithoutUri,
+    PointRule::DistributionPointIssuerInvalid,
+    PointRule::DistributionPointOwnIssuer,
+    PointRule::DistributionPointsPartial,
     PointRule::FreshestCrlEmpty,
     PointRule::FreshestCrlPointEmpty,
+    PointRule::FreshestCrlPointRelative,
+    PointRule::FreshestCrlPointRelativeToSeveral,
+    PointRule::FreshestCrlPointWithoutUri,
+    PointRule::FreshestCrlPointIssuerInvalid,
+    PointRule::FreshestCrlPointOwnIssuer,
     PointRule::AuthorityInfoAccessEmpty,
+    PointRule::CaIssuersWithoutUri,
     PointRule::SubjectInfoAccessEmpty,
+    PointRule::CaRepositoryWithoutUri,
 ];
 
 impl PointRule {
@@ -55,10 +107,53 @@ impl PointRule {
                 "4.2.1.13",
             ),
             PointRule::DistributionPointEmpty => must("distribution_point_empty", "4.2.1.13"),
+            PointRule::DistributionPointRelative => should(
+                "distribution_point_relative",
+                "4.2.1.13",
+            ),
+            PointRule::DistributionPointRelativeToSeveral => must(
+                "distribution_point_relative_to_several",
+                "4.2.1.13",
+            ),
+            PointRule::DistributionPointWithoutUri => should(
+                "distribution_point_without_uri",
+                "4.2.1.13",
+            ),
+            PointRule::DistributionPointIssuerInvalid => must(
+                "distribution_point_issuer_invalid",
+                "4.2.1.13",
+            ),
+            PointRule::DistributionPointOwnIssuer => must(
+                "distribution_point_own_issuer",
+                "4.2.1.13",
+            ),
+            PointRule::DistributionPointsPartial => must("distribution_points_partial", "4.2.1.13"),
             PointRule::FreshestCrlEmpty => must("freshest_crl_empty", "4.2.1.15"),
             PointRule::FreshestCrlPointEmpty => must("freshest_crl_point_empty", "4.2.1.15"),
+            PointRule::FreshestCrlPointRelative => should(
+                "freshest_crl_point_relative",
+                "4.2.1.15",
+            ),
+            PointRule::FreshestCrlPointRelativeToSeveral => must(
+                "freshest_crl_point_relative_to_several",
+                "4.2.1.15",
+            ),
+            PointRule::FreshestCrlPointWithoutUri => should(
+                "freshest_crl_point_without_uri",
+                "4.2.1.15",
+            ),
+            PointRule::FreshestCrlPointIssuerInvalid => must(
+                "freshest_crl_point_issuer_invalid",
+                "4.2.1.15",
+            ),
+            PointRule::FreshestCrlPointOwnIssuer => must(
+                "freshest_crl_point_own_issuer",
+                "4.2.1.15",
+            ),
             PointRule::AuthorityInfoAccessEmpty => must("authority_info_access_empty", "4.2.2.1"),
+            PointRule::CaIssuersWithoutUri => should("ca_issuers_without_uri", "4.2.2.1"),
             PointRule::SubjectInfoAccessEmpty => must("subject_info_access_empty", "4.2.2.2"),
+            PointRule::CaRepositoryWithoutUri => should("ca_repository_without_uri", "4.2.2.2"),
         }
     }
 }

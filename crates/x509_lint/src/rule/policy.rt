@@ -3,7 +3,7 @@
 ghost use Rattle.x509_lint.specs.Policy.{policy_wording};
 ghost use Rattle.x509_lint.specs.Wording.{Says};
 
-use crate::entry::{Entry, must};
+use crate::entry::{Entry, must, should};
 
 /// Rules on certificate policies, policy mappings and policy constraints (RFC 5280 4.2.1.4, 4.2.1.5, 4.2.1.11).
 #[derive(Clone, Copy, Debug, PartialEq, Eq)]
@@ -11,11 +11,32 @@ pub enum PolicyRule {
     /// The CertificatePolicies has no policy (RFC 5280 4.2.1.4, error).
     CertificatePoliciesEmpty,
 
+    /// A policy is there twice (RFC 5280 4.2.1.4, error).
+    CertificatePolicyRepeated,
+
     /// The list of a policy's qualifiers is there, and has none (RFC 5280 4.2.1.4, error).
     PolicyQualifiersEmpty,
 
+    /// A qualifier of anyPolicy is neither a CPS pointer nor a user notice (RFC 5280 4.2.1.4, error).
+    AnyPolicyQualifierInvalid,
+
     /// The explicit text of a user notice has more than 200 characters (RFC 5280 4.2.1.4, error).
     ExplicitTextTooLong,
+
+    /// The explicit text of a user notice has no characters (RFC 5280 4.2.1.4, error).
+    ExplicitTextEmpty,
+
+    /// The explicit text of a user notice is a VisibleString or a BMPString (RFC 5280 4.2.1.4, error).
+    ExplicitTextType,
+
+    /// The explicit text of a user notice is an IA5String (RFC 5280 4.2.1.4, warning).
+    ExplicitTextNotUtf8String,
+
+    /// The explicit text of a user notice has a control character, U+0000 to U+001F or U+007F (RFC 5280 4.2.1.4, warning).
+    ExplicitTextControl,
+
+    /// A user notice has a noticeRef (RFC 5280 4.2.1.4, warning).
+    NoticeReferencePresent,
 
     /// The PolicyMappings has no mapping (RFC 5280 4.2.1.5, error).
     PolicyMappingsEmpty,
@@ -27,10 +48,17 @@ pub enum PolicyRule {
     PolicyConstraintsEmpty,
 }
 
-pub(crate) const POLICY_RULES: [PolicyRule; 6] = [
+pub(crate) const POLICY_RULES: [PolicyRule; 13] = [
     PolicyRule::CertificatePoliciesEmpty,
+    PolicyRule::CertificatePolicyRepeated,
     PolicyRule::PolicyQualifiersEmpty,
+    PolicyRule::AnyPolicyQualifierInvalid,
     PolicyRule::ExplicitTextTooLong,
+    PolicyRule::ExplicitTextEmpty,
+    PolicyRule::ExplicitTextType,
+    PolicyRule::ExplicitTextNotUtf8String,
+    PolicyRule::ExplicitTextControl,
+    PolicyRule::NoticeReferencePresent,
     PolicyRule::PolicyMappingsEmpty,
     PolicyRule::PolicyMappingAnyPolicy,
     PolicyRule::PolicyConstraintsEmpty,
@@ -43,8 +71,21 @@ impl PolicyRule {
     {
         match self {
             PolicyRule::CertificatePoliciesEmpty => must("certificate_policies_empty", "4.2.1.4"),
+            PolicyRule::CertificatePolicyRepeated => must("certificate_policy_repeated", "4.2.1.4"),
             PolicyRule::PolicyQualifiersEmpty => must("policy_qualifiers_empty", "4.2.1.4"),
+            PolicyRule::AnyPolicyQualifierInvalid => must(
+                "any_policy_qualifier_invalid",
+                "4.2.1.4",
+            ),
             PolicyRule::ExplicitTextTooLong => must("explicit_text_too_long", "4.2.1.4"),
+            PolicyRule::ExplicitTextEmpty => must("explicit_text_empty", "4.2.1.4"),
+            PolicyRule::ExplicitTextType => must("explicit_text_type", "4.2.1.4"),
+            PolicyRule::ExplicitTextNotUtf8String => should(
+                "explicit_text_not_utf8_string",
+                "4.2.1.4",
+            ),
+            PolicyRule::ExplicitTextControl => should("explicit_text_control", "4.2.1.4"),
+            PolicyRule::NoticeReferencePresent => should("notice_reference_present", "4.2.1.4"),
             PolicyRule::PolicyMappingsEmpty => must("policy_mappings_empty", "4.2.1.5"),
             PolicyRule::PolicyMappingAnyPolicy => must("policy_mapping_any_policy", "4.2.1.5"),
             PolicyRule::PolicyConstraintsEmpty => must("policy_constraints_empty", "4.2.1.11"),

@@ -1,5 +1,6 @@
-use Rattle.std.proofs.Common.{◌≡◌, ◌∙◌, ap, filter, map, subst, sym}
+use Rattle.std.proofs.Common.{◌≡◌, ◌∙◌, ◌++◌, ap, filter, map, subst, sym}
 use Rattle.x509_cert.specs.ext.LookUp.{members}
+use Rattle.x509_lint.specs.CrlEntry.{crl_entry_rules}
 use Rattle.x509_lint.specs.CrlExtension.{crl_extension_rules}
 use Rattle.x509_lint.specs.CrlField.{crl_field_rules}
 use Rattle.x509_lint.specs.Rules.{crl_breaks}
@@ -13,8 +14,9 @@ returns-clause-ok c =
     let parts : CrlParts = record { facts = c.in_ok-facts.facts; values = c.in_ok-values.values } in
     let p = crl_breaks c.args.crl.now parts in
     let none : c.add_broken.new.findings.items ≡ map rules.CrlField (filter (λ r. p (rules.CrlField r)) crl_field_rules) = rw c.new-findings.ensures.items at c.in_ok-add_broken.ensures in
-    let so = none ∙ sym (filter-map rules.CrlField p crl_field_rules) in (
+    let so = none ∙ sym (filter-map rules.CrlField p crl_field_rules) in
+    let so_extension = behind rules.CrlExtension p (map rules.CrlField crl_field_rules) crl_extension_rules _ _ so c.in_ok-add_broken-2.ensures in (
       parts,
       (c.in_ok-facts.ensures.ok, subst (λ extensions. AreCrlValues extensions c.in_ok-values.values) (c.members.ensures ∙ ap members c.as_ref.ensures.value) c.in_ok-values.ensures.ok),
-      behind rules.CrlExtension p (map rules.CrlField crl_field_rules) crl_extension_rules _ _ so c.in_ok-add_broken-2.ensures,
+      behind rules.CrlEntry p (map rules.CrlField crl_field_rules ++ map rules.CrlExtension crl_extension_rules) crl_entry_rules _ _ so_extension c.in_ok-add_broken-3.ensures,
     )

@@ -1,0 +1,94 @@
+-- Places where CRLs and certificates are found: distribution points and access descriptions (RFC 5280 4.2.1.13, 4.2.2).
+use Rattle.std.specs.Prelude.{◌&&◌, ◌||◌, ◌==◌, ℕ, Bool, true, false, not, nat_lt, length, List, [], ◌∷◌, bytes_eq, is_some}
+use Rattle.std.specs.List.{list_all, list_any, slice_get}
+use Rattle.x509_cert.specs.ext.Identifiers.{id_pkix}
+use Rattle.x509_cert.specs.ext.declared.pkix.access.AccessDescription.{AccessDescription}
+use Rattle.x509_cert.specs.ext.declared.pkix.distribution_point.DistributionPoint.{DistributionPoint}
+use Rattle.x509_cert.specs.ext.declared.pkix.name.distribution_point_name.DistributionPointName.{DistributionPointName}
+use Rattle.x509_cert.specs.ext.declared.pkix.name.distribution_point_name.DistributionPointName.TheVariants.{FullName, NameRelativeToCRLIssuer}
+use Rattle.x509_cert.specs.ext.declared.pkix.name.general_name.GeneralName.{GeneralName}
+use Rattle.x509_cert.specs.ext.declared.pkix.name.general_name.GeneralName.TheVariants.{OtherName, Rfc822Name, DnsName, DirectoryName, EdiPartyName, UniformResourceIdentifier, IpAddress, RegisteredId}
+use Rattle.x509_cert.specs.name.Names.{rdn_sequence_eq}
+use Rattle.x509_cert.specs.name.declared.attr.type_and_value.AttributeTypeAndValue.{AttributeTypeAndValue}
+use Rattle.x509_lint.specs.Words.{is_empty, passes}
+use Rattle.x509_lint.specs.declared.places.PointFault.{PointFault}
+use Rattle.x509_lint.specs.declared.places.PointFault.TheVariants.{Relative, RelativeToSeveral, NoUri, OtherIssuer, ReasonsOrIssuer}
+
+-- ---- URIs
+
+-- the octet at the place is the letter, in upper or lower case
+abbrev pub is_letter_at : List ℕ → ℕ → ℕ → ℕ → Bool
+is_letter_at text at upper lower = passes (λ octet. (octet == upper) || (octet == lower)) (slice_get text at)
+
+abbrev pub is_colon_at : List ℕ → ℕ → Bool
+is_colon_at text at = passes (λ octet. octet == 58) (slice_get text at)
+
+-- the text begins with `http:`
+abbrev pub is_http : List ℕ → Bool
+is_http text = is_letter_at text 0 72 104 && (is_letter_at text 1 84 116 && (is_letter_at text 2 84 116 && (is_letter_at text 3 80 112 && is_colon_at text 4)))
+
+-- the text begins with `ldap:`
+abbrev pub is_ldap : List ℕ → Bool
+is_ldap text = is_letter_at text 0 76 108 && (is_letter_at text 1 68 100 && (is_letter_at text 2 65 97 && (is_letter_at text 3 80 112 && is_colon_at text 4)))
+
+-- an HTTP or an LDAP URI
+abbrev pub is_web : GeneralName → Bool
+is_web (UniformResourceIdentifier text) = is_http text || is_ldap text
+is_web other = false
+
+-- ---- distribution points
+
+abbrev pub is_relative_name : DistributionPointName → Bool
+is_relative_name (FullName names) = false
+is_relative_name (NameRelativeToCRLIssuer rdn) = true
+
+-- general names among which no HTTP or LDAP URI is
+abbrev pub is_name_without_uri : DistributionPointName → Bool
+is_name_without_uri (FullName names) = not (list_any is_web names)
+is_name_without_uri (NameRelativeToCRLIssuer rdn) = false
+
+abbrev pub is_no_directory_name : GeneralName → Bool
+is_no_directory_name (DirectoryName rdns) = false
+is_no_directory_name other = true
+
+-- the name is a directoryName, and this one
+abbrev pub is_this_name : List (List AttributeTypeAndValue) → GeneralName → Bool
+is_this_name name (DirectoryName rdns) = rdn_sequence_eq rdns name
+is_this_name name other = false
+
+-- a point whose cRLIssuer has this name
+abbrev pub is_point_of : List (List AttributeTypeAndValue) → DistributionPoint → Bool
+is_point_of name p = passes (λ names. list_any (is_this_name name) names) p.crl_issuer
+
+-- there are points, and each has reasons, so none covers all
+abbrev pub are_partial : List DistributionPoint → Bool
+are_partial points = not (is_empty points) && list_all (λ p. is_some p.reasons) points
+
+-- what is wrong with a point
+abbrev pub is_faulty_point : PointFault → DistributionPoint → Bool
+is_faulty_point Relative p = passes is_relative_name p.distribution_point
+is_faulty_point RelativeToSeveral p = passes is_relative_name p.distribution_point && passes (λ names. nat_lt 1 (length names)) p.crl_issuer
+is_faulty_point NoUri p = passes is_name_without_uri p.distribution_point
+is_faulty_point OtherIssuer p = passes (λ names. list_any is_no_directory_name names) p.crl_issuer
+is_faulty_point ReasonsOrIssuer p = is_some p.reasons || is_some p.crl_issuer
+
+-- ---- access descriptions
+
+-- id-ad-caIssuers and id-ad-caRepository (RFC 5280 4.2.2.1, 4.2.2.2)
+abbrev pub ca_issuers : List ℕ
+ca_issuers = id_pkix 48 2
+
+abbrev pub ca_repository : List ℕ
+ca_repository = id_pkix 48 5
+
+abbrev pub has_method : List ℕ → List AccessDescription → Bool
+has_method method descriptions = list_any (λ d. bytes_eq d.access_method method) descriptions
+
+-- there are descriptions of the method, and none of them has an HTTP or LDAP URI
+abbrev pub lacks_uri : List ℕ → List AccessDescription → Bool
+lacks_uri method descriptions =
+    has_method method descriptions && not (list_any (λ d. bytes_eq d.access_method method && is_web d.access_location) descriptions)
+
+-- there is no description of the method, or one of another
+abbrev pub has_other_method : List ℕ → List AccessDescription → Bool
+has_other_method method descriptions = is_empty descriptions || list_any (λ d. not (bytes_eq d.access_method method)) descriptions

@@ -1,0 +1,172 @@
+//! What is asked of the extensions of a CRL's entries.
+
+ghost use Rattle.std.specs.List.{All, list_all, list_any};
+ghost use Rattle.std.specs.Prelude.{◌≡◌, ◌↔◌, [], ◌∷◌, IfErr, IfOk, IsTrue, bytes_eq};
+ghost use Rattle.x509_cert.specs.der.declared.error.ErrorKind.TheVariants.{Memory};
+ghost use Rattle.x509_cert.specs.ext.LookUp.{members};
+ghost use Rattle.x509_lint.specs.CrlEntry.{is_date, is_faulty, is_reason, reason_octets};
+ghost use Rattle.x509_lint.specs.Text.{is_digit};
+ghost use Rattle.x509_lint.specs.Values.{IsDistinct};
+
+use crate::extensions::{is_critical, is_of, is_uncritical};
+use crate::texts::is_digit;
+use std::alloc::Global;
+use x509_cert::certificate::Raw;
+use x509_cert::crl::RevokedCert;
+use x509_cert::der::Error;
+use x509_cert::ext::pkix::{CertificateIssuer, CrlReason};
+use x509_cert::ext::{Extension, has_repeated_extension, members};
+use x509_der::{AssociatedOid, ObjectIdentifier, oid};
+
+/// What may be wrong with an extension of an entry (RFC 5280 5.3).
+#[derive(Clone, Copy, Debug, PartialEq, Eq)]
+pub(crate) enum EntryFault {
+    /// It is a reasonCode, and critical.
+    ReasonCritical,
+
+    /// It is a reasonCode, and unspecified.
+    ReasonUnspecified,
+
+    /// It is a reasonCode, and removeFromCRL.
+    ReasonRemoveFromCrl,
+
+    /// It is a reasonCode, and none of the reasons.
+    ReasonInvalid,
+
+    /// It is an invalidityDate, and critical.
+    InvalidityDateCritical,
+
+    /// It is an invalidityDate, and not 14 digits and Z.
+    InvalidityDateInvalid,
+
+    /// It is a certificateIssuer, and not critical.
+    IssuerNotCritical,
+
+    /// It is a certificateIssuer.
+    Issuer,
+}
+
+/// The invalidity date of an entry, 2.5.29.24 (RFC 5280 5.3.2).
+#[derive(Clone, Copy, Debug)]
+struct InvalidityDate;
+
+impl AssociatedOid for InvalidityDate {
+    ghost use Rattle.x509_cert.specs.ext.Identifiers.{id_ce};
+
+    ghost OID = { id_ce 24 };
+
+    const OID: ObjectIdentifier = oid!(0x55, 0x1D, 24);
+}
+
+/// Whether the octets are the DER of the reason with the number.
+fn is_number(octets: &[u8], number: u8) -> bool
+    ensures { result ≡ bytes_eq octets.now (reason_octets number) }
+{
+    octets == [0x0A, 0x01, number].as_slice()
+}
+
+fn is_reason(octets: &[u8]) -> bool
+    ensures { result ≡ is_reason octets.now }
+{
+    [0, 1, 2, 3, 4, 5, 6, 8, 9, 10]
+        .iter()
+        .any(|number| is_number(octets, *number))
+}
+
+fn are_digits(octets: &[u8]) -> bool
+    ensures { result ≡ list_all is_digit octets.now }
+{
+    octets.iter().all(|octet| is_digit(*octet))
+}
+
+fn begins_date(octets: &[u8]) -> bool
+    ensures { result ≡ bytes_eq octets.now (0x18 ∷ 15 ∷ []) }
+{
+    octets == [0x18, 15].as_slice()
+}
+
+fn ends_date(octets: &[u8]) -> bool
+    ensures { result ≡ bytes_eq octets.now (90 ∷ []) }
+{
+    octets == b"Z".as_slice()
+}
+
+/// Whether the octets are the DER of a GeneralizedTime of 14 digits and a Z.
+fn is_date(octets: &[u8]) -> bool
+    ensures { result ≡ is_date octets.now }
+{
+    if octets.len() != 17 {
+        return false;
+    }
+    begins_date(&octets[..2]) && (are_digits(&octets[2..16]) && ends_date(&octets[16..]))
+}
+
+/// Whether the extension has the fault.
+fn is_faulty(fault: EntryFault, extension: &Extension) -> bool
+    ensures { result ≡ is_faulty fault extension.now }
+{
+    match fault {
+        EntryFault::ReasonCritical => is_critical::<CrlReason>(extension),
+        EntryFault::ReasonUnspecified => {
+            is_of::<CrlReason>(extension) && is_number(extension.extn_value.as_bytes(), 0)
+        }
+        EntryFault::ReasonRemoveFromCrl => {
+            is_of::<CrlReason>(extension) && is_number(extension.extn_value.as_bytes(), 8)
+        }
+        EntryFault::ReasonInvalid => {
+            is_of::<CrlReason>(extension) && !is_reason(extension.extn_value.as_bytes())
+        }
+        EntryFault::InvalidityDateCritical => is_critical::<InvalidityDate>(extension),
+        EntryFault::InvalidityDateInvalid => {
+            is_of::<InvalidityDate>(extension) && !is_date(extension.extn_value.as_bytes())
+        }
+        EntryFault::IssuerNotCritical => is_uncritical::<CertificateIssuer>(extension),
+        EntryFault::Issuer => is_of::<CertificateIssuer>(extension),
+    }
+}
+
+fn are_faulty(fault: EntryFault, extensions: &[Extension]) -> bool
+    ensures { result ≡ list_any (is_faulty fault) extensions.now }
+{
+    extensions
+        .iter()
+        .any(|extension| is_faulty(fault, extension))
+}
+
+fn is_faulty_entry(fault: EntryFault, entry: &RevokedCert<Raw>) -> bool
+    ensures { result ≡ list_any (is_faulty fault) (members entry.now.crl_entry_extensions) }
+{
+    are_faulty(fault, members(entry.crl_entry_extensions.as_ref()))
+}
+
+/// Whether an extension of an entry has the fault.
+pub(crate) fn has_fault(entries: &[RevokedCert<Raw>], fault: EntryFault) -> bool
+    ensures { result ≡ list_any (λ e. list_any (is_faulty fault) (members e.crl_entry_extensions)) entries.now }
+{
+    entries.iter().any(|entry| is_faulty_entry(fault, entry))
+}
+
+#[tactic(auto, unfolding(crate::specs::Values::IsDistinct))]
+fn is_distinct(alloc: Global, entry: &RevokedCert<Raw>) -> Result<bool, Error>
+    ensures ok { IfOk result (λ b. IsTrue b ↔ IsDistinct entry.now) }
+    ensures err { IfErr result (λ e. e.kind ≡ Memory) }
+{
+    let extensions = members(entry.crl_entry_extensions.as_ref());
+    Ok(!has_repeated_extension(alloc, extensions)?)
+}
+
+/// Whether no two extensions of one entry have one OID.
+pub(crate) fn are_entries_distinct(
+    alloc: Global,
+    entries: &[RevokedCert<Raw>],
+) -> Result<bool, Error>
+    ensures ok { IfOk result (λ b. IsTrue b ↔ All IsDistinct entries.now) }
+    ensures err { IfErr result (λ e. e.kind ≡ Memory) }
+{
+    for entry in entries {
+        if !is_distinct(alloc, entry)? {
+            return Ok(false);
+        }
+    }
+    Ok(true)
+}

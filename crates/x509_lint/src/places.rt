@@ -1,0 +1,255 @@
+//! What is asked of places where CRLs and certificates are found.
+
+ghost use Rattle.std.specs.List.{list_all, list_any};
+ghost use Rattle.std.specs.Prelude.{◌≡◌, ◌&&◌, bytes_eq, is_some, length, nat_lt, not};
+ghost use Rattle.x509_lint.specs.Place as place;
+ghost use Rattle.x509_lint.specs.Words.{passes};
+
+use x509_cert::der::asn1::ObjectIdentifier;
+use x509_cert::ext::pkix::AccessDescription;
+use x509_cert::ext::pkix::crl::dp::DistributionPoint;
+use x509_cert::ext::pkix::name::{DistributionPointName, GeneralName, GeneralNames};
+use x509_cert::name::Name;
+use x509_der::oid;
+
+/// id-ad-caIssuers, 1.3.6.1.5.5.7.48.2 (RFC 5280 4.2.2.1).
+pub(crate) const CA_ISSUERS: ObjectIdentifier = oid!(0x2B, 0x06, 0x01, 0x05, 0x05, 0x07, 48, 2);
+
+/// id-ad-caRepository, 1.3.6.1.5.5.7.48.5 (RFC 5280 4.2.2.2).
+pub(crate) const CA_REPOSITORY: ObjectIdentifier = oid!(0x2B, 0x06, 0x01, 0x05, 0x05, 0x07, 48, 5);
+
+/// What may be wrong with a distribution point (RFC 5280 4.2.1.13, 5.2.6).
+#[derive(Clone, Copy, Debug, PartialEq, Eq)]
+pub(crate) enum PointFault {
+    /// Its name is relative to the issuer of the CRL.
+    Relative,
+
+    /// Its name is relative to a cRLIssuer of two names or more.
+    RelativeToSeveral,
+
+    /// Its name has no HTTP or LDAP URI.
+    NoUri,
+
+    /// Its cRLIssuer has a name that isn't a directoryName.
+    OtherIssuer,
+
+    /// It has reasons or a cRLIssuer.
+    ReasonsOrIssuer,
+}
+
+fn is_letter_at(text: &[u8], at: usize, upper: u8, lower: u8) -> bool
+    ensures { result ≡ place.is_letter_at text.now at upper lower }
+{
+    match text.get(at) {
+        Some(octet) => *octet == upper || *octet == lower,
+        None => false,
+    }
+}
+
+fn is_colon_at(text: &[u8], at: usize) -> bool
+    ensures { result ≡ place.is_colon_at text.now at }
+{
+    match text.get(at) {
+        Some(octet) => *octet == b':',
+        None => false,
+    }
+}
+
+fn is_http(text: &[u8]) -> bool
+    ensures { result ≡ place.is_http text.now }
+{
+    is_letter_at(text, 0, b'H', b'h')
+        && (is_letter_at(text, 1, b'T', b't')
+            && (is_letter_at(text, 2, b'T', b't')
+                && (is_letter_at(text, 3, b'P', b'p') && is_colon_at(text, 4))))
+}
+
+fn is_ldap(text: &[u8]) -> bool
+    ensures { result ≡ place.is_ldap text.now }
+{
+    is_letter_at(text, 0, b'L', b'l')
+        && (is_letter_at(text, 1, b'D', b'd')
+            && (is_letter_at(text, 2, b'A', b'a')
+                && (is_letter_at(text, 3, b'P', b'p') && is_colon_at(text, 4))))
+}
+
+/// Whether the name is an HTTP or an LDAP URI.
+fn is_web(name: &GeneralName) -> bool
+    ensures { result ≡ place.is_web name.now }
+{
+    match name {
+        GeneralName::UniformResourceIdentifier(text) => {
+            let text = text.as_str().as_bytes();
+            is_http(text) || is_ldap(text)
+        }
+        _ => false,
+    }
+}
+
+fn has_web(names: &[GeneralName]) -> bool
+    ensures { result ≡ list_any place.is_web names.now }
+{
+    names.iter().any(|name| is_web(name))
+}
+
+fn is_relative(name: &Option<DistributionPointName>) -> bool
+    ensures { result ≡ passes place.is_relative_name name.now }
+{
+    match name {
+        Some(DistributionPointName::NameRelativeToCRLIssuer(_)) => true,
+        Some(DistributionPointName::FullName(_)) => false,
+        None => false,
+    }
+}
+
+fn is_without_uri(name: &Option<DistributionPointName>) -> bool
+    ensures { result ≡ passes place.is_name_without_uri name.now }
+{
+    match name {
+        Some(DistributionPointName::FullName(names)) => !has_web(names.as_slice()),
+        Some(DistributionPointName::NameRelativeToCRLIssuer(_)) => false,
+        None => false,
+    }
+}
+
+fn is_no_directory_name(name: &GeneralName) -> bool
+    ensures { result ≡ place.is_no_directory_name name.now }
+{
+    match name {
+        GeneralName::DirectoryName(_) => false,
+        _ => true,
+    }
+}
+
+fn are_not_directory_names(names: &[GeneralName]) -> bool
+    ensures { result ≡ list_any place.is_no_directory_name names.now }
+{
+    names.iter().any(|name| is_no_directory_name(name))
+}
+
+fn has_other_issuer(issuer: &Option<GeneralNames>) -> bool
+    ensures { result ≡ passes (λ names. list_any place.is_no_directory_name names) issuer.now }
+{
+    match issuer {
+        Some(names) => are_not_directory_names(names.as_slice()),
+        None => false,
+    }
+}
+
+fn has_several(issuer: &Option<GeneralNames>) -> bool
+    ensures { result ≡ passes (λ names. nat_lt 1 (length names)) issuer.now }
+{
+    match issuer {
+        Some(names) => names.as_slice().len() > 1,
+        None => false,
+    }
+}
+
+fn is_faulty(fault: PointFault, point: &DistributionPoint) -> bool
+    ensures { result ≡ place.is_faulty_point fault point.now }
+{
+    match fault {
+        PointFault::Relative => is_relative(&point.distribution_point),
+        PointFault::RelativeToSeveral => {
+            is_relative(&point.distribution_point) && has_several(&point.crl_issuer)
+        }
+        PointFault::NoUri => is_without_uri(&point.distribution_point),
+        PointFault::OtherIssuer => has_other_issuer(&point.crl_issuer),
+        PointFault::ReasonsOrIssuer => point.reasons.is_some() || point.crl_issuer.is_some(),
+    }
+}
+
+/// Whether a point has the fault.
+pub(crate) fn has_fault(fault: PointFault, points: &[DistributionPoint]) -> bool
+    ensures { result ≡ list_any (place.is_faulty_point fault) points.now }
+{
+    points.iter().any(|point| is_faulty(fault, point))
+}
+
+/// Whether there are points, and each has reasons.
+pub(crate) fn are_partial(points: &[DistributionPoint]) -> bool
+    ensures { result ≡ place.are_partial points.now }
+{
+    !points.is_empty() && have_reasons(points)
+}
+
+fn have_reasons(points: &[DistributionPoint]) -> bool
+    ensures { result ≡ list_all (λ p. is_some p.reasons) points.now }
+{
+    points.iter().all(|point| point.reasons.is_some())
+}
+
+fn is_this_name(name: &Name, other: &GeneralName) -> bool
+    ensures { result ≡ place.is_this_name name.now other.now }
+{
+    match other {
+        GeneralName::DirectoryName(other) => other == name,
+        _ => false,
+    }
+}
+
+fn are_this_name(name: &Name, names: &[GeneralName]) -> bool
+    ensures { result ≡ list_any (place.is_this_name name.now) names.now }
+{
+    names.iter().any(|other| is_this_name(name, other))
+}
+
+fn is_point_of(name: &Name, point: &DistributionPoint) -> bool
+    ensures { result ≡ place.is_point_of name.now point.now }
+{
+    match &point.crl_issuer {
+        Some(names) => are_this_name(name, names.as_slice()),
+        None => false,
+    }
+}
+
+/// Whether the cRLIssuer of a point has the name.
+pub(crate) fn has_point_of(name: &Name, points: &[DistributionPoint]) -> bool
+    ensures { result ≡ list_any (place.is_point_of name.now) points.now }
+{
+    points.iter().any(|point| is_point_of(name, point))
+}
+
+fn is_web_of(method: ObjectIdentifier, description: &AccessDescription) -> bool
+    ensures { result ≡ (bytes_eq description.now.access_method method && place.is_web description.now.access_location) }
+{
+    description.access_method == method && is_web(&description.access_location)
+}
+
+fn has_method(method: ObjectIdentifier, descriptions: &[AccessDescription]) -> bool
+    ensures { result ≡ place.has_method method descriptions.now }
+{
+    descriptions
+        .iter()
+        .any(|description| description.access_method == method)
+}
+
+fn has_web_of(method: ObjectIdentifier, descriptions: &[AccessDescription]) -> bool
+    ensures { result ≡ list_any (λ d. bytes_eq d.access_method method && place.is_web d.access_location) descriptions.now }
+{
+    descriptions
+        .iter()
+        .any(|description| is_web_of(method, description))
+}
+
+/// Whether there are descriptions of the method, and none has an HTTP or LDAP URI.
+pub(crate) fn lacks_uri(method: ObjectIdentifier, descriptions: &[AccessDescription]) -> bool
+    ensures { result ≡ place.lacks_uri method descriptions.now }
+{
+    has_method(method, descriptions) && !has_web_of(method, descriptions)
+}
+
+fn is_other_among(method: ObjectIdentifier, descriptions: &[AccessDescription]) -> bool
+    ensures { result ≡ list_any (λ d. not (bytes_eq d.access_method method)) descriptions.now }
+{
+    descriptions
+        .iter()
+        .any(|description| description.access_method != method)
+}
+
+/// Whether there is no description, or one of another method.
+pub(crate) fn has_other_method(method: ObjectIdentifier, descriptions: &[AccessDescription]) -> bool
+    ensures { result ≡ place.has_other_method method descriptions.now }
+{
+    descriptions.is_empty() || is_other_among(method, descriptions)
+}

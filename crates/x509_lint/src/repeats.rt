@@ -1,0 +1,87 @@
+//! What stands twice: serial numbers of a CRL's entries, and policies.
+
+ghost use Rattle.std.specs.Prelude.{◌≡◌, ◌↔◌, IfErr, IfOk, IsTrue, map};
+ghost use Rattle.x509_cert.specs.der.declared.error.ErrorKind.TheVariants.{Memory};
+ghost use Rattle.x509_der.specs.Set.{AreDistinct};
+ghost use Rattle.x509_lint.specs.Values.{policies_of, policy_identifiers, serials};
+
+use std::alloc::Global;
+use x509_cert::certificate::Raw;
+use x509_cert::crl::RevokedCert;
+use x509_cert::der::asn1::{ObjectIdentifier, SetOfVec};
+use x509_cert::der::{Error, TryClone};
+use x509_cert::ext::pkix::CertificatePolicies;
+use x509_cert::ext::pkix::certpolicy::PolicyInformation;
+use x509_cert::serial_number::SerialNumber;
+
+fn are_numbers_distinct(numbers: Vec<SerialNumber<Raw>>) -> bool
+    ensures { IsTrue result ↔ AreDistinct numbers.items }
+{
+    match SetOfVec::try_from_vec(numbers) {
+        Ok(_) => true,
+        Err(_) => false,
+    }
+}
+
+fn are_oids_distinct(oids: Vec<ObjectIdentifier>) -> bool
+    ensures { IsTrue result ↔ AreDistinct oids.items }
+{
+    match SetOfVec::try_from_vec(oids) {
+        Ok(_) => true,
+        Err(_) => false,
+    }
+}
+
+/// Whether no two entries have one serial number. O(n log n) comparisons.
+///
+/// # Errors
+///
+/// `Memory` when out of memory, and nothing else: it copies the serial numbers.
+pub(crate) fn are_serials_distinct(
+    alloc: Global,
+    entries: &[RevokedCert<Raw>],
+) -> Result<bool, Error>
+    ensures ok { IfOk result (λ b. IsTrue b ↔ AreDistinct (serials entries.now)) }
+    ensures err { IfErr result (λ e. e.kind ≡ Memory) }
+{
+    let mut numbers = Vec::with_capacity(alloc, entries.len())?;
+    for entry in entries {
+        numbers.push(entry.serial_number.try_clone(alloc)?)?;
+    }
+    Ok(are_numbers_distinct(numbers))
+}
+
+fn are_identifiers_distinct(alloc: Global, policies: &[PolicyInformation]) -> Result<bool, Error>
+    ensures ok { IfOk result (λ b. IsTrue b ↔ AreDistinct (policy_identifiers policies.now)) }
+    ensures err { IfErr result (λ e. e.kind ≡ Memory) }
+{
+    let mut identifiers = Vec::with_capacity(alloc, policies.len())?;
+    for policy in policies {
+        identifiers.push(policy.policy_identifier)?;
+    }
+    Ok(are_oids_distinct(identifiers))
+}
+
+fn policies_of(policies: &Option<CertificatePolicies>) -> &[PolicyInformation]
+    ensures { result.now ≡ policies_of policies.now }
+{
+    match policies {
+        Some(policies) => policies.0.as_slice(),
+        None => &[],
+    }
+}
+
+/// Whether no policy is there twice. O(n log n) comparisons.
+///
+/// # Errors
+///
+/// `Memory` when out of memory, and nothing else: it copies the OIDs.
+pub(crate) fn are_policies_distinct(
+    alloc: Global,
+    policies: &Option<CertificatePolicies>,
+) -> Result<bool, Error>
+    ensures ok { IfOk result (λ b. IsTrue b ↔ AreDistinct (policy_identifiers (policies_of policies.now))) }
+    ensures err { IfErr result (λ e. e.kind ≡ Memory) }
+{
+    are_identifiers_distinct(alloc, policies_of(policies))
+}

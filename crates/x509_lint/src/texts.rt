@@ -1,0 +1,281 @@
+//! What is asked of the texts of names.
+
+ghost use Rattle.std.specs.List.{list_all, list_any};
+ghost use Rattle.std.specs.Prelude.{◌≡◌, ◌&&◌, ◌||◌, ◌==◌, IfNone, IfSome, bytes_eq, false, length, nat_le, nat_lt, true};
+ghost use Rattle.std.specs.Str.{chars, is_utf8};
+ghost use Rattle.x509_lint.specs.Text as text;
+
+use crate::notices::count_chars;
+use x509_cert::attr::AttributeTypeAndValue;
+use x509_cert::attr::attribute_types::{DOMAIN_COMPONENT, EMAIL_ADDRESS};
+use x509_cert::der::Tag;
+use x509_cert::name::{Name, RdnSequence, RelativeDistinguishedName};
+
+/// What may be wrong with the text of an attribute (RFC 5280 4.1.2.4, A.1).
+#[derive(Clone, Copy, Debug, PartialEq, Eq)]
+pub(crate) enum TextFault {
+    /// It is of a string type that the attribute doesn't have.
+    OtherType,
+
+    /// It is a DirectoryString of a type that new names don't have.
+    OldType,
+
+    /// It has characters that its string type doesn't have.
+    OtherCharacter,
+
+    /// It is empty, or longer than the upper bound of the attribute.
+    Size,
+}
+
+const DIRECTORY_NUMBERS: [u8; 12] = [3, 4, 7, 8, 10, 11, 12, 41, 42, 43, 44, 65];
+
+const PRINTABLE_NUMBERS: [u8; 2] = [5, 46];
+
+const NUMBERS_TO_64: [u8; 5] = [3, 5, 10, 11, 12];
+
+const NUMBERS_TO_128: [u8; 3] = [7, 8, 65];
+
+const NUMBERS_TO_32768: [u8; 5] = [4, 41, 42, 43, 44];
+
+/// The marks that a PrintableString may have.
+const MARKS: [u8; 12] = [32, 39, 40, 41, 43, 44, 45, 46, 47, 58, 61, 63];
+
+fn is_id_at(oid: &[u8], number: u8) -> bool
+    ensures { result ≡ bytes_eq oid.now (text.id_at number) }
+{
+    oid == [0x55, 0x04, number].as_slice()
+}
+
+/// Whether the type is 2.5.4.N, with one of the numbers as N.
+fn is_among(numbers: &[u8], oid: &[u8]) -> bool
+    ensures { result ≡ text.is_among numbers.now oid.now }
+{
+    numbers.iter().any(|number| is_id_at(oid, *number))
+}
+
+fn is_ia5_type(attribute: &AttributeTypeAndValue) -> bool
+    ensures { result ≡ text.is_ia5_type attribute.now.oid }
+{
+    attribute.oid == DOMAIN_COMPONENT || attribute.oid == EMAIL_ADDRESS
+}
+
+fn is_printable_string(tag: Tag) -> bool
+    ensures { result ≡ text.is_printable_string tag }
+{
+    match tag {
+        Tag::PrintableString => true,
+        _ => false,
+    }
+}
+
+fn is_ia5_string(tag: Tag) -> bool
+    ensures { result ≡ text.is_ia5_string tag }
+{
+    match tag {
+        Tag::Ia5String => true,
+        _ => false,
+    }
+}
+
+fn is_new_string(tag: Tag) -> bool
+    ensures { result ≡ text.is_new_string tag }
+{
+    match tag {
+        Tag::PrintableString | Tag::Utf8String => true,
+        _ => false,
+    }
+}
+
+fn is_old_string(tag: Tag) -> bool
+    ensures { result ≡ text.is_old_string tag }
+{
+    match tag {
+        Tag::TeletexString | Tag::BmpString | Tag::UniversalString => true,
+        _ => false,
+    }
+}
+
+fn has_other_type(attribute: &AttributeTypeAndValue) -> bool
+    ensures { result ≡ text.has_other_type attribute.now }
+{
+    let oid = attribute.oid.as_bytes();
+    let tag = attribute.value.tag();
+    (is_among(&DIRECTORY_NUMBERS, oid) && (!is_new_string(tag) && !is_old_string(tag)))
+        || ((is_among(&PRINTABLE_NUMBERS, oid) && !is_printable_string(tag))
+            || (is_ia5_type(attribute) && !is_ia5_string(tag)))
+}
+
+fn has_old_type(attribute: &AttributeTypeAndValue) -> bool
+    ensures { result ≡ text.has_old_type attribute.now }
+{
+    is_among(&DIRECTORY_NUMBERS, attribute.oid.as_bytes()) && is_old_string(attribute.value.tag())
+}
+
+pub(crate) fn is_digit(octet: u8) -> bool
+    ensures { result ≡ text.is_digit octet }
+{
+    octet >= b'0' && octet <= b'9'
+}
+
+fn is_mark(octet: u8) -> bool
+    ensures { result ≡ list_any (λ mark. mark == octet) text.marks }
+{
+    MARKS.iter().any(|mark| *mark == octet)
+}
+
+fn is_printable_octet(octet: u8) -> bool
+    ensures { result ≡ text.is_printable_octet octet }
+{
+    (octet >= b'A' && octet <= b'Z')
+        || ((octet >= b'a' && octet <= b'z') || (is_digit(octet) || is_mark(octet)))
+}
+
+fn is_printable(octets: &[u8]) -> bool
+    ensures { result ≡ list_all text.is_printable_octet octets.now }
+{
+    octets.iter().all(|octet| is_printable_octet(*octet))
+}
+
+fn is_ia5(octets: &[u8]) -> bool
+    ensures { result ≡ list_all (λ octet. nat_lt octet 128) octets.now }
+{
+    octets.iter().all(|octet| *octet < 128)
+}
+
+fn is_visible(octets: &[u8]) -> bool
+    ensures { result ≡ list_all (λ octet. nat_le 32 octet && nat_lt octet 127) octets.now }
+{
+    octets.iter().all(|octet| *octet >= 32 && *octet < 127)
+}
+
+fn is_numeric(octets: &[u8]) -> bool
+    ensures { result ≡ list_all (λ octet. (octet == 32) || text.is_digit octet) octets.now }
+{
+    octets
+        .iter()
+        .all(|octet| *octet == b' ' || is_digit(*octet))
+}
+
+/// The octets as a text, where they are UTF-8.
+fn utf8_text(octets: &[u8]) -> Option<&str>
+    ensures some { IfSome result (λ text. (text.now ≡ octets.now) × (is_utf8 octets.now ≡ true)) }
+    ensures none { IfNone result (is_utf8 octets.now ≡ false) }
+{
+    match std::str::from_utf8(octets) {
+        Ok(text) => Some(text),
+        Err(_) => None,
+    }
+}
+
+fn is_utf8(octets: &[u8]) -> bool
+    ensures { result ≡ is_utf8 octets.now }
+{
+    match utf8_text(octets) {
+        Some(_) => true,
+        None => false,
+    }
+}
+
+/// Whether the octets are a text of the string type.
+fn is_text(tag: Tag, octets: &[u8]) -> bool
+    ensures { result ≡ text.is_text tag octets.now }
+{
+    match tag {
+        Tag::Utf8String => is_utf8(octets),
+        Tag::PrintableString => is_printable(octets),
+        Tag::Ia5String => is_ia5(octets),
+        Tag::VisibleString => is_visible(octets),
+        Tag::NumericString => is_numeric(octets),
+        Tag::BmpString => octets.len() % 2 == 0,
+        Tag::UniversalString => octets.len() % 4 == 0,
+        _ => true,
+    }
+}
+
+fn count_utf8(octets: &[u8]) -> usize
+    ensures { result ≡ text.utf8_count octets.now }
+{
+    match utf8_text(octets) {
+        Some(text) => count_chars(text),
+        None => octets.len(),
+    }
+}
+
+/// How many characters the octets have as a text of the string type.
+fn char_count(tag: Tag, octets: &[u8]) -> usize
+    ensures { result ≡ text.char_count tag octets.now }
+{
+    match tag {
+        Tag::Utf8String => count_utf8(octets),
+        Tag::BmpString => octets.len() / 2,
+        Tag::UniversalString => octets.len() / 4,
+        _ => octets.len(),
+    }
+}
+
+fn is_outside(bound: usize, count: usize) -> bool
+    ensures { result ≡ text.is_outside bound count }
+{
+    count == 0 || count > bound
+}
+
+/// Whether the text is empty, or longer than the upper bound of the attribute.
+fn has_odd_size(attribute: &AttributeTypeAndValue) -> bool
+    ensures { result ≡ text.has_odd_size attribute.now }
+{
+    let oid = attribute.oid.as_bytes();
+    let count = char_count(attribute.value.tag(), attribute.value.value());
+    (is_among(&NUMBERS_TO_64, oid) && is_outside(64, count))
+        || ((is_among(&NUMBERS_TO_128, oid) && is_outside(128, count))
+            || ((is_among(&NUMBERS_TO_32768, oid) && is_outside(32768, count))
+                || (is_email(attribute) && is_outside(255, count))))
+}
+
+fn is_email(attribute: &AttributeTypeAndValue) -> bool
+    ensures { result ≡ bytes_eq attribute.now.oid text.email_address }
+{
+    attribute.oid == EMAIL_ADDRESS
+}
+
+fn is_faulty_text(fault: TextFault, attribute: &AttributeTypeAndValue) -> bool
+    ensures { result ≡ text.is_faulty_text fault attribute.now }
+{
+    match fault {
+        TextFault::OtherType => has_other_type(attribute),
+        TextFault::OldType => has_old_type(attribute),
+        TextFault::OtherCharacter => !is_text(attribute.value.tag(), attribute.value.value()),
+        TextFault::Size => has_odd_size(attribute),
+    }
+}
+
+fn has_faulty_text_in(fault: TextFault, rdn: &RelativeDistinguishedName) -> bool
+    ensures { result ≡ list_any (text.is_faulty_text fault) rdn.now }
+{
+    rdn.as_slice()
+        .iter()
+        .any(|attribute| is_faulty_text(fault, attribute))
+}
+
+/// Whether the text of an attribute of the name has the fault.
+pub(crate) fn has_faulty_text(fault: TextFault, name: &Name) -> bool
+    ensures { result ≡ text.has_faulty_text fault name.now }
+{
+    let rdns: &RdnSequence = name.as_ref();
+    rdns.as_slice()
+        .iter()
+        .any(|rdn| has_faulty_text_in(fault, rdn))
+}
+
+fn has_email_in(rdn: &RelativeDistinguishedName) -> bool
+    ensures { result ≡ list_any (λ a. bytes_eq a.oid text.email_address) rdn.now }
+{
+    rdn.as_slice().iter().any(|attribute| is_email(attribute))
+}
+
+/// Whether an attribute of the name is an emailAddress.
+pub(crate) fn has_email(name: &Name) -> bool
+    ensures { result ≡ text.has_email name.now }
+{
+    let rdns: &RdnSequence = name.as_ref();
+    rdns.as_slice().iter().any(|rdn| has_email_in(rdn))
+}
