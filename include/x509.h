@@ -548,8 +548,8 @@ x509_status x509_name_escape(const uint8_t *text, size_t text_len, uint8_t *out,
 /* ---- texts; rooms are as said under whole values */
 
 /* Reads a character string, a whole element, and writes its text (UTF-8, no zero at the end): of the types UTF8String, NumericString, PrintableString,
- * TeletexString, IA5String, VisibleString and BMPString, as `element` of x509_attribute, of x509_element, or what qualifies a policy. A TeletexString is read
- * in its characters up to 7F alone. Characters of control, NUL among them, stand as they are. X509_MALFORMED where it is an element of another type, or has a
+ * TeletexString, IA5String, VisibleString, UniversalString and BMPString, as `element` of x509_attribute, of x509_element, or what qualifies a policy. A
+ * TeletexString is read in its characters up to 7F alone. Characters of control, NUL among them, stand as they are. X509_MALFORMED where it is an element of another type, or has a
  * character that its type hasn't.
  * Answers X509_OK, X509_ROOM, X509_MEMORY, X509_OVERLENGTH, X509_MALFORMED. */
 x509_status x509_string_text(const uint8_t *element, size_t len, uint8_t *out, size_t room, size_t *written);
@@ -687,9 +687,10 @@ typedef struct {
     size_t policies_len; /* how many bytes the policies have, whether they fit into the buffer or not */
 } x509_path_answer;
 
-/* Validates a path of `count` certificates, topmost first, under an anchor's certificate (RFC 5280 6.1, RFC 5937 2): its subject, its public key, the name constraints
- * and the path length constraint that it has, of which nothing else is checked; what it says of policies is not followed. BUT NOT THE SIGNATURES, which the caller verifies
- * as x509_path_check says; without that X509_OK gives no security. Revocation isn't checked.
+/* Validates a path of `count` certificates, topmost first, under an anchor's certificate (RFC 5280 6.1, RFC 5937): its subject, its public key, its name constraints,
+ * its path length constraint, the policies of its CertificatePolicies, which are merged with those of the caller, and the flags about policies that its PolicyConstraints
+ * and its InhibitAnyPolicy set, whatever the numbers in them. Nothing else of it is checked. BUT NOT THE SIGNATURES, which the caller verifies as x509_path_check says;
+ * without that X509_OK gives no security. Revocation isn't checked.
  *
  * It is x509_path_check with these differences: issuers and subjects are compared as x509_names_match does, also where it is asked whether a certificate is self-issued;
  * name constraints hold, those of the anchor, those of `name_constraints`, which are the initial permitted and excluded subtrees (6.1.1 (h), (i)) as the encoding of a
@@ -721,9 +722,9 @@ x509_status x509_path_validate_under_key(const uint8_t *name, size_t name_len, c
                                          uint8_t *out, size_t room, x509_path_answer *answer);
 
 /* The same under a trust anchor (RFC 5914, RFC 5937 2), the encoding of a TrustAnchorChoice, as x509_anchor_view reads: of a certificate or a TBSCertificate as
- * x509_path_validate says; of a description its key, and the name, the name constraints and the path length constraint of its constraints on paths; where one of the last
- * two isn't there, that of the certificate there, if it has one, whose subject, key and key identifier have to be the description's (RFC 5914 2.5). Its policies and the flags
- * about them are not followed: `policies` and `flags` can say the same. X509_FAILED also where a description has no name, or a certificate of another anchor.
+ * x509_path_validate says; of a description its key, and the name, the name constraints, the path length constraint, the policies and the flags about them of its
+ * constraints on paths; where one of the last four isn't there, that of the certificate there, if it has one, whose subject, key and key identifier have to be the
+ * description's (RFC 5914 2.5). X509_FAILED also where a description has no name, or a certificate of another anchor.
  * Answers X509_OK, X509_MEMORY, X509_OVERLENGTH, X509_MALFORMED, X509_FAILED, X509_VALUE, X509_ABSENT, X509_FAULT. */
 x509_status x509_path_validate_under_anchor(const uint8_t *anchor, size_t anchor_len, const uint8_t *path, size_t path_len, const size_t *lens, size_t count,
                                             const uint8_t *name_constraints, size_t name_constraints_len, const uint8_t *policies, size_t policies_len,
@@ -776,6 +777,82 @@ typedef struct {
  * x509_general_names_next the issuer (2.5.29.29), which is in force for that entry and those behind it up to the next one that has it (RFC 5280 5.3.3).
  * Answers X509_OK, X509_MEMORY, X509_OVERLENGTH, X509_MALFORMED, X509_ABSENT. */
 x509_status x509_crl_entry_next(const uint8_t *value, size_t len, size_t *at, x509_crl_entry *found);
+
+/* The same, and who issued the certificate of each entry of an indirect CRL (RFC 5280 5.3.3). `*issuer` is 0 and 0 to begin. Of an entry that has a CertificateIssuer
+ * (2.5.29.29) it becomes the place of that extension's value, for x509_general_names_next; else it stays. So behind each step it says whose names are in force for the
+ * entry: those of the last one up to there that has the extension, or of the issuer of the CRL, where both numbers are 0. X509_FAILED where an entry has the extension
+ * twice or more, and X509_MALFORMED also where it holds no names; `*at` and `*issuer` are unchanged then.
+ * Answers X509_OK, X509_MEMORY, X509_OVERLENGTH, X509_MALFORMED, X509_FAILED, X509_ABSENT. */
+x509_status x509_crl_issued_next(const uint8_t *value, size_t len, size_t *at, x509_span *issuer, x509_crl_entry *found);
+
+/* Finds the first entry with a serial number (the DER encoding of an INTEGER, as the view of a certificate has it); `value` is `entries` of the view of a CRL,
+ * which isn't checked once more, so that a CRL is checked once for many look-ups: of the entries in front of the one that is found no more is read than their lengths
+ * and numbers. Places are offsets in `value`. X509_ABSENT where no entry has the number; the issuer isn't compared. Else refused as the serial number is. Of bytes that
+ * are no list of entries any entry may be found, or none, or the answer is X509_MALFORMED.
+ * Answers X509_OK, X509_MEMORY, X509_OVERLENGTH, X509_MALFORMED, X509_ABSENT. */
+x509_status x509_crl_entry_find(const uint8_t *value, size_t len, const uint8_t *serial_number, size_t serial_number_len, x509_crl_entry *found);
+
+/* ---- revocation */
+
+/* Says whether the key of a certificate may sign CRLs (RFC 5280 4.2.1.3, 6.3.3 (f)): `*may_sign` is 1 where the certificate has no KeyUsage, or one that can be decoded, with
+ * cRLSign; else 0. Whether the certificate is valid isn't checked. It takes no memory.
+ * Answers X509_OK, X509_OVERLENGTH, X509_MALFORMED. */
+x509_status x509_may_sign_crls(const uint8_t *certificate, size_t certificate_len, uint32_t *may_sign);
+
+/* A CRL, and the name and the public key of its signer: where each stands in the bytes that are handed over with them. */
+typedef struct {
+    x509_span crl;     /* a whole CRL */
+    x509_span name;    /* a whole Name, as `subject` of x509_certificate */
+    x509_span key;     /* a whole SubjectPublicKeyInfo */
+    uint32_t verified; /* 1 where the caller has verified the CRL's signature with that key. With any other number the CRL says nothing, and isn't looked at */
+} x509_signed_crl;
+
+/* A flag of what is asked: a CRL is in date that doesn't say by when the next one will be issued, which RFC 5280 5.1.2.5 wants each to say. */
+#define X509_REVOCATION_WITHOUT_NEXT_UPDATE 1
+/* Another, added to it: delta CRLs are used (RFC 5280 5.2.4). They are given among the others, and the first one that fits a complete CRL is asked before it: it has its issuer, its
+ * IssuingDistributionPoint and its AuthorityKeyIdentifier, a base that isn't later and a number that is, and is in date. Its signer has to be that of the complete one
+ * (6.3.3 (h)): so verify it with that key. */
+#define X509_REVOCATION_USE_DELTAS 2
+
+/* What is asked of CRLs. It is handed over with its size, and what stands behind what the library knows has to be zeros, as said of x509_path_settings. */
+typedef struct {
+    uint64_t moment; /* the time at which the certificate is or isn't revoked */
+    uint64_t flags;  /* a sum of these flags, or 0; any other number is X509_VALUE */
+} x509_revocation_settings;
+
+/* What CRLs say of a certificate: not that it is revoked, and they don't cover all reasons; that it isn't; or that it is. */
+#define X509_UNDETERMINED 0
+#define X509_UNREVOKED 1
+#define X509_REVOKED 2
+
+/* What doesn't belong to the status is 0. */
+typedef struct {
+    uint32_t status;  /* one of these numbers */
+    uint32_t reason;  /* where it is revoked, the reason code (RFC 5280 5.3.1), 0 to 10, but not 7; 0, unspecified, also where the entry has none that can be decoded */
+    size_t crl;       /* which CRL says that it is revoked: its index in `crls`, from 0 */
+    uint64_t date;    /* when it was revoked */
+    uint32_t reasons; /* where it is undetermined, the reasons that no CRL covered, a sum of the numbers X509_REASONS_KEY_COMPROMISE to X509_REASONS_AA_COMPROMISE */
+} x509_revocation_answer;
+
+/* Says what CRLs say of a certificate at a time (RFC 5280 6.3.3), BUT NOT WHETHER THEIR SIGNATURES AND SIGNERS ARE GOOD. Of each CRL the caller does three things before:
+ * - chooses its signer: the issuer of the certificate, or another certificate, or a trust anchor, whose subject is the CRL's issuer. Of another certificate the path has to be
+ *   valid, as x509_path_validate says, under the anchor of the certificate's own path, and x509_may_sign_crls has to say 1 (6.3.3 (f)); so also of the issuer;
+ * - verifies that `signature.bits` of x509_crl_view are a signature of `signature.signed_part`, the bytes as they stand, by `signature.algorithm`, for the signer's key;
+ * - sets `verified` to 1 where they are. A CRL with 0 there, as in a struct that was set to zeros, counts for nothing, and so does one with any other number.
+ *
+ * The CRLs, and the names and the keys of their signers, are parts of in[0..len), which may have other bytes too, and two CRLs may share a part. They are asked in the
+ * order of `crls`, up to the first that revokes the certificate, or until no reason is left; one that covers no reason that those before it left isn't used, so of several CRLs
+ * for the same reasons the latest comes first. A CRL is used where it is in date; the signer's name is its issuer, as x509_names_match compares; the algorithm in its signed
+ * part is the one outside; it is that of a distribution point of the certificate, or of its issuer; the certificate is within the scope that its IssuingDistributionPoint states;
+ * it is no delta CRL, but where these are used and it fits one; and neither it nor one of its entries has a critical extension that isn't known. crates/x509_revocation says each of these in full. `settings_size` is
+ * the size of `*settings`. An attacker who withholds a CRL makes the status X509_UNDETERMINED: so treat that as your policy says, and not as X509_UNREVOKED.
+ *
+ * X509_VALUE where there are no settings, as said there, or `moment` is after 9999-12-31T23:59:59Z; X509_OVERLENGTH or X509_MALFORMED where decoding the certificate answers
+ * that; of the CRLs that are verified X509_FAILED where a part isn't within the bytes, and X509_OVERLENGTH or X509_MALFORMED where decoding the CRL, the name or the key
+ * answers that; where several of these are bad, any of their answers may come.
+ * Answers X509_OK, X509_MEMORY, X509_OVERLENGTH, X509_MALFORMED, X509_FAILED, X509_VALUE. */
+x509_status x509_revocation_status(const uint8_t *certificate, size_t certificate_len, const uint8_t *in, size_t len, const x509_signed_crl *crls, size_t count,
+                                   const x509_revocation_settings *settings, size_t settings_size, x509_revocation_answer *answer);
 
 /* ---- CSRs (PKCS #10 requests) */
 

@@ -1,4 +1,7 @@
-//! Finds the C library: in the folder that `X509_LIBRARY` names, also by a file in it, or else by `pkg-config`.
+//! Finds the C library: where `X509_LIBRARY` names its folder or a file there, or else by `pkg-config`.
+//!
+//! The variable means the same to the package for Python: of a folder each takes the library that it can use, here the static one and only where there is none the shared
+//! one; of a file that is a shared library, that; and an empty text is as none.
 use std::env;
 use std::path::Path;
 use std::process::{exit, Command};
@@ -15,18 +18,49 @@ fn archives(folder: &Path) -> Option<&'static [&'static str]> {
     forms.into_iter().find(|names| names.iter().all(is_there))
 }
 
-/// The folder that is named, or that of the file that is, as for the package for Python.
-fn folder_of(named: &Path) -> &Path {
-    match named.parent() {
-        Some(folder) if named.is_file() => folder,
-        _ => named,
-    }
+/// A library to be linked.
+#[derive(Debug, PartialEq, Eq)]
+pub struct Library<'a> {
+    pub folder: &'a Path,
+    pub kind: &'static str,
+    pub names: &'static [&'static str],
 }
 
-fn link(folder: &Path, kind: &str, names: &[&str]) {
-    println!("cargo:rustc-link-search=native={}", folder.display());
-    for name in names {
-        println!("cargo:rustc-link-lib={kind}={name}");
+/// Whether a file is a shared library by its name, as libx509.so or libx509.so.0.
+fn is_shared(file: &Path) -> bool {
+    let name = file.file_name().unwrap_or_default().to_string_lossy();
+    name.ends_with(".so") || name.contains(".so.")
+}
+
+/// The library of a folder, or at a file of it.
+pub fn library(named: &Path) -> Option<Library<'_>> {
+    let folder = match named.parent() {
+        Some(folder) if named.is_file() => folder,
+        _ => named,
+    };
+    let of = |kind, names| Library {
+        folder,
+        kind,
+        names,
+    };
+    let shared = || {
+        let is_there = folder.join("libx509.so").is_file();
+        is_there.then(|| of("dylib", &["x509"]))
+    };
+    if named.is_file() && is_shared(named) {
+        return shared();
+    }
+    let found = archives(folder).map(|names| of("static", names));
+    found.or_else(shared)
+}
+
+fn link(library: &Library<'_>) {
+    println!(
+        "cargo:rustc-link-search=native={}",
+        library.folder.display()
+    );
+    for name in library.names {
+        println!("cargo:rustc-link-lib={}={name}", library.kind);
     }
 }
 
@@ -53,13 +87,10 @@ fn main() {
     if env::var_os("DOCS_RS").is_some() {
         return;
     }
-    if let Some(named) = env::var_os("X509_LIBRARY") {
-        let folder = folder_of(Path::new(&named));
-        if let Some(names) = archives(folder) {
-            return link(folder, "static", names);
-        }
-        if folder.join("libx509.so").is_file() {
-            return link(folder, "dylib", &["x509"]);
+    let named = env::var_os("X509_LIBRARY").filter(|it| !it.is_empty());
+    if let Some(named) = named {
+        if let Some(library) = library(Path::new(&named)) {
+            return link(&library);
         }
         eprintln!(
             "X509_LIBRARY is {}, where no such library stands: {MISSING}",
@@ -71,8 +102,10 @@ fn main() {
         eprintln!("{MISSING}");
         exit(1);
     };
-    match archives(Path::new(&folder)) {
-        Some(names) => link(Path::new(&folder), "static", names),
-        None => link(Path::new(&folder), "dylib", &["x509"]),
-    }
+    let folder = Path::new(&folder);
+    link(&library(folder).unwrap_or(Library {
+        folder,
+        kind: "dylib",
+        names: &["x509"],
+    }));
 }

@@ -31,19 +31,17 @@ typedef struct {
 
 #define OCTETS(text) {(const uint8_t *)(text), sizeof(text) - 1}
 
-/* AlgorithmIdentifiers: RSA with SHA-256 (RFC 4055 5), ECDSA with SHA-256 (RFC 5758 3.2), Ed25519 (RFC 8410 3). */
-static const octets RSA_SHA256 = OCTETS("\x30\x0d\x06\x09\x2a\x86\x48\x86\xf7\x0d\x01\x01\x0b\x05\x00");
-static const octets ECDSA_SHA256 = OCTETS("\x30\x0a\x06\x08\x2a\x86\x48\xce\x3d\x04\x03\x02");
-static const octets ED25519 = OCTETS("\x30\x05\x06\x03\x2b\x65\x70");
+static const octets RSA_SHA256 = OCTETS(X509_ALGORITHM_RSA_SHA256);
+static const octets ECDSA_SHA256 = OCTETS(X509_ALGORITHM_ECDSA_SHA256);
+static const octets ED25519 = OCTETS(X509_ALGORITHM_ED25519);
 
-/* The content octets of OIDs (RFC 5280 4.2.1, 5.3.1). */
-static const octets OID_SUBJECT_KEY_IDENTIFIER = OCTETS("\x55\x1d\x0e");
-static const octets OID_KEY_USAGE = OCTETS("\x55\x1d\x0f");
-static const octets OID_SUBJECT_ALT_NAME = OCTETS("\x55\x1d\x11");
-static const octets OID_BASIC_CONSTRAINTS = OCTETS("\x55\x1d\x13");
-static const octets OID_CRL_REASON = OCTETS("\x55\x1d\x15");
-static const octets OID_AUTHORITY_KEY_IDENTIFIER = OCTETS("\x55\x1d\x23");
-static const octets OID_EXTENDED_KEY_USAGE = OCTETS("\x55\x1d\x25");
+static const octets OID_SUBJECT_KEY_IDENTIFIER = OCTETS(X509_OID_SUBJECT_KEY_IDENTIFIER);
+static const octets OID_KEY_USAGE = OCTETS(X509_OID_KEY_USAGE);
+static const octets OID_SUBJECT_ALT_NAME = OCTETS(X509_OID_SUBJECT_ALT_NAME);
+static const octets OID_BASIC_CONSTRAINTS = OCTETS(X509_OID_BASIC_CONSTRAINTS);
+static const octets OID_CRL_REASON = OCTETS(X509_OID_CRL_REASON);
+static const octets OID_AUTHORITY_KEY_IDENTIFIER = OCTETS(X509_OID_AUTHORITY_KEY_IDENTIFIER);
+static const octets OID_EXTENDED_KEY_USAGE = OCTETS(X509_OID_EXTENDED_KEY_USAGE);
 
 /* 2026-01-01T00:00:00Z and 2035-12-31T23:59:59Z */
 static const uint64_t START = 1767225600, END = 2082758399;
@@ -321,20 +319,33 @@ typedef struct {
     signer by;
 } party;
 
-/* The certificate for a subject and its key, with a serial number of one octet below 128 (X.690 8.3). */
-static int certify(const party *issuer, uint8_t serial, octets subject, octets key, buffer *extensions, buffer *out)
+/* The DER of a serial number, which libcrypto writes. */
+static int write_number(long number, buffer *out)
 {
-    const uint8_t number[] = {0x02, 0x01, serial};
-    certificate_parts parts = {{number, sizeof number}, issuer->by.algorithm, of(issuer->name), subject, key, {NULL, 0}};
-    buffer part = {NULL, 0};
-    int is_made = add_authority_key(extensions, of(issuer->by.public_key)) && add_subject_key(extensions, key);
-    parts.extensions = of(*extensions);
+    ASN1_INTEGER *told = ASN1_INTEGER_new();
+    unsigned char *der = NULL;
+    int len = -1;
+    if (told != NULL && ASN1_INTEGER_set(told, number) == 1)
+        len = i2d_ASN1_INTEGER(told, &der);
+    ASN1_INTEGER_free(told);
+    const int is_written = len > 0 && append(out, (octets){der, (size_t)len});
+    OPENSSL_free(der);
+    return is_written;
+}
+
+/* The certificate for a subject and its key. */
+static int certify(const party *issuer, long serial, octets subject, octets key, buffer *extensions, buffer *out)
+{
+    buffer number = {NULL, 0}, part = {NULL, 0};
+    int is_made = write_number(serial, &number) && add_authority_key(extensions, of(issuer->by.public_key)) && add_subject_key(extensions, key);
+    certificate_parts parts = {of(number), issuer->by.algorithm, of(issuer->name), subject, key, of(*extensions)};
     is_made = is_made && fill("a certificate", write_certificate, &parts, &part) && finish("a certificate", &issuer->by, &part, out);
+    drop(&number);
     drop(extensions);
     return is_made;
 }
 
-static int certify_authority(const party *issuer, uint8_t serial, const party *subject, const char *constraints, buffer *out)
+static int certify_authority(const party *issuer, long serial, const party *subject, const char *constraints, buffer *out)
 {
     buffer extensions = {NULL, 0};
     if (add(&extensions, NID_basic_constraints, OID_BASIC_CONSTRAINTS, 1, constraints) &&
@@ -386,7 +397,7 @@ static int is_signed_by_itself(octets csr)
 }
 
 /* The certificate of a server, for the subject, the key and the names of a CSR. */
-static int certify_server(const party *issuer, uint8_t serial, octets csr, buffer *out)
+static int certify_server(const party *issuer, long serial, octets csr, buffer *out)
 {
     x509_request view;
     buffer extensions = {NULL, 0};

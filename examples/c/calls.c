@@ -338,6 +338,46 @@ static void validated_paths(void)
     WANT(is_at(answer.name, view.subject.place, name_len) && is_at(answer.key, view.subject_public_key_info.place, key_len));
     WANT(is_fault(x509_path_validate_under_key(BYTES(NAME), key, key_len, certificate, len, &len, 1, NULL, 0, NULL, 0, &first, sizeof first, NULL, 0, &answer), &answer, 0,
                   X509_PATH_ISSUER));
+    WANT(is_fault(x509_path_validate_under_anchor(certificate, len, certificate, len, &len, 1, NULL, 0, NULL, 0, &before, sizeof before, NULL, 0, &answer), &answer, 0,
+                  X509_PATH_MOMENT));
+    /* no certificates, lengths that don't add up, and no settings */
+    answer = UNTOUCHED;
+    WANT(x509_path_validate_under_key(name, name_len, key, key_len, NULL, 0, NULL, 0, NULL, 0, NULL, 0, &first, sizeof first, NULL, 0, &answer) == X509_ABSENT);
+    WANT(x509_path_validate_under_anchor(certificate, len, NULL, 0, NULL, 0, NULL, 0, NULL, 0, &first, sizeof first, NULL, 0, &answer) == X509_ABSENT);
+    WANT(x509_path_validate_under_key(name, name_len, key, key_len, certificate, len - 1, &len, 1, NULL, 0, NULL, 0, &first, sizeof first, NULL, 0, &answer) == X509_FAILED);
+    WANT(x509_path_validate_under_anchor(certificate, len, certificate, len - 1, &len, 1, NULL, 0, NULL, 0, &first, sizeof first, NULL, 0, &answer) == X509_FAILED);
+    WANT(x509_path_validate_under_key(name, name_len, key, key_len, certificate, len, &len, 1, NULL, 0, NULL, 0, NULL, 0, NULL, 0, &answer) == X509_VALUE);
+    WANT(x509_path_validate_under_anchor(certificate, len, certificate, len, &len, 1, NULL, 0, NULL, 0, NULL, 0, NULL, 0, &answer) == X509_VALUE && is_untouched(answer));
+}
+
+/* Ten certificates, each an authority that is its own issuer, from 1970 to 9999, without a path length constraint (RFC 5280 4.1). */
+static void long_paths(void)
+{
+    static const char authority[] = "\x30\x76\x30\x6a\xa0\x03\x02\x01\x02\x02\x01\x01\x30\x03\x06\x01\x2a" NAME
+                                    "\x30\x20\x17\x0d" "700101000000Z" "\x18\x0f" "99991231235959Z" NAME "\x30\x08\x30\x03\x06\x01\x2a\x03\x01\x00"
+                                    "\xa3\x13\x30\x11\x30\x0f\x06\x03\x55\x1d\x13\x01\x01\xff\x04\x05\x30\x03\x01\x01\xff"
+                                    "\x30\x03\x06\x01\x2a\x03\x03\x00\xab\xcd";
+    enum { COUNT = 10, LEN = sizeof authority - 1 };
+    static uint8_t path[COUNT * LEN];
+    size_t lens[COUNT];
+    for (int at = 0; at < COUNT; at++) {
+        memcpy(path + at * LEN, authority, LEN);
+        lens[at] = LEN;
+    }
+    const x509_path_settings now = {1767323045, 0};
+    x509_path_fault fault = {7, 7};
+    x509_path_answer answer = UNTOUCHED;
+    x509_certificate view;
+    WANT(x509_certificate_view(BYTES(authority), &view) == X509_OK && is_at(view.extensions, view.extensions.place, 19));
+    WANT(x509_path_check(BYTES(authority), path, sizeof path, lens, COUNT, now.moment, &fault) == X509_OK && fault.reason == 7);
+    WANT(x509_path_validate(BYTES(authority), path, sizeof path, lens, COUNT, NULL, 0, NULL, 0, &now, sizeof now, NULL, 0, &answer) == X509_OK && answer.reason == 0);
+    WANT(x509_path_validate_under_anchor(BYTES(authority), path, sizeof path, lens, COUNT, NULL, 0, NULL, 0, &now, sizeof now, NULL, 0, &answer) == X509_OK);
+    WANT(x509_path_validate_under_key(BYTES(NAME), BYTES("\x30\x08\x30\x03\x06\x01\x2a\x03\x01\x00"), path, sizeof path, lens, COUNT, NULL, 0, NULL, 0, &now, sizeof now,
+                                      NULL, 0, &answer) == X509_OK);
+    /* the fifth isn't, with cA false in its BasicConstraints, which DER doesn't encode */
+    path[5 * LEN - 11] = 0;
+    WANT(x509_path_check(BYTES(authority), path, sizeof path, lens, COUNT, now.moment, &fault) == X509_FAULT && fault.place == 4 && fault.reason == X509_PATH_CRITICAL);
+    WANT(is_fault(x509_path_validate(BYTES(authority), path, sizeof path, lens, COUNT, NULL, 0, NULL, 0, &now, sizeof now, NULL, 0, &answer), &answer, 4, X509_PATH_CRITICAL));
 }
 
 static void lists(void)
@@ -356,9 +396,222 @@ static void lists(void)
     WANT(x509_crl_lookup(list, list_len, number, 10, &revocation) == X509_OK);
     WANT(revocation.date == 1768903200 && revocation.reason == 1);
     WANT(x509_crl_lookup(list, list_len, (const uint8_t *)"\x02\x01\x03", 3, &revocation) == X509_OK && revocation.reason == -1);
+
+    /* A list of one entry, the number 5, which has its reason code twice, by hand. */
+    const char reason[] = "\x30\x60\x30\x55\x02\x01\x01\x30\x03\x06\x01\x2a" NAME "\x17\x0d" "700101000001Z"
+                          "\x30\x2e\x30\x2c\x02\x01\x05\x17\x0d" "700101000002Z"
+                          "\x30\x18\x30\x0a\x06\x03\x55\x1d\x15\x04\x03\x0a\x01\x01\x30\x0a\x06\x03\x55\x1d\x15\x04\x03\x0a\x01\x04"
+                          "\x30\x03\x06\x01\x2a\x03\x02\x04\xf0";
+    revocation = (x509_revocation){7, 7};
+    WANT(x509_crl_lookup(BYTES(reason), BYTES("\x02\x01\x05"), &revocation) == X509_FAILED && revocation.date == 7 && revocation.reason == 7);
+    WANT(x509_crl_lookup(BYTES(reason), BYTES("\x02\x01\x06"), &revocation) == X509_ABSENT && revocation.date == 7 && revocation.reason == 7);
+}
+
+/* The entries of examples/data/list.der, at the places 2, 22 and 63, by their numbers; and lists by hand, of which the first numbers are 5, 6, 5. */
+static void found_entries(const uint8_t *entries, size_t len)
+{
+    x509_crl_entry entry = {{7, 7}, 7, {7, 7}};
+    WANT(x509_crl_entry_find(entries, len, BYTES("\x02\x01\x02"), &entry) == X509_ABSENT && is_at(entry.serial_number, 7, 7) && entry.date == 7);
+    WANT(x509_crl_entry_find(entries, len, BYTES("\x02\x00"), &entry) == X509_MALFORMED && x509_crl_entry_find(entries, len, BYTES("\x04\x01\x03"), &entry) == X509_MALFORMED);
+    WANT(x509_crl_entry_find(nothing, 0, BYTES("\x02\x01\x03"), &entry) == X509_MALFORMED && x509_crl_entry_find(entries, len - 1, BYTES("\x02\x01\x03"), &entry) == X509_MALFORMED);
+    WANT(is_at(entry.serial_number, 7, 7) && entry.date == 7 && is_at(entry.extensions, 7, 7));
+    WANT(x509_crl_entry_find(entries, len, BYTES("\x02\x08\x12\x34\x56\x78\x90\xab\xcd\xef"), &entry) == X509_OK);
+    WANT(is_at(entry.serial_number, 24, 10) && entry.date == 1768903200 && is_at(entry.extensions, 49, 14));
+    WANT(x509_crl_entry_find(entries, len, BYTES("\x02\x01\x01"), &entry) == X509_OK && is_at(entry.serial_number, 4, 3) && is_at(entry.extensions, 0, 0));
+    WANT(x509_crl_entry_find(entries, len, BYTES("\x02\x01\x03"), &entry) == X509_OK && is_at(entry.serial_number, 65, 3));
+
+    /* the first of two; what stands behind the one that is found isn't looked at */
+    const char twice[] = "\x30\x3c\x30\x12\x02\x01\x05\x17\x0d" "260101000000Z" "\x30\x12\x02\x01\x06\x17\x0d" "260102000000Z" "\x30\x12\x02\x01\x05\x17\x0d" "260103000000Z";
+    WANT(x509_crl_entry_find(BYTES(twice), BYTES("\x02\x01\x05"), &entry) == X509_OK && is_at(entry.serial_number, 4, 3) && entry.date == 1767225600);
+    WANT(x509_crl_entry_find(BYTES(twice), BYTES("\x02\x01\x06"), &entry) == X509_OK && is_at(entry.serial_number, 24, 3) && entry.date == 1767312000);
+    WANT(x509_crl_entry_find(BYTES("\x30\x15\x30\x12\x02\x01\x05\x17\x0d" "260101000000Z" "\x05"), BYTES("\x02\x01\x05"), &entry) == X509_OK && is_at(entry.serial_number, 4, 3));
+    WANT(x509_crl_entry_find(BYTES("\x30\x00"), BYTES("\x02\x01\x05"), &entry) == X509_ABSENT);
+    /* no lists: of no entry, of one without a date, and octets behind */
+    WANT(x509_crl_entry_find(BYTES("\x30\x02\x05\x00"), BYTES("\x02\x01\x05"), &entry) == X509_ABSENT);
+    WANT(x509_crl_entry_find(BYTES("\x30\x05\x30\x03\x02\x01\x05"), BYTES("\x02\x01\x05"), &entry) == X509_MALFORMED);
+    WANT(x509_crl_entry_find(BYTES("\x30\x00\x05\x00"), BYTES("\x02\x01\x05"), &entry) == X509_MALFORMED && is_at(entry.serial_number, 4, 3));
+}
+
+/* The front of an entry with a number, and an extension that names its issuer by a DNS name. */
+#define ENTRY_OF(len, number) "\x30" len "\x02\x01" number "\x17\x0d" "260101000000Z"
+#define ISSUED_BY(name) "\x30\x0f\x06\x03\x55\x1d\x1d\x01\x01\xff\x04\x05\x30\x03\x82\x01" name
+
+/* An indirect list by hand (RFC 5280 5.3.3): the entries 5, 6, 7 and 8, of which 6 names the issuer with the DNS name a, behind a reason, and 8 that with b. */
+static void issued_entries(void)
+{
+    const char value[] = "\x30\x81\x82" ENTRY_OF("\x12", "\x05") ENTRY_OF("\x31", "\x06") "\x30\x1d\x30\x0a\x06\x03\x55\x1d\x15\x04\x03\x0a\x01\x01" ISSUED_BY("a")
+                         ENTRY_OF("\x12", "\x07") ENTRY_OF("\x25", "\x08") "\x30\x11" ISSUED_BY("b");
+    x509_crl_entry entry = {{7, 7}, 7, {7, 7}};
+    x509_span issuer = {0, 0};
+    size_t at = 0;
+    WANT(x509_crl_issued_next(BYTES(value), &at, &issuer, &entry) == X509_OK && at == 23 && is_at(issuer, 0, 0) && is_at(entry.serial_number, 5, 3));
+    WANT(x509_crl_issued_next(BYTES(value), &at, &issuer, &entry) == X509_OK && at == 74 && is_at(issuer, 69, 5) && is_at(entry.serial_number, 25, 3));
+    WANT(x509_crl_issued_next(BYTES(value), &at, &issuer, &entry) == X509_OK && at == 94 && is_at(issuer, 69, 5) && is_at(entry.extensions, 0, 0));
+    WANT(x509_crl_issued_next(BYTES(value), &at, &issuer, &entry) == X509_OK && at == 133 && is_at(issuer, 128, 5) && is_at(entry.serial_number, 96, 3));
+    WANT(x509_crl_issued_next(BYTES(value), &at, &issuer, &entry) == X509_ABSENT && at == 133 && is_at(issuer, 128, 5) && is_at(entry.serial_number, 96, 3));
+    x509_general_name name;
+    size_t within = 0;
+    WANT(x509_general_names_next((const uint8_t *)value + issuer.place, issuer.len, &within, &name) == X509_OK && name.kind == X509_GENERAL_NAME_DNS && is_at(name.content, 4, 1));
+
+    /* twice in one entry; what holds no names; and a place that is none */
+    const char twice[] = "\x30\x38" ENTRY_OF("\x36", "\x05") "\x30\x22" ISSUED_BY("a") ISSUED_BY("b");
+    const char no_names[] = "\x30\x24" ENTRY_OF("\x22", "\x05") "\x30\x0e\x30\x0c\x06\x03\x55\x1d\x1d\x01\x01\xff\x04\x02\x05\x00";
+    issuer = (x509_span){7, 7};
+    at = 0;
+    WANT(x509_crl_issued_next(BYTES(twice), &at, &issuer, &entry) == X509_FAILED && at == 0 && is_at(issuer, 7, 7) && is_at(entry.serial_number, 96, 3));
+    WANT(x509_crl_issued_next(BYTES(no_names), &at, &issuer, &entry) == X509_MALFORMED && at == 0 && is_at(issuer, 7, 7));
+    at = 1;
+    WANT(x509_crl_issued_next(BYTES(value), &at, &issuer, &entry) == X509_MALFORMED && at == 1 && is_at(issuer, 7, 7) && is_at(entry.serial_number, 96, 3));
 }
 
 /* The places are those that `openssl asn1parse` tells of examples/data/list.der; what stands behind the entries is told from the end. */
+/* The list with the name and the key of the certificate behind it, which signs both. */
+static uint8_t signed_list[3 * 65536];
+static size_t signed_list_len;
+
+static x509_signed_crl sign_list(void)
+{
+    x509_certificate view;
+    if (x509_certificate_view(certificate, certificate_len, &view) != X509_OK)
+        exit(2);
+    const x509_signed_crl given = {{3, list_len}, {3 + list_len, view.subject.len}, {3 + list_len + view.subject.len, view.subject_public_key_info.len}, 1};
+    memcpy(signed_list + given.crl.place, list, list_len);
+    memcpy(signed_list + given.name.place, certificate + view.subject.place, given.name.len);
+    memcpy(signed_list + given.key.place, certificate + view.subject_public_key_info.place, given.key.len);
+    signed_list_len = given.key.place + given.key.len;
+    return given;
+}
+
+static const x509_revocation_answer NO_ANSWER = {7, 7, 7, 7, 7};
+
+/* What is answered at that time to these CRLs in the bytes of the signed list. */
+static x509_status asked_status(const x509_signed_crl *crls, size_t count, x509_revocation_settings settings, x509_revocation_answer *answer)
+{
+    *answer = NO_ANSWER;
+    return x509_revocation_status(certificate, certificate_len, signed_list, signed_list_len, crls, count, &settings, sizeof settings, answer);
+}
+
+static int is_answer(const x509_revocation_answer *answer, uint32_t status, uint32_t reason, size_t crl, uint64_t date, uint32_t reasons)
+{
+    return answer->status == status && answer->reason == reason && answer->crl == crl && answer->date == date && answer->reasons == reasons;
+}
+
+static int is_unanswered(const x509_revocation_answer *answer)
+{
+    return is_answer(answer, 7, 7, 7, 7, 7);
+}
+
+/* Of examples/data/make.py: the list is in date from 2026-02-01T00:00:00Z to 2026-03-01T00:00:00Z, and has the serial number of the certificate, revoked at 2026-01-20T10:00:00Z since
+ * its key is compromised. The reasons are the bits 1 to 8 (RFC 5280 4.2.1.13). */
+static void statuses_by_lists(void)
+{
+    enum { FROM = 1769904000, TO = 1772323200, DATE = 1768903200, ALL = 0x1fe };
+    const x509_signed_crl given = sign_list();
+    x509_revocation_answer answer;
+    WANT(asked_status(&given, 1, (x509_revocation_settings){FROM, 0}, &answer) == X509_OK && is_answer(&answer, X509_REVOKED, 1, 0, DATE, 0));
+    WANT(asked_status(&given, 1, (x509_revocation_settings){TO, 0}, &answer) == X509_OK && is_answer(&answer, X509_REVOKED, 1, 0, DATE, 0));
+    WANT(asked_status(&given, 1, (x509_revocation_settings){TO, X509_REVOCATION_WITHOUT_NEXT_UPDATE}, &answer) == X509_OK && answer.status == X509_REVOKED);
+    WANT(asked_status(&given, 1, (x509_revocation_settings){FROM, X509_REVOCATION_USE_DELTAS}, &answer) == X509_OK && is_answer(&answer, X509_REVOKED, 1, 0, DATE, 0));
+    WANT(asked_status(&given, 1, (x509_revocation_settings){FROM - 1, 0}, &answer) == X509_OK && is_answer(&answer, X509_UNDETERMINED, 0, 0, 0, ALL));
+    WANT(asked_status(&given, 1, (x509_revocation_settings){TO + 1, 0}, &answer) == X509_OK && is_answer(&answer, X509_UNDETERMINED, 0, 0, 0, ALL));
+    WANT(asked_status(NULL, 0, (x509_revocation_settings){FROM, 0}, &answer) == X509_OK && is_answer(&answer, X509_UNDETERMINED, 0, 0, 0, ALL));
+    /* with another serial number in the entry the certificate isn't revoked; the signature isn't looked at here */
+    uint8_t *entry = NULL;
+    for (size_t at = given.crl.place; at + 8 <= given.name.place; at++)
+        if (memcmp(signed_list + at, "\x12\x34\x56\x78\x90\xab\xcd\xef", 8) == 0)
+            entry = signed_list + at;
+    if (entry == NULL)
+        exit(2);
+    *entry = 0x13;
+    WANT(asked_status(&given, 1, (x509_revocation_settings){FROM, 0}, &answer) == X509_OK && is_answer(&answer, X509_UNREVOKED, 0, 0, 0, 0));
+    *entry = 0x12;
+    /* another name than the issuer's: the CRL says nothing */
+    signed_list[given.name.place + given.name.len - 1] ^= 1;
+    WANT(asked_status(&given, 1, (x509_revocation_settings){FROM, 0}, &answer) == X509_OK && is_answer(&answer, X509_UNDETERMINED, 0, 0, 0, ALL));
+    signed_list[given.name.place + given.name.len - 1] ^= 1;
+}
+
+/* Only those with 1 are looked at, and the place is that among all. */
+static void verified_lists(void)
+{
+    enum { FROM = 1769904000, DATE = 1768903200, ALL = 0x1fe };
+    const x509_signed_crl given = sign_list();
+    x509_signed_crl three[3] = {given, given, given};
+    x509_revocation_answer answer;
+    three[0].verified = three[1].verified = 0;
+    three[0].crl = (x509_span){SIZE_MAX, SIZE_MAX};
+    WANT(asked_status(three, 3, (x509_revocation_settings){FROM, 0}, &answer) == X509_OK && is_answer(&answer, X509_REVOKED, 1, 2, DATE, 0));
+    WANT(asked_status(three, 2, (x509_revocation_settings){FROM, 0}, &answer) == X509_OK && is_answer(&answer, X509_UNDETERMINED, 0, 0, 0, ALL));
+    three[1].verified = 1;
+    WANT(asked_status(three, 3, (x509_revocation_settings){FROM, 0}, &answer) == X509_OK && is_answer(&answer, X509_REVOKED, 1, 1, DATE, 0));
+    /* what a library of signatures answers to an error is no 1 */
+    three[1].verified = (uint32_t)-1;
+    three[2].verified = 2;
+    WANT(asked_status(three, 3, (x509_revocation_settings){FROM, 0}, &answer) == X509_OK && is_answer(&answer, X509_UNDETERMINED, 0, 0, 0, ALL));
+    three[0].verified = 1;
+    WANT(asked_status(three, 3, (x509_revocation_settings){FROM, 0}, &answer) == X509_FAILED && is_unanswered(&answer));
+}
+
+static void refused_statuses(void)
+{
+    enum { FROM = 1769904000 };
+    const x509_signed_crl given = sign_list();
+    const x509_revocation_settings settings = {FROM, 0};
+    x509_signed_crl other = given;
+    x509_revocation_answer answer;
+    WANT(asked_status(&given, 1, (x509_revocation_settings){253402300800, 0}, &answer) == X509_VALUE && is_unanswered(&answer));
+    WANT(asked_status(&given, 1, (x509_revocation_settings){253402300799, 0}, &answer) == X509_OK && answer.status == X509_UNDETERMINED);
+    WANT(asked_status(&given, 1, (x509_revocation_settings){FROM, 4}, &answer) == X509_VALUE && is_unanswered(&answer));
+    WANT(asked_status(&given, 1, (x509_revocation_settings){FROM, UINT64_MAX}, &answer) == X509_VALUE && is_unanswered(&answer));
+    /* settings of a later version: what stands behind has to be zeros */
+    struct {
+        x509_revocation_settings known;
+        uint64_t more;
+    } later = {settings, 0};
+    WANT(x509_revocation_status(certificate, certificate_len, signed_list, signed_list_len, &given, 1, &later.known, sizeof later, &answer) == X509_OK);
+    later.more = 1;
+    answer = NO_ANSWER;
+    WANT(x509_revocation_status(certificate, certificate_len, signed_list, signed_list_len, &given, 1, &later.known, sizeof later, &answer) == X509_VALUE);
+    WANT(x509_revocation_status(certificate, certificate_len, signed_list, signed_list_len, &given, 1, &settings, sizeof settings - 1, &answer) == X509_VALUE);
+    WANT(x509_revocation_status(nothing, 0, signed_list, signed_list_len, &given, 1, &settings, sizeof settings, &answer) == X509_MALFORMED);
+    WANT(x509_revocation_status(list, list_len, signed_list, signed_list_len, &given, 1, &settings, sizeof settings, &answer) == X509_MALFORMED);
+    WANT(x509_revocation_status(certificate, certificate_len, nothing, 0, &given, 1, &settings, sizeof settings, &answer) == X509_FAILED && is_unanswered(&answer));
+    other.key.len++;
+    WANT(asked_status(&other, 1, settings, &answer) == X509_FAILED && is_unanswered(&answer));
+    other.key = (x509_span){SIZE_MAX, 2};
+    WANT(asked_status(&other, 1, settings, &answer) == X509_FAILED && is_unanswered(&answer));
+    other.key = (x509_span){0, SIZE_MAX};
+    WANT(asked_status(&other, 1, settings, &answer) == X509_FAILED && is_unanswered(&answer));
+    other.key = given.name;
+    WANT(asked_status(&other, 1, settings, &answer) == X509_MALFORMED && is_unanswered(&answer));
+    other = given;
+    other.name = given.key;
+    WANT(asked_status(&other, 1, settings, &answer) == X509_MALFORMED && is_unanswered(&answer));
+    other = given;
+    other.crl.len--;
+    WANT(asked_status(&other, 1, settings, &answer) == X509_MALFORMED && is_unanswered(&answer));
+}
+
+/* The certificate has a KeyUsage, without cRLSign. A certificate of v1 has none (RFC 5280 4.1.2.1). */
+static void signers_of_lists(void)
+{
+    uint32_t may_sign = 7;
+    WANT(x509_may_sign_crls(nothing, 0, &may_sign) == X509_MALFORMED && may_sign == 7);
+    WANT(x509_may_sign_crls(list, list_len, &may_sign) == X509_MALFORMED && may_sign == 7);
+    WANT(x509_may_sign_crls(certificate, certificate_len, &may_sign) == X509_OK && may_sign == 0);
+    x509_extension usage;
+    WANT(x509_certificate_extension(certificate, certificate_len, BYTES(X509_OID_KEY_USAGE), &usage) == X509_OK && usage.value.len == 4);
+    /* the bits 5 and 6, keyCertSign and cRLSign, in place of 0 and 2 (RFC 5280 4.2.1.3) */
+    uint8_t *bits = certificate + usage.value.place + 2, before[2] = {bits[0], bits[1]};
+    bits[0] = 1;
+    bits[1] = 0x06;
+    WANT(x509_may_sign_crls(certificate, certificate_len, &may_sign) == X509_OK && may_sign == 1);
+    bits[0] = 2;
+    bits[1] = 0x04;
+    WANT(x509_may_sign_crls(certificate, certificate_len, &may_sign) == X509_OK && may_sign == 0);
+    memcpy(bits, before, 2);
+}
+
 static void crl_parts(void)
 {
     x509_crl view;
@@ -390,6 +643,8 @@ static void crl_parts(void)
     WANT(x509_crl_entry_next(entries, view.entries.len, &at, &entry) == X509_ABSENT && at == 83 && is_at(entry.serial_number, 65, 3));
     at = 1;
     WANT(x509_crl_entry_next(entries, view.entries.len, &at, &entry) == X509_MALFORMED && at == 1 && is_at(entry.serial_number, 65, 3));
+    found_entries(entries, view.entries.len);
+    issued_entries();
 
     /* A v1 list without entries, of the issuer CN=a; and a v2 list with an empty SEQUENCE of extensions, by hand. */
     const char v1[] = "\x30\x2d\x30\x22\x30\x03\x06\x01\x2a\x30\x0c\x31\x0a\x30\x08\x06\x03\x55\x04\x03\x0c\x01\x61\x17\x0d" "700101000001Z"
@@ -511,6 +766,11 @@ int main(int argc, char **argv)
     faults();
     paths();
     validated_paths();
+    long_paths();
+    statuses_by_lists();
+    verified_lists();
+    refused_statuses();
+    signers_of_lists();
     certificates();
     lists();
     crl_parts();

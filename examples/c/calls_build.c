@@ -18,6 +18,7 @@ static void members(void)
                "\x30\x12\x02\x01\x05\x17\x0d" "260102030405Z"));
     WANT(WROTE(x509_crl_entry_encode(BYTES("\x02\x01\x05"), 1767323045, BYTES("\x30\x0a\x06\x03\x55\x1d\x15\x04\x03\x0a\x01\x01"), room, sizeof room, &written),
                "\x30\x20\x02\x01\x05\x17\x0d" "260102030405Z" "\x30\x0c\x30\x0a\x06\x03\x55\x1d\x15\x04\x03\x0a\x01\x01"));
+    WANT(x509_crl_entry_encode(BYTES("\x02\x01\x05"), 1767323045, nothing, 0, room, 19, &written) == X509_ROOM && written == 20);
     written = 77;
     WANT(x509_crl_entry_encode(BYTES("\x02\x01\x05"), 253402300800, nothing, 0, room, sizeof room, &written) == X509_VALUE && written == 77);
     WANT(x509_crl_entry_encode(BYTES("\x02\x00"), 1767323045, nothing, 0, room, sizeof room, &written) == X509_MALFORMED);
@@ -56,6 +57,8 @@ static void built_requests(void)
 #define VALIDITY "\x30\x1e" THIS_UPDATE NEXT_UPDATE
 #define CERTIFICATE_PART "\x30\x6b\xa0\x03\x02\x01\x02\x02\x01\x01" ALGORITHM ISSUER VALIDITY ISSUER KEY "\xa3\x0f\x30\x0d" SKI
 #define ISSUER_CERTIFICATE "\x30\x77" CERTIFICATE_PART ALGORITHM "\x03\x01\x00"
+/* The same certificate, with that extension twice. */
+#define TWO_KEY_IDENTIFIERS "\x30\x81\x84\x30\x78\xa0\x03\x02\x01\x02\x02\x01\x01" ALGORITHM ISSUER VALIDITY ISSUER KEY "\xa3\x1c\x30\x1a" SKI SKI ALGORITHM "\x03\x01\x00"
 /* The same part without extensions, of v1, and with the last moment of 9999 as its end. */
 #define BARE_PART "\x30\x55\x02\x01\x01" ALGORITHM ISSUER VALIDITY ISSUER KEY
 #define LONG_PART "\x30\x57\x02\x01\x01" ALGORITHM ISSUER "\x30\x20" THIS_UPDATE "\x18\x0f" "99991231235959Z" ISSUER KEY
@@ -174,6 +177,8 @@ static void built_subordinates(void)
     WANT(x509_build_subordinate(NUMBER_AND_ALGORITHM, ISSUER_AND_DATES, BYTES(NAME), BYTES(KEY), 0, 256, 1, 1, nothing, 0, OUT) == X509_OK);
     const char behind[] = AUTHORITY KEY_USAGE("\x01\x86") SKI_OF(ABC_DIGEST) FOR_BOTH;
     WANT(written > sizeof behind && memcmp(room + written - (sizeof behind - 1), behind, sizeof behind - 1) == 0);
+    WANT(x509_build_subordinate(NUMBER_AND_ALGORITHM, ISSUER_AND_DATES, BYTES(NAME), BYTES(KEY), 1, 0, 0, 0, nothing, 0, room, sizeof SUBORDINATE_PART - 2, &written)
+         == X509_ROOM && written == sizeof SUBORDINATE_PART - 1);
     written = 77;
     WANT(x509_build_subordinate(NUMBER_AND_ALGORITHM, ISSUER_AND_DATES, BYTES(NAME), BYTES(KEY), 1, 256, 0, 0, nothing, 0, OUT) == X509_VALUE && written == 77);
     WANT(x509_build_subordinate(NUMBER_AND_ALGORITHM, BYTES(NAME), BYTES(NAME), MOMENT, A_MONTH_LATER, BYTES(NAME), BYTES(KEY), 1, 0, 0, 0, nothing, 0, OUT)
@@ -199,6 +204,8 @@ static void built_subscribers(void)
     WANT(ends_with_usage(x509_build_subscriber(NUMBER_AND_ALGORITHM, ISSUER_AND_DATES, BYTES(NAME), BYTES(EC_KEY), 1, 1, 0, 1, nothing, 0, OUT), 7, 0x80));
     const char behind[] = FOR_BOTH NO_AUTHORITY KEY_USAGE("\x07\x80");
     WANT(memcmp(room + written - (sizeof behind - 1), behind, sizeof behind - 1) == 0);
+    WANT(x509_build_subscriber(NUMBER_AND_ALGORITHM, ISSUER_AND_DATES, BYTES(ROOT_NAME), BYTES(KEY), 0, 1, 1, 1, nothing, 0, room, sizeof SUBSCRIBER_PART - 2, &written)
+         == X509_ROOM && written == sizeof SUBSCRIBER_PART - 1);
     written = 77;
     WANT(x509_build_subscriber(NUMBER_AND_ALGORITHM, ISSUER_AND_DATES, BYTES(KEY), BYTES(KEY), 0, 0, 0, 0, nothing, 0, OUT) == X509_MALFORMED && written == 77);
 }
@@ -208,6 +215,8 @@ static void built_devices(void)
     WANT(WROTE(x509_build_device(NUMBER_AND_ALGORITHM, ISSUER_AND_DATES, BYTES(NAME), BYTES(KEY), nothing, 0, nothing, 0, OUT), DEVICE_PART));
     WANT(WROTE(x509_build_device(NUMBER_AND_ALGORITHM, ISSUER_AND_DATES, BYTES(NAME), BYTES(KEY), NULL, 0, NULL, 0, OUT), DEVICE_PART));
     WANT(WROTE(x509_build_device(NUMBER_AND_ALGORITHM, ISSUER_AND_DATES, BYTES(NAME), BYTES(KEY), BYTES(MODULE), nothing, 0, OUT), MODULE_PART));
+    WANT(x509_build_device(NUMBER_AND_ALGORITHM, ISSUER_AND_DATES, BYTES(NAME), BYTES(KEY), nothing, 0, nothing, 0, room, sizeof DEVICE_PART - 2, &written) == X509_ROOM
+         && written == sizeof DEVICE_PART - 1);
     written = 77;
     WANT(x509_build_device(NUMBER_AND_ALGORITHM, ISSUER_AND_DATES, BYTES(NAME), BYTES(KEY), BYTES("\x30\x00"), nothing, 0, OUT) == X509_FAILED && written == 77);
     WANT(x509_build_device(NUMBER_AND_ALGORITHM, ISSUER_AND_DATES, BYTES(NAME), BYTES(KEY), BYTES("\x30\x03\x82\x01" "a"), nothing, 0, OUT) == X509_FAILED);
@@ -232,6 +241,8 @@ static void built_crls(void)
     WANT(build_crl("\x07", 1, too_late, "", 0, "", 0) == X509_VALUE && written == 77);
     WANT(build_crl("\x07", 1, 0, "\x30", 1, "", 0) == X509_MALFORMED && written == 77);
     WANT(build_crl("\x07", 1, 0, "", 0, ENTRY, sizeof ENTRY - 1) == X509_MALFORMED && written == 77);
+    /* an issuer's certificate with two SKIs */
+    WANT(x509_build_crl(BYTES(TWO_KEY_IDENTIFIERS), BYTES(ALGORITHM), BYTES("\x07"), MOMENT, 0, 0, nothing, 0, nothing, 0, room, sizeof room, &written) == X509_FAILED);
     WANT(x509_build_crl(BYTES(ISSUER), BYTES(ALGORITHM), BYTES("\x07"), MOMENT, 0, 0, nothing, 0, nothing, 0, room, sizeof room, &written) == X509_MALFORMED);
     WANT(x509_build_crl(BYTES(ISSUER_CERTIFICATE), BYTES("\x05\x00"), BYTES("\x07"), MOMENT, 0, 0, nothing, 0, nothing, 0, room, sizeof room, &written)
          == X509_MALFORMED && written == 77);

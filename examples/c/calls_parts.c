@@ -16,6 +16,11 @@ static void strings(void)
     WANT(TEXT("\x16\x03" "a@b") == X509_OK && is_written("a@b"));
     WANT(TEXT("\x1a\x01" "~") == X509_OK && is_written("~"));
     WANT(TEXT("\x1e\x04\x00\xe9\x20\xac") == X509_OK && is_written("\xc3\xa9\xe2\x82\xac"));
+    /* a, U+E9, U+20AC and U+1F600 in four octets each (X.690 8.23.7) */
+    WANT(TEXT("\x1c\x10\x00\x00\x00" "a\x00\x00\x00\xe9\x00\x00\x20\xac\x00\x01\xf6\x00") == X509_OK && is_written("a\xc3\xa9\xe2\x82\xac\xf0\x9f\x98\x80"));
+    WANT(TEXT("\x1c\x04\x00\x10\xff\xff") == X509_OK && is_written("\xf4\x8f\xbf\xbf") && TEXT("\x1c\x00") == X509_OK && written == 0);
+    WANT(TEXT("\x1c\x04\x00\x00\x00\x00") == X509_OK && written == 1 && room[0] == 0);
+    WANT(x509_string_text(BYTES("\x1c\x04\x00\x00\x20\xac"), room, 2, &written) == X509_ROOM && written == 3);
     WANT(WROTE(TEXT("\x0c\x03" "a\x00" "b"), "a\x00" "b"));
     WANT(TEXT("\x1e\x00") == X509_OK && written == 0 && TEXT("\x0c\x00") == X509_OK && written == 0);
     WANT(x509_string_text(BYTES("\x1e\x02\x20\xac"), room, 2, &written) == X509_ROOM && written == 3);
@@ -25,7 +30,10 @@ static void strings(void)
     WANT(TEXT("\x0c\x01\xff") == X509_MALFORMED && TEXT("\x12\x01" "a") == X509_MALFORMED && TEXT("\x13\x01" "@") == X509_MALFORMED);
     WANT(TEXT("\x14\x01\xe9") == X509_MALFORMED && TEXT("\x16\x01\x80") == X509_MALFORMED && TEXT("\x1a\x01\n") == X509_MALFORMED);
     WANT(TEXT("\x1e\x01" "a") == X509_MALFORMED && TEXT("\x1e\x02\xd8\x00") == X509_MALFORMED);
-    WANT(TEXT("\x04\x01" "a") == X509_MALFORMED && TEXT("\x1c\x04\x00\x00\x00" "a") == X509_MALFORMED && TEXT("\x2c\x01" "a") == X509_MALFORMED);
+    WANT(TEXT("\x04\x01" "a") == X509_MALFORMED && TEXT("\x2c\x01" "a") == X509_MALFORMED);
+    /* fewer octets than a character has; a half of a surrogate pair, the number behind the last, and one of 32 bits */
+    WANT(TEXT("\x1c\x03\x00\x00" "a") == X509_MALFORMED && TEXT("\x1c\x05\x00\x00\x00" "a\x00") == X509_MALFORMED);
+    WANT(TEXT("\x1c\x04\x00\x00\xd8\x00") == X509_MALFORMED && TEXT("\x1c\x04\x00\x11\x00\x00") == X509_MALFORMED && TEXT("\x1c\x04\x80\x00\x00" "a") == X509_MALFORMED);
     WANT(TEXT("\x0c\x02" "a") == X509_MALFORMED && TEXT("\x0c\x01" "ab") == X509_MALFORMED && written == 77);
 }
 

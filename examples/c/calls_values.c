@@ -299,6 +299,40 @@ static void matching_names(void)
     WANT(match(BYTES(DOMAIN("\x15", "\x13", "\x11", "\x03", "a b")), BYTES(DOMAIN("\x16", "\x14", "\x12", "\x04", "a  b"))) == 0);
 }
 
+/* A KeyUsage, a BasicConstraints, names and purposes (RFC 5280 4.2.1). */
+static void extensions(void)
+{
+    /* critical, for signatures of data and of certificates */
+    const char usage[] = "\x30\x10\x30\x0e\x06\x03\x55\x1d\x0f\x01\x01\xff\x04\x04\x03\x02\x02\x84";
+    x509_extension_entry found;
+    size_t at = 0;
+    uint32_t uses = 77;
+    WANT(x509_extensions_next(BYTES(usage), &at, &found) == X509_OK && at == 18);
+    WANT(is_at(found.oid, 6, 3) && found.critical == 1 && is_at(found.value, 14, 4));
+    WANT(x509_extensions_next(BYTES(usage), &at, &found) == X509_ABSENT && at == 18 && is_at(found.oid, 6, 3));
+    WANT(x509_key_usage(BYTES("\x03\x02\x02\x84"), &uses) == X509_OK && uses == (X509_KEY_USAGE_DIGITAL_SIGNATURE | X509_KEY_USAGE_KEY_CERT_SIGN));
+    x509_basic_constraints_view constraints;
+    WANT(x509_basic_constraints(BYTES("\x30\x06\x01\x01\xff\x02\x01\x03"), &constraints) == X509_OK);
+    WANT(constraints.ca == 1 && constraints.has_path_len == 1 && constraints.path_len == 3);
+    WANT(x509_basic_constraints(BYTES("\x30\x00"), &constraints) == X509_OK && constraints.ca == 0 && constraints.has_path_len == 0 && constraints.path_len == 0);
+
+    /* the DNS name a, also under the tag [1] */
+    x509_general_name name;
+    at = 0;
+    WANT(x509_general_names_next(BYTES("\x30\x03\x82\x01" "a"), &at, &name) == X509_OK && at == 5 && name.kind == X509_GENERAL_NAME_DNS && is_at(name.content, 4, 1));
+    WANT(x509_general_names_next(BYTES("\x30\x03\x82\x01" "a"), &at, &name) == X509_ABSENT && at == 5);
+    at = 0;
+    WANT(x509_general_names_under_next(0, BYTES("\xa1\x03\x82\x01" "a"), &at, &name) == X509_MALFORMED && at == 0);
+    WANT(x509_general_names_under_next(31, BYTES("\xa1\x03\x82\x01" "a"), &at, &name) == X509_MALFORMED && at == 0);
+    WANT(x509_general_names_under_next(1, BYTES("\xa1\x03\x82\x01" "a"), &at, &name) == X509_OK && at == 5 && is_at(name.content, 4, 1));
+    WANT(x509_general_names_under_next(1, BYTES("\xa1\x03\x82\x01" "a"), &at, &name) == X509_ABSENT && at == 5);
+
+    x509_span purpose = {7, 7};
+    at = 0;
+    WANT(x509_extended_key_usage_next(BYTES("\x30\x0a\x06\x08" X509_OID_SERVER_AUTH), &at, &purpose) == X509_OK && at == 12 && is_at(purpose, 4, 8));
+    WANT(x509_extended_key_usage_next(BYTES("\x30\x0a\x06\x08" X509_OID_SERVER_AUTH), &at, &purpose) == X509_ABSENT && at == 12 && is_at(purpose, 4, 8));
+}
+
 static void key_identifiers(void)
 {
     x509_span octets = {7, 7};
@@ -347,11 +381,13 @@ static void policies(void)
     at = 0;
     WANT(x509_policy_qualifiers_next(BYTES("\x30\x08\x30\x06\x06\x01\x2a\x16\x01\x61"), &at, &qualifier) == X509_OK && at == 10);
     WANT(is_at(qualifier.identifier, 6, 1) && is_at(qualifier.qualifier, 7, 3));
+    WANT(x509_policy_qualifiers_next(BYTES("\x30\x08\x30\x06\x06\x01\x2a\x16\x01\x61"), &at, &qualifier) == X509_ABSENT && at == 10 && is_at(qualifier.qualifier, 7, 3));
 
     x509_policy_mapping mapping;
     at = 0;
     WANT(x509_policy_mappings_next(BYTES("\x30\x0c\x30\x0a\x06\x03\x55\x1d\x20\x06\x03\x55\x1d\x21"), &at, &mapping) == X509_OK && at == 14);
     WANT(is_at(mapping.issuer_policy, 6, 3) && is_at(mapping.subject_policy, 11, 3));
+    WANT(x509_policy_mappings_next(BYTES("\x30\x0c\x30\x0a\x06\x03\x55\x1d\x20\x06\x03\x55\x1d\x21"), &at, &mapping) == X509_ABSENT && at == 14);
     at = 0;
     WANT(x509_policy_mappings_next(BYTES("\x30\x07\x30\x05\x06\x03\x55\x1d\x20"), &at, &mapping) == X509_MALFORMED && at == 0 && mapping.issuer_policy.place == 6);
 
@@ -381,6 +417,7 @@ static void points(void)
     WANT(x509_distribution_points_next(BYTES("\x30\x10\x30\x0e\xa0\x0c\xa1\x0a\x30\x08\x06\x03\x55\x04\x03\x0c\x01\x61"), &at, &point) == X509_OK && at == 18);
     WANT(is_at(point.full_name, 0, 0) && is_at(point.relative_name, 6, 12) && is_at(point.crl_issuer, 0, 0));
     WANT(point.has_reasons == 0 && point.reasons == 0);
+    WANT(x509_distribution_points_next(BYTES("\x30\x10\x30\x0e\xa0\x0c\xa1\x0a\x30\x08\x06\x03\x55\x04\x03\x0c\x01\x61"), &at, &point) == X509_ABSENT && at == 18);
     at = 0;
     WANT(x509_distribution_points_next(BYTES("\x30\x06\x30\x04\x81\x02\x00\x40"), &at, &point) == X509_MALFORMED && at == 0 && is_at(point.relative_name, 6, 12));
 
@@ -455,6 +492,11 @@ static void texts(void)
     WANT(x509_serial_decimal(BYTES("\xff\x80"), room, sizeof room, &written) == X509_MALFORMED && written == 77);
     WANT(x509_serial_decimal(nothing, 0, room, sizeof room, &written) == X509_MALFORMED && written == 77);
 
+    WANT(WROTE(x509_oid_from_text(BYTES("2.5.29.15"), room, 3, &written), X509_OID_KEY_USAGE));
+    WANT(x509_oid_from_text(BYTES("2.5.29.15"), room, 2, &written) == X509_ROOM && written == 3);
+    written = 77;
+    WANT(x509_oid_from_text(BYTES("2.5.29."), room, sizeof room, &written) == X509_FAILED && written == 77);
+
     WANT(x509_time_text(0, room, 19, &written) == X509_ROOM && written == 20);
     WANT(x509_time_text(0, room, 20, &written) == X509_OK && is_written("1970-01-01T00:00:00Z"));
     WANT(x509_time_text(1767323045, room, sizeof room, &written) == X509_OK && is_written("2026-01-02T03:04:05Z"));
@@ -488,6 +530,7 @@ int main(int argc, char **argv)
     attributes();
     first_attributes();
     matching_names();
+    extensions();
     key_identifiers();
     accesses();
     policies();

@@ -28,6 +28,8 @@ static size_t entries;
 static x509_span part;
 static x509_signature signature;
 static x509_path_fault fault;
+static x509_revocation_answer told = {7, 7, 7, 7, 7};
+static uint32_t may_sign = 7;
 static const uint8_t *const CERTIFICATE = (const uint8_t *)"Certificate";
 static const uint8_t *const OID = (const uint8_t *)"\x55\x1d\x0f";
 static const uint8_t *const SERIAL = (const uint8_t *)"\x02\x01\x03";
@@ -44,6 +46,12 @@ static size_t read_file(const char *path, uint8_t *bytes)
     return len;
 }
 
+/* Whether what is answered of CRLs is as it was. */
+static int is_untold(void)
+{
+    return told.status == 7 && told.reason == 7 && told.crl == 7 && told.date == 7 && told.reasons == 7 && may_sign == 7;
+}
+
 /* Whether the first certificate of a path was none. */
 static int is_decode(x509_status status)
 {
@@ -51,6 +59,11 @@ static int is_decode(x509_status status)
     fault = (x509_path_fault){7, 7};
     return status == X509_FAULT && found.place == 0 && found.reason == X509_PATH_DECODE;
 }
+
+/* An empty name, an algorithm, and a key of it without bits. */
+#define NO_NAME "\x30\x00"
+#define ALGORITHM "\x30\x03\x06\x01\x2a"
+#define KEY "\x30\x08" ALGORITHM "\x03\x01\x00"
 
 /* Each call that writes a document, with these bytes, gives that status, and leaves the buffer and `written`. */
 static void refused_documents(const uint8_t *bytes, size_t len, x509_status status)
@@ -85,6 +98,14 @@ static void no_pointers(void)
     WANT(x509_crl_walk(NULL, 0, &entries) == X509_MALFORMED);
     WANT(x509_crl_lookup(NULL, 0, NULL, 0, &revocation) == X509_MALFORMED);
     WANT(x509_crl_lookup(list, list_len, NULL, 0, &revocation) == X509_MALFORMED);
+    const x509_revocation_settings at_moment = {MOMENT, 0};
+    const x509_signed_crl empty = {{0, 0}, {0, 0}, {0, 0}, 1};
+    WANT(x509_may_sign_crls(NULL, 0, &may_sign) == X509_MALFORMED);
+    WANT(x509_revocation_status(certificate, certificate_len, NULL, 0, NULL, 0, NULL, 0, &told) == X509_VALUE);
+    WANT(x509_revocation_status(NULL, 0, NULL, 0, NULL, 0, &at_moment, sizeof at_moment, &told) == X509_MALFORMED);
+    WANT(x509_revocation_status(certificate, certificate_len, NULL, 0, &empty, 1, &at_moment, sizeof at_moment, &told) == X509_MALFORMED && is_untold());
+    WANT(x509_revocation_status(certificate, certificate_len, NULL, 0, NULL, 0, &at_moment, sizeof at_moment, &told) == X509_OK && told.status == X509_UNDETERMINED);
+    told = (x509_revocation_answer){7, 7, 7, 7, 7};
 
     written = 77;
     WANT(x509_certificate_reencode(NULL, 0, NULL, 0, &written) == X509_MALFORMED && written == 77);
@@ -204,6 +225,9 @@ static void refused_values(const uint8_t *bytes, size_t len, x509_status status)
     WANT(x509_serial_number(bytes, len, &part) == status);
     WANT(x509_crl_view(bytes, len, &crl) == status);
     WANT(x509_crl_entry_next(bytes, len, &at, &entry) == status);
+    WANT(x509_crl_issued_next(bytes, len, &at, &part, &entry) == status);
+    WANT(x509_crl_entry_find(bytes, len, SERIAL, 3, &entry) == status);
+    WANT(x509_crl_entry_find(bytes, len, NULL, 0, &entry) == X509_MALFORMED);
     WANT(x509_request_view(bytes, len, &request) == status);
     WANT(x509_request_attribute_next(bytes, len, &at, &asked) == status);
     WANT(x509_request_attribute_find(bytes, len, OID, 3, &asked) == status);
@@ -306,6 +330,52 @@ static void early_dates(void)
     refused_documents(list, list_len, X509_MALFORMED);
 }
 
+#define BYTES(text) (const uint8_t *)(text), sizeof(text) - 1
+#define OUT NULL, 0, &written
+
+/* An anchor or a part of one that is too long. */
+static void overlong_paths(const uint8_t *bytes, size_t len)
+{
+    const x509_path_settings settings = {MOMENT, 0};
+    x509_path_answer answer = {7, 7, {7, 7}, {7, 7}, 7};
+    WANT(x509_path_validate(bytes, len, certificate, certificate_len, &certificate_len, 1, NULL, 0, NULL, 0, &settings, sizeof settings, NULL, 0, &answer) == X509_OVERLENGTH);
+    WANT(x509_path_validate(certificate, certificate_len, certificate, certificate_len, &certificate_len, 1, bytes, len, NULL, 0, &settings, sizeof settings, NULL, 0, &answer)
+         == X509_OVERLENGTH);
+    WANT(x509_path_validate_under_key(bytes, len, BYTES(KEY), certificate, certificate_len, &certificate_len, 1, NULL, 0, NULL, 0, &settings, sizeof settings, NULL, 0, &answer)
+         == X509_OVERLENGTH);
+    WANT(x509_path_validate_under_anchor(bytes, len, certificate, certificate_len, &certificate_len, 1, NULL, 0, NULL, 0, &settings, sizeof settings, NULL, 0, &answer)
+         == X509_OVERLENGTH);
+    WANT(answer.place == 7 && answer.reason == 7 && answer.name.len == 7 && answer.key.len == 7 && answer.policies_len == 7);
+}
+
+/* What builds, of a part that is too long. */
+static void overlong_parts(uint8_t *bytes, size_t len)
+{
+    written = 77;
+    WANT(x509_extension_encode(OID, 3, 0, bytes, len, OUT) == X509_OVERLENGTH);
+    WANT(x509_crl_entry_encode(bytes, len, MOMENT, NULL, 0, OUT) == X509_OVERLENGTH);
+    WANT(x509_attribute_encode(BYTES("\x55\x04\x03"), 0x0c, bytes, len, 0, OUT) == X509_OVERLENGTH);
+    WANT(x509_build_request(bytes, len, BYTES(KEY), NULL, 0, NULL, 0, OUT) == X509_OVERLENGTH);
+    WANT(x509_build_certificate(BYTES("\x02\x01\x01"), BYTES(ALGORITHM), bytes, len, MOMENT, MOMENT, BYTES(NO_NAME), BYTES(KEY), NULL, 0, OUT) == X509_OVERLENGTH);
+    WANT(x509_build_root(BYTES("\x02\x01\x01"), BYTES(ALGORITHM), MOMENT, MOMENT, bytes, len, BYTES(KEY), 0, NULL, 0, OUT) == X509_OVERLENGTH);
+    WANT(x509_build_subordinate(BYTES("\x02\x01\x01"), BYTES(ALGORITHM), bytes, len, BYTES(KEY), MOMENT, MOMENT, BYTES(NO_NAME), BYTES(KEY), 0, 0, 0, 0, NULL, 0, OUT)
+         == X509_OVERLENGTH);
+    WANT(x509_build_subscriber(BYTES("\x02\x01\x01"), BYTES(ALGORITHM), bytes, len, BYTES(KEY), MOMENT, MOMENT, BYTES(NO_NAME), BYTES(KEY), 0, 0, 0, 0, NULL, 0, OUT)
+         == X509_OVERLENGTH);
+    WANT(x509_build_device(BYTES("\x02\x01\x01"), BYTES(ALGORITHM), bytes, len, BYTES(KEY), MOMENT, MOMENT, BYTES(NO_NAME), BYTES(KEY), NULL, 0, NULL, 0, OUT) == X509_OVERLENGTH);
+    WANT(x509_build_crl(bytes, len, BYTES(ALGORITHM), BYTES("\x01"), MOMENT, 0, 0, NULL, 0, NULL, 0, OUT) == X509_OVERLENGTH);
+    WANT(x509_assemble(bytes, len, BYTES(ALGORITHM), NULL, 0, OUT) == X509_OVERLENGTH);
+    /* an attribute of 268,435,455 bytes, which a set round it makes too long; and a set of as many bytes round one, as a name of it is */
+    memcpy(bytes, "\x30\x84\x0f\xff\xff\xf9\x06\x03\x55\x04\x03\x0c\x84\x0f\xff\xff\xee", 17);
+    WANT(x509_relative_name_encode(bytes, len - 1, OUT) == X509_OVERLENGTH);
+    memcpy(bytes, "\x31\x84\x0f\xff\xff\xf9\x30\x84\x0f\xff\xff\xf3\x06\x03\x55\x04\x03\x0c\x84\x0f\xff\xff\xe8", 23);
+    WANT(x509_name_build(bytes, len - 1, OUT) == X509_OVERLENGTH);
+    /* a name that is longer than its text, which is none too long */
+    memset(bytes, 'a', len);
+    memcpy(bytes, "CN=", 3);
+    WANT(x509_name_from_text(bytes, len - 8, OUT) == X509_OVERLENGTH && written == 77);
+}
+
 /* 268,435,456 bytes are one too many; these are zeros. */
 static void overlong(void)
 {
@@ -323,12 +393,19 @@ static void overlong(void)
     WANT(is_decode(x509_path_check(certificate, certificate_len, bytes, len, &len, 1, MOMENT, &fault)));
     WANT(x509_crl_walk(bytes, len, &entries) == X509_OVERLENGTH);
     WANT(x509_crl_lookup(bytes, len, SERIAL, 3, &revocation) == X509_OVERLENGTH);
+    const x509_revocation_settings at_moment = {MOMENT, 0};
+    const x509_signed_crl whole = {{0, len}, {0, 1}, {0, 1}, 1};
+    WANT(x509_may_sign_crls(bytes, len, &may_sign) == X509_OVERLENGTH);
+    WANT(x509_revocation_status(bytes, len, NULL, 0, NULL, 0, &at_moment, sizeof at_moment, &told) == X509_OVERLENGTH);
+    WANT(x509_revocation_status(certificate, certificate_len, bytes, len, &whole, 1, &at_moment, sizeof at_moment, &told) == X509_OVERLENGTH && is_untold());
     WANT(x509_certificate_reencode(bytes, len, room, sizeof room, &written) == X509_OVERLENGTH);
     WANT(x509_reencode(CERTIFICATE, 11, X509_RAW, bytes, len, room, sizeof room, &written) == X509_OVERLENGTH);
     WANT(x509_name_text(bytes, len, room, sizeof room, &written) == X509_OVERLENGTH);
     refused_documents(bytes, len, X509_OVERLENGTH);
     WANT(x509_signed_slice(bytes, len, &part) == X509_MALFORMED);
     refused_values(bytes, len, X509_OVERLENGTH);
+    overlong_paths(bytes, len);
+    overlong_parts(bytes, len);
     free(bytes);
 }
 

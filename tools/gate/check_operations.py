@@ -18,8 +18,11 @@ METHOD = re.compile(r"^    (?:    )?(?:pub )?(?:const )?fn (\w+)", re.M)
 
 
 def rust_names():
-    """What `lib.rs` and `extension.rs` export, with the methods of each type as Type::method."""
+    """What `lib.rs` and `extension.rs` export, with the methods of each type as Type::method, and the constants of a public module as module::NAME."""
     found = set()
+    for module in re.findall(r"^pub mod (\w+);", (RUST / "lib.rs").read_text(encoding="utf-8"), re.M):
+        text = (RUST / f"{module}.rs").read_text(encoding="utf-8")
+        found.update(f"{module}::{name}" for name in re.findall(r"^pub const (\w+)", text, re.M))
     for name in ("lib.rs", "extension.rs"):
         text = (RUST / name).read_text(encoding="utf-8")
         found.update(re.findall(r"^pub fn (\w+)", text, re.M))

@@ -10,7 +10,8 @@ import textwrap
 
 TOP = pathlib.Path(__file__).resolve().parents[2]
 INSTALLED = ("text.c", "text.cc", "CMakeLists.txt", "text.rs", "text.py")
-FILES = ("crates/x509_cert_tests/src/example.rt", *(f"examples/installed/{name}" for name in INSTALLED))
+REVOKED = ("crates/x509_revocation_tests/src/validated.rt", "examples/c/revoked.c", "bindings/rust/tests/revocation.rs", "bindings/python/tests/test_revocation.py")
+FILES = ("crates/x509_cert_tests/src/example.rt", *(f"examples/installed/{name}" for name in INSTALLED), *REVOKED)
 ENTRIES = (
     "x509_build/src/certificate_builder.rt",
     "x509_cert/src/crl/certificate_list.rt",

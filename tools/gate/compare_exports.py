@@ -41,7 +41,7 @@ def in_c(kind):
         return []
     found = re.fullmatch(r"&(mut )?\[(\w+)\]", kind)
     if found:
-        return [f"{'' if found[1] else 'const '}{NUMBERS[found[2]]} *", "size_t"]
+        return [f"{'' if found[1] else 'const '}{NUMBERS.get(found[2], found[2])} *", "size_t"]
     found = re.fullmatch(r"&mut (\w+)", kind)
     if found:
         return [f"{NUMBERS.get(found[1], found[1])} *"]
@@ -50,7 +50,7 @@ def in_c(kind):
 
 def declared(it):
     # of a struct that is handed over with its size the library reads the bytes
-    kind = {"x509_status": "int32_t", "x509_path_settings": "uint8_t"}.get(it.kind, it.kind)
+    kind = {"x509_status": "int32_t", "x509_path_settings": "uint8_t", "x509_revocation_settings": "uint8_t"}.get(it.kind, it.kind)
     return f"{'const ' if it.is_const else ''}{kind}{' *' if it.is_pointer else ''}"
 
 
@@ -68,8 +68,8 @@ def differences():
             yield f"{name}: {theirs} -> {answer}, and {ours} -> {library[name][1]}"
             continue
         for one, other in zip(theirs, ours):
-            if one.startswith("x509_"):
-                same.setdefault(one.rstrip(" *"), set()).add(other.rstrip(" *"))
+            if one.removeprefix("const ").startswith("x509_"):
+                same.setdefault(one.removeprefix("const ").rstrip(" *"), set()).add(other.removeprefix("const ").rstrip(" *"))
             elif one != other:
                 yield f"{name}: {one}, and {other}"
     yield from differences_of_structs(same)

@@ -3,7 +3,8 @@
 # extensions and on paths, under valgrind and with sanitizers where these are there. What isn't installed is left out, with a line that says so. What
 # they print is compared with what Python's `cryptography` says (examples/data/make.py), and with what tools/robustness/hostile_payloads.py and
 # examples/data/make_path.py state by hand. Before that it checks the rows, the snippets of README.md, the names in docs/PROMISES.md and
-# docs/OPERATIONS.md, docs/RULES.md, the checks of types, the version and the C interface; and it asks each call of the header about spoilt inputs.
+# docs/OPERATIONS.md, docs/RULES.md, the checks of types, the version and the C interface; and it asks each call of the header about spoilt inputs, and
+# whether each of its answers is seen by a test.
 set -eu
 top=$(cd "$(dirname "${BASH_SOURCE[0]}")/../.." && pwd)
 gate=$top/tools/gate
@@ -87,6 +88,14 @@ accept_path() {
         -trusted "$folder/root.pem" -untrusted "$folder/intermediate.pem" "$folder/server.pem"
 }
 
+# usage: facts NAME WORDS..: the program says what is stated of certificates with each extension
+facts() {
+    local name=$1 stated=$folder/stated
+    shift
+    [ ! -d "$stated" ] || wants "$name, all that certificates have" 0 "$stated/said.txt" "$@" "$stated/each.der" "$stated/other.der"
+    wants "$name, all that a part of a certificate has" 1 "$folder/nothing" "$@" "$folder/nothing" "$folder/short" "$folder/none"
+}
+
 # usage: authority NAME WORDS..: the authority makes a chain that openssl takes, also beside a CRL, until the server is revoked; and a CSR
 authority() {
     local name=$1 made=$folder/made file
@@ -119,7 +128,27 @@ authority() {
     wants "openssl, the CSR of $name" 0 "$folder/nothing" openssl req -inform DER -in "$made/request.der" -verify -noout
 }
 
+# usage: revoked NAME WORDS..: the program says of the server of the last authority what the CRLs before and after say; and of a certificate by one that may not sign CRLs nothing
+revoked() {
+    local name=$1 made=$folder/made
+    shift
+    local server=("$made/server.der" "$made/intermediate.der")
+    wants "$name, an unrevoked server" 0 "$folder/unrevoked.txt" "$@" 1893456000 "${server[@]}" "$made/before.der"
+    wants "$name, a revoked server" 1 "$folder/revoked.txt" "$@" 1893456000 "${server[@]}" "$made/after.der" "$made/before.der"
+    wants "$name, the latest CRL behind an earlier one" 0 "$folder/unrevoked.txt" "$@" 1893456000 "${server[@]}" "$made/before.der" "$made/after.der"
+    wants "$name, a server and no CRL" 1 "$folder/undetermined.txt" "$@" 1893456000 "${server[@]}"
+    wants "$name, another signer" 1 "$folder/undetermined.txt" "$@" 1893456000 "$made/server.der" "$made/root.der" "$made/before.der"
+    wants "$name, a signer that may not sign CRLs" 1 "$folder/undetermined.txt" "$@" 1769904000 "$data/certificate.der" "$data/certificate.der" "$data/list.der"
+    wants "$name, no certificate" 1 "$folder/no_status.txt" "$@" 1893456000 "$folder/nothing" "$made/root.der" "$made/before.der"
+    wants "$name, no CRL" 1 "$folder/no_status.txt" "$@" 1893456000 "${server[@]}" "$folder/one"
+}
+
 echo 'certificate: refused with 2' >"$folder/refused.txt"
+echo unrevoked >"$folder/unrevoked.txt"
+echo undetermined >"$folder/undetermined.txt"
+echo 'refused 2' >"$folder/no_status.txt"
+# keyCompromise, at the first second of the authority's certificates
+echo 'revoked 0 1 1767225600' >"$folder/revoked.txt"
 echo 'all calls answer as they should' >"$folder/calls.txt"
 # RFC 4514 2.4, by hand, and twice: as the library prints the name, and as its values are escaped
 printf '%s\n%s\n' 'CN=a\,O=Evil,O=Haus\, Hof \+ Söhne,C=US' 'CN=a\,O=Evil,O=Haus\, Hof \+ Söhne,C=US' >"$folder/name.txt"
@@ -142,8 +171,9 @@ if has python3 "hostile payloads, the rows, the snippets of README.md, the names
     if python3 -c 'import cryptography' 2>"$folder/said"; then
         python3 -B "$data/make_path.py" "$folder/paths"
         ! has openssl "its answer to the path" || accept_path
+        python3 -B "$gate/compare_facts.py" "$folder/stated"
     else
-        echo "left out, since Python's cryptography isn't installed: paths"
+        echo "left out, since Python's cryptography isn't installed: paths, and certificates with each extension"
     fi
 fi
 
@@ -175,10 +205,10 @@ fi
 [ ! -d "$folder/paths" ] || python3 -B "$robustness/spoil_paths.py" "$folder/paths" "$folder/spoilt" "$folder/libx509.so" || failed=1
 
 compiler=("${CC:-cc}" -std=c11 -Wall -Wextra -Werror -O1 -g -I "$top/include")
-callers=(show name calls calls_values calls_parts calls_build calls_documents rules payloads)
+callers=(show facts name calls calls_values calls_parts calls_build calls_documents rules payloads)
 printf '%s\n' '#include <openssl/evp.h>' 'int main(void) { return EVP_DigestVerifyInit_ex == NULL; }' >"$folder/tried.c"
 if "${CC:-cc}" "$folder/tried.c" -lcrypto -o "$folder/tried" 2>"$folder/said"; then
-    callers+=(path authority)
+    callers+=(path authority revoked)
 else
     echo "left out, since libcrypto 3 with its headers isn't installed: paths and an authority in C"
 fi
@@ -189,7 +219,7 @@ compile() {
     shift
     for name in "${callers[@]}"; do
         libraries=("$folder/libx509_c.a" "$folder/liblibc_c.a")
-        case $name in path | authority) libraries+=(-lcrypto) ;; esac
+        case $name in path | authority | revoked) libraries+=(-lcrypto) ;; esac
         "${compiler[@]}" "$@" "$top/examples/c/$name.c" "${libraries[@]}" -o "$folder/$name$suffix"
     done
 }
@@ -204,11 +234,13 @@ run_c() {
     done
     wants "$name, a name of values" 0 "$folder/name.txt" "$@" "$folder/name$suffix" C US O 'Haus, Hof + Söhne' CN 'a,O=Evil'
     wants "$name, a country of three letters" 1 "$folder/no_name.txt" "$@" "$folder/name$suffix" C USA CN a
+    facts "$name" "$@" "$folder/facts$suffix"
     hostile "$name" "$@" "$folder/show$suffix"
     payloads "$name" "$@" "$folder/payloads$suffix"
     [ -z "${rules:-}" ] || wants "$name, the rules of the header" 0 "$folder/calls.txt" "$@" "$folder/rules$suffix" "${rules[@]}"
     [ ! -e "$folder/path$suffix" ] || paths paths "$name" "$@" "$folder/path$suffix"
     [ ! -e "$folder/authority$suffix" ] || authority "$name" "$@" "$folder/authority$suffix"
+    [ ! -e "$folder/revoked$suffix" ] || revoked "$name" "$@" "$folder/revoked$suffix"
 }
 
 # usage: run_spoilt NAME SUFFIX: the checker of paths in C says of spoilt paths what that in Python does
@@ -231,16 +263,39 @@ spoil() {
     fi
 }
 
-if has python3 "the exports beside the header, the interface beside include/abi.txt, and each call about spoilt inputs"; then
+# usage: note NAME SEEN FLAGS..: runs a program in C that asks calls, linked so that it notes their answers
+note() {
+    local source=$1 name words=("${files[@]}") seen=$2
+    name=$(basename "$source" .c)
+    shift 2
+    [ "$name" != rules ] || words=("${rules[@]}")
+    "${compiler[@]}" "$source" "$folder/answers.c" "@$folder/answers.link" "$@" "$folder/libx509_c.a" "$folder/liblibc_c.a" -o "$folder/${name}_noted"
+    quiet=1 X509_ANSWERS=$seen wants "C, $name, whose answers are noted" 0 "$folder/calls.txt" "$folder/${name}_noted" "${words[@]}"
+}
+
+# each answer of each call is seen by a test, and the allocations of each that takes memory are refused by one
+see_answers() {
+    local name
+    [ -e "$folder/answers.c" ] || return 0
+    for name in calls calls_values calls_parts calls_build calls_documents rules; do
+        note "$top/examples/c/$name.c" "$folder/seen.txt"
+    done
+    note "$robustness/refuse_memory.c" "$folder/refused_memory.txt" -Wl,--wrap=malloc,--wrap=realloc,--wrap=free
+    python3 -B "$gate/check_answers.py" "$folder/seen.txt" "$folder/refused_memory.txt" || failed=1
+}
+
+if has python3 "the exports beside the header, the interface beside include/abi.txt, each call about spoilt inputs, and each of its answers"; then
     python3 -B "$gate/compare_exports.py" "$folder/libx509_c.a" || failed=1
     python3 -B "$gate/check_abi.py" || failed=1
     python3 -B "$gate/test_abi.py" || failed=1
     python3 -B "$robustness/calls_table.py" >"$folder/calls_table.h"
+    python3 -B "$gate/check_answers.py" --wrap "$folder"
 fi
 
 compile ""
 run_c "C" ""
 run_spoilt "C" ""
+see_answers
 spoil "C, spoilt inputs in eight threads" 2000 8
 sanitizers=(-fsanitize=address,undefined -fno-sanitize-recover=all)
 if echo 'int main(void) { return 0; }' | "${CC:-cc}" -x c "${sanitizers[@]}" - -o "$folder/tried" 2>"$folder/said" && "$folder/tried" 2>"$folder/said"; then
@@ -291,8 +346,20 @@ test_watched() {
     fi
 }
 
+# the lines of the crate's README over serde, with serde as Debian has it
+test_serde() {
+    local from=/usr/share/cargo/registry at=$folder/serde
+    if ! compgen -G "$from/serde-1.*" >/dev/null || ! compgen -G "$from/serde_derive-1.*" >/dev/null; then
+        echo "left out, since Debian's librust-serde-dev isn't installed: the lines over serde"
+        return 0
+    fi
+    cp -r "$top/bindings/rust/tests/serde" "$at"
+    sed -i "s#\"../..\"#\"$top/bindings/rust\"#" "$at/Cargo.toml"
+    run_tests "Rust, the lines over serde" cargo run -q --offline --manifest-path "$at/Cargo.toml" \
+        --config 'source.crates-io.replace-with="debian"' --config "source.debian.directory=\"$from\""
+}
+
 if has cargo "the caller in Rust"; then
-    has openssl "the authority in Rust" || true
     X509_LIBRARY=$folder CARGO_TARGET_DIR=$folder/target cargo build -q --offline --manifest-path "$top/examples/rust/Cargo.toml"
     show "Rust" "$folder/target/debug/show"
     hostile "Rust" "$folder/target/debug/show"
@@ -306,11 +373,18 @@ if has cargo "the caller in Rust"; then
     run_tests "Rust, the tests of the wrapper" cargo test -q --offline --manifest-path "$top/examples/rust/Cargo.toml"
     run_tests "Rust, the tests of the crate" cargo test -q --offline --manifest-path "$top/bindings/rust/Cargo.toml"
     test_watched
-    cargo build -q --offline --example facts --manifest-path "$top/bindings/rust/Cargo.toml"
+    test_serde
+    cargo build -q --offline --examples --manifest-path "$top/bindings/rust/Cargo.toml"
+    examples=$folder/target/debug/examples
+    facts "Rust" "$examples/facts"
+    wants "Rust, a name of values" 0 "$folder/name.txt" "$examples/name" C US O 'Haus, Hof + Söhne' CN 'a,O=Evil'
+    wants "Rust, a country of three letters" 1 "$folder/nothing" "$examples/name" C USA CN a
+    ! has openssl "the authority in Rust" || authority "Rust" "$examples/authority"
+    ! has valgrind "Rust under valgrind" || facts "Rust under valgrind" "${watched[@]}" "$examples/facts"
     if ! python3 -c 'import cryptography' 2>"$folder/said" || [ ! -d /etc/ssl/certs ]; then
         echo "left out, since Python's cryptography isn't installed, or the system has no store of certificates: Rust beside cryptography"
     else
-        python3 -B "$gate/compare_rust.py" "$folder/target/debug/examples/facts" || failed=1
+        python3 -B "$gate/compare_rust.py" "$examples/told" || failed=1
     fi
 fi
 
@@ -319,11 +393,24 @@ if has python3 "the caller in Python, and wide and deep values"; then
     hostile "Python" python3 -B "$top/examples/python/show.py" "$folder/libx509.so"
     payloads "Python" python3 -B "$top/examples/python/payloads.py" "$folder/libx509.so"
     paths paths "Python" python3 -B "$top/examples/python/path.py" "$folder/libx509.so"
+    of_package=(env X509_LIBRARY="$folder/libx509.so" PYTHONPATH="$top/bindings/python/src" python3 -B)
+    facts "Python" "${of_package[@]}" "$top/examples/python/facts.py"
+    if [ -d "$folder/stated" ]; then
+        programs=("$folder/facts" "${of_package[*]} $top/examples/python/facts.py")
+        [ ! -e "$folder/target/debug/examples/facts" ] || programs+=("$folder/target/debug/examples/facts")
+        python3 -B "$gate/compare_facts.py" "$folder/hostile" "${programs[@]}" || failed=1
+    fi
     run_tests "Python, the tests of the package, beside cryptography" env X509_LIBRARY="$folder/libx509.so" PYTHONPATH="$top/bindings/python/src" \
         python3 -B -m unittest discover -s "$top/bindings/python/tests"
     ! has mypy "the types of the package for Python" ||
         run_tests "Python, the types of the package" mypy --strict --no-warn-unused-ignores --cache-dir "$folder/mypy" "$top/bindings/python/src/x509_cert"
     env X509_LIBRARY="$folder/libx509.so" PYTHONPATH="$top/bindings/python/src" python3 -B "$gate/try_pkits.py" || failed=1
+    if ! python3 -c "import cryptography" 2>/dev/null; then
+        echo "left out, since Python's cryptography isn't installed: CRLs beside openssl"
+    elif has openssl "CRLs beside openssl"; then
+        run_tests "CRLs beside openssl" python3 -B -W ignore "$robustness/compare_revocation.py" "$top/bindings/python/src" "$folder/libx509.so" --cases 200
+    fi
+    run_tests "policies beside the valid policy tree" python3 -B "$robustness/compare_policies.py" --chains 5000 --library "$folder/libx509.so"
     python3 -B "$robustness/hostile_sizes.py" --rows "$folder"
     wants "C, each allocation refused of wide and deep values" 0 "$folder/calls.txt" "$folder/refuse_memory" "${files[@]}" "$folder/rows" "$folder/answers"
 fi

@@ -104,6 +104,9 @@ if has pkg-config "the crate for Rust over the install" && has cargo "the crate 
     printf '[package]\nname = "text"\nversion = "0.0.0"\nedition = "2021"\n[dependencies]\nx509-rattle = { path = "%s" }\n[workspace]\n' "$top/bindings/rust" >"$folder/project/Cargo.toml"
     env -u X509_LIBRARY CARGO_TARGET_DIR="$folder/target" cargo build -q --offline --manifest-path "$folder/project/Cargo.toml" || true
     tells "Rust, the text of a certificate" "$folder/target/debug/text"
+    X509_LIBRARY=$prefix/lib/libx509.so CARGO_TARGET_DIR="$folder/target_shared" cargo build -q --offline --manifest-path "$folder/project/Cargo.toml" || true
+    tells "Rust, the text of a certificate by the file of the shared library" env LD_LIBRARY_PATH="$prefix/lib" "$folder/target_shared/debug/text"
+    says "Rust, what X509_LIBRARY names" libx509.so.0 "$(readelf -d "$folder/target_shared/debug/text" | grep -o 'libx509[^]]*')"
 fi
 
 if has python3 "the package for Python over the install"; then

@@ -1,9 +1,10 @@
 #!/usr/bin/env python3
-"""Asks `validate_path` of the package for Python about NIST's path validation tests (PKITS, in the public domain), compares its answers with what they
-are to be, and prints for each section how many are right. Signatures are verified by `cryptography`; where that isn't installed, all are taken for good.
+"""Asks `validate_path` and `path_revocation_statuses` of the package for Python about NIST's path validation tests (PKITS, in the public domain), compares their
+answers with what they are to be, and prints for each section how many are right. Signatures are verified by `cryptography`; where that isn't installed, all are taken
+for good, and CRLs aren't asked: a case whose only fault is a CRL's has to be valid then.
 
-tools/data/pkits.json.gz has the anchor and, of each case, the path (topmost first), whether it is valid (`want` is 0, and else the number of what
-`openssl verify` says of it), and what is asked of policies. Revocation isn't asked: a case whose only fault is a CRL's has to be valid.
+tools/data/pkits.json.gz has the anchor and, of each case, the path (topmost first), its CRLs, all its certificates, whether it is valid (`want` is 0, and else the number of
+what `openssl verify` says of it), and what is asked of policies. A path is good where it is valid and each of its certificates is unrevoked.
 """
 import argparse
 import collections
@@ -30,7 +31,10 @@ from x509_cert import (
     PathFault,
     PublicKey,
     SignatureKind,
+    X509Error,
     load_der_x509_certificate,
+    load_der_x509_crl,
+    path_revocation_statuses,
     validate_path,
 )
 
@@ -106,13 +110,30 @@ def asked(words):
     return found
 
 
+def readable(load, texts):
+    """Those that can be read."""
+    for text in texts:
+        try:
+            yield load(bytes.fromhex(text))
+        except X509Error:
+            continue
+
+
 def fault_of(anchor, case):
     """What is wrong with the path, or nothing."""
     path = [bytes.fromhex(it) for it in case["path"]]
+    verify = Verifier() if hashes else accept_all
     try:
-        validate_path(anchor, path, MOMENT, Verifier() if hashes else accept_all, **asked(case["settings"]))
+        found = validate_path(anchor, path, MOMENT, verify, **asked(case["settings"]))
     except PathFault as fault:
         return str(fault)
+    if hashes is None:
+        return None
+    crls, others = readable(load_der_x509_crl, case["crls"]), readable(load_der_x509_certificate, case["certs"])
+    statuses = path_revocation_statuses(found, anchor, crls, MOMENT, verify, certificates=others, use_deltas=True)
+    for place, status in enumerate(statuses):
+        if not status.is_unrevoked:
+            return f"certificate {place} is {status.state.name}"
     return None
 
 
@@ -123,7 +144,7 @@ def section(case):
 
 def told(case, fault):
     """What is wrong with the answer, or nothing."""
-    is_valid = case["want"] == 0 or case["want"] in (OF_CRLS if hashes else OF_CRLS | OF_SIGNATURES)
+    is_valid = case["want"] == 0 or (hashes is None and case["want"] in OF_CRLS | OF_SIGNATURES)
     is_accepted = fault is None
     if is_accepted == (is_valid and case["number"] not in REFUSED):
         return None
@@ -141,12 +162,12 @@ def ask(cases):
         elif case["number"] not in REFUSED:
             right[section(case)] += 1
     if hashes is None:
-        print("left out, since Python's cryptography isn't installed: the signatures of PKITS")
+        print("left out, since Python's cryptography isn't installed: the signatures and the CRLs of PKITS")
     for name, count in every.items():
         print(f"PKITS {name}: {right[name]} of {count}")
     for fault in wrong:
         print("failed: PKITS,", fault)
-    print(f"{'failed' if wrong else 'passed'}: PKITS, {sum(right.values())} of {sum(every.values())} paths are judged as NIST says, where no CRL decides")
+    print(f"{'failed' if wrong else 'passed'}: PKITS, {sum(right.values())} of {sum(every.values())} paths are judged as NIST says")
     return int(bool(wrong))
 
 

@@ -43,6 +43,10 @@ def row(call, number, known, numbers):
             rest.pop(0)
             words += ["a->lens", "a->count"]
             flags.add("HAS_LENS")
+        elif it.is_const and it.kind == "x509_signed_crl" and behind is not None and behind.name == "count":
+            rest.pop(0)
+            words += ["a->crls", "a->count"]
+            flags.add("HAS_CRLS")
         elif it.is_pointer and not it.is_const and it.kind == "uint8_t" and behind is not None and behind.name == "room":
             words += ["a->out", "a->room"]
             if rest.pop(0).kind != "size_t" or not rest:
@@ -57,6 +61,10 @@ def row(call, number, known, numbers):
         elif it.is_pointer and it.name == "at" and it.kind == "size_t":
             words.append("a->at")
             flags.add("WALKS")
+        elif it.is_pointer and it.name == "issuer" and it.kind == "x509_span":
+            # what a walk carries on from step to step
+            words.append("a->issuer")
+            flags.add("CARRIES")
         elif it.is_pointer and not it.is_const and output is None:
             words.append("a->found")
             output = it.kind

@@ -1,16 +1,24 @@
 #!/usr/bin/env python3
 """Compares ways to find the policies of a path on random chains: the valid policy tree of RFC 5280 6.1, built as the RFC's text says, the leaves of that
-tree, and one set of policies a certificate with the policies of the one above that lead to them.
+tree, and one set of policies a certificate with the policies of the one above that lead to them; and, with --library, what the C library answers, by
+`x509_path_validate_under_key`.
 
-    compare_policies.py [--chains N] [--seed S]
+    compare_policies.py [--chains N] [--seed S] [--library libx509.so]
 
 Each chain is of 1 to 7 certificates over 5 policies and any-policy, some of them self-issued, with mappings, policy constraints and inhibit any-policy.
 """
 import argparse
+import pathlib
 import random
 import sys
 
+sys.path.insert(0, str(pathlib.Path(__file__).resolve().parents[1]))
+sys.dont_write_bytecode = True
+from common import paths
+from common.der import element, integer, object_identifier, sequence
+
 ANY = "any"
+NAMES = ["p", "q", "r", "s", "t"]
 
 
 class Certificate:
@@ -262,11 +270,66 @@ def by_levels(settings, path):
     return policies
 
 
+# ---- the C library
+
+# any-policy (RFC 5280 4.2.1.4), and others of as many octets
+IDENTIFIERS = {policy: object_identifier(2, 5, 29, 32, number) for number, policy in enumerate([ANY, *NAMES])}
+LISTED = {policy: sequence(identifier) for policy, identifier in IDENTIFIERS.items()}
+SIZE = len(LISTED[ANY])
+# the reasons of x509.h: X509_PATH_REPEATED_POLICY, X509_PATH_POLICY, X509_PATH_POLICY_MAPPING
+REASONS = {14: "repeated", 15: "none", 16: "any mapped"}
+
+
+def limited(number, value):
+    """An INTEGER under [number], if there is one."""
+    return [] if value is None else [element(0x80 + number, integer(value)[2:])]
+
+
+def encoded(path):
+    """The certificates."""
+    found, above = [], 0
+    for place, it in enumerate(path, 1):
+        extensions = [*paths.CA] if place < len(path) else []
+        if it.policies is not None:
+            extensions.append(paths.extension(32, sequence(*(LISTED[policy] for policy in it.policies))))
+        if it.mappings:
+            extensions.append(paths.extension(33, sequence(*(sequence(IDENTIFIERS[policy], IDENTIFIERS[to]) for policy, to in it.mappings))))
+        if it.require is not None or it.inhibit_mapping is not None:
+            extensions.append(paths.extension(36, sequence(*limited(0, it.require), *limited(1, it.inhibit_mapping))))
+        if it.inhibit_any is not None:
+            extensions.append(paths.extension(54, integer(it.inhibit_any)))
+        subject = above if it.self_issued else above + 1
+        found.append(paths.certificate(above, subject, *extensions))
+        above = subject
+    return found
+
+
+def by_library(library):
+    def way(settings, path):
+        accepted = b"" if settings.user == {ANY} else sequence(*(LISTED[policy] for policy in sorted(settings.user)))
+        call, answer = library.asked(encoded(path), settings.explicit + 2 * settings.inhibit_mapping + 4 * settings.inhibit_any, accepted)
+        status = call()
+        if status == paths.FAULT:
+            raise Refused(answer.place + 1, REASONS.get(answer.reason, answer.reason))
+        if status != paths.OK:
+            raise Refused(0, f"status {status}")
+        found = library.policies(answer)
+        # each has as many octets, so the list is cut without being read
+        header = len(found) - len(found) // SIZE * SIZE
+        said = [found[at : at + SIZE] for at in range(header, len(found), SIZE)]
+        policies = [policy for policy in LISTED if LISTED[policy] in said]
+        if found != sequence(*said) or len(policies) != len(said):
+            raise Refused(0, found.hex())
+        return policies
+
+    return way
+
+
 # ---- random chains
 
 
 def random_chain(rng):
-    names = ["p", "q", "r", "s", "t"]
+    names = NAMES
 
     def some(of, most):
         return rng.sample(of, rng.randint(0, min(most, len(of))))
@@ -300,13 +363,15 @@ def main():
     arguments = argparse.ArgumentParser(description=__doc__.split("\n\n")[0])
     arguments.add_argument("--chains", type=int, default=20000)
     arguments.add_argument("--seed", type=int, default=1)
+    arguments.add_argument("--library", type=pathlib.Path)
     given = arguments.parse_args()
+    ways = [by_leaves, by_levels, *([by_library(paths.Library(given.library))] if given.library else [])]
     rng = random.Random(given.seed)
     seen = {}
     for _ in range(given.chains):
         settings, path = random_chain(rng)
         tree = answer(by_tree, settings, path)
-        for way in by_leaves, by_levels:
+        for way in ways:
             other = answer(way, settings, path)
             if other != tree:
                 print(f"{way.__name__}: {other}, the tree: {tree}\n  {settings}\n  {path}")

@@ -60,6 +60,18 @@ class Library:
             return status, struct.unpack_from("QI", out)
         return status, KEPT if out.raw == before else CHANGED
 
+    def revocation(self, certificate, data, signer, moment):
+        """What a CRL says, with the name and the key of its signer behind it; also one without a next update."""
+        before, (name, key) = b"M" * 32, signer
+        out = ctypes.create_string_buffer(before, 32)
+        whole, lens = data + name + key, (len(data), len(name), len(key))
+        spans = [word for at, size in enumerate(lens) for word in (sum(lens[:at]), size)]
+        given, settings = struct.pack("6QI4x", *spans, 1), struct.pack("2Q", moment, 1)
+        status = self.call("x509_revocation_status", *lent(certificate), *lent(whole), given, ctypes.c_size_t(1), *lent(settings), out)
+        if status == OK:
+            return status, struct.unpack_from("2I2QI", out)
+        return status, KEPT if out.raw == before else CHANGED
+
 
 def checks(name):
     return lambda library, data: library.check(name, data)

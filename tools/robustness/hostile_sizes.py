@@ -44,6 +44,14 @@ def find_extension(library, data, octets):
     return library.look("x509_certificate_extension", "I4x2Q", data, octets)
 
 
+# the empty name and a key, of which the certificates and CRLs of hostile_inputs.py are
+SIGNER = (sequence(), sequence(ALGORITHM, BITS))
+
+
+def ask_status(library, data):
+    return library.revocation(certificate(), data, SIGNER, SECONDS)
+
+
 # each call on an input that is none: what it answers over the limit, and within
 WHOLE = [(name, checks(name), OVERLENGTH, MALFORMED) for name in ("x509_certificate_check", "x509_crl_check", "x509_request_check")]
 WHOLE += [(name, writes(name, lambda data: 0), OVERLENGTH, MALFORMED) for name in ("x509_certificate_reencode", "x509_name_text")]
@@ -52,12 +60,16 @@ WHOLE += [
     for kind in ("certificate", "crl", "request", "anchor")
     for style in ("text", "json")
 ]
-WHOLE += [(name, looks(name, "I"), OVERLENGTH, MALFORMED) for name in ("x509_certificate_view", "x509_crl_walk")]
+WHOLE += [(name, looks(name, "I"), OVERLENGTH, MALFORMED) for name in ("x509_certificate_view", "x509_crl_walk", "x509_may_sign_crls")]
 WHOLE += [
     ("x509_certificate_extension", lambda library, data: find_extension(library, data, ONE[2:]), OVERLENGTH, MALFORMED),
     ("x509_crl_lookup", looks("x509_crl_lookup", "I", integer(1)), OVERLENGTH, MALFORMED),
     ("x509_crl_lookup, the number", lambda library, data: library.look("x509_crl_lookup", "I", crl(), data), OVERLENGTH, MALFORMED),
     ("x509_certificate_extension, the identifier", lambda library, data: find_extension(library, certificate(), data), ABSENT, ABSENT),
+    ("x509_revocation_status", lambda library, data: library.revocation(data, crl(), SIGNER, SECONDS), OVERLENGTH, MALFORMED),
+    ("x509_revocation_status, the CRL", ask_status, OVERLENGTH, MALFORMED),
+    ("x509_revocation_status, the name", lambda library, data: library.revocation(certificate(), crl(), (data, SIGNER[1]), SECONDS), OVERLENGTH, MALFORMED),
+    ("x509_revocation_status, the key", lambda library, data: library.revocation(certificate(), crl(), (SIGNER[0], data), SECONDS), OVERLENGTH, MALFORMED),
     ("x509_signed_slice", looks("x509_signed_slice", "I"), MALFORMED, MALFORMED),
     ("x509_name_from_text", writes("x509_name_from_text", lambda data: 0), FAILED, FAILED),
     ("x509_reencode, the type", lambda library, data: reencodes(data)(library, NULL), FAILED, FAILED),
@@ -221,6 +233,18 @@ def other_calls():
     yield "x509_crl_lookup, absent", entries, lambda name: find(1 << 40), refused(ABSENT)
     yield "x509_crl_lookup, the reason", reason, lambda name: find(0), lambda size, data: (OK, (SECONDS, 1))
     yield "x509_crl_lookup, two reasons", reasons, lambda name: find(0), refused(FAILED)
+    # the list alone: the last entry, which has the number 0, by its places, its date and no extensions
+    listed = lambda size: sequence(*rising(entry, size), entry(0))
+    last = lambda size, data: (OK, (len(data) - len(entry(0)) + 2, 3, SECONDS, 0, 0))
+    seek = lambda number: looks("x509_crl_entry_find", "5Q", integer(number))
+    yield "x509_crl_entry_find", listed, lambda name: seek(0), last
+    yield "x509_crl_entry_find, absent", listed, lambda name: seek(1 << 40), refused(ABSENT)
+    others = lambda size: rising(lambda number: entry(number + 1), size)
+    named = lambda size: crl(issuer=sequence(*rising(relative_name, size)))
+    asks = lambda name: ask_status
+    yield "x509_revocation_status", lambda size: crl(others(size) + [entry(1)]), asks, lambda size, data: (OK, (2, 0, 0, SECONDS, 0))
+    yield "x509_revocation_status, other entries", lambda size: crl(others(size)), asks, lambda size, data: (OK, (1, 0, 0, 0, 0))
+    yield "x509_revocation_status, another issuer", named, asks, lambda size, data: (OK, (0, 0, 0, 0, 0x1FE))
     yield "x509_request_check", lambda size: request(rising(valued, size)), checks, lambda size, data: (OK, KEPT)
 
 

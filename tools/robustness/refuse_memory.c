@@ -73,36 +73,59 @@ static void wrong(const char *what, long number)
 
 /* ---- each call */
 
-enum { CALLS = 60 };
+enum { CALLS = 84 };
 
-static uint8_t certificate[65536], list[65536], request[65536], room[65536];
+static uint8_t certificate[65536], list[65536], request[65536], room[65536], signed_list[3 * 65536];
 static size_t certificate_len, list_len, request_len;
-static x509_certificate view, own;
-static x509_extension extension;
-static x509_revocation revocation;
-static x509_signature signature;
-static x509_path_fault fault;
-static x509_path_answer answer;
-static x509_span part;
-static x509_request_attribute wanted;
-static x509_attribute attribute;
-static x509_authority_key_identifier_view authority;
-static x509_policy policy;
-static x509_distribution_point point;
-static x509_name_constraints_view names;
-static x509_crl crl;
-static x509_crl_entry entry;
-static x509_request csr;
-static x509_key key;
-static x509_rsa_key rsa;
-static x509_user_notice_view notice;
-static x509_anchor anchor;
-static x509_timestamp timestamp;
-static size_t count, at;
-static uint32_t matches;
+static x509_certificate own;
+
+/* What the calls fill in. */
+static struct {
+    x509_certificate view;
+    x509_extension extension;
+    x509_revocation revocation;
+    x509_revocation_answer told;
+    x509_signature signature;
+    x509_path_fault fault;
+    x509_path_answer answer;
+    x509_span part;
+    x509_request_attribute wanted;
+    x509_attribute attribute;
+    x509_authority_key_identifier_view authority;
+    x509_policy policy;
+    x509_distribution_point point;
+    x509_name_constraints_view names;
+    x509_crl crl;
+    x509_crl_entry entry;
+    x509_request csr;
+    x509_key key;
+    x509_rsa_key rsa;
+    x509_user_notice_view notice;
+    x509_anchor anchor;
+    x509_timestamp timestamp;
+    x509_extension_entry member;
+    x509_general_name general;
+    x509_access access;
+    x509_policy_qualifier qualifier;
+    x509_issuing_distribution_point_view issuing;
+    x509_subtree subtree;
+    x509_element element;
+    x509_algorithm algorithm;
+    x509_path_controls controls;
+    size_t count;
+    size_t at;
+    uint32_t matches;
+    uint32_t may_sign;
+} filled;
+static size_t signed_list_len;
+/* the list, and behind it the name and the key of the certificate */
+static x509_signed_crl given[2];
 
 /* A value that stands in the source, with its length. */
 #define BYTES(text) (const uint8_t *)(text), sizeof(text) - 1
+
+/* Octets that take memory, as up to 24 take none. */
+#define THIRTY "aaaaaaaaaaaaaaaaaaaaaaaaaaaaaa"
 
 /* A key `abc` of the algorithm 1.2.3.4, that algorithm, an extension, an entry of a CRL, the name C=US,O=T,CN=R, and the signed part of a CSR for the key. */
 #define ALGORITHM "\x30\x05\x06\x03\x2a\x03\x04"
@@ -115,186 +138,222 @@ static uint32_t matches;
 
 /* The first second of the validity of the certificate; and constraints that permit each name of a directory. */
 static const x509_path_settings FIRST_SECOND = {1767323045, 0};
+static const x509_revocation_settings IN_FEBRUARY = {1769904000, 0};
 /* the CertificatePolicies of 1.2.3 */
 #define POLICIES "\x30\x06\x30\x04\x06\x02\x2a\x03"
 #define CONSTRAINTS "\x30\x08\xa0\x06\x30\x04\xa4\x02\x30\x00"
 
 static x509_status call(int number)
 {
-    at = 0;
+    filled.at = 0;
     switch (number) {
     case 0:
         return x509_certificate_check(certificate, certificate_len);
     case 1:
-        return x509_certificate_reencode(certificate, certificate_len, room, sizeof room, &count);
+        return x509_certificate_reencode(certificate, certificate_len, room, sizeof room, &filled.count);
     case 2:
-        return x509_certificate_view(certificate, certificate_len, &view);
+        return x509_certificate_view(certificate, certificate_len, &filled.view);
     case 3:
-        return x509_certificate_extension(certificate, certificate_len, (const uint8_t *)"\x55\x1d\x0f", 3, &extension);
+        return x509_certificate_extension(certificate, certificate_len, (const uint8_t *)"\x55\x1d\x0f", 3, &filled.extension);
     case 4:
         return x509_crl_check(list, list_len);
     case 5:
-        return x509_crl_walk(list, list_len, &count);
+        return x509_crl_walk(list, list_len, &filled.count);
     case 6:
-        return x509_crl_lookup(list, list_len, (const uint8_t *)"\x02\x08\x12\x34\x56\x78\x90\xab\xcd\xef", 10, &revocation);
+        return x509_crl_lookup(list, list_len, (const uint8_t *)"\x02\x08\x12\x34\x56\x78\x90\xab\xcd\xef", 10, &filled.revocation);
     case 7:
-        return x509_reencode((const uint8_t *)"Certificate", 11, X509_RAW, certificate, certificate_len, room, sizeof room, &count);
+        return x509_reencode((const uint8_t *)"Certificate", 11, X509_RAW, certificate, certificate_len, room, sizeof room, &filled.count);
     case 8:
-        return x509_name_from_text((const uint8_t *)"CN=a+OU=b,O=c", 13, room, sizeof room, &count);
+        return x509_name_from_text((const uint8_t *)"CN=a+OU=b,O=c", 13, room, sizeof room, &filled.count);
     case 9:
-        return x509_name_text((const uint8_t *)"\x30\x0c\x31\x0a\x30\x08\x06\x03\x55\x04\x03\x0c\x01\x61", 14, room, sizeof room, &count);
+        return x509_name_text((const uint8_t *)"\x30\x0c\x31\x0a\x30\x08\x06\x03\x55\x04\x03\x0c\x01\x61", 14, room, sizeof room, &filled.count);
     case 10:
         return x509_request_check(request, request_len);
     case 11:
-        return x509_certificate_signature(certificate, certificate_len, &signature);
+        return x509_certificate_signature(certificate, certificate_len, &filled.signature);
     case 12:
         /* a value of 30 octets, as up to 24 take no memory */
         return x509_name_next(BYTES("\x30\x29\x31\x27\x30\x25\x06\x03\x55\x04\x03\x0c\x1e"
-                                    "aaaaaaaaaaaaaaaaaaaaaaaaaaaaaa"),
-                              &at, &part);
+                                    THIRTY),
+                              &filled.at, &filled.part);
     case 13:
-        return x509_authority_key_identifier(BYTES("\x30\x0c\x80\x02\xab\xcd\xa1\x03\x82\x01\x61\x82\x01\x05"), &authority);
+        return x509_authority_key_identifier(BYTES("\x30\x0c\x80\x02\xab\xcd\xa1\x03\x82\x01\x61\x82\x01\x05"), &filled.authority);
     case 14:
-        return x509_certificate_policies_next(BYTES("\x30\x12\x30\x10\x06\x04\x55\x1d\x20\x00\x30\x08\x30\x06\x06\x01\x2a\x16\x01\x61"), &at, &policy);
+        return x509_certificate_policies_next(BYTES("\x30\x12\x30\x10\x06\x04\x55\x1d\x20\x00\x30\x08\x30\x06\x06\x01\x2a\x16\x01\x61"), &filled.at, &filled.policy);
     case 15:
-        return x509_distribution_points_next(BYTES("\x30\x0b\x30\x09\xa0\x07\xa0\x05\x86\x03\x61\x3a\x62"), &at, &point);
+        return x509_distribution_points_next(BYTES("\x30\x0b\x30\x09\xa0\x07\xa0\x05\x86\x03\x61\x3a\x62"), &filled.at, &filled.point);
     case 16:
-        return x509_name_constraints(BYTES("\x30\x07\xa0\x05\x30\x03\x82\x01\x61"), &names);
+        return x509_name_constraints(BYTES("\x30\x07\xa0\x05\x30\x03\x82\x01\x61"), &filled.names);
     case 17:
-        return x509_serial_text(BYTES("\x12\x34\xab"), room, sizeof room, &count);
+        return x509_serial_text(BYTES("\x12\x34\xab"), room, sizeof room, &filled.count);
     case 18:
-        return x509_time_text(1767323045, room, sizeof room, &count);
+        return x509_time_text(1767323045, room, sizeof room, &filled.count);
     case 19:
-        return x509_crl_view(list, list_len, &crl);
+        return x509_crl_view(list, list_len, &filled.crl);
     case 20:
         return x509_crl_entry_next(BYTES("\x30\x29\x30\x27\x02\x08\x12\x34\x56\x78\x90\xab\xcd\xef\x17\x0d"
                                          "260120100000Z\x30\x0c\x30\x0a\x06\x03\x55\x1d\x15\x04\x03\x0a\x01\x01"),
-                                   &at, &entry);
+                                   &filled.at, &filled.entry);
     case 21:
-        return x509_request_view(request, request_len, &csr);
+        return x509_request_view(request, request_len, &filled.csr);
     case 22:
-        return x509_request_attribute_find(request, request_len, (const uint8_t *)"\x2a\x86\x48\x86\xf7\x0d\x01\x09\x0e", 9, &wanted);
+        return x509_request_attribute_find(request, request_len, (const uint8_t *)"\x2a\x86\x48\x86\xf7\x0d\x01\x09\x0e", 9, &filled.wanted);
     case 23:
-        return x509_key_view(certificate + view.subject_public_key_info.place, view.subject_public_key_info.len, &key);
+        return x509_key_view(certificate + own.subject_public_key_info.place, own.subject_public_key_info.len, &filled.key);
     case 24:
-        return x509_anchor_view(certificate, certificate_len, &anchor);
+        return x509_anchor_view(certificate, certificate_len, &filled.anchor);
     case 25:
         /* of version 1, without extensions, with a signature of one octet */
-        return x509_timestamp_view(BYTES("\x00" "0123456789abcdef0123456789abcdef" "\x00\x00\x01\x8b\xcf\xe5\x68\x7b\x00\x00\x04\x03\x00\x01\xab"), &timestamp);
+        return x509_timestamp_view(BYTES("\x00" "0123456789abcdef0123456789abcdef" "\x00\x00\x01\x8b\xcf\xe5\x68\x7b\x00\x00\x04\x03\x00\x01\xab"), &filled.timestamp);
     case 26:
-        return x509_extension_encode(BYTES("\x2a\x03"), 0, BYTES("aaaaaaaaaaaaaaaaaaaaaaaaaaaaaa"), room, sizeof room, &count);
+        return x509_extension_encode(BYTES("\x2a\x03"), 0, BYTES(THIRTY), room, sizeof room, &filled.count);
     case 27:
-        return x509_crl_entry_encode(BYTES("\x02\x01\x05"), 1767323045, BYTES("\x30\x0a\x06\x03\x55\x1d\x15\x04\x03\x0a\x01\x01"), room, sizeof room, &count);
+        return x509_crl_entry_encode(BYTES("\x02\x01\x05"), 1767323045, BYTES("\x30\x0a\x06\x03\x55\x1d\x15\x04\x03\x0a\x01\x01"), room, sizeof room, &filled.count);
     case 28:
-        return x509_build_request(BYTES("\x30\x00"), BYTES(KEY), BYTES("\x30\x08\x06\x02\x2a\x03\x31\x02\x05\x00"), BYTES(EXTENSION), room, sizeof room, &count);
+        return x509_build_request(BYTES("\x30\x00"), BYTES(KEY), BYTES("\x30\x08\x06\x02\x2a\x03\x31\x02\x05\x00"), BYTES(EXTENSION), room, sizeof room, &filled.count);
     case 29:
-        return x509_assemble(BYTES(REQUEST), BYTES(ALGORITHM), BYTES("aaaaaaaaaaaaaaaaaaaaaaaaaaaaaa"), room, sizeof room, &count);
+        return x509_assemble(BYTES(REQUEST), BYTES(ALGORITHM), BYTES(THIRTY), room, sizeof room, &filled.count);
     case 30:
         return x509_build_crl(certificate, certificate_len, BYTES(ALGORITHM), BYTES("\x07"), 1767323045, 1, 1770001445, BYTES(ENTRY), BYTES(EXTENSION),
-                              room, sizeof room, &count);
+                              room, sizeof room, &filled.count);
     case 31:
         return x509_build_certificate(BYTES("\x02\x01\x05"), BYTES(ALGORITHM), BYTES("\x30\x00"), 1767323045, 1770001445, BYTES("\x30\x00"), BYTES(KEY),
-                                      BYTES(EXTENSION), room, sizeof room, &count);
+                                      BYTES(EXTENSION), room, sizeof room, &filled.count);
     case 32:
-        return x509_request_extensions(request, request_len, &part);
+        return x509_request_extensions(request, request_len, &filled.part);
     case 33:
         return x509_name_find(BYTES("\x30\x29\x31\x27\x30\x25\x06\x03\x55\x04\x03\x0c\x1e"
-                                    "aaaaaaaaaaaaaaaaaaaaaaaaaaaaaa"),
-                              BYTES("\x55\x04\x03"), &attribute);
+                                    THIRTY),
+                              BYTES("\x55\x04\x03"), &filled.attribute);
     case 34:
         return x509_build_root(BYTES("\x02\x01\x05"), BYTES(ALGORITHM), 1767323045, 1770001445, BYTES(ROOT_NAME), BYTES(KEY), 1, BYTES(EXTENSION),
-                               room, sizeof room, &count);
+                               room, sizeof room, &filled.count);
     case 35:
         return x509_build_subordinate(BYTES("\x02\x01\x05"), BYTES(ALGORITHM), BYTES("\x30\x00"), BYTES(KEY), 1767323045, 1770001445, BYTES("\x30\x00"),
-                                      BYTES(KEY), 1, 0, 1, 1, BYTES(EXTENSION), room, sizeof room, &count);
+                                      BYTES(KEY), 1, 0, 1, 1, BYTES(EXTENSION), room, sizeof room, &filled.count);
     case 36:
         return x509_build_subscriber(BYTES("\x02\x01\x05"), BYTES(ALGORITHM), BYTES("\x30\x00"), BYTES(KEY), 1767323045, 1770001445, BYTES(ROOT_NAME),
-                                     BYTES(KEY), 1, 1, 1, 1, BYTES(EXTENSION), room, sizeof room, &count);
+                                     BYTES(KEY), 1, 1, 1, 1, BYTES(EXTENSION), room, sizeof room, &filled.count);
     case 37:
         return x509_build_device(BYTES("\x02\x01\x05"), BYTES(ALGORITHM), BYTES("\x30\x00"), BYTES(KEY), 1767323045, 1770001445, BYTES("\x30\x00"), BYTES(KEY),
                                  BYTES("\x30\x17\xa0\x15\x06\x08\x2b\x06\x01\x05\x05\x07\x08\x04\xa0\x09\x30\x07\x06\x02\x2a\x03\x04\x01\xab"),
-                                 BYTES(EXTENSION), room, sizeof room, &count);
+                                 BYTES(EXTENSION), room, sizeof room, &filled.count);
     case 38:
-        return x509_certificate_text(certificate, certificate_len, room, sizeof room, &count);
+        return x509_certificate_text(certificate, certificate_len, room, sizeof room, &filled.count);
     case 39:
-        return x509_certificate_json(certificate, certificate_len, room, sizeof room, &count);
+        return x509_certificate_json(certificate, certificate_len, room, sizeof room, &filled.count);
     case 40:
-        return x509_crl_text(list, list_len, room, sizeof room, &count);
+        return x509_crl_text(list, list_len, room, sizeof room, &filled.count);
     case 41:
-        return x509_crl_json(list, list_len, room, sizeof room, &count);
+        return x509_crl_json(list, list_len, room, sizeof room, &filled.count);
     case 42:
-        return x509_request_text(request, request_len, room, sizeof room, &count);
+        return x509_request_text(request, request_len, room, sizeof room, &filled.count);
     case 43:
-        return x509_request_json(request, request_len, room, sizeof room, &count);
+        return x509_request_json(request, request_len, room, sizeof room, &filled.count);
     case 44:
-        return x509_anchor_text(certificate, certificate_len, room, sizeof room, &count);
+        return x509_anchor_text(certificate, certificate_len, room, sizeof room, &filled.count);
     case 45:
-        return x509_anchor_json(certificate, certificate_len, room, sizeof room, &count);
+        return x509_anchor_json(certificate, certificate_len, room, sizeof room, &filled.count);
     case 46:
-        return x509_attribute_encode(BYTES("\x55\x04\x03"), 0x1e, BYTES("aaaaaaaaaaaaaaaaaaaaaaaaaaaaaa"), 1, room, sizeof room, &count);
+        return x509_attribute_encode(BYTES("\x55\x04\x03"), 0x1e, BYTES(THIRTY), 1, room, sizeof room, &filled.count);
     case 47:
-        return x509_relative_name_encode(BYTES("\x30\x25\x06\x03\x55\x04\x03\x0c\x1e" "aaaaaaaaaaaaaaaaaaaaaaaaaaaaaa" "\x30\x08\x06\x03\x55\x04\x0a\x0c\x01" "T"),
-                                         room, sizeof room, &count);
+        return x509_relative_name_encode(BYTES("\x30\x25\x06\x03\x55\x04\x03\x0c\x1e" THIRTY "\x30\x08\x06\x03\x55\x04\x0a\x0c\x01" "T"),
+                                         room, sizeof room, &filled.count);
     case 48:
-        return x509_name_build(BYTES("\x31\x27\x30\x25\x06\x03\x55\x04\x03\x0c\x1e" "aaaaaaaaaaaaaaaaaaaaaaaaaaaaaa" "\x31\x0a\x30\x08\x06\x03\x55\x04\x0a\x0c\x01" "T"),
-                               room, sizeof room, &count);
+        return x509_name_build(BYTES("\x31\x27\x30\x25\x06\x03\x55\x04\x03\x0c\x1e" THIRTY "\x31\x0a\x30\x08\x06\x03\x55\x04\x0a\x0c\x01" "T"),
+                               room, sizeof room, &filled.count);
     case 49:
-        return x509_name_escape(BYTES("a,b"), room, sizeof room, &count);
+        return x509_name_escape(BYTES("a,b"), room, sizeof room, &filled.count);
     case 50:
         return x509_names_match(BYTES("\x30\x0c\x31\x0a\x30\x08\x06\x03\x55\x04\x03\x0c\x01" "a"),
-                                BYTES("\x30\x0d\x31\x0b\x30\x09\x06\x03\x55\x04\x03\x0c\x02\xc3\xa4"), &matches);
+                                BYTES("\x30\x0d\x31\x0b\x30\x09\x06\x03\x55\x04\x03\x0c\x02\xc3\xa4"), &filled.matches);
     case 51:
         return x509_path_validate(certificate, certificate_len, certificate, certificate_len, &certificate_len, 1, NULL, 0, BYTES(POLICIES), &FIRST_SECOND,
-                                  sizeof FIRST_SECOND, room, sizeof room, &answer);
+                                  sizeof FIRST_SECOND, room, sizeof room, &filled.answer);
     case 52:
         return x509_path_validate_under_anchor(certificate, certificate_len, certificate, certificate_len, &certificate_len, 1, BYTES(CONSTRAINTS), NULL, 0,
-                                               &FIRST_SECOND, sizeof FIRST_SECOND, room, sizeof room, &answer);
+                                               &FIRST_SECOND, sizeof FIRST_SECOND, room, sizeof room, &filled.answer);
     case 53:
         return x509_path_validate_under_key(certificate + own.subject.place, own.subject.len, certificate + own.subject_public_key_info.place,
                                             own.subject_public_key_info.len, certificate, certificate_len, &certificate_len, 1, NULL, 0, NULL, 0, &FIRST_SECOND,
-                                            sizeof FIRST_SECOND, room, sizeof room, &answer);
+                                            sizeof FIRST_SECOND, room, sizeof room, &filled.answer);
     case 54:
         return x509_string_text(BYTES("\x1e\x1e" "\x00" "a\x00" "a\x00" "a\x00" "a\x00" "a\x00" "a\x00" "a\x00" "a\x00" "a\x00" "a\x00" "a\x00" "a\x00" "a\x00" "a\x00" "a"),
-                                room, sizeof room, &count);
+                                room, sizeof room, &filled.count);
     case 55:
-        return x509_user_notice(BYTES("\x30\x20\x0c\x1e" "aaaaaaaaaaaaaaaaaaaaaaaaaaaaaa"), &notice);
+        return x509_user_notice(BYTES("\x30\x20\x0c\x1e" THIRTY), &filled.notice);
     case 56:
-        return x509_numbers_next(BYTES("\x30\x20\x02\x1e" "aaaaaaaaaaaaaaaaaaaaaaaaaaaaaa"), &at, &part);
+        return x509_numbers_next(BYTES("\x30\x20\x02\x1e" THIRTY), &filled.at, &filled.part);
     case 57:
-        return x509_subject_directory_attributes_next(BYTES("\x30\x29\x30\x27\x06\x03\x55\x04\x03\x31\x20\x0c\x1e" "aaaaaaaaaaaaaaaaaaaaaaaaaaaaaa"), &at, &wanted);
+        return x509_subject_directory_attributes_next(BYTES("\x30\x29\x30\x27\x06\x03\x55\x04\x03\x31\x20\x0c\x1e" THIRTY), &filled.at, &filled.wanted);
     case 58:
-        return x509_rsa_key_view(BYTES("\x30\x23\x02\x1e" "aaaaaaaaaaaaaaaaaaaaaaaaaaaaaa" "\x02\x01\x03"), &rsa);
+        return x509_rsa_key_view(BYTES("\x30\x23\x02\x1e" THIRTY "\x02\x01\x03"), &filled.rsa);
+    case 59:
+        return x509_extensions_next(BYTES("\x30\x29\x30\x27\x06\x03\x55\x1d\x0e\x04\x20\x04\x1e" THIRTY), &filled.at, &filled.member);
+    case 60:
+        return x509_general_names_next(BYTES("\x30\x20\x82\x1e" THIRTY), &filled.at, &filled.general);
+    case 61:
+        return x509_general_names_under_next(1, BYTES("\xa1\x20\x82\x1e" THIRTY), &filled.at, &filled.general);
+    case 62:
+        return x509_subject_key_identifier(BYTES("\x04\x1e" THIRTY), &filled.part);
+    case 63:
+        return x509_access_next(BYTES("\x30\x2c\x30\x2a\x06\x08\x2b\x06\x01\x05\x05\x07\x30\x01\x86\x1e" THIRTY), &filled.at, &filled.access);
+    case 64:
+        return x509_certificate_policies_under_next(1, BYTES("\xa1\x12\x30\x10\x06\x04\x55\x1d\x20\x00\x30\x08\x30\x06\x06\x01\x2a\x16\x01\x61"), &filled.at,
+                                                    &filled.policy);
+    case 65:
+        return x509_policy_qualifiers_next(BYTES("\x30\x27\x30\x25\x06\x03\x55\x04\x03\x0c\x1e" THIRTY), &filled.at, &filled.qualifier);
+    case 66:
+        return x509_issuing_distribution_point(BYTES("\x30\x09\xa0\x07\xa0\x05\x86\x03\x61\x3a\x62"), &filled.issuing);
+    case 67:
+        return x509_crl_number(BYTES("\x02\x1e" THIRTY), &filled.part);
+    case 68:
+        return x509_base_crl_number(BYTES("\x02\x1e" THIRTY), &filled.part);
+    case 69:
+        return x509_subtrees_under_next(0, BYTES("\xa0\x22\x30\x20\x82\x1e" THIRTY), &filled.at, &filled.subtree);
+    case 70:
+        return x509_oid_text(BYTES("\x55\x1d\x0f"), room, sizeof room, &filled.count);
+    case 71:
+        return x509_relative_name_next(BYTES("\x31\x27\x30\x25\x06\x03\x55\x04\x03\x0c\x1e" THIRTY), &filled.at, &filled.attribute);
+    case 72:
+        return x509_relative_name_under_next(1, BYTES("\xa1\x27\x30\x25\x06\x03\x55\x04\x03\x0c\x1e" THIRTY), &filled.at, &filled.attribute);
+    case 73:
+        /* as many octets as it may have */
+        return x509_serial_number(BYTES("\x02\x15" "aaaaaaaaaaaaaaaaaaaaa"), &filled.part);
+    case 74:
+        return x509_request_attribute_next(BYTES("\xa0\x29\x30\x27\x06\x03\x55\x04\x03\x31\x20\x0c\x1e" THIRTY), &filled.at, &filled.wanted);
+    case 75:
+        return x509_attribute_value_next(BYTES("\x31\x20\x0c\x1e" THIRTY), &filled.at, &filled.element);
+    case 76:
+        return x509_algorithm_view(BYTES("\x30\x25\x06\x03\x2a\x03\x04\x0c\x1e" THIRTY), &filled.algorithm);
+    case 77:
+        return x509_path_controls_view(BYTES("\x30\x2b\x30\x29\x31\x27\x30\x25\x06\x03\x55\x04\x03\x0c\x1e" THIRTY), &filled.controls);
+    case 78:
+        return x509_crl_entry_find(BYTES("\x30\x29\x30\x27\x02\x08\x12\x34\x56\x78\x90\xab\xcd\xef\x17\x0d"
+                                         "260120100000Z\x30\x0c\x30\x0a\x06\x03\x55\x1d\x15\x04\x03\x0a\x01\x01"),
+                                   BYTES("\x02\x08\x12\x34\x56\x78\x90\xab\xcd\xef"), &filled.entry);
+    case 79:
+        return x509_string_text(BYTES("\x1c\x04\x00\x00\x00" "a"), room, sizeof room, &filled.count);
+    case 80:
+        return x509_crl_issued_next(BYTES("\x30\x48\x30\x46\x02\x01\x05\x17\x0d" "260120100000Z\x30\x32\x30\x30\x06\x03\x55\x1d\x1d\x01\x01\xff\x04\x26\x30\x24\x82\x22"
+                                          "aaaa" THIRTY),
+                                    &filled.at, &filled.part, &filled.entry);
+    case 81:
+        return x509_may_sign_crls(certificate, certificate_len, &filled.may_sign);
+    case 82:
+        return x509_revocation_status(certificate, certificate_len, signed_list, signed_list_len, given, 2, &IN_FEBRUARY, sizeof IN_FEBRUARY, &filled.told);
     default:
         /* in the first second of the validity */
-        return x509_path_check(certificate, certificate_len, certificate, certificate_len, &certificate_len, 1, 1767323045, &fault);
+        return x509_path_check(certificate, certificate_len, certificate, certificate_len, &certificate_len, 1, 1767323045, &filled.fault);
     }
 }
 
 /* whether a call that was refused these allocations ended with X509_MEMORY, changed nothing and left nothing, or did what it is for */
 static int holds(int number, long from, long to)
 {
-    const x509_certificate old_view = view;
-    const x509_extension old_extension = extension;
-    const x509_revocation old_revocation = revocation;
-    const x509_signature old_signature = signature;
-    const x509_path_fault old_fault = fault;
-    const x509_span old_part = part;
-    const x509_attribute old_attribute = attribute;
-    const x509_authority_key_identifier_view old_authority = authority;
-    const x509_policy old_policy = policy;
-    const x509_distribution_point old_point = point;
-    const x509_name_constraints_view old_names = names;
-    const x509_crl old_crl = crl;
-    const x509_crl_entry old_entry = entry;
-    const x509_request old_csr = csr;
-    const x509_key old_key = key;
-    const x509_rsa_key old_rsa = rsa;
-    const x509_user_notice_view old_notice = notice;
-    const x509_anchor old_anchor = anchor;
-    const x509_timestamp old_timestamp = timestamp;
-    const size_t old_count = count;
-    const uint32_t old_matches = matches;
-    const x509_path_answer old_answer = answer;
+    static uint8_t before[sizeof filled];
+    filled.at = 0;
+    memcpy(before, &filled, sizeof filled);
     const long old_standing = standing;
     refuse(from, to);
     const x509_status status = call(number);
@@ -304,21 +363,13 @@ static int holds(int number, long from, long to)
         return 0;
     if (status == X509_OK)
         return !was_refused || to != LONG_MAX;
-    return was_refused && status == X509_MEMORY && memcmp(&view, &old_view, sizeof view) == 0 &&
-           memcmp(&extension, &old_extension, sizeof extension) == 0 && memcmp(&revocation, &old_revocation, sizeof revocation) == 0 &&
-           memcmp(&signature, &old_signature, sizeof signature) == 0 && memcmp(&fault, &old_fault, sizeof fault) == 0 &&
-           memcmp(&part, &old_part, sizeof part) == 0 && memcmp(&attribute, &old_attribute, sizeof attribute) == 0 && memcmp(&authority, &old_authority, sizeof authority) == 0 &&
-           memcmp(&policy, &old_policy, sizeof policy) == 0 && memcmp(&point, &old_point, sizeof point) == 0 &&
-           memcmp(&names, &old_names, sizeof names) == 0 && memcmp(&crl, &old_crl, sizeof crl) == 0 &&
-           memcmp(&entry, &old_entry, sizeof entry) == 0 && memcmp(&csr, &old_csr, sizeof csr) == 0 && memcmp(&key, &old_key, sizeof key) == 0 &&
-           memcmp(&anchor, &old_anchor, sizeof anchor) == 0 && memcmp(&timestamp, &old_timestamp, sizeof timestamp) == 0 && count == old_count && matches == old_matches &&
-           memcmp(&rsa, &old_rsa, sizeof rsa) == 0 && memcmp(&notice, &old_notice, sizeof notice) == 0 && memcmp(&answer, &old_answer, sizeof answer) == 0 && at == 0;
+    return was_refused && status == X509_MEMORY && memcmp(before, &filled, sizeof filled) == 0;
 }
 
 /* whether the call takes no memory: it answers what it is for, whatever is refused */
 static int takes_none(int number)
 {
-    return number == 0 || (number >= 2 && number <= 6) || number == 10 || number == 11 || number == 19 || number == 21;
+    return number == 0 || (number >= 2 && number <= 6) || number == 10 || number == 11 || number == 19 || number == 21 || number == 73 || number == 81;
 }
 
 static void refuse_call(int number)
@@ -483,6 +534,17 @@ static bytes whole_file(const char *path)
     return (bytes){into, into == NULL ? 0 : read_file(path, into, MOST)};
 }
 
+/* Puts the list twice for the call that asks it, signed by the certificate, whose name and key stand behind it. */
+static void sign_list(void)
+{
+    const size_t name = list_len, key = list_len + own.subject.len;
+    memcpy(signed_list, list, list_len);
+    memcpy(signed_list + name, certificate + own.subject.place, own.subject.len);
+    memcpy(signed_list + key, certificate + own.subject_public_key_info.place, own.subject_public_key_info.len);
+    signed_list_len = key + own.subject_public_key_info.len;
+    given[0] = given[1] = (x509_signed_crl){{0, list_len}, {name, own.subject.len}, {key, own.subject_public_key_info.len}, 1};
+}
+
 int main(int argc, char **argv)
 {
     if (argc != 4 && argc != 6)
@@ -492,6 +554,7 @@ int main(int argc, char **argv)
     request_len = read_file(argv[3], request, sizeof request);
     if (x509_certificate_view(certificate, certificate_len, &own) != X509_OK)
         return 2;
+    sign_list();
     for (int number = 0; number < CALLS; number++)
         refuse_call(number);
     if (argc == 6) {

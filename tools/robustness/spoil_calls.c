@@ -24,7 +24,7 @@
 #include "x509.h"
 
 enum { MOST_INPUTS = 10, MOST_NUMBERS = 8, MOST_LENS = 4, MOST_FIELDS = 32, MOST_THREADS = 64 };
-enum { HAS_LENS = 1, WRITES = 2, WALKS = 4, WRITES_ASIDE = 8 };
+enum { HAS_LENS = 1, WRITES = 2, WALKS = 4, WRITES_ASIDE = 8, CARRIES = 16, HAS_CRLS = 32 };
 
 /* statuses are from -2 to 8 */
 #define ANSWERS(status) (1u << ((status) + 2))
@@ -38,9 +38,11 @@ typedef struct {
     octets in[MOST_INPUTS];
     uint64_t number[MOST_NUMBERS];
     const size_t *lens;
+    const x509_signed_crl *crls;
     size_t count;
     uint8_t *out;
     size_t room, *written, *at;
+    x509_span *issuer;
     void *found;
 } arguments;
 
@@ -156,7 +158,7 @@ static void put(pool *to, size_t number)
 }
 
 /* Which pool an input is of: that of what the call with one input accepts, or `found:` and the call whose first span it is, or `kind:` and the type of rows,
- * or `paths`, certificates that are a path under themselves, `constraints` and `policies`, NameConstraints, CertificatePolicies and no bytes, or `settings` of a path. For a call with one input it is its own. */
+ * or `paths`, certificates that are a path under themselves, `constraints` and `policies`, NameConstraints, CertificatePolicies and no bytes, or `settings` of a path or of CRLs. For a call with one input it is its own. */
 typedef struct {
     const char *call, *input, *pool;
 } source;
@@ -170,10 +172,14 @@ static const source SOURCES[] = {
     {NULL, "name_constraints", "constraints"},
     {NULL, "policies", "policies"},
     {NULL, "settings", "settings"},
+    {NULL, "certificate", "x509_certificate_check"},
+    {"x509_revocation_status", "in", "x509_crl_check"},
     {"x509_certificate_extension", "in", "x509_certificate_check"},
     {"x509_certificate_extension", "oid", "found:x509_extensions_next"},
     {"x509_crl_lookup", "in", "x509_crl_check"},
     {"x509_crl_lookup", "serial_number", "found:x509_crl_entry_next"},
+    {"x509_crl_entry_find", "value", "x509_crl_entry_next"},
+    {"x509_crl_entry_find", "serial_number", "found:x509_crl_entry_next"},
     {"x509_request_attribute_find", "in", "x509_request_check"},
     {"x509_request_attribute_find", "oid", "found:x509_request_attribute_next"},
     {"x509_name_find", "oid", "found:x509_relative_name_next"},
@@ -244,13 +250,14 @@ static uint8_t *place(arena it, size_t len, int is_front)
 }
 
 typedef struct {
-    arena in[MOST_INPUTS], out, found;
+    arena in[MOST_INPUTS], out, found, given;
     octets kept[MOST_INPUTS]; /* the inputs once more */
     uint8_t copies[MOST_INPUTS][ARENA];
     uint64_t state, digest;
     long asked, failures;
     long accepted[CALL_COUNT], refused[CALL_COUNT];
     size_t lens[MOST_LENS];
+    x509_signed_crl crls[MOST_LENS];
     const call *now;
 } asker;
 
@@ -280,6 +287,7 @@ static x509_status ask(asker *by, const arguments *with)
         memset(with->found, 0xa5, now->found_size);
         memset(before, 0xa5, now->found_size);
     }
+    const x509_span carried = with->issuer == NULL ? (x509_span){0, 0} : *with->issuer;
     const x509_status status = now->ask(with);
     by->asked++;
     by->digest = digest_of(by->digest, &status, sizeof status);
@@ -290,6 +298,12 @@ static x509_status ask(asker *by, const arguments *with)
     for (int input = 0; input < now->input_count; input++)
         if (with->in[input].len > 0 && memcmp(with->in[input].bytes, by->kept[input].bytes, with->in[input].len) != 0)
             wrong(by, "an input has changed", with, status);
+    if (now->flags & CARRIES) {
+        by->digest = digest_of(by->digest, with->issuer, sizeof *with->issuer);
+        if (status != X509_OK ? memcmp(with->issuer, &carried, sizeof carried) != 0
+                              : with->issuer->place > with->in[0].len || with->issuer->len > with->in[0].len - with->issuer->place)
+            wrong(by, "what a walk carries has changed, or lies outside of the input", with, status);
+    }
     for (int at = 0; status == X509_OK && at < now->field_count; at++) {
         const uint8_t *found = (const uint8_t *)with->found + now->fields[at].at;
         by->digest = digest_of(by->digest, found, now->fields[at].size);
@@ -347,7 +361,9 @@ static x509_status ask_walk(asker *by, arguments *with)
     const size_t len = with->in[0].len;
     size_t at = 0, steps = 0;
     x509_status first = X509_OK, status = X509_OK;
+    x509_span issuer = {0, 0};
     with->at = &at;
+    with->issuer = &issuer;
     for (; status == X509_OK; steps++) {
         const size_t last = at;
         status = ask(by, with);
@@ -363,6 +379,7 @@ static x509_status ask_walk(asker *by, arguments *with)
     const uint64_t where = below(&by->state, 8);
     const size_t start = where == 0 ? SIZE_MAX - (size_t)below(&by->state, 4) : (size_t)below(&by->state, len + 3);
     at = start;
+    issuer = (x509_span){0, 0};
     status = ask(by, with);
     if (status == X509_OK ? at <= start || at > len : at != start)
         wrong(by, "a step from anywhere that doesn't move on", with, status);
@@ -382,6 +399,14 @@ static x509_status ask_any(asker *by, arguments *with, int is_front)
         with->out = place(by->out, with->room, is_front);
     }
     const x509_status status = ask(by, with);
+    if (status == X509_OK && (by->now->flags & HAS_CRLS)) {
+        x509_revocation_answer told;
+        memcpy(&told, with->found, sizeof told);
+        const int is_revoked = told.status == X509_REVOKED;
+        if (told.status > X509_REVOKED || (is_revoked ? told.crl >= with->count || with->crls[told.crl].verified != 1 : told.crl != 0 || told.date != 0) ||
+            told.reason > (is_revoked ? 10 : 0) || (told.status == X509_UNDETERMINED) != (told.reasons != 0))
+            wrong(by, "a status that is none", with, status);
+    }
     if (status == X509_FAULT) {
         x509_path_fault fault;
         memcpy(&fault, with->found, sizeof fault);
@@ -508,6 +533,42 @@ static void take_moment(asker *by, int path)
     copy_in(by, input, (const uint8_t *)&settings, sizeof settings);
 }
 
+/* One or two CRLs, each with its issuer and the key of a certificate behind it, in the one input; the moment is mostly that of the first's issue, and the certificate often one of
+ * its issuer. Now and then a part lies elsewhere, or a CRL isn't verified. */
+static void take_crls(asker *by, arguments *with)
+{
+    const int in = input_of(by->now, "in"), settings = input_of(by->now, "settings");
+    const base *key = one_of(by, "x509_key_view");
+    size_t len = 0;
+    with->count = (size_t)below(&by->state, 3);
+    for (size_t at = 0; at < with->count; at++) {
+        const base *list = one_of(by, "x509_crl_check");
+        x509_crl view;
+        if (x509_crl_view(list->bytes, list->len, &view) != X509_OK)
+            stop("no CRL");
+        memcpy(by->copies[in] + len, list->bytes, list->len);
+        memcpy(by->copies[in] + len + list->len, key->bytes, key->len);
+        by->crls[at] = (x509_signed_crl){{len, list->len}, {len + view.issuer.place, view.issuer.len}, {len + list->len, key->len}, below(&by->state, 8) != 0};
+        len += list->len + key->len;
+        if (at == 0 && below(&by->state, 8) != 0) {
+            const x509_revocation_settings asked = {view.this_update, below(&by->state, 2)};
+            copy_in(by, settings, (const uint8_t *)&asked, sizeof asked);
+        }
+        if (below(&by->state, 16) == 0) {
+            x509_span *part = (x509_span *[]){&by->crls[at].crl, &by->crls[at].name, &by->crls[at].key}[below(&by->state, 3)];
+            *part = (x509_span){below(&by->state, 2) == 0 ? SIZE_MAX - (size_t)below(&by->state, 4) : (size_t)below(&by->state, len + 3), (size_t)below(&by->state, len + 3)};
+        }
+        if (below(&by->state, 16) == 0)
+            by->crls[at].verified = below(&by->state, 2) == 0 ? 2 : UINT32_MAX;
+    }
+    by->kept[in] = (octets){by->copies[in], len};
+    /* behind what can't be touched, as the other inputs */
+    const size_t size = with->count * sizeof *by->crls;
+    x509_signed_crl *given = (x509_signed_crl *)(void *)place(by->given, size, 0);
+    memcpy(given, by->crls, size);
+    with->crls = with->count == 0 && below(&by->state, 2) == 0 ? NULL : given;
+}
+
 /* Good inputs: of x509_reencode a row and the name of its type; of a path one or two certificates. */
 static void take_inputs(asker *by, arguments *with)
 {
@@ -524,6 +585,8 @@ static void take_inputs(asker *by, arguments *with)
         if (it != NULL && strcmp(of, "kind:row") == 0)
             copy_in(by, 0, (const uint8_t *)it->kind, strlen(it->kind));
     }
+    if (now->flags & HAS_CRLS)
+        take_crls(by, with);
     if (now->flags & HAS_LENS) {
         const int path = input_of(now, "path");
         const base *second = one_of(by, "x509_certificate_check");
@@ -636,6 +699,8 @@ static int keep_found(const call *of, const base *it, size_t enough)
     with.written = &written;
     with.at = &at;
     with.found = found;
+    x509_span issuer = {0, 0};
+    with.issuer = &issuer;
     int is_accepted = 0;
     for (size_t last = 0; of->ask(&with) == X509_OK; last = at) {
         if (is_accepted && at <= last)
@@ -795,6 +860,7 @@ static asker *new_asker(void)
         made->in[input] = new_arena();
     made->out = new_arena();
     made->found = new_arena();
+    made->given = new_arena();
     return made;
 }
 

@@ -80,13 +80,13 @@ class Alone(unittest.TestCase):
         self.assertEqual((ended.stdout, ended.stderr), ("[]\n", ""))
 
     def test_the_library_by_its_folder(self) -> None:
-        """X509_LIBRARY names the file or its folder, and nothing else."""
+        """X509_LIBRARY names the file, its folder, or a static library beside it, and nothing else."""
         library = os.environ.get("X509_LIBRARY")
         if not library:
             self.skipTest("the system finds the library")
         file = pathlib.Path(library) / "libx509.so" if pathlib.Path(library).is_dir() else pathlib.Path(library)
         asked = "import x509_cert; print(x509_cert.library_version())"
-        for named, status in ((file, 0), (file.parent, 0), (TOP / "none.so", 1)):
+        for named, status in ((file, 0), (file.parent, 0), (file.parent / "libx509.a", 0), (TOP / "none.so", 1), (TOP / "none.a", 1)):
             if status == 0 and file.name != "libx509.so" and named != file:
                 continue
             ended = subprocess.run([sys.executable, "-B", "-c", asked], env=os.environ | {"X509_LIBRARY": str(named)}, capture_output=True, text=True)

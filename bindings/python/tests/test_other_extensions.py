@@ -117,6 +117,31 @@ class Extensions(unittest.TestCase):
             their = [theirs.DirectoryName(theirs.Name.from_rfc4514_string("CN=a")), theirs.DNSName("a")]
             self.assertEqual(made.public_bytes(), theirs.CertificateIssuer(their).public_bytes())
 
+    def test_issued_entries(self) -> None:
+        """The entries 5, 6 and 7 of a CRL of CN=a by hand (RFC 5280 5.3.3), of which 6 names the issuer with the DNS name a; and a CRL of v1 without a list."""
+        front, behind = "020101300306012a300c310a300806035504030c0161170d" + b"700101000001Z".hex(), "300306012a030204f0"
+        date = "170d" + b"260101000000Z".hex()
+        issuer = "3011300f0603551d1d0101ff04053003820161"
+        entries = f"304f3012020105{date}3025020106{date}{issuer}3012020107{date}"
+        crl = ours.load_der_x509_crl(hexed(f"3081813076{front}{entries}{behind}"))
+        issued = list(crl.issued_entries())
+        self.assertEqual([(it.serial_number, names) for it, names in issued], [(5, None), (6, ours.CertificateIssuer([ours.DNSName("a")])), (7, issued[1][1])])
+        self.assertEqual([it.revocation_date_utc.year for it, _ in issued], [2026] * 3)
+        for number in (5, 6, 7):
+            found = crl.get_revoked_certificate_by_serial_number(number)
+            assert found is not None
+            self.assertEqual((found.serial_number, len(list(found.extensions))), (number, int(number == 6)))
+        self.assertIsNone(crl.get_revoked_certificate_by_serial_number(8))
+        # twice in one entry (5.3): the entry is refused, and those in front of it aren't
+        twice = "3022" + issuer[4:] * 2
+        crl = ours.load_der_x509_crl(hexed(f"307e3073{front}304c3012020105{date}3036020106{date}{twice}{behind}"))
+        walk = crl.issued_entries()
+        self.assertEqual(next(walk)[0].serial_number, 5)
+        with self.assertRaises(ours.X509Error):
+            next(walk)
+        empty = ours.load_der_x509_crl(hexed(f"302d3022{front[6:]}{behind}"))
+        self.assertEqual((list(empty.issued_entries()), empty.get_revoked_certificate_by_serial_number(5)), ([], None))
+
     def test_directory_attributes(self) -> None:
         # RFC 3739 3.2.2: the country of citizenship DE, and the gender M
         citizenship, gender = ours.ObjectIdentifier("1.3.6.1.5.5.7.9.4"), ours.ObjectIdentifier("1.3.6.1.5.5.7.9.3")

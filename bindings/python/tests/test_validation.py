@@ -67,6 +67,24 @@ def authority(*extensions: ours.ExtensionType) -> ours.Certificate:
     return made("CN=Root", "O=CA,C=DE", OTHER_KEY, CA, *extensions)
 
 
+def root(*extensions: ours.ExtensionType) -> ours.Certificate:
+    return made("CN=Root", "CN=Root", KEY, CA, *extensions)
+
+
+def element(tag: int, *parts: bytes) -> bytes:
+    content = b"".join(parts)
+    octets = b"" if len(content) < 128 else len(content).to_bytes(1 if len(content) < 256 else 2, "big")
+    return bytes([tag, 0x80 | len(octets) if octets else len(content)]) + octets + content
+
+
+def description(certificate: ours.Certificate | None = None, policies: ours.CertificatePolicies | None = None, flags: bytes = b"") -> ours.TrustAnchor:
+    """A TrustAnchorInfo of the root (RFC 5914 2), with a certificate, policies and flags in its controls, the latter whole."""
+    own = b"" if certificate is None else b"\xa0" + certificate.public_bytes()[1:]
+    allowed = b"" if policies is None else b"\xa1" + policies.data[1:]
+    controls = element(0x30, name("CN=Root").public_bytes(), own, allowed, flags)
+    return ours.TrustAnchor(element(0xA2, element(0x30, KEY, element(0x04, b"\1"), controls)))
+
+
 def server(host: str) -> ours.Certificate:
     return made("O=ca,C=DE", "CN=S", KEY, ours.SubjectAlternativeName([ours.DNSName(host)]))
 
@@ -163,6 +181,80 @@ class Validation(unittest.TestCase):
         self.assertEqual(self.fault((name("CN=Other"), KEY), [leaf], NOW, accepts), (0, ISSUER))
         with self.assertRaises(ours.X509Error):
             ours.validate_path((name("CN=ROOT"), b"\x30\x00"), [leaf], NOW, accepts)
+
+    # paths that are valid under POLICIES[0], under no policy, under POLICIES[0] by a mapping, and under POLICIES[2] by any-policy
+    ONE = [authority(under(*POLICIES[:2])), made("O=CA,C=DE", "CN=S", KEY, under(POLICIES[0]))]
+    NONE = [ONE[0], made("O=CA,C=DE", "CN=S", KEY, under(POLICIES[2]))]
+    MAPPED = [authority(under(*POLICIES[:2]), ours.PolicyMappings([(POLICIES[0], POLICIES[2])])), NONE[1]]
+    ANY = [authority(under(ours.CertificatePoliciesOID.ANY_POLICY)), NONE[1]]
+
+    def test_policies_of_an_anchor(self) -> None:
+        # RFC 5937 3.2: the policies that both have, where any-policy stands for each; a flag that one of them sets
+        explicit: dict[str, Any] = {"require_explicit_policy": True}
+        rows: list[tuple[tuple[ours.ExtensionType, ...], list[ours.Certificate], dict[str, Any], list[int] | tuple[int, int]]] = [
+            ((under(POLICIES[0]),), self.ONE, explicit, [0]),
+            ((under(POLICIES[1]),), self.ONE, {}, []),
+            ((under(POLICIES[1]),), self.ONE, explicit, (1, POLICY)),
+            ((under(*POLICIES),), self.ONE, explicit | {"policies": POLICIES[:1]}, [0]),
+            ((under(POLICIES[0]),), self.ONE, explicit | {"policies": POLICIES[1:]}, (1, POLICY)),
+            ((under(ours.CertificatePoliciesOID.ANY_POLICY),), self.ONE, explicit | {"policies": POLICIES[:1]}, [0]),
+            ((ours.InhibitAnyPolicy(0),), self.ANY, {}, []),
+            ((ours.InhibitAnyPolicy(0),), self.ANY, explicit, (0, POLICY)),
+            ((ours.PolicyConstraints(0, None),), self.MAPPED, {}, [0]),
+            ((ours.PolicyConstraints(0, None),), self.NONE, {}, (1, POLICY)),
+            ((ours.PolicyConstraints(None, 0),), self.NONE, {}, []),
+            ((ours.PolicyConstraints(None, 0),), self.MAPPED, explicit, (1, POLICY)),
+            # whatever the number
+            ((ours.PolicyConstraints(5, None),), self.NONE, {}, (1, POLICY)),
+            ((ours.PolicyConstraints(None, 5),), self.MAPPED, explicit, (1, POLICY)),
+            ((ours.InhibitAnyPolicy(5),), self.ANY, explicit, (0, POLICY)),
+        ]
+        for extensions, path, words, wanted in rows:
+            certificate = root(*extensions)
+            for anchor in (certificate, ours.TrustAnchor(certificate.public_bytes()), description(certificate)):
+                with self.subTest(extensions=extensions, path=path, words=words, anchor=anchor):
+                    self.told(anchor, path, words, wanted)
+
+    def told(self, anchor: Any, path: list[ours.Certificate], words: dict[str, Any], wanted: list[int] | tuple[int, int]) -> None:
+        if isinstance(wanted, tuple):
+            self.assertEqual(self.fault(anchor, path, NOW, accepts, **words), wanted)
+        else:
+            self.assertEqual(ours.validate_path(anchor, path, NOW, accepts, **words).policies, tuple(POLICIES[it] for it in wanted))
+
+    def test_policies_of_a_description(self) -> None:
+        # the named bits 0 to 2 (RFC 5914 2.5), in DER without the zeros behind them
+        mapping, explicit, any_policy = (bytes.fromhex(it) for it in ("82020780", "82020640", "82020520"))
+        asked = {"require_explicit_policy": True}
+        rows: list[tuple[ours.TrustAnchor, list[ours.Certificate], dict[str, Any], list[int] | tuple[int, int]]] = [
+            (description(), self.ONE, asked, [0]),
+            (description(policies=under(POLICIES[0])), self.ONE, asked, [0]),
+            (description(policies=under(POLICIES[1])), self.ONE, {}, []),
+            (description(policies=under(POLICIES[1])), self.ONE, asked, (1, POLICY)),
+            (description(flags=explicit), self.NONE, {}, (1, POLICY)),
+            (description(flags=mapping), self.NONE, {}, []),
+            (description(flags=mapping), self.MAPPED, asked, (1, POLICY)),
+            (description(flags=any_policy), self.ANY, asked, (0, POLICY)),
+            (description(flags=any_policy), self.MAPPED, asked, [0]),
+            (description(policies=under(POLICIES[1]), flags=explicit), self.ONE, {}, (1, POLICY)),
+            # what the controls have is in the place of what the certificate says, and the flags are one field
+            (description(root(under(POLICIES[1])), under(POLICIES[0])), self.ONE, asked, [0]),
+            (description(root(under(POLICIES[0])), under(POLICIES[1])), self.ONE, asked, (1, POLICY)),
+            (description(root(under(POLICIES[1])), flags=explicit), self.ONE, {}, (1, POLICY)),
+            (description(root(ours.PolicyConstraints(0, None)), under(*POLICIES)), self.NONE, {}, (1, POLICY)),
+            (description(root(ours.PolicyConstraints(0, None)), flags=mapping), self.NONE, {}, []),
+        ]
+        for anchor, path, words, wanted in rows:
+            with self.subTest(anchor=anchor.public_bytes(), path=path, words=words):
+                self.told(anchor, path, words, wanted)
+
+    def test_policies_of_an_anchor_that_cannot_be_read(self) -> None:
+        identifiers = ours.ExtensionOID.CERTIFICATE_POLICIES, ours.ExtensionOID.POLICY_CONSTRAINTS, ours.ExtensionOID.INHIBIT_ANY_POLICY
+        for oid in identifiers:
+            certificate = root(ours.UnrecognizedExtension(oid, b"\x05\x00"))
+            anchors: list[Any] = [certificate, ours.TrustAnchor(certificate.public_bytes()), description(certificate)]
+            for anchor in anchors:
+                with self.subTest(oid=oid, anchor=anchor), self.assertRaises(ours.X509Error):
+                    ours.validate_path(anchor, self.ONE, NOW, accepts)
 
     def test_each_signature_is_for_the_key_above(self) -> None:
         path = [AUTHORITY, server("www.example.org")]

@@ -1,14 +1,29 @@
-//! Prints what certificates say, a line a fact, for a program that compares it: octets in hex, moments in seconds since 1970-01-01T00:00:00Z, and
-//! `refused` where the octets of an extension are no value of its type. A value of an extension that is written otherwise than it was read is told.
+//! Says all that certificates have: their fields, their key, their signature, and what each extension holds. `examples/c/facts.c` and `examples/python/facts.py` say
+//! the same.
 //!
-//! usage: facts FILE.., each the DER of a certificate
-use std::error::Error as StdError;
+//! usage: facts CERTIFICATE.., each a file of DER
 use std::fmt::Write;
-use std::time::{SystemTime, UNIX_EPOCH};
+use std::net::IpAddr;
 use x509_rattle::extension::*;
-use x509_rattle::{oid, CertificateRef, Error, GeneralName, NameRef, ObjectIdentifier, PublicKey};
+use x509_rattle::{
+    time_text, CertificateRef, Error, GeneralName, KeyKind, NameRef, PublicKey, UniqueIdentifier,
+};
 
-type Told = Result<String, Error>;
+type Told = Result<Vec<String>, Error>;
+
+/// A text of a certificate, in which no character ends the line or turns its order round.
+fn visible(text: &str) -> String {
+    let told = text.chars().map(|it| match it {
+        '\0'..='\x1f' | '\x7f'..='\u{9f}' | '\u{61c}' | '\u{200e}' | '\u{200f}' => escaped(it),
+        '\u{2028}'..='\u{202e}' | '\u{2066}'..='\u{2069}' => escaped(it),
+        _ => it.to_string(),
+    });
+    told.collect()
+}
+
+fn escaped(it: char) -> String {
+    format!("\\u{{{:x}}}", u32::from(it))
+}
 
 fn hex(octets: &[u8]) -> String {
     octets.iter().fold(String::new(), |mut text, octet| {
@@ -18,177 +33,316 @@ fn hex(octets: &[u8]) -> String {
     })
 }
 
-fn joined<T>(members: impl IntoIterator<Item = T>, tell: impl Fn(T) -> String) -> String {
-    members.into_iter().map(tell).collect::<Vec<_>>().join(" ")
+/// A number, or what stands for none.
+fn limit<T: ToString>(number: Option<T>) -> String {
+    number.map_or_else(|| "none".to_owned(), |it| it.to_string())
 }
 
-fn seconds(moment: SystemTime) -> Result<u64, Box<dyn StdError>> {
-    Ok(moment.duration_since(UNIX_EPOCH)?.as_secs())
-}
-
-fn name(it: NameRef) -> Told {
-    let attributes: Vec<_> = it.attributes().collect::<Result<_, _>>()?;
-    Ok(joined(attributes, |it| {
-        let text = it.text().map(|text| hex(text.as_bytes()));
-        format!("{}:{}", it.oid, text.unwrap_or_else(|| "none".to_owned()))
-    }))
-}
-
-fn general_name(it: &GeneralName) -> String {
-    match it {
-        GeneralName::DnsName(text) => format!("DNSName:{}", hex(text.as_bytes())),
-        GeneralName::Rfc822Name(text) => format!("RFC822Name:{}", hex(text.as_bytes())),
-        GeneralName::UniformResourceIdentifier(text) => {
-            format!("UniformResourceIdentifier:{}", hex(text.as_bytes()))
-        }
-        GeneralName::IpAddress(octets) => format!("IPAddress:{}", hex(octets)),
-        GeneralName::DirectoryName(name) => format!("DirectoryName:{}", hex(name.as_der())),
-        GeneralName::RegisteredId(oid) => format!("RegisteredID:{oid}"),
-        GeneralName::OtherName { type_id, value } => format!("OtherName:{type_id}:{}", hex(value)),
-        _ => "EDIPartyName".to_owned(),
+fn name(what: &str, name: NameRef<'_>) -> Told {
+    let mut told = vec![format!("{what}: {}", visible(&name.to_rfc4514()?))];
+    for attribute in name.attributes() {
+        let attribute = attribute?;
+        let text = match attribute.text() {
+            Some(text) => visible(&text),
+            None => format!("#{}", hex(attribute.value)),
+        };
+        told.push(format!("  {}: {text}", attribute.oid));
     }
+    Ok(told)
 }
 
-/// What is told of a value, and `written otherwise` where its DER isn't what it was read from, or `not written` where RFC 5280 allows no such value.
-fn told<'a, T: ExtensionValue<'a> + ToExtension>(
-    value: &'a [u8],
-    tell: impl FnOnce(&T) -> String,
-) -> Told {
-    let read = T::from_der(value)?;
-    let behind = match read.to_der() {
-        Ok(written) if written == value => "",
-        Ok(_) => " written otherwise",
-        Err(Error::Value) => " not written",
-        Err(error) => return Err(error),
+fn unique_id(what: &str, found: Option<UniqueIdentifier<'_>>) -> Vec<String> {
+    let tell = |it: UniqueIdentifier<'_>| {
+        format!("{what}: {}, {} bits unused", hex(it.bits), it.unused_bits)
     };
-    Ok(tell(&read) + behind)
+    found.map(tell).into_iter().collect()
 }
 
-/// Of the types that aren't compared any further.
-fn kept<'a, T: ExtensionValue<'a> + ToExtension>(value: &'a [u8]) -> Told {
-    told::<T>(value, |_| "read".to_owned())
-}
-
-fn of_keys(id: ObjectIdentifier, value: &[u8]) -> Option<Told> {
-    use oid::extension::*;
-    Some(match id {
-        _ if id == KEY_USAGE => told::<KeyUsage>(value, |it| joined(it.names(), str::to_owned)),
-        _ if id == EXTENDED_KEY_USAGE => {
-            told::<ExtendedKeyUsage>(value, |it| joined(&it.0, ObjectIdentifier::to_string))
-        }
-        _ if id == BASIC_CONSTRAINTS => told::<BasicConstraints>(value, |it| {
-            let limit = it.path_len_constraint.map(|it| it.to_string());
-            format!("{} {}", it.ca, limit.as_deref().unwrap_or("none"))
-        }),
-        _ if id == SUBJECT_KEY_IDENTIFIER => told::<SubjectKeyIdentifier>(value, |it| hex(it.0)),
-        _ if id == AUTHORITY_KEY_IDENTIFIER => told::<AuthorityKeyIdentifier>(value, |it| {
-            let serial = it.authority_cert_serial_number;
-            let parts = [it.key_identifier, serial.as_ref().map(|it| it.as_bytes())];
-            let parts = joined(parts, |it| it.map_or_else(|| "none".to_owned(), hex));
-            let issuer = it.authority_cert_issuer.iter().flatten();
-            parts + " " + &joined(issuer, general_name)
-        }),
-        _ => return None,
-    })
-}
-
-fn of_others(id: ObjectIdentifier, value: &[u8]) -> Option<Told> {
-    use oid::extension::*;
-    Some(match id {
-        _ if id == SUBJECT_ALT_NAME => {
-            told::<SubjectAltName>(value, |it| joined(&it.0, general_name))
-        }
-        _ if id == ISSUER_ALT_NAME => {
-            told::<IssuerAltName>(value, |it| joined(&it.0, general_name))
-        }
-        _ if id == AUTHORITY_INFO_ACCESS => told::<AuthorityInfoAccess>(value, |it| {
-            joined(&it.0, |it| {
-                format!("{}:{}", it.access_method, general_name(&it.access_location))
-            })
-        }),
-        _ if id == CERTIFICATE_POLICIES => {
-            told::<CertificatePolicies>(value, |it| joined(&it.0, policy))
-        }
-        _ if id == CRL_DISTRIBUTION_POINTS => kept::<CrlDistributionPoints>(value),
-        _ if id == NAME_CONSTRAINTS => kept::<NameConstraints>(value),
-        _ if id == POLICY_CONSTRAINTS => kept::<PolicyConstraints>(value),
-        _ if id == POLICY_MAPPINGS => kept::<PolicyMappings>(value),
-        _ if id == INHIBIT_ANY_POLICY => kept::<InhibitAnyPolicy>(value),
-        _ => return None,
-    })
-}
-
-/// The size of a key, and its numbers or its curve and its point.
-fn parts(key: &PublicKey<'_>) -> Told {
-    let size = key
-        .size()?
-        .map_or_else(|| "none".to_owned(), |it| it.to_string());
-    if let Some(numbers) = key.rsa()? {
-        let numbers = [numbers.modulus, numbers.public_exponent];
-        return Ok(size + " " + &joined(numbers, |it| hex(it.as_bytes())));
+/// The size of a key isn't said where its numbers can't be read, or its curve isn't one of NIST's.
+fn key(key: &PublicKey<'_>) -> Told {
+    let size = match key.size() {
+        Err(Error::Memory) => return Err(Error::Memory),
+        size => size.ok().flatten(),
+    };
+    let mut told = vec![format!("key: {}, {} bits", key.oid, limit(size))];
+    if let Ok(Some(numbers)) = key.rsa() {
+        told.push(format!("modulus: {}", numbers.modulus));
+        told.push(format!("exponent: {}", numbers.public_exponent));
     }
-    Ok(match (key.curve()?, key.point()) {
-        (Some(curve), Some(point)) => format!("{size} {curve} {}", hex(point)),
-        _ => "other".to_owned(),
+    if let Some(curve) = key.curve()? {
+        told.push(format!("curve: {curve}"));
+    }
+    match (key.kind, key.point()) {
+        (KeyKind::Rsa | KeyKind::RsaPss, _) => {}
+        (_, Some(point)) => told.push(format!("point: {}", hex(point))),
+        (_, None) => told.push(format!("bits: {}", hex(key.bits))),
+    }
+    Ok(told)
+}
+
+fn general_name(it: &GeneralName<'_>) -> Result<String, Error> {
+    Ok(match it {
+        GeneralName::OtherName { type_id, value } => format!("other {type_id} {}", hex(value)),
+        GeneralName::Rfc822Name(text) => format!("email {}", visible(text)),
+        GeneralName::DnsName(text) => format!("dns {}", visible(text)),
+        GeneralName::DirectoryName(name) => format!("name {}", visible(&name.to_rfc4514()?)),
+        GeneralName::UniformResourceIdentifier(text) => format!("uri {}", visible(text)),
+        GeneralName::IpAddress(octets) => match it.ip_addr() {
+            Some(IpAddr::V4(address)) => format!("ip {address}"),
+            _ => format!("ip {}", hex(octets)),
+        },
+        GeneralName::RegisteredId(oid) => format!("id {oid}"),
+        GeneralName::EdiPartyName(fields) => match it.edi_party_name() {
+            Err(Error::Memory) => return Err(Error::Memory),
+            Ok(Some(parts)) => {
+                let assigner = parts.name_assigner.as_deref().map(visible);
+                format!("edi {} of {}", visible(&parts.party_name), limit(assigner))
+            }
+            _ => format!("edi {}", hex(fields)),
+        },
+        _ => "a name of another kind".to_owned(),
     })
 }
 
-fn policy(it: &PolicyInformation<'_>) -> String {
-    let qualifiers = it.policy_qualifiers.iter().flatten();
-    let told = qualifiers.map(|it| " ".to_owned() + &qualifier(it));
-    it.policy_identifier.to_string() + &told.collect::<String>()
+fn names<'a>(what: &str, list: impl IntoIterator<Item = &'a GeneralName<'a>>) -> Told {
+    let tell = |it| Ok(format!("{what}{}", general_name(it)?));
+    list.into_iter().map(tell).collect()
 }
 
-fn qualifier(it: &PolicyQualifierInfo<'_>) -> String {
+fn authority_key(it: &AuthorityKeyIdentifier<'_>) -> Told {
+    let mut told: Vec<_> = it
+        .key_identifier
+        .iter()
+        .map(|it| format!("key {}", hex(it)))
+        .collect();
+    told.extend(names("issuer ", it.authority_cert_issuer.iter().flatten())?);
+    let serial = it.authority_cert_serial_number;
+    told.extend(serial.map(|it| format!("serial number {it}")));
+    Ok(told)
+}
+
+fn access(list: &[AccessDescription<'_>]) -> Told {
+    let tell = |it: &AccessDescription<'_>| {
+        Ok(format!(
+            "{} {}",
+            it.access_method,
+            general_name(&it.access_location)?
+        ))
+    };
+    list.iter().map(tell).collect()
+}
+
+fn points(list: &[DistributionPoint<'_>]) -> Told {
+    let mut told = Vec::new();
+    for point in list {
+        told.push("point".to_owned());
+        match &point.distribution_point {
+            Some(DistributionPointName::FullName(list)) => told.extend(names("at ", list)?),
+            Some(DistributionPointName::NameRelativeToCrlIssuer(rdn)) => {
+                for attribute in rdn.attributes() {
+                    let attribute = attribute?;
+                    told.push(format!("at {} {}", attribute.oid, hex(attribute.value)));
+                }
+            }
+            None => {}
+        }
+        if let Some(reasons) = point.reasons {
+            told.push(format!(
+                "for {}",
+                reasons.names().collect::<Vec<_>>().join(" ")
+            ));
+        }
+        told.extend(names("issued by ", point.crl_issuer.iter().flatten())?);
+    }
+    Ok(told)
+}
+
+fn qualifier(it: &PolicyQualifierInfo<'_>) -> Told {
     match (it.cps_uri(), it.user_notice()) {
-        (Ok(Some(uri)), _) => format!("cps:{}", hex(uri.as_bytes())),
+        (Err(Error::Memory), _) | (_, Err(Error::Memory)) => Err(Error::Memory),
+        (Ok(Some(uri)), _) => Ok(vec![format!("practice statement {}", visible(uri))]),
         (_, Ok(Some(notice))) => {
-            let reference = notice.notice_ref.iter().flat_map(|it| {
-                let numbers = it.notice_numbers.iter().map(|it| hex(it.as_bytes()));
-                std::iter::once(hex(it.organization.as_bytes())).chain(numbers)
-            });
-            let reference: Vec<_> = reference.collect();
-            let text = notice.explicit_text.map(|it| hex(it.as_bytes()));
-            format!(
-                "notice:{}:{}",
-                reference.join(","),
-                text.as_deref().unwrap_or("none")
-            )
+            let mut told = Vec::new();
+            if let Some(reference) = notice.notice_ref {
+                let numbers = reference.notice_numbers.iter().map(|it| format!(" {it}"));
+                let numbers: String = numbers.collect();
+                told.push(format!(
+                    "notices of {}:{numbers}",
+                    visible(&reference.organization)
+                ));
+            }
+            told.extend(
+                notice
+                    .explicit_text
+                    .map(|it| format!("notice {}", visible(&it))),
+            );
+            Ok(told)
         }
-        _ => "unread".to_owned(),
+        _ => {
+            let octets = it.qualifier.map(hex);
+            Ok(vec![format!(
+                "{} {}",
+                it.policy_qualifier_id,
+                limit(octets)
+            )])
+        }
     }
 }
 
-fn print(file: &str) -> Result<(), Box<dyn StdError>> {
-    let der = std::fs::read(file)?;
-    let it = CertificateRef::from_der(&der)?;
-    println!("certificate {file}");
-    println!("version {}", it.version() as u8 + 1);
-    println!("serial {}", hex(it.serial_number().as_bytes()));
+fn policies(list: &[PolicyInformation<'_>]) -> Told {
+    let mut told = Vec::new();
+    for policy in list {
+        told.push(format!("policy {}", policy.policy_identifier));
+        for it in policy.policy_qualifiers.iter().flatten() {
+            told.extend(qualifier(it)?);
+        }
+    }
+    Ok(told)
+}
+
+fn trees(it: &NameConstraints<'_>) -> Told {
+    let permitted = it.permitted_subtrees.iter().flatten().map(|it| &it.base);
+    let excluded = it.excluded_subtrees.iter().flatten().map(|it| &it.base);
+    let mut told = names("permits ", permitted)?;
+    told.extend(names("excludes ", excluded)?);
+    Ok(told)
+}
+
+/// The timestamps of version 1, whose octets begin with a 0.
+fn timestamps(list: &[&[u8]]) -> Told {
+    let known = list.iter().filter(|octets| octets.first() == Some(&0));
+    let tell = |octets: &&[u8]| {
+        let it = SignedCertificateTimestamp::from_bytes(octets)?;
+        Ok(format!("log {} at {}", hex(it.log_id), it.milliseconds))
+    };
+    known.map(tell).collect()
+}
+
+fn attributes(list: &[DirectoryAttribute<'_>]) -> Vec<String> {
+    let tell = |it: &DirectoryAttribute<'_>| {
+        let values: String = it
+            .values
+            .iter()
+            .map(|value| format!(" {}", hex(value)))
+            .collect();
+        format!("{}:{values}", it.oid)
+    };
+    list.iter().map(tell).collect()
+}
+
+/// What an extension holds, a line for each thing.
+fn held(extension: &Extension<'_>) -> Told {
+    use ParsedExtension as Parsed;
+    Ok(match extension.parsed()? {
+        Parsed::KeyUsage(it) => vec![it.names().collect::<Vec<_>>().join(" ")],
+        Parsed::BasicConstraints(it) => {
+            let limit = limit(it.path_len_constraint);
+            vec![format!("authority {}, path length {limit}", it.ca)]
+        }
+        Parsed::ExtendedKeyUsage(it) => it.0.iter().map(ToString::to_string).collect(),
+        Parsed::SubjectAltName(it) => names("", &it.0)?,
+        Parsed::IssuerAltName(it) => names("", &it.0)?,
+        Parsed::SubjectKeyIdentifier(it) => vec![hex(it.0)],
+        Parsed::AuthorityKeyIdentifier(it) => authority_key(&it)?,
+        Parsed::AuthorityInfoAccess(it) => access(&it.0)?,
+        Parsed::SubjectInfoAccess(it) => access(&it.0)?,
+        Parsed::CertificatePolicies(it) => policies(&it.0)?,
+        Parsed::PolicyMappings(it) => {
+            let tell = |it: &PolicyMapping| {
+                format!("{} {}", it.issuer_domain_policy, it.subject_domain_policy)
+            };
+            it.0.iter().map(tell).collect()
+        }
+        Parsed::PolicyConstraints(it) => {
+            let explicit = it
+                .require_explicit_policy
+                .map(|n| format!("explicit after {n}"));
+            let mapping = it
+                .inhibit_policy_mapping
+                .map(|n| format!("no mapping after {n}"));
+            explicit.into_iter().chain(mapping).collect()
+        }
+        Parsed::InhibitAnyPolicy(it) => vec![format!("after {}", it.0)],
+        Parsed::NameConstraints(it) => trees(&it)?,
+        Parsed::CrlDistributionPoints(it) => points(&it.0)?,
+        Parsed::FreshestCrl(it) => points(&it.0)?,
+        Parsed::SignedCertificateTimestamps(it) => timestamps(&it.0)?,
+        Parsed::PrivateKeyUsagePeriod(it) => {
+            let first = it
+                .not_before
+                .map(|it| Ok(format!("not before {}", time_text(it)?)));
+            let last = it
+                .not_after
+                .map(|it| Ok(format!("not after {}", time_text(it)?)));
+            first.into_iter().chain(last).collect::<Told>()?
+        }
+        Parsed::SubjectDirectoryAttributes(it) => attributes(&it.0),
+        Parsed::TlsFeature(it) => it.0.iter().map(ToString::to_string).collect(),
+        // a poison and the sign that a responder isn't checked among them, which hold a NULL
+        _ => vec![hex(extension.value())],
+    })
+}
+
+fn facts(it: CertificateRef<'_>) -> Told {
     let validity = it.validity();
-    println!("not_before {}", seconds(validity.not_before)?);
-    println!("not_after {}", seconds(validity.not_after)?);
-    println!("subject {}", name(it.subject())?);
-    println!("issuer {}", name(it.issuer())?);
-    println!("key {}", hex(it.subject_public_key_info()));
-    println!("parts {}", parts(&it.public_key()?)?);
-    println!("signature {}", hex(it.signature()?.bits));
-    println!("signed {}", it.signature()?.signed_part.len());
+    let mut told = vec![
+        format!("version: {}", it.version() as u8 + 1),
+        format!("serial number: {}", it.serial_number().hex()?),
+    ];
+    told.extend(name("issuer", it.issuer())?);
+    told.extend(name("subject", it.subject())?);
+    told.push(format!("not before: {}", time_text(validity.not_before)?));
+    told.push(format!("not after: {}", time_text(validity.not_after)?));
+    told.extend(unique_id(
+        "issuer's unique identifier",
+        it.issuer_unique_id(),
+    ));
+    told.extend(unique_id(
+        "subject's unique identifier",
+        it.subject_unique_id(),
+    ));
+    told.extend(key(&it.public_key()?)?);
+    let signature = it.signature()?;
+    let algorithm = signature.algorithm_identifier()?.oid;
+    told.push(format!(
+        "signature: {algorithm}, {} octets",
+        signature.bits.len()
+    ));
+    if it.inner_algorithm() != signature.algorithm {
+        told.push("another algorithm stands in the signed part".to_owned());
+    }
     for extension in it.extensions() {
         let extension = extension?;
-        let (id, value) = (extension.oid(), extension.value());
-        let found = of_keys(id, value).or_else(|| of_others(id, value));
-        let found = match found {
-            None => "unread".to_owned(),
-            Some(Ok(text)) => text,
-            Some(Err(Error::Malformed)) => "refused".to_owned(),
-            Some(Err(error)) => return Err(error.into()),
+        let critical = if extension.critical() {
+            ", critical"
+        } else {
+            ""
         };
-        println!("{id} {} {found}", extension.critical());
+        told.push(format!("extension {}{critical}", extension.oid()));
+        match held(&extension) {
+            Ok(lines) => told.extend(lines.iter().map(|line| format!("  {line}"))),
+            Err(Error::Memory) => return Err(Error::Memory),
+            Err(_) => told.push("  it can't be read".to_owned()),
+        }
+    }
+    Ok(told)
+}
+
+fn print(file: &str) -> Result<(), Box<dyn std::error::Error>> {
+    let der = std::fs::read(file)?;
+    for line in facts(CertificateRef::from_der(&der)?)? {
+        println!("{line}");
     }
     Ok(())
 }
 
-fn main() -> Result<(), Box<dyn StdError>> {
-    std::env::args().skip(1).try_for_each(|file| print(&file))
+fn main() -> std::process::ExitCode {
+    let mut status = std::process::ExitCode::SUCCESS;
+    for file in std::env::args().skip(1) {
+        if let Err(error) = print(&file) {
+            eprintln!("{file}: {error}");
+            status = std::process::ExitCode::FAILURE;
+        }
+    }
+    status
 }

@@ -5,7 +5,7 @@
 use crate::certificate::{Certificate, CertificateRef, Validity};
 use crate::crl::Crl;
 use crate::csr::Csr;
-use crate::error::Error;
+use crate::error::{Error, ProfilePart};
 use crate::extension::{is_crl_number, CrlReason, KeyUsage, SubjectAltName, ToExtension};
 use crate::ffi::{self, build, Members};
 use crate::general_name::GeneralName;
@@ -21,7 +21,7 @@ use std::time::SystemTime;
 /// Signs what a builder has written.
 ///
 /// ```
-/// use x509_rattle::Signer;
+/// use x509_rattle::{algorithm, Signer};
 ///
 /// /// A key of Ed25519 (RFC 8410), by the DER of its public half and a function that signs.
 /// struct Ed25519<F> {
@@ -33,7 +33,7 @@ use std::time::SystemTime;
 ///     type Error = E;
 ///
 ///     fn algorithm(&self) -> &[u8] {
-///         b"\x30\x05\x06\x03\x2b\x65\x70"
+///         algorithm::ED25519
 ///     }
 ///
 ///     fn subject_public_key_info(&self) -> &[u8] {
@@ -49,7 +49,7 @@ pub trait Signer {
     /// Why it may fail to sign.
     type Error;
 
-    /// The algorithm that it signs by: a whole AlgorithmIdentifier.
+    /// The algorithm that it signs by: a whole AlgorithmIdentifier, as those of [`algorithm`](crate::algorithm).
     fn algorithm(&self) -> &[u8];
 
     /// The key that its signatures are verified with: a whole SubjectPublicKeyInfo.
@@ -334,9 +334,9 @@ impl CertificateBuilder {
     /// whole SubjectPublicKeyInfo.
     ///
     /// # Errors
-    /// As of [`tbs_certificate`](CertificateBuilder::tbs_certificate); [`Error::Malformed`] also where the issuer's key is none, [`Error::Failed`] where a root can't
-    /// have that name, or where no name of a device is that of a hardware module; [`Error::Repeated`] where an added extension is one that the profile makes;
-    /// [`Error::NotInProfile`] where the issuer's name or key aren't a root's own, or where a server's subject has another attribute or its key no such use.
+    /// As of [`tbs_certificate`](CertificateBuilder::tbs_certificate); [`Error::Malformed`] also where the issuer's key is none; [`Error::Repeated`] where an added
+    /// extension is one that the profile makes; [`Error::NotInProfile`] where the issuer's name or key aren't a root's own, where a root can't have that name, where a
+    /// server's subject has another attribute or its key no such use, or where no name of a device is that of a hardware module.
     pub fn tbs_certificate_as(
         &self,
         profile: &CertificateProfile<'_>,
@@ -345,7 +345,7 @@ impl CertificateBuilder {
     ) -> Result<Vec<u8>, Error> {
         let is_root = matches!(profile, CertificateProfile::Root { .. });
         if is_root && issuer_key != self.key {
-            return Err(Error::NotInProfile);
+            return Err(Error::NotInProfile(ProfilePart::IssuerKey));
         }
         let part = self.with_fields(algorithm, |fields| match *profile {
             CertificateProfile::Root {
@@ -386,10 +386,18 @@ impl CertificateBuilder {
         // without a signature it can be read as any certificate
         let der = build::assemble(&part, algorithm, &[])?;
         let made = CertificateRef::from_der(&der)?;
-        let has_names = made.issuer() == self.issuer && made.subject() == self.subject;
         let uses = made.key_usage()?.unwrap_or_default();
-        if !has_names || !uses.contains(profile.uses()) {
-            return Err(Error::NotInProfile);
+        let missing = if made.issuer() != self.issuer {
+            Some(ProfilePart::Issuer)
+        } else if made.subject() != self.subject {
+            Some(ProfilePart::Subject)
+        } else if !uses.contains(profile.uses()) {
+            Some(ProfilePart::KeyUsage)
+        } else {
+            None
+        };
+        if let Some(part) = missing {
+            return Err(Error::NotInProfile(part));
         }
         Ok(part)
     }
@@ -510,9 +518,9 @@ impl CrlBuilder {
     /// The bytes to be signed, a whole TBSCertList, for a signature by an algorithm, which is a whole AlgorithmIdentifier.
     ///
     /// # Errors
-    /// [`Error::Malformed`] where the algorithm is none; [`Error::Failed`] where the issuer's certificate has two SKIs; [`Error::Value`] where the number
-    /// has no octets, or more than 20 content octets (RFC 5280 5.2.3), or a moment is before 1970 or after 9999, or the next update before this one;
-    /// [`Error::Repeated`] where a number or an AKI was added; [`Error::Overlength`] or [`Error::Memory`].
+    /// [`Error::Malformed`] where the algorithm is none; [`Error::Value`] where the number has no octets, or more than 20 content octets (RFC 5280 5.2.3), or a
+    /// moment is before 1970 or after 9999, or the next update before this one; [`Error::Repeated`] where a number or an AKI was added, or where the issuer's
+    /// certificate has two SKIs; [`Error::Overlength`] or [`Error::Memory`].
     pub fn tbs_cert_list(&self, algorithm: &[u8]) -> Result<Vec<u8>, Error> {
         if !is_crl_number(&writing::unsigned(&self.number)) {
             return Err(Error::Value);
@@ -615,10 +623,10 @@ fn attribute_type(attribute: &[u8]) -> Result<ObjectIdentifier, Error> {
 ///
 /// ```
 /// use x509_rattle::extension::SubjectAltName;
-/// use x509_rattle::{BuildError, CsrBuilder, GeneralName, Name, Signer};
+/// use x509_rattle::{BuildError, Csr, CsrBuilder, GeneralName, Name, Signer};
 ///
-/// /// The DER of a CSR for a host.
-/// fn request<S: Signer>(signer: &S, host: &str) -> Result<Vec<u8>, BuildError<S::Error>> {
+/// /// A CSR for a host.
+/// fn request<S: Signer>(signer: &S, host: &str) -> Result<Csr, BuildError<S::Error>> {
 ///     let subject: Name = "O=Example,C=DE".parse()?;
 ///     let mut builder = CsrBuilder::new(&subject);
 ///     builder.add_extension(false, &SubjectAltName(vec![GeneralName::DnsName(host)]))?;
@@ -692,15 +700,13 @@ impl CsrBuilder {
         )
     }
 
-    /// The DER of the CSR for the signer's key, signed by it; [`Csr::from_der`](crate::Csr::from_der) reads it.
+    /// The CSR for the signer's key, signed by it.
     ///
     /// # Errors
     /// [`BuildError::Refused`] as of [`certification_request_info`](CsrBuilder::certification_request_info), [`BuildError::Signer`] where the signer
     /// fails.
-    pub fn build<S: Signer>(&self, signer: &S) -> Result<Vec<u8>, BuildError<S::Error>> {
+    pub fn build<S: Signer>(&self, signer: &S) -> Result<Csr, BuildError<S::Error>> {
         let part = self.certification_request_info(signer.subject_public_key_info())?;
-        let der = signed(&part, signer)?;
-        Csr::from_der(&der)?;
-        Ok(der)
+        Ok(Csr::from_der(signed(&part, signer)?)?)
     }
 }

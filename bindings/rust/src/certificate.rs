@@ -71,6 +71,16 @@ impl<'a> Signature<'a> {
     }
 }
 
+/// A further name of an issuer or a subject (RFC 5280 4.1.2.8), which certificates don't have any more.
+#[derive(Clone, Copy, Debug, PartialEq, Eq, Hash)]
+pub struct UniqueIdentifier<'a> {
+    /// The octets of its bits.
+    pub bits: &'a [u8],
+
+    /// How many bits of the last of these octets are unused, 0 to 7.
+    pub unused_bits: u32,
+}
+
 /// Where the parts of a certificate stand in its bytes.
 #[derive(Clone, Copy)]
 struct Parts {
@@ -80,6 +90,9 @@ struct Parts {
     subject: Span,
     subject_public_key_info: Span,
     extensions: Span,
+    inner_algorithm: Span,
+    issuer_unique_id: (Span, u32),
+    subject_unique_id: (Span, u32),
     validity: Validity,
 }
 
@@ -92,6 +105,9 @@ impl Parts {
             view.subject,
             view.subject_public_key_info,
             view.extensions,
+            view.inner_algorithm,
+            view.issuer_unique_id,
+            view.subject_unique_id,
         ] {
             span.of(der)?;
         }
@@ -114,6 +130,9 @@ impl Parts {
             subject: view.subject,
             subject_public_key_info: view.subject_public_key_info,
             extensions: view.extensions,
+            inner_algorithm: view.inner_algorithm,
+            issuer_unique_id: (view.issuer_unique_id, view.issuer_unused_bits),
+            subject_unique_id: (view.subject_unique_id, view.subject_unused_bits),
             validity: Validity {
                 not_before: moment(view.not_before)?,
                 not_after: moment(view.not_after)?,
@@ -142,6 +161,11 @@ impl<'a> CertificateRef<'a> {
     /// A part, which [`Parts::of`] has found within the bytes.
     fn part(&self, span: Span) -> &'a [u8] {
         span.of(self.der).unwrap_or_default()
+    }
+
+    fn unique_id(&self, (bits, unused_bits): (Span, u32)) -> Option<UniqueIdentifier<'a>> {
+        let bits = bits.part(self.der).ok().flatten()?;
+        Some(UniqueIdentifier { bits, unused_bits })
     }
 
     /// Its DER.
@@ -185,6 +209,21 @@ impl<'a> CertificateRef<'a> {
     /// [`Error::Memory`].
     pub fn public_key(&self) -> Result<PublicKey<'a>, Error> {
         PublicKey::from_der(self.subject_public_key_info())
+    }
+
+    /// The algorithm in the signed part, a whole AlgorithmIdentifier, which is to be that of the signature (RFC 5280 4.1.1.2). Whether it is isn't looked at.
+    pub fn inner_algorithm(&self) -> &'a [u8] {
+        self.part(self.parts.inner_algorithm)
+    }
+
+    /// A further name of its issuer (RFC 5280 4.1.2.8).
+    pub fn issuer_unique_id(&self) -> Option<UniqueIdentifier<'a>> {
+        self.unique_id(self.parts.issuer_unique_id)
+    }
+
+    /// A further name of its subject (RFC 5280 4.1.2.8).
+    pub fn subject_unique_id(&self) -> Option<UniqueIdentifier<'a>> {
+        self.unique_id(self.parts.subject_unique_id)
     }
 
     /// Its extensions, in order.
@@ -433,6 +472,21 @@ impl Certificate {
     /// [`Error::Memory`].
     pub fn public_key(&self) -> Result<PublicKey<'_>, Error> {
         self.to_ref().public_key()
+    }
+
+    /// The algorithm in the signed part, a whole AlgorithmIdentifier, which is to be that of the signature (RFC 5280 4.1.1.2). Whether it is isn't looked at.
+    pub fn inner_algorithm(&self) -> &[u8] {
+        self.to_ref().inner_algorithm()
+    }
+
+    /// A further name of its issuer (RFC 5280 4.1.2.8).
+    pub fn issuer_unique_id(&self) -> Option<UniqueIdentifier<'_>> {
+        self.to_ref().issuer_unique_id()
+    }
+
+    /// A further name of its subject (RFC 5280 4.1.2.8).
+    pub fn subject_unique_id(&self) -> Option<UniqueIdentifier<'_>> {
+        self.to_ref().subject_unique_id()
     }
 
     /// Its extensions, in order.

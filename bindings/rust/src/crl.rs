@@ -1,10 +1,13 @@
 //! CRLs (RFC 5280 5.1).
 use crate::certificate::Signature;
 use crate::error::Error;
-use crate::extension::{CrlReason, ExtensionValue, Extensions};
+use crate::extension::{
+    CertificateIssuer, CrlReason, Extension, ExtensionValue, Extensions, InvalidityDate,
+};
 use crate::ffi::{self, Members};
 use crate::integer::Integer;
 use crate::name::NameRef;
+use crate::oid::ObjectIdentifier;
 use crate::time::moment;
 use std::fmt;
 use std::hash::{Hash, Hasher};
@@ -52,17 +55,33 @@ impl<'a> CrlEntry<'a> {
     /// # Errors
     /// [`Error::Repeated`] where it is said twice; [`Error::Malformed`] where it can't be read; [`Error::Memory`].
     pub fn reason(&self) -> Result<Option<CrlReason>, Error> {
-        let mut told = None;
-        for extension in self.extensions() {
-            let extension = extension?;
-            if extension.oid() == CrlReason::OID {
-                if told.is_some() {
-                    return Err(Error::Repeated);
-                }
-                told = Some(CrlReason::from_der(extension.value())?);
-            }
-        }
-        Ok(told)
+        Ok(self.get()?.map(|(_, found)| found))
+    }
+
+    /// What its extension of a type holds, as a reason, an [`InvalidityDate`](crate::extension::InvalidityDate) or a
+    /// [`CertificateIssuer`](crate::extension::CertificateIssuer), and whether that is critical.
+    ///
+    /// # Errors
+    /// As of [`Extensions::get`].
+    pub fn get<T: ExtensionValue<'a>>(&self) -> Result<Option<(bool, T)>, Error> {
+        self.extensions().get()
+    }
+
+    /// Since when the certificate is known or suspected to be invalid, where that is said (RFC 5280 5.3.2).
+    ///
+    /// # Errors
+    /// As of [`reason`](CrlEntry::reason).
+    pub fn invalidity_date(&self) -> Result<Option<SystemTime>, Error> {
+        Ok(self.get::<InvalidityDate>()?.map(|(_, it)| it.0))
+    }
+
+    /// Who issued the certificate, and those of the entries behind it up to the next that says so, in an indirect CRL (RFC 5280 5.3.3); where no entry up to here says it, that
+    /// is the issuer of the CRL.
+    ///
+    /// # Errors
+    /// As of [`reason`](CrlEntry::reason).
+    pub fn certificate_issuer(&self) -> Result<Option<CertificateIssuer<'a>>, Error> {
+        Ok(self.get()?.map(|(_, it)| it))
     }
 }
 
@@ -76,6 +95,41 @@ impl<'a> Iterator for CrlEntries<'a> {
     fn next(&mut self) -> Option<Self::Item> {
         let found = self.0.next()?;
         Some(found.and_then(|view| CrlEntry::found(&view, self.0.data)))
+    }
+}
+
+/// The entries of an indirect CRL, in order, each with who issued its certificate (RFC 5280 5.3.3): the names of the last entry up to it that has a
+/// [`CertificateIssuer`]; `None` where none has it, and the issuer of the CRL issued the certificate. After one that can't be read nothing comes.
+#[derive(Clone, Debug)]
+pub struct IssuedEntries<'a> {
+    data: &'a [u8],
+    at: usize,
+    issuer: ffi::Span,
+    is_over: bool,
+}
+
+impl<'a> IssuedEntries<'a> {
+    fn found(&mut self) -> Result<Option<(CrlEntry<'a>, Option<CertificateIssuer<'a>>)>, Error> {
+        let found = ffi::crl_issued_next(self.data, &mut self.at, &mut self.issuer)?;
+        let Some(view) = found else {
+            return Ok(None);
+        };
+        let issuer = self.issuer.part(self.data)?;
+        let issuer = issuer.map(CertificateIssuer::from_der).transpose()?;
+        Ok(Some((CrlEntry::found(&view, self.data)?, issuer)))
+    }
+}
+
+impl<'a> Iterator for IssuedEntries<'a> {
+    type Item = Result<(CrlEntry<'a>, Option<CertificateIssuer<'a>>), Error>;
+
+    fn next(&mut self) -> Option<Self::Item> {
+        if self.is_over {
+            return None;
+        }
+        let found = self.found().transpose();
+        self.is_over = !matches!(found, Some(Ok(_)));
+        found
     }
 }
 
@@ -105,7 +159,12 @@ impl<'a> CrlRef<'a> {
     /// [`Error::Malformed`] or [`Error::Overlength`] where they are none, or bytes stand behind it; [`Error::Memory`].
     pub fn from_der(der: &'a [u8]) -> Result<CrlRef<'a>, Error> {
         let view = ffi::CRL.of(der)?;
-        for span in [view.issuer, view.entries, view.extensions] {
+        for span in [
+            view.inner_algorithm,
+            view.issuer,
+            view.entries,
+            view.extensions,
+        ] {
             span.of(der)?;
         }
         Signature::found(&view.signature, der)?;
@@ -138,6 +197,11 @@ impl<'a> CrlRef<'a> {
         self.view.version
     }
 
+    /// The algorithm in the signed part, a whole AlgorithmIdentifier, which is to be that of the signature (RFC 5280 5.1.1.2). Whether it is isn't looked at.
+    pub fn inner_algorithm(&self) -> &'a [u8] {
+        self.part(self.view.inner_algorithm)
+    }
+
     /// The name of its issuer.
     pub fn issuer(&self) -> NameRef<'a> {
         NameRef::found(self.part(self.view.issuer))
@@ -165,9 +229,36 @@ impl<'a> CrlRef<'a> {
         CrlEntries(entries(self.part(self.view.entries)))
     }
 
+    /// Its entries, in order, each with who issued its certificate, where it is an indirect CRL.
+    pub fn issued_entries(&self) -> IssuedEntries<'a> {
+        let data = self.part(self.view.entries);
+        IssuedEntries {
+            data,
+            at: 0,
+            issuer: ffi::Span::default(),
+            is_over: data.is_empty(),
+        }
+    }
+
     /// Its extensions, in order.
     pub fn extensions(&self) -> Extensions<'a> {
         Extensions::new(self.part(self.view.extensions))
+    }
+
+    /// Its extension with an identifier.
+    ///
+    /// # Errors
+    /// As of [`Extensions::find`].
+    pub fn extension(&self, oid: ObjectIdentifier) -> Result<Option<Extension<'a>>, Error> {
+        self.extensions().find(oid)
+    }
+
+    /// What its extension of a type holds, as its [`CrlNumber`](crate::extension::CrlNumber), and whether that is critical.
+    ///
+    /// # Errors
+    /// As of [`Extensions::get`].
+    pub fn get<T: ExtensionValue<'a>>(&self) -> Result<Option<(bool, T)>, Error> {
+        self.extensions().get()
     }
 
     /// What is to be verified of it.
@@ -189,7 +280,7 @@ impl<'a> CrlRef<'a> {
     /// What the first entry with a serial number says, given by the content octets of an INTEGER. The issuer isn't compared (RFC 5280 5.3.3).
     ///
     /// # Errors
-    /// [`Error::Malformed`] where the octets are no serial number's, which are at most 21, or where the entry's reason can't be read; [`Error::Failed`]
+    /// [`Error::Malformed`] where the octets are no serial number's, which are at most 21, or where the entry's reason can't be read; [`Error::Repeated`]
     /// where its reason is there twice; [`Error::Memory`].
     pub fn revocation(&self, serial_number: &[u8]) -> Result<Option<Revocation>, Error> {
         let element = Integer(serial_number).element()?;
@@ -201,6 +292,24 @@ impl<'a> CrlRef<'a> {
             date: moment(found.date)?,
             reason: reason.map(CrlReason::found).transpose()?,
         }))
+    }
+
+    /// The first entry with a serial number, given by the content octets of an INTEGER. The issuer isn't compared (RFC 5280 5.3.3). The CRL isn't
+    /// checked once more, so that this is the call for many look-ups.
+    ///
+    /// # Errors
+    /// [`Error::Malformed`] where the octets are no serial number's, which are at most 21; [`Error::Memory`].
+    pub fn entry(&self, serial_number: &[u8]) -> Result<Option<CrlEntry<'a>>, Error> {
+        let element = Integer(serial_number).element()?;
+        let entries = self.part(self.view.entries);
+        if entries.is_empty() {
+            ffi::SERIAL_NUMBER.of(&element)?;
+            return Ok(None);
+        }
+        let found = ffi::CRL_ENTRY_FIND.of(entries, &element)?;
+        found
+            .map(|view| CrlEntry::found(&view, entries))
+            .transpose()
     }
 
     /// All that it has, as lines for people: each is a label and a text, and no text of the CRL can forge a line or turn its order round.
@@ -341,6 +450,11 @@ impl Crl {
         self.to_ref().version()
     }
 
+    /// The algorithm in the signed part, a whole AlgorithmIdentifier, which is to be that of the signature (RFC 5280 5.1.1.2). Whether it is isn't looked at.
+    pub fn inner_algorithm(&self) -> &[u8] {
+        self.to_ref().inner_algorithm()
+    }
+
     /// The name of its issuer.
     pub fn issuer(&self) -> NameRef<'_> {
         self.to_ref().issuer()
@@ -367,9 +481,30 @@ impl Crl {
         self.to_ref().entries()
     }
 
+    /// Its entries, in order, each with who issued its certificate, where it is an indirect CRL.
+    pub fn issued_entries(&self) -> IssuedEntries<'_> {
+        self.to_ref().issued_entries()
+    }
+
     /// Its extensions, in order.
     pub fn extensions(&self) -> Extensions<'_> {
         self.to_ref().extensions()
+    }
+
+    /// Its extension with an identifier.
+    ///
+    /// # Errors
+    /// As of [`CrlRef::extension`].
+    pub fn extension(&self, oid: ObjectIdentifier) -> Result<Option<Extension<'_>>, Error> {
+        self.to_ref().extension(oid)
+    }
+
+    /// What its extension of a type holds, as its [`CrlNumber`](crate::extension::CrlNumber), and whether that is critical.
+    ///
+    /// # Errors
+    /// As of [`CrlRef::get`].
+    pub fn get<'a, T: ExtensionValue<'a>>(&'a self) -> Result<Option<(bool, T)>, Error> {
+        self.to_ref().get()
     }
 
     /// What is to be verified of it.
@@ -394,6 +529,14 @@ impl Crl {
     /// As of [`CrlRef::revocation`].
     pub fn revocation(&self, serial_number: &[u8]) -> Result<Option<Revocation>, Error> {
         self.to_ref().revocation(serial_number)
+    }
+
+    /// The first entry with a serial number, given by the content octets of an INTEGER. The issuer isn't compared (RFC 5280 5.3.3).
+    ///
+    /// # Errors
+    /// As of [`CrlRef::entry`].
+    pub fn entry(&self, serial_number: &[u8]) -> Result<Option<CrlEntry<'_>>, Error> {
+        self.to_ref().entry(serial_number)
     }
 
     /// All that it has, as lines for people.

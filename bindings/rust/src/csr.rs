@@ -77,14 +77,14 @@ impl<'a> Iterator for CsrAttributes<'a> {
     }
 }
 
-/// A CSR, by its bytes, which are borrowed. CSRs are equal byte for byte. [`CsrBuf`] has bytes of its own.
+/// A CSR, by its bytes, which are borrowed. CSRs are equal byte for byte. [`Csr`] has bytes of its own.
 ///
 /// ```
 /// use x509_rattle::extension::ParsedExtension;
-/// use x509_rattle::Csr;
+/// use x509_rattle::CsrRef;
 ///
 /// # let der = include_bytes!("../../../examples/data/request.der");
-/// let csr = Csr::from_der(der)?;
+/// let csr = CsrRef::from_der(der)?;
 /// println!("{}", csr.subject());
 /// for extension in csr.extensions()? {
 ///     assert!(matches!(extension?.parsed()?, ParsedExtension::SubjectAltName(_)));
@@ -92,26 +92,26 @@ impl<'a> Iterator for CsrAttributes<'a> {
 /// # Ok::<(), x509_rattle::Error>(())
 /// ```
 #[derive(Clone, Copy)]
-pub struct Csr<'a> {
+pub struct CsrRef<'a> {
     der: &'a [u8],
     view: ffi::Request,
 }
 
-impl<'a> Csr<'a> {
+impl<'a> CsrRef<'a> {
     /// The CSR that the bytes are.
     ///
     /// # Errors
     /// [`Error::Malformed`] or [`Error::Overlength`] where they are none, or bytes stand behind it; [`Error::Memory`].
-    pub fn from_der(der: &'a [u8]) -> Result<Csr<'a>, Error> {
+    pub fn from_der(der: &'a [u8]) -> Result<CsrRef<'a>, Error> {
         let view = ffi::REQUEST.of(der)?;
         for span in [view.subject, view.subject_public_key_info, view.attributes] {
             span.of(der)?;
         }
         Signature::found(&view.signature, der)?;
-        Ok(Csr { der, view })
+        Ok(CsrRef { der, view })
     }
 
-    /// A part, which [`from_der`](Csr::from_der) has found within the bytes.
+    /// A part, which [`from_der`](CsrRef::from_der) has found within the bytes.
     fn part(&self, span: ffi::Span) -> &'a [u8] {
         span.of(self.der).unwrap_or_default()
     }
@@ -159,7 +159,7 @@ impl<'a> Csr<'a> {
     /// The extensions that it asks for (RFC 2985 5.4.2), in order; none where no attribute asks for any.
     ///
     /// # Errors
-    /// [`Error::Repeated`] where two or more attributes ask for extensions, [`Error::Failed`] where the only one hasn't one value, [`Error::Malformed`]
+    /// [`Error::Repeated`] where two or more attributes ask for extensions, [`Error::NotOneValue`] where the only one hasn't one value, [`Error::Malformed`]
     /// where that is no list of extensions; [`Error::Memory`].
     pub fn extensions(&self) -> Result<Extensions<'a>, Error> {
         match ffi::REQUEST_EXTENSIONS.of(self.der) {
@@ -185,7 +185,7 @@ impl<'a> Csr<'a> {
         ffi::REQUEST_TEXT.text_of(self.der)
     }
 
-    /// The lines of [`to_text`](Csr::to_text) as JSON (RFC 8259): an array of objects, each with its `depth`, its `label` and its `text`.
+    /// The lines of [`to_text`](CsrRef::to_text) as JSON (RFC 8259): an array of objects, each with its `depth`, its `label` and its `text`.
     ///
     /// # Errors
     /// [`Error::Memory`].
@@ -202,43 +202,43 @@ impl<'a> Csr<'a> {
     }
 
     /// The CSR, with bytes of its own.
-    pub fn to_owned(&self) -> CsrBuf {
-        CsrBuf {
+    pub fn to_owned(&self) -> Csr {
+        Csr {
             der: self.der.to_vec(),
             view: self.view,
         }
     }
 }
 
-impl PartialEq for Csr<'_> {
+impl PartialEq for CsrRef<'_> {
     fn eq(&self, other: &Self) -> bool {
         self.der == other.der
     }
 }
 
-impl Eq for Csr<'_> {}
+impl Eq for CsrRef<'_> {}
 
-impl Hash for Csr<'_> {
+impl Hash for CsrRef<'_> {
     fn hash<H: Hasher>(&self, state: &mut H) {
         self.der.hash(state);
     }
 }
 
-impl AsRef<[u8]> for Csr<'_> {
+impl AsRef<[u8]> for CsrRef<'_> {
     fn as_ref(&self) -> &[u8] {
         self.der
     }
 }
 
-impl<'a> TryFrom<&'a [u8]> for Csr<'a> {
+impl<'a> TryFrom<&'a [u8]> for CsrRef<'a> {
     type Error = Error;
 
-    fn try_from(der: &'a [u8]) -> Result<Csr<'a>, Error> {
-        Csr::from_der(der)
+    fn try_from(der: &'a [u8]) -> Result<CsrRef<'a>, Error> {
+        CsrRef::from_der(der)
     }
 }
 
-impl fmt::Debug for Csr<'_> {
+impl fmt::Debug for CsrRef<'_> {
     fn fmt(&self, f: &mut fmt::Formatter<'_>) -> fmt::Result {
         f.debug_struct("Csr")
             .field("subject", &self.subject())
@@ -246,35 +246,35 @@ impl fmt::Debug for Csr<'_> {
     }
 }
 
-/// A CSR that has bytes of its own. All that it says it says by [`to_ref`](CsrBuf::to_ref).
+/// A CSR that has bytes of its own. All that it says it says by [`to_ref`](Csr::to_ref).
 ///
 /// ```
-/// use x509_rattle::CsrBuf;
+/// use x509_rattle::Csr;
 ///
 /// # let der = include_bytes!("../../../examples/data/request.der").to_vec();
-/// let csr = CsrBuf::from_der(der)?;
+/// let csr = Csr::from_der(der)?;
 /// assert_eq!(csr.subject().to_string(), "CN=www.example.org,O=Beispiel\\, Söhne & Co,C=DE");
 /// # Ok::<(), x509_rattle::Error>(())
 /// ```
 #[derive(Clone)]
-pub struct CsrBuf {
+pub struct Csr {
     der: Vec<u8>,
     view: ffi::Request,
 }
 
-impl CsrBuf {
+impl Csr {
     /// The CSR that the bytes are.
     ///
     /// # Errors
-    /// As of [`Csr::from_der`].
-    pub fn from_der(der: Vec<u8>) -> Result<CsrBuf, Error> {
-        let view = Csr::from_der(&der)?.view;
-        Ok(CsrBuf { der, view })
+    /// As of [`CsrRef::from_der`].
+    pub fn from_der(der: Vec<u8>) -> Result<Csr, Error> {
+        let view = CsrRef::from_der(&der)?.view;
+        Ok(Csr { der, view })
     }
 
     /// The same CSR, borrowed, with all that it says.
-    pub fn to_ref(&self) -> Csr<'_> {
-        Csr {
+    pub fn to_ref(&self) -> CsrRef<'_> {
+        CsrRef {
             der: &self.der,
             view: self.view,
         }
@@ -316,7 +316,7 @@ impl CsrBuf {
     /// Its attribute of a type; see [`oid::request`](crate::oid::request).
     ///
     /// # Errors
-    /// As of [`Csr::attribute`].
+    /// As of [`CsrRef::attribute`].
     pub fn attribute(&self, oid: ObjectIdentifier) -> Result<Option<CsrAttribute<'_>>, Error> {
         self.to_ref().attribute(oid)
     }
@@ -324,7 +324,7 @@ impl CsrBuf {
     /// The extensions that it asks for (RFC 2985 5.4.2), in order; none where no attribute asks for any.
     ///
     /// # Errors
-    /// As of [`Csr::extensions`].
+    /// As of [`CsrRef::extensions`].
     pub fn extensions(&self) -> Result<Extensions<'_>, Error> {
         self.to_ref().extensions()
     }
@@ -348,7 +348,7 @@ impl CsrBuf {
     /// All that it has, as lines for people.
     ///
     /// # Errors
-    /// As of [`Csr::to_text`].
+    /// As of [`CsrRef::to_text`].
     pub fn to_text(&self) -> Result<String, Error> {
         self.to_ref().to_text()
     }
@@ -356,42 +356,42 @@ impl CsrBuf {
     /// The same lines as JSON.
     ///
     /// # Errors
-    /// As of [`Csr::to_json`].
+    /// As of [`CsrRef::to_json`].
     pub fn to_json(&self) -> Result<String, Error> {
         self.to_ref().to_json()
     }
 }
 
-impl PartialEq for CsrBuf {
+impl PartialEq for Csr {
     fn eq(&self, other: &Self) -> bool {
         self.der == other.der
     }
 }
 
-impl Eq for CsrBuf {}
+impl Eq for Csr {}
 
-impl Hash for CsrBuf {
+impl Hash for Csr {
     fn hash<H: Hasher>(&self, state: &mut H) {
         self.der.hash(state);
     }
 }
 
-impl AsRef<[u8]> for CsrBuf {
+impl AsRef<[u8]> for Csr {
     fn as_ref(&self) -> &[u8] {
         &self.der
     }
 }
 
-impl fmt::Debug for CsrBuf {
+impl fmt::Debug for Csr {
     fn fmt(&self, f: &mut fmt::Formatter<'_>) -> fmt::Result {
         self.to_ref().fmt(f)
     }
 }
 
-impl TryFrom<Vec<u8>> for CsrBuf {
+impl TryFrom<Vec<u8>> for Csr {
     type Error = Error;
 
-    fn try_from(der: Vec<u8>) -> Result<CsrBuf, Error> {
-        CsrBuf::from_der(der)
+    fn try_from(der: Vec<u8>) -> Result<Csr, Error> {
+        Csr::from_der(der)
     }
 }

@@ -1,6 +1,38 @@
 //! Why a call was refused.
 use std::fmt;
 
+/// What a profile doesn't take of what was given.
+#[derive(Clone, Copy, Debug, PartialEq, Eq, Hash)]
+#[non_exhaustive]
+pub enum ProfilePart {
+    /// The issuer's name, which of a root is its subject.
+    Issuer,
+
+    /// The issuer's key, which of a root is its own.
+    IssuerKey,
+
+    /// The subject: a root's has a country, an organization and a common name, and a server's a country and common names alone.
+    Subject,
+
+    /// The use of a key, which keys of its kind don't have.
+    KeyUsage,
+
+    /// The names of a device, of which one is that of a hardware module.
+    Names,
+}
+
+impl ProfilePart {
+    fn text(self) -> &'static str {
+        match self {
+            ProfilePart::Issuer => "the issuer of a root is its subject",
+            ProfilePart::IssuerKey => "the issuer's key of a root is its own",
+            ProfilePart::Subject => "the subject isn't one of such a certificate",
+            ProfilePart::KeyUsage => "a key of that kind has no such use",
+            ProfilePart::Names => "none of the names of the device is that of a hardware module",
+        }
+    }
+}
+
 /// Why a call was refused.
 #[derive(Clone, Copy, Debug, PartialEq, Eq, Hash)]
 #[non_exhaustive]
@@ -14,8 +46,18 @@ pub enum Error {
     /// The bytes are not the DER of such a value.
     Malformed,
 
-    /// A text is not of its form, there is no such type, an attribute doesn't have a string type, or an extension of an entry of a CRL is there twice.
-    Failed,
+    /// A text is not of its form.
+    Text {
+        /// How many bytes stand in front of the first part that can't be read: of a name an attribute, of an object identifier a number, of a moment a number or what
+        /// stands between two, of a serial number an octet. Where the text ends too soon, as many as it has.
+        place: usize,
+    },
+
+    /// There is no type with that name.
+    UnknownType,
+
+    /// An attribute doesn't have that string type (RFC 5280 A.1).
+    StringType,
 
     /// A relative distinguished name says one attribute twice.
     SetDuplicate,
@@ -29,8 +71,20 @@ pub enum Error {
     /// An extension or an attribute is there more than once, or would be in what is to be built.
     Repeated,
 
-    /// What was given has no place in a certificate of the profile, as an issuer of a root that isn't its subject.
-    NotInProfile,
+    /// The attribute of a CSR that asks for extensions hasn't one value (RFC 2985 5.4.2).
+    NotOneValue,
+
+    /// What was given has no place in a certificate of the profile.
+    NotInProfile(ProfilePart),
+
+    /// The algorithm is another one than that in the signed part (RFC 5280 4.1.1.2, 5.1.1.2).
+    Algorithm,
+
+    /// The description of a trust anchor has no name, so that no path can be under it.
+    UnnamedAnchor,
+
+    /// The certificate in the description of a trust anchor has another name, key or key identifier than that (RFC 5914 2.5).
+    OtherCertificate,
 
     /// The library answered what its header rules out: it is of another version.
     Unexpected,
@@ -42,14 +96,18 @@ impl Error {
             Error::Memory => "out of memory",
             Error::Overlength => "longer than 268,435,455 bytes",
             Error::Malformed => "not the DER of such a value",
-            Error::Failed => {
-                "a text or a type is not of its form, or an extension stands there twice"
-            }
+            Error::Text { .. } => "the text isn't of its form",
+            Error::UnknownType => "there is no type with that name",
+            Error::StringType => "an attribute of the type hasn't that string type",
             Error::SetDuplicate => "a relative distinguished name has an attribute twice",
             Error::Value => "a value can't be made or written",
             Error::Absent => "it isn't there",
             Error::Repeated => "an extension or an attribute is there more than once",
-            Error::NotInProfile => "the profile doesn't take what was given",
+            Error::NotOneValue => "the attribute that asks for extensions hasn't one value",
+            Error::NotInProfile(part) => part.text(),
+            Error::Algorithm => "the signed part has another algorithm",
+            Error::UnnamedAnchor => "the trust anchor has no name",
+            Error::OtherCertificate => "the trust anchor has a certificate of another name or key",
             Error::Unexpected => "the C library is of another version",
         }
     }
@@ -57,7 +115,11 @@ impl Error {
 
 impl fmt::Display for Error {
     fn fmt(&self, f: &mut fmt::Formatter<'_>) -> fmt::Result {
-        f.write_str(self.text())
+        f.write_str(self.text())?;
+        match self {
+            Error::Text { place } => write!(f, " from its byte {place} on"),
+            _ => Ok(()),
+        }
     }
 }
 

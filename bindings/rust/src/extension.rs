@@ -117,6 +117,32 @@ impl<'a> Extensions<'a> {
             members
         })
     }
+
+    /// The one with an identifier, of those that are left.
+    ///
+    /// # Errors
+    /// [`Error::Repeated`] where there are two or more; [`Error::Malformed`] or [`Error::Overlength`] where one can't be read; [`Error::Memory`].
+    pub fn find(&self, oid: ObjectIdentifier) -> Result<Option<Extension<'a>>, Error> {
+        let mut found = None;
+        for extension in self.clone() {
+            let extension = extension?;
+            if extension.oid() == oid && found.replace(extension).is_some() {
+                return Err(Error::Repeated);
+            }
+        }
+        Ok(found)
+    }
+
+    /// What the one of a type holds, and whether it is critical.
+    ///
+    /// # Errors
+    /// As of [`find`](Extensions::find); [`Error::Malformed`] or [`Error::Overlength`] also where it can't be read.
+    pub fn get<T: ExtensionValue<'a>>(&self) -> Result<Option<(bool, T)>, Error> {
+        let Some(found) = self.find(T::OID)? else {
+            return Ok(None);
+        };
+        Ok(Some((found.critical(), T::from_der(found.value())?)))
+    }
 }
 
 impl<'a> Iterator for Extensions<'a> {

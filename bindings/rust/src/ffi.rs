@@ -248,6 +248,32 @@ pub(crate) struct Revocation {
 
 #[repr(C)]
 #[derive(Clone, Copy, Debug, Default)]
+pub(crate) struct SignedCrl {
+    pub(crate) crl: Span,
+    pub(crate) name: Span,
+    pub(crate) key: Span,
+    pub(crate) verified: u32,
+}
+
+#[repr(C)]
+#[derive(Clone, Copy, Debug, Default)]
+pub(crate) struct RevocationSettings {
+    pub(crate) moment: u64,
+    pub(crate) flags: u64,
+}
+
+#[repr(C)]
+#[derive(Clone, Copy, Debug, Default)]
+pub(crate) struct RevocationAnswer {
+    pub(crate) status: u32,
+    pub(crate) reason: u32,
+    pub(crate) crl: usize,
+    pub(crate) date: u64,
+    pub(crate) reasons: u32,
+}
+
+#[repr(C)]
+#[derive(Clone, Copy, Debug, Default)]
 pub(crate) struct Crl {
     pub(crate) version: u32,
     pub(crate) inner_algorithm: Span,
@@ -431,6 +457,7 @@ extern "C" {
     fn x509_serial_text(content: *const u8, len: usize, out: *mut u8, room: usize, written: *mut usize) -> c_int;
     fn x509_serial_decimal(content: *const u8, len: usize, out: *mut u8, room: usize, written: *mut usize) -> c_int;
     fn x509_time_text(moment: u64, out: *mut u8, room: usize, written: *mut usize) -> c_int;
+    fn x509_time_from_text(text: *const u8, len: usize, moment: *mut u64) -> c_int;
     fn x509_certificate_signature(input: *const u8, len: usize, signature: *mut Signature) -> c_int;
     fn x509_path_check(anchor: *const u8, anchor_len: usize, path: *const u8, path_len: usize, lens: *const usize, count: usize, moment: u64, fault: *mut PathFault) -> c_int;
     fn x509_path_validate(anchor: *const u8, anchor_len: usize, path: *const u8, path_len: usize, lens: *const usize, count: usize, name_constraints: *const u8, name_constraints_len: usize, policies: *const u8, policies_len: usize, settings: *const PathSettings, settings_size: usize, out: *mut u8, room: usize, answer: *mut PathAnswer) -> c_int;
@@ -439,6 +466,10 @@ extern "C" {
     fn x509_crl_lookup(input: *const u8, len: usize, serial_number: *const u8, serial_number_len: usize, revocation: *mut Revocation) -> c_int;
     fn x509_crl_view(input: *const u8, len: usize, view: *mut Crl) -> c_int;
     fn x509_crl_entry_next(value: *const u8, len: usize, at: *mut usize, found: *mut CrlEntry) -> c_int;
+    fn x509_crl_issued_next(value: *const u8, len: usize, at: *mut usize, issuer: *mut Span, found: *mut CrlEntry) -> c_int;
+    fn x509_crl_entry_find(value: *const u8, len: usize, serial_number: *const u8, serial_number_len: usize, found: *mut CrlEntry) -> c_int;
+    fn x509_may_sign_crls(certificate: *const u8, certificate_len: usize, may_sign: *mut u32) -> c_int;
+    fn x509_revocation_status(certificate: *const u8, certificate_len: usize, input: *const u8, len: usize, crls: *const SignedCrl, count: usize, settings: *const RevocationSettings, settings_size: usize, answer: *mut RevocationAnswer) -> c_int;
     fn x509_request_view(input: *const u8, len: usize, view: *mut Request) -> c_int;
     fn x509_request_attribute_next(value: *const u8, len: usize, at: *mut usize, found: *mut RequestAttribute) -> c_int;
     fn x509_subject_directory_attributes_next(value: *const u8, len: usize, at: *mut usize, found: *mut RequestAttribute) -> c_int;
@@ -463,12 +494,13 @@ extern "C" {
     fn x509_version() -> u32;
 }
 
-fn error(status: c_int) -> Error {
+/// What a status means; X509_FAILED means something else of each call that answers it.
+fn error(status: c_int, failed: Error) -> Error {
     match status {
         MEMORY => Error::Memory,
         OVERLENGTH => Error::Overlength,
         MALFORMED => Error::Malformed,
-        FAILED => Error::Failed,
+        FAILED => failed,
         SET_DUPLICATE => Error::SetDuplicate,
         VALUE => Error::Value,
         ABSENT => Error::Absent,
@@ -477,36 +509,68 @@ fn error(status: c_int) -> Error {
     }
 }
 
+/// The answer of a call that doesn't list X509_FAILED.
 fn accepted<T>(status: c_int, found: T) -> Result<T, Error> {
+    accepted_or(Error::Unexpected, status, found)
+}
+
+/// The answer of a call whose X509_FAILED means that.
+fn accepted_or<T>(failed: Error, status: c_int, found: T) -> Result<T, Error> {
     match status {
         OK => Ok(found),
-        status => Err(error(status)),
+        status => Err(error(status, failed)),
     }
 }
 
 /// A call that fills in what it says of bytes. Only this module makes one.
-pub(crate) struct View<T>(ViewCall<T>);
+pub(crate) struct View<T> {
+    call: ViewCall<T>,
+    failed: Error,
+}
+
+impl<T> View<T> {
+    const fn new(call: ViewCall<T>) -> View<T> {
+        View::or(Error::Unexpected, call)
+    }
+
+    /// One whose X509_FAILED means that.
+    const fn or(failed: Error, call: ViewCall<T>) -> View<T> {
+        View { call, failed }
+    }
+}
 
 impl<T: Default> View<T> {
     pub(crate) fn of(&self, data: &[u8]) -> Result<T, Error> {
         let mut found = T::default();
         // SAFETY: the header lets the call read `data`, which is lent for it, and fill in `found`, which is of the struct that it takes.
-        let status = unsafe { self.0(data.as_ptr(), data.len(), &mut found) };
-        accepted(status, found)
+        let status = unsafe { (self.call)(data.as_ptr(), data.len(), &mut found) };
+        accepted_or(self.failed, status, found)
     }
 }
 
 /// A call that writes bytes of bytes. Only this module makes one.
-pub(crate) struct Fill(FillCall);
+pub(crate) struct Fill {
+    call: FillCall,
+    failed: Error,
+}
 
 impl Fill {
+    const fn new(call: FillCall) -> Fill {
+        Fill::or(Error::Unexpected, call)
+    }
+
+    /// One whose X509_FAILED means that.
+    const fn or(failed: Error, call: FillCall) -> Fill {
+        Fill { call, failed }
+    }
+
     /// Refused as [`of`](Fill::of) is.
     pub(crate) fn check(&self, data: &[u8]) -> Result<(), Error> {
-        wanted(&self.over(data)).map(|_| ())
+        wanted(self.failed, &self.over(data)).map(|_| ())
     }
 
     pub(crate) fn of(&self, data: &[u8]) -> Result<Vec<u8>, Error> {
-        fill(self.over(data))
+        fill_or(self.failed, self.over(data))
     }
 
     /// The text that the call writes, which is UTF-8.
@@ -518,7 +582,7 @@ impl Fill {
     pub(crate) fn within<'a>(&self, data: &[u8], out: &'a mut [u8]) -> Result<&'a [u8], Error> {
         let mut written = 0;
         let status = self.over(data)(out.as_mut_ptr(), out.len(), &mut written);
-        accepted(status, ())?;
+        accepted_or(self.failed, status, ())?;
         out.get(..written).ok_or(Error::Unexpected)
     }
 
@@ -526,29 +590,40 @@ impl Fill {
         |out, room, written| {
             // SAFETY: the header lets the call read `data`, which is lent for it, and write to `out[0..room)` and `written`, which `within`,
             // `wanted` and `fill` own or are lent.
-            unsafe { self.0(data.as_ptr(), data.len(), out, room, written) }
+            unsafe { (self.call)(data.as_ptr(), data.len(), out, room, written) }
         }
     }
 }
 
 /// How many bytes a call writes that is given a room, its length, and where to say how much it wrote.
-fn wanted(write: &impl Fn(*mut u8, usize, *mut usize) -> c_int) -> Result<usize, Error> {
+fn wanted(
+    failed: Error,
+    write: &impl Fn(*mut u8, usize, *mut usize) -> c_int,
+) -> Result<usize, Error> {
     let mut written = 0;
     match write(ptr::null_mut(), 0, &mut written) {
         OK | ROOM => Ok(written),
-        status => Err(error(status)),
+        status => Err(error(status, failed)),
     }
 }
 
-/// What such a call writes.
+/// What such a call writes that doesn't list X509_FAILED.
 fn fill(write: impl Fn(*mut u8, usize, *mut usize) -> c_int) -> Result<Vec<u8>, Error> {
-    let mut written = wanted(&write)?;
+    fill_or(Error::Unexpected, write)
+}
+
+/// What such a call writes whose X509_FAILED means that.
+fn fill_or(
+    failed: Error,
+    write: impl Fn(*mut u8, usize, *mut usize) -> c_int,
+) -> Result<Vec<u8>, Error> {
+    let mut written = wanted(failed, &write)?;
     let mut out = Vec::new();
     out.try_reserve_exact(written).map_err(|_| Error::Memory)?;
     out.resize(written, 0);
     let status = write(out.as_mut_ptr(), out.len(), &mut written);
     out.truncate(written);
-    accepted(status, out)
+    accepted_or(failed, status, out)
 }
 
 enum Next<T> {
@@ -636,53 +711,60 @@ impl<T: Default> Iterator for Members<'_, T> {
     }
 }
 
-pub(crate) const CERTIFICATE: View<Certificate> = View(x509_certificate_view);
-pub(crate) const CERTIFICATE_SIGNATURE: View<Signature> = View(x509_certificate_signature);
-pub(crate) const SIGNED_SLICE: View<Span> = View(x509_signed_slice);
-pub(crate) const SERIAL_NUMBER: View<Span> = View(x509_serial_number);
-pub(crate) const CRL: View<Crl> = View(x509_crl_view);
-pub(crate) const REQUEST: View<Request> = View(x509_request_view);
-pub(crate) const REQUEST_EXTENSIONS: View<Span> = View(x509_request_extensions);
-pub(crate) const KEY: View<Key> = View(x509_key_view);
-pub(crate) const RSA_KEY: View<RsaKey> = View(x509_rsa_key_view);
-pub(crate) const ALGORITHM: View<Algorithm> = View(x509_algorithm_view);
-pub(crate) const ANCHOR: View<Anchor> = View(x509_anchor_view);
-pub(crate) const PATH_CONTROLS: View<PathControls> = View(x509_path_controls_view);
-pub(crate) const TIMESTAMP: View<Timestamp> = View(x509_timestamp_view);
-pub(crate) const KEY_USAGE: View<u32> = View(x509_key_usage);
-pub(crate) const BASIC_CONSTRAINTS: View<BasicConstraintsView> = View(x509_basic_constraints);
-pub(crate) const SUBJECT_KEY_IDENTIFIER: View<Span> = View(x509_subject_key_identifier);
-pub(crate) const AUTHORITY_KEY_IDENTIFIER: View<AuthorityKeyIdentifierView> =
-    View(x509_authority_key_identifier);
-pub(crate) const USER_NOTICE: View<UserNoticeView> = View(x509_user_notice);
-pub(crate) const PRIVATE_KEY_USAGE_PERIOD: View<PrivateKeyUsagePeriodView> =
-    View(x509_private_key_usage_period);
-pub(crate) const INVALIDITY_DATE: View<u64> = View(x509_invalidity_date);
-pub(crate) const POLICY_CONSTRAINTS: View<PolicyConstraintsView> = View(x509_policy_constraints);
-pub(crate) const INHIBIT_ANY_POLICY: View<u32> = View(x509_inhibit_any_policy);
-pub(crate) const ISSUING_DISTRIBUTION_POINT: View<IssuingDistributionPointView> =
-    View(x509_issuing_distribution_point);
-pub(crate) const CRL_NUMBER: View<Span> = View(x509_crl_number);
-pub(crate) const BASE_CRL_NUMBER: View<Span> = View(x509_base_crl_number);
-pub(crate) const CRL_REASON: View<u32> = View(x509_crl_reason);
-pub(crate) const NAME_CONSTRAINTS: View<NameConstraintsView> = View(x509_name_constraints);
+/// Of a text that is none; where it stops to be one its caller says.
+pub(crate) const NO_TEXT: Error = Error::Text { place: 0 };
 
-pub(crate) const CERTIFICATE_REENCODE: Fill = Fill(x509_certificate_reencode);
-pub(crate) const NAME_TEXT: Fill = Fill(x509_name_text);
-pub(crate) const NAME_FROM_TEXT: Fill = Fill(x509_name_from_text);
-pub(crate) const STRING_TEXT: Fill = Fill(x509_string_text);
-pub(crate) const OID_TEXT: Fill = Fill(x509_oid_text);
-pub(crate) const OID_FROM_TEXT: Fill = Fill(x509_oid_from_text);
-pub(crate) const SERIAL_TEXT: Fill = Fill(x509_serial_text);
-pub(crate) const SERIAL_DECIMAL: Fill = Fill(x509_serial_decimal);
-pub(crate) const CERTIFICATE_TEXT: Fill = Fill(x509_certificate_text);
-pub(crate) const CERTIFICATE_JSON: Fill = Fill(x509_certificate_json);
-pub(crate) const CRL_TEXT: Fill = Fill(x509_crl_text);
-pub(crate) const CRL_JSON: Fill = Fill(x509_crl_json);
-pub(crate) const REQUEST_TEXT: Fill = Fill(x509_request_text);
-pub(crate) const REQUEST_JSON: Fill = Fill(x509_request_json);
-pub(crate) const ANCHOR_TEXT: Fill = Fill(x509_anchor_text);
-pub(crate) const ANCHOR_JSON: Fill = Fill(x509_anchor_json);
+pub(crate) const CERTIFICATE: View<Certificate> = View::new(x509_certificate_view);
+pub(crate) const CERTIFICATE_SIGNATURE: View<Signature> = View::new(x509_certificate_signature);
+pub(crate) const SIGNED_SLICE: View<Span> = View::new(x509_signed_slice);
+pub(crate) const SERIAL_NUMBER: View<Span> = View::new(x509_serial_number);
+pub(crate) const CRL: View<Crl> = View::new(x509_crl_view);
+pub(crate) const MAY_SIGN_CRLS: View<u32> = View::new(x509_may_sign_crls);
+pub(crate) const REQUEST: View<Request> = View::new(x509_request_view);
+pub(crate) const REQUEST_EXTENSIONS: View<Span> =
+    View::or(Error::NotOneValue, x509_request_extensions);
+pub(crate) const TIME_FROM_TEXT: View<u64> = View::or(NO_TEXT, x509_time_from_text);
+pub(crate) const KEY: View<Key> = View::new(x509_key_view);
+pub(crate) const RSA_KEY: View<RsaKey> = View::new(x509_rsa_key_view);
+pub(crate) const ALGORITHM: View<Algorithm> = View::new(x509_algorithm_view);
+pub(crate) const ANCHOR: View<Anchor> = View::new(x509_anchor_view);
+pub(crate) const PATH_CONTROLS: View<PathControls> = View::new(x509_path_controls_view);
+pub(crate) const TIMESTAMP: View<Timestamp> = View::new(x509_timestamp_view);
+pub(crate) const KEY_USAGE: View<u32> = View::new(x509_key_usage);
+pub(crate) const BASIC_CONSTRAINTS: View<BasicConstraintsView> = View::new(x509_basic_constraints);
+pub(crate) const SUBJECT_KEY_IDENTIFIER: View<Span> = View::new(x509_subject_key_identifier);
+pub(crate) const AUTHORITY_KEY_IDENTIFIER: View<AuthorityKeyIdentifierView> =
+    View::new(x509_authority_key_identifier);
+pub(crate) const USER_NOTICE: View<UserNoticeView> = View::new(x509_user_notice);
+pub(crate) const PRIVATE_KEY_USAGE_PERIOD: View<PrivateKeyUsagePeriodView> =
+    View::new(x509_private_key_usage_period);
+pub(crate) const INVALIDITY_DATE: View<u64> = View::new(x509_invalidity_date);
+pub(crate) const POLICY_CONSTRAINTS: View<PolicyConstraintsView> =
+    View::new(x509_policy_constraints);
+pub(crate) const INHIBIT_ANY_POLICY: View<u32> = View::new(x509_inhibit_any_policy);
+pub(crate) const ISSUING_DISTRIBUTION_POINT: View<IssuingDistributionPointView> =
+    View::new(x509_issuing_distribution_point);
+pub(crate) const CRL_NUMBER: View<Span> = View::new(x509_crl_number);
+pub(crate) const BASE_CRL_NUMBER: View<Span> = View::new(x509_base_crl_number);
+pub(crate) const CRL_REASON: View<u32> = View::new(x509_crl_reason);
+pub(crate) const NAME_CONSTRAINTS: View<NameConstraintsView> = View::new(x509_name_constraints);
+
+pub(crate) const CERTIFICATE_REENCODE: Fill = Fill::new(x509_certificate_reencode);
+pub(crate) const NAME_TEXT: Fill = Fill::new(x509_name_text);
+pub(crate) const NAME_FROM_TEXT: Fill = Fill::or(NO_TEXT, x509_name_from_text);
+pub(crate) const STRING_TEXT: Fill = Fill::new(x509_string_text);
+pub(crate) const OID_TEXT: Fill = Fill::new(x509_oid_text);
+pub(crate) const OID_FROM_TEXT: Fill = Fill::or(NO_TEXT, x509_oid_from_text);
+pub(crate) const SERIAL_TEXT: Fill = Fill::new(x509_serial_text);
+pub(crate) const SERIAL_DECIMAL: Fill = Fill::new(x509_serial_decimal);
+pub(crate) const CERTIFICATE_TEXT: Fill = Fill::new(x509_certificate_text);
+pub(crate) const CERTIFICATE_JSON: Fill = Fill::new(x509_certificate_json);
+pub(crate) const CRL_TEXT: Fill = Fill::new(x509_crl_text);
+pub(crate) const CRL_JSON: Fill = Fill::new(x509_crl_json);
+pub(crate) const REQUEST_TEXT: Fill = Fill::new(x509_request_text);
+pub(crate) const REQUEST_JSON: Fill = Fill::new(x509_request_json);
+pub(crate) const ANCHOR_TEXT: Fill = Fill::new(x509_anchor_text);
+pub(crate) const ANCHOR_JSON: Fill = Fill::new(x509_anchor_json);
 
 pub(crate) static EXTENSIONS: Walk<ExtensionEntry> = Walk(Next::Plain(x509_extensions_next));
 pub(crate) static GENERAL_NAMES: Walk<GeneralName> = Walk(Next::Plain(x509_general_names_next));
@@ -720,7 +802,7 @@ pub(crate) static RELATIVE_NAME_UNDER_1: Walk<Attribute> =
     Walk(Next::Under(1, x509_relative_name_under_next));
 
 pub(crate) fn reencode(kind: &str, profile: u32, data: &[u8]) -> Result<Vec<u8>, Error> {
-    fill(|out, room, written| {
+    fill_or(Error::UnknownType, |out, room, written| {
         // SAFETY: the header lets the call read `kind` and `data`, which are lent for it, and write to `out[0..room)` and `written`, which `wanted`
         // and `fill` own.
         unsafe {
@@ -753,14 +835,28 @@ pub(crate) fn version() -> u32 {
 }
 
 /// A call that finds what bytes hold under other bytes: the content octets of an OID, or the DER of a serial number. Only this module makes one.
-pub(crate) struct Find<T>(FindCall<T>);
+pub(crate) struct Find<T> {
+    call: FindCall<T>,
+    failed: Error,
+}
+
+impl<T> Find<T> {
+    const fn new(call: FindCall<T>) -> Find<T> {
+        Find::or(Error::Unexpected, call)
+    }
+
+    /// One whose X509_FAILED means that.
+    const fn or(failed: Error, call: FindCall<T>) -> Find<T> {
+        Find { call, failed }
+    }
+}
 
 impl<T: Default> Find<T> {
     pub(crate) fn of(&self, data: &[u8], sought: &[u8]) -> Result<Option<T>, Error> {
         let mut found = T::default();
         // SAFETY: the header lets the call read both slices, which are lent for it, and fill in `found`, which is of the struct that it takes.
         let status = unsafe {
-            self.0(
+            (self.call)(
                 data.as_ptr(),
                 data.len(),
                 sought.as_ptr(),
@@ -770,15 +866,31 @@ impl<T: Default> Find<T> {
         };
         match status {
             ABSENT => Ok(None),
-            status => accepted(status, Some(found)),
+            status => accepted_or(self.failed, status, Some(found)),
         }
     }
 }
 
-pub(crate) const CERTIFICATE_EXTENSION: Find<Extension> = Find(x509_certificate_extension);
-pub(crate) const CRL_LOOKUP: Find<Revocation> = Find(x509_crl_lookup);
-pub(crate) const NAME_FIND: Find<Attribute> = Find(x509_name_find);
-pub(crate) const REQUEST_ATTRIBUTE: Find<RequestAttribute> = Find(x509_request_attribute_find);
+pub(crate) const CERTIFICATE_EXTENSION: Find<Extension> = Find::new(x509_certificate_extension);
+pub(crate) const CRL_LOOKUP: Find<Revocation> = Find::or(Error::Repeated, x509_crl_lookup);
+pub(crate) const CRL_ENTRY_FIND: Find<CrlEntry> = Find::new(x509_crl_entry_find);
+pub(crate) const NAME_FIND: Find<Attribute> = Find::new(x509_name_find);
+pub(crate) const REQUEST_ATTRIBUTE: Find<RequestAttribute> = Find::new(x509_request_attribute_find);
+
+/// The next entry of a list of entries, and where the names of its issuer stand: both numbers are 0 before the first, and until an entry names one.
+pub(crate) fn crl_issued_next(
+    data: &[u8],
+    at: &mut usize,
+    issuer: &mut Span,
+) -> Result<Option<CrlEntry>, Error> {
+    let mut found = CrlEntry::default();
+    // SAFETY: the header lets the call read `data`, which is lent for it, read and write `at` and `issuer`, of any value, and fill in `found`.
+    let status = unsafe { x509_crl_issued_next(data.as_ptr(), data.len(), at, issuer, &mut found) };
+    match status {
+        ABSENT => Ok(None),
+        status => accepted(status, Some(found)),
+    }
+}
 
 /// Whether two names match.
 pub(crate) fn names_match(a: &[u8], b: &[u8]) -> Result<bool, Error> {
@@ -909,6 +1021,9 @@ impl Question<'_> {
     }
 }
 
+/// Of what gives no trust; its caller says why.
+pub(crate) const NO_TRUST: Error = Error::OtherCertificate;
+
 /// What is answered to a path: the policies under which it is valid, as the DER of a CertificatePolicies, or its first fault, but those of signatures.
 pub(crate) type Judged = Result<Vec<u8>, PathFault>;
 
@@ -941,10 +1056,63 @@ pub(crate) fn path_validate(
             OK if answer.policies_len > out.len() => out.resize(answer.policies_len, 0),
             status => {
                 out.truncate(answer.policies_len);
-                return accepted(status, Ok(out));
+                return accepted_or(NO_TRUST, status, Ok(out));
             }
         }
     }
+}
+
+/// A CRL, and the name and the key of its signer.
+#[derive(Clone, Copy)]
+pub(crate) struct GivenCrl<'a> {
+    pub(crate) crl: &'a [u8],
+    pub(crate) name: &'a [u8],
+    pub(crate) key: &'a [u8],
+}
+
+/// Where the bytes stand once they stand behind those that are there.
+fn append(bytes: &mut Vec<u8>, part: &[u8]) -> Span {
+    let place = bytes.len();
+    bytes.extend_from_slice(part);
+    Span {
+        place,
+        len: part.len(),
+    }
+}
+
+/// What is answered of CRLs, each with whether its signature was verified.
+pub(crate) fn revocation_status(
+    certificate: &[u8],
+    crls: &[(GivenCrl<'_>, bool)],
+    settings: RevocationSettings,
+) -> Result<RevocationAnswer, Error> {
+    let mut joined = Vec::new();
+    let given: Vec<SignedCrl> = crls
+        .iter()
+        .map(|(it, is_verified)| SignedCrl {
+            crl: append(&mut joined, it.crl),
+            name: append(&mut joined, it.name),
+            key: append(&mut joined, it.key),
+            verified: u32::from(*is_verified),
+        })
+        .collect();
+    let mut answer = RevocationAnswer::default();
+    // SAFETY: the header lets the call read both slices of bytes, `given` of as many structs as it is told, and `settings` of its size, which are lent for it, and
+    // fill in `answer`.
+    let status = unsafe {
+        x509_revocation_status(
+            certificate.as_ptr(),
+            certificate.len(),
+            joined.as_ptr(),
+            joined.len(),
+            given.as_ptr(),
+            given.len(),
+            &settings,
+            size_of::<RevocationSettings>(),
+            &mut answer,
+        )
+    };
+    accepted(status, answer)
 }
 
 #[cfg(test)]
@@ -1000,7 +1168,7 @@ mod tests {
 
     #[test]
     fn what_the_header_rules_out() {
-        assert_eq!(View(unknown).of(b""), Err(Error::Unexpected));
-        assert_eq!(Fill(too_long).of(b""), Err(Error::Memory));
+        assert_eq!(View::new(unknown).of(b""), Err(Error::Unexpected));
+        assert_eq!(Fill::new(too_long).of(b""), Err(Error::Memory));
     }
 }

@@ -3,6 +3,7 @@ use crate::error::Error;
 use crate::ffi::{self, Members};
 use crate::name::NameRef;
 use crate::oid::ObjectIdentifier;
+use crate::writing::{context_elements, element, SEQUENCE};
 use std::net::IpAddr;
 
 /// A general name, by what it holds. An X.400 address is refused as malformed.
@@ -27,7 +28,7 @@ pub enum GeneralName<'a> {
     /// A distinguished name.
     DirectoryName(NameRef<'a>),
 
-    /// A name of EDI, by the octets of its fields.
+    /// A name of EDI, by the octets of its fields; see [`edi_party_name`](GeneralName::edi_party_name).
     EdiPartyName(&'a [u8]),
 
     /// A URI. It is ASCII, of which NUL and controls may be some.
@@ -38,6 +39,16 @@ pub enum GeneralName<'a> {
 
     /// A registered identifier.
     RegisteredId(ObjectIdentifier),
+}
+
+/// The texts of a name of EDI (RFC 5280 4.2.1.6).
+#[derive(Clone, Debug, PartialEq, Eq, Hash)]
+pub struct EdiPartyName {
+    /// Who gives such names, where that is said.
+    pub name_assigner: Option<String>,
+
+    /// The name.
+    pub party_name: String,
 }
 
 fn text(octets: &[u8]) -> Result<&str, Error> {
@@ -67,6 +78,37 @@ impl<'a> GeneralName<'a> {
             8 => GeneralName::RegisteredId(ObjectIdentifier::found(content)?),
             _ => return Err(Error::Unexpected),
         })
+    }
+
+    /// The texts of a name of EDI; none of a name of another kind.
+    ///
+    /// ```
+    /// use x509_rattle::GeneralName;
+    ///
+    /// // two texts, each a PrintableString under its tag
+    /// let name = GeneralName::EdiPartyName(b"\xa0\x03\x13\x01a\xa1\x03\x13\x01b");
+    /// let parts = name.edi_party_name()?.expect("it is one");
+    /// assert_eq!((parts.name_assigner.as_deref(), parts.party_name.as_str()), (Some("a"), "b"));
+    /// assert_eq!(GeneralName::DnsName("a").edi_party_name(), Ok(None));
+    /// # Ok::<(), x509_rattle::Error>(())
+    /// ```
+    ///
+    /// # Errors
+    /// [`Error::Malformed`] where the octets are no fields of such a name, or where a text has no characters of its type; [`Error::Memory`].
+    pub fn edi_party_name(&self) -> Result<Option<EdiPartyName>, Error> {
+        let GeneralName::EdiPartyName(fields) = self else {
+            return Ok(None);
+        };
+        let names = element(SEQUENCE, &element(context_elements(5), fields));
+        let found = ffi::GENERAL_NAMES.over(&names).next();
+        let view = found.ok_or(Error::Unexpected)??;
+        let assigner = view.name_assigner.part(&names)?;
+        Ok(Some(EdiPartyName {
+            name_assigner: assigner
+                .map(|it| ffi::STRING_TEXT.text_of(it))
+                .transpose()?,
+            party_name: ffi::STRING_TEXT.text_of(view.party_name.of(&names)?)?,
+        }))
     }
 
     /// The address: four octets are one of IPv4, and sixteen one of IPv6.

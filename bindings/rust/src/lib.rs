@@ -22,6 +22,7 @@
 #![deny(unsafe_code)]
 #![warn(missing_docs, missing_debug_implementations)]
 
+pub mod algorithm;
 mod anchor;
 mod builder;
 mod certificate;
@@ -39,6 +40,8 @@ mod key;
 mod name;
 pub mod oid;
 mod path;
+mod revocation;
+mod text;
 mod time;
 mod writing;
 
@@ -47,13 +50,15 @@ pub use builder::{
     BuildError, CertificateBuilder, CertificateProfile, CrlBuilder, CrlEntryBuilder, CsrBuilder,
     Signer,
 };
-pub use certificate::{Certificate, CertificateRef, Signature, Validity, Version};
+pub use certificate::{
+    Certificate, CertificateRef, Signature, UniqueIdentifier, Validity, Version,
+};
 pub use controls::{PathControls, PolicyFlags};
-pub use crl::{Crl, CrlEntries, CrlEntry, CrlRef, Revocation};
-pub use csr::{AttributeValue, AttributeValues, Csr, CsrAttribute, CsrAttributes, CsrBuf};
-pub use error::Error;
+pub use crl::{Crl, CrlEntries, CrlEntry, CrlRef, IssuedEntries, Revocation};
+pub use csr::{AttributeValue, AttributeValues, Csr, CsrAttribute, CsrAttributes, CsrRef};
+pub use error::{Error, ProfilePart};
 pub use extension::{Extension, Extensions, ParsedExtension};
-pub use general_name::{GeneralName, GeneralNames};
+pub use general_name::{EdiPartyName, GeneralName, GeneralNames};
 pub use integer::{Integer, SerialNumber};
 pub use key::{AlgorithmIdentifier, KeyKind, PublicKey, RsaPublicKey, SignatureKind};
 pub use name::{
@@ -65,7 +70,11 @@ pub use path::{
     check_path, validate_path, FaultReason, PathError, PathFault, PathSettings, Trusted, Validated,
     Verifier,
 };
-pub use time::time_text;
+pub use revocation::{
+    may_sign_crls, path_revocation_statuses, revocation_status, RevocationSettings,
+    RevocationStatus, SignedCrl,
+};
+pub use time::{time_from_text, time_text};
 
 /// The rules under which a value is read.
 #[derive(Clone, Copy, Debug, PartialEq, Eq, Hash)]
@@ -84,12 +93,12 @@ pub enum Profile {
 /// use x509_rattle::{reencode, Error, Profile};
 ///
 /// assert_eq!(reencode("Name", Profile::Raw, b"\x30\x00")?, b"\x30\x00");
-/// assert_eq!(reencode("Nothing", Profile::Raw, b"\x30\x00"), Err(Error::Failed));
+/// assert_eq!(reencode("Nothing", Profile::Raw, b"\x30\x00"), Err(Error::UnknownType));
 /// # Ok::<(), Error>(())
 /// ```
 ///
 /// # Errors
-/// [`Error::Failed`] where there is no such type; [`Error::Malformed`] or [`Error::Overlength`] where the bytes are no value of it; [`Error::Memory`].
+/// [`Error::UnknownType`] where there is no such type; [`Error::Malformed`] or [`Error::Overlength`] where the bytes are no value of it; [`Error::Memory`].
 pub fn reencode(kind: &str, profile: Profile, der: &[u8]) -> Result<Vec<u8>, Error> {
     ffi::reencode(kind, profile as u32, der)
 }

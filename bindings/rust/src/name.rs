@@ -2,6 +2,7 @@
 use crate::error::{write_text, Error};
 use crate::ffi::{self, Members};
 use crate::oid::ObjectIdentifier;
+use crate::text::{place_in_name, placed};
 use std::borrow::Cow;
 use std::fmt;
 use std::str::FromStr;
@@ -107,6 +108,12 @@ impl fmt::Debug for NameRef<'_> {
     }
 }
 
+impl AsRef<[u8]> for NameRef<'_> {
+    fn as_ref(&self) -> &[u8] {
+        self.der
+    }
+}
+
 impl<'a> TryFrom<&'a [u8]> for NameRef<'a> {
     type Error = Error;
 
@@ -124,7 +131,7 @@ impl<'a> TryFrom<&'a [u8]> for NameRef<'a> {
 /// let name: Name = "CN=www.example.org,C=DE".parse()?;
 /// assert_eq!(name, Name::builder().country_name("DE").common_name("www.example.org").build()?);
 /// assert_eq!(name.to_string(), "CN=www.example.org,C=DE");
-/// for attribute in name.to_ref().attributes_for(oid::attribute::COMMON_NAME) {
+/// for attribute in name.attributes_for(oid::attribute::COMMON_NAME) {
 ///     assert_eq!(attribute?.text().as_deref(), Some("www.example.org"));
 /// }
 /// # Ok::<(), x509_rattle::Error>(())
@@ -175,15 +182,69 @@ impl Name {
     pub fn as_der(&self) -> &[u8] {
         &self.der
     }
+
+    /// Its DER, taken out.
+    pub fn into_der(self) -> Vec<u8> {
+        self.der
+    }
+
+    /// Its text, the last relative name first, which [`Display`](fmt::Display) writes too.
+    ///
+    /// # Errors
+    /// As of [`NameRef::to_rfc4514`].
+    pub fn to_rfc4514(&self) -> Result<String, Error> {
+        self.to_ref().to_rfc4514()
+    }
+
+    /// Its relative names, in the order of the DER.
+    pub fn rdns(&self) -> Rdns<'_> {
+        self.to_ref().rdns()
+    }
+
+    /// The attributes of all its relative names.
+    pub fn attributes(&self) -> NameAttributes<'_> {
+        self.to_ref().attributes()
+    }
+
+    /// The attributes of a type.
+    pub fn attributes_for(
+        &self,
+        oid: ObjectIdentifier,
+    ) -> impl Iterator<Item = Result<AttributeTypeAndValue<'_>, Error>> + '_ {
+        self.to_ref().attributes_for(oid)
+    }
+
+    /// The first attribute of a type, in the order of the DER, such as the CN.
+    ///
+    /// # Errors
+    /// As of [`NameRef::find`].
+    pub fn find(&self, oid: ObjectIdentifier) -> Result<Option<AttributeTypeAndValue<'_>>, Error> {
+        self.to_ref().find(oid)
+    }
+}
+
+impl AsRef<[u8]> for Name {
+    fn as_ref(&self) -> &[u8] {
+        &self.der
+    }
+}
+
+impl TryFrom<Vec<u8>> for Name {
+    type Error = Error;
+
+    fn try_from(der: Vec<u8>) -> Result<Name, Error> {
+        Name::from_der(der)
+    }
 }
 
 impl FromStr for Name {
     type Err = Error;
 
-    /// The name that a text of RFC 4514 reads as. [`Error::Failed`] where it is no such text, [`Error::SetDuplicate`] where an attribute is said
-    /// twice in one relative name, [`Error::Overlength`] where what it says is too long; [`Error::Memory`].
+    /// The name that a text of RFC 4514 reads as. [`Error::Text`] where it is no such text, with the place of the first attribute that can't be read,
+    /// [`Error::SetDuplicate`] where an attribute is said twice in one relative name, [`Error::Overlength`] where what it says is too long; [`Error::Memory`].
     fn from_str(text: &str) -> Result<Name, Error> {
-        let der = ffi::NAME_FROM_TEXT.of(text.as_bytes())?;
+        let found = ffi::NAME_FROM_TEXT.of(text.as_bytes());
+        let der = placed(found, || place_in_name(text))?;
         Ok(Name { der })
     }
 }

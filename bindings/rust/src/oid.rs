@@ -1,6 +1,7 @@
 //! Object identifiers (X.690 8.19), and those that certificates use.
 use crate::error::{write_text, Error};
 use crate::ffi;
+use crate::text::{place_in_oid, placed};
 use std::fmt;
 use std::hash::{Hash, Hasher};
 use std::str::FromStr;
@@ -76,9 +77,10 @@ impl ObjectIdentifier {
 impl FromStr for ObjectIdentifier {
     type Err = Error;
 
-    /// The identifier with a dotted text; [`Error::Failed`] where it is none's, or that of one with more than 39 content octets.
+    /// The identifier with a dotted text; [`Error::Text`] where it is none's, or that of one with more than 39 content octets.
     fn from_str(text: &str) -> Result<ObjectIdentifier, Error> {
-        ObjectIdentifier::found(&ffi::OID_FROM_TEXT.of(text.as_bytes())?)
+        let content = ffi::OID_FROM_TEXT.of(text.as_bytes());
+        ObjectIdentifier::found(&placed(content, || place_in_oid(text))?)
     }
 }
 
@@ -354,11 +356,8 @@ mod tests {
             "a.b",
             "2.5.4294967296",
         ] {
-            assert_eq!(
-                text.parse::<ObjectIdentifier>(),
-                Err(Error::Failed),
-                "{text}"
-            );
+            let refused = text.parse::<ObjectIdentifier>();
+            assert!(matches!(refused, Err(Error::Text { .. })), "{text}");
         }
         assert!(ObjectIdentifier::from_bytes(&[0x2a; 39]).is_ok());
     }

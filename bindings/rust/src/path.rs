@@ -1,11 +1,12 @@
 //! Paths of certificates (RFC 5280 6.1).
-use crate::anchor::TrustAnchor;
+use crate::anchor::{AnchorKind, TrustAnchor};
 use crate::certificate::{CertificateRef, Signature};
+use crate::controls::PathControls;
 use crate::error::Error;
 use crate::extension::{CertificatePolicies, ExtensionValue};
 use crate::ffi;
 use crate::name::NameRef;
-use crate::oid::ObjectIdentifier;
+use crate::oid::{extension, ObjectIdentifier};
 use crate::time::seconds;
 use crate::writing::{elements, identifier, SEQUENCE};
 use std::fmt;
@@ -243,11 +244,11 @@ fn verified<'a>(
 /// What a path is to be valid under.
 #[derive(Clone, Copy, Debug)]
 pub enum Trusted<'a> {
-    /// The subject and the key of a certificate, for the paths that its name constraints and its path length allow (RFC 5937 2). Nothing else of it is looked
-    /// at, what it says of policies neither.
+    /// The subject and the key of a certificate, for the paths that its name constraints, its path length and its policies allow (RFC 5937). A PolicyConstraints or an
+    /// InhibitAnyPolicy of it sets the flag whatever its number. Nothing else of it is looked at.
     Certificate(CertificateRef<'a>),
 
-    /// The same of a trust anchor (RFC 5914, RFC 5937 2): of a description the key, and what its constraints on paths say, but of policies.
+    /// The same of a trust anchor (RFC 5914, RFC 5937): of a description the key, and what its constraints on paths say.
     Anchor(TrustAnchor<'a>),
 
     /// A name and a key, for all paths.
@@ -272,7 +273,16 @@ impl<'a> Trusted<'a> {
         }
     }
 
-    fn key(&self) -> &'a [u8] {
+    /// The name under which the key signs; a trust anchor may have none.
+    pub(crate) fn name(&self) -> Option<NameRef<'a>> {
+        match self {
+            Trusted::Certificate(certificate) => Some(certificate.subject()),
+            Trusted::Anchor(anchor) => anchor.name(),
+            Trusted::NameAndKey { name, .. } => Some(*name),
+        }
+    }
+
+    pub(crate) fn key(&self) -> &'a [u8] {
         match self {
             Trusted::Certificate(certificate) => certificate.subject_public_key_info(),
             Trusted::Anchor(anchor) => anchor.subject_public_key_info(),
@@ -281,6 +291,38 @@ impl<'a> Trusted<'a> {
                 ..
             } => subject_public_key_info,
         }
+    }
+}
+
+/// The extensions of an anchor by which it is trusted, and may not have twice (RFC 5937 2, RFC 5914 2.5).
+const OF_ANCHORS: [ObjectIdentifier; 3] = [
+    extension::BASIC_CONSTRAINTS,
+    extension::NAME_CONSTRAINTS,
+    extension::SUBJECT_KEY_IDENTIFIER,
+];
+
+impl Trusted<'_> {
+    /// Why it gives no trust, as the library has found: an extension stands there twice, or the description of an anchor has no name, or a certificate of another.
+    fn fault(&self) -> Result<Error, Error> {
+        let Trusted::Anchor(anchor) = self else {
+            return Ok(Error::Repeated);
+        };
+        if anchor.kind() != AnchorKind::Info {
+            return Ok(Error::Repeated);
+        }
+        let Some(controls) = anchor.path_controls() else {
+            return Ok(Error::UnnamedAnchor);
+        };
+        if let Some(certificate) = PathControls::from_der(controls)?.certificate {
+            for oid in OF_ANCHORS {
+                match certificate.extension(oid) {
+                    Err(Error::Repeated) => return Ok(Error::Repeated),
+                    Err(error) => return Err(error),
+                    Ok(_) => {}
+                }
+            }
+        }
+        Ok(Error::OtherCertificate)
     }
 }
 
@@ -410,8 +452,9 @@ fn identifiers(der: &[u8]) -> Result<Vec<ObjectIdentifier>, Error> {
 /// [`PathError::Fault`] and the verifier's turns as of [`check_path`].
 ///
 /// [`PathError::Refused`] with [`Error::Absent`] where the path is empty; with [`Error::Value`] where the moment is before 1970 or after 9999, and where name
-/// constraints of the settings or of what is trusted can't be used; with [`Error::Failed`] where what is trusted has one of the extensions that are looked at
-/// twice, or no name; with [`Error::Malformed`] or [`Error::Overlength`] where these, the name constraints or the key are none; and with [`Error::Memory`].
+/// constraints of the settings or of what is trusted can't be used; with [`Error::Repeated`] where what is trusted has one of the extensions that are looked at
+/// twice, with [`Error::UnnamedAnchor`] where it has no name, and with [`Error::OtherCertificate`] where its certificate is another's; with [`Error::Malformed`]
+/// or [`Error::Overlength`] where these, the name constraints or the key are none; and with [`Error::Memory`].
 pub fn validate_path<'a, 'b, B: AsRef<[u8]>>(
     trusted: impl Into<Trusted<'b>>,
     path: &'a [B],
@@ -424,7 +467,11 @@ pub fn validate_path<'a, 'b, B: AsRef<[u8]>>(
         flags: settings.flags,
     };
     let (constraints, accepted) = (&settings.name_constraints, &settings.policies);
-    let judged = ffi::path_validate(trusted.bytes(), &path, constraints, accepted, asked)?;
+    let judged = ffi::path_validate(trusted.bytes(), &path, constraints, accepted, asked);
+    let judged = match judged {
+        Err(error) if error == ffi::NO_TRUST => Err(trusted.fault()?),
+        judged => judged,
+    }?;
     let certificates = verified(
         trusted.key(),
         path,

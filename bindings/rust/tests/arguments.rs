@@ -9,8 +9,8 @@ use x509_rattle::extension::{
 use x509_rattle::oid::{self, attribute};
 use x509_rattle::{
     time_text, BuildError, Certificate, CertificateBuilder, CertificateProfile, Crl, CrlBuilder,
-    CrlEntryBuilder, Csr, CsrBuilder, Error, Extensions, GeneralName, Name, NameBuilder, NameRef,
-    ObjectIdentifier, SerialNumber, Signer, StringType, Validity,
+    CrlEntryBuilder, CsrBuilder, CsrRef, Error, Extensions, GeneralName, Name, NameBuilder,
+    NameRef, ObjectIdentifier, ProfilePart, SerialNumber, Signer, StringType, Validity,
 };
 
 const BUILDERS: &str = include_str!("../src/builder.rs");
@@ -290,12 +290,12 @@ const fn root(signs_ocsp_responses: bool) -> CertificateProfile<'static> {
 fn of_roots() -> BTreeSet<String> {
     let rows = rows! { it: CertificateCall;
         "CertificateProfile::Root signs_ocsp_responses", it.profile = Some(root(true)) => Ok(&[("2.5.29.15", "critical 03020186")]);
-        "CertificateBuilder::new subject", it.subject = name("CN=S,O=O,C=DE") => refused(Error::NotInProfile);
-        "CertificateBuilder::new subject", (it.subject, it.issuer) = (name("CN=S"), name("CN=S")) => refused(Error::Failed);
-        "CertificateBuilder::new issuer", it.issuer = name("CN=I") => refused(Error::NotInProfile);
+        "CertificateBuilder::new subject", it.subject = name("CN=S,O=O,C=DE") => refused(Error::NotInProfile(ProfilePart::Issuer));
+        "CertificateBuilder::new subject", (it.subject, it.issuer) = (name("CN=S"), name("CN=S")) => refused(Error::NotInProfile(ProfilePart::Subject));
+        "CertificateBuilder::new issuer", it.issuer = name("CN=I") => refused(Error::NotInProfile(ProfilePart::Issuer));
         "CertificateBuilder::new subject_public_key_info", it.key = OTHER_KEY => Err(BuildError::OtherKey);
         "CertificateBuilder::build_as signer", it.signer.key = OTHER_KEY => Err(BuildError::OtherKey);
-        "CertificateBuilder::tbs_certificate_as issuer_key", it.issuer_key = Some(OTHER_KEY) => refused(Error::NotInProfile);
+        "CertificateBuilder::tbs_certificate_as issuer_key", it.issuer_key = Some(OTHER_KEY) => refused(Error::NotInProfile(ProfilePart::IssuerKey));
         "CertificateBuilder::tbs_certificate_as algorithm", it.signer.algorithm = ECDSA_SHA256 => Ok(&[("algorithm", "300a06082a8648ce3d040302")]);
         "CertificateBuilder::new validity", it.validity.not_after = at(FIRST - 1) => refused(Error::Value);
         "CertificateBuilder::add_extension_der oid", it.others.push((oid::extension::AUTHORITY_KEY_IDENTIFIER, false, b"\x30\x00")) => refused(Error::Repeated);
@@ -332,7 +332,7 @@ fn of_subordinates() -> BTreeSet<String> {
         "CertificateBuilder::build_as profile", it.profile = Some(CertificateProfile::Device { names: &[] }) =>
             Ok(&[("2.5.29.14", "none"), ("2.5.29.15", "critical 03020780"), ("2.5.29.19", "none"), ("2.5.29.37", "none"), ("order", "2.5.29.35 2.5.29.15")]);
         // the name of a root has an organization and a country
-        "CertificateBuilder::tbs_certificate_as profile", it.profile = Some(root(false)) => refused(Error::Failed);
+        "CertificateBuilder::tbs_certificate_as profile", it.profile = Some(root(false)) => refused(Error::NotInProfile(ProfilePart::Subject));
         // the AKI is of the SHA-1 digest of the octets of the issuer's key (RFC 5280 4.2.1.2), which is that of "abc" (RFC 3174 7.3)
         "CertificateBuilder::build_as signer", it.signer.key = OTHER_KEY => Ok(&[("2.5.29.35", "30168014a9993e364706816aba3e25717850c26c9cd0d89d")]);
         "CertificateBuilder::tbs_certificate_as issuer_key", it.issuer_key = Some(OTHER_KEY) => Ok(&[("is signed", "false")]);
@@ -366,18 +366,18 @@ fn of_subscribers() -> BTreeSet<String> {
         "CertificateProfile::Subscriber client_auth", it.profile = Some(subscriber([true, false, false, false])) =>
             Ok(&[("2.5.29.37", "301406082b0601050507030106082b06010505070302")]);
         "CertificateBuilder::new subject", it.subject = name("CN=b,CN=a,C=DE") => Ok(&[("subject", "CN=b,CN=a,C=DE")]);
-        "CertificateBuilder::new subject", it.subject = name("CN=a,O=O,C=DE") => refused(Error::NotInProfile);
+        "CertificateBuilder::new subject", it.subject = name("CN=a,O=O,C=DE") => refused(Error::NotInProfile(ProfilePart::Subject));
         "CertificateBuilder::add_extension value", it.usage = Some((true, KeyUsage::DIGITAL_SIGNATURE)) => refused(Error::Repeated);
     };
     let of_rsa = rows! { it: CertificateCall;
         "CertificateProfile::Subscriber key_encipherment", it.profile = Some(WITH_ENCIPHERMENT) => Ok(&[("2.5.29.15", "critical 030205a0")]);
         "CertificateProfile::Subscriber data_encipherment", it.profile = Some(WITH_DATA) => Ok(&[("2.5.29.15", "critical 03020490")]);
-        "CertificateProfile::Subscriber key_agreement", it.profile = Some(WITH_AGREEMENT) => refused(Error::NotInProfile);
+        "CertificateProfile::Subscriber key_agreement", it.profile = Some(WITH_AGREEMENT) => refused(Error::NotInProfile(ProfilePart::KeyUsage));
     };
     let of_curves = rows! { it: CertificateCall;
         "CertificateProfile::Subscriber key_agreement", it.profile = Some(WITH_AGREEMENT) => Ok(&[("2.5.29.15", "critical 03020388")]);
-        "CertificateProfile::Subscriber key_encipherment", it.profile = Some(WITH_ENCIPHERMENT) => refused(Error::NotInProfile);
-        "CertificateProfile::Subscriber data_encipherment", it.profile = Some(WITH_DATA) => refused(Error::NotInProfile);
+        "CertificateProfile::Subscriber key_encipherment", it.profile = Some(WITH_ENCIPHERMENT) => refused(Error::NotInProfile(ProfilePart::KeyUsage));
+        "CertificateProfile::Subscriber data_encipherment", it.profile = Some(WITH_DATA) => refused(Error::NotInProfile(ProfilePart::KeyUsage));
     };
     let mut named = BTreeSet::new();
     for (key, rows) in [(RSA_KEY, of_rsa), (EC_KEY, of_curves), (KEY, Vec::new())] {
@@ -407,7 +407,7 @@ fn of_devices() -> BTreeSet<String> {
     let rows = rows! { it: CertificateCall;
         "CertificateProfile::Device names", it.profile = Some(device(vec![hardware()])) =>
             Ok(&[("2.5.29.17", "3017a01506082b06010505070804a009300706022a03040105"), ("order", "2.5.29.35 2.5.29.15 2.5.29.17")]);
-        "CertificateProfile::Device names", it.profile = Some(device(vec![GeneralName::DnsName("d")])) => refused(Error::Failed);
+        "CertificateProfile::Device names", it.profile = Some(device(vec![GeneralName::DnsName("d")])) => refused(Error::NotInProfile(ProfilePart::Names));
         "CertificateProfile::Device names", it.profile = Some(device(vec![hardware(), GeneralName::DnsName("ö")])) => refused(Error::Value);
         "CertificateBuilder::add_extension_der oid", {
             it.profile = Some(device(vec![hardware()]));
@@ -624,13 +624,13 @@ impl RequestCall {
         for (oid, critical, value) in &self.others {
             builder.add_extension_der(*oid, *critical, value)?;
         }
-        let der = builder.build(&self.signer)?;
+        let made = builder.build(&self.signer)?;
         let part = builder.certification_request_info(self.signer.key)?;
-        Ok(RequestCall::read(&der, &part).expect("the parts"))
+        Ok(RequestCall::read(made.as_der(), &part).expect("the parts"))
     }
 
     fn read(der: &[u8], part: &[u8]) -> Result<Parts, Error> {
-        let made = Csr::from_der(der)?;
+        let made = CsrRef::from_der(der)?;
         let signature = made.signature()?;
         assert_eq!(signature.signed_part, part);
         let (order, mut parts) = told_extensions(made.extensions()?);
@@ -748,9 +748,9 @@ fn of_names() -> BTreeSet<String> {
         "NameBuilder::attribute string_type", it.attribute.1 = StringType::Utf8String => Ok(&[]);
         "NameBuilder::attribute string_type", it.attribute.1 = StringType::BmpString => Ok(&[("0", "2.5.4.3 1e a")]);
         // a DirectoryString is no IA5String (RFC 5280 4.1.2.4)
-        "NameBuilder::attribute string_type", it.attribute.1 = StringType::Ia5String => refused(Error::Failed);
+        "NameBuilder::attribute string_type", it.attribute.1 = StringType::Ia5String => refused(Error::StringType);
         // a country is a PrintableString alone (RFC 5280 A.1)
-        "NameBuilder::attribute string_type", it.attribute = (attribute::COUNTRY_NAME, StringType::Utf8String, "DE".to_owned()) => refused(Error::Failed);
+        "NameBuilder::attribute string_type", it.attribute = (attribute::COUNTRY_NAME, StringType::Utf8String, "DE".to_owned()) => refused(Error::StringType);
         "NameBuilder::attribute text", it.attribute.2 = "a,O=Evil+C=DE\\\0\u{202e}".to_owned() => Ok(&[("0", "2.5.4.3 0c a,O=Evil+C=DE\\\0\u{202e}")]);
         "NameBuilder::attribute text", it.attribute = (attribute::COMMON_NAME, StringType::PrintableString, "a@b".to_owned()) => refused(Error::Value);
         "NameBuilder::attribute text", it.attribute = (attribute::EMAIL_ADDRESS, StringType::AsWanted, "ö@b".to_owned()) => refused(Error::Value);

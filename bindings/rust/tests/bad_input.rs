@@ -1,7 +1,7 @@
 //! Bytes that are no values: each call answers an error, and none panics.
 use x509_rattle::extension::{ExtensionValue, KeyUsage};
 use x509_rattle::{
-    oid, BuildError, Certificate, CertificateBuilder, CertificateRef, Crl, Csr, CsrBuilder, Error,
+    oid, BuildError, Certificate, CertificateBuilder, CertificateRef, Crl, CsrBuilder, Error,
     Extensions, GeneralNames, Name, NameRef, ObjectIdentifier, SerialNumber, Signer,
 };
 
@@ -222,8 +222,7 @@ fn builders_over_changed_keys_and_algorithms() {
                 }
                 Err(error) => assert_eq!(error, BuildError::Refused(Error::Malformed)),
             }
-            if let Ok(der) = CsrBuilder::new(&name).build(&signer) {
-                let csr = Csr::from_der(&der).expect("what was built");
+            if let Ok(csr) = CsrBuilder::new(&name).build(&signer) {
                 assert_eq!(csr.subject_public_key_info(), key);
             }
         }

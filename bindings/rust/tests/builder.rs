@@ -8,7 +8,8 @@ use x509_rattle::extension::{
 };
 use x509_rattle::{
     oid, BuildError, Certificate, CertificateBuilder, CertificateProfile, CertificateRef, Crl,
-    CrlBuilder, Csr, CsrBuilder, Error, GeneralName, Name, SerialNumber, Signer, Validity, Version,
+    CrlBuilder, Csr, CsrBuilder, CsrRef, Error, GeneralName, Name, ProfilePart, SerialNumber,
+    Signer, Validity, Version,
 };
 
 const CERTIFICATE: &[u8] = include_bytes!("../../../examples/data/certificate.der");
@@ -179,8 +180,7 @@ fn a_request() {
     builder.add_attribute_der(
         b"\x30\x13\x06\x09\x2a\x86\x48\x86\xf7\x0d\x01\x09\x07\x31\x06\x0c\x04word",
     );
-    let der = builder.build(&signer).expect("a CSR");
-    let made = Csr::from_der(&der).expect("a CSR");
+    let made = builder.build(&signer).expect("a CSR");
     assert_eq!(made.subject(), name("CN=S").to_ref());
     assert_eq!(made.subject_public_key_info(), KEY);
     let signature = made.signature().expect("a signature");
@@ -364,7 +364,8 @@ fn sent_between_threads() {
     is_sent::<Certificate>();
     is_sent::<CertificateRef<'_>>();
     is_sent::<Crl>();
-    is_sent::<Csr<'_>>();
+    is_sent::<CsrRef<'_>>();
+    is_sent::<Csr>();
     is_sent::<Name>();
     is_sent::<x509_rattle::ObjectIdentifier>();
     is_sent::<x509_rattle::ParsedExtension<'_>>();
@@ -426,7 +427,12 @@ fn kinds_of_certificates() {
         .expect("one");
     assert_eq!(ski.0, KEY_DIGEST);
     let refused = of_kind("CN=R", "CN=R", &root).err();
-    assert_eq!(refused, Some(BuildError::Refused(Error::Failed)));
+    assert_eq!(
+        refused,
+        Some(BuildError::Refused(Error::NotInProfile(
+            ProfilePart::Subject
+        )))
+    );
 
     let subordinate = CertificateProfile::Subordinate {
         path_len_constraint: Some(0),
@@ -502,5 +508,8 @@ fn devices() {
         &CertificateProfile::Device { names: &names[..1] },
     )
     .err();
-    assert_eq!(refused, Some(BuildError::Refused(Error::Failed)));
+    assert_eq!(
+        refused,
+        Some(BuildError::Refused(Error::NotInProfile(ProfilePart::Names)))
+    );
 }

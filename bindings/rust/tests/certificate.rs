@@ -4,7 +4,7 @@ use std::time::{Duration, SystemTime, UNIX_EPOCH};
 use x509_rattle::extension::{BasicConstraints, KeyUsage, SubjectAltName};
 use x509_rattle::{
     oid, reencode, time_text, Certificate, CertificateRef, Error, GeneralName, Name, NameRef,
-    ParsedExtension, Profile, Version,
+    ParsedExtension, Profile, UniqueIdentifier, Version,
 };
 
 const DER: &[u8] = include_bytes!("../../../examples/data/certificate.der");
@@ -136,7 +136,7 @@ fn names() {
         "".parse::<Name>().map(|it| it.as_der().to_vec()),
         Ok(b"\x30\x00".to_vec())
     );
-    assert_eq!("CN".parse::<Name>(), Err(Error::Failed));
+    assert_eq!("CN".parse::<Name>(), Err(Error::Text { place: 0 }));
     assert_eq!("CN=a+CN=a".parse::<Name>(), Err(Error::SetDuplicate));
 }
 
@@ -163,7 +163,10 @@ fn written_again() {
         reencode("Certificate", Profile::Raw, DER).as_deref(),
         Ok(DER)
     );
-    assert_eq!(reencode("Nothing", Profile::Raw, DER), Err(Error::Failed));
+    assert_eq!(
+        reencode("Nothing", Profile::Raw, DER),
+        Err(Error::UnknownType)
+    );
 }
 
 #[test]
@@ -219,4 +222,38 @@ fn owned() {
     assert_eq!(it.canonical_der(), borrowed.canonical_der());
     assert!(it.key_usage().is_ok_and(|usage| usage.is_some()));
     assert!(it.subject_alt_name().is_ok_and(|names| names.is_some()));
+}
+
+/// The certificate of the examples with both unique identifiers behind its key (RFC 5280 4.1): of 16 bits, and of 14.
+#[test]
+fn unique_identifiers() {
+    let it = certificate();
+    assert_eq!(
+        (it.issuer_unique_id(), it.subject_unique_id()),
+        (None, None)
+    );
+    let signature = it.signature().expect("a signature");
+    assert_eq!(it.inner_algorithm(), signature.algorithm);
+
+    let added = b"\x81\x03\x00\xab\xcd\x82\x03\x02\x12\x34";
+    let key = it.subject_public_key_info();
+    let at = DER
+        .windows(key.len())
+        .position(|part| part == key)
+        .expect("the key")
+        + key.len();
+    let mut der = [&DER[..at], added, &DER[at..]].concat();
+    // the lengths of the certificate and of its signed part, of two octets each
+    for place in [2, 6] {
+        let len = u16::from_be_bytes([der[place], der[place + 1]]) + added.len() as u16;
+        der[place..place + 2].copy_from_slice(&len.to_be_bytes());
+    }
+    let it = CertificateRef::from_der(&der).expect("a certificate");
+    let of = |bits, unused_bits| Some(UniqueIdentifier { bits, unused_bits });
+    assert_eq!(it.issuer_unique_id(), of(b"\xab\xcd", 0));
+    assert_eq!(it.subject_unique_id(), of(b"\x12\x34", 2));
+    let owned = it.to_owned();
+    assert_eq!(owned.issuer_unique_id(), it.issuer_unique_id());
+    assert_eq!(owned.subject_unique_id(), it.subject_unique_id());
+    assert_eq!(owned.inner_algorithm(), it.inner_algorithm());
 }

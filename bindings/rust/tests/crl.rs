@@ -1,7 +1,7 @@
 //! The CRL of the examples, by what `examples/data/make.py` puts into it.
 use std::time::{Duration, UNIX_EPOCH};
 use x509_rattle::extension::CrlReason;
-use x509_rattle::{Certificate, Crl, CrlRef, Error, Revocation};
+use x509_rattle::{Certificate, Crl, CrlRef, Error, GeneralName, Revocation};
 
 const DER: &[u8] = include_bytes!("../../../examples/data/list.der");
 const CERTIFICATE: &[u8] = include_bytes!("../../../examples/data/certificate.der");
@@ -76,6 +76,71 @@ fn entries_one_after_the_other() {
 }
 
 #[test]
+fn entries_by_their_numbers() {
+    let it = crl();
+    let number = [0x12, 0x34, 0x56, 0x78, 0x90, 0xab, 0xcd, 0xef];
+    let found = it.entry(&number).expect("a look-up").expect("an entry");
+    assert_eq!(found.serial_number.as_bytes(), number);
+    assert_eq!(found.date, UNIX_EPOCH + Duration::from_secs(1_768_903_200));
+    assert_eq!(found.reason(), Ok(Some(CrlReason::KeyCompromise)));
+    let last = it
+        .to_ref()
+        .entry(&[3])
+        .expect("a look-up")
+        .expect("an entry");
+    assert_eq!(
+        (last.serial_number.to_u128(), last.extensions().count()),
+        (Some(3), 0)
+    );
+    assert!(it.entry(&[2]).expect("a look-up").is_none());
+}
+
+/// A v1 CRL of the issuer CN=a without a list of entries, by hand (RFC 5280 5.1).
+const EMPTY: &[u8] = b"\x30\x2d\x30\x22\x30\x03\x06\x01\x2a\x30\x0c\x31\x0a\x30\x08\x06\x03\x55\x04\x03\x0c\x01\x61\x17\x0d700101000001Z\x30\x03\x06\x01\x2a\x03\x02\x04\xf0";
+
+/// A v2 CRL of the issuer CN=a by hand (RFC 5280 5.1, 5.3.3): the entries 5, 6, which names the issuer with the DNS name a, and 7.
+const INDIRECT: &[u8] = b"\x30\x81\x81\x30\x76\x02\x01\x01\x30\x03\x06\x01\x2a\x30\x0c\x31\x0a\x30\x08\x06\x03\x55\x04\x03\x0c\x01\x61\x17\x0d700101000001Z\
+\x30\x4f\x30\x12\x02\x01\x05\x17\x0d260101000000Z\x30\x25\x02\x01\x06\x17\x0d260101000000Z\
+\x30\x11\x30\x0f\x06\x03\x55\x1d\x1d\x01\x01\xff\x04\x05\x30\x03\x82\x01\x61\x30\x12\x02\x01\x07\x17\x0d260101000000Z\
+\x30\x03\x06\x01\x2a\x03\x02\x04\xf0";
+
+#[test]
+fn issuers_of_entries() {
+    let it = CrlRef::from_der(INDIRECT).expect("a CRL");
+    let found: Result<Vec<_>, _> = it.issued_entries().collect();
+    let found = found.expect("entries");
+    let numbers: Vec<_> = found
+        .iter()
+        .map(|it| it.0.serial_number.to_u128())
+        .collect();
+    assert_eq!(numbers, [Some(5), Some(6), Some(7)]);
+    assert_eq!(found[0].1, None);
+    assert_eq!(
+        found[1].1.as_ref().expect("a name").0,
+        [GeneralName::DnsName("a")]
+    );
+    assert_eq!(found[2].1, found[1].1);
+    assert!(crl()
+        .issued_entries()
+        .all(|it| it.expect("an entry").1.is_none()));
+    assert_eq!(
+        CrlRef::from_der(EMPTY)
+            .expect("a CRL")
+            .issued_entries()
+            .count(),
+        0
+    );
+}
+
+#[test]
+fn no_list_of_entries() {
+    let it = CrlRef::from_der(EMPTY).expect("a CRL");
+    assert!(it.is_empty());
+    assert!(it.entry(&[3]).expect("a look-up").is_none());
+    assert_eq!(it.entry(&[0, 3]).err(), Some(Error::Malformed));
+}
+
+#[test]
 fn octets_that_are_no_serial_number() {
     let it = crl();
     for octets in [
@@ -89,6 +154,7 @@ fn octets_that_are_no_serial_number() {
         &[1; 1000],
     ] {
         assert_eq!(it.revocation(octets), Err(Error::Malformed));
+        assert_eq!(it.entry(octets).err(), Some(Error::Malformed));
     }
     assert_eq!(it.revocation(&[1; 21]), Ok(None));
 }

@@ -1,12 +1,12 @@
 //! The CSR of the examples, by what `examples/data/make.py` puts into it.
 use x509_rattle::extension::ParsedExtension;
-use x509_rattle::{oid, Csr, CsrBuf, Error, GeneralName, ObjectIdentifier};
+use x509_rattle::{oid, Csr, CsrRef, Error, GeneralName, ObjectIdentifier};
 
 const DER: &[u8] = include_bytes!("../../../examples/data/request.der");
 
 #[test]
 fn parts() {
-    let it = Csr::from_der(DER).expect("a CSR");
+    let it = CsrRef::from_der(DER).expect("a CSR");
     assert_eq!(
         it.subject().to_rfc4514().as_deref(),
         Ok("CN=www.example.org,O=Beispiel\\, Söhne & Co,C=DE")
@@ -18,12 +18,12 @@ fn parts() {
     assert!(DER[4..].starts_with(signature.signed_part));
     assert!(DER.ends_with(signature.bits));
     assert_eq!(it.as_der(), DER);
-    assert_eq!(Csr::from_der(DER), Ok(it));
+    assert_eq!(CsrRef::from_der(DER), Ok(it));
 }
 
 #[test]
 fn attributes() {
-    let it = Csr::from_der(DER).expect("a CSR");
+    let it = CsrRef::from_der(DER).expect("a CSR");
     let found: Vec<_> = it.attributes().map(|found| found.expect("one")).collect();
     assert_eq!(found.len(), 2);
     let password: ObjectIdentifier = "1.2.840.113549.1.9.7".parse().expect("an identifier");
@@ -36,7 +36,7 @@ fn attributes() {
 
 #[test]
 fn extensions() {
-    let it = Csr::from_der(DER).expect("a CSR");
+    let it = CsrRef::from_der(DER).expect("a CSR");
     let found: Vec<_> = it
         .extensions()
         .expect("extensions")
@@ -51,13 +51,13 @@ fn extensions() {
 #[test]
 fn refusals() {
     for len in 0..DER.len() {
-        assert_eq!(Csr::from_der(&DER[..len]).err(), Some(Error::Malformed));
+        assert_eq!(CsrRef::from_der(&DER[..len]).err(), Some(Error::Malformed));
     }
     for at in 0..DER.len() {
         for octet in [0, 127, 255] {
             let mut changed = DER.to_vec();
             changed[at] = octet;
-            let Ok(it) = Csr::from_der(&changed) else {
+            let Ok(it) = CsrRef::from_der(&changed) else {
                 continue;
             };
             let _ = it.subject().to_rfc4514();
@@ -73,14 +73,14 @@ fn refusals() {
 
 #[test]
 fn borrowed_and_owned() {
-    let owned = CsrBuf::from_der(DER.to_vec()).expect("a CSR");
-    let borrowed = Csr::from_der(DER).expect("a CSR");
+    let owned = Csr::from_der(DER.to_vec()).expect("a CSR");
+    let borrowed = CsrRef::from_der(DER).expect("a CSR");
     assert_eq!(
         (owned.to_ref(), borrowed.to_owned()),
         (borrowed, owned.clone())
     );
-    assert_eq!(Csr::try_from(DER), Ok(borrowed));
-    assert_eq!(CsrBuf::try_from(DER.to_vec()), Ok(owned.clone()));
+    assert_eq!(CsrRef::try_from(DER), Ok(borrowed));
+    assert_eq!(Csr::try_from(DER.to_vec()), Ok(owned.clone()));
     assert_eq!(owned.subject(), borrowed.subject());
     assert_eq!(owned.public_key(), borrowed.public_key());
     assert_eq!(
@@ -105,5 +105,5 @@ fn borrowed_and_owned() {
         (borrowed.as_der(), borrowed.as_ref())
     );
     assert_eq!(owned.into_der(), DER);
-    assert_eq!(CsrBuf::from_der(DER[1..].to_vec()), Err(Error::Malformed));
+    assert_eq!(Csr::from_der(DER[1..].to_vec()), Err(Error::Malformed));
 }

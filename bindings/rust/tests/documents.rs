@@ -1,5 +1,5 @@
 //! The documents of the files of the examples, by what openssl prints of them, and of a trust anchor by hand.
-use x509_rattle::{Certificate, CertificateRef, Crl, Csr, TrustAnchor};
+use x509_rattle::{Certificate, CertificateRef, Crl, CsrRef, TrustAnchor};
 
 const CERTIFICATE: &[u8] = include_bytes!("../../../examples/data/certificate.der");
 const LIST: &[u8] = include_bytes!("../../../examples/data/list.der");
@@ -101,7 +101,7 @@ fn crls() {
 
 #[test]
 fn csrs() {
-    let it = Csr::from_der(REQUEST).expect("a CSR");
+    let it = CsrRef::from_der(REQUEST).expect("a CSR");
     let key = hex(it.public_key().expect("a key").bits);
     let signature = hex(it.signature().expect("a signature").bits);
     let (text, json) = documents(&[

@@ -149,3 +149,21 @@ fn the_version_is_that_of_the_header() {
     let told = (number("MAJOR"), number("MINOR"), number("PATCH"));
     assert_eq!(x509_rattle::library_version(), told);
 }
+
+#[test]
+fn algorithms_are_those_of_the_header() {
+    let written = include_str!("../src/algorithm.rs");
+    let constants = between(written, "pub const ", ";\n");
+    assert_eq!(
+        constants.len(),
+        between(HEADER, "#define X509_ALGORITHM_", "\n").len()
+    );
+    for constant in constants {
+        let (name, octets) = constant.split_once(": &[u8] =").expect("octets");
+        let octets = octets.trim_start().strip_prefix('b').expect("octets");
+        assert!(
+            HEADER.contains(&format!("#define X509_ALGORITHM_{name} {octets}")),
+            "{name}"
+        );
+    }
+}

@@ -3,8 +3,8 @@ use std::cell::RefCell;
 use std::convert::Infallible;
 use std::time::{Duration, SystemTime, UNIX_EPOCH};
 use x509_rattle::extension::{
-    BasicConstraints, CertificatePolicies, GeneralSubtree, NameConstraints, PolicyInformation,
-    PolicyMapping, PolicyMappings, SubjectAltName, ToExtension,
+    BasicConstraints, CertificatePolicies, GeneralSubtree, NameConstraints, PolicyConstraints,
+    PolicyInformation, PolicyMapping, PolicyMappings, SubjectAltName, ToExtension,
 };
 use x509_rattle::{
     check_path, oid, validate_path, Certificate, CertificateBuilder, CertificateRef, Error,
@@ -284,6 +284,40 @@ fn policies_are_followed() {
     assert_eq!(of([&any, &other], &asked), refused);
     asked.require_explicit_policy(false);
     assert_eq!(of([&plain, &server], &asked), Ok(vec![]));
+}
+
+/// RFC 5937 3.2: the policies and the flags of an anchor are merged with what the caller asks.
+#[test]
+fn policies_of_anchors_are_followed() {
+    let settings = PathSettings::new(at(MOMENT));
+    let root = |asks: &dyn Fn(&mut CertificateBuilder)| {
+        certificate("CN=Root", "CN=Root", KEY, &[&is_ca, asks])
+    };
+    let limited = root(&under(&["1.2.4"]));
+    // whatever the number
+    let explicit = root(&|builder: &mut CertificateBuilder| {
+        let constraints = PolicyConstraints {
+            require_explicit_policy: Some(3),
+            inhibit_policy_mapping: None,
+        };
+        add(builder, oid::extension::POLICY_CONSTRAINTS, &constraints);
+    });
+    let authority = certificate("CN=Root", "CN=CA", OTHER_KEY, &[&is_ca, &under(&["1.2.3"])]);
+    let server = |policies| certificate("CN=CA", "CN=S", KEY, &[&under(policies)]);
+    let (one, other) = (server(&["1.2.3"]), server(&["1.2.5"]));
+    let of = |root: &Certificate, server: &Certificate| {
+        let path = [authority.as_der(), server.as_der()];
+        let policies = |trusted: Trusted<'_>| {
+            validate_path(trusted, &path, &settings, &accepts).map(|it| it.policies().to_vec())
+        };
+        let anchor = TrustAnchor::from_der(root.as_der()).expect("an anchor");
+        let found = policies(root.to_ref().into());
+        assert_eq!(policies(anchor.into()), found);
+        found
+    };
+    assert_eq!(of(&limited, &one), Ok(vec![]));
+    assert_eq!(of(&explicit, &one), Ok(vec![policy("1.2.3")]));
+    assert_eq!(of(&explicit, &other), Err(fault(1, FaultReason::Policy)));
 }
 
 #[test]

@@ -18,6 +18,7 @@ mod point;
 mod policy;
 mod profile;
 mod request;
+mod revocation;
 mod subtree;
 mod text;
 mod timestamp;

@@ -3,6 +3,8 @@
 ghost use Rattle.std.specs.Prelude.{◌≡◌, [], length};
 ghost use Rattle.x509_base.specs.CivilTime.{unix_seconds};
 ghost use Rattle.x509_c_calls.specs.CrlEntries.{IsEntry};
+ghost use Rattle.x509_c_calls.specs.FoundEntry.{LooksUpEntry};
+ghost use Rattle.x509_c_calls.specs.Issued.{StepsIssued};
 ghost use Rattle.x509_c_calls.specs.Revoked.{LooksUp};
 ghost use Rattle.x509_c_calls.specs.CrlView.{IsCrl};
 ghost use Rattle.x509_c_calls.specs.Cursor.{Steps};
@@ -16,8 +18,8 @@ ghost use Rattle.x509_ext.specs.LookUp.{Finds, members, with_oid};
 use std::alloc::Global;
 use x509_base::{GeneralizedTime, Rfc5280, SerialNumber};
 use x509_c_calls::{
-    CrlEntryView, CrlView, Revocation, crl_lookup, crl_view, crl_walk, generalized_time,
-    member_next,
+    CrlEntryView, CrlView, Revocation, Span, crl_entry_find, crl_issued_next, crl_lookup, crl_view,
+    crl_walk, generalized_time, member_next,
 };
 use x509_cert::crl::{CertificateList, RevokedCert};
 use x509_der::{AssociatedOid, Decode, Grammar, Tag};
@@ -71,6 +73,35 @@ pub extern "C" fn x509_crl_entry_next(
         (λ entry behind span. IsEntry input.now entry behind found.new) (found.new ≡ found.old) status) result }
 {
     member_next::<CrlEntryView>(alloc, Tag::Sequence, input, at, found).code()
+}
+
+/// Fills in the next entry of a list of entries, and where the names of its issuer stand.
+#[unsafe(no_mangle)]
+pub extern "C" fn x509_crl_issued_next(
+    alloc: Global,
+    input: &[u8],
+    at: &mut usize,
+    issuer: &mut Span,
+    found: &mut CrlEntryView,
+) -> i32
+    ensures { Tells (λ status. StepsIssued ⟦<RevokedCert<Rfc5280> as Grammar>⟧.form ⟦<RevokedCert<Rfc5280> as Grammar>⟧.refuses
+        ⟦<RevokedCert<Rfc5280> as Decode>⟧.wants_memory input.now at.old at.new issuer.old issuer.new found.old found.new status) result }
+{
+    crl_issued_next(alloc, input, at, issuer, found).code()
+}
+
+/// Fills in the first entry of a list of entries with a serial number. The list isn't checked.
+#[unsafe(no_mangle)]
+pub extern "C" fn x509_crl_entry_find(
+    alloc: Global,
+    input: &[u8],
+    serial_number: &[u8],
+    found: &mut CrlEntryView,
+) -> i32
+    ensures { Tells (λ status. LooksUpEntry ⟦<SerialNumber<Rfc5280> as Grammar>⟧.form ⟦<SerialNumber<Rfc5280> as Grammar>⟧.refuses
+        ⟦<RevokedCert<Rfc5280> as Grammar>⟧.refuses input.now serial_number.now found.old found.new status) result }
+{
+    crl_entry_find(alloc, input, serial_number, found).code()
 }
 
 /// Reads an invalidity date, and fills in its seconds since 1970-01-01T00:00:00Z.

@@ -25,6 +25,8 @@ pub mod CrlFields
 pub mod EntryCounts
 pub mod Cuts
 pub mod Walks
+pub mod FoundEntries
+pub mod IssuedEntries
 pub mod PayloadMembers
 pub mod Octets
 pub mod PayloadBits
@@ -40,7 +42,9 @@ pub mod PointNames
 pub mod Ends
 pub mod Settings
 pub mod Notices
+pub mod UniversalTexts
 pub mod Strings
 pub mod RsaKeys
 pub mod Moments
 pub mod PolicyOctets
+pub mod RevocationCrls

@@ -48,34 +48,34 @@ bmp_refused octets Value h = inr (no_bmp octets Value h)
 
 -- ---- characters of other strings
 
-pub other_text : (tag : Tag) (octets : List ℕ) → (tag ≡ BmpString → ⊥) → text_in tag octets ≡ plain_text tag octets
-other_text Boolean octets other = refl
-other_text Integer octets other = refl
-other_text BitString octets other = refl
-other_text OctetString octets other = refl
-other_text Null octets other = refl
-other_text ObjectIdentifier octets other = refl
-other_text Real octets other = refl
-other_text Enumerated octets other = refl
-other_text Utf8String octets other = refl
-other_text RelativeOid octets other = refl
-other_text NumericString octets other = refl
-other_text PrintableString octets other = refl
-other_text TeletexString octets other = refl
-other_text VideotexString octets other = refl
-other_text Ia5String octets other = refl
-other_text UtcTime octets other = refl
-other_text GeneralizedTime octets other = refl
-other_text GraphicString octets other = refl
-other_text VisibleString octets other = refl
-other_text GeneralString octets other = refl
-other_text UniversalString octets other = refl
-other_text BmpString octets other = absurd (other refl)
-other_text Sequence octets other = refl
-other_text Set octets other = refl
-other_text (Application constructed number) octets other = refl
-other_text (ContextSpecific constructed number) octets other = refl
-other_text (Private constructed number) octets other = refl
+pub other_text : (tag : Tag) (octets : List ℕ) → (tag ≡ BmpString → ⊥) → (tag ≡ UniversalString → ⊥) → text_in tag octets ≡ plain_text tag octets
+other_text Boolean octets bmp universal = refl
+other_text Integer octets bmp universal = refl
+other_text BitString octets bmp universal = refl
+other_text OctetString octets bmp universal = refl
+other_text Null octets bmp universal = refl
+other_text ObjectIdentifier octets bmp universal = refl
+other_text Real octets bmp universal = refl
+other_text Enumerated octets bmp universal = refl
+other_text Utf8String octets bmp universal = refl
+other_text RelativeOid octets bmp universal = refl
+other_text NumericString octets bmp universal = refl
+other_text PrintableString octets bmp universal = refl
+other_text TeletexString octets bmp universal = refl
+other_text VideotexString octets bmp universal = refl
+other_text Ia5String octets bmp universal = refl
+other_text UtcTime octets bmp universal = refl
+other_text GeneralizedTime octets bmp universal = refl
+other_text GraphicString octets bmp universal = refl
+other_text VisibleString octets bmp universal = refl
+other_text GeneralString octets bmp universal = refl
+other_text UniversalString octets bmp universal = absurd (universal refl)
+other_text BmpString octets bmp universal = absurd (bmp refl)
+other_text Sequence octets bmp universal = refl
+other_text Set octets bmp universal = refl
+other_text (Application constructed number) octets bmp universal = refl
+other_text (ContextSpecific constructed number) octets bmp universal = refl
+other_text (Private constructed number) octets bmp universal = refl
 
 -- ---- the string that bytes are
 

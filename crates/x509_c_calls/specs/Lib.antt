@@ -35,9 +35,13 @@ pub mod Signature
 pub mod Revoked
 pub mod CrlView
 pub mod CrlEntries
+pub mod FoundEntry
+pub mod Issued
 pub mod Pieces
 pub mod Paths
 pub mod PathValidation
+pub mod RevocationStatus
+pub mod OpenedCrls
 pub mod Cursor
 pub mod Optional
 pub mod PayloadExtensions
@@ -55,6 +59,7 @@ pub mod Notices
 pub mod Points
 pub mod Subtrees
 pub mod Texts
+pub mod Universal
 pub mod StringTexts
 pub mod Periods
 pub mod Decimals

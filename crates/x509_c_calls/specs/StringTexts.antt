@@ -4,6 +4,7 @@ use Rattle.std.proofs.Common.{arith}
 use Rattle.std.proofs.lemmas.Bool.Decides.{nat_tests}
 use Rattle.std.specs.List.{list_all}
 use Rattle.std.specs.Str.{is_utf8}
+use Rattle.x509_c_calls.specs.Universal.{universal_text}
 use Rattle.x509_der.specs.Any.{any}
 use Rattle.x509_der.specs.Element.{limit}
 use Rattle.x509_der.specs.Form.{Spells}
@@ -11,7 +12,7 @@ use Rattle.x509_der.specs.declared.any.Any.{Any}
 use Rattle.x509_der.specs.declared.error.ErrorKind.{ErrorKind}
 use Rattle.x509_der.specs.declared.error.ErrorKind.TheVariants.{Overlength, Malformed}
 use Rattle.x509_der.specs.declared.tag.Tag.{Tag}
-use Rattle.x509_der.specs.declared.tag.Tag.TheVariants.{Utf8String, NumericString, PrintableString, TeletexString, Ia5String, VisibleString, BmpString}
+use Rattle.x509_der.specs.declared.tag.Tag.TheVariants.{Utf8String, NumericString, PrintableString, TeletexString, Ia5String, VisibleString, UniversalString, BmpString}
 use Rattle.x509_prim.specs.Alphabet.{is_ia5, is_printable, is_visible}
 use Rattle.x509_prim.specs.Bmp.{bmp_chars, is_bmp}
 
@@ -44,6 +45,7 @@ bmp_text octets = if is_bmp octets then Some (encode_utf8_all (bmp_chars octets)
 -- the text of a string with this tag and these content octets
 abbrev pub text_in : Tag → List ℕ → Option (List ℕ)
 text_in BmpString octets = bmp_text octets
+text_in UniversalString octets = universal_text octets
 text_in tag octets = plain_text tag octets
 
 -- the text, or Malformed where there is none

@@ -21,6 +21,7 @@ mod status_words;
 mod string;
 mod subtree;
 mod text;
+mod universal;
 mod walk;
 
 pub use access::AccessView;
@@ -28,6 +29,7 @@ pub use calls::{
     View, content, content_next, element_next, member_next, member_under_next, payload,
 };
 pub use constraints::BasicConstraintsView;
+pub(crate) use cursor::left;
 pub use cursor::next;
 pub use decimal::decimal_text;
 pub use element::ElementView;

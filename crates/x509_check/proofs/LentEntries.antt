@@ -1,6 +1,6 @@
 -- Looking for an entry while a CRL is checked.
 use Rattle.std.proofs.Common.{◌≡◌, ◌⊎◌, ◌<◌, ◌≤◌, ℕ, Bool, true, false, List, [], ◌∷◌, ◌++◌, length, get_or, Option, Some, None, Result, Ok, Err, refl, sym, subst, ap, ◌∙◌, inl, inr, arith}
-use Rattle.std.specs.Prelude.{bytes_eq, is_some, filter, IfOk, IfErr, IsOk, IsSomeAnd}
+use Rattle.std.specs.Prelude.{bytes_eq, is_some, filter, IfOk, IfErr, IsOk}
 use Rattle.std.proofs.lemmas.List.Elements.{filter-append}
 use Rattle.x509_cert.specs.declared.crl.revoked_cert.RevokedCert.{RevokedCert}
 use Rattle.x509_check.specs.CrlRefs.{FindsEntry, lent_entry}
@@ -31,14 +31,12 @@ module _ {P : Type 0} (number : List ℕ) where
   none_found : (front : List (RevokedCert P)) (entry : RevokedCert P) → FindsEntry number front None → bytes_eq entry.serial_number number ≡ false → FindsEntry number (front ++ entry ∷ []) None
   none_found front entry none other = filter-append asked front (entry ∷ []) ∙ rw (none, other) refl
 
-  pub found_now : (front : List (RevokedCert P)) (found : Option RevokedCertRef) (entry : RevokedCertRef) → is_some found ≡ false → bytes_eq entry.serial_number.now number ≡ true → FindsEntry number front found → FindsEntry number (front ++ lent_entry entry ∷ []) (Some entry)
+  found_now : (front : List (RevokedCert P)) (found : Option RevokedCertRef) (entry : RevokedCertRef) → is_some found ≡ false → bytes_eq entry.serial_number.now number ≡ true → FindsEntry number front found → FindsEntry number (front ++ lent_entry entry ∷ []) (Some entry)
   found_now front None entry none is h = first_found front entry h is
   found_now front (Some first) entry none is h = absurd cc
 
-  pub found_front : (front : List (RevokedCert P)) (found answer : Option RevokedCertRef) (entry : RevokedCert P) → is_some found ≡ false → bytes_eq entry.serial_number number ≡ true → IsSomeAnd answer (λ lent. lent_entry lent ≡ entry) → FindsEntry number front found → FindsEntry number (front ++ entry ∷ []) answer
-  found_front front found None entry none is some h = absurd some
-  found_front front found (Some lent) entry none is some h =
-      let same : lent_entry lent ≡ entry = some in
+  pub found_front : (front : List (RevokedCert P)) (found : Option RevokedCertRef) (lent : RevokedCertRef) (entry : RevokedCert P) → is_some found ≡ false → bytes_eq entry.serial_number number ≡ true → lent_entry lent ≡ entry → FindsEntry number front found → FindsEntry number (front ++ entry ∷ []) (Some lent)
+  found_front front found lent entry none is same h =
       let number-is : bytes_eq lent.serial_number.now number ≡ true = subst (λ (e : RevokedCert P). bytes_eq e.serial_number number ≡ true) (sym same) is in
       subst (λ e. FindsEntry number (front ++ e ∷ []) (Some lent)) same (found_now front found lent none number-is h)
 

@@ -1,5 +1,5 @@
 -- Lists that are lent member by member.
-use Rattle.std.proofs.Common.{◌≡◌, ℕ, List, [], ◌∷◌, Result, Ok, Err, refl, sym, ap, ◌∙◌, arith}
+use Rattle.std.proofs.Common.{◌≡◌, ◌≤◌, ℕ, List, [], ◌∷◌, length, Result, Ok, Err, refl, sym, ap, ◌∙◌, arith}
 use Rattle.std.specs.Prelude.{IsOk}
 use Rattle.x509_check.specs.Lending.{listed}
 use Rattle.x509_der.specs.ElementReading.{Piece, piece_at}
@@ -31,6 +31,11 @@ refused_list : {X : Type 0} (whole : Result (List X) ErrorKind) (e : ErrorKind) 
 refused_list (Ok xs) e h ok = absurd cc
 refused_list (Err d) e h ok = absurd cc
 
+-- what is read is what is listed
+pub listed_is : {X : Type 0} (reading : Result (List X) ErrorKind) → IsOk reading → reading ≡ Ok (listed reading)
+listed_is (Ok xs) ok = refl
+listed_is (Err d) ok = absurd cc
+
 module _ {X : Type 0} (read : ℕ → List ℕ → Result X ErrorKind) where
   -- where a member stands at the front, it is the first, and the others stand behind it
   pub first_left : (bytes rest : List ℕ) (v : X) → field_at read bytes ≡ Ok (v, rest) → IsOk (list_reading read bytes) → (listed (list_reading read bytes) ≡ v ∷ listed (list_reading read rest)) × IsOk (list_reading read rest)
@@ -40,6 +45,14 @@ module _ {X : Type 0} (read : ℕ → List ℕ → Result X ErrorKind) where
   pub none_further : (bytes : List ℕ) (e : ErrorKind) → field_at read bytes ≡ Err e → IsOk (list_reading read bytes) → listed (list_reading read bytes) ≡ []
   none_further [] e h ok = ap listed (none_read read [] refl)
   none_further (b ∷ bytes) e h ok = refused_list (list_reading read (b ∷ bytes)) e (ends read [] (b ∷ bytes) e (list_reading read (b ∷ bytes)) h (omega arith) (no_front (list_reading read (b ∷ bytes)))) ok
+
+  -- one stands at the front where any are left
+  some_first : (bytes : List ℕ) (r : Result (X × List ℕ) ErrorKind) → field_at read bytes ≡ r → 1 ≤ length bytes → IsOk (list_reading read bytes) → (v : X) × (rest : List ℕ) × (field_at read bytes ≡ Ok (v, rest))
+  some_first bytes (Ok x) e some ok = (x.0, x.1, e)
+  some_first bytes (Err d) e some ok = absurd (let none = ends read [] bytes d (list_reading read bytes) e (omega arith) (no_front (list_reading read bytes)) in let k = sym none ∙ listed_is (list_reading read bytes) ok in cc)
+
+  pub first_of : (bytes : List ℕ) → 1 ≤ length bytes → IsOk (list_reading read bytes) → (v : X) × (rest : List ℕ) × (field_at read bytes ≡ Ok (v, rest))
+  first_of bytes some ok = some_first bytes (field_at read bytes) refl some ok
 
 -- ---- the content of a list
 

@@ -1,4 +1,6 @@
+pub mod CheckedEntries
 pub mod Checks
+pub mod KnownEntries
 pub mod LentLists
 pub mod LentCertificates
 pub mod LentEntries

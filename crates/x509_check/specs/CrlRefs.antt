@@ -1,5 +1,5 @@
 -- CRLs and their entries that are lent from their bytes (RFC 5280 5.1).
-use Rattle.std.specs.Prelude.{◌≡◌, List, [], ℕ, Option, option_copied, option_map, MatchOption, Result, Ok}
+use Rattle.std.specs.Prelude.{◌≡◌, List, [], length, ℕ, Option, option_copied, option_map, MatchOption, Result, Ok}
 use Rattle.x509_base.specs.AlgorithmIdentifier.{algorithm_identifier}
 use Rattle.x509_base.specs.declared.time.Time.{Time}
 use Rattle.x509_cert.specs.CertificateList.{certificate_list, tbs_cert_list}
@@ -49,7 +49,8 @@ entries_in check bytes = listed (list_reading (revoked_cert check).reading bytes
 abbrev pub entry_list : {P : Type 0} → (List ℕ → Result Unit ErrorKind) → Form (List (RevokedCert P))
 entry_list check = universal Sequence (list_of (revoked_cert check))
 
--- The fields of the signed part, each as its own element, or as what it says. Of the extensions it is the element inside the explicit tag.
+-- The fields of the signed part, each as its own element, or as what it says, and how many entries there are. Of the extensions it is the element inside
+-- the explicit tag.
 pub record FieldSpellings : Type 0 where
   pub version : Option Version
   pub signature : List ℕ
@@ -57,6 +58,7 @@ pub record FieldSpellings : Type 0 where
   pub this_update : Time
   pub next_update : Option Time
   pub revoked_certificates : Option (List ℕ)
+  pub entry_count : ℕ
   pub crl_extensions : Option (List ℕ)
 
 pub record ListSpellings : Type 0 where
@@ -74,6 +76,7 @@ field_spellings check part = record {
   this_update = part.this_update;
   next_update = part.next_update;
   revoked_certificates = option_map (spelling (entry_list check)) part.revoked_certificates;
+  entry_count = length (entries part.revoked_certificates);
   crl_extensions = option_map (spelling extensions) part.crl_extensions;
 }
 
@@ -94,6 +97,7 @@ lent_fields f = record {
   this_update = f.this_update;
   next_update = f.next_update;
   revoked_certificates = option_copied f.revoked_certificates;
+  entry_count = f.entry_count;
   crl_extensions = option_copied f.crl_extensions;
 }
 

@@ -22,7 +22,7 @@ use Rattle.x509_cert.specs.declared.anchor.trust_anchor_info.TrustAnchorInfo.{Tr
 use Rattle.x509_cert.specs.declared.certificate.tbs_certificate.TbsCertificateInner.{TbsCertificateInner}
 use Rattle.x509_cert.specs.der.Cases.{choice_content, choice_tag}
 use Rattle.x509_cert.specs.der.Element.{element, limit}
-use Rattle.x509_cert.specs.der.Form.{Spells, spelling}
+use Rattle.x509_cert.specs.der.Form.{Form, Spells, spelling}
 use Rattle.x509_cert.specs.der.Frames.{default_octets, explicit, fields_octets, implicit, optional_octets}
 use Rattle.x509_cert.specs.der.Natural.{natural}
 use Rattle.x509_cert.specs.der.declared.error.Error.{Error}
@@ -33,15 +33,17 @@ use Rattle.x509_cert.specs.ext.Identifiers.{id_ce}
 use Rattle.x509_cert.specs.ext.LookUp.{members}
 use Rattle.x509_cert.specs.ext.NameConstraints.{name_constraints}
 use Rattle.x509_cert.specs.ext.declared.extension.Extension.{Extension}
+use Rattle.x509_cert.specs.ext.declared.pkix.certificate_policies.CertificatePolicies.{CertificatePolicies}
 use Rattle.x509_cert.specs.ext.declared.pkix.name_constraints.NameConstraints.{NameConstraints}
 use Rattle.x509_cert.specs.name.Names.{name}
 use Rattle.x509_cert.specs.prim.BitString.{bit_string}
 use Rattle.x509_cert.specs.prim.OctetString.{octet_string}
 use Rattle.x509_cert.specs.prim.Texts.{utf8_string}
 use Rattle.x509_path.proofs.Lent.{content_within}
-use Rattle.x509_path.specs.Certificates.{Certificate}
+use Rattle.x509_path.specs.Certificates.{Certificate, extensions_of}
 use Rattle.x509_path.specs.Inputs.{Trust}
 use Rattle.x509_path.specs.Trusts.{AreOwnLimits, HoldsTrust, IsNoAnchor, IsOverlong, IsTrustOf, IsTrustOfAnchor, IsTrustOfInfo, IsUntrusted, IsValueOf, RefusesAnchor, RefusesTrust, or_else}
+use Rattle.x509_path.specs.declared.limits.Limits.{Limits}
 use Rattle.x509_path.specs.declared.trusted_buf.TrustedBuf.{TrustedBuf}
 
 -- ---- parts within a whole
@@ -149,6 +151,21 @@ module _ (controls : CertPathControls Rfc5280) where
       subst (λ (o : Option NameConstraints). length (optional_octets (spelling (implicit 3 name_constraints)) o) ≤ length (spelling (cert_path_controls rfc5280_serial_number) controls)) is constraints_part in
       omega (arith, part, as_long 163 48 (name_constraints.content asks))
 
+  policies_part : length (optional_octets (spelling (implicit 1 certificate_policies)) controls.policy_set) ≤ length (spelling (cert_path_controls rfc5280_serial_number) controls)
+  policies_part = omega (
+    arith,
+    controls_content,
+    in_front (spelling name controls.ta_name ++ behind_name) (flags ++ (constraints ++ path_length)),
+    behind (spelling name controls.ta_name) behind_name,
+    behind (optional_octets (spelling (implicit 0 (certificate rfc5280_serial_number))) controls.certificate) (optional_octets (spelling (implicit 1 certificate_policies)) controls.policy_set),
+  )
+
+  policies_within : (set : CertificatePolicies) → controls.policy_set ≡ Some set → length (spelling certificate_policies set) ≤ length (spelling (cert_path_controls rfc5280_serial_number) controls)
+  policies_within set is =
+      let part : length (element 161 (certificate_policies.content set)) ≤ length (spelling (cert_path_controls rfc5280_serial_number) controls) =
+      subst (λ (o : Option CertificatePolicies). length (optional_octets (spelling (implicit 1 certificate_policies)) o) ≤ length (spelling (cert_path_controls rfc5280_serial_number) controls)) is policies_part in
+      omega (arith, part, as_long 161 48 (certificate_policies.content set))
+
 module _ (info : TrustAnchorInfo Rfc5280) where
   abbrev behind_pub_key : List ℕ
   behind_pub_key = spelling octet_string info.key_id ++ optional_octets (spelling utf8_string) info.ta_title
@@ -186,8 +203,15 @@ module _ (info : TrustAnchorInfo Rfc5280) where
 
 -- ---- what is trusted
 
-own_within : (es : List Extension) (asks : NameConstraints) → IsValueOf name_constraints (id_ce 30) es (Some asks) → length (spelling name_constraints asks) ≤ limit
-own_within es asks (e, one, spells) = subst (λ b. length b ≤ limit) spells.1 spells.2
+module _ {T : Type 0} (form : Form T) (oid : List ℕ) where
+  own_within : (es : List Extension) (value : T) → IsValueOf form oid es (Some value) → length (spelling form value) ≤ limit
+  own_within es value (e, one, spells) = subst (λ b. length b ≤ limit) spells.1 spells.2
+
+  -- one of the controls, or else one of the certificate in them
+  either_within : (first own : Option T) (value : T) → ((v : T) → first ≡ Some v → length (spelling form v) ≤ limit) → ((v : T) → own ≡ Some v → length (spelling form v) ≤ limit)
+      → or_else first own ≡ Some value → length (spelling form value) ≤ limit
+  either_within None own value fits own_fits some = own_fits value some
+  either_within (Some v) own value fits own_fits some = fits value some
 
 of_part : (t : TbsCertificateInner Rfc5280) (trust : Trust) → IsTrustOf t trust → length (spelling rfc5280_tbs_certificate t) ≤ limit → IsOverlong trust → ⊥
 of_part t trust is fits (inl long) =
@@ -196,17 +220,20 @@ of_part t trust is fits (inl long) =
 of_part t trust is fits (inr (inl long)) =
     let same : trust.anchor.key ≡ t.subject_public_key_info = ap (λ a. a.key) is.anchor in
     omega (arith, fits, key_within t, subst (λ k. limit < length (spelling subject_public_key_info k)) same long)
-of_part t trust is fits (inr (inr (asks, some, long))) =
-    omega (arith, long, own_within (members t.extensions) asks (subst (λ o. IsValueOf name_constraints (id_ce 30) (members t.extensions) o) some is.limits.are_constraints))
+of_part t trust is fits (inr (inr (inl (asks, some, long)))) =
+    omega (arith, long, own_within name_constraints (id_ce 30) (members t.extensions) asks (subst (λ o. IsValueOf name_constraints (id_ce 30) (members t.extensions) o) some is.limits.constraints))
+of_part t trust is fits (inr (inr (inr (set, some, long)))) =
+    omega (arith, long, own_within certificate_policies (id_ce 32) (members t.extensions) set (subst (λ o. IsValueOf certificate_policies (id_ce 32) (members t.extensions) o) some is.limits.policies))
 
-own_limit : (own : Option Certificate) (found : Option NameConstraints) (length_ : Option ℕ) (asks : NameConstraints) → AreOwnLimits own found length_ → found ≡ Some asks → length (spelling name_constraints asks) ≤ limit
-own_limit None found length_ asks own some = absurd (let e : None ≡ Some asks = sym own.0 ∙ some in cc)
-own_limit (Some c) found length_ asks own some =
-    own_within (members c.tbs_certificate.extensions) asks (subst (λ o. IsValueOf name_constraints (id_ce 30) (members c.tbs_certificate.extensions) o) some own.are_constraints)
+own_constraints : (own : Option Certificate) (limits : Limits) (asks : NameConstraints) → AreOwnLimits own limits → limits.constraints ≡ Some asks → length (spelling name_constraints asks) ≤ limit
+own_constraints None limits asks are some = absurd (let e : None ≡ Some asks = sym (ap (λ (l : Limits). l.constraints) are) ∙ some in cc)
+own_constraints (Some c) limits asks are some =
+    own_within name_constraints (id_ce 30) (extensions_of c) asks (subst (λ o. IsValueOf name_constraints (id_ce 30) (extensions_of c) o) some are.constraints)
 
-either_limit : (own : Option Certificate) (first found : Option NameConstraints) (length_ : Option ℕ) (asks : NameConstraints) → AreOwnLimits own found length_ → ((a : NameConstraints) → first ≡ Some a → length (spelling name_constraints a) ≤ limit) → or_else first found ≡ Some asks → length (spelling name_constraints asks) ≤ limit
-either_limit own None found length_ asks limits fits some = own_limit own found length_ asks limits some
-either_limit own (Some a) found length_ asks limits fits some = fits asks some
+own_policies : (own : Option Certificate) (limits : Limits) (set : CertificatePolicies) → AreOwnLimits own limits → limits.policies ≡ Some set → length (spelling certificate_policies set) ≤ limit
+own_policies None limits set are some = absurd (let e : None ≡ Some set = sym (ap (λ (l : Limits). l.policies) are) ∙ some in cc)
+own_policies (Some c) limits set are some =
+    own_within certificate_policies (id_ce 32) (extensions_of c) set (subst (λ o. IsValueOf certificate_policies (id_ce 32) (extensions_of c) o) some are.policies)
 
 of_description : (info : TrustAnchorInfo Rfc5280) (trust : Trust) → IsTrustOfInfo info trust → length (spelling (trust_anchor_info rfc5280_serial_number) info) ≤ limit → IsOverlong trust → ⊥
 of_description info trust is fits (inl long) =
@@ -215,10 +242,16 @@ of_description info trust is fits (inl long) =
 of_description info trust is fits (inr (inl long)) =
     let same : trust.anchor.key ≡ info.pub_key = ap (λ a. a.key) is.anchor in
     omega (arith, fits, pub_key_within info, subst (λ k. limit < length (spelling subject_public_key_info k)) same long)
-of_description info trust is fits (inr (inr (asks, some, long))) =
-    let own = either_limit is.controls.certificate is.controls.name_constr is.constraints is.length asks is.own
-    (λ a has. omega (arith, fits, path_within info is.controls is.has_controls, constraints_within is.controls a has)) (sym is.are_constraints ∙ some) in
-    omega (arith, long, own)
+of_description info trust is fits (inr (inr (inl (asks, some, long)))) =
+    let within = either_within name_constraints (id_ce 30) is.controls.name_constr is.own.constraints asks
+    (λ a has. omega (arith, fits, path_within info is.controls is.has_controls, constraints_within is.controls a has))
+    (λ a has. own_constraints is.controls.certificate is.own a is.are_own has) (sym (ap (λ (l : Limits). l.constraints) is.limits) ∙ some) in
+    omega (arith, long, within)
+of_description info trust is fits (inr (inr (inr (set, some, long)))) =
+    let within = either_within certificate_policies (id_ce 32) is.controls.policy_set is.own.policies set
+    (λ s has. omega (arith, fits, path_within info is.controls is.has_controls, policies_within is.controls s has))
+    (λ s has. own_policies is.controls.certificate is.own s is.are_own has) (sym (ap (λ (l : Limits). l.policies) is.limits) ∙ some) in
+    omega (arith, long, within)
 
 within : (anchor : TrustAnchorChoice Rfc5280) (trust : Trust) → IsTrustOfAnchor anchor trust → length (spelling rfc5280_trust_anchor_choice anchor) ≤ limit → IsOverlong trust → ⊥
 unfolding choice_content choice_tag

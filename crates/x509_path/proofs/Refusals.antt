@@ -16,15 +16,19 @@ use Rattle.x509_cert.specs.der.declared.error.Error.{Error}
 use Rattle.x509_cert.specs.der.declared.error.ErrorKind.{ErrorKind}
 use Rattle.x509_cert.specs.der.declared.error.ErrorKind.TheVariants.{Failed, Malformed, Memory, Overlength, SetDuplicate, Value}
 use Rattle.x509_cert.specs.ext.BasicConstraints.{basic_constraints}
+use Rattle.x509_cert.specs.ext.CertificatePolicies.{certificate_policies}
 use Rattle.x509_cert.specs.ext.Identifiers.{id_ce}
+use Rattle.x509_cert.specs.ext.InhibitAnyPolicy.{inhibit_any_policy}
 use Rattle.x509_cert.specs.ext.NameConstraints.{name_constraints}
+use Rattle.x509_cert.specs.ext.PolicyConstraints.{policy_constraints}
 use Rattle.x509_cert.specs.ext.SubjectKeyIdentifier.{subject_key_identifier}
 use Rattle.x509_cert.specs.ext.declared.extension.Extension.{Extension}
-use Rattle.x509_cert.specs.ext.declared.pkix.name_constraints.NameConstraints.{NameConstraints}
 use Rattle.x509_path.specs.Certificates.{Certificate, extensions_of}
 use Rattle.x509_path.specs.Inputs.{Trust}
-use Rattle.x509_path.specs.Trusts.{AreLimits, AreOwnLimits, HasItsCertificate, HasKeyId, HoldsTrust, IsNoAnchor, IsOverlong, IsTrustOfInfo, IsValueOf, RefusesInfo, RefusesItsCertificate, RefusesLimits, RefusesOwnLimits, RefusesTrust, RefusesValue}
+use Rattle.x509_path.specs.Trusts.{AreFlags, AreLimits, AreOwnLimits, HasItsCertificate, HasKeyId, HoldsTrust, IsNoAnchor, IsOverlong, IsTrustOfInfo, IsValueOf, RefusesFlags, RefusesInfo, RefusesItsCertificate, RefusesLimits, RefusesOwnLimits, RefusesTrust, RefusesValue}
+use Rattle.x509_path.specs.declared.limits.Limits.{Limits}
 use Rattle.x509_path.specs.declared.trusted_buf.TrustedBuf.{TrustedBuf}
+use Rattle.x509_policy.specs.declared.anchor.AnchorFlags.{AnchorFlags}
 
 -- ---- what gives no value
 
@@ -41,9 +45,15 @@ no_value form oid es e (inr (x, one, inr (fits, kind, none, which))) (Some value
     let k : y ≡ x = cc in
     none value (subst (λ z. Spells form value z.extn_value) k spells)
 
-pub no_limits : (es : List Extension) (e : ErrorKind) → RefusesLimits es e → (constraints : Option NameConstraints) (limit_ : Option ℕ) → AreLimits es constraints limit_ → ⊥
-no_limits es e (inl refused) constraints limit_ limits = no_value name_constraints (id_ce 30) es e refused constraints limits.are_constraints
-no_limits es e (inr refused) constraints limit_ limits = no_value basic_constraints (id_ce 19) es e refused limits.basic limits.is_basic
+no_flags_said : (es : List Extension) (e : ErrorKind) → RefusesFlags es e → (flags : AnchorFlags) → AreFlags es flags → ⊥
+no_flags_said es e (inl refused) flags said = no_value policy_constraints (id_ce 36) es e refused said.constraints said.are_constraints
+no_flags_said es e (inr refused) flags said = no_value inhibit_any_policy (id_ce 54) es e refused said.inhibit said.is_inhibit
+
+pub no_limits : (es : List Extension) (e : ErrorKind) → RefusesLimits es e → (limits : Limits) → AreLimits es limits → ⊥
+no_limits es e (inl refused) limits are = no_value name_constraints (id_ce 30) es e refused limits.constraints are.constraints
+no_limits es e (inr (inl refused)) limits are = no_value basic_constraints (id_ce 19) es e refused are.max_path_length.0 are.max_path_length.1
+no_limits es e (inr (inr (inl refused))) limits are = no_value certificate_policies (id_ce 32) es e refused limits.policies are.policies
+no_limits es e (inr (inr (inr refused))) limits are = no_flags_said es e refused limits.flags are.flags
 
 no_key_id : (es : List Extension) (key_id : List ℕ) (e : ErrorKind) → RefusesValue subject_key_identifier (id_ce 14) es e → HasKeyId es key_id → ⊥
 no_key_id es key_id e refused (inl none) = no_value subject_key_identifier (id_ce 14) es e refused None none
@@ -65,11 +75,11 @@ module _ (is_trust : Trust → Type 0) (refuses : ErrorKind → Type 0) where
 
 -- ---- descriptions
 
-no_certificate : (info : TrustAnchorInfo Rfc5280) (controls : CertPathControls Rfc5280) (own : Option Certificate) (e : ErrorKind) → RefusesItsCertificate info controls own e → HasItsCertificate info controls own → (constraints : Option NameConstraints) (limit_ : Option ℕ) → AreOwnLimits own constraints limit_ → ⊥
-no_certificate info controls None e refused has constraints limit_ limits = refused
-no_certificate info controls (Some c) e (inl (failed, other)) has constraints limit_ limits = other has
-no_certificate info controls (Some c) e (inr (inl refused)) has constraints limit_ limits = no_key_id (extensions_of c) info.key_id e refused has.key_id
-no_certificate info controls (Some c) e (inr (inr refused)) has constraints limit_ limits = no_limits (extensions_of c) e refused constraints limit_ limits
+no_certificate : (info : TrustAnchorInfo Rfc5280) (controls : CertPathControls Rfc5280) (own : Option Certificate) (e : ErrorKind) → RefusesItsCertificate info controls own e → HasItsCertificate info controls own → (limits : Limits) → AreOwnLimits own limits → ⊥
+no_certificate info controls None e refused has limits are = refused
+no_certificate info controls (Some c) e (inl (failed, other)) has limits are = other has
+no_certificate info controls (Some c) e (inr (inl refused)) has limits are = no_key_id (extensions_of c) info.key_id e refused has.key_id
+no_certificate info controls (Some c) e (inr (inr refused)) has limits are = no_limits (extensions_of c) e refused limits are
 
 pub its_limits : (info : TrustAnchorInfo Rfc5280) (controls : CertPathControls Rfc5280) (own : Option Certificate) (e : ErrorKind) → (e ≡ Memory) ⊎ RefusesOwnLimits own e → (e ≡ Memory) ⊎ RefusesItsCertificate info controls own e
 its_limits info controls own e (inl memory) = inl memory
@@ -90,7 +100,7 @@ module _ (info : TrustAnchorInfo Rfc5280) (controls : CertPathControls Rfc5280) 
 
   pub untrusted : (e : ErrorKind) → RefusesItsCertificate info controls controls.certificate e → (trust : Trust) → IsTrustOfInfo info trust → ⊥
   untrusted e refused trust t =
-      no_certificate info controls controls.certificate e refused (certified trust t) t.constraints t.length (subst (λ c. AreOwnLimits c.certificate t.constraints t.length) (same trust t) t.own)
+      no_certificate info controls controls.certificate e refused (certified trust t) t.own (subst (λ c. AreOwnLimits c.certificate t.own) (same trust t) t.are_own)
 
   -- its certificate is refused
   pub described : (e : ErrorKind) → (e ≡ Memory) ⊎ RefusesItsCertificate info controls controls.certificate e → RefusesTrust (IsTrustOfInfo info) (RefusesInfo info) e

@@ -8,7 +8,6 @@ use Rattle.x509_cert.specs.ext.NameConstraints.{name_constraints}
 use Rattle.x509_cert.specs.ext.declared.pkix.certificate_policies.CertificatePolicies.{CertificatePolicies}
 use Rattle.x509_cert.specs.ext.declared.pkix.name_constraints.NameConstraints.{NameConstraints}
 use Rattle.x509_path.specs.Lent.{LendsAnchor}
-use Rattle.x509_path.specs.Says.{identifiers}
 use Rattle.x509_path.specs.declared.anchor.Anchor.{Anchor}
 use Rattle.x509_path.specs.declared.settings.PathSettings.{PathSettings}
 use Rattle.x509_path.specs.declared.trusted.Trusted.{Trusted}
@@ -21,7 +20,7 @@ pub record Trust : Type 0 where
   pub anchor : Anchor
   pub constraints : Option NameConstraints
   pub max_path_length : Option ℕ
-  pub policies : Option (List Policy)
+  pub policies : Option CertificatePolicies
   pub flags : AnchorFlags
 
 -- the letters are those of RFC 5280 6.1.1
@@ -39,11 +38,11 @@ LendsConstraints None constraints = constraints ≡ None
 LendsConstraints (Some lent) None = ⊥
 LendsConstraints (Some lent) (Some constraints) = Spells name_constraints constraints lent.now
 
--- the octets are those of a CertificatePolicies with these policies, and absent where there are none
-abbrev pub LendsPolicies : Option (Bor (List ℕ)) → Option (List Policy) → Type 0
+-- so of policies
+abbrev pub LendsPolicies : Option (Bor (List ℕ)) → Option CertificatePolicies → Type 0
 LendsPolicies None policies = policies ≡ None
 LendsPolicies (Some lent) None = ⊥
-LendsPolicies (Some lent) (Some policies) = (found : CertificatePolicies) × Spells certificate_policies found lent.now × (policies ≡ identifiers found)
+LendsPolicies (Some lent) (Some policies) = Spells certificate_policies policies lent.now
 
 pub record LendsTrust (trusted : Trusted) (trust : Trust) : Type 0 where
   pub anchor : LendsAnchor trusted.anchor trust.anchor

@@ -1,6 +1,7 @@
--- What is trusted of a certificate, and of a trust anchor (RFC 5937 2, RFC 5914 2.5).
+-- What is trusted of a certificate, and of a trust anchor (RFC 5937 2 and 3.2, RFC 5914 2.5).
 use Rattle.std.specs.Borrow.{Bor}
-use Rattle.std.specs.Prelude.{◌≡◌, ◌<◌, ◌≤◌, ◌⊎◌, ℕ, false, List, [], ◌∷◌, length, Option, Some, None, option_map}
+use Rattle.std.specs.Int.RustNames.{bit_and}
+use Rattle.std.specs.Prelude.{◌≡◌, ◌==◌, ◌<◌, ◌≤◌, ◌^◌, ◌⊎◌, ℕ, Bool, false, List, [], ◌∷◌, length, Option, Some, None, is_some, option_map}
 use Rattle.x509_cert.specs.TrustAnchorChoice.{rfc5280_trust_anchor_choice}
 use Rattle.x509_cert.specs.base.Checked.{CheckRefuses}
 use Rattle.x509_cert.specs.base.Profiles.{rfc5280_serial_number}
@@ -12,14 +13,21 @@ use Rattle.x509_cert.specs.der.Outcome.{IsRefusal}
 use Rattle.x509_cert.specs.der.declared.error.ErrorKind.{ErrorKind}
 use Rattle.x509_cert.specs.der.declared.error.ErrorKind.TheVariants.{Failed, Malformed, Memory, Overlength}
 use Rattle.x509_cert.specs.ext.BasicConstraints.{basic_constraints}
+use Rattle.x509_cert.specs.ext.CertificatePolicies.{certificate_policies}
 use Rattle.x509_cert.specs.ext.Identifiers.{id_ce}
+use Rattle.x509_cert.specs.ext.InhibitAnyPolicy.{inhibit_any_policy}
 use Rattle.x509_cert.specs.ext.LookUp.{members, with_oid}
 use Rattle.x509_cert.specs.ext.NameConstraints.{name_constraints}
+use Rattle.x509_cert.specs.ext.PolicyConstraints.{policy_constraints}
 use Rattle.x509_cert.specs.ext.SubjectKeyIdentifier.{subject_key_identifier}
 use Rattle.x509_cert.specs.ext.declared.extension.Extension.{Extension}
 use Rattle.x509_cert.specs.ext.declared.pkix.basic_constraints.BasicConstraints.{BasicConstraints}
+use Rattle.x509_cert.specs.ext.declared.pkix.certificate_policies.CertificatePolicies.{CertificatePolicies}
+use Rattle.x509_cert.specs.ext.declared.pkix.inhibit_any_policy.InhibitAnyPolicy.{InhibitAnyPolicy}
 use Rattle.x509_cert.specs.ext.declared.pkix.name_constraints.NameConstraints.{NameConstraints}
+use Rattle.x509_cert.specs.ext.declared.pkix.policy_constraints.PolicyConstraints.{PolicyConstraints}
 use Rattle.x509_cert.specs.declared.anchor.cert_path_controls.CertPathControls.{CertPathControls}
+use Rattle.x509_cert.specs.declared.anchor.cert_policies.CertPolicies.{CertPolicies}
 use Rattle.x509_cert.specs.declared.anchor.trust_anchor_choice.TrustAnchorChoice.{TrustAnchorChoice}
 use Rattle.x509_cert.specs.declared.anchor.trust_anchor_choice.TrustAnchorChoice.TheVariants.{Certificate as Whole, TbsCertificate, TaInfo}
 use Rattle.x509_cert.specs.declared.anchor.trust_anchor_info.TrustAnchorInfo.{TrustAnchorInfo}
@@ -28,7 +36,10 @@ use Rattle.x509_cert.specs.name.Names.{name}
 use Rattle.x509_cert.specs.name.declared.attr.type_and_value.AttributeTypeAndValue.{AttributeTypeAndValue}
 use Rattle.x509_path.specs.declared.trusted_buf.TrustedBuf.{TrustedBuf}
 use Rattle.x509_path.specs.Certificates.{Certificate, HasPayload, extensions_of}
-use Rattle.x509_path.specs.Inputs.{LendsConstraints, Trust}
+use Rattle.x509_path.specs.Inputs.{LendsConstraints, LendsPolicies, Trust}
+use Rattle.x509_path.specs.Says.{explicit_policy_of, mapping_inhibit_of}
+use Rattle.x509_path.specs.declared.limits.Limits.{Limits}
+use Rattle.x509_policy.specs.declared.anchor.AnchorFlags.{AnchorFlags}
 
 -- the value of the one extension with the identifier, where there is any
 abbrev pub IsValueOf : {T : Type 0} → Form T → List ℕ → List Extension → Option T → Type 0
@@ -39,24 +50,51 @@ abbrev pub path_length : Option BasicConstraints → Option ℕ
 path_length None = None
 path_length (Some basic) = basic.path_len_constraint
 
--- the constraints and the path length that the extensions give
-pub record AreLimits (extensions : List Extension) (constraints : Option NameConstraints) (max_path_length : Option ℕ) : Type 0 where
-  pub basic : Option BasicConstraints
-  pub is_basic : IsValueOf basic_constraints (id_ce 19) extensions basic
-  pub is_length : max_path_length ≡ path_length basic
-  pub are_constraints : IsValueOf name_constraints (id_ce 30) extensions constraints
+-- the path length that the extensions give, if they give any
+abbrev pub HasLimit : List Extension → Option ℕ → Type 0
+HasLimit extensions limit = (basic : Option BasicConstraints) × IsValueOf basic_constraints (id_ce 19) extensions basic × (limit ≡ path_length basic)
+
+-- A PolicyConstraints and an InhibitAnyPolicy set flags, whatever their numbers: what is trusted has flags alone, and stands above the whole path
+-- (RFC 5937 3.2).
+abbrev pub flags_said : Option PolicyConstraints → Option InhibitAnyPolicy → AnchorFlags
+flags_said constraints inhibit = record {
+  inhibit_policy_mapping = is_some (mapping_inhibit_of constraints);
+  require_explicit_policy = is_some (explicit_policy_of constraints);
+  inhibit_any_policy = is_some inhibit;
+}
+
+-- the flags about policies that the extensions set
+pub record AreFlags (extensions : List Extension) (flags : AnchorFlags) : Type 0 where
+  pub constraints : Option PolicyConstraints
+  pub inhibit : Option InhibitAnyPolicy
+  pub are_constraints : IsValueOf policy_constraints (id_ce 36) extensions constraints
+  pub is_inhibit : IsValueOf inhibit_any_policy (id_ce 54) extensions inhibit
+  pub are_flags : flags ≡ flags_said constraints inhibit
+
+-- the extensions limit paths so
+pub record AreLimits (extensions : List Extension) (limits : Limits) : Type 0 where
+  pub constraints : IsValueOf name_constraints (id_ce 30) extensions limits.constraints
+  pub max_path_length : HasLimit extensions limits.max_path_length
+  pub policies : IsValueOf certificate_policies (id_ce 32) extensions limits.policies
+  pub flags : AreFlags extensions limits.flags
+
+abbrev pub limits_of : Trust → Limits
+limits_of trust = record { constraints = trust.constraints; max_path_length = trust.max_path_length; policies = trust.policies; flags = trust.flags }
 
 -- a certificate is trusted: its subject and its key, for the paths that its extensions allow
 pub record IsTrustOf (signed : TbsCertificateInner Rfc5280) (trust : Trust) : Type 0 where
   pub anchor : trust.anchor ≡ record { name = signed.subject; key = signed.subject_public_key_info }
-  pub limits : AreLimits (members signed.extensions) trust.constraints trust.max_path_length
+  pub limits : AreLimits (members signed.extensions) (limits_of trust)
 
 -- ---- trust anchors
 
+abbrev pub no_flags : AnchorFlags
+no_flags = record { inhibit_policy_mapping = false; require_explicit_policy = false; inhibit_any_policy = false }
+
 -- the limits that the certificate in the description of an anchor gives, if there is one
-abbrev pub AreOwnLimits : Option Certificate → Option NameConstraints → Option ℕ → Type 0
-AreOwnLimits None constraints length = (constraints ≡ None) × (length ≡ None)
-AreOwnLimits (Some c) constraints length = AreLimits (members c.tbs_certificate.extensions) constraints length
+abbrev pub AreOwnLimits : Option Certificate → Limits → Type 0
+AreOwnLimits None limits = limits ≡ record { constraints = None; max_path_length = None; policies = None; flags = no_flags }
+AreOwnLimits (Some c) limits = AreLimits (extensions_of c) limits
 
 -- the key identifier that the extensions give is this one, if they give any (RFC 5280 4.2.1.2)
 abbrev pub HasKeyId : List Extension → List ℕ → Type 0
@@ -77,18 +115,34 @@ abbrev pub or_else : {X : Type 0} → Option X → Option X → Option X
 or_else None other = other
 or_else (Some x) other = Some x
 
+-- the named bit n is set
+abbrev pub has_flag : CertPolicies → ℕ → Bool
+has_flag set n = bit_and set.0 (2 ^ n) == 2 ^ n
+
+-- the flags of the controls (RFC 5914 2.5), or else those
+abbrev pub flags_or : Option CertPolicies → AnchorFlags → AnchorFlags
+flags_or None flags = flags
+flags_or (Some set) flags = record { inhibit_policy_mapping = has_flag set 0; require_explicit_policy = has_flag set 1; inhibit_any_policy = has_flag set 2 }
+
+-- the limits of the controls, and in the place of each that these don't have one of those
+abbrev pub limits_under : CertPathControls Rfc5280 → Limits → Limits
+limits_under controls limits = record {
+  constraints = or_else controls.name_constr limits.constraints;
+  max_path_length = or_else controls.path_len_constraint limits.max_path_length;
+  policies = or_else controls.policy_set limits.policies;
+  flags = flags_or controls.policy_flags limits.flags;
+}
+
 -- a description is trusted: under the name of its controls, with its key, for the paths that its controls allow; limits that these don't have are
 -- those of the certificate in them, which has to be of this anchor
 pub record IsTrustOfInfo (info : TrustAnchorInfo Rfc5280) (trust : Trust) : Type 0 where
   pub controls : CertPathControls Rfc5280
-  pub constraints : Option NameConstraints
-  pub length : Option ℕ
+  pub own : Limits
   pub has_controls : info.cert_path ≡ Some controls
   pub certificate : HasItsCertificate info controls controls.certificate
-  pub own : AreOwnLimits controls.certificate constraints length
+  pub are_own : AreOwnLimits controls.certificate own
   pub anchor : trust.anchor ≡ record { name = controls.ta_name; key = info.pub_key }
-  pub are_constraints : trust.constraints ≡ or_else controls.name_constr constraints
-  pub is_length : trust.max_path_length ≡ or_else controls.path_len_constraint length
+  pub limits : limits_of trust ≡ limits_under controls own
 
 abbrev pub IsTrustOfAnchor : TrustAnchorChoice Rfc5280 → Trust → Type 0
 IsTrustOfAnchor (Whole c) trust = IsTrustOf c.tbs_certificate trust
@@ -102,22 +156,28 @@ HoldsConstraints None constraints = constraints ≡ None
 HoldsConstraints (Some octets) None = ⊥
 HoldsConstraints (Some octets) (Some constraints) = Spells name_constraints constraints octets
 
+abbrev pub HoldsPolicies : Option (List ℕ) → Option CertificatePolicies → Type 0
+HoldsPolicies None policies = policies ≡ None
+HoldsPolicies (Some octets) None = ⊥
+HoldsPolicies (Some octets) (Some policies) = Spells certificate_policies policies octets
+
 pub record HoldsTrust (trusted : TrustedBuf) (trust : Trust) : Type 0 where
   pub name : Spells name trust.anchor.name trusted.name.items
   pub key : Spells subject_public_key_info trust.anchor.key trusted.key.items
   pub constraints : HoldsConstraints (option_map (λ octets. octets.items) trusted.name_constraints) trust.constraints
   pub max_path_length : trust.max_path_length ≡ trusted.max_path_length
-  pub policies : trust.policies ≡ None
-  pub flags : trust.flags ≡ record { inhibit_policy_mapping = false; require_explicit_policy = false; inhibit_any_policy = false }
+  pub policies : HoldsPolicies (option_map (λ octets. octets.items) trusted.policies) trust.policies
+  pub flags : trust.flags ≡ trusted.policy_flags
 
 -- ---- refusals
 
--- the name, the key or the constraints are longer than an element may be
+-- the name, the key, the constraints or the policies are longer than an element may be
 abbrev pub IsOverlong : Trust → Type 0
 IsOverlong trust =
     (limit < length (spelling name trust.anchor.name))
     ⊎ ((limit < length (spelling subject_public_key_info trust.anchor.key))
-    ⊎ ((constraints : NameConstraints) × (trust.constraints ≡ Some constraints) × (limit < length (spelling name_constraints constraints))))
+    ⊎ (((constraints : NameConstraints) × (trust.constraints ≡ Some constraints) × (limit < length (spelling name_constraints constraints)))
+    ⊎ ((policies : CertificatePolicies) × (trust.policies ≡ Some policies) × (limit < length (spelling certificate_policies policies)))))
 
 -- The bytes are refused as those of no value: they are too long; or they spell none, as Malformed or as a refusal of the type's own, and which of
 -- them says reading. refuses are the errors of the type's own in reading.
@@ -136,9 +196,15 @@ RefusesValue form oid extensions e =
     ((2 ≤ length (with_oid oid extensions)) × (e ≡ Failed))
     ⊎ ((x : Extension) × (with_oid oid extensions ≡ x ∷ []) × IsRefused form (λ k. ⊥) x.extn_value e)
 
--- one of the two extensions that limit paths gives no value
+-- one of the two extensions that set flags gives no value
+abbrev pub RefusesFlags : List Extension → ErrorKind → Type 0
+RefusesFlags extensions e = RefusesValue policy_constraints (id_ce 36) extensions e ⊎ RefusesValue inhibit_any_policy (id_ce 54) extensions e
+
+-- one of the five extensions that limit paths gives no value
 abbrev pub RefusesLimits : List Extension → ErrorKind → Type 0
-RefusesLimits extensions e = RefusesValue name_constraints (id_ce 30) extensions e ⊎ RefusesValue basic_constraints (id_ce 19) extensions e
+RefusesLimits extensions e =
+    RefusesValue name_constraints (id_ce 30) extensions e
+    ⊎ (RefusesValue basic_constraints (id_ce 19) extensions e ⊎ (RefusesValue certificate_policies (id_ce 32) extensions e ⊎ RefusesFlags extensions e))
 
 -- the certificate in a description is of another anchor, or one of its extensions gives no value
 abbrev pub RefusesItsCertificate : TrustAnchorInfo Rfc5280 → CertPathControls Rfc5280 → Option Certificate → ErrorKind → Type 0
@@ -190,11 +256,11 @@ RefusesOwnLimits (Some c) e = RefusesLimits (extensions_of c) e
 abbrev pub LendsOwn : List Extension → Option (Bor (List ℕ)) → Type 0
 LendsOwn extensions lent = (constraints : Option NameConstraints) × IsValueOf name_constraints (id_ce 30) extensions constraints × LendsConstraints lent constraints
 
-abbrev pub HasNoConstraints : List Extension → Type 0
-HasNoConstraints extensions = (constraints : Option NameConstraints) → IsValueOf name_constraints (id_ce 30) extensions constraints → ⊥
+abbrev pub LendsOwnPolicies : List Extension → Option (Bor (List ℕ)) → Type 0
+LendsOwnPolicies extensions lent = (policies : Option CertificatePolicies) × IsValueOf certificate_policies (id_ce 32) extensions policies × LendsPolicies lent policies
 
-abbrev pub HasLimit : List Extension → Option ℕ → Type 0
-HasLimit extensions limit = (basic : Option BasicConstraints) × IsValueOf basic_constraints (id_ce 19) extensions basic × (limit ≡ path_length basic)
+abbrev pub HasNoValue : {T : Type 0} → Form T → List ℕ → List Extension → Type 0
+HasNoValue {T} form oid extensions = (found : Option T) → IsValueOf form oid extensions found → ⊥
 
-abbrev pub HasNoLimit : List Extension → Type 0
-HasNoLimit extensions = (basic : Option BasicConstraints) → IsValueOf basic_constraints (id_ce 19) extensions basic → ⊥
+abbrev pub HasNoFlags : List Extension → Type 0
+HasNoFlags extensions = (flags : AnchorFlags) → AreFlags extensions flags → ⊥

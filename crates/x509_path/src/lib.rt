@@ -15,6 +15,7 @@ mod fault;
 mod initial;
 mod judge;
 pub mod laws;
+mod limits;
 mod matching;
 mod oids;
 mod path;

@@ -132,7 +132,7 @@ pub(crate) fn said_of<'a>(
 }
 
 /// The requireExplicitPolicy.
-fn explicit_policy(constraints: Option<PolicyConstraints>) -> Option<u32>
+pub(crate) fn explicit_policy(constraints: Option<PolicyConstraints>) -> Option<u32>
     ensures { result ≡ explicit_policy_of constraints }
 {
     match constraints {
@@ -142,7 +142,7 @@ fn explicit_policy(constraints: Option<PolicyConstraints>) -> Option<u32>
 }
 
 /// The inhibitPolicyMapping.
-fn mapping_inhibit(constraints: Option<PolicyConstraints>) -> Option<u32>
+pub(crate) fn mapping_inhibit(constraints: Option<PolicyConstraints>) -> Option<u32>
     ensures { result ≡ mapping_inhibit_of constraints }
 {
     match constraints {
@@ -209,8 +209,8 @@ pub(crate) fn merged_with<'a>(
     trusted: &Trusted<'a>,
     user: &[&'a [u8]],
 ) -> Result<Option<Vec<&'a [u8]>>, AllocError>
-    ensures { IfOk result (λ found. (own : Option (List policies.Policy)) → LendsPolicies trusted.now.policies own → (p : policies.Policy)
-        → In p (chosen (octets_of user.now) (option_map (λ v. octets_of v.items) found)) ↔ IsMerged (octets_of user.now) own p) }
+    ensures { IfOk result (λ found. (own : Option found_policies.CertificatePolicies) → LendsPolicies trusted.now.policies own → (p : policies.Policy)
+        → In p (chosen (octets_of user.now) (option_map (λ v. octets_of v.items) found)) ↔ IsMerged (octets_of user.now) (option_map identifiers own) p) }
 {
     let Some(octets) = trusted.policies else {
         return Ok(None);

@@ -2,16 +2,23 @@
 
 ghost use Rattle.std.specs.Prelude.{◌≡◌, MatchResult, Some};
 ghost use Rattle.x509_cert.specs.der.Form.{Spells};
+ghost use Rattle.x509_cert.specs.ext.BasicConstraints.{basic_constraints};
+ghost use Rattle.x509_cert.specs.ext.CertificatePolicies.{certificate_policies};
+ghost use Rattle.x509_cert.specs.ext.Identifiers.{id_ce};
 ghost use Rattle.x509_cert.specs.ext.NameConstraints.{name_constraints};
+ghost use Rattle.x509_cert.specs.ext.declared.pkix.certificate_policies.CertificatePolicies as policy_values;
 ghost use Rattle.x509_cert.specs.ext.declared.pkix.name_constraints.NameConstraints as values;
 ghost use Rattle.x509_check.specs.ExtensionRefs.{extensions_left};
-ghost use Rattle.x509_path.specs.Inputs.{LendsConstraints};
+ghost use Rattle.x509_path.specs.Inputs.{LendsConstraints, LendsPolicies};
 ghost use Rattle.x509_path.specs.Trusts as trusts;
 
 use crate::anchor_ref::AnchorRef;
+use crate::limits::{NO_FLAGS, flags_said, length_of};
 use std::alloc::Global;
-use x509_cert::der::{AssociatedOid, Error};
-use x509_cert::ext::pkix::{BasicConstraints, NameConstraints};
+use x509_cert::der::{AssociatedOid, Decode, Error};
+use x509_cert::ext::pkix::{
+    BasicConstraints, CertificatePolicies, InhibitAnyPolicy, NameConstraints, PolicyConstraints,
+};
 use x509_check::{CertificateRef, Check, ExtensionRefs};
 use x509_policy::AnchorFlags;
 
@@ -34,13 +41,6 @@ pub struct Trusted<'a> {
     pub policy_flags: AnchorFlags,
 }
 
-/// No flag.
-pub(crate) const NO_FLAGS: AnchorFlags = AnchorFlags {
-    inhibit_policy_mapping: false,
-    require_explicit_policy: false,
-    inhibit_any_policy: false,
-};
-
 /// The octets, where they are those of a NameConstraints.
 fn checked_constraints(octets: &[u8]) -> Result<Option<&[u8]>, Error>
     ensures { MatchResult result (λ lent. (constraints : values.NameConstraints) × Spells name_constraints constraints octets.now × LendsConstraints lent (Some constraints))
@@ -52,19 +52,20 @@ fn checked_constraints(octets: &[u8]) -> Result<Option<&[u8]>, Error>
     }
 }
 
-/// The path length, if there is one.
-pub(crate) fn length_of(constraints: &BasicConstraints) -> Option<u32>
-    ensures { result ≡ constraints.now.path_len_constraint }
+/// The octets, where they are those of a CertificatePolicies.
+fn checked_policies(octets: &[u8]) -> Result<Option<&[u8]>, Error>
+    ensures { MatchResult result (λ lent. (policies : policy_values.CertificatePolicies) × Spells certificate_policies policies octets.now × LendsPolicies lent (Some policies))
+        (λ e. (policies : policy_values.CertificatePolicies) → Spells certificate_policies policies octets.now → ⊥) }
 {
-    match constraints.path_len_constraint {
-        Some(path_len) => Some(u32::from(path_len)),
-        None => None,
+    match CertificatePolicies::check(octets) {
+        Ok(()) => Ok(Some(octets)),
+        Err(e) => Err(e),
     }
 }
 
 /// The octets of the NameConstraints, if there is one.
 fn lent_constraints<'a>(extensions: &ExtensionRefs<'a>) -> Result<Option<&'a [u8]>, Error>
-    ensures { MatchResult result (λ lent. trusts.LendsOwn (extensions_left extensions.now) lent) (λ e. trusts.HasNoConstraints (extensions_left extensions.now)) }
+    ensures { MatchResult result (λ lent. trusts.LendsOwn (extensions_left extensions.now) lent) (λ e. trusts.HasNoValue name_constraints (id_ce 30) (extensions_left extensions.now)) }
 {
     match extensions.find_extension(NameConstraints::OID) {
         Ok(Some(extension)) => checked_constraints(extension.extn_value),
@@ -75,13 +76,50 @@ fn lent_constraints<'a>(extensions: &ExtensionRefs<'a>) -> Result<Option<&'a [u8
 
 /// The path length of the BasicConstraints, if there is one.
 fn own_path_len(alloc: Global, extensions: &ExtensionRefs<'_>) -> Result<Option<u32>, Error>
-    ensures { MatchResult result (λ limit. trusts.HasLimit (extensions_left extensions.now) limit) (λ e. trusts.HasNoLimit (extensions_left extensions.now)) }
+    ensures { MatchResult result (λ limit. trusts.HasLimit (extensions_left extensions.now) limit) (λ e. trusts.HasNoValue basic_constraints (id_ce 19) (extensions_left extensions.now)) }
 {
     match extensions.get_extension::<BasicConstraints>(alloc) {
         Ok(Some((_, constraints))) => Ok(length_of(&constraints)),
         Ok(None) => Ok(None),
         Err(e) => Err(e),
     }
+}
+
+/// The octets of the CertificatePolicies, if there is one.
+fn lent_policies<'a>(extensions: &ExtensionRefs<'a>) -> Result<Option<&'a [u8]>, Error>
+    ensures { MatchResult result (λ lent. trusts.LendsOwnPolicies (extensions_left extensions.now) lent)
+        (λ e. trusts.HasNoValue certificate_policies (id_ce 32) (extensions_left extensions.now)) }
+{
+    match extensions.find_extension(CertificatePolicies::OID) {
+        Ok(Some(extension)) => checked_policies(extension.extn_value),
+        Ok(None) => Ok(None),
+        Err(e) => Err(e),
+    }
+}
+
+/// The value of the one extension of the type, if there is one. The type is one that takes no memory.
+fn own_value<T: AssociatedOid + Decode>(
+    alloc: Global,
+    extensions: &ExtensionRefs<'_>,
+) -> Result<Option<T>, Error>
+    requires { T.wants_memory → ⊥ }
+    ensures { MatchResult result (λ found. trusts.IsValueOf T.form T.OID (extensions_left extensions.now) found)
+        (λ e. trusts.HasNoValue T.form T.OID (extensions_left extensions.now)) }
+{
+    match extensions.get_extension::<T>(alloc) {
+        Ok(Some((_, value))) => Ok(Some(value)),
+        Ok(None) => Ok(None),
+        Err(e) => Err(e),
+    }
+}
+
+/// The flags about policies that the extensions set.
+fn own_flags(alloc: Global, extensions: &ExtensionRefs<'_>) -> Result<AnchorFlags, Error>
+    ensures { MatchResult result (λ flags. trusts.AreFlags (extensions_left extensions.now) flags) (λ e. trusts.HasNoFlags (extensions_left extensions.now)) }
+{
+    let constraints = own_value::<PolicyConstraints>(alloc, extensions)?;
+    let inhibit = own_value::<InhibitAnyPolicy>(alloc, extensions)?;
+    Ok(flags_said(constraints, inhibit))
 }
 
 impl<'a> Trusted<'a> {
@@ -108,13 +146,14 @@ impl<'a> Trusted<'a> {
         }
     }
 
-    /// What a certificate gives that is trusted (RFC 5937 2): its subject and its public key, the constraints of its
-    /// NameConstraints, and the path length of its BasicConstraints; no policies and no flags about these, which are the
-    /// caller's to set. The caller trusts it: nothing else of it is checked. It takes no memory.
+    /// What a certificate gives that is trusted (RFC 5937 2, 3.2): its subject and its public key, the constraints of its
+    /// NameConstraints, the path length of its BasicConstraints, the policies of its CertificatePolicies, and the flags about
+    /// these that its PolicyConstraints and its InhibitAnyPolicy set, whatever the numbers in them. The caller trusts it:
+    /// nothing else of it is checked. It takes no memory.
     ///
     /// # Errors
     ///
-    /// `Failed` where one of the two extensions is repeated; where one can't be decoded, the error of that.
+    /// `Failed` where one of the five extensions is repeated; where one can't be decoded, the error of that.
     pub fn from_certificate(
         alloc: Global,
         certificate: &CertificateRef<'a>,
@@ -128,8 +167,8 @@ impl<'a> Trusted<'a> {
             anchor: AnchorRef::from_certificate(certificate),
             name_constraints: lent_constraints(&extensions)?,
             max_path_length: own_path_len(alloc, &extensions)?,
-            policies: None,
-            policy_flags: NO_FLAGS,
+            policies: lent_policies(&extensions)?,
+            policy_flags: own_flags(alloc, &extensions)?,
         })
     }
 }

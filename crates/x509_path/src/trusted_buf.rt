@@ -1,30 +1,32 @@
 //! What is trusted, owned.
 
-ghost use Rattle.std.specs.Prelude.{◌≡◌, ◌⊎◌, ◌↔◌, IsTrue, MatchResult, None, false, option_map};
+ghost use Rattle.std.specs.Prelude.{◌≡◌, ◌⊎◌, ◌↔◌, IsTrue, MatchResult, option_map};
 ghost use Rattle.x509_cert.specs.base.SubjectPublicKeyInfo.{subject_public_key_info};
 ghost use Rattle.x509_cert.specs.der.Form.{Spells};
 ghost use Rattle.x509_cert.specs.der.declared.error.ErrorKind.TheVariants as errors;
 ghost use Rattle.x509_cert.specs.ext.Identifiers.{id_ce};
 ghost use Rattle.x509_cert.specs.ext.LookUp.{members};
-ghost use Rattle.x509_cert.specs.ext.BasicConstraints.{basic_constraints};
+ghost use Rattle.x509_cert.specs.ext.CertificatePolicies.{certificate_policies};
 ghost use Rattle.x509_cert.specs.ext.NameConstraints.{name_constraints};
 ghost use Rattle.x509_cert.specs.ext.SubjectKeyIdentifier.{subject_key_identifier};
 ghost use Rattle.x509_cert.specs.name.Names.{name as name_form};
 ghost use Rattle.x509_path.specs.Inputs.{Trust};
-ghost use Rattle.x509_path.specs.Trusts.{AreLimits, AreOwnLimits, HasItsCertificate, HasKeyId, HasLimit, HoldsConstraints, HoldsTrust, IsCertificateOf, IsOverlong, IsTrustOf, IsTrustOfInfo, IsValueOf, RefusesEncoding, RefusesInfo, RefusesItsCertificate, RefusesLimits, RefusesOption, RefusesOwnLimits, RefusesTrust, RefusesValue, or_else};
+ghost use Rattle.x509_path.specs.Trusts.{HasItsCertificate, HasKeyId, HoldsConstraints, HoldsPolicies, HoldsTrust, IsCertificateOf, IsOverlong, IsTrustOf, IsTrustOfInfo, RefusesEncoding, RefusesInfo, RefusesItsCertificate, RefusesLimits, RefusesOption, RefusesTrust, RefusesValue, or_else};
 
 use crate::anchor_ref::AnchorRef;
-use crate::trusted::{NO_FLAGS, Trusted, length_of};
+use crate::limits::{flags_or, limits_of, own_limits};
+use crate::trusted::Trusted;
 use std::alloc::Global;
+use x509_cert::SubjectPublicKeyInfo;
 use x509_cert::anchor::{CertPathControls, TrustAnchorChoice, TrustAnchorInfo};
 use x509_cert::certificate::TbsCertificate;
 use x509_cert::der::asn1::OctetString;
 use x509_cert::der::{Decode, Encode, Error, ErrorKind, Spelled};
-use x509_cert::ext::pkix::{BasicConstraints, NameConstraints, SubjectKeyIdentifier};
+use x509_cert::ext::pkix::{CertificatePolicies, NameConstraints, SubjectKeyIdentifier};
 use x509_cert::laws::base::equality_of_keys_is_exact;
 use x509_cert::laws::name::equal_names_are_one_value;
 use x509_cert::name::Name;
-use x509_cert::{Certificate, SubjectPublicKeyInfo};
+use x509_policy::AnchorFlags;
 
 /// What is trusted, owned: that of a trust anchor (RFC 5914), of which not every part can be lent.
 #[derive(Debug, Drop)]
@@ -33,67 +35,8 @@ pub struct TrustedBuf {
     key: Vec<u8>,
     name_constraints: Option<Vec<u8>>,
     max_path_length: Option<u32>,
-}
-
-/// The constraints and the path length that extensions give.
-#[derive(Drop)]
-struct Limits {
-    /// The constraints.
-    constraints: Option<NameConstraints>,
-
-    /// The path length.
-    max_path_length: Option<u32>,
-}
-
-/// The value of the NameConstraints, if there is one.
-fn own_constraints(alloc: Global, signed: &TbsCertificate) -> Result<Option<NameConstraints>, Error>
-    ensures { MatchResult result (λ found. IsValueOf name_constraints (id_ce 30) (members signed.now.extensions) found)
-        (λ e. (e.kind ≡ errors.Memory) ⊎ RefusesValue name_constraints (id_ce 30) (members signed.now.extensions) e.kind) }
-{
-    match signed.get_extension::<NameConstraints>(alloc) {
-        Ok(Some((_, constraints))) => Ok(Some(constraints)),
-        Ok(None) => Ok(None),
-        Err(e) => Err(e),
-    }
-}
-
-/// The path length of the BasicConstraints, if there is one.
-fn own_length(alloc: Global, signed: &TbsCertificate) -> Result<Option<u32>, Error>
-    ensures { MatchResult result (λ limit. HasLimit (members signed.now.extensions) limit)
-        (λ e. RefusesValue basic_constraints (id_ce 19) (members signed.now.extensions) e.kind) }
-{
-    match signed.get_extension::<BasicConstraints>(alloc) {
-        Ok(Some((_, constraints))) => Ok(length_of(&constraints)),
-        Ok(None) => Ok(None),
-        Err(e) => Err(e),
-    }
-}
-
-/// The constraints and the path length that the extensions of the signed part give.
-fn limits_of(alloc: Global, signed: &TbsCertificate) -> Result<Limits, Error>
-    ensures { MatchResult result (λ limits. AreLimits (members signed.now.extensions) limits.constraints limits.max_path_length)
-        (λ e. (e.kind ≡ errors.Memory) ⊎ RefusesLimits (members signed.now.extensions) e.kind) }
-{
-    let constraints = own_constraints(alloc, signed)?;
-    let max_path_length = own_length(alloc, signed)?;
-    Ok(Limits {
-        constraints,
-        max_path_length,
-    })
-}
-
-/// The same of the certificate in the description of an anchor, if there is one.
-fn own_limits(alloc: Global, certificate: &Option<Certificate>) -> Result<Limits, Error>
-    ensures { MatchResult result (λ limits. AreOwnLimits certificate.now limits.constraints limits.max_path_length)
-        (λ e. (e.kind ≡ errors.Memory) ⊎ RefusesOwnLimits certificate.now e.kind) }
-{
-    match certificate {
-        Some(certificate) => limits_of(alloc, certificate.tbs_certificate()),
-        None => Ok(Limits {
-            constraints: None,
-            max_path_length: None,
-        }),
-    }
+    policies: Option<Vec<u8>>,
+    policy_flags: AnchorFlags,
 }
 
 /// Whether the key identifier of the signed part is that one, if it has one.
@@ -187,20 +130,38 @@ fn encoded_constraints(
     Ok(Some(octets))
 }
 
-/// What has that name, that key, those constraints and that path length.
+/// The encoding of the policies, if there are any.
+fn encoded_policies(
+    alloc: Global,
+    policies: &Option<CertificatePolicies>,
+) -> Result<Option<Vec<u8>>, Error>
+    ensures { MatchResult result (λ octets. HoldsPolicies (option_map (λ o. o.items) octets) policies.now)
+        (λ e. RefusesOption certificate_policies policies.now e.kind) }
+{
+    let Some(policies) = policies else {
+        return Ok(None);
+    };
+    policies.has_spelling();
+    let octets = policies.to_der(alloc)?;
+    Ok(Some(octets))
+}
+
+/// What has that name and that key, for the paths that are limited so.
 fn held(
     alloc: Global,
     name: &Name,
     key: &SubjectPublicKeyInfo,
     constraints: &Option<NameConstraints>,
     max_path_length: Option<u32>,
+    policies: &Option<CertificatePolicies>,
+    policy_flags: AnchorFlags,
 ) -> Result<TrustedBuf, Error>
     ensures { (trust : Trust) → trust ≡ record {
       anchor = record { name = name.now; key = key.now };
       constraints = constraints.now;
       max_path_length = max_path_length;
-      policies = None;
-      flags = record { inhibit_policy_mapping = false; require_explicit_policy = false; inhibit_any_policy = false };
+      policies = policies.now;
+      flags = policy_flags;
     }
         → MatchResult result (λ trusted. HoldsTrust trusted trust) (λ e. (e.kind ≡ errors.Memory) ⊎ ((e.kind ≡ errors.Overlength) × IsOverlong trust)) }
 {
@@ -209,6 +170,8 @@ fn held(
         key: encoded_key(alloc, key)?,
         name_constraints: encoded_constraints(alloc, constraints)?,
         max_path_length,
+        policies: encoded_policies(alloc, policies)?,
+        policy_flags,
     })
 }
 
@@ -224,6 +187,8 @@ fn of_signed(alloc: Global, signed: &TbsCertificate) -> Result<TrustedBuf, Error
         signed.subject_public_key_info(),
         &limits.constraints,
         limits.max_path_length,
+        &limits.policies,
+        limits.flags,
     )
 }
 
@@ -251,6 +216,16 @@ fn length_or(length: Option<u32>, other: Option<u32>) -> Option<u32>
     }
 }
 
+/// The policies of the controls, or else those.
+fn policies_or<'a>(
+    policies: &'a Option<CertificatePolicies>,
+    others: &'a Option<CertificatePolicies>,
+) -> &'a Option<CertificatePolicies>
+    ensures { result.now ≡ or_else policies.now others.now }
+{
+    if policies.is_some() { policies } else { others }
+}
+
 /// What a description gives.
 fn of_info(alloc: Global, info: &TrustAnchorInfo) -> Result<TrustedBuf, Error>
     ensures { MatchResult result (λ trusted. (trust : Trust) × IsTrustOfInfo info.now trust × HoldsTrust trusted trust)
@@ -269,6 +244,8 @@ fn of_info(alloc: Global, info: &TrustAnchorInfo) -> Result<TrustedBuf, Error>
         &info.pub_key,
         constraints_or(&controls.name_constr, &own.constraints),
         length_or(controls.path_len_constraint, own.max_path_length),
+        policies_or(&controls.policy_set, &own.policies),
+        flags_or(controls.policy_flags, own.flags),
     )
 }
 
@@ -282,19 +259,19 @@ impl TrustedBuf {
     ghost use Rattle.x509_path.specs.Inputs.{LendsTrust, Trust};
     ghost use Rattle.x509_path.specs.Trusts.{HoldsTrust, IsNoAnchor, IsTrustOfAnchor, IsUntrusted, RefusesAnchor, RefusesTrust};
 
-    /// What a trust anchor gives that is trusted (RFC 5937 2, RFC 5914 2.5), its policies and the flags about these apart. Of
-    /// a certificate, or of a TBSCertificate: its subject and its public key, the constraints of its NameConstraints, and the
-    /// path length of its BasicConstraints. Of a description: the name, the constraints and the path length of its
-    /// `certPath`, and its public key; where those constraints or that path length are absent, what the extensions of its
-    /// certificate give, if it has one. That certificate has to be of the anchor: its subject is the name, its public key the
-    /// key, and its key identifier, if it has one, `keyId`; each is compared as a value, so that encodings are equal.
+    /// What a trust anchor gives that is trusted (RFC 5937 2, RFC 5914 2.5). Of a certificate, or of a TBSCertificate: what
+    /// [`Trusted::from_certificate`] says. Of a description: its public key, and the name, the constraints, the path length,
+    /// the policies and the flags about these of its `certPath`; in the place of each of these limits that is absent, what
+    /// the extensions of its certificate give, if it has one. That certificate has to be of the anchor: its subject is the
+    /// name, its public key the key, and its key identifier, if it has one, `keyId`; each is compared as a value, so that
+    /// encodings are equal.
     ///
     /// # Errors
     ///
     /// Where nothing is trusted: `Failed` where a description has no name, or has a certificate of another name, key or key
     /// identifier, and where one of the extensions that are looked at is repeated; where one can't be decoded, the error of
-    /// that. `Memory` when out of memory. Of an anchor that wasn't decoded `Overlength` where the name, the key or the
-    /// constraints are longer than [`Length::MAX`](x509_cert::der::Length::MAX).
+    /// that. `Memory` when out of memory. Of an anchor that wasn't decoded `Overlength` where the name, the key, the
+    /// constraints or the policies are longer than [`Length::MAX`](x509_cert::der::Length::MAX).
     pub fn from_trust_anchor(alloc: Global, anchor: &TrustAnchorChoice) -> Result<TrustedBuf, Error>
         ensures { MatchResult result (λ trusted. (trust : Trust) × IsTrustOfAnchor anchor.now trust × HoldsTrust trusted trust)
             (λ e. RefusesTrust (IsTrustOfAnchor anchor.now) (RefusesAnchor anchor.now) e.kind) }
@@ -334,8 +311,8 @@ impl TrustedBuf {
             },
             name_constraints: self.name_constraints.as_deref(),
             max_path_length: self.max_path_length,
-            policies: None,
-            policy_flags: NO_FLAGS,
+            policies: self.policies.as_deref(),
+            policy_flags: self.policy_flags,
         }
     }
 }

@@ -187,20 +187,23 @@ fn walk<'a, S: Signatures>(
 /// name and key, each other one under the subject and the key of the one before it. It is [`check_path`](crate::check_path) with
 /// these differences: names are compared as they match (RFC 5280 7.1), name constraints hold, policies are followed, and each
 /// extension of a type that is looked at has to be one that can be decoded. It is all of 6.1 but revocation, which isn't
-/// checked, and the qualifiers of policies, on which no answer depends.
+/// checked, and the qualifiers of policies, on which no answer depends. Nor is a certificate looked for that stands in the path
+/// twice: that it may not is for who makes a path; here each has to be valid where it stands.
 ///
 /// Each signature is verified over the bytes of the input; nothing is encoded again. Certificates aren't decoded: values are
 /// made of what the verifier is handed, of name constraints and of the names that are under them. Memory is taken else only
-/// for policies, a list of them for each certificate above the last; for names that differ and have a BMPString, a UTF8String
-/// beyond ASCII, or an RDN of more than 16 attributes; and for a certificate of more than 16 extensions. For p policies and
-/// mappings of a certificate the time is that of sorting them, O(p log p), in addition to those expected from above.
+/// for the policies of what is trusted and of certificates, with an entry for each certificate above the last; for names that
+/// differ and have a BMPString, a UTF8String beyond ASCII, or an RDN of more than 16 attributes; and for a certificate of more
+/// than 16 extensions. For p policies and mappings of a certificate the time is that of sorting them, O(p log p), in addition
+/// to those expected from above.
 ///
 /// # Errors
 ///
 /// [`ValidationFault::Empty`] exactly where there is no certificate; else [`ValidationFault::Initial`] exactly where name
 /// constraints of what is trusted, or of the settings, can't be used; else [`ValidationFault::At`] with the lowest place at
 /// which something is wrong, and the first thing that is wrong there, in the order of
-/// [`ValidationReason`](crate::ValidationReason). [`ValidationFault::Memory`] may come instead, when out of memory.
+/// [`ValidationReason`](crate::ValidationReason). [`ValidationFault::Memory`] may come instead, when out of memory, wherever
+/// there is a certificate: no clause says which of them take memory.
 pub fn validate_path<'a, V: Verifier>(
     alloc: Global,
     trusted: &Trusted<'a>,

@@ -1,7 +1,14 @@
 pub mod Payloads
 pub mod Parts
+pub mod NextNames
+pub mod Digits
 pub mod Looks
+pub mod Seeks
 pub mod Answered
+pub mod Sought
 pub mod Matches
 pub mod OneCover
+pub mod Named
+pub mod Orders
+pub mod Same
 pub mod OneStatus

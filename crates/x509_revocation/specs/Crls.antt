@@ -1,6 +1,5 @@
--- What may stand against the use of a CRL (RFC 5280 5.1, 5.2, 5.3), whichever certificate is asked for.
-use Rattle.std.specs.Prelude.{◌≡◌, ◌≤◌, ℕ, Bool, true, List, [], Option, Some, None}
-use Rattle.std.specs.List.{All}
+-- What may stand against the use of a CRL (RFC 5280 5.1, 5.2), whichever certificate is asked for.
+use Rattle.std.specs.Prelude.{◌≡◌, ◌<◌, ◌≤◌, ◌⊎◌, ℕ, Bool, true, List, [], ◌∷◌, Option, Some, None}
 use Rattle.x509_base.specs.CivilTime.{CivilTime, unix_seconds}
 use Rattle.x509_base.specs.Time.{date_time_of}
 use Rattle.x509_base.specs.declared.profile.Rfc5280.{Rfc5280}
@@ -9,14 +8,17 @@ use Rattle.x509_cert.specs.Revoked.{entries}
 use Rattle.x509_cert.specs.Signed.{IsSignedPart}
 use Rattle.x509_cert.specs.declared.crl.certificate_list.CertificateList.{CertificateList}
 use Rattle.x509_cert.specs.declared.crl.revoked_cert.RevokedCert.{RevokedCert}
-use Rattle.x509_ext.specs.CrlReason.{crl_reason}
+use Rattle.x509_ext.specs.CrlNumber.{base_crl_number, crl_number}
 use Rattle.x509_ext.specs.Identifiers.{id_ce}
 use Rattle.x509_ext.specs.IssuingDistributionPoint.{issuing_distribution_point}
 use Rattle.x509_ext.specs.LookUp.{members, with_oid}
 use Rattle.x509_ext.specs.declared.extension.Extension.{Extension}
+use Rattle.x509_ext.specs.declared.pkix.crl_number.BaseCrlNumber.{BaseCrlNumber}
+use Rattle.x509_ext.specs.declared.pkix.crl_number.CrlNumber.{CrlNumber}
 use Rattle.x509_ext.specs.declared.pkix.issuing_distribution_point.IssuingDistributionPoint.{IssuingDistributionPoint}
 use Rattle.x509_path.specs.Certificates.{Accepting, HasPayload, IsReadable}
 use Rattle.x509_path.specs.declared.anchor.Anchor.{Anchor}
+use Rattle.x509_prim.specs.Integer.{number}
 
 abbrev pub Crl : Type 0
 Crl = CertificateList Rfc5280
@@ -53,18 +55,10 @@ IsInDate without_next moment crl =
 
 -- ---- extensions
 
--- A CRL with a critical extension that isn't processed says nothing of any certificate (5.2). Processed is an IssuingDistributionPoint that
--- can be read.
+-- A CRL with a critical extension that isn't processed says nothing of any certificate (5.2). Processed are an IssuingDistributionPoint and a
+-- delta CRL indicator that can be read.
 abbrev pub IsProcessed : Extension → Type 0
-IsProcessed e = e.critical ≡ true → IsReadable issuing_distribution_point (id_ce 28) e
-
--- It says nothing either where an entry has one (5.3). Processed is a reason that can be read.
-abbrev pub IsProcessedInEntry : Extension → Type 0
-IsProcessedInEntry e = e.critical ≡ true → IsReadable crl_reason (id_ce 21) e
-
--- No entry says that another one issued its certificate, and those behind it (CertificateIssuer, 5.3.3)
-abbrev pub IsPlainEntry : Entry → Type 0
-IsPlainEntry entry = All IsProcessedInEntry (entry_extensions entry) × (with_oid (id_ce 29) (entry_extensions entry) ≡ [])
+IsProcessed e = e.critical ≡ true → IsReadable issuing_distribution_point (id_ce 28) e ⊎ IsReadable base_crl_number (id_ce 27) e
 
 -- ---- signature
 
@@ -75,3 +69,26 @@ HasOneAlgorithm crl = crl.tbs_cert_list.signature ≡ crl.signature_algorithm
 -- its bits are accepted as a signature of what is signed in the bytes as they stand, for the key
 abbrev pub IsSignedBy : Accepting → Anchor → List ℕ → Crl → Type 0
 IsSignedBy accepts signer bytes crl = (signed : List ℕ) × IsSignedPart bytes signed × (accepts crl.signature_algorithm signer.key signed crl.signature ≡ true)
+
+-- ---- what a complete CRL and a delta CRL are compared by (5.2.3, 5.2.4)
+
+-- one extension has the identifier, and these octets
+abbrev pub HasOctets : List ℕ → List Extension → List ℕ → Type 0
+HasOctets oid extensions octets = (e : Extension) × (with_oid oid extensions ≡ e ∷ []) × (e.extn_value ≡ octets)
+
+-- both have one extension with the identifier, with the same octets, or neither has one
+abbrev pub HaveSame : List ℕ → List Extension → List Extension → Type 0
+HaveSame oid a b = ((with_oid oid a ≡ []) × (with_oid oid b ≡ [])) ⊎ ((octets : List ℕ) × HasOctets oid a octets × HasOctets oid b octets)
+
+-- the CRL number
+abbrev pub HasNumber : Crl → ℕ → Type 0
+HasNumber crl n = (read : CrlNumber) × HasPayload crl_number (id_ce 20) (crl_extensions crl) read × (number read.0 ≡ n)
+
+-- that of the base, which a delta CRL has
+abbrev pub HasBase : Crl → ℕ → Type 0
+HasBase crl n = (read : BaseCrlNumber) × HasPayload base_crl_number (id_ce 27) (crl_extensions crl) read × (number read.0 ≡ n)
+
+-- The complete one is the base of the delta CRL or came behind it, and before the delta CRL.
+abbrev pub AreInOrder : Crl → Crl → Type 0
+AreInOrder complete delta =
+    (base : ℕ) × (own : ℕ) × (next : ℕ) × HasBase delta base × HasNumber complete own × HasNumber delta next × (base ≤ own) × (own < next)

@@ -1,9 +1,7 @@
 -- What is lent of CRLs and of their signers.
 use Rattle.std.specs.Prelude.{◌≡◌, ◌⊎◌, ℕ, List, [], ◌∷◌, Option, Some, None}
-use Rattle.x509_base.specs.declared.time.Time.{Time}
 use Rattle.x509_cert.specs.CertificateList.{rfc5280_certificate_list}
 use Rattle.x509_der.specs.Form.{Spells}
-use Rattle.x509_ext.specs.declared.pkix.crl_reason.CrlReason.{CrlReason}
 use Rattle.x509_ext.specs.declared.pkix.reasons.Reasons.{Reasons}
 use Rattle.x509_path.specs.Certificates.{Accepting, Certificate}
 use Rattle.x509_path.specs.Lent.{LendsAnchor}
@@ -14,6 +12,7 @@ use Rattle.x509_revocation.specs.declared.says.Step.{Step}
 use Rattle.x509_revocation.specs.declared.says.Step.TheVariants.{Left, Revoked}
 use Rattle.x509_revocation.specs.declared.settings.RevocationSettings.{RevocationSettings}
 use Rattle.x509_revocation.specs.declared.signed_crl.SignedCrl.{SignedCrl}
+use Rattle.x509_revocation.specs.declared.status.Revocation.{Revocation}
 
 -- the bytes are those of the CRL
 abbrev pub LendsCrl : List ℕ → Crl → Type 0
@@ -31,13 +30,18 @@ LendsAll _ _ = ⊥
 
 -- what is asked with these settings and this verifier
 abbrev pub question : Accepting → RevocationSettings → Certificate → Question
-question accepts settings certificate = record { certificate = certificate; moment = settings.moment; without_next = settings.without_next_update; accepts = accepts }
+question accepts settings certificate = record { certificate = certificate; moment = settings.moment; without_next = settings.without_next_update; use_deltas = settings.use_deltas; accepts = accepts }
 
 -- ---- what is answered of one CRL
 
 -- where these reasons are left: it is used and says when the certificate was revoked, or it leaves the others, or it isn't used
-abbrev pub Steps : Question → Reasons → GivenCrl → Step → Type 0
-Steps question left given (Left rest) =
-    (IsUnused question left given × (rest ≡ left))
-    ⊎ ((reasons : Reasons) × Says question given reasons None × AddsTo left reasons × (rest ≡ minus left reasons))
-Steps question left given (Revoked reason date) = (reasons : Reasons) × Says question given reasons (Some (reason, date)) × AddsTo left reasons
+abbrev pub Steps : Question → List GivenCrl → ℕ → Reasons → GivenCrl → Step → Type 0
+Steps question all place left given (Left rest) =
+    (IsUnused question all place left given × (rest ≡ left))
+    ⊎ ((reasons : Reasons) × Says question all place given reasons None × AddsTo left reasons × (rest ≡ minus left reasons))
+Steps question all place left given (Revoked revocation) = (reasons : Reasons) × Says question all place given reasons (Some revocation) × AddsTo left reasons
+
+-- what there is behind a CRL that says so of the certificate, where these reasons are left then
+abbrev pub step_of : Reasons → Option Revocation → Step
+step_of rest None = Left rest
+step_of rest (Some revocation) = Revoked revocation

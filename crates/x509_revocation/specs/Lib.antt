@@ -1,8 +1,11 @@
 pub mod Names
+pub mod LentNames
 pub mod Points
 pub mod LentSides
 pub mod Crls
+pub mod Entries
 pub mod Says
 pub mod Status
 pub mod Lent
+pub mod LentFound
 pub mod Signers

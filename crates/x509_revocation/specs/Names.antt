@@ -1,5 +1,5 @@
 -- General names that match (RFC 5280 4.2.1.6, 7.1).
-use Rattle.std.specs.Prelude.{◌≡◌, ◌⊎◌, List, [], ◌∷◌, Option, Some, None}
+use Rattle.std.specs.Prelude.{◌≡◌, ◌≢◌, ◌⊎◌, List, [], ◌∷◌, Option, Some, None}
 use Rattle.x509_ext.specs.declared.pkix.name.general_name.GeneralName.{GeneralName}
 use Rattle.x509_ext.specs.declared.pkix.name.general_name.GeneralName.TheVariants.{DirectoryName}
 use Rattle.x509_match.specs.Matching.{NamesMatch}
@@ -30,3 +30,8 @@ HasMatch name (other ∷ others) = GeneralNamesMatch name other ⊎ HasMatch nam
 abbrev pub HaveMatch : List GeneralName → List GeneralName → Type 0
 HaveMatch [] others = ⊥
 HaveMatch (name ∷ names) others = HasMatch name others ⊎ HaveMatch names others
+
+-- one of the names is a directory name
+abbrev pub HasDirectoryName : List GeneralName → Type 0
+HasDirectoryName [] = ⊥
+HasDirectoryName (name ∷ names) = (directory_name name ≢ None) ⊎ HasDirectoryName names

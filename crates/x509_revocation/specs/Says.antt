@@ -1,10 +1,7 @@
--- What one CRL says of a certificate, by the letters of RFC 5280 6.3.3, without delta CRLs (use-deltas is false, 6.3.1 (b)). An indirect CRL is one
--- for its issuer alone.
-use Rattle.std.specs.Prelude.{◌≡◌, ◌≢◌, ◌⊎◌, ℕ, Bool, true, false, List, [], ◌∷◌, Option, Some, None}
+-- What one CRL says of a certificate, with a delta CRL to it, by the letters of RFC 5280 6.3.3.
+use Rattle.std.specs.Prelude.{◌≡◌, ◌≢◌, ◌⊎◌, ℕ, suc, Bool, true, false, List, [], ◌∷◌, Option, Some, None, option_map, if◌then◌else◌}
 use Rattle.std.specs.List.{All}
 use Rattle.x509_base.specs.CivilTime.{CivilTime}
-use Rattle.x509_base.specs.declared.time.Time.{Time}
-use Rattle.x509_cert.specs.Revoked.{IsFirstWith, with_serial}
 use Rattle.x509_ext.specs.CrlReason.{crl_reason}
 use Rattle.x509_ext.specs.Identifiers.{id_ce}
 use Rattle.x509_ext.specs.LookUp.{with_oid}
@@ -18,13 +15,17 @@ use Rattle.x509_path.specs.Certificates.{Accepting, Certificate, HasPayload, IsC
 use Rattle.x509_path.specs.declared.anchor.Anchor.{Anchor}
 use Rattle.x509_revocation.specs.Crls as crls
 use Rattle.x509_revocation.specs.Crls.{Crl, Entry, HasList, crl_extensions, entries_of, entry_extensions}
-use Rattle.x509_revocation.specs.Points.{Gathers, HasPoints, Sides, assumed_point}
+use Rattle.x509_revocation.specs.Entries.{FindsEntry, IsUsable}
+use Rattle.x509_revocation.specs.declared.status.Revocation.{Revocation}
+use Rattle.x509_revocation.specs.Points.{Gathers, HasPoints, Sides, assumed_point, is_indirect}
 
--- what is asked (6.3.1): of which certificate, when, whether a CRL without a next update is in date, and what the verifier of signatures answers
+-- what is asked (6.3.1): of which certificate, when, whether a CRL without a next update is in date, whether delta CRLs are used, and what the
+-- verifier of signatures answers
 pub record Question : Type 0 where
   pub certificate : Certificate
   pub moment : CivilTime
   pub without_next : Bool
+  pub use_deltas : Bool
   pub accepts : Accepting
 
 -- a CRL with its bytes, and the name and the key under which it is to be verified: (f) has been done for these
@@ -61,19 +62,69 @@ pub record Covers (certificate : Certificate) (crl : Crl) (list : Option Issuing
 
 -- ---- whether it is used
 
-pub record IsReady (question : Question) (given : GivenCrl) : Type 0 where
+pub record IsReady (without_next : Bool) (moment : CivilTime) (crl : Crl) : Type 0 where
   -- (a)
-  pub in_date : crls.IsInDate question.without_next question.moment given.crl
-  -- (c): it is complete, and no delta CRL (5.2.4)
-  pub complete : with_oid (id_ce 27) (crl_extensions given.crl) ≡ []
+  pub in_date : crls.IsInDate without_next moment crl
   -- 5.2
-  pub processed : All crls.IsProcessed (crl_extensions given.crl)
-  -- (g)
-  pub one_algorithm : crls.HasOneAlgorithm given.crl
+  pub processed : All crls.IsProcessed (crl_extensions crl)
+  -- (g), (h)
+  pub one_algorithm : crls.HasOneAlgorithm crl
+
+pub record IsComplete (without_next : Bool) (moment : CivilTime) (given : GivenCrl) : Type 0 where
+  pub ready : IsReady without_next moment given.crl
+  -- it is no delta CRL (5.2.4)
+  pub no_indicator : with_oid (id_ce 27) (crl_extensions given.crl) ≡ []
   -- (f): the signer's name is that of its issuer
   pub of_signer : NamesMatch given.signer.name given.crl.tbs_cert_list.issuer
 
--- ---- (j), (k): the first entry of the certificate's serial number
+-- ---- (a), (c), (h): the delta CRL to a complete one
+
+pub record Fits (question : Question) (complete : GivenCrl) (delta : GivenCrl) : Type 0 where
+  pub ready : IsReady question.without_next question.moment delta.crl
+  -- (c) (1)
+  pub issuer : NamesMatch complete.crl.tbs_cert_list.issuer delta.crl.tbs_cert_list.issuer
+  -- (c) (2): the IssuingDistributionPoint (5.2.4)
+  pub scope : crls.HaveSame (id_ce 28) (crl_extensions complete.crl) (crl_extensions delta.crl)
+  -- (c) (3): the AuthorityKeyIdentifier
+  pub authority_key : crls.HaveSame (id_ce 35) (crl_extensions complete.crl) (crl_extensions delta.crl)
+  -- 5.2.4
+  pub in_order : crls.AreInOrder complete.crl delta.crl
+  -- (h): by the key of the complete one
+  pub signed : crls.IsSignedBy question.accepts complete.signer delta.bytes delta.crl
+
+-- it fits, and its entries can be used (5.3)
+abbrev pub IsDeltaTo : Question → Bool → GivenCrl → GivenCrl → Type 0
+IsDeltaTo question indirect complete delta = Fits question complete delta × All (IsUsable indirect) (entries_of delta.crl)
+
+-- the first delta CRL to it among the CRLs from that place on, with its place; None exactly where there is none
+abbrev pub FindsDelta : Question → Bool → GivenCrl → ℕ → List GivenCrl → Option (ℕ × GivenCrl) → Type 0
+FindsDelta question indirect complete place [] found = found ≡ None
+FindsDelta question indirect complete place (given ∷ others) found =
+    (IsDeltaTo question indirect complete given × (found ≡ Some (place, given)))
+    ⊎ ((IsDeltaTo question indirect complete given → ⊥) × FindsDelta question indirect complete (suc place) others found)
+
+-- those among which it is: none where no delta CRLs are used (6.3.1 (b))
+abbrev pub deltas_among : Question → List GivenCrl → List GivenCrl
+deltas_among question given = if question.use_deltas then given else []
+
+-- ---- (i), (j): the entry of the certificate, with the place of the CRL that it is in
+
+abbrev pub FindsAt : Certificate → ℕ → Crl → Option (ℕ × Entry) → Type 0
+FindsAt certificate place crl found = (entry : Option Entry) × FindsEntry certificate crl entry × (found ≡ option_map (λ e. (place, e)) entry)
+
+-- that in the delta CRL; where it has none, that in the complete one
+abbrev pub FindsIn : Certificate → ℕ → Crl → Option (ℕ × GivenCrl) → Option (ℕ × Entry) → Type 0
+FindsIn certificate place crl None found = FindsAt certificate place crl found
+FindsIn certificate place crl (Some delta) found =
+    ((entry : Entry) × FindsEntry certificate delta.1.crl (Some entry) × (found ≡ Some (delta.0, entry)))
+    ⊎ (FindsEntry certificate delta.1.crl None × FindsAt certificate place crl found)
+
+-- the same in the delta CRL to it that is among these, if there is one
+abbrev pub FindsWith : Question → Bool → List GivenCrl → ℕ → GivenCrl → Option (ℕ × Entry) → Type 0
+FindsWith question indirect all place given found =
+    (delta : Option (ℕ × GivenCrl)) × FindsDelta question indirect given 0 (deltas_among question all) delta × FindsIn question.certificate place given.crl delta found
+
+-- ---- (i) to (k): what the entry tells
 
 -- unspecified where the entry gives no reason that can be read (5.3.1)
 abbrev pub HasReason : Entry → CrlReason → Type 0
@@ -81,22 +132,23 @@ HasReason entry reason =
     HasPayload crl_reason (id_ce 21) (entry_extensions entry) reason
     ⊎ (((given : CrlReason) → HasPayload crl_reason (id_ce 21) (entry_extensions entry) given → ⊥) × (reason ≡ Unspecified))
 
--- None: the certificate of the number isn't revoked, since no entry has it, or it is removed (k); else why and when it was
-abbrev pub TellsOf : List ℕ → Crl → Option (CrlReason × Time) → Type 0
-TellsOf number crl None =
-    (with_serial number (entries_of crl) ≡ [])
-    ⊎ ((entry : Entry) × IsFirstWith number (entries_of crl) entry × HasReason entry RemoveFromCRL)
-TellsOf number crl (Some revoked) =
-    (entry : Entry) × IsFirstWith number (entries_of crl) entry × HasReason entry revoked.0 × (revoked.0 ≢ RemoveFromCRL) × (revoked.1 ≡ entry.revocation_date)
+-- None: the certificate isn't revoked, since it has no entry, or it is removed (k)
+abbrev pub Tells : Option (ℕ × Entry) → Option Revocation → Type 0
+Tells None revoked = revoked ≡ None
+Tells (Some found) None = HasReason found.1 RemoveFromCRL
+Tells (Some found) (Some revoked) =
+    HasReason found.1 revoked.reason × (revoked.reason ≢ RemoveFromCRL) × (revoked.date ≡ found.1.revocation_date) × (revoked.crl ≡ found.0)
 
--- ---- what it says: of which reasons, and whether the certificate is revoked
+-- ---- what the CRL at a place says, among others: of which reasons, and whether the certificate is revoked
 
-pub record Says (question : Question) (given : GivenCrl) (reasons : Reasons) (revoked : Option (CrlReason × Time)) : Type 0 where
-  pub ready : IsReady question given
+pub record Says (question : Question) (all : List GivenCrl) (place : ℕ) (given : GivenCrl) (reasons : Reasons) (revoked : Option Revocation) : Type 0 where
+  pub complete : IsComplete question.without_next question.moment given
   pub list : Option IssuingDistributionPoint
   pub covers : Covers question.certificate given.crl list reasons
   -- (g)
   pub signed : crls.IsSignedBy question.accepts given.signer given.bytes given.crl
   -- 5.3
-  pub entries_processed : All crls.IsPlainEntry (entries_of given.crl)
-  pub tells : TellsOf question.certificate.tbs_certificate.serial_number given.crl revoked
+  pub entries_usable : All (IsUsable (is_indirect list)) (entries_of given.crl)
+  pub found : Option (ℕ × Entry)
+  pub finds : FindsWith question (is_indirect list) all place given found
+  pub tells : Tells found revoked

@@ -1,19 +1,28 @@
 //! The entries of a CRL.
 
 ghost use Rattle.std.specs.List.{All};
-ghost use Rattle.std.specs.Prelude.{◌≡◌, ◌↔◌, List, ℕ, Option, Some, option_map, IsTrue, MatchOption};
-ghost use Rattle.x509_base.specs.declared.profile.Rfc5280 as rules;
-ghost use Rattle.x509_check.specs.CrlRefs.{FindsEntry, lent_entry};
+ghost use Rattle.std.specs.Prelude.{◌≡◌, ◌↔◌, List, option_map, IfOk, IsTrue, MatchOption};
+ghost use Rattle.x509_base.specs.declared.profile.Rfc5280.{Rfc5280};
+ghost use Rattle.x509_cert.specs.Issuers.{issuers, or_else};
+ghost use Rattle.x509_check.specs.CrlRefs.{lent_entry};
 ghost use Rattle.x509_check.specs.ExtensionRefs.{extensions_left};
 ghost use Rattle.x509_ext.specs.LookUp.{members};
-ghost use Rattle.x509_revocation.specs.Crls.{Crl, IsPlainEntry, entries_of};
+ghost use Rattle.x509_ext.specs.declared.extension.Extension as extensions;
+ghost use Rattle.x509_path.specs.Certificates.{Certificate};
+ghost use Rattle.x509_path.specs.Lent.{Lends};
+ghost use Rattle.x509_revocation.specs.Crls.{Crl, entries_of, entry_extensions};
+ghost use Rattle.x509_revocation.specs.Entries.{AreUsableIssuers, FindsEntry, IsIssuer, IsProcessedInEntry, IsUsable};
 ghost use Rattle.x509_revocation.specs.Lent.{LendsCrl};
-ghost use Rattle.x509_revocation.specs.Says.{HasReason, TellsOf};
+ghost use Rattle.x509_revocation.specs.LentFound.{placed_entry};
+ghost use Rattle.x509_revocation.specs.Names.{Name};
+ghost use Rattle.x509_revocation.specs.Says.{HasReason, Tells};
 
-use crate::extensions::{are_processed, has_none};
-use std::alloc::Global;
-use x509_base::Time;
-use x509_check::{CrlRef, ExtensionRefs, RevokedCertRef};
+use crate::extensions::are_processed;
+use crate::issuers::names_issuer;
+use crate::names::encoded_match;
+use crate::status::Revocation;
+use std::alloc::{AllocError, Global};
+use x509_check::{CertificateRef, CrlRef, ExtensionRefs, RevokedCertRef};
 use x509_der::AssociatedOid;
 use x509_ext::pkix::{CertificateIssuer, CrlReason};
 
@@ -27,34 +36,87 @@ fn extensions_of<'a>(entry: &RevokedCertRef<'a>) -> ExtensionRefs<'a>
     }
 }
 
-/// Whether each critical extension of the entry is processed, and it names no issuer.
-fn is_plain(entry: &RevokedCertRef<'_>) -> bool
-    ensures { IsTrue result ↔ IsPlainEntry (lent_entry entry.now) }
+/// Whether each critical extension of the entry is processed.
+fn is_processed(entry: &RevokedCertRef<'_>) -> bool
+    ensures { IsTrue result ↔ All IsProcessedInEntry (entry_extensions (lent_entry entry.now)) }
 {
-    let extensions = extensions_of(entry);
-    are_processed::<CrlReason>(extensions) && has_none(&extensions, CertificateIssuer::OID)
+    are_processed::<CrlReason, CertificateIssuer>(extensions_of(entry))
 }
 
-/// The first entry with the serial number; `None` where an entry stands against the use of the CRL. In one pass over the
-/// entries.
-pub(crate) fn look_up<'a>(
-    crl: &CrlRef<'a>,
-    serial_number: &[u8],
-) -> Option<Option<RevokedCertRef<'a>>>
-    ensures { (list : Crl) → LendsCrl crl.now.bytes.now list → MatchOption result (All IsPlainEntry (entries_of list) → ⊥)
-        (λ found. All IsPlainEntry (entries_of list) × FindsEntry {P = rules.Rfc5280} serial_number.now (entries_of list) found) }
+/// Whether the certificate's issuer issued that of the entry, by whether it issued that of the one before it; `None` where the
+/// entry has a CertificateIssuer that can't be used.
+fn issuer_at(
+    alloc: Global,
+    certificate: &CertificateRef<'_>,
+    is_indirect: bool,
+    is_issuer: bool,
+    entry: &RevokedCertRef<'_>,
+) -> Result<Option<bool>, AllocError>
+    ensures { IfOk result (λ here. (c : Certificate) (own : Name) (before : List extensions.Extension) → Lends certificate.now.bytes.now c
+        → (IsTrue is_issuer ↔ IsIssuer own c.tbs_certificate.issuer before)
+        → MatchOption here (AreUsableIssuers is_indirect (issuers {P = Rfc5280} (lent_entry entry.now)) → ⊥)
+        (λ is_here. AreUsableIssuers is_indirect (issuers {P = Rfc5280} (lent_entry entry.now))
+        × (IsTrue is_here ↔ IsIssuer own c.tbs_certificate.issuer (or_else (issuers {P = Rfc5280} (lent_entry entry.now)) before)))) }
 {
+    match extensions_of(entry).find_extension(CertificateIssuer::OID) {
+        Ok(None) => Ok(Some(is_issuer)),
+        Ok(Some(extension)) => {
+            if !is_indirect {
+                return Ok(None);
+            }
+            names_issuer(alloc, certificate, extension.extn_value)
+        }
+        Err(_) => Ok(None),
+    }
+}
+
+/// Whether the entry is that of the certificate with the serial number, by whether its issuer issued that of the entry.
+fn is_of(is_issuer: bool, entry: &RevokedCertRef<'_>, serial_number: &[u8]) -> bool
+    ensures { IsTrue result ↔ (IsTrue is_issuer × (entry.now.serial_number.now ≡ serial_number.now)) }
+{
+    is_issuer && entry.serial_number == serial_number
+}
+
+/// The first entry of the certificate; `None` where an entry stands against the use of the CRL, which is an indirect one or
+/// not. In one pass over the entries.
+pub(crate) fn look_up<'a>(
+    alloc: Global,
+    certificate: &CertificateRef<'_>,
+    crl: &CrlRef<'a>,
+    is_indirect: bool,
+) -> Result<Option<Option<RevokedCertRef<'a>>>, AllocError>
+    ensures { IfOk result (λ looked. (c : Certificate) (of : Crl) → Lends certificate.now.bytes.now c → LendsCrl crl.now.bytes.now of
+        → MatchOption looked (All (IsUsable is_indirect) (entries_of of) → ⊥)
+        (λ found. All (IsUsable is_indirect) (entries_of of) × FindsEntry c of (option_map lent_entry found))) }
+{
+    let serial_number = certificate.serial_number();
+    let mut is_issuer = encoded_match(alloc, crl.issuer(), certificate.issuer())?;
     let mut entries = crl.entries();
     let mut found: Option<RevokedCertRef<'a>> = None;
     while let Some(entry) = entries.next() {
-        if !is_plain(&entry) {
-            return None;
+        if !is_processed(&entry) {
+            return Ok(None);
         }
-        if found.is_none() && entry.serial_number == serial_number {
+        let here = issuer_at(alloc, certificate, is_indirect, is_issuer, &entry)?;
+        let Some(is_here) = here else {
+            return Ok(None);
+        };
+        is_issuer = is_here;
+        if found.is_none() && is_of(is_here, &entry, serial_number) {
             found = Some(entry);
         }
     }
-    Some(found)
+    Ok(Some(found))
+}
+
+/// What was found in a CRL.
+#[derive(Clone, Copy)]
+pub(crate) struct Found<'a> {
+    /// The place of the CRL, from 0.
+    pub(crate) place: usize,
+
+    /// The entry of the certificate.
+    pub(crate) entry: Option<RevokedCertRef<'a>>,
 }
 
 /// The reason that the entry gives; `Unspecified` where it gives none that can be decoded.
@@ -67,16 +129,20 @@ fn reason_of(alloc: Global, entry: &RevokedCertRef<'_>) -> CrlReason
     }
 }
 
-/// Why and when a certificate was revoked, by its entry; `None` where it isn't revoked.
-pub(crate) fn tell(alloc: Global, found: &Option<RevokedCertRef<'_>>) -> Option<(CrlReason, Time)>
-    ensures { (number : List ℕ) (list : Crl) → FindsEntry {P = rules.Rfc5280} number (entries_of list) found.now → TellsOf number list result }
+/// By which CRL, since when and why a certificate is revoked, by what was found of it; `None` where it isn't revoked.
+pub(crate) fn tell(alloc: Global, found: &Found<'_>) -> Option<Revocation>
+    ensures { Tells (placed_entry found.now) result }
 {
-    let Some(entry) = found else {
+    let Some(entry) = &found.entry else {
         return None;
     };
     let reason = reason_of(alloc, entry);
     if reason == CrlReason::RemoveFromCRL {
         return None;
     }
-    Some((reason, entry.revocation_date))
+    Some(Revocation {
+        crl: found.place,
+        date: entry.revocation_date,
+        reason,
+    })
 }

@@ -1,10 +1,11 @@
 //! Extensions of CRLs and of their entries.
 
 ghost use Rattle.std.specs.List.{All};
-ghost use Rattle.std.specs.Prelude.{◌≡◌, ◌↔◌, [], true, IsTrue};
+ghost use Rattle.std.specs.Prelude.{◌≡◌, ◌↔◌, ◌⊎◌, [], true, IsTrue};
 ghost use Rattle.x509_check.specs.ExtensionRefs.{extensions_left, lent_extension};
 ghost use Rattle.x509_ext.specs.LookUp.{with_oid};
 ghost use Rattle.x509_path.specs.Certificates.{IsReadable};
+ghost use Rattle.x509_revocation.specs.Crls.{HaveSame};
 
 use x509_check::{Check, ExtensionRef, ExtensionRefs};
 use x509_der::{AssociatedOid, ObjectIdentifier};
@@ -19,13 +20,25 @@ fn is_readable<T: AssociatedOid + Check>(extension: &ExtensionRef<'_>) -> bool
     T::check(extension.extn_value).is_ok()
 }
 
-/// Whether each critical extension is of the type, and can be decoded.
-pub(crate) fn are_processed<T: AssociatedOid + Check>(extensions: ExtensionRefs<'_>) -> bool
-    ensures { IsTrue result ↔ All (λ e. e.critical ≡ true → IsReadable T.form T.OID e) (extensions_left extensions.entry) }
+/// The same of one of two types.
+fn is_either<T: AssociatedOid + Check, U: AssociatedOid + Check>(
+    extension: &ExtensionRef<'_>,
+) -> bool
+    ensures { IsTrue result
+        ↔ (IsReadable T.form T.OID (lent_extension extension.now) ⊎ IsReadable U.form U.OID (lent_extension extension.now)) }
+{
+    is_readable::<T>(extension) || is_readable::<U>(extension)
+}
+
+/// Whether each critical extension is of one of the types, and can be decoded.
+pub(crate) fn are_processed<T: AssociatedOid + Check, U: AssociatedOid + Check>(
+    extensions: ExtensionRefs<'_>,
+) -> bool
+    ensures { IsTrue result ↔ All (λ e. e.critical ≡ true → IsReadable T.form T.OID e ⊎ IsReadable U.form U.OID e) (extensions_left extensions.entry) }
 {
     let mut rest = extensions;
     while let Some(extension) = rest.next() {
-        if extension.critical && !is_readable::<T>(&extension) {
+        if extension.critical && !is_either::<T, U>(&extension) {
             return false;
         }
     }
@@ -37,4 +50,18 @@ pub(crate) fn has_none(extensions: &ExtensionRefs<'_>, oid: ObjectIdentifier) ->
     ensures { IsTrue result ↔ (with_oid oid (extensions_left extensions.now) ≡ []) }
 {
     matches!(extensions.find_extension(oid), Ok(None))
+}
+
+/// Whether both have one extension with the OID, with the same octets, or neither has one.
+pub(crate) fn have_same(a: &ExtensionRefs<'_>, b: &ExtensionRefs<'_>, oid: ObjectIdentifier) -> bool
+    ensures { IsTrue result ↔ HaveSame oid (extensions_left a.now) (extensions_left b.now) }
+{
+    match a.find_extension(oid) {
+        Ok(None) => has_none(b, oid),
+        Ok(Some(first)) => match b.find_extension(oid) {
+            Ok(Some(second)) => first.extn_value == second.extn_value,
+            Ok(None) | Err(_) => false,
+        },
+        Err(_) => false,
+    }
 }

@@ -35,25 +35,25 @@ fn last_status(left: ReasonFlags) -> RevocationStatus
 
 /// The status by the CRLs, asked in their order.
 fn ask_all<V: SliceVerifier>(
-    asked: &Asked<'_, '_, V>,
-    crls: &[SignedCrl<'_, '_>],
+    asked: &Asked<'_, '_, '_, '_, V>,
 ) -> Result<RevocationStatus, AllocError>
     ensures { IfOk result (λ status. (c : Certificate) (given : List GivenCrl) → Lends asked.now.certificate.now.bytes.now c
-        → HasPoints c asked.now.points.now → LendsAll crls.now given
+        → HasPoints c asked.now.points.now → LendsAll asked.now.crls.now given
         → Answers (question (V.accepts asked.now.verifier.now) asked.now.settings.now c) given status) }
 {
     let mut left = all_reasons();
+    let crls = asked.crls;
     for (place, given) in crls.iter().enumerate() {
         if are_none(left) {
             return Ok(RevocationStatus::Unrevoked);
         }
-        match asked.ask(left, given)? {
+        match asked.ask(left, place, given)? {
             Step::Left(rest) => left = rest,
-            Step::Revoked(reason, date) => {
+            Step::Revoked(revocation) => {
                 return Ok(RevocationStatus::Revoked {
-                    crl: place,
-                    date,
-                    reason,
+                    crl: revocation.crl,
+                    date: revocation.date,
+                    reason: revocation.reason,
                 });
             }
         }
@@ -64,25 +64,42 @@ fn ask_all<V: SliceVerifier>(
 /// Whether the CRLs say that the certificate is revoked at the time (RFC 5280 6.3.3). They are asked in their order, up to
 /// the first that revokes it, or until no reason is left. One that covers no reason that those before it left isn't used
 /// (6.3.3 (e)), so of several for the same reasons the latest comes first. Each is verified over its own bytes, and its
-/// entries are gone over once.
+/// entries are gone over once; those of a delta CRL once for each complete CRL that it fits.
 ///
 /// A CRL is used where all of this holds, and says nothing where it doesn't:
 ///
-/// - It is in date. The signer's name is its issuer; names match as [`names_match`] says. The verifier accepts its signature
-///   for the signer's key, by the one algorithm that stands in its signed part and outside.
+/// - It is in date, and has one algorithm in its signed part and outside. It has no critical extension but an
+///   [`IssuingDistributionPoint`](x509_ext::pkix::IssuingDistributionPoint) that can be decoded, and no delta CRL indicator.
+/// - The signer's name is its issuer; names match as [`names_match`] says. The verifier accepts its signature for the signer's
+///   key.
 /// - It is that of a distribution point of the certificate, or its issuer is that of the certificate and it is under no name,
 ///   or under that of this issuer. It is that of a point where its issuer is in the point's cRLIssuer (and it is an indirect
 ///   CRL, or the issuer is that of the certificate), or where there is none is that of the certificate; and where it is under
 ///   a name, one of its names matches one of the point's. Directory names match as said, other names where they are equal.
-/// - It has no [`IssuingDistributionPoint`](x509_ext::pkix::IssuingDistributionPoint), or one that can be decoded, in whose
-///   scope the certificate is.
-/// - It is no delta CRL, and has no other critical extension. None of its entries has a
-///   [`CertificateIssuer`](x509_ext::pkix::CertificateIssuer), or a critical extension other than a
-///   [`CrlReason`](x509_ext::pkix::CrlReason) that can be decoded.
+/// - It has no IssuingDistributionPoint, or one that can be decoded, in whose scope the certificate is.
+/// - Each critical extension of its entries is a [`CrlReason`](x509_ext::pkix::CrlReason) or a
+///   [`CertificateIssuer`](x509_ext::pkix::CertificateIssuer) that can be decoded. A CertificateIssuer stands in entries of an
+///   indirect CRL alone, no entry has two, and each can be decoded and has a directory name.
 ///
-/// Of several entries with the serial number the first counts. Memory is taken only for the distribution points of the
-/// certificate and the names of a CRL's, and where names that differ have a BMPString, a UTF8String beyond ASCII, or an RDN of
-/// more than 16 attributes.
+/// The entry of the certificate is the first with its serial number that is one of its issuer. The CertificateIssuer of an entry
+/// is in force for it and those behind it up to the next, and before the first one the issuer of the CRL (5.3.3); the
+/// certificate's issuer is that of an entry where it matches that name, or one of the directory names in force.
+///
+/// Where the settings say so, a complete CRL is used with a delta CRL to it: the entry is looked for in that one, and only where
+/// it isn't there in the complete one. The reason removeFromCRL says that the certificate isn't revoked. The first of all given
+/// CRLs counts that is a delta CRL to the complete one, wherever it stands:
+///
+/// - It is in date, has one algorithm, and has no critical extension but an IssuingDistributionPoint and a
+///   [`BaseCrlNumber`](x509_ext::pkix::BaseCrlNumber) that can be decoded.
+/// - Both have one issuer. Both have the same IssuingDistributionPoint, or none, and the same
+///   [`AuthorityKeyIdentifier`](x509_ext::pkix::AuthorityKeyIdentifier), or none (5.2.4, 6.3.3 (c)).
+/// - The number of the complete CRL is that of the base or a later one, and before that of the delta CRL (5.2.4).
+/// - The verifier accepts its signature for the key of the complete CRL's signer (6.3.3 (h)); its own signer isn't asked.
+/// - Its entries can be used, as said of a complete one's.
+///
+/// Memory is taken only for the distribution points of the certificate and the names of a CRL's, for a CRL number of more than 24
+/// octets where delta CRLs are used, and where names that differ have a BMPString, a UTF8String beyond ASCII, or an RDN of more
+/// than 16 attributes.
 ///
 /// [`names_match`]: x509_match::names_match
 ///
@@ -106,7 +123,8 @@ pub fn revocation_status<V: SliceVerifier>(
         points: points.as_slice(),
         settings,
         verifier,
+        crls,
     };
-    let status = ask_all(&asked, crls)?;
+    let status = ask_all(&asked)?;
     Ok(status)
 }

@@ -1,7 +1,7 @@
 //! What one CRL says of a certificate.
 
 ghost use Rattle.std.specs.List.{All};
-ghost use Rattle.std.specs.Prelude.{◌≡◌, ◌↔◌, [], IfOk, IsTrue};
+ghost use Rattle.std.specs.Prelude.{◌≡◌, ◌↔◌, [], IfOk, IsTrue, Option};
 ghost use Rattle.x509_ext.specs.Identifiers.{id_ce};
 ghost use Rattle.x509_ext.specs.LookUp.{with_oid};
 ghost use Rattle.x509_match.specs.Matching.{NamesMatch};
@@ -9,32 +9,42 @@ ghost use Rattle.x509_path.specs.Lent.{LendsAnchor};
 ghost use Rattle.x509_path.specs.declared.anchor.Anchor.{Anchor};
 ghost use Rattle.x509_revocation.specs.Crls.{Crl, HasOneAlgorithm, IsProcessed, IsSignedBy, crl_extensions};
 ghost use Rattle.x509_revocation.specs.Lent.{LendsCrl};
+ghost use Rattle.x509_revocation.specs.Lent as steps;
+ghost use Rattle.x509_revocation.specs.LentFound.{placed_entry};
+ghost use Rattle.x509_revocation.specs.Says.{IsReady, Tells};
+ghost use Rattle.x509_revocation.specs.declared.status.Revocation as revocations;
 
 use crate::dates::is_in_date;
-use crate::entries::{look_up, tell};
+use crate::deltas::{are_in_order, have_same_scope};
+use crate::entries::{Found, look_up, tell};
 use crate::extensions::{are_processed, has_none};
 use crate::names::encoded_match;
+use crate::points::is_indirect;
 use crate::reasons::minus;
 use crate::scope::{covered, list_of};
 use crate::settings::RevocationSettings;
 use crate::signed_crl::SignedCrl;
+use crate::status::Revocation;
 use std::alloc::{AllocError, Global};
-use x509_base::Time;
 use x509_cert::laws::one_signed_part;
-use x509_check::{CertificateRef, CrlRef};
+use x509_check::{CertificateRef, CrlRef, RevokedCertRef};
 use x509_der::AssociatedOid;
 use x509_ext::pkix::crl::dp::{DistributionPoint, ReasonFlags};
-use x509_ext::pkix::{BaseCrlNumber, CrlReason, IssuingDistributionPoint};
-use x509_path::SliceVerifier;
+use x509_ext::pkix::{BaseCrlNumber, IssuingDistributionPoint};
+use x509_path::{AnchorRef, SliceVerifier};
 
-/// Whether it is no delta CRL, and each critical extension is processed.
+/// Whether it is no delta CRL.
 fn is_complete(crl: &CrlRef<'_>) -> bool
-    ensures { (list : Crl) → LendsCrl crl.now.bytes.now list
-        → IsTrue result ↔ ((with_oid (id_ce 27) (crl_extensions list) ≡ []) × All IsProcessed (crl_extensions list)) }
+    ensures { (list : Crl) → LendsCrl crl.now.bytes.now list → IsTrue result ↔ (with_oid (id_ce 27) (crl_extensions list) ≡ []) }
 {
-    let extensions = crl.extensions();
-    has_none(&extensions, BaseCrlNumber::OID)
-        && are_processed::<IssuingDistributionPoint>(extensions)
+    has_none(&crl.extensions(), BaseCrlNumber::OID)
+}
+
+/// Whether each critical extension is processed.
+fn is_processed(crl: &CrlRef<'_>) -> bool
+    ensures { (list : Crl) → LendsCrl crl.now.bytes.now list → IsTrue result ↔ All IsProcessed (crl_extensions list) }
+{
+    are_processed::<IssuingDistributionPoint, BaseCrlNumber>(crl.extensions())
 }
 
 /// Whether the algorithm in the signed part is the one outside it.
@@ -42,6 +52,14 @@ fn has_one_algorithm(crl: &CrlRef<'_>) -> bool
     ensures { (list : Crl) → LendsCrl crl.now.bytes.now list → IsTrue result ↔ HasOneAlgorithm list }
 {
     crl.inner_algorithm() == crl.signature_algorithm()
+}
+
+/// Whether the CRL is ready to be used, complete or as a delta CRL.
+fn is_ready(settings: &RevocationSettings, crl: &CrlRef<'_>) -> bool
+    ensures { (list : Crl) → LendsCrl crl.now.bytes.now list
+        → IsTrue result ↔ IsReady settings.now.without_next_update settings.now.moment list }
+{
+    is_in_date(settings, crl) && is_processed(crl) && has_one_algorithm(crl)
 }
 
 /// Whether the signer's name is the CRL's issuer.
@@ -54,16 +72,24 @@ fn is_of_signer(alloc: Global, given: &SignedCrl<'_, '_>) -> Result<bool, AllocE
     Ok(same)
 }
 
+/// Whether both CRLs have one issuer.
+fn have_one_issuer(alloc: Global, a: &CrlRef<'_>, b: &CrlRef<'_>) -> Result<bool, AllocError>
+    ensures { IfOk result (λ same. (x y : Crl) → LendsCrl a.now.bytes.now x → LendsCrl b.now.bytes.now y
+        → IsTrue same ↔ NamesMatch x.tbs_cert_list.issuer y.tbs_cert_list.issuer) }
+{
+    let same = encoded_match(alloc, a.issuer(), b.issuer())?;
+    Ok(same)
+}
+
 /// Whether the verifier accepts the signature of the signed part, as it stands in the bytes, for the signer's key.
-fn is_signed<V: SliceVerifier>(verifier: &V, given: &SignedCrl<'_, '_>) -> bool
-    ensures { (list : Crl) (signer : Anchor) → LendsCrl given.now.crl.now.bytes.now list → LendsAnchor given.now.signer signer
-        → IsTrue result ↔ IsSignedBy (V.accepts verifier.now) signer given.now.crl.now.bytes.now list }
+fn is_signed<V: SliceVerifier>(verifier: &V, signer: &AnchorRef<'_>, crl: &CrlRef<'_>) -> bool
+    ensures { (list : Crl) (anchor : Anchor) → LendsCrl crl.now.bytes.now list → LendsAnchor signer.now anchor
+        → IsTrue result ↔ IsSignedBy (V.accepts verifier.now) anchor crl.now.bytes.now list }
 {
     one_signed_part();
-    let crl = given.crl;
     verifier.verify(
         crl.signature_algorithm(),
-        given.signer.key,
+        signer.key,
         crl.signed_part(),
         crl.signature(),
     )
@@ -76,12 +102,22 @@ pub(crate) enum Step {
     Left(ReasonFlags),
 
     /// The certificate is revoked.
-    Revoked(CrlReason, Time),
+    Revoked(Revocation),
+}
+
+/// What is behind a CRL, by what was found of the certificate, where these reasons are left if it isn't revoked.
+fn step_of(alloc: Global, found: &Found<'_>, rest: ReasonFlags) -> Step
+    ensures { (revoked : Option revocations.Revocation) × Tells (placed_entry found.now) revoked × (result ≡ steps.step_of rest revoked) }
+{
+    match tell(alloc, found) {
+        Some(revocation) => Step::Revoked(revocation),
+        None => Step::Left(rest),
+    }
 }
 
 /// What is asked of CRLs.
 #[derive(Clone, Copy)]
-pub(crate) struct Asked<'q, 'c, V> {
+pub(crate) struct Asked<'q, 'c, 's, 'a, V> {
     /// Where memory is taken.
     pub(crate) alloc: Global,
 
@@ -96,62 +132,195 @@ pub(crate) struct Asked<'q, 'c, V> {
 
     /// The verifier.
     pub(crate) verifier: &'q V,
+
+    /// The CRLs, among them delta CRLs.
+    pub(crate) crls: &'q [SignedCrl<'s, 'a>],
 }
 
-impl<V: SliceVerifier> Asked<'_, '_, V> {
-    ghost use Rattle.std.specs.Prelude.{◌≡◌, ◌↔◌, IfOk, IsTrue, Option};
-    ghost use Rattle.x509_ext.specs.declared.pkix.issuing_distribution_point.IssuingDistributionPoint as lists;
+impl<'a, V: SliceVerifier> Asked<'_, '_, '_, 'a, V> {
+    ghost use Rattle.std.specs.Prelude.{◌≡◌, ◌↔◌, ℕ, IfOk, IsTrue, List, MatchOption, None, Option, Some, option_map};
+    ghost use Rattle.x509_check.specs.CrlRefs.{lent_entry};
     ghost use Rattle.x509_ext.specs.declared.pkix.reasons.Reasons as reason_sets;
     ghost use Rattle.x509_path.specs.Certificates.{Certificate};
     ghost use Rattle.x509_path.specs.Lent.{Lends};
-    ghost use Rattle.x509_revocation.specs.Lent.{LendsGiven, Steps, question};
+    ghost use Rattle.x509_revocation.specs.Crls.{Entry};
+    ghost use Rattle.x509_revocation.specs.Entries.{FindsEntry};
+    ghost use Rattle.x509_revocation.specs.Lent.{LendsAll, LendsGiven, Steps, question, step_of};
+    ghost use Rattle.x509_revocation.specs.LentFound.{placed_entry};
     ghost use Rattle.x509_revocation.specs.Points.{HasPoints};
-    ghost use Rattle.x509_revocation.specs.Says.{Covers, GivenCrl, IsReady};
+    ghost use Rattle.x509_revocation.specs.Says.{Covers, FindsAt, FindsDelta, FindsWith, Fits, GivenCrl, IsComplete, IsDeltaTo, Tells};
     ghost use Rattle.x509_revocation.specs.Status.{AddsTo, minus};
+    ghost use Rattle.x509_revocation.specs.declared.status.Revocation as revocations;
 
-    /// Whether the CRL is ready to be used, whatever it covers.
-    fn is_ready(&self, given: &SignedCrl<'_, '_>) -> Result<bool, AllocError>
-        ensures { IfOk result (λ b. (c : Certificate) (g : GivenCrl) → LendsGiven given.now g
-            → IsTrue b ↔ IsReady (question (V.accepts self.now.verifier.now) self.now.settings.now c) g) }
+    /// Whether the delta CRL is one to the complete CRL, its entries aside.
+    fn fits(&self, complete: &SignedCrl<'_, '_>, delta: &CrlRef<'_>) -> Result<bool, AllocError>
+        ensures { IfOk result (λ b. (c : Certificate) (g d : GivenCrl) → LendsGiven complete.now g → LendsCrl delta.now.bytes.now d.crl → delta.now.bytes.now ≡ d.bytes
+            → IsTrue b ↔ Fits (question (V.accepts self.now.verifier.now) self.now.settings.now c) g d) }
+    {
+        let whole = complete.crl;
+        if !is_ready(self.settings, delta) || !have_same_scope(whole, delta) {
+            return Ok(false);
+        }
+        let is_issuers = have_one_issuer(self.alloc, whole, delta)?;
+        if !is_issuers {
+            return Ok(false);
+        }
+        let are_ordered = are_in_order(self.alloc, whole, delta)?;
+        if !are_ordered {
+            return Ok(false);
+        }
+        Ok(is_signed(self.verifier, &complete.signer, delta))
+    }
+
+    /// The entry of the certificate in a delta CRL to the complete one, if it has one; `None` where it is no delta CRL to it.
+    fn look_in_delta(
+        &self,
+        complete: &SignedCrl<'_, '_>,
+        is_indirect: bool,
+        delta: &CrlRef<'a>,
+    ) -> Result<Option<Option<RevokedCertRef<'a>>>, AllocError>
+        ensures { IfOk result (λ looked. (c : Certificate) (g d : GivenCrl) → Lends self.now.certificate.now.bytes.now c → LendsGiven complete.now g
+            → LendsCrl delta.now.bytes.now d.crl → delta.now.bytes.now ≡ d.bytes
+            → MatchOption looked (IsDeltaTo (question (V.accepts self.now.verifier.now) self.now.settings.now c) is_indirect g d → ⊥)
+            (λ entry. IsDeltaTo (question (V.accepts self.now.verifier.now) self.now.settings.now c) is_indirect g d
+            × FindsEntry c d.crl (option_map lent_entry entry))) }
+    {
+        let fits = self.fits(complete, delta)?;
+        if !fits {
+            return Ok(None);
+        }
+        look_up(self.alloc, self.certificate, delta, is_indirect)
+    }
+
+    /// What the first delta CRL to the complete one has of the certificate; `None` where there is no delta CRL to it.
+    fn look_in_deltas(
+        &self,
+        complete: &SignedCrl<'_, '_>,
+        is_indirect: bool,
+    ) -> Result<Option<Found<'a>>, AllocError>
+        ensures { IfOk result (λ looked. (c : Certificate) (all : List GivenCrl) (g : GivenCrl) → Lends self.now.certificate.now.bytes.now c
+            → LendsAll self.now.crls.now all → LendsGiven complete.now g
+            → MatchOption looked (FindsDelta (question (V.accepts self.now.verifier.now) self.now.settings.now c) is_indirect g 0 all None)
+            (λ found. (d : GivenCrl) × FindsDelta (question (V.accepts self.now.verifier.now) self.now.settings.now c) is_indirect g 0 all (Some (found.place, d))
+            × FindsEntry c d.crl (option_map lent_entry found.entry))) }
+    {
+        let crls = self.crls;
+        for (place, given) in crls.iter().enumerate() {
+            match self.look_in_delta(complete, is_indirect, given.crl) {
+                Ok(Some(entry)) => return Ok(Some(Found { place, entry })),
+                Ok(None) => {}
+                Err(e) => return Err(e),
+            }
+        }
+        Ok(None)
+    }
+
+    /// What the delta CRL to the complete one has of the certificate; `None` where it has no entry of it, or there is none or
+    /// none is used.
+    fn find_in_delta(
+        &self,
+        complete: &SignedCrl<'_, '_>,
+        is_indirect: bool,
+    ) -> Result<Option<Found<'a>>, AllocError>
+        ensures { IfOk result (λ looked. (c : Certificate) (all : List GivenCrl) (g : GivenCrl) (place : ℕ) → Lends self.now.certificate.now.bytes.now c
+            → LendsAll self.now.crls.now all → LendsGiven complete.now g
+            → MatchOption looked ((own : Option (ℕ × Entry)) → FindsAt c place g.crl own
+            → FindsWith (question (V.accepts self.now.verifier.now) self.now.settings.now c) is_indirect all place g own)
+            (λ found. FindsWith (question (V.accepts self.now.verifier.now) self.now.settings.now c) is_indirect all place g (placed_entry found))) }
+    {
+        let use_deltas = self.settings.use_deltas;
+        if !use_deltas {
+            return Ok(None);
+        }
+        match self.look_in_deltas(complete, is_indirect) {
+            Ok(Some(found)) => {
+                if found.entry.is_some() {
+                    Ok(Some(found))
+                } else {
+                    Ok(None)
+                }
+            }
+            Ok(None) => Ok(None),
+            Err(e) => Err(e),
+        }
+    }
+
+    /// What there is behind a complete CRL, where this was found in it; these reasons are left if the certificate isn't
+    /// revoked.
+    fn step_behind(
+        &self,
+        complete: &SignedCrl<'_, '_>,
+        is_indirect: bool,
+        own: &Found<'a>,
+        rest: ReasonFlags,
+    ) -> Result<Step, AllocError>
+        ensures { IfOk result (λ step. (c : Certificate) (all : List GivenCrl) (g : GivenCrl) → Lends self.now.certificate.now.bytes.now c
+            → LendsAll self.now.crls.now all → LendsGiven complete.now g → FindsAt c own.now.place g.crl (placed_entry own.now)
+            → (found : Option (ℕ × Entry)) × FindsWith (question (V.accepts self.now.verifier.now) self.now.settings.now c) is_indirect all own.now.place g found
+            × ((revoked : Option revocations.Revocation) × Tells found revoked × (step ≡ step_of rest revoked))) }
+    {
+        match self.find_in_delta(complete, is_indirect) {
+            Ok(Some(found)) => Ok(step_of(self.alloc, &found, rest)),
+            Ok(None) => Ok(step_of(self.alloc, own, rest)),
+            Err(e) => Err(e),
+        }
+    }
+
+    /// What the CRL at the place says of the certificate, where it is usable and covers these reasons; those behind it are left
+    /// where it isn't revoked.
+    fn consult(
+        &self,
+        place: usize,
+        given: &SignedCrl<'_, 'a>,
+        list: &Option<IssuingDistributionPoint>,
+        left: ReasonFlags,
+        rest: ReasonFlags,
+    ) -> Result<Step, AllocError>
+        ensures { IfOk result (λ step. (c : Certificate) (all : List GivenCrl) (g : GivenCrl) (reasons : reason_sets.Reasons) → Lends self.now.certificate.now.bytes.now c
+            → LendsAll self.now.crls.now all → LendsGiven given.now g
+            → IsComplete self.now.settings.now.without_next_update self.now.settings.now.moment g → Covers c g.crl list.now reasons
+            → AddsTo left reasons → rest ≡ minus left reasons
+            → Steps (question (V.accepts self.now.verifier.now) self.now.settings.now c) all place left g step) }
+    {
+        if !is_signed(self.verifier, &given.signer, given.crl) {
+            return Ok(Step::Left(left));
+        }
+        let indirect = is_indirect(list);
+        match look_up(self.alloc, self.certificate, given.crl, indirect) {
+            Ok(Some(entry)) => {
+                let own = Found { place, entry };
+                self.step_behind(given, indirect, &own, rest)
+            }
+            Ok(None) => Ok(Step::Left(left)),
+            Err(e) => Err(e),
+        }
+    }
+
+    /// Whether the CRL is complete, ready, and that of its signer.
+    fn is_usable(&self, given: &SignedCrl<'_, '_>) -> Result<bool, AllocError>
+        ensures { IfOk result (λ b. (g : GivenCrl) → LendsGiven given.now g → IsTrue b ↔ IsComplete self.now.settings.now.without_next_update self.now.settings.now.moment g) }
     {
         let crl = given.crl;
-        if !is_in_date(self.settings, crl) || !is_complete(crl) || !has_one_algorithm(crl) {
+        if !is_ready(self.settings, crl) || !is_complete(crl) {
             return Ok(false);
         }
         let is_of_signer = is_of_signer(self.alloc, given)?;
         Ok(is_of_signer)
     }
 
-    /// What the CRL says of the certificate, where it is ready and covers these reasons; those behind it are left where it isn't revoked.
-    fn consult(&self, given: &SignedCrl<'_, '_>, left: ReasonFlags, rest: ReasonFlags) -> Step
-        ensures { (c : Certificate) (g : GivenCrl) (list : Option lists.IssuingDistributionPoint) (reasons : reason_sets.Reasons) → Lends self.now.certificate.now.bytes.now c → LendsGiven given.now g
-            → IsReady (question (V.accepts self.now.verifier.now) self.now.settings.now c) g → Covers c g.crl list reasons
-            → AddsTo left reasons → rest ≡ minus left reasons
-            → Steps (question (V.accepts self.now.verifier.now) self.now.settings.now c) left g result }
-    {
-        if !is_signed(self.verifier, given) {
-            return Step::Left(left);
-        }
-        match look_up(given.crl, self.certificate.serial_number()) {
-            Some(found) => match tell(self.alloc, &found) {
-                Some((reason, date)) => Step::Revoked(reason, date),
-                None => Step::Left(rest),
-            },
-            None => Step::Left(left),
-        }
-    }
-
-    /// What there is behind the CRL, where these reasons are left.
+    /// What there is behind the CRL at the place, where these reasons are left.
     pub(crate) fn ask(
         &self,
         left: ReasonFlags,
-        given: &SignedCrl<'_, '_>,
+        place: usize,
+        given: &SignedCrl<'_, 'a>,
     ) -> Result<Step, AllocError>
-        ensures { IfOk result (λ step. (c : Certificate) (g : GivenCrl) → Lends self.now.certificate.now.bytes.now c → HasPoints c self.now.points.now
-            → LendsGiven given.now g → Steps (question (V.accepts self.now.verifier.now) self.now.settings.now c) left g step) }
+        ensures { IfOk result (λ step. (c : Certificate) (all : List GivenCrl) (g : GivenCrl) → Lends self.now.certificate.now.bytes.now c → HasPoints c self.now.points.now
+            → LendsAll self.now.crls.now all → LendsGiven given.now g
+            → Steps (question (V.accepts self.now.verifier.now) self.now.settings.now c) all place left g step) }
     {
-        let is_ready = self.is_ready(given)?;
-        if !is_ready {
+        let is_usable = self.is_usable(given)?;
+        if !is_usable {
             return Ok(Step::Left(left));
         }
         let crl = given.crl;
@@ -167,6 +336,6 @@ impl<V: SliceVerifier> Asked<'_, '_, V> {
         if rest == left {
             return Ok(Step::Left(left));
         }
-        Ok(self.consult(given, left, rest))
+        self.consult(place, given, &list, left, rest)
     }
 }

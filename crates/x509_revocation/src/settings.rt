@@ -2,7 +2,7 @@
 
 use x509_base::DateTime;
 
-/// For which time a status is asked, and which CRLs are in date.
+/// For which time a status is asked, and which CRLs are used.
 #[derive(Clone, Copy, Debug, PartialEq, Eq)]
 pub struct RevocationSettings {
     /// The time.
@@ -11,4 +11,7 @@ pub struct RevocationSettings {
     /// Whether a CRL is in date that doesn't say by when the next one will be issued, which RFC 5280 5.1.2.5 wants each to
     /// say.
     pub without_next_update: bool,
+
+    /// Whether delta CRLs are used (RFC 5280 6.3.1 (b)).
+    pub use_deltas: bool,
 }

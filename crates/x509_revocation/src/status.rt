@@ -28,3 +28,16 @@ pub enum RevocationStatus {
         reasons: ReasonFlags,
     },
 }
+
+/// That a certificate is revoked.
+#[derive(Clone, Copy)]
+pub(crate) struct Revocation {
+    /// The place of the CRL that says so, from 0.
+    pub(crate) crl: usize,
+
+    /// When it was revoked.
+    pub(crate) date: Time,
+
+    /// Why.
+    pub(crate) reason: CrlReason,
+}

@@ -5,3 +5,5 @@
 mod kinds;
 #[cfg(test)]
 mod statuses;
+#[cfg(test)]
+mod validated;

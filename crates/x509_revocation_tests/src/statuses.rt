@@ -28,7 +28,7 @@ pub(crate) const LEAF: &[u8] = &[
 ];
 
 /// A CRL of the serial number 2 alone, from 2019-12-01 to 2020-02-01, as the others.
-const OTHERS: &[u8] = &[
+pub(crate) const OTHERS: &[u8] = &[
     0x30, 0x4C, 0x30, 0x40, 0x02, 0x01, 0x01, 0x30, 0x05, 0x06, 0x03, 0x2A, 0x03, 0x04, 0x30, 0x00,
     0x17, 0x0D, 0x31, 0x39, 0x31, 0x32, 0x30, 0x31, 0x30, 0x30, 0x30, 0x30, 0x30, 0x30, 0x5A, 0x17,
     0x0D, 0x32, 0x30, 0x30, 0x32, 0x30, 0x31, 0x30, 0x30, 0x30, 0x30, 0x30, 0x30, 0x5A, 0x30, 0x14,
@@ -37,7 +37,7 @@ const OTHERS: &[u8] = &[
 ];
 
 /// Of the serial numbers 2 and 1. The second entry is of 2019-12-15, with the reason keyCompromise.
-const REVOKES: &[u8] = &[
+pub(crate) const REVOKES: &[u8] = &[
     0x30, 0x6E, 0x30, 0x62, 0x02, 0x01, 0x01, 0x30, 0x05, 0x06, 0x03, 0x2A, 0x03, 0x04, 0x30, 0x00,
     0x17, 0x0D, 0x31, 0x39, 0x31, 0x32, 0x30, 0x31, 0x30, 0x30, 0x30, 0x30, 0x30, 0x30, 0x5A, 0x17,
     0x0D, 0x32, 0x30, 0x30, 0x32, 0x30, 0x31, 0x30, 0x30, 0x30, 0x30, 0x30, 0x30, 0x5A, 0x30, 0x36,
@@ -70,6 +70,7 @@ fn status(alloc: Global, list: &[u8], moment: DateTime) -> Option<RevocationStat
     let settings = RevocationSettings {
         moment,
         without_next_update: false,
+        use_deltas: false,
     };
     let signer = AnchorRef {
         name: NAME,
@@ -100,11 +101,11 @@ fn is_that_day(date: Time) -> bool {
     date.to_unix_duration().as_secs() == 1_576_368_000
 }
 
-/// Whether it is revoked by the first CRL, for the reason keyCompromise, on 2019-12-15.
-fn is_compromised(status: Option<RevocationStatus>) -> bool {
+/// Whether it is revoked by the CRL at the place, for the reason keyCompromise, on 2019-12-15.
+pub(crate) fn is_compromised(status: Option<RevocationStatus>, place: usize) -> bool {
     match status {
         Some(RevocationStatus::Revoked { crl, date, reason }) => {
-            crl == 0 && is_that_day(date) && reason == CrlReason::KeyCompromise
+            crl == place && is_that_day(date) && reason == CrlReason::KeyCompromise
         }
         _ => false,
     }
@@ -122,7 +123,7 @@ pub(crate) fn left(status: Option<RevocationStatus>) -> Option<u16> {
 fn entries(rt: HostRuntime) -> Result<(), Fail> {
     let moment = DateTime::from_str("2020-01-01T00:00:00Z")?;
     assert!(rt; is_unrevoked(status(rt.alloc(), OTHERS, moment)));
-    assert!(rt; is_compromised(status(rt.alloc(), REVOKES, moment)));
+    assert!(rt; is_compromised(status(rt.alloc(), REVOKES, moment), 0));
     Ok(())
 }
 

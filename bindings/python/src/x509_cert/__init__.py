@@ -11,6 +11,7 @@ from .algorithms import HashAlgorithm, SignatureAlgorithm
 from .builder import CertificateBuilder, CertificateRevocationListBuilder, CertificateSigningRequestBuilder
 from .certificate import (
     Certificate,
+    UniqueIdentifier,
     Version,
     load_der_x509_certificate,
     load_pem_x509_certificate,
@@ -109,6 +110,7 @@ from .request import (
     load_der_x509_csr,
     load_pem_x509_csr,
 )
+from .revocation import RevocationState, RevocationStatus, SignedCrl, may_sign_crls, path_revocation_statuses, revocation_status
 from .validation import ValidatedPath, validate_path
 
 __all__ = [
@@ -175,6 +177,7 @@ __all__ = [
     "load_pem_x509_certificates",
     "load_pem_x509_crl",
     "load_pem_x509_csr",
+    "may_sign_crls",
     "Name",
     "NameAttribute",
     "NameConstraints",
@@ -183,6 +186,7 @@ __all__ = [
     "ObjectIdentifier",
     "OCSPNoCheck",
     "OtherName",
+    "path_revocation_statuses",
     "PathControls",
     "PathFault",
     "PolicyConstraints",
@@ -199,6 +203,9 @@ __all__ = [
     "reencode",
     "RegisteredID",
     "RelativeDistinguishedName",
+    "revocation_status",
+    "RevocationState",
+    "RevocationStatus",
     "RevokedCertificate",
     "RevokedCertificateBuilder",
     "RFC822Name",
@@ -206,6 +213,7 @@ __all__ = [
     "SignatureAlgorithmOID",
     "SignatureKind",
     "SignedCertificateTimestamp",
+    "SignedCrl",
     "Signer",
     "SubjectAlternativeName",
     "SubjectDirectoryAttributes",
@@ -216,6 +224,7 @@ __all__ = [
     "TLSFeatureType",
     "TrustAnchor",
     "UniformResourceIdentifier",
+    "UniqueIdentifier",
     "UnrecognizedExtension",
     "UserNotice",
     "validate_path",

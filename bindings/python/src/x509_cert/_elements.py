@@ -5,8 +5,8 @@ from __future__ import annotations
 import ctypes
 from typing import NamedTuple
 
+from ._der import SET, element
 from ._library import MALFORMED, RAW, ElementView, X509Error, fill, walk
-from ._writing import SET, element
 
 
 class Element(NamedTuple):

@@ -1,7 +1,7 @@
 """The C library of `include/x509.h`, by `ctypes`: its structs, its statuses, and one way to call it.
 
-The library is the one that the environment variable X509_LIBRARY names, by its file or by the folder of its `libx509.so`, as for the crate for Rust; or else
-the one that this package carries; or else that with this package's soname, or `libx509.so`, as the system finds it.
+The library is the one that the environment variable X509_LIBRARY names, as for the crate for Rust: by its folder, by its file, or by that of a static library beside it;
+or else the one that this package carries; or else that with this package's soname, or `libx509.so`, as the system finds it.
 """
 
 from __future__ import annotations
@@ -18,20 +18,38 @@ RFC5280, RAW = 0, 1
 
 
 class X509Error(ValueError):
-    """A call was refused. `status` is its number in `x509.h`."""
+    """A call was refused. `status` is its number in `x509.h`. Of a text that isn't of its form `place` is the index of the first part that can't be read: of a name an
+    attribute, of an object identifier a number; where the text ends too soon, its length."""
 
     TEXTS = {
         OVERLENGTH: "longer than 268,435,455 bytes",
         MALFORMED: "not the DER of such a value",
-        FAILED: "a text is not of its form, a type is not known or not taken there, or an extension stands there twice",
+        FAILED: "what was given has no such answer",
         SET_DUPLICATE: "a relative distinguished name has an attribute twice",
         VALUE: "a value is out of range, or can't be written",
         REPEATED: "an extension is there more than once",
     }
 
-    def __init__(self, call: str, status: int, hint: str = "") -> None:
-        super().__init__(f"{call}: {self.TEXTS.get(status, f'status {status}')}{hint}")
-        self.status = status
+    # what FAILED means of each call that answers it
+    CAUSES = {
+        "x509_reencode": "there is no type with that name",
+        "x509_name_from_text": "not the text of a name (RFC 4514)",
+        "x509_oid_from_text": "not the dotted text of an object identifier",
+        "x509_attribute_encode": "the attribute doesn't have that string type",
+        "x509_crl_issued_next": "an entry has its issuer twice",
+        "x509_request_extensions": "the attribute that asks for extensions hasn't one value",
+        "x509_path_validate": "the anchor has an extension twice",
+        "x509_path_validate_under_anchor": "the anchor has an extension twice, no name, or the certificate of another",
+        "x509_build_root": "a root can't have that subject",
+        "x509_build_device": "none of the names is that of a hardware module",
+        "x509_build_crl": "the issuer's certificate has an SKI twice",
+        "x509_assemble": "the signed part has another algorithm",
+    }
+
+    def __init__(self, call: str, status: int, hint: str = "", place: int | None = None) -> None:
+        cause = self.CAUSES.get(call) if status == FAILED else None
+        super().__init__(f"{call}: {cause or self.TEXTS.get(status, f'status {status}')}{hint}")
+        self.status, self.place = status, place
 
 
 class Span(ctypes.Structure):
@@ -60,6 +78,9 @@ class CertificateView(ctypes.Structure):
     subject: Span
     subject_public_key_info: Span
     extensions: Span
+    inner_algorithm: Span
+    issuer_unique_id: Span
+    subject_unique_id: Span
 
     _fields_ = [
         *_numbers("version"),
@@ -167,6 +188,7 @@ class AttributeView(ctypes.Structure):
 
 
 class CrlView(ctypes.Structure):
+    inner_algorithm: Span
     issuer: Span
     entries: Span
     extensions: Span
@@ -274,16 +296,39 @@ class PathAnswerView(ctypes.Structure):
     _fields_ = [("place", ctypes.c_size_t), *_numbers("reason"), *_spans("name", "key"), ("policies_len", ctypes.c_size_t)]
 
 
+class SignedCrlView(ctypes.Structure):
+    crl: Span
+    name: Span
+    key: Span
+    verified: int
+    _fields_ = [*_spans("crl", "name", "key"), *_numbers("verified")]
+
+
+class RevocationSettings(ctypes.Structure):
+    _fields_ = [("moment", ctypes.c_uint64), ("flags", ctypes.c_uint64)]
+
+
+class RevocationAnswerView(ctypes.Structure):
+    _fields_ = [*_numbers("status", "reason"), ("crl", ctypes.c_size_t), ("date", ctypes.c_uint64), *_numbers("reasons")]
+
+
 View = TypeVar("View", bound=ctypes.Structure)
 
 _loaded: ctypes.CDLL | None = None
+
+
+def _file_of(named: str) -> str:
+    """The file of the shared library, where that, its folder, or a static library beside it is named."""
+    if os.path.isdir(named):
+        return os.path.join(named, "libx509.so")
+    return os.path.join(os.path.dirname(named), "libx509.so") if named.endswith(".a") else named
 
 
 def _found() -> ctypes.CDLL:
     named = os.environ.get("X509_LIBRARY")
     carried = pathlib.Path(__file__).with_name("libx509.so")
     if named:
-        return ctypes.CDLL(os.path.join(named, "libx509.so") if os.path.isdir(named) else named)
+        return ctypes.CDLL(_file_of(named))
     if carried.is_file():
         return ctypes.CDLL(str(carried))
     try:

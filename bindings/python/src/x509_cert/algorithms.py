@@ -4,10 +4,11 @@ from __future__ import annotations
 
 from typing import NamedTuple
 
+from ._der import NULL, SEQUENCE, context, element, integer
 from ._elements import elements, only
 from ._library import MALFORMED, X509Error
 from ._numbers import whole_number
-from ._writing import NULL, SEQUENCE, context, element, identifier_of, integer
+from ._writing import identifier_of
 from .key import AlgorithmIdentifier
 from .oid import ObjectIdentifier
 from .oid import SignatureAlgorithmOID as OID

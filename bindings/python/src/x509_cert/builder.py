@@ -19,10 +19,11 @@ from typing import Any, Iterable, TypeVar
 
 from . import _cryptography
 from ._cryptography import AnyAlgorithm, AnyPublicKey, AnySigner, PrivateKeyOfCryptography, algorithm_bytes, key_bytes
+from ._der import BIT_STRING, SEQUENCE, SET, UTF8_STRING, context, element
 from ._extension import ExtensionType
 from ._given import instance, listed, octets, whole, whole_seconds
 from ._library import RequestAttributeView, fill, walk
-from ._writing import BIT_STRING, SEQUENCE, SET, UTF8_STRING, context, element, identifier_of
+from ._writing import identifier_of
 from ._numbers import serial_element
 from .certificate import Certificate
 from .crl import CertificateRevocationList, RevokedCertificate

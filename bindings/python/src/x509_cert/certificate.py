@@ -7,7 +7,7 @@ import datetime
 import enum
 import importlib
 import secrets
-from typing import Any, Sequence
+from typing import Any, NamedTuple, Sequence
 
 from . import _cryptography
 from ._given import instance, octets
@@ -32,6 +32,13 @@ class Version(enum.Enum):
     def number(self) -> int:
         """1, 2 or 3."""
         return self.value + 1
+
+
+class UniqueIdentifier(NamedTuple):
+    """A further name of an issuer or a subject (RFC 5280 4.1.2.8): the octets of its bits, and how many of the last one's bits are unused."""
+
+    bits: bytes
+    unused_bits: int
 
 
 class Certificate(Signed):
@@ -96,6 +103,24 @@ class Certificate(Signed):
     def public_key_algorithm_oid(self) -> ObjectIdentifier:
         """The identifier of the key's algorithm."""
         return self.public_key_info.algorithm_oid
+
+    @property
+    def issuer_unique_id(self) -> UniqueIdentifier | None:
+        """A further name of the issuer (RFC 5280 4.1.2.8)."""
+        return self._unique_id(self._view.issuer_unique_id, int(self._view.issuer_unused_bits))
+
+    @property
+    def subject_unique_id(self) -> UniqueIdentifier | None:
+        """A further name of the subject (RFC 5280 4.1.2.8)."""
+        return self._unique_id(self._view.subject_unique_id, int(self._view.subject_unused_bits))
+
+    def _unique_id(self, bits: Span, unused_bits: int) -> UniqueIdentifier | None:
+        return UniqueIdentifier(bits.of(self._data), unused_bits) if bits.is_there() else None
+
+    @property
+    def inner_signature_algorithm_bytes(self) -> bytes:
+        """The DER of the algorithm in the signed part, which is to be that of the signature (RFC 5280 4.1.1.2). Whether it is isn't looked at."""
+        return self._view.inner_algorithm.of(self._data)
 
     @property
     def extensions(self) -> Extensions:

@@ -12,12 +12,13 @@ from . import _cryptography
 from ._cryptography import AnyPublicKey
 from ._extension import ExtensionType
 from ._given import instance, octets, whole, whole_seconds
-from ._library import ABSENT, OK, CrlEntryView, CrlView, RevocationView, SignatureView, X509Error, fill, status_of, view, walk
+from ._library import ABSENT, OK, CrlEntryView, CrlView, SignatureView, Span, X509Error, fill, status_of, view, walk
 from ._numbers import moment, serial_element, whole_number
 from ._pem import blocks, refuse_pem
 from ._signed import Signed
 from .extensions import CRLReason, DuplicateExtension, Extension, Extensions, ReasonFlags
 from .name import Name
+from .other_extensions import CertificateIssuer
 
 
 class RevokedCertificate:
@@ -130,6 +131,11 @@ class CertificateRevocationList(Signed):
         return walk("x509_crl_entry_next", CrlEntryView, self._entries) if self._entries else iter(())
 
     @property
+    def inner_signature_algorithm_bytes(self) -> bytes:
+        """The DER of the algorithm in the signed part, which is to be that of the signature (RFC 5280 5.1.1.2). Whether it is isn't looked at."""
+        return self._view.inner_algorithm.of(self._data)
+
+    @property
     def issuer(self) -> Name:
         return Name(self._view.issuer.of(self._data))
 
@@ -178,14 +184,28 @@ class CertificateRevocationList(Signed):
             element = serial_element(serial_number)
         except ValueError:
             return None
-        found = RevocationView()
-        status = status_of("x509_crl_lookup", self._data, element, ctypes.byref(found))
+        if not self._entries:
+            return None
+        found = CrlEntryView()
+        status = status_of("x509_crl_entry_find", self._entries, element, ctypes.byref(found))
         if status == ABSENT:
             return None
         if status != OK:
-            raise X509Error("x509_crl_lookup", status)
-        entry = next(it for it in self._walk() if it.serial_number.of(self._entries) == element)
-        return _entry(entry, self._entries)
+            raise X509Error("x509_crl_entry_find", status)
+        return _entry(found, self._entries)
+
+    def issued_entries(self) -> Iterator[tuple[RevokedCertificate, CertificateIssuer | None]]:
+        """The entries of an indirect CRL, each with who issued its certificate (RFC 5280 5.3.3): the names of the last entry up to it that has a CertificateIssuer,
+        and None where none has it, so that the issuer of the CRL did."""
+        at, issuer = ctypes.c_size_t(), Span()
+        while self._entries:
+            found = CrlEntryView()
+            status = status_of("x509_crl_issued_next", self._entries, ctypes.byref(at), ctypes.byref(issuer), ctypes.byref(found))
+            if status == ABSENT:
+                return
+            if status != OK:
+                raise X509Error("x509_crl_issued_next", status)
+            yield _entry(found, self._entries), CertificateIssuer.from_der(issuer.of(self._entries)) if issuer.is_there() else None
 
     def __iter__(self) -> Iterator[RevokedCertificate]:
         return (_entry(it, self._entries) for it in self._walk())

@@ -10,6 +10,7 @@ from typing import Generic, Iterable, Iterator, Sequence, TypeVar
 
 from . import _cryptography
 from ._cryptography import AnyPublicKey
+from ._der import ENUMERATED, OCTET_STRING, SEQUENCE, context, element, flag, integer, named_bits
 from ._extension import ExtensionType, ListExtension, _number, _part
 from ._given import instance, listed, octets, some, whole
 from ._library import (
@@ -28,20 +29,7 @@ from ._library import (
     view,
     walk,
 )
-from ._writing import (
-    ENUMERATED,
-    OCTET_STRING,
-    SEQUENCE,
-    context,
-    element,
-    flag,
-    general_name_der,
-    general_names_der,
-    identifier_of,
-    integer,
-    named_bits,
-    relative_name_der,
-)
+from ._writing import general_name_der, general_names_der, identifier_of, relative_name_der
 from .general_name import DNSName, GeneralName, GeneralNames, IPAddress, general_name
 from .key import PublicKey
 from .name import RelativeDistinguishedName

@@ -6,8 +6,10 @@ import ipaddress
 from email.utils import parseaddr
 from typing import Any, Iterable, Iterator, Self, Union, overload
 
+from ._der import SEQUENCE, context, element
+from ._elements import text_of
 from ._given import instance, listed, octets
-from ._library import GeneralNameView, walk
+from ._library import GeneralNameView, Span, walk
 from .name import Name
 from .oid import ObjectIdentifier
 
@@ -118,12 +120,29 @@ class OtherName(GeneralName):
 
 
 class EDIPartyName(GeneralName):
-    """A name of EDI, by the octets of its fields."""
+    """A name of EDI, by the octets of its fields. The texts that they hold are read when they are asked for: an X509Error where they hold none."""
 
     value: bytes
 
     def __init__(self, value: bytes) -> None:
         self.value = octets(value, "the fields of a name")
+
+    @property
+    def name_assigner(self) -> str | None:
+        """Who gives such names, where that is said."""
+        return self._texts()[0]
+
+    @property
+    def party_name(self) -> str:
+        """The name."""
+        return self._texts()[1]
+
+    def _texts(self) -> tuple[str | None, str]:
+        names = element(SEQUENCE, element(context(5, True), self.value))
+        found = next(walk("x509_general_names_next", GeneralNameView, names))
+        assigner: Span = found.name_assigner
+        party: Span = found.party_name
+        return text_of(assigner.of(names)) if assigner.is_there() else None, text_of(party.of(names))
 
 
 def _address(octets: bytes) -> Any:

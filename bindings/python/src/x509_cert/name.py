@@ -9,6 +9,7 @@ from typing import Iterable, Iterator
 from ._given import instance, listed, octets
 from ._library import MALFORMED, AttributeView, ElementView, Span, X509Error, fill, number, walk
 from ._pem import Encoding, encoded
+from ._texts import place_in_name, read_text
 from .oid import NameOID, ObjectIdentifier
 
 # the identifier octets of texts (X.680 41, X.690 8.23) and how their octets are read
@@ -182,8 +183,8 @@ class Name:
 
     @classmethod
     def from_rfc4514_string(cls, text: str) -> Name:
-        """The name that the text reads as. What isn't yours to write goes into it by `escape_rfc4514_value`."""
-        return cls(fill("x509_name_from_text", instance(text, str, "the text of a name").encode("utf-8")))
+        """The name that the text reads as; an X509Error with a place where it reads as none. What isn't yours to write goes into it by `escape_rfc4514_value`."""
+        return cls(read_text("x509_name_from_text", instance(text, str, "the text of a name"), place_in_name))
 
     def rfc4514_string(self) -> str:
         """The text of the name, the last relative name first."""

@@ -4,15 +4,16 @@ from __future__ import annotations
 
 from ._given import instance, octets
 from ._library import fill
+from ._texts import place_in_oid, read_text
 
 
 class ObjectIdentifier:
-    """An object identifier, by its dotted text."""
+    """An object identifier, by its dotted text; an X509Error with a place where it is none's."""
 
     __slots__ = ("_content", "_text")
 
     def __init__(self, dotted_string: str) -> None:
-        self._content = fill("x509_oid_from_text", instance(dotted_string, str, "an identifier").encode("utf-8"))
+        self._content = read_text("x509_oid_from_text", instance(dotted_string, str, "an identifier"), place_in_oid)
         self._text = dotted_string
 
     @classmethod

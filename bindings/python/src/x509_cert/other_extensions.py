@@ -7,12 +7,13 @@ import datetime
 import enum
 from typing import Any, Iterable, Sequence
 
+from ._der import NULL, SEQUENCE, SET, context, element, integer
 from ._elements import only
 from ._extension import ExtensionType, ListExtension
 from ._given import instance, octets, some, whole_list
 from ._library import MALFORMED, ElementView, PrivateKeyUsagePeriodView, RequestAttributeView, X509Error, seconds, view, walk
 from ._numbers import moment, natural_numbers
-from ._writing import NULL, SEQUENCE, SET, context, element, general_names_der, generalized_time_der, identifier_of, integer
+from ._writing import general_names_der, generalized_time_der, identifier_of
 from .general_name import GeneralName, GeneralNames
 from .oid import ExtensionOID, ObjectIdentifier
 

@@ -4,6 +4,7 @@ from __future__ import annotations
 
 from typing import Iterable, Sequence
 
+from ._der import IA5_STRING, SEQUENCE, UTF8_STRING, context, element, integer
 from ._elements import checked, only, text_of
 from ._extension import ExtensionType, ListExtension, _number, _part
 from ._given import instance, listed, octets, some, whole, whole_list
@@ -20,7 +21,7 @@ from ._library import (
     walk,
 )
 from ._numbers import natural_numbers
-from ._writing import IA5_STRING, SEQUENCE, UTF8_STRING, context, element, identifier_of, integer
+from ._writing import identifier_of
 from .oid import CertificatePoliciesOID, ExtensionOID, ObjectIdentifier
 
 

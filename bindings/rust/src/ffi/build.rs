@@ -1,6 +1,6 @@
 //! The calls of `include/x509.h` that build, and safe ways to make them.
-use super::{fill, Fill};
-use crate::error::Error;
+use super::{fill, fill_or, Fill};
+use crate::error::{Error, ProfilePart};
 use std::ffi::c_int;
 
 #[rustfmt::skip]
@@ -21,9 +21,9 @@ extern "C" {
     fn x509_assemble(part: *const u8, part_len: usize, algorithm: *const u8, algorithm_len: usize, signature: *const u8, signature_len: usize, out: *mut u8, room: usize, written: *mut usize) -> c_int;
 }
 
-pub(crate) const RELATIVE_NAME: Fill = Fill(x509_relative_name_encode);
-pub(crate) const NAME: Fill = Fill(x509_name_build);
-pub(crate) const NAME_ESCAPE: Fill = Fill(x509_name_escape);
+pub(crate) const RELATIVE_NAME: Fill = Fill::new(x509_relative_name_encode);
+pub(crate) const NAME: Fill = Fill::new(x509_name_build);
+pub(crate) const NAME_ESCAPE: Fill = Fill::new(x509_name_escape);
 
 /// The DER of an attribute of a name, of a string type that is given by its identifier octet, or by 0 for the one that the attribute wants.
 pub(crate) fn attribute(
@@ -32,7 +32,7 @@ pub(crate) fn attribute(
     text: &str,
     is_bounded: bool,
 ) -> Result<Vec<u8>, Error> {
-    fill(|out, room, written| {
+    fill_or(Error::StringType, |out, room, written| {
         // SAFETY: the header lets the call read both slices, which are lent for it, and write to `out[0..room)` and `written`, which `fill` owns.
         unsafe {
             x509_attribute_encode(
@@ -165,30 +165,33 @@ pub(crate) fn root(
     it: &CertificateFields<'_>,
     signs_ocsp_responses: bool,
 ) -> Result<Vec<u8>, Error> {
-    fill(|out, room, written| {
-        // SAFETY: the header lets the call read the five slices, which are lent for it, and write to `out[0..room)` and `written`, which `fill`
-        // owns.
-        unsafe {
-            x509_build_root(
-                it.serial_number.as_ptr(),
-                it.serial_number.len(),
-                it.algorithm.as_ptr(),
-                it.algorithm.len(),
-                it.not_before,
-                it.not_after,
-                it.subject.as_ptr(),
-                it.subject.len(),
-                it.key.as_ptr(),
-                it.key.len(),
-                u32::from(signs_ocsp_responses),
-                it.extensions.as_ptr(),
-                it.extensions.len(),
-                out,
-                room,
-                written,
-            )
-        }
-    })
+    fill_or(
+        Error::NotInProfile(ProfilePart::Subject),
+        |out, room, written| {
+            // SAFETY: the header lets the call read the five slices, which are lent for it, and write to `out[0..room)` and `written`, which `fill`
+            // owns.
+            unsafe {
+                x509_build_root(
+                    it.serial_number.as_ptr(),
+                    it.serial_number.len(),
+                    it.algorithm.as_ptr(),
+                    it.algorithm.len(),
+                    it.not_before,
+                    it.not_after,
+                    it.subject.as_ptr(),
+                    it.subject.len(),
+                    it.key.as_ptr(),
+                    it.key.len(),
+                    u32::from(signs_ocsp_responses),
+                    it.extensions.as_ptr(),
+                    it.extensions.len(),
+                    out,
+                    room,
+                    written,
+                )
+            }
+        },
+    )
 }
 
 /// What is asked of an authority under another one.
@@ -290,35 +293,38 @@ pub(crate) fn device(
     issuer_key: &[u8],
     names: &[u8],
 ) -> Result<Vec<u8>, Error> {
-    fill(|out, room, written| {
-        // SAFETY: the header lets the call read the eight slices, which are lent for it, and write to `out[0..room)` and `written`, which `fill`
-        // owns.
-        unsafe {
-            x509_build_device(
-                it.serial_number.as_ptr(),
-                it.serial_number.len(),
-                it.algorithm.as_ptr(),
-                it.algorithm.len(),
-                it.issuer.as_ptr(),
-                it.issuer.len(),
-                issuer_key.as_ptr(),
-                issuer_key.len(),
-                it.not_before,
-                it.not_after,
-                it.subject.as_ptr(),
-                it.subject.len(),
-                it.key.as_ptr(),
-                it.key.len(),
-                names.as_ptr(),
-                names.len(),
-                it.extensions.as_ptr(),
-                it.extensions.len(),
-                out,
-                room,
-                written,
-            )
-        }
-    })
+    fill_or(
+        Error::NotInProfile(ProfilePart::Names),
+        |out, room, written| {
+            // SAFETY: the header lets the call read the eight slices, which are lent for it, and write to `out[0..room)` and `written`, which `fill`
+            // owns.
+            unsafe {
+                x509_build_device(
+                    it.serial_number.as_ptr(),
+                    it.serial_number.len(),
+                    it.algorithm.as_ptr(),
+                    it.algorithm.len(),
+                    it.issuer.as_ptr(),
+                    it.issuer.len(),
+                    issuer_key.as_ptr(),
+                    issuer_key.len(),
+                    it.not_before,
+                    it.not_after,
+                    it.subject.as_ptr(),
+                    it.subject.len(),
+                    it.key.as_ptr(),
+                    it.key.len(),
+                    names.as_ptr(),
+                    names.len(),
+                    it.extensions.as_ptr(),
+                    it.extensions.len(),
+                    out,
+                    room,
+                    written,
+                )
+            }
+        },
+    )
 }
 
 /// What a CRL is built of. The issuer is a whole certificate, and the number the octets of a number.
@@ -334,7 +340,7 @@ pub(crate) struct CrlFields<'a> {
 
 /// The bytes to be signed of a CRL.
 pub(crate) fn crl(it: &CrlFields<'_>) -> Result<Vec<u8>, Error> {
-    fill(|out, room, written| {
+    fill_or(Error::Repeated, |out, room, written| {
         // SAFETY: the header lets the call read the five slices, which are lent for it, and write to `out[0..room)` and `written`, which `fill`
         // owns.
         unsafe {
@@ -362,7 +368,7 @@ pub(crate) fn crl(it: &CrlFields<'_>) -> Result<Vec<u8>, Error> {
 
 /// The DER of a signed part, an algorithm and the octets of a signature.
 pub(crate) fn assemble(part: &[u8], algorithm: &[u8], signature: &[u8]) -> Result<Vec<u8>, Error> {
-    fill(|out, room, written| {
+    fill_or(Error::Algorithm, |out, room, written| {
         // SAFETY: the header lets the call read the three slices, which are lent for it, and write to `out[0..room)` and `written`, which `fill`
         // owns.
         unsafe {

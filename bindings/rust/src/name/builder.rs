@@ -132,7 +132,7 @@ impl NameBuilder {
     ///
     /// # Errors
     /// [`Error::Value`] where a text has a character that its string type doesn't have, or is shorter or longer than its attribute may be (RFC 5280 A.1), which
-    /// isn't looked at [`without_bounds`](NameBuilder::without_bounds), or where a relative name has no attributes; [`Error::Failed`] where the attribute doesn't
+    /// isn't looked at [`without_bounds`](NameBuilder::without_bounds), or where a relative name has no attributes; [`Error::StringType`] where the attribute doesn't
     /// allow the string type (RFC 5280 A.1); [`Error::SetDuplicate`] where a relative name has one attribute twice; [`Error::Overlength`] or [`Error::Memory`].
     pub fn build(&self) -> Result<Name, Error> {
         let mut rdns = Vec::new();

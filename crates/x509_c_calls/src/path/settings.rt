@@ -23,7 +23,7 @@ pub(crate) struct AskedSettings {
 }
 
 /// The two numbers of the settings, if they are any.
-fn numbers_of(settings: &[u8]) -> Option<(u64, u64)>
+pub(crate) fn numbers_of(settings: &[u8]) -> Option<(u64, u64)>
     ensures { MatchOption result ((seconds flags : ℕ) → AreSettings settings.now seconds flags → ⊥) (λ found. AreSettings settings.now found.0 found.1) }
 {
     let (seconds, behind) = settings.split_first_chunk::<8>()?;

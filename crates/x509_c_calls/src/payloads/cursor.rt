@@ -10,7 +10,7 @@ use std::alloc::Global;
 use x509_der::{Decode, ErrorKind, Length, Tag, read_field, split_element};
 
 /// What is left of the content of the list from the place on.
-fn left(list: Tag, input: &[u8], at: usize) -> Result<&[u8], ErrorKind>
+pub(crate) fn left(list: Tag, input: &[u8], at: usize) -> Result<&[u8], ErrorKind>
     ensures ok { IfOk result (λ left. IsLeft (octet_of list) input.now at left.now) }
     ensures err { IfErr result (λ e. IsNowhere (octet_of list) input.now at e) }
 {

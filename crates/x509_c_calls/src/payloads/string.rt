@@ -3,7 +3,9 @@
 ghost use Rattle.std.specs.Prelude.{◌≡◌, None, Some, MatchOption};
 ghost use Rattle.x509_c_calls.specs.Status.{Fills};
 ghost use Rattle.x509_c_calls.specs.StringTexts.{IsStringText, IsText, bmp_text, plain_text, text_in};
+ghost use Rattle.x509_c_calls.specs.Universal as grammar;
 
+use crate::payloads::universal::universal_text;
 use crate::{Status, fill};
 use std::alloc::Global;
 use x509_der::{Any, Content, Decode, ErrorKind, Tag};
@@ -60,6 +62,17 @@ fn fill_bmp(alloc: Global, content: &[u8], room: &mut [u8], written: &mut usize)
     }
 }
 
+/// Puts the text of a UniversalString with these content octets at the front of the buffer.
+fn fill_universal(alloc: Global, content: &[u8], room: &mut [u8], written: &mut usize) -> Status
+    ensures { Fills (IsText (grammar.universal_text content.now)) room.old room.new written.old written.new result }
+{
+    match universal_text(alloc, content) {
+        Ok(Some(text)) => fill(text.as_str().as_bytes(), room, written),
+        Ok(None) => Status::Refused(ErrorKind::Malformed),
+        Err(e) => e.into(),
+    }
+}
+
 /// Puts the text of a string with this tag and these content octets at the front of the buffer.
 fn fill_text(
     alloc: Global,
@@ -72,6 +85,7 @@ fn fill_text(
 {
     match tag {
         Tag::BmpString => fill_bmp(alloc, content, room, written),
+        Tag::UniversalString => fill_universal(alloc, content, room, written),
         _ => match plain_text(tag, content) {
             Some(text) => fill(text.as_bytes(), room, written),
             None => Status::Refused(ErrorKind::Malformed),
@@ -80,8 +94,8 @@ fn fill_text(
 }
 
 /// Reads a character string, and puts its text in UTF-8 at the front of the buffer `room`: that of a UTF8String,
-/// NumericString, PrintableString, TeletexString, IA5String, VisibleString or BMPString (X.680 41), of a TeletexString in
-/// the characters up to 7F alone.
+/// NumericString, PrintableString, TeletexString, IA5String, VisibleString, UniversalString or BMPString (X.680 41), of a
+/// TeletexString in the characters up to 7F alone.
 ///
 /// # Errors
 ///

@@ -9,8 +9,9 @@ ghost use Rattle.x509_der.specs.Form.{whole_reading};
 
 use crate::element::content_of;
 use crate::lent::entries::CrlEntries;
+use crate::lent::entry::RevokedCertRef;
 use crate::lent::extensions::ExtensionRefs;
-use crate::lent::revoked::{ListParts, walk_whole};
+use crate::lent::revoked::{ListParts, find_in_checked, walk_whole};
 use std::alloc::Global;
 use std::marker::PhantomData;
 use x509_base::{Profile, Rfc5280, Time};
@@ -37,7 +38,7 @@ impl<'a, P: Profile> CrlRef<'a, P> {
     ghost use Rattle.x509_cert.specs.Revoked.{entries};
     ghost use Rattle.x509_cert.specs.Signed.{IsSignedPart};
     ghost use Rattle.x509_cert.specs.declared.crl.certificate_list.CertificateList as lists;
-    ghost use Rattle.x509_check.specs.CrlRefs.{entries_in, entry_list};
+    ghost use Rattle.x509_check.specs.CrlRefs.{FindsInList, entries_in, entry_list};
     ghost use Rattle.x509_check.specs.ExtensionRefs.{extensions_left};
     ghost use Rattle.x509_der.specs.Element.{limit};
     ghost use Rattle.x509_der.specs.Form.{Spells, spelling, whole_reading};
@@ -139,6 +140,29 @@ impl<'a, P: Profile> CrlRef<'a, P> {
             return CrlEntries::of_octets(&[]);
         };
         CrlEntries::of_octets(content_of(list))
+    }
+
+    /// How many entries there are; none where the list is absent.
+    pub fn entry_count(&self) -> usize
+        ensures { (list : lists.CertificateList P) → Spells ⟦<CertificateList<P> as Grammar>⟧.form list self.now.bytes.now
+            → result ≡ length (entries list.tbs_cert_list.revoked_certificates) }
+    {
+        self.parts.fields.entry_count
+    }
+
+    /// The first entry whose serial number has these content octets; `None` exactly where no entry has it. It is the entry
+    /// that [`CertificateList::find`] finds. Nothing is checked again: of an entry with another number no more than that is
+    /// looked at.
+    ///
+    /// Whether the CRL covers the issuer of the certificate, and for which time, isn't checked (RFC 5280 6.3.3).
+    pub fn find(&self, serial_number: &[u8]) -> Option<RevokedCertRef<'a>>
+        ensures { (list : lists.CertificateList P) → Spells ⟦<CertificateList<P> as Grammar>⟧.form list self.now.bytes.now
+            → FindsInList serial_number.now list result }
+    {
+        let Some(list) = self.parts.fields.revoked_certificates else {
+            return None;
+        };
+        find_in_checked::<P>(content_of(list), serial_number)
     }
 
     /// The list of extensions, as its element, which stands inside the tag \[0\]; `None` where it is absent.

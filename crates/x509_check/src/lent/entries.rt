@@ -6,7 +6,7 @@ ghost use Rattle.x509_der.specs.Element.{limit};
 ghost use Rattle.x509_der.specs.List.{list_reading};
 
 use crate::lent::crl::CrlRef;
-use crate::lent::entry::{RevokedCertRef, split_entry};
+use crate::lent::entry::{RevokedCertRef, known_entry};
 use std::marker::PhantomData;
 use x509_base::{Profile, Rfc5280};
 use x509_cert::crl::CertificateList;
@@ -78,9 +78,10 @@ impl<'a, P: Profile> Iterator for CrlEntries<'a, P> {
     ghost remaining = { item_count (λ s. entries_in {P = P} P.serial_check s.rest.now) };
 
     fn next(&mut self) -> Option<RevokedCertRef<'a>> {
-        let Ok((entry, others)) = split_entry::<P>(self.rest) else {
+        if self.rest.is_empty() {
             return None;
-        };
+        }
+        let (entry, others) = known_entry::<P>(self.rest);
         self.rest = others;
         Some(entry)
     }

@@ -1,16 +1,15 @@
 //! Entries of CRLs, lent from their bytes.
 
-ghost use Rattle.std.specs.Prelude.{◌≡◌, ◌≤◌, length, option_map, List, ℕ, Ok, IsSomeAnd};
+ghost use Rattle.std.specs.Prelude.{◌≡◌, ◌≤◌, length, option_map, List, ℕ, Option, Ok, IsOk};
 ghost use Rattle.x509_check.specs.CrlRefs.{lent_entry};
-ghost use Rattle.x509_check.specs.ExtensionRefs.{extensions_left};
-ghost use Rattle.x509_check.specs.Lending.{LendsBefore, LendsBy, LendsSo};
+ghost use Rattle.x509_check.specs.ExtensionRefs.{SpellsOptional, extensions_left};
+ghost use Rattle.x509_check.specs.Lending.{LendsSo};
 ghost use Rattle.x509_cert.specs.RevokedCert.{revoked_cert, revoked_cert_contents};
 ghost use Rattle.x509_cert.specs.declared.crl.revoked_cert.RevokedCert as revoked;
 ghost use Rattle.x509_der.specs.Element.{limit};
-ghost use Rattle.x509_der.specs.Frames.{optional, required};
-ghost use Rattle.x509_ext.specs.Extension.{extensions};
+ghost use Rattle.x509_der.specs.Frames.{required};
+ghost use Rattle.x509_ext.specs.declared.extension.Extension.{Extension};
 
-use crate::content::CheckContent;
 use crate::element::next_element;
 use crate::field::{check_field, check_optional};
 use crate::lent::extensions::ExtensionRefs;
@@ -33,68 +32,35 @@ pub struct RevokedCertRef<'a> {
     pub crl_entry_extensions: Option<ExtensionRefs<'a>>,
 }
 
-/// A list of extensions, which may be left out.
-///
-/// # Errors
-///
-/// `Malformed` exactly where one begins at the front and none stands there.
-#[tactic(auto, unfolding(x509_der::specs::Frames::optional_at, x509_der::specs::Frames::field_at))]
-#[inline(always)]
-fn take_extensions<'a>(rest: &mut &'a [u8]) -> Result<Option<ExtensionRefs<'a>>, Error>
-    requires { length rest.old.now ≤ limit }
-    ensures { LendsBefore (option_map extensions_left) result rest.new.now ((optional extensions).reading rest.old.now) }
+/// The extensions of which the bytes are the list, as is known; none where there are no bytes.
+fn known_extensions(bytes: &[u8]) -> Option<ExtensionRefs<'_>>
+    requires { (list : Option (List Extension)) × SpellsOptional list bytes.now }
+    ensures { (list : Option (List Extension)) → SpellsOptional list bytes.now → option_map extensions_left result ≡ list }
 {
-    match *rest {
-        [0x30, ..] => {
-            let piece = next_element(*rest, Tag::Sequence)?;
-            if piece.tag != Tag::Sequence.octet() {
-                return Err(ErrorKind::Malformed.into());
-            }
-            Extensions::check_content(piece.content)?;
-            *rest = piece.rest;
-            Ok(Some(ExtensionRefs::of_members(piece.content)))
-        }
-        _ => Ok(None),
+    if bytes.is_empty() {
+        return None;
     }
+    Some(ExtensionRefs::of_checked(bytes))
 }
 
-/// The entry of which these are the content octets.
-#[tactic(auto, unfolding(x509_cert::specs::RevokedCert::revoked_cert_fields, x509_der::specs::Frames::fields_reading))]
+/// The entry of which these are the content octets, as is known. No more is looked at than has to be to find its parts, and to read its date.
 #[inline(always)]
-fn read_content<P: Profile>(octets: &[u8]) -> Result<RevokedCertRef<'_>, Error>
-    requires { length octets.now ≤ limit }
-    ensures { LendsBy lent_entry result ((revoked_cert_contents {P = P} P.serial_check).reading octets.now) }
+fn known_content<P: Profile>(octets: &[u8]) -> RevokedCertRef<'_>
+    requires within { length octets.now ≤ limit }
+    requires known { IsOk ((revoked_cert_contents {P = P} P.serial_check).reading octets.now) }
+    ensures { (entry : revoked.RevokedCert P) → (revoked_cert_contents {P = P} P.serial_check).reading octets.now ≡ Ok entry → lent_entry result ≡ entry }
 {
-    let mut rest = octets;
-    let serial_number = take_serial::<P>(&mut rest)?;
-    let revocation_date = take_time(&mut rest)?;
-    let crl_entry_extensions = take_extensions(&mut rest)?;
-    end(rest)?;
-    Ok(RevokedCertRef {
-        serial_number,
+    let Ok(number) = next_element(octets, Tag::Integer) else {
+        unreachable!()
+    };
+    let mut rest = number.rest;
+    let Ok(revocation_date) = take_time(&mut rest) else {
+        unreachable!()
+    };
+    RevokedCertRef {
+        serial_number: number.content,
         revocation_date,
-        crl_entry_extensions,
-    })
-}
-
-/// The entry at the front, with a serial number that the profile allows, and what follows it.
-///
-/// # Errors
-///
-/// `Malformed`, or an error of the profile, exactly where no entry stands there.
-#[tactic(auto, unfolding(x509_der::specs::Frames::field_at))]
-#[inline(always)]
-pub(crate) fn split_entry<P: Profile>(bytes: &[u8]) -> Result<(RevokedCertRef<'_>, &[u8]), Error>
-    requires { length bytes.now ≤ limit }
-    ensures { LendsBy (λ x. (lent_entry x.0, x.1.now)) result ((required (revoked_cert {P = P} P.serial_check)).reading bytes.now) }
-{
-    let piece = next_element(bytes, Tag::Sequence)?;
-    if piece.tag != Tag::Sequence.octet() {
-        return Err(ErrorKind::Malformed.into());
-    }
-    match read_content::<P>(piece.content) {
-        Ok(entry) => Ok((entry, piece.rest)),
-        Err(e) => Err(e),
+        crl_entry_extensions: known_extensions(rest),
     }
 }
 
@@ -113,11 +79,11 @@ fn pass_content<P: Profile>(octets: &[u8]) -> Result<&[u8], Error>
     Ok(serial_number)
 }
 
-/// The serial number of the entry at the front, and what follows the entry, which is checked as [`split_entry`] does.
+/// The serial number of the entry at the front, and what follows the entry, which is checked under the profile.
 ///
 /// # Errors
 ///
-/// Those of [`split_entry`].
+/// `Malformed`, or an error of the profile, exactly where no entry stands there.
 #[tactic(auto, unfolding(x509_der::specs::Frames::field_at))]
 #[inline(always)]
 pub(crate) fn pass_entry<P: Profile>(bytes: &[u8]) -> Result<(&[u8], &[u8]), Error>
@@ -135,15 +101,15 @@ pub(crate) fn pass_entry<P: Profile>(bytes: &[u8]) -> Result<(&[u8], &[u8]), Err
     }
 }
 
-/// The entry at the front, where one stands there.
-#[inline(never)]
-pub(crate) fn front_entry<P: Profile>(bytes: &[u8]) -> Option<RevokedCertRef<'_>>
-    requires { length bytes.now ≤ limit }
+/// The entry that is known to stand at the front, and what follows it.
+pub(crate) fn known_entry<P: Profile>(bytes: &[u8]) -> (RevokedCertRef<'_>, &[u8])
+    requires within { length bytes.now ≤ limit }
+    requires known { IsOk ((required (revoked_cert {P = P} P.serial_check)).reading bytes.now) }
     ensures { (entry : revoked.RevokedCert P) (rest : List ℕ) → (required (revoked_cert {P = P} P.serial_check)).reading bytes.now ≡ Ok (entry, rest)
-        → IsSomeAnd result (λ lent. lent_entry lent ≡ entry) }
+        → (lent_entry result.0 ≡ entry) × (result.1.now ≡ rest) }
 {
-    match split_entry::<P>(bytes) {
-        Ok((entry, _)) => Some(entry),
-        Err(_) => None,
-    }
+    let Ok(piece) = next_element(bytes, Tag::Sequence) else {
+        unreachable!()
+    };
+    (known_content::<P>(piece.content), piece.rest)
 }

@@ -23,13 +23,12 @@ pub struct ExtensionRefs<'a> {
 }
 
 impl<'a> ExtensionRefs<'a> {
-    ghost use Rattle.std.specs.Prelude.{◌≡◌, ◌<◌, ◌≤◌, List, [], length, IfOk, IfErr, IsErrAnd, IsOk, IsOkAnd};
+    ghost use Rattle.std.specs.Prelude.{◌≡◌, ◌<◌, ◌≤◌, List, [], length, IfOk, IfErr, IsErrAnd, IsOkAnd};
     ghost use Rattle.x509_check.specs.ExtensionRefs.{FindsLent, extensions_left};
-    ghost use Rattle.x509_check.specs.Lending.{listed};
     ghost use Rattle.x509_der.specs.Element.{limit};
     ghost use Rattle.x509_der.specs.Form.{Spells, spelling};
     ghost use Rattle.x509_der.specs.declared.error.ErrorKind.TheVariants as errors;
-    ghost use Rattle.x509_der.specs.List.{joined, list_reading};
+    ghost use Rattle.x509_der.specs.List.{joined};
     ghost use Rattle.x509_ext.specs.Extension.{extension, extensions};
     ghost use Rattle.x509_ext.specs.LookUp.{Finds, with_oid};
     ghost use Rattle.x509_ext.specs.declared.extension.Extension.{Extension};
@@ -72,14 +71,6 @@ impl<'a> ExtensionRefs<'a> {
         ensures { result.now ≡ joined (spelling extension) (extensions_left self.now) }
     {
         self.rest
-    }
-
-    /// The extensions of which the bytes are the elements, one after the other, as was checked.
-    pub(crate) fn of_members(bytes: &'a [u8]) -> ExtensionRefs<'a>
-        requires { IsOk (list_reading extension.reading bytes.now) }
-        ensures { extensions_left result ≡ listed (list_reading extension.reading bytes.now) }
-    {
-        ExtensionRefs { rest: bytes }
     }
 
     /// The extension with the OID; `None` exactly where none has it. An extension may appear once at most (RFC 5280 4.2).

@@ -1,13 +1,14 @@
 //! A walk over an encoded CRL, which checks it, lends its fields and looks for a serial number; and the look-up.
 
-ghost use Rattle.std.specs.Prelude.{◌≡◌, ◌<◌, ◌≤◌, ◌⊎◌, length, None, IfOk, IfErr, IsErrAnd, IsOk};
+ghost use Rattle.std.specs.Prelude.{◌≡◌, ◌<◌, ◌≤◌, ◌⊎◌, length, None, Ok, IfOk, IfErr, IsErrAnd, IsOk};
 ghost use Rattle.x509_cert.specs.CertificateList.{certificate_list, certificate_list_contents, tbs_cert_list, tbs_cert_list_contents};
 ghost use Rattle.x509_cert.specs.RevokedCert.{revoked_cert};
 ghost use Rattle.x509_cert.specs.declared.crl.certificate_list.CertificateList as lists;
-ghost use Rattle.x509_check.specs.CrlRefs.{FindsEntry, FindsInList, entry_list};
-ghost use Rattle.x509_check.specs.CrlWalk.{WalksAmong, WalksEntries, WalksList, WalksPart};
+ghost use Rattle.x509_check.specs.CrlRefs.{FindsEntry, FindsInList, entries_in, entry_list};
+ghost use Rattle.x509_check.specs.CrlWalk.{PassesEntries, WalksAmong, WalksEntries, WalksList, WalksPart};
 ghost use Rattle.x509_check.specs.Lending.{LendsSo, LendsSoBefore};
 ghost use Rattle.x509_der.specs.Element.{limit};
+ghost use Rattle.x509_der.specs.ElementReading.{Piece, piece_at};
 ghost use Rattle.x509_der.specs.Form.{Spells, whole_reading};
 ghost use Rattle.x509_der.specs.Frames.{optional, required};
 ghost use Rattle.x509_der.specs.List.{list_reading};
@@ -15,7 +16,7 @@ ghost use Rattle.x509_der.specs.declared.error.ErrorKind.TheVariants as errors;
 
 use crate::element::next_element;
 use crate::lent::checked::{take_field, take_optional_explicit};
-use crate::lent::entry::{RevokedCertRef, front_entry, pass_entry};
+use crate::lent::entry::{RevokedCertRef, known_entry, pass_entry};
 use crate::lent::fields::{take_optional_plain, take_optional_time, take_time};
 use x509_base::{AlgorithmIdentifier, Profile, Time};
 use x509_cert::certificate::Version;
@@ -46,6 +47,9 @@ pub(crate) struct ListFields<'a> {
     /// The list of entries.
     pub(crate) revoked_certificates: Option<&'a [u8]>,
 
+    /// How many entries it has; none where it is absent.
+    pub(crate) entry_count: usize,
+
     /// The SEQUENCE OF Extension inside [0].
     pub(crate) crl_extensions: Option<&'a [u8]>,
 }
@@ -66,11 +70,24 @@ pub(crate) struct ListParts<'a> {
     pub(crate) signature: &'a [u8],
 }
 
-/// A list of entries, which may be absent, and the first of them that has a serial number.
+/// How many entries there are, and the first of them that has a serial number.
+#[derive(Clone, Copy)]
+pub(crate) struct PassedEntries<'a> {
+    /// How many there are.
+    pub(crate) count: usize,
+
+    /// The first entry with the serial number.
+    pub(crate) found: Option<RevokedCertRef<'a>>,
+}
+
+/// A list of entries, which may be absent, how many they are, and the first of them that has a serial number.
 #[derive(Clone, Copy)]
 pub(crate) struct WalkedEntries<'a> {
     /// The list.
     pub(crate) element: Option<&'a [u8]>,
+
+    /// How many entries there are.
+    pub(crate) count: usize,
 
     /// The first entry with the serial number.
     pub(crate) found: Option<RevokedCertRef<'a>>,
@@ -96,28 +113,63 @@ pub(crate) struct Walked<'a> {
     pub(crate) found: Option<RevokedCertRef<'a>>,
 }
 
-/// The first of the entries with the serial number. The bytes are the elements of the entries, one after the other.
+/// How many entries there are, and the first of them with the serial number. The bytes are the elements of the entries, one after the other.
 fn find_in_entries<'a, P: Profile>(
     octets: &'a [u8],
     serial_number: &[u8],
-) -> Result<Option<RevokedCertRef<'a>>, Error>
+) -> Result<PassedEntries<'a>, Error>
     requires { length octets.now ≤ limit }
-    ensures { LendsSo (FindsEntry serial_number.now) result (list_reading (revoked_cert {P = P} P.serial_check).reading octets.now) }
+    ensures { LendsSo (PassesEntries serial_number.now) result (list_reading (revoked_cert {P = P} P.serial_check).reading octets.now) }
 {
     let mut rest = octets;
+    let mut count = 0;
     let mut found: Option<RevokedCertRef<'a>> = None;
     while !rest.is_empty() {
         match pass_entry::<P>(rest) {
             Ok((number, others)) => {
+                count += 1;
                 if found.is_none() && number == serial_number {
-                    found = front_entry::<P>(rest);
+                    found = Some(known_entry::<P>(rest).0);
                 }
                 rest = others;
             }
             Err(e) => return Err(e),
         }
     }
-    Ok(found)
+    Ok(PassedEntries { count, found })
+}
+
+/// The content of the element at the front; nothing where none stands there.
+fn first_content(bytes: &[u8]) -> &[u8]
+    ensures { (piece : Piece) → piece_at bytes.now ≡ Ok piece → result.now ≡ piece.content }
+{
+    match next_element(bytes, Tag::Integer) {
+        Ok(piece) => piece.content,
+        Err(_) => &[],
+    }
+}
+
+/// The first of the entries with the serial number, which were checked. The bytes are the elements of the entries, one after the other; of an entry
+/// with another number no more than that is looked at.
+pub(crate) fn find_in_checked<'a, P: Profile>(
+    octets: &'a [u8],
+    serial_number: &[u8],
+) -> Option<RevokedCertRef<'a>>
+    requires within { length octets.now ≤ limit }
+    requires are_entries { IsOk (list_reading (revoked_cert {P = P} P.serial_check).reading octets.now) }
+    ensures { FindsEntry serial_number.now (entries_in {P = P} P.serial_check octets.now) result }
+{
+    let mut rest = octets;
+    while !rest.is_empty() {
+        let Ok(piece) = next_element(rest, Tag::Sequence) else {
+            return None;
+        };
+        if first_content(piece.content) == serial_number {
+            return Some(known_entry::<P>(rest).0);
+        }
+        rest = piece.rest;
+    }
+    None
 }
 
 /// The list of entries at the front.
@@ -137,9 +189,10 @@ fn walk_sequence<'a, P: Profile>(
     }
     *rest = piece.rest;
     match find_in_entries::<P>(piece.content, serial_number) {
-        Ok(found) => Ok(WalkedEntries {
+        Ok(passed) => Ok(WalkedEntries {
             element: Some(&front[..front.len() - piece.rest.len()]),
-            found,
+            count: passed.count,
+            found: passed.found,
         }),
         Err(e) => Err(e),
     }
@@ -148,10 +201,12 @@ fn walk_sequence<'a, P: Profile>(
 /// No list of entries.
 fn walked_none<'a>() -> WalkedEntries<'a>
     ensures element { result.element ≡ None }
+    ensures count { result.count ≡ 0 }
     ensures found { result.found ≡ None }
 {
     WalkedEntries {
         element: None,
+        count: 0,
         found: None,
     }
 }
@@ -199,6 +254,7 @@ fn walk_content<'a, P: Profile>(
                     this_update,
                     next_update,
                     revoked_certificates: walked.element,
+                    entry_count: walked.count,
                     crl_extensions,
                 },
                 found: walked.found,

@@ -1,8 +1,8 @@
-use Rattle.std.proofs.Common.{◌∙◌, None, false, inr, refl, sym}
+use Rattle.std.proofs.Common.{◌∙◌, inr, refl, sym}
 use Rattle.std.proofs.lemmas.Bool.{true≢false}
 use Rattle.std.proofs.lemmas.Result.{err_from_is_err_and}
 use Rattle.x509_path.specs.Inputs.{Trust}
-use Rattle.x509_path.specs.Trusts.{IsTrustOfInfo, RefusesInfo, or_else}
+use Rattle.x509_path.specs.Trusts.{IsTrustOfInfo, RefusesInfo, flags_or, or_else}
 use Rattle.x509_path.proofs.Refusals.{answered, described, its_limits, other_certificate}
 use Rattle.x509_path.proofs.trusted_buf.of_info.Goals as goal
 
@@ -31,17 +31,15 @@ returns c =
       anchor = record { name = controls.ta_name; key = info.pub_key };
       constraints = or_else controls.name_constr own.constraints;
       max_path_length = or_else controls.path_len_constraint own.max_path_length;
-      policies = None;
-      flags = record { inhibit_policy_mapping = false; require_explicit_policy = false; inhibit_any_policy = false };
+      policies = or_else controls.policy_set own.policies;
+      flags = flags_or controls.policy_flags own.flags;
     } in
     answered (IsTrustOfInfo info) (RefusesInfo info) trust c.held.result (record {
       controls = controls;
-      constraints = own.constraints;
-      length = own.max_path_length;
+      own = own;
       has_controls = c.in-Some.is;
       certificate = c.in_ok-has_its_certificate.ensures.0 c.if-not-branch.false;
-      own = c.in_ok-own.ensures;
+      are_own = c.in_ok-own.ensures;
       anchor = refl;
-      are_constraints = refl;
-      is_length = refl;
-    }) (c.held.ensures trust (rw (c.constraints_or.ensures, c.length_or.ensures) refl))
+      limits = refl;
+    }) (c.held.ensures trust (rw (c.constraints_or.ensures, c.length_or.ensures, c.policies_or.ensures, c.flags_or.ensures) refl))

@@ -1,9 +1,17 @@
-use Rattle.std.proofs.Common.{None, false, refl}
+use Rattle.std.proofs.Common.{refl}
+use Rattle.std.proofs.lemmas.Result.{err_from_is_err_and}
 use Rattle.x509_cert.specs.ext.LookUp.{members}
 use Rattle.x509_path.specs.Inputs.{Trust}
-use Rattle.x509_path.specs.Trusts.{IsTrustOf, RefusesLimits}
-use Rattle.x509_path.proofs.Refusals.{answered}
+use Rattle.x509_path.specs.Trusts.{IsTrustOf, RefusesLimits, limits_of}
+use Rattle.x509_path.proofs.Refusals.{answered, no_limits, none_trusted}
 use Rattle.x509_path.proofs.trusted_buf.of_signed.Goals as goal
+
+pub returns-in_err-limits : goal.returns-in_err-limits
+returns-in_err-limits c =
+    let signed = c.args.signed.now in
+    let p = err_from_is_err_and c.from_residual.result c.from_residual.ensures.1 in
+    rw (p.1, p.2) (none_trusted (IsTrustOf signed) (RefusesLimits (members signed.extensions)) _
+    (λ refused trust is. no_limits (members signed.extensions) _ refused (limits_of trust) is.limits) c.in_err-limits.ensures)
 
 pub returns : goal.returns
 returns c =
@@ -13,7 +21,7 @@ returns c =
       anchor = record { name = signed.subject; key = signed.subject_public_key_info };
       constraints = limits.constraints;
       max_path_length = limits.max_path_length;
-      policies = None;
-      flags = record { inhibit_policy_mapping = false; require_explicit_policy = false; inhibit_any_policy = false };
+      policies = limits.policies;
+      flags = limits.flags;
     } in
     answered (IsTrustOf signed) (RefusesLimits (members signed.extensions)) trust c.held.result (record { anchor = refl; limits = c.in_ok-limits.ensures }) (c.held.ensures trust (rw (c.subject.ensures, c.subject_public_key_info.ensures) refl))

@@ -1,4 +1,4 @@
-use Rattle.std.proofs.Common.{◌≡◌, ◌<◌, ◌++◌, ◌∷◌, [], Ok, bytes_eq, length, inl, inr, ap, not, sym, ◌∙◌, arith}
+use Rattle.std.proofs.Common.{◌≡◌, ◌<◌, ◌++◌, ◌∷◌, [], Ok, bytes_eq, length, inl, inr, ap, not, sym, ◌∙◌, arith, length-append}
 use Rattle.std.proofs.lemmas.Bool.Decides.{nat_tests}
 use Rattle.x509_cert.specs.RevokedCert.{revoked_cert}
 use Rattle.x509_check.proofs.LentEntries.{found_front, not_now}
@@ -25,8 +25,9 @@ loop-serial_number-preserved-then-eq g c =
       passed = (
         passed.0 ++ entry.0 ∷ [],
         goes_on read passed.0 _ _ _ _ said passed.1,
-        found_front _ passed.0 c.loop-serial_number.found _ entry.0 (c.is_none.ensures ∙ ap not c.if-is_none.true) (ap (λ number. bytes_eq number c.args.serial_number.now) (sym same.0) ∙ sym c.eq.ensures ∙ c.if-eq.true)
-            (c.front_entry-found.ensures entry.0 _ said) passed.2,
+        found_front _ passed.0 c.loop-serial_number.found c.known_entry.result.0 entry.0 (c.is_none.ensures ∙ ap not c.if-is_none.true) (ap (λ number. bytes_eq number c.args.serial_number.now) (sym same.0) ∙ sym c.eq.ensures ∙ c.if-eq.true)
+            (c.known_entry.ensures entry.0 _ said).0 passed.2,
+        omega (arith, passed.3, length-append passed.0 (entry.0 ∷ [])),
       );
     }
 
@@ -51,6 +52,7 @@ loop-serial_number-preserved g c =
         not_now _ passed.0 c.loop-serial_number.found entry.0
             (elim c.else-is_none.branch [ else-is_none-via-then-is_none+else-eq w ↦ inl (number ∙ sym w.eq.ensures ∙ w.if-eq.false) | else-is_none-via-else-is_none w ↦ inr (c.is_none.ensures ∙ ap not w.if-is_none.false) ])
             passed.2,
+        omega (arith, passed.3, length-append passed.0 (entry.0 ∷ [])),
       );
     }
 
@@ -66,4 +68,4 @@ returns g c =
     let read = (revoked_cert {P = P-type g.row.P} g.P.Profile.serial_check).reading in
     let passed = c.loop-serial_number.invariant.passed in
     let none : length c.loop-serial_number.rest.now ≡ 0 = grind (arith, nat_tests) in
-    (passed.0, all_read read passed.0 _ _ none passed.1, passed.2)
+    (passed.0, all_read read passed.0 _ _ none passed.1, (passed.2, passed.3))

@@ -1,4 +1,4 @@
-use Rattle.std.proofs.Common.{◌≡◌, ◌≤◌, List, length}
+use Rattle.std.proofs.Common.{◌≡◌, ◌≤◌, ◌+◌, List, length}
 use Rattle.x509_cert.specs.RevokedCert.{revoked_cert}
 use Rattle.x509_cert.specs.declared.crl.revoked_cert.RevokedCert.{RevokedCert}
 use Rattle.x509_check.specs.CrlRefs.{FindsEntry}
@@ -9,8 +9,8 @@ use Rattle.x509_check.proofs.lent.revoked.find_in_entries.Given as goal
 -- what was found among those that were passed
 abbrev pub invariant-loop-serial_number : goal.invariant-loop-serial_number
 invariant-loop-serial_number g l = record {
-  within : length l.rest ≤ length l.octets;
-  passed : (front : List (RevokedCert (P-type g.row.P))) × (with_front front (list_reading (revoked_cert {P = P-type g.row.P} g.P.Profile.serial_check).reading l.rest) ≡ list_reading (revoked_cert {P = P-type g.row.P} g.P.Profile.serial_check).reading l.octets) × FindsEntry l.serial_number front l.found;
+  within : l.count + length l.rest ≤ length l.octets;
+  passed : (front : List (RevokedCert (P-type g.row.P))) × (with_front front (list_reading (revoked_cert {P = P-type g.row.P} g.P.Profile.serial_check).reading l.rest) ≡ list_reading (revoked_cert {P = P-type g.row.P} g.P.Profile.serial_check).reading l.octets) × FindsEntry l.serial_number front l.found × (l.count ≡ length front);
 }
 
 abbrev pub decreases-loop-serial_number : goal.decreases-loop-serial_number

@@ -1,26 +1,41 @@
-use Rattle.std.proofs.Common.{ℕ, inr, List, subst}
-use Rattle.x509_base.specs.declared.profile.Rfc5280.{Rfc5280}
-use Rattle.x509_check.specs.CrlRefs.{FindsEntry}
+use Rattle.std.proofs.Common.{ℕ, Bool, inl, List, refl, subst, sym}
+use Rattle.std.specs.List.{All}
 use Rattle.x509_revocation.specs.Crls.{IsSignedBy, entries_of}
+use Rattle.x509_revocation.specs.Entries.{IsUsable}
+use Rattle.x509_revocation.specs.Lent.{question}
+use Rattle.x509_revocation.specs.Points.{is_indirect}
+use Rattle.x509_revocation.specs.Says.{FindsWith}
+use Rattle.x509_revocation.proofs.Named.{if_ok}
+use Rattle.x509_revocation.proofs.OneCover.{one_list}
+use Rattle.x509_revocation.proofs.Sought.{found_at, steps_of}
 use Rattle.x509_revocation.proofs.says.Asked.consult.Goals as goal
 
-pub returns-in-None-tell : goal.returns-in-None-tell
-returns-in-None-tell g c = λ certificate given list reasons lends lent ready covers adds rest.
-    let accepts = g.V.SliceVerifier.accepts c.args.self.now.verifier.now in
-    let looked = c.in-Some.ensures given.crl lent.crl in
-    let number = certificate.tbs_certificate.serial_number in
-    let found = subst (λ (n : List ℕ). FindsEntry {P = Rfc5280} n (entries_of given.crl) c.in-Some.found) (c.serial_number.ensures certificate lends) looked.1 in
+pub returns-in-Ok-Some : goal.returns-in-Ok-Some
+returns-in-Ok-Some g c =
+    if_ok _ _ c.step_behind.result (λ step said certificate all given reasons lends lents lent complete covers adds rest.
+    let asked = question (g.V.SliceVerifier.accepts c.args.self.now.verifier.now) c.args.self.now.settings.now certificate in
+    let looked = rw c.in-Ok-Some.field-0-is at (c.in-Ok-Some.ensures certificate given.crl lends lent.crl) in
     let signed = (c.is_signed.ensures given.crl given.signer lent.crl lent.signer).0 c.if-not-is_signed.false in
-    inr (
-      reasons,
-      record {
-        ready = ready;
-        list = list;
-        covers = covers;
-        signed = subst (λ (b : List ℕ). IsSignedBy accepts given.signer b given.crl) lent.bytes signed;
-        entries_processed = looked.0;
-        tells = c.in-None-tell.ensures number given.crl found;
-      },
-      adds,
-      rest,
+    let told = said certificate all given lends lents lent (found_at certificate c.args.place given.crl c.in-Ok-Some.entry looked.1) in
+    steps_of asked all c.args.place c.args.left c.args.rest reasons given told.2.0 step
+    (record {
+      complete = complete;
+      list = c.args.list.now;
+      covers = covers;
+      signed = subst (λ (b : List ℕ). IsSignedBy (g.V.SliceVerifier.accepts c.args.self.now.verifier.now) given.signer b given.crl) lent.bytes signed;
+      entries_usable = subst (λ (b : Bool). All (IsUsable b) (entries_of given.crl)) c.is_indirect-indirect.ensures looked.0;
+      found = told.0;
+      finds = subst (λ (b : Bool). FindsWith asked b all c.args.place given told.0) c.is_indirect-indirect.ensures told.1;
+      tells = told.2.1;
+    })
+    adds rest told.2.2) c.step_behind.ensures
+
+pub returns-in-Ok-None : goal.returns-in-Ok-None
+returns-in-Ok-None g c = λ certificate all given reasons lends lents lent complete covers adds rest.
+    let none = rw c.in-Ok-None.field-0-is at (c.in-Ok-None.ensures certificate given.crl lends lent.crl) in
+    inl (
+      (λ others revoked says more. none (
+          subst (λ (b : Bool). All (IsUsable b) (entries_of given.crl)) (sym c.is_indirect-indirect.ensures) (subst (λ l. All (IsUsable (is_indirect l)) (entries_of given.crl)) (one_list given.crl says.list c.args.list.now says.covers.has_list covers.has_list) says.entries_usable)
+          )),
+      refl,
     )

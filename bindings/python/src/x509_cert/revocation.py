@@ -1,0 +1,298 @@
+"""Whether CRLs say that a certificate is revoked (RFC 5280 6.3.3)."""
+
+from __future__ import annotations
+
+import ctypes
+import dataclasses
+import datetime
+import enum
+import itertools
+from typing import Iterable, Iterator
+
+from ._given import instance, listed, octets, seconds
+from ._library import RevocationAnswerView, RevocationSettings, SignedCrlView, Span, X509Error, number, view
+from ._numbers import moment as moment_of
+from .certificate import Certificate
+from .crl import CertificateRevocationList
+from .extensions import AuthorityKeyIdentifier, DuplicateExtension, ExtensionNotFound, ReasonFlags, SubjectKeyIdentifier, _reasons
+from .name import Name
+from .path import PathFault, Verifier, _verifies
+from .request import TrustAnchor
+from .validation import ValidatedPath, validate_path
+
+# flags of settings
+_WITHOUT_NEXT_UPDATE, _USE_DELTAS = 1, 2
+
+# how many chains are looked at above a certificate that may sign CRLs, and how many certificates one has
+_MOST_CHAINS, _LONGEST_CHAIN = 64, 8
+
+Anchor = Certificate | TrustAnchor | tuple[Name, bytes]
+
+
+class RevocationState(enum.Enum):
+    """What CRLs say of a certificate: that it isn't revoked; that it is; or neither, since they don't cover all reasons."""
+
+    undetermined = 0
+    unrevoked = 1
+    revoked = 2
+
+
+@dataclasses.dataclass(frozen=True)
+class RevocationStatus:
+    """What CRLs say of a certificate. Of one that is revoked: which CRL says so, by its place from 0, when it was, and why, `unspecified` where the entry gives no reason. Of
+    one that is undetermined: the reasons that no CRL covered."""
+
+    state: RevocationState
+    crl: int | None = None
+    date: datetime.datetime | None = None
+    reason: ReasonFlags | None = None
+    reasons: frozenset[ReasonFlags | str] = frozenset()
+
+    @property
+    def is_unrevoked(self) -> bool:
+        return self.state is RevocationState.unrevoked
+
+    @property
+    def is_revoked(self) -> bool:
+        return self.state is RevocationState.revoked
+
+
+@dataclasses.dataclass(frozen=True)
+class SignedCrl:
+    """A CRL, and its signer: the certificate, the trust anchor, or the name and the DER of the public key, under which it is to be verified. That the signer is one whose
+    CRLs count is for the caller to know: it is the issuer of the certificate, or another whose path is valid, and `may_sign_crls` says True of it (RFC 5280 6.3.3 (f))."""
+
+    crl: CertificateRevocationList
+    signer: Anchor
+
+    def __post_init__(self) -> None:
+        instance(self.crl, CertificateRevocationList, "a CRL")
+        _name_and_key(self.signer)
+
+
+def may_sign_crls(certificate: Certificate) -> bool:
+    """Whether the key of the certificate may sign CRLs (RFC 5280 4.2.1.3, 6.3.3 (f)): it has no KeyUsage, or one that can be read, with crl_sign."""
+    return number("x509_may_sign_crls", instance(certificate, Certificate, "a certificate").public_bytes()) == 1
+
+
+def revocation_status(
+    certificate: Certificate,
+    crls: Iterable[SignedCrl],
+    moment: datetime.datetime,
+    verify: Verifier | None = None,
+    *,
+    without_next_update: bool = False,
+    use_deltas: bool = False,
+) -> RevocationStatus:
+    """What CRLs say of a certificate at the moment (RFC 5280 6.3.3), asked in their order: of several for the same reasons the latest comes first.
+
+    A CRL counts where its signature is one by its signer's key, as `verify(public_key, algorithm, message, signature)` says, or else `cryptography`; where the signer's name is
+    its issuer; where it is in date, with `without_next_update` also where it doesn't say by when the next one comes; and where it is one for the certificate, as the call
+    `x509_revocation_status` of `x509.h` says. With `use_deltas` the first delta CRL among them that fits a complete one is asked before it (5.2.4); its signer has to be
+    that of the complete one (6.3.3 (h)). Only `is_unrevoked` says that the certificate may be used: who withholds a CRL makes its status undetermined.
+    """
+    given = listed(crls, SignedCrl, "the CRLs")
+    verify = _verifies if verify is None else verify
+    verified = [_is_signed(it, verify) for it in given]
+    return _asked(instance(certificate, Certificate, "a certificate"), given, verified, _settings(moment, without_next_update, use_deltas))
+
+
+def path_revocation_statuses(
+    path: ValidatedPath,
+    anchor: Anchor,
+    crls: Iterable[CertificateRevocationList],
+    moment: datetime.datetime,
+    verify: Verifier | None = None,
+    *,
+    certificates: Iterable[Certificate] = (),
+    without_next_update: bool = False,
+    use_deltas: bool = False,
+) -> list[RevocationStatus]:
+    """What CRLs say of each certificate of a path, topmost first, that `validate_path` found valid under the anchor at the moment. The path is good where each of them
+    `is_unrevoked`.
+
+    The signer of a CRL is found by its issuer's name, and by the identifier of its key where both say one: the anchor, a certificate of the path, or one of the further
+    `certificates`, of which the path to the anchor is found here, and has to be valid, and each certificate in it that isn't in the given path unrevoked. A signer counts only
+    where `may_sign_crls` says True, so also of an anchor that is a certificate. The status of a further certificate may be told by a CRL of its own key, but not by one of a signer
+    whose status it tells.
+    Of CRLs for the same reasons the latest is asked first, and `crl` is the place in `crls`. `verify`, `without_next_update` and
+    `use_deltas` are as of `revocation_status`.
+    """
+    settings = _settings(moment, without_next_update, use_deltas)
+    judge = _Judge(
+        instance(path, ValidatedPath, "the path").certificates,
+        anchor,
+        listed(crls, CertificateRevocationList, "the CRLs"),
+        listed(certificates, Certificate, "the certificates"),
+        moment,
+        settings,
+        _verifies if verify is None else verify,
+    )
+    return [judge.status(path.certificates[: place + 1]) for place in range(len(path.certificates))]
+
+
+_Chain = tuple[Certificate, ...]
+
+
+class _Judge:
+    """The statuses of certificates, each by its chain below the anchor, topmost first."""
+
+    def __init__(
+        self,
+        path: _Chain,
+        anchor: Anchor,
+        crls: list[CertificateRevocationList],
+        others: list[Certificate],
+        moment: datetime.datetime,
+        settings: RevocationSettings,
+        verify: Verifier,
+    ) -> None:
+        self.path, self.anchor, self.crls = path, anchor, crls
+        self.others = [it for it in dict.fromkeys(others) if it not in path]
+        self.moment, self.settings, self.verify = moment, settings, verify
+        self.name, _ = _name_and_key(anchor)
+        # the latest first
+        self.places = sorted(range(len(crls)), key=lambda place: crls[place].last_update_utc, reverse=True)
+        self.signed: dict[tuple[int, _Chain], bool] = {}
+        self.found: dict[_Chain, RevocationStatus] = {}
+        self.asked: list[_Chain] = []
+        self.chains: dict[Certificate, _Chain | None] = {}
+
+    def status(self, chain: _Chain) -> RevocationStatus:
+        if chain not in self.found:
+            self.asked.append(chain)
+            given = [(place, signer) for place in self.places for signer in self.signers(self.crls[place])]
+            given = [it for it in given if self.is_signed(*it) and self.is_trusted(it[1])]
+            crls = [SignedCrl(self.crls[place], self.holder(signer)) for place, signer in given]
+            status = _asked(chain[-1], crls, [True] * len(crls), self.settings)
+            self.asked.pop()
+            self.found[chain] = status if status.crl is None else dataclasses.replace(status, crl=given[status.crl][0])
+        return self.found[chain]
+
+    def holder(self, chain: _Chain) -> Anchor:
+        """Whose key it is: that of the last certificate; where there is none, the anchor's."""
+        return chain[-1] if chain else self.anchor
+
+    def signers(self, crl: CertificateRevocationList) -> Iterator[_Chain]:
+        """Those whose name is the issuer of the CRL, and whose key has the identifier that it says."""
+        wanted = _authority_key_identifier(crl)
+        chains: list[_Chain] = [(), *(self.path[: place + 1] for place in range(len(self.path)))]
+        for chain in chains:
+            if self.may_sign(chain, crl, wanted):
+                yield chain
+        for it in self.others:
+            if _has_name_and_key(it, crl, wanted) and may_sign_crls(it):
+                found = self.chain_to(it)
+                if found is not None:
+                    yield found
+
+    def may_sign(self, chain: _Chain, crl: CertificateRevocationList, wanted: bytes | None) -> bool:
+        holder = self.holder(chain)
+        if isinstance(holder, Certificate):
+            return _has_name_and_key(holder, crl, wanted) and may_sign_crls(holder)
+        return self.name.matches(crl.issuer)
+
+    def is_signed(self, place: int, chain: _Chain) -> bool:
+        if (place, chain) not in self.signed:
+            self.signed[place, chain] = _is_signed(SignedCrl(self.crls[place], self.holder(chain)), self.verify)
+        return self.signed[place, chain]
+
+    def is_trusted(self, chain: _Chain) -> bool:
+        """Whether each certificate of the chain is unrevoked that isn't in the path. Of itself a CRL may tell that; else what is being asked for is no answer."""
+        for size in range(1, len(chain) + 1):
+            part = chain[:size]
+            if part == self.path[:size] or (self.asked and part == self.asked[-1]):
+                continue
+            if part in self.asked or not self.status(part).is_unrevoked:
+                return False
+        return True
+
+    def chain_to(self, certificate: Certificate) -> _Chain | None:
+        """A valid path from the anchor to the certificate, if there is one."""
+        if certificate not in self.chains:
+            self.chains[certificate] = next((it for it in self.chains_to(certificate) if self.is_valid(it)), None)
+        return self.chains[certificate]
+
+    def chains_to(self, certificate: Certificate) -> Iterator[_Chain]:
+        """The chains from the anchor to the certificate in which names fit, the shortest first; of very many not all."""
+        found: list[_Chain] = [(certificate,)]
+        for chain in found:
+            issuer = chain[0].issuer
+            if issuer.matches(self.name):
+                yield chain
+            if len(chain) < _LONGEST_CHAIN:
+                above = ((it, *chain) for it in (*self.path, *self.others) if it not in chain and it.subject.matches(issuer))
+                found += itertools.islice(above, max(0, _MOST_CHAINS - len(found)))
+
+    def is_valid(self, chain: _Chain) -> bool:
+        try:
+            validate_path(self.anchor, chain, self.moment, self.verify)
+        except (PathFault, X509Error):
+            return False
+        return True
+
+
+def _settings(moment: datetime.datetime, without_next_update: bool, use_deltas: bool) -> RevocationSettings:
+    flags = _WITHOUT_NEXT_UPDATE if instance(without_next_update, bool, "without_next_update") else 0
+    flags |= _USE_DELTAS if instance(use_deltas, bool, "use_deltas") else 0
+    return RevocationSettings(seconds(moment, "the moment"), flags)
+
+
+def _asked(certificate: Certificate, crls: list[SignedCrl], verified: list[bool], settings: RevocationSettings) -> RevocationStatus:
+    """What those CRLs say that are verified."""
+    parts: list[bytes] = []
+    given = (SignedCrlView * len(crls))()
+    at = 0
+    for row, it, is_verified in zip(given, crls, verified):
+        name, key = _name_and_key(it.signer)
+        for field, part in (("crl", it.crl.public_bytes()), ("name", name.public_bytes()), ("key", key)):
+            setattr(row, field, Span(at, len(part)))
+            parts.append(part)
+            at += len(part)
+        row.verified = 1 if is_verified is True else 0
+    words = (certificate.public_bytes(), b"".join(parts), given, ctypes.c_size_t(len(crls)), ctypes.byref(settings), ctypes.c_size_t(ctypes.sizeof(settings)))
+    found = view("x509_revocation_status", RevocationAnswerView, *words)
+    state = RevocationState(int(found.status))
+    if state is RevocationState.revoked:
+        return RevocationStatus(state, int(found.crl), moment_of(int(found.date)), ReasonFlags(int(found.reason)))
+    return RevocationStatus(state, reasons=_reasons(int(found.reasons)))
+
+
+def _is_signed(given: SignedCrl, verify: Verifier) -> bool:
+    """Whether the signature is one by the signer's key."""
+    told, data = given.crl._signature, given.crl.public_bytes()
+    if int(told.unused_bits) != 0:
+        return False
+    return bool(verify(_name_and_key(given.signer)[1], told.algorithm.of(data), told.signed_part.of(data), told.bits.of(data)))
+
+
+def _name_and_key(signer: Anchor) -> tuple[Name, bytes]:
+    """The name and the public key of a signer; a ValueError where it is a trust anchor without a name."""
+    if isinstance(signer, Certificate):
+        return signer.subject, signer.public_key_bytes
+    if isinstance(signer, TrustAnchor):
+        if signer.name is None:
+            raise ValueError("a trust anchor without a name signs no CRLs")
+        return signer.name, signer.public_key_bytes
+    if not isinstance(signer, tuple) or len(signer) != 2:
+        raise TypeError("a signer is a Certificate, a TrustAnchor, or a Name and the DER of a public key")
+    return instance(signer[0], Name, "the name of a signer"), octets(signer[1], "the public key of a signer")
+
+
+def _has_name_and_key(certificate: Certificate, crl: CertificateRevocationList, wanted: bytes | None) -> bool:
+    found = _subject_key_identifier(certificate) if wanted is not None else None
+    return certificate.subject.matches(crl.issuer) and (found is None or found == wanted)
+
+
+def _subject_key_identifier(certificate: Certificate) -> bytes | None:
+    try:
+        return certificate.extensions.get_extension_for_class(SubjectKeyIdentifier).value.digest
+    except (ExtensionNotFound, DuplicateExtension, X509Error):
+        return None
+
+
+def _authority_key_identifier(crl: CertificateRevocationList) -> bytes | None:
+    try:
+        return crl.extensions.get_extension_for_class(AuthorityKeyIdentifier).value.key_identifier
+    except (ExtensionNotFound, DuplicateExtension, X509Error):
+        return None

@@ -1,0 +1,423 @@
+//! Whether CRLs say that a certificate is revoked (RFC 5280 6.3.3).
+use crate::certificate::CertificateRef;
+use crate::crl::CrlRef;
+use crate::error::Error;
+use crate::extension::{
+    AuthorityKeyIdentifier, CrlReason, ExtensionValue, ReasonFlags, SubjectKeyIdentifier,
+};
+use crate::ffi;
+use crate::name::NameRef;
+use crate::path::{validate_path, PathError, PathSettings, Trusted, Validated, Verifier};
+use crate::time::{moment, seconds};
+use std::cmp::Reverse;
+use std::collections::HashMap;
+use std::time::SystemTime;
+
+/// What CRLs say of a certificate. Only [`Unrevoked`](RevocationStatus::Unrevoked) says that it may be used: who withholds a CRL makes its status undetermined.
+#[derive(Clone, Copy, Debug, PartialEq, Eq, Hash)]
+#[must_use]
+pub enum RevocationStatus {
+    /// No CRL says that it is revoked, and they don't cover all reasons.
+    Undetermined {
+        /// The reasons that no CRL covered.
+        reasons: ReasonFlags,
+    },
+
+    /// The CRLs cover all reasons, and it isn't revoked.
+    Unrevoked,
+
+    /// It is revoked.
+    Revoked {
+        /// Which CRL says so, by its place from 0.
+        crl: usize,
+
+        /// When it was.
+        date: SystemTime,
+
+        /// Why; [`CrlReason::Unspecified`] where the entry gives no reason that can be read.
+        reason: CrlReason,
+    },
+}
+
+impl RevocationStatus {
+    fn found(answer: &ffi::RevocationAnswer) -> Result<RevocationStatus, Error> {
+        match answer.status {
+            0 => Ok(RevocationStatus::Undetermined {
+                reasons: ReasonFlags(answer.reasons),
+            }),
+            1 => Ok(RevocationStatus::Unrevoked),
+            2 => Ok(RevocationStatus::Revoked {
+                crl: answer.crl,
+                date: moment(answer.date)?,
+                reason: CrlReason::found(answer.reason)?,
+            }),
+            _ => Err(Error::Unexpected),
+        }
+    }
+
+    /// Whether the CRLs cover all reasons, and the certificate isn't revoked.
+    pub fn is_unrevoked(&self) -> bool {
+        *self == RevocationStatus::Unrevoked
+    }
+}
+
+/// A CRL, and its signer: the certificate, the trust anchor, or the name and the key, under which it is to be verified. That the signer is one whose CRLs count is for the
+/// caller to know: it is the issuer of the certificate, or another whose path is valid, and [`may_sign_crls`] says so of it (RFC 5280 6.3.3 (f)).
+#[derive(Clone, Copy, Debug)]
+pub struct SignedCrl<'a> {
+    /// The CRL.
+    pub crl: CrlRef<'a>,
+
+    /// Its signer.
+    pub signer: Trusted<'a>,
+}
+
+impl<'a> SignedCrl<'a> {
+    /// A CRL with its signer.
+    pub fn new(crl: CrlRef<'a>, signer: impl Into<Trusted<'a>>) -> SignedCrl<'a> {
+        let signer = signer.into();
+        SignedCrl { crl, signer }
+    }
+
+    /// Whether its signature is one by the signer's key.
+    fn is_signed(&self, verifier: &impl Verifier) -> Result<bool, Error> {
+        let signature = self.crl.signature()?;
+        Ok(signature.unused_bits == 0 && verifier.verify(self.signer.key(), &signature))
+    }
+}
+
+/// What is asked of CRLs.
+#[derive(Clone, Debug)]
+pub struct RevocationSettings {
+    moment: SystemTime,
+    flags: u64,
+}
+
+const WITHOUT_NEXT_UPDATE: u64 = 1;
+const USE_DELTAS: u64 = 2;
+
+impl RevocationSettings {
+    /// What they say of the moment. A CRL is in date that says by when the next one will be issued.
+    pub fn new(moment: SystemTime) -> RevocationSettings {
+        RevocationSettings { moment, flags: 0 }
+    }
+
+    fn flag(&mut self, flag: u64, is_set: bool) -> &mut RevocationSettings {
+        self.flags = self.flags & !flag | if is_set { flag } else { 0 };
+        self
+    }
+
+    /// Whether a CRL is in date, too, that doesn't say by when the next one will be issued, which RFC 5280 5.1.2.5 wants each to say.
+    pub fn without_next_update(&mut self, is_taken: bool) -> &mut RevocationSettings {
+        self.flag(WITHOUT_NEXT_UPDATE, is_taken)
+    }
+
+    /// Whether delta CRLs are used that are among the CRLs (RFC 5280 5.2.4): the first one that fits a complete CRL is asked before it; its signer has to be that of
+    /// the complete one (6.3.3 (h)).
+    pub fn use_deltas(&mut self, are_used: bool) -> &mut RevocationSettings {
+        self.flag(USE_DELTAS, are_used)
+    }
+}
+
+/// Whether the key of a certificate may sign CRLs (RFC 5280 4.2.1.3, 6.3.3 (f)): it has no KeyUsage, or one that can be read, with cRLSign.
+///
+/// # Errors
+/// None but [`Error::Unexpected`].
+pub fn may_sign_crls(certificate: CertificateRef<'_>) -> Result<bool, Error> {
+    Ok(ffi::MAY_SIGN_CRLS.of(certificate.as_der())? == 1)
+}
+
+/// What CRLs say of a certificate (RFC 5280 6.3.3), asked in their order: of several for the same reasons the latest comes first. A CRL counts where the verifier accepts its
+/// signature for its signer's key, where the signer's name is its issuer, where it is in date, and where it is one for the certificate, as `x509_revocation_status` of `x509.h` says.
+///
+/// ```
+/// use std::time::{Duration, UNIX_EPOCH};
+/// use x509_rattle::extension::CrlReason;
+/// use x509_rattle::{revocation_status, CertificateRef, CrlRef, RevocationSettings, RevocationStatus, Signature, SignedCrl};
+///
+/// # let (der, list) = (include_bytes!("../../../examples/data/certificate.der"), include_bytes!("../../../examples/data/list.der"));
+/// let certificate = CertificateRef::from_der(der)?;
+/// let crls = [SignedCrl::new(CrlRef::from_der(list)?, certificate)];
+/// let settings = RevocationSettings::new(UNIX_EPOCH + Duration::from_secs(1_769_904_000));
+/// // a program verifies here by a library of signatures; this accepts all, and then none
+/// let accepts = |_key: &[u8], _signature: &Signature| true;
+/// match revocation_status(certificate, &crls, &settings, &accepts)? {
+///     RevocationStatus::Revoked { crl: 0, reason, .. } => assert_eq!(reason, CrlReason::KeyCompromise),
+///     other => panic!("{other:?}"),
+/// }
+/// let refuses = |_key: &[u8], _signature: &Signature| false;
+/// assert!(!revocation_status(certificate, &crls, &settings, &refuses)?.is_unrevoked());
+/// # Ok::<(), x509_rattle::Error>(())
+/// ```
+///
+/// # Errors
+/// [`Error::Value`] where the moment is before 1970 or after 9999; [`Error::Failed`] where a signer is a trust anchor without a name; [`Error::Malformed`] or
+/// [`Error::Overlength`] where a signer's key is none; [`Error::Memory`].
+pub fn revocation_status(
+    certificate: CertificateRef<'_>,
+    crls: &[SignedCrl<'_>],
+    settings: &RevocationSettings,
+    verifier: &impl Verifier,
+) -> Result<RevocationStatus, Error> {
+    let mut given = Vec::with_capacity(crls.len());
+    for it in crls {
+        given.push((it.signed()?, it.is_signed(verifier)?));
+    }
+    ask(certificate, &given, settings)
+}
+
+impl<'a> SignedCrl<'a> {
+    fn signed(&self) -> Result<ffi::GivenCrl<'a>, Error> {
+        Ok(ffi::GivenCrl {
+            crl: self.crl.as_der(),
+            name: self.signer.name().ok_or(Error::UnnamedAnchor)?.as_der(),
+            key: self.signer.key(),
+        })
+    }
+}
+
+/// What those CRLs say that are verified.
+fn ask(
+    certificate: CertificateRef<'_>,
+    crls: &[(ffi::GivenCrl<'_>, bool)],
+    settings: &RevocationSettings,
+) -> Result<RevocationStatus, Error> {
+    let asked = ffi::RevocationSettings {
+        moment: seconds(settings.moment)?,
+        flags: settings.flags,
+    };
+    RevocationStatus::found(&ffi::revocation_status(certificate.as_der(), crls, asked)?)
+}
+
+/// What CRLs say of each certificate of a path that is valid under what is trusted, topmost first. The path is good where each of them
+/// [`is_unrevoked`](RevocationStatus::is_unrevoked).
+///
+/// The signer of a CRL is found by its issuer's name, and by the identifier of its key where both say one: what is trusted, a certificate of the path, or one of the further
+/// certificates, of which the path is found here, and has to be valid, and each certificate in it that isn't in the given path unrevoked. A signer counts only where
+/// [`may_sign_crls`] says so, so also of a certificate that is trusted. The status of a further certificate may be told by a CRL of its own key, but not by
+/// one of a signer whose status it tells. Of CRLs for the same reasons the latest is asked first, and `crl` is the place in `crls`.
+///
+/// # Errors
+/// [`Error::Value`] where the moment is before 1970 or after 9999; [`Error::Failed`] where what is trusted is a trust anchor without a name; [`Error::Malformed`] or
+/// [`Error::Overlength`] where the key that is trusted is none; [`Error::Memory`].
+pub fn path_revocation_statuses<'a>(
+    path: &Validated<'a>,
+    trusted: impl Into<Trusted<'a>>,
+    crls: &[CrlRef<'a>],
+    certificates: &[CertificateRef<'a>],
+    settings: &RevocationSettings,
+    verifier: &impl Verifier,
+) -> Result<Vec<RevocationStatus>, Error> {
+    let trusted = trusted.into();
+    let mut places = Vec::with_capacity(crls.len());
+    for (place, crl) in crls.iter().enumerate() {
+        places.push((Reverse(crl.this_update()?), place));
+    }
+    places.sort();
+    let mut others: Vec<CertificateRef<'a>> = Vec::new();
+    for it in certificates {
+        if !path.certificates().contains(it) && !others.contains(it) {
+            others.push(*it);
+        }
+    }
+    let mut judge = Judge {
+        path: path.certificates(),
+        trusted,
+        name: trusted.name().ok_or(Error::UnnamedAnchor)?,
+        crls,
+        certificates: others,
+        places: places.into_iter().map(|(_, place)| place).collect(),
+        settings,
+        verifier,
+        signed: HashMap::new(),
+        statuses: HashMap::new(),
+        asked: Vec::new(),
+        chains: HashMap::new(),
+    };
+    let ends = 1..=path.certificates().len();
+    ends.map(|end| judge.status(&path.certificates()[..end]))
+        .collect()
+}
+
+/// Certificates below what is trusted, topmost first; none stand for what is trusted.
+type Chain<'a> = Vec<CertificateRef<'a>>;
+
+/// How many chains are looked at above a certificate that may sign CRLs, and how many certificates one has.
+const MOST_CHAINS: usize = 64;
+const LONGEST_CHAIN: usize = 8;
+
+/// The statuses of certificates, each by its chain.
+struct Judge<'j, 'a, V> {
+    path: &'j [CertificateRef<'a>],
+    trusted: Trusted<'a>,
+    name: NameRef<'a>,
+    crls: &'j [CrlRef<'a>],
+    certificates: Vec<CertificateRef<'a>>,
+    /// The places of the CRLs, the latest first.
+    places: Vec<usize>,
+    settings: &'j RevocationSettings,
+    verifier: &'j V,
+    signed: HashMap<(usize, Chain<'a>), bool>,
+    statuses: HashMap<Chain<'a>, RevocationStatus>,
+    asked: Vec<Chain<'a>>,
+    chains: HashMap<CertificateRef<'a>, Option<Chain<'a>>>,
+}
+
+impl<'a, V: Verifier> Judge<'_, 'a, V> {
+    fn status(&mut self, chain: &[CertificateRef<'a>]) -> Result<RevocationStatus, Error> {
+        if let Some(found) = self.statuses.get(chain) {
+            return Ok(*found);
+        }
+        let certificate = *chain.last().ok_or(Error::Unexpected)?;
+        self.asked.push(chain.to_vec());
+        let found = self.status_by(certificate);
+        self.asked.pop();
+        let found = found?;
+        self.statuses.insert(chain.to_vec(), found);
+        Ok(found)
+    }
+
+    fn status_by(&mut self, certificate: CertificateRef<'a>) -> Result<RevocationStatus, Error> {
+        let (mut given, mut places) = (Vec::new(), Vec::new());
+        for place in self.places.clone() {
+            for signer in self.signers(&self.crls[place])? {
+                if self.is_signed(place, &signer)? && self.is_trusted(&signer)? {
+                    let crl = SignedCrl::new(self.crls[place], self.holder(&signer));
+                    given.push((crl.signed()?, true));
+                    places.push(place);
+                }
+            }
+        }
+        let found = ask(certificate, &given, self.settings)?;
+        match found {
+            RevocationStatus::Revoked { crl, date, reason } => Ok(RevocationStatus::Revoked {
+                crl: *places.get(crl).ok_or(Error::Unexpected)?,
+                date,
+                reason,
+            }),
+            other => Ok(other),
+        }
+    }
+
+    /// Whose key it is: that of the last certificate; where there is none, that which is trusted.
+    fn holder(&self, chain: &[CertificateRef<'a>]) -> Trusted<'a> {
+        chain.last().map_or(self.trusted, |it| (*it).into())
+    }
+
+    /// Those whose name is the issuer of the CRL, and whose key has the identifier that it says.
+    fn signers(&mut self, crl: &CrlRef<'a>) -> Result<Vec<Chain<'a>>, Error> {
+        let wanted = authority_key_identifier(crl);
+        let mut found = Vec::new();
+        for end in 0..=self.path.len() {
+            let may_sign = match self.holder(&self.path[..end]) {
+                Trusted::Certificate(certificate) => may_sign(certificate, crl, wanted)?,
+                _ => self.name.matches(&crl.issuer())?,
+            };
+            if may_sign {
+                found.push(self.path[..end].to_vec());
+            }
+        }
+        for certificate in self.certificates.clone() {
+            if may_sign(certificate, crl, wanted)? {
+                found.extend(self.chain_to(certificate)?);
+            }
+        }
+        Ok(found)
+    }
+
+    fn is_signed(&mut self, place: usize, chain: &Chain<'a>) -> Result<bool, Error> {
+        let key = (place, chain.clone());
+        if let Some(found) = self.signed.get(&key) {
+            return Ok(*found);
+        }
+        let crl = SignedCrl::new(self.crls[place], self.holder(chain));
+        let found = crl.is_signed(self.verifier)?;
+        self.signed.insert(key, found);
+        Ok(found)
+    }
+
+    /// Whether each certificate of the chain is unrevoked that isn't in the path. Of itself a CRL may tell that; else what is being asked for is no answer.
+    fn is_trusted(&mut self, chain: &Chain<'a>) -> Result<bool, Error> {
+        for end in 1..=chain.len() {
+            let part = &chain[..end];
+            if self.path.starts_with(part) || self.asked.last().is_some_and(|it| it == part) {
+                continue;
+            }
+            if self.asked.iter().any(|it| it == part) || !self.status(part)?.is_unrevoked() {
+                return Ok(false);
+            }
+        }
+        Ok(true)
+    }
+
+    /// A valid path from what is trusted to the certificate, if there is one.
+    fn chain_to(&mut self, certificate: CertificateRef<'a>) -> Result<Option<Chain<'a>>, Error> {
+        if let Some(found) = self.chains.get(&certificate) {
+            return Ok(found.clone());
+        }
+        let mut found = None;
+        for chain in self.chains_up(certificate)? {
+            if self.is_valid(&chain)? {
+                found = Some(chain);
+                break;
+            }
+        }
+        self.chains.insert(certificate, found.clone());
+        Ok(found)
+    }
+
+    /// The chains from what is trusted to the certificate in which names fit, the shortest first; of very many not all.
+    fn chains_up(&self, certificate: CertificateRef<'a>) -> Result<Vec<Chain<'a>>, Error> {
+        let (mut looked_at, mut found) = (vec![vec![certificate]], Vec::new());
+        let mut at = 0;
+        while let Some(chain) = looked_at.get(at).cloned() {
+            at += 1;
+            let issuer = chain.first().ok_or(Error::Unexpected)?.issuer();
+            if issuer.matches(&self.name)? {
+                found.push(chain.clone());
+            }
+            for it in self.path.iter().chain(&self.certificates) {
+                let has_room = looked_at.len() < MOST_CHAINS && chain.len() < LONGEST_CHAIN;
+                if has_room && !chain.contains(it) && it.subject().matches(&issuer)? {
+                    looked_at.push([&[*it], chain.as_slice()].concat());
+                }
+            }
+        }
+        Ok(found)
+    }
+
+    fn is_valid(&self, chain: &Chain<'a>) -> Result<bool, Error> {
+        let path: Vec<&[u8]> = chain.iter().map(|it| it.as_der()).collect();
+        let settings = PathSettings::new(self.settings.moment);
+        match validate_path(self.trusted, &path, &settings, self.verifier) {
+            Ok(_) => Ok(true),
+            Err(PathError::Refused(Error::Memory)) => Err(Error::Memory),
+            Err(_) => Ok(false),
+        }
+    }
+}
+
+/// Whether the certificate's subject is the issuer of the CRL, its key has the identifier that the CRL says, and may sign CRLs.
+fn may_sign(
+    certificate: CertificateRef<'_>,
+    crl: &CrlRef<'_>,
+    wanted: Option<&[u8]>,
+) -> Result<bool, Error> {
+    let has_key = match (wanted, subject_key_identifier(certificate)) {
+        (Some(wanted), Some(found)) => wanted == found,
+        _ => true,
+    };
+    Ok(has_key && certificate.subject().matches(&crl.issuer())? && may_sign_crls(certificate)?)
+}
+
+fn subject_key_identifier<'a>(certificate: CertificateRef<'a>) -> Option<&'a [u8]> {
+    let (_, found) = certificate.get::<SubjectKeyIdentifier<'a>>().ok()??;
+    Some(found.0)
+}
+
+fn authority_key_identifier<'a>(crl: &CrlRef<'a>) -> Option<&'a [u8]> {
+    let mut extensions = crl.extensions().filter_map(Result::ok);
+    let found = extensions.find(|it| it.oid() == AuthorityKeyIdentifier::OID)?;
+    let found = AuthorityKeyIdentifier::from_der(found.value()).ok()?;
+    found.key_identifier
+}

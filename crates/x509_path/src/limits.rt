@@ -1,0 +1,203 @@
+//! What trust anchors say of the paths below them.
+
+ghost use Rattle.std.specs.Int.RustNames.{bit_and};
+ghost use Rattle.std.specs.Prelude.{◌≡◌, ◌==◌, ◌⊎◌, MatchResult};
+ghost use Rattle.x509_cert.specs.der.declared.error.ErrorKind.TheVariants as errors;
+ghost use Rattle.x509_cert.specs.ext.BasicConstraints.{basic_constraints};
+ghost use Rattle.x509_cert.specs.ext.CertificatePolicies.{certificate_policies};
+ghost use Rattle.x509_cert.specs.ext.Identifiers.{id_ce};
+ghost use Rattle.x509_cert.specs.ext.InhibitAnyPolicy.{inhibit_any_policy};
+ghost use Rattle.x509_cert.specs.ext.LookUp.{members};
+ghost use Rattle.x509_cert.specs.ext.NameConstraints.{name_constraints};
+ghost use Rattle.x509_cert.specs.ext.PolicyConstraints.{policy_constraints};
+ghost use Rattle.x509_path.specs.Trusts as trusts;
+ghost use Rattle.x509_path.specs.Trusts.{AreFlags, AreLimits, AreOwnLimits, HasLimit, IsValueOf, RefusesFlags, RefusesLimits, RefusesOwnLimits, RefusesValue};
+
+use crate::policies::{explicit_policy, mapping_inhibit};
+use bitflags::Flags;
+use std::alloc::Global;
+use x509_cert::Certificate;
+use x509_cert::anchor::CertPolicyFlags;
+use x509_cert::certificate::TbsCertificate;
+use x509_cert::der::Error;
+use x509_cert::ext::pkix::{
+    BasicConstraints, CertificatePolicies, InhibitAnyPolicy, NameConstraints, PolicyConstraints,
+};
+use x509_policy::AnchorFlags;
+
+/// No flag.
+pub(crate) const NO_FLAGS: AnchorFlags = AnchorFlags {
+    inhibit_policy_mapping: false,
+    require_explicit_policy: false,
+    inhibit_any_policy: false,
+};
+
+/// For which paths something is trusted.
+#[derive(Drop)]
+pub(crate) struct Limits {
+    /// The names that certificates may have; any where absent.
+    pub(crate) constraints: Option<NameConstraints>,
+
+    /// The path length; any where absent.
+    pub(crate) max_path_length: Option<u32>,
+
+    /// The policies; any where absent.
+    pub(crate) policies: Option<CertificatePolicies>,
+
+    /// The flags about policies.
+    pub(crate) flags: AnchorFlags,
+}
+
+/// The path length, if there is one.
+pub(crate) fn length_of(constraints: &BasicConstraints) -> Option<u32>
+    ensures { result ≡ constraints.now.path_len_constraint }
+{
+    match constraints.path_len_constraint {
+        Some(path_len) => Some(u32::from(path_len)),
+        None => None,
+    }
+}
+
+/// The flags that these extensions set, where they are there. A number in them says after how many certificates; what is
+/// trusted has flags alone.
+pub(crate) fn flags_said(
+    constraints: Option<PolicyConstraints>,
+    inhibit: Option<InhibitAnyPolicy>,
+) -> AnchorFlags
+    ensures { result ≡ trusts.flags_said constraints inhibit }
+{
+    AnchorFlags {
+        inhibit_policy_mapping: mapping_inhibit(constraints).is_some(),
+        require_explicit_policy: explicit_policy(constraints).is_some(),
+        inhibit_any_policy: inhibit.is_some(),
+    }
+}
+
+/// Whether a set of flags has all of another one.
+fn has(flags: CertPolicyFlags, other: CertPolicyFlags) -> bool
+    ensures { result ≡ (bit_and flags.0 other.0 == other.0) }
+{
+    flags.contains(other)
+}
+
+/// The flags of the controls, or else those.
+pub(crate) fn flags_or(set: Option<CertPolicyFlags>, flags: AnchorFlags) -> AnchorFlags
+    ensures { result ≡ trusts.flags_or set flags }
+{
+    let Some(set) = set else {
+        return flags;
+    };
+    AnchorFlags {
+        inhibit_policy_mapping: has(set, CertPolicyFlags::INHIBIT_POLICY_MAPPING),
+        require_explicit_policy: has(set, CertPolicyFlags::REQUIRE_EXPLICIT_POLICY),
+        inhibit_any_policy: has(set, CertPolicyFlags::INHIBIT_ANY_POLICY),
+    }
+}
+
+/// The value of the NameConstraints, if there is one.
+fn own_constraints(alloc: Global, signed: &TbsCertificate) -> Result<Option<NameConstraints>, Error>
+    ensures { MatchResult result (λ found. IsValueOf name_constraints (id_ce 30) (members signed.now.extensions) found)
+        (λ e. (e.kind ≡ errors.Memory) ⊎ RefusesValue name_constraints (id_ce 30) (members signed.now.extensions) e.kind) }
+{
+    match signed.get_extension::<NameConstraints>(alloc) {
+        Ok(Some((_, constraints))) => Ok(Some(constraints)),
+        Ok(None) => Ok(None),
+        Err(e) => Err(e),
+    }
+}
+
+/// The path length of the BasicConstraints, if there is one.
+fn own_length(alloc: Global, signed: &TbsCertificate) -> Result<Option<u32>, Error>
+    ensures { MatchResult result (λ limit. HasLimit (members signed.now.extensions) limit)
+        (λ e. RefusesValue basic_constraints (id_ce 19) (members signed.now.extensions) e.kind) }
+{
+    match signed.get_extension::<BasicConstraints>(alloc) {
+        Ok(Some((_, constraints))) => Ok(length_of(&constraints)),
+        Ok(None) => Ok(None),
+        Err(e) => Err(e),
+    }
+}
+
+/// The value of the CertificatePolicies, if there is one.
+fn own_policies(
+    alloc: Global,
+    signed: &TbsCertificate,
+) -> Result<Option<CertificatePolicies>, Error>
+    ensures { MatchResult result (λ found. IsValueOf certificate_policies (id_ce 32) (members signed.now.extensions) found)
+        (λ e. (e.kind ≡ errors.Memory) ⊎ RefusesValue certificate_policies (id_ce 32) (members signed.now.extensions) e.kind) }
+{
+    match signed.get_extension::<CertificatePolicies>(alloc) {
+        Ok(Some((_, policies))) => Ok(Some(policies)),
+        Ok(None) => Ok(None),
+        Err(e) => Err(e),
+    }
+}
+
+/// The value of the PolicyConstraints, if there is one.
+fn own_policy_constraints(
+    alloc: Global,
+    signed: &TbsCertificate,
+) -> Result<Option<PolicyConstraints>, Error>
+    ensures { MatchResult result (λ found. IsValueOf policy_constraints (id_ce 36) (members signed.now.extensions) found)
+        (λ e. RefusesValue policy_constraints (id_ce 36) (members signed.now.extensions) e.kind) }
+{
+    match signed.get_extension::<PolicyConstraints>(alloc) {
+        Ok(Some((_, constraints))) => Ok(Some(constraints)),
+        Ok(None) => Ok(None),
+        Err(e) => Err(e),
+    }
+}
+
+/// The value of the InhibitAnyPolicy, if there is one.
+fn own_inhibit(alloc: Global, signed: &TbsCertificate) -> Result<Option<InhibitAnyPolicy>, Error>
+    ensures { MatchResult result (λ found. IsValueOf inhibit_any_policy (id_ce 54) (members signed.now.extensions) found)
+        (λ e. RefusesValue inhibit_any_policy (id_ce 54) (members signed.now.extensions) e.kind) }
+{
+    match signed.get_extension::<InhibitAnyPolicy>(alloc) {
+        Ok(Some((_, inhibit))) => Ok(Some(inhibit)),
+        Ok(None) => Ok(None),
+        Err(e) => Err(e),
+    }
+}
+
+/// The flags about policies that the extensions set.
+fn own_flags(alloc: Global, signed: &TbsCertificate) -> Result<AnchorFlags, Error>
+    ensures { MatchResult result (λ flags. AreFlags (members signed.now.extensions) flags) (λ e. RefusesFlags (members signed.now.extensions) e.kind) }
+{
+    let constraints = own_policy_constraints(alloc, signed)?;
+    let inhibit = own_inhibit(alloc, signed)?;
+    Ok(flags_said(constraints, inhibit))
+}
+
+/// What the extensions of the signed part say.
+pub(crate) fn limits_of(alloc: Global, signed: &TbsCertificate) -> Result<Limits, Error>
+    ensures { MatchResult result (λ limits. AreLimits (members signed.now.extensions) limits)
+        (λ e. (e.kind ≡ errors.Memory) ⊎ RefusesLimits (members signed.now.extensions) e.kind) }
+{
+    let constraints = own_constraints(alloc, signed)?;
+    let max_path_length = own_length(alloc, signed)?;
+    let policies = own_policies(alloc, signed)?;
+    let flags = own_flags(alloc, signed)?;
+    Ok(Limits {
+        constraints,
+        max_path_length,
+        policies,
+        flags,
+    })
+}
+
+/// The same of the certificate in the description of an anchor, if there is one.
+pub(crate) fn own_limits(alloc: Global, certificate: &Option<Certificate>) -> Result<Limits, Error>
+    ensures { MatchResult result (λ limits. AreOwnLimits certificate.now limits)
+        (λ e. (e.kind ≡ errors.Memory) ⊎ RefusesOwnLimits certificate.now e.kind) }
+{
+    match certificate {
+        Some(certificate) => limits_of(alloc, certificate.tbs_certificate()),
+        None => Ok(Limits {
+            constraints: None,
+            max_path_length: None,
+            policies: None,
+            flags: NO_FLAGS,
+        }),
+    }
+}
