@@ -1,6 +1,6 @@
 #!/usr/bin/env python3
-"""Makes docs/RULES.md: what RFC 5280 says MUST or SHOULD hold of certificates and CRLs, by section, with the rule of x509_lint that tells where it is
-broken, or why none does.
+"""Makes docs/RULES.md: what RFC 5280 says MUST or SHOULD hold of certificates and CRLs, and RFC 2986 and RFC 2985 of CSRs, by section, with the rule of
+x509_lint that tells where it is broken, or why none does.
 
 The sentences and their answers stand in tools/data/rfc5280.txt; the rules, and how bad it is to break each, are taken from the code,
 crates/x509_lint/src/rule. With `--check` it fails where a rule of the code stands in no line of the sentences, where its docs don't say its section,
@@ -28,15 +28,15 @@ REASONS = {
 }
 HEAD = """# What RFC 5280 says, and the rules of `x509_lint`
 
-`tools/gate/list_rules.py` makes this page of `tools/data/rfc5280.txt` and of the rules in `crates/x509_lint/src/rule`. Each line has what a section of RFC 5280 says MUST or SHOULD hold, in our own
-words, and the rule that tells where it is broken, or why there is none. GRAMMAR stands for a size or a type of the ASN.1. Whether a rule is broken is a definition of `crates/x509_lint/specs`, in the
-file of its group, and `lint_certificate` and `lint_crl` are proved to find it exactly there; what was seen is said at the rule in the code. Why there is none:
+`tools/gate/list_rules.py` makes this page of `tools/data/rfc5280.txt` and of the rules in `crates/x509_lint/src/rule`. Each line has what a section of RFC 5280, or of another standard that is named,
+says MUST or SHOULD hold, in our own words, and the rule that tells where it is broken, or why there is none. GRAMMAR stands for a size or a type of the ASN.1. Whether a rule is broken is a definition of `crates/x509_lint/specs`, in the
+file of its group, and `lint_certificate`, `lint_crl` and `lint_request` are proved to find it exactly there; what was seen is said at the rule in the code. Why there is none:
 
 """
 
 
 class Rules(dict):
-    """The rules of the code, by what the lines call them: `name` of a certificate's, `crl:name` of a CRL's."""
+    """The rules of the code, by what the lines call them: `name` of a certificate's, `crl:name` of a CRL's, `csr:name` of a CSR's."""
 
     def __init__(self):
         super().__init__()
@@ -44,20 +44,25 @@ class Rules(dict):
             self.update(rules_of(path))
 
 
+OWNERS = {"crl_entry": "crl:", "crl_extension": "crl:", "crl_field": "crl:", "request": "csr:"}
+
+
 def rules_of(path):
-    """The rules of a group: for each its severity, its section and its docs."""
+    """The rules of a group: for each its severity, its standard, its section and its docs."""
     text = path.read_text()
-    owner = "crl:" if path.stem.startswith("crl_") else ""
-    docs = dict((variant, " ".join(said.replace("///", " ").split())) for said, variant in re.findall(r"((?:    ///[^\n]*\n)+)    (\w+),\n", text))
-    for variant, severity, name, section in re.findall(r'::(\w+) => (\w+)\(\s*"([^"]*)",\s*"([^"]*)",?\s*\)', text):
-        yield owner + name, (SEVERITIES[severity], section, docs.get(variant, ""))
+    said = re.findall(r"((?:    ///[^\n]*\n)+)    (\w+)(?:\(\w+\))?,\n", text)
+    docs = {variant: " ".join(lines.replace("///", " ").split()) for lines, variant in said}
+    for variant, severity, other, given in re.findall(r"::(\w+)(?:\(\w+\))? => (must|should|not_judged)(_of)?\(([^;]*?)\),\n", text):
+        texts = re.findall(r'"([^"]*)"', given)
+        standard, name, section = texts[:3] if other else ("RFC 5280", *texts[:2])
+        yield OWNERS.get(path.stem, "") + name, (SEVERITIES[severity], f"{standard} {section}", docs.get(variant, ""))
 
 
 def sections():
     """The sections of the sentences: each its number and title, and its sentences with their rules and why there are none."""
     found = []
     for number, line in enumerate(SENTENCES.read_text().splitlines(), 1):
-        if section := re.fullmatch(r"# ([A-Z0-9.]*[0-9.][0-9]*) (.*)", line):
+        if section := re.fullmatch(r"# ((?:RFC \d+ )?[A-Z0-9.]*[0-9.][0-9]*) (.*)", line):
             found.append((section[1], section[2], []))
         elif line.startswith("= "):
             found[-1][2][-1]["rules"] += [it.strip() for it in line[2:].split(",")]
@@ -98,7 +103,7 @@ def faults(rules, all_sections):
     """What is wrong with the sentences."""
     named = {name for _, _, sentences in all_sections for it in sentences for name in it["rules"]}
     yield from (f"the rule {name} stands on no line" for name in rules if name not in named)
-    yield from (f"the docs of the rule {name} don't say its section, {section}" for name, (_, section, docs) in rules.items() if f"(RFC 5280 {section}" not in docs)
+    yield from (f"the docs of the rule {name} don't say its section, {section}" for name, (_, section, docs) in rules.items() if f"({section}" not in docs)
     yield from (f"there is no rule {name}" for name in sorted(named) if name not in rules)
     for number, _, sentences in all_sections:
         yield from (f"{number}: no answer: {it['text']}" for it in sentences if not it["rules"] and not it["reasons"])

@@ -1,10 +1,11 @@
 #!/usr/bin/env python3
-"""Runs x509_linter over certificates and CRLs that break one rule of RFC 5280 each, and over ones that break none.
+"""Runs x509_linter over certificates, CRLs and CSRs that break one rule each, and over ones that break none.
 
-What is to be printed of each is stated here by hand, from the sections of RFC 5280 that the lines name. With `--write FOLDER` the objects are
+What is to be printed of each is stated here by hand, from the sections that the lines name. With `--write FOLDER` the objects are
 written there too, as NAME.der.
 """
 import argparse
+import json
 import pathlib
 import sys
 import tempfile
@@ -152,6 +153,14 @@ def not_judged(name, section):
     return f"not judged {name} (RFC 5280 {section})"
 
 
+def malformed(name):
+    return f"{error('extension_malformed', '4.2')}: tbsCertificate.extensions.{name}"
+
+
+def crl_malformed(name):
+    return f"{error('extension_malformed', '5.2')}: tbsCertList.crlExtensions.{name}"
+
+
 NO_AKI = error("authority_key_identifier_absent", "4.2.1.1")
 NO_SKI = warning("subject_key_identifier_absent", "4.2.1.2")
 
@@ -268,10 +277,41 @@ def list_rules():
     yield certificate(subject=ISSUER, extensions=()), [error("extensions_empty", "4.1.2.9"), NO_SKI]
     yield leaf_with(OTHER, OTHER), [error("extension_repeated", "4.2")]
     yield leaf_with(OTHER), []
-    yield ca_with(ce(54, b"\x05\x00", True)), [error("extension_malformed", "4.2")]
+    yield ca_with(ce(54, b"\x05\x00", True)), [malformed("inhibitAnyPolicy")]
+    yield ca_with(ce(54, NULL, True), ce(36, NULL, True)), [malformed("policyConstraints"), malformed("inhibitAnyPolicy")]
     for number in (b"\xff", b"\0\1", b""):
-        yield certificate(extensions=(AKI, SKI, CA_KU, ce(19, sequence(TRUE, element(2, number)), True))), [error("extension_malformed", "4.2")]
+        yield certificate(extensions=(AKI, SKI, CA_KU, ce(19, sequence(TRUE, element(2, number)), True))), [malformed("basicConstraints")]
     yield certificate(extensions=(AKI, SKI, CA_KU, CA_BC, CA_BC)), [error("extension_repeated", "4.2")]
+
+
+EXTENSIONS = (
+    (35, "authorityKeyIdentifier"),
+    (14, "subjectKeyIdentifier"),
+    (15, "keyUsage"),
+    (37, "extKeyUsage"),
+    (16, "privateKeyUsagePeriod"),
+    (19, "basicConstraints"),
+    (17, "subjectAltName"),
+    (18, "issuerAltName"),
+    (9, "subjectDirectoryAttributes"),
+    (30, "nameConstraints"),
+    (32, "certificatePolicies"),
+    (33, "policyMappings"),
+    (36, "policyConstraints"),
+    (54, "inhibitAnyPolicy"),
+    (31, "cRLDistributionPoints"),
+    (46, "freshestCRL"),
+)
+
+
+def malformed_rules():
+    """The octets of each extension of RFC 5280 (4.2), which can't be read."""
+    critical = (15, 19, 30, 33, 36, 54)
+    for number, name in EXTENSIONS:
+        others = [it for kept, it in zip((35, 14, 15, 19), CA) if kept != number]
+        yield certificate(extensions=(*others, ce(number, NULL, number in critical))), [malformed(name)]
+    for number, name in ((1, "authorityInfoAccess"), (11, "subjectInfoAccess")):
+        yield ca_with(pe(number, NULL)), [malformed(name)]
 
 
 def critical_rules():
@@ -374,7 +414,7 @@ def email_rules():
     yield certificate(subject=subject, extensions=(*LEAF, ce(17, NAMES))), absent
     yield certificate(subject=subject, extensions=(*LEAF, ce(17, sequence(DNS, implicit(1, b"a@example.org"))))), []
     yield certificate(issuer=subject), []
-    yield certificate(subject=subject, extensions=(*LEAF, ce(17, b"\5\0"))), [error("extension_malformed", "4.2")]
+    yield certificate(subject=subject, extensions=(*LEAF, ce(17, b"\5\0"))), [malformed("subjectAltName")]
     yield certificate(subject=subject, extensions=(*LEAF, ce(17, NAMES), ce(17, NAMES))), [error("extension_repeated", "4.2")]
 
 
@@ -517,11 +557,11 @@ def crl_field_rules():
     yield crl(extensions=()), [error("extensions_empty", "5.1.2.7"), *without]
     yield crl(extensions=None), without
     yield crl_with(OTHER, OTHER), [error("extension_repeated", "5.2")]
-    for number in (18, 27, 28, 46):
-        yield crl_with(ce(number, NULL, number in (27, 28))), [error("extension_malformed", "5.2")]
-    yield crl(extensions=(ce(35, NULL), CRL_NUMBER)), [error("extension_malformed", "5.2")]
-    yield crl(extensions=(CRL_AKI, ce(20, NULL))), [error("extension_malformed", "5.2")]
-    yield crl_with(pe(1, NULL)), [error("extension_malformed", "5.2")]
+    for number, name in ((18, "issuerAltName"), (27, "deltaCRLIndicator"), (28, "issuingDistributionPoint"), (46, "freshestCRL")):
+        yield crl_with(ce(number, NULL, number in (27, 28))), [crl_malformed(name)]
+    yield crl(extensions=(ce(35, NULL), CRL_NUMBER)), [crl_malformed("authorityKeyIdentifier")]
+    yield crl(extensions=(CRL_AKI, ce(20, NULL))), [crl_malformed("cRLNumber")]
+    yield crl_with(pe(1, NULL)), [crl_malformed("authorityInfoAccess")]
     yield crl(entries=sequence(sequence(integer(6), utc(b"260101000000Z")), reason)), []
     yield crl(entries=sequence(ENTRY, sequence(integer(6), utc(b"260101000000Z"), sequence()))), [error("entry_extensions_empty", "5.3")]
 
@@ -593,10 +633,75 @@ def crl_entry_rules():
     yield with_entry(ce(29, issuer), more=(indirect,)), [error("entry_certificate_issuer_not_critical", "5.3.3")]
     for more in ((), (direct,)):
         yield with_entry(ce(29, issuer, True), more=more), [error("entry_certificate_issuer_not_indirect", "5.3.3")]
-    yield with_entry(ce(29, issuer, True), more=(ce(28, NULL, True),)), [error("extension_malformed", "5.2")]
+    yield with_entry(ce(29, issuer, True), more=(ce(28, NULL, True),)), [crl_malformed("issuingDistributionPoint")]
     yield with_entry(ce(29, issuer, True), more=(direct, direct)), [error("extension_repeated", "5.2")]
     yield with_entry(OTHER, OTHER), [error("entry_extension_repeated", "5.3")]
     yield crl(entries=sequence(entry_with(OTHER, serial=5), entry_with(OTHER))), []
+
+
+PKCS_9 = 1, 2, 840, 113549, 1, 9
+PASSWORD, REQUEST, UNSTRUCTURED_NAME = (object_identifier(*PKCS_9, number) for number in (7, 14, 2))
+
+
+def csr(subject=SUBJECT, attributes=(), extensions=None):
+    """A CSR (RFC 2986 4.2); with `extensions=None` it asks for none."""
+    if extensions is not None:
+        attributes = (*attributes, sequence(REQUEST, set_of(sequence(*extensions))))
+    return sequence(sequence(integer(0), subject, KEY, context(0, *sorted(attributes))), ECDSA_SHA256, SIGNATURE)
+
+
+def of_standard(severity, name, standard, section):
+    return f"{severity} {name} ({standard} {section})"
+
+
+def csr_rules():
+    """CSRs (RFC 2986 4.1, RFC 2985 5.4), their subjects and the extensions that they ask for (RFC 5280 4.1.2.6, 4.2)."""
+    san = ce(17, NAMES)
+    yield csr(), []
+    yield csr(extensions=(san, KU, OTHER)), []
+    yield csr(subject=sequence(set_of())), [error("subject_rdn_empty", "4.1.2.6")]
+    yield csr(subject=sequence(rdn((6, element(UTF8_STRING, b"DE"))))), [error("subject_country_name_invalid", "A.1")]
+    yield csr(subject=sequence(rdn((3, element(IA5_STRING, b"a"))))), [error("subject_text_type", "A.1")]
+    yield csr(subject=sequence(rdn((3, element(TELETEX_STRING, b"a"))))), [warning("subject_text_old_type", "4.1.2.6")]
+    yield csr(subject=common_name(b"\xff")), [error("subject_text_characters", "4.1.2.6")]
+    for count, findings in ((0, [error("subject_text_size", "A.1")]), (1, []), (64, []), (65, [error("subject_text_size", "A.1")])):
+        yield csr(subject=common_name(b"a" * count)), findings
+    nameless = [error("subject_empty_without_alt_name", "4.1.2.6")]
+    yield csr(subject=sequence()), nameless
+    yield csr(subject=sequence(), extensions=(KU,)), nameless
+    yield csr(subject=sequence(), extensions=(san,)), []
+    name = sequence(UNSTRUCTURED_NAME, set_of(element(UTF8_STRING, b"a")))
+    twice = sequence(UNSTRUCTURED_NAME, set_of(element(UTF8_STRING, b"b")))
+    yield csr(attributes=(name,)), []
+    yield csr(attributes=(name, twice)), [of_standard("warning", "attribute_repeated", "RFC 2986", "4.1")]
+    yield csr(attributes=(sequence(REQUEST, set_of(sequence(KU))), sequence(REQUEST, set_of(sequence(san))))), [
+        of_standard("warning", "attribute_repeated", "RFC 2986", "4.1")
+    ]
+    yield csr(attributes=(sequence(UNSTRUCTURED_NAME, set_of()),)), [of_standard("error", "attribute_values_empty", "RFC 2986", "4.1")]
+    one, other = element(UTF8_STRING, b"a"), element(PRINTABLE_STRING, b"b")
+    yield csr(attributes=(sequence(PASSWORD, set_of(one)),)), []
+    yield csr(attributes=(sequence(PASSWORD, set_of(one, other)),)), [of_standard("error", "challenge_password_several_values", "RFC 2985", "5.4.1")]
+    yield csr(attributes=(sequence(PASSWORD, set_of(NULL)),)), [of_standard("error", "challenge_password_malformed", "RFC 2985", "5.4.1")]
+    yield csr(attributes=(sequence(REQUEST, set_of(sequence(KU), sequence(san))),)), [
+        of_standard("error", "extension_request_several_values", "RFC 2985", "5.4.2")
+    ]
+    yield csr(attributes=(sequence(REQUEST, set_of(NULL)),)), [of_standard("error", "extension_request_malformed", "RFC 2985", "5.4.2")]
+    yield csr(extensions=()), [error("extensions_empty", "4.1.2.9")]
+    yield csr(extensions=(OTHER, OTHER)), [error("extension_repeated", "4.2")]
+    place = "certificationRequestInfo.attributes.extensionRequest"
+    for number, name in EXTENSIONS:
+        yield csr(extensions=(ce(number, NULL),)), [f"{error('extension_malformed', '4.2')}: {place}.{name}"]
+    for number, name in ((1, "authorityInfoAccess"), (11, "subjectInfoAccess")):
+        yield csr(extensions=(pe(number, NULL),)), [f"{error('extension_malformed', '4.2')}: {place}.{name}"]
+    for names, rule in (
+        (sequence(), "subject_alt_name_empty"),
+        (sequence(implicit(2, b"")), "subject_alt_name_empty_name"),
+        (sequence(implicit(2, b"a_b")), "subject_alt_name_dns_name_invalid"),
+        (sequence(implicit(7, bytes(5))), "subject_alt_name_address_length"),
+        (sequence(implicit(1, b"example.org")), "subject_alt_name_mailbox_invalid"),
+        (sequence(implicit(6, b"example.org")), "subject_alt_name_uri_relative"),
+    ):
+        yield csr(extensions=(ce(17, names),)), [error(rule, "4.2.1.6")]
 
 
 CERTIFICATE_RULES = (
@@ -605,6 +710,7 @@ CERTIFICATE_RULES = (
     text_rules,
     email_rules,
     list_rules,
+    malformed_rules,
     critical_rules,
     authority_rules,
     key_rules,
@@ -613,8 +719,9 @@ CERTIFICATE_RULES = (
     constraint_rules,
     point_rules,
 )
-USAGE = "usage: x509_linter [-v] [FILE..]\n"
-NO_OBJECT = "neither a certificate nor a CRL in DER or hex"
+USAGE = "usage: x509_linter [certificate|crl|csr] [-v|--json] [FILE..]\n"
+NO_OBJECT = "neither a certificate nor a CRL nor a CSR in DER or hex"
+KINDS = {"certificate": "a certificate", "crl": "a CRL", "csr": "a CSR"}
 
 
 def cases():
@@ -628,6 +735,8 @@ def cases():
     for rules in (crl_field_rules, crl_extension_rules, crl_entry_rules):
         for at, (data, findings) in enumerate(rules()):
             yield f"{rules.__name__} {at}", data, [f"crl: {it}\n" for it in findings]
+    for at, (data, findings) in enumerate(csr_rules()):
+        yield f"csr_rules {at}", data, [f"csr: {it}\n" for it in findings]
 
 
 def runs():
@@ -644,6 +753,44 @@ def runs():
     yield "findings, and no more is said", ["-v"], odd, line, 1
     weak, warned = certificate(extensions=(AKI, SKI, ce(15, DIGITAL_SIGNATURE))), "certificate: warning key_usage_not_critical (RFC 5280 4.2.1.3)\n"
     yield "a warning, and no more is said", ["-v"], weak, warned, 0
+    for kind, data in (("certificate", certificate()), ("crl", crl()), ("csr", csr())):
+        yield f"a {kind}, which is asked for", [kind, "-v"], data, "nothing found\n", 0
+    yield from json_runs()
+
+
+def told(file, kind, rule, severity, section, place, seen=""):
+    """A finding as a line of JSON, member by member."""
+    members = {"file": file, "object": kind, "rule": rule, "severity": severity, "section": section, "place": place, "seen": seen}
+    return json.dumps(members, ensure_ascii=False) + "\n"
+
+
+def json_runs():
+    """Runs with `--json`."""
+    file = "standard input"
+    yield "JSON of nothing found", ["--json"], certificate(), "", 0
+    number = told(file, "certificate", "serial_number_not_positive", "error", "RFC 5280 4.1.2.2", "tbsCertificate.serialNumber", "00")
+    yield "JSON of a serial number", ["--json"], certificate(serial=integer(0)), number, 1
+    long = integer(2**300)
+    seen = long[2:][:32].hex() + ".."
+    number = told(file, "certificate", "serial_number_too_long", "error", "RFC 5280 4.1.2.2", "tbsCertificate.serialNumber", seen)
+    yield "JSON of a long serial number", ["certificate", "--json"], certificate(serial=long), number, 1
+    weak = certificate(extensions=(AKI, SKI, ce(15, DIGITAL_SIGNATURE)))
+    usage = told(file, "certificate", "key_usage_not_critical", "warning", "RFC 5280 4.2.1.3", "tbsCertificate.extensions.keyUsage")
+    yield "JSON of a warning", ["--json"], weak, usage, 0
+    for count in (30, 31):
+        octets = octet_string(bytes(count))
+        seen = octets.hex() if count == 30 else octets[:32].hex() + ".."
+        place = "tbsCertificate.extensions.policyConstraints"
+        line = told(file, "certificate", "extension_malformed", "error", "RFC 5280 4.2", place, seen)
+        yield f"JSON of an extension of {count + 2} octets", ["--json"], ca_with(ce(36, octets, True)), line, 1
+    line = told(file, "crl", "extension_malformed", "error", "RFC 5280 5.2", "tbsCertList.crlExtensions.freshestCRL", "0500")
+    yield "JSON of a CRL", ["crl", "--json"], crl_with(ce(46, NULL)), line, 1
+    repeated = certificate(extensions=(*LEAF, ce(17, NAMES), ce(17, NULL)))
+    lines = told(file, "certificate", "extension_repeated", "error", "RFC 5280 4.2", "tbsCertificate.extensions")
+    lines += told(file, "certificate", "extension_malformed", "error", "RFC 5280 4.2", "tbsCertificate.extensions.subjectAltName", NAMES.hex())
+    yield "JSON of two findings", ["--json"], repeated, lines, 1
+    line = told(file, "csr", "attribute_values_empty", "error", "RFC 2986 4.1", "certificationRequestInfo.attributes")
+    yield "JSON of a CSR", ["--json"], csr(attributes=(sequence(UNSTRUCTURED_NAME, set_of()),)), line, 1
 
 
 def refused(program):
@@ -659,24 +806,32 @@ def refused(program):
     ):
         found = ended(program, [], data)
         yield name, found == (2, "", f"x509_linter: standard input: {NO_OBJECT}\n"), found
-    for name, words in (("-v twice", ["-v", "-v"]), ("two options", ["-v", "--json"]), ("-v with more behind it", ["-vv"])):
+    for name, words in (("-v twice", ["-v", "-v"]), ("two options", ["-v", "--json"]), ("--json twice", ["--json", "--json"]), ("-v with more behind it", ["-vv"])):
         found = ended(program, words, odd)
         yield name, found == (2, "", USAGE), found
+    for kind, data in (("certificate", crl()), ("crl", csr()), ("csr", odd)):
+        found = ended(program, [kind], data)
+        yield f"no {kind}", found == (2, "", f"x509_linter: standard input: not {KINDS[kind]} in DER or hex\n"), found
 
 
 def alike(program):
     """The runs that the programs over objects have to end alike, and those over several files with `-v`."""
     odd, line = certificate(serial=integer(0)), "certificate: error serial_number_not_positive (RFC 5280 4.1.2.2)\n"
-    objects = [(certificate(), "", 0), (odd, line, 1), (crl(), "", 0)]
+    objects = [(certificate(), "", 0), (odd, line, 1), (crl(), "", 0), (csr(), "", 0)]
     yield from refused(program)
     yield from Program(program, USAGE, NO_OBJECT, objects).checked()
     with tempfile.TemporaryDirectory() as folder:
-        paths = [f"{folder}/{at}" for at in range(3)]
+        paths = [f"{folder}/{at}" for at in range(4)]
         for path, (data, _, _) in zip(paths, objects):
             pathlib.Path(path).write_bytes(data)
         found = ended(program, [paths[0], "-v", *paths[1:]])
-        text = f"{paths[0]}:\nnothing found\n{paths[1]}:\n{line}{paths[2]}:\nnothing found\n"
+        text = f"{paths[0]}:\nnothing found\n{paths[1]}:\n{line}{paths[2]}:\nnothing found\n{paths[3]}:\nnothing found\n"
         yield "several files with -v", found == (1, text, ""), found
+        quoted = f'{folder}/a "quoted" \\ name'
+        pathlib.Path(quoted).write_bytes(odd)
+        found = ended(program, ["--json", paths[1], quoted, paths[2]])
+        rule = "certificate", "serial_number_not_positive", "error", "RFC 5280 4.1.2.2", "tbsCertificate.serialNumber", "00"
+        yield "several files with --json", found == (1, told(paths[1], *rule) + told(quoted, *rule), ""), found
 
 
 def main(program, folder):

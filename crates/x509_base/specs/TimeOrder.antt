@@ -20,6 +20,7 @@ use Rattle.x509_base.specs.TimeForms.{utc_time, generalized_time}
 use Rattle.x509_base.specs.Time.{time, time_lawful, date_time_of}
 use Rattle.x509_base.specs.declared.time.Time.{Time}
 use Rattle.x509_base.specs.declared.time.Time.TheVariants.{UtcTime, GeneralTime}
+use Rattle.x509_der.specs.PartOrder.{BeginsSo}
 
 -- the numbers of a date-time
 abbrev pub numbers_of : CivilTime → List ℕ
@@ -119,3 +120,9 @@ pub compared_contents : (t u : Time) (a b : List ℕ) → HasContent t a → Has
 compared_contents t u a b p q =
     let is = (time_ordered (writes plain)).agrees t u (has_encoding t p.0) (has_encoding u q.0) in
     rw (p.1, q.1) (sym is)
+
+-- ---- times as fields
+
+-- a time begins with one of the two identifier octets
+pub time_begins : BeginsSo time
+time_begins t good = let law : IsForm (λ _. ⊥) time = time_lawful in (law.tagged t good).0

@@ -11,9 +11,13 @@ use crate::DateTime;
 use crate::profile::{Profile, Rfc5280};
 use crate::time::Time;
 use std::alloc::Global;
+use std::cmp::Ordering;
 use std::marker::PhantomData;
 use std::time::Duration;
-use x509_der::{Content, Error, ErrorKind, PutPart, Room, Spelled, Tag, TryClone, end, read_field};
+use x509_der::{
+    CmpPart, Content, EncodingOrd, Error, ErrorKind, PutPart, Room, SetMember, SetOrd, Spelled,
+    Tag, TryClone, ValueOrd, both, end, read_field,
+};
 
 /// The validity of a certificate: the two dates between which it is valid, both included (RFC 5280 4.1.2.5). They are
 /// encoded as the profile says.
@@ -146,6 +150,33 @@ impl<P: Profile> Content for Validity<P> {
     }
 
     ghost contents_lawful = { grammar.validity_contents_lawful };
+}
+
+impl<P: Profile> ValueOrd for Validity<P> {
+    ghost use Rattle.x509_der.specs.Writing.{respelling};
+    ghost use Rattle.x509_base.specs.Validity as grammar;
+
+    ghost order = { grammar.validity_order };
+
+    fn value_cmp(&self, other: &Validity<P>) -> Ordering {
+        let parts = (
+            both(&self.not_before, &other.not_before),
+            both(&self.not_after, &other.not_after),
+        );
+        parts.cmp_part(None, None)
+    }
+
+    ghost ordered = { grammar.validity_ordered (respelling (grammar.respelled_validity P.time_of)) };
+}
+
+impl<P: Profile> SetOrd for Validity<P> {
+    ghost set_order = { ⟦<Validity<P> as EncodingOrd>⟧.encoding_order };
+}
+
+impl<P: Profile> SetMember for Validity<P> {
+    ghost use Rattle.std.specs.Prelude.{refl};
+
+    ghost in_der_order = { refl };
 }
 
 #[tactic(auto, unfolding(crate::specs::Validity::validity_fields, x509_der::specs::Frames::fields_good))]

@@ -9,6 +9,9 @@ ghost use Rattle.x509_build.specs.Parts.{Encodes};
 ghost use Rattle.x509_build.specs.declared.certificate_builder.CertificateBuilder as certificates;
 ghost use Rattle.x509_build.specs.declared.crl_builder.CrlBuilder as crls;
 ghost use Rattle.x509_build.specs.declared.request.request_builder.RequestBuilder as requests;
+ghost use Rattle.x509_build.specs.declared.error.KeyError as key_errors;
+ghost use Rattle.x509_build.specs.declared.error.SignError as sign_errors;
+ghost use Rattle.x509_build.specs.declared.profile.devid.TpmVersion as modules;
 ghost use Rattle.x509_build.specs.declared.profile.cabf.tls.CertificateType as types;
 ghost use Rattle.x509_build.specs.declared.profile.cabf.tls.DomainValidated as validated;
 ghost use Rattle.x509_der.specs.Form.{Spells};
@@ -23,8 +26,10 @@ ghost use Rattle.x509_prim.specs.BitString.{BitParts};
 use crate::Builder;
 use crate::certificate_builder::CertificateBuilder;
 use crate::crl_builder::CrlBuilder;
+use crate::error::{KeyError, SignError};
 use crate::profile::BuilderProfile;
 use crate::profile::cabf::tls::{CertificateType, DomainValidated};
+use crate::profile::devid::TpmVersion;
 use crate::request::RequestBuilder;
 use x509_base::Profile;
 use x509_der::{Encode, Spelled, laws};
@@ -73,6 +78,14 @@ pub fn what_is_signed_is_read_as_meant<T: Encode + Spelled, B: Builder<Signed = 
 pub fn equality_of_subscribers_is_exact()
     ensures kinds { (a b : types.CertificateType) → (⟦<CertificateType as PartialEq>⟧.eq a b ≡ true) ↔ (a ≡ b) }
     ensures domains { (a b : validated.DomainValidated) → (⟦<DomainValidated as PartialEq>⟧.eq a b ≡ true) ↔ (a ≡ b) }
+{}
+
+/// `==` of the versions of trusted platform modules, and of what signers refuse, holds exactly of equal values.
+#[tactic(auto, using(crate::specs::Equality::exact_tpm_version, crate::specs::Equality::exact_key_error, crate::specs::Equality::exact_sign_error))]
+pub fn equality_of_modules_and_refusals_is_exact()
+    ensures modules { (a b : modules.TpmVersion) → (⟦<TpmVersion as PartialEq>⟧.eq a b ≡ true) ↔ (a ≡ b) }
+    ensures keys { (a b : key_errors.KeyError) → (⟦<KeyError as PartialEq>⟧.eq a b ≡ true) ↔ (a ≡ b) }
+    ensures signing { (a b : sign_errors.SignError) → (⟦<SignError as PartialEq>⟧.eq a b ≡ true) ↔ (a ≡ b) }
 {}
 
 /// A text with escapes, behind the name of an attribute type and an equals sign, reads as the name of one attribute: of

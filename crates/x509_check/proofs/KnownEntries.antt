@@ -11,7 +11,7 @@ use Rattle.x509_der.specs.ElementReading.{Piece, piece_at}
 use Rattle.x509_der.specs.Form.{Spells, spelling}
 use Rattle.x509_der.specs.FrameLaws.{field_complete, field_sound}
 use Rattle.x509_der.specs.Frames.{field_at, fields_good, fields_octets, optional_octets}
-use Rattle.x509_der.specs.Outcome.{IsRefusal}
+use Rattle.x509_der.specs.Outcome.{◌>>=◌, IsRefusal}
 use Rattle.x509_der.specs.OutcomeLaws.{ok_is}
 use Rattle.x509_der.specs.TagLaws.{tag_is_identifier}
 use Rattle.x509_der.specs.declared.error.ErrorKind.{ErrorKind}
@@ -92,6 +92,28 @@ no_extensions bytes none (Some list) s = absurd (omega (arith, none, ap length s
 pub some_extensions : (bytes : List ℕ) → 1 ≤ length bytes → (list : Option (List Extension)) → SpellsOptional list bytes → (found : List Extension) × (list ≡ Some found) × Spells extensions found bytes
 some_extensions bytes some None s = absurd (omega (arith, some, ap length s))
 some_extensions bytes some (Some list) s = (list, refl, s)
+
+-- ---- what stands behind a field
+
+abbrev before : {X : Type 0} → List ℕ → X → Result (X × List ℕ) ErrorKind
+before behind value = Ok (value, behind)
+
+behind_value : {X : Type 0} (r : Result X ErrorKind) (behind rest : List ℕ) (v : X) → (r >>= before behind) ≡ Ok (v, rest) → behind ≡ rest
+behind_value {X} (Ok x) behind rest v e = ap (λ (p : X × List ℕ). p.1) (ok_is (x, behind) (v, rest) e)
+behind_value (Err d) behind rest v e = absurd cc
+
+module _ {X : Type 0} (read : ℕ → List ℕ → Result X ErrorKind) where
+  pub behind_field : (bytes rest : List ℕ) (v : X) (piece : Piece) → piece_at bytes ≡ Ok piece → field_at read bytes ≡ Ok (v, rest) → piece.rest ≡ rest
+  unfolding field_at
+  behind_field bytes rest v piece p e = behind_value (read piece.tag piece.content) piece.rest rest v (rw p at e)
+
+  piece_there : (r : Result Piece ErrorKind) (bytes rest : List ℕ) (v : X) → piece_at bytes ≡ r → field_at read bytes ≡ Ok (v, rest) → (piece : Piece) × (piece_at bytes ≡ Ok piece)
+  unfolding field_at
+  piece_there (Ok piece) bytes rest v p e = (piece, p)
+  piece_there (Err d) bytes rest v p e = absurd (let k = rw p at e in cc)
+
+  pub piece_of_field : (bytes rest : List ℕ) (v : X) → field_at read bytes ≡ Ok (v, rest) → (piece : Piece) × (piece_at bytes ≡ Ok piece)
+  piece_of_field bytes rest v e = piece_there (piece_at bytes) bytes rest v refl e
 
 -- ---- an entry
 

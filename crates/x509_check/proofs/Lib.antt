@@ -1,6 +1,7 @@
 pub mod CheckedEntries
 pub mod Checks
 pub mod KnownEntries
+pub mod KnownExtensions
 pub mod LentLists
 pub mod LentCertificates
 pub mod LentEntries

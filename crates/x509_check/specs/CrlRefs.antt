@@ -8,10 +8,11 @@ use Rattle.x509_cert.specs.declared.crl.certificate_list.CertificateList.{Certif
 use Rattle.x509_cert.specs.declared.certificate.version.Version.{Version}
 use Rattle.x509_cert.specs.declared.crl.revoked_cert.RevokedCert.{RevokedCert}
 use Rattle.x509_cert.specs.declared.crl.tbs_cert_list.TbsCertList.{TbsCertList}
-use Rattle.x509_cert.specs.RevokedCert.{revoked_cert}
+use Rattle.x509_cert.specs.RevokedCert.{revoked_cert, revoked_cert_contents}
 use Rattle.x509_check.specs.ExtensionRefs.{extensions_left}
 use Rattle.x509_check.specs.Lending.{listed}
 use Rattle.x509_check.specs.declared.lent.entry.RevokedCertRef.{RevokedCertRef}
+use Rattle.x509_check.specs.declared.lent.extensions.ExtensionRefs.{ExtensionRefs}
 use Rattle.x509_check.specs.declared.lent.revoked.ListFields.{ListFields}
 use Rattle.x509_check.specs.declared.lent.revoked.ListParts.{ListParts}
 use Rattle.x509_der.specs.Form.{Form, spelling, universal, whole_reading}
@@ -30,6 +31,12 @@ lent_entry e = record {
   revocation_date = e.revocation_date;
   crl_entry_extensions = option_map extensions_left e.crl_entry_extensions;
 }
+
+-- what is lent of the entry where its date isn't decoded: the octets of its content, the number, and the extensions
+pub record IsUndated {P : Type 0} (check : List ℕ → Result Unit ErrorKind) (octets number : List ℕ) (lent : Option ExtensionRefs) (entry : RevokedCert P) : Type 0 where
+  pub read : (revoked_cert_contents check).reading octets ≡ Ok entry
+  pub number_is : number ≡ entry.serial_number
+  pub extensions_are : option_map extensions_left lent ≡ entry.crl_entry_extensions
 
 -- What a look-up answers: the first of these entries with the number, or None exactly where none has it.
 abbrev pub FindsEntry : {P : Type 0} → List ℕ → List (RevokedCert P) → Option RevokedCertRef → Type 0

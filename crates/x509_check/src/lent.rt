@@ -11,3 +11,4 @@ pub(crate) mod extensions;
 mod fields;
 mod look_up;
 pub(crate) mod revoked;
+pub(crate) mod undated;

@@ -45,6 +45,7 @@ pub use lent::entry::RevokedCertRef;
 pub use lent::extension::ExtensionRef;
 pub use lent::extensions::ExtensionRefs;
 pub use lent::revoked::find_revoked;
+pub use lent::undated::UndatedCertRef;
 pub use list::check_members;
 pub use newtypes::NewtypeCheck;
 pub use set::{CheckMember, check_rising_members};

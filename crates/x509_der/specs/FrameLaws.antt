@@ -228,19 +228,19 @@ apart_at t (s ∷ a) b h i =
       | inr other ↦ rw other (apart_at t a b p.1 i)
     ]
 
-clear_left : (a b rest : List ℕ) → IsClearOf (a ++ b) rest → IsClearOf a rest
+pub clear_left : (a b rest : List ℕ) → IsClearOf (a ++ b) rest → IsClearOf a rest
 clear_left a b [] h = tt
 clear_left a b (t ∷ rest) h = (in_neither t a b h).0
 
-clear_right : (a b rest : List ℕ) → IsClearOf (a ++ b) rest → IsClearOf b rest
+pub clear_right : (a b rest : List ℕ) → IsClearOf (a ++ b) rest → IsClearOf b rest
 clear_right a b [] h = tt
 clear_right a b (t ∷ rest) h = (in_neither t a b h).1
 
-clear_before : (avoids starts text rest : List ℕ) → are_apart avoids starts ≡ true → BeginsIn starts text → IsClearOf avoids rest → IsClearOf avoids (text ++ rest)
+pub clear_before : (avoids starts text rest : List ℕ) → are_apart avoids starts ≡ true → BeginsIn starts text → IsClearOf avoids rest → IsClearOf avoids (text ++ rest)
 clear_before avoids starts text rest apart nothing h = h
 clear_before avoids starts text rest apart (begins t bytes i) h = apart_at t avoids starts apart i
 
-begins_append : (a b x y : List ℕ) → BeginsIn a x → BeginsIn b y → BeginsIn (a ++ b) (x ++ y)
+pub begins_append : (a b x y : List ℕ) → BeginsIn a x → BeginsIn b y → BeginsIn (a ++ b) (x ++ y)
 begins_append a b x y nothing nothing = nothing
 begins_append a b x y nothing (begins t bytes i) = begins t bytes (in_right t a b i)
 begins_append a b x y (begins t bytes i) other = begins t (bytes ++ y) (in_left t a b i)

@@ -44,6 +44,7 @@ pub mod ListWriting
 pub mod SpelledLists
 pub mod ListOrder
 pub mod FieldsOrder
+pub mod PartOrder
 pub mod Choice
 pub mod Cases
 pub mod ChoiceWriting
@@ -54,6 +55,7 @@ pub mod Stored
 pub mod Subidentifiers
 pub mod ArcLaws
 pub mod ObjectIdentifierForm
+pub mod OrderRules
 pub mod Set
 pub mod SetLaws
 pub mod Members

@@ -66,6 +66,11 @@ pub use natural::{put_natural, read_natural};
 pub use newtype::Newtype;
 pub use oid::associated::AssociatedOid;
 pub use oid::identifier::ObjectIdentifier;
+pub use order::fields::{
+    CmpElement, CmpPart, OptionalFields, RequiredFields, RetaggedValue, WrappedValue, both,
+    both_defaulted, both_defaulted_explicit, both_defaulted_implicit, both_explicit, both_implicit,
+    both_optional, both_optional_explicit, both_optional_implicit,
+};
 pub use order::member::{EncodingOrd, SetMember, SetOrd};
 pub use order::members::{cmp_members, cmp_optional};
 pub use order::newtype::NewtypeOrd;

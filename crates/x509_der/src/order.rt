@@ -7,6 +7,7 @@ ghost use Rattle.x509_der.specs.Order.{counted};
 use crate::Encode;
 use std::cmp::Ordering;
 
+pub(crate) mod fields;
 pub(crate) mod member;
 pub(crate) mod members;
 pub(crate) mod newtype;

@@ -1,5 +1,5 @@
 -- HardwareModuleName: hw_type: OBJECT IDENTIFIER, hw_serial_num: OCTET STRING (RFC 4108 5)
-use Rattle.std.specs.Prelude.{◌≡◌, ◌≢◌, ℕ, ◌⊎◌, List, Option, None, Result, Ok, IfOk, IfErr, IsSomeAnd}
+use Rattle.std.specs.Prelude.{◌≡◌, ◌≢◌, ℕ, ◌⊎◌, List, Option, None, Result, Ok, IfOk, IfErr, IsSomeAnd, refl}
 use Rattle.x509_der.specs.Element.{element}
 use Rattle.x509_der.specs.Tag.{octet_of}
 use Rattle.x509_der.specs.declared.error.Error.{Error}
@@ -11,10 +11,15 @@ use Rattle.x509_der.specs.Frames.{Part, required, ◌⊗◌, fields}
 use Rattle.x509_der.specs.PartRules.{part_rules}
 use Rattle.x509_der.specs.declared.any.Any.{Any}
 use Rattle.x509_der.specs.ObjectIdentifierForm.{object_identifier, object_identifier_lawful}
-use Rattle.x509_prim.specs.OctetString.{octet_string, octet_string_lawful}
+use Rattle.x509_prim.specs.OctetString.{octet_string, octet_string_lawful, octet_string_ordered}
 use Rattle.x509_ext.specs.Identifiers.{id_pkix}
 use Rattle.x509_ext.specs.declared.pkix.name.hardware_module_name.HardwareModuleName.{HardwareModuleName}
 use Rattle.x509_ext.specs.declared.pkix.name.other_name.OtherName.{OtherName}
+use Rattle.x509_der.specs.Writing.{plain, writes}
+use Rattle.x509_der.specs.Order.{Order, IsOrder}
+use Rattle.x509_der.specs.Ordered.{by_bytes}
+use Rattle.x509_der.specs.PartOrder.{PartOrder, by_parts, by_required, ◌⊕◌, plain_parts_ordered}
+use Rattle.x509_der.specs.OrderRules.{order_rules}
 
 unfoldable pub hardware_module_name_fields : Part (List ℕ × List ℕ)
 hardware_module_name_fields = required object_identifier ⊗ required octet_string
@@ -46,3 +51,15 @@ pub record ReadsHardwareModule (other : OtherName) (answer : Result (Option Hard
   pub found : other.type_id ≡ id_on_hardware_module_name → IfOk answer (λ found. IsSomeAnd found (λ hardware. hardware_module_name.good hardware × IsModuleIn hardware other.value))
   pub every : other.type_id ≡ id_on_hardware_module_name → (hardware : HardwareModuleName) → hardware_module_name.good hardware → IsModuleIn hardware other.value → IfErr answer (λ e. e.kind ≡ Memory)
   pub refused : IfErr answer (λ e. (other.type_id ≡ id_on_hardware_module_name) × ((e.kind ≡ Memory) ⊎ (e.kind ≡ Malformed)))
+
+-- ---- the byte order
+
+abbrev pub hardware_module_name_cmp : PartOrder (List ℕ × List ℕ)
+hardware_module_name_cmp = by_required object_identifier plain (by_bytes object_identifier) ⊕ by_required octet_string plain (by_bytes octet_string)
+
+abbrev pub hardware_module_name_order : Order HardwareModuleName
+hardware_module_name_order = by_parts (λ h. (h.hw_type, h.hw_serial_num)) hardware_module_name_cmp
+
+pub hardware_module_name_ordered : IsOrder hardware_module_name (writes plain) hardware_module_name_order
+unfolding hardware_module_name_fields
+hardware_module_name_ordered = plain_parts_ordered Sequence _ _ hardware_module_name_cmp (λ v. refl) refl (search (order_rules, octet_string_ordered) depth 20)

@@ -11,6 +11,11 @@ use Rattle.x509_der.specs.declared.tag.Tag.TheVariants.{Sequence}
 use Rattle.x509_der.specs.List.{list_of}
 use Rattle.x509_der.specs.Round.{Round, rounded}
 use Rattle.x509_ext.specs.declared.pkix.policy_mapping.PolicyMappings.{PolicyMappings}
+use Rattle.x509_der.specs.Writing.{plain, writes}
+use Rattle.x509_der.specs.Order.{Order, IsOrder}
+use Rattle.x509_der.specs.Ordered.{by_bytes}
+use Rattle.x509_der.specs.PartOrder.{PartOrder, by_parts, by_required, ◌⊕◌, plain_parts_ordered}
+use Rattle.x509_der.specs.OrderRules.{order_rules}
 
 unfoldable pub policy_mapping_fields : Part (List ℕ × List ℕ)
 policy_mapping_fields = required object_identifier ⊗ required object_identifier
@@ -30,3 +35,15 @@ policy_mappings = rounded policy_mappings_round Sequence (universal Sequence (li
 pub policy_mapping_contents_lawful : {R : ErrorKind → Type 0} → IsContents R policy_mapping_contents
 unfolding policy_mapping_fields
 policy_mapping_contents_lawful = search (part_rules, object_identifier_lawful) depth 20
+
+-- ---- the byte order
+
+abbrev pub policy_mapping_cmp : PartOrder (List ℕ × List ℕ)
+policy_mapping_cmp = by_required object_identifier plain (by_bytes object_identifier) ⊕ by_required object_identifier plain (by_bytes object_identifier)
+
+abbrev pub policy_mapping_order : Order PolicyMapping
+policy_mapping_order = by_parts (λ m. (m.issuer_domain_policy, m.subject_domain_policy)) policy_mapping_cmp
+
+pub policy_mapping_ordered : IsOrder policy_mapping (writes plain) policy_mapping_order
+unfolding policy_mapping_fields
+policy_mapping_ordered = plain_parts_ordered Sequence _ _ policy_mapping_cmp (λ v. refl) refl (search (order_rules) depth 20)

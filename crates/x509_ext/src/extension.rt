@@ -1,9 +1,11 @@
 //! Extensions, whose values aren't decoded further.
 
 use std::alloc::Global;
+use std::cmp::Ordering;
 use x509_der::{
-    Content, Error, ObjectIdentifier, PutPart, Room, SequenceOf, Spelled, Tag, TryClone, defaulted,
-    end, read_defaulted, read_field,
+    CmpPart, Content, EncodingOrd, Error, ObjectIdentifier, PutPart, Room, SequenceOf, SetMember,
+    SetOrd, Spelled, Tag, TryClone, ValueOrd, both, both_defaulted, defaulted, end, read_defaulted,
+    read_field,
 };
 use x509_prim::OctetString;
 
@@ -76,6 +78,35 @@ impl Content for Extension {
     }
 
     ghost contents_lawful = { grammar.extension_contents_lawful };
+}
+
+impl ValueOrd for Extension {
+    ghost use Rattle.x509_ext.specs.Extension as grammar;
+
+    ghost order = { grammar.extension_order };
+
+    fn value_cmp(&self, other: &Extension) -> Ordering {
+        let parts = (
+            both(&self.extn_id, &other.extn_id),
+            (
+                both_defaulted(&self.critical, &other.critical),
+                both(&self.extn_value, &other.extn_value),
+            ),
+        );
+        parts.cmp_part(None, None)
+    }
+
+    ghost ordered = { grammar.extension_ordered };
+}
+
+impl SetOrd for Extension {
+    ghost set_order = { ⟦<Extension as EncodingOrd>⟧.encoding_order };
+}
+
+impl SetMember for Extension {
+    ghost use Rattle.std.specs.Prelude.{refl};
+
+    ghost in_der_order = { refl };
 }
 
 #[tactic(auto, unfolding(crate::specs::Extension::extension_fields, x509_der::specs::Frames::fields_good))]

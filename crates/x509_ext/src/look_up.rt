@@ -68,7 +68,7 @@ pub fn get_extension<T: AssociatedOid + Decode>(
 }
 
 /// Up to so many extensions are each compared with those that follow it; of more the OIDs are sorted.
-const FEW: usize = 16;
+const MAX_PAIRED: usize = 16;
 
 /// Whether two or more of the extensions have one OID. O(n²) comparisons.
 fn is_any_repeated(extensions: &[Extension]) -> bool
@@ -93,7 +93,7 @@ pub fn has_repeated_extension(alloc: Global, extensions: &[Extension]) -> Result
     ensures ok { IfOk result (λ repeated. IsTrue repeated ↔ IsRepeated extensions.now) }
     ensures err { IfErr result (λ e. e.kind ≡ Memory) }
 {
-    if extensions.len() <= FEW {
+    if extensions.len() <= MAX_PAIRED {
         return Ok(is_any_repeated(extensions));
     }
     let mut identifiers = Vec::with_capacity(alloc, extensions.len())?;

@@ -37,8 +37,8 @@ pub trait ToExtension: Sized {
         ensures { makes self subject.now extensions.now result };
 }
 
-/// The encoding of a value of at most so many octets takes no memory.
-const SHORT: usize = 24;
+/// A payload of at most so many octets is encoded on the stack, so that the extension takes memory for just its length.
+const MAX_ON_STACK: usize = 512;
 
 /// The extension that holds the encoding of the value.
 fn hold<T: Encode>(
@@ -49,7 +49,7 @@ fn hold<T: Encode>(
 ) -> Result<Extension, Error>
     ensures { Makes extn_id critical T.form (writes T.writing payload.now) result }
 {
-    let mut short = [0; SHORT];
+    let mut short = [0; MAX_ON_STACK];
     if let Ok(octets) = payload.encode_to_slice(&mut short) {
         return Ok(Extension {
             extn_id,

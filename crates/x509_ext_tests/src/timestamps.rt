@@ -4,7 +4,7 @@ use crate::calls::{gives, is_made, is_printed, prints, shows};
 use std::test::*;
 use x509_der::{Decode, Error as DerError, ErrorKind};
 use x509_prim::OctetString;
-use x509_sct::tls::{NamedByte, TlsByteVecU16, TlsError};
+use x509_sct::tls::{NamedByte, Tls, TlsByteVecU16, TlsError};
 use x509_sct::{
     CtPrecertificatePoison, DigitallySigned, Error, HashAlgorithm, LogId, PreCert, SerializedSct,
     SignatureAlgorithm, SignatureAndHashAlgorithm, SignatureType, SignedCertificateTimestamp,

@@ -1,12 +1,12 @@
 -- The rules on the alternative names of the subject and the issuer (RFC 5280 4.2.1.6, 4.2.1.7): what breaks each, their order, and how each is told.
 use Rattle.std.specs.Prelude.{Option, ◌&&◌, ◌||◌, ◌==◌, ◌-◌, ℕ, Bool, true, false, not, nat_le, List, [], ◌∷◌, length, codes, if◌then◌else◌}
 use Rattle.std.specs.List.{list_all, list_any, slice_get, slice_split}
-use Rattle.x509_cert.specs.ext.declared.pkix.name.general_name.GeneralName.{GeneralName}
-use Rattle.x509_cert.specs.ext.declared.pkix.name.general_name.GeneralName.TheVariants.{OtherName, Rfc822Name, DnsName, DirectoryName, EdiPartyName, UniformResourceIdentifier, IpAddress, RegisteredId}
+use Rattle.x509_ext.specs.declared.pkix.name.general_name.GeneralName.{GeneralName}
+use Rattle.x509_ext.specs.declared.pkix.name.general_name.GeneralName.TheVariants.{OtherName, Rfc822Name, DnsName, DirectoryName, EdiPartyName, UniformResourceIdentifier, IpAddress, RegisteredId}
 use Rattle.x509_lint.specs.Name.{is_letter}
-use Rattle.x509_cert.specs.ext.Identifiers.{id_ce}
-use Rattle.x509_cert.specs.ext.declared.extension.Extension.{Extension}
-use Rattle.x509_cert.specs.ext.declared.pkix.alternative_names.SubjectAltName.{SubjectAltName}
+use Rattle.x509_ext.specs.Identifiers.{id_ce}
+use Rattle.x509_ext.specs.declared.extension.Extension.{Extension}
+use Rattle.x509_ext.specs.declared.pkix.alternative_names.SubjectAltName.{SubjectAltName}
 use Rattle.x509_lint.specs.Text.{has_email}
 use Rattle.x509_lint.specs.Words.{Certificate, extensions_of, has, is_empty, passes}
 use Rattle.x509_lint.specs.declared.values.AlternativeValues.{AlternativeValues}
@@ -146,16 +146,16 @@ abbrev pub alternative_rules : List AlternativeRule
 alternative_rules = SubjectEmailNotInAltName ∷ SubjectAltNameEmpty ∷ SubjectAltNameEmptyName ∷ SubjectAltNameDnsNameInvalid ∷ SubjectAltNameAddressLength ∷ SubjectAltNameMailboxInvalid ∷ SubjectAltNameUriRelative ∷ IssuerAltNameEmpty ∷ IssuerAltNameEmptyName ∷ IssuerAltNameDnsNameInvalid ∷ IssuerAltNameAddressLength ∷ IssuerAltNameMailboxInvalid ∷ IssuerAltNameUriRelative ∷ []
 
 abbrev pub alternative_wording : AlternativeRule → Wording
-alternative_wording SubjectEmailNotInAltName = must (codes "subject_email_not_in_alt_name") (codes "4.1.2.6")
-alternative_wording SubjectAltNameEmpty = must (codes "subject_alt_name_empty") (codes "4.2.1.6")
-alternative_wording SubjectAltNameEmptyName = must (codes "subject_alt_name_empty_name") (codes "4.2.1.6")
-alternative_wording SubjectAltNameDnsNameInvalid = must (codes "subject_alt_name_dns_name_invalid") (codes "4.2.1.6")
-alternative_wording SubjectAltNameAddressLength = must (codes "subject_alt_name_address_length") (codes "4.2.1.6")
-alternative_wording SubjectAltNameMailboxInvalid = must (codes "subject_alt_name_mailbox_invalid") (codes "4.2.1.6")
-alternative_wording SubjectAltNameUriRelative = must (codes "subject_alt_name_uri_relative") (codes "4.2.1.6")
-alternative_wording IssuerAltNameEmpty = must (codes "issuer_alt_name_empty") (codes "4.2.1.7")
-alternative_wording IssuerAltNameEmptyName = must (codes "issuer_alt_name_empty_name") (codes "4.2.1.7")
-alternative_wording IssuerAltNameDnsNameInvalid = must (codes "issuer_alt_name_dns_name_invalid") (codes "4.2.1.7")
-alternative_wording IssuerAltNameAddressLength = must (codes "issuer_alt_name_address_length") (codes "4.2.1.7")
-alternative_wording IssuerAltNameMailboxInvalid = must (codes "issuer_alt_name_mailbox_invalid") (codes "4.2.1.7")
-alternative_wording IssuerAltNameUriRelative = must (codes "issuer_alt_name_uri_relative") (codes "4.2.1.7")
+alternative_wording SubjectEmailNotInAltName = must (codes "subject_email_not_in_alt_name") (codes "4.1.2.6") (codes "tbsCertificate.extensions.subjectAltName")
+alternative_wording SubjectAltNameEmpty = must (codes "subject_alt_name_empty") (codes "4.2.1.6") (codes "tbsCertificate.extensions.subjectAltName")
+alternative_wording SubjectAltNameEmptyName = must (codes "subject_alt_name_empty_name") (codes "4.2.1.6") (codes "tbsCertificate.extensions.subjectAltName")
+alternative_wording SubjectAltNameDnsNameInvalid = must (codes "subject_alt_name_dns_name_invalid") (codes "4.2.1.6") (codes "tbsCertificate.extensions.subjectAltName")
+alternative_wording SubjectAltNameAddressLength = must (codes "subject_alt_name_address_length") (codes "4.2.1.6") (codes "tbsCertificate.extensions.subjectAltName")
+alternative_wording SubjectAltNameMailboxInvalid = must (codes "subject_alt_name_mailbox_invalid") (codes "4.2.1.6") (codes "tbsCertificate.extensions.subjectAltName")
+alternative_wording SubjectAltNameUriRelative = must (codes "subject_alt_name_uri_relative") (codes "4.2.1.6") (codes "tbsCertificate.extensions.subjectAltName")
+alternative_wording IssuerAltNameEmpty = must (codes "issuer_alt_name_empty") (codes "4.2.1.7") (codes "tbsCertificate.extensions.issuerAltName")
+alternative_wording IssuerAltNameEmptyName = must (codes "issuer_alt_name_empty_name") (codes "4.2.1.7") (codes "tbsCertificate.extensions.issuerAltName")
+alternative_wording IssuerAltNameDnsNameInvalid = must (codes "issuer_alt_name_dns_name_invalid") (codes "4.2.1.7") (codes "tbsCertificate.extensions.issuerAltName")
+alternative_wording IssuerAltNameAddressLength = must (codes "issuer_alt_name_address_length") (codes "4.2.1.7") (codes "tbsCertificate.extensions.issuerAltName")
+alternative_wording IssuerAltNameMailboxInvalid = must (codes "issuer_alt_name_mailbox_invalid") (codes "4.2.1.7") (codes "tbsCertificate.extensions.issuerAltName")
+alternative_wording IssuerAltNameUriRelative = must (codes "issuer_alt_name_uri_relative") (codes "4.2.1.7") (codes "tbsCertificate.extensions.issuerAltName")

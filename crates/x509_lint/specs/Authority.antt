@@ -1,11 +1,11 @@
 -- The rules on what makes a certificate one of a certification authority (RFC 5280 4.2.1.3, 4.2.1.9): what breaks each, their order, and how each is told.
 use Rattle.std.specs.Prelude.{◌&&◌, ◌||◌, ◌==◌, ℕ, length, nat_lt, Bool, not, List, [], ◌∷◌, Option, codes, is_some}
-use Rattle.x509_cert.specs.ext.KeyUsage.{has_bit}
-use Rattle.x509_cert.specs.ext.declared.extension.Extension.{Extension}
-use Rattle.x509_cert.specs.prim.Integer.{without_zeros}
-use Rattle.x509_cert.specs.ext.declared.pkix.basic_constraints.BasicConstraints.{BasicConstraints}
-use Rattle.x509_cert.specs.ext.declared.pkix.key_usage.KeyUsage.{KeyUsage}
-use Rattle.x509_cert.specs.ext.Identifiers.{id_ce}
+use Rattle.x509_ext.specs.KeyUsage.{has_bit}
+use Rattle.x509_ext.specs.declared.extension.Extension.{Extension}
+use Rattle.x509_prim.specs.Integer.{without_zeros}
+use Rattle.x509_ext.specs.declared.pkix.basic_constraints.BasicConstraints.{BasicConstraints}
+use Rattle.x509_ext.specs.declared.pkix.key_usage.KeyUsage.{KeyUsage}
+use Rattle.x509_ext.specs.Identifiers.{id_ce}
 use Rattle.x509_lint.specs.Words.{Certificate, extensions_of, has, has_uncritical, is_empty, passes}
 use Rattle.x509_lint.specs.declared.basic_constraints.AnyBasicConstraints.{AnyBasicConstraints}
 use Rattle.x509_lint.specs.declared.values.AuthorityValues.{AuthorityValues}
@@ -52,15 +52,15 @@ abbrev pub authority_rules : List AuthorityRule
 authority_rules = CaSubjectEmpty ∷ CrlIssuerSubjectEmpty ∷ CaWithoutSubjectKeyIdentifier ∷ SubjectKeyIdentifierAbsent ∷ CaWithoutKeyUsage ∷ KeyUsageEmpty ∷ CaWithoutKeyCertSign ∷ KeyCertSignWithoutCa ∷ CaBasicConstraintsNotCritical ∷ PathLenWithoutCa ∷ PathLenNotJudged ∷ NameConstraintsInLeaf ∷ []
 
 abbrev pub authority_wording : AuthorityRule → Wording
-authority_wording CaSubjectEmpty = must (codes "ca_subject_empty") (codes "4.1.2.6")
-authority_wording CrlIssuerSubjectEmpty = must (codes "crl_issuer_subject_empty") (codes "4.1.2.6")
-authority_wording CaWithoutSubjectKeyIdentifier = must (codes "ca_without_subject_key_identifier") (codes "4.2.1.2")
-authority_wording SubjectKeyIdentifierAbsent = should (codes "subject_key_identifier_absent") (codes "4.2.1.2")
-authority_wording CaWithoutKeyUsage = must (codes "ca_without_key_usage") (codes "4.2.1.3")
-authority_wording KeyUsageEmpty = must (codes "key_usage_empty") (codes "4.2.1.3")
-authority_wording CaWithoutKeyCertSign = must (codes "ca_without_key_cert_sign") (codes "4.2.1.3")
-authority_wording KeyCertSignWithoutCa = must (codes "key_cert_sign_without_ca") (codes "4.2.1.9")
-authority_wording CaBasicConstraintsNotCritical = must (codes "ca_basic_constraints_not_critical") (codes "4.2.1.9")
-authority_wording PathLenWithoutCa = must (codes "path_len_without_ca") (codes "4.2.1.9")
-authority_wording PathLenNotJudged = not_judged (codes "path_len_above_255") (codes "4.2.1.9")
-authority_wording NameConstraintsInLeaf = must (codes "name_constraints_in_leaf") (codes "4.2.1.10")
+authority_wording CaSubjectEmpty = must (codes "ca_subject_empty") (codes "4.1.2.6") (codes "tbsCertificate.subject")
+authority_wording CrlIssuerSubjectEmpty = must (codes "crl_issuer_subject_empty") (codes "4.1.2.6") (codes "tbsCertificate.subject")
+authority_wording CaWithoutSubjectKeyIdentifier = must (codes "ca_without_subject_key_identifier") (codes "4.2.1.2") (codes "tbsCertificate.extensions.subjectKeyIdentifier")
+authority_wording SubjectKeyIdentifierAbsent = should (codes "subject_key_identifier_absent") (codes "4.2.1.2") (codes "tbsCertificate.extensions.subjectKeyIdentifier")
+authority_wording CaWithoutKeyUsage = must (codes "ca_without_key_usage") (codes "4.2.1.3") (codes "tbsCertificate.extensions.keyUsage")
+authority_wording KeyUsageEmpty = must (codes "key_usage_empty") (codes "4.2.1.3") (codes "tbsCertificate.extensions.keyUsage")
+authority_wording CaWithoutKeyCertSign = must (codes "ca_without_key_cert_sign") (codes "4.2.1.3") (codes "tbsCertificate.extensions.keyUsage")
+authority_wording KeyCertSignWithoutCa = must (codes "key_cert_sign_without_ca") (codes "4.2.1.9") (codes "tbsCertificate.extensions.keyUsage")
+authority_wording CaBasicConstraintsNotCritical = must (codes "ca_basic_constraints_not_critical") (codes "4.2.1.9") (codes "tbsCertificate.extensions.basicConstraints")
+authority_wording PathLenWithoutCa = must (codes "path_len_without_ca") (codes "4.2.1.9") (codes "tbsCertificate.extensions.basicConstraints")
+authority_wording PathLenNotJudged = not_judged (codes "path_len_above_255") (codes "4.2.1.9") (codes "tbsCertificate.extensions.basicConstraints")
+authority_wording NameConstraintsInLeaf = must (codes "name_constraints_in_leaf") (codes "4.2.1.10") (codes "tbsCertificate.extensions.nameConstraints")

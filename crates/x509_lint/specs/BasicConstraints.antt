@@ -1,7 +1,7 @@
 -- BasicConstraints with a path length of any size: ca: BOOLEAN=FALSE, path_len_constraint: INTEGER (0..MAX)? (RFC 5280 4.2.1.9)
 use Rattle.std.specs.Prelude.{ℕ, Bool, List, Option}
-use Rattle.x509_cert.specs.prim.Integer.{unsigned_integer}
-use Rattle.x509_cert.specs.prim.IntegerLaws.{unsigned_integer_lawful}
+use Rattle.x509_prim.specs.Integer.{unsigned_integer}
+use Rattle.x509_prim.specs.IntegerLaws.{unsigned_integer_lawful}
 use Rattle.x509_der.specs.declared.error.ErrorKind.{ErrorKind}
 use Rattle.x509_der.specs.declared.tag.Tag.TheVariants.{Sequence}
 use Rattle.x509_der.specs.Form.{Form, Contents, IsContents, universal}

@@ -1,10 +1,10 @@
 -- The rules on name constraints (RFC 5280 4.2.1.10): what breaks each, their order, and how each is told.
 use Rattle.std.specs.Prelude.{◌&&◌, ◌||◌, ◌==◌, ◌/◌, ℕ, Bool, true, false, not, List, [], ◌∷◌, length, drop, codes, is_some, if◌then◌else◌}
 use Rattle.std.specs.List.{list_all, list_any, slice_split}
-use Rattle.x509_cert.specs.ext.declared.pkix.general_subtree.GeneralSubtree.{GeneralSubtree}
-use Rattle.x509_cert.specs.ext.declared.pkix.name_constraints.NameConstraints.{NameConstraints}
-use Rattle.x509_cert.specs.ext.declared.pkix.name.general_name.GeneralName.{GeneralName}
-use Rattle.x509_cert.specs.ext.declared.pkix.name.general_name.GeneralName.TheVariants.{OtherName, Rfc822Name, DnsName, DirectoryName, EdiPartyName, UniformResourceIdentifier, IpAddress, RegisteredId}
+use Rattle.x509_ext.specs.declared.pkix.general_subtree.GeneralSubtree.{GeneralSubtree}
+use Rattle.x509_ext.specs.declared.pkix.name_constraints.NameConstraints.{NameConstraints}
+use Rattle.x509_ext.specs.declared.pkix.name.general_name.GeneralName.{GeneralName}
+use Rattle.x509_ext.specs.declared.pkix.name.general_name.GeneralName.TheVariants.{OtherName, Rfc822Name, DnsName, DirectoryName, EdiPartyName, UniformResourceIdentifier, IpAddress, RegisteredId}
 use Rattle.x509_lint.specs.Alternative.{is_label}
 use Rattle.x509_lint.specs.declared.names.BaseFault.{BaseFault}
 use Rattle.x509_lint.specs.declared.names.BaseFault.TheVariants.{OtherForm, NoHost, NoRange, OddMask}
@@ -83,11 +83,11 @@ abbrev pub constraint_rules : List ConstraintRule
 constraint_rules = NameConstraintsEmpty ∷ NameConstraintsOtherForm ∷ NameConstraintsSubtreesEmpty ∷ NameConstraintsMinimum ∷ NameConstraintsMaximum ∷ NameConstraintsUriInvalid ∷ NameConstraintsAddressLength ∷ NameConstraintsAddressMask ∷ []
 
 abbrev pub constraint_wording : ConstraintRule → Wording
-constraint_wording NameConstraintsEmpty = must (codes "name_constraints_empty") (codes "4.2.1.10")
-constraint_wording NameConstraintsOtherForm = should (codes "name_constraints_other_form") (codes "4.2.1.10")
-constraint_wording NameConstraintsSubtreesEmpty = must (codes "name_constraints_subtrees_empty") (codes "4.2.1.10")
-constraint_wording NameConstraintsMinimum = must (codes "name_constraints_minimum") (codes "4.2.1.10")
-constraint_wording NameConstraintsMaximum = must (codes "name_constraints_maximum") (codes "4.2.1.10")
-constraint_wording NameConstraintsUriInvalid = must (codes "name_constraints_uri_invalid") (codes "4.2.1.10")
-constraint_wording NameConstraintsAddressLength = must (codes "name_constraints_address_length") (codes "4.2.1.10")
-constraint_wording NameConstraintsAddressMask = must (codes "name_constraints_address_mask") (codes "4.2.1.10")
+constraint_wording NameConstraintsEmpty = must (codes "name_constraints_empty") (codes "4.2.1.10") (codes "tbsCertificate.extensions.nameConstraints")
+constraint_wording NameConstraintsOtherForm = should (codes "name_constraints_other_form") (codes "4.2.1.10") (codes "tbsCertificate.extensions.nameConstraints")
+constraint_wording NameConstraintsSubtreesEmpty = must (codes "name_constraints_subtrees_empty") (codes "4.2.1.10") (codes "tbsCertificate.extensions.nameConstraints")
+constraint_wording NameConstraintsMinimum = must (codes "name_constraints_minimum") (codes "4.2.1.10") (codes "tbsCertificate.extensions.nameConstraints")
+constraint_wording NameConstraintsMaximum = must (codes "name_constraints_maximum") (codes "4.2.1.10") (codes "tbsCertificate.extensions.nameConstraints")
+constraint_wording NameConstraintsUriInvalid = must (codes "name_constraints_uri_invalid") (codes "4.2.1.10") (codes "tbsCertificate.extensions.nameConstraints")
+constraint_wording NameConstraintsAddressLength = must (codes "name_constraints_address_length") (codes "4.2.1.10") (codes "tbsCertificate.extensions.nameConstraints")
+constraint_wording NameConstraintsAddressMask = must (codes "name_constraints_address_mask") (codes "4.2.1.10") (codes "tbsCertificate.extensions.nameConstraints")

@@ -1,10 +1,10 @@
 -- The rules on the extensions of a CRL's entries (RFC 5280 5.3): what breaks each, their order, and how each is told.
 use Rattle.std.specs.Prelude.{◌&&◌, ◌||◌, ℕ, Bool, not, List, [], ◌∷◌, Option, bytes_eq, codes, length, take, drop, ◌==◌}
 use Rattle.std.specs.List.{list_all, list_any}
-use Rattle.x509_cert.specs.ext.Identifiers.{id_ce}
-use Rattle.x509_cert.specs.ext.LookUp.{members}
-use Rattle.x509_cert.specs.ext.declared.extension.Extension.{Extension}
-use Rattle.x509_cert.specs.ext.declared.pkix.issuing_distribution_point.IssuingDistributionPoint.{IssuingDistributionPoint}
+use Rattle.x509_ext.specs.Identifiers.{id_ce}
+use Rattle.x509_ext.specs.LookUp.{members}
+use Rattle.x509_ext.specs.declared.extension.Extension.{Extension}
+use Rattle.x509_ext.specs.declared.pkix.issuing_distribution_point.IssuingDistributionPoint.{IssuingDistributionPoint}
 use Rattle.x509_lint.specs.CrlField.{has_entry}
 use Rattle.x509_lint.specs.Text.{is_digit}
 use Rattle.x509_lint.specs.Words.{Crl, crl_extensions_of, has, is_of, passes}
@@ -67,11 +67,11 @@ abbrev pub crl_entry_rules : List CrlEntryRule
 crl_entry_rules = EntryReasonCritical ∷ EntryReasonUnspecified ∷ EntryReasonRemoveFromCrl ∷ EntryReasonInvalid ∷ EntryInvalidityDateCritical ∷ EntryInvalidityDateInvalid ∷ EntryCertificateIssuerNotCritical ∷ EntryCertificateIssuerNotIndirect ∷ []
 
 abbrev pub crl_entry_wording : CrlEntryRule → Wording
-crl_entry_wording EntryReasonCritical = must (codes "entry_reason_critical") (codes "5.3.1")
-crl_entry_wording EntryReasonUnspecified = should (codes "entry_reason_unspecified") (codes "5.3.1")
-crl_entry_wording EntryReasonRemoveFromCrl = must (codes "entry_reason_remove_from_crl") (codes "5.3.1")
-crl_entry_wording EntryReasonInvalid = must (codes "entry_reason_invalid") (codes "5.3.1")
-crl_entry_wording EntryInvalidityDateCritical = must (codes "entry_invalidity_date_critical") (codes "5.3.2")
-crl_entry_wording EntryInvalidityDateInvalid = must (codes "entry_invalidity_date_invalid") (codes "5.3.2")
-crl_entry_wording EntryCertificateIssuerNotCritical = must (codes "entry_certificate_issuer_not_critical") (codes "5.3.3")
-crl_entry_wording EntryCertificateIssuerNotIndirect = must (codes "entry_certificate_issuer_not_indirect") (codes "5.3.3")
+crl_entry_wording EntryReasonCritical = must (codes "entry_reason_critical") (codes "5.3.1") (codes "tbsCertList.revokedCertificates.crlEntryExtensions.reasonCode")
+crl_entry_wording EntryReasonUnspecified = should (codes "entry_reason_unspecified") (codes "5.3.1") (codes "tbsCertList.revokedCertificates.crlEntryExtensions.reasonCode")
+crl_entry_wording EntryReasonRemoveFromCrl = must (codes "entry_reason_remove_from_crl") (codes "5.3.1") (codes "tbsCertList.revokedCertificates.crlEntryExtensions.reasonCode")
+crl_entry_wording EntryReasonInvalid = must (codes "entry_reason_invalid") (codes "5.3.1") (codes "tbsCertList.revokedCertificates.crlEntryExtensions.reasonCode")
+crl_entry_wording EntryInvalidityDateCritical = must (codes "entry_invalidity_date_critical") (codes "5.3.2") (codes "tbsCertList.revokedCertificates.crlEntryExtensions.invalidityDate")
+crl_entry_wording EntryInvalidityDateInvalid = must (codes "entry_invalidity_date_invalid") (codes "5.3.2") (codes "tbsCertList.revokedCertificates.crlEntryExtensions.invalidityDate")
+crl_entry_wording EntryCertificateIssuerNotCritical = must (codes "entry_certificate_issuer_not_critical") (codes "5.3.3") (codes "tbsCertList.revokedCertificates.crlEntryExtensions.certificateIssuer")
+crl_entry_wording EntryCertificateIssuerNotIndirect = must (codes "entry_certificate_issuer_not_indirect") (codes "5.3.3") (codes "tbsCertList.revokedCertificates.crlEntryExtensions.certificateIssuer")

@@ -1,10 +1,10 @@
 -- The rules on the extensions of a CRL (RFC 5280 5.2): what breaks each, their order, and how each is told.
 use Rattle.std.specs.Prelude.{◌&&◌, ◌||◌, Bool, not, nat_lt, List, [], ◌∷◌, length, codes, is_some}
 use Rattle.std.specs.List.{list_any}
-use Rattle.x509_cert.specs.ext.Identifiers.{id_ce, id_pkix}
-use Rattle.x509_cert.specs.ext.declared.pkix.crl_number.CrlNumber.{CrlNumber}
-use Rattle.x509_cert.specs.ext.declared.pkix.issuing_distribution_point.IssuingDistributionPoint.{IssuingDistributionPoint}
-use Rattle.x509_cert.specs.prim.Integer.{without_zeros}
+use Rattle.x509_ext.specs.Identifiers.{id_ce, id_pkix}
+use Rattle.x509_ext.specs.declared.pkix.crl_number.CrlNumber.{CrlNumber}
+use Rattle.x509_ext.specs.declared.pkix.issuing_distribution_point.IssuingDistributionPoint.{IssuingDistributionPoint}
+use Rattle.x509_prim.specs.Integer.{without_zeros}
 use Rattle.x509_lint.specs.Place.{ca_issuers, has_other_method, is_faulty_point, lacks_uri}
 use Rattle.x509_lint.specs.declared.places.PointFault.TheVariants.{ReasonsOrIssuer}
 use Rattle.x509_lint.specs.Words.{Crl, crl_extensions_of, has, has_critical, has_uncritical, passes}
@@ -55,21 +55,21 @@ abbrev pub crl_extension_rules : List CrlExtensionRule
 crl_extension_rules = AuthorityKeyIdentifierAbsent ∷ AuthorityKeyIdentifierWithoutKey ∷ AuthorityKeyIdentifierCritical ∷ IssuerAltNameCritical ∷ CrlNumberAbsent ∷ CrlNumberCritical ∷ CrlNumberTooLong ∷ DeltaCrlIndicatorNotCritical ∷ IssuingDistributionPointNotCritical ∷ IssuingDistributionPointEmpty ∷ IssuingDistributionPointKinds ∷ IssuingDistributionPointAttributeCerts ∷ FreshestCrlCritical ∷ FreshestCrlInDelta ∷ FreshestCrlReasonsOrIssuer ∷ AuthorityInfoAccessCritical ∷ AuthorityInfoAccessOtherMethod ∷ CaIssuersWithoutUri ∷ []
 
 abbrev pub crl_extension_wording : CrlExtensionRule → Wording
-crl_extension_wording AuthorityKeyIdentifierAbsent = must (codes "authority_key_identifier_absent") (codes "5.2.1")
-crl_extension_wording AuthorityKeyIdentifierWithoutKey = must (codes "authority_key_identifier_without_key") (codes "5.2.1")
-crl_extension_wording AuthorityKeyIdentifierCritical = must (codes "authority_key_identifier_critical") (codes "4.2.1.1")
-crl_extension_wording IssuerAltNameCritical = should (codes "issuer_alt_name_critical") (codes "5.2.2")
-crl_extension_wording CrlNumberAbsent = must (codes "crl_number_absent") (codes "5.2.3")
-crl_extension_wording CrlNumberCritical = must (codes "crl_number_critical") (codes "5.2.3")
-crl_extension_wording CrlNumberTooLong = must (codes "crl_number_too_long") (codes "5.2.3")
-crl_extension_wording DeltaCrlIndicatorNotCritical = must (codes "delta_crl_indicator_not_critical") (codes "5.2.4")
-crl_extension_wording IssuingDistributionPointNotCritical = must (codes "issuing_distribution_point_not_critical") (codes "5.2.5")
-crl_extension_wording IssuingDistributionPointEmpty = must (codes "issuing_distribution_point_empty") (codes "5.2.5")
-crl_extension_wording IssuingDistributionPointKinds = must (codes "issuing_distribution_point_kinds") (codes "5.2.5")
-crl_extension_wording IssuingDistributionPointAttributeCerts = must (codes "issuing_distribution_point_attribute_certs") (codes "5.2.5")
-crl_extension_wording FreshestCrlCritical = must (codes "freshest_crl_critical") (codes "5.2.6")
-crl_extension_wording FreshestCrlInDelta = must (codes "freshest_crl_in_delta") (codes "5.2.6")
-crl_extension_wording FreshestCrlReasonsOrIssuer = must (codes "freshest_crl_reasons_or_issuer") (codes "5.2.6")
-crl_extension_wording AuthorityInfoAccessCritical = must (codes "authority_info_access_critical") (codes "5.2.7")
-crl_extension_wording AuthorityInfoAccessOtherMethod = must (codes "authority_info_access_other_method") (codes "5.2.7")
-crl_extension_wording CaIssuersWithoutUri = should (codes "ca_issuers_without_uri") (codes "5.2.7")
+crl_extension_wording AuthorityKeyIdentifierAbsent = must (codes "authority_key_identifier_absent") (codes "5.2.1") (codes "tbsCertList.crlExtensions.authorityKeyIdentifier")
+crl_extension_wording AuthorityKeyIdentifierWithoutKey = must (codes "authority_key_identifier_without_key") (codes "5.2.1") (codes "tbsCertList.crlExtensions.authorityKeyIdentifier")
+crl_extension_wording AuthorityKeyIdentifierCritical = must (codes "authority_key_identifier_critical") (codes "4.2.1.1") (codes "tbsCertList.crlExtensions.authorityKeyIdentifier")
+crl_extension_wording IssuerAltNameCritical = should (codes "issuer_alt_name_critical") (codes "5.2.2") (codes "tbsCertList.crlExtensions.issuerAltName")
+crl_extension_wording CrlNumberAbsent = must (codes "crl_number_absent") (codes "5.2.3") (codes "tbsCertList.crlExtensions.cRLNumber")
+crl_extension_wording CrlNumberCritical = must (codes "crl_number_critical") (codes "5.2.3") (codes "tbsCertList.crlExtensions.cRLNumber")
+crl_extension_wording CrlNumberTooLong = must (codes "crl_number_too_long") (codes "5.2.3") (codes "tbsCertList.crlExtensions.cRLNumber")
+crl_extension_wording DeltaCrlIndicatorNotCritical = must (codes "delta_crl_indicator_not_critical") (codes "5.2.4") (codes "tbsCertList.crlExtensions.deltaCRLIndicator")
+crl_extension_wording IssuingDistributionPointNotCritical = must (codes "issuing_distribution_point_not_critical") (codes "5.2.5") (codes "tbsCertList.crlExtensions.issuingDistributionPoint")
+crl_extension_wording IssuingDistributionPointEmpty = must (codes "issuing_distribution_point_empty") (codes "5.2.5") (codes "tbsCertList.crlExtensions.issuingDistributionPoint")
+crl_extension_wording IssuingDistributionPointKinds = must (codes "issuing_distribution_point_kinds") (codes "5.2.5") (codes "tbsCertList.crlExtensions.issuingDistributionPoint")
+crl_extension_wording IssuingDistributionPointAttributeCerts = must (codes "issuing_distribution_point_attribute_certs") (codes "5.2.5") (codes "tbsCertList.crlExtensions.issuingDistributionPoint")
+crl_extension_wording FreshestCrlCritical = must (codes "freshest_crl_critical") (codes "5.2.6") (codes "tbsCertList.crlExtensions.freshestCRL")
+crl_extension_wording FreshestCrlInDelta = must (codes "freshest_crl_in_delta") (codes "5.2.6") (codes "tbsCertList.crlExtensions.freshestCRL")
+crl_extension_wording FreshestCrlReasonsOrIssuer = must (codes "freshest_crl_reasons_or_issuer") (codes "5.2.6") (codes "tbsCertList.crlExtensions.freshestCRL")
+crl_extension_wording AuthorityInfoAccessCritical = must (codes "authority_info_access_critical") (codes "5.2.7") (codes "tbsCertList.crlExtensions.authorityInfoAccess")
+crl_extension_wording AuthorityInfoAccessOtherMethod = must (codes "authority_info_access_other_method") (codes "5.2.7") (codes "tbsCertList.crlExtensions.authorityInfoAccess")
+crl_extension_wording CaIssuersWithoutUri = should (codes "ca_issuers_without_uri") (codes "5.2.7") (codes "tbsCertList.crlExtensions.authorityInfoAccess")

@@ -1,18 +1,21 @@
 -- The rules on the fields of a CRL (RFC 5280 5.1): what breaks each, their order, and how each is told.
-use Rattle.std.specs.Prelude.{◌&&◌, ◌||◌, Bool, true, false, not, List, [], ◌∷◌, codes, is_some}
+use Rattle.std.specs.Prelude.{◌&&◌, ◌||◌, ◌++◌, ℕ, Bool, true, false, not, List, [], ◌∷◌, codes, is_some, map}
 use Rattle.std.specs.List.{list_any}
 use Rattle.x509_cert.specs.Revoked.{entries}
-use Rattle.x509_cert.specs.base.declared.profile.Raw.{Raw}
+use Rattle.x509_base.specs.declared.profile.Raw.{Raw}
 use Rattle.x509_cert.specs.declared.certificate.version.Version.{Version}
 use Rattle.x509_cert.specs.declared.certificate.version.Version.TheVariants.{V1, V2, V3}
 use Rattle.x509_cert.specs.declared.crl.revoked_cert.RevokedCert.{RevokedCert}
-use Rattle.x509_cert.specs.ext.Identifiers.{id_ce}
-use Rattle.x509_cert.specs.ext.LookUp.{members}
+use Rattle.x509_ext.specs.Identifiers.{id_ce}
+use Rattle.x509_ext.specs.LookUp.{members}
 use Rattle.x509_lint.specs.Name.{has_empty_rdn, has_no_country}
+use Rattle.x509_lint.specs.Read.{is_crl_read}
 use Rattle.x509_lint.specs.Text.{has_faulty_text}
 use Rattle.x509_lint.specs.declared.texts.TextFault.TheVariants.{OtherType, OldType, OtherCharacter, Size}
 use Rattle.x509_lint.specs.Words.{Crl, has, is_before, is_early_general, is_empty, passes}
 use Rattle.x509_lint.specs.declared.facts.CrlFacts.{CrlFacts}
+use Rattle.x509_lint.specs.declared.rule.crl_field.CrlExtensionKind.{CrlExtensionKind}
+use Rattle.x509_lint.specs.declared.rule.crl_field.CrlExtensionKind.TheVariants as kinds
 use Rattle.x509_lint.specs.declared.rule.crl_field.CrlFieldRule.{CrlFieldRule}
 use Rattle.x509_lint.specs.declared.rule.crl_field.CrlFieldRule.TheVariants.{SignatureAlgorithmsDiffer, ExtensionsWithoutV2, VersionNotV2, IssuerEmpty, IssuerRdnEmpty, IssuerCountryNameInvalid, IssuerTextType, IssuerTextOldType, IssuerTextCharacters, IssuerTextSize, ThisUpdateNotUtcTime, NextUpdateAbsent, NextUpdateNotUtcTime, NextUpdateBeforeThisUpdate, RevokedCertificatesEmpty, SerialNumberRepeated, RevocationDateNotUtcTime, ExtensionsEmpty, ExtensionRepeated, ExtensionMalformed, EntryExtensionsEmpty, EntryExtensionRepeated}
 use Rattle.x509_lint.specs.Wording.{Wording, must, should}
@@ -49,35 +52,48 @@ breaks_crl_field l facts SerialNumberRepeated = not facts.are_serials_distinct &
 breaks_crl_field l facts RevocationDateNotUtcTime = has_entry (λ e. is_early_general e.revocation_date) l
 breaks_crl_field l facts ExtensionsEmpty = passes is_empty l.tbs_cert_list.crl_extensions
 breaks_crl_field l facts ExtensionRepeated = facts.is_repeated
-breaks_crl_field l facts ExtensionMalformed = not facts.are_well_formed
+breaks_crl_field l facts (ExtensionMalformed kind) = not (is_crl_read facts.read kind)
 breaks_crl_field l facts EntryExtensionsEmpty = has_entry (λ e. passes is_empty e.crl_entry_extensions) l
 breaks_crl_field l facts EntryExtensionRepeated = not facts.are_entries_distinct
 
 -- ---- the order, and how each is told
 
+abbrev pub crl_extension_kinds : List CrlExtensionKind
+crl_extension_kinds = kinds.AuthorityKeyIdentifier ∷ kinds.IssuerAltName ∷ kinds.CrlNumber ∷ kinds.DeltaCrlIndicator ∷ kinds.IssuingDistributionPoint ∷ kinds.FreshestCrl ∷ kinds.AuthorityInfoAccess ∷ []
+
+-- where in a CRL an extension of the type stands
+abbrev pub crl_extension_place : CrlExtensionKind → List ℕ
+crl_extension_place kinds.AuthorityKeyIdentifier = codes "tbsCertList.crlExtensions.authorityKeyIdentifier"
+crl_extension_place kinds.IssuerAltName = codes "tbsCertList.crlExtensions.issuerAltName"
+crl_extension_place kinds.CrlNumber = codes "tbsCertList.crlExtensions.cRLNumber"
+crl_extension_place kinds.DeltaCrlIndicator = codes "tbsCertList.crlExtensions.deltaCRLIndicator"
+crl_extension_place kinds.IssuingDistributionPoint = codes "tbsCertList.crlExtensions.issuingDistributionPoint"
+crl_extension_place kinds.FreshestCrl = codes "tbsCertList.crlExtensions.freshestCRL"
+crl_extension_place kinds.AuthorityInfoAccess = codes "tbsCertList.crlExtensions.authorityInfoAccess"
+
 abbrev pub crl_field_rules : List CrlFieldRule
-crl_field_rules = SignatureAlgorithmsDiffer ∷ ExtensionsWithoutV2 ∷ VersionNotV2 ∷ IssuerEmpty ∷ IssuerRdnEmpty ∷ IssuerCountryNameInvalid ∷ IssuerTextType ∷ IssuerTextOldType ∷ IssuerTextCharacters ∷ IssuerTextSize ∷ ThisUpdateNotUtcTime ∷ NextUpdateAbsent ∷ NextUpdateNotUtcTime ∷ NextUpdateBeforeThisUpdate ∷ RevokedCertificatesEmpty ∷ SerialNumberRepeated ∷ RevocationDateNotUtcTime ∷ ExtensionsEmpty ∷ ExtensionRepeated ∷ ExtensionMalformed ∷ EntryExtensionsEmpty ∷ EntryExtensionRepeated ∷ []
+crl_field_rules = SignatureAlgorithmsDiffer ∷ ExtensionsWithoutV2 ∷ VersionNotV2 ∷ IssuerEmpty ∷ IssuerRdnEmpty ∷ IssuerCountryNameInvalid ∷ IssuerTextType ∷ IssuerTextOldType ∷ IssuerTextCharacters ∷ IssuerTextSize ∷ ThisUpdateNotUtcTime ∷ NextUpdateAbsent ∷ NextUpdateNotUtcTime ∷ NextUpdateBeforeThisUpdate ∷ RevokedCertificatesEmpty ∷ SerialNumberRepeated ∷ RevocationDateNotUtcTime ∷ ExtensionsEmpty ∷ ExtensionRepeated ∷ (map ExtensionMalformed crl_extension_kinds ++ EntryExtensionsEmpty ∷ EntryExtensionRepeated ∷ [])
 
 abbrev pub crl_field_wording : CrlFieldRule → Wording
-crl_field_wording SignatureAlgorithmsDiffer = must (codes "signature_algorithms_differ") (codes "5.1.1.2")
-crl_field_wording ExtensionsWithoutV2 = must (codes "extensions_without_v2") (codes "5.1.2.1")
-crl_field_wording VersionNotV2 = must (codes "version_not_v2") (codes "5.1.2.1")
-crl_field_wording IssuerEmpty = must (codes "issuer_empty") (codes "5.1.2.3")
-crl_field_wording IssuerRdnEmpty = must (codes "issuer_rdn_empty") (codes "5.1.2.3")
-crl_field_wording IssuerCountryNameInvalid = must (codes "issuer_country_name_invalid") (codes "A.1")
-crl_field_wording IssuerTextType = must (codes "issuer_text_type") (codes "A.1")
-crl_field_wording IssuerTextOldType = should (codes "issuer_text_old_type") (codes "5.1.2.3")
-crl_field_wording IssuerTextCharacters = must (codes "issuer_text_characters") (codes "5.1.2.3")
-crl_field_wording IssuerTextSize = must (codes "issuer_text_size") (codes "A.1")
-crl_field_wording ThisUpdateNotUtcTime = must (codes "this_update_not_utc_time") (codes "5.1.2.4")
-crl_field_wording NextUpdateAbsent = must (codes "next_update_absent") (codes "5.1.2.5")
-crl_field_wording NextUpdateNotUtcTime = must (codes "next_update_not_utc_time") (codes "5.1.2.5")
-crl_field_wording NextUpdateBeforeThisUpdate = must (codes "next_update_before_this_update") (codes "5.1.2.5")
-crl_field_wording RevokedCertificatesEmpty = must (codes "revoked_certificates_empty") (codes "5.1.2.6")
-crl_field_wording SerialNumberRepeated = must (codes "serial_number_repeated") (codes "5.1.2.6")
-crl_field_wording RevocationDateNotUtcTime = must (codes "revocation_date_not_utc_time") (codes "5.1.2.6")
-crl_field_wording ExtensionsEmpty = must (codes "extensions_empty") (codes "5.1.2.7")
-crl_field_wording ExtensionRepeated = must (codes "extension_repeated") (codes "5.2")
-crl_field_wording ExtensionMalformed = must (codes "extension_malformed") (codes "5.2")
-crl_field_wording EntryExtensionsEmpty = must (codes "entry_extensions_empty") (codes "5.3")
-crl_field_wording EntryExtensionRepeated = must (codes "entry_extension_repeated") (codes "5.3")
+crl_field_wording SignatureAlgorithmsDiffer = must (codes "signature_algorithms_differ") (codes "5.1.1.2") (codes "signatureAlgorithm")
+crl_field_wording ExtensionsWithoutV2 = must (codes "extensions_without_v2") (codes "5.1.2.1") (codes "tbsCertList.version")
+crl_field_wording VersionNotV2 = must (codes "version_not_v2") (codes "5.1.2.1") (codes "tbsCertList.version")
+crl_field_wording IssuerEmpty = must (codes "issuer_empty") (codes "5.1.2.3") (codes "tbsCertList.issuer")
+crl_field_wording IssuerRdnEmpty = must (codes "issuer_rdn_empty") (codes "5.1.2.3") (codes "tbsCertList.issuer")
+crl_field_wording IssuerCountryNameInvalid = must (codes "issuer_country_name_invalid") (codes "A.1") (codes "tbsCertList.issuer")
+crl_field_wording IssuerTextType = must (codes "issuer_text_type") (codes "A.1") (codes "tbsCertList.issuer")
+crl_field_wording IssuerTextOldType = should (codes "issuer_text_old_type") (codes "5.1.2.3") (codes "tbsCertList.issuer")
+crl_field_wording IssuerTextCharacters = must (codes "issuer_text_characters") (codes "5.1.2.3") (codes "tbsCertList.issuer")
+crl_field_wording IssuerTextSize = must (codes "issuer_text_size") (codes "A.1") (codes "tbsCertList.issuer")
+crl_field_wording ThisUpdateNotUtcTime = must (codes "this_update_not_utc_time") (codes "5.1.2.4") (codes "tbsCertList.thisUpdate")
+crl_field_wording NextUpdateAbsent = must (codes "next_update_absent") (codes "5.1.2.5") (codes "tbsCertList.nextUpdate")
+crl_field_wording NextUpdateNotUtcTime = must (codes "next_update_not_utc_time") (codes "5.1.2.5") (codes "tbsCertList.nextUpdate")
+crl_field_wording NextUpdateBeforeThisUpdate = must (codes "next_update_before_this_update") (codes "5.1.2.5") (codes "tbsCertList.nextUpdate")
+crl_field_wording RevokedCertificatesEmpty = must (codes "revoked_certificates_empty") (codes "5.1.2.6") (codes "tbsCertList.revokedCertificates")
+crl_field_wording SerialNumberRepeated = must (codes "serial_number_repeated") (codes "5.1.2.6") (codes "tbsCertList.revokedCertificates.userCertificate")
+crl_field_wording RevocationDateNotUtcTime = must (codes "revocation_date_not_utc_time") (codes "5.1.2.6") (codes "tbsCertList.revokedCertificates.revocationDate")
+crl_field_wording ExtensionsEmpty = must (codes "extensions_empty") (codes "5.1.2.7") (codes "tbsCertList.crlExtensions")
+crl_field_wording ExtensionRepeated = must (codes "extension_repeated") (codes "5.2") (codes "tbsCertList.crlExtensions")
+crl_field_wording (ExtensionMalformed kind) = must (codes "extension_malformed") (codes "5.2") (crl_extension_place kind)
+crl_field_wording EntryExtensionsEmpty = must (codes "entry_extensions_empty") (codes "5.3") (codes "tbsCertList.revokedCertificates.crlEntryExtensions")
+crl_field_wording EntryExtensionRepeated = must (codes "entry_extension_repeated") (codes "5.3") (codes "tbsCertList.revokedCertificates.crlEntryExtensions")

@@ -2,7 +2,7 @@
 use Rattle.std.specs.Prelude.{◌&&◌, ◌||◌, ℤ, pos, negsuc, Bool, true, false, not, nat_lt, List, [], ◌∷◌, length, codes, is_some}
 use Rattle.x509_cert.specs.declared.certificate.version.Version.{Version}
 use Rattle.x509_cert.specs.declared.certificate.version.Version.TheVariants.{V1, V2, V3}
-use Rattle.x509_cert.specs.prim.Integer.{integer_value}
+use Rattle.x509_prim.specs.Integer.{integer_value}
 use Rattle.x509_lint.specs.Words.{Certificate, is_before, is_early_general, is_empty}
 use Rattle.x509_lint.specs.declared.facts.CertificateFacts.{CertificateFacts}
 use Rattle.x509_lint.specs.declared.rule.field.FieldRule.{FieldRule}
@@ -46,15 +46,15 @@ abbrev pub field_rules : List FieldRule
 field_rules = SignatureAlgorithmsDiffer ∷ ExtensionsWithoutV3 ∷ VersionAboveV2 ∷ VersionAboveV1 ∷ SerialNumberNotPositive ∷ SerialNumberTooLong ∷ IssuerEmpty ∷ NotBeforeNotUtcTime ∷ NotAfterNotUtcTime ∷ NotAfterBeforeNotBefore ∷ UniqueIdentifierInV1 ∷ UniqueIdentifierPresent ∷ []
 
 abbrev pub field_wording : FieldRule → Wording
-field_wording SignatureAlgorithmsDiffer = must (codes "signature_algorithms_differ") (codes "4.1.1.2")
-field_wording ExtensionsWithoutV3 = must (codes "extensions_without_v3") (codes "4.1.2.1")
-field_wording VersionAboveV2 = should (codes "version_above_v2") (codes "4.1.2.1")
-field_wording VersionAboveV1 = should (codes "version_above_v1") (codes "4.1.2.1")
-field_wording SerialNumberNotPositive = must (codes "serial_number_not_positive") (codes "4.1.2.2")
-field_wording SerialNumberTooLong = must (codes "serial_number_too_long") (codes "4.1.2.2")
-field_wording IssuerEmpty = must (codes "issuer_empty") (codes "4.1.2.4")
-field_wording NotBeforeNotUtcTime = must (codes "not_before_not_utc_time") (codes "4.1.2.5")
-field_wording NotAfterNotUtcTime = must (codes "not_after_not_utc_time") (codes "4.1.2.5")
-field_wording NotAfterBeforeNotBefore = must (codes "not_after_before_not_before") (codes "4.1.2.5")
-field_wording UniqueIdentifierInV1 = must (codes "unique_identifier_in_v1") (codes "4.1.2.8")
-field_wording UniqueIdentifierPresent = must (codes "unique_identifier_present") (codes "4.1.2.8")
+field_wording SignatureAlgorithmsDiffer = must (codes "signature_algorithms_differ") (codes "4.1.1.2") (codes "signatureAlgorithm")
+field_wording ExtensionsWithoutV3 = must (codes "extensions_without_v3") (codes "4.1.2.1") (codes "tbsCertificate.version")
+field_wording VersionAboveV2 = should (codes "version_above_v2") (codes "4.1.2.1") (codes "tbsCertificate.version")
+field_wording VersionAboveV1 = should (codes "version_above_v1") (codes "4.1.2.1") (codes "tbsCertificate.version")
+field_wording SerialNumberNotPositive = must (codes "serial_number_not_positive") (codes "4.1.2.2") (codes "tbsCertificate.serialNumber")
+field_wording SerialNumberTooLong = must (codes "serial_number_too_long") (codes "4.1.2.2") (codes "tbsCertificate.serialNumber")
+field_wording IssuerEmpty = must (codes "issuer_empty") (codes "4.1.2.4") (codes "tbsCertificate.issuer")
+field_wording NotBeforeNotUtcTime = must (codes "not_before_not_utc_time") (codes "4.1.2.5") (codes "tbsCertificate.validity.notBefore")
+field_wording NotAfterNotUtcTime = must (codes "not_after_not_utc_time") (codes "4.1.2.5") (codes "tbsCertificate.validity.notAfter")
+field_wording NotAfterBeforeNotBefore = must (codes "not_after_before_not_before") (codes "4.1.2.5") (codes "tbsCertificate.validity.notAfter")
+field_wording UniqueIdentifierInV1 = must (codes "unique_identifier_in_v1") (codes "4.1.2.8") (codes "tbsCertificate")
+field_wording UniqueIdentifierPresent = must (codes "unique_identifier_present") (codes "4.1.2.8") (codes "tbsCertificate")

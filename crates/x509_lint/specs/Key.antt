@@ -1,9 +1,9 @@
 -- The rules on key identifiers, extended key usage and the private key usage period (RFC 5280 4.2.1.1, 4.2.1.12, A.2): what breaks each, their order, and how each is told.
 use Rattle.std.specs.Prelude.{◌&&◌, ◌||◌, Bool, not, ℕ, List, [], ◌∷◌, bytes_eq, codes, is_some}
 use Rattle.std.specs.List.{list_any}
-use Rattle.x509_cert.specs.ext.declared.pkix.authority_key_identifier.AuthorityKeyIdentifier.{AuthorityKeyIdentifier}
-use Rattle.x509_cert.specs.ext.Identifiers.{id_ce}
-use Rattle.x509_cert.specs.name.Names.{rdn_sequence_eq}
+use Rattle.x509_ext.specs.declared.pkix.authority_key_identifier.AuthorityKeyIdentifier.{AuthorityKeyIdentifier}
+use Rattle.x509_ext.specs.Identifiers.{id_ce}
+use Rattle.x509_name.specs.Names.{rdn_sequence_eq}
 use Rattle.x509_lint.specs.Words.{Certificate, extensions_of, has, has_critical, is_empty, passes}
 use Rattle.x509_lint.specs.declared.values.KeyValues.{KeyValues}
 use Rattle.x509_lint.specs.declared.rule.key.KeyRule.{KeyRule}
@@ -39,10 +39,10 @@ abbrev pub key_rules : List KeyRule
 key_rules = AuthorityKeyIdentifierAbsent ∷ AuthorityKeyIdentifierWithoutKey ∷ AuthorityCertIssuerEmpty ∷ AuthorityCertIssuerAndSerialApart ∷ ExtendedKeyUsageEmpty ∷ AnyExtendedKeyUsageCritical ∷ PrivateKeyUsagePeriodEmpty ∷ []
 
 abbrev pub key_wording : KeyRule → Wording
-key_wording AuthorityKeyIdentifierAbsent = must (codes "authority_key_identifier_absent") (codes "4.2.1.1")
-key_wording AuthorityKeyIdentifierWithoutKey = must (codes "authority_key_identifier_without_key") (codes "4.2.1.1")
-key_wording AuthorityCertIssuerEmpty = must (codes "authority_cert_issuer_empty") (codes "4.2.1.1")
-key_wording AuthorityCertIssuerAndSerialApart = must (codes "authority_cert_issuer_and_serial_apart") (codes "4.2.1.1")
-key_wording ExtendedKeyUsageEmpty = must (codes "extended_key_usage_empty") (codes "4.2.1.12")
-key_wording AnyExtendedKeyUsageCritical = should (codes "any_extended_key_usage_critical") (codes "4.2.1.12")
-key_wording PrivateKeyUsagePeriodEmpty = must (codes "private_key_usage_period_empty") (codes "A.2")
+key_wording AuthorityKeyIdentifierAbsent = must (codes "authority_key_identifier_absent") (codes "4.2.1.1") (codes "tbsCertificate.extensions.authorityKeyIdentifier")
+key_wording AuthorityKeyIdentifierWithoutKey = must (codes "authority_key_identifier_without_key") (codes "4.2.1.1") (codes "tbsCertificate.extensions.authorityKeyIdentifier")
+key_wording AuthorityCertIssuerEmpty = must (codes "authority_cert_issuer_empty") (codes "4.2.1.1") (codes "tbsCertificate.extensions.authorityKeyIdentifier")
+key_wording AuthorityCertIssuerAndSerialApart = must (codes "authority_cert_issuer_and_serial_apart") (codes "4.2.1.1") (codes "tbsCertificate.extensions.authorityKeyIdentifier")
+key_wording ExtendedKeyUsageEmpty = must (codes "extended_key_usage_empty") (codes "4.2.1.12") (codes "tbsCertificate.extensions.extKeyUsage")
+key_wording AnyExtendedKeyUsageCritical = should (codes "any_extended_key_usage_critical") (codes "4.2.1.12") (codes "tbsCertificate.extensions.extKeyUsage")
+key_wording PrivateKeyUsagePeriodEmpty = must (codes "private_key_usage_period_empty") (codes "A.2") (codes "tbsCertificate.extensions.privateKeyUsagePeriod")

@@ -3,6 +3,7 @@ pub mod Words
 pub mod BasicConstraints
 pub mod Notices
 pub mod Place
+pub mod Read
 pub mod Values
 pub mod Field
 pub mod Text
@@ -18,5 +19,7 @@ pub mod Point
 pub mod CrlField
 pub mod CrlExtension
 pub mod CrlEntry
+pub mod Request
+pub mod Seen
 pub mod Rules
 pub mod Report

@@ -1,12 +1,12 @@
 -- The rules on the issuer and the subject of a certificate (RFC 5280 4.1.2.4, 4.1.2.6): what breaks each, their order, and how each is told.
 use Rattle.std.specs.Prelude.{◌&&◌, ◌||◌, ◌==◌, ℕ, Bool, true, false, not, nat_le, List, [], ◌∷◌, length, bytes_eq, codes}
 use Rattle.std.specs.List.{list_all, list_any}
-use Rattle.x509_cert.specs.der.declared.tag.Tag.{Tag}
-use Rattle.x509_cert.specs.der.declared.tag.Tag.TheVariants.{PrintableString}
-use Rattle.x509_cert.specs.der.declared.any.Any.{Any}
-use Rattle.x509_cert.specs.ext.Identifiers.{id_ce}
-use Rattle.x509_cert.specs.name.AttributeTypes.{country_name}
-use Rattle.x509_cert.specs.name.declared.attr.type_and_value.AttributeTypeAndValue.{AttributeTypeAndValue}
+use Rattle.x509_der.specs.declared.tag.Tag.{Tag}
+use Rattle.x509_der.specs.declared.tag.Tag.TheVariants.{PrintableString}
+use Rattle.x509_der.specs.declared.any.Any.{Any}
+use Rattle.x509_ext.specs.Identifiers.{id_ce}
+use Rattle.x509_name.specs.AttributeTypes.{country_name}
+use Rattle.x509_name.specs.declared.attr.type_and_value.AttributeTypeAndValue.{AttributeTypeAndValue}
 use Rattle.x509_lint.specs.Text.{has_faulty_text}
 use Rattle.x509_lint.specs.declared.texts.TextFault.TheVariants.{OtherType, OldType, OtherCharacter, Size}
 use Rattle.x509_lint.specs.Words.{Certificate, extensions_of, has_critical, is_empty}
@@ -59,16 +59,16 @@ abbrev pub name_rules : List NameRule
 name_rules = IssuerRdnEmpty ∷ IssuerCountryNameInvalid ∷ IssuerTextType ∷ IssuerTextOldType ∷ IssuerTextCharacters ∷ IssuerTextSize ∷ SubjectRdnEmpty ∷ SubjectCountryNameInvalid ∷ SubjectTextType ∷ SubjectTextOldType ∷ SubjectTextCharacters ∷ SubjectTextSize ∷ SubjectEmptyWithoutCriticalAltName ∷ []
 
 abbrev pub name_wording : NameRule → Wording
-name_wording IssuerRdnEmpty = must (codes "issuer_rdn_empty") (codes "4.1.2.4")
-name_wording IssuerCountryNameInvalid = must (codes "issuer_country_name_invalid") (codes "A.1")
-name_wording IssuerTextType = must (codes "issuer_text_type") (codes "A.1")
-name_wording IssuerTextOldType = should (codes "issuer_text_old_type") (codes "4.1.2.4")
-name_wording IssuerTextCharacters = must (codes "issuer_text_characters") (codes "4.1.2.4")
-name_wording IssuerTextSize = must (codes "issuer_text_size") (codes "A.1")
-name_wording SubjectRdnEmpty = must (codes "subject_rdn_empty") (codes "4.1.2.6")
-name_wording SubjectCountryNameInvalid = must (codes "subject_country_name_invalid") (codes "A.1")
-name_wording SubjectTextType = must (codes "subject_text_type") (codes "A.1")
-name_wording SubjectTextOldType = should (codes "subject_text_old_type") (codes "4.1.2.6")
-name_wording SubjectTextCharacters = must (codes "subject_text_characters") (codes "4.1.2.6")
-name_wording SubjectTextSize = must (codes "subject_text_size") (codes "A.1")
-name_wording SubjectEmptyWithoutCriticalAltName = must (codes "subject_empty_without_critical_alt_name") (codes "4.1.2.6")
+name_wording IssuerRdnEmpty = must (codes "issuer_rdn_empty") (codes "4.1.2.4") (codes "tbsCertificate.issuer")
+name_wording IssuerCountryNameInvalid = must (codes "issuer_country_name_invalid") (codes "A.1") (codes "tbsCertificate.issuer")
+name_wording IssuerTextType = must (codes "issuer_text_type") (codes "A.1") (codes "tbsCertificate.issuer")
+name_wording IssuerTextOldType = should (codes "issuer_text_old_type") (codes "4.1.2.4") (codes "tbsCertificate.issuer")
+name_wording IssuerTextCharacters = must (codes "issuer_text_characters") (codes "4.1.2.4") (codes "tbsCertificate.issuer")
+name_wording IssuerTextSize = must (codes "issuer_text_size") (codes "A.1") (codes "tbsCertificate.issuer")
+name_wording SubjectRdnEmpty = must (codes "subject_rdn_empty") (codes "4.1.2.6") (codes "tbsCertificate.subject")
+name_wording SubjectCountryNameInvalid = must (codes "subject_country_name_invalid") (codes "A.1") (codes "tbsCertificate.subject")
+name_wording SubjectTextType = must (codes "subject_text_type") (codes "A.1") (codes "tbsCertificate.subject")
+name_wording SubjectTextOldType = should (codes "subject_text_old_type") (codes "4.1.2.6") (codes "tbsCertificate.subject")
+name_wording SubjectTextCharacters = must (codes "subject_text_characters") (codes "4.1.2.6") (codes "tbsCertificate.subject")
+name_wording SubjectTextSize = must (codes "subject_text_size") (codes "A.1") (codes "tbsCertificate.subject")
+name_wording SubjectEmptyWithoutCriticalAltName = must (codes "subject_empty_without_critical_alt_name") (codes "4.1.2.6") (codes "tbsCertificate.subject")

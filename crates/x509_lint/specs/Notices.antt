@@ -2,17 +2,17 @@
 use Rattle.std.specs.Prelude.{ℕ, ◌/◌, Bool, true, false, ◌&&◌, ◌||◌, ◌==◌, nat_lt, List, length, Option, Some, None, Result, Ok, Err, bytes_eq, is_some}
 use Rattle.std.specs.List.{list_any}
 use Rattle.std.specs.Str.{chars}
-use Rattle.x509_cert.specs.der.Tag.{octet_of}
-use Rattle.x509_cert.specs.der.declared.any.Any.{Any}
-use Rattle.x509_cert.specs.der.declared.error.ErrorKind.{ErrorKind}
-use Rattle.x509_cert.specs.ext.Identifiers.{id_pkix}
-use Rattle.x509_cert.specs.ext.UserNotice.{user_notice}
-use Rattle.x509_cert.specs.ext.declared.pkix.certificate_policies.CertificatePolicies.{CertificatePolicies}
-use Rattle.x509_cert.specs.ext.declared.pkix.display_text.DisplayText.{DisplayText}
-use Rattle.x509_cert.specs.ext.declared.pkix.display_text.DisplayText.TheVariants.{Ia5String, VisibleString, BmpString, Utf8String}
-use Rattle.x509_cert.specs.ext.declared.pkix.policy_information.PolicyInformation.{PolicyInformation}
-use Rattle.x509_cert.specs.ext.declared.pkix.policy_information.PolicyQualifierInfo.{PolicyQualifierInfo}
-use Rattle.x509_cert.specs.ext.declared.pkix.user_notice.UserNotice.{UserNotice}
+use Rattle.x509_der.specs.Tag.{octet_of}
+use Rattle.x509_der.specs.declared.any.Any.{Any}
+use Rattle.x509_der.specs.declared.error.ErrorKind.{ErrorKind}
+use Rattle.x509_ext.specs.Identifiers.{id_pkix}
+use Rattle.x509_ext.specs.UserNotice.{user_notice}
+use Rattle.x509_ext.specs.declared.pkix.certificate_policies.CertificatePolicies.{CertificatePolicies}
+use Rattle.x509_ext.specs.declared.pkix.display_text.DisplayText.{DisplayText}
+use Rattle.x509_ext.specs.declared.pkix.display_text.DisplayText.TheVariants.{Ia5String, VisibleString, BmpString, Utf8String}
+use Rattle.x509_ext.specs.declared.pkix.policy_information.PolicyInformation.{PolicyInformation}
+use Rattle.x509_ext.specs.declared.pkix.policy_information.PolicyQualifierInfo.{PolicyQualifierInfo}
+use Rattle.x509_ext.specs.declared.pkix.user_notice.UserNotice.{UserNotice}
 use Rattle.x509_lint.specs.Words.{passes}
 use Rattle.x509_lint.specs.declared.notices.NoticeFault.{NoticeFault}
 use Rattle.x509_lint.specs.declared.notices.NoticeFault.TheVariants.{Long, NoText, OldType, Ia5Type, Control, Reference}

@@ -1,15 +1,15 @@
 -- Places where CRLs and certificates are found: distribution points and access descriptions (RFC 5280 4.2.1.13, 4.2.2).
 use Rattle.std.specs.Prelude.{◌&&◌, ◌||◌, ◌==◌, ℕ, Bool, true, false, not, nat_lt, length, List, [], ◌∷◌, bytes_eq, is_some}
 use Rattle.std.specs.List.{list_all, list_any, slice_get}
-use Rattle.x509_cert.specs.ext.Identifiers.{id_pkix}
-use Rattle.x509_cert.specs.ext.declared.pkix.access.AccessDescription.{AccessDescription}
-use Rattle.x509_cert.specs.ext.declared.pkix.distribution_point.DistributionPoint.{DistributionPoint}
-use Rattle.x509_cert.specs.ext.declared.pkix.name.distribution_point_name.DistributionPointName.{DistributionPointName}
-use Rattle.x509_cert.specs.ext.declared.pkix.name.distribution_point_name.DistributionPointName.TheVariants.{FullName, NameRelativeToCRLIssuer}
-use Rattle.x509_cert.specs.ext.declared.pkix.name.general_name.GeneralName.{GeneralName}
-use Rattle.x509_cert.specs.ext.declared.pkix.name.general_name.GeneralName.TheVariants.{OtherName, Rfc822Name, DnsName, DirectoryName, EdiPartyName, UniformResourceIdentifier, IpAddress, RegisteredId}
-use Rattle.x509_cert.specs.name.Names.{rdn_sequence_eq}
-use Rattle.x509_cert.specs.name.declared.attr.type_and_value.AttributeTypeAndValue.{AttributeTypeAndValue}
+use Rattle.x509_ext.specs.Identifiers.{id_pkix}
+use Rattle.x509_ext.specs.declared.pkix.access.AccessDescription.{AccessDescription}
+use Rattle.x509_ext.specs.declared.pkix.distribution_point.DistributionPoint.{DistributionPoint}
+use Rattle.x509_ext.specs.declared.pkix.name.distribution_point_name.DistributionPointName.{DistributionPointName}
+use Rattle.x509_ext.specs.declared.pkix.name.distribution_point_name.DistributionPointName.TheVariants.{FullName, NameRelativeToCRLIssuer}
+use Rattle.x509_ext.specs.declared.pkix.name.general_name.GeneralName.{GeneralName}
+use Rattle.x509_ext.specs.declared.pkix.name.general_name.GeneralName.TheVariants.{OtherName, Rfc822Name, DnsName, DirectoryName, EdiPartyName, UniformResourceIdentifier, IpAddress, RegisteredId}
+use Rattle.x509_name.specs.Names.{rdn_sequence_eq}
+use Rattle.x509_name.specs.declared.attr.type_and_value.AttributeTypeAndValue.{AttributeTypeAndValue}
 use Rattle.x509_lint.specs.Words.{is_empty, passes}
 use Rattle.x509_lint.specs.declared.places.PointFault.{PointFault}
 use Rattle.x509_lint.specs.declared.places.PointFault.TheVariants.{Relative, RelativeToSeveral, NoUri, OtherIssuer, ReasonsOrIssuer}

@@ -1,7 +1,7 @@
 -- The rules on lists of attributes, of CRL distribution points and of access descriptions (RFC 5280 4.2.1.8, 4.2.1.13, 4.2.1.15, 4.2.2): what breaks each, their order, and how each is told.
 use Rattle.std.specs.Prelude.{◌&&◌, Bool, not, List, [], ◌∷◌, codes, is_some}
 use Rattle.std.specs.List.{list_any}
-use Rattle.x509_cert.specs.ext.declared.pkix.distribution_point.DistributionPoint.{DistributionPoint}
+use Rattle.x509_ext.specs.declared.pkix.distribution_point.DistributionPoint.{DistributionPoint}
 use Rattle.x509_lint.specs.Place.{are_partial, ca_issuers, ca_repository, is_faulty_point, is_point_of, lacks_uri}
 use Rattle.x509_lint.specs.declared.places.PointFault.TheVariants.{Relative, RelativeToSeveral, NoUri, OtherIssuer}
 use Rattle.x509_lint.specs.Words.{Certificate, is_empty, passes}
@@ -42,23 +42,23 @@ abbrev pub point_rules : List PointRule
 point_rules = SubjectDirectoryAttributesEmpty ∷ CrlDistributionPointsEmpty ∷ DistributionPointEmpty ∷ DistributionPointRelative ∷ DistributionPointRelativeToSeveral ∷ DistributionPointWithoutUri ∷ DistributionPointIssuerInvalid ∷ DistributionPointOwnIssuer ∷ DistributionPointsPartial ∷ FreshestCrlEmpty ∷ FreshestCrlPointEmpty ∷ FreshestCrlPointRelative ∷ FreshestCrlPointRelativeToSeveral ∷ FreshestCrlPointWithoutUri ∷ FreshestCrlPointIssuerInvalid ∷ FreshestCrlPointOwnIssuer ∷ AuthorityInfoAccessEmpty ∷ CaIssuersWithoutUri ∷ SubjectInfoAccessEmpty ∷ CaRepositoryWithoutUri ∷ []
 
 abbrev pub point_wording : PointRule → Wording
-point_wording SubjectDirectoryAttributesEmpty = must (codes "subject_directory_attributes_empty") (codes "4.2.1.8")
-point_wording CrlDistributionPointsEmpty = must (codes "crl_distribution_points_empty") (codes "4.2.1.13")
-point_wording DistributionPointEmpty = must (codes "distribution_point_empty") (codes "4.2.1.13")
-point_wording DistributionPointRelative = should (codes "distribution_point_relative") (codes "4.2.1.13")
-point_wording DistributionPointRelativeToSeveral = must (codes "distribution_point_relative_to_several") (codes "4.2.1.13")
-point_wording DistributionPointWithoutUri = should (codes "distribution_point_without_uri") (codes "4.2.1.13")
-point_wording DistributionPointIssuerInvalid = must (codes "distribution_point_issuer_invalid") (codes "4.2.1.13")
-point_wording DistributionPointOwnIssuer = must (codes "distribution_point_own_issuer") (codes "4.2.1.13")
-point_wording DistributionPointsPartial = must (codes "distribution_points_partial") (codes "4.2.1.13")
-point_wording FreshestCrlEmpty = must (codes "freshest_crl_empty") (codes "4.2.1.15")
-point_wording FreshestCrlPointEmpty = must (codes "freshest_crl_point_empty") (codes "4.2.1.15")
-point_wording FreshestCrlPointRelative = should (codes "freshest_crl_point_relative") (codes "4.2.1.15")
-point_wording FreshestCrlPointRelativeToSeveral = must (codes "freshest_crl_point_relative_to_several") (codes "4.2.1.15")
-point_wording FreshestCrlPointWithoutUri = should (codes "freshest_crl_point_without_uri") (codes "4.2.1.15")
-point_wording FreshestCrlPointIssuerInvalid = must (codes "freshest_crl_point_issuer_invalid") (codes "4.2.1.15")
-point_wording FreshestCrlPointOwnIssuer = must (codes "freshest_crl_point_own_issuer") (codes "4.2.1.15")
-point_wording AuthorityInfoAccessEmpty = must (codes "authority_info_access_empty") (codes "4.2.2.1")
-point_wording CaIssuersWithoutUri = should (codes "ca_issuers_without_uri") (codes "4.2.2.1")
-point_wording SubjectInfoAccessEmpty = must (codes "subject_info_access_empty") (codes "4.2.2.2")
-point_wording CaRepositoryWithoutUri = should (codes "ca_repository_without_uri") (codes "4.2.2.2")
+point_wording SubjectDirectoryAttributesEmpty = must (codes "subject_directory_attributes_empty") (codes "4.2.1.8") (codes "tbsCertificate.extensions.subjectDirectoryAttributes")
+point_wording CrlDistributionPointsEmpty = must (codes "crl_distribution_points_empty") (codes "4.2.1.13") (codes "tbsCertificate.extensions.cRLDistributionPoints")
+point_wording DistributionPointEmpty = must (codes "distribution_point_empty") (codes "4.2.1.13") (codes "tbsCertificate.extensions.cRLDistributionPoints")
+point_wording DistributionPointRelative = should (codes "distribution_point_relative") (codes "4.2.1.13") (codes "tbsCertificate.extensions.cRLDistributionPoints")
+point_wording DistributionPointRelativeToSeveral = must (codes "distribution_point_relative_to_several") (codes "4.2.1.13") (codes "tbsCertificate.extensions.cRLDistributionPoints")
+point_wording DistributionPointWithoutUri = should (codes "distribution_point_without_uri") (codes "4.2.1.13") (codes "tbsCertificate.extensions.cRLDistributionPoints")
+point_wording DistributionPointIssuerInvalid = must (codes "distribution_point_issuer_invalid") (codes "4.2.1.13") (codes "tbsCertificate.extensions.cRLDistributionPoints")
+point_wording DistributionPointOwnIssuer = must (codes "distribution_point_own_issuer") (codes "4.2.1.13") (codes "tbsCertificate.extensions.cRLDistributionPoints")
+point_wording DistributionPointsPartial = must (codes "distribution_points_partial") (codes "4.2.1.13") (codes "tbsCertificate.extensions.cRLDistributionPoints")
+point_wording FreshestCrlEmpty = must (codes "freshest_crl_empty") (codes "4.2.1.15") (codes "tbsCertificate.extensions.freshestCRL")
+point_wording FreshestCrlPointEmpty = must (codes "freshest_crl_point_empty") (codes "4.2.1.15") (codes "tbsCertificate.extensions.freshestCRL")
+point_wording FreshestCrlPointRelative = should (codes "freshest_crl_point_relative") (codes "4.2.1.15") (codes "tbsCertificate.extensions.freshestCRL")
+point_wording FreshestCrlPointRelativeToSeveral = must (codes "freshest_crl_point_relative_to_several") (codes "4.2.1.15") (codes "tbsCertificate.extensions.freshestCRL")
+point_wording FreshestCrlPointWithoutUri = should (codes "freshest_crl_point_without_uri") (codes "4.2.1.15") (codes "tbsCertificate.extensions.freshestCRL")
+point_wording FreshestCrlPointIssuerInvalid = must (codes "freshest_crl_point_issuer_invalid") (codes "4.2.1.15") (codes "tbsCertificate.extensions.freshestCRL")
+point_wording FreshestCrlPointOwnIssuer = must (codes "freshest_crl_point_own_issuer") (codes "4.2.1.15") (codes "tbsCertificate.extensions.freshestCRL")
+point_wording AuthorityInfoAccessEmpty = must (codes "authority_info_access_empty") (codes "4.2.2.1") (codes "tbsCertificate.extensions.authorityInfoAccess")
+point_wording CaIssuersWithoutUri = should (codes "ca_issuers_without_uri") (codes "4.2.2.1") (codes "tbsCertificate.extensions.authorityInfoAccess")
+point_wording SubjectInfoAccessEmpty = must (codes "subject_info_access_empty") (codes "4.2.2.2") (codes "tbsCertificate.extensions.subjectInfoAccess")
+point_wording CaRepositoryWithoutUri = should (codes "ca_repository_without_uri") (codes "4.2.2.2") (codes "tbsCertificate.extensions.subjectInfoAccess")

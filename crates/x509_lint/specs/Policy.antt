@@ -1,10 +1,10 @@
 -- The rules on certificate policies, policy mappings and policy constraints (RFC 5280 4.2.1.4, 4.2.1.5, 4.2.1.11): what breaks each, their order, and how each is told.
 use Rattle.std.specs.Prelude.{◌&&◌, ◌||◌, Bool, not, ℕ, List, [], ◌∷◌, bytes_eq, codes, is_some}
 use Rattle.std.specs.List.{list_any}
-use Rattle.x509_cert.specs.ext.Identifiers.{id_pkix}
-use Rattle.x509_cert.specs.ext.declared.pkix.policy_information.PolicyInformation.{PolicyInformation}
-use Rattle.x509_cert.specs.ext.declared.pkix.policy_information.PolicyQualifierInfo.{PolicyQualifierInfo}
-use Rattle.x509_cert.specs.ext.declared.pkix.policy_mapping.PolicyMapping.{PolicyMapping}
+use Rattle.x509_ext.specs.Identifiers.{id_pkix}
+use Rattle.x509_ext.specs.declared.pkix.policy_information.PolicyInformation.{PolicyInformation}
+use Rattle.x509_ext.specs.declared.pkix.policy_information.PolicyQualifierInfo.{PolicyQualifierInfo}
+use Rattle.x509_ext.specs.declared.pkix.policy_mapping.PolicyMapping.{PolicyMapping}
 use Rattle.x509_lint.specs.Words.{Certificate, is_empty, passes}
 use Rattle.x509_lint.specs.declared.values.PolicyValues.{PolicyValues}
 use Rattle.x509_lint.specs.declared.rule.policy.PolicyRule.{PolicyRule}
@@ -47,16 +47,16 @@ abbrev pub policy_rules : List PolicyRule
 policy_rules = CertificatePoliciesEmpty ∷ CertificatePolicyRepeated ∷ PolicyQualifiersEmpty ∷ AnyPolicyQualifierInvalid ∷ ExplicitTextTooLong ∷ ExplicitTextEmpty ∷ ExplicitTextType ∷ ExplicitTextNotUtf8String ∷ ExplicitTextControl ∷ NoticeReferencePresent ∷ PolicyMappingsEmpty ∷ PolicyMappingAnyPolicy ∷ PolicyConstraintsEmpty ∷ []
 
 abbrev pub policy_wording : PolicyRule → Wording
-policy_wording CertificatePoliciesEmpty = must (codes "certificate_policies_empty") (codes "4.2.1.4")
-policy_wording CertificatePolicyRepeated = must (codes "certificate_policy_repeated") (codes "4.2.1.4")
-policy_wording PolicyQualifiersEmpty = must (codes "policy_qualifiers_empty") (codes "4.2.1.4")
-policy_wording AnyPolicyQualifierInvalid = must (codes "any_policy_qualifier_invalid") (codes "4.2.1.4")
-policy_wording ExplicitTextTooLong = must (codes "explicit_text_too_long") (codes "4.2.1.4")
-policy_wording ExplicitTextEmpty = must (codes "explicit_text_empty") (codes "4.2.1.4")
-policy_wording ExplicitTextType = must (codes "explicit_text_type") (codes "4.2.1.4")
-policy_wording ExplicitTextNotUtf8String = should (codes "explicit_text_not_utf8_string") (codes "4.2.1.4")
-policy_wording ExplicitTextControl = should (codes "explicit_text_control") (codes "4.2.1.4")
-policy_wording NoticeReferencePresent = should (codes "notice_reference_present") (codes "4.2.1.4")
-policy_wording PolicyMappingsEmpty = must (codes "policy_mappings_empty") (codes "4.2.1.5")
-policy_wording PolicyMappingAnyPolicy = must (codes "policy_mapping_any_policy") (codes "4.2.1.5")
-policy_wording PolicyConstraintsEmpty = must (codes "policy_constraints_empty") (codes "4.2.1.11")
+policy_wording CertificatePoliciesEmpty = must (codes "certificate_policies_empty") (codes "4.2.1.4") (codes "tbsCertificate.extensions.certificatePolicies")
+policy_wording CertificatePolicyRepeated = must (codes "certificate_policy_repeated") (codes "4.2.1.4") (codes "tbsCertificate.extensions.certificatePolicies")
+policy_wording PolicyQualifiersEmpty = must (codes "policy_qualifiers_empty") (codes "4.2.1.4") (codes "tbsCertificate.extensions.certificatePolicies")
+policy_wording AnyPolicyQualifierInvalid = must (codes "any_policy_qualifier_invalid") (codes "4.2.1.4") (codes "tbsCertificate.extensions.certificatePolicies")
+policy_wording ExplicitTextTooLong = must (codes "explicit_text_too_long") (codes "4.2.1.4") (codes "tbsCertificate.extensions.certificatePolicies")
+policy_wording ExplicitTextEmpty = must (codes "explicit_text_empty") (codes "4.2.1.4") (codes "tbsCertificate.extensions.certificatePolicies")
+policy_wording ExplicitTextType = must (codes "explicit_text_type") (codes "4.2.1.4") (codes "tbsCertificate.extensions.certificatePolicies")
+policy_wording ExplicitTextNotUtf8String = should (codes "explicit_text_not_utf8_string") (codes "4.2.1.4") (codes "tbsCertificate.extensions.certificatePolicies")
+policy_wording ExplicitTextControl = should (codes "explicit_text_control") (codes "4.2.1.4") (codes "tbsCertificate.extensions.certificatePolicies")
+policy_wording NoticeReferencePresent = should (codes "notice_reference_present") (codes "4.2.1.4") (codes "tbsCertificate.extensions.certificatePolicies")
+policy_wording PolicyMappingsEmpty = must (codes "policy_mappings_empty") (codes "4.2.1.5") (codes "tbsCertificate.extensions.policyMappings")
+policy_wording PolicyMappingAnyPolicy = must (codes "policy_mapping_any_policy") (codes "4.2.1.5") (codes "tbsCertificate.extensions.policyMappings")
+policy_wording PolicyConstraintsEmpty = must (codes "policy_constraints_empty") (codes "4.2.1.11") (codes "tbsCertificate.extensions.policyConstraints")

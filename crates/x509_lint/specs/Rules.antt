@@ -1,5 +1,6 @@
--- All rules: which of them are asked of certificates and of CRLs, in which order, and what breaks each.
+-- All rules: which of them are asked of certificates, of CRLs and of CSRs, in which order, and what breaks each.
 use Rattle.std.specs.Prelude.{◌≡◌, Bool, false, List, ◌++◌, map, filter}
+use Rattle.x509_cert.specs.declared.request.cert_req.CertReq.{CertReq}
 use Rattle.x509_lint.specs.Alternative as alternative
 use Rattle.x509_lint.specs.Authority as authority
 use Rattle.x509_lint.specs.Constraint as constraint
@@ -13,11 +14,13 @@ use Rattle.x509_lint.specs.List as list
 use Rattle.x509_lint.specs.Name as name
 use Rattle.x509_lint.specs.Point as point
 use Rattle.x509_lint.specs.Policy as policy
+use Rattle.x509_lint.specs.Request as request
 use Rattle.x509_lint.specs.Values.{AreCertificateParts, AreCrlParts, CertificateParts, CrlParts}
 use Rattle.x509_lint.specs.Words.{Certificate, Crl}
 use Rattle.x509_lint.specs.Wording.{Wording}
+use Rattle.x509_lint.specs.declared.request.values.RequestValues.{RequestValues}
 use Rattle.x509_lint.specs.declared.rule.Rule.{Rule}
-use Rattle.x509_lint.specs.declared.rule.Rule.TheVariants.{Field, Name, ExtensionList, Critical, Authority, Key, Alternative, Policy, Constraint, Point, CrlField, CrlExtension, CrlEntry}
+use Rattle.x509_lint.specs.declared.rule.Rule.TheVariants.{Field, Name, ExtensionList, Critical, Authority, Key, Alternative, Policy, Constraint, Point, CrlField, CrlExtension, CrlEntry, Request}
 
 abbrev pub rule_wording : Rule → Wording
 rule_wording (Field rule) = field.field_wording rule
@@ -33,6 +36,7 @@ rule_wording (Point rule) = point.point_wording rule
 rule_wording (CrlField rule) = crl_field.crl_field_wording rule
 rule_wording (CrlExtension rule) = crl_extension.crl_extension_wording rule
 rule_wording (CrlEntry rule) = crl_entry.crl_entry_wording rule
+rule_wording (Request rule) = request.request_wording rule
 
 -- ---- certificates (RFC 5280 4.1, 4.2)
 
@@ -57,6 +61,7 @@ breaks c parts (Point rule) = point.breaks_point c parts.point rule
 breaks c parts (CrlField rule) = false
 breaks c parts (CrlExtension rule) = false
 breaks c parts (CrlEntry rule) = false
+breaks c parts (Request rule) = false
 
 -- the findings are those of the rules that the certificate breaks, in the order of the rules
 abbrev pub AreFindings : Certificate → List Rule → Type 0
@@ -81,6 +86,13 @@ crl_breaks l parts (Point rule) = false
 crl_breaks l parts (CrlField rule) = crl_field.breaks_crl_field l parts.facts rule
 crl_breaks l parts (CrlExtension rule) = crl_extension.breaks_crl_extension l parts.values rule
 crl_breaks l parts (CrlEntry rule) = crl_entry.breaks_crl_entry l parts.values rule
+crl_breaks l parts (Request rule) = false
 
 abbrev pub AreCrlFindings : Crl → List Rule → Type 0
 AreCrlFindings l findings = (parts : CrlParts) × AreCrlParts l parts × (findings ≡ filter (crl_breaks l parts) crl_rules)
+
+-- ---- CSRs (RFC 2986 4.1, RFC 2985 5.4)
+
+abbrev pub AreRequestFindings : CertReq → List Rule → Type 0
+AreRequestFindings r findings =
+    (values : RequestValues) × request.AreRequestValues r values × (findings ≡ map Request (filter (request.breaks_request r values) request.request_rules))

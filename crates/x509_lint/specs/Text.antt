@@ -2,9 +2,9 @@
 use Rattle.std.specs.Prelude.{◌&&◌, ◌||◌, ◌==◌, ◌/◌, ◌%◌, ℕ, Bool, true, false, not, nat_le, nat_lt, List, [], ◌∷◌, length, bytes_eq, if◌then◌else◌}
 use Rattle.std.specs.List.{list_all, list_any}
 use Rattle.std.specs.Str.{chars, is_utf8}
-use Rattle.x509_cert.specs.der.declared.tag.Tag.{Tag}
-use Rattle.x509_cert.specs.der.declared.tag.Tag.TheVariants.{BmpString, Ia5String, NumericString, PrintableString, TeletexString, UniversalString, Utf8String, VisibleString}
-use Rattle.x509_cert.specs.name.declared.attr.type_and_value.AttributeTypeAndValue.{AttributeTypeAndValue}
+use Rattle.x509_der.specs.declared.tag.Tag.{Tag}
+use Rattle.x509_der.specs.declared.tag.Tag.TheVariants.{BmpString, Ia5String, NumericString, PrintableString, TeletexString, UniversalString, Utf8String, VisibleString}
+use Rattle.x509_name.specs.declared.attr.type_and_value.AttributeTypeAndValue.{AttributeTypeAndValue}
 use Rattle.x509_lint.specs.declared.texts.TextFault.{TextFault}
 use Rattle.x509_lint.specs.declared.texts.TextFault.TheVariants.{OtherType, OldType, OtherCharacter, Size}
 

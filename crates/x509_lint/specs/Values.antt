@@ -1,36 +1,35 @@
 -- What rules look at, beside the object itself: the values of its extensions, and what is asked of it once.
 use Rattle.std.specs.Prelude.{◌≡◌, ◌≢◌, ◌↔◌, IsTrue, ℕ, List, [], Option, Some, None, map}
 use Rattle.std.specs.List.{All}
-use Rattle.x509_cert.specs.der.Form.{Form, Spells}
-use Rattle.x509_cert.specs.ext.Access.{authority_info_access_syntax, subject_info_access_syntax}
-use Rattle.x509_cert.specs.ext.AlternativeNames.{issuer_alt_name, subject_alt_name}
-use Rattle.x509_cert.specs.ext.AuthorityKeyIdentifier.{authority_key_identifier}
-use Rattle.x509_cert.specs.ext.BasicConstraints.{basic_constraints}
-use Rattle.x509_cert.specs.ext.ExtendedKeyUsage.{extended_key_usage}
-use Rattle.x509_cert.specs.ext.KeyUsage.{key_usage}
-use Rattle.x509_cert.specs.ext.PrivateKeyUsagePeriod.{private_key_usage_period}
-use Rattle.x509_cert.specs.ext.SubjectDirectoryAttributes.{subject_directory_attributes}
-use Rattle.x509_cert.specs.ext.SubjectKeyIdentifier.{subject_key_identifier}
-use Rattle.x509_cert.specs.ext.Identifiers.{id_ce, id_pkix}
-use Rattle.x509_cert.specs.ext.LookUp.{IsRepeated, members}
-use Rattle.x509_cert.specs.ext.declared.extension.Extension.{Extension}
+use Rattle.x509_der.specs.Form.{Form}
+use Rattle.x509_ext.specs.Access.{authority_info_access_syntax, subject_info_access_syntax}
+use Rattle.x509_ext.specs.AlternativeNames.{issuer_alt_name, subject_alt_name}
+use Rattle.x509_ext.specs.AuthorityKeyIdentifier.{authority_key_identifier}
+use Rattle.x509_ext.specs.BasicConstraints.{basic_constraints}
+use Rattle.x509_ext.specs.ExtendedKeyUsage.{extended_key_usage}
+use Rattle.x509_ext.specs.KeyUsage.{key_usage}
+use Rattle.x509_ext.specs.PrivateKeyUsagePeriod.{private_key_usage_period}
+use Rattle.x509_ext.specs.SubjectDirectoryAttributes.{subject_directory_attributes}
+use Rattle.x509_ext.specs.Identifiers.{id_ce, id_pkix}
+use Rattle.x509_ext.specs.LookUp.{IsRepeated, members}
+use Rattle.x509_ext.specs.declared.extension.Extension.{Extension}
 use Rattle.x509_cert.specs.Revoked.{entries}
-use Rattle.x509_cert.specs.base.declared.profile.Raw.{Raw}
+use Rattle.x509_base.specs.declared.profile.Raw.{Raw}
 use Rattle.x509_cert.specs.declared.crl.revoked_cert.RevokedCert.{RevokedCert}
-use Rattle.x509_cert.specs.ext.CrlNumber.{base_crl_number, crl_number}
-use Rattle.x509_cert.specs.ext.DistributionPoint.{crl_distribution_points, freshest_crl}
-use Rattle.x509_cert.specs.ext.IssuingDistributionPoint.{issuing_distribution_point}
-use Rattle.x509_cert.specs.ext.NameConstraints.{name_constraints}
-use Rattle.x509_cert.specs.ext.CertificatePolicies.{certificate_policies}
-use Rattle.x509_cert.specs.ext.declared.pkix.certificate_policies.CertificatePolicies.{CertificatePolicies}
-use Rattle.x509_cert.specs.ext.declared.pkix.policy_information.PolicyInformation.{PolicyInformation}
+use Rattle.x509_ext.specs.CrlNumber.{crl_number}
+use Rattle.x509_ext.specs.DistributionPoint.{crl_distribution_points, freshest_crl}
+use Rattle.x509_ext.specs.IssuingDistributionPoint.{issuing_distribution_point}
+use Rattle.x509_ext.specs.NameConstraints.{name_constraints}
+use Rattle.x509_ext.specs.CertificatePolicies.{certificate_policies}
+use Rattle.x509_ext.specs.declared.pkix.certificate_policies.CertificatePolicies.{CertificatePolicies}
+use Rattle.x509_ext.specs.declared.pkix.policy_information.PolicyInformation.{PolicyInformation}
 use Rattle.x509_der.specs.Set.{AreDistinct}
-use Rattle.x509_cert.specs.ext.InhibitAnyPolicy.{inhibit_any_policy}
-use Rattle.x509_cert.specs.ext.PolicyConstraints.{policy_constraints}
-use Rattle.x509_cert.specs.ext.PolicyMapping.{policy_mappings}
+use Rattle.x509_ext.specs.PolicyConstraints.{policy_constraints}
+use Rattle.x509_ext.specs.PolicyMapping.{policy_mappings}
 use Rattle.x509_lint.specs.BasicConstraints.{any_basic_constraints}
 use Rattle.x509_lint.specs.Notices.{has_faulty_notice}
 use Rattle.x509_lint.specs.declared.notices.NoticeFault.TheVariants.{Long, NoText, OldType, Ia5Type, Control, Reference}
+use Rattle.x509_lint.specs.Read.{AreExtensionsRead, IsCrlRead}
 use Rattle.x509_lint.specs.Words.{Certificate, Crl, IsValue, crl_extensions_of, extensions_of}
 use Rattle.x509_lint.specs.declared.facts.CertificateFacts.{CertificateFacts}
 use Rattle.x509_lint.specs.declared.facts.CrlFacts.{CrlFacts}
@@ -103,38 +102,7 @@ AreCrlValues extensions v =
     × IsValue freshest_crl (id_ce 46) extensions v.freshest_crl
     × IsValue authority_info_access_syntax (id_pkix 1 1) extensions v.authority_info_access
 
--- ---- octets of extensions (RFC 5280 4.2)
-
--- where the extension has the OID, its octets spell a value
-abbrev pub IsWellFormedAs : {T : Type 0} → Form T → List ℕ → Extension → Type 0
-IsWellFormedAs {T} form oid e = e.extn_id ≡ oid → (value : T) × Spells form value e.extn_value
-
-unfoldable pub AreKeysWellFormed : Extension → Type 0
-AreKeysWellFormed e =
-    IsWellFormedAs authority_key_identifier (id_ce 35) e × IsWellFormedAs subject_key_identifier (id_ce 14) e × IsWellFormedAs key_usage (id_ce 15) e
-    × IsWellFormedAs extended_key_usage (id_ce 37) e × IsWellFormedAs private_key_usage_period (id_ce 16) e × IsWellFormedAs any_basic_constraints (id_ce 19) e
-
-unfoldable pub AreNamesWellFormed : Extension → Type 0
-AreNamesWellFormed e =
-    IsWellFormedAs subject_alt_name (id_ce 17) e × IsWellFormedAs issuer_alt_name (id_ce 18) e × IsWellFormedAs subject_directory_attributes (id_ce 9) e
-    × IsWellFormedAs name_constraints (id_ce 30) e × IsWellFormedAs authority_info_access_syntax (id_pkix 1 1) e
-    × IsWellFormedAs subject_info_access_syntax (id_pkix 1 11) e
-
-unfoldable pub ArePoliciesWellFormed : Extension → Type 0
-ArePoliciesWellFormed e =
-    IsWellFormedAs certificate_policies (id_ce 32) e × IsWellFormedAs policy_mappings (id_ce 33) e × IsWellFormedAs policy_constraints (id_ce 36) e
-    × IsWellFormedAs inhibit_any_policy (id_ce 54) e × IsWellFormedAs crl_distribution_points (id_ce 31) e × IsWellFormedAs freshest_crl (id_ce 46) e
-
--- where it has the OID of a type of RFC 5280, its octets spell a value of the type
-unfoldable pub IsWellFormed : Extension → Type 0
-IsWellFormed e = AreKeysWellFormed e × AreNamesWellFormed e × ArePoliciesWellFormed e
-
--- where it has the OID of a type of RFC 5280 5.2, its octets spell a value of the type
-unfoldable pub IsCrlWellFormed : Extension → Type 0
-IsCrlWellFormed e =
-    IsWellFormedAs authority_key_identifier (id_ce 35) e × IsWellFormedAs issuer_alt_name (id_ce 18) e × IsWellFormedAs crl_number (id_ce 20) e
-    × IsWellFormedAs base_crl_number (id_ce 27) e × IsWellFormedAs issuing_distribution_point (id_ce 28) e × IsWellFormedAs freshest_crl (id_ce 46) e
-    × IsWellFormedAs authority_info_access_syntax (id_pkix 1 1) e
+-- ---- extensions of entries
 
 -- no two extensions of the entry have one OID (RFC 5280 5.3)
 unfoldable pub IsDistinct : RevokedCert Raw → Type 0
@@ -146,13 +114,13 @@ abbrev pub AreCertificateFacts : Certificate → CertificateFacts → Type 0
 AreCertificateFacts c facts =
     (IsTrue facts.algorithms_differ ↔ (c.tbs_certificate.signature ≢ c.signature_algorithm))
     × (IsTrue facts.is_repeated ↔ IsRepeated (extensions_of c))
-    × (IsTrue facts.are_well_formed ↔ All IsWellFormed (extensions_of c))
+    × AreExtensionsRead (extensions_of c) facts.read
 
 abbrev pub AreCrlFacts : Crl → CrlFacts → Type 0
 AreCrlFacts l facts =
     (IsTrue facts.algorithms_differ ↔ (l.tbs_cert_list.signature ≢ l.signature_algorithm))
     × (IsTrue facts.is_repeated ↔ IsRepeated (crl_extensions_of l))
-    × (IsTrue facts.are_well_formed ↔ All IsCrlWellFormed (crl_extensions_of l))
+    × IsCrlRead (crl_extensions_of l) facts.read
     × (IsTrue facts.are_serials_distinct ↔ AreDistinct (serials (entries l.tbs_cert_list.revoked_certificates)))
     × (IsTrue facts.are_entries_distinct ↔ All IsDistinct (entries l.tbs_cert_list.revoked_certificates))
 

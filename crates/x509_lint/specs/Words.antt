@@ -1,16 +1,16 @@
 -- Words that several rules use.
 use Rattle.std.specs.Prelude.{◌≡◌, ◌↔◌, ◌&&◌, ◌==◌, ℕ, Bool, false, not, nat_lt, List, [], ◌∷◌, length, Option, Some, None, bytes_eq}
 use Rattle.std.specs.List.{list_any}
-use Rattle.x509_cert.specs.base.CivilTime.{unix_seconds}
-use Rattle.x509_cert.specs.base.Time.{date_time_of}
-use Rattle.x509_cert.specs.base.declared.profile.Raw.{Raw}
-use Rattle.x509_cert.specs.base.declared.time.Time.{Time}
-use Rattle.x509_cert.specs.base.declared.time.Time.TheVariants.{UtcTime, GeneralTime}
+use Rattle.x509_base.specs.CivilTime.{unix_seconds}
+use Rattle.x509_base.specs.Time.{date_time_of}
+use Rattle.x509_base.specs.declared.profile.Raw.{Raw}
+use Rattle.x509_base.specs.declared.time.Time.{Time}
+use Rattle.x509_base.specs.declared.time.Time.TheVariants.{UtcTime, GeneralTime}
 use Rattle.x509_cert.specs.declared.certificate.certificate.CertificateInner.{CertificateInner}
 use Rattle.x509_cert.specs.declared.crl.certificate_list.CertificateList.{CertificateList}
-use Rattle.x509_cert.specs.der.Form.{Form, Spells}
-use Rattle.x509_cert.specs.ext.LookUp.{members, with_oid}
-use Rattle.x509_cert.specs.ext.declared.extension.Extension.{Extension}
+use Rattle.x509_der.specs.Form.{Form, Spells}
+use Rattle.x509_ext.specs.LookUp.{members, with_oid}
+use Rattle.x509_ext.specs.declared.extension.Extension.{Extension}
 
 -- a certificate, and a CRL, whose serial numbers may have any number of octets
 abbrev pub Certificate : Type 0

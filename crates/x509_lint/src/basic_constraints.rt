@@ -1,11 +1,11 @@
 //! Basic constraints with a path length of any size.
 
 use std::alloc::Global;
-use x509_cert::der::asn1::Uint;
 use x509_der::{
     AssociatedOid, Content, Error, ObjectIdentifier, PutPart, Room, Spelled, Tag, defaulted, end,
     oid, option_has_spelling, optional, read_defaulted, read_optional,
 };
+use x509_prim::Uint;
 
 /// Basic constraints as RFC 5280 4.2.1.9 allows them: [`x509_cert`]'s have a path length of 255 at most.
 ///
@@ -15,12 +15,12 @@ use x509_der::{
 ///     pathLenConstraint  INTEGER (0..MAX) OPTIONAL }
 /// ```
 #[derive(Debug)]
-pub(crate) struct AnyBasicConstraints {
+pub struct AnyBasicConstraints {
     /// Whether the key may verify signatures of certificates.
-    pub(crate) ca: bool,
+    pub ca: bool,
 
     /// How many intermediate certificates that aren't self-issued may follow, at most; any number where absent.
-    pub(crate) path_len_constraint: Option<Uint>,
+    pub path_len_constraint: Option<Uint>,
 }
 
 impl Drop for AnyBasicConstraints {
@@ -33,7 +33,7 @@ impl Drop for AnyBasicConstraints {
 }
 
 impl AssociatedOid for AnyBasicConstraints {
-    ghost use Rattle.x509_cert.specs.ext.Identifiers.{id_ce};
+    ghost use Rattle.x509_ext.specs.Identifiers.{id_ce};
 
     ghost OID = { id_ce 19 };
 

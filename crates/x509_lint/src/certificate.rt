@@ -1,7 +1,7 @@
 //! The rules on certificates.
 
 ghost use Rattle.std.specs.Prelude.{◌≡◌, ◌++◌, filter, map, IfErr, IfOk, OnOk};
-ghost use Rattle.x509_cert.specs.der.declared.error.ErrorKind.TheVariants.{Memory};
+ghost use Rattle.x509_der.specs.declared.error.ErrorKind.TheVariants.{Memory};
 ghost use Rattle.x509_lint.specs.Alternative as alternative_rules;
 ghost use Rattle.x509_lint.specs.Authority as authority_rules;
 ghost use Rattle.x509_lint.specs.Constraint as constraint_rules;
@@ -54,8 +54,9 @@ use crate::values::{
     policy_values,
 };
 use std::alloc::Global;
-use x509_cert::certificate::{CertificateInner, Raw};
-use x509_cert::der::Error;
+use x509_base::Raw;
+use x509_cert::certificate::CertificateInner;
+use x509_der::Error;
 
 /// Adds the rules on fields, names, the list of extensions and criticality that are broken.
 fn add_first(

@@ -1,7 +1,7 @@
 //! The rules on CRLs.
 
 ghost use Rattle.std.specs.Prelude.{◌≡◌, IfErr, IfOk};
-ghost use Rattle.x509_cert.specs.der.declared.error.ErrorKind.TheVariants.{Memory};
+ghost use Rattle.x509_der.specs.declared.error.ErrorKind.TheVariants.{Memory};
 ghost use Rattle.x509_lint.specs.Rules.{AreCrlFindings};
 
 mod entry;
@@ -16,10 +16,10 @@ use crate::rule::crl_extension::CRL_EXTENSION_RULES;
 use crate::rule::crl_field::CRL_FIELD_RULES;
 use crate::values::crl_values;
 use std::alloc::Global;
-use x509_cert::certificate::Raw;
+use x509_base::Raw;
 use x509_cert::crl::CertificateList;
-use x509_cert::der::Error;
-use x509_cert::ext::members;
+use x509_der::Error;
+use x509_ext::members;
 
 /// The rules of RFC 5280 5.1 to 5.3 that the CRL breaks, in the order of `crl_rules` in `specs/Rules.antt`: those on its
 /// fields, then those on its extensions, then those on the extensions of its entries; in each of these by section.

@@ -2,8 +2,8 @@
 
 ghost use Rattle.std.specs.List.{All, list_all, list_any};
 ghost use Rattle.std.specs.Prelude.{◌≡◌, ◌↔◌, [], ◌∷◌, IfErr, IfOk, IsTrue, bytes_eq};
-ghost use Rattle.x509_cert.specs.der.declared.error.ErrorKind.TheVariants.{Memory};
-ghost use Rattle.x509_cert.specs.ext.LookUp.{members};
+ghost use Rattle.x509_der.specs.declared.error.ErrorKind.TheVariants.{Memory};
+ghost use Rattle.x509_ext.specs.LookUp.{members};
 ghost use Rattle.x509_lint.specs.CrlEntry.{is_date, is_faulty, is_reason, reason_octets};
 ghost use Rattle.x509_lint.specs.Text.{is_digit};
 ghost use Rattle.x509_lint.specs.Values.{IsDistinct};
@@ -11,12 +11,11 @@ ghost use Rattle.x509_lint.specs.Values.{IsDistinct};
 use crate::extensions::{is_critical, is_of, is_uncritical};
 use crate::texts::is_digit;
 use std::alloc::Global;
-use x509_cert::certificate::Raw;
+use x509_base::Raw;
 use x509_cert::crl::RevokedCert;
-use x509_cert::der::Error;
-use x509_cert::ext::pkix::{CertificateIssuer, CrlReason};
-use x509_cert::ext::{Extension, has_repeated_extension, members};
-use x509_der::{AssociatedOid, ObjectIdentifier, oid};
+use x509_der::{AssociatedOid, Error, ObjectIdentifier, oid};
+use x509_ext::pkix::{CertificateIssuer, CrlReason};
+use x509_ext::{Extension, has_repeated_extension, members};
 
 /// What may be wrong with an extension of an entry (RFC 5280 5.3).
 #[derive(Clone, Copy, Debug, PartialEq, Eq)]
@@ -51,7 +50,7 @@ pub(crate) enum EntryFault {
 struct InvalidityDate;
 
 impl AssociatedOid for InvalidityDate {
-    ghost use Rattle.x509_cert.specs.ext.Identifiers.{id_ce};
+    ghost use Rattle.x509_ext.specs.Identifiers.{id_ce};
 
     ghost OID = { id_ce 24 };
 

@@ -1,24 +1,24 @@
 //! How a rule is told.
 
-ghost use Rattle.std.specs.Prelude.{Some};
-ghost use Rattle.x509_lint.specs.Wording.{Says, must, not_judged, should, severity_text};
+ghost use Rattle.std.specs.Prelude.{Some, codes};
+ghost use Rattle.x509_lint.specs.Wording.{Says, must, must_of, not_judged, severity_text, should, should_of};
 
 use std::fmt;
 
 /// How bad it is to break a rule. It is printed as `error`, `warning` or `not judged`.
 #[derive(Clone, Copy, Debug, PartialEq, Eq)]
 pub enum Severity {
-    /// RFC 5280 says MUST or MUST NOT, or its grammar has a size or a type that isn't met.
+    /// The standard says MUST or MUST NOT, or its grammar has a size or a type that isn't met.
     Error,
 
-    /// RFC 5280 says SHOULD or SHOULD NOT.
+    /// The standard says SHOULD or SHOULD NOT.
     Warning,
 
-    /// RFC 5280 allows it, and this library doesn't read it: rules on it aren't judged.
+    /// The standard allows it, and this library doesn't read it: rules on it aren't judged.
     NotJudged,
 }
 
-/// How bad it is to break a rule, its name, and its section of RFC 5280.
+/// How bad it is to break a rule, its name, its standard with its section, and where in the object it is broken.
 #[derive(Clone, Copy, Debug)]
 pub struct Entry {
     /// How bad it is to break the rule.
@@ -27,40 +27,77 @@ pub struct Entry {
     /// The name of the rule, as `serial_number_not_positive`.
     pub name: &'static str,
 
-    /// The section, as `4.1.2.2`.
+    /// The standard, as `RFC 5280`.
+    pub standard: &'static str,
+
+    /// The section of the standard, as `4.1.2.2`.
     pub section: &'static str,
+
+    /// Where in the object the rule is broken, in the field names of the standard, as `tbsCertificate.serialNumber`. An extension is named behind its list, as in
+    /// `tbsCertificate.extensions.keyUsage`, also one that is wanted and isn't there.
+    pub place: &'static str,
 }
 
-/// The entry of a rule that has to be kept.
-pub(crate) fn must(name: &'static str, section: &'static str) -> Entry
-    ensures { Says result (must name.now section.now) }
+/// The entry of a rule of RFC 5280 that has to be kept.
+pub(crate) fn must(name: &'static str, section: &'static str, place: &'static str) -> Entry
+    ensures { Says result (must name.now section.now place.now) }
 {
-    Entry {
-        severity: Severity::Error,
-        name,
-        section,
-    }
+    must_of("RFC 5280", name, section, place)
 }
 
-/// The entry of a rule that ought to be kept.
-pub(crate) fn should(name: &'static str, section: &'static str) -> Entry
-    ensures { Says result (should name.now section.now) }
+/// The entry of a rule of RFC 5280 that ought to be kept.
+pub(crate) fn should(name: &'static str, section: &'static str, place: &'static str) -> Entry
+    ensures { Says result (should name.now section.now place.now) }
 {
-    Entry {
-        severity: Severity::Warning,
-        name,
-        section,
-    }
+    should_of("RFC 5280", name, section, place)
 }
 
 /// The entry of what RFC 5280 allows and this library doesn't read.
-pub(crate) fn not_judged(name: &'static str, section: &'static str) -> Entry
-    ensures { Says result (not_judged name.now section.now) }
+pub(crate) fn not_judged(name: &'static str, section: &'static str, place: &'static str) -> Entry
+    ensures { Says result (not_judged name.now section.now place.now) }
 {
     Entry {
         severity: Severity::NotJudged,
         name,
+        standard: "RFC 5280",
         section,
+        place,
+    }
+}
+
+/// The entry of a rule of a standard that has to be kept.
+pub(crate) fn must_of(
+    standard: &'static str,
+    name: &'static str,
+    section: &'static str,
+    place: &'static str,
+) -> Entry
+    ensures { Says result (must_of standard.now name.now section.now place.now) }
+{
+    Entry {
+        severity: Severity::Error,
+        name,
+        standard,
+        section,
+        place,
+    }
+}
+
+/// The entry of a rule of a standard that ought to be kept.
+pub(crate) fn should_of(
+    standard: &'static str,
+    name: &'static str,
+    section: &'static str,
+    place: &'static str,
+) -> Entry
+    ensures { Says result (should_of standard.now name.now section.now place.now) }
+{
+    Entry {
+        severity: Severity::Warning,
+        name,
+        standard,
+        section,
+        place,
     }
 }
 

@@ -1,18 +1,20 @@
 //! What is asked of an object once: what takes memory, or compares values as a whole.
 
 ghost use Rattle.std.specs.Prelude.{◌≡◌, ◌≢◌, ◌↔◌, IsTrue, IfOk, IfErr};
-ghost use Rattle.x509_cert.specs.der.declared.error.ErrorKind.TheVariants.{Memory};
+ghost use Rattle.x509_der.specs.declared.error.ErrorKind.TheVariants.{Memory};
 ghost use Rattle.x509_lint.specs.Values.{AreCertificateFacts, AreCrlFacts};
 
 use crate::entries::are_entries_distinct;
-use crate::extensions::{are_crl_well_formed, are_well_formed, extensions_of};
+use crate::extensions::extensions_of;
+use crate::read::{CrlRead, ExtensionsRead, crl_read, extensions_read};
 use crate::repeats::are_serials_distinct;
 use std::alloc::Global;
-use x509_cert::certificate::{CertificateInner, Raw};
+use x509_base::Raw;
+use x509_base::laws::equality_of_keys_is_exact;
+use x509_cert::certificate::CertificateInner;
 use x509_cert::crl::CertificateList;
-use x509_cert::der::Error;
-use x509_cert::ext::{has_repeated_extension, members};
-use x509_cert::laws::base::equality_of_keys_is_exact;
+use x509_der::Error;
+use x509_ext::{has_repeated_extension, members};
 
 /// What is asked of a certificate once.
 #[derive(Clone, Copy, Debug, PartialEq, Eq)]
@@ -23,8 +25,8 @@ pub(crate) struct CertificateFacts {
     /// Two extensions have one OID.
     pub(crate) is_repeated: bool,
 
-    /// The octets of each extension are an encoding of the type that RFC 5280 has for its OID, where it has one.
-    pub(crate) are_well_formed: bool,
+    /// Which types of extensions are read.
+    pub(crate) read: ExtensionsRead,
 }
 
 /// What is asked of a CRL once.
@@ -36,8 +38,8 @@ pub(crate) struct CrlFacts {
     /// Two extensions have one OID.
     pub(crate) is_repeated: bool,
 
-    /// The octets of each extension are an encoding of the type that RFC 5280 has for its OID, where it has one.
-    pub(crate) are_well_formed: bool,
+    /// Which types of extensions are read.
+    pub(crate) read: CrlRead,
 
     /// No two entries have one serial number.
     pub(crate) are_serials_distinct: bool,
@@ -71,11 +73,11 @@ pub(crate) fn certificate_facts(
     let extensions = extensions_of(certificate);
     let algorithms_differ = do_algorithms_differ(certificate);
     let is_repeated = has_repeated_extension(alloc, extensions)?;
-    let are_well_formed = are_well_formed(alloc, extensions)?;
+    let read = extensions_read(alloc, extensions)?;
     Ok(CertificateFacts {
         algorithms_differ,
         is_repeated,
-        are_well_formed,
+        read,
     })
 }
 
@@ -87,13 +89,13 @@ pub(crate) fn crl_facts(alloc: Global, crl: &CertificateList<Raw>) -> Result<Crl
     let algorithms_differ = do_crl_algorithms_differ(crl);
     let extensions = members(crl.tbs_cert_list.crl_extensions.as_ref());
     let is_repeated = has_repeated_extension(alloc, extensions)?;
-    let are_well_formed = are_crl_well_formed(alloc, extensions)?;
+    let read = crl_read(alloc, extensions)?;
     let are_serials_distinct = are_serials_distinct(alloc, crl.tbs_cert_list.entries())?;
     let are_entries_distinct = are_entries_distinct(alloc, crl.tbs_cert_list.entries())?;
     Ok(CrlFacts {
         algorithms_differ,
         is_repeated,
-        are_well_formed,
+        read,
         are_serials_distinct,
         are_entries_distinct,
     })

@@ -1,4 +1,4 @@
-//! The rules of RFC 5280 on certificates and CRLs that no grammar has: which of them an object breaks.
+//! The rules on certificates, CRLs (RFC 5280) and CSRs (RFC 2986, 2985) that no grammar has: which of them an object breaks.
 //!
 //! Words of our own are explained in `docs/MAP.md`.
 #![tactic(auto)]
@@ -8,21 +8,27 @@ mod certificate;
 mod crl;
 mod entries;
 mod entry;
-mod extensions;
+pub mod extensions;
 mod facts;
 mod group;
 mod names;
 mod notices;
 mod places;
+mod read;
 mod repeats;
 mod report;
+mod request;
 pub mod rule;
+mod seen;
 mod texts;
 mod times;
 mod values;
 
+pub use basic_constraints::AnyBasicConstraints;
 pub use certificate::lint_certificate;
 pub use crl::lint_crl;
 pub use entry::{Entry, Severity};
-pub use report::{Report, lint_bytes};
+pub use names::behind_wildcard;
+pub use report::{Kind, Report, Style, lint_bytes, lint_kind};
+pub use request::lint_request;
 pub use rule::Rule;

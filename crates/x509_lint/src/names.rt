@@ -8,12 +8,11 @@ ghost use Rattle.x509_lint.specs.Constraint.{behind_dot, has_fault, has_odd_mask
 ghost use Rattle.x509_lint.specs.Name.{has_empty_rdn, has_no_country, is_country, is_letter, is_no_country, is_printable};
 ghost use Rattle.x509_lint.specs.Words.{is_empty, passes};
 
-use x509_cert::attr::AttributeTypeAndValue;
-use x509_cert::attr::attribute_types::COUNTRY_NAME;
-use x509_cert::der::Tag;
-use x509_cert::der::asn1::Any;
-use x509_cert::ext::pkix::name::GeneralName;
-use x509_cert::name::{Name, RdnSequence, RelativeDistinguishedName};
+use x509_der::{Any, Tag};
+use x509_ext::pkix::name::GeneralName;
+use x509_name::attr::AttributeTypeAndValue;
+use x509_name::attr::attribute_types::COUNTRY_NAME;
+use x509_name::name::{Name, RdnSequence, RelativeDistinguishedName};
 
 fn is_letter(octet: u8) -> bool
     ensures { result ≡ is_letter octet }
@@ -126,7 +125,8 @@ fn is_label(label: &[u8]) -> bool
         && is_end(label.last())
 }
 
-fn behind_wildcard(text: &[u8]) -> &[u8]
+/// What follows the wildcard `*.`, where the text begins with it; else the text.
+pub fn behind_wildcard(text: &[u8]) -> &[u8]
     ensures { result.now ≡ behind_wildcard text.now }
 {
     match text {
@@ -150,7 +150,7 @@ fn is_dns_name(text: &[u8]) -> bool
 }
 
 /// Whether the name is empty.
-pub(crate) fn is_empty_general_name(name: &GeneralName) -> bool
+fn is_empty_general_name(name: &GeneralName) -> bool
     ensures { result ≡ is_empty_name name.now }
 {
     match name {
@@ -166,7 +166,7 @@ pub(crate) fn is_empty_general_name(name: &GeneralName) -> bool
 }
 
 /// Whether the name is a dNSName that isn't empty, and isn't a DNS name.
-pub(crate) fn is_no_dns_name(name: &GeneralName) -> bool
+fn is_no_dns_name(name: &GeneralName) -> bool
     ensures { result ≡ is_no_dns_name name.now }
 {
     match name {
@@ -179,7 +179,7 @@ pub(crate) fn is_no_dns_name(name: &GeneralName) -> bool
 }
 
 /// Whether the name is an iPAddress that isn't empty, and has neither 4 nor 16 octets.
-pub(crate) fn is_no_address(name: &GeneralName) -> bool
+fn is_no_address(name: &GeneralName) -> bool
     ensures { result ≡ is_no_address name.now }
 {
     match name {
@@ -363,7 +363,7 @@ fn is_mailbox(mut text: &[u8]) -> bool
 }
 
 /// Whether the name is an rfc822Name that isn't empty, has no quoted part in front, and isn't a mailbox.
-pub(crate) fn is_no_mailbox(name: &GeneralName) -> bool
+fn is_no_mailbox(name: &GeneralName) -> bool
     ensures { result ≡ is_no_mailbox name.now }
 {
     match name {
@@ -417,7 +417,7 @@ fn is_absolute(text: &[u8]) -> bool
 }
 
 /// Whether the name is a URI that isn't empty, and has no scheme or nothing behind it.
-pub(crate) fn is_relative(name: &GeneralName) -> bool
+fn is_relative(name: &GeneralName) -> bool
     ensures { result ≡ is_relative name.now }
 {
     match name {
@@ -427,4 +427,34 @@ pub(crate) fn is_relative(name: &GeneralName) -> bool
         }
         _ => false,
     }
+}
+
+pub(crate) fn has_empty_name(names: &[GeneralName]) -> bool
+    ensures { result ≡ list_any is_empty_name names.now }
+{
+    names.iter().any(|name| is_empty_general_name(name))
+}
+
+pub(crate) fn has_no_dns_name(names: &[GeneralName]) -> bool
+    ensures { result ≡ list_any is_no_dns_name names.now }
+{
+    names.iter().any(|name| is_no_dns_name(name))
+}
+
+pub(crate) fn has_no_address(names: &[GeneralName]) -> bool
+    ensures { result ≡ list_any is_no_address names.now }
+{
+    names.iter().any(|name| is_no_address(name))
+}
+
+pub(crate) fn has_no_mailbox(names: &[GeneralName]) -> bool
+    ensures { result ≡ list_any is_no_mailbox names.now }
+{
+    names.iter().any(|name| is_no_mailbox(name))
+}
+
+pub(crate) fn has_relative_uri(names: &[GeneralName]) -> bool
+    ensures { result ≡ list_any is_relative names.now }
+{
+    names.iter().any(|name| is_relative(name))
 }

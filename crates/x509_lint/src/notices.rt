@@ -3,18 +3,14 @@
 ghost use Rattle.std.specs.List.{list_any};
 ghost use Rattle.std.specs.Prelude.{◌≡◌, IfOk, IfErr, length};
 ghost use Rattle.std.specs.Str.{chars};
-ghost use Rattle.x509_cert.specs.der.declared.error.ErrorKind.TheVariants.{Memory};
+ghost use Rattle.x509_der.specs.declared.error.ErrorKind.TheVariants.{Memory};
 ghost use Rattle.x509_lint.specs.Notices as notices;
 ghost use Rattle.x509_lint.specs.Words.{passes};
 
 use std::alloc::Global;
-use x509_cert::der::asn1::{Any, ObjectIdentifier};
-use x509_cert::der::{Error, ErrorKind};
-use x509_cert::ext::pkix::CertificatePolicies;
-use x509_cert::ext::pkix::certpolicy::{
-    DisplayText, PolicyInformation, PolicyQualifierInfo, UserNotice,
-};
-use x509_der::oid;
+use x509_der::{Any, Error, ErrorKind, ObjectIdentifier, oid};
+use x509_ext::pkix::CertificatePolicies;
+use x509_ext::pkix::certpolicy::{DisplayText, PolicyInformation, PolicyQualifierInfo, UserNotice};
 
 /// id-qt-unotice, 1.3.6.1.5.5.7.2.2 (RFC 5280 4.2.1.4).
 pub(crate) const USER_NOTICE: ObjectIdentifier = oid!(0x2B, 0x06, 0x01, 0x05, 0x05, 0x07, 2, 2);

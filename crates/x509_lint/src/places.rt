@@ -5,12 +5,11 @@ ghost use Rattle.std.specs.Prelude.{◌≡◌, ◌&&◌, bytes_eq, is_some, leng
 ghost use Rattle.x509_lint.specs.Place as place;
 ghost use Rattle.x509_lint.specs.Words.{passes};
 
-use x509_cert::der::asn1::ObjectIdentifier;
-use x509_cert::ext::pkix::AccessDescription;
-use x509_cert::ext::pkix::crl::dp::DistributionPoint;
-use x509_cert::ext::pkix::name::{DistributionPointName, GeneralName, GeneralNames};
-use x509_cert::name::Name;
-use x509_der::oid;
+use x509_der::{ObjectIdentifier, oid};
+use x509_ext::pkix::AccessDescription;
+use x509_ext::pkix::crl::dp::DistributionPoint;
+use x509_ext::pkix::name::{DistributionPointName, GeneralName, GeneralNames};
+use x509_name::name::Name;
 
 /// id-ad-caIssuers, 1.3.6.1.5.5.7.48.2 (RFC 5280 4.2.2.1).
 pub(crate) const CA_ISSUERS: ObjectIdentifier = oid!(0x2B, 0x06, 0x01, 0x05, 0x05, 0x07, 48, 2);

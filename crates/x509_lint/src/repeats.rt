@@ -1,18 +1,16 @@
 //! What stands twice: serial numbers of a CRL's entries, and policies.
 
 ghost use Rattle.std.specs.Prelude.{◌≡◌, ◌↔◌, IfErr, IfOk, IsTrue, map};
-ghost use Rattle.x509_cert.specs.der.declared.error.ErrorKind.TheVariants.{Memory};
+ghost use Rattle.x509_der.specs.declared.error.ErrorKind.TheVariants.{Memory};
 ghost use Rattle.x509_der.specs.Set.{AreDistinct};
 ghost use Rattle.x509_lint.specs.Values.{policies_of, policy_identifiers, serials};
 
 use std::alloc::Global;
-use x509_cert::certificate::Raw;
+use x509_base::{Raw, SerialNumber};
 use x509_cert::crl::RevokedCert;
-use x509_cert::der::asn1::{ObjectIdentifier, SetOfVec};
-use x509_cert::der::{Error, TryClone};
-use x509_cert::ext::pkix::CertificatePolicies;
-use x509_cert::ext::pkix::certpolicy::PolicyInformation;
-use x509_cert::serial_number::SerialNumber;
+use x509_der::{Error, ObjectIdentifier, SetOfVec, TryClone};
+use x509_ext::pkix::CertificatePolicies;
+use x509_ext::pkix::certpolicy::PolicyInformation;
 
 fn are_numbers_distinct(numbers: Vec<SerialNumber<Raw>>) -> bool
     ensures { IsTrue result ↔ AreDistinct numbers.items }
@@ -23,7 +21,7 @@ fn are_numbers_distinct(numbers: Vec<SerialNumber<Raw>>) -> bool
     }
 }
 
-fn are_oids_distinct(oids: Vec<ObjectIdentifier>) -> bool
+pub(crate) fn are_oids_distinct(oids: Vec<ObjectIdentifier>) -> bool
     ensures { IsTrue result ↔ AreDistinct oids.items }
 {
     match SetOfVec::try_from_vec(oids) {

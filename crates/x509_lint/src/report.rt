@@ -1,36 +1,161 @@
 //! What is said of an object: a line for each finding.
 
 ghost use Rattle.std.specs.List.{list_any};
-ghost use Rattle.std.specs.Prelude.{◌≡◌, ◌⊎◌, List, codes, string_bytes, IfErr, IfOk};
-ghost use Rattle.x509_cert.specs.CertificateList.{certificate_list};
-ghost use Rattle.x509_cert.specs.der.declared.error.ErrorKind.TheVariants.{Memory};
-ghost use Rattle.x509_cert.specs.der.Form.{Spells};
-ghost use Rattle.x509_lint.specs.Report.{IsNoObject, IsReport, Tells, any_serial_number, is_error, line_of, report_text};
-ghost use Rattle.x509_lint.specs.Rules.{AreCrlFindings, AreFindings};
-ghost use Rattle.x509_lint.specs.Words.{Crl};
-ghost use Rattle.x509_lint.specs.declared.rule.Rule.{Rule};
+ghost use Rattle.std.specs.Prelude.{◌≡◌, ◌++◌, IfErr, IfOk, OnOk, string_bytes};
+ghost use Rattle.x509_der.specs.declared.error.ErrorKind.TheVariants.{Memory};
+ghost use Rattle.x509_lint.specs.Report as grammar;
+ghost use Rattle.x509_lint.specs.Rules.{rule_wording};
+ghost use Rattle.x509_lint.specs.Wording.{which_text};
 
 use crate::certificate::lint_certificate;
 use crate::crl::lint_crl;
-use crate::entry::Severity;
+use crate::entry::{Entry, Severity};
+use crate::request::lint_request;
 use crate::rule::Rule;
+use crate::seen::{certificate_seen, crl_seen};
 use std::alloc::{AllocError, Global};
-use x509_cert::certificate::{CertificateInner, Raw};
+use x509_base::Raw;
+use x509_cert::certificate::CertificateInner;
 use x509_cert::crl::CertificateList;
-use x509_cert::der::{Decode, Error, ErrorKind};
+use x509_cert::request::CertReq;
+use x509_der::{Decode, Error, ErrorKind};
+
+/// A kind of object.
+#[derive(Clone, Copy, Debug, PartialEq, Eq)]
+pub enum Kind {
+    /// A certificate (RFC 5280 4.1).
+    Certificate,
+
+    /// A CRL (RFC 5280 5.1).
+    Crl,
+
+    /// A PKCS #10 request, a CSR (RFC 2986 4).
+    Csr,
+}
+
+/// How a finding is told.
+#[derive(Clone, Copy, Debug)]
+pub enum Style<'a> {
+    /// For people, as `certificate: error serial_number_not_positive (RFC 5280 4.1.2.2)`.
+    Text,
+
+    /// As an object of JSON (RFC 8259) in a line, of the members `object`, `rule`, `severity`, `section`, `place` and `seen`. What stands in
+    /// front of these is given: a brace, and perhaps further members, each with a comma behind it.
+    Json(&'a str),
+}
 
 /// What is said of an object.
 #[derive(Debug, Drop)]
 pub struct Report {
-    /// A line for each rule that is broken, as `certificate: error serial_number_not_positive (RFC 5280 4.1.2.2)`.
+    /// A line for each rule that is broken.
     pub text: String,
 
     /// Whether one of the rules is one that has to be kept.
     pub has_error: bool,
 }
 
+/// An object whose rules are asked.
+pub(crate) trait Linted {
+    ghost use Rattle.std.specs.Prelude.{◌≡◌, ℕ, List, IfErr, IfOk, string_bytes};
+    ghost use Rattle.x509_der.specs.declared.error.ErrorKind.TheVariants.{Memory};
+    ghost use Rattle.x509_lint.specs.declared.rule.Rule.{Rule};
+
+    /// What it is called.
+    ghost word: { List ℕ };
+
+    /// Which rules it breaks.
+    ghost are_findings: { Self → List Rule → Type 0 };
+
+    /// What is seen where it breaks a rule.
+    ghost seen: { Self → Rule → List ℕ };
+
+    /// What it is called.
+    fn word() -> &'static str
+        ensures { result.now ≡ word };
+
+    /// The rules that it breaks.
+    fn findings(&self, alloc: Global) -> Result<Vec<Rule>, Error>
+        ensures ok { IfOk result (λ findings. are_findings self.now findings.items) }
+        ensures err { IfErr result (λ e. e.kind ≡ Memory) };
+
+    /// What is seen where it breaks a rule.
+    fn seen(&self, alloc: Global, rule: Rule) -> Result<String, AllocError>
+        ensures { IfOk result (λ text. string_bytes text ≡ seen self.now rule) };
+}
+
+impl Linted for CertificateInner<Raw> {
+    ghost use Rattle.std.specs.Prelude.{codes};
+    ghost use Rattle.x509_lint.specs.Rules.{AreFindings};
+    ghost use Rattle.x509_lint.specs.Seen.{certificate_seen};
+
+    ghost word = { codes "certificate" };
+
+    ghost are_findings = { AreFindings };
+
+    ghost seen = { certificate_seen };
+
+    fn word() -> &'static str {
+        "certificate"
+    }
+
+    fn findings(&self, alloc: Global) -> Result<Vec<Rule>, Error> {
+        lint_certificate(alloc, self)
+    }
+
+    fn seen(&self, alloc: Global, rule: Rule) -> Result<String, AllocError> {
+        certificate_seen(alloc, self, rule)
+    }
+}
+
+impl Linted for CertificateList<Raw> {
+    ghost use Rattle.std.specs.Prelude.{codes};
+    ghost use Rattle.x509_lint.specs.Rules.{AreCrlFindings};
+    ghost use Rattle.x509_lint.specs.Seen.{crl_seen};
+
+    ghost word = { codes "crl" };
+
+    ghost are_findings = { AreCrlFindings };
+
+    ghost seen = { crl_seen };
+
+    fn word() -> &'static str {
+        "crl"
+    }
+
+    fn findings(&self, alloc: Global) -> Result<Vec<Rule>, Error> {
+        lint_crl(alloc, self)
+    }
+
+    fn seen(&self, alloc: Global, rule: Rule) -> Result<String, AllocError> {
+        crl_seen(alloc, self, rule)
+    }
+}
+
+impl Linted for CertReq {
+    ghost use Rattle.std.specs.Prelude.{[], codes};
+    ghost use Rattle.x509_lint.specs.Rules.{AreRequestFindings};
+
+    ghost word = { codes "csr" };
+
+    ghost are_findings = { AreRequestFindings };
+
+    ghost seen = { λ request rule. [] };
+
+    fn word() -> &'static str {
+        "csr"
+    }
+
+    fn findings(&self, alloc: Global) -> Result<Vec<Rule>, Error> {
+        lint_request(alloc, self)
+    }
+
+    fn seen(&self, alloc: Global, _rule: Rule) -> Result<String, AllocError> {
+        Ok(String::new(alloc))
+    }
+}
+
 fn is_error(rule: &Rule) -> bool
-    ensures { result ≡ is_error rule.now }
+    ensures { result ≡ grammar.is_error rule.now }
 {
     match rule.severity() {
         Severity::Error => true,
@@ -38,76 +163,161 @@ fn is_error(rule: &Rule) -> bool
     }
 }
 
-/// A line for each finding, and a word before each.
-fn tell(alloc: Global, word: &str, findings: &[Rule]) -> Result<Report, AllocError>
-    ensures { IfOk result (λ report. (string_bytes report.text ≡ report_text word.now findings.now) × (report.has_error ≡ list_any is_error findings.now)) }
+/// Adds which extension it is that can't be read: its place behind a colon.
+fn push_which(rule: Rule, line: &mut String) -> Result<(), AllocError>
+    ensures { OnOk result (string_bytes line.new ≡ string_bytes line.old ++ which_text (rule_wording rule)) }
 {
-    Ok(Report {
-        text: lines(alloc, word, findings)?,
-        has_error: findings.iter().any(|rule| is_error(rule)),
-    })
+    if rule.name() != "extension_malformed" {
+        return Ok(());
+    }
+    line.push_str(": ")?;
+    line.push_str(rule.place())
 }
 
-fn lines(alloc: Global, word: &str, findings: &[Rule]) -> Result<String, AllocError>
-    ensures { IfOk result (λ text. string_bytes text ≡ report_text word.now findings.now) }
+/// The line of a finding for people.
+fn text_line(alloc: Global, word: &str, rule: Rule) -> Result<String, AllocError>
+    ensures { IfOk result (λ line. string_bytes line ≡ grammar.text_line word.now rule) }
+{
+    let mut line = format!(in alloc; "{word}: {rule}")?;
+    push_which(rule, &mut line)?;
+    line.push_str("\n")?;
+    Ok(line)
+}
+
+/// The line of a finding as an object of JSON.
+fn json_line(
+    alloc: Global,
+    front: &str,
+    word: &str,
+    rule: Rule,
+    seen: &str,
+) -> Result<String, AllocError>
+    ensures { IfOk result (λ line. string_bytes line ≡ grammar.json_line front.now word.now rule seen.now) }
+{
+    let Entry {
+        severity,
+        name,
+        standard,
+        section,
+        place,
+    } = rule.entry();
+    let what = format!(in alloc;
+        "\"object\": \"{word}\", \"rule\": \"{name}\", \"severity\": \"{severity}\""
+    )?;
+    let place = format!(in alloc;
+        "\"section\": \"{standard} {section}\", \"place\": \"{place}\", \"seen\": \"{seen}\""
+    )?;
+    format!(in alloc; "{front}{what}, {place}}}\n")
+}
+
+/// The line of a finding.
+fn line<T: Linted>(
+    alloc: Global,
+    style: Style<'_>,
+    object: &T,
+    rule: Rule,
+) -> Result<String, AllocError>
+    ensures { IfOk result (λ line. string_bytes line ≡ grammar.line_of (grammar.front_of style.entry) T.word (T.seen object.now) rule) }
+{
+    match style {
+        Style::Text => text_line(alloc, T::word(), rule),
+        Style::Json(front) => {
+            let seen = object.seen(alloc, rule)?;
+            json_line(alloc, front, T::word(), rule, seen.as_str())
+        }
+    }
+}
+
+/// A line for each finding.
+fn lines<T: Linted>(
+    alloc: Global,
+    style: Style<'_>,
+    object: &T,
+    findings: &[Rule],
+) -> Result<String, AllocError>
+    ensures { IfOk result (λ text. string_bytes text ≡ grammar.report_text (grammar.front_of style.entry) T.word (T.seen object.now) findings.now) }
 {
     let mut text = String::new(alloc);
     for rule in findings {
-        let line = line(alloc, word, *rule)?;
+        let line = line(alloc, style, object, *rule)?;
         text.push_str(line.as_str())?;
     }
     Ok(text)
 }
 
-fn line(alloc: Global, word: &str, rule: Rule) -> Result<String, AllocError>
-    ensures { IfOk result (λ line. string_bytes line ≡ line_of word.now rule) }
+fn has_error(findings: &[Rule]) -> bool
+    ensures { result ≡ list_any grammar.is_error findings.now }
 {
-    format!(in alloc; "{word}: {rule}\n")
+    findings.iter().any(|rule| is_error(rule))
 }
 
-fn report_certificate(alloc: Global, certificate: &CertificateInner<Raw>) -> Result<Report, Error>
-    ensures ok { IfOk result (λ report. (findings : List Rule) × AreFindings certificate.now findings × Tells (codes "certificate") findings report) }
+/// What is said of an object.
+fn report_of<T: Linted>(alloc: Global, style: Style<'_>, object: &T) -> Result<Report, Error>
+    ensures ok { IfOk result (λ report. grammar.IsReportOf T.word (T.are_findings object.now) (T.seen object.now) (grammar.front_of style.entry) report) }
     ensures err { IfErr result (λ e. e.kind ≡ Memory) }
 {
-    let findings = lint_certificate(alloc, certificate)?;
-    Ok(tell(alloc, "certificate", findings.as_slice())?)
+    let findings = object.findings(alloc)?;
+    Ok(Report {
+        text: lines(alloc, style, object, findings.as_slice())?,
+        has_error: has_error(findings.as_slice()),
+    })
 }
 
-fn report_crl(alloc: Global, crl: &CertificateList<Raw>) -> Result<Report, Error>
-    ensures ok { IfOk result (λ report. (findings : List Rule) × AreCrlFindings crl.now findings × Tells (codes "crl") findings report) }
+/// What is said of the object of this type whose encoding the bytes are.
+fn lint_as<T: Decode + Linted + Drop>(
+    alloc: Global,
+    style: Style<'_>,
+    bytes: &[u8],
+) -> Result<Option<Report>, Error>
+    ensures ok { IfOk result (grammar.IsSaid T.form T.word T.are_findings T.seen (grammar.front_of style.entry) bytes.now) }
     ensures err { IfErr result (λ e. e.kind ≡ Memory) }
 {
-    let findings = lint_crl(alloc, crl)?;
-    Ok(tell(alloc, "crl", findings.as_slice())?)
-}
-
-/// What is said of the object whose encoding the bytes are: of a certificate, or else of a CRL.
-///
-/// # Errors
-///
-/// `Memory` when out of memory; another kind where the bytes are an encoding of neither.
-pub fn lint_bytes(alloc: Global, bytes: &[u8]) -> Result<Report, Error>
-    ensures ok { IfOk result (IsReport bytes.now) }
-    ensures err { IfErr result (λ e. (e.kind ≡ Memory) ⊎ IsNoObject bytes.now) }
-{
-    match CertificateInner::<Raw>::from_der(alloc, bytes) {
-        Ok(certificate) => {
-            let report = report_certificate(alloc, &certificate)?;
-            Ok(report)
-        }
+    match T::from_der(alloc, bytes) {
+        Ok(object) => Ok(Some(report_of(alloc, style, &object)?)),
         Err(e) => match e.kind() {
-            ErrorKind::Memory => Err(e),
-            _ => lint_crl_bytes(alloc, bytes),
+            ErrorKind::Memory => Err(ErrorKind::Memory.into()),
+            _ => Ok(None),
         },
     }
 }
 
-fn lint_crl_bytes(alloc: Global, bytes: &[u8]) -> Result<Report, Error>
-    ensures ok { IfOk result (λ report. (l : Crl) × (findings : List Rule) × Spells (certificate_list any_serial_number) l bytes.now
-        × AreCrlFindings l findings × Tells (codes "crl") findings report) }
-    ensures err { IfErr result (λ e. (e.kind ≡ Memory) ⊎ ((l : Crl) → Spells (certificate_list any_serial_number) l bytes.now → ⊥)) }
+/// What is said of the object of this kind whose encoding the bytes are; `None` exactly where they are that of none.
+///
+/// # Errors
+///
+/// `Memory` when out of memory, and nothing else.
+#[tactic(auto, unfolding(crate::specs::Report::IsSaidAs))]
+pub fn lint_kind(
+    alloc: Global,
+    style: Style<'_>,
+    kind: Kind,
+    bytes: &[u8],
+) -> Result<Option<Report>, Error>
+    ensures ok { IfOk result (grammar.IsSaidAs kind (grammar.front_of style.entry) bytes.now) }
+    ensures err { IfErr result (λ e. e.kind ≡ Memory) }
 {
-    let crl = CertificateList::<Raw>::from_der(alloc, bytes)?;
-    let report = report_crl(alloc, &crl)?;
-    Ok(report)
+    match kind {
+        Kind::Certificate => lint_as::<CertificateInner<Raw>>(alloc, style, bytes),
+        Kind::Crl => lint_as::<CertificateList<Raw>>(alloc, style, bytes),
+        Kind::Csr => lint_as::<CertReq>(alloc, style, bytes),
+    }
+}
+
+/// What is said of the object whose encoding the bytes are: of a certificate, else of a CRL, or else of a CSR; `None` exactly where they
+/// are that of none.
+///
+/// # Errors
+///
+/// `Memory` when out of memory, and nothing else.
+pub fn lint_bytes(alloc: Global, style: Style<'_>, bytes: &[u8]) -> Result<Option<Report>, Error>
+    ensures ok { IfOk result (grammar.IsReport (grammar.front_of style.entry) bytes.now) }
+    ensures err { IfErr result (λ e. e.kind ≡ Memory) }
+{
+    if let Some(report) = lint_kind(alloc, style, Kind::Certificate, bytes)? {
+        return Ok(Some(report));
+    }
+    if let Some(report) = lint_kind(alloc, style, Kind::Crl, bytes)? {
+        return Ok(Some(report));
+    }
+    lint_kind(alloc, style, Kind::Csr, bytes)
 }

@@ -20,6 +20,7 @@ pub(crate) mod list;
 pub(crate) mod name;
 pub(crate) mod point;
 pub(crate) mod policy;
+pub(crate) mod request;
 
 pub use alternative::AlternativeRule;
 pub use authority::AuthorityRule;
@@ -27,15 +28,16 @@ pub use constraint::ConstraintRule;
 pub use critical::CriticalRule;
 pub use crl_entry::CrlEntryRule;
 pub use crl_extension::CrlExtensionRule;
-pub use crl_field::CrlFieldRule;
+pub use crl_field::{CrlExtensionKind, CrlFieldRule};
 pub use field::FieldRule;
 pub use key::KeyRule;
-pub use list::ListRule;
+pub use list::{ExtensionKind, ListRule};
 pub use name::NameRule;
 pub use point::PointRule;
 pub use policy::PolicyRule;
+pub use request::RequestRule;
 
-/// A rule of RFC 5280 on certificates or CRLs. It is printed as `error serial_number_not_positive (RFC 5280 4.1.2.2)`.
+/// A rule on certificates, CRLs or CSRs. It is printed as `error serial_number_not_positive (RFC 5280 4.1.2.2)`.
 #[derive(Clone, Copy, Debug, PartialEq, Eq)]
 pub enum Rule {
     /// On the fields of a certificate.
@@ -76,10 +78,13 @@ pub enum Rule {
 
     /// On the extensions of a CRL's entries.
     CrlEntry(CrlEntryRule),
+
+    /// On CSRs.
+    Request(RequestRule),
 }
 
 impl Rule {
-    /// How bad it is to break the rule, its name, and its section.
+    /// How bad it is to break the rule, its name, its section, and its place.
     pub fn entry(self) -> Entry
         ensures { Says result (rule_wording self) }
     {
@@ -97,6 +102,7 @@ impl Rule {
             Rule::CrlField(rule) => rule.entry(),
             Rule::CrlExtension(rule) => rule.entry(),
             Rule::CrlEntry(rule) => rule.entry(),
+            Rule::Request(rule) => rule.entry(),
         }
     }
 
@@ -114,11 +120,25 @@ impl Rule {
         self.entry().name
     }
 
-    /// The section of RFC 5280, as `4.1.2.2`.
+    /// The standard that has the rule, as `RFC 5280`.
+    pub fn standard(self) -> &'static str
+        ensures { result.now ≡ (rule_wording self).standard }
+    {
+        self.entry().standard
+    }
+
+    /// The section of the standard, as `4.1.2.2`.
     pub fn section(self) -> &'static str
         ensures { result.now ≡ (rule_wording self).section }
     {
         self.entry().section
+    }
+
+    /// Where in the object the rule is broken, in the field names of the standard, as `tbsCertificate.serialNumber`.
+    pub fn place(self) -> &'static str
+        ensures { result.now ≡ (rule_wording self).place }
+    {
+        self.entry().place
     }
 }
 
@@ -129,8 +149,10 @@ impl fmt::Display for Rule {
         let Entry {
             severity,
             name,
+            standard,
             section,
+            place: _,
         } = self.entry();
-        write!(f, "{severity} {name} (RFC 5280 {section})")
+        write!(f, "{severity} {name} ({standard} {section})")
     }
 }

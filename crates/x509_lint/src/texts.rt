@@ -6,10 +6,10 @@ ghost use Rattle.std.specs.Str.{chars, is_utf8};
 ghost use Rattle.x509_lint.specs.Text as text;
 
 use crate::notices::count_chars;
-use x509_cert::attr::AttributeTypeAndValue;
-use x509_cert::attr::attribute_types::{DOMAIN_COMPONENT, EMAIL_ADDRESS};
-use x509_cert::der::Tag;
-use x509_cert::name::{Name, RdnSequence, RelativeDistinguishedName};
+use x509_der::Tag;
+use x509_name::attr::AttributeTypeAndValue;
+use x509_name::attr::attribute_types::{DOMAIN_COMPONENT, EMAIL_ADDRESS};
+use x509_name::name::{Name, RdnSequence, RelativeDistinguishedName};
 
 /// What may be wrong with the text of an attribute (RFC 5280 4.1.2.4, A.1).
 #[derive(Clone, Copy, Debug, PartialEq, Eq)]

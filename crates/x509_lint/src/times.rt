@@ -3,7 +3,7 @@
 ghost use Rattle.std.specs.Prelude.{◌≡◌};
 ghost use Rattle.x509_lint.specs.Words.{is_before, is_early_general};
 
-use x509_cert::time::Time;
+use x509_base::Time;
 
 /// Whether it is a date through 2049, and a GeneralizedTime.
 pub(crate) fn is_early_general(time: Time) -> bool

@@ -2,7 +2,7 @@
 //! decoded.
 
 ghost use Rattle.std.specs.Prelude.{◌≡◌, IfOk, IfErr};
-ghost use Rattle.x509_cert.specs.der.declared.error.ErrorKind.TheVariants.{Memory};
+ghost use Rattle.x509_der.specs.declared.error.ErrorKind.TheVariants.{Memory};
 ghost use Rattle.x509_lint.specs.Values.{AreAlternativeValues, AreAuthorityValues, AreConstraintValues, AreCrlValues, AreKeyValues, ArePointValues, ArePolicyValues};
 
 use crate::basic_constraints::AnyBasicConstraints;
@@ -10,9 +10,9 @@ use crate::extensions::payload;
 use crate::notices::{NoticeFault, has_faulty_notice};
 use crate::repeats::are_policies_distinct;
 use std::alloc::Global;
-use x509_cert::der::Error;
-use x509_cert::ext::Extension;
-use x509_cert::ext::pkix::{
+use x509_der::Error;
+use x509_ext::Extension;
+use x509_ext::pkix::{
     AuthorityInfoAccessSyntax, AuthorityKeyIdentifier, BasicConstraints, CertificatePolicies,
     CrlDistributionPoints, CrlNumber, ExtendedKeyUsage, FreshestCrl, IssuerAltName,
     IssuingDistributionPoint, KeyUsage, NameConstraints, PolicyConstraints, PolicyMappings,

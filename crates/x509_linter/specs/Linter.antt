@@ -1,38 +1,73 @@
 -- What the program prints of the bytes of an object, and what its words ask for.
 use Rattle.std.specs.Prelude.{◌≡◌, ℕ, Bool, true, false, List, [], ◌∷◌, ◌++◌, Option, Some, None, bytes_eq, codes, string_bytes, if◌then◌else◌}
 use Rattle.std.specs.Option.{option_map}
-use Rattle.x509_lint.specs.Report.{IsReport, IsNoObject}
+use Rattle.x509_lint.specs.Report.{IsReport, IsSaidAs}
+use Rattle.x509_lint.specs.declared.report.Kind.{Kind}
+use Rattle.x509_lint.specs.declared.report.Kind.TheVariants.{Certificate, Crl, Csr}
 use Rattle.x509_lint.specs.declared.report.Report.{Report}
 use Rattle.x509_linter.specs.declared.linter.Linter.{Linter}
+use Rattle.x509_linter.specs.declared.linter.Telling.{Telling}
+use Rattle.x509_linter.specs.declared.linter.Telling.TheVariants.{Lines, Verbose, Json}
 use Rattle.x509_object_run.specs.Object.{Subject}
 use Rattle.x509_object_run.specs.Program.{Program}
+use Rattle.x509_object_run.specs.declared.heading.Headed.{Headed}
+use Rattle.x509_object_run.specs.declared.heading.Headed.TheVariants.{Not, Line, Name}
+use Rattle.x509_text.specs.Lines.{shown}
+use Rattle.x509_text.specs.declared.line.Style.TheVariants as styles
 use Rattle.x509_tool_run.specs.Answer.{as_line}
 
 -- ---- words
 
--- `-v`: whether it is said of an object that nothing was found
-abbrev pub linter_of : List (List ℕ) → Option Linter
-linter_of [] = Some (record { is_verbose = false })
-linter_of (option ∷ []) = if bytes_eq option (codes "-v") then Some (record { is_verbose = true }) else None
-linter_of (first ∷ second ∷ options) = None
+-- the kind of object that a word names
+abbrev pub kind_of : List ℕ → Option Kind
+kind_of word =
+    if bytes_eq word (codes "certificate") then Some Certificate
+    else if bytes_eq word (codes "crl") then Some Crl
+    else if bytes_eq word (codes "csr") then Some Csr
+    else None
+
+-- `-v`: whether it is said of an object that nothing was found; `--json`: objects of JSON
+abbrev pub telling_of : List (List ℕ) → Option Telling
+telling_of [] = Some Lines
+telling_of (option ∷ []) = if bytes_eq option (codes "-v") then Some Verbose else if bytes_eq option (codes "--json") then Some Json else None
+telling_of (first ∷ second ∷ options) = None
+
+abbrev pub of_kind : Telling → Kind → Linter
+of_kind telling kind = record { kind = Some kind; telling = telling }
+
+abbrev pub of_any_kind : Telling → Linter
+of_any_kind telling = record { kind = None; telling = telling }
+
+-- the first name, which may be a kind's, and the others
+abbrev pub asked_with : Telling → Option Kind → List ℕ → List (List ℕ) → Linter × List (List ℕ)
+asked_with telling (Some kind) name names = (of_kind telling kind, names)
+asked_with telling None name names = (of_any_kind telling, name ∷ names)
+
+-- a kind of object in front of the names of inputs, or objects of any kind
+abbrev pub asked_of : Telling → List (List ℕ) → Linter × List (List ℕ)
+asked_of telling [] = (of_any_kind telling, [])
+asked_of telling (name ∷ names) = asked_with telling (kind_of name) name names
 
 abbrev pub asked : List (List ℕ) → List (List ℕ) → Option (Linter × List (List ℕ))
-asked options names = option_map (λ linter. (linter, names)) (linter_of options)
+asked options names = option_map (λ telling. asked_of telling names) (telling_of options)
 
 -- ---- what the program says of itself
 
 abbrev pub usage : List ℕ
-usage = codes "usage: x509_linter [-v] [FILE..]"
+usage = codes "usage: x509_linter [certificate|crl|csr] [-v|--json] [FILE..]"
 
 abbrev pub help : List ℕ
 help =
-    codes "usage: x509_linter [-v] [FILE..]\n\n"
-    ++ codes "Tells which rules of RFC 5280 certificates and CRLs break, in DER or hex: a line for each,\n"
-    ++ codes "with its section. Without a FILE, and where FILE is -, it reads standard input.\n\n"
-    ++ codes "  -v         says so where nothing is found\n"
-    ++ codes "  --         ends the options\n"
-    ++ codes "  --help     prints this text\n"
-    ++ codes "  --version  prints the version\n\n"
+    codes "usage: x509_linter [certificate|crl|csr] [-v|--json] [FILE..]\n\n"
+    ++ codes "Tells which rules certificates, CRLs (RFC 5280) and CSRs (RFC 2986, 2985) break, in DER or hex:\n"
+    ++ codes "a line for each, with its section. Without a FILE, and where FILE is -, it reads standard input.\n\n"
+    ++ codes "  certificate, crl, csr  what each input is; without such a word it is tried as each of them,\n"
+    ++ codes "                         in this order\n"
+    ++ codes "  -v                     says so where nothing is found\n"
+    ++ codes "  --json                 prints an object of JSON for each finding\n"
+    ++ codes "  --                     ends the options\n"
+    ++ codes "  --help                 prints this text\n"
+    ++ codes "  --version              prints the version\n\n"
     ++ codes "Status: 0 where no rule is broken that has to be kept, warnings aside; 1 where one is;\n"
     ++ codes "2 where an input is refused or the words are wrong.\n"
 
@@ -41,30 +76,70 @@ program = record { name = codes "x509_linter"; usage = usage; help = help }
 
 -- ---- what is printed
 
+-- how it is told that bytes are no encoding of what was asked for
+abbrev pub no_object : Option Kind → List ℕ
+no_object None = codes "neither a certificate nor a CRL nor a CSR in DER or hex"
+no_object (Some Certificate) = codes "not a certificate in DER or hex"
+no_object (Some Crl) = codes "not a CRL in DER or hex"
+no_object (Some Csr) = codes "not a CSR in DER or hex"
+
 -- 1 where a rule is broken that has to be kept
 abbrev pub status_of : Bool → ℕ
 status_of true = 1
 status_of false = 0
 
+-- of several inputs each has a heading; JSON has the name in each object
+abbrev pub headed : Telling → Bool → Headed
+headed Lines true = Line
+headed Lines false = Not
+headed Verbose true = Line
+headed Verbose false = Not
+headed Json is_several = Name
+
+-- the brace and the member `file` in front of the members of a finding
+abbrev pub json_front : List ℕ → List ℕ
+json_front name = codes "{\"file\": \"" ++ (shown styles.Json name ++ codes "\", ")
+
+abbrev pub front_for : Telling → List ℕ → Option (List ℕ)
+front_for Lines name = None
+front_for Verbose name = None
+front_for Json name = Some (json_front name)
+
+-- what is said of the object that was asked for
+abbrev pub is_said : Option Kind → Option (List ℕ) → List ℕ → Option Report → Type 0
+is_said None front bytes said = IsReport front bytes said
+is_said (Some kind) front bytes said = IsSaidAs kind front bytes said
+
 -- what is said of an object of which nothing is found
-abbrev pub clean : Bool → List ℕ → List ℕ
-clean true heading = heading ++ as_line (codes "nothing found")
-clean false heading = []
+abbrev pub clean : Telling → List ℕ → List ℕ
+clean Lines heading = []
+clean Verbose heading = heading ++ as_line (codes "nothing found")
+clean Json heading = []
+
+-- findings under a heading, which JSON doesn't have
+abbrev pub found : Telling → List ℕ → List ℕ → List ℕ
+found Lines heading findings = heading ++ findings
+found Verbose heading findings = heading ++ findings
+found Json heading findings = findings
 
 -- the lines of the findings under a heading; without findings no heading
-abbrev pub told : Bool → List ℕ → List ℕ → List ℕ
-told is_verbose heading [] = clean is_verbose heading
-told is_verbose heading (first ∷ others) = heading ++ first ∷ others
+abbrev pub told : Telling → List ℕ → List ℕ → List ℕ
+told telling heading [] = clean telling heading
+told telling heading (first ∷ others) = found telling heading (first ∷ others)
 
 -- what is told of the report on bytes
-abbrev pub Tells : Bool → List ℕ → List ℕ → List ℕ → ℕ → Type 0
-Tells is_verbose heading bytes text status =
-    (report : Report) × IsReport bytes report × (text ≡ told is_verbose heading (string_bytes report.text)) × (status ≡ status_of report.has_error)
+abbrev pub Tells : Linter → List ℕ → List ℕ → List ℕ → ℕ → Type 0
+Tells linter heading bytes text status =
+    (report : Report) × is_said linter.kind (front_for linter.telling heading) bytes (Some report)
+    × (text ≡ told linter.telling heading (string_bytes report.text)) × (status ≡ status_of report.has_error)
+
+abbrev pub IsNone : Linter → List ℕ → Type 0
+IsNone linter bytes = is_said linter.kind None bytes None
 
 abbrev pub subject : Linter → Subject
 subject linter = record {
-  prints = Tells linter.is_verbose;
-  is_none = IsNoObject;
-  no_object = codes "neither a certificate nor a CRL in DER or hex";
-  has_headings = true;
+  prints = Tells linter;
+  is_none = IsNone linter;
+  no_object = no_object linter.kind;
+  headed = headed linter.telling;
 }

@@ -1,75 +1,209 @@
 //! What the program prints of an object.
 
-ghost use Rattle.std.specs.Prelude.{◌≡◌, List, OnErr, OnOk, map, string_bytes};
-ghost use Rattle.x509_linter.specs.Linter.{linter_of, status_of, told};
+ghost use Rattle.std.specs.Prelude.{◌≡◌, ◌++◌, IfErr, IfOk, List, OnErr, OnOk, map, string_bytes};
+ghost use Rattle.x509_lint.specs.Report.{front_of};
+ghost use Rattle.x509_linter.specs.Linter as grammar;
+ghost use Rattle.x509_der.specs.declared.error.ErrorKind.TheVariants as errors;
 ghost use Rattle.x509_object_run.specs.Object.{heading_text};
 ghost use Rattle.x509_tool_run.specs.Program.{IsCutOff, IsWritten};
 
-use std::alloc::Global;
-use x509_cert::der::ErrorKind;
-use x509_lint::lint_bytes;
-use x509_object_run::{Heading, PrintError, Printer, write_headed};
-use x509_tool_run::{Sink, WriteError};
+use std::alloc::{AllocError, Global};
+use x509_der::{Error, ErrorKind};
+use x509_lint::{Kind, Report, Style, lint_bytes, lint_kind};
+use x509_object_run::{Headed, Heading, PrintError, Printer, write_headed};
+use x509_text::write_json_text;
+use x509_tool_run::{Sink, WriteError, write_text};
 
-const HELP: &[u8] = b"usage: x509_linter [-v] [FILE..]
+const HELP: &[u8] = b"usage: x509_linter [certificate|crl|csr] [-v|--json] [FILE..]
 
-Tells which rules of RFC 5280 certificates and CRLs break, in DER or hex: a line for each,
-with its section. Without a FILE, and where FILE is -, it reads standard input.
+Tells which rules certificates, CRLs (RFC 5280) and CSRs (RFC 2986, 2985) break, in DER or hex:
+a line for each, with its section. Without a FILE, and where FILE is -, it reads standard input.
 
-  -v         says so where nothing is found
-  --         ends the options
-  --help     prints this text
-  --version  prints the version
+  certificate, crl, csr  what each input is; without such a word it is tried as each of them,
+                         in this order
+  -v                     says so where nothing is found
+  --json                 prints an object of JSON for each finding
+  --                     ends the options
+  --help                 prints this text
+  --version              prints the version
 
 Status: 0 where no rule is broken that has to be kept, warnings aside; 1 where one is;
 2 where an input is refused or the words are wrong.
 ";
 
-/// What the words ask for.
+/// How findings are told.
 #[derive(Clone, Copy, Debug, PartialEq, Eq)]
-pub(crate) struct Linter {
-    /// Whether it is said of an object that nothing was found.
-    is_verbose: bool,
+pub(crate) enum Telling {
+    /// A line for each.
+    Lines,
+
+    /// A line for each, and one that says so where there is none.
+    Verbose,
+
+    /// An object of JSON for each.
+    Json,
 }
 
-/// The linter that options ask for.
-fn linter_of(options: &[&str]) -> Option<Linter>
-    ensures { result ≡ linter_of (map (λ option. option.now) options.now) }
+/// What the words ask for: how findings are told, of objects of one kind or of any.
+#[derive(Clone, Copy, Debug, PartialEq, Eq)]
+pub(crate) struct Linter {
+    kind: Option<Kind>,
+    telling: Telling,
+}
+
+/// The kind of object that a word names.
+fn kind_of(word: &str) -> Option<Kind>
+    ensures { result ≡ grammar.kind_of word.now }
+{
+    match word {
+        "certificate" => Some(Kind::Certificate),
+        "crl" => Some(Kind::Crl),
+        "csr" => Some(Kind::Csr),
+        _ => None,
+    }
+}
+
+/// How findings are told that options ask for.
+fn telling_of(options: &[&str]) -> Option<Telling>
+    ensures { result ≡ grammar.telling_of (map (λ option. option.now) options.now) }
 {
     match options {
-        [] => Some(Linter { is_verbose: false }),
-        [option] if *option == "-v" => Some(Linter { is_verbose: true }),
+        [] => Some(Telling::Lines),
+        [option] if *option == "-v" => Some(Telling::Verbose),
+        [option] if *option == "--json" => Some(Telling::Json),
         _ => None,
+    }
+}
+
+/// What names ask for, the first of which may be a kind's, and the names of inputs among them.
+fn asked_of<'a, 'b>(telling: Telling, names: &'a [&'b str]) -> (Linter, &'a [&'b str])
+    ensures { (result.0, map (λ name. name.now) result.1.now) ≡ grammar.asked_of telling (map (λ name. name.now) names.now) }
+{
+    if let [name, others @ ..] = names {
+        if let Some(kind) = kind_of(name) {
+            return (
+                Linter {
+                    kind: Some(kind),
+                    telling,
+                },
+                others,
+            );
+        }
+    }
+    (
+        Linter {
+            kind: None,
+            telling,
+        },
+        names,
+    )
+}
+
+/// How it is told that bytes are the encoding of no object of this kind, or of none at all.
+fn no_object(kind: Option<Kind>) -> &'static [u8]
+    ensures { result.now ≡ grammar.no_object kind }
+{
+    match kind {
+        None => b"neither a certificate nor a CRL nor a CSR in DER or hex",
+        Some(Kind::Certificate) => b"not a certificate in DER or hex",
+        Some(Kind::Crl) => b"not a CRL in DER or hex",
+        Some(Kind::Csr) => b"not a CSR in DER or hex",
+    }
+}
+
+/// What stands above the findings of an input.
+fn headed(telling: Telling, is_several: bool) -> Headed
+    ensures { result ≡ grammar.headed telling is_several }
+{
+    match telling {
+        Telling::Json => Headed::Name,
+        _ if is_several => Headed::Line,
+        _ => Headed::Not,
+    }
+}
+
+fn text_of(alloc: Global, heading: Heading<'_>) -> Result<String, AllocError>
+    ensures { IfOk result (λ text. string_bytes text ≡ heading_text heading.entry) }
+{
+    let mut text = String::new(alloc);
+    text.push_str(heading.name)?;
+    text.push_str(heading.end)?;
+    Ok(text)
+}
+
+/// The brace and the member `file` in front of the members of a finding.
+fn front_of(alloc: Global, heading: Heading<'_>) -> Result<String, AllocError>
+    ensures { IfOk result (λ front. string_bytes front ≡ grammar.json_front (heading_text heading.entry)) }
+{
+    let name = text_of(alloc, heading)?;
+    let mut front = String::new(alloc);
+    front.push_str("{\"file\": \"")?;
+    write_json_text(alloc, name.as_str(), &mut front)?;
+    front.push_str("\", ")?;
+    Ok(front)
+}
+
+/// What is said of the object of this kind, or of the first kind, whose encoding the bytes are.
+fn said_of(
+    alloc: Global,
+    kind: Option<Kind>,
+    style: Style<'_>,
+    bytes: &[u8],
+) -> Result<Option<Report>, Error>
+    ensures ok { IfOk result (grammar.is_said kind (front_of style.entry) bytes.now) }
+    ensures err { IfErr result (λ e. e.kind ≡ errors.Memory) }
+{
+    match kind {
+        Some(kind) => lint_kind(alloc, style, kind, bytes),
+        None => lint_bytes(alloc, style, bytes),
+    }
+}
+
+/// What is said of it, as it is told.
+fn report_of(
+    alloc: Global,
+    linter: Linter,
+    heading: Heading<'_>,
+    bytes: &[u8],
+) -> Result<Option<Report>, Error>
+    ensures ok { IfOk result (grammar.is_said linter.kind (grammar.front_for linter.telling (heading_text heading.entry)) bytes.now) }
+    ensures err { IfErr result (λ e. e.kind ≡ errors.Memory) }
+{
+    match linter.telling {
+        Telling::Json => {
+            let front = front_of(alloc, heading)?;
+            said_of(alloc, linter.kind, Style::Json(front.as_str()), bytes)
+        }
+        Telling::Lines | Telling::Verbose => said_of(alloc, linter.kind, Style::Text, bytes),
     }
 }
 
 /// The status that a report ends with: 1 where a rule is broken that has to be kept.
 fn status_of(has_error: bool) -> u8
-    ensures { result ≡ status_of has_error }
+    ensures { result ≡ grammar.status_of has_error }
 {
     if has_error { 1 } else { 0 }
 }
 
-/// Writes the lines of the findings under a heading; where there are none, it says so or writes nothing.
+/// Writes the text of the findings: under a heading; where there are none, it says so or writes nothing; objects of JSON as they are.
 fn tell<'a, W: Sink>(
-    is_verbose: bool,
+    telling: Telling,
     heading: Heading<'a>,
     findings: &'a str,
     writer: &mut W,
 ) -> Result<(), WriteError>
-    ensures ok { OnOk result (IsWritten W.takes writer.old (told is_verbose (heading_text heading.entry) findings.now) writer.new) }
-    ensures err { OnErr result (IsCutOff W.takes writer.old (told is_verbose (heading_text heading.entry) findings.now) writer.new) }
+    ensures ok { OnOk result (IsWritten W.takes writer.old (grammar.told telling (heading_text heading.entry) findings.now) writer.new) }
+    ensures err { OnErr result (IsCutOff W.takes writer.old (grammar.told telling (heading_text heading.entry) findings.now) writer.new) }
 {
-    if !findings.is_empty() {
-        return write_headed(writer, heading, findings.as_bytes());
+    match telling {
+        Telling::Json => write_text(writer, findings.as_bytes()),
+        _ if !findings.is_empty() => write_headed(writer, heading, findings.as_bytes()),
+        Telling::Verbose => write_headed(writer, heading, b"nothing found\n"),
+        Telling::Lines => Ok(()),
     }
-    if is_verbose {
-        return write_headed(writer, heading, b"nothing found\n");
-    }
-    Ok(())
 }
 
-/// A line for each finding.
+/// The text of what is said, under a heading; JSON has its name in each object. What is said where nothing is found is told by `-v` alone.
 impl Printer for Linter {
     ghost use Rattle.x509_linter.specs.Linter.{asked, program, subject};
 
@@ -83,8 +217,8 @@ impl Printer for Linter {
         options: &[&str],
         names: &'a [&'b str],
     ) -> Option<(Linter, &'a [&'b str])> {
-        match linter_of(options) {
-            Some(linter) => Some((linter, names)),
+        match telling_of(options) {
+            Some(telling) => Some(asked_of(telling, names)),
             None => None,
         }
     }
@@ -94,7 +228,7 @@ impl Printer for Linter {
     }
 
     fn usage() -> &'static [u8] {
-        b"usage: x509_linter [-v] [FILE..]\n"
+        b"usage: x509_linter [certificate|crl|csr] [-v|--json] [FILE..]\n"
     }
 
     fn help() -> &'static [u8] {
@@ -102,11 +236,11 @@ impl Printer for Linter {
     }
 
     fn no_object(&self) -> &'static [u8] {
-        b"neither a certificate nor a CRL in DER or hex"
+        no_object(self.kind)
     }
 
-    fn has_headings(&self) -> bool {
-        true
+    fn headed(&self, is_several: bool) -> Headed {
+        headed(self.telling, is_several)
     }
 
     fn print<W: Sink>(
@@ -116,15 +250,15 @@ impl Printer for Linter {
         bytes: &[u8],
         writer: &mut W,
     ) -> Result<u8, PrintError> {
-        match lint_bytes(alloc, bytes) {
-            Ok(report) => match tell(self.is_verbose, heading, report.text.as_str(), writer) {
-                Ok(()) => Ok(status_of(report.has_error)),
-                Err(WriteError) => Err(PrintError::Unwritten),
-            },
-            Err(e) => match e.kind() {
-                ErrorKind::Memory => Err(PrintError::Memory),
-                _ => Err(PrintError::NoObject),
-            },
+        match report_of(alloc, *self, heading, bytes) {
+            Ok(Some(report)) => {
+                match tell(self.telling, heading, report.text.as_str(), writer) {
+                    Ok(()) => Ok(status_of(report.has_error)),
+                    Err(WriteError) => Err(PrintError::Unwritten),
+                }
+            }
+            Ok(None) => Err(PrintError::NoObject),
+            Err(_) => Err(PrintError::Memory),
         }
     }
 }

@@ -1,4 +1,4 @@
-//! Which rules of RFC 5280 certificates and CRLs break, in files or on standard input.
+//! Which rules certificates, CRLs and CSRs break, in files or on standard input.
 #![tactic(auto)]
 
 mod linter;

@@ -3,6 +3,7 @@ use Rattle.std.proofs.Common.{◌≡◌, ◌<◌, ◌+◌, ℕ, max, Bool, false
 use Rattle.std.proofs.lemmas.List.{map_push, take_more}
 use Rattle.x509_der.specs.declared.error.ErrorKind.TheVariants as kinds
 use Rattle.x509_object_run.specs.Object.{Subject, fault_of, unread_fault}
+use Rattle.x509_object_run.specs.declared.heading.Headed.{Headed}
 use Rattle.x509_object_run.specs.Program.{AreDone, IsDone, Misused, Streams, World, call_from}
 use Rattle.x509_object_run.specs.Words.{has_option}
 use Rattle.x509_tool_run.specs.Input.{EndsReading, Input, IsRead, TooLong, Unreadable, Unkept}
@@ -26,7 +27,7 @@ max-assoc : (a b c : ℕ) → max (max a b) c ≡ max a (max b c)
 max-assoc a b c = omega arith
 
 -- one input more
-pub done_further : {R F W E : Type 0} (program : List ℕ) (subject : Subject) (world : World R F W E) (headed : Bool) (names : List (List ℕ)) (name : List ℕ) (old middle new : Streams R W E) (worst status : ℕ) → AreDone program subject world headed names old middle worst → IsDone program subject world headed name middle new status → AreDone program subject world headed (names ++ name ∷ []) old new (max worst status)
+pub done_further : {R F W E : Type 0} (program : List ℕ) (subject : Subject) (world : World R F W E) (headed : Headed) (names : List (List ℕ)) (name : List ℕ) (old middle new : Streams R W E) (worst status : ℕ) → AreDone program subject world headed names old middle worst → IsDone program subject world headed name middle new status → AreDone program subject world headed (names ++ name ∷ []) old new (max worst status)
 done_further program subject world headed [] name old middle new worst status h k =
     (new, status, 0, subst (λ s. IsDone program subject world headed name s new status) h.0 k, (refl, refl), rw h.1 (max-zero status))
 done_further program subject world headed (other ∷ names) name old middle new worst status h k =
@@ -38,6 +39,6 @@ pub misused : {P : Type 0} (asked : List (List ℕ) → List (List ℕ) → Opti
 misused asked options names no_help no_version none = rw (no_help, no_version, sym none) refl
 
 -- one input more, of the names so far
-pub done_next : {X R F W E : Type 0} (view : X → List ℕ) (program : List ℕ) (subject : Subject) (world : World R F W E) (headed : Bool) (names : List X) (i : ℕ) (d : X) (old middle new : Streams R W E) (worst status : ℕ) → i < length names → AreDone program subject world headed (map view (take i names)) old middle worst → IsDone program subject world headed (view (get_or names i d)) middle new status → AreDone program subject world headed (map view (take (i + 1) names)) old new (max worst status)
+pub done_next : {X R F W E : Type 0} (view : X → List ℕ) (program : List ℕ) (subject : Subject) (world : World R F W E) (headed : Headed) (names : List X) (i : ℕ) (d : X) (old middle new : Streams R W E) (worst status : ℕ) → i < length names → AreDone program subject world headed (map view (take i names)) old middle worst → IsDone program subject world headed (view (get_or names i d)) middle new status → AreDone program subject world headed (map view (take (i + 1) names)) old new (max worst status)
 done_next view program subject world headed names i d old middle new worst status lt h k =
     rw (take_more names i d lt, map_push view (take i names) (get_or names i d)) (done_further program subject world headed (map view (take i names)) (view (get_or names i d)) old middle new worst status h k)

@@ -7,6 +7,8 @@ use Rattle.x509_der.specs.declared.error.ErrorKind.TheVariants as kinds
 use Rattle.x509_object_run.specs.Faults.{looks_of}
 use Rattle.x509_object_run.specs.declared.fault.Fault.{Fault}
 use Rattle.x509_object_run.specs.declared.fault.Fault.TheVariants as faults
+use Rattle.x509_object_run.specs.declared.heading.Headed.{Headed}
+use Rattle.x509_object_run.specs.declared.heading.Headed.TheVariants.{Not, Line, Name}
 use Rattle.x509_object_run.specs.declared.heading.Heading.{Heading}
 use Rattle.x509_object_run.specs.declared.fault.PrintError.{PrintError}
 use Rattle.x509_object_run.specs.declared.fault.PrintError.TheVariants.{NoObject, Unwritten, Memory}
@@ -60,17 +62,18 @@ with_looks bytes (Err Unwritten) = Err faults.Unwritten
 with_looks bytes (Err Memory) = Err faults.Memory
 
 -- the heading of an input, where one is wanted
-abbrev pub heading_for : Bool → List ℕ → List ℕ
-heading_for true label = label ++ codes ":\n"
-heading_for false label = []
+abbrev pub heading_for : Headed → List ℕ → List ℕ
+heading_for Not label = []
+heading_for Line label = label ++ codes ":\n"
+heading_for Name label = label
 
 -- What a printer says of its object. That a heading and bytes give a text and a status; that bytes are no object of its kind; how that is
--- told; whether the objects of several inputs have headings.
+-- told; what stands above it, where there are several inputs or there is one.
 pub record Subject : Type 1 where
   pub prints : Prints
   pub is_none : List ℕ → Type 0
   pub no_object : List ℕ
-  pub has_headings : Bool
+  pub headed : Bool → Headed
 
 -- bytes are printed under a heading
 abbrev pub AreShown : {W : Type 0} → Subject → List ℕ → List ℕ → Steps W → W → W → Result ℕ Fault → Type 0

@@ -1,5 +1,5 @@
 -- What a program over objects does, from its words to its status.
-use Rattle.std.specs.Prelude.{◌≡◌, ◌⊎◌, ℕ, max, Bool, true, false, List, [], ◌∷◌, ◌&&◌, codes, length, Option, Some, None, Result, Ok, Err, ltb, if◌then◌else◌}
+use Rattle.std.specs.Prelude.{◌≡◌, ◌⊎◌, ℕ, max, Bool, true, false, List, [], ◌∷◌, codes, length, Option, Some, None, Result, Ok, Err, ltb, if◌then◌else◌}
 use Rattle.x509_object_run.specs.Faults.{complaint, fault_text, short_complaint}
 use Rattle.x509_object_run.specs.Labels.{is_standard, label_of}
 use Rattle.x509_object_run.specs.Object.{IsSourceShown, Steps, Subject, heading_for}
@@ -7,6 +7,7 @@ use Rattle.x509_object_run.specs.Words.{has_option, inputs_of, names_of, options
 use Rattle.x509_object_run.specs.declared.fault.Fault.{Fault}
 use Rattle.x509_object_run.specs.declared.fault.Fault.TheVariants.{Unopened, Unwritten, Memory}
 use Rattle.x509_object_run.specs.declared.fault.OpenError.{OpenError}
+use Rattle.x509_object_run.specs.declared.heading.Headed.{Headed}
 use Rattle.x509_tool_run.specs.Answer.{as_line}
 use Rattle.x509_tool_run.specs.Program.{IsWritten, IsCutOff}
 use Rattle.x509_tool_run.specs.Version.{version_text}
@@ -56,23 +57,23 @@ IsEnded program subject label takes (Err fault) old new status =
     IsTold takes old (complaint program label (fault_text subject.no_object fault)) new × (status ≡ 2)
 
 -- an input is shown and ended
-abbrev pub IsDone : {R F W E : Type 0} → List ℕ → Subject → World R F W E → Bool → List ℕ → Streams R W E → Streams R W E → ℕ → Type 0
+abbrev pub IsDone : {R F W E : Type 0} → List ℕ → Subject → World R F W E → Headed → List ℕ → Streams R W E → Streams R W E → ℕ → Type 0
 IsDone program subject world headed name old new status =
     (result : Result ℕ Fault)
     × IsNamedShown subject (heading_for headed (label_of name)) world.gives world.opens world.file_gives world.takes (is_standard name) name old.input new.input old.output new.output result
     × IsEnded program subject (label_of name) world.takes_errors result old.errors new.errors status
 
 -- inputs one after the other, and the greatest of their statuses
-abbrev pub AreDone : {R F W E : Type 0} → List ℕ → Subject → World R F W E → Bool → List (List ℕ) → Streams R W E → Streams R W E → ℕ → Type 0
+abbrev pub AreDone : {R F W E : Type 0} → List ℕ → Subject → World R F W E → Headed → List (List ℕ) → Streams R W E → Streams R W E → ℕ → Type 0
 AreDone program subject world headed [] old new status = (new ≡ old) × (status ≡ 0)
 AreDone {R} {F} {W} {E} program subject world headed (name ∷ names) old new status =
     (middle : Streams R W E) × (first : ℕ) × (rest : ℕ)
     × IsDone program subject world headed name old middle first × AreDone program subject world headed names middle new rest
     × (status ≡ max first rest)
 
--- several inputs stand under headings, where the printer has them
-abbrev pub are_headed : Subject → List (List ℕ) → Bool
-are_headed subject inputs = ltb 1 (length inputs) && subject.has_headings
+-- what stands above each input
+abbrev pub are_headed : Subject → List (List ℕ) → Headed
+are_headed subject inputs = subject.headed (ltb 1 (length inputs))
 
 -- what a program is asked for
 pub data Call (P : Type 0) : Type 0 where

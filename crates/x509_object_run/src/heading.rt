@@ -10,26 +10,39 @@ use x509_tool_run::{Sink, WriteError, write_texts};
 #[derive(Clone, Copy, Debug)]
 pub struct Heading<'a> {
     /// What the input is called.
-    pub name: &'a [u8],
+    pub name: &'a str,
 
     /// What stands behind it.
-    pub end: &'a [u8],
+    pub end: &'a str,
+}
+
+/// What stands above what is printed of an input.
+#[derive(Clone, Copy, Debug, PartialEq, Eq)]
+pub enum Headed {
+    /// Nothing.
+    Not,
+
+    /// A line with what the input is called, and a colon.
+    Line,
+
+    /// What the input is called alone, which the printer puts where it wants it.
+    Name,
 }
 
 /// The heading of an input, where one is wanted.
-pub(crate) fn heading_of(headed: bool, label: &[u8]) -> Heading<'_>
+pub(crate) fn heading_of(headed: Headed, label: &str) -> Heading<'_>
     ensures { heading_text result ≡ heading_for headed label.now }
 {
-    if headed {
-        Heading {
+    match headed {
+        Headed::Not => Heading { name: "", end: "" },
+        Headed::Line => Heading {
             name: label,
-            end: b":\n",
-        }
-    } else {
-        Heading {
-            name: b"",
-            end: b"",
-        }
+            end: ":\n",
+        },
+        Headed::Name => Heading {
+            name: label,
+            end: "",
+        },
     }
 }
 
@@ -46,5 +59,8 @@ pub fn write_headed<'a, W: Sink>(
     ensures ok { OnOk result (IsWritten W.takes writer.old (heading_text heading.entry ++ text.now) writer.new) }
     ensures err { OnErr result (IsCutOff W.takes writer.old (heading_text heading.entry ++ text.now) writer.new) }
 {
-    write_texts(writer, &[heading.name, heading.end, text])
+    write_texts(
+        writer,
+        &[heading.name.as_bytes(), heading.end.as_bytes(), text],
+    )
 }

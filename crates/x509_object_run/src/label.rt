@@ -19,17 +19,17 @@ fn has_control(name: &[u8]) -> bool
 }
 
 /// What an input of this name is called in messages: a name that could end a line isn't written.
-pub(crate) fn label_of(name: &str) -> &[u8]
+pub(crate) fn label_of(name: &str) -> &str
     ensures { result.now ≡ label_of name.now }
 {
     if is_standard(name) {
-        return b"standard input";
+        return "standard input";
     }
     if name.is_empty() {
-        return b"(an empty name)";
+        return "(an empty name)";
     }
     if has_control(name.as_bytes()) {
-        return b"(a name with control characters)";
+        return "(a name with control characters)";
     }
-    name.as_bytes()
+    name
 }

@@ -15,7 +15,7 @@ mod words;
 
 pub use fault::{Fault, Looks, OpenError, PrintError};
 pub use files::Opener;
-pub use heading::{Heading, write_headed};
+pub use heading::{Headed, Heading, write_headed};
 pub use input::object_bytes;
 pub use printer::Printer;
 pub use program::{refuse_memory, run};

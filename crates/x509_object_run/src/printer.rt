@@ -7,7 +7,7 @@ ghost use Rattle.x509_object_run.specs.Program.{Program};
 ghost use Rattle.x509_tool_run.specs.Answer.{as_line};
 
 use crate::fault::PrintError;
-use crate::heading::Heading;
+use crate::heading::{Headed, Heading};
 use std::alloc::Global;
 use x509_tool_run::Sink;
 
@@ -43,9 +43,9 @@ pub trait Printer: Sized + Drop {
     fn no_object(&self) -> &'static [u8]
         ensures { result.now ≡ (subject self.now).no_object };
 
-    /// Whether the objects of several inputs have headings.
-    fn has_headings(&self) -> bool
-        ensures { result ≡ (subject self.now).has_headings };
+    /// What stands above what is printed of an input, where there are several or there is one.
+    fn headed(&self, is_several: bool) -> Headed
+        ensures { result ≡ (subject self.now).headed is_several };
 
     /// Writes what is printed of the bytes under a heading, and answers the status of the program.
     ///

@@ -43,7 +43,7 @@ fn show_inputs<P: Printer, R: Source, F: Source + Drop, O: Opener<F>, W: Sink, E
         (are_headed (P.subject printer.now) (map (λ name. name.now) inputs.now)) (map (λ name. name.now) inputs.now)
         (streams reader.old writer.old errors.old) (streams reader.new writer.new errors.new) result }
 {
-    let headed = inputs.len() > 1 && printer.has_headings();
+    let headed = printer.headed(inputs.len() > 1);
     do_all(
         alloc, printer, headed, inputs, opener, reader, writer, errors,
     )

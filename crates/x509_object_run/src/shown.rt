@@ -8,7 +8,7 @@ ghost use Rattle.x509_tool_run.specs.Input.{Input, IsRead, Whole};
 
 use crate::fault::{Fault, OpenError, PrintError, looks_of};
 use crate::files::Opener;
-use crate::heading::heading_of;
+use crate::heading::{Headed, heading_of};
 use crate::input::object_bytes;
 use crate::label::{is_standard, label_of};
 use crate::messages::complain;
@@ -21,8 +21,8 @@ use x509_tool_run::{Refusal, Sink, Source, read_input};
 fn show_bytes<P: Printer, W: Sink>(
     alloc: Global,
     printer: &P,
-    headed: bool,
-    label: &[u8],
+    headed: Headed,
+    label: &str,
     bytes: &[u8],
     writer: &mut W,
 ) -> Result<u8, Fault>
@@ -66,8 +66,8 @@ fn read_object<R: Source>(alloc: Global, reader: &mut R) -> Result<Vec<u8>, Faul
 fn show_source<P: Printer, R: Source, W: Sink>(
     alloc: Global,
     printer: &P,
-    headed: bool,
-    label: &[u8],
+    headed: Headed,
+    label: &str,
     reader: &mut R,
     writer: &mut W,
 ) -> Result<u8, Fault>
@@ -83,8 +83,8 @@ fn show_source<P: Printer, R: Source, W: Sink>(
 fn show_file<P: Printer, F: Source + Drop, W: Sink>(
     alloc: Global,
     printer: &P,
-    headed: bool,
-    label: &[u8],
+    headed: Headed,
+    label: &str,
     opened: Result<F, OpenError>,
     writer: &mut W,
 ) -> Result<u8, Fault>
@@ -100,7 +100,7 @@ fn show_file<P: Printer, F: Source + Drop, W: Sink>(
 fn show_named<P: Printer, R: Source, F: Source + Drop, O: Opener<F>, W: Sink>(
     alloc: Global,
     printer: &P,
-    headed: bool,
+    headed: Headed,
     name: &str,
     opener: &O,
     reader: &mut R,
@@ -120,7 +120,7 @@ fn show_named<P: Printer, R: Source, F: Source + Drop, O: Opener<F>, W: Sink>(
 fn do_one<P: Printer, R: Source, F: Source + Drop, O: Opener<F>, W: Sink, E: Sink>(
     alloc: Global,
     printer: &P,
-    headed: bool,
+    headed: Headed,
     name: &str,
     opener: &O,
     reader: &mut R,
@@ -133,7 +133,7 @@ fn do_one<P: Printer, R: Source, F: Source + Drop, O: Opener<F>, W: Sink, E: Sin
     match show_named(alloc, printer, headed, name, opener, reader, writer) {
         Ok(status) => status,
         Err(fault) => {
-            complain(printer, label_of(name), fault, errors);
+            complain(printer, label_of(name).as_bytes(), fault, errors);
             2
         }
     }
@@ -149,7 +149,7 @@ fn greater_of(first: u8, second: u8) -> u8
 pub(crate) fn do_all<P: Printer, R: Source, F: Source + Drop, O: Opener<F>, W: Sink, E: Sink>(
     alloc: Global,
     printer: &P,
-    headed: bool,
+    headed: Headed,
     names: &[&str],
     opener: &O,
     reader: &mut R,

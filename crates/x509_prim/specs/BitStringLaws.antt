@@ -7,6 +7,9 @@ use Rattle.x509_der.specs.Form.{IsForm, IsContents}
 use Rattle.x509_der.specs.FormLaws.{universal_lawful}
 use Rattle.x509_der.specs.OutcomeLaws.{ok_is, test_ok, test_err}
 use Rattle.x509_prim.specs.BitString.{BitParts, parts_of, is_padded, bit_string_reading, bit_string_contents, bit_string}
+use Rattle.x509_der.specs.Writing.{plain, writes}
+use Rattle.x509_der.specs.Order.{IsOrder}
+use Rattle.x509_der.specs.Ordered.{by_bytes, by_bytes_lawful}
 
 bit_string_sound : (bytes : List ℕ) (parts : BitParts) → bit_string_reading bytes ≡ Ok parts → (is_padded parts ≡ true) × (bytes ≡ parts.unused ∷ parts.octets)
 unfolding bit_string_reading
@@ -47,3 +50,6 @@ one_bit_string x y e =
     tail : List ℕ → List ℕ
     tail [] = []
     tail (octet ∷ octets) = octets
+
+pub bit_string_ordered : IsOrder bit_string (writes plain) (by_bytes bit_string)
+bit_string_ordered = by_bytes_lawful bit_string (writes plain) (λ x y p q. one_bit_string x y q)

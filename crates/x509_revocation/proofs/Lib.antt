@@ -11,4 +11,5 @@ pub mod OneCover
 pub mod Named
 pub mod Orders
 pub mod Same
+pub mod Settled
 pub mod OneStatus

@@ -7,5 +7,6 @@ pub mod Entries
 pub mod Says
 pub mod Status
 pub mod Lent
+pub mod LentEntries
 pub mod LentFound
 pub mod Signers

@@ -2,16 +2,17 @@
 
 ghost use Rattle.std.specs.List.{All};
 ghost use Rattle.std.specs.Prelude.{◌≡◌, ◌↔◌, List, option_map, IfOk, IsTrue, MatchOption};
-ghost use Rattle.x509_base.specs.declared.profile.Rfc5280.{Rfc5280};
-ghost use Rattle.x509_cert.specs.Issuers.{issuers, or_else};
+ghost use Rattle.x509_cert.specs.Issuers.{or_else};
+ghost use Rattle.x509_ext.specs.Identifiers.{id_ce};
 ghost use Rattle.x509_check.specs.CrlRefs.{lent_entry};
 ghost use Rattle.x509_check.specs.ExtensionRefs.{extensions_left};
-ghost use Rattle.x509_ext.specs.LookUp.{members};
-ghost use Rattle.x509_ext.specs.declared.extension.Extension as extensions;
+ghost use Rattle.x509_ext.specs.LookUp.{members, with_oid};
+ghost use Rattle.x509_ext.specs.declared.extension.Extension.{Extension};
 ghost use Rattle.x509_path.specs.Certificates.{Certificate};
 ghost use Rattle.x509_path.specs.Lent.{Lends};
-ghost use Rattle.x509_revocation.specs.Crls.{Crl, entries_of, entry_extensions};
-ghost use Rattle.x509_revocation.specs.Entries.{AreUsableIssuers, FindsEntry, IsIssuer, IsProcessedInEntry, IsUsable};
+ghost use Rattle.x509_revocation.specs.Crls.{Crl, entries_of};
+ghost use Rattle.x509_revocation.specs.Entries.{AreUsableIssuers, FindsEntry, IsIssuer, IsUsable};
+ghost use Rattle.x509_revocation.specs.LentEntries.{Settles};
 ghost use Rattle.x509_revocation.specs.Lent.{LendsCrl};
 ghost use Rattle.x509_revocation.specs.LentFound.{placed_entry};
 ghost use Rattle.x509_revocation.specs.Names.{Name};
@@ -22,7 +23,7 @@ use crate::issuers::names_issuer;
 use crate::names::encoded_match;
 use crate::status::Revocation;
 use std::alloc::{AllocError, Global};
-use x509_check::{CertificateRef, CrlRef, ExtensionRefs, RevokedCertRef};
+use x509_check::{CertificateRef, CrlRef, ExtensionRefs, RevokedCertRef, UndatedCertRef};
 use x509_der::AssociatedOid;
 use x509_ext::pkix::{CertificateIssuer, CrlReason};
 
@@ -36,29 +37,22 @@ fn extensions_of<'a>(entry: &RevokedCertRef<'a>) -> ExtensionRefs<'a>
     }
 }
 
-/// Whether each critical extension of the entry is processed.
-fn is_processed(entry: &RevokedCertRef<'_>) -> bool
-    ensures { IsTrue result ↔ All IsProcessedInEntry (entry_extensions (lent_entry entry.now)) }
-{
-    are_processed::<CrlReason, CertificateIssuer>(extensions_of(entry))
-}
-
-/// Whether the certificate's issuer issued that of the entry, by whether it issued that of the one before it; `None` where the
-/// entry has a CertificateIssuer that can't be used.
+/// Whether the certificate's issuer issued that of the entry with these extensions, by whether it issued that of the one before it; `None`
+/// where the entry has a CertificateIssuer that can't be used.
 fn issuer_at(
     alloc: Global,
     certificate: &CertificateRef<'_>,
     is_indirect: bool,
     is_issuer: bool,
-    entry: &RevokedCertRef<'_>,
+    extensions: &ExtensionRefs<'_>,
 ) -> Result<Option<bool>, AllocError>
-    ensures { IfOk result (λ here. (c : Certificate) (own : Name) (before : List extensions.Extension) → Lends certificate.now.bytes.now c
+    ensures { IfOk result (λ here. (c : Certificate) (own : Name) (before : List Extension) → Lends certificate.now.bytes.now c
         → (IsTrue is_issuer ↔ IsIssuer own c.tbs_certificate.issuer before)
-        → MatchOption here (AreUsableIssuers is_indirect (issuers {P = Rfc5280} (lent_entry entry.now)) → ⊥)
-        (λ is_here. AreUsableIssuers is_indirect (issuers {P = Rfc5280} (lent_entry entry.now))
-        × (IsTrue is_here ↔ IsIssuer own c.tbs_certificate.issuer (or_else (issuers {P = Rfc5280} (lent_entry entry.now)) before)))) }
+        → MatchOption here (AreUsableIssuers is_indirect (with_oid (id_ce 29) (extensions_left extensions.now)) → ⊥)
+        (λ is_here. AreUsableIssuers is_indirect (with_oid (id_ce 29) (extensions_left extensions.now))
+        × (IsTrue is_here ↔ IsIssuer own c.tbs_certificate.issuer (or_else (with_oid (id_ce 29) (extensions_left extensions.now)) before)))) }
 {
-    match extensions_of(entry).find_extension(CertificateIssuer::OID) {
+    match extensions.find_extension(CertificateIssuer::OID) {
         Ok(None) => Ok(Some(is_issuer)),
         Ok(Some(extension)) => {
             if !is_indirect {
@@ -70,8 +64,50 @@ fn issuer_at(
     }
 }
 
+/// The same; `None` also where a critical extension isn't processed. Extensions that aren't critical and don't name an issuer are passed over,
+/// since they change nothing.
+fn settle(
+    alloc: Global,
+    certificate: &CertificateRef<'_>,
+    is_indirect: bool,
+    is_issuer: bool,
+    extensions: &ExtensionRefs<'_>,
+) -> Result<Option<bool>, AllocError>
+    ensures { IfOk result (λ here. (c : Certificate) (own : Name) (before : List Extension) → Lends certificate.now.bytes.now c
+        → (IsTrue is_issuer ↔ IsIssuer own c.tbs_certificate.issuer before)
+        → Settles is_indirect own c.tbs_certificate.issuer before (extensions_left extensions.now) here) }
+{
+    if !extensions.has_critical_or(&CertificateIssuer::OID) {
+        return Ok(Some(is_issuer));
+    }
+    if !are_processed::<CrlReason, CertificateIssuer>(*extensions) {
+        return Ok(None);
+    }
+    issuer_at(alloc, certificate, is_indirect, is_issuer, extensions)
+}
+
+/// The same of an entry.
+#[inline(always)]
+fn settle_entry(
+    alloc: Global,
+    certificate: &CertificateRef<'_>,
+    is_indirect: bool,
+    is_issuer: bool,
+    entry: &UndatedCertRef<'_>,
+) -> Result<Option<bool>, AllocError>
+    ensures { IfOk result (λ here. (c : Certificate) (own : Name) (before : List Extension) → Lends certificate.now.bytes.now c
+        → (IsTrue is_issuer ↔ IsIssuer own c.tbs_certificate.issuer before)
+        → Settles is_indirect own c.tbs_certificate.issuer before (members (option_map extensions_left entry.now.crl_entry_extensions)) here) }
+{
+    match &entry.crl_entry_extensions {
+        Some(extensions) => settle(alloc, certificate, is_indirect, is_issuer, extensions),
+        None => Ok(Some(is_issuer)),
+    }
+}
+
 /// Whether the entry is that of the certificate with the serial number, by whether its issuer issued that of the entry.
-fn is_of(is_issuer: bool, entry: &RevokedCertRef<'_>, serial_number: &[u8]) -> bool
+#[inline(always)]
+fn is_of(is_issuer: bool, entry: &UndatedCertRef<'_>, serial_number: &[u8]) -> bool
     ensures { IsTrue result ↔ (IsTrue is_issuer × (entry.now.serial_number.now ≡ serial_number.now)) }
 {
     is_issuer && entry.serial_number == serial_number
@@ -93,17 +129,14 @@ pub(crate) fn look_up<'a>(
     let mut is_issuer = encoded_match(alloc, crl.issuer(), certificate.issuer())?;
     let mut entries = crl.entries();
     let mut found: Option<RevokedCertRef<'a>> = None;
-    while let Some(entry) = entries.next() {
-        if !is_processed(&entry) {
-            return Ok(None);
-        }
-        let here = issuer_at(alloc, certificate, is_indirect, is_issuer, &entry)?;
+    while let Some(entry) = entries.next_undated() {
+        let here = settle_entry(alloc, certificate, is_indirect, is_issuer, &entry)?;
         let Some(is_here) = here else {
             return Ok(None);
         };
         is_issuer = is_here;
         if found.is_none() && is_of(is_here, &entry, serial_number) {
-            found = Some(entry);
+            found = Some(entry.dated());
         }
     }
     Ok(Some(found))

@@ -3,7 +3,6 @@
 //! Words of our own, such as law, are explained in `docs/MAP.md`.
 #![tactic(auto)]
 
-mod calls;
 mod entry;
 mod error;
 pub mod laws;

@@ -3,6 +3,8 @@ use Rattle.std.specs.Prelude.{◌≡◌, ℕ, Bool, true, false, List, [], ◌�
 use Rattle.std.specs.Option.{option_map}
 use Rattle.x509_object_run.specs.Object.{Subject}
 use Rattle.x509_object_run.specs.Program.{Program}
+use Rattle.x509_object_run.specs.declared.heading.Headed.{Headed}
+use Rattle.x509_object_run.specs.declared.heading.Headed.TheVariants.{Not, Line}
 use Rattle.x509_show.specs.declared.show.Show.{Show}
 use Rattle.x509_text.specs.Objects.{shown, shown_as}
 use Rattle.x509_text.specs.declared.line.Style.{Style}
@@ -87,15 +89,16 @@ abbrev pub IsDocument : List ℕ → Option (List ℕ) → List ℕ → ℕ → 
 IsDocument heading (Some document) text status = (text ≡ heading ++ document) × (status ≡ 0)
 IsDocument heading None text status = ⊥
 
--- JSON has no headings
-abbrev pub is_text : Style → Bool
-is_text Text = true
-is_text Json = false
+-- the documents of several inputs stand under headings; JSON has none
+abbrev pub headed : Style → Bool → Headed
+headed Text true = Line
+headed Text false = Not
+headed Json is_several = Not
 
 abbrev pub subject : Show → Subject
 subject show = record {
   prints = λ heading bytes text status. IsDocument heading (document_of show.kind show.style bytes) text status;
   is_none = λ bytes. document_of show.kind show.style bytes ≡ None;
   no_object = no_object show.kind;
-  has_headings = is_text show.style;
+  headed = headed show.style;
 }

@@ -3,12 +3,12 @@
 ghost use Rattle.std.specs.Option.{option_map};
 ghost use Rattle.std.specs.Prelude.{◌≡◌, IfOk, None, Some, map};
 ghost use Rattle.x509_object_run.specs.Object.{IsPrinted, heading_text};
-ghost use Rattle.x509_show.specs.Show.{IsDocument, asked_of, document_of, is_text, kind_of, no_object, style_of};
+ghost use Rattle.x509_show.specs.Show.{IsDocument, asked_of, document_of, headed, kind_of, no_object, style_of};
 ghost use Rattle.x509_text.specs.Pieces.{text_of};
 
 use crate::pieces::write_pieces;
 use std::alloc::{AllocError, Global};
-use x509_object_run::{Heading, PrintError, Printer, write_headed};
+use x509_object_run::{Headed, Heading, PrintError, Printer, write_headed};
 use x509_text::{Document, Kind, Style, document_of_bytes, document_of_kind};
 use x509_tool_run::{Sink, WriteError};
 
@@ -89,12 +89,13 @@ fn no_object(kind: Option<Kind>) -> &'static [u8]
     }
 }
 
-fn is_text(style: Style) -> bool
-    ensures { result ≡ is_text style }
+/// What stands above the document of an input.
+fn headed(style: Style, is_several: bool) -> Headed
+    ensures { result ≡ headed style is_several }
 {
     match style {
-        Style::Text => true,
-        Style::Json => false,
+        Style::Text if is_several => Headed::Line,
+        _ => Headed::Not,
     }
 }
 
@@ -161,8 +162,8 @@ impl Printer for Show {
         no_object(self.kind)
     }
 
-    fn has_headings(&self) -> bool {
-        is_text(self.style)
+    fn headed(&self, is_several: bool) -> Headed {
+        headed(self.style, is_several)
     }
 
     fn print<W: Sink>(

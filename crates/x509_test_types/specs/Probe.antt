@@ -1,5 +1,5 @@
 -- Probe: a: {0}u8=0, b: [1]OCTET STRING?, c: BOOLEAN=FALSE, d: OBJECT IDENTIFIER
-use Rattle.std.specs.Prelude.{ℕ, ◌^◌, Bool, List, Option}
+use Rattle.std.specs.Prelude.{ℕ, ◌^◌, Bool, List, Option, refl}
 use Rattle.x509_der.specs.declared.error.ErrorKind.{ErrorKind}
 use Rattle.x509_der.specs.declared.tag.Tag.TheVariants.{Sequence}
 use Rattle.x509_der.specs.Form.{Form, IsForm, Contents, IsContents, universal}
@@ -11,6 +11,11 @@ use Rattle.x509_der.specs.DefaultValues.{zero_default, boolean_default}
 use Rattle.x509_der.specs.PartRules.{part_rules}
 use Rattle.x509_der.specs.ObjectIdentifierForm.{object_identifier, object_identifier_lawful}
 use Rattle.x509_prim.specs.OctetString.{octet_string, octet_string_lawful}
+use Rattle.x509_der.specs.Writing.{plain, writes}
+use Rattle.x509_der.specs.Order.{Order, IsOrder, der_order}
+use Rattle.x509_der.specs.Ordered.{by_bytes, by_bytes_lawful}
+use Rattle.x509_der.specs.PartOrder.{PartOrder, plain_parts_ordered, by_parts, by_default, by_optional, by_required, ◌⊕◌}
+use Rattle.x509_der.specs.OrderRules.{order_rules}
 use Rattle.x509_test_types.specs.declared.probe.Probe.{Probe}
 
 unfoldable pub probe_fields : Part (ℕ × (Option (List ℕ) × (Bool × List ℕ)))
@@ -28,3 +33,20 @@ probe_contents_lawful = search (part_rules, object_identifier_lawful, octet_stri
 
 pub probe_lawful : {R : ErrorKind → Type 0} → IsForm R probe
 probe_lawful = universal_lawful Sequence probe_contents probe_contents_lawful
+
+-- ---- the byte order
+
+octet_string_ordered : IsOrder octet_string (writes plain) (by_bytes octet_string)
+octet_string_ordered = by_bytes_lawful octet_string (writes plain) (λ x y p q. q)
+
+abbrev pub probe_cmp : PartOrder (ℕ × (Option (List ℕ) × (Bool × List ℕ)))
+probe_cmp =
+    by_default zero_default (explicit 0 (natural (2 ^ 8))) (der_order (natural (2 ^ 8)) (writes plain) (by_bytes (natural (2 ^ 8))))
+    ⊕ (by_optional (implicit 1 octet_string) plain (by_bytes octet_string) ⊕ (by_default boolean_default boolean (by_bytes boolean) ⊕ by_required object_identifier plain (by_bytes object_identifier)))
+
+abbrev pub probe_order : Order Probe
+probe_order = by_parts (λ p. (p.a, (p.b, (p.c, p.d)))) probe_cmp
+
+pub probe_ordered : IsOrder probe (writes plain) probe_order
+unfolding probe_fields
+probe_ordered = plain_parts_ordered Sequence _ _ probe_cmp (λ p. refl) refl (search (order_rules, octet_string_ordered) depth 20)

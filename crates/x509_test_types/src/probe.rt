@@ -1,8 +1,10 @@
 //! A sequence of four fields.
 
 use std::alloc::Global;
+use std::cmp::Ordering;
 use x509_der::{
-    Content, Error, ObjectIdentifier, PutPart, Room, Tag, defaulted, defaulted_explicit, end,
+    CmpPart, Content, Error, ObjectIdentifier, PutPart, Room, Tag, ValueOrd, both, both_defaulted,
+    both_defaulted_explicit, both_optional_implicit, defaulted, defaulted_explicit, end,
     optional_implicit, read_defaulted, read_defaulted_explicit, read_field, read_optional_implicit,
 };
 use x509_prim::OctetString;
@@ -61,4 +63,23 @@ impl Content for Probe {
     }
 
     ghost contents_lawful = { grammar.probe_contents_lawful };
+}
+
+impl ValueOrd for Probe {
+    ghost use Rattle.x509_test_types.specs.Probe as grammar;
+
+    ghost order = { grammar.probe_order };
+
+    fn value_cmp(&self, other: &Probe) -> Ordering {
+        let parts = (
+            both_defaulted_explicit(0, &self.a, &other.a),
+            (
+                both_optional_implicit(1, &self.b, &other.b),
+                (both_defaulted(&self.c, &other.c), both(&self.d, &other.d)),
+            ),
+        );
+        parts.cmp_part(None, None)
+    }
+
+    ghost ordered = { grammar.probe_ordered };
 }

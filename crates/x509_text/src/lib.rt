@@ -30,7 +30,7 @@ mod usages;
 mod values;
 
 pub use documents::{anchor_text, certificate_text, crl_text, request_text};
-pub use line::{Depth, Style};
+pub use line::{Depth, Style, write_json_text};
 pub use names::{NAMES, Row, name_of};
 pub use objects::{Kind, document_of_bytes, document_of_kind, show_bytes, show_kind};
 pub use pieces::{CrlPieces, Document};

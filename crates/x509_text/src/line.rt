@@ -6,6 +6,7 @@ ghost use Rattle.std.specs.List.{flat_map};
 ghost use Rattle.std.specs.Str.{IsUtf8};
 ghost use Rattle.x509_text.specs.Lines as lines;
 ghost use Rattle.x509_text.specs.Runs as runs;
+ghost use Rattle.x509_text.specs.declared.line.Style.TheVariants.{Json};
 
 use std::alloc::{AllocError, Global};
 use std::simd::prelude::*;
@@ -341,6 +342,17 @@ fn write_shown(alloc: Global, style: Style, text: &str, out: &mut String) -> Res
         rest = write_few(alloc, style, others, out)?;
     }
     Ok(())
+}
+
+/// Writes a text as characters of a string of JSON (RFC 8259 7), without its quotation marks.
+///
+/// # Errors
+///
+/// `AllocError` when out of memory, and nothing else.
+pub fn write_json_text(alloc: Global, text: &str, out: &mut String) -> Result<(), AllocError>
+    ensures { OnOk result (string_bytes out.new ≡ string_bytes out.old ++ lines.shown Json text.now) }
+{
+    write_shown(alloc, Style::Json, text, out)
 }
 
 /// Writes what stands behind a label.

@@ -1,8 +1,12 @@
 //! The version of the description of a trust anchor.
 
 use std::alloc::Global;
-use x509_der::{Content, DefaultValue, Error, Room, Spelled, Tag, TryClone};
-use x509_prim::{NamedNumber, put_named_number, read_named_number};
+use std::cmp::Ordering;
+use x509_der::{
+    Content, DefaultValue, EncodingOrd, Error, Room, SetMember, SetOrd, Spelled, Tag, TryClone,
+    ValueOrd,
+};
+use x509_prim::{NamedNumber, cmp_named_numbers, put_named_number, read_named_number};
 
 /// The version of a [`TrustAnchorInfo`](crate::anchor::TrustAnchorInfo) (RFC 5914 2.1). There is one, and since it is the
 /// default it is never encoded there. Alone it is the INTEGER 0; RFC 5914 numbers it 1.
@@ -68,6 +72,31 @@ impl Content for Version {
     }
 
     ghost contents_lawful = { named_contents_lawful version_names };
+}
+
+impl ValueOrd for Version {
+    ghost use Rattle.x509_cert.specs.AnchorVersion.{version_names};
+    ghost use Rattle.x509_der.specs.Writing.{plain, writes};
+    ghost use Rattle.x509_der.specs.declared.tag.Tag.TheVariants.{Integer};
+    ghost use Rattle.x509_prim.specs.NamesLaws.{named_order, named_ordered};
+
+    ghost order = { named_order Integer version_names };
+
+    fn value_cmp(&self, other: &Version) -> Ordering {
+        cmp_named_numbers(self, other)
+    }
+
+    ghost ordered = { named_ordered Integer version_names (writes plain) };
+}
+
+impl SetOrd for Version {
+    ghost set_order = { ⟦<Version as EncodingOrd>⟧.encoding_order };
+}
+
+impl SetMember for Version {
+    ghost use Rattle.std.specs.Prelude.{refl};
+
+    ghost in_der_order = { refl };
 }
 
 impl Spelled for Version {

@@ -9,10 +9,11 @@ use crate::certificate::tbs_certificate::TbsCertificateInner;
 use crate::digest::digest::CertDigest;
 use crate::digest::encoding::hash;
 use std::alloc::Global;
-use x509_base::{AlgorithmIdentifier, Profile, Rfc5280};
+use std::cmp::Ordering;
+use x509_base::{AlgorithmIdentifier, Profile, Rfc5280, Validity};
 use x509_der::{
-    Content, Encode, Error, Grammar, PutPart, Room, SequenceOf, Spelled, Tag, TryClone, end,
-    read_field,
+    CmpPart, Content, Encode, EncodingOrd, Error, Grammar, PutPart, Room, SequenceOf, SetMember,
+    SetOrd, Spelled, Tag, TryClone, ValueOrd, both, end, read_field,
 };
 use x509_prim::BitString;
 
@@ -164,6 +165,35 @@ impl<P: Profile> Content for CertificateInner<P> {
     }
 
     ghost contents_lawful = { grammar.certificate_contents_lawful P.serial_check };
+}
+
+impl<P: Profile> ValueOrd for CertificateInner<P> {
+    ghost use Rattle.x509_cert.specs.Certificate as grammar;
+
+    ghost order = { grammar.certificate_order P.serial_check ⟦<Validity<P> as Encode>⟧.writing };
+
+    fn value_cmp(&self, other: &CertificateInner<P>) -> Ordering {
+        let parts = (
+            both(&self.tbs_certificate, &other.tbs_certificate),
+            (
+                both(&self.signature_algorithm, &other.signature_algorithm),
+                both(&self.signature, &other.signature),
+            ),
+        );
+        parts.cmp_part(None, None)
+    }
+
+    ghost ordered = { grammar.certificate_ordered P.serial_check ⟦<Validity<P> as Encode>⟧.writing };
+}
+
+impl<P: Profile> SetOrd for CertificateInner<P> {
+    ghost set_order = { ⟦<CertificateInner<P> as EncodingOrd>⟧.encoding_order };
+}
+
+impl<P: Profile> SetMember for CertificateInner<P> {
+    ghost use Rattle.std.specs.Prelude.{refl};
+
+    ghost in_der_order = { refl };
 }
 
 #[tactic(auto, unfolding(crate::specs::Certificate::certificate_fields, x509_der::specs::Frames::fields_good))]

@@ -9,13 +9,16 @@ ghost use Rattle.x509_ext.specs.LookUp.{Finds, members, with_oid};
 
 use crate::certificate::version::Version;
 use std::alloc::Global;
+use std::cmp::Ordering;
 use x509_base::{
     AlgorithmIdentifier, Profile, Rfc5280, SerialNumber, SubjectPublicKeyInfo, Validity,
 };
 use x509_der::{
-    AssociatedOid, Content, Decode, Encode, Error, ObjectIdentifier, PutPart, Room, Spelled, Tag,
-    TryClone, defaulted_explicit, end, option_has_spelling, optional_explicit, optional_implicit,
-    read_defaulted_explicit, read_field, read_optional_explicit, read_optional_implicit,
+    AssociatedOid, CmpPart, Content, Decode, Encode, EncodingOrd, Error, ObjectIdentifier, PutPart,
+    Room, SetMember, SetOrd, Spelled, Tag, TryClone, ValueOrd, both, both_defaulted_explicit,
+    both_optional_explicit, both_optional_implicit, defaulted_explicit, end, option_has_spelling,
+    optional_explicit, optional_implicit, read_defaulted_explicit, read_field,
+    read_optional_explicit, read_optional_implicit,
 };
 use x509_ext::{
     Extension, Extensions, FilterExtensions, filter_extensions, get_extension, members,
@@ -112,30 +115,13 @@ impl<P: Profile> TbsCertificateInner<P> {
           extensions = None;
         } }
     {
-        let TbsCertificateInner {
-            version: _,
-            serial_number,
-            signature: _,
-            issuer,
-            validity,
-            subject,
-            subject_public_key_info,
-            issuer_unique_id: _,
-            subject_unique_id: _,
-            extensions: _,
-        } = self;
-        TbsCertificateInner {
-            version: Version::V3,
-            serial_number,
-            signature,
-            issuer,
-            validity,
-            subject,
-            subject_public_key_info,
-            issuer_unique_id: None,
-            subject_unique_id: None,
-            extensions: None,
-        }
+        let mut part = self;
+        part.version = Version::V3;
+        part.signature = signature;
+        part.issuer_unique_id = None;
+        part.subject_unique_id = None;
+        part.extensions = None;
+        part
     }
 
     /// The signed part with that version, and with these extensions in place of its own. It takes no memory.
@@ -146,30 +132,10 @@ impl<P: Profile> TbsCertificateInner<P> {
     ) -> TbsCertificateInner<P>
         ensures { result ≡ record self { version = version; extensions = extensions } }
     {
-        let TbsCertificateInner {
-            version: _,
-            serial_number,
-            signature,
-            issuer,
-            validity,
-            subject,
-            subject_public_key_info,
-            issuer_unique_id,
-            subject_unique_id,
-            extensions: _,
-        } = self;
-        TbsCertificateInner {
-            version,
-            serial_number,
-            signature,
-            issuer,
-            validity,
-            subject,
-            subject_public_key_info,
-            issuer_unique_id,
-            subject_unique_id,
-            extensions,
-        }
+        let mut part = self;
+        part.version = version;
+        part.extensions = extensions;
+        part
     }
 
     /// The signed part without the extensions of type `T`, found by the OID of the type. The others stay in their
@@ -412,6 +378,61 @@ impl<P: Profile> Content for TbsCertificateInner<P> {
     }
 
     ghost contents_lawful = { grammar.tbs_certificate_contents_lawful P.serial_check };
+}
+
+impl<P: Profile> ValueOrd for TbsCertificateInner<P> {
+    ghost use Rattle.x509_cert.specs.TbsCertificate as grammar;
+
+    ghost order = { grammar.tbs_certificate_order P.serial_check ⟦<Validity<P> as Encode>⟧.writing };
+
+    fn value_cmp(&self, other: &TbsCertificateInner<P>) -> Ordering {
+        let front = (
+            both_defaulted_explicit(0, &self.version, &other.version),
+            (
+                both(&self.serial_number, &other.serial_number),
+                (
+                    both(&self.signature, &other.signature),
+                    (
+                        both(&self.issuer, &other.issuer),
+                        both(&self.validity, &other.validity),
+                    ),
+                ),
+            ),
+        );
+        let behind = (
+            both(&self.subject, &other.subject),
+            (
+                both(
+                    &self.subject_public_key_info,
+                    &other.subject_public_key_info,
+                ),
+                (
+                    both_optional_implicit(1, &self.issuer_unique_id, &other.issuer_unique_id),
+                    (
+                        both_optional_implicit(
+                            2,
+                            &self.subject_unique_id,
+                            &other.subject_unique_id,
+                        ),
+                        both_optional_explicit(3, &self.extensions, &other.extensions),
+                    ),
+                ),
+            ),
+        );
+        (front, behind).cmp_part(None, None)
+    }
+
+    ghost ordered = { grammar.tbs_certificate_ordered P.serial_check ⟦<Validity<P> as Encode>⟧.writing };
+}
+
+impl<P: Profile> SetOrd for TbsCertificateInner<P> {
+    ghost set_order = { ⟦<TbsCertificateInner<P> as EncodingOrd>⟧.encoding_order };
+}
+
+impl<P: Profile> SetMember for TbsCertificateInner<P> {
+    ghost use Rattle.std.specs.Prelude.{refl};
+
+    ghost in_der_order = { refl };
 }
 
 #[tactic(auto, unfolding(crate::specs::TbsCertificate::tbs_certificate_fields, x509_der::specs::Frames::fields_good))]

@@ -6,8 +6,12 @@ ghost use Rattle.x509_cert.specs.Revoked.{IsFirstWith, entries, with_serial};
 use crate::crl::revoked_cert::RevokedCert;
 use crate::crl::tbs_cert_list::TbsCertList;
 use std::alloc::Global;
+use std::cmp::Ordering;
 use x509_base::{AlgorithmIdentifier, Profile, Rfc5280, SerialNumber};
-use x509_der::{Content, Error, PutPart, Room, Spelled, Tag, TryClone, end, read_field};
+use x509_der::{
+    CmpPart, Content, EncodingOrd, Error, PutPart, Room, SetMember, SetOrd, Spelled, Tag, TryClone,
+    ValueOrd, both, end, read_field,
+};
 use x509_prim::BitString;
 
 /// A certificate revocation list (CRL) with its signature (RFC 5280 5.1). Neither the signature nor that both algorithm
@@ -137,6 +141,35 @@ impl<P: Profile> Content for CertificateList<P> {
     }
 
     ghost contents_lawful = { grammar.certificate_list_contents_lawful P.serial_check };
+}
+
+impl<P: Profile> ValueOrd for CertificateList<P> {
+    ghost use Rattle.x509_cert.specs.CertificateList as grammar;
+
+    ghost order = { grammar.certificate_list_order P.serial_check };
+
+    fn value_cmp(&self, other: &CertificateList<P>) -> Ordering {
+        let parts = (
+            both(&self.tbs_cert_list, &other.tbs_cert_list),
+            (
+                both(&self.signature_algorithm, &other.signature_algorithm),
+                both(&self.signature, &other.signature),
+            ),
+        );
+        parts.cmp_part(None, None)
+    }
+
+    ghost ordered = { grammar.certificate_list_ordered P.serial_check };
+}
+
+impl<P: Profile> SetOrd for CertificateList<P> {
+    ghost set_order = { ⟦<CertificateList<P> as EncodingOrd>⟧.encoding_order };
+}
+
+impl<P: Profile> SetMember for CertificateList<P> {
+    ghost use Rattle.std.specs.Prelude.{refl};
+
+    ghost in_der_order = { refl };
 }
 
 #[tactic(auto, unfolding(crate::specs::CertificateList::certificate_list_fields, x509_der::specs::Frames::fields_good))]

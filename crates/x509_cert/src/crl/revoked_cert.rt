@@ -5,10 +5,12 @@ ghost use Rattle.x509_ext.specs.Filter.{extensions_left};
 ghost use Rattle.x509_ext.specs.LookUp.{Finds, members, with_oid};
 
 use std::alloc::Global;
+use std::cmp::Ordering;
 use x509_base::{Profile, Rfc5280, SerialNumber, Time};
 use x509_der::{
-    AssociatedOid, Content, Decode, Error, PutPart, Room, Spelled, Tag, TryClone, end,
-    option_has_spelling, optional, read_field, read_optional,
+    AssociatedOid, CmpPart, Content, Decode, EncodingOrd, Error, PutPart, Room, SetMember, SetOrd,
+    Spelled, Tag, TryClone, ValueOrd, both, both_optional, end, option_has_spelling, optional,
+    read_field, read_optional,
 };
 use x509_ext::{Extensions, FilterExtensions, filter_extensions, get_extension, members};
 
@@ -118,6 +120,35 @@ impl<P: Profile> Content for RevokedCert<P> {
     }
 
     ghost contents_lawful = { grammar.revoked_cert_contents_lawful P.serial_check };
+}
+
+impl<P: Profile> ValueOrd for RevokedCert<P> {
+    ghost use Rattle.x509_cert.specs.RevokedCert as grammar;
+
+    ghost order = { grammar.revoked_cert_order P.serial_check };
+
+    fn value_cmp(&self, other: &RevokedCert<P>) -> Ordering {
+        let parts = (
+            both(&self.serial_number, &other.serial_number),
+            (
+                both(&self.revocation_date, &other.revocation_date),
+                both_optional(&self.crl_entry_extensions, &other.crl_entry_extensions),
+            ),
+        );
+        parts.cmp_part(None, None)
+    }
+
+    ghost ordered = { grammar.revoked_cert_ordered P.serial_check };
+}
+
+impl<P: Profile> SetOrd for RevokedCert<P> {
+    ghost set_order = { ⟦<RevokedCert<P> as EncodingOrd>⟧.encoding_order };
+}
+
+impl<P: Profile> SetMember for RevokedCert<P> {
+    ghost use Rattle.std.specs.Prelude.{refl};
+
+    ghost in_der_order = { refl };
 }
 
 #[tactic(auto, unfolding(crate::specs::RevokedCert::revoked_cert_fields, x509_der::specs::Frames::fields_good))]

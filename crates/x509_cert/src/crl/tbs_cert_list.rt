@@ -8,11 +8,13 @@ ghost use Rattle.x509_ext.specs.LookUp.{Finds, members, with_oid};
 use crate::certificate::Version;
 use crate::crl::revoked_cert::RevokedCert;
 use std::alloc::Global;
+use std::cmp::Ordering;
 use x509_base::{AlgorithmIdentifier, Profile, Rfc5280, Time};
 use x509_der::{
-    AssociatedOid, Content, Decode, Error, PutPart, Room, SequenceOf, Spelled, Tag, TryClone, end,
-    option_has_spelling, optional, optional_explicit, read_field, read_optional,
-    read_optional_explicit,
+    AssociatedOid, CmpPart, Content, Decode, EncodingOrd, Error, PutPart, Room, SequenceOf,
+    SetMember, SetOrd, Spelled, Tag, TryClone, ValueOrd, both, both_optional,
+    both_optional_explicit, end, option_has_spelling, optional, optional_explicit, read_field,
+    read_optional, read_optional_explicit,
 };
 use x509_ext::{Extensions, FilterExtensions, filter_extensions, get_extension, members};
 use x509_name::name::Name;
@@ -179,6 +181,45 @@ impl<P: Profile> Content for TbsCertList<P> {
     }
 
     ghost contents_lawful = { grammar.tbs_cert_list_contents_lawful P.serial_check };
+}
+
+impl<P: Profile> ValueOrd for TbsCertList<P> {
+    ghost use Rattle.x509_cert.specs.CertificateList as grammar;
+
+    ghost order = { grammar.tbs_cert_list_order P.serial_check };
+
+    fn value_cmp(&self, other: &TbsCertList<P>) -> Ordering {
+        let front = (
+            both_optional(&self.version, &other.version),
+            (
+                both(&self.signature, &other.signature),
+                (
+                    both(&self.issuer, &other.issuer),
+                    both(&self.this_update, &other.this_update),
+                ),
+            ),
+        );
+        let behind = (
+            both_optional(&self.next_update, &other.next_update),
+            (
+                both_optional(&self.revoked_certificates, &other.revoked_certificates),
+                both_optional_explicit(0, &self.crl_extensions, &other.crl_extensions),
+            ),
+        );
+        (front, behind).cmp_part(None, None)
+    }
+
+    ghost ordered = { grammar.tbs_cert_list_ordered P.serial_check };
+}
+
+impl<P: Profile> SetOrd for TbsCertList<P> {
+    ghost set_order = { ⟦<TbsCertList<P> as EncodingOrd>⟧.encoding_order };
+}
+
+impl<P: Profile> SetMember for TbsCertList<P> {
+    ghost use Rattle.std.specs.Prelude.{refl};
+
+    ghost in_der_order = { refl };
 }
 
 #[tactic(auto, unfolding(crate::specs::CertificateList::tbs_cert_list_fields, x509_der::specs::Frames::fields_good))]

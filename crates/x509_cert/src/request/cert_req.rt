@@ -13,10 +13,12 @@ use crate::request::extension_req::ExtensionReq;
 use crate::request::look_up::get_attribute;
 use crate::request::version::Version;
 use std::alloc::Global;
+use std::cmp::Ordering;
 use x509_base::{AlgorithmIdentifier, SubjectPublicKeyInfo};
 use x509_der::{
-    AssociatedOid, Content, Decode, Error, Grammar, PutPart, Room, Spelled, Tag, TryClone, end,
-    implicit, read_field, read_implicit,
+    AssociatedOid, CmpPart, Content, Decode, EncodingOrd, Error, Grammar, PutPart, Room, SetMember,
+    SetOrd, Spelled, Tag, TryClone, ValueOrd, both, both_implicit, end, implicit, read_field,
+    read_implicit,
 };
 use x509_name::attr::Attributes;
 use x509_name::name::Name;
@@ -106,6 +108,39 @@ impl Content for CertReqInfo {
     }
 
     ghost contents_lawful = { grammar.cert_req_info_contents_lawful };
+}
+
+impl ValueOrd for CertReqInfo {
+    ghost use Rattle.x509_cert.specs.CertReq as grammar;
+
+    ghost order = { grammar.cert_req_info_order };
+
+    #[tactic(auto, unfolding(x509_der::specs::Element::element))]
+    fn value_cmp(&self, other: &CertReqInfo) -> Ordering {
+        let parts = (
+            both(&self.version, &other.version),
+            (
+                both(&self.subject, &other.subject),
+                (
+                    both(&self.public_key, &other.public_key),
+                    both_implicit(0, &self.attributes, &other.attributes),
+                ),
+            ),
+        );
+        parts.cmp_part(None, None)
+    }
+
+    ghost ordered = { grammar.cert_req_info_ordered };
+}
+
+impl SetOrd for CertReqInfo {
+    ghost set_order = { ⟦<CertReqInfo as EncodingOrd>⟧.encoding_order };
+}
+
+impl SetMember for CertReqInfo {
+    ghost use Rattle.std.specs.Prelude.{refl};
+
+    ghost in_der_order = { refl };
 }
 
 #[tactic(auto, unfolding(crate::specs::CertReq::cert_req_info_fields, x509_der::specs::Frames::fields_good))]
@@ -248,6 +283,35 @@ impl Content for CertReq {
     }
 
     ghost contents_lawful = { grammar.cert_req_contents_lawful };
+}
+
+impl ValueOrd for CertReq {
+    ghost use Rattle.x509_cert.specs.CertReq as grammar;
+
+    ghost order = { grammar.cert_req_order };
+
+    fn value_cmp(&self, other: &CertReq) -> Ordering {
+        let parts = (
+            both(&self.info, &other.info),
+            (
+                both(&self.algorithm, &other.algorithm),
+                both(&self.signature, &other.signature),
+            ),
+        );
+        parts.cmp_part(None, None)
+    }
+
+    ghost ordered = { grammar.cert_req_ordered };
+}
+
+impl SetOrd for CertReq {
+    ghost set_order = { ⟦<CertReq as EncodingOrd>⟧.encoding_order };
+}
+
+impl SetMember for CertReq {
+    ghost use Rattle.std.specs.Prelude.{refl};
+
+    ghost in_der_order = { refl };
 }
 
 #[tactic(auto, unfolding(crate::specs::CertReq::cert_req_fields, x509_der::specs::Frames::fields_good))]

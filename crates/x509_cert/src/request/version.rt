@@ -1,8 +1,11 @@
 //! The version of a CSR.
 
 use std::alloc::Global;
-use x509_der::{Content, Error, Room, Spelled, Tag, TryClone};
-use x509_prim::{NamedNumber, put_named_number, read_named_number};
+use std::cmp::Ordering;
+use x509_der::{
+    Content, EncodingOrd, Error, Room, SetMember, SetOrd, Spelled, Tag, TryClone, ValueOrd,
+};
+use x509_prim::{NamedNumber, cmp_named_numbers, put_named_number, read_named_number};
 
 /// The version of a CSR, of which there is one (RFC 2986 4.1).
 ///
@@ -56,6 +59,31 @@ impl Content for Version {
     }
 
     ghost contents_lawful = { named_contents_lawful version_names };
+}
+
+impl ValueOrd for Version {
+    ghost use Rattle.x509_cert.specs.RequestVersion.{version_names};
+    ghost use Rattle.x509_der.specs.Writing.{plain, writes};
+    ghost use Rattle.x509_der.specs.declared.tag.Tag.TheVariants.{Integer};
+    ghost use Rattle.x509_prim.specs.NamesLaws.{named_order, named_ordered};
+
+    ghost order = { named_order Integer version_names };
+
+    fn value_cmp(&self, other: &Version) -> Ordering {
+        cmp_named_numbers(self, other)
+    }
+
+    ghost ordered = { named_ordered Integer version_names (writes plain) };
+}
+
+impl SetOrd for Version {
+    ghost set_order = { ⟦<Version as EncodingOrd>⟧.encoding_order };
+}
+
+impl SetMember for Version {
+    ghost use Rattle.std.specs.Prelude.{refl};
+
+    ghost in_der_order = { refl };
 }
 
 impl Spelled for Version {

@@ -17,6 +17,11 @@ const BIT_STRING: u8 = 0x03;
 
 const SEQUENCE: u8 = 0x30;
 
+/// The identifier octets of the unique identifiers, [1] and [2] IMPLICIT BIT STRING.
+const ISSUER_UNIQUE_ID: u8 = 0x81;
+
+const SUBJECT_UNIQUE_ID: u8 = 0x82;
+
 /// The fields of a certificate's signed part (RFC 5280 4.1.2), each as its whole element, as it stands in the bytes.
 #[derive(Clone, Copy, Debug)]
 pub struct TbsCertificateSlices<'a> {
@@ -167,8 +172,8 @@ fn read_fields(content: &[u8]) -> Result<TbsCertificateSlices<'_>, Error>
     let (validity, rest) = take(SEQUENCE, rest)?;
     let (subject, rest) = take(SEQUENCE, rest)?;
     let (subject_public_key_info, rest) = take(SEQUENCE, rest)?;
-    let (issuer_unique_id, rest) = take_optional(0x81, rest)?;
-    let (subject_unique_id, rest) = take_optional(0x82, rest)?;
+    let (issuer_unique_id, rest) = take_optional(ISSUER_UNIQUE_ID, rest)?;
+    let (subject_unique_id, rest) = take_optional(SUBJECT_UNIQUE_ID, rest)?;
     let (extensions, rest) = take_explicit(3, SEQUENCE, rest)?;
     end(rest)?;
     Ok(TbsCertificateSlices {

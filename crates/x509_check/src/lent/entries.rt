@@ -6,7 +6,8 @@ ghost use Rattle.x509_der.specs.Element.{limit};
 ghost use Rattle.x509_der.specs.List.{list_reading};
 
 use crate::lent::crl::CrlRef;
-use crate::lent::entry::{RevokedCertRef, known_entry};
+use crate::lent::entry::{RevokedCertRef, known_entry, known_undated};
+use crate::lent::undated::UndatedCertRef;
 use std::marker::PhantomData;
 use x509_base::{Profile, Rfc5280};
 use x509_cert::crl::CertificateList;
@@ -23,11 +24,12 @@ pub struct CrlEntries<'a, P: Profile = Rfc5280> {
 }
 
 impl<'a, P: Profile> CrlEntries<'a, P> {
-    ghost use Rattle.std.specs.Prelude.{◌≡◌, ◌<◌, ◌≤◌, ◌⊎◌, length, Err, IfOk, IfErr, IsErrAnd, IsOk};
+    ghost use Rattle.std.specs.Prelude.{◌≡◌, ◌<◌, ◌≤◌, ◌⊎◌, [], ◌∷◌, length, Err, IfOk, IfErr, IsErrAnd, IsOk, MatchOption};
     ghost use Rattle.x509_cert.specs.Revoked.{entries};
     ghost use Rattle.x509_cert.specs.RevokedCert.{revoked_cert};
+    ghost use Rattle.x509_cert.specs.declared.crl.revoked_cert.RevokedCert as revoked;
     ghost use Rattle.x509_cert.specs.declared.crl.certificate_list.CertificateList as lists;
-    ghost use Rattle.x509_check.specs.CrlRefs.{entries_in};
+    ghost use Rattle.x509_check.specs.CrlRefs.{IsUndated, entries_in};
     ghost use Rattle.x509_der.specs.Element.{limit};
     ghost use Rattle.x509_der.specs.Form.{Spells, whole_reading};
     ghost use Rattle.x509_der.specs.List.{list_reading};
@@ -64,6 +66,21 @@ impl<'a, P: Profile> CrlEntries<'a, P> {
             rest: octets,
             profile: PhantomData,
         }
+    }
+
+    /// The next entry, as `next` gives it but with its date undecoded; `None` exactly where none is left.
+    #[inline(always)]
+    pub fn next_undated(&mut self) -> Option<UndatedCertRef<'a, P>>
+        ensures { MatchOption result (entries_in {P = P} P.serial_check self.old.rest.now ≡ [])
+            (λ undated. (entry : revoked.RevokedCert P) × (entries_in P.serial_check self.old.rest.now ≡ entry ∷ entries_in P.serial_check self.new.rest.now)
+            × IsUndated P.serial_check undated.octets.now undated.serial_number.now undated.crl_entry_extensions entry) }
+    {
+        if self.rest.is_empty() {
+            return None;
+        }
+        let (entry, others) = known_undated::<P>(self.rest);
+        self.rest = others;
+        Some(entry)
     }
 }
 

@@ -1,7 +1,7 @@
 //! Entries of CRLs, lent from their bytes.
 
 ghost use Rattle.std.specs.Prelude.{◌≡◌, ◌≤◌, length, option_map, List, ℕ, Option, Ok, IsOk};
-ghost use Rattle.x509_check.specs.CrlRefs.{lent_entry};
+ghost use Rattle.x509_check.specs.CrlRefs.{IsUndated, lent_entry};
 ghost use Rattle.x509_check.specs.ExtensionRefs.{SpellsOptional, extensions_left};
 ghost use Rattle.x509_check.specs.Lending.{LendsSo};
 ghost use Rattle.x509_cert.specs.RevokedCert.{revoked_cert, revoked_cert_contents};
@@ -14,6 +14,7 @@ use crate::element::next_element;
 use crate::field::{check_field, check_optional};
 use crate::lent::extensions::ExtensionRefs;
 use crate::lent::fields::{take_serial, take_time};
+use crate::lent::undated::UndatedCertRef;
 use x509_base::{Profile, Time};
 use x509_der::{Error, ErrorKind, Tag, end};
 use x509_ext::Extensions;
@@ -33,7 +34,8 @@ pub struct RevokedCertRef<'a> {
 }
 
 /// The extensions of which the bytes are the list, as is known; none where there are no bytes.
-fn known_extensions(bytes: &[u8]) -> Option<ExtensionRefs<'_>>
+#[inline(always)]
+pub(crate) fn known_extensions(bytes: &[u8]) -> Option<ExtensionRefs<'_>>
     requires { (list : Option (List Extension)) × SpellsOptional list bytes.now }
     ensures { (list : Option (List Extension)) → SpellsOptional list bytes.now → option_map extensions_left result ≡ list }
 {
@@ -45,7 +47,7 @@ fn known_extensions(bytes: &[u8]) -> Option<ExtensionRefs<'_>>
 
 /// The entry of which these are the content octets, as is known. No more is looked at than has to be to find its parts, and to read its date.
 #[inline(always)]
-fn known_content<P: Profile>(octets: &[u8]) -> RevokedCertRef<'_>
+pub(crate) fn known_content<P: Profile>(octets: &[u8]) -> RevokedCertRef<'_>
     requires within { length octets.now ≤ limit }
     requires known { IsOk ((revoked_cert_contents {P = P} P.serial_check).reading octets.now) }
     ensures { (entry : revoked.RevokedCert P) → (revoked_cert_contents {P = P} P.serial_check).reading octets.now ≡ Ok entry → lent_entry result ≡ entry }
@@ -112,4 +114,18 @@ pub(crate) fn known_entry<P: Profile>(bytes: &[u8]) -> (RevokedCertRef<'_>, &[u8
         unreachable!()
     };
     (known_content::<P>(piece.content), piece.rest)
+}
+
+/// The entry that is known to stand at the front, without its date, and what follows it.
+#[inline(always)]
+pub(crate) fn known_undated<P: Profile>(bytes: &[u8]) -> (UndatedCertRef<'_, P>, &[u8])
+    requires within { length bytes.now ≤ limit }
+    requires known { IsOk ((required (revoked_cert {P = P} P.serial_check)).reading bytes.now) }
+    ensures { (entry : revoked.RevokedCert P) (rest : List ℕ) → (required (revoked_cert {P = P} P.serial_check)).reading bytes.now ≡ Ok (entry, rest)
+        → IsUndated P.serial_check result.0.octets.now result.0.serial_number.now result.0.crl_entry_extensions entry × (result.1.now ≡ rest) }
+{
+    let Ok(piece) = next_element(bytes, Tag::Sequence) else {
+        unreachable!()
+    };
+    (UndatedCertRef::of_content(piece.content), piece.rest)
 }

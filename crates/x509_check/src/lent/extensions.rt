@@ -1,9 +1,9 @@
 //! Lists of extensions, lent from their bytes.
 
-ghost use Rattle.std.specs.Prelude.{◌≡◌, List, Ok, IsOk};
+ghost use Rattle.std.specs.Prelude.{◌≡◌, ◌||◌, bytes_eq, List, Ok, IsOk};
 ghost use Rattle.x509_der.specs.Form.{Spells};
 ghost use Rattle.x509_der.specs.List.{list_reading};
-ghost use Rattle.x509_ext.specs.Extension.{extension, extensions};
+ghost use Rattle.x509_ext.specs.Extension.{extension, extension_contents, extensions};
 ghost use Rattle.x509_ext.specs.declared.extension.Extension.{Extension};
 
 use crate::check::Check;
@@ -23,7 +23,8 @@ pub struct ExtensionRefs<'a> {
 }
 
 impl<'a> ExtensionRefs<'a> {
-    ghost use Rattle.std.specs.Prelude.{◌≡◌, ◌<◌, ◌≤◌, List, [], length, IfOk, IfErr, IsErrAnd, IsOkAnd};
+    ghost use Rattle.std.specs.List.{list_any};
+    ghost use Rattle.std.specs.Prelude.{◌≡◌, ◌<◌, ◌≤◌, ◌||◌, List, [], bytes_eq, length, IfOk, IfErr, IsErrAnd, IsOkAnd};
     ghost use Rattle.x509_check.specs.ExtensionRefs.{FindsLent, extensions_left};
     ghost use Rattle.x509_der.specs.Element.{limit};
     ghost use Rattle.x509_der.specs.Form.{Spells, spelling};
@@ -57,6 +58,7 @@ impl<'a> ExtensionRefs<'a> {
     }
 
     /// The extensions of a list, of which the bytes are known to be the encoding. They aren't checked again.
+    #[inline(always)]
     pub fn of_checked(bytes: &'a [u8]) -> ExtensionRefs<'a>
         requires { (list : List Extension) × Spells extensions list bytes.now }
         ensures { (list : List Extension) → Spells extensions list bytes.now → extensions_left result ≡ list }
@@ -91,6 +93,24 @@ impl<'a> ExtensionRefs<'a> {
         }
     }
 
+    /// Whether an extension is critical or has the OID. None is decoded.
+    #[inline(always)]
+    pub fn has_critical_or(&self, oid: &ObjectIdentifier) -> bool
+        ensures { result ≡ list_any (λ e. e.critical || bytes_eq e.extn_id oid.now) (extensions_left self.now) }
+    {
+        let mut rest = self.rest;
+        while !rest.is_empty() {
+            let Ok(piece) = next_element(rest, Tag::Sequence) else {
+                return false;
+            };
+            if is_critical_or(piece.content, oid.as_bytes()) {
+                return true;
+            }
+            rest = piece.rest;
+        }
+        false
+    }
+
     /// The extension of type `T`, found by the OID of the type: whether it is critical, and its value; `None` exactly
     /// where no extension has the OID.
     ///
@@ -117,12 +137,25 @@ impl<'a> ExtensionRefs<'a> {
 }
 
 /// The content of the list that the bytes are the encoding of.
+#[inline(always)]
 fn members_of(bytes: &[u8]) -> &[u8]
     ensures { (list : List Extension) → Spells extensions list bytes.now → list_reading extension.reading result.now ≡ Ok list }
 {
     match next_element(bytes, Tag::Sequence) {
         Ok(piece) => piece.content,
         Err(_) => &[],
+    }
+}
+
+/// Whether the extension with these content octets, as is known, is critical or has the OID. A BOOLEAN stands behind the OID exactly where it is
+/// critical (X.690 11.5).
+#[inline(always)]
+fn is_critical_or(octets: &[u8], oid: &[u8]) -> bool
+    ensures { (e : Extension) → extension_contents.reading octets.now ≡ Ok e → result ≡ (e.critical || bytes_eq e.extn_id oid.now) }
+{
+    match next_element(octets, Tag::ObjectIdentifier) {
+        Ok(piece) => matches!(piece.rest, [0x01, ..]) || piece.content == oid,
+        Err(_) => false,
     }
 }
 

@@ -1,6 +1,7 @@
 //! Items in the byte order of their encodings, without memory.
 
-ghost use Rattle.std.specs.Prelude.{◌≡◌, ◌<◌, IsTrue, length, false};
+ghost use Rattle.std.specs.List.{All, sum};
+ghost use Rattle.std.specs.Prelude.{◌≡◌, ◌<◌, ◌≤◌, ◌^◌, IfSome, IsTrue, length, false};
 ghost use Rattle.std.specs.List.Sorted.{IsPermutation, IsStrictlySortedBy};
 ghost use Rattle.x509_der.specs.Writing.{writes};
 ghost use Rattle.x509_der.specs.Order.{der_order};
@@ -12,7 +13,7 @@ use crate::set::places::is_rising;
 use std::cmp::Ordering;
 
 /// Up to so many items are sorted by comparisons alone.
-const FEW: usize = 24;
+const MAX_COMPARED: usize = 24;
 
 /// How many content lengths are told apart; longer contents count as of the last.
 const LENGTHS: usize = 256;
@@ -24,14 +25,14 @@ pub(crate) fn sort<T: DerOrd>(items: &mut [T]) -> bool
     ensures distinct { IsTrue result → IsStrictlySortedBy (der_order T.form (writes T.writing) T.order) items.new }
     ensures equal { result ≡ false → ¬ AreDistinct items.old }
 {
-    if items.len() > FEW && rise(items) {
+    if items.len() > MAX_COMPARED && rise(items) {
         return true;
     }
     items.sort_unstable_by(|a, b| a.der_cmp(b));
     is_rising(items)
 }
 
-/// Whether each item is below the next, as they stand or else once they are arranged.
+/// Whether each item is below the next, as they stand, or else turned round or arranged.
 fn rise<T: DerOrd>(items: &mut [T]) -> bool
     ensures permutation { IsPermutation items.old items.new }
     ensures rising { result ≡ is_rising (der_order T.form (writes T.writing) T.order) items.new }
@@ -39,8 +40,17 @@ fn rise<T: DerOrd>(items: &mut [T]) -> bool
     if is_rising(items) {
         return true;
     }
-    arrange(items);
+    if is_falling(items) {
+        items.reverse();
+    } else {
+        arrange(items);
+    }
     is_rising(items)
+}
+
+/// Whether no item is below the next.
+fn is_falling<T: DerOrd>(items: &[T]) -> bool {
+    items.is_sorted_by(|a, b| a.der_cmp(b).is_ge())
 }
 
 /// Brings items of one identifier into the byte order of their encodings: shorter contents before longer ones, and
@@ -50,71 +60,77 @@ fn rise<T: DerOrd>(items: &mut [T]) -> bool
 fn arrange<T: DerOrd>(items: &mut [T])
     ensures { IsPermutation items.old items.new }
 {
-    let mut ends = [0_usize; LENGTHS];
-    if !count_lengths(items, &mut ends) {
-        return;
-    }
-    let mut places = [0_usize; LENGTHS];
-    let mut end = 0_usize;
-    for len in 0..LENGTHS {
-        places[len] = end;
-        end = end.wrapping_add(ends[len]);
-        ends[len] = end;
-    }
-    exchange(items, &mut places, &ends);
-    let mut start = 0;
-    for len in 0..LENGTHS {
-        let end = ends[len];
-        if start < end && end <= items.len() {
-            items[start..end].sort_unstable_by(|a, b| compare(len, a, b));
-        }
-        start = end;
+    if let Some(counts) = count_lengths(items) {
+        fill_runs(items, &counts);
+        sort_runs(items, &counts);
     }
 }
 
-/// Counts how many items have each length. Whether all have one identifier.
-fn count_lengths<T: DerOrd>(items: &[T], counts: &mut [usize; LENGTHS]) -> bool {
-    let Some(first) = items.first() else {
-        return false;
-    };
-    let identifier = first.identifier().octet();
+/// How many items have each length; `None` where there are none, or several identifiers.
+fn count_lengths<T: DerOrd>(items: &[T]) -> Option<[usize; LENGTHS]>
+    ensures { IfSome result (λ counts. sum counts ≡ length items.now) }
+{
+    let identifier = items.first()?.identifier().octet();
+    let mut counts = [0_usize; LENGTHS];
     for item in items {
         if item.identifier().octet() != identifier {
-            return false;
+            return None;
         }
-        let len = length_of(item);
-        counts[len] = counts[len].wrapping_add(1);
+        counts[length_of(item)] += 1;
     }
-    true
+    Some(counts)
 }
 
-/// Moves each item to the next place for its length, by exchanges; `ends` has the place behind the last of each length.
-fn exchange<T: DerOrd>(items: &mut [T], places: &mut [usize; LENGTHS], ends: &[usize; LENGTHS])
+/// Where the run of each length ends.
+fn ends_of(counts: &[usize; LENGTHS]) -> [usize; LENGTHS]
+    requires { sum counts.now < 2 ^ 64 }
+    ensures { All (λ end. end ≤ sum counts.now) result }
+{
+    let mut ends = [0_usize; LENGTHS];
+    let mut end = 0;
+    for len in 0..LENGTHS {
+        end += counts[len];
+        ends[len] = end;
+    }
+    ends
+}
+
+/// Moves each item into the run of its length, from the end of that run on, by exchanges.
+fn fill_runs<T: DerOrd>(items: &mut [T], counts: &[usize; LENGTHS])
+    requires { sum counts.now ≡ length items.now }
     ensures { IsPermutation items.old items.new }
 {
-    let mut len = 0;
-    for _ in 0..items.len().saturating_add(LENGTHS) {
-        if len >= LENGTHS {
-            return;
-        }
-        let place = places[len];
-        if place >= ends[len] || place >= items.len() {
-            len += 1;
-        } else {
-            let own = length_of(&items[place]);
-            let goal = places[own];
-            if goal >= items.len() {
+    let mut ends = ends_of(counts);
+    let mut start = 0;
+    for len in 0..LENGTHS {
+        while start < ends[len] {
+            let own = length_of(&items[start]);
+            let Some(goal) = ends[own].checked_sub(1) else {
                 return;
-            }
-            items.swap(place, goal);
-            places[own] = goal + 1;
+            };
+            items.swap(start, goal);
+            ends[own] = goal;
         }
+        start += counts[len];
+    }
+}
+
+/// Sorts the run of each length by the contents.
+fn sort_runs<T: DerOrd>(items: &mut [T], counts: &[usize; LENGTHS])
+    requires { sum counts.now ≡ length items.now }
+    ensures { IsPermutation items.old items.new }
+{
+    let mut start = 0;
+    for len in 0..LENGTHS {
+        let end = start + counts[len];
+        items[start..end].sort_unstable_by(|a, b| compare(len, a, b));
+        start = end;
     }
 }
 
 /// The length of the content of an item; the last one that is told apart for all longer contents.
 fn length_of<T: DerOrd>(item: &T) -> usize
-    ensures { result < 256 }
+    ensures { result < LENGTHS }
 {
     (counted_len(item) as usize).min(LENGTHS - 1)
 }

@@ -2,9 +2,11 @@
 
 use crate::{Always, FixedCriticality};
 use std::alloc::Global;
+use std::cmp::Ordering;
 use x509_der::{
-    AssociatedOid, Content, Error, ObjectIdentifier, PutPart, Room, Spelled, Tag, TryClone,
-    defaulted, end, oid, option_has_spelling, optional, read_defaulted, read_optional,
+    AssociatedOid, CmpPart, Content, EncodingOrd, Error, ObjectIdentifier, PutPart, Room,
+    SetMember, SetOrd, Spelled, Tag, TryClone, ValueOrd, both_defaulted, both_optional, defaulted,
+    end, oid, option_has_spelling, optional, read_defaulted, read_optional,
 };
 
 /// Basic constraints: whether the subject is a certification authority, and how many more may stand below it (RFC 5280
@@ -76,6 +78,32 @@ impl Content for BasicConstraints {
     }
 
     ghost contents_lawful = { grammar.basic_constraints_contents_lawful };
+}
+
+impl ValueOrd for BasicConstraints {
+    ghost use Rattle.x509_ext.specs.BasicConstraints as grammar;
+
+    ghost order = { grammar.basic_constraints_order };
+
+    fn value_cmp(&self, other: &BasicConstraints) -> Ordering {
+        let parts = (
+            both_defaulted(&self.ca, &other.ca),
+            both_optional(&self.path_len_constraint, &other.path_len_constraint),
+        );
+        parts.cmp_part(None, None)
+    }
+
+    ghost ordered = { grammar.basic_constraints_ordered };
+}
+
+impl SetOrd for BasicConstraints {
+    ghost set_order = { ⟦<BasicConstraints as EncodingOrd>⟧.encoding_order };
+}
+
+impl SetMember for BasicConstraints {
+    ghost use Rattle.std.specs.Prelude.{refl};
+
+    ghost in_der_order = { refl };
 }
 
 #[tactic(auto, unfolding(crate::specs::BasicConstraints::basic_constraints_fields, x509_der::specs::Frames::fields_good))]

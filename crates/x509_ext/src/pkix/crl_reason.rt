@@ -2,10 +2,12 @@
 
 use crate::{FixedCriticality, Never};
 use std::alloc::Global;
+use std::cmp::Ordering;
 use x509_der::{
-    AssociatedOid, Content, Error, ObjectIdentifier, Room, Spelled, Tag, TryClone, oid,
+    AssociatedOid, Content, EncodingOrd, Error, ObjectIdentifier, Room, SetMember, SetOrd, Spelled,
+    Tag, TryClone, ValueOrd, oid,
 };
-use x509_prim::{NamedNumber, put_named_number, read_named_number};
+use x509_prim::{NamedNumber, cmp_named_numbers, put_named_number, read_named_number};
 
 /// The reason for which a certificate was revoked (RFC 5280 5.3.1). Its OID is 2.5.29.21, and it isn't critical.
 /// Reasons are ordered by their numbers.
@@ -105,6 +107,31 @@ impl Content for CrlReason {
     }
 
     ghost contents_lawful = { named_contents_lawful crl_reason_names };
+}
+
+impl ValueOrd for CrlReason {
+    ghost use Rattle.x509_der.specs.declared.tag.Tag.TheVariants.{Enumerated};
+    ghost use Rattle.x509_der.specs.Writing.{plain, writes};
+    ghost use Rattle.x509_ext.specs.CrlReason.{crl_reason_names};
+    ghost use Rattle.x509_prim.specs.NamesLaws.{named_order, named_ordered};
+
+    ghost order = { named_order Enumerated crl_reason_names };
+
+    fn value_cmp(&self, other: &CrlReason) -> Ordering {
+        cmp_named_numbers(self, other)
+    }
+
+    ghost ordered = { named_ordered Enumerated crl_reason_names (writes plain) };
+}
+
+impl SetOrd for CrlReason {
+    ghost set_order = { ⟦<CrlReason as EncodingOrd>⟧.encoding_order };
+}
+
+impl SetMember for CrlReason {
+    ghost use Rattle.std.specs.Prelude.{refl};
+
+    ghost in_der_order = { refl };
 }
 
 impl Spelled for CrlReason {

@@ -2,9 +2,11 @@
 
 use crate::{Always, FixedCriticality};
 use std::alloc::Global;
+use std::cmp::Ordering;
 use x509_der::{
-    AssociatedOid, Content, Error, ObjectIdentifier, PutPart, Room, Spelled, Tag, TryClone, end,
-    oid, option_has_spelling, optional_implicit, read_optional_implicit,
+    AssociatedOid, CmpPart, Content, EncodingOrd, Error, ObjectIdentifier, PutPart, Room,
+    SetMember, SetOrd, Spelled, Tag, TryClone, ValueOrd, both_optional_implicit, end, oid,
+    option_has_spelling, optional_implicit, read_optional_implicit,
 };
 
 /// Policy constraints: after how many further certificates of a path policies have to be acceptable, or mappings aren't
@@ -80,6 +82,40 @@ impl Content for PolicyConstraints {
     }
 
     ghost contents_lawful = { grammar.policy_constraints_contents_lawful };
+}
+
+impl ValueOrd for PolicyConstraints {
+    ghost use Rattle.x509_ext.specs.PolicyConstraints as grammar;
+
+    ghost order = { grammar.policy_constraints_order };
+
+    fn value_cmp(&self, other: &PolicyConstraints) -> Ordering {
+        let parts = (
+            both_optional_implicit(
+                0,
+                &self.require_explicit_policy,
+                &other.require_explicit_policy,
+            ),
+            both_optional_implicit(
+                1,
+                &self.inhibit_policy_mapping,
+                &other.inhibit_policy_mapping,
+            ),
+        );
+        parts.cmp_part(None, None)
+    }
+
+    ghost ordered = { grammar.policy_constraints_ordered };
+}
+
+impl SetOrd for PolicyConstraints {
+    ghost set_order = { ⟦<PolicyConstraints as EncodingOrd>⟧.encoding_order };
+}
+
+impl SetMember for PolicyConstraints {
+    ghost use Rattle.std.specs.Prelude.{refl};
+
+    ghost in_der_order = { refl };
 }
 
 #[tactic(auto, unfolding(crate::specs::PolicyConstraints::policy_constraints_fields, x509_der::specs::Frames::fields_good))]

@@ -2,9 +2,11 @@
 
 use crate::{Always, FixedCriticality};
 use std::alloc::Global;
+use std::cmp::Ordering;
 use x509_der::{
-    AssociatedOid, Content, Error, Newtype, ObjectIdentifier, PutPart, Room, SequenceOf, Spelled,
-    Tag, TryClone, end, oid, read_field,
+    AssociatedOid, CmpPart, Content, EncodingOrd, Error, Newtype, NewtypeOrd, ObjectIdentifier,
+    PutPart, Room, SequenceOf, SetMember, SetOrd, Spelled, Tag, TryClone, ValueOrd, both, end, oid,
+    read_field,
 };
 
 /// A policy of the issuer, and a policy of the subject that the issuer considers equivalent (RFC 5280 4.2.1.5).
@@ -69,6 +71,32 @@ impl Content for PolicyMapping {
     ghost contents_lawful = { grammar.policy_mapping_contents_lawful };
 }
 
+impl ValueOrd for PolicyMapping {
+    ghost use Rattle.x509_ext.specs.PolicyMapping as grammar;
+
+    ghost order = { grammar.policy_mapping_order };
+
+    fn value_cmp(&self, other: &PolicyMapping) -> Ordering {
+        let parts = (
+            both(&self.issuer_domain_policy, &other.issuer_domain_policy),
+            both(&self.subject_domain_policy, &other.subject_domain_policy),
+        );
+        parts.cmp_part(None, None)
+    }
+
+    ghost ordered = { grammar.policy_mapping_ordered };
+}
+
+impl SetOrd for PolicyMapping {
+    ghost set_order = { ⟦<PolicyMapping as EncodingOrd>⟧.encoding_order };
+}
+
+impl SetMember for PolicyMapping {
+    ghost use Rattle.std.specs.Prelude.{refl};
+
+    ghost in_der_order = { refl };
+}
+
 #[tactic(auto, unfolding(crate::specs::PolicyMapping::policy_mapping_fields, x509_der::specs::Frames::fields_good))]
 impl Spelled for PolicyMapping {
     fn has_spelling(&self) {
@@ -112,6 +140,18 @@ impl Newtype for PolicyMappings {
     fn from_inner(inner: SequenceOf<PolicyMapping>) -> PolicyMappings {
         PolicyMappings(inner)
     }
+}
+
+impl NewtypeOrd for PolicyMappings {}
+
+impl SetOrd for PolicyMappings {
+    ghost set_order = { ⟦<PolicyMappings as EncodingOrd>⟧.encoding_order };
+}
+
+impl SetMember for PolicyMappings {
+    ghost use Rattle.std.specs.Prelude.{refl};
+
+    ghost in_der_order = { refl };
 }
 
 impl From<SequenceOf<PolicyMapping>> for PolicyMappings {

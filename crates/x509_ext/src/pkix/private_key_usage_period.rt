@@ -2,10 +2,12 @@
 
 use crate::{FixedCriticality, Never};
 use std::alloc::Global;
+use std::cmp::Ordering;
 use x509_base::GeneralizedTime;
 use x509_der::{
-    AssociatedOid, Content, Error, ObjectIdentifier, PutPart, Room, Spelled, Tag, TryClone, end,
-    oid, option_has_spelling, optional_implicit, read_optional_implicit,
+    AssociatedOid, CmpPart, Content, EncodingOrd, Error, ObjectIdentifier, PutPart, Room,
+    SetMember, SetOrd, Spelled, Tag, TryClone, ValueOrd, both_optional_implicit, end, oid,
+    option_has_spelling, optional_implicit, read_optional_implicit,
 };
 
 /// The period in which the private key may sign, where that isn't the validity of its certificate (X.509 9.2.2.5). Its
@@ -84,6 +86,32 @@ impl Content for PrivateKeyUsagePeriod {
     }
 
     ghost contents_lawful = { grammar.private_key_usage_period_contents_lawful };
+}
+
+impl ValueOrd for PrivateKeyUsagePeriod {
+    ghost use Rattle.x509_ext.specs.PrivateKeyUsagePeriod as grammar;
+
+    ghost order = { grammar.private_key_usage_period_order };
+
+    fn value_cmp(&self, other: &PrivateKeyUsagePeriod) -> Ordering {
+        let parts = (
+            both_optional_implicit(0, &self.not_before, &other.not_before),
+            both_optional_implicit(1, &self.not_after, &other.not_after),
+        );
+        parts.cmp_part(None, None)
+    }
+
+    ghost ordered = { grammar.private_key_usage_period_ordered };
+}
+
+impl SetOrd for PrivateKeyUsagePeriod {
+    ghost set_order = { ⟦<PrivateKeyUsagePeriod as EncodingOrd>⟧.encoding_order };
+}
+
+impl SetMember for PrivateKeyUsagePeriod {
+    ghost use Rattle.std.specs.Prelude.{refl};
+
+    ghost in_der_order = { refl };
 }
 
 #[tactic(auto, unfolding(crate::specs::PrivateKeyUsagePeriod::private_key_usage_period_fields, x509_der::specs::Frames::fields_good))]

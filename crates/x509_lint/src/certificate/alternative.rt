@@ -8,46 +8,17 @@ ghost use Rattle.x509_lint.specs.Words.{passes};
 use crate::extensions::{extensions_of, has};
 use crate::group::Group;
 use crate::names::{
-    is_empty_general_name, is_no_address, is_no_dns_name, is_no_mailbox, is_relative,
+    has_empty_name, has_no_address, has_no_dns_name, has_no_mailbox, has_relative_uri,
     is_rfc822_name,
 };
 use crate::rule::{AlternativeRule, Rule};
 use crate::texts::has_email;
 use crate::values::AlternativeValues;
-use x509_cert::certificate::{CertificateInner, Raw};
-use x509_cert::ext::Extension;
-use x509_cert::ext::pkix::SubjectAltName;
-use x509_cert::ext::pkix::name::GeneralName;
-
-fn has_empty_name(names: &[GeneralName]) -> bool
-    ensures { result ≡ list_any grammar.is_empty_name names.now }
-{
-    names.iter().any(|name| is_empty_general_name(name))
-}
-
-fn has_no_dns_name(names: &[GeneralName]) -> bool
-    ensures { result ≡ list_any grammar.is_no_dns_name names.now }
-{
-    names.iter().any(|name| is_no_dns_name(name))
-}
-
-fn has_no_address(names: &[GeneralName]) -> bool
-    ensures { result ≡ list_any grammar.is_no_address names.now }
-{
-    names.iter().any(|name| is_no_address(name))
-}
-
-fn has_no_mailbox(names: &[GeneralName]) -> bool
-    ensures { result ≡ list_any grammar.is_no_mailbox names.now }
-{
-    names.iter().any(|name| is_no_mailbox(name))
-}
-
-fn has_relative_uri(names: &[GeneralName]) -> bool
-    ensures { result ≡ list_any grammar.is_relative names.now }
-{
-    names.iter().any(|name| is_relative(name))
-}
+use x509_base::Raw;
+use x509_cert::certificate::CertificateInner;
+use x509_ext::Extension;
+use x509_ext::pkix::SubjectAltName;
+use x509_ext::pkix::name::GeneralName;
 
 fn has_mailbox(names: &[GeneralName]) -> bool
     ensures { result ≡ list_any grammar.is_rfc822_name names.now }

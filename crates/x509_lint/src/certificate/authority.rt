@@ -1,8 +1,8 @@
 //! The rules on what makes a certificate one of a certification authority.
 
 ghost use Rattle.std.specs.Prelude.{◌≡◌, ◌&&◌, length, nat_lt, not};
-ghost use Rattle.x509_cert.specs.ext.KeyUsage.{has_bit};
-ghost use Rattle.x509_cert.specs.prim.Integer.{without_zeros};
+ghost use Rattle.x509_ext.specs.KeyUsage.{has_bit};
+ghost use Rattle.x509_prim.specs.Integer.{without_zeros};
 ghost use Rattle.x509_lint.specs.Authority as grammar;
 ghost use Rattle.x509_lint.specs.Words.{passes};
 
@@ -13,10 +13,11 @@ use crate::names::is_empty_name;
 use crate::rule::{AuthorityRule, Rule};
 use crate::values::AuthorityValues;
 use bitflags::Flags;
-use x509_cert::certificate::{CertificateInner, Raw};
-use x509_cert::der::asn1::Uint;
-use x509_cert::ext::pkix::{BasicConstraints, KeyUsage, NameConstraints, SubjectKeyIdentifier};
-use x509_cert::ext::{Extension, members};
+use x509_base::Raw;
+use x509_cert::certificate::CertificateInner;
+use x509_ext::pkix::{BasicConstraints, KeyUsage, NameConstraints, SubjectKeyIdentifier};
+use x509_ext::{Extension, members};
+use x509_prim::Uint;
 
 /// Whether cA is set.
 fn is_ca(constraints: &Option<BasicConstraints>) -> bool

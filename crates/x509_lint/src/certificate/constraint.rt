@@ -10,9 +10,10 @@ use crate::group::Group;
 use crate::names::{BaseFault, is_faulty_base};
 use crate::rule::{ConstraintRule, Rule};
 use crate::values::ConstraintValues;
-use x509_cert::certificate::{CertificateInner, Raw};
-use x509_cert::ext::pkix::NameConstraints;
-use x509_cert::ext::pkix::constraints::name::{GeneralSubtree, GeneralSubtrees};
+use x509_base::Raw;
+use x509_cert::certificate::CertificateInner;
+use x509_ext::pkix::NameConstraints;
+use x509_ext::pkix::constraints::name::{GeneralSubtree, GeneralSubtrees};
 
 fn have_minimum(subtrees: &Option<GeneralSubtrees>) -> bool
     ensures { result ≡ passes (λ subtrees. list_any (λ s. not (s.minimum == 0)) subtrees) subtrees.now }

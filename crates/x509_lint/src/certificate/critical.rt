@@ -5,9 +5,10 @@ use crate::facts::CertificateFacts;
 use crate::group::Group;
 use crate::names::is_empty_name;
 use crate::rule::{CriticalRule, Rule};
-use x509_cert::certificate::{CertificateInner, Raw};
-use x509_cert::ext::members;
-use x509_cert::ext::pkix::{
+use x509_base::Raw;
+use x509_cert::certificate::CertificateInner;
+use x509_ext::members;
+use x509_ext::pkix::{
     AuthorityInfoAccessSyntax, AuthorityKeyIdentifier, CrlDistributionPoints, FreshestCrl,
     InhibitAnyPolicy, IssuerAltName, KeyUsage, NameConstraints, PolicyConstraints, PolicyMappings,
     SubjectAltName, SubjectDirectoryAttributes, SubjectInfoAccessSyntax, SubjectKeyIdentifier,

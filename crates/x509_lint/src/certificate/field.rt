@@ -1,7 +1,7 @@
 //! The rules on the fields of a certificate.
 
 ghost use Rattle.std.specs.Prelude.{◌≡◌, is_some, not};
-ghost use Rattle.x509_cert.specs.prim.Integer.{integer_value};
+ghost use Rattle.x509_prim.specs.Integer.{integer_value};
 ghost use Rattle.x509_lint.specs.Field as grammar;
 
 use crate::facts::CertificateFacts;
@@ -9,9 +9,9 @@ use crate::group::Group;
 use crate::names::is_empty_name;
 use crate::rule::{FieldRule, Rule};
 use crate::times::{is_before, is_early_general};
+use x509_base::{Raw, SerialNumber};
 use x509_cert::Version;
-use x509_cert::certificate::{CertificateInner, Raw};
-use x509_cert::serial_number::SerialNumber;
+use x509_cert::certificate::CertificateInner;
 
 fn is_v1(version: Version) -> bool
     ensures { result ≡ grammar.is_v1 version }

@@ -9,11 +9,11 @@ use crate::extensions::{has, has_critical, is_empty_sequence};
 use crate::group::Group;
 use crate::rule::{KeyRule, Rule};
 use crate::values::KeyValues;
-use x509_cert::certificate::{CertificateInner, Raw};
-use x509_cert::der::asn1::ObjectIdentifier;
-use x509_cert::ext::members;
-use x509_cert::ext::pkix::{AuthorityKeyIdentifier, ExtendedKeyUsage, PrivateKeyUsagePeriod};
-use x509_der::oid;
+use x509_base::Raw;
+use x509_cert::certificate::CertificateInner;
+use x509_der::{ObjectIdentifier, oid};
+use x509_ext::members;
+use x509_ext::pkix::{AuthorityKeyIdentifier, ExtendedKeyUsage, PrivateKeyUsagePeriod};
 
 /// anyExtendedKeyUsage, 2.5.29.37.0 (RFC 5280 4.2.1.12).
 const ANY_EXTENDED_KEY_USAGE: ObjectIdentifier = oid!(0x55, 0x1D, 37, 0);

@@ -4,7 +4,8 @@ use crate::extensions::is_empty_list;
 use crate::facts::CertificateFacts;
 use crate::group::Group;
 use crate::rule::{ListRule, Rule};
-use x509_cert::certificate::{CertificateInner, Raw};
+use x509_base::Raw;
+use x509_cert::certificate::CertificateInner;
 
 impl Group<CertificateInner<Raw>, CertificateFacts> for ListRule {
     ghost use Rattle.x509_lint.specs.List.{breaks_list};
@@ -18,7 +19,7 @@ impl Group<CertificateInner<Raw>, CertificateFacts> for ListRule {
         match self {
             ListRule::ExtensionsEmpty => is_empty_list(certificate.tbs_certificate().extensions()),
             ListRule::ExtensionRepeated => facts.is_repeated,
-            ListRule::ExtensionMalformed => !facts.are_well_formed,
+            ListRule::ExtensionMalformed(kind) => !facts.read.is_read(*kind),
         }
     }
 

@@ -6,9 +6,10 @@ use crate::group::Group;
 use crate::names::{has_empty_rdn, has_no_country, is_empty_name};
 use crate::rule::{NameRule, Rule};
 use crate::texts::{TextFault, has_faulty_text};
-use x509_cert::certificate::{CertificateInner, Raw};
-use x509_cert::ext::members;
-use x509_cert::ext::pkix::SubjectAltName;
+use x509_base::Raw;
+use x509_cert::certificate::CertificateInner;
+use x509_ext::members;
+use x509_ext::pkix::SubjectAltName;
 
 impl Group<CertificateInner<Raw>, CertificateFacts> for NameRule {
     ghost use Rattle.x509_lint.specs.Name.{breaks_name};

@@ -10,8 +10,9 @@ use crate::places::{
 };
 use crate::rule::{PointRule, Rule};
 use crate::values::PointValues;
-use x509_cert::certificate::{CertificateInner, Raw};
-use x509_cert::ext::pkix::crl::dp::DistributionPoint;
+use x509_base::Raw;
+use x509_cert::certificate::CertificateInner;
+use x509_ext::pkix::crl::dp::DistributionPoint;
 
 /// Whether the point has neither a name nor a CRL issuer.
 fn is_empty_point(point: &DistributionPoint) -> bool

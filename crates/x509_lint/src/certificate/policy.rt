@@ -10,11 +10,11 @@ use crate::group::Group;
 use crate::notices::USER_NOTICE;
 use crate::rule::{PolicyRule, Rule};
 use crate::values::PolicyValues;
-use x509_cert::certificate::{CertificateInner, Raw};
-use x509_cert::der::asn1::ObjectIdentifier;
-use x509_cert::ext::pkix::certpolicy::{PolicyInformation, PolicyQualifierInfo};
-use x509_cert::ext::pkix::{PolicyConstraints, PolicyMapping};
-use x509_der::oid;
+use x509_base::Raw;
+use x509_cert::certificate::CertificateInner;
+use x509_der::{ObjectIdentifier, oid};
+use x509_ext::pkix::certpolicy::{PolicyInformation, PolicyQualifierInfo};
+use x509_ext::pkix::{PolicyConstraints, PolicyMapping};
 
 /// anyPolicy, 2.5.29.32.0 (RFC 5280 4.2.1.4).
 const ANY_POLICY: ObjectIdentifier = oid!(0x55, 0x1D, 32, 0);

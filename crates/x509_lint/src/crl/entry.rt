@@ -9,10 +9,10 @@ use crate::extensions::has;
 use crate::group::Group;
 use crate::rule::{CrlEntryRule, Rule};
 use crate::values::CrlValues;
-use x509_cert::certificate::Raw;
+use x509_base::Raw;
 use x509_cert::crl::CertificateList;
-use x509_cert::ext::pkix::{BaseCrlNumber, IssuingDistributionPoint};
-use x509_cert::ext::{Extension, members};
+use x509_ext::pkix::{BaseCrlNumber, IssuingDistributionPoint};
+use x509_ext::{Extension, members};
 
 fn is_without_indirect(point: &Option<IssuingDistributionPoint>) -> bool
     ensures { result ≡ passes (λ p. not p.indirect_crl) point.now }

@@ -9,10 +9,10 @@ use crate::group::Group;
 use crate::places::{CA_ISSUERS, PointFault, has_fault, has_other_method, lacks_uri};
 use crate::rule::{CrlExtensionRule, Rule};
 use crate::values::CrlValues;
-use x509_cert::certificate::Raw;
+use x509_base::Raw;
 use x509_cert::crl::CertificateList;
-use x509_cert::ext::members;
-use x509_cert::ext::pkix::{
+use x509_ext::members;
+use x509_ext::pkix::{
     AuthorityInfoAccessSyntax, AuthorityKeyIdentifier, BaseCrlNumber, CrlNumber, FreshestCrl,
     IssuerAltName, IssuingDistributionPoint,
 };

@@ -2,8 +2,8 @@
 
 ghost use Rattle.std.specs.List.{list_any};
 ghost use Rattle.std.specs.Prelude.{◌≡◌, is_some, not};
-ghost use Rattle.x509_cert.specs.ext.Identifiers.{id_ce};
-ghost use Rattle.x509_cert.specs.ext.LookUp.{members};
+ghost use Rattle.x509_ext.specs.Identifiers.{id_ce};
+ghost use Rattle.x509_ext.specs.LookUp.{members};
 ghost use Rattle.x509_lint.specs.CrlField as grammar;
 ghost use Rattle.x509_lint.specs.Words.{has, is_before, is_early_general, is_empty, passes};
 
@@ -14,12 +14,11 @@ use crate::names::{has_empty_rdn, has_no_country, is_empty_name};
 use crate::rule::{CrlFieldRule, Rule};
 use crate::texts::{TextFault, has_faulty_text};
 use crate::times::{is_before, is_early_general};
+use x509_base::{Raw, Time};
 use x509_cert::Version;
-use x509_cert::certificate::Raw;
 use x509_cert::crl::{CertificateList, RevokedCert};
-use x509_cert::ext::members;
-use x509_cert::ext::pkix::CertificateIssuer;
-use x509_cert::time::Time;
+use x509_ext::members;
+use x509_ext::pkix::CertificateIssuer;
 
 fn is_v2(version: &Option<Version>) -> bool
     ensures { result ≡ passes grammar.is_v2 version.now }
@@ -135,7 +134,7 @@ impl Group<CertificateList<Raw>, CrlFacts> for CrlFieldRule {
             CrlFieldRule::RevocationDateNotUtcTime => have_early_general_date(part.entries()),
             CrlFieldRule::ExtensionsEmpty => is_empty_sequence(&part.crl_extensions),
             CrlFieldRule::ExtensionRepeated => facts.is_repeated,
-            CrlFieldRule::ExtensionMalformed => !facts.are_well_formed,
+            CrlFieldRule::ExtensionMalformed(kind) => !facts.read.is_read(*kind),
             CrlFieldRule::EntryExtensionsEmpty => have_empty_extensions(part.entries()),
             CrlFieldRule::EntryExtensionRepeated => !facts.are_entries_distinct,
         }

@@ -65,7 +65,7 @@ pub(crate) const ALTERNATIVE_RULES: [AlternativeRule; 13] = [
 ];
 
 impl AlternativeRule {
-    /// How bad it is to break the rule, its name, and its section.
+    /// How bad it is to break the rule, its name, its section, and its place.
     pub fn entry(self) -> Entry
         ensures { Says result (alternative_wording self) }
     {
@@ -73,48 +73,67 @@ impl AlternativeRule {
             AlternativeRule::SubjectEmailNotInAltName => must(
                 "subject_email_not_in_alt_name",
                 "4.1.2.6",
+                "tbsCertificate.extensions.subjectAltName",
             ),
-            AlternativeRule::SubjectAltNameEmpty => must("subject_alt_name_empty", "4.2.1.6"),
+            AlternativeRule::SubjectAltNameEmpty => must(
+                "subject_alt_name_empty",
+                "4.2.1.6",
+                "tbsCertificate.extensions.subjectAltName",
+            ),
             AlternativeRule::SubjectAltNameEmptyName => must(
                 "subject_alt_name_empty_name",
                 "4.2.1.6",
+                "tbsCertificate.extensions.subjectAltName",
             ),
             AlternativeRule::SubjectAltNameDnsNameInvalid => must(
                 "subject_alt_name_dns_name_invalid",
                 "4.2.1.6",
+                "tbsCertificate.extensions.subjectAltName",
             ),
             AlternativeRule::SubjectAltNameAddressLength => must(
                 "subject_alt_name_address_length",
                 "4.2.1.6",
+                "tbsCertificate.extensions.subjectAltName",
             ),
             AlternativeRule::SubjectAltNameMailboxInvalid => must(
                 "subject_alt_name_mailbox_invalid",
                 "4.2.1.6",
+                "tbsCertificate.extensions.subjectAltName",
             ),
             AlternativeRule::SubjectAltNameUriRelative => must(
                 "subject_alt_name_uri_relative",
                 "4.2.1.6",
+                "tbsCertificate.extensions.subjectAltName",
             ),
-            AlternativeRule::IssuerAltNameEmpty => must("issuer_alt_name_empty", "4.2.1.7"),
+            AlternativeRule::IssuerAltNameEmpty => must(
+                "issuer_alt_name_empty",
+                "4.2.1.7",
+                "tbsCertificate.extensions.issuerAltName",
+            ),
             AlternativeRule::IssuerAltNameEmptyName => must(
                 "issuer_alt_name_empty_name",
                 "4.2.1.7",
+                "tbsCertificate.extensions.issuerAltName",
             ),
             AlternativeRule::IssuerAltNameDnsNameInvalid => must(
                 "issuer_alt_name_dns_name_invalid",
                 "4.2.1.7",
+                "tbsCertificate.extensions.issuerAltName",
             ),
             AlternativeRule::IssuerAltNameAddressLength => must(
                 "issuer_alt_name_address_length",
                 "4.2.1.7",
+                "tbsCertificate.extensions.issuerAltName",
             ),
             AlternativeRule::IssuerAltNameMailboxInvalid => must(
                 "issuer_alt_name_mailbox_invalid",
                 "4.2.1.7",
+                "tbsCertificate.extensions.issuerAltName",
             ),
             AlternativeRule::IssuerAltNameUriRelative => must(
                 "issuer_alt_name_uri_relative",
                 "4.2.1.7",
+                "tbsCertificate.extensions.issuerAltName",
             ),
         }
     }

@@ -61,32 +61,71 @@ pub(crate) const AUTHORITY_RULES: [AuthorityRule; 12] = [
 ];
 
 impl AuthorityRule {
-    /// How bad it is to break the rule, its name, and its section.
+    /// How bad it is to break the rule, its name, its section, and its place.
     pub fn entry(self) -> Entry
         ensures { Says result (authority_wording self) }
     {
         match self {
-            AuthorityRule::CaSubjectEmpty => must("ca_subject_empty", "4.1.2.6"),
-            AuthorityRule::CrlIssuerSubjectEmpty => must("crl_issuer_subject_empty", "4.1.2.6"),
+            AuthorityRule::CaSubjectEmpty => must(
+                "ca_subject_empty",
+                "4.1.2.6",
+                "tbsCertificate.subject",
+            ),
+            AuthorityRule::CrlIssuerSubjectEmpty => must(
+                "crl_issuer_subject_empty",
+                "4.1.2.6",
+                "tbsCertificate.subject",
+            ),
             AuthorityRule::CaWithoutSubjectKeyIdentifier => must(
                 "ca_without_subject_key_identifier",
                 "4.2.1.2",
+                "tbsCertificate.extensions.subjectKeyIdentifier",
             ),
             AuthorityRule::SubjectKeyIdentifierAbsent => should(
                 "subject_key_identifier_absent",
                 "4.2.1.2",
+                "tbsCertificate.extensions.subjectKeyIdentifier",
             ),
-            AuthorityRule::CaWithoutKeyUsage => must("ca_without_key_usage", "4.2.1.3"),
-            AuthorityRule::KeyUsageEmpty => must("key_usage_empty", "4.2.1.3"),
-            AuthorityRule::CaWithoutKeyCertSign => must("ca_without_key_cert_sign", "4.2.1.3"),
-            AuthorityRule::KeyCertSignWithoutCa => must("key_cert_sign_without_ca", "4.2.1.9"),
+            AuthorityRule::CaWithoutKeyUsage => must(
+                "ca_without_key_usage",
+                "4.2.1.3",
+                "tbsCertificate.extensions.keyUsage",
+            ),
+            AuthorityRule::KeyUsageEmpty => must(
+                "key_usage_empty",
+                "4.2.1.3",
+                "tbsCertificate.extensions.keyUsage",
+            ),
+            AuthorityRule::CaWithoutKeyCertSign => must(
+                "ca_without_key_cert_sign",
+                "4.2.1.3",
+                "tbsCertificate.extensions.keyUsage",
+            ),
+            AuthorityRule::KeyCertSignWithoutCa => must(
+                "key_cert_sign_without_ca",
+                "4.2.1.9",
+                "tbsCertificate.extensions.keyUsage",
+            ),
             AuthorityRule::CaBasicConstraintsNotCritical => must(
                 "ca_basic_constraints_not_critical",
                 "4.2.1.9",
+                "tbsCertificate.extensions.basicConstraints",
             ),
-            AuthorityRule::PathLenWithoutCa => must("path_len_without_ca", "4.2.1.9"),
-            AuthorityRule::PathLenNotJudged => not_judged("path_len_above_255", "4.2.1.9"),
-            AuthorityRule::NameConstraintsInLeaf => must("name_constraints_in_leaf", "4.2.1.10"),
+            AuthorityRule::PathLenWithoutCa => must(
+                "path_len_without_ca",
+                "4.2.1.9",
+                "tbsCertificate.extensions.basicConstraints",
+            ),
+            AuthorityRule::PathLenNotJudged => not_judged(
+                "path_len_above_255",
+                "4.2.1.9",
+                "tbsCertificate.extensions.basicConstraints",
+            ),
+            AuthorityRule::NameConstraintsInLeaf => must(
+                "name_constraints_in_leaf",
+                "4.2.1.10",
+                "tbsCertificate.extensions.nameConstraints",
+            ),
         }
     }
 }

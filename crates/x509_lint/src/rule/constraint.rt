@@ -45,33 +45,50 @@ pub(crate) const CONSTRAINT_RULES: [ConstraintRule; 8] = [
 ];
 
 impl ConstraintRule {
-    /// How bad it is to break the rule, its name, and its section.
+    /// How bad it is to break the rule, its name, its section, and its place.
     pub fn entry(self) -> Entry
         ensures { Says result (constraint_wording self) }
     {
         match self {
-            ConstraintRule::NameConstraintsEmpty => must("name_constraints_empty", "4.2.1.10"),
+            ConstraintRule::NameConstraintsEmpty => must(
+                "name_constraints_empty",
+                "4.2.1.10",
+                "tbsCertificate.extensions.nameConstraints",
+            ),
             ConstraintRule::NameConstraintsOtherForm => should(
                 "name_constraints_other_form",
                 "4.2.1.10",
+                "tbsCertificate.extensions.nameConstraints",
             ),
             ConstraintRule::NameConstraintsSubtreesEmpty => must(
                 "name_constraints_subtrees_empty",
                 "4.2.1.10",
+                "tbsCertificate.extensions.nameConstraints",
             ),
-            ConstraintRule::NameConstraintsMinimum => must("name_constraints_minimum", "4.2.1.10"),
-            ConstraintRule::NameConstraintsMaximum => must("name_constraints_maximum", "4.2.1.10"),
+            ConstraintRule::NameConstraintsMinimum => must(
+                "name_constraints_minimum",
+                "4.2.1.10",
+                "tbsCertificate.extensions.nameConstraints",
+            ),
+            ConstraintRule::NameConstraintsMaximum => must(
+                "name_constraints_maximum",
+                "4.2.1.10",
+                "tbsCertificate.extensions.nameConstraints",
+            ),
             ConstraintRule::NameConstraintsUriInvalid => must(
                 "name_constraints_uri_invalid",
                 "4.2.1.10",
+                "tbsCertificate.extensions.nameConstraints",
             ),
             ConstraintRule::NameConstraintsAddressLength => must(
                 "name_constraints_address_length",
                 "4.2.1.10",
+                "tbsCertificate.extensions.nameConstraints",
             ),
             ConstraintRule::NameConstraintsAddressMask => must(
                 "name_constraints_address_mask",
                 "4.2.1.10",
+                "tbsCertificate.extensions.nameConstraints",
             ),
         }
     }

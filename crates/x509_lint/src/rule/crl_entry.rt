@@ -45,30 +45,50 @@ pub(crate) const CRL_ENTRY_RULES: [CrlEntryRule; 8] = [
 ];
 
 impl CrlEntryRule {
-    /// How bad it is to break the rule, its name, and its section.
+    /// How bad it is to break the rule, its name, its section, and its place.
     pub fn entry(self) -> Entry
         ensures { Says result (crl_entry_wording self) }
     {
         match self {
-            CrlEntryRule::EntryReasonCritical => must("entry_reason_critical", "5.3.1"),
-            CrlEntryRule::EntryReasonUnspecified => should("entry_reason_unspecified", "5.3.1"),
-            CrlEntryRule::EntryReasonRemoveFromCrl => must("entry_reason_remove_from_crl", "5.3.1"),
-            CrlEntryRule::EntryReasonInvalid => must("entry_reason_invalid", "5.3.1"),
+            CrlEntryRule::EntryReasonCritical => must(
+                "entry_reason_critical",
+                "5.3.1",
+                "tbsCertList.revokedCertificates.crlEntryExtensions.reasonCode",
+            ),
+            CrlEntryRule::EntryReasonUnspecified => should(
+                "entry_reason_unspecified",
+                "5.3.1",
+                "tbsCertList.revokedCertificates.crlEntryExtensions.reasonCode",
+            ),
+            CrlEntryRule::EntryReasonRemoveFromCrl => must(
+                "entry_reason_remove_from_crl",
+                "5.3.1",
+                "tbsCertList.revokedCertificates.crlEntryExtensions.reasonCode",
+            ),
+            CrlEntryRule::EntryReasonInvalid => must(
+                "entry_reason_invalid",
+                "5.3.1",
+                "tbsCertList.revokedCertificates.crlEntryExtensions.reasonCode",
+            ),
             CrlEntryRule::EntryInvalidityDateCritical => must(
                 "entry_invalidity_date_critical",
                 "5.3.2",
+                "tbsCertList.revokedCertificates.crlEntryExtensions.invalidityDate",
             ),
             CrlEntryRule::EntryInvalidityDateInvalid => must(
                 "entry_invalidity_date_invalid",
                 "5.3.2",
+                "tbsCertList.revokedCertificates.crlEntryExtensions.invalidityDate",
             ),
             CrlEntryRule::EntryCertificateIssuerNotCritical => must(
                 "entry_certificate_issuer_not_critical",
                 "5.3.3",
+                "tbsCertList.revokedCertificates.crlEntryExtensions.certificateIssuer",
             ),
             CrlEntryRule::EntryCertificateIssuerNotIndirect => must(
                 "entry_certificate_issuer_not_indirect",
                 "5.3.3",
+                "tbsCertList.revokedCertificates.crlEntryExtensions.certificateIssuer",
             ),
         }
     }

@@ -85,7 +85,7 @@ pub(crate) const CRL_EXTENSION_RULES: [CrlExtensionRule; 18] = [
 ];
 
 impl CrlExtensionRule {
-    /// How bad it is to break the rule, its name, and its section.
+    /// How bad it is to break the rule, its name, its section, and its place.
     pub fn entry(self) -> Entry
         ensures { Says result (crl_extension_wording self) }
     {
@@ -93,54 +93,93 @@ impl CrlExtensionRule {
             CrlExtensionRule::AuthorityKeyIdentifierAbsent => must(
                 "authority_key_identifier_absent",
                 "5.2.1",
+                "tbsCertList.crlExtensions.authorityKeyIdentifier",
             ),
             CrlExtensionRule::AuthorityKeyIdentifierWithoutKey => must(
                 "authority_key_identifier_without_key",
                 "5.2.1",
+                "tbsCertList.crlExtensions.authorityKeyIdentifier",
             ),
             CrlExtensionRule::AuthorityKeyIdentifierCritical => must(
                 "authority_key_identifier_critical",
                 "4.2.1.1",
+                "tbsCertList.crlExtensions.authorityKeyIdentifier",
             ),
-            CrlExtensionRule::IssuerAltNameCritical => should("issuer_alt_name_critical", "5.2.2"),
-            CrlExtensionRule::CrlNumberAbsent => must("crl_number_absent", "5.2.3"),
-            CrlExtensionRule::CrlNumberCritical => must("crl_number_critical", "5.2.3"),
-            CrlExtensionRule::CrlNumberTooLong => must("crl_number_too_long", "5.2.3"),
+            CrlExtensionRule::IssuerAltNameCritical => should(
+                "issuer_alt_name_critical",
+                "5.2.2",
+                "tbsCertList.crlExtensions.issuerAltName",
+            ),
+            CrlExtensionRule::CrlNumberAbsent => must(
+                "crl_number_absent",
+                "5.2.3",
+                "tbsCertList.crlExtensions.cRLNumber",
+            ),
+            CrlExtensionRule::CrlNumberCritical => must(
+                "crl_number_critical",
+                "5.2.3",
+                "tbsCertList.crlExtensions.cRLNumber",
+            ),
+            CrlExtensionRule::CrlNumberTooLong => must(
+                "crl_number_too_long",
+                "5.2.3",
+                "tbsCertList.crlExtensions.cRLNumber",
+            ),
             CrlExtensionRule::DeltaCrlIndicatorNotCritical => must(
                 "delta_crl_indicator_not_critical",
                 "5.2.4",
+                "tbsCertList.crlExtensions.deltaCRLIndicator",
             ),
             CrlExtensionRule::IssuingDistributionPointNotCritical => must(
                 "issuing_distribution_point_not_critical",
                 "5.2.5",
+                "tbsCertList.crlExtensions.issuingDistributionPoint",
             ),
             CrlExtensionRule::IssuingDistributionPointEmpty => must(
                 "issuing_distribution_point_empty",
                 "5.2.5",
+                "tbsCertList.crlExtensions.issuingDistributionPoint",
             ),
             CrlExtensionRule::IssuingDistributionPointKinds => must(
                 "issuing_distribution_point_kinds",
                 "5.2.5",
+                "tbsCertList.crlExtensions.issuingDistributionPoint",
             ),
             CrlExtensionRule::IssuingDistributionPointAttributeCerts => must(
                 "issuing_distribution_point_attribute_certs",
                 "5.2.5",
+                "tbsCertList.crlExtensions.issuingDistributionPoint",
             ),
-            CrlExtensionRule::FreshestCrlCritical => must("freshest_crl_critical", "5.2.6"),
-            CrlExtensionRule::FreshestCrlInDelta => must("freshest_crl_in_delta", "5.2.6"),
+            CrlExtensionRule::FreshestCrlCritical => must(
+                "freshest_crl_critical",
+                "5.2.6",
+                "tbsCertList.crlExtensions.freshestCRL",
+            ),
+            CrlExtensionRule::FreshestCrlInDelta => must(
+                "freshest_crl_in_delta",
+                "5.2.6",
+                "tbsCertList.crlExtensions.freshestCRL",
+            ),
             CrlExtensionRule::FreshestCrlReasonsOrIssuer => must(
                 "freshest_crl_reasons_or_issuer",
                 "5.2.6",
+                "tbsCertList.crlExtensions.freshestCRL",
             ),
             CrlExtensionRule::AuthorityInfoAccessCritical => must(
                 "authority_info_access_critical",
                 "5.2.7",
+                "tbsCertList.crlExtensions.authorityInfoAccess",
             ),
             CrlExtensionRule::AuthorityInfoAccessOtherMethod => must(
                 "authority_info_access_other_method",
                 "5.2.7",
+                "tbsCertList.crlExtensions.authorityInfoAccess",
             ),
-            CrlExtensionRule::CaIssuersWithoutUri => should("ca_issuers_without_uri", "5.2.7"),
+            CrlExtensionRule::CaIssuersWithoutUri => should(
+                "ca_issuers_without_uri",
+                "5.2.7",
+                "tbsCertList.crlExtensions.authorityInfoAccess",
+            ),
         }
     }
 }

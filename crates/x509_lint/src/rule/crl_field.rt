@@ -1,9 +1,76 @@
 //! Rules on the fields of a CRL (RFC 5280 5.1).
 
-ghost use Rattle.x509_lint.specs.CrlField.{crl_field_wording};
+ghost use Rattle.std.specs.Prelude.{◌≡◌};
+ghost use Rattle.x509_lint.specs.CrlField.{crl_extension_place, crl_field_wording};
+ghost use Rattle.x509_lint.specs.Seen.{crl_extension_oid};
 ghost use Rattle.x509_lint.specs.Wording.{Says};
 
 use crate::entry::{Entry, must, should};
+use x509_der::{AssociatedOid, ObjectIdentifier};
+use x509_ext::pkix::{
+    AuthorityInfoAccessSyntax, AuthorityKeyIdentifier, BaseCrlNumber, CrlNumber, FreshestCrl,
+    IssuerAltName, IssuingDistributionPoint,
+};
+
+/// A type of extension that CRLs have (RFC 5280 5.2).
+#[derive(Clone, Copy, Debug, PartialEq, Eq)]
+pub enum CrlExtensionKind {
+    /// `authorityKeyIdentifier`.
+    AuthorityKeyIdentifier,
+
+    /// `issuerAltName`.
+    IssuerAltName,
+
+    /// `cRLNumber`.
+    CrlNumber,
+
+    /// `deltaCRLIndicator`.
+    DeltaCrlIndicator,
+
+    /// `issuingDistributionPoint`.
+    IssuingDistributionPoint,
+
+    /// `freshestCRL`.
+    FreshestCrl,
+
+    /// `authorityInfoAccess`.
+    AuthorityInfoAccess,
+}
+
+impl CrlExtensionKind {
+    /// The OID of the type.
+    pub(crate) fn oid(self) -> ObjectIdentifier
+        ensures { result ≡ crl_extension_oid self }
+    {
+        match self {
+            CrlExtensionKind::AuthorityKeyIdentifier => AuthorityKeyIdentifier::OID,
+            CrlExtensionKind::IssuerAltName => IssuerAltName::OID,
+            CrlExtensionKind::CrlNumber => CrlNumber::OID,
+            CrlExtensionKind::DeltaCrlIndicator => BaseCrlNumber::OID,
+            CrlExtensionKind::IssuingDistributionPoint => IssuingDistributionPoint::OID,
+            CrlExtensionKind::FreshestCrl => FreshestCrl::OID,
+            CrlExtensionKind::AuthorityInfoAccess => AuthorityInfoAccessSyntax::OID,
+        }
+    }
+
+    /// Its place in a CRL.
+    fn place(self) -> &'static str
+        ensures { result.now ≡ crl_extension_place self }
+    {
+        match self {
+            CrlExtensionKind::AuthorityKeyIdentifier =>
+                "tbsCertList.crlExtensions.authorityKeyIdentifier",
+            CrlExtensionKind::IssuerAltName => "tbsCertList.crlExtensions.issuerAltName",
+            CrlExtensionKind::CrlNumber => "tbsCertList.crlExtensions.cRLNumber",
+            CrlExtensionKind::DeltaCrlIndicator => "tbsCertList.crlExtensions.deltaCRLIndicator",
+            CrlExtensionKind::IssuingDistributionPoint =>
+                "tbsCertList.crlExtensions.issuingDistributionPoint",
+            CrlExtensionKind::FreshestCrl => "tbsCertList.crlExtensions.freshestCRL",
+            CrlExtensionKind::AuthorityInfoAccess =>
+                "tbsCertList.crlExtensions.authorityInfoAccess",
+        }
+    }
+}
 
 /// Rules on the fields of a CRL (RFC 5280 5.1).
 #[derive(Clone, Copy, Debug, PartialEq, Eq)]
@@ -66,7 +133,7 @@ pub enum CrlFieldRule {
     ExtensionRepeated,
 
     /// The octets of an extension aren't an encoding of this library's type for its OID (RFC 5280 5.2, error).
-    ExtensionMalformed,
+    ExtensionMalformed(CrlExtensionKind),
 
     /// The list of an entry's extensions is there, and has none (RFC 5280 5.3, error).
     EntryExtensionsEmpty,
@@ -75,7 +142,7 @@ pub enum CrlFieldRule {
     EntryExtensionRepeated,
 }
 
-pub(crate) const CRL_FIELD_RULES: [CrlFieldRule; 22] = [
+pub(crate) const CRL_FIELD_RULES: [CrlFieldRule; 28] = [
     CrlFieldRule::SignatureAlgorithmsDiffer,
     CrlFieldRule::ExtensionsWithoutV2,
     CrlFieldRule::VersionNotV2,
@@ -95,13 +162,19 @@ pub(crate) const CRL_FIELD_RULES: [CrlFieldRule; 22] = [
     CrlFieldRule::RevocationDateNotUtcTime,
     CrlFieldRule::ExtensionsEmpty,
     CrlFieldRule::ExtensionRepeated,
-    CrlFieldRule::ExtensionMalformed,
+    CrlFieldRule::ExtensionMalformed(CrlExtensionKind::AuthorityKeyIdentifier),
+    CrlFieldRule::ExtensionMalformed(CrlExtensionKind::IssuerAltName),
+    CrlFieldRule::ExtensionMalformed(CrlExtensionKind::CrlNumber),
+    CrlFieldRule::ExtensionMalformed(CrlExtensionKind::DeltaCrlIndicator),
+    CrlFieldRule::ExtensionMalformed(CrlExtensionKind::IssuingDistributionPoint),
+    CrlFieldRule::ExtensionMalformed(CrlExtensionKind::FreshestCrl),
+    CrlFieldRule::ExtensionMalformed(CrlExtensionKind::AuthorityInfoAccess),
     CrlFieldRule::EntryExtensionsEmpty,
     CrlFieldRule::EntryExtensionRepeated,
 ];
 
 impl CrlFieldRule {
-    /// How bad it is to break the rule, its name, and its section.
+    /// How bad it is to break the rule, its name, its section, and its place.
     pub fn entry(self) -> Entry
         ensures { Says result (crl_field_wording self) }
     {
@@ -109,34 +182,97 @@ impl CrlFieldRule {
             CrlFieldRule::SignatureAlgorithmsDiffer => must(
                 "signature_algorithms_differ",
                 "5.1.1.2",
+                "signatureAlgorithm",
             ),
-            CrlFieldRule::ExtensionsWithoutV2 => must("extensions_without_v2", "5.1.2.1"),
-            CrlFieldRule::VersionNotV2 => must("version_not_v2", "5.1.2.1"),
-            CrlFieldRule::IssuerEmpty => must("issuer_empty", "5.1.2.3"),
-            CrlFieldRule::IssuerRdnEmpty => must("issuer_rdn_empty", "5.1.2.3"),
-            CrlFieldRule::IssuerCountryNameInvalid => must("issuer_country_name_invalid", "A.1"),
-            CrlFieldRule::IssuerTextType => must("issuer_text_type", "A.1"),
-            CrlFieldRule::IssuerTextOldType => should("issuer_text_old_type", "5.1.2.3"),
-            CrlFieldRule::IssuerTextCharacters => must("issuer_text_characters", "5.1.2.3"),
-            CrlFieldRule::IssuerTextSize => must("issuer_text_size", "A.1"),
-            CrlFieldRule::ThisUpdateNotUtcTime => must("this_update_not_utc_time", "5.1.2.4"),
-            CrlFieldRule::NextUpdateAbsent => must("next_update_absent", "5.1.2.5"),
-            CrlFieldRule::NextUpdateNotUtcTime => must("next_update_not_utc_time", "5.1.2.5"),
+            CrlFieldRule::ExtensionsWithoutV2 => must(
+                "extensions_without_v2",
+                "5.1.2.1",
+                "tbsCertList.version",
+            ),
+            CrlFieldRule::VersionNotV2 => must("version_not_v2", "5.1.2.1", "tbsCertList.version"),
+            CrlFieldRule::IssuerEmpty => must("issuer_empty", "5.1.2.3", "tbsCertList.issuer"),
+            CrlFieldRule::IssuerRdnEmpty => must(
+                "issuer_rdn_empty",
+                "5.1.2.3",
+                "tbsCertList.issuer",
+            ),
+            CrlFieldRule::IssuerCountryNameInvalid => must(
+                "issuer_country_name_invalid",
+                "A.1",
+                "tbsCertList.issuer",
+            ),
+            CrlFieldRule::IssuerTextType => must("issuer_text_type", "A.1", "tbsCertList.issuer"),
+            CrlFieldRule::IssuerTextOldType => should(
+                "issuer_text_old_type",
+                "5.1.2.3",
+                "tbsCertList.issuer",
+            ),
+            CrlFieldRule::IssuerTextCharacters => must(
+                "issuer_text_characters",
+                "5.1.2.3",
+                "tbsCertList.issuer",
+            ),
+            CrlFieldRule::IssuerTextSize => must("issuer_text_size", "A.1", "tbsCertList.issuer"),
+            CrlFieldRule::ThisUpdateNotUtcTime => must(
+                "this_update_not_utc_time",
+                "5.1.2.4",
+                "tbsCertList.thisUpdate",
+            ),
+            CrlFieldRule::NextUpdateAbsent => must(
+                "next_update_absent",
+                "5.1.2.5",
+                "tbsCertList.nextUpdate",
+            ),
+            CrlFieldRule::NextUpdateNotUtcTime => must(
+                "next_update_not_utc_time",
+                "5.1.2.5",
+                "tbsCertList.nextUpdate",
+            ),
             CrlFieldRule::NextUpdateBeforeThisUpdate => must(
                 "next_update_before_this_update",
                 "5.1.2.5",
+                "tbsCertList.nextUpdate",
             ),
-            CrlFieldRule::RevokedCertificatesEmpty => must("revoked_certificates_empty", "5.1.2.6"),
-            CrlFieldRule::SerialNumberRepeated => must("serial_number_repeated", "5.1.2.6"),
+            CrlFieldRule::RevokedCertificatesEmpty => must(
+                "revoked_certificates_empty",
+                "5.1.2.6",
+                "tbsCertList.revokedCertificates",
+            ),
+            CrlFieldRule::SerialNumberRepeated => must(
+                "serial_number_repeated",
+                "5.1.2.6",
+                "tbsCertList.revokedCertificates.userCertificate",
+            ),
             CrlFieldRule::RevocationDateNotUtcTime => must(
                 "revocation_date_not_utc_time",
                 "5.1.2.6",
+                "tbsCertList.revokedCertificates.revocationDate",
             ),
-            CrlFieldRule::ExtensionsEmpty => must("extensions_empty", "5.1.2.7"),
-            CrlFieldRule::ExtensionRepeated => must("extension_repeated", "5.2"),
-            CrlFieldRule::ExtensionMalformed => must("extension_malformed", "5.2"),
-            CrlFieldRule::EntryExtensionsEmpty => must("entry_extensions_empty", "5.3"),
-            CrlFieldRule::EntryExtensionRepeated => must("entry_extension_repeated", "5.3"),
+            CrlFieldRule::ExtensionsEmpty => must(
+                "extensions_empty",
+                "5.1.2.7",
+                "tbsCertList.crlExtensions",
+            ),
+            CrlFieldRule::ExtensionRepeated => must(
+                "extension_repeated",
+                "5.2",
+                "tbsCertList.crlExtensions",
+            ),
+            CrlFieldRule::ExtensionMalformed(kind) => must(
+                "extension_malformed",
+                "5.2",
+                kind.place(),
+            ),
+            CrlFieldRule::EntryExtensionsEmpty => must(
+                "entry_extensions_empty",
+                "5.3",
+                "tbsCertList.revokedCertificates.crlEntryExtensions",
+            ),
+            CrlFieldRule::EntryExtensionRepeated => must(
+                "entry_extension_repeated",
+                "5.3",
+                "tbsCertList.revokedCertificates.crlEntryExtensions",
+            ),
         }
     }
 }

@@ -61,23 +61,67 @@ pub(crate) const FIELD_RULES: [FieldRule; 12] = [
 ];
 
 impl FieldRule {
-    /// How bad it is to break the rule, its name, and its section.
+    /// How bad it is to break the rule, its name, its section, and its place.
     pub fn entry(self) -> Entry
         ensures { Says result (field_wording self) }
     {
         match self {
-            FieldRule::SignatureAlgorithmsDiffer => must("signature_algorithms_differ", "4.1.1.2"),
-            FieldRule::ExtensionsWithoutV3 => must("extensions_without_v3", "4.1.2.1"),
-            FieldRule::VersionAboveV2 => should("version_above_v2", "4.1.2.1"),
-            FieldRule::VersionAboveV1 => should("version_above_v1", "4.1.2.1"),
-            FieldRule::SerialNumberNotPositive => must("serial_number_not_positive", "4.1.2.2"),
-            FieldRule::SerialNumberTooLong => must("serial_number_too_long", "4.1.2.2"),
-            FieldRule::IssuerEmpty => must("issuer_empty", "4.1.2.4"),
-            FieldRule::NotBeforeNotUtcTime => must("not_before_not_utc_time", "4.1.2.5"),
-            FieldRule::NotAfterNotUtcTime => must("not_after_not_utc_time", "4.1.2.5"),
-            FieldRule::NotAfterBeforeNotBefore => must("not_after_before_not_before", "4.1.2.5"),
-            FieldRule::UniqueIdentifierInV1 => must("unique_identifier_in_v1", "4.1.2.8"),
-            FieldRule::UniqueIdentifierPresent => must("unique_identifier_present", "4.1.2.8"),
+            FieldRule::SignatureAlgorithmsDiffer => must(
+                "signature_algorithms_differ",
+                "4.1.1.2",
+                "signatureAlgorithm",
+            ),
+            FieldRule::ExtensionsWithoutV3 => must(
+                "extensions_without_v3",
+                "4.1.2.1",
+                "tbsCertificate.version",
+            ),
+            FieldRule::VersionAboveV2 => should(
+                "version_above_v2",
+                "4.1.2.1",
+                "tbsCertificate.version",
+            ),
+            FieldRule::VersionAboveV1 => should(
+                "version_above_v1",
+                "4.1.2.1",
+                "tbsCertificate.version",
+            ),
+            FieldRule::SerialNumberNotPositive => must(
+                "serial_number_not_positive",
+                "4.1.2.2",
+                "tbsCertificate.serialNumber",
+            ),
+            FieldRule::SerialNumberTooLong => must(
+                "serial_number_too_long",
+                "4.1.2.2",
+                "tbsCertificate.serialNumber",
+            ),
+            FieldRule::IssuerEmpty => must("issuer_empty", "4.1.2.4", "tbsCertificate.issuer"),
+            FieldRule::NotBeforeNotUtcTime => must(
+                "not_before_not_utc_time",
+                "4.1.2.5",
+                "tbsCertificate.validity.notBefore",
+            ),
+            FieldRule::NotAfterNotUtcTime => must(
+                "not_after_not_utc_time",
+                "4.1.2.5",
+                "tbsCertificate.validity.notAfter",
+            ),
+            FieldRule::NotAfterBeforeNotBefore => must(
+                "not_after_before_not_before",
+                "4.1.2.5",
+                "tbsCertificate.validity.notAfter",
+            ),
+            FieldRule::UniqueIdentifierInV1 => must(
+                "unique_identifier_in_v1",
+                "4.1.2.8",
+                "tbsCertificate",
+            ),
+            FieldRule::UniqueIdentifierPresent => must(
+                "unique_identifier_present",
+                "4.1.2.8",
+                "tbsCertificate",
+            ),
         }
     }
 }

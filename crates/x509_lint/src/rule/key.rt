@@ -41,7 +41,7 @@ pub(crate) const KEY_RULES: [KeyRule; 7] = [
 ];
 
 impl KeyRule {
-    /// How bad it is to break the rule, its name, and its section.
+    /// How bad it is to break the rule, its name, its section, and its place.
     pub fn entry(self) -> Entry
         ensures { Says result (key_wording self) }
     {
@@ -49,22 +49,38 @@ impl KeyRule {
             KeyRule::AuthorityKeyIdentifierAbsent => must(
                 "authority_key_identifier_absent",
                 "4.2.1.1",
+                "tbsCertificate.extensions.authorityKeyIdentifier",
             ),
             KeyRule::AuthorityKeyIdentifierWithoutKey => must(
                 "authority_key_identifier_without_key",
                 "4.2.1.1",
+                "tbsCertificate.extensions.authorityKeyIdentifier",
             ),
-            KeyRule::AuthorityCertIssuerEmpty => must("authority_cert_issuer_empty", "4.2.1.1"),
+            KeyRule::AuthorityCertIssuerEmpty => must(
+                "authority_cert_issuer_empty",
+                "4.2.1.1",
+                "tbsCertificate.extensions.authorityKeyIdentifier",
+            ),
             KeyRule::AuthorityCertIssuerAndSerialApart => must(
                 "authority_cert_issuer_and_serial_apart",
                 "4.2.1.1",
+                "tbsCertificate.extensions.authorityKeyIdentifier",
             ),
-            KeyRule::ExtendedKeyUsageEmpty => must("extended_key_usage_empty", "4.2.1.12"),
+            KeyRule::ExtendedKeyUsageEmpty => must(
+                "extended_key_usage_empty",
+                "4.2.1.12",
+                "tbsCertificate.extensions.extKeyUsage",
+            ),
             KeyRule::AnyExtendedKeyUsageCritical => should(
                 "any_extended_key_usage_critical",
                 "4.2.1.12",
+                "tbsCertificate.extensions.extKeyUsage",
             ),
-            KeyRule::PrivateKeyUsagePeriodEmpty => must("private_key_usage_period_empty", "A.2"),
+            KeyRule::PrivateKeyUsagePeriodEmpty => must(
+                "private_key_usage_period_empty",
+                "A.2",
+                "tbsCertificate.extensions.privateKeyUsagePeriod",
+            ),
         }
     }
 }

@@ -65,26 +65,59 @@ pub(crate) const NAME_RULES: [NameRule; 13] = [
 ];
 
 impl NameRule {
-    /// How bad it is to break the rule, its name, and its section.
+    /// How bad it is to break the rule, its name, its section, and its place.
     pub fn entry(self) -> Entry
         ensures { Says result (name_wording self) }
     {
         match self {
-            NameRule::IssuerRdnEmpty => must("issuer_rdn_empty", "4.1.2.4"),
-            NameRule::IssuerCountryNameInvalid => must("issuer_country_name_invalid", "A.1"),
-            NameRule::IssuerTextType => must("issuer_text_type", "A.1"),
-            NameRule::IssuerTextOldType => should("issuer_text_old_type", "4.1.2.4"),
-            NameRule::IssuerTextCharacters => must("issuer_text_characters", "4.1.2.4"),
-            NameRule::IssuerTextSize => must("issuer_text_size", "A.1"),
-            NameRule::SubjectRdnEmpty => must("subject_rdn_empty", "4.1.2.6"),
-            NameRule::SubjectCountryNameInvalid => must("subject_country_name_invalid", "A.1"),
-            NameRule::SubjectTextType => must("subject_text_type", "A.1"),
-            NameRule::SubjectTextOldType => should("subject_text_old_type", "4.1.2.6"),
-            NameRule::SubjectTextCharacters => must("subject_text_characters", "4.1.2.6"),
-            NameRule::SubjectTextSize => must("subject_text_size", "A.1"),
+            NameRule::IssuerRdnEmpty => must(
+                "issuer_rdn_empty",
+                "4.1.2.4",
+                "tbsCertificate.issuer",
+            ),
+            NameRule::IssuerCountryNameInvalid => must(
+                "issuer_country_name_invalid",
+                "A.1",
+                "tbsCertificate.issuer",
+            ),
+            NameRule::IssuerTextType => must("issuer_text_type", "A.1", "tbsCertificate.issuer"),
+            NameRule::IssuerTextOldType => should(
+                "issuer_text_old_type",
+                "4.1.2.4",
+                "tbsCertificate.issuer",
+            ),
+            NameRule::IssuerTextCharacters => must(
+                "issuer_text_characters",
+                "4.1.2.4",
+                "tbsCertificate.issuer",
+            ),
+            NameRule::IssuerTextSize => must("issuer_text_size", "A.1", "tbsCertificate.issuer"),
+            NameRule::SubjectRdnEmpty => must(
+                "subject_rdn_empty",
+                "4.1.2.6",
+                "tbsCertificate.subject",
+            ),
+            NameRule::SubjectCountryNameInvalid => must(
+                "subject_country_name_invalid",
+                "A.1",
+                "tbsCertificate.subject",
+            ),
+            NameRule::SubjectTextType => must("subject_text_type", "A.1", "tbsCertificate.subject"),
+            NameRule::SubjectTextOldType => should(
+                "subject_text_old_type",
+                "4.1.2.6",
+                "tbsCertificate.subject",
+            ),
+            NameRule::SubjectTextCharacters => must(
+                "subject_text_characters",
+                "4.1.2.6",
+                "tbsCertificate.subject",
+            ),
+            NameRule::SubjectTextSize => must("subject_text_size", "A.1", "tbsCertificate.subject"),
             NameRule::SubjectEmptyWithoutCriticalAltName => must(
                 "subject_empty_without_critical_alt_name",
                 "4.1.2.6",
+                "tbsCertificate.subject",
             ),
         }
     }

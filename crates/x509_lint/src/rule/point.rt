@@ -93,7 +93,7 @@ pub(crate) const POINT_RULES: [PointRule; 20] = [
 ];
 
 impl PointRule {
-    /// How bad it is to break the rule, its name, and its section.
+    /// How bad it is to break the rule, its name, its section, and its place.
     pub fn entry(self) -> Entry
         ensures { Says result (point_wording self) }
     {
@@ -101,59 +101,103 @@ impl PointRule {
             PointRule::SubjectDirectoryAttributesEmpty => must(
                 "subject_directory_attributes_empty",
                 "4.2.1.8",
+                "tbsCertificate.extensions.subjectDirectoryAttributes",
             ),
             PointRule::CrlDistributionPointsEmpty => must(
                 "crl_distribution_points_empty",
                 "4.2.1.13",
+                "tbsCertificate.extensions.cRLDistributionPoints",
             ),
-            PointRule::DistributionPointEmpty => must("distribution_point_empty", "4.2.1.13"),
+            PointRule::DistributionPointEmpty => must(
+                "distribution_point_empty",
+                "4.2.1.13",
+                "tbsCertificate.extensions.cRLDistributionPoints",
+            ),
             PointRule::DistributionPointRelative => should(
                 "distribution_point_relative",
                 "4.2.1.13",
+                "tbsCertificate.extensions.cRLDistributionPoints",
             ),
             PointRule::DistributionPointRelativeToSeveral => must(
                 "distribution_point_relative_to_several",
                 "4.2.1.13",
+                "tbsCertificate.extensions.cRLDistributionPoints",
             ),
             PointRule::DistributionPointWithoutUri => should(
                 "distribution_point_without_uri",
                 "4.2.1.13",
+                "tbsCertificate.extensions.cRLDistributionPoints",
             ),
             PointRule::DistributionPointIssuerInvalid => must(
                 "distribution_point_issuer_invalid",
                 "4.2.1.13",
+                "tbsCertificate.extensions.cRLDistributionPoints",
             ),
             PointRule::DistributionPointOwnIssuer => must(
                 "distribution_point_own_issuer",
                 "4.2.1.13",
+                "tbsCertificate.extensions.cRLDistributionPoints",
             ),
-            PointRule::DistributionPointsPartial => must("distribution_points_partial", "4.2.1.13"),
-            PointRule::FreshestCrlEmpty => must("freshest_crl_empty", "4.2.1.15"),
-            PointRule::FreshestCrlPointEmpty => must("freshest_crl_point_empty", "4.2.1.15"),
+            PointRule::DistributionPointsPartial => must(
+                "distribution_points_partial",
+                "4.2.1.13",
+                "tbsCertificate.extensions.cRLDistributionPoints",
+            ),
+            PointRule::FreshestCrlEmpty => must(
+                "freshest_crl_empty",
+                "4.2.1.15",
+                "tbsCertificate.extensions.freshestCRL",
+            ),
+            PointRule::FreshestCrlPointEmpty => must(
+                "freshest_crl_point_empty",
+                "4.2.1.15",
+                "tbsCertificate.extensions.freshestCRL",
+            ),
             PointRule::FreshestCrlPointRelative => should(
                 "freshest_crl_point_relative",
                 "4.2.1.15",
+                "tbsCertificate.extensions.freshestCRL",
             ),
             PointRule::FreshestCrlPointRelativeToSeveral => must(
                 "freshest_crl_point_relative_to_several",
                 "4.2.1.15",
+                "tbsCertificate.extensions.freshestCRL",
             ),
             PointRule::FreshestCrlPointWithoutUri => should(
                 "freshest_crl_point_without_uri",
                 "4.2.1.15",
+                "tbsCertificate.extensions.freshestCRL",
             ),
             PointRule::FreshestCrlPointIssuerInvalid => must(
                 "freshest_crl_point_issuer_invalid",
                 "4.2.1.15",
+                "tbsCertificate.extensions.freshestCRL",
             ),
             PointRule::FreshestCrlPointOwnIssuer => must(
                 "freshest_crl_point_own_issuer",
                 "4.2.1.15",
+                "tbsCertificate.extensions.freshestCRL",
             ),
-            PointRule::AuthorityInfoAccessEmpty => must("authority_info_access_empty", "4.2.2.1"),
-            PointRule::CaIssuersWithoutUri => should("ca_issuers_without_uri", "4.2.2.1"),
-            PointRule::SubjectInfoAccessEmpty => must("subject_info_access_empty", "4.2.2.2"),
-            PointRule::CaRepositoryWithoutUri => should("ca_repository_without_uri", "4.2.2.2"),
+            PointRule::AuthorityInfoAccessEmpty => must(
+                "authority_info_access_empty",
+                "4.2.2.1",
+                "tbsCertificate.extensions.authorityInfoAccess",
+            ),
+            PointRule::CaIssuersWithoutUri => should(
+                "ca_issuers_without_uri",
+                "4.2.2.1",
+                "tbsCertificate.extensions.authorityInfoAccess",
+            ),
+            PointRule::SubjectInfoAccessEmpty => must(
+                "subject_info_access_empty",
+                "4.2.2.2",
+                "tbsCertificate.extensions.subjectInfoAccess",
+            ),
+            PointRule::CaRepositoryWithoutUri => should(
+                "ca_repository_without_uri",
+                "4.2.2.2",
+                "tbsCertificate.extensions.subjectInfoAccess",
+            ),
         }
     }
 }

@@ -65,30 +65,76 @@ pub(crate) const POLICY_RULES: [PolicyRule; 13] = [
 ];
 
 impl PolicyRule {
-    /// How bad it is to break the rule, its name, and its section.
+    /// How bad it is to break the rule, its name, its section, and its place.
     pub fn entry(self) -> Entry
         ensures { Says result (policy_wording self) }
     {
         match self {
-            PolicyRule::CertificatePoliciesEmpty => must("certificate_policies_empty", "4.2.1.4"),
-            PolicyRule::CertificatePolicyRepeated => must("certificate_policy_repeated", "4.2.1.4"),
-            PolicyRule::PolicyQualifiersEmpty => must("policy_qualifiers_empty", "4.2.1.4"),
+            PolicyRule::CertificatePoliciesEmpty => must(
+                "certificate_policies_empty",
+                "4.2.1.4",
+                "tbsCertificate.extensions.certificatePolicies",
+            ),
+            PolicyRule::CertificatePolicyRepeated => must(
+                "certificate_policy_repeated",
+                "4.2.1.4",
+                "tbsCertificate.extensions.certificatePolicies",
+            ),
+            PolicyRule::PolicyQualifiersEmpty => must(
+                "policy_qualifiers_empty",
+                "4.2.1.4",
+                "tbsCertificate.extensions.certificatePolicies",
+            ),
             PolicyRule::AnyPolicyQualifierInvalid => must(
                 "any_policy_qualifier_invalid",
                 "4.2.1.4",
+                "tbsCertificate.extensions.certificatePolicies",
             ),
-            PolicyRule::ExplicitTextTooLong => must("explicit_text_too_long", "4.2.1.4"),
-            PolicyRule::ExplicitTextEmpty => must("explicit_text_empty", "4.2.1.4"),
-            PolicyRule::ExplicitTextType => must("explicit_text_type", "4.2.1.4"),
+            PolicyRule::ExplicitTextTooLong => must(
+                "explicit_text_too_long",
+                "4.2.1.4",
+                "tbsCertificate.extensions.certificatePolicies",
+            ),
+            PolicyRule::ExplicitTextEmpty => must(
+                "explicit_text_empty",
+                "4.2.1.4",
+                "tbsCertificate.extensions.certificatePolicies",
+            ),
+            PolicyRule::ExplicitTextType => must(
+                "explicit_text_type",
+                "4.2.1.4",
+                "tbsCertificate.extensions.certificatePolicies",
+            ),
             PolicyRule::ExplicitTextNotUtf8String => should(
                 "explicit_text_not_utf8_string",
                 "4.2.1.4",
+                "tbsCertificate.extensions.certificatePolicies",
             ),
-            PolicyRule::ExplicitTextControl => should("explicit_text_control", "4.2.1.4"),
-            PolicyRule::NoticeReferencePresent => should("notice_reference_present", "4.2.1.4"),
-            PolicyRule::PolicyMappingsEmpty => must("policy_mappings_empty", "4.2.1.5"),
-            PolicyRule::PolicyMappingAnyPolicy => must("policy_mapping_any_policy", "4.2.1.5"),
-            PolicyRule::PolicyConstraintsEmpty => must("policy_constraints_empty", "4.2.1.11"),
+            PolicyRule::ExplicitTextControl => should(
+                "explicit_text_control",
+                "4.2.1.4",
+                "tbsCertificate.extensions.certificatePolicies",
+            ),
+            PolicyRule::NoticeReferencePresent => should(
+                "notice_reference_present",
+                "4.2.1.4",
+                "tbsCertificate.extensions.certificatePolicies",
+            ),
+            PolicyRule::PolicyMappingsEmpty => must(
+                "policy_mappings_empty",
+                "4.2.1.5",
+                "tbsCertificate.extensions.policyMappings",
+            ),
+            PolicyRule::PolicyMappingAnyPolicy => must(
+                "policy_mapping_any_policy",
+                "4.2.1.5",
+                "tbsCertificate.extensions.policyMappings",
+            ),
+            PolicyRule::PolicyConstraintsEmpty => must(
+                "policy_constraints_empty",
+                "4.2.1.11",
+                "tbsCertificate.extensions.policyConstraints",
+            ),
         }
     }
 }

@@ -4,9 +4,8 @@ ghost use Rattle.std.specs.Prelude.{◌≡◌, ◌<◌, ◌≤◌, ◌⊎◌, �
 ghost use Rattle.std.specs.Cmp.{partial_equiv_from_equiv};
 ghost use Rattle.std.specs.Cmp.Lexicographic.{nat_list_eq_equiv};
 ghost use Rattle.x509_sct.specs.declared.tls.error.TlsError.TheVariants.{InvalidVectorLength, Memory};
-ghost use Rattle.x509_sct.specs.Answers.{AnswersFront};
 ghost use Rattle.x509_sct.specs.Form.{Spells};
-ghost use Rattle.x509_sct.specs.Numbers.{vector16, vector24};
+ghost use Rattle.x509_sct.specs.Numbers.{vector24};
 
 use crate::tls::error::TlsError;
 use crate::tls::octets::take_octets;
@@ -70,32 +69,6 @@ impl TlsByteVecU16 {
         ensures short { length result.now ≤ 65535 }
     {
         self.octets.as_slice()
-    }
-
-    /// Two bytes that say how many bytes there are, and the bytes.
-    ///
-    /// # Errors
-    ///
-    /// `Memory` when out of memory, and nothing else.
-    pub fn tls_serialize(&self, alloc: Global) -> Result<Vec<u8>, TlsError>
-        ensures ok { IfOk result (λ bytes. Spells vector16 self.now bytes.items) }
-        ensures err { IfErr result (λ e. e ≡ Memory) }
-    {
-        Tls::tls_serialize(self, alloc)
-    }
-
-    /// The vector that the bytes begin with, and what follows it.
-    ///
-    /// # Errors
-    ///
-    /// `EndOfStream` where bytes are missing. `Memory` when out of memory.
-    pub fn tls_deserialize_bytes(
-        alloc: Global,
-        bytes: &[u8],
-    ) -> Result<(TlsByteVecU16, &[u8]), TlsError>
-        ensures { AnswersFront (λ x. (x.0, x.1.now)) vector16 Unit bytes.now result }
-    {
-        <TlsByteVecU16 as Tls>::tls_deserialize_bytes(alloc, bytes)
     }
 }
 

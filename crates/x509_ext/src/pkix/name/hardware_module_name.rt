@@ -4,8 +4,10 @@ ghost use Rattle.x509_ext.specs.HardwareModuleName.{ReadsHardwareModule};
 
 use crate::pkix::name::other_name::OtherName;
 use std::alloc::Global;
+use std::cmp::Ordering;
 use x509_der::{
-    Content, Error, ObjectIdentifier, PutPart, Room, Spelled, Tag, TryClone, end, oid, read_field,
+    CmpPart, Content, EncodingOrd, Error, ObjectIdentifier, PutPart, Room, SetMember, SetOrd,
+    Spelled, Tag, TryClone, ValueOrd, both, end, oid, read_field,
 };
 use x509_prim::OctetString;
 
@@ -88,6 +90,32 @@ impl Content for HardwareModuleName {
     }
 
     ghost contents_lawful = { grammar.hardware_module_name_contents_lawful };
+}
+
+impl ValueOrd for HardwareModuleName {
+    ghost use Rattle.x509_ext.specs.HardwareModuleName as grammar;
+
+    ghost order = { grammar.hardware_module_name_order };
+
+    fn value_cmp(&self, other: &HardwareModuleName) -> Ordering {
+        let parts = (
+            both(&self.hw_type, &other.hw_type),
+            both(&self.hw_serial_num, &other.hw_serial_num),
+        );
+        parts.cmp_part(None, None)
+    }
+
+    ghost ordered = { grammar.hardware_module_name_ordered };
+}
+
+impl SetOrd for HardwareModuleName {
+    ghost set_order = { ⟦<HardwareModuleName as EncodingOrd>⟧.encoding_order };
+}
+
+impl SetMember for HardwareModuleName {
+    ghost use Rattle.std.specs.Prelude.{refl};
+
+    ghost in_der_order = { refl };
 }
 
 #[tactic(auto, unfolding(crate::specs::HardwareModuleName::hardware_module_name_fields, x509_der::specs::Frames::fields_good))]

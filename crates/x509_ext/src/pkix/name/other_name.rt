@@ -8,9 +8,11 @@ ghost use Rattle.x509_ext.specs.HardwareModuleName.{IsModuleIn, hardware_module_
 
 use crate::pkix::name::hardware_module_name::{HardwareModuleName, ID_ON_HARDWARE_MODULE_NAME};
 use std::alloc::Global;
+use std::cmp::Ordering;
 use x509_der::{
-    Any, Content, Error, ObjectIdentifier, PutPart, Room, Spelled, Tag, TryClone, end, explicit,
-    read_explicit, read_field,
+    Any, CmpPart, Content, EncodingOrd, Error, ObjectIdentifier, PutPart, Room, SetMember, SetOrd,
+    Spelled, Tag, TryClone, ValueOrd, both, both_explicit, end, explicit, read_explicit,
+    read_field,
 };
 
 /// A name whose type is given by an OID (RFC 5280 4.2.1.6).
@@ -84,6 +86,32 @@ impl Content for OtherName {
     }
 
     ghost contents_lawful = { grammar.other_name_contents_lawful };
+}
+
+impl ValueOrd for OtherName {
+    ghost use Rattle.x509_ext.specs.OtherName as grammar;
+
+    ghost order = { grammar.other_name_order };
+
+    fn value_cmp(&self, other: &OtherName) -> Ordering {
+        let parts = (
+            both(&self.type_id, &other.type_id),
+            both_explicit(0, &self.value, &other.value),
+        );
+        parts.cmp_part(None, None)
+    }
+
+    ghost ordered = { grammar.other_name_ordered };
+}
+
+impl SetOrd for OtherName {
+    ghost set_order = { ⟦<OtherName as EncodingOrd>⟧.encoding_order };
+}
+
+impl SetMember for OtherName {
+    ghost use Rattle.std.specs.Prelude.{refl};
+
+    ghost in_der_order = { refl };
 }
 
 #[tactic(auto, unfolding(crate::specs::OtherName::other_name_fields, x509_der::specs::Frames::fields_good))]

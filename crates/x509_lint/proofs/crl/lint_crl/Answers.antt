@@ -1,5 +1,5 @@
 use Rattle.std.proofs.Common.{◌≡◌, ◌∙◌, ◌++◌, ap, filter, map, subst, sym}
-use Rattle.x509_cert.specs.ext.LookUp.{members}
+use Rattle.x509_ext.specs.LookUp.{members}
 use Rattle.x509_lint.specs.CrlEntry.{crl_entry_rules}
 use Rattle.x509_lint.specs.CrlExtension.{crl_extension_rules}
 use Rattle.x509_lint.specs.CrlField.{crl_field_rules}

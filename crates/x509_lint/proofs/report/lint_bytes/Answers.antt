@@ -1,5 +1,9 @@
-use Rattle.std.proofs.Common.{inl}
+use Rattle.std.proofs.Common.{inl, inr, refl}
 use Rattle.x509_lint.proofs.report.lint_bytes.Goals as goal
 
-pub returns-in_ok-report-in-Ok-clause-ok : goal.returns-in_ok-report-in-Ok-clause-ok
-returns-in_ok-report-in-Ok-clause-ok c = inl (c.in-Ok.certificate, c.in_ok-report-in-Ok.ensures.ok.0, c.in-Ok.ensures.found, c.in_ok-report-in-Ok.ensures.ok.1, c.in_ok-report-in-Ok.ensures.ok.2)
+pub returns-in-Some-clause-ok : goal.returns-in-Some-clause-ok
+returns-in-Some-clause-ok c = inl (c.in-Some.report, refl, rw c.in-Some.is at c.in_ok-report.ensures.ok)
+
+pub returns-in-Some-2-clause-ok : goal.returns-in-Some-2-clause-ok
+returns-in-Some-2-clause-ok c =
+    inr (rw c.in_default.is at c.in_ok-report.ensures.ok, inl (c.in-Some-2.report, refl, rw c.in-Some-2.is at c.in_ok-report-2.ensures.ok))

@@ -7,16 +7,16 @@ use Rattle.x509_der.specs.Ordered.{der_lawful}
 use Rattle.x509_der.specs.SetLaws.{not_sorted, sorted_from_rising}
 use Rattle.x509_der.specs.Writing.{writes}
 use Rattle.x509_der.proofs.RisingLists.{rising_from_distinct}
-use Rattle.x509_der.proofs.set.sorting.sort.Goals.{else-items-gt-FEW-via-then-items-gt-FEW+else-rise, else-items-gt-FEW-via-else-items-gt-FEW}
+use Rattle.x509_der.proofs.set.sorting.sort.Goals.{else-items-gt-MAX_COMPARED-via-then-items-gt-MAX_COMPARED+else-rise, else-items-gt-MAX_COMPARED-via-else-items-gt-MAX_COMPARED}
 use Rattle.x509_der.proofs.set.sorting.sort.Goals as goal
 
 pub returns-then-rise-clause-distinct : goal.returns-then-rise-clause-distinct
 returns-then-rise-clause-distinct g c = λ _. sorted_from_rising _ c.rise.new.items (sym c.rise.ensures.rising ∙ c.if-rise.true)
 
 pub returns-clause-permutation : goal.returns-clause-permutation
-returns-clause-permutation g c = elim c.else-items-gt-FEW.branch [
-  | else-items-gt-FEW-via-then-items-gt-FEW+else-rise w ↦ IsPermutation-trans _ _ _ w.rise.ensures.permutation (rw (← w.items-is) c.sort_unstable_by.ensures.permutation)
-  | else-items-gt-FEW-via-else-items-gt-FEW w ↦ rw (← w.items-is) c.sort_unstable_by.ensures.permutation
+returns-clause-permutation g c = elim c.else-items-gt-MAX_COMPARED.branch [
+  | else-items-gt-MAX_COMPARED-via-then-items-gt-MAX_COMPARED+else-rise w ↦ IsPermutation-trans _ _ _ w.rise.ensures.permutation (rw (← w.items-is) c.sort_unstable_by.ensures.permutation)
+  | else-items-gt-MAX_COMPARED-via-else-items-gt-MAX_COMPARED w ↦ rw (← w.items-is) c.sort_unstable_by.ensures.permutation
 ]
 
 pub returns-clause-distinct : goal.returns-clause-distinct

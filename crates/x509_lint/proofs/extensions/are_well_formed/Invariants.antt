@@ -1,7 +1,0 @@
-use Rattle.std.proofs.Common.{take}
-use Rattle.std.specs.List.{All}
-use Rattle.x509_lint.specs.Values.{IsWellFormed}
-use Rattle.x509_lint.proofs.extensions.are_well_formed.Given as goal
-
-abbrev pub invariant-loop-extension : goal.invariant-loop-extension
-invariant-loop-extension l = All IsWellFormed (take l.extension-index l.extensions)

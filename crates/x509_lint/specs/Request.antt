@@ -1,0 +1,168 @@
+-- The rules on CSRs (RFC 2986 4.1, RFC 2985 5.4, RFC 5280 4.1.2.6, 4.2): what breaks each, their order, and how each is told.
+use Rattle.std.specs.Prelude.{◌≡◌, ◌↔◌, ◌&&◌, IsTrue, ℕ, Bool, not, nat_lt, List, [], ◌∷◌, ◌++◌, length, Option, Some, None, bytes_eq, codes, is_some, map, refl}
+use Rattle.std.specs.List.{list_any}
+use Rattle.x509_cert.specs.AttributeLookUp.{with_type}
+use Rattle.x509_cert.specs.ChallengePassword.{challenge_password}
+use Rattle.x509_cert.specs.Identifiers.{pkcs_9}
+use Rattle.x509_cert.specs.declared.request.cert_req.CertReq.{CertReq}
+use Rattle.x509_cert.specs.declared.request.extension_req.ExtensionReq.{ExtensionReq}
+use Rattle.x509_der.specs.Form.{Form}
+use Rattle.x509_der.specs.Round.{Round, rounded}
+use Rattle.x509_der.specs.Set.{AreDistinct}
+use Rattle.x509_der.specs.Tag.{octet_of}
+use Rattle.x509_der.specs.declared.any.Any.{Any}
+use Rattle.x509_der.specs.declared.tag.Tag.TheVariants.{Sequence}
+use Rattle.x509_ext.specs.AlternativeNames.{subject_alt_name}
+use Rattle.x509_ext.specs.Extension.{extensions}
+use Rattle.x509_ext.specs.Identifiers.{id_ce}
+use Rattle.x509_ext.specs.LookUp.{IsRepeated}
+use Rattle.x509_ext.specs.declared.extension.Extension.{Extension}
+use Rattle.x509_lint.specs.Alternative.{is_empty_name, is_no_address, is_no_dns_name, is_no_mailbox, is_relative}
+use Rattle.x509_lint.specs.List.{extension_kinds}
+use Rattle.x509_lint.specs.Name.{has_empty_rdn, has_no_country}
+use Rattle.x509_lint.specs.Notices.{value_read}
+use Rattle.x509_lint.specs.Read.{AreExtensionsRead, is_read}
+use Rattle.x509_lint.specs.Text.{has_faulty_text}
+use Rattle.x509_lint.specs.Words.{IsValue, has, is_empty, passes}
+use Rattle.x509_lint.specs.declared.request.values.RequestValues.{RequestValues}
+use Rattle.x509_lint.specs.declared.rule.list.ExtensionKind.{ExtensionKind}
+use Rattle.x509_lint.specs.declared.rule.list.ExtensionKind.TheVariants as kinds
+use Rattle.x509_lint.specs.declared.rule.request.RequestRule.{RequestRule}
+use Rattle.x509_lint.specs.declared.rule.request.RequestRule.TheVariants.{SubjectRdnEmpty, SubjectCountryNameInvalid, SubjectTextType, SubjectTextOldType, SubjectTextCharacters, SubjectTextSize, SubjectEmptyWithoutAltName, AttributeRepeated, AttributeValuesEmpty, ChallengePasswordValues, ChallengePasswordMalformed, ExtensionRequestValues, ExtensionRequestMalformed, ExtensionsEmpty, ExtensionRepeated, ExtensionMalformed, SubjectAltNameEmpty, SubjectAltNameEmptyName, SubjectAltNameDnsNameInvalid, SubjectAltNameAddressLength, SubjectAltNameMailboxInvalid, SubjectAltNameUriRelative}
+use Rattle.x509_lint.specs.declared.texts.TextFault.TheVariants.{OtherType, OldType, OtherCharacter, Size}
+use Rattle.x509_lint.specs.Wording.{Wording, must, must_of, should, should_of}
+use Rattle.x509_name.specs.declared.attr.attribute.Attribute.{Attribute}
+
+-- ---- attributes (RFC 2986 4.1)
+
+abbrev pub attribute_types : List Attribute → List (List ℕ)
+attribute_types attributes = map (λ (a : Attribute). a.oid) attributes
+
+-- an attribute of the type has two values or more
+abbrev pub has_several_values : List ℕ → List Attribute → Bool
+has_several_values oid attributes = list_any (λ a. bytes_eq a.oid oid && nat_lt 1 (length a.values)) attributes
+
+-- the value that the element is the encoding of
+abbrev pub element_value : {T : Type 0} → Form T → Any → Option T
+element_value form element = value_read (form.reading (octet_of element.tag) element.value)
+
+-- the element is the encoding of no value
+unfoldable pub is_unread : {T : Type 0} → Form T → Any → Bool
+is_unread form element = not (is_some (element_value form element))
+
+-- an attribute of the type, and a value of it that is the encoding of none
+abbrev pub is_malformed_as : {T : Type 0} → Form T → List ℕ → Attribute → Bool
+is_malformed_as form oid a = bytes_eq a.oid oid && list_any (is_unread form) a.values
+
+-- some attribute is
+abbrev pub has_malformed : {T : Type 0} → Form T → List ℕ → List Attribute → Bool
+has_malformed form oid attributes = list_any (is_malformed_as form oid) attributes
+
+-- ---- the extensions that are asked for (RFC 2985 5.4.2)
+
+abbrev extension_req_round : Round ExtensionReq (List Extension)
+extension_req_round = record { to = λ requested. requested.0; from = λ members. record { 0 = members }; back = λ requested. refl; there = λ members. refl }
+
+abbrev pub extension_req : Form ExtensionReq
+extension_req = rounded extension_req_round Sequence extensions
+
+abbrev pub one_value : Form ExtensionReq → List Any → Option ExtensionReq
+one_value form [] = None
+one_value form (value ∷ []) = element_value form value
+one_value form (first ∷ second ∷ values) = None
+
+-- those of the one value of the one extensionRequest; None where there isn't one of both, or it can't be read
+abbrev pub requested_in : Form ExtensionReq → List Attribute → Option ExtensionReq
+requested_in form [] = None
+requested_in form (attribute ∷ []) = one_value form attribute.values
+requested_in form (first ∷ second ∷ attributes) = None
+
+abbrev pub requested_extensions : Option ExtensionReq → List Extension
+requested_extensions None = []
+requested_extensions (Some requested) = requested.0
+
+abbrev pub AreRequestValues : CertReq → RequestValues → Type 0
+AreRequestValues r v =
+    (IsTrue v.are_types_distinct ↔ AreDistinct (attribute_types r.info.attributes))
+    × (v.is_password_malformed ≡ has_malformed challenge_password (pkcs_9 7) r.info.attributes)
+    × (v.is_request_malformed ≡ has_malformed extension_req (pkcs_9 14) r.info.attributes)
+    × (v.requested ≡ requested_in extension_req (with_type (pkcs_9 14) r.info.attributes))
+    × (IsTrue v.is_repeated ↔ IsRepeated (requested_extensions v.requested))
+    × AreExtensionsRead (requested_extensions v.requested) v.read
+    × IsValue subject_alt_name (id_ce 17) (requested_extensions v.requested) v.subject_alt_name
+
+abbrev pub breaks_request : CertReq → RequestValues → RequestRule → Bool
+breaks_request r v SubjectRdnEmpty = has_empty_rdn r.info.subject
+breaks_request r v SubjectCountryNameInvalid = has_no_country r.info.subject
+breaks_request r v SubjectTextType = has_faulty_text OtherType r.info.subject
+breaks_request r v SubjectTextOldType = has_faulty_text OldType r.info.subject
+breaks_request r v SubjectTextCharacters = has_faulty_text OtherCharacter r.info.subject
+breaks_request r v SubjectTextSize = has_faulty_text Size r.info.subject
+breaks_request r v SubjectEmptyWithoutAltName = is_empty r.info.subject && not (has (id_ce 17) (requested_extensions v.requested))
+breaks_request r v AttributeRepeated = not v.are_types_distinct
+breaks_request r v AttributeValuesEmpty = list_any (λ a. is_empty a.values) r.info.attributes
+breaks_request r v ChallengePasswordValues = has_several_values (pkcs_9 7) r.info.attributes
+breaks_request r v ChallengePasswordMalformed = v.is_password_malformed
+breaks_request r v ExtensionRequestValues = has_several_values (pkcs_9 14) r.info.attributes
+breaks_request r v ExtensionRequestMalformed = v.is_request_malformed
+breaks_request r v ExtensionsEmpty = passes (λ q. is_empty q.0) v.requested
+breaks_request r v ExtensionRepeated = v.is_repeated
+breaks_request r v (ExtensionMalformed kind) = not (is_read v.read kind)
+breaks_request r v SubjectAltNameEmpty = passes (λ s. is_empty s.0) v.subject_alt_name
+breaks_request r v SubjectAltNameEmptyName = passes (λ s. list_any is_empty_name s.0) v.subject_alt_name
+breaks_request r v SubjectAltNameDnsNameInvalid = passes (λ s. list_any is_no_dns_name s.0) v.subject_alt_name
+breaks_request r v SubjectAltNameAddressLength = passes (λ s. list_any is_no_address s.0) v.subject_alt_name
+breaks_request r v SubjectAltNameMailboxInvalid = passes (λ s. list_any is_no_mailbox s.0) v.subject_alt_name
+breaks_request r v SubjectAltNameUriRelative = passes (λ s. list_any is_relative s.0) v.subject_alt_name
+
+-- ---- the order, and how each is told
+
+abbrev pub request_rules : List RequestRule
+request_rules =
+    SubjectRdnEmpty ∷ SubjectCountryNameInvalid ∷ SubjectTextType ∷ SubjectTextOldType ∷ SubjectTextCharacters ∷ SubjectTextSize ∷ SubjectEmptyWithoutAltName ∷ AttributeRepeated ∷ AttributeValuesEmpty ∷ ChallengePasswordValues ∷ ChallengePasswordMalformed ∷ ExtensionRequestValues ∷ ExtensionRequestMalformed ∷ ExtensionsEmpty ∷ ExtensionRepeated
+    ∷ (map ExtensionMalformed extension_kinds ++ SubjectAltNameEmpty ∷ SubjectAltNameEmptyName ∷ SubjectAltNameDnsNameInvalid ∷ SubjectAltNameAddressLength ∷ SubjectAltNameMailboxInvalid ∷ SubjectAltNameUriRelative ∷ [])
+
+-- where in a CSR an extension of the type that is asked for stands
+abbrev pub request_extension_place : ExtensionKind → List ℕ
+request_extension_place kinds.AuthorityKeyIdentifier = codes "certificationRequestInfo.attributes.extensionRequest.authorityKeyIdentifier"
+request_extension_place kinds.SubjectKeyIdentifier = codes "certificationRequestInfo.attributes.extensionRequest.subjectKeyIdentifier"
+request_extension_place kinds.KeyUsage = codes "certificationRequestInfo.attributes.extensionRequest.keyUsage"
+request_extension_place kinds.ExtendedKeyUsage = codes "certificationRequestInfo.attributes.extensionRequest.extKeyUsage"
+request_extension_place kinds.PrivateKeyUsagePeriod = codes "certificationRequestInfo.attributes.extensionRequest.privateKeyUsagePeriod"
+request_extension_place kinds.BasicConstraints = codes "certificationRequestInfo.attributes.extensionRequest.basicConstraints"
+request_extension_place kinds.SubjectAltName = codes "certificationRequestInfo.attributes.extensionRequest.subjectAltName"
+request_extension_place kinds.IssuerAltName = codes "certificationRequestInfo.attributes.extensionRequest.issuerAltName"
+request_extension_place kinds.SubjectDirectoryAttributes = codes "certificationRequestInfo.attributes.extensionRequest.subjectDirectoryAttributes"
+request_extension_place kinds.NameConstraints = codes "certificationRequestInfo.attributes.extensionRequest.nameConstraints"
+request_extension_place kinds.AuthorityInfoAccess = codes "certificationRequestInfo.attributes.extensionRequest.authorityInfoAccess"
+request_extension_place kinds.SubjectInfoAccess = codes "certificationRequestInfo.attributes.extensionRequest.subjectInfoAccess"
+request_extension_place kinds.CertificatePolicies = codes "certificationRequestInfo.attributes.extensionRequest.certificatePolicies"
+request_extension_place kinds.PolicyMappings = codes "certificationRequestInfo.attributes.extensionRequest.policyMappings"
+request_extension_place kinds.PolicyConstraints = codes "certificationRequestInfo.attributes.extensionRequest.policyConstraints"
+request_extension_place kinds.InhibitAnyPolicy = codes "certificationRequestInfo.attributes.extensionRequest.inhibitAnyPolicy"
+request_extension_place kinds.CrlDistributionPoints = codes "certificationRequestInfo.attributes.extensionRequest.cRLDistributionPoints"
+request_extension_place kinds.FreshestCrl = codes "certificationRequestInfo.attributes.extensionRequest.freshestCRL"
+
+abbrev pub request_wording : RequestRule → Wording
+request_wording SubjectRdnEmpty = must (codes "subject_rdn_empty") (codes "4.1.2.6") (codes "certificationRequestInfo.subject")
+request_wording SubjectCountryNameInvalid = must (codes "subject_country_name_invalid") (codes "A.1") (codes "certificationRequestInfo.subject")
+request_wording SubjectTextType = must (codes "subject_text_type") (codes "A.1") (codes "certificationRequestInfo.subject")
+request_wording SubjectTextOldType = should (codes "subject_text_old_type") (codes "4.1.2.6") (codes "certificationRequestInfo.subject")
+request_wording SubjectTextCharacters = must (codes "subject_text_characters") (codes "4.1.2.6") (codes "certificationRequestInfo.subject")
+request_wording SubjectTextSize = must (codes "subject_text_size") (codes "A.1") (codes "certificationRequestInfo.subject")
+request_wording SubjectEmptyWithoutAltName = must (codes "subject_empty_without_alt_name") (codes "4.1.2.6") (codes "certificationRequestInfo.subject")
+request_wording AttributeRepeated = should_of (codes "RFC 2986") (codes "attribute_repeated") (codes "4.1") (codes "certificationRequestInfo.attributes")
+request_wording AttributeValuesEmpty = must_of (codes "RFC 2986") (codes "attribute_values_empty") (codes "4.1") (codes "certificationRequestInfo.attributes")
+request_wording ChallengePasswordValues = must_of (codes "RFC 2985") (codes "challenge_password_several_values") (codes "5.4.1") (codes "certificationRequestInfo.attributes.challengePassword")
+request_wording ChallengePasswordMalformed = must_of (codes "RFC 2985") (codes "challenge_password_malformed") (codes "5.4.1") (codes "certificationRequestInfo.attributes.challengePassword")
+request_wording ExtensionRequestValues = must_of (codes "RFC 2985") (codes "extension_request_several_values") (codes "5.4.2") (codes "certificationRequestInfo.attributes.extensionRequest")
+request_wording ExtensionRequestMalformed = must_of (codes "RFC 2985") (codes "extension_request_malformed") (codes "5.4.2") (codes "certificationRequestInfo.attributes.extensionRequest")
+request_wording ExtensionsEmpty = must (codes "extensions_empty") (codes "4.1.2.9") (codes "certificationRequestInfo.attributes.extensionRequest")
+request_wording ExtensionRepeated = must (codes "extension_repeated") (codes "4.2") (codes "certificationRequestInfo.attributes.extensionRequest")
+request_wording (ExtensionMalformed kind) = must (codes "extension_malformed") (codes "4.2") (request_extension_place kind)
+request_wording SubjectAltNameEmpty = must (codes "subject_alt_name_empty") (codes "4.2.1.6") (codes "certificationRequestInfo.attributes.extensionRequest.subjectAltName")
+request_wording SubjectAltNameEmptyName = must (codes "subject_alt_name_empty_name") (codes "4.2.1.6") (codes "certificationRequestInfo.attributes.extensionRequest.subjectAltName")
+request_wording SubjectAltNameDnsNameInvalid = must (codes "subject_alt_name_dns_name_invalid") (codes "4.2.1.6") (codes "certificationRequestInfo.attributes.extensionRequest.subjectAltName")
+request_wording SubjectAltNameAddressLength = must (codes "subject_alt_name_address_length") (codes "4.2.1.6") (codes "certificationRequestInfo.attributes.extensionRequest.subjectAltName")
+request_wording SubjectAltNameMailboxInvalid = must (codes "subject_alt_name_mailbox_invalid") (codes "4.2.1.6") (codes "certificationRequestInfo.attributes.extensionRequest.subjectAltName")
+request_wording SubjectAltNameUriRelative = must (codes "subject_alt_name_uri_relative") (codes "4.2.1.6") (codes "certificationRequestInfo.attributes.extensionRequest.subjectAltName")

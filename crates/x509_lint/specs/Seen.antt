@@ -1,0 +1,86 @@
+-- What is seen at the place of a finding.
+use Rattle.std.specs.Prelude.{ℕ, nat_lt, List, [], ◌∷◌, ◌++◌, codes, length, take, if◌then◌else◌}
+use Rattle.hex.specs.Hex.{encode_lower}
+use Rattle.x509_ext.specs.Identifiers.{id_ce, id_pkix}
+use Rattle.x509_ext.specs.LookUp.{with_oid}
+use Rattle.x509_ext.specs.declared.extension.Extension.{Extension}
+use Rattle.x509_lint.specs.Words.{Certificate, Crl, crl_extensions_of, extensions_of}
+use Rattle.x509_lint.specs.declared.rule.Rule.{Rule}
+use Rattle.x509_lint.specs.declared.rule.Rule.TheVariants as rules
+use Rattle.x509_lint.specs.declared.rule.crl_field.CrlExtensionKind.{CrlExtensionKind}
+use Rattle.x509_lint.specs.declared.rule.crl_field.CrlExtensionKind.TheVariants as crl_kinds
+use Rattle.x509_lint.specs.declared.rule.crl_field.CrlFieldRule.{CrlFieldRule}
+use Rattle.x509_lint.specs.declared.rule.crl_field.CrlFieldRule.TheVariants as crl_field
+use Rattle.x509_lint.specs.declared.rule.field.FieldRule.{FieldRule}
+use Rattle.x509_lint.specs.declared.rule.field.FieldRule.TheVariants as field
+use Rattle.x509_lint.specs.declared.rule.list.ExtensionKind.{ExtensionKind}
+use Rattle.x509_lint.specs.declared.rule.list.ExtensionKind.TheVariants as kinds
+use Rattle.x509_lint.specs.declared.rule.list.ListRule.{ListRule}
+use Rattle.x509_lint.specs.declared.rule.list.ListRule.TheVariants as list
+
+-- the octets in hex; of more than 32 those alone, and two dots
+unfoldable pub shortened : List ℕ → List ℕ
+shortened octets = if nat_lt 32 (length octets) then encode_lower (take 32 octets) ++ codes ".." else encode_lower octets
+
+-- the octets of the first of these extensions
+abbrev pub first_seen : List Extension → List ℕ
+first_seen [] = []
+first_seen (e ∷ extensions) = shortened e.extn_value
+
+-- the octets of the first extension with the OID
+abbrev pub value_seen : List ℕ → List Extension → List ℕ
+value_seen oid extensions = first_seen (with_oid oid extensions)
+
+-- the OID of a type of extension (RFC 5280 4.2, 5.2)
+abbrev pub extension_oid : ExtensionKind → List ℕ
+extension_oid kinds.AuthorityKeyIdentifier = id_ce 35
+extension_oid kinds.SubjectKeyIdentifier = id_ce 14
+extension_oid kinds.KeyUsage = id_ce 15
+extension_oid kinds.ExtendedKeyUsage = id_ce 37
+extension_oid kinds.PrivateKeyUsagePeriod = id_ce 16
+extension_oid kinds.BasicConstraints = id_ce 19
+extension_oid kinds.SubjectAltName = id_ce 17
+extension_oid kinds.IssuerAltName = id_ce 18
+extension_oid kinds.SubjectDirectoryAttributes = id_ce 9
+extension_oid kinds.NameConstraints = id_ce 30
+extension_oid kinds.AuthorityInfoAccess = id_pkix 1 1
+extension_oid kinds.SubjectInfoAccess = id_pkix 1 11
+extension_oid kinds.CertificatePolicies = id_ce 32
+extension_oid kinds.PolicyMappings = id_ce 33
+extension_oid kinds.PolicyConstraints = id_ce 36
+extension_oid kinds.InhibitAnyPolicy = id_ce 54
+extension_oid kinds.CrlDistributionPoints = id_ce 31
+extension_oid kinds.FreshestCrl = id_ce 46
+
+abbrev pub crl_extension_oid : CrlExtensionKind → List ℕ
+crl_extension_oid crl_kinds.AuthorityKeyIdentifier = id_ce 35
+crl_extension_oid crl_kinds.IssuerAltName = id_ce 18
+crl_extension_oid crl_kinds.CrlNumber = id_ce 20
+crl_extension_oid crl_kinds.DeltaCrlIndicator = id_ce 27
+crl_extension_oid crl_kinds.IssuingDistributionPoint = id_ce 28
+crl_extension_oid crl_kinds.FreshestCrl = id_ce 46
+crl_extension_oid crl_kinds.AuthorityInfoAccess = id_pkix 1 1
+
+-- of a certificate its serial number, and the octets of an extension that can't be read
+abbrev pub field_seen : Certificate → FieldRule → List ℕ
+field_seen c field.SerialNumberNotPositive = shortened c.tbs_certificate.serial_number
+field_seen c field.SerialNumberTooLong = shortened c.tbs_certificate.serial_number
+field_seen c other = []
+
+abbrev pub list_seen : Certificate → ListRule → List ℕ
+list_seen c (list.ExtensionMalformed kind) = value_seen (extension_oid kind) (extensions_of c)
+list_seen c other = []
+
+abbrev pub certificate_seen : Certificate → Rule → List ℕ
+certificate_seen c (rules.Field rule) = field_seen c rule
+certificate_seen c (rules.ExtensionList rule) = list_seen c rule
+certificate_seen c other = []
+
+-- of a CRL the octets of an extension that can't be read
+abbrev pub crl_field_seen : Crl → CrlFieldRule → List ℕ
+crl_field_seen l (crl_field.ExtensionMalformed kind) = value_seen (crl_extension_oid kind) (crl_extensions_of l)
+crl_field_seen l other = []
+
+abbrev pub crl_seen : Crl → Rule → List ℕ
+crl_seen l (rules.CrlField rule) = crl_field_seen l rule
+crl_seen l other = []

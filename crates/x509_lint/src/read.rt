@@ -1,0 +1,239 @@
+//! Which types of extensions are read: the octets of each extension of the type are an encoding of the type that RFC 5280 has for its OID.
+
+ghost use Rattle.std.specs.List.{All};
+ghost use Rattle.std.specs.Prelude.{◌≡◌, ◌↔◌, IfErr, IfOk, IsTrue};
+ghost use Rattle.x509_der.specs.Form.{Spells};
+ghost use Rattle.x509_der.specs.declared.error.ErrorKind.TheVariants.{Memory};
+ghost use Rattle.x509_lint.specs.Read.{AreExtensionsRead, AreKeysRead, AreNamesRead, ArePoliciesRead, IsCrlRead, IsWellFormedAs, is_crl_read, is_read};
+
+use crate::basic_constraints::AnyBasicConstraints;
+use crate::rule::{CrlExtensionKind, ExtensionKind};
+use std::alloc::Global;
+use x509_der::{AssociatedOid, Decode, Error, ErrorKind};
+use x509_ext::Extension;
+use x509_ext::pkix::{
+    AuthorityInfoAccessSyntax, AuthorityKeyIdentifier, BaseCrlNumber, CertificatePolicies,
+    CrlDistributionPoints, CrlNumber, ExtendedKeyUsage, FreshestCrl, InhibitAnyPolicy,
+    IssuerAltName, IssuingDistributionPoint, KeyUsage, NameConstraints, PolicyConstraints,
+    PolicyMappings, PrivateKeyUsagePeriod, SubjectAltName, SubjectDirectoryAttributes,
+    SubjectInfoAccessSyntax, SubjectKeyIdentifier,
+};
+
+/// Which of the types of keys, of their use, and of basic constraints are read.
+#[derive(Clone, Copy, Debug, PartialEq, Eq)]
+pub(crate) struct KeysRead {
+    pub(crate) authority_key_identifier: bool,
+    pub(crate) subject_key_identifier: bool,
+    pub(crate) key_usage: bool,
+    pub(crate) extended_key_usage: bool,
+    pub(crate) private_key_usage_period: bool,
+    pub(crate) basic_constraints: bool,
+}
+
+/// Which of the types of names, attributes and access are read.
+#[derive(Clone, Copy, Debug, PartialEq, Eq)]
+pub(crate) struct NamesRead {
+    pub(crate) subject_alt_name: bool,
+    pub(crate) issuer_alt_name: bool,
+    pub(crate) subject_directory_attributes: bool,
+    pub(crate) name_constraints: bool,
+    pub(crate) authority_info_access: bool,
+    pub(crate) subject_info_access: bool,
+}
+
+/// Which of the types of policies and distribution points are read.
+#[derive(Clone, Copy, Debug, PartialEq, Eq)]
+pub(crate) struct PoliciesRead {
+    pub(crate) certificate_policies: bool,
+    pub(crate) policy_mappings: bool,
+    pub(crate) policy_constraints: bool,
+    pub(crate) inhibit_any_policy: bool,
+    pub(crate) crl_distribution_points: bool,
+    pub(crate) freshest_crl: bool,
+}
+
+/// Which of the types that certificates have are read.
+#[derive(Clone, Copy, Debug, PartialEq, Eq)]
+pub(crate) struct ExtensionsRead {
+    pub(crate) keys: KeysRead,
+    pub(crate) names: NamesRead,
+    pub(crate) policies: PoliciesRead,
+}
+
+/// Which of the types that CRLs have are read.
+#[derive(Clone, Copy, Debug, PartialEq, Eq)]
+pub(crate) struct CrlRead {
+    pub(crate) authority_key_identifier: bool,
+    pub(crate) issuer_alt_name: bool,
+    pub(crate) crl_number: bool,
+    pub(crate) delta_crl_indicator: bool,
+    pub(crate) issuing_distribution_point: bool,
+    pub(crate) freshest_crl: bool,
+    pub(crate) authority_info_access: bool,
+}
+
+/// Whether the octets are an encoding of the type.
+fn is_decodable<T: Decode + Drop>(alloc: Global, octets: &[u8]) -> Result<bool, Error>
+    ensures ok { IfOk result (λ b. IsTrue b ↔ ((value : T) × Spells T.form value octets.now)) }
+    ensures err { IfErr result (λ e. e.kind ≡ Memory) }
+{
+    match T::from_der(alloc, octets) {
+        Ok(_) => Ok(true),
+        Err(e) => match e.kind() {
+            ErrorKind::Memory => Err(ErrorKind::Memory.into()),
+            _ => Ok(false),
+        },
+    }
+}
+
+/// Whether the octets of the extension are an encoding of the type, where it has the OID of the type.
+fn is_well_formed_as<T: AssociatedOid + Decode + Drop>(
+    alloc: Global,
+    extension: &Extension,
+) -> Result<bool, Error>
+    ensures ok { IfOk result (λ b. IsTrue b ↔ IsWellFormedAs T.form T.OID extension.now) }
+    ensures err { IfErr result (λ e. e.kind ≡ Memory) }
+{
+    if extension.extn_id != T::OID {
+        return Ok(true);
+    }
+    is_decodable::<T>(alloc, extension.extn_value.as_bytes())
+}
+
+/// Whether that holds of each extension.
+fn are_read<T: AssociatedOid + Decode + Drop>(
+    alloc: Global,
+    extensions: &[Extension],
+) -> Result<bool, Error>
+    ensures ok { IfOk result (λ b. IsTrue b ↔ All (IsWellFormedAs T.form T.OID) extensions.now) }
+    ensures err { IfErr result (λ e. e.kind ≡ Memory) }
+{
+    for extension in extensions {
+        if !is_well_formed_as::<T>(alloc, extension)? {
+            return Ok(false);
+        }
+    }
+    Ok(true)
+}
+
+#[tactic(auto, unfolding(crate::specs::Read::AreKeysRead))]
+fn keys_read(alloc: Global, extensions: &[Extension]) -> Result<KeysRead, Error>
+    ensures ok { IfOk result (AreKeysRead extensions.now) }
+    ensures err { IfErr result (λ e. e.kind ≡ Memory) }
+{
+    Ok(KeysRead {
+        authority_key_identifier: are_read::<AuthorityKeyIdentifier>(alloc, extensions)?,
+        subject_key_identifier: are_read::<SubjectKeyIdentifier>(alloc, extensions)?,
+        key_usage: are_read::<KeyUsage>(alloc, extensions)?,
+        extended_key_usage: are_read::<ExtendedKeyUsage>(alloc, extensions)?,
+        private_key_usage_period: are_read::<PrivateKeyUsagePeriod>(alloc, extensions)?,
+        basic_constraints: are_read::<AnyBasicConstraints>(alloc, extensions)?,
+    })
+}
+
+#[tactic(auto, unfolding(crate::specs::Read::AreNamesRead))]
+fn names_read(alloc: Global, extensions: &[Extension]) -> Result<NamesRead, Error>
+    ensures ok { IfOk result (AreNamesRead extensions.now) }
+    ensures err { IfErr result (λ e. e.kind ≡ Memory) }
+{
+    Ok(NamesRead {
+        subject_alt_name: are_read::<SubjectAltName>(alloc, extensions)?,
+        issuer_alt_name: are_read::<IssuerAltName>(alloc, extensions)?,
+        subject_directory_attributes: are_read::<SubjectDirectoryAttributes>(alloc, extensions)?,
+        name_constraints: are_read::<NameConstraints>(alloc, extensions)?,
+        authority_info_access: are_read::<AuthorityInfoAccessSyntax>(alloc, extensions)?,
+        subject_info_access: are_read::<SubjectInfoAccessSyntax>(alloc, extensions)?,
+    })
+}
+
+#[tactic(auto, unfolding(crate::specs::Read::ArePoliciesRead))]
+fn policies_read(alloc: Global, extensions: &[Extension]) -> Result<PoliciesRead, Error>
+    ensures ok { IfOk result (ArePoliciesRead extensions.now) }
+    ensures err { IfErr result (λ e. e.kind ≡ Memory) }
+{
+    Ok(PoliciesRead {
+        certificate_policies: are_read::<CertificatePolicies>(alloc, extensions)?,
+        policy_mappings: are_read::<PolicyMappings>(alloc, extensions)?,
+        policy_constraints: are_read::<PolicyConstraints>(alloc, extensions)?,
+        inhibit_any_policy: are_read::<InhibitAnyPolicy>(alloc, extensions)?,
+        crl_distribution_points: are_read::<CrlDistributionPoints>(alloc, extensions)?,
+        freshest_crl: are_read::<FreshestCrl>(alloc, extensions)?,
+    })
+}
+
+/// Which of the types that certificates have are read.
+pub(crate) fn extensions_read(
+    alloc: Global,
+    extensions: &[Extension],
+) -> Result<ExtensionsRead, Error>
+    ensures ok { IfOk result (AreExtensionsRead extensions.now) }
+    ensures err { IfErr result (λ e. e.kind ≡ Memory) }
+{
+    Ok(ExtensionsRead {
+        keys: keys_read(alloc, extensions)?,
+        names: names_read(alloc, extensions)?,
+        policies: policies_read(alloc, extensions)?,
+    })
+}
+
+/// Which of the types that CRLs have are read.
+#[tactic(auto, unfolding(crate::specs::Read::IsCrlRead))]
+pub(crate) fn crl_read(alloc: Global, extensions: &[Extension]) -> Result<CrlRead, Error>
+    ensures ok { IfOk result (IsCrlRead extensions.now) }
+    ensures err { IfErr result (λ e. e.kind ≡ Memory) }
+{
+    Ok(CrlRead {
+        authority_key_identifier: are_read::<AuthorityKeyIdentifier>(alloc, extensions)?,
+        issuer_alt_name: are_read::<IssuerAltName>(alloc, extensions)?,
+        crl_number: are_read::<CrlNumber>(alloc, extensions)?,
+        delta_crl_indicator: are_read::<BaseCrlNumber>(alloc, extensions)?,
+        issuing_distribution_point: are_read::<IssuingDistributionPoint>(alloc, extensions)?,
+        freshest_crl: are_read::<FreshestCrl>(alloc, extensions)?,
+        authority_info_access: are_read::<AuthorityInfoAccessSyntax>(alloc, extensions)?,
+    })
+}
+
+impl ExtensionsRead {
+    /// Whether the type is read.
+    pub(crate) fn is_read(&self, kind: ExtensionKind) -> bool
+        ensures { result ≡ is_read self.now kind }
+    {
+        match kind {
+            ExtensionKind::AuthorityKeyIdentifier => self.keys.authority_key_identifier,
+            ExtensionKind::SubjectKeyIdentifier => self.keys.subject_key_identifier,
+            ExtensionKind::KeyUsage => self.keys.key_usage,
+            ExtensionKind::ExtendedKeyUsage => self.keys.extended_key_usage,
+            ExtensionKind::PrivateKeyUsagePeriod => self.keys.private_key_usage_period,
+            ExtensionKind::BasicConstraints => self.keys.basic_constraints,
+            ExtensionKind::SubjectAltName => self.names.subject_alt_name,
+            ExtensionKind::IssuerAltName => self.names.issuer_alt_name,
+            ExtensionKind::SubjectDirectoryAttributes => self.names.subject_directory_attributes,
+            ExtensionKind::NameConstraints => self.names.name_constraints,
+            ExtensionKind::AuthorityInfoAccess => self.names.authority_info_access,
+            ExtensionKind::SubjectInfoAccess => self.names.subject_info_access,
+            ExtensionKind::CertificatePolicies => self.policies.certificate_policies,
+            ExtensionKind::PolicyMappings => self.policies.policy_mappings,
+            ExtensionKind::PolicyConstraints => self.policies.policy_constraints,
+            ExtensionKind::InhibitAnyPolicy => self.policies.inhibit_any_policy,
+            ExtensionKind::CrlDistributionPoints => self.policies.crl_distribution_points,
+            ExtensionKind::FreshestCrl => self.policies.freshest_crl,
+        }
+    }
+}
+
+impl CrlRead {
+    /// Whether the type is read.
+    pub(crate) fn is_read(&self, kind: CrlExtensionKind) -> bool
+        ensures { result ≡ is_crl_read self.now kind }
+    {
+        match kind {
+            CrlExtensionKind::AuthorityKeyIdentifier => self.authority_key_identifier,
+            CrlExtensionKind::IssuerAltName => self.issuer_alt_name,
+            CrlExtensionKind::CrlNumber => self.crl_number,
+            CrlExtensionKind::DeltaCrlIndicator => self.delta_crl_indicator,
+            CrlExtensionKind::IssuingDistributionPoint => self.issuing_distribution_point,
+            CrlExtensionKind::FreshestCrl => self.freshest_crl,
+            CrlExtensionKind::AuthorityInfoAccess => self.authority_info_access,
+        }
+    }
+}
