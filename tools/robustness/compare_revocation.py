@@ -168,6 +168,8 @@ class Case:
         if self.one_in(8):
             self.words.append("of another scope")
             found = x509.IssuingDistributionPoint([x509.UniformResourceIdentifier(THERE)], None, False, False, None, False, False)
+        if found is not None and found.only_some_reasons is not None:
+            self.words.append("for some reasons too")
         lists = [] if found is None else [(found, True)]
         is_indirect = found is not None and found.indirect_crl
         self.make(self.signer, self.entries(is_indirect, True), (x509.CRLNumber(number), False), (x509.DeltaCRLIndicator(base), True), *lists, age=1)
@@ -202,6 +204,8 @@ def known(case, mine, theirs, errors):
         return "openssl asks one of several CRLs, and ends with its fault"
     if "and a delta" in case.words and {"expired", "not yet valid", "an unknown critical extension"} & {*case.words}:
         return "openssl takes a complete CRL and a delta of which one is out of date or has an unknown critical extension"
+    if "for some reasons too" in case.words:
+        return "openssl, as its release 3.0.19, takes a delta CRL for some reasons for a complete CRL"
     return None
 
 
