@@ -927,10 +927,15 @@ typedef struct {
     x509_span bits;       /* the octets of the key: what its BIT STRING holds after the first octet */
     uint32_t unused_bits; /* how many bits of the last of these octets are unused, 0 to 7 */
     x509_span curve;      /* of a key of an elliptic curve the content octets of the OID of the curve; 0 and 0 where the curve isn't named, and of other keys */
+    uint32_t size;        /* how many bits it has, as 2048; 0 where that isn't known */
 } x509_key;
 
-/* Decodes a SubjectPublicKeyInfo, such as `subject_public_key_info` of x509_certificate, and says what it holds and where. The key isn't looked into: its
- * bits are the point of an elliptic curve (RFC 5480 2.2), or what x509_rsa_key_view reads.
+/* Decodes a SubjectPublicKeyInfo, such as `subject_public_key_info` of x509_certificate, and says what it holds and where. The key isn't looked into, but for its
+ * size: its bits are the point of an elliptic curve (RFC 5480 2.2), or what x509_rsa_key_view reads.
+ *
+ * The size is the bits of the modulus of an RSA key (RFC 8017 A.1.1), of the prime of a DSA key whose algorithm has parameters (RFC 3279 2.3.2), and of the field
+ * of these curves: secp192r1, secp224r1, secp256r1, secp256k1, secp384r1, secp521r1, and brainpoolP256r1, brainpoolP384r1, brainpoolP512r1; 256 of Ed25519 and
+ * X25519, 456 of Ed448, 448 of X448, as their octets have (OpenSSL says 253 of X25519). It is 0 of other keys, and where the numbers can't be read.
  * Answers X509_OK, X509_MEMORY, X509_OVERLENGTH, X509_MALFORMED. */
 x509_status x509_key_view(const uint8_t *in, size_t len, x509_key *view);
 
@@ -1046,6 +1051,41 @@ x509_status x509_request_text(const uint8_t *in, size_t len, uint8_t *out, size_
 x509_status x509_request_json(const uint8_t *in, size_t len, uint8_t *out, size_t room, size_t *written);
 x509_status x509_anchor_text(const uint8_t *in, size_t len, uint8_t *out, size_t room, size_t *written);
 x509_status x509_anchor_json(const uint8_t *in, size_t len, uint8_t *out, size_t room, size_t *written);
+
+/* ---- rules
+ *
+ * These calls decode an object by the grammar alone, as under X509_RAW, and write which rules it breaks that no grammar has: those on certificates and CRLs
+ * (RFC 5280) and on CSRs (RFC 2986, 2985) that docs/RULES.md lists, in UTF-8 (no zero at the end). There is a line for each rule that is broken, in the order of
+ * the rules, an object of JSON (RFC 8259) such as
+ *
+ *     {"object": "certificate", "rule": "serial_number_not_positive", "severity": "error", "section": "RFC 5280 4.1.2.2",
+ *      "place": "tbsCertificate.serialNumber", "seen": "00"}
+ *
+ * in one line, with a line feed at its end; where no rule is broken, nothing. The severity is "error" where the standard says MUST or has a size or a type,
+ * "warning" where it says SHOULD, and "not judged" where it allows what isn't read here. `seen` is empty where nothing is told of what stands at the place.
+ * X509_OVERLENGTH exactly where the input is too long; within that length X509_MALFORMED exactly where it is the encoding of no such object.
+ *
+ * Buffers are as said under whole values; and a buffer is unchanged after each status but X509_OK.
+ * Answers X509_OK, X509_ROOM, X509_MEMORY, X509_OVERLENGTH, X509_MALFORMED. */
+x509_status x509_certificate_lint(const uint8_t *in, size_t len, uint8_t *out, size_t room, size_t *written);
+x509_status x509_crl_lint(const uint8_t *in, size_t len, uint8_t *out, size_t room, size_t *written);
+x509_status x509_request_lint(const uint8_t *in, size_t len, uint8_t *out, size_t room, size_t *written);
+
+/* The texts of a finding, without their quotation marks. */
+typedef struct {
+    x509_span object;   /* what the object is called: "certificate", "crl" or "csr" */
+    x509_span rule;     /* the name of the rule */
+    x509_span severity; /* "error", "warning" or "not judged" */
+    x509_span section;  /* the standard and its section, as "RFC 5280 4.1.2.2" */
+    x509_span place;    /* where in the object the rule is broken, in the field names of the standard */
+    x509_span seen;     /* what is seen there, in hex; of no bytes where nothing is told */
+} x509_finding;
+
+/* The findings of such lines, one after the other: where the texts of one stand. `*at` is 0 to begin, and is moved behind the line. X509_ABSENT at the end of the
+ * lines, so at once where no rule is broken. X509_MALFORMED where no line of these members, without a quotation mark in a text, stands at `*at`, or where `*at` is
+ * behind the end; so bytes that no call wrote do no harm. It takes no memory.
+ * Answers X509_OK, X509_MALFORMED, X509_ABSENT. */
+x509_status x509_finding_next(const uint8_t *lines, size_t len, size_t *at, x509_finding *found);
 
 /* ---- signed certificate timestamps, SCTs */
 

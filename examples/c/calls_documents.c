@@ -262,6 +262,110 @@ static void long_serial_number(void)
     WANT(written > sizeof begins && memcmp(room, begins, sizeof begins - 1) == 0);
 }
 
+/* ---- rules */
+
+#define FINDING(object, rule, severity, section, place, seen)                                                                                            \
+    "{\"object\": \"" object "\", \"rule\": \"" rule "\", \"severity\": \"" severity "\", \"section\": \"" section "\", \"place\": \"" place              \
+    "\", \"seen\": \"" seen "\"}\n"
+
+/* A certificate of an authority for a subject, which breaks no rule: number 1, from 2026-01-02 for a year, with AKI, SKI and KeyUsage, the latter critical. Its number is
+ * the octet at NUMBER. */
+static const char CERTIFICATE[] =
+    "\x30\x82\x01\x14\x30\x81\xfa\xa0\x03\x02\x01\x02\x02\x01\x01\x30\x0a\x06\x08\x2a\x86\x48\xce\x3d\x04\x03\x02\x30\x17\x31\x15\x30"
+    "\x13\x06\x03\x55\x04\x03\x0c\x0c\x41\x6e\x20\x61\x75\x74\x68\x6f\x72\x69\x74\x79\x30\x1e\x17\x0d\x32\x36\x30\x31\x30\x32\x30\x33"
+    "\x30\x34\x30\x35\x5a\x17\x0d\x32\x37\x30\x31\x30\x32\x30\x33\x30\x34\x30\x35\x5a\x30\x14\x31\x12\x30\x10\x06\x03\x55\x04\x03\x0c"
+    "\x09\x41\x20\x73\x75\x62\x6a\x65\x63\x74\x30\x59\x30\x13\x06\x07\x2a\x86\x48\xce\x3d\x02\x01\x06\x08\x2a\x86\x48\xce\x3d\x03\x01"
+    "\x07\x03\x42\x00\x04\x00\x00\x00\x00\x00\x00\x00\x00\x00\x00\x00\x00\x00\x00\x00\x00\x00\x00\x00\x00\x00\x00\x00\x00\x00\x00\x00"
+    "\x00\x00\x00\x00\x00\x00\x00\x00\x00\x00\x00\x00\x00\x00\x00\x00\x00\x00\x00\x00\x00\x00\x00\x00\x00\x00\x00\x00\x00\x00\x00\x00"
+    "\x00\x00\x00\x00\x00\xa3\x3a\x30\x38\x30\x14\x06\x03\x55\x1d\x23\x04\x0d\x30\x0b\x80\x09\x61\x75\x74\x68\x6f\x72\x69\x74\x79\x30"
+    "\x10\x06\x03\x55\x1d\x0e\x04\x09\x04\x07\x73\x75\x62\x6a\x65\x63\x74\x30\x0e\x06\x03\x55\x1d\x0f\x01\x01\xff\x04\x04\x03\x02\x07"
+    "\x80\x30\x0a\x06\x08\x2a\x86\x48\xce\x3d\x04\x03\x02\x03\x09\x00\x30\x06\x02\x01\x01\x02\x01\x02";
+enum { NUMBER = 14 };
+
+/* The object breaks none of the rules. */
+static void want_nothing(const char *what, write_call lint, const uint8_t *bytes, size_t len)
+{
+    room[0] = 0x5a;
+    written = 77;
+    want(what, lint(bytes, len, room, sizeof room, &written) == X509_OK && written == 0);
+    written = 77;
+    want(what, lint(bytes, len, NULL, 0, &written) == X509_OK && written == 0);
+}
+
+/* The certificate of the files is its own issuer's, so that it needs no AKI, and has no SKI (RFC 5280 4.2.1.1, 4.2.1.2); the CRL has neither AKI nor a number (5.2.1, 5.2.3). */
+static void rules(void)
+{
+    static const char of_certificate[] =
+        FINDING("certificate", "subject_key_identifier_absent", "warning", "RFC 5280 4.2.1.2", "tbsCertificate.extensions.subjectKeyIdentifier", "");
+    static const char of_list[] = FINDING("crl", "authority_key_identifier_absent", "error", "RFC 5280 5.2.1", "tbsCertList.crlExtensions.authorityKeyIdentifier", "")
+        FINDING("crl", "crl_number_absent", "error", "RFC 5280 5.2.3", "tbsCertList.crlExtensions.cRLNumber", "");
+    /* the password is a UTF8String, which a PrintableString could hold */
+    static const char of_request[] =
+        FINDING("csr", "challenge_password_type", "warning", "RFC 2985 5.4.1", "certificationRequestInfo.attributes.challengePassword", "");
+    static const char of_number[] =
+        FINDING("certificate", "serial_number_not_positive", "error", "RFC 5280 4.1.2.2", "tbsCertificate.serialNumber", "00");
+    want_document("the rules of a certificate", x509_certificate_lint, certificate, certificate_len, of_certificate, sizeof of_certificate - 1);
+    want_document("the rules of a CRL", x509_crl_lint, list, list_len, of_list, sizeof of_list - 1);
+    want_document("the rules of a CSR", x509_request_lint, request, request_len, of_request, sizeof of_request - 1);
+    uint8_t own[sizeof CERTIFICATE - 1];
+    memcpy(own, CERTIFICATE, sizeof own);
+    want_nothing("a certificate that breaks no rule", x509_certificate_lint, own, sizeof own);
+    own[NUMBER] = 0;
+    want_document("a certificate whose number is 0", x509_certificate_lint, own, sizeof own, of_number, sizeof of_number - 1);
+    refused(x509_certificate_lint, x509_certificate_lint, list, list_len);
+    refused(x509_certificate_lint, x509_certificate_lint, certificate, certificate_len - 1);
+    refused(x509_crl_lint, x509_crl_lint, certificate, certificate_len);
+    refused(x509_crl_lint, x509_crl_lint, nothing, 0);
+    refused(x509_request_lint, x509_request_lint, list, list_len);
+    refused(x509_request_lint, x509_request_lint, BYTES("\x30\x00"));
+}
+
+static int is_text(const char *lines, x509_span part, const char *text)
+{
+    return part.len == strlen(text) && memcmp(lines + part.place, text, part.len) == 0;
+}
+
+/* A text that stands in the source, with its length. */
+#define BYTES_OF(text) text, sizeof(text) - 1
+
+static const x509_finding UNFOUND = {{7, 7}, {7, 7}, {7, 7}, {7, 7}, {7, 7}, {7, 7}};
+
+/* No finding stands at the place, and nothing is changed. */
+static void want_no_finding(const char *lines, size_t len, size_t place, x509_status status)
+{
+    x509_finding found = UNFOUND;
+    size_t at = place;
+    want(lines, x509_finding_next((const uint8_t *)lines, len, &at, &found) == status && at == place && memcmp(&found, &UNFOUND, sizeof found) == 0);
+}
+
+static void findings(void)
+{
+    static const char lines[] = FINDING("a", "b", "error", "RFC 5280 4.1", "c.d", "") FINDING("", "", "", "", "", "00..");
+    const size_t len = sizeof lines - 1, second = sizeof FINDING("a", "b", "error", "RFC 5280 4.1", "c.d", "") - 1;
+    const uint8_t *const bytes = (const uint8_t *)lines;
+    x509_finding found = UNFOUND;
+    size_t at = 0;
+    WANT(x509_finding_next(bytes, len, &at, &found) == X509_OK && at == second);
+    WANT(is_at(found.object, 12, 1) && is_text(lines, found.object, "a") && is_text(lines, found.rule, "b") && is_text(lines, found.severity, "error"));
+    WANT(is_text(lines, found.section, "RFC 5280 4.1") && is_text(lines, found.place, "c.d") && is_at(found.seen, second - 3, 0));
+    WANT(x509_finding_next(bytes, len, &at, &found) == X509_OK && at == len);
+    WANT(is_at(found.object, second + 12, 0) && is_at(found.rule, second + 24, 0) && is_text(lines, found.seen, "00.."));
+    want_no_finding(lines, len, len, X509_ABSENT);
+    want_no_finding(lines, len, len + 1, X509_MALFORMED);
+    want_no_finding(lines, len, SIZE_MAX, X509_MALFORMED);
+    want_no_finding(lines, len, 1, X509_MALFORMED);
+    want_no_finding(lines, len - 1, second, X509_MALFORMED);
+    want_no_finding("", 0, 0, X509_ABSENT);
+    at = 0;
+    WANT(x509_finding_next(NULL, 0, &at, &found) == X509_ABSENT && at == 0);
+    /* a quotation mark in a text, a member too many, another order, a line without its end */
+    want_no_finding(BYTES_OF(FINDING("a\"", "b", "error", "c", "d", "")), 0, X509_MALFORMED);
+    want_no_finding(BYTES_OF(FINDING("a", "b", "error", "c", "d", "\", \"e\": \"")), 0, X509_MALFORMED);
+    want_no_finding(BYTES_OF("{\"rule\": \"b\"}\n"), 0, X509_MALFORMED);
+    for (size_t shorter = 0; shorter < second; shorter++)
+        want_no_finding(lines, shorter, 0, shorter == 0 ? X509_ABSENT : X509_MALFORMED);
+}
+
 static void refusals(void)
 {
     for (size_t kind = 0; kind < 8; kind += 2) {
@@ -290,6 +394,8 @@ int main(int argc, char **argv)
     requests();
     forged_lines();
     long_serial_number();
+    rules();
+    findings();
     refusals();
     return ended();
 }

@@ -122,6 +122,12 @@ static void names(void)
     WANT(x509_subject_directory_attributes_next(BYTES(attributes), &at, &attribute) == X509_ABSENT && at == 14 && is_at(attribute.oid, 6, 3));
 }
 
+/* The content octets of AlgorithmIdentifiers, or of what they begin with (RFC 3279 2.3, RFC 4055 1.2, RFC 5480 2.1.1). */
+#define RSA "\x06\x09\x2a\x86\x48\x86\xf7\x0d\x01\x01\x01\x05\x00"
+#define RSA_PSS "\x06\x09\x2a\x86\x48\x86\xf7\x0d\x01\x01\x0a"
+#define DSA "\x06\x07\x2a\x86\x48\xce\x38\x04\x01"
+#define EC "\x06\x07\x2a\x86\x48\xce\x3d\x02\x01"
+
 static void keys(void)
 {
     x509_rsa_key rsa = {{7, 7}, {7, 7}, 7};
@@ -144,7 +150,42 @@ static void keys(void)
     WANT(is_at(key.curve, 0, 0) && is_at(key.parameters, 13, 7));
     WANT(x509_key_view(BYTES("\x30\x0e\x30\x09\x06\x07\x2a\x86\x48\xce\x3d\x02\x01\x03\x01\x00"), &key) == X509_OK && is_at(key.curve, 0, 0));
     WANT(x509_key_view(BYTES("\x30\x13\x30\x0e\x06\x09\x2a\x86\x48\x86\xf7\x0d\x01\x01\x01\x06\x01\x2a\x03\x01\x00"), &key) == X509_OK);
-    WANT(key.kind == X509_KEY_RSA && is_at(key.curve, 0, 0));
+    WANT(key.kind == X509_KEY_RSA && is_at(key.curve, 0, 0) && key.size == 0);
+}
+
+/* A key of the algorithm, whose content octets these are, and of these bits: its size. */
+static uint32_t key_size(const uint8_t *algorithm, size_t len, const uint8_t *bits, size_t bits_len)
+{
+    x509_key key = {.size = 7};
+    room[0] = room[2] = 0x30;
+    room[1] = (uint8_t)(len + bits_len + 5);
+    room[3] = (uint8_t)len;
+    memcpy(room + 4, algorithm, len);
+    memcpy(room + 4 + len, "\x03\x00\x00", 3);
+    room[5 + len] = (uint8_t)(bits_len + 1);
+    memcpy(room + 7 + len, bits, bits_len);
+    WANT(x509_key_view(room, len + bits_len + 7, &key) == X509_OK);
+    return key.size;
+}
+
+/* Of the sizes those of curves are SEC 2's and RFC 5639's, and of the others RFC 8032's and RFC 7748's. */
+static void key_sizes(void)
+{
+    static const uint8_t modulus[] = "\x30\x07\x02\x02\x01\x00\x02\x01\x03";
+    WANT(key_size(BYTES(RSA), BYTES(modulus)) == 9 && key_size(BYTES(RSA_PSS), BYTES(modulus)) == 9);
+    WANT(key_size(BYTES(RSA), BYTES("\x30\x06\x02\x01\x00\x02\x01\x03")) == 0 && key_size(BYTES(RSA), BYTES("\x30\x03\x02\x01\x33")) == 0);
+    WANT(key_size(BYTES(RSA), nothing, 0) == 0 && key_size(BYTES(RSA), BYTES("\x30\x09\x02\x01\x33\x02\x01\x03\x02\x01\x05")) == 0);
+    /* a prime of 9 bits, no parameters, and numbers that aren't three */
+    WANT(key_size(BYTES(DSA "\x30\x0a\x02\x02\x01\x01\x02\x01\x05\x02\x01\x02"), BYTES("\x02\x01\x03")) == 9);
+    WANT(key_size(BYTES(DSA), BYTES("\x02\x01\x03")) == 0 && key_size(BYTES(DSA "\x30\x03\x02\x01\x17"), BYTES("\x02\x01\x03")) == 0);
+    WANT(key_size(BYTES(EC "\x06\x08\x2a\x86\x48\xce\x3d\x03\x01\x07"), nothing, 0) == 256);
+    WANT(key_size(BYTES(EC "\x06\x05\x2b\x81\x04\x00\x22"), nothing, 0) == 384 && key_size(BYTES(EC "\x06\x05\x2b\x81\x04\x00\x23"), nothing, 0) == 521);
+    WANT(key_size(BYTES(EC "\x06\x05\x2b\x81\x04\x00\x0a"), nothing, 0) == 256 && key_size(BYTES(EC "\x06\x05\x2b\x81\x04\x00\x21"), nothing, 0) == 224);
+    WANT(key_size(BYTES(EC "\x06\x09\x2b\x24\x03\x03\x02\x08\x01\x01\x0d"), nothing, 0) == 512);
+    WANT(key_size(BYTES(EC "\x04\x05\x2b\x81\x04\x00\x22"), nothing, 0) == 0 && key_size(BYTES(EC), nothing, 0) == 0);
+    WANT(key_size(BYTES("\x06\x03\x2b\x65\x70"), nothing, 0) == 256 && key_size(BYTES("\x06\x03\x2b\x65\x71"), nothing, 0) == 456);
+    WANT(key_size(BYTES("\x06\x03\x2b\x65\x6e"), nothing, 0) == 256 && key_size(BYTES("\x06\x03\x2b\x65\x6f"), nothing, 0) == 448);
+    WANT(key_size(BYTES("\x06\x03\x55\x04\x03"), nothing, 0) == 0);
 }
 
 /* The unique identifiers abf (12 bits) and none of the bits, put behind the key of a certificate (RFC 5280 4.1). */
@@ -252,6 +293,7 @@ int main(int argc, char **argv)
     moments();
     names();
     keys();
+    key_sizes();
     unique_identifiers();
     constants();
     return ended();

@@ -6,7 +6,7 @@
 /* A key with an algorithm, which is the whole AlgorithmIdentifier, and no bits: its kind. */
 static uint32_t key_kind(const uint8_t *algorithm, size_t len)
 {
-    x509_key key = {77, {7, 7}, {7, 7}, {7, 7}, 7, {7, 7}};
+    x509_key key = {77, {7, 7}, {7, 7}, {7, 7}, 7, {7, 7}, 7};
     room[0] = 0x30;
     room[1] = (uint8_t)(len + 3);
     memcpy(room + 2, algorithm, len);
@@ -25,8 +25,8 @@ static uint32_t signature_kind(const uint8_t *algorithm, size_t len)
 /* The OIDs are those of RFC 3279, RFC 4055, RFC 5480, RFC 5758 and RFC 8410. */
 static void keys(void)
 {
-    x509_key key = {77, {7, 7}, {7, 7}, {7, 7}, 7, {7, 7}};
-    WANT(x509_key_view(nothing, 0, &key) == X509_MALFORMED && key.kind == 77 && key.unused_bits == 7);
+    x509_key key = {77, {7, 7}, {7, 7}, {7, 7}, 7, {7, 7}, 7};
+    WANT(x509_key_view(nothing, 0, &key) == X509_MALFORMED && key.kind == 77 && key.unused_bits == 7 && key.size == 7);
     WANT(x509_key_view(request + 83, 90, &key) == X509_MALFORMED && key.kind == 77 && is_at(key.bits, 7, 7));
     WANT(x509_key_view(request + 83, 91, &key) == X509_OK && key.kind == X509_KEY_EC_P256);
     WANT(is_at(key.oid, 6, 7) && is_at(key.parameters, 13, 10) && is_at(key.bits, 26, 65) && key.unused_bits == 0);

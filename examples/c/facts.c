@@ -675,55 +675,6 @@ static x509_status add_extensions(lines *to, octets list)
 
 /* ---- keys */
 
-static size_t bits_of(octets number)
-{
-    while (number.len > 0 && number.bytes[0] == 0)
-        number = (octets){number.bytes + 1, number.len - 1};
-    size_t bits = 8 * number.len;
-    for (uint8_t first = number.len > 0 ? number.bytes[0] : 0x80; first < 0x80; first = (uint8_t)(first << 1))
-        bits--;
-    return bits;
-}
-
-static const size_t UNKNOWN = SIZE_MAX;
-
-/* The size of a DSA key: that of the first of the three numbers of its parameters (RFC 3279 2.3.2); unknown where they aren't these. */
-static size_t prime_bits(octets parameters)
-{
-    x509_span number;
-    x509_status status;
-    size_t bits = 0, count = 0;
-    EACH(x509_numbers_next, parameters, number)
-        if (count++ == 0)
-            bits = bits_of(part_of(parameters, number));
-    return status == X509_ABSENT && count == 3 ? bits : UNKNOWN;
-}
-
-/* The size of a key in bits, where its numbers can be read, or its curve is one of NIST's. */
-static size_t size_of(octets info, const x509_key *key, const x509_rsa_key *numbers)
-{
-    switch (key->kind) {
-    case X509_KEY_RSA:
-    case X509_KEY_RSA_PSS:
-        return numbers == NULL ? UNKNOWN : numbers->modulus_bits;
-    case X509_KEY_DSA:
-        return is_there(key->parameters) ? prime_bits(part_of(info, key->parameters)) : UNKNOWN;
-    case X509_KEY_EC_P256:
-        return 256;
-    case X509_KEY_EC_P384:
-        return 384;
-    case X509_KEY_EC_P521:
-        return 521;
-    case X509_KEY_ED25519:
-    case X509_KEY_ED448:
-    case X509_KEY_X25519:
-    case X509_KEY_X448:
-        return 8 * key->bits.len;
-    default:
-        return UNKNOWN;
-    }
-}
-
 static x509_status add_key(lines *to, octets info)
 {
     x509_key key;
@@ -734,13 +685,12 @@ static x509_status add_key(lines *to, octets info)
     const octets bits = part_of(info, key.bits);
     const int is_rsa = key.kind == X509_KEY_RSA || key.kind == X509_KEY_RSA_PSS;
     const int is_read = is_rsa && x509_rsa_key_view(bits.bytes, bits.len, &numbers) == X509_OK;
-    const size_t size = size_of(info, &key, is_read ? &numbers : NULL);
     add(to, "key: ");
     add_oid(to, part_of(info, key.oid));
-    if (size == UNKNOWN)
+    if (key.size == 0)
         add(to, ", none bits\n");
     else
-        add(to, ", %zu bits\n", size);
+        add(to, ", %" PRIu32 " bits\n", key.size);
     if (is_read) {
         add(to, "modulus: ");
         add_text(to, x509_serial_text, part_of(bits, numbers.modulus));

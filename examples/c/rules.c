@@ -65,12 +65,13 @@ static int is_decode(x509_status status)
 #define ALGORITHM "\x30\x03\x06\x01\x2a"
 #define KEY "\x30\x08" ALGORITHM "\x03\x01\x00"
 
-/* Each call that writes a document, with these bytes, gives that status, and leaves the buffer and `written`. */
+/* Each call that writes a document or rules, with these bytes, gives that status, and leaves the buffer and `written`. */
 static void refused_documents(const uint8_t *bytes, size_t len, x509_status status)
 {
     static x509_status (*const calls[])(const uint8_t *, size_t, uint8_t *, size_t, size_t *) = {
         x509_certificate_text, x509_certificate_json, x509_crl_text,    x509_crl_json,
         x509_request_text,     x509_request_json,     x509_anchor_text, x509_anchor_json,
+        x509_certificate_lint, x509_crl_lint,         x509_request_lint,
     };
     for (size_t at = 0; at < sizeof calls / sizeof *calls; at++) {
         written = 77;

@@ -66,13 +66,13 @@ def unique_id(what: str, found: x509.UniqueIdentifier | None) -> Iterator[str]:
 
 
 def key_facts(key: x509.PublicKey) -> Iterator[str]:
-    """The size isn't said where the numbers of a key can't be read, or its curve isn't one of NIST's."""
+    """The numbers aren't said where they can't be read."""
     is_rsa = key.kind in (x509.KeyKind.rsa, x509.KeyKind.rsa_pss)
     try:
-        size, numbers = None if key.kind == x509.KeyKind.ec_other else key.key_size, (key.modulus, key.exponent)
+        numbers = (key.modulus, key.exponent)
     except x509.X509Error:
-        size, numbers = None, (None, None)
-    yield f"key: {key.algorithm_oid.dotted_string}, {'none' if size is None else size} bits"
+        numbers = (None, None)
+    yield f"key: {key.algorithm_oid.dotted_string}, {'none' if key.key_size is None else key.key_size} bits"
     yield from (f"{what}: {octets_of(number)}" for what, number in zip(("modulus", "exponent"), numbers) if number is not None)
     if key.curve_oid is not None:
         yield f"curve: {key.curve_oid.dotted_string}"

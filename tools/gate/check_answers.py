@@ -30,6 +30,7 @@ TELLS_NONE = {
     "x509_time_from_text": "X509_FAILED is its one refusal",
     "x509_may_sign_crls": "may_sign_crls of x509_c_calls, which it is, has a clause that says so",
     "x509_timestamp_next": "X509_MALFORMED is its one refusal",
+    "x509_finding_next": "X509_MALFORMED is its one refusal",
     "x509_extended_key_usage_next": "an object identifier wants no memory",
     "x509_policy_mappings_next": "a pair of object identifiers wants no memory",
 }

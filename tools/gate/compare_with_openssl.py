@@ -389,7 +389,7 @@ def is_sized(shown, text):
     """Whether x509_show has to print a size of the key.
 
     openssl takes an INTEGER of RSA that is negative for one without a sign, and one with a superfluous octet (X.690 8.3.2)."""
-    if shown.fields["key algorithm"] == "rsaEncryption":
+    if shown.fields["key algorithm"] in ("rsaEncryption", "id-RSASSA-PSS"):
         key, exponent = shown.fields["key"], int(re.search(r"Exponent: (\d+)", text)[1])
         octets = exponent.to_bytes((exponent.bit_length() + 7) // 8, "big")
         is_wrong = re.match(r"30(?:81..|82....|[0-7].)02(?:81..|82....|[0-7].)(?:[89a-f]|00[0-7])", key) or (
@@ -402,7 +402,7 @@ def is_sized(shown, text):
 def pairs_of_algorithms(shown, text):
     """What the two say of the algorithm of the signature, in the signed part where openssl prints it, and behind it, and where there is one, of the key.
 
-    x509_show prints the size of keys of RSA, of RFC 8410, and on the curves that it knows by name."""
+    x509_show prints the size of keys of RSA, of DSA with parameters, of RFC 8410, and on the curves that it knows by name."""
     pairs, algorithms = [], re.findall(r"^ *Signature Algorithm: (.*\S)", text, flags=re.MULTILINE)
     for label, algorithm in zip(("algorithm", "signature algorithm")[2 - len(algorithms) :], algorithms):
         mine = shown.fields[label]

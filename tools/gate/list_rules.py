@@ -1,6 +1,6 @@
 #!/usr/bin/env python3
-"""Makes docs/RULES.md: what RFC 5280 says MUST or SHOULD hold of certificates and CRLs, and RFC 2986 and RFC 2985 of CSRs, by section, with the rule of
-x509_lint that tells where it is broken, or why none does.
+"""Makes docs/RULES.md: what RFC 5280 says MUST or SHOULD hold of certificates and CRLs, RFC 2986 and RFC 2985 of CSRs, and RFC 5914 of trust anchors, by
+section, with the rule of x509_lint that tells where it is broken, or why none does.
 
 The sentences and their answers stand in tools/data/rfc5280.txt; the rules, and how bad it is to break each, are taken from the code,
 crates/x509_lint/src/rule. With `--check` it fails where a rule of the code stands in no line of the sentences, where its docs don't say its section,
@@ -30,24 +30,25 @@ HEAD = """# What RFC 5280 says, and the rules of `x509_lint`
 
 `tools/gate/list_rules.py` makes this page of `tools/data/rfc5280.txt` and of the rules in `crates/x509_lint/src/rule`. Each line has what a section of RFC 5280, or of another standard that is named,
 says MUST or SHOULD hold, in our own words, and the rule that tells where it is broken, or why there is none. GRAMMAR stands for a size or a type of the ASN.1. Whether a rule is broken is a definition of `crates/x509_lint/specs`, in the
-file of its group, and `lint_certificate`, `lint_crl` and `lint_request` are proved to find it exactly there; what was seen is said at the rule in the code. Why there is none:
+file of its group, and `lint_certificate`, `lint_crl`, `lint_request` and `lint_anchor` are proved to find it exactly there; what was seen is said at the rule in the code. Why there is none:
 
 """
 
 
 class Rules(dict):
-    """The rules of the code, by what the lines call them: `name` of a certificate's, `crl:name` of a CRL's, `csr:name` of a CSR's."""
+    """The rules of the code, by what the lines call them: `name` of a certificate's, `crl:name` of a CRL's, `csr:name` of a CSR's, `anchor:name` of an anchor's."""
 
     def __init__(self):
         super().__init__()
         for path in sorted(RULES.glob("*.rt")):
-            self.update(rules_of(path))
+            self.update(rules_of(path, OWNERS.get(path.stem, "")))
+        self.update(rules_of(RULES / "constraint.rt", "anchor:"))  # AnchorRule has those on name constraints as they are
 
 
-OWNERS = {"crl_entry": "crl:", "crl_extension": "crl:", "crl_field": "crl:", "request": "csr:"}
+OWNERS = {"crl_entry": "crl:", "crl_extension": "crl:", "crl_field": "crl:", "request": "csr:", "anchor": "anchor:"}
 
 
-def rules_of(path):
+def rules_of(path, owner):
     """The rules of a group: for each its severity, its standard, its section and its docs."""
     text = path.read_text()
     said = re.findall(r"((?:    ///[^\n]*\n)+)    (\w+)(?:\(\w+\))?,\n", text)
@@ -55,7 +56,7 @@ def rules_of(path):
     for variant, severity, other, given in re.findall(r"::(\w+)(?:\(\w+\))? => (must|should|not_judged)(_of)?\(([^;]*?)\),\n", text):
         texts = re.findall(r'"([^"]*)"', given)
         standard, name, section = texts[:3] if other else ("RFC 5280", *texts[:2])
-        yield OWNERS.get(path.stem, "") + name, (SEVERITIES[severity], f"{standard} {section}", docs.get(variant, ""))
+        yield owner + name, (SEVERITIES[severity], f"{standard} {section}", docs.get(variant, ""))
 
 
 def sections():

@@ -165,6 +165,7 @@ if has python3 "hostile payloads, the rows, the snippets of README.md, the names
     python3 -B "$gate/check_type_checks.py" || failed=1
     python3 -B "$gate/check_seen.py" || failed=1
     python3 -B "$gate/list_rules.py" --check || failed=1
+    python3 -B "$gate/list_web_rules.py" --check || failed=1
     python3 -B "$gate/check_version.py" || failed=1
     python3 -B "$gate/test_first_command.py" real || failed=1
     python3 -B "$robustness/hostile_payloads.py" "$folder/hostile"
@@ -186,7 +187,9 @@ program() {
     fi
 }
 
-if has python3 "certificates and CRLs that break a rule, hostile texts in x509_show, and x509_show beside openssl"; then
+if has python3 "spoilt rows, certificates and CRLs that break a rule, hostile texts in x509_show, and x509_show beside openssl"; then
+    program x509_test_rows
+    python3 -B "$robustness/spoil_rows.py" --places 8 "$top/crates/x509_test_rows/out/x509_test_rows" || failed=1
     program x509_linter
     python3 -B "$gate/test_linter.py" "$top/crates/x509_linter/out/x509_linter" || failed=1
     program x509_show
@@ -200,8 +203,9 @@ fi
 
 has "${CC:-cc}" "all callers" || exit "$failed"
 "$top/tools/build/link_c_library.sh" "$folder"
+of_package=(env X509_LIBRARY="$folder/libx509.so" PYTHONPATH="$top/bindings/python/src" python3 -B)
 if [ -d "$folder/hostile" ]; then
-    python3 -B "$top/examples/python/payloads.py" "$folder/libx509.so" "$folder/hostile/spoilt" >"$folder/hostile/spoilt.txt"
+    "${of_package[@]}" "$top/examples/python/payloads.py" "$folder/hostile/spoilt" >"$folder/hostile/spoilt.txt"
 fi
 [ ! -d "$folder/paths" ] || python3 -B "$robustness/spoil_paths.py" "$folder/paths" "$folder/spoilt" "$folder/libx509.so" || failed=1
 
@@ -361,22 +365,20 @@ test_serde() {
 }
 
 if has cargo "the caller in Rust"; then
-    X509_LIBRARY=$folder CARGO_TARGET_DIR=$folder/target cargo build -q --offline --manifest-path "$top/examples/rust/Cargo.toml"
-    show "Rust" "$folder/target/debug/show"
-    hostile "Rust" "$folder/target/debug/show"
-    payloads "Rust" "$folder/target/debug/payloads"
-    # Python's interpreter isn't run so: the library that it calls is the one whose memory is watched here and above.
-    if has valgrind "Rust under valgrind"; then
-        hostile "Rust under valgrind" "${watched[@]}" "$folder/target/debug/show"
-        payloads "Rust under valgrind" "${watched[@]}" "$folder/target/debug/payloads"
-    fi
     export X509_LIBRARY=$folder CARGO_TARGET_DIR=$folder/target
-    run_tests "Rust, the tests of the wrapper" cargo test -q --offline --manifest-path "$top/examples/rust/Cargo.toml"
     run_tests "Rust, the tests of the crate" cargo test -q --offline --manifest-path "$top/bindings/rust/Cargo.toml"
     test_watched
     test_serde
     cargo build -q --offline --examples --manifest-path "$top/bindings/rust/Cargo.toml"
     examples=$folder/target/debug/examples
+    show "Rust" "$examples/show"
+    hostile "Rust" "$examples/show"
+    payloads "Rust" "$examples/payloads"
+    # Python's interpreter isn't run so: the library that it calls is the one whose memory is watched here and above.
+    if has valgrind "Rust under valgrind"; then
+        hostile "Rust under valgrind" "${watched[@]}" "$examples/show"
+        payloads "Rust under valgrind" "${watched[@]}" "$examples/payloads"
+    fi
     facts "Rust" "$examples/facts"
     wants "Rust, a name of values" 0 "$folder/name.txt" "$examples/name" C US O 'Haus, Hof + Söhne' CN 'a,O=Evil'
     wants "Rust, a country of three letters" 1 "$folder/nothing" "$examples/name" C USA CN a
@@ -390,11 +392,10 @@ if has cargo "the caller in Rust"; then
 fi
 
 if has python3 "the caller in Python, and wide and deep values"; then
-    show "Python" python3 -B "$top/examples/python/show.py" "$folder/libx509.so"
-    hostile "Python" python3 -B "$top/examples/python/show.py" "$folder/libx509.so"
-    payloads "Python" python3 -B "$top/examples/python/payloads.py" "$folder/libx509.so"
-    paths paths "Python" python3 -B "$top/examples/python/path.py" "$folder/libx509.so"
-    of_package=(env X509_LIBRARY="$folder/libx509.so" PYTHONPATH="$top/bindings/python/src" python3 -B)
+    show "Python" "${of_package[@]}" "$top/examples/python/show.py"
+    hostile "Python" "${of_package[@]}" "$top/examples/python/show.py"
+    payloads "Python" "${of_package[@]}" "$top/examples/python/payloads.py"
+    paths paths "Python" "${of_package[@]}" "$top/examples/python/path.py"
     facts "Python" "${of_package[@]}" "$top/examples/python/facts.py"
     if [ -d "$folder/stated" ]; then
         programs=("$folder/facts" "${of_package[*]} $top/examples/python/facts.py")

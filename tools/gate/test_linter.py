@@ -1,5 +1,6 @@
 #!/usr/bin/env python3
-"""Runs x509_linter over certificates, CRLs and CSRs that break one rule each, and over ones that break none.
+"""Runs x509_linter over certificates, CRLs, CSRs and trust anchors that break one rule each, and over ones that break none, and with `--web` over those of
+web_cases.py, where Python's cryptography is installed.
 
 What is to be printed of each is stated here by hand, from the sections that the lines name. With `--write FOLDER` the objects are
 written there too, as NAME.der.
@@ -90,7 +91,7 @@ ATTRIBUTES = sequence(sequence(object_identifier(1, 3, 6, 1, 5, 5, 7, 9, 4), set
 # ---- objects
 
 
-def certificate(
+def tbs_certificate(
     version=context(0, integer(2)),
     serial=integer(1),
     inner=ECDSA_SHA256,
@@ -99,11 +100,15 @@ def certificate(
     subject=SUBJECT,
     unique=b"",
     extensions=LEAF,
-    outer=ECDSA_SHA256,
 ):
-    """A certificate (RFC 5280 4.1); with `extensions=None` it has none."""
+    """The signed part of a certificate (RFC 5280 4.1.2); with `extensions=None` it has none."""
     behind = b"" if extensions is None else context(3, sequence(*extensions))
-    return sequence(sequence(version, serial, inner, issuer, dates, subject, KEY, unique, behind), outer, SIGNATURE)
+    return sequence(version, serial, inner, issuer, dates, subject, KEY, unique, behind)
+
+
+def certificate(outer=ECDSA_SHA256, **fields):
+    """A certificate (RFC 5280 4.1) of a signed part with these fields."""
+    return sequence(tbs_certificate(**fields), outer, SIGNATURE)
 
 
 CRL_AKI, CRL_NUMBER = AKI, ce(20, integer(7))
@@ -440,7 +445,12 @@ def policy_rules():
     for char in (b"\0", b"\n", b"\x1f", b"\x7f"):
         yield leaf_with(with_text(element(UTF8_STRING, b"a" + char))), [warning("explicit_text_control", "4.2.1.4")]
         yield leaf_with(with_text(element(IA5_STRING, char + b"a"))), [*ia5, warning("explicit_text_control", "4.2.1.4")]
-    yield leaf_with(with_text(element(UTF8_STRING, "a ~ä".encode()))), []
+    for code in (0x80, 0x9F):
+        yield leaf_with(with_text(element(UTF8_STRING, f"a{chr(code)}".encode()))), [warning("explicit_text_control", "4.2.1.4")]
+    for code in (0, 0x1F, 0x7F, 0x9F):
+        yield leaf_with(with_text(element(BMP_STRING, b"\0a" + bytes((0, code))))), [*old, warning("explicit_text_control", "4.2.1.4")]
+    yield leaf_with(with_text(element(BMP_STRING, b"\x20\xac\0\xa0\x1f\0"))), old
+    yield leaf_with(with_text(element(UTF8_STRING, "a ~ä\u00a0".encode()))), []
     reference = sequence(sequence(element(UTF8_STRING, b"a"), sequence(integer(1))))
     yield leaf_with(ce(32, sequence(sequence(POLICY, sequence(sequence(NOTICE, reference)))))), [warning("notice_reference_present", "4.2.1.4")]
     pointer, other = sequence(CPS, element(IA5_STRING, b"http://example.org/")), sequence(object_identifier(1, 2, 3), NULL)
@@ -516,6 +526,8 @@ def point_rules():
     yield leaf_with(ce(46, sequence(POINT, sequence(context(0, context(0, DNS)))))), [warning("freshest_crl_point_without_uri", "4.2.1.15")]
     yield leaf_with(ce(46, sequence(sequence(context(2, context(4, common_name(b"Another")), DNS))))), [error("freshest_crl_point_issuer_invalid", "4.2.1.15")]
     yield leaf_with(ce(46, sequence(POINT, sequence(context(2, context(4, ISSUER)))))), [error("freshest_crl_point_own_issuer", "4.2.1.15")]
+    yield leaf_with(ce(46, sequence(some, some))), [error("freshest_crl_points_partial", "4.2.1.15")]
+    yield leaf_with(ce(46, sequence(some, POINT))), []
     yield leaf_with(ce(46, sequence(issuer))), []
     yield leaf_with(pe(1, sequence())), [error("authority_info_access_empty", "4.2.2.1")]
     yield ca_with(pe(11, sequence())), [error("subject_info_access_empty", "4.2.2.2")]
@@ -678,10 +690,24 @@ def csr_rules():
         of_standard("warning", "attribute_repeated", "RFC 2986", "4.1")
     ]
     yield csr(attributes=(sequence(UNSTRUCTURED_NAME, set_of()),)), [of_standard("error", "attribute_values_empty", "RFC 2986", "4.1")]
-    one, other = element(UTF8_STRING, b"a"), element(PRINTABLE_STRING, b"b")
+    one, other = element(PRINTABLE_STRING, b"a"), element(PRINTABLE_STRING, b"b")
     yield csr(attributes=(sequence(PASSWORD, set_of(one)),)), []
     yield csr(attributes=(sequence(PASSWORD, set_of(one, other)),)), [of_standard("error", "challenge_password_several_values", "RFC 2985", "5.4.1")]
     yield csr(attributes=(sequence(PASSWORD, set_of(NULL)),)), [of_standard("error", "challenge_password_malformed", "RFC 2985", "5.4.1")]
+    odd_size = [of_standard("error", "challenge_password_size", "RFC 2985", "5.4.1")]
+    euro = "\u20ac".encode()
+    for text, findings in (
+        (element(PRINTABLE_STRING, b"a" * 255), []),
+        (element(PRINTABLE_STRING, b"a" * 256), odd_size),
+        (element(PRINTABLE_STRING), odd_size),
+        (element(UTF8_STRING, euro * 255), []),
+        (element(UTF8_STRING, euro * 256), odd_size),
+        (element(UTF8_STRING, b"a_b"), []),
+        (element(UTF8_STRING, b"a(b"), [of_standard("warning", "challenge_password_type", "RFC 2985", "5.4.1")]),
+        (element(TELETEX_STRING, b"a"), [of_standard("warning", "challenge_password_type", "RFC 2985", "5.4.1")]),
+        (element(BMP_STRING, b"\x20\xac"), [of_standard("warning", "challenge_password_type", "RFC 2985", "5.4.1")]),
+    ):
+        yield csr(attributes=(sequence(PASSWORD, set_of(text)),)), findings
     yield csr(attributes=(sequence(REQUEST, set_of(sequence(KU), sequence(san))),)), [
         of_standard("error", "extension_request_several_values", "RFC 2985", "5.4.2")
     ]
@@ -704,6 +730,121 @@ def csr_rules():
         yield csr(extensions=(ce(17, names),)), [error(rule, "4.2.1.6")]
 
 
+NAME, OTHER_KEY = common_name(b"An anchor"), sequence(EC_P256, bit_string(b"\x04" + bytes(63) + b"\1"))
+
+
+def anchor(key=KEY, key_id=b"subject", title=b"", controls=b"", exts=None, language=b""):
+    """The description of a trust anchor (RFC 5914 2); with `exts=None` it has none."""
+    return context(2, sequence(key, octet_string(key_id), title, controls, b"" if exts is None else context(1, sequence(*exts)), language))
+
+
+def controlled(*fields, name=NAME, **others):
+    """One with controls (RFC 5914 2.5) of a name and these fields."""
+    return anchor(controls=sequence(name, *fields), **others)
+
+
+def content(data):
+    """The content of an element, without its identifier and length octets (X.690 8.1)."""
+    return data[2 + (data[1] & 0x7F if data[1] > 0x7F else 0) :]
+
+
+def of_5914(name, section):
+    return of_standard("error", name, "RFC 5914", section)
+
+
+def anchor_rules():
+    """Trust anchors (RFC 5914 2, 3), their names (RFC 5280 4.1.2.4), policies, name constraints and extensions (4.2)."""
+    yield anchor(), []
+    yield anchor(key_id=b""), []
+    for text, count in ((b"a", 1), (b"a", 64), ("\u20ac".encode(), 64), (b"a", 0), (b"a", 65), ("\u20ac".encode(), 65)):
+        yield anchor(title=element(UTF8_STRING, text * count)), [] if 1 <= count <= 64 else [of_5914("ta_title_size", "2.4")]
+    odd = [of_standard("warning", "ta_title_lang_tag_invalid", "RFC 5914", "2.4")]
+    for tag in (b"en", b"de-CH-1996", b"x-a", b"i-default", b"zh-Hant-TW", b"abcdefgh"):
+        yield anchor(title=element(UTF8_STRING, b"a"), language=implicit(2, tag)), []
+    for tag in (b"", b"en_GB", b"en-", b"-en", b"en--GB", b"abcdefghi", b"de-abcdefghi", "fran\u00e7ais".encode(), b"en US"):
+        yield anchor(title=element(UTF8_STRING, b"a"), language=implicit(2, tag)), odd
+    yield controlled(), []
+    yield controlled(name=sequence()), [of_5914("ta_name_empty", "2.5")]
+    yield controlled(name=sequence(set_of())), [error("ta_name_rdn_empty", "4.1.2.4")]
+    yield controlled(name=sequence(rdn((6, element(UTF8_STRING, b"DE"))))), [error("ta_name_country_name_invalid", "A.1")]
+    yield controlled(name=sequence(rdn((3, element(IA5_STRING, b"a"))))), [error("ta_name_text_type", "A.1")]
+    yield controlled(name=sequence(rdn((3, element(TELETEX_STRING, b"a"))))), [warning("ta_name_text_old_type", "4.1.2.4")]
+    yield controlled(name=common_name(b"\xff")), [error("ta_name_text_characters", "4.1.2.4")]
+    for count, findings in ((0, [error("ta_name_text_size", "A.1")]), (64, []), (65, [error("ta_name_text_size", "A.1")])):
+        yield controlled(name=common_name(b"a" * count)), findings
+    yield from anchor_certificate_rules()
+    yield from anchor_control_rules()
+    yield from anchor_extension_rules()
+    yield from anchors_of_certificates()
+
+
+def anchor_certificate_rules():
+    """The certificate in the controls is the anchor's (RFC 5914 2.5)."""
+
+    def with_certificate(subject=NAME, extensions=LEAF, **others):
+        return controlled(context(0, content(certificate(subject=subject, extensions=extensions))), **others)
+
+    yield with_certificate(), []
+    yield with_certificate(extensions=(AKI, KU)), []
+    yield with_certificate(subject=SUBJECT), [of_5914("certificate_subject_differs", "2.5")]
+    yield with_certificate(subject=sequence(rdn((3, element(PRINTABLE_STRING, b"An anchor"))))), [of_5914("certificate_subject_differs", "2.5")]
+    yield with_certificate(key=OTHER_KEY), [of_5914("certificate_key_differs", "2.5")]
+    yield with_certificate(key_id=b"another"), [of_5914("certificate_key_identifier_differs", "2.5")]
+    yield with_certificate(extensions=(AKI, KU), key_id=b"another"), []
+    yield with_certificate(extensions=(AKI, SKI, SKI, KU), key_id=b"another"), []
+    yield with_certificate(subject=SUBJECT, key=OTHER_KEY, key_id=b""), [
+        of_5914("certificate_subject_differs", "2.5"),
+        of_5914("certificate_key_differs", "2.5"),
+        of_5914("certificate_key_identifier_differs", "2.5"),
+    ]
+
+
+def anchor_control_rules():
+    """Policies (RFC 5280 4.2.1.4, RFC 5914 2.5) and name constraints (RFC 5280 4.2.1.10) of anchors."""
+    one, other = sequence(POLICY), sequence(ANY_POLICY)
+    yield controlled(context(1, one, other)), []
+    yield controlled(context(1)), [error("policy_set_empty", "4.2.1.4")]
+    yield controlled(context(1, one, other, one)), [error("policy_set_repeated", "4.2.1.4")]
+    cps = sequence(object_identifier(1, 3, 6, 1, 5, 5, 7, 2, 1), element(IA5_STRING, b"https://example.org/"))
+    for qualifiers in (sequence(cps), sequence()):
+        yield controlled(context(1, one, sequence(ANY_POLICY, qualifiers))), [of_5914("policy_set_qualifiers", "2.5")]
+    yield controlled(context(3, SUBTREES)), []
+    yield controlled(context(3)), [error("name_constraints_empty", "4.2.1.10")]
+    for number in (0, 1):
+        yield controlled(context(3, context(number))), [error("name_constraints_subtrees_empty", "4.2.1.10")]
+        for base, finding in (
+            (DNS + implicit(0, b"\1"), error("name_constraints_minimum", "4.2.1.10")),
+            (DNS + implicit(1, b"\1"), error("name_constraints_maximum", "4.2.1.10")),
+            (implicit(8, b"\x2a\3"), warning("name_constraints_other_form", "4.2.1.10")),
+            (implicit(6, b"http://example.org"), error("name_constraints_uri_invalid", "4.2.1.10")),
+            (implicit(7, bytes(4)), error("name_constraints_address_length", "4.2.1.10")),
+            (implicit(7, bytes(4) + b"\xff\0\xff\0"), error("name_constraints_address_mask", "4.2.1.10")),
+        ):
+            yield controlled(context(3, context(number, sequence(DNS), sequence(base)))), [finding]
+
+
+def anchor_extension_rules():
+    """The extensions of anchors (RFC 5914 2.6, RFC 5280 4.1.2.9, 4.2)."""
+    yield anchor(exts=(OTHER, CA_KU)), []
+    yield anchor(exts=()), [error("extensions_empty", "4.1.2.9")]
+    yield anchor(exts=(OTHER, OTHER)), [error("extension_repeated", "4.2")]
+    misplaced = {32: "certificate_policies_in_exts", 36: "policy_constraints_in_exts", 54: "inhibit_any_policy_in_exts", 30: "name_constraints_in_exts"}
+    for number, payload in ((32, sequence(sequence(POLICY))), (36, sequence(implicit(0, b"\0"))), (54, integer(0)), (30, sequence(SUBTREES))):
+        yield anchor(exts=(ce(number, payload, True),)), [of_5914(misplaced[number], "2.6")]
+    for number, name in EXTENSIONS:
+        others = [of_5914(misplaced[number], "2.6")] if number in misplaced else []
+        yield anchor(exts=(ce(number, NULL),)), [*others, f"{error('extension_malformed', '4.2')}: taInfo.exts.{name}"]
+    for number, name in ((1, "authorityInfoAccess"), (11, "subjectInfoAccess")):
+        yield anchor(exts=(pe(number, NULL),)), [f"{error('extension_malformed', '4.2')}: taInfo.exts.{name}"]
+
+
+def anchors_of_certificates():
+    """Of a TBSCertificate the rules on certificates (RFC 5914 3)."""
+    yield context(1, tbs_certificate()), []
+    yield context(1, tbs_certificate(serial=integer(0))), [error("serial_number_not_positive", "4.1.2.2")]
+    yield context(1, tbs_certificate(extensions=(*LEAF, ce(31, sequence())))), [error("crl_distribution_points_empty", "4.2.1.13")]
+
+
 CERTIFICATE_RULES = (
     field_rules,
     name_rules,
@@ -719,9 +860,13 @@ CERTIFICATE_RULES = (
     constraint_rules,
     point_rules,
 )
-USAGE = "usage: x509_linter [certificate|crl|csr] [-v|--json] [FILE..]\n"
-NO_OBJECT = "neither a certificate nor a CRL nor a CSR in DER or hex"
-KINDS = {"certificate": "a certificate", "crl": "a CRL", "csr": "a CSR"}
+USAGE = "usage: x509_linter [certificate|crl|csr|anchor] [-v|--json] [FILE..]\n       x509_linter --web MOMENT [FILE..]\n"
+WEB_HELP = """  --web                          tells which rules of the Baseline Requirements of the
+                                 CA/Browser Forum certificates break, of those in force at
+                                 MOMENT, as 2026-03-15T00:00:00Z
+"""
+NO_OBJECT = "not a certificate, CRL, CSR or trust anchor in DER or hex"
+KINDS = {"certificate": "a certificate", "crl": "a CRL", "csr": "a CSR", "anchor": "a trust anchor"}
 
 
 def cases():
@@ -737,6 +882,8 @@ def cases():
             yield f"{rules.__name__} {at}", data, [f"crl: {it}\n" for it in findings]
     for at, (data, findings) in enumerate(csr_rules()):
         yield f"csr_rules {at}", data, [f"csr: {it}\n" for it in findings]
+    for at, (data, findings) in enumerate(anchor_rules()):
+        yield f"anchor_rules {at}", data, [f"anchor: {it}\n" for it in findings]
 
 
 def runs():
@@ -753,9 +900,21 @@ def runs():
     yield "findings, and no more is said", ["-v"], odd, line, 1
     weak, warned = certificate(extensions=(AKI, SKI, ce(15, DIGITAL_SIGNATURE))), "certificate: warning key_usage_not_critical (RFC 5280 4.2.1.3)\n"
     yield "a warning, and no more is said", ["-v"], weak, warned, 0
-    for kind, data in (("certificate", certificate()), ("crl", crl()), ("csr", csr())):
+    for kind, data in (("certificate", certificate()), ("crl", crl()), ("csr", csr()), ("anchor", anchor())):
         yield f"a {kind}, which is asked for", [kind, "-v"], data, "nothing found\n", 0
+    yield "a certificate, which is asked for as an anchor", ["anchor"], odd, line.replace("certificate:", "anchor:"), 1
     yield from json_runs()
+    yield from web_runs()
+
+
+def web_runs():
+    """Runs with `--web` over certificates that break rules of the Baseline Requirements."""
+    try:
+        from web_cases import web_runs as runs_of_cases
+    except ImportError:
+        print("left out, since Python's cryptography isn't installed: the certificates that break rules of the Baseline Requirements")
+    else:
+        yield from runs_of_cases()
 
 
 def told(file, kind, rule, severity, section, place, seen=""):
@@ -791,6 +950,17 @@ def json_runs():
     yield "JSON of two findings", ["--json"], repeated, lines, 1
     line = told(file, "csr", "attribute_values_empty", "error", "RFC 2986 4.1", "certificationRequestInfo.attributes")
     yield "JSON of a CSR", ["--json"], csr(attributes=(sequence(UNSTRUCTURED_NAME, set_of()),)), line, 1
+    place = "certificationRequestInfo.attributes.extensionRequest.subjectAltName"
+    line = told(file, "csr", "extension_malformed", "error", "RFC 5280 4.2", place, "0500")
+    yield "JSON of an extension that a CSR asks for", ["--json"], csr(extensions=(KU, ce(17, NULL), OTHER)), line, 1
+    line = told(file, "anchor", "ta_title_size", "error", "RFC 5914 2.4", "taInfo.taTitle")
+    yield "JSON of an anchor", ["anchor", "--json"], anchor(title=element(UTF8_STRING, b"")), line, 1
+    long = octet_string(bytes(31))
+    line = told(file, "anchor", "extension_malformed", "error", "RFC 5280 4.2", "taInfo.exts.keyUsage", long[:32].hex() + "..")
+    yield "JSON of an anchor's extension", ["--json"], anchor(exts=(ce(15, long),)), line, 1
+    number = told(file, "anchor", "serial_number_not_positive", "error", "RFC 5280 4.1.2.2", "tbsCertificate.serialNumber", "00")
+    for name, data in (("certificate", certificate(serial=integer(0))), ("TBSCertificate", context(1, tbs_certificate(serial=integer(0))))):
+        yield f"JSON of an anchor that is a {name}", ["anchor", "--json"], data, number, 1
 
 
 def refused(program):
@@ -809,23 +979,68 @@ def refused(program):
     for name, words in (("-v twice", ["-v", "-v"]), ("two options", ["-v", "--json"]), ("--json twice", ["--json", "--json"]), ("-v with more behind it", ["-vv"])):
         found = ended(program, words, odd)
         yield name, found == (2, "", USAGE), found
-    for kind, data in (("certificate", crl()), ("crl", csr()), ("csr", odd)):
+    for kind, data in (("certificate", crl()), ("crl", csr()), ("csr", anchor()), ("anchor", csr())):
         found = ended(program, [kind], data)
         yield f"no {kind}", found == (2, "", f"x509_linter: standard input: not {KINDS[kind]} in DER or hex\n"), found
+
+
+# what certificate() breaks of the Baseline Requirements, with the sections, and the day from which on each is in force
+WEB_LINES = (
+    ("error subject_alt_name_absent (TLS BR 7.1.2.7.12)", ""),
+    ("warning common_name_present (TLS BR 7.1.2.7.2)", "2023-09-15"),
+    ("error certificate_policies_absent (TLS BR 7.1.2.7.9)", ""),
+    ("error extended_key_usage_absent (TLS BR 7.1.2.7.10)", ""),
+)
+
+
+def at_moments(program):
+    """For each run with `--web` over words and files a name, whether it ended as stated, and how it ended."""
+    data, moment, usage = certificate(), "2026-03-15T00:00:00Z", (2, "", USAGE)
+    found = ended(program, ["--help"])
+    yield "help that has --web", WEB_HELP in found[1], found
+    status, line, said = ended(program, ["--web", moment], data)
+    yield "a certificate with --web", (status, said) == (1, "") and set(line.splitlines()) >= {f"certificate: {it}" for it, _ in WEB_LINES}, line
+    status, early, said = ended(program, ["--web", "2023-09-14T23:59:59Z"], data)
+    wanted = {f"certificate: {it}" for it, day in WEB_LINES if not day}
+    unwanted = {f"certificate: {it}" for it, day in WEB_LINES if day}
+    yield "an early moment", (status, said) == (1, "") and wanted <= set(early.splitlines()) and not unwanted & set(early.splitlines()), early
+    for name, words, given in (
+        ("--web behind the moment", [moment, "--web"], data),
+        ("--web and --", ["--web", "--", moment, "-"], data),
+        ("--web and hex", ["--web", moment], data.hex().encode()),
+    ):
+        found = ended(program, words, given)
+        yield name, found == (1, line, ""), found
+    for text in ("2026-03-15", "2026-03-15T00:00:00", "2026-02-29T00:00:00Z", "2026-03-15T24:00:00Z", "1969-12-31T23:59:59Z", "2026-03-15t00:00:00z", "certificate", ""):
+        found = ended(program, ["--web", text], data)
+        yield f"the moment `{text}`", found == usage, found
+    for words in (["--web"], ["--web", "-v", moment], ["--json", "--web", moment], ["--web", "--web", moment], ["--web=" + moment]):
+        found = ended(program, words, data)
+        yield f"the words {words}", found == usage, found
+    for name, other in (("CRL", crl()), ("CSR", csr()), ("trust anchor", anchor())):
+        found = ended(program, ["--web", moment], other)
+        yield f"a {name} with --web", found == (2, "", "x509_linter: standard input: not a certificate in DER or hex\n"), found
+    with tempfile.TemporaryDirectory() as folder:
+        paths = [f"{folder}/{at}" for at in range(2)]
+        for path in paths:
+            pathlib.Path(path).write_bytes(data)
+        found = ended(program, ["--web", moment, *paths])
+        yield "several files with --web", found == (1, "".join(f"{path}:\n{line}" for path in paths), ""), found
 
 
 def alike(program):
     """The runs that the programs over objects have to end alike, and those over several files with `-v`."""
     odd, line = certificate(serial=integer(0)), "certificate: error serial_number_not_positive (RFC 5280 4.1.2.2)\n"
-    objects = [(certificate(), "", 0), (odd, line, 1), (crl(), "", 0), (csr(), "", 0)]
+    objects = [(certificate(), "", 0), (odd, line, 1), (crl(), "", 0), (csr(), "", 0), (anchor(), "", 0)]
     yield from refused(program)
+    yield from at_moments(program)
     yield from Program(program, USAGE, NO_OBJECT, objects).checked()
     with tempfile.TemporaryDirectory() as folder:
-        paths = [f"{folder}/{at}" for at in range(4)]
+        paths = [f"{folder}/{at}" for at in range(5)]
         for path, (data, _, _) in zip(paths, objects):
             pathlib.Path(path).write_bytes(data)
         found = ended(program, [paths[0], "-v", *paths[1:]])
-        text = f"{paths[0]}:\nnothing found\n{paths[1]}:\n{line}{paths[2]}:\nnothing found\n{paths[3]}:\nnothing found\n"
+        text = f"{paths[0]}:\nnothing found\n{paths[1]}:\n{line}" + "".join(f"{path}:\nnothing found\n" for path in paths[2:])
         yield "several files with -v", found == (1, text, ""), found
         quoted = f'{folder}/a "quoted" \\ name'
         pathlib.Path(quoted).write_bytes(odd)

@@ -154,7 +154,7 @@ def try_programs(test, folder, pages, at, what):
     test.says(f"{what}: x509_tool", said, "0603550406\n")
     found = test.ended([folder / "x509_linter", "cert.der", "text.c"], at)
     lines = [it for it in found.stdout.splitlines() if it != "cert.der:" and not re.fullmatch(r"certificate: (error|warning) \w+ \(RFC 5280 [\d.]+\)", it)]
-    test.says(f"{what}: x509_linter", (found.returncode, lines, found.stderr), (2, [], "x509_linter: text.c: neither a certificate nor a CRL nor a CSR in DER or hex\n"))
+    test.says(f"{what}: x509_linter", (found.returncode, lines, found.stderr), (2, [], "x509_linter: text.c: not a certificate, CRL, CSR or trust anchor in DER or hex\n"))
     try_store(test, folder / "x509_show", at, what)
 
 

@@ -60,6 +60,7 @@ WHOLE += [
     for kind in ("certificate", "crl", "request", "anchor")
     for style in ("text", "json")
 ]
+WHOLE += [(f"x509_{kind}_lint", writes(f"x509_{kind}_lint", lambda data: 0), OVERLENGTH, MALFORMED) for kind in ("certificate", "crl", "request")]
 WHOLE += [(name, looks(name, "I"), OVERLENGTH, MALFORMED) for name in ("x509_certificate_view", "x509_crl_walk", "x509_may_sign_crls")]
 WHOLE += [
     ("x509_certificate_extension", lambda library, data: find_extension(library, data, ONE[2:]), OVERLENGTH, MALFORMED),

@@ -73,7 +73,7 @@ static void wrong(const char *what, long number)
 
 /* ---- each call */
 
-enum { CALLS = 84 };
+enum { CALLS = 87 };
 
 static uint8_t certificate[65536], list[65536], request[65536], room[65536], signed_list[3 * 65536];
 static size_t certificate_len, list_len, request_len;
@@ -342,6 +342,12 @@ static x509_status call(int number)
         return x509_may_sign_crls(certificate, certificate_len, &filled.may_sign);
     case 82:
         return x509_revocation_status(certificate, certificate_len, signed_list, signed_list_len, given, 2, &IN_FEBRUARY, sizeof IN_FEBRUARY, &filled.told);
+    case 83:
+        return x509_certificate_lint(certificate, certificate_len, room, sizeof room, &filled.count);
+    case 84:
+        return x509_crl_lint(list, list_len, room, sizeof room, &filled.count);
+    case 85:
+        return x509_request_lint(request, request_len, room, sizeof room, &filled.count);
     default:
         /* in the first second of the validity */
         return x509_path_check(certificate, certificate_len, certificate, certificate_len, &certificate_len, 1, 1767323045, &filled.fault);

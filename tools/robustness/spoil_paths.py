@@ -9,9 +9,8 @@ import os
 import pathlib
 import sys
 
-sys.path.insert(0, str(pathlib.Path(__file__).resolve().parents[2] / "examples" / "python"))
-from path import REASONS, check
-from x509 import Library
+TOP = pathlib.Path(__file__).resolve().parents[2]
+sys.path[:0] = [str(TOP / "examples" / "python"), str(TOP / "bindings" / "python" / "src")]
 
 
 def spoilt(data):
@@ -22,7 +21,10 @@ def spoilt(data):
 
 def spoil(paths, folder, library):
     """Writes the folder, and prints whether a path held."""
-    calls, moment = Library(library), 1_893_456_000
+    os.environ["X509_LIBRARY"] = library
+    from path import REASONS, check
+
+    moment = 1_893_456_000
     names = ["root", "intermediate", "server"]
     anchor, *path = [(paths / f"{name}.der").read_bytes() for name in names]
     folder.mkdir(parents=True, exist_ok=True)
@@ -33,7 +35,7 @@ def spoil(paths, folder, library):
             files = [os.path.relpath(paths / f"{it}.der", folder) for it in names]
             files[place + 1] = name
             (folder / name).write_bytes(data)
-            fault = check(calls, anchor, [*path[:place], data, *path[place + 1 :]], moment)
+            fault = check(anchor, [*path[:place], data, *path[place + 1 :]], moment)
             if fault is None:
                 held.append(name)
             else:

@@ -982,6 +982,7 @@ READ = {
     ours.SignatureAlgorithm,
     ours.ExtensionType,
     ours.GeneralName,
+    ours.Finding,
 }
 
 

@@ -329,7 +329,8 @@ class Reading(unittest.TestCase):
             content = b"\x00" + bytes.fromhex(bits)
             whole = front + bytes([3, len(content)]) + content
             key = ours.PublicKey(bytes([0x30, len(whole)]) + whole)
-            for asked in ("modulus", "exponent", "key_size"):
+            self.assertIsNone(key.key_size)
+            for asked in ("modulus", "exponent"):
                 with self.subTest(bits, asked=asked), self.assertRaises(ours.X509Error):
                     getattr(key, asked)
 

@@ -38,6 +38,7 @@ def reading(certificate: x509.Certificate) -> None:
     found = certificate.extensions.get_extension_for_class(x509.SubjectKeyIdentifier)
     assert_type(found.value, x509.SubjectKeyIdentifier)
     assert_type(certificate.public_key_info.key_size, "int | None")
+    assert_type(x509.lint(certificate), list[x509.Finding])
 
 
 def values() -> None:

@@ -58,13 +58,8 @@ fn unique_id(what: &str, found: Option<UniqueIdentifier<'_>>) -> Vec<String> {
     found.map(tell).into_iter().collect()
 }
 
-/// The size of a key isn't said where its numbers can't be read, or its curve isn't one of NIST's.
 fn key(key: &PublicKey<'_>) -> Told {
-    let size = match key.size() {
-        Err(Error::Memory) => return Err(Error::Memory),
-        size => size.ok().flatten(),
-    };
-    let mut told = vec![format!("key: {}, {} bits", key.oid, limit(size))];
+    let mut told = vec![format!("key: {}, {} bits", key.oid, limit(key.size()))];
     if let Ok(Some(numbers)) = key.rsa() {
         told.push(format!("modulus: {}", numbers.modulus));
         told.push(format!("exponent: {}", numbers.public_exponent));

@@ -121,7 +121,7 @@ fn of_others(id: ObjectIdentifier, value: &[u8]) -> Option<Told> {
 /// The size of a key, and its numbers or its curve and its point.
 fn parts(key: &PublicKey<'_>) -> Told {
     let size = key
-        .size()?
+        .size()
         .map_or_else(|| "none".to_owned(), |it| it.to_string());
     if let Some(numbers) = key.rsa()? {
         let numbers = [numbers.modulus, numbers.public_exponent];

@@ -6,6 +6,7 @@ use crate::extension::{
 use crate::ffi::{self, Span};
 use crate::integer::Integer;
 use crate::key::{AlgorithmIdentifier, PublicKey};
+use crate::lint::{self, Finding};
 use crate::name::NameRef;
 use crate::oid::ObjectIdentifier;
 use crate::time::moment;
@@ -341,6 +342,14 @@ impl<'a> CertificateRef<'a> {
         ffi::CERTIFICATE_JSON.text_of(self.der)
     }
 
+    /// The rules that it breaks beyond the grammar, those of RFC 5280 that `docs/RULES.md` of the sources lists, in their order; none where it breaks none.
+    ///
+    /// # Errors
+    /// [`Error::Memory`].
+    pub fn lint(&self) -> Result<Vec<Finding>, Error> {
+        lint::findings(&ffi::CERTIFICATE_LINT, self.der)
+    }
+
     /// The certificate, with bytes of its own.
     pub fn to_owned(&self) -> Certificate {
         Certificate {
@@ -572,6 +581,14 @@ impl Certificate {
     /// As of [`CertificateRef::to_json`].
     pub fn to_json(&self) -> Result<String, Error> {
         self.to_ref().to_json()
+    }
+
+    /// The rules that it breaks beyond the grammar.
+    ///
+    /// # Errors
+    /// As of [`CertificateRef::lint`].
+    pub fn lint(&self) -> Result<Vec<Finding>, Error> {
+        self.to_ref().lint()
     }
 }
 

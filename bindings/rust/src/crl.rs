@@ -6,6 +6,7 @@ use crate::extension::{
 };
 use crate::ffi::{self, Members};
 use crate::integer::Integer;
+use crate::lint::{self, Finding};
 use crate::name::NameRef;
 use crate::oid::ObjectIdentifier;
 use crate::time::moment;
@@ -328,6 +329,14 @@ impl<'a> CrlRef<'a> {
         ffi::CRL_JSON.text_of(self.der)
     }
 
+    /// The rules that it breaks beyond the grammar, those of RFC 5280 that `docs/RULES.md` of the sources lists, in their order; none where it breaks none.
+    ///
+    /// # Errors
+    /// [`Error::Memory`].
+    pub fn lint(&self) -> Result<Vec<Finding>, Error> {
+        lint::findings(&ffi::CRL_LINT, self.der)
+    }
+
     /// The CRL, with bytes of its own.
     pub fn to_owned(&self) -> Crl {
         Crl {
@@ -553,6 +562,14 @@ impl Crl {
     /// As of [`CrlRef::to_json`].
     pub fn to_json(&self) -> Result<String, Error> {
         self.to_ref().to_json()
+    }
+
+    /// The rules that it breaks beyond the grammar.
+    ///
+    /// # Errors
+    /// As of [`CrlRef::lint`].
+    pub fn lint(&self) -> Result<Vec<Finding>, Error> {
+        self.to_ref().lint()
     }
 }
 

@@ -4,6 +4,7 @@ use crate::error::Error;
 use crate::extension::Extensions;
 use crate::ffi::{self, Members};
 use crate::key::PublicKey;
+use crate::lint::{self, Finding};
 use crate::name::NameRef;
 use crate::oid::ObjectIdentifier;
 use std::fmt;
@@ -193,6 +194,14 @@ impl<'a> CsrRef<'a> {
         ffi::REQUEST_JSON.text_of(self.der)
     }
 
+    /// The rules that it breaks beyond the grammar, those of RFC 2986 and RFC 2985 that `docs/RULES.md` of the sources lists, in their order; none where it breaks none.
+    ///
+    /// # Errors
+    /// [`Error::Memory`].
+    pub fn lint(&self) -> Result<Vec<Finding>, Error> {
+        lint::findings(&ffi::REQUEST_LINT, self.der)
+    }
+
     /// The bytes that the signature is over, as they stand in the DER: a whole CertificationRequestInfo.
     ///
     /// # Errors
@@ -359,6 +368,14 @@ impl Csr {
     /// As of [`CsrRef::to_json`].
     pub fn to_json(&self) -> Result<String, Error> {
         self.to_ref().to_json()
+    }
+
+    /// The rules that it breaks beyond the grammar.
+    ///
+    /// # Errors
+    /// As of [`CsrRef::lint`].
+    pub fn lint(&self) -> Result<Vec<Finding>, Error> {
+        self.to_ref().lint()
     }
 }
 

@@ -328,6 +328,7 @@ pub(crate) struct Key {
     pub(crate) bits: Span,
     pub(crate) unused_bits: u32,
     pub(crate) curve: Span,
+    pub(crate) size: u32,
 }
 
 #[repr(C)]
@@ -344,6 +345,17 @@ pub(crate) struct Algorithm {
     pub(crate) kind: u32,
     pub(crate) oid: Span,
     pub(crate) parameters: Span,
+}
+
+#[repr(C)]
+#[derive(Clone, Copy, Debug, Default)]
+pub(crate) struct Finding {
+    pub(crate) object: Span,
+    pub(crate) rule: Span,
+    pub(crate) severity: Span,
+    pub(crate) section: Span,
+    pub(crate) place: Span,
+    pub(crate) seen: Span,
 }
 
 #[repr(C)]
@@ -489,6 +501,10 @@ extern "C" {
     fn x509_request_json(input: *const u8, len: usize, out: *mut u8, room: usize, written: *mut usize) -> c_int;
     fn x509_anchor_text(input: *const u8, len: usize, out: *mut u8, room: usize, written: *mut usize) -> c_int;
     fn x509_anchor_json(input: *const u8, len: usize, out: *mut u8, room: usize, written: *mut usize) -> c_int;
+    fn x509_certificate_lint(input: *const u8, len: usize, out: *mut u8, room: usize, written: *mut usize) -> c_int;
+    fn x509_crl_lint(input: *const u8, len: usize, out: *mut u8, room: usize, written: *mut usize) -> c_int;
+    fn x509_request_lint(input: *const u8, len: usize, out: *mut u8, room: usize, written: *mut usize) -> c_int;
+    fn x509_finding_next(lines: *const u8, len: usize, at: *mut usize, found: *mut Finding) -> c_int;
     fn x509_timestamp_next(value: *const u8, len: usize, at: *mut usize, found: *mut Span) -> c_int;
     fn x509_timestamp_view(input: *const u8, len: usize, view: *mut Timestamp) -> c_int;
     fn x509_version() -> u32;
@@ -765,6 +781,9 @@ pub(crate) const REQUEST_TEXT: Fill = Fill::new(x509_request_text);
 pub(crate) const REQUEST_JSON: Fill = Fill::new(x509_request_json);
 pub(crate) const ANCHOR_TEXT: Fill = Fill::new(x509_anchor_text);
 pub(crate) const ANCHOR_JSON: Fill = Fill::new(x509_anchor_json);
+pub(crate) const CERTIFICATE_LINT: Fill = Fill::new(x509_certificate_lint);
+pub(crate) const CRL_LINT: Fill = Fill::new(x509_crl_lint);
+pub(crate) const REQUEST_LINT: Fill = Fill::new(x509_request_lint);
 
 pub(crate) static EXTENSIONS: Walk<ExtensionEntry> = Walk(Next::Plain(x509_extensions_next));
 pub(crate) static GENERAL_NAMES: Walk<GeneralName> = Walk(Next::Plain(x509_general_names_next));
@@ -795,6 +814,7 @@ pub(crate) static REQUEST_ATTRIBUTES: Walk<RequestAttribute> =
 pub(crate) static DIRECTORY_ATTRIBUTES: Walk<RequestAttribute> =
     Walk(Next::Plain(x509_subject_directory_attributes_next));
 pub(crate) static ATTRIBUTE_VALUES: Walk<Element> = Walk(Next::Plain(x509_attribute_value_next));
+pub(crate) static FINDINGS: Walk<Finding> = Walk(Next::Plain(x509_finding_next));
 pub(crate) static TIMESTAMPS: Walk<Span> = Walk(Next::Plain(x509_timestamp_next));
 pub(crate) static NAME: Walk<Span> = Walk(Next::Plain(x509_name_next));
 pub(crate) static RELATIVE_NAME: Walk<Attribute> = Walk(Next::Plain(x509_relative_name_next));

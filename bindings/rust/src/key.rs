@@ -1,5 +1,4 @@
 //! Public keys and algorithms (RFC 5280 4.1.1.2, 4.1.2.7).
-use crate::elements::numbers;
 use crate::error::Error;
 use crate::ffi;
 use crate::integer::Integer;
@@ -129,6 +128,9 @@ pub struct PublicKey<'a> {
 
     /// The content octets of the OID of its curve.
     curve: Option<&'a [u8]>,
+
+    /// Its size in bits; 0 where it isn't known.
+    size: u32,
 }
 
 impl<'a> PublicKey<'a> {
@@ -145,6 +147,7 @@ impl<'a> PublicKey<'a> {
             bits: view.bits.of(der)?,
             unused_bits: view.unused_bits,
             curve: view.curve.part(der)?,
+            size: view.size,
         })
     }
 
@@ -177,29 +180,11 @@ impl<'a> PublicKey<'a> {
         is_point.then_some(self.bits)
     }
 
-    /// Its size in bits: of an RSA key that of the modulus, of a DSA key that of the prime, of the curves P-256, P-384 and P-521 that of a coordinate, and of a key of
-    /// RFC 8410 that of its octets; none of others.
-    ///
-    /// # Errors
-    /// [`Error::Malformed`] where the numbers of an RSA or a DSA key aren't there; [`Error::Memory`].
-    pub fn size(&self) -> Result<Option<usize>, Error> {
-        Ok(match self.kind {
-            KeyKind::Rsa | KeyKind::RsaPss => self.rsa()?.map(|it| bits_of(it.modulus)),
-            KeyKind::Dsa => match self.parameters {
-                Some(parameters) => {
-                    let [prime, _, _] = numbers(parameters)?[..] else {
-                        return Err(Error::Malformed);
-                    };
-                    Some(bits_of(prime))
-                }
-                None => None,
-            },
-            KeyKind::EcP256 => Some(256),
-            KeyKind::EcP384 => Some(384),
-            KeyKind::EcP521 => Some(521),
-            _ if self.is_of_rfc_8410() => self.bits.len().checked_mul(8),
-            _ => None,
-        })
+    /// Its size in bits: of an RSA key that of the modulus, of a DSA key that of the prime, which the parameters have, of an elliptic curve that of a coordinate, where
+    /// the curve has a name that the library knows, and of a key of RFC 8410 that of its octets, as 256 of X25519, of which OpenSSL says 253; none where it isn't
+    /// known, as where the numbers of an RSA key aren't there.
+    pub fn size(&self) -> Option<u32> {
+        (self.size != 0).then_some(self.size)
     }
 
     fn is_of_a_curve(&self) -> bool {
@@ -228,7 +213,7 @@ impl<'a> PublicKey<'a> {
 /// let key = PublicKey::from_der(der)?;
 /// let numbers = key.rsa()?.expect("it is one of RSA");
 /// assert_eq!((numbers.modulus.to_u128(), numbers.public_exponent.to_u128()), (Some(51), Some(3)));
-/// assert_eq!(key.size()?, Some(6));
+/// assert_eq!(key.size(), Some(6));
 /// # Ok::<(), x509_rattle::Error>(())
 /// ```
 #[derive(Clone, Copy, Debug, PartialEq, Eq, Hash)]
@@ -238,15 +223,6 @@ pub struct RsaPublicKey<'a> {
 
     /// The exponent.
     pub public_exponent: Integer<'a>,
-}
-
-/// How many bits a number has that isn't negative.
-fn bits_of(number: Integer<'_>) -> usize {
-    let octets = number.as_bytes();
-    let zeros = octets.iter().take_while(|octet| **octet == 0).count();
-    let digits = octets.get(zeros..).unwrap_or_default();
-    let unused = digits.first().map_or(0, |first| first.leading_zeros());
-    (digits.len() * 8).saturating_sub(unused as usize)
 }
 
 /// An algorithm, by what its AlgorithmIdentifier says.

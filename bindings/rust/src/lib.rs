@@ -37,6 +37,7 @@ mod ffi;
 mod general_name;
 mod integer;
 mod key;
+mod lint;
 mod name;
 pub mod oid;
 mod path;
@@ -61,6 +62,7 @@ pub use extension::{Extension, Extensions, ParsedExtension};
 pub use general_name::{EdiPartyName, GeneralName, GeneralNames};
 pub use integer::{Integer, SerialNumber};
 pub use key::{AlgorithmIdentifier, KeyKind, PublicKey, RsaPublicKey, SignatureKind};
+pub use lint::{Finding, Severity};
 pub use name::{
     escape_value, AttributeTypeAndValue, Attributes, Name, NameAttributes, NameBuilder, NameRef,
     Rdns, RelativeDistinguishedName, StringType,

@@ -103,12 +103,12 @@ const NEXT_DATE: &[u8] = b"\x17\x0D110101083000Z";
 const CERTIFICATES: &[u8] =
     b"\x30\x3C\x30\x12\x02\x01\x01\x17\x0D100101083000Z\x30\x12\x02\x01\x02\x17\x0D100101083000Z\x30\x12\x02\x01\x03\x17\x0D100101083000Z";
 
-/// The signed part of the CRL with the number 42 that the issuer signs shortly after [`NOW`].
-fn part(rt: &HostRuntime, issuer: &[u8]) -> Result<Vec<u8>> {
+/// The signed part of the CRL with the number 42 that the issuer signs shortly after that second.
+fn part(rt: &HostRuntime, issuer: &[u8], second: u64) -> Result<Vec<u8>> {
     let alloc = rt.alloc();
     let certificate = Certificate::from_der(alloc, issuer)?;
     let number = CrlNumber::from_u8(alloc, 42)?;
-    let now = Duration::new(NOW, 999_999_999);
+    let now = Duration::new(second, 999_999_999);
     let mut builder: CrlBuilder = CrlBuilder::new(alloc, &certificate, number, now)?;
     builder.finalize(alloc, &ABC)
 }
@@ -122,10 +122,33 @@ fn the_keys_of_issuers(rt: HostRuntime) {
         (BADLY_NAMED_ISSUER, NAMED, "ASN.1 error: Malformed"),
     ] {
         assert!(rt;
-            is_answer(&rt, part(&rt, issuer), wanted, text),
+            is_answer(&rt, part(&rt, issuer, NOW), wanted, text),
             "assertion failed at {text}"
         );
     }
+}
+
+/// 9999-12-31T23:59:59Z, the last second that a GeneralizedTime can say.
+const LAST: u64 = 253_402_300_799;
+
+/// The signed part of the CRL with the number 42 that is issued in that second (RFC 5280 4.1.2.5.2).
+const LAST_LIST: &[u8] =
+    b"\x30\x4E\x02\x01\x01\x30\x05\x06\x03\x2A\x03\x04\x30\x00\x18\x0F99991231235959Z\
+      \xA0\x2F\x30\x2D\x30\x0A\x06\x03\x55\x1D\x14\x04\x03\x02\x01\x2A\
+      \x30\x1F\x06\x03\x55\x1D\x23\
+      \x04\x18\x30\x16\x80\x14\xDA\x39\xA3\xEE\x5E\x6B\x4B\x0D\x32\x55\xBF\xEF\x95\x60\x18\x90\xAF\xD8\x07\x09";
+
+#[test]
+fn late(rt: HostRuntime) {
+    assert!(rt; is_answer(&rt, part(&rt, ISSUER, LAST), LAST_LIST, ""));
+    assert!(rt;
+        is_answer(
+            &rt,
+            part(&rt, ISSUER, LAST + 1),
+            LAST_LIST,
+            "ASN.1 error: Value"
+        )
+    );
 }
 
 /// A builder of the CRL with the number 42 at [`NOW_DATE`].

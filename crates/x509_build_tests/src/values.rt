@@ -2,8 +2,10 @@
 
 use std::test::*;
 use x509_build::name::{Escaped, StringType, attribute_of, name_of, relative_name_of};
-use x509_der::{Encode, Error};
-use x509_name::attr::attribute_types::{COMMON_NAME, COUNTRY_NAME, ORGANIZATION_NAME};
+use x509_der::{Encode, Error, ErrorKind, ObjectIdentifier};
+use x509_name::attr::attribute_types::{
+    COMMON_NAME, COUNTRY_NAME, DOMAIN_COMPONENT, ORGANIZATION_NAME,
+};
 use x509_name::name::RelativeDistinguishedName;
 
 /// C=US, and in one RDN the PrintableString O=T and the BMPString CN=ü.
@@ -36,4 +38,48 @@ fn escapes_a_text(rt: HostRuntime) -> Result<(), Fail> {
     let text = format!(in rt.alloc(); "CN={}", Escaped("a,O=b"))?;
     assert_eq!(rt; text.as_str(), "CN=a\\,O=b");
     Ok(())
+}
+
+/// Whether there is no such attribute, for that reason.
+fn is_none(
+    rt: &HostRuntime,
+    oid: ObjectIdentifier,
+    string_type: StringType,
+    text: &str,
+    kind: ErrorKind,
+) -> bool {
+    match attribute_of(rt.alloc(), oid, string_type, text, true) {
+        Ok(_) => false,
+        Err(e) => e.kind() == kind,
+    }
+}
+
+/// A country is a PrintableString of two characters, a domain component an IA5String (RFC 5280 A.1).
+#[test]
+fn no_attributes(rt: HostRuntime) {
+    assert!(rt;
+        is_none(&rt, COUNTRY_NAME, StringType::Utf8, "US", ErrorKind::Failed)
+            && is_none(
+                &rt,
+                DOMAIN_COMPONENT,
+                StringType::Printable,
+                "net",
+                ErrorKind::Failed
+            )
+    );
+    assert!(rt;
+        is_none(
+            &rt,
+            COUNTRY_NAME,
+            StringType::Printable,
+            "USA",
+            ErrorKind::Value
+        ) && is_none(
+            &rt,
+            DOMAIN_COMPONENT,
+            StringType::Ia5,
+            "ü",
+            ErrorKind::Value
+        )
+    );
 }

@@ -9,16 +9,16 @@ ghost use Rattle.x509_c_calls.specs.Status.{Tells};
 
 use std::alloc::Global;
 use x509_base::{AlgorithmIdentifier, SubjectPublicKeyInfo};
-use x509_c_calls::{AlgorithmView, KeyView, RsaKeyView, RsaPublicKey, payload, rsa_key};
+use x509_c_calls::{AlgorithmView, KeyView, RsaKeyView, RsaPublicKey, key_view, payload, rsa_key};
 use x509_der::Grammar;
 
-/// Decodes a SubjectPublicKeyInfo, and fills in of which kind the key is and where its parts stand.
+/// Decodes a SubjectPublicKeyInfo, and fills in of which kind and size the key is and where its parts stand.
 #[unsafe(no_mangle)]
 pub extern "C" fn x509_key_view(alloc: Global, input: &[u8], view: &mut KeyView) -> i32
     ensures { Tells (λ status. Reads ⟦<SubjectPublicKeyInfo as Grammar>⟧.form ⟦<SubjectPublicKeyInfo as Grammar>⟧.refuses input.now
         (λ key. IsKey input.now key [] view.new) (view.new ≡ view.old) status) result }
 {
-    payload::<KeyView>(alloc, input, view).code()
+    key_view(alloc, input, view).code()
 }
 
 /// Decodes an AlgorithmIdentifier, and fills in of which kind a signature algorithm is and where its parts stand.

@@ -8,6 +8,7 @@ mod build;
 mod certificate;
 mod document;
 mod key;
+mod lint;
 mod list;
 mod name;
 mod name_values;

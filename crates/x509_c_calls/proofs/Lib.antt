@@ -48,3 +48,4 @@ pub mod RsaKeys
 pub mod Moments
 pub mod PolicyOctets
 pub mod RevocationCrls
+pub mod FindingPlaces

@@ -1,5 +1,5 @@
 -- Where the extensions of a certificate stand.
-use Rattle.std.proofs.Common.{◌≡◌, ℕ, Bool, true, false, List, [], ◌∷◌, ◌++◌, drop, Option, Some, None, bytes_eq, refl, sym, ap, ◌∙◌, append_assoc, ◌≤◌, length, arith, Bor, option_map, is_some}
+use Rattle.std.proofs.Common.{◌≡◌, ℕ, Bool, true, false, List, ◌∷◌, ◌++◌, drop, Option, Some, None, refl, sym, ap, ◌∙◌, append_assoc, ◌≤◌, length, arith, Bor, option_map, is_some}
 use Rattle.std.specs.Option.{option_copied}
 use Rattle.x509_c_calls.specs.Extensions.{FindsExtension}
 use Rattle.x509_c_calls.specs.View.{IsOptionAt}
@@ -58,16 +58,6 @@ critical_field_is said b same = rw (sym same) (critical_field said)
 pub first_stands : (rest others : List Extension) (first : Extension) (here more : List ℕ) → rest ≡ first ∷ others → here ≡ joined (spelling extension) rest ++ more → here ≡ spelling extension first ++ (joined (spelling extension) others ++ more)
 unfolding joined
 first_stands rest others first here more is e = e ∙ rw is (append_assoc (spelling extension first) (joined (spelling extension) others) more)
-
-pub passed : (oid : List ℕ) (rest others all : List Extension) (first : Extension) → rest ≡ first ∷ others → bytes_eq first.extn_id oid ≡ false → with_oid oid rest ≡ with_oid oid all → with_oid oid others ≡ with_oid oid all
-passed oid rest others all first is other same = rw other at (rw is at same)
-
--- the list in front of the first of the rest and behind it
-pub split_first : (all before rest others : List Extension) (first : Extension) → rest ≡ first ∷ others → all ≡ before ++ rest → all ≡ before ++ first ∷ others
-split_first all before rest others first is e = e ∙ ap (λ x. before ++ x) is
-
-pub one_further : (all before rest others : List Extension) (first : Extension) → rest ≡ first ∷ others → all ≡ before ++ rest → all ≡ (before ++ first ∷ []) ++ others
-one_further all before rest others first is e = split_first all before rest others first is e ∙ sym (append_assoc before (first ∷ []) others)
 
 -- ---- where they begin
 

@@ -65,3 +65,5 @@ pub mod Periods
 pub mod Decimals
 pub mod StatusTexts
 pub mod Documents
+pub mod Findings
+pub mod FindingLines

@@ -1,5 +1,5 @@
 -- RSAPublicKey: modulus: Uint, public_exponent: Uint (RFC 8017 A.1.1), and its parts by their places
-use Rattle.std.specs.Prelude.{◌≡◌, ◌+◌, ◌*◌, ℕ, nat_eq, List, [], ◌∷◌, length, if◌then◌else◌}
+use Rattle.std.specs.Prelude.{◌≡◌, List, [], ℕ}
 use Rattle.x509_c_calls.specs.declared.key.rsa.RsaKeyView.{RsaKeyView}
 use Rattle.x509_c_calls.specs.declared.key.rsa.RsaPublicKey.{RsaPublicKey}
 use Rattle.x509_c_calls.specs.Place.{IsAt}
@@ -10,7 +10,7 @@ use Rattle.x509_der.specs.Frames.{Part, required, ◌⊗◌, fields}
 use Rattle.x509_der.specs.PartRules.{part_rules}
 use Rattle.x509_prim.specs.Integer.{unsigned_integer, without_zeros}
 use Rattle.x509_prim.specs.IntegerLaws.{unsigned_integer_lawful}
-use Rattle.x509_text.specs.Algorithms.{bits_of_octet}
+use Rattle.x509_text.specs.Algorithms.{bit_count}
 
 unfoldable pub rsa_public_key_fields : Part (List ℕ × List ℕ)
 rsa_public_key_fields = required unsigned_integer ⊗ required unsigned_integer
@@ -25,17 +25,8 @@ pub rsa_public_key_contents_lawful : {R : ErrorKind → Type 0} → IsContents R
 unfolding rsa_public_key_fields
 rsa_public_key_contents_lawful = search (part_rules, unsigned_integer_lawful) depth 20
 
--- how many bits an octet has from its highest bit that is set
-abbrev pub octet_bits : ℕ → ℕ
-octet_bits octet = if nat_eq octet 0 then 0 else bits_of_octet octet
-
--- how many bits a number has, by its octets without leading zeros: 0 has none
-abbrev pub number_bits : List ℕ → ℕ
-number_bits [] = 0
-number_bits (first ∷ rest) = octet_bits first + 8 * length rest
-
 -- what the view says of a key, which the bytes are: where the content octets of its numbers stand, and how many bits the modulus has
 pub record IsRsaKey (bytes : List ℕ) (key : RsaPublicKey) (view : RsaKeyView) : Type 0 where
   pub modulus : IsAt key.modulus (spelling unsigned_integer key.public_exponent) bytes view.modulus
   pub public_exponent : IsAt key.public_exponent [] bytes view.public_exponent
-  pub modulus_bits : view.modulus_bits ≡ number_bits (without_zeros key.modulus)
+  pub modulus_bits : view.modulus_bits ≡ bit_count (without_zeros key.modulus)

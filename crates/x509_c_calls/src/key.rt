@@ -7,7 +7,7 @@ mod rsa;
 mod signed;
 
 pub use algorithm::AlgorithmView;
-pub use key::KeyView;
+pub use key::{KeyView, key_view};
 pub use kinds::{KeyKind, SignatureKind};
 pub use rsa::{RsaKeyView, RsaPublicKey, rsa_key};
 pub use signed::signature_at;

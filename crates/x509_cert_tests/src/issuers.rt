@@ -14,6 +14,15 @@ pub(crate) const LIST: &[u8] =
 const REFUSED: &[u8] =
     b"\x30\x61\x30\x55\x02\x01\x01\x30\x05\x06\x03\x2A\x03\x04\x30\x00\x17\x0D200105000000Z\x30\x38\x30\x12\x02\x01\x05\x17\x0D200101000000Z\x30\x22\x02\x01\x06\x17\x0D200102000000Z\x30\x0E\x30\x0C\x06\x03\x55\x1D\x1D\x01\x01\xFF\x04\x02\x05\x00\x30\x05\x06\x03\x2A\x03\x04\x03\x01\x00";
 
+/// A list of two entries, 5 and 6, the second of which has DE as issuer in two extensions.
+const REPEATED: &[u8] =
+    b"\x30\x81\x92\x30\x81\x85\x02\x01\x01\x30\x05\x06\x03\x2A\x03\x04\x30\x00\x17\x0D200105000000Z\x30\x68\x30\x12\
+      \x02\x01\x05\x17\x0D200101000000Z\x30\x52\x02\x01\x06\x17\x0D200102000000Z\x30\x3E\x30\x1D\x06\x03\x55\x1D\x1D\
+      \x01\x01\xFF\x04\x13\x30\x11\xA4\x0F\x30\x0D\x31\x0B\x30\x09\x06\x03\x55\x04\x06\x13\x02\x44\x45\x30\x1D\
+      \x06\x03\x55\x1D\x1D\x01\x01\xFF\
+      \x04\x13\x30\x11\xA4\x0F\x30\x0D\x31\x0B\x30\x09\x06\x03\x55\x04\x06\x13\x02\x44\x45\x30\x05\x06\x03\x2A\x03\x04\
+      \x03\x01\x00";
+
 /// The empty name, and those of DE and US.
 const NOBODY: &[u8] = b"\x30\x00";
 
@@ -80,11 +89,11 @@ fn is_found(
     Ok(found == wanted)
 }
 
-/// Whether it is refused as what is no list of names.
-fn is_malformed(answer: Result<bool, Error>) -> bool {
+/// Whether it is refused so.
+fn is_refused(answer: Result<bool, Error>, kind: ErrorKind) -> bool {
     match answer {
         Ok(_) => false,
-        Err(e) => e.kind() == ErrorKind::Malformed,
+        Err(e) => e.kind() == kind,
     }
 }
 
@@ -106,13 +115,26 @@ fn found(rt: HostRuntime) -> Result<(), Fail> {
     Ok(())
 }
 
-/// What is refused stands in the way of what is behind it alone.
+/// Whether the first entry is found, whose issuer is that of the list.
+fn has_first(rt: &HostRuntime, list: &CertificateList) -> Result<bool, Error> {
+    Ok(is_named(rt, list, 0, None)? && is_found(rt, list, NOBODY, 5, Some(0))?)
+}
+
+/// Whether what is refused so stands in the way of what is behind it alone.
+fn is_in_the_way(rt: &HostRuntime, list: &CertificateList, kind: ErrorKind) -> Result<bool, Error> {
+    Ok(
+        has_first(rt, list)?
+            && is_refused(is_named(rt, list, 1, None), kind)
+            && is_refused(is_found(rt, list, NOBODY, 6, None), kind),
+    )
+}
+
+/// A NULL in the place of names, and names twice.
 #[test]
 fn refused(rt: HostRuntime) -> Result<(), Fail> {
-    let list = CertificateList::from_der(rt.alloc(), REFUSED)?;
-    assert!(rt; is_named(&rt, &list, 0, None)?);
-    assert!(rt; is_malformed(is_named(&rt, &list, 1, None)));
-    assert!(rt; is_found(&rt, &list, NOBODY, 5, Some(0))?);
-    assert!(rt; is_malformed(is_found(&rt, &list, NOBODY, 6, None)));
+    let null = CertificateList::from_der(rt.alloc(), REFUSED)?;
+    assert!(rt; is_in_the_way(&rt, &null, ErrorKind::Malformed)?);
+    let twice = CertificateList::from_der(rt.alloc(), REPEATED)?;
+    assert!(rt; is_in_the_way(&rt, &twice, ErrorKind::Failed)?);
     Ok(())
 }

@@ -4,6 +4,8 @@
 #[cfg(test)]
 mod certificate;
 #[cfg(test)]
+mod constraints;
+#[cfg(test)]
 mod copies;
 #[cfg(test)]
 mod digests;
@@ -20,6 +22,8 @@ mod long_lists;
 #[cfg(test)]
 mod look_ups;
 #[cfg(test)]
+mod matching;
+#[cfg(test)]
 mod path_checks;
 #[cfg(test)]
 mod paths;
@@ -31,3 +35,5 @@ mod requests;
 mod slices;
 #[cfg(test)]
 mod trust_anchors;
+#[cfg(test)]
+mod validations;

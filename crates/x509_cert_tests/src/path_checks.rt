@@ -1,6 +1,6 @@
 //! Paths of certificates, and which fault is found first.
 
-use std::alloc::Global;
+use std::alloc::{AllocError, Global};
 use std::str::FromStr;
 use std::test::*;
 use x509_base::{AlgorithmIdentifier, DateTime, SubjectPublicKeyInfo};
@@ -10,7 +10,7 @@ use x509_path::{Anchor, PathFault, PathReason, Verifier, check_path};
 use x509_prim::BitString;
 
 /// Takes a message for its own signature.
-struct Echo;
+pub(crate) struct Echo;
 
 impl Verifier for Echo {
     ghost use Rattle.std.specs.Prelude.{◌&&◌, ◌==◌, bytes_eq};
@@ -28,105 +28,195 @@ impl Verifier for Echo {
     }
 }
 
-/// The bytes of each hex text.
-fn decoded(alloc: Global, texts: &[&str]) -> Result<Vec<Vec<u8>>, Fail> {
-    let mut inputs = Vec::new(alloc);
-    for text in texts {
-        inputs.push(hex::decode(alloc, text)?)?;
+/// A copy of each input.
+fn copies(alloc: Global, inputs: &[&[u8]]) -> Result<Vec<Vec<u8>>, AllocError> {
+    let mut copies = Vec::new(alloc);
+    for input in inputs {
+        copies.push(Vec::from_slice(alloc, input)?)?;
     }
-    Ok(inputs)
+    Ok(copies)
 }
 
-/// What is answered in 2020 of these certificates, under the name and the key of [`LEAF`].
-fn checked(alloc: Global, texts: &[&str]) -> Result<Result<(), PathFault>, Fail> {
-    let anchor = hex::decode(alloc, LEAF)?;
-    let certificate = Certificate::from_der(alloc, anchor.as_slice())?;
+/// A second of the validity of each certificate here.
+pub(crate) const IN_DATE: &str = "2020-01-01T00:00:00Z";
+
+/// The first second behind it.
+pub(crate) const OUT_OF_DATE: &str = "2030-12-31T08:30:01Z";
+
+/// What is answered at that time of these certificates, under the name and the key of [`LEAF`].
+fn checked(alloc: Global, path: &[&[u8]], moment: &str) -> Result<Result<(), PathFault>, Fail> {
+    let certificate = Certificate::from_der(alloc, LEAF)?;
     let anchor = Anchor::from_certificate(alloc, &certificate)?;
-    let moment = DateTime::from_str("2020-01-01T00:00:00Z")?;
-    let path = decoded(alloc, texts)?;
+    let moment = DateTime::from_str(moment)?;
+    let path = copies(alloc, path)?;
     Ok(check_path(alloc, &anchor, path.as_slice(), moment, &Echo))
 }
 
-/// Whether that is the fault at a place.
-fn has(alloc: Global, texts: &[&str], place: usize, reason: PathReason) -> Result<bool, Fail> {
-    Ok(checked(alloc, texts)? == Err(PathFault::At { place, reason }))
+/// Whether that is the fault at a place, in date.
+fn has(alloc: Global, path: &[&[u8]], place: usize, reason: PathReason) -> Result<bool, Fail> {
+    Ok(checked(alloc, path, IN_DATE)? == Err(PathFault::At { place, reason }))
 }
 
-/// Without extensions. Its name and that of its issuer are empty, as those of all certificates here, and its bits are the signed part.
-const LEAF: &str =
-    "30818C303FA003020102020101300506032A03043000301E170D3130303130313038333030305A170D3330313233313038333030305A\
-      3000300A300506032A0304030100300506032A0304\
-      034200303FA003020102020101300506032A03043000301E170D3130303130313038333030305A170D3330313233313038333030305A\
-      3000300A300506032A0304030100";
+/// Without extensions. Its name and that of its issuer are empty, as those of all certificates here but those of [`LIMITED`]'s path, and its bits
+/// are the signed part.
+pub(crate) const LEAF: &[u8] =
+    b"\x30\x81\x8C\x30\x3F\xA0\x03\x02\x01\x02\x02\x01\x01\x30\x05\x06\x03\x2A\x03\x04\x30\x00\x30\x1E\
+      \x17\x0D100101083000Z\x17\x0D301231083000Z\x30\x00\x30\x0A\x30\x05\x06\x03\x2A\x03\x04\x03\x01\x00\x30\x05\
+      \x06\x03\x2A\x03\x04\x03\x42\x00\x30\x3F\xA0\x03\x02\x01\x02\x02\x01\x01\x30\x05\x06\x03\x2A\x03\x04\x30\x00\
+      \x30\x1E\x17\x0D100101083000Z\x17\x0D301231083000Z\x30\x00\x30\x0A\x30\x05\x06\x03\x2A\x03\x04\x03\x01\x00";
 
 /// The algorithm 1.2.3.4 within and 1.2.3.5 outside.
-const TWO_ALGORITHMS: &str =
-    "30818C303FA003020102020101300506032A03043000301E170D3130303130313038333030305A170D3330313233313038333030305A\
-      3000300A300506032A0304030100300506032A0305\
-      034200303FA003020102020101300506032A03043000301E170D3130303130313038333030305A170D3330313233313038333030305A\
-      3000300A300506032A0304030100";
+pub(crate) const TWO_ALGORITHMS: &[u8] =
+    b"\x30\x81\x8C\x30\x3F\xA0\x03\x02\x01\x02\x02\x01\x01\x30\x05\x06\x03\x2A\x03\x04\x30\x00\x30\x1E\
+      \x17\x0D100101083000Z\x17\x0D301231083000Z\x30\x00\x30\x0A\x30\x05\x06\x03\x2A\x03\x04\x03\x01\x00\x30\x05\
+      \x06\x03\x2A\x03\x05\x03\x42\x00\x30\x3F\xA0\x03\x02\x01\x02\x02\x01\x01\x30\x05\x06\x03\x2A\x03\x04\x30\x00\
+      \x30\x1E\x17\x0D100101083000Z\x17\x0D301231083000Z\x30\x00\x30\x0A\x30\x05\x06\x03\x2A\x03\x04\x03\x01\x00";
+
+/// The issuer `CN=x`.
+pub(crate) const OTHER_ISSUER: &[u8] =
+    b"\x30\x81\xA4\x30\x4B\xA0\x03\x02\x01\x02\x02\x01\x01\x30\x05\x06\x03\x2A\x03\x04\x30\x0C\x31\x0A\x30\x08\
+      \x06\x03\x55\x04\x03\x0C\x01x\x30\x1E\x17\x0D100101083000Z\x17\x0D301231083000Z\x30\x00\x30\x0A\x30\x05\
+      \x06\x03\x2A\x03\x04\x03\x01\x00\x30\x05\x06\x03\x2A\x03\x04\x03\x4E\x00\x30\x4B\xA0\x03\x02\x01\x02\x02\x01\x01\
+      \x30\x05\x06\x03\x2A\x03\x04\x30\x0C\x31\x0A\x30\x08\x06\x03\x55\x04\x03\x0C\x01x\x30\x1E\x17\x0D100101083000Z\
+      \x17\x0D301231083000Z\x30\x00\x30\x0A\x30\x05\x06\x03\x2A\x03\x04\x03\x01\x00";
+
+/// No bits as signature.
+pub(crate) const UNSIGNED: &[u8] =
+    b"\x30\x4B\x30\x3F\xA0\x03\x02\x01\x02\x02\x01\x01\x30\x05\x06\x03\x2A\x03\x04\x30\x00\x30\x1E\
+      \x17\x0D100101083000Z\x17\x0D301231083000Z\x30\x00\x30\x0A\x30\x05\x06\x03\x2A\x03\x04\x03\x01\x00\x30\x05\
+      \x06\x03\x2A\x03\x04\x03\x01\x00";
 
 /// The extension 2.5.29.14 twice.
-const REPEATED: &str =
-    "3081C03059A003020102020101300506032A03043000301E170D3130303130313038333030305A170D3330313233313038333030305A\
-      3000300A300506032A0304030100A318301630090603551D0E0402040030090603551D0E04020400300506032A0304\
-      035C003059A003020102020101300506032A03043000301E170D3130303130313038333030305A170D3330313233313038333030305A\
-      3000300A300506032A0304030100A318301630090603551D0E0402040030090603551D0E04020400";
+pub(crate) const REPEATED: &[u8] =
+    b"\x30\x81\xC0\x30\x59\xA0\x03\x02\x01\x02\x02\x01\x01\x30\x05\x06\x03\x2A\x03\x04\x30\x00\x30\x1E\
+      \x17\x0D100101083000Z\x17\x0D301231083000Z\x30\x00\x30\x0A\x30\x05\x06\x03\x2A\x03\x04\x03\x01\x00\xA3\x18\
+      \x30\x16\x30\x09\x06\x03\x55\x1D\x0E\x04\x02\x04\x00\x30\x09\x06\x03\x55\x1D\x0E\x04\x02\x04\x00\x30\x05\
+      \x06\x03\x2A\x03\x04\x03\x5C\x00\x30\x59\xA0\x03\x02\x01\x02\x02\x01\x01\x30\x05\x06\x03\x2A\x03\x04\x30\x00\
+      \x30\x1E\x17\x0D100101083000Z\x17\x0D301231083000Z\x30\x00\x30\x0A\x30\x05\x06\x03\x2A\x03\x04\x03\x01\x00\
+      \xA3\x18\x30\x16\x30\x09\x06\x03\x55\x1D\x0E\x04\x02\x04\x00\x30\x09\x06\x03\x55\x1D\x0E\x04\x02\x04\x00";
 
 /// A critical extension 2.5.29.14.
-const CRITICAL: &str =
-    "3081B03051A003020102020101300506032A03043000301E170D3130303130313038333030305A170D3330313233313038333030305A\
-      3000300A300506032A0304030100A310300E300C0603551D0E0101FF04020400300506032A0304\
-      0354003051A003020102020101300506032A03043000301E170D3130303130313038333030305A170D3330313233313038333030305A\
-      3000300A300506032A0304030100A310300E300C0603551D0E0101FF04020400";
+pub(crate) const CRITICAL: &[u8] =
+    b"\x30\x81\xB0\x30\x51\xA0\x03\x02\x01\x02\x02\x01\x01\x30\x05\x06\x03\x2A\x03\x04\x30\x00\x30\x1E\
+      \x17\x0D100101083000Z\x17\x0D301231083000Z\x30\x00\x30\x0A\x30\x05\x06\x03\x2A\x03\x04\x03\x01\x00\xA3\x10\
+      \x30\x0E\x30\x0C\x06\x03\x55\x1D\x0E\x01\x01\xFF\x04\x02\x04\x00\x30\x05\x06\x03\x2A\x03\x04\x03\x54\x00\x30\x51\
+      \xA0\x03\x02\x01\x02\x02\x01\x01\x30\x05\x06\x03\x2A\x03\x04\x30\x00\x30\x1E\x17\x0D100101083000Z\
+      \x17\x0D301231083000Z\x30\x00\x30\x0A\x30\x05\x06\x03\x2A\x03\x04\x03\x01\x00\xA3\x10\x30\x0E\x30\x0C\
+      \x06\x03\x55\x1D\x0E\x01\x01\xFF\x04\x02\x04\x00";
 
 /// A critical BasicConstraints that is a NULL.
-const UNREADABLE: &str =
-    "3081B03051A003020102020101300506032A03043000301E170D3130303130313038333030305A170D3330313233313038333030305A\
-      3000300A300506032A0304030100A310300E300C0603551D130101FF04020500300506032A0304\
-      0354003051A003020102020101300506032A03043000301E170D3130303130313038333030305A170D3330313233313038333030305A\
-      3000300A300506032A0304030100A310300E300C0603551D130101FF04020500";
+const UNREADABLE: &[u8] =
+    b"\x30\x81\xB0\x30\x51\xA0\x03\x02\x01\x02\x02\x01\x01\x30\x05\x06\x03\x2A\x03\x04\x30\x00\x30\x1E\
+      \x17\x0D100101083000Z\x17\x0D301231083000Z\x30\x00\x30\x0A\x30\x05\x06\x03\x2A\x03\x04\x03\x01\x00\xA3\x10\
+      \x30\x0E\x30\x0C\x06\x03\x55\x1D\x13\x01\x01\xFF\x04\x02\x05\x00\x30\x05\x06\x03\x2A\x03\x04\x03\x54\x00\x30\x51\
+      \xA0\x03\x02\x01\x02\x02\x01\x01\x30\x05\x06\x03\x2A\x03\x04\x30\x00\x30\x1E\x17\x0D100101083000Z\
+      \x17\x0D301231083000Z\x30\x00\x30\x0A\x30\x05\x06\x03\x2A\x03\x04\x03\x01\x00\xA3\x10\x30\x0E\x30\x0C\
+      \x06\x03\x55\x1D\x13\x01\x01\xFF\x04\x02\x05\x00";
 
 /// A critical extension 2.5.29.14 twice.
-const REPEATED_AND_CRITICAL: &str =
-    "3081CC305FA003020102020101300506032A03043000301E170D3130303130313038333030305A170D3330313233313038333030305A\
-      3000300A300506032A0304030100A31E301C300C0603551D0E0101FF04020400300C0603551D0E0101FF04020400300506032A0304\
-      036200305FA003020102020101300506032A03043000301E170D3130303130313038333030305A170D3330313233313038333030305A\
-      3000300A300506032A0304030100A31E301C300C0603551D0E0101FF04020400300C0603551D0E0101FF04020400";
+const REPEATED_AND_CRITICAL: &[u8] =
+    b"\x30\x81\xCC\x30\x5F\xA0\x03\x02\x01\x02\x02\x01\x01\x30\x05\x06\x03\x2A\x03\x04\x30\x00\x30\x1E\
+      \x17\x0D100101083000Z\x17\x0D301231083000Z\x30\x00\x30\x0A\x30\x05\x06\x03\x2A\x03\x04\x03\x01\x00\xA3\x1E\
+      \x30\x1C\x30\x0C\x06\x03\x55\x1D\x0E\x01\x01\xFF\x04\x02\x04\x00\x30\x0C\x06\x03\x55\x1D\x0E\x01\x01\xFF\
+      \x04\x02\x04\x00\x30\x05\x06\x03\x2A\x03\x04\x03\x62\x00\x30\x5F\xA0\x03\x02\x01\x02\x02\x01\x01\x30\x05\
+      \x06\x03\x2A\x03\x04\x30\x00\x30\x1E\x17\x0D100101083000Z\x17\x0D301231083000Z\x30\x00\x30\x0A\x30\x05\
+      \x06\x03\x2A\x03\x04\x03\x01\x00\xA3\x1E\x30\x1C\x30\x0C\x06\x03\x55\x1D\x0E\x01\x01\xFF\x04\x02\x04\x00\x30\x0C\
+      \x06\x03\x55\x1D\x0E\x01\x01\xFF\x04\x02\x04\x00";
 
 /// A certification authority's, whose KeyUsage is digitalSignature alone.
-const NO_KEY_CERT_SIGN: &str =
-    "3081D63064A003020102020101300506032A03043000301E170D3130303130313038333030305A170D3330313233313038333030305A\
-      3000300A300506032A0304030100A3233021300F0603551D130101FF040530030101FF300E0603551D0F0101FF040403020780\
-      300506032A03040367003064A003020102020101300506032A03043000\
-      301E170D3130303130313038333030305A170D3330313233313038333030305A3000300A300506032A0304030100\
-      A3233021300F0603551D130101FF040530030101FF300E0603551D0F0101FF040403020780";
+pub(crate) const NO_KEY_CERT_SIGN: &[u8] =
+    b"\x30\x81\xD6\x30\x64\xA0\x03\x02\x01\x02\x02\x01\x01\x30\x05\x06\x03\x2A\x03\x04\x30\x00\x30\x1E\
+      \x17\x0D100101083000Z\x17\x0D301231083000Z\x30\x00\x30\x0A\x30\x05\x06\x03\x2A\x03\x04\x03\x01\x00\xA3\x23\
+      \x30\x21\x30\x0F\x06\x03\x55\x1D\x13\x01\x01\xFF\x04\x05\x30\x03\x01\x01\xFF\x30\x0E\x06\x03\x55\x1D\x0F\
+      \x01\x01\xFF\x04\x04\x03\x02\x07\x80\x30\x05\x06\x03\x2A\x03\x04\x03\x67\x00\x30\x64\xA0\x03\x02\x01\x02\
+      \x02\x01\x01\x30\x05\x06\x03\x2A\x03\x04\x30\x00\x30\x1E\x17\x0D100101083000Z\x17\x0D301231083000Z\x30\x00\
+      \x30\x0A\x30\x05\x06\x03\x2A\x03\x04\x03\x01\x00\xA3\x23\x30\x21\x30\x0F\x06\x03\x55\x1D\x13\x01\x01\xFF\
+      \x04\x05\x30\x03\x01\x01\xFF\x30\x0E\x06\x03\x55\x1D\x0F\x01\x01\xFF\x04\x04\x03\x02\x07\x80";
 
 /// A certification authority's, whose KeyUsage is keyCertSign.
-const AUTHORITY: &str =
-    "3081D63064A003020102020101300506032A03043000301E170D3130303130313038333030305A170D3330313233313038333030305A\
-      3000300A300506032A0304030100A3233021300F0603551D130101FF040530030101FF300E0603551D0F0101FF040403020204\
-      300506032A03040367003064A003020102020101300506032A03043000\
-      301E170D3130303130313038333030305A170D3330313233313038333030305A3000300A300506032A0304030100\
-      A3233021300F0603551D130101FF040530030101FF300E0603551D0F0101FF040403020204";
+pub(crate) const AUTHORITY: &[u8] =
+    b"\x30\x81\xD6\x30\x64\xA0\x03\x02\x01\x02\x02\x01\x01\x30\x05\x06\x03\x2A\x03\x04\x30\x00\x30\x1E\
+      \x17\x0D100101083000Z\x17\x0D301231083000Z\x30\x00\x30\x0A\x30\x05\x06\x03\x2A\x03\x04\x03\x01\x00\xA3\x23\
+      \x30\x21\x30\x0F\x06\x03\x55\x1D\x13\x01\x01\xFF\x04\x05\x30\x03\x01\x01\xFF\x30\x0E\x06\x03\x55\x1D\x0F\
+      \x01\x01\xFF\x04\x04\x03\x02\x02\x04\x30\x05\x06\x03\x2A\x03\x04\x03\x67\x00\x30\x64\xA0\x03\x02\x01\x02\
+      \x02\x01\x01\x30\x05\x06\x03\x2A\x03\x04\x30\x00\x30\x1E\x17\x0D100101083000Z\x17\x0D301231083000Z\x30\x00\
+      \x30\x0A\x30\x05\x06\x03\x2A\x03\x04\x03\x01\x00\xA3\x23\x30\x21\x30\x0F\x06\x03\x55\x1D\x13\x01\x01\xFF\
+      \x04\x05\x30\x03\x01\x01\xFF\x30\x0E\x06\x03\x55\x1D\x0F\x01\x01\xFF\x04\x04\x03\x02\x02\x04";
+
+/// That of the authority `CN=a`, with the path length 0.
+pub(crate) const LIMITED: &[u8] =
+    b"\x30\x81\xD4\x30\x63\xA0\x03\x02\x01\x02\x02\x01\x01\x30\x05\x06\x03\x2A\x03\x04\x30\x00\x30\x1E\
+      \x17\x0D100101083000Z\x17\x0D301231083000Z\x30\x0C\x31\x0A\x30\x08\x06\x03\x55\x04\x03\x0C\x01a\x30\x0A\x30\x05\
+      \x06\x03\x2A\x03\x04\x03\x01\x00\xA3\x16\x30\x14\x30\x12\x06\x03\x55\x1D\x13\x01\x01\xFF\
+      \x04\x08\x30\x06\x01\x01\xFF\x02\x01\x00\x30\x05\x06\x03\x2A\x03\x04\x03\x66\x00\x30\x63\xA0\x03\x02\x01\x02\
+      \x02\x01\x01\x30\x05\x06\x03\x2A\x03\x04\x30\x00\x30\x1E\x17\x0D100101083000Z\x17\x0D301231083000Z\x30\x0C\
+      \x31\x0A\x30\x08\x06\x03\x55\x04\x03\x0C\x01a\x30\x0A\x30\x05\x06\x03\x2A\x03\x04\x03\x01\x00\xA3\x16\x30\x14\
+      \x30\x12\x06\x03\x55\x1D\x13\x01\x01\xFF\x04\x08\x30\x06\x01\x01\xFF\x02\x01\x00";
+
+/// That of the authority `CN=b`, which `CN=a` issued.
+pub(crate) const BELOW_LIMITED: &[u8] =
+    b"\x30\x81\xE6\x30\x6C\xA0\x03\x02\x01\x02\x02\x01\x01\x30\x05\x06\x03\x2A\x03\x04\x30\x0C\x31\x0A\x30\x08\
+      \x06\x03\x55\x04\x03\x0C\x01a\x30\x1E\x17\x0D100101083000Z\x17\x0D301231083000Z\x30\x0C\x31\x0A\x30\x08\
+      \x06\x03\x55\x04\x03\x0C\x01b\x30\x0A\x30\x05\x06\x03\x2A\x03\x04\x03\x01\x00\xA3\x13\x30\x11\x30\x0F\
+      \x06\x03\x55\x1D\x13\x01\x01\xFF\x04\x05\x30\x03\x01\x01\xFF\x30\x05\x06\x03\x2A\x03\x04\x03\x6F\x00\x30\x6C\
+      \xA0\x03\x02\x01\x02\x02\x01\x01\x30\x05\x06\x03\x2A\x03\x04\x30\x0C\x31\x0A\x30\x08\x06\x03\x55\x04\x03\
+      \x0C\x01a\x30\x1E\x17\x0D100101083000Z\x17\x0D301231083000Z\x30\x0C\x31\x0A\x30\x08\x06\x03\x55\x04\x03\x0C\x01b\
+      \x30\x0A\x30\x05\x06\x03\x2A\x03\x04\x03\x01\x00\xA3\x13\x30\x11\x30\x0F\x06\x03\x55\x1D\x13\x01\x01\xFF\
+      \x04\x05\x30\x03\x01\x01\xFF";
+
+/// One that `CN=a` issued.
+pub(crate) const LEAF_OF_LIMITED: &[u8] =
+    b"\x30\x81\xA4\x30\x4B\xA0\x03\x02\x01\x02\x02\x01\x01\x30\x05\x06\x03\x2A\x03\x04\x30\x0C\x31\x0A\x30\x08\
+      \x06\x03\x55\x04\x03\x0C\x01a\x30\x1E\x17\x0D100101083000Z\x17\x0D301231083000Z\x30\x00\x30\x0A\x30\x05\
+      \x06\x03\x2A\x03\x04\x03\x01\x00\x30\x05\x06\x03\x2A\x03\x04\x03\x4E\x00\x30\x4B\xA0\x03\x02\x01\x02\x02\x01\x01\
+      \x30\x05\x06\x03\x2A\x03\x04\x30\x0C\x31\x0A\x30\x08\x06\x03\x55\x04\x03\x0C\x01a\x30\x1E\x17\x0D100101083000Z\
+      \x17\x0D301231083000Z\x30\x00\x30\x0A\x30\x05\x06\x03\x2A\x03\x04\x03\x01\x00";
+
+/// One that `CN=b` issued.
+pub(crate) const LEAF_BELOW: &[u8] =
+    b"\x30\x81\xA4\x30\x4B\xA0\x03\x02\x01\x02\x02\x01\x01\x30\x05\x06\x03\x2A\x03\x04\x30\x0C\x31\x0A\x30\x08\
+      \x06\x03\x55\x04\x03\x0C\x01b\x30\x1E\x17\x0D100101083000Z\x17\x0D301231083000Z\x30\x00\x30\x0A\x30\x05\
+      \x06\x03\x2A\x03\x04\x03\x01\x00\x30\x05\x06\x03\x2A\x03\x04\x03\x4E\x00\x30\x4B\xA0\x03\x02\x01\x02\x02\x01\x01\
+      \x30\x05\x06\x03\x2A\x03\x04\x30\x0C\x31\x0A\x30\x08\x06\x03\x55\x04\x03\x0C\x01b\x30\x1E\x17\x0D100101083000Z\
+      \x17\x0D301231083000Z\x30\x00\x30\x0A\x30\x05\x06\x03\x2A\x03\x04\x03\x01\x00";
 
 #[test]
 fn paths_that_hold(rt: HostRuntime) -> Result<(), Fail> {
-    assert!(rt; checked(rt.alloc(), &[LEAF])?.is_ok());
-    assert!(rt; checked(rt.alloc(), &[AUTHORITY, AUTHORITY, LEAF])?.is_ok());
+    assert!(rt; checked(rt.alloc(), &[LEAF], IN_DATE)?.is_ok());
+    assert!(rt; checked(rt.alloc(), &[AUTHORITY, AUTHORITY, LEAF], IN_DATE)?.is_ok());
+    assert!(rt; checked(rt.alloc(), &[LIMITED, LEAF_OF_LIMITED], IN_DATE)?.is_ok());
     Ok(())
 }
 
 #[test]
 fn no_path(rt: HostRuntime) -> Result<(), Fail> {
-    assert!(rt; checked(rt.alloc(), &[])? == Err(PathFault::Empty));
+    assert!(rt; checked(rt.alloc(), &[], IN_DATE)? == Err(PathFault::Empty));
     Ok(())
 }
 
 #[test]
-fn faults_of_one_certificate(rt: HostRuntime) -> Result<(), Fail> {
+fn no_certificate_in_order(rt: HostRuntime) -> Result<(), Fail> {
     let alloc = rt.alloc();
+    assert!(rt; has(alloc, &[&[0x05, 0x00]], 0, PathReason::Decode)?);
     assert!(rt; has(alloc, &[TWO_ALGORITHMS], 0, PathReason::Algorithm)?);
+    assert!(rt; has(alloc, &[OTHER_ISSUER], 0, PathReason::Issuer)?);
+    assert!(rt; has(alloc, &[UNSIGNED], 0, PathReason::Signature)?);
+    Ok(())
+}
+
+#[test]
+fn out_of_date(rt: HostRuntime) -> Result<(), Fail> {
+    let fault = PathFault::At {
+        place: 0,
+        reason: PathReason::Moment,
+    };
+    assert!(rt; checked(rt.alloc(), &[LEAF], OUT_OF_DATE)? == Err(fault));
+    Ok(())
+}
+
+#[test]
+fn faults_of_extensions(rt: HostRuntime) -> Result<(), Fail> {
+    let alloc = rt.alloc();
     assert!(rt; has(alloc, &[REPEATED], 0, PathReason::Repeated)?);
     assert!(rt; has(alloc, &[CRITICAL], 0, PathReason::Critical)?);
     assert!(rt; has(alloc, &[UNREADABLE], 0, PathReason::Critical)?);
@@ -136,9 +226,17 @@ fn faults_of_one_certificate(rt: HostRuntime) -> Result<(), Fail> {
 #[test]
 fn faults_of_authorities(rt: HostRuntime) -> Result<(), Fail> {
     let alloc = rt.alloc();
-    assert!(rt; checked(alloc, &[NO_KEY_CERT_SIGN])?.is_ok());
+    assert!(rt; checked(alloc, &[NO_KEY_CERT_SIGN], IN_DATE)?.is_ok());
     assert!(rt; has(alloc, &[NO_KEY_CERT_SIGN, LEAF], 0, PathReason::KeyUsage)?);
     assert!(rt; has(alloc, &[AUTHORITY, LEAF, LEAF], 1, PathReason::NotCa)?);
+    assert!(rt;
+        has(
+            alloc,
+            &[LIMITED, BELOW_LIMITED, LEAF_BELOW],
+            1,
+            PathReason::PathLen
+        )?
+    );
     Ok(())
 }
 

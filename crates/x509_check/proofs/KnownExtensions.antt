@@ -1,8 +1,8 @@
 -- The parts of an extension that is known to stand in bytes.
-use Rattle.std.proofs.Common.{◌≡◌, ℕ, ◌≤◌, Bool, true, false, List, ◌∷◌, ◌++◌, length, get_or, Ok, refl, sym, subst, ap, ◌∙◌, arith}
+use Rattle.std.proofs.Common.{◌≡◌, ℕ, ◌≤◌, Bool, true, false, List, [], ◌∷◌, ◌++◌, length, get_or, bytes_eq, Ok, refl, sym, subst, ap, ◌∙◌, arith, append_assoc}
 use Rattle.std.specs.List.{list_any}
 use Rattle.std.specs.Prelude.{IsOk}
-use Rattle.x509_check.proofs.KnownEntries.{piece_of_field}
+use Rattle.x509_check.proofs.KnownEntries.{not_refused, piece_of_field}
 use Rattle.x509_check.proofs.LentLists.{first_left, first_of, is_list}
 use Rattle.x509_check.specs.Lending.{listed}
 use Rattle.x509_der.specs.Boolean.{boolean}
@@ -15,10 +15,14 @@ use Rattle.x509_der.specs.FrameLaws.{field_sound}
 use Rattle.x509_der.specs.Frames.{default_octets, fields_octets}
 use Rattle.x509_der.specs.List.{list_reading}
 use Rattle.x509_der.specs.ListLaws.{none_read}
+use Rattle.x509_der.specs.Outcome.{IsRefusal}
 use Rattle.x509_der.specs.OutcomeLaws.{ok_is}
 use Rattle.x509_der.specs.TagLaws.{tag_is_identifier}
+use Rattle.x509_der.specs.declared.error.ErrorKind.{ErrorKind}
+use Rattle.x509_der.specs.declared.error.ErrorKind.TheVariants.{Malformed}
 use Rattle.x509_der.specs.declared.tag.Tag.TheVariants.{ObjectIdentifier, Sequence}
 use Rattle.x509_ext.specs.Extension.{extension, extension_contents, extension_contents_lawful, extension_fields, extension_lawful}
+use Rattle.x509_ext.specs.LookUp.{with_oid}
 use Rattle.x509_ext.specs.declared.extension.Extension.{Extension}
 use Rattle.x509_prim.specs.OctetString.{octet_string}
 
@@ -67,6 +71,11 @@ is_first_of rest piece p some ok =
 pub some_extension : (rest : List ℕ) → 1 ≤ length rest → IsOk (list_reading extension.reading rest) → (piece : Piece) × (piece_at rest ≡ Ok piece)
 some_extension rest some ok = let front = first_of extension.reading rest some ok in piece_of_field extension.reading rest front.1 front.0 front.2
 
+-- none is left where no element stands
+pub none_left : (rest : List ℕ) (e : ErrorKind) → IsRefusal e (piece_at rest) → e ≡ Malformed → IsOk (list_reading extension.reading rest) → listed (list_reading extension.reading rest) ≡ []
+none_left [] e h same ok = (is_list _ _ (none_read extension.reading [] refl)).1
+none_left (b ∷ rest) e h same ok = absurd (let piece = some_extension (b ∷ rest) (omega arith) ok in not_refused (b ∷ rest) piece.0 e piece.1 h same)
+
 module _ (test : Extension → Bool) (all : List Extension) (rest : List ℕ) where
   pub here : (piece : Piece) (h : IsFirstOf rest piece) → test h.first ≡ true → list_any test (listed (list_reading extension.reading rest)) ≡ list_any test all → true ≡ list_any test all
   here piece h is same =
@@ -81,3 +90,21 @@ module _ (test : Extension → Bool) (all : List Extension) (rest : List ℕ) wh
 
   pub nowhere : length rest ≡ 0 → list_any test (listed (list_reading extension.reading rest)) ≡ list_any test all → false ≡ list_any test all
   nowhere none same = ap (list_any test) (sym (is_list _ _ (none_read extension.reading rest none)).1) ∙ same
+
+-- ---- those with an OID
+
+module _ (oid : List ℕ) (all before left others : List Extension) (e : Extension) (is : left ≡ e ∷ others) where
+  pub goes_past : bytes_eq e.extn_id oid ≡ false → with_oid oid left ≡ with_oid oid all → with_oid oid others ≡ with_oid oid all
+  goes_past other same = rw other at (rw is at same)
+
+  pub one_further : all ≡ before ++ left → all ≡ (before ++ e ∷ []) ++ others
+  one_further same = same ∙ ap (λ l. before ++ l) is ∙ sym (append_assoc before (e ∷ []) others)
+
+  module _ (lent : Extension) (found : lent ≡ e) where
+    pub is_found : bytes_eq e.extn_id oid ≡ true → with_oid oid left ≡ with_oid oid all → with_oid oid all ≡ lent ∷ with_oid oid others
+    is_found has same =
+        let first : with_oid oid left ≡ e ∷ with_oid oid others = ap (with_oid oid) is ∙ rw has refl in
+        sym same ∙ first ∙ ap (λ x. x ∷ with_oid oid others) (sym found)
+
+    pub stands_behind : all ≡ before ++ left → all ≡ before ++ lent ∷ others
+    stands_behind same = same ∙ ap (λ l. before ++ l) is ∙ ap (λ x. before ++ x ∷ others) (sym found)

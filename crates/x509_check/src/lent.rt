@@ -9,6 +9,5 @@ pub(crate) mod entry;
 pub(crate) mod extension;
 pub(crate) mod extensions;
 mod fields;
-mod look_up;
 pub(crate) mod revoked;
 pub(crate) mod undated;

@@ -33,6 +33,8 @@ mod serials;
 #[cfg(test)]
 mod sets;
 #[cfg(test)]
+mod sorted_sets;
+#[cfg(test)]
 mod source;
 #[cfg(test)]
 mod strings;

@@ -153,10 +153,27 @@ fn is_found(rt: &HostRuntime, text: &str) -> bool {
         && is_lent(name.email_address(rt.alloc()), "a@b.c")
 }
 
-/// Whether the common name of the name of the text is refused, as it is no text.
-fn is_no_text(rt: &HostRuntime, text: &str) -> bool {
+/// Whether it is refused, as the value is no text.
+fn is_no_text(found: Result<Option<DirectoryString>, Error>) -> bool {
+    is_refused(found, ErrorKind::Malformed)
+}
+
+/// Whether the unit and the common name are refused.
+fn are_of_no_text(rt: &HostRuntime, name: &Name) -> bool {
+    is_no_text(name.organization_unit(rt.alloc())) && is_no_text(name.common_name(rt.alloc()))
+}
+
+/// Whether the state, the locality and the organization are refused.
+fn are_in_no_text(rt: &HostRuntime, name: &Name) -> bool {
+    is_no_text(name.state_or_province(rt.alloc()))
+        && is_no_text(name.locality(rt.alloc()))
+        && is_no_text(name.organization(rt.alloc()))
+}
+
+/// Whether each of the five is refused in the name of the text.
+fn are_no_texts(rt: &HostRuntime, text: &str) -> bool {
     match Name::from_str(rt.alloc(), text) {
-        Ok(name) => is_refused(name.common_name(rt.alloc()), ErrorKind::Malformed),
+        Ok(name) => are_of_no_text(rt, &name) && are_in_no_text(rt, &name),
         Err(_) => false,
     }
 }
@@ -167,6 +184,17 @@ fn look_ups(rt: HostRuntime) {
         is_found(
             &rt,
             "EMAILADDRESS=a@b.c,CN=John,OU=XY,OU=CA,O=123,L=Rome,ST=Ohio,C=US"
-        ) && is_no_text(&rt, "CN=#04024869")
+        )
+    );
+}
+
+/// An OCTET STRING is no case of DirectoryString (RFC 5280 A.1).
+#[test]
+fn octets_in_place_of_texts(rt: HostRuntime) {
+    assert!(rt;
+        are_no_texts(
+            &rt,
+            "CN=#04024869,OU=#04024869,O=#04024869,L=#04024869,ST=#04024869"
+        )
     );
 }

@@ -96,9 +96,10 @@ fn rows(rt: HostRuntime) {
     assert!(rt; are_bytes(encoded, NET_ENCODING));
 }
 
-/// Whether the text is refused so as a name.
+/// Whether the text is refused so as a name, also where it is to be encoded.
 fn refuses(rt: &HostRuntime, text: &str, kind: ErrorKind) -> bool {
     is_refused(Name::from_str(rt.alloc(), text), kind)
+        && is_refused(RdnSequence::encode_from_string(rt.alloc(), text), kind)
 }
 
 /// Texts of no name.
@@ -123,4 +124,28 @@ fn refusals(rt: HostRuntime) {
         refuses(&rt, "CN=b+CN=b,CN=a\\4", ErrorKind::SetDuplicate)
             && refuses(&rt, "CN=a\\4,CN=b+CN=b", ErrorKind::Failed)
     );
+}
+
+/// Whether the text is refused so as an RDN.
+fn refuses_rdn(rt: &HostRuntime, text: &str, kind: ErrorKind) -> bool {
+    is_refused(RelativeDistinguishedName::from_str(rt.alloc(), text), kind)
+}
+
+/// Whether the text is none of an attribute, also where it is to be encoded.
+fn is_no_attribute(rt: &HostRuntime, text: &str) -> bool {
+    let encoded = AttributeTypeAndValue::encode_from_string(rt.alloc(), text);
+    is_refused(encoded, ErrorKind::Failed)
+        && is_refused(
+            AttributeTypeAndValue::from_str(rt.alloc(), text),
+            ErrorKind::Failed,
+        )
+}
+
+/// What is no attribute is no RDN either; nor is what has an attribute twice.
+#[test]
+fn refusals_of_attributes(rt: HostRuntime) {
+    for text in ["CN=a\\4", "CN=#", "CN"] {
+        assert!(rt; is_no_attribute(&rt, text) && refuses_rdn(&rt, text, ErrorKind::Failed));
+    }
+    assert!(rt; refuses_rdn(&rt, "CN=b+CN=b", ErrorKind::SetDuplicate));
 }

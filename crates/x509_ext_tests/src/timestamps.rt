@@ -147,6 +147,28 @@ fn lists(rt: HostRuntime) {
     assert!(rt; is_extension(&rt));
 }
 
+/// Whether the value is serialized to the bytes.
+fn is_serialized<T: Tls>(rt: &HostRuntime, value: &T, bytes: &[u8]) -> bool {
+    match value.tls_serialize(rt.alloc()) {
+        Ok(made) => made.as_slice() == bytes,
+        Err(_) => false,
+    }
+}
+
+/// Whether the bytes begin with a timestamp, which is serialized to the first of them, and the rest is left.
+fn is_in_front(rt: &HostRuntime, bytes: &[u8], first: &[u8], rest: &[u8]) -> bool {
+    match SignedCertificateTimestamp::tls_deserialize_bytes(rt.alloc(), bytes) {
+        Ok((found, left)) => left == rest && is_serialized(rt, &found, first),
+        Err(_) => false,
+    }
+}
+
+/// The first timestamp of [`TWO`], behind which stands the length of the second, 117.
+#[test]
+fn in_front(rt: HostRuntime) {
+    assert!(rt; is_in_front(&rt, &TWO[7..128], &TWO[7..126], &[0, 0x75]));
+}
+
 /// Whether the bytes, with that one put at that place, are refused as a timestamp by that fault.
 fn is_spoilt(rt: &HostRuntime, place: usize, byte: u8, fault: TlsError) -> bool {
     let mut bytes = ONE;

@@ -67,15 +67,19 @@ has_fault NoHost base = is_no_host base
 has_fault NoRange base = is_no_range base
 has_fault OddMask base = has_odd_mask base
 
+-- the name constraints break the rule
+abbrev pub breaks_name_constraints : ConstraintRule → NameConstraints → Bool
+breaks_name_constraints NameConstraintsEmpty n = not (is_some n.permitted_subtrees) && not (is_some n.excluded_subtrees)
+breaks_name_constraints NameConstraintsOtherForm n = has_subtree (λ s. has_fault OtherForm s.base) n
+breaks_name_constraints NameConstraintsSubtreesEmpty n = has_empty_subtrees n
+breaks_name_constraints NameConstraintsMinimum n = has_subtree (λ s. not (s.minimum == 0)) n
+breaks_name_constraints NameConstraintsMaximum n = has_subtree (λ s. is_some s.maximum) n
+breaks_name_constraints NameConstraintsUriInvalid n = has_subtree (λ s. has_fault NoHost s.base) n
+breaks_name_constraints NameConstraintsAddressLength n = has_subtree (λ s. has_fault NoRange s.base) n
+breaks_name_constraints NameConstraintsAddressMask n = has_subtree (λ s. has_fault OddMask s.base) n
+
 abbrev pub breaks_constraint : Certificate → ConstraintValues → ConstraintRule → Bool
-breaks_constraint c v NameConstraintsEmpty = passes (λ n. not (is_some n.permitted_subtrees) && not (is_some n.excluded_subtrees)) v.name_constraints
-breaks_constraint c v NameConstraintsOtherForm = passes (has_subtree (λ s. has_fault OtherForm s.base)) v.name_constraints
-breaks_constraint c v NameConstraintsSubtreesEmpty = passes has_empty_subtrees v.name_constraints
-breaks_constraint c v NameConstraintsMinimum = passes (has_subtree (λ s. not (s.minimum == 0))) v.name_constraints
-breaks_constraint c v NameConstraintsMaximum = passes (has_subtree (λ s. is_some s.maximum)) v.name_constraints
-breaks_constraint c v NameConstraintsUriInvalid = passes (has_subtree (λ s. has_fault NoHost s.base)) v.name_constraints
-breaks_constraint c v NameConstraintsAddressLength = passes (has_subtree (λ s. has_fault NoRange s.base)) v.name_constraints
-breaks_constraint c v NameConstraintsAddressMask = passes (has_subtree (λ s. has_fault OddMask s.base)) v.name_constraints
+breaks_constraint c v rule = passes (breaks_name_constraints rule) v.name_constraints
 
 -- ---- the order, and how each is told
 

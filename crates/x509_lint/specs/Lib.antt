@@ -20,6 +20,7 @@ pub mod CrlField
 pub mod CrlExtension
 pub mod CrlEntry
 pub mod Request
+pub mod Anchor
 pub mod Seen
 pub mod Rules
 pub mod Report

@@ -1,5 +1,5 @@
 -- What is wrong with user notices (RFC 5280 4.2.1.4).
-use Rattle.std.specs.Prelude.{ℕ, ◌/◌, Bool, true, false, ◌&&◌, ◌||◌, ◌==◌, nat_lt, List, length, Option, Some, None, Result, Ok, Err, bytes_eq, is_some}
+use Rattle.std.specs.Prelude.{ℕ, ◌/◌, Bool, true, false, ◌&&◌, ◌||◌, ◌==◌, nat_le, nat_lt, List, length, Option, Some, None, Result, Ok, Err, bytes_eq, is_some}
 use Rattle.std.specs.List.{list_any}
 use Rattle.std.specs.Str.{chars}
 use Rattle.x509_der.specs.Tag.{octet_of}
@@ -14,6 +14,7 @@ use Rattle.x509_ext.specs.declared.pkix.policy_information.PolicyInformation.{Po
 use Rattle.x509_ext.specs.declared.pkix.policy_information.PolicyQualifierInfo.{PolicyQualifierInfo}
 use Rattle.x509_ext.specs.declared.pkix.user_notice.UserNotice.{UserNotice}
 use Rattle.x509_lint.specs.Words.{passes}
+use Rattle.x509_prim.specs.Bmp.{bmp_chars}
 use Rattle.x509_lint.specs.declared.notices.NoticeFault.{NoticeFault}
 use Rattle.x509_lint.specs.declared.notices.NoticeFault.TheVariants.{Long, NoText, OldType, Ia5Type, Control, Reference}
 
@@ -38,16 +39,15 @@ is_ia5_text (VisibleString text) = false
 is_ia5_text (BmpString octets) = false
 is_ia5_text (Utf8String text) = false
 
--- U+0000 to U+001F, and U+007F
+-- U+0000 to U+001F, and U+007F to U+009F
 abbrev pub is_control : ℕ → Bool
-is_control octet = nat_lt octet 32 || (octet == 127)
+is_control char = nat_lt char 32 || (nat_le 127 char && nat_lt char 160)
 
--- a control character in a text of one octet for each character up to U+007F
 abbrev pub has_control : DisplayText → Bool
 has_control (Ia5String text) = list_any is_control text
 has_control (VisibleString text) = list_any is_control text
-has_control (BmpString octets) = false
-has_control (Utf8String text) = list_any is_control text
+has_control (BmpString octets) = list_any is_control (bmp_chars octets)
+has_control (Utf8String text) = list_any is_control (chars text)
 
 -- what is wrong with an explicit text: it is outside of 1 to 200 characters, which is the size of DisplayText, of another type, or has control characters
 abbrev pub is_faulty_text : NoticeFault → DisplayText → Bool

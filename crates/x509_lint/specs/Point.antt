@@ -7,7 +7,7 @@ use Rattle.x509_lint.specs.declared.places.PointFault.TheVariants.{Relative, Rel
 use Rattle.x509_lint.specs.Words.{Certificate, is_empty, passes}
 use Rattle.x509_lint.specs.declared.values.PointValues.{PointValues}
 use Rattle.x509_lint.specs.declared.rule.point.PointRule.{PointRule}
-use Rattle.x509_lint.specs.declared.rule.point.PointRule.TheVariants.{SubjectDirectoryAttributesEmpty, CrlDistributionPointsEmpty, DistributionPointEmpty, DistributionPointRelative, DistributionPointRelativeToSeveral, DistributionPointWithoutUri, DistributionPointIssuerInvalid, DistributionPointOwnIssuer, DistributionPointsPartial, FreshestCrlEmpty, FreshestCrlPointEmpty, FreshestCrlPointRelative, FreshestCrlPointRelativeToSeveral, FreshestCrlPointWithoutUri, FreshestCrlPointIssuerInvalid, FreshestCrlPointOwnIssuer, AuthorityInfoAccessEmpty, CaIssuersWithoutUri, SubjectInfoAccessEmpty, CaRepositoryWithoutUri}
+use Rattle.x509_lint.specs.declared.rule.point.PointRule.TheVariants.{SubjectDirectoryAttributesEmpty, CrlDistributionPointsEmpty, DistributionPointEmpty, DistributionPointRelative, DistributionPointRelativeToSeveral, DistributionPointWithoutUri, DistributionPointIssuerInvalid, DistributionPointOwnIssuer, DistributionPointsPartial, FreshestCrlEmpty, FreshestCrlPointEmpty, FreshestCrlPointRelative, FreshestCrlPointRelativeToSeveral, FreshestCrlPointWithoutUri, FreshestCrlPointIssuerInvalid, FreshestCrlPointOwnIssuer, FreshestCrlPointsPartial, AuthorityInfoAccessEmpty, CaIssuersWithoutUri, SubjectInfoAccessEmpty, CaRepositoryWithoutUri}
 use Rattle.x509_lint.specs.Wording.{Wording, must, should}
 
 -- neither a name nor a CRL issuer (RFC 5280 4.2.1.13)
@@ -31,6 +31,7 @@ breaks_point c v FreshestCrlPointRelativeToSeveral = passes (λ p. list_any (is_
 breaks_point c v FreshestCrlPointWithoutUri = passes (λ p. list_any (is_faulty_point NoUri) p.0) v.freshest_crl
 breaks_point c v FreshestCrlPointIssuerInvalid = passes (λ p. list_any (is_faulty_point OtherIssuer) p.0) v.freshest_crl
 breaks_point c v FreshestCrlPointOwnIssuer = passes (λ p. list_any (is_point_of c.tbs_certificate.issuer) p.0) v.freshest_crl
+breaks_point c v FreshestCrlPointsPartial = passes (λ p. are_partial p.0) v.freshest_crl
 breaks_point c v AuthorityInfoAccessEmpty = passes (λ a. is_empty a.0) v.authority_info_access
 breaks_point c v CaIssuersWithoutUri = passes (λ a. lacks_uri ca_issuers a.0) v.authority_info_access
 breaks_point c v SubjectInfoAccessEmpty = passes (λ a. is_empty a.0) v.subject_info_access
@@ -39,7 +40,7 @@ breaks_point c v CaRepositoryWithoutUri = passes (λ a. lacks_uri ca_repository 
 -- ---- the order, and how each is told
 
 abbrev pub point_rules : List PointRule
-point_rules = SubjectDirectoryAttributesEmpty ∷ CrlDistributionPointsEmpty ∷ DistributionPointEmpty ∷ DistributionPointRelative ∷ DistributionPointRelativeToSeveral ∷ DistributionPointWithoutUri ∷ DistributionPointIssuerInvalid ∷ DistributionPointOwnIssuer ∷ DistributionPointsPartial ∷ FreshestCrlEmpty ∷ FreshestCrlPointEmpty ∷ FreshestCrlPointRelative ∷ FreshestCrlPointRelativeToSeveral ∷ FreshestCrlPointWithoutUri ∷ FreshestCrlPointIssuerInvalid ∷ FreshestCrlPointOwnIssuer ∷ AuthorityInfoAccessEmpty ∷ CaIssuersWithoutUri ∷ SubjectInfoAccessEmpty ∷ CaRepositoryWithoutUri ∷ []
+point_rules = SubjectDirectoryAttributesEmpty ∷ CrlDistributionPointsEmpty ∷ DistributionPointEmpty ∷ DistributionPointRelative ∷ DistributionPointRelativeToSeveral ∷ DistributionPointWithoutUri ∷ DistributionPointIssuerInvalid ∷ DistributionPointOwnIssuer ∷ DistributionPointsPartial ∷ FreshestCrlEmpty ∷ FreshestCrlPointEmpty ∷ FreshestCrlPointRelative ∷ FreshestCrlPointRelativeToSeveral ∷ FreshestCrlPointWithoutUri ∷ FreshestCrlPointIssuerInvalid ∷ FreshestCrlPointOwnIssuer ∷ FreshestCrlPointsPartial ∷ AuthorityInfoAccessEmpty ∷ CaIssuersWithoutUri ∷ SubjectInfoAccessEmpty ∷ CaRepositoryWithoutUri ∷ []
 
 abbrev pub point_wording : PointRule → Wording
 point_wording SubjectDirectoryAttributesEmpty = must (codes "subject_directory_attributes_empty") (codes "4.2.1.8") (codes "tbsCertificate.extensions.subjectDirectoryAttributes")
@@ -58,6 +59,7 @@ point_wording FreshestCrlPointRelativeToSeveral = must (codes "freshest_crl_poin
 point_wording FreshestCrlPointWithoutUri = should (codes "freshest_crl_point_without_uri") (codes "4.2.1.15") (codes "tbsCertificate.extensions.freshestCRL")
 point_wording FreshestCrlPointIssuerInvalid = must (codes "freshest_crl_point_issuer_invalid") (codes "4.2.1.15") (codes "tbsCertificate.extensions.freshestCRL")
 point_wording FreshestCrlPointOwnIssuer = must (codes "freshest_crl_point_own_issuer") (codes "4.2.1.15") (codes "tbsCertificate.extensions.freshestCRL")
+point_wording FreshestCrlPointsPartial = must (codes "freshest_crl_points_partial") (codes "4.2.1.15") (codes "tbsCertificate.extensions.freshestCRL")
 point_wording AuthorityInfoAccessEmpty = must (codes "authority_info_access_empty") (codes "4.2.2.1") (codes "tbsCertificate.extensions.authorityInfoAccess")
 point_wording CaIssuersWithoutUri = should (codes "ca_issuers_without_uri") (codes "4.2.2.1") (codes "tbsCertificate.extensions.authorityInfoAccess")
 point_wording SubjectInfoAccessEmpty = must (codes "subject_info_access_empty") (codes "4.2.2.2") (codes "tbsCertificate.extensions.subjectInfoAccess")

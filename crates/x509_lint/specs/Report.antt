@@ -4,10 +4,11 @@ use Rattle.std.specs.List.{flat_map, list_any}
 use Rattle.x509_cert.specs.CertReq.{cert_req}
 use Rattle.x509_cert.specs.Certificate.{certificate}
 use Rattle.x509_cert.specs.CertificateList.{certificate_list}
+use Rattle.x509_cert.specs.TrustAnchorChoice.{trust_anchor_choice}
 use Rattle.x509_der.specs.Form.{Form, Spells}
 use Rattle.x509_der.specs.declared.error.ErrorKind.{ErrorKind}
-use Rattle.x509_lint.specs.Rules.{AreCrlFindings, AreFindings, AreRequestFindings, rule_wording}
-use Rattle.x509_lint.specs.Seen.{certificate_seen, crl_seen}
+use Rattle.x509_lint.specs.Rules.{AreAnchorFindings, AreCrlFindings, AreFindings, AreRequestFindings, rule_wording}
+use Rattle.x509_lint.specs.Seen.{anchor_seen, certificate_seen, crl_seen, request_seen}
 use Rattle.x509_lint.specs.Wording.{Wording, severity_text, which_text, wording_text}
 use Rattle.x509_lint.specs.Words.{Certificate, Crl}
 use Rattle.x509_lint.specs.declared.entry.Severity.{Severity}
@@ -79,13 +80,15 @@ any_serial_number content = Ok tt
 unfoldable pub IsSaidAs : Kind → Option (List ℕ) → List ℕ → Option Report → Type 0
 IsSaidAs kinds.Certificate front bytes said = IsSaid (certificate any_serial_number) (codes "certificate") AreFindings certificate_seen front bytes said
 IsSaidAs kinds.Crl front bytes said = IsSaid (certificate_list any_serial_number) (codes "crl") AreCrlFindings crl_seen front bytes said
-IsSaidAs kinds.Csr front bytes said = IsSaid cert_req (codes "csr") AreRequestFindings (λ request rule. []) front bytes said
+IsSaidAs kinds.Csr front bytes said = IsSaid cert_req (codes "csr") AreRequestFindings request_seen front bytes said
+IsSaidAs kinds.Anchor front bytes said = IsSaid (trust_anchor_choice any_serial_number) (codes "anchor") AreAnchorFindings anchor_seen front bytes said
 
 -- of the first of these kinds, or else of another
 abbrev pub IsSaidFirst : (Option Report → Type 0) → (Option Report → Type 0) → Option Report → Type 0
 IsSaidFirst first other said = ((report : Report) × (said ≡ Some report) × first (Some report)) ⊎ (first None × other said)
 
--- of a certificate, else of a CRL, or else of a CSR
+-- of a certificate, else of a CRL, else of a CSR, or else of a trust anchor
 abbrev pub IsReport : Option (List ℕ) → List ℕ → Option Report → Type 0
 IsReport front bytes said =
-    IsSaidFirst (IsSaidAs kinds.Certificate front bytes) (IsSaidFirst (IsSaidAs kinds.Crl front bytes) (IsSaidAs kinds.Csr front bytes)) said
+    IsSaidFirst (IsSaidAs kinds.Certificate front bytes)
+    (IsSaidFirst (IsSaidAs kinds.Crl front bytes) (IsSaidFirst (IsSaidAs kinds.Csr front bytes) (IsSaidAs kinds.Anchor front bytes))) said

@@ -1,6 +1,6 @@
 -- The rules on CSRs (RFC 2986 4.1, RFC 2985 5.4, RFC 5280 4.1.2.6, 4.2): what breaks each, their order, and how each is told.
-use Rattle.std.specs.Prelude.{◌≡◌, ◌↔◌, ◌&&◌, IsTrue, ℕ, Bool, not, nat_lt, List, [], ◌∷◌, ◌++◌, length, Option, Some, None, bytes_eq, codes, is_some, map, refl}
-use Rattle.std.specs.List.{list_any}
+use Rattle.std.specs.Prelude.{◌≡◌, ◌↔◌, ◌&&◌, ◌||◌, IsTrue, ℕ, Bool, not, nat_lt, List, [], ◌∷◌, ◌++◌, length, Option, Some, None, bytes_eq, codes, is_some, map, refl}
+use Rattle.std.specs.List.{list_all, list_any}
 use Rattle.x509_cert.specs.AttributeLookUp.{with_type}
 use Rattle.x509_cert.specs.ChallengePassword.{challenge_password}
 use Rattle.x509_cert.specs.Identifiers.{pkcs_9}
@@ -22,13 +22,15 @@ use Rattle.x509_lint.specs.List.{extension_kinds}
 use Rattle.x509_lint.specs.Name.{has_empty_rdn, has_no_country}
 use Rattle.x509_lint.specs.Notices.{value_read}
 use Rattle.x509_lint.specs.Read.{AreExtensionsRead, is_read}
-use Rattle.x509_lint.specs.Text.{has_faulty_text}
+use Rattle.x509_lint.specs.Text.{char_count, has_faulty_text, is_new_string, is_old_string, is_outside, is_printable_octet, is_utf8_string}
 use Rattle.x509_lint.specs.Words.{IsValue, has, is_empty, passes}
+use Rattle.x509_lint.specs.declared.request.passwords.PasswordFault.{PasswordFault}
+use Rattle.x509_lint.specs.declared.request.passwords.PasswordFault.TheVariants as passwords
 use Rattle.x509_lint.specs.declared.request.values.RequestValues.{RequestValues}
 use Rattle.x509_lint.specs.declared.rule.list.ExtensionKind.{ExtensionKind}
 use Rattle.x509_lint.specs.declared.rule.list.ExtensionKind.TheVariants as kinds
 use Rattle.x509_lint.specs.declared.rule.request.RequestRule.{RequestRule}
-use Rattle.x509_lint.specs.declared.rule.request.RequestRule.TheVariants.{SubjectRdnEmpty, SubjectCountryNameInvalid, SubjectTextType, SubjectTextOldType, SubjectTextCharacters, SubjectTextSize, SubjectEmptyWithoutAltName, AttributeRepeated, AttributeValuesEmpty, ChallengePasswordValues, ChallengePasswordMalformed, ExtensionRequestValues, ExtensionRequestMalformed, ExtensionsEmpty, ExtensionRepeated, ExtensionMalformed, SubjectAltNameEmpty, SubjectAltNameEmptyName, SubjectAltNameDnsNameInvalid, SubjectAltNameAddressLength, SubjectAltNameMailboxInvalid, SubjectAltNameUriRelative}
+use Rattle.x509_lint.specs.declared.rule.request.RequestRule.TheVariants.{SubjectRdnEmpty, SubjectCountryNameInvalid, SubjectTextType, SubjectTextOldType, SubjectTextCharacters, SubjectTextSize, SubjectEmptyWithoutAltName, AttributeRepeated, AttributeValuesEmpty, ChallengePasswordValues, ChallengePasswordMalformed, ChallengePasswordSize, ChallengePasswordType, ExtensionRequestValues, ExtensionRequestMalformed, ExtensionsEmpty, ExtensionRepeated, ExtensionMalformed, SubjectAltNameEmpty, SubjectAltNameEmptyName, SubjectAltNameDnsNameInvalid, SubjectAltNameAddressLength, SubjectAltNameMailboxInvalid, SubjectAltNameUriRelative}
 use Rattle.x509_lint.specs.declared.texts.TextFault.TheVariants.{OtherType, OldType, OtherCharacter, Size}
 use Rattle.x509_lint.specs.Wording.{Wording, must, must_of, should, should_of}
 use Rattle.x509_name.specs.declared.attr.attribute.Attribute.{Attribute}
@@ -58,6 +60,24 @@ is_malformed_as form oid a = bytes_eq a.oid oid && list_any (is_unread form) a.v
 abbrev pub has_malformed : {T : Type 0} → Form T → List ℕ → List Attribute → Bool
 has_malformed form oid attributes = list_any (is_malformed_as form oid) attributes
 
+-- ---- challenge passwords (RFC 2985 5.4.1)
+
+-- a DirectoryString outside of 1 to 255 characters
+abbrev pub has_odd_size : Any → Bool
+has_odd_size value = (is_new_string value.tag || is_old_string value.tag) && is_outside 255 (char_count value.tag value.value)
+
+-- of an old type, or a UTF8String of characters that a PrintableString has
+abbrev pub has_other_type : Any → Bool
+has_other_type value = is_old_string value.tag || (is_utf8_string value.tag && list_all is_printable_octet value.value)
+
+abbrev pub is_faulty_password : PasswordFault → Any → Bool
+is_faulty_password passwords.Size value = has_odd_size value
+is_faulty_password passwords.OtherType value = has_other_type value
+
+-- a value of a challengePassword has the fault
+abbrev pub has_faulty_password : PasswordFault → List Attribute → Bool
+has_faulty_password fault attributes = list_any (λ a. bytes_eq a.oid (pkcs_9 7) && list_any (is_faulty_password fault) a.values) attributes
+
 -- ---- the extensions that are asked for (RFC 2985 5.4.2)
 
 abbrev extension_req_round : Round ExtensionReq (List Extension)
@@ -77,6 +97,9 @@ requested_in form [] = None
 requested_in form (attribute ∷ []) = one_value form attribute.values
 requested_in form (first ∷ second ∷ attributes) = None
 
+abbrev pub requested_of : CertReq → Option ExtensionReq
+requested_of r = requested_in extension_req (with_type (pkcs_9 14) r.info.attributes)
+
 abbrev pub requested_extensions : Option ExtensionReq → List Extension
 requested_extensions None = []
 requested_extensions (Some requested) = requested.0
@@ -86,7 +109,7 @@ AreRequestValues r v =
     (IsTrue v.are_types_distinct ↔ AreDistinct (attribute_types r.info.attributes))
     × (v.is_password_malformed ≡ has_malformed challenge_password (pkcs_9 7) r.info.attributes)
     × (v.is_request_malformed ≡ has_malformed extension_req (pkcs_9 14) r.info.attributes)
-    × (v.requested ≡ requested_in extension_req (with_type (pkcs_9 14) r.info.attributes))
+    × (v.requested ≡ requested_of r)
     × (IsTrue v.is_repeated ↔ IsRepeated (requested_extensions v.requested))
     × AreExtensionsRead (requested_extensions v.requested) v.read
     × IsValue subject_alt_name (id_ce 17) (requested_extensions v.requested) v.subject_alt_name
@@ -103,6 +126,8 @@ breaks_request r v AttributeRepeated = not v.are_types_distinct
 breaks_request r v AttributeValuesEmpty = list_any (λ a. is_empty a.values) r.info.attributes
 breaks_request r v ChallengePasswordValues = has_several_values (pkcs_9 7) r.info.attributes
 breaks_request r v ChallengePasswordMalformed = v.is_password_malformed
+breaks_request r v ChallengePasswordSize = has_faulty_password passwords.Size r.info.attributes
+breaks_request r v ChallengePasswordType = has_faulty_password passwords.OtherType r.info.attributes
 breaks_request r v ExtensionRequestValues = has_several_values (pkcs_9 14) r.info.attributes
 breaks_request r v ExtensionRequestMalformed = v.is_request_malformed
 breaks_request r v ExtensionsEmpty = passes (λ q. is_empty q.0) v.requested
@@ -119,7 +144,7 @@ breaks_request r v SubjectAltNameUriRelative = passes (λ s. list_any is_relativ
 
 abbrev pub request_rules : List RequestRule
 request_rules =
-    SubjectRdnEmpty ∷ SubjectCountryNameInvalid ∷ SubjectTextType ∷ SubjectTextOldType ∷ SubjectTextCharacters ∷ SubjectTextSize ∷ SubjectEmptyWithoutAltName ∷ AttributeRepeated ∷ AttributeValuesEmpty ∷ ChallengePasswordValues ∷ ChallengePasswordMalformed ∷ ExtensionRequestValues ∷ ExtensionRequestMalformed ∷ ExtensionsEmpty ∷ ExtensionRepeated
+    SubjectRdnEmpty ∷ SubjectCountryNameInvalid ∷ SubjectTextType ∷ SubjectTextOldType ∷ SubjectTextCharacters ∷ SubjectTextSize ∷ SubjectEmptyWithoutAltName ∷ AttributeRepeated ∷ AttributeValuesEmpty ∷ ChallengePasswordValues ∷ ChallengePasswordMalformed ∷ ChallengePasswordSize ∷ ChallengePasswordType ∷ ExtensionRequestValues ∷ ExtensionRequestMalformed ∷ ExtensionsEmpty ∷ ExtensionRepeated
     ∷ (map ExtensionMalformed extension_kinds ++ SubjectAltNameEmpty ∷ SubjectAltNameEmptyName ∷ SubjectAltNameDnsNameInvalid ∷ SubjectAltNameAddressLength ∷ SubjectAltNameMailboxInvalid ∷ SubjectAltNameUriRelative ∷ [])
 
 -- where in a CSR an extension of the type that is asked for stands
@@ -155,6 +180,8 @@ request_wording AttributeRepeated = should_of (codes "RFC 2986") (codes "attribu
 request_wording AttributeValuesEmpty = must_of (codes "RFC 2986") (codes "attribute_values_empty") (codes "4.1") (codes "certificationRequestInfo.attributes")
 request_wording ChallengePasswordValues = must_of (codes "RFC 2985") (codes "challenge_password_several_values") (codes "5.4.1") (codes "certificationRequestInfo.attributes.challengePassword")
 request_wording ChallengePasswordMalformed = must_of (codes "RFC 2985") (codes "challenge_password_malformed") (codes "5.4.1") (codes "certificationRequestInfo.attributes.challengePassword")
+request_wording ChallengePasswordSize = must_of (codes "RFC 2985") (codes "challenge_password_size") (codes "5.4.1") (codes "certificationRequestInfo.attributes.challengePassword")
+request_wording ChallengePasswordType = should_of (codes "RFC 2985") (codes "challenge_password_type") (codes "5.4.1") (codes "certificationRequestInfo.attributes.challengePassword")
 request_wording ExtensionRequestValues = must_of (codes "RFC 2985") (codes "extension_request_several_values") (codes "5.4.2") (codes "certificationRequestInfo.attributes.extensionRequest")
 request_wording ExtensionRequestMalformed = must_of (codes "RFC 2985") (codes "extension_request_malformed") (codes "5.4.2") (codes "certificationRequestInfo.attributes.extensionRequest")
 request_wording ExtensionsEmpty = must (codes "extensions_empty") (codes "4.1.2.9") (codes "certificationRequestInfo.attributes.extensionRequest")

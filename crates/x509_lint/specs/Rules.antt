@@ -1,7 +1,11 @@
--- All rules: which of them are asked of certificates, of CRLs and of CSRs, in which order, and what breaks each.
+-- All rules: which of them are asked of certificates, of CRLs, of CSRs and of trust anchors, in which order, and what breaks each.
 use Rattle.std.specs.Prelude.{◌≡◌, Bool, false, List, ◌++◌, map, filter}
+use Rattle.x509_base.specs.declared.profile.Raw.{Raw}
+use Rattle.x509_cert.specs.declared.anchor.trust_anchor_choice.TrustAnchorChoice.{TrustAnchorChoice}
+use Rattle.x509_cert.specs.declared.anchor.trust_anchor_choice.TrustAnchorChoice.TheVariants as anchors
 use Rattle.x509_cert.specs.declared.request.cert_req.CertReq.{CertReq}
 use Rattle.x509_lint.specs.Alternative as alternative
+use Rattle.x509_lint.specs.Anchor as anchor
 use Rattle.x509_lint.specs.Authority as authority
 use Rattle.x509_lint.specs.Constraint as constraint
 use Rattle.x509_lint.specs.Critical as critical
@@ -18,9 +22,10 @@ use Rattle.x509_lint.specs.Request as request
 use Rattle.x509_lint.specs.Values.{AreCertificateParts, AreCrlParts, CertificateParts, CrlParts}
 use Rattle.x509_lint.specs.Words.{Certificate, Crl}
 use Rattle.x509_lint.specs.Wording.{Wording}
+use Rattle.x509_lint.specs.declared.anchor.values.AnchorValues.{AnchorValues}
 use Rattle.x509_lint.specs.declared.request.values.RequestValues.{RequestValues}
 use Rattle.x509_lint.specs.declared.rule.Rule.{Rule}
-use Rattle.x509_lint.specs.declared.rule.Rule.TheVariants.{Field, Name, ExtensionList, Critical, Authority, Key, Alternative, Policy, Constraint, Point, CrlField, CrlExtension, CrlEntry, Request}
+use Rattle.x509_lint.specs.declared.rule.Rule.TheVariants.{Field, Name, ExtensionList, Critical, Authority, Key, Alternative, Policy, Constraint, Point, CrlField, CrlExtension, CrlEntry, Request, Anchor}
 
 abbrev pub rule_wording : Rule → Wording
 rule_wording (Field rule) = field.field_wording rule
@@ -37,6 +42,7 @@ rule_wording (CrlField rule) = crl_field.crl_field_wording rule
 rule_wording (CrlExtension rule) = crl_extension.crl_extension_wording rule
 rule_wording (CrlEntry rule) = crl_entry.crl_entry_wording rule
 rule_wording (Request rule) = request.request_wording rule
+rule_wording (Anchor rule) = anchor.anchor_wording rule
 
 -- ---- certificates (RFC 5280 4.1, 4.2)
 
@@ -62,6 +68,7 @@ breaks c parts (CrlField rule) = false
 breaks c parts (CrlExtension rule) = false
 breaks c parts (CrlEntry rule) = false
 breaks c parts (Request rule) = false
+breaks c parts (Anchor rule) = false
 
 -- the findings are those of the rules that the certificate breaks, in the order of the rules
 abbrev pub AreFindings : Certificate → List Rule → Type 0
@@ -87,6 +94,7 @@ crl_breaks l parts (CrlField rule) = crl_field.breaks_crl_field l parts.facts ru
 crl_breaks l parts (CrlExtension rule) = crl_extension.breaks_crl_extension l parts.values rule
 crl_breaks l parts (CrlEntry rule) = crl_entry.breaks_crl_entry l parts.values rule
 crl_breaks l parts (Request rule) = false
+crl_breaks l parts (Anchor rule) = false
 
 abbrev pub AreCrlFindings : Crl → List Rule → Type 0
 AreCrlFindings l findings = (parts : CrlParts) × AreCrlParts l parts × (findings ≡ filter (crl_breaks l parts) crl_rules)
@@ -96,3 +104,15 @@ AreCrlFindings l findings = (parts : CrlParts) × AreCrlParts l parts × (findin
 abbrev pub AreRequestFindings : CertReq → List Rule → Type 0
 AreRequestFindings r findings =
     (values : RequestValues) × request.AreRequestValues r values × (findings ≡ map Request (filter (request.breaks_request r values) request.request_rules))
+
+-- ---- trust anchors (RFC 5914 2, 3)
+
+abbrev pub AreInfoFindings : anchor.Info → List Rule → Type 0
+AreInfoFindings info findings =
+    (values : AnchorValues) × anchor.AreAnchorValues info values × (findings ≡ map Anchor (filter (anchor.breaks_anchor info values) anchor.anchor_rules))
+
+-- of a certificate, also of one without a signature, those on certificates
+abbrev pub AreAnchorFindings : TrustAnchorChoice Raw → List Rule → Type 0
+AreAnchorFindings (anchors.Certificate c) findings = AreFindings c findings
+AreAnchorFindings (anchors.TbsCertificate signed) findings = AreFindings (anchor.unsigned signed) findings
+AreAnchorFindings (anchors.TaInfo info) findings = AreInfoFindings info findings

@@ -1,10 +1,19 @@
 -- What is seen at the place of a finding.
 use Rattle.std.specs.Prelude.{ℕ, nat_lt, List, [], ◌∷◌, ◌++◌, codes, length, take, if◌then◌else◌}
 use Rattle.hex.specs.Hex.{encode_lower}
+use Rattle.x509_base.specs.declared.profile.Raw.{Raw}
+use Rattle.x509_cert.specs.declared.anchor.trust_anchor_choice.TrustAnchorChoice.{TrustAnchorChoice}
+use Rattle.x509_cert.specs.declared.anchor.trust_anchor_choice.TrustAnchorChoice.TheVariants as anchors
+use Rattle.x509_cert.specs.declared.anchor.trust_anchor_info.TrustAnchorInfo.{TrustAnchorInfo}
+use Rattle.x509_cert.specs.declared.certificate.tbs_certificate.TbsCertificateInner.{TbsCertificateInner}
+use Rattle.x509_cert.specs.declared.request.cert_req.CertReq.{CertReq}
 use Rattle.x509_ext.specs.Identifiers.{id_ce, id_pkix}
-use Rattle.x509_ext.specs.LookUp.{with_oid}
+use Rattle.x509_ext.specs.LookUp.{members, with_oid}
 use Rattle.x509_ext.specs.declared.extension.Extension.{Extension}
-use Rattle.x509_lint.specs.Words.{Certificate, Crl, crl_extensions_of, extensions_of}
+use Rattle.x509_lint.specs.Request.{requested_extensions, requested_of}
+use Rattle.x509_lint.specs.Words.{Certificate, Crl, crl_extensions_of}
+use Rattle.x509_lint.specs.declared.rule.anchor.AnchorRule.{AnchorRule}
+use Rattle.x509_lint.specs.declared.rule.anchor.AnchorRule.TheVariants as anchor
 use Rattle.x509_lint.specs.declared.rule.Rule.{Rule}
 use Rattle.x509_lint.specs.declared.rule.Rule.TheVariants as rules
 use Rattle.x509_lint.specs.declared.rule.crl_field.CrlExtensionKind.{CrlExtensionKind}
@@ -17,6 +26,8 @@ use Rattle.x509_lint.specs.declared.rule.list.ExtensionKind.{ExtensionKind}
 use Rattle.x509_lint.specs.declared.rule.list.ExtensionKind.TheVariants as kinds
 use Rattle.x509_lint.specs.declared.rule.list.ListRule.{ListRule}
 use Rattle.x509_lint.specs.declared.rule.list.ListRule.TheVariants as list
+use Rattle.x509_lint.specs.declared.rule.request.RequestRule.{RequestRule}
+use Rattle.x509_lint.specs.declared.rule.request.RequestRule.TheVariants as request
 
 -- the octets in hex; of more than 32 those alone, and two dots
 unfoldable pub shortened : List ℕ → List ℕ
@@ -61,20 +72,23 @@ crl_extension_oid crl_kinds.IssuingDistributionPoint = id_ce 28
 crl_extension_oid crl_kinds.FreshestCrl = id_ce 46
 crl_extension_oid crl_kinds.AuthorityInfoAccess = id_pkix 1 1
 
--- of a certificate its serial number, and the octets of an extension that can't be read
-abbrev pub field_seen : Certificate → FieldRule → List ℕ
-field_seen c field.SerialNumberNotPositive = shortened c.tbs_certificate.serial_number
-field_seen c field.SerialNumberTooLong = shortened c.tbs_certificate.serial_number
-field_seen c other = []
+-- of the signed part of a certificate its serial number, and the octets of an extension that can't be read
+abbrev pub field_seen : TbsCertificateInner Raw → FieldRule → List ℕ
+field_seen signed field.SerialNumberNotPositive = shortened signed.serial_number
+field_seen signed field.SerialNumberTooLong = shortened signed.serial_number
+field_seen signed other = []
 
-abbrev pub list_seen : Certificate → ListRule → List ℕ
-list_seen c (list.ExtensionMalformed kind) = value_seen (extension_oid kind) (extensions_of c)
-list_seen c other = []
+abbrev pub list_seen : TbsCertificateInner Raw → ListRule → List ℕ
+list_seen signed (list.ExtensionMalformed kind) = value_seen (extension_oid kind) (members signed.extensions)
+list_seen signed other = []
+
+abbrev pub signed_seen : TbsCertificateInner Raw → Rule → List ℕ
+signed_seen signed (rules.Field rule) = field_seen signed rule
+signed_seen signed (rules.ExtensionList rule) = list_seen signed rule
+signed_seen signed other = []
 
 abbrev pub certificate_seen : Certificate → Rule → List ℕ
-certificate_seen c (rules.Field rule) = field_seen c rule
-certificate_seen c (rules.ExtensionList rule) = list_seen c rule
-certificate_seen c other = []
+certificate_seen c rule = signed_seen c.tbs_certificate rule
 
 -- of a CRL the octets of an extension that can't be read
 abbrev pub crl_field_seen : Crl → CrlFieldRule → List ℕ
@@ -84,3 +98,27 @@ crl_field_seen l other = []
 abbrev pub crl_seen : Crl → Rule → List ℕ
 crl_seen l (rules.CrlField rule) = crl_field_seen l rule
 crl_seen l other = []
+
+-- of a CSR the octets of an extension that is asked for and can't be read
+abbrev pub request_rule_seen : CertReq → RequestRule → List ℕ
+request_rule_seen r (request.ExtensionMalformed kind) = value_seen (extension_oid kind) (requested_extensions (requested_of r))
+request_rule_seen r other = []
+
+abbrev pub request_seen : CertReq → Rule → List ℕ
+request_seen r (rules.Request rule) = request_rule_seen r rule
+request_seen r other = []
+
+-- of the description of a trust anchor the octets of an extension that can't be read
+abbrev pub anchor_rule_seen : TrustAnchorInfo Raw → AnchorRule → List ℕ
+anchor_rule_seen info (anchor.ExtensionMalformed kind) = value_seen (extension_oid kind) (members info.extensions)
+anchor_rule_seen info other = []
+
+abbrev pub info_seen : TrustAnchorInfo Raw → Rule → List ℕ
+info_seen info (rules.Anchor rule) = anchor_rule_seen info rule
+info_seen info other = []
+
+-- of a trust anchor that is a certificate what is seen of that
+abbrev pub anchor_seen : TrustAnchorChoice Raw → Rule → List ℕ
+anchor_seen (anchors.Certificate c) rule = certificate_seen c rule
+anchor_seen (anchors.TbsCertificate signed) rule = signed_seen signed rule
+anchor_seen (anchors.TaInfo info) rule = info_seen info rule

@@ -48,6 +48,10 @@ abbrev pub is_ia5_string : Tag → Bool
 is_ia5_string Ia5String = true
 is_ia5_string other = false
 
+abbrev pub is_utf8_string : Tag → Bool
+is_utf8_string Utf8String = true
+is_utf8_string other = false
+
 -- those of a DirectoryString that new names have
 abbrev pub is_new_string : Tag → Bool
 is_new_string PrintableString = true

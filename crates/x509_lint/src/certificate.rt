@@ -53,6 +53,7 @@ use crate::values::{
     alternative_values, authority_values, constraint_values, key_values, point_values,
     policy_values,
 };
+pub(crate) use constraint::breaks_name_constraints;
 use std::alloc::Global;
 use x509_base::Raw;
 use x509_cert::certificate::CertificateInner;

@@ -1,8 +1,9 @@
-//! The rules on certificates, CRLs (RFC 5280) and CSRs (RFC 2986, 2985) that no grammar has: which of them an object breaks.
+//! The rules on certificates, CRLs (RFC 5280), CSRs (RFC 2986, 2985) and trust anchors (RFC 5914) that no grammar has: which of them an object breaks.
 //!
 //! Words of our own are explained in `docs/MAP.md`.
 #![tactic(auto)]
 
+mod anchor;
 mod basic_constraints;
 mod certificate;
 mod crl;
@@ -24,6 +25,7 @@ mod texts;
 mod times;
 mod values;
 
+pub use anchor::lint_anchor;
 pub use basic_constraints::AnyBasicConstraints;
 pub use certificate::lint_certificate;
 pub use crl::lint_crl;

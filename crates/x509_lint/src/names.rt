@@ -87,7 +87,7 @@ pub(crate) fn is_empty_name(name: &Name) -> bool
     name.len() == 0
 }
 
-fn is_letter_or_digit(octet: u8) -> bool
+pub(crate) fn is_letter_or_digit(octet: u8) -> bool
     ensures { result ≡ is_letter_or_digit octet }
 {
     is_letter(octet) || (octet >= b'0' && octet <= b'9')

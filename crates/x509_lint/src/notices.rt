@@ -6,6 +6,7 @@ ghost use Rattle.std.specs.Str.{chars};
 ghost use Rattle.x509_der.specs.declared.error.ErrorKind.TheVariants.{Memory};
 ghost use Rattle.x509_lint.specs.Notices as notices;
 ghost use Rattle.x509_lint.specs.Words.{passes};
+ghost use Rattle.x509_prim.specs.Bmp.{bmp_chars};
 
 use std::alloc::Global;
 use x509_der::{Any, Error, ErrorKind, ObjectIdentifier, oid};
@@ -77,10 +78,34 @@ fn is_ia5_text(text: &DisplayText) -> bool
     }
 }
 
+fn is_control(char: u32) -> bool
+    ensures { result ≡ notices.is_control char }
+{
+    char < 32 || (char >= 127 && char < 160)
+}
+
 fn are_controls(octets: &[u8]) -> bool
     ensures { result ≡ list_any notices.is_control octets.now }
 {
-    octets.iter().any(|octet| *octet < 32 || *octet == 127)
+    octets.iter().any(|octet| is_control(*octet as u32))
+}
+
+fn are_control_chars(text: &str) -> bool
+    ensures { result ≡ list_any notices.is_control (chars text.now) }
+{
+    text.chars().any(|char| is_control(char as u32))
+}
+
+fn are_bmp_controls(mut octets: &[u8]) -> bool
+    ensures { result ≡ list_any notices.is_control (bmp_chars octets.entry.now) }
+{
+    while let [high, low, rest @ ..] = octets {
+        if is_control(256 * *high as u32 + *low as u32) {
+            return true;
+        }
+        octets = rest;
+    }
+    false
 }
 
 fn has_control(text: &DisplayText) -> bool
@@ -89,8 +114,8 @@ fn has_control(text: &DisplayText) -> bool
     match text {
         DisplayText::Ia5String(text) => are_controls(text.as_str().as_bytes()),
         DisplayText::VisibleString(text) => are_controls(text.as_str().as_bytes()),
-        DisplayText::BmpString(_) => false,
-        DisplayText::Utf8String(text) => are_controls(text.as_str().as_bytes()),
+        DisplayText::BmpString(text) => are_bmp_controls(text.as_bytes()),
+        DisplayText::Utf8String(text) => are_control_chars(text.as_str()),
     }
 }
 

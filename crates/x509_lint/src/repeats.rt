@@ -49,7 +49,15 @@ pub(crate) fn are_serials_distinct(
     Ok(are_numbers_distinct(numbers))
 }
 
-fn are_identifiers_distinct(alloc: Global, policies: &[PolicyInformation]) -> Result<bool, Error>
+/// Whether no policy is there twice. O(n log n) comparisons.
+///
+/// # Errors
+///
+/// `Memory` when out of memory, and nothing else: it copies the OIDs.
+pub(crate) fn are_identifiers_distinct(
+    alloc: Global,
+    policies: &[PolicyInformation],
+) -> Result<bool, Error>
     ensures ok { IfOk result (λ b. IsTrue b ↔ AreDistinct (policy_identifiers policies.now)) }
     ensures err { IfErr result (λ e. e.kind ≡ Memory) }
 {
@@ -60,7 +68,8 @@ fn are_identifiers_distinct(alloc: Global, policies: &[PolicyInformation]) -> Re
     Ok(are_oids_distinct(identifiers))
 }
 
-fn policies_of(policies: &Option<CertificatePolicies>) -> &[PolicyInformation]
+/// The policies; none where they are absent.
+pub(crate) fn policies_of(policies: &Option<CertificatePolicies>) -> &[PolicyInformation]
     ensures { result.now ≡ policies_of policies.now }
 {
     match policies {

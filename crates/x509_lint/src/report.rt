@@ -7,14 +7,16 @@ ghost use Rattle.x509_lint.specs.Report as grammar;
 ghost use Rattle.x509_lint.specs.Rules.{rule_wording};
 ghost use Rattle.x509_lint.specs.Wording.{which_text};
 
+use crate::anchor::lint_anchor;
 use crate::certificate::lint_certificate;
 use crate::crl::lint_crl;
 use crate::entry::{Entry, Severity};
 use crate::request::lint_request;
 use crate::rule::Rule;
-use crate::seen::{certificate_seen, crl_seen};
+use crate::seen::{anchor_seen, certificate_seen, crl_seen, request_seen};
 use std::alloc::{AllocError, Global};
 use x509_base::Raw;
+use x509_cert::anchor::TrustAnchorChoice;
 use x509_cert::certificate::CertificateInner;
 use x509_cert::crl::CertificateList;
 use x509_cert::request::CertReq;
@@ -31,6 +33,9 @@ pub enum Kind {
 
     /// A PKCS #10 request, a CSR (RFC 2986 4).
     Csr,
+
+    /// A trust anchor (RFC 5914 3).
+    Anchor,
 }
 
 /// How a finding is told.
@@ -132,14 +137,15 @@ impl Linted for CertificateList<Raw> {
 }
 
 impl Linted for CertReq {
-    ghost use Rattle.std.specs.Prelude.{[], codes};
+    ghost use Rattle.std.specs.Prelude.{codes};
     ghost use Rattle.x509_lint.specs.Rules.{AreRequestFindings};
+    ghost use Rattle.x509_lint.specs.Seen.{request_seen};
 
     ghost word = { codes "csr" };
 
     ghost are_findings = { AreRequestFindings };
 
-    ghost seen = { λ request rule. [] };
+    ghost seen = { request_seen };
 
     fn word() -> &'static str {
         "csr"
@@ -149,8 +155,32 @@ impl Linted for CertReq {
         lint_request(alloc, self)
     }
 
-    fn seen(&self, alloc: Global, _rule: Rule) -> Result<String, AllocError> {
-        Ok(String::new(alloc))
+    fn seen(&self, alloc: Global, rule: Rule) -> Result<String, AllocError> {
+        request_seen(alloc, self, rule)
+    }
+}
+
+impl Linted for TrustAnchorChoice<Raw> {
+    ghost use Rattle.std.specs.Prelude.{codes};
+    ghost use Rattle.x509_lint.specs.Rules.{AreAnchorFindings};
+    ghost use Rattle.x509_lint.specs.Seen.{anchor_seen};
+
+    ghost word = { codes "anchor" };
+
+    ghost are_findings = { AreAnchorFindings };
+
+    ghost seen = { anchor_seen };
+
+    fn word() -> &'static str {
+        "anchor"
+    }
+
+    fn findings(&self, alloc: Global) -> Result<Vec<Rule>, Error> {
+        lint_anchor(alloc, self)
+    }
+
+    fn seen(&self, alloc: Global, rule: Rule) -> Result<String, AllocError> {
+        anchor_seen(alloc, self, rule)
     }
 }
 
@@ -300,11 +330,12 @@ pub fn lint_kind(
         Kind::Certificate => lint_as::<CertificateInner<Raw>>(alloc, style, bytes),
         Kind::Crl => lint_as::<CertificateList<Raw>>(alloc, style, bytes),
         Kind::Csr => lint_as::<CertReq>(alloc, style, bytes),
+        Kind::Anchor => lint_as::<TrustAnchorChoice<Raw>>(alloc, style, bytes),
     }
 }
 
-/// What is said of the object whose encoding the bytes are: of a certificate, else of a CRL, or else of a CSR; `None` exactly where they
-/// are that of none.
+/// What is said of the object whose encoding the bytes are: of a certificate, else of a CRL, else of a CSR, or else of a trust anchor; `None`
+/// exactly where they are that of none.
 ///
 /// # Errors
 ///
@@ -319,5 +350,8 @@ pub fn lint_bytes(alloc: Global, style: Style<'_>, bytes: &[u8]) -> Result<Optio
     if let Some(report) = lint_kind(alloc, style, Kind::Crl, bytes)? {
         return Ok(Some(report));
     }
-    lint_kind(alloc, style, Kind::Csr, bytes)
+    if let Some(report) = lint_kind(alloc, style, Kind::Csr, bytes)? {
+        return Ok(Some(report));
+    }
+    lint_kind(alloc, style, Kind::Anchor, bytes)
 }

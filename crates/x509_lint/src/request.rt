@@ -7,7 +7,8 @@ ghost use Rattle.x509_lint.specs.Request as grammar;
 ghost use Rattle.x509_lint.specs.Rules.{AreRequestFindings};
 ghost use Rattle.x509_lint.specs.Words.{is_empty, passes};
 
-mod values;
+mod passwords;
+pub(crate) mod values;
 
 use crate::extensions::has;
 use crate::group::{Group, add_broken};
@@ -15,6 +16,7 @@ use crate::names::{
     has_empty_name, has_empty_rdn, has_no_address, has_no_country, has_no_dns_name, has_no_mailbox,
     has_relative_uri, is_empty_name,
 };
+use crate::request::passwords::{PasswordFault, has_faulty_password};
 use crate::request::values::{RequestValues, request_values, requested_extensions};
 use crate::rule::request::REQUEST_RULES;
 use crate::rule::{RequestRule, Rule};
@@ -91,6 +93,14 @@ impl Group<CertReq, RequestValues> for RequestRule {
                 request.info.attributes.as_slice(),
             ),
             RequestRule::ChallengePasswordMalformed => values.is_password_malformed,
+            RequestRule::ChallengePasswordSize => has_faulty_password(
+                PasswordFault::Size,
+                request.info.attributes.as_slice(),
+            ),
+            RequestRule::ChallengePasswordType => has_faulty_password(
+                PasswordFault::OtherType,
+                request.info.attributes.as_slice(),
+            ),
             RequestRule::ExtensionRequestValues => has_several_values::<ExtensionReq>(
                 request.info.attributes.as_slice(),
             ),

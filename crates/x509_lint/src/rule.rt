@@ -8,6 +8,7 @@ use crate::entry::{Entry, Severity};
 use std::fmt;
 
 pub(crate) mod alternative;
+pub(crate) mod anchor;
 pub(crate) mod authority;
 pub(crate) mod constraint;
 pub(crate) mod critical;
@@ -23,6 +24,7 @@ pub(crate) mod policy;
 pub(crate) mod request;
 
 pub use alternative::AlternativeRule;
+pub use anchor::AnchorRule;
 pub use authority::AuthorityRule;
 pub use constraint::ConstraintRule;
 pub use critical::CriticalRule;
@@ -37,7 +39,7 @@ pub use point::PointRule;
 pub use policy::PolicyRule;
 pub use request::RequestRule;
 
-/// A rule on certificates, CRLs or CSRs. It is printed as `error serial_number_not_positive (RFC 5280 4.1.2.2)`.
+/// A rule on certificates, CRLs, CSRs or trust anchors. It is printed as `error serial_number_not_positive (RFC 5280 4.1.2.2)`.
 #[derive(Clone, Copy, Debug, PartialEq, Eq)]
 pub enum Rule {
     /// On the fields of a certificate.
@@ -81,6 +83,9 @@ pub enum Rule {
 
     /// On CSRs.
     Request(RequestRule),
+
+    /// On the descriptions of trust anchors.
+    Anchor(AnchorRule),
 }
 
 impl Rule {
@@ -103,6 +108,7 @@ impl Rule {
             Rule::CrlExtension(rule) => rule.entry(),
             Rule::CrlEntry(rule) => rule.entry(),
             Rule::Request(rule) => rule.entry(),
+            Rule::Anchor(rule) => rule.entry(),
         }
     }
 

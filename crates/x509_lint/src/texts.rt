@@ -77,7 +77,16 @@ fn is_ia5_string(tag: Tag) -> bool
     }
 }
 
-fn is_new_string(tag: Tag) -> bool
+pub(crate) fn is_utf8_string(tag: Tag) -> bool
+    ensures { result ≡ text.is_utf8_string tag }
+{
+    match tag {
+        Tag::Utf8String => true,
+        _ => false,
+    }
+}
+
+pub(crate) fn is_new_string(tag: Tag) -> bool
     ensures { result ≡ text.is_new_string tag }
 {
     match tag {
@@ -86,7 +95,7 @@ fn is_new_string(tag: Tag) -> bool
     }
 }
 
-fn is_old_string(tag: Tag) -> bool
+pub(crate) fn is_old_string(tag: Tag) -> bool
     ensures { result ≡ text.is_old_string tag }
 {
     match tag {
@@ -130,7 +139,8 @@ fn is_printable_octet(octet: u8) -> bool
         || ((octet >= b'a' && octet <= b'z') || (is_digit(octet) || is_mark(octet)))
 }
 
-fn is_printable(octets: &[u8]) -> bool
+/// Whether each octet is a character of a PrintableString.
+pub(crate) fn is_printable(octets: &[u8]) -> bool
     ensures { result ≡ list_all text.is_printable_octet octets.now }
 {
     octets.iter().all(|octet| is_printable_octet(*octet))
@@ -202,7 +212,7 @@ fn count_utf8(octets: &[u8]) -> usize
 }
 
 /// How many characters the octets have as a text of the string type.
-fn char_count(tag: Tag, octets: &[u8]) -> usize
+pub(crate) fn char_count(tag: Tag, octets: &[u8]) -> usize
     ensures { result ≡ text.char_count tag octets.now }
 {
     match tag {
@@ -213,7 +223,7 @@ fn char_count(tag: Tag, octets: &[u8]) -> usize
     }
 }
 
-fn is_outside(bound: usize, count: usize) -> bool
+pub(crate) fn is_outside(bound: usize, count: usize) -> bool
     ensures { result ≡ text.is_outside bound count }
 {
     count == 0 || count > bound

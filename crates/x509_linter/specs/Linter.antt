@@ -1,9 +1,13 @@
 -- What the program prints of the bytes of an object, and what its words ask for.
-use Rattle.std.specs.Prelude.{◌≡◌, ℕ, Bool, true, false, List, [], ◌∷◌, ◌++◌, Option, Some, None, bytes_eq, codes, string_bytes, if◌then◌else◌}
+use Rattle.std.specs.Prelude.{◌≡◌, ◌&&◌, ℕ, Bool, true, false, List, [], ◌∷◌, ◌++◌, Option, Some, None, bytes_eq, codes, string_bytes, if◌then◌else◌}
 use Rattle.std.specs.Option.{option_map}
+use Rattle.x509_base.specs.CivilTime.{CivilTime}
+use Rattle.x509_base.specs.TimeReading.{is_date_time, named_by_text}
+use Rattle.x509_base.specs.TimeText.{date_time_text}
+use Rattle.x509_lint_web.specs.Report.{IsWebSaid}
 use Rattle.x509_lint.specs.Report.{IsReport, IsSaidAs}
 use Rattle.x509_lint.specs.declared.report.Kind.{Kind}
-use Rattle.x509_lint.specs.declared.report.Kind.TheVariants.{Certificate, Crl, Csr}
+use Rattle.x509_lint.specs.declared.report.Kind.TheVariants.{Certificate, Crl, Csr, Anchor}
 use Rattle.x509_lint.specs.declared.report.Report.{Report}
 use Rattle.x509_linter.specs.declared.linter.Linter.{Linter}
 use Rattle.x509_linter.specs.declared.linter.Telling.{Telling}
@@ -24,6 +28,7 @@ kind_of word =
     if bytes_eq word (codes "certificate") then Some Certificate
     else if bytes_eq word (codes "crl") then Some Crl
     else if bytes_eq word (codes "csr") then Some Csr
+    else if bytes_eq word (codes "anchor") then Some Anchor
     else None
 
 -- `-v`: whether it is said of an object that nothing was found; `--json`: objects of JSON
@@ -33,10 +38,10 @@ telling_of (option ∷ []) = if bytes_eq option (codes "-v") then Some Verbose e
 telling_of (first ∷ second ∷ options) = None
 
 abbrev pub of_kind : Telling → Kind → Linter
-of_kind telling kind = record { kind = Some kind; telling = telling }
+of_kind telling kind = record { kind = Some kind; telling = telling; web = None }
 
 abbrev pub of_any_kind : Telling → Linter
-of_any_kind telling = record { kind = None; telling = telling }
+of_any_kind telling = record { kind = None; telling = telling; web = None }
 
 -- the first name, which may be a kind's, and the others
 abbrev pub asked_with : Telling → Option Kind → List ℕ → List (List ℕ) → Linter × List (List ℕ)
@@ -48,26 +53,50 @@ abbrev pub asked_of : Telling → List (List ℕ) → Linter × List (List ℕ)
 asked_of telling [] = (of_any_kind telling, [])
 asked_of telling (name ∷ names) = asked_with telling (kind_of name) name names
 
+-- the date-time with this text, `YYYY-MM-DDTHH:MM:SSZ`
+abbrev pub moment_named : List ℕ → CivilTime → Option CivilTime
+moment_named text m = if is_date_time m && bytes_eq (date_time_text m) text then Some m else None
+
+abbrev pub moment_of : List ℕ → Option CivilTime
+moment_of text = moment_named text (named_by_text text)
+
+abbrev pub web_at : List (List ℕ) → Option CivilTime → Option (Linter × List (List ℕ))
+web_at names None = None
+web_at names (Some moment) = Some (record { kind = Some Certificate; telling = Lines; web = Some moment }, names)
+
+-- a moment in front of the names of inputs, which are certificates
+abbrev pub web_of : List (List ℕ) → Option (Linter × List (List ℕ))
+web_of [] = None
+web_of (moment ∷ names) = web_at names (moment_of moment)
+
+abbrev pub is_web : List (List ℕ) → Bool
+is_web (option ∷ []) = bytes_eq option (codes "--web")
+is_web options = false
+
 abbrev pub asked : List (List ℕ) → List (List ℕ) → Option (Linter × List (List ℕ))
-asked options names = option_map (λ telling. asked_of telling names) (telling_of options)
+asked options names = if is_web options then web_of names else option_map (λ telling. asked_of telling names) (telling_of options)
 
 -- ---- what the program says of itself
 
 abbrev pub usage : List ℕ
-usage = codes "usage: x509_linter [certificate|crl|csr] [-v|--json] [FILE..]"
+usage = codes "usage: x509_linter [certificate|crl|csr|anchor] [-v|--json] [FILE..]\n       x509_linter --web MOMENT [FILE..]"
 
 abbrev pub help : List ℕ
 help =
-    codes "usage: x509_linter [certificate|crl|csr] [-v|--json] [FILE..]\n\n"
-    ++ codes "Tells which rules certificates, CRLs (RFC 5280) and CSRs (RFC 2986, 2985) break, in DER or hex:\n"
-    ++ codes "a line for each, with its section. Without a FILE, and where FILE is -, it reads standard input.\n\n"
-    ++ codes "  certificate, crl, csr  what each input is; without such a word it is tried as each of them,\n"
-    ++ codes "                         in this order\n"
-    ++ codes "  -v                     says so where nothing is found\n"
-    ++ codes "  --json                 prints an object of JSON for each finding\n"
-    ++ codes "  --                     ends the options\n"
-    ++ codes "  --help                 prints this text\n"
-    ++ codes "  --version              prints the version\n\n"
+    codes "usage: x509_linter [certificate|crl|csr|anchor] [-v|--json] [FILE..]\n       x509_linter --web MOMENT [FILE..]\n\n"
+    ++ codes "Tells which rules certificates, CRLs (RFC 5280), CSRs (RFC 2986, 2985) and trust anchors\n"
+    ++ codes "(RFC 5914) break, in DER or hex: a line for each, with its section. Without a FILE, and where\n"
+    ++ codes "FILE is -, it reads standard input.\n\n"
+    ++ codes "  certificate, crl, csr, anchor  what each input is; without such a word it is tried as each\n"
+    ++ codes "                                 of them, in this order\n"
+    ++ codes "  --web                          tells which rules of the Baseline Requirements of the\n"
+    ++ codes "                                 CA/Browser Forum certificates break, of those in force at\n"
+    ++ codes "                                 MOMENT, as 2026-03-15T00:00:00Z\n"
+    ++ codes "  -v                             says so where nothing is found\n"
+    ++ codes "  --json                         prints an object of JSON for each finding\n"
+    ++ codes "  --                             ends the options\n"
+    ++ codes "  --help                         prints this text\n"
+    ++ codes "  --version                      prints the version\n\n"
     ++ codes "Status: 0 where no rule is broken that has to be kept, warnings aside; 1 where one is;\n"
     ++ codes "2 where an input is refused or the words are wrong.\n"
 
@@ -78,10 +107,11 @@ program = record { name = codes "x509_linter"; usage = usage; help = help }
 
 -- how it is told that bytes are no encoding of what was asked for
 abbrev pub no_object : Option Kind → List ℕ
-no_object None = codes "neither a certificate nor a CRL nor a CSR in DER or hex"
+no_object None = codes "not a certificate, CRL, CSR or trust anchor in DER or hex"
 no_object (Some Certificate) = codes "not a certificate in DER or hex"
 no_object (Some Crl) = codes "not a CRL in DER or hex"
 no_object (Some Csr) = codes "not a CSR in DER or hex"
+no_object (Some Anchor) = codes "not a trust anchor in DER or hex"
 
 -- 1 where a rule is broken that has to be kept
 abbrev pub status_of : Bool → ℕ
@@ -110,6 +140,11 @@ abbrev pub is_said : Option Kind → Option (List ℕ) → List ℕ → Option R
 is_said None front bytes said = IsReport front bytes said
 is_said (Some kind) front bytes said = IsSaidAs kind front bytes said
 
+-- with a moment what is said of a certificate by the rules of the Baseline Requirements
+abbrev pub is_said_at : Option CivilTime → Option Kind → Option (List ℕ) → List ℕ → Option Report → Type 0
+is_said_at None kind front bytes said = is_said kind front bytes said
+is_said_at (Some moment) kind front bytes said = IsWebSaid moment bytes said
+
 -- what is said of an object of which nothing is found
 abbrev pub clean : Telling → List ℕ → List ℕ
 clean Lines heading = []
@@ -130,11 +165,11 @@ told telling heading (first ∷ others) = found telling heading (first ∷ other
 -- what is told of the report on bytes
 abbrev pub Tells : Linter → List ℕ → List ℕ → List ℕ → ℕ → Type 0
 Tells linter heading bytes text status =
-    (report : Report) × is_said linter.kind (front_for linter.telling heading) bytes (Some report)
+    (report : Report) × is_said_at linter.web linter.kind (front_for linter.telling heading) bytes (Some report)
     × (text ≡ told linter.telling heading (string_bytes report.text)) × (status ≡ status_of report.has_error)
 
 abbrev pub IsNone : Linter → List ℕ → Type 0
-IsNone linter bytes = is_said linter.kind None bytes None
+IsNone linter bytes = is_said_at linter.web linter.kind None bytes None
 
 abbrev pub subject : Linter → Subject
 subject linter = record {

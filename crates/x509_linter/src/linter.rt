@@ -1,5 +1,6 @@
 //! What the program prints of an object.
 
+ghost use Rattle.std.specs.Option.{option_map};
 ghost use Rattle.std.specs.Prelude.{◌≡◌, ◌++◌, IfErr, IfOk, List, OnErr, OnOk, map, string_bytes};
 ghost use Rattle.x509_lint.specs.Report.{front_of};
 ghost use Rattle.x509_linter.specs.Linter as grammar;
@@ -8,24 +9,32 @@ ghost use Rattle.x509_object_run.specs.Object.{heading_text};
 ghost use Rattle.x509_tool_run.specs.Program.{IsCutOff, IsWritten};
 
 use std::alloc::{AllocError, Global};
+use std::str::FromStr;
+use x509_base::DateTime;
 use x509_der::{Error, ErrorKind};
 use x509_lint::{Kind, Report, Style, lint_bytes, lint_kind};
+use x509_lint_web::lint_web_bytes;
 use x509_object_run::{Headed, Heading, PrintError, Printer, write_headed};
 use x509_text::write_json_text;
 use x509_tool_run::{Sink, WriteError, write_text};
 
-const HELP: &[u8] = b"usage: x509_linter [certificate|crl|csr] [-v|--json] [FILE..]
+const HELP: &[u8] = b"usage: x509_linter [certificate|crl|csr|anchor] [-v|--json] [FILE..]
+       x509_linter --web MOMENT [FILE..]
 
-Tells which rules certificates, CRLs (RFC 5280) and CSRs (RFC 2986, 2985) break, in DER or hex:
-a line for each, with its section. Without a FILE, and where FILE is -, it reads standard input.
+Tells which rules certificates, CRLs (RFC 5280), CSRs (RFC 2986, 2985) and trust anchors
+(RFC 5914) break, in DER or hex: a line for each, with its section. Without a FILE, and where
+FILE is -, it reads standard input.
 
-  certificate, crl, csr  what each input is; without such a word it is tried as each of them,
-                         in this order
-  -v                     says so where nothing is found
-  --json                 prints an object of JSON for each finding
-  --                     ends the options
-  --help                 prints this text
-  --version              prints the version
+  certificate, crl, csr, anchor  what each input is; without such a word it is tried as each
+                                 of them, in this order
+  --web                          tells which rules of the Baseline Requirements of the
+                                 CA/Browser Forum certificates break, of those in force at
+                                 MOMENT, as 2026-03-15T00:00:00Z
+  -v                             says so where nothing is found
+  --json                         prints an object of JSON for each finding
+  --                             ends the options
+  --help                         prints this text
+  --version                      prints the version
 
 Status: 0 where no rule is broken that has to be kept, warnings aside; 1 where one is;
 2 where an input is refused or the words are wrong.
@@ -44,11 +53,12 @@ pub(crate) enum Telling {
     Json,
 }
 
-/// What the words ask for: how findings are told, of objects of one kind or of any.
+/// What the words ask for: how findings are told, of objects of one kind or of any; with a moment, by the rules of the Baseline Requirements.
 #[derive(Clone, Copy, Debug, PartialEq, Eq)]
 pub(crate) struct Linter {
     kind: Option<Kind>,
     telling: Telling,
+    web: Option<DateTime>,
 }
 
 /// The kind of object that a word names.
@@ -59,6 +69,7 @@ fn kind_of(word: &str) -> Option<Kind>
         "certificate" => Some(Kind::Certificate),
         "crl" => Some(Kind::Crl),
         "csr" => Some(Kind::Csr),
+        "anchor" => Some(Kind::Anchor),
         _ => None,
     }
 }
@@ -85,6 +96,7 @@ fn asked_of<'a, 'b>(telling: Telling, names: &'a [&'b str]) -> (Linter, &'a [&'b
                 Linter {
                     kind: Some(kind),
                     telling,
+                    web: None,
                 },
                 others,
             );
@@ -94,9 +106,50 @@ fn asked_of<'a, 'b>(telling: Telling, names: &'a [&'b str]) -> (Linter, &'a [&'b
         Linter {
             kind: None,
             telling,
+            web: None,
         },
         names,
     )
+}
+
+/// Whether options ask for the rules of the Baseline Requirements.
+fn is_web(options: &[&str]) -> bool
+    ensures { result ≡ grammar.is_web (map (λ option. option.now) options.now) }
+{
+    match options {
+        [option] => *option == "--web",
+        _ => false,
+    }
+}
+
+/// The moment that a text names, as `2026-03-15T00:00:00Z`.
+fn moment_of(text: &str) -> Option<DateTime>
+    ensures { result ≡ grammar.moment_of text.now }
+{
+    match DateTime::from_str(text) {
+        Ok(moment) => Some(moment),
+        Err(_) => None,
+    }
+}
+
+/// What names ask for behind `--web`: a moment, and the names of inputs; `None` where there is no such moment.
+fn web_of<'a, 'b>(names: &'a [&'b str]) -> Option<(Linter, &'a [&'b str])>
+    ensures { option_map (λ asked. (asked.0, map (λ name. name.now) asked.1.now)) result ≡ grammar.web_of (map (λ name. name.now) names.now) }
+{
+    let [moment, others @ ..] = names else {
+        return None;
+    };
+    match moment_of(moment) {
+        Some(moment) => Some((
+            Linter {
+                kind: Some(Kind::Certificate),
+                telling: Telling::Lines,
+                web: Some(moment),
+            },
+            others,
+        )),
+        None => None,
+    }
 }
 
 /// How it is told that bytes are the encoding of no object of this kind, or of none at all.
@@ -104,10 +157,11 @@ fn no_object(kind: Option<Kind>) -> &'static [u8]
     ensures { result.now ≡ grammar.no_object kind }
 {
     match kind {
-        None => b"neither a certificate nor a CRL nor a CSR in DER or hex",
+        None => b"not a certificate, CRL, CSR or trust anchor in DER or hex",
         Some(Kind::Certificate) => b"not a certificate in DER or hex",
         Some(Kind::Crl) => b"not a CRL in DER or hex",
         Some(Kind::Csr) => b"not a CSR in DER or hex",
+        Some(Kind::Anchor) => b"not a trust anchor in DER or hex",
     }
 }
 
@@ -159,8 +213,8 @@ fn said_of(
     }
 }
 
-/// What is said of it, as it is told.
-fn report_of(
+/// What is said of it by the rules of RFC 5280 and the others, as it is told.
+fn styled_of(
     alloc: Global,
     linter: Linter,
     heading: Heading<'_>,
@@ -175,6 +229,22 @@ fn report_of(
             said_of(alloc, linter.kind, Style::Json(front.as_str()), bytes)
         }
         Telling::Lines | Telling::Verbose => said_of(alloc, linter.kind, Style::Text, bytes),
+    }
+}
+
+/// What is said of it; with a moment, by the rules of the Baseline Requirements.
+fn report_of(
+    alloc: Global,
+    linter: Linter,
+    heading: Heading<'_>,
+    bytes: &[u8],
+) -> Result<Option<Report>, Error>
+    ensures ok { IfOk result (grammar.is_said_at linter.web linter.kind (grammar.front_for linter.telling (heading_text heading.entry)) bytes.now) }
+    ensures err { IfErr result (λ e. e.kind ≡ errors.Memory) }
+{
+    match linter.web {
+        None => styled_of(alloc, linter, heading, bytes),
+        Some(moment) => lint_web_bytes(alloc, moment, bytes),
     }
 }
 
@@ -217,6 +287,9 @@ impl Printer for Linter {
         options: &[&str],
         names: &'a [&'b str],
     ) -> Option<(Linter, &'a [&'b str])> {
+        if is_web(options) {
+            return web_of(names);
+        }
         match telling_of(options) {
             Some(telling) => Some(asked_of(telling, names)),
             None => None,
@@ -228,7 +301,7 @@ impl Printer for Linter {
     }
 
     fn usage() -> &'static [u8] {
-        b"usage: x509_linter [certificate|crl|csr] [-v|--json] [FILE..]\n"
+        b"usage: x509_linter [certificate|crl|csr|anchor] [-v|--json] [FILE..]\n       x509_linter --web MOMENT [FILE..]\n"
     }
 
     fn help() -> &'static [u8] {

@@ -1,4 +1,4 @@
-//! Which rules certificates, CRLs and CSRs break, in files or on standard input.
+//! Which rules certificates, CRLs, CSRs and trust anchors break, in files or on standard input.
 #![tactic(auto)]
 
 mod linter;

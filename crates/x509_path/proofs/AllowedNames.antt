@@ -2,11 +2,11 @@
 use Rattle.std.proofs.Common.{◌≡◌, ◌↔◌, ◌∙◌, inl, inr, List, [], ◌∷◌, ◌++◌, Option, Some, None, Contains, get_or, length, ap, refl, sym, subst, arith}
 use Rattle.std.specs.Option.{option_to_list}
 use Rattle.std.proofs.lemmas.List.Elements.{All-contains, Contains-append_cases, Contains-append_left, Contains-append_right, Contains-get_or, Contains-push, Contains-push_cases}
-use Rattle.x509_cert.specs.ext.AlternativeNames.{subject_alt_name}
-use Rattle.x509_cert.specs.ext.Identifiers.{id_ce}
-use Rattle.x509_cert.specs.ext.declared.pkix.alternative_names.SubjectAltName.{SubjectAltName}
-use Rattle.x509_cert.specs.ext.declared.pkix.name_constraints.NameConstraints.{NameConstraints}
 use Rattle.x509_constraints.specs.Constraints.{AreAllowed, IsAllowedBy, names_asked}
+use Rattle.x509_ext.specs.AlternativeNames.{subject_alt_name}
+use Rattle.x509_ext.specs.Identifiers.{id_ce}
+use Rattle.x509_ext.specs.declared.pkix.alternative_names.SubjectAltName.{SubjectAltName}
+use Rattle.x509_ext.specs.declared.pkix.name_constraints.NameConstraints.{NameConstraints}
 use Rattle.x509_path.specs.Certificates.{Certificate, HasPayload, extensions_of}
 use Rattle.x509_path.specs.Inputs.{Inputs}
 use Rattle.x509_path.specs.Steps.{AreConstraintsOf, Collects}

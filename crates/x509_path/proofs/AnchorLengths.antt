@@ -1,6 +1,12 @@
 -- What a decoded trust anchor gives is no longer than its bytes.
 use Rattle.std.proofs.Common.{◌≡◌, ◌⊎◌, ◌∙◌, inl, inr, ℕ, ◌<◌, ◌≤◌, ◌^◌, List, ◌++◌, length, Option, Some, None, Result, Ok, Err, refl, sym, ap, arith, length-append, subst}
 use Rattle.std.specs.Prelude.{MatchResult}
+use Rattle.x509_base.specs.AlgorithmIdentifier.{algorithm_identifier}
+use Rattle.x509_base.specs.Profiles.{rfc5280_serial_number}
+use Rattle.x509_base.specs.Serial.{serial_number}
+use Rattle.x509_base.specs.SubjectPublicKeyInfo.{subject_public_key_info}
+use Rattle.x509_base.specs.Validity.{validity}
+use Rattle.x509_base.specs.declared.profile.Rfc5280.{Rfc5280}
 use Rattle.x509_cert.specs.Certificate.{certificate, certificate_fields, rfc5280_certificate}
 use Rattle.x509_cert.specs.AnchorVersion.{version as anchor_version, version_default as anchor_default}
 use Rattle.x509_cert.specs.CertPathControls.{cert_path_controls, cert_path_controls_fields}
@@ -9,42 +15,36 @@ use Rattle.x509_cert.specs.TbsCertificate.{rfc5280_tbs_certificate, tbs_certific
 use Rattle.x509_cert.specs.TrustAnchorChoice.{rfc5280_trust_anchor_choice}
 use Rattle.x509_cert.specs.TrustAnchorInfo.{trust_anchor_info, trust_anchor_info_fields}
 use Rattle.x509_cert.specs.Version.{version, version_default}
-use Rattle.x509_cert.specs.base.AlgorithmIdentifier.{algorithm_identifier}
-use Rattle.x509_cert.specs.base.Profiles.{rfc5280_serial_number}
-use Rattle.x509_cert.specs.base.Serial.{serial_number}
-use Rattle.x509_cert.specs.base.SubjectPublicKeyInfo.{subject_public_key_info}
-use Rattle.x509_cert.specs.base.Validity.{validity}
-use Rattle.x509_cert.specs.base.declared.profile.Rfc5280.{Rfc5280}
 use Rattle.x509_cert.specs.declared.anchor.cert_path_controls.CertPathControls.{CertPathControls}
 use Rattle.x509_cert.specs.declared.anchor.trust_anchor_choice.TrustAnchorChoice.{TrustAnchorChoice}
 use Rattle.x509_cert.specs.declared.anchor.trust_anchor_choice.TrustAnchorChoice.TheVariants.{Certificate as Whole, TbsCertificate, TaInfo}
 use Rattle.x509_cert.specs.declared.anchor.trust_anchor_info.TrustAnchorInfo.{TrustAnchorInfo}
 use Rattle.x509_cert.specs.declared.certificate.tbs_certificate.TbsCertificateInner.{TbsCertificateInner}
-use Rattle.x509_cert.specs.der.Cases.{choice_content, choice_tag}
-use Rattle.x509_cert.specs.der.Element.{element, limit}
-use Rattle.x509_cert.specs.der.Form.{Form, Spells, spelling}
-use Rattle.x509_cert.specs.der.Frames.{default_octets, explicit, fields_octets, implicit, optional_octets}
-use Rattle.x509_cert.specs.der.Natural.{natural}
-use Rattle.x509_cert.specs.der.declared.error.Error.{Error}
-use Rattle.x509_cert.specs.der.declared.error.ErrorKind.TheVariants.{Memory}
-use Rattle.x509_cert.specs.ext.CertificatePolicies.{certificate_policies}
-use Rattle.x509_cert.specs.ext.Extension.{extensions}
-use Rattle.x509_cert.specs.ext.Identifiers.{id_ce}
-use Rattle.x509_cert.specs.ext.LookUp.{members}
-use Rattle.x509_cert.specs.ext.NameConstraints.{name_constraints}
-use Rattle.x509_cert.specs.ext.declared.extension.Extension.{Extension}
-use Rattle.x509_cert.specs.ext.declared.pkix.certificate_policies.CertificatePolicies.{CertificatePolicies}
-use Rattle.x509_cert.specs.ext.declared.pkix.name_constraints.NameConstraints.{NameConstraints}
-use Rattle.x509_cert.specs.name.Names.{name}
-use Rattle.x509_cert.specs.prim.BitString.{bit_string}
-use Rattle.x509_cert.specs.prim.OctetString.{octet_string}
-use Rattle.x509_cert.specs.prim.Texts.{utf8_string}
+use Rattle.x509_der.specs.Cases.{choice_content, choice_tag}
+use Rattle.x509_der.specs.Element.{element, limit}
+use Rattle.x509_der.specs.Form.{Form, Spells, spelling}
+use Rattle.x509_der.specs.Frames.{default_octets, explicit, fields_octets, implicit, optional_octets}
+use Rattle.x509_der.specs.Natural.{natural}
+use Rattle.x509_der.specs.declared.error.Error.{Error}
+use Rattle.x509_der.specs.declared.error.ErrorKind.TheVariants.{Memory}
+use Rattle.x509_ext.specs.CertificatePolicies.{certificate_policies}
+use Rattle.x509_ext.specs.Extension.{extensions}
+use Rattle.x509_ext.specs.Identifiers.{id_ce}
+use Rattle.x509_ext.specs.LookUp.{members}
+use Rattle.x509_ext.specs.NameConstraints.{name_constraints}
+use Rattle.x509_ext.specs.declared.extension.Extension.{Extension}
+use Rattle.x509_ext.specs.declared.pkix.certificate_policies.CertificatePolicies.{CertificatePolicies}
+use Rattle.x509_ext.specs.declared.pkix.name_constraints.NameConstraints.{NameConstraints}
+use Rattle.x509_name.specs.Names.{name}
 use Rattle.x509_path.proofs.Lent.{content_within}
 use Rattle.x509_path.specs.Certificates.{Certificate, extensions_of}
 use Rattle.x509_path.specs.Inputs.{Trust}
 use Rattle.x509_path.specs.Trusts.{AreOwnLimits, HoldsTrust, IsNoAnchor, IsOverlong, IsTrustOf, IsTrustOfAnchor, IsTrustOfInfo, IsUntrusted, IsValueOf, RefusesAnchor, RefusesTrust, or_else}
 use Rattle.x509_path.specs.declared.limits.Limits.{Limits}
 use Rattle.x509_path.specs.declared.trusted_buf.TrustedBuf.{TrustedBuf}
+use Rattle.x509_prim.specs.BitString.{bit_string}
+use Rattle.x509_prim.specs.OctetString.{octet_string}
+use Rattle.x509_prim.specs.Texts.{utf8_string}
 
 -- ---- parts within a whole
 

@@ -2,8 +2,8 @@
 use Rattle.std.proofs.Common.{◌≡◌, ◌++◌, Contains, Err, Some, None, inl, inr, List, [], Option, refl, subst, arith}
 use Rattle.std.specs.Option.{option_to_list}
 use Rattle.std.proofs.lemmas.List.Elements.{Contains-append_cases, Contains-append_left, Contains-append_right, Contains-push, Contains-push_cases}
-use Rattle.x509_cert.specs.ext.declared.pkix.name_constraints.NameConstraints.{NameConstraints}
 use Rattle.x509_constraints.specs.Constraints.{IsUsable}
+use Rattle.x509_ext.specs.declared.pkix.name_constraints.NameConstraints.{NameConstraints}
 use Rattle.x509_path.specs.Inputs.{Inputs}
 use Rattle.x509_path.specs.Steps.{AddsLent, Collects, Starts}
 use Rattle.x509_path.specs.declared.applied.Applied.{Applied}

@@ -1,9 +1,9 @@
 -- What is said of one certificate.
 use Rattle.std.proofs.Common.{ℕ, ◌<◌, inl, inr, List, length, take, get_or, refl}
 use Rattle.std.specs.List.{All}
-use Rattle.x509_cert.specs.base.CivilTime.{CivilTime}
+use Rattle.x509_base.specs.CivilTime.{CivilTime}
 use Rattle.x509_cert.specs.Certificate.{rfc5280_certificate}
-use Rattle.x509_cert.specs.der.Form.{Spells}
+use Rattle.x509_der.specs.Form.{Spells}
 use Rattle.x509_path.specs.Certificates.{Accepting, Certificate}
 use Rattle.x509_path.specs.Path.{Breaks, IsFault, IsFirst, IsUnreadable, Standing, reasons}
 use Rattle.x509_path.specs.declared.fault.PathReason.{PathReason}

@@ -3,24 +3,24 @@ use Rattle.std.proofs.Common.{◌≡◌, ◌≢◌, ◌↔◌, ◌∙◌, ℕ, �
 use Rattle.std.specs.Bool.{IsTrue}
 use Rattle.std.proofs.lemmas.Bool.{true≢false}
 use Rattle.std.proofs.lemmas.Slice.Eq.{bytes_eq-Decides}
-use Rattle.x509_cert.specs.base.AlgorithmIdentifier.{algorithm_identifier, algorithm_identifier_lawful}
-use Rattle.x509_cert.specs.base.Profiles.{rfc5280_serial_number}
-use Rattle.x509_cert.specs.base.SubjectPublicKeyInfo.{subject_public_key_info}
+use Rattle.x509_base.specs.AlgorithmIdentifier.{algorithm_identifier, algorithm_identifier_lawful}
+use Rattle.x509_base.specs.Profiles.{rfc5280_serial_number}
+use Rattle.x509_base.specs.SubjectPublicKeyInfo.{subject_public_key_info}
 use Rattle.x509_cert.proofs.CertificateSignedPart.{stands}
 use Rattle.x509_cert.proofs.Spellings.{certificate_found}
 use Rattle.x509_cert.specs.Certificate.{certificate_fields, rfc5280_certificate}
 use Rattle.x509_cert.specs.Elements.{HasCertificateElements, behind_octets, front_octets}
 use Rattle.x509_cert.specs.Spellings.{certificate_spellings, tbs_spellings}
 use Rattle.x509_cert.specs.TbsCertificate.{tbs_certificate_fields}
-use Rattle.x509_cert.specs.der.Element.{element, limit}
-use Rattle.x509_cert.specs.der.Form.{Form, IsForm, Spells, spelling}
-use Rattle.x509_cert.specs.der.Frames.{fields_good, optional_octets}
-use Rattle.x509_cert.specs.der.SpellingLaws.{one_spelled}
-use Rattle.x509_cert.specs.der.declared.error.ErrorKind.{ErrorKind}
-use Rattle.x509_cert.specs.name.declared.attr.type_and_value.AttributeTypeAndValue.{AttributeTypeAndValue}
-use Rattle.x509_cert.specs.name.Names.{name, rdn_sequence_decides, rdn_sequence_eq, rdn_sequence_lawful}
-use Rattle.x509_cert.specs.prim.BitString.{bit_string}
+use Rattle.x509_der.specs.Element.{element, limit}
+use Rattle.x509_der.specs.Form.{Form, IsForm, Spells, spelling}
+use Rattle.x509_der.specs.Frames.{fields_good, optional_octets}
+use Rattle.x509_der.specs.SpellingLaws.{one_spelled}
+use Rattle.x509_der.specs.declared.error.ErrorKind.{ErrorKind}
+use Rattle.x509_name.specs.declared.attr.type_and_value.AttributeTypeAndValue.{AttributeTypeAndValue}
+use Rattle.x509_name.specs.Names.{name, rdn_sequence_decides, rdn_sequence_eq, rdn_sequence_lawful}
 use Rattle.x509_path.specs.Certificates.{Certificate}
+use Rattle.x509_prim.specs.BitString.{bit_string}
 
 -- ---- equal encodings are those of equal values
 

@@ -4,10 +4,10 @@ use Rattle.std.proofs.Math.Seq.{drop-cons}
 use Rattle.std.proofs.lemmas.Slice.Eq.{bytes_eq-Decides}
 use Rattle.std.proofs.lemmas.List.Elements.{All-nil, All-cons, All-head, All-tail}
 use Rattle.std.specs.List.{All}
-use Rattle.x509_cert.specs.ext.LookUp.{IsRepeated, with_oid}
-use Rattle.x509_cert.specs.ext.declared.extension.Extension.{Extension}
 use Rattle.x509_check.specs.ExtensionRefs.{lent_extension}
 use Rattle.x509_check.specs.declared.lent.extension.ExtensionRef.{ExtensionRef}
+use Rattle.x509_ext.specs.LookUp.{IsRepeated, with_oid}
+use Rattle.x509_ext.specs.declared.extension.Extension.{Extension}
 use Rattle.x509_ext.proofs.Repeats.{passed}
 use Rattle.x509_path.specs.Lent.{lent_extensions}
 

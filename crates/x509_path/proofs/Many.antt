@@ -3,9 +3,9 @@ use Rattle.std.proofs.Common.{◌≡◌, ◌⊎◌, ℕ, ◌<◌, min, List, len
 use Rattle.std.proofs.lemmas.List.{get_or-map, length-map}
 use Rattle.std.proofs.lemmas.List.Elements.{Contains-get_or}
 use Rattle.std.specs.List.{Contains}
-use Rattle.x509_cert.specs.ext.declared.extension.Extension.{Extension}
 use Rattle.x509_check.specs.ExtensionRefs.{lent_extension}
 use Rattle.x509_check.specs.declared.lent.extension.ExtensionRef.{ExtensionRef}
+use Rattle.x509_ext.specs.declared.extension.Extension.{Extension}
 use Rattle.x509_path.specs.Certificates.{Certificate, extensions_of}
 use Rattle.x509_path.specs.declared.fault.PathFault.{PathFault}
 use Rattle.x509_path.specs.Lent.{HasMany, Lends, lent_extensions}

@@ -1,9 +1,9 @@
 -- The policies of the caller and of what is trusted.
 use Rattle.std.proofs.Common.{◌≡◌, ◌↔◌, ℕ, List, Bor, Option, Some, None, subst}
 use Rattle.std.specs.Option.{option_map}
-use Rattle.x509_cert.specs.der.Form.{Spells}
-use Rattle.x509_cert.specs.ext.CertificatePolicies.{certificate_policies}
-use Rattle.x509_cert.specs.ext.declared.pkix.certificate_policies.CertificatePolicies.{CertificatePolicies}
+use Rattle.x509_der.specs.Form.{Spells}
+use Rattle.x509_ext.specs.CertificatePolicies.{certificate_policies}
+use Rattle.x509_ext.specs.declared.pkix.certificate_policies.CertificatePolicies.{CertificatePolicies}
 use Rattle.x509_path.specs.Inputs.{LendsPolicies}
 use Rattle.x509_path.specs.Says.{identifiers}
 use Rattle.x509_policy.specs.Anchors.{IsMerged}

@@ -2,7 +2,7 @@
 use Rattle.std.proofs.Common.{◌≡◌, ◌⊎◌, inl, inr, ◌∙◌, ℕ, ◌<◌, List, [], Result, Ok, Err, refl, sym, ap, subst}
 use Rattle.std.proofs.lemmas.Bool.{cases_lt}
 use Rattle.std.proofs.Math.Nat.{eq-or-lt_of_le}
-use Rattle.x509_cert.specs.base.CivilTime.{CivilTime}
+use Rattle.x509_base.specs.CivilTime.{CivilTime}
 use Rattle.x509_path.specs.Certificates.{Accepting}
 use Rattle.x509_path.specs.Path.{Answers, HasFault, IsFirst, IsFirstFault, PathHolds}
 use Rattle.x509_path.specs.declared.anchor.Anchor.{Anchor}

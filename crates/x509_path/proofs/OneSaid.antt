@@ -1,11 +1,11 @@
 -- A certificate says one thing of policies, and a path asks one thing at its start.
 use Rattle.std.proofs.Common.{◌≡◌, ◌∙◌, ◌+◌, ◌<◌, ℕ, suc, Bool, List, [], ◌∷◌, ◌++◌, length, Option, refl, sym, ap, subst}
 use Rattle.std.specs.Option.{option_map}
-use Rattle.x509_cert.specs.ext.CertificatePolicies.{certificate_policies}
-use Rattle.x509_cert.specs.ext.Identifiers.{id_ce}
-use Rattle.x509_cert.specs.ext.InhibitAnyPolicy.{inhibit_any_policy}
-use Rattle.x509_cert.specs.ext.PolicyConstraints.{policy_constraints}
-use Rattle.x509_cert.specs.ext.PolicyMapping.{policy_mappings}
+use Rattle.x509_ext.specs.CertificatePolicies.{certificate_policies}
+use Rattle.x509_ext.specs.Identifiers.{id_ce}
+use Rattle.x509_ext.specs.InhibitAnyPolicy.{inhibit_any_policy}
+use Rattle.x509_ext.specs.PolicyConstraints.{policy_constraints}
+use Rattle.x509_ext.specs.PolicyMapping.{policy_mappings}
 use Rattle.x509_path.specs.Certificates.{Certificate, HasPayload, extensions_of}
 use Rattle.x509_path.specs.Inputs.{Inputs}
 use Rattle.x509_path.specs.Policies.{AreRefused, AreSettings, IsRefused}

@@ -2,8 +2,8 @@
 use Rattle.std.proofs.Common.{◌≡◌, ◌↔◌, ◌⊎◌, ℕ, ◌<◌, ◌+◌, ◌-◌, Bool, true, false, not, cond, min, List, [], ◌∷◌, ◌++◌, Option, Some, None, refl, inl, inr, arith, append_assoc}
 use Rattle.std.proofs.lemmas.Bool.{cases_lt}
 use Rattle.std.proofs.lemmas.List.Sums.{sum_by-cons}
+use Rattle.x509_ext.specs.declared.extension.Extension.{Extension}
 use Rattle.x509_path.specs.Certificates.{Certificate, extensions_of, HasPathLen, count_not_self_issued, is_self_issued, IsTooLong}
-use Rattle.x509_cert.specs.ext.declared.extension.Extension.{Extension}
 use Rattle.x509_path.specs.PathLength.{IsOver, Leaves, narrowed}
 
 -- without a limit above

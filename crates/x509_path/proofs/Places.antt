@@ -6,11 +6,11 @@ use Rattle.std.proofs.lemmas.Bool.{true≢false, cases_lt}
 use Rattle.std.proofs.lemmas.List.{length-map, length-drop}
 use Rattle.std.proofs.lemmas.Option.{slice_get_within, slice_get-get_or, slice_get-map, get_or_from_slice_get}
 use Rattle.std.specs.Option.{option_map}
-use Rattle.x509_cert.specs.base.CivilTime.{CivilTime}
-use Rattle.x509_cert.specs.base.Profiles.{rfc5280_serial_number}
+use Rattle.x509_base.specs.CivilTime.{CivilTime}
+use Rattle.x509_base.specs.Profiles.{rfc5280_serial_number}
 use Rattle.x509_cert.specs.Certificate.{certificate_lawful, rfc5280_certificate}
-use Rattle.x509_cert.specs.der.Form.{Spells}
-use Rattle.x509_cert.specs.der.SpellingLaws.{values}
+use Rattle.x509_der.specs.Form.{Spells}
+use Rattle.x509_der.specs.SpellingLaws.{values}
 use Rattle.x509_path.specs.Certificates.{Accepting, Certificate}
 use Rattle.x509_path.specs.Path.{Answers, Breaks, HasFault, HasFaultBehind, IsFault, IsFirst, IsFirstFault, PathHolds, Standing, is_empty, subject_of}
 use Rattle.x509_path.specs.PathLength.{IsOver, Judges, Leaves, anchor_behind, standing}

@@ -2,7 +2,7 @@
 use Rattle.std.proofs.Common.{◌≡◌, ◌+◌, ◌<◌, ℕ, List, [], ◌∷◌, ◌++◌, length, Ok, Err, subst, sym}
 use Rattle.std.specs.List.{All}
 use Rattle.x509_cert.specs.Certificate.{rfc5280_certificate}
-use Rattle.x509_cert.specs.der.Form.{Spells}
+use Rattle.x509_der.specs.Form.{Spells}
 use Rattle.x509_path.specs.Certificates.{Accepting, Certificate}
 use Rattle.x509_path.specs.Inputs.{Inputs}
 use Rattle.x509_path.specs.Policies.{AreSettings}

@@ -2,27 +2,27 @@
 use Rattle.std.proofs.Common.{◌≡◌, ◌⊎◌, ◌∙◌, inl, inr, ◌<◌, ◌≤◌, ℕ, List, [], ◌∷◌, length, Option, Some, None, Result, Ok, Err, ap, arith, refl, sym, subst}
 use Rattle.std.proofs.lemmas.Bool.{cases_lt}
 use Rattle.std.specs.Prelude.{MatchResult}
+use Rattle.x509_base.specs.Checked.{CheckRefuses}
+use Rattle.x509_base.specs.Profiles.{rfc5280_serial_number}
+use Rattle.x509_base.specs.declared.profile.Rfc5280.{Rfc5280}
 use Rattle.x509_cert.specs.TrustAnchorChoice.{rfc5280_trust_anchor_choice}
-use Rattle.x509_cert.specs.base.Checked.{CheckRefuses}
-use Rattle.x509_cert.specs.base.Profiles.{rfc5280_serial_number}
-use Rattle.x509_cert.specs.base.declared.profile.Rfc5280.{Rfc5280}
 use Rattle.x509_cert.specs.declared.anchor.cert_path_controls.CertPathControls.{CertPathControls}
 use Rattle.x509_cert.specs.declared.anchor.trust_anchor_choice.TrustAnchorChoice.{TrustAnchorChoice}
 use Rattle.x509_cert.specs.declared.anchor.trust_anchor_info.TrustAnchorInfo.{TrustAnchorInfo}
-use Rattle.x509_cert.specs.der.Element.{limit}
-use Rattle.x509_cert.specs.der.Form.{Form, Spells, whole_reading}
-use Rattle.x509_cert.specs.der.Outcome.{IsRefusal}
-use Rattle.x509_cert.specs.der.declared.error.Error.{Error}
-use Rattle.x509_cert.specs.der.declared.error.ErrorKind.{ErrorKind}
-use Rattle.x509_cert.specs.der.declared.error.ErrorKind.TheVariants.{Failed, Malformed, Memory, Overlength, SetDuplicate, Value}
-use Rattle.x509_cert.specs.ext.BasicConstraints.{basic_constraints}
-use Rattle.x509_cert.specs.ext.CertificatePolicies.{certificate_policies}
-use Rattle.x509_cert.specs.ext.Identifiers.{id_ce}
-use Rattle.x509_cert.specs.ext.InhibitAnyPolicy.{inhibit_any_policy}
-use Rattle.x509_cert.specs.ext.NameConstraints.{name_constraints}
-use Rattle.x509_cert.specs.ext.PolicyConstraints.{policy_constraints}
-use Rattle.x509_cert.specs.ext.SubjectKeyIdentifier.{subject_key_identifier}
-use Rattle.x509_cert.specs.ext.declared.extension.Extension.{Extension}
+use Rattle.x509_der.specs.Element.{limit}
+use Rattle.x509_der.specs.Form.{Form, Spells, whole_reading}
+use Rattle.x509_der.specs.Outcome.{IsRefusal}
+use Rattle.x509_der.specs.declared.error.Error.{Error}
+use Rattle.x509_der.specs.declared.error.ErrorKind.{ErrorKind}
+use Rattle.x509_der.specs.declared.error.ErrorKind.TheVariants.{Failed, Malformed, Memory, Overlength, SetDuplicate, Value}
+use Rattle.x509_ext.specs.BasicConstraints.{basic_constraints}
+use Rattle.x509_ext.specs.CertificatePolicies.{certificate_policies}
+use Rattle.x509_ext.specs.Identifiers.{id_ce}
+use Rattle.x509_ext.specs.InhibitAnyPolicy.{inhibit_any_policy}
+use Rattle.x509_ext.specs.NameConstraints.{name_constraints}
+use Rattle.x509_ext.specs.PolicyConstraints.{policy_constraints}
+use Rattle.x509_ext.specs.SubjectKeyIdentifier.{subject_key_identifier}
+use Rattle.x509_ext.specs.declared.extension.Extension.{Extension}
 use Rattle.x509_path.specs.Certificates.{Certificate, extensions_of}
 use Rattle.x509_path.specs.Inputs.{Trust}
 use Rattle.x509_path.specs.Trusts.{AreFlags, AreLimits, AreOwnLimits, HasItsCertificate, HasKeyId, HoldsTrust, IsNoAnchor, IsOverlong, IsTrustOfInfo, IsValueOf, RefusesFlags, RefusesInfo, RefusesItsCertificate, RefusesLimits, RefusesOwnLimits, RefusesTrust, RefusesValue}

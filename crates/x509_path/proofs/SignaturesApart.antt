@@ -1,9 +1,9 @@
 -- Signatures, apart from the other reasons.
 use Rattle.std.proofs.Common.{◌≡◌, ◌↔◌, ◌⊎◌, ◌++◌, inl, inr, ℕ, zero, suc, List, [], ◌∷◌, refl, subst}
-use Rattle.x509_cert.specs.base.CivilTime.{CivilTime}
+use Rattle.x509_base.specs.CivilTime.{CivilTime}
 use Rattle.x509_cert.specs.Certificate.{rfc5280_certificate}
 use Rattle.x509_cert.specs.Signed.{IsSignedPart}
-use Rattle.x509_cert.specs.der.Form.{Spells}
+use Rattle.x509_der.specs.Form.{Spells}
 use Rattle.x509_path.specs.Certificates.{Accepting, Certificate, accept_all}
 use Rattle.x509_path.specs.Path.{Breaks, HasFault, HasFaultBehind, IsFault, PathHolds, Standing, subject_of}
 use Rattle.x509_path.specs.declared.anchor.Anchor.{Anchor}

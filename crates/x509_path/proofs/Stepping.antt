@@ -5,10 +5,10 @@ use Rattle.std.proofs.Math.Nat.{eq-or-lt_of_le}
 use Rattle.std.proofs.Math.Seq.{drop-cons}
 use Rattle.std.proofs.lemmas.Bool.{cases_lt, true≢false}
 use Rattle.std.proofs.lemmas.Option.{slice_get_within, get_or_from_slice_get}
+use Rattle.x509_base.specs.CivilTime.{CivilTime}
 use Rattle.x509_cert.specs.Certificate.{rfc5280_certificate}
-use Rattle.x509_cert.specs.base.CivilTime.{CivilTime}
-use Rattle.x509_cert.specs.der.Form.{Spells}
-use Rattle.x509_cert.specs.ext.declared.pkix.name_constraints.NameConstraints.{NameConstraints}
+use Rattle.x509_der.specs.Form.{Spells}
+use Rattle.x509_ext.specs.declared.pkix.name_constraints.NameConstraints.{NameConstraints}
 use Rattle.x509_path.specs.Certificates.{Accepting, Certificate}
 use Rattle.x509_path.specs.Inputs.{Inputs, LendsInputs}
 use Rattle.x509_path.specs.Lent.{LendsAnchor}

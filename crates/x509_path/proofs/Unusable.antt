@@ -2,8 +2,8 @@
 use Rattle.std.proofs.Common.{◌≡◌, ◌↔◌, ◌∙◌, Bool, false, not, Option, Some, None, sym, subst}
 use Rattle.std.proofs.lemmas.Bool.{true≢false}
 use Rattle.std.specs.Bool.{IsTrue}
-use Rattle.x509_cert.specs.ext.declared.pkix.name_constraints.NameConstraints.{NameConstraints}
 use Rattle.x509_constraints.specs.Constraints.{IsUsable}
+use Rattle.x509_ext.specs.declared.pkix.name_constraints.NameConstraints.{NameConstraints}
 use Rattle.x509_path.specs.Certificates.{Certificate}
 use Rattle.x509_path.specs.Steps.{AreConstraintsOf}
 use Rattle.x509_path.specs.Validation.{HasUnusable}

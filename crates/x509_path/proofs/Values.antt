@@ -1,9 +1,9 @@
 -- What a look-up of the value of one extension says.
 use Rattle.std.proofs.Common.{◌≡◌, Bool, List, [], ◌∷◌, Option, Some, None, Ok, refl, sym, subst}
-use Rattle.x509_cert.specs.der.Form.{Form, Spells}
-use Rattle.x509_cert.specs.der.declared.error.ErrorKind.{ErrorKind}
-use Rattle.x509_cert.specs.ext.LookUp.{Finds}
-use Rattle.x509_cert.specs.ext.declared.extension.Extension.{Extension}
+use Rattle.x509_der.specs.Form.{Form, Spells}
+use Rattle.x509_der.specs.declared.error.ErrorKind.{ErrorKind}
+use Rattle.x509_ext.specs.LookUp.{Finds}
+use Rattle.x509_ext.specs.declared.extension.Extension.{Extension}
 
 module _ {T : Type 0} (form : Form T) (refuses : ErrorKind → Type 0) (wants : Type 0) where
   pub no_value : (es : List Extension) → Finds form refuses wants es (Ok None) → es ≡ []

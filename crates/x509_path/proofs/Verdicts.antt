@@ -2,10 +2,10 @@
 use Rattle.std.proofs.Common.{ℕ, zero, suc, arith, ◌≡◌, ◌<◌, inl, inr, Bool, false, List, Option, length, take, get_or, Err, refl, subst}
 use Rattle.std.specs.List.{All}
 use Rattle.x509_cert.specs.Certificate.{rfc5280_certificate}
-use Rattle.x509_cert.specs.der.Form.{Spells}
-use Rattle.x509_cert.specs.ext.declared.pkix.basic_constraints.BasicConstraints.{BasicConstraints}
-use Rattle.x509_cert.specs.ext.declared.pkix.name_constraints.NameConstraints.{NameConstraints}
 use Rattle.x509_check.specs.declared.lent.extension.ExtensionRef.{ExtensionRef}
+use Rattle.x509_der.specs.Form.{Spells}
+use Rattle.x509_ext.specs.declared.pkix.basic_constraints.BasicConstraints.{BasicConstraints}
+use Rattle.x509_ext.specs.declared.pkix.name_constraints.NameConstraints.{NameConstraints}
 use Rattle.x509_path.specs.Certificates.{Accepting, Certificate, extensions_of}
 use Rattle.x509_path.specs.Inputs.{Inputs}
 use Rattle.x509_path.specs.Lent.{lent_extensions}
@@ -18,10 +18,10 @@ use Rattle.x509_path.specs.declared.validation_fault.ValidationReason.TheVariant
 use Rattle.x509_path.specs.Policies.{AreRefused}
 use Rattle.x509_path.specs.declared.validation_fault.ValidationFault.{ValidationFault}
 use Rattle.x509_path.specs.declared.validation_fault.ValidationFault.TheVariants.{Memory, Empty, Initial, At}
-use Rattle.x509_policy.specs.Path as refusals
-use Rattle.x509_policy.specs.Path.{Reason}
 use Rattle.x509_path.proofs.FirstReasons.{decode_first, first_along, first_at, first_policy, none}
 use Rattle.x509_path.proofs.Places.{one_certificate}
+use Rattle.x509_policy.specs.Path as refusals
+use Rattle.x509_policy.specs.Path.{Reason}
 
 -- what is looked up among its extensions
 pub limits : (lent : List ExtensionRef) (is_last : Bool) (c : Certificate) (basic : Option BasicConstraints) (names : Option NameConstraints) → lent_extensions lent ≡ extensions_of c

@@ -2,7 +2,7 @@
 use Rattle.std.proofs.Common.{◌≡◌, ◌↔◌, ◌⊎◌, ◌++◌, inl, inr, ℕ, zero, suc, List, [], ◌∷◌, refl, subst}
 use Rattle.x509_cert.specs.Certificate.{rfc5280_certificate}
 use Rattle.x509_cert.specs.Signed.{IsSignedPart}
-use Rattle.x509_cert.specs.der.Form.{Spells}
+use Rattle.x509_der.specs.Form.{Spells}
 use Rattle.x509_path.specs.Certificates.{Accepting, Certificate, accept_all}
 use Rattle.x509_path.specs.Inputs.{Inputs}
 use Rattle.x509_path.specs.Path.{subject_of}

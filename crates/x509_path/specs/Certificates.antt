@@ -1,26 +1,26 @@
 -- What may be said against one certificate of a path (RFC 5280 6.1.3, 6.1.4), and against how many follow another.
 use Rattle.std.specs.Prelude.{◌≡◌, ◌≢◌, ◌<◌, ◌⊎◌, ℕ, Bool, true, false, not, List, [], ◌∷◌, count_by, Some}
 use Rattle.std.specs.List.{All}
-use Rattle.x509_cert.specs.der.Form.{Form, Spells}
-use Rattle.x509_cert.specs.prim.BitString.{BitParts}
-use Rattle.x509_cert.specs.base.CivilTime.{CivilTime, unix_seconds}
-use Rattle.x509_cert.specs.base.Time.{date_time_of}
-use Rattle.x509_cert.specs.base.declared.profile.Rfc5280.{Rfc5280}
-use Rattle.x509_cert.specs.base.declared.validity.Validity.{Validity}
-use Rattle.x509_cert.specs.base.declared.algorithm_identifier.AlgorithmIdentifier.{AlgorithmIdentifier}
-use Rattle.x509_cert.specs.base.declared.subject_public_key_info.SubjectPublicKeyInfo.{SubjectPublicKeyInfo}
-use Rattle.x509_cert.specs.name.Names.{rdn_sequence_eq}
-use Rattle.x509_cert.specs.ext.Identifiers.{id_ce}
-use Rattle.x509_cert.specs.ext.declared.extension.Extension.{Extension}
-use Rattle.x509_cert.specs.ext.AlternativeNames.{subject_alt_name}
-use Rattle.x509_cert.specs.ext.BasicConstraints.{basic_constraints}
-use Rattle.x509_cert.specs.ext.ExtendedKeyUsage.{extended_key_usage}
-use Rattle.x509_cert.specs.ext.KeyUsage.{key_usage, has_bit}
-use Rattle.x509_cert.specs.ext.declared.pkix.basic_constraints.BasicConstraints.{BasicConstraints}
-use Rattle.x509_cert.specs.ext.declared.pkix.key_usage.KeyUsage.{KeyUsage}
-use Rattle.x509_cert.specs.ext.LookUp.{members, with_oid}
+use Rattle.x509_base.specs.CivilTime.{CivilTime, unix_seconds}
+use Rattle.x509_base.specs.Time.{date_time_of}
+use Rattle.x509_base.specs.declared.profile.Rfc5280.{Rfc5280}
+use Rattle.x509_base.specs.declared.validity.Validity.{Validity}
+use Rattle.x509_base.specs.declared.algorithm_identifier.AlgorithmIdentifier.{AlgorithmIdentifier}
+use Rattle.x509_base.specs.declared.subject_public_key_info.SubjectPublicKeyInfo.{SubjectPublicKeyInfo}
 use Rattle.x509_cert.specs.Signed.{IsSignedPart}
 use Rattle.x509_cert.specs.declared.certificate.certificate.CertificateInner.{CertificateInner}
+use Rattle.x509_der.specs.Form.{Form, Spells}
+use Rattle.x509_ext.specs.Identifiers.{id_ce}
+use Rattle.x509_ext.specs.declared.extension.Extension.{Extension}
+use Rattle.x509_ext.specs.AlternativeNames.{subject_alt_name}
+use Rattle.x509_ext.specs.BasicConstraints.{basic_constraints}
+use Rattle.x509_ext.specs.ExtendedKeyUsage.{extended_key_usage}
+use Rattle.x509_ext.specs.KeyUsage.{key_usage, has_bit}
+use Rattle.x509_ext.specs.declared.pkix.basic_constraints.BasicConstraints.{BasicConstraints}
+use Rattle.x509_ext.specs.declared.pkix.key_usage.KeyUsage.{KeyUsage}
+use Rattle.x509_ext.specs.LookUp.{members, with_oid}
+use Rattle.x509_name.specs.Names.{rdn_sequence_eq}
+use Rattle.x509_prim.specs.BitString.{BitParts}
 
 abbrev pub Certificate : Type 0
 Certificate = CertificateInner Rfc5280

@@ -1,8 +1,8 @@
 -- Equality of trust anchors and of the faults of paths is exact.
 use Rattle.std.specs.Prelude.{refl}
-use Rattle.x509_cert.specs.base.Equality.{exact_subject_public_key_info}
-use Rattle.x509_cert.specs.der.Exact.{IsExact, exact_number, exact_unit, exact_both, exact_last, exact_by, exact_bare, exact_cases}
-use Rattle.x509_cert.specs.name.Names.{rdn_sequence_decides}
+use Rattle.x509_base.specs.Equality.{exact_subject_public_key_info}
+use Rattle.x509_der.specs.Exact.{IsExact, exact_number, exact_unit, exact_both, exact_last, exact_by, exact_bare, exact_cases}
+use Rattle.x509_name.specs.Names.{rdn_sequence_decides}
 use Rattle.x509_path.specs.contracts.anchor.AnchorPartialEq.TheImpl as anchor_eq
 use Rattle.x509_path.specs.contracts.fault.PathFault.{enum as faults}
 use Rattle.x509_path.specs.contracts.fault.PathFaultPartialEq.TheImpl as fault_eq

@@ -1,12 +1,12 @@
 -- What a path is validated by (RFC 5280 6.1.1, RFC 5937 2).
 use Rattle.std.specs.Borrow.{Bor}
 use Rattle.std.specs.Prelude.{◌≡◌, ℕ, List, [], ◌∷◌, Option, Some, None}
-use Rattle.x509_cert.specs.base.CivilTime.{CivilTime}
-use Rattle.x509_cert.specs.der.Form.{Spells}
-use Rattle.x509_cert.specs.ext.CertificatePolicies.{certificate_policies}
-use Rattle.x509_cert.specs.ext.NameConstraints.{name_constraints}
-use Rattle.x509_cert.specs.ext.declared.pkix.certificate_policies.CertificatePolicies.{CertificatePolicies}
-use Rattle.x509_cert.specs.ext.declared.pkix.name_constraints.NameConstraints.{NameConstraints}
+use Rattle.x509_base.specs.CivilTime.{CivilTime}
+use Rattle.x509_der.specs.Form.{Spells}
+use Rattle.x509_ext.specs.CertificatePolicies.{certificate_policies}
+use Rattle.x509_ext.specs.NameConstraints.{name_constraints}
+use Rattle.x509_ext.specs.declared.pkix.certificate_policies.CertificatePolicies.{CertificatePolicies}
+use Rattle.x509_ext.specs.declared.pkix.name_constraints.NameConstraints.{NameConstraints}
 use Rattle.x509_path.specs.Lent.{LendsAnchor}
 use Rattle.x509_path.specs.declared.anchor.Anchor.{Anchor}
 use Rattle.x509_path.specs.declared.settings.PathSettings.{PathSettings}

@@ -1,12 +1,12 @@
 -- What a certificate's bytes lend to the check of a path.
 use Rattle.std.specs.Prelude.{◌<◌, ℕ, List, length, map, Option, Some, None}
+use Rattle.x509_base.specs.SubjectPublicKeyInfo.{subject_public_key_info}
 use Rattle.x509_cert.specs.Certificate.{rfc5280_certificate}
-use Rattle.x509_cert.specs.base.SubjectPublicKeyInfo.{subject_public_key_info}
-use Rattle.x509_cert.specs.der.Form.{Spells}
-use Rattle.x509_cert.specs.ext.declared.extension.Extension.{Extension}
-use Rattle.x509_cert.specs.name.Names.{name}
 use Rattle.x509_check.specs.ExtensionRefs.{lent_extension}
 use Rattle.x509_check.specs.declared.lent.extension.ExtensionRef.{ExtensionRef}
+use Rattle.x509_der.specs.Form.{Spells}
+use Rattle.x509_ext.specs.declared.extension.Extension.{Extension}
+use Rattle.x509_name.specs.Names.{name}
 use Rattle.x509_path.specs.Certificates.{Certificate, extensions_of}
 use Rattle.x509_path.specs.declared.anchor_ref.AnchorRef.{AnchorRef}
 use Rattle.x509_path.specs.declared.anchor.Anchor.{Anchor}

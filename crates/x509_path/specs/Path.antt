@@ -2,10 +2,10 @@
 -- (RFC 5280 6.1).
 use Rattle.std.specs.Prelude.{◌≡◌, ◌≢◌, ◌<◌, ◌⊎◌, ℕ, zero, suc, Bool, true, false, List, [], ◌∷◌, ◌++◌, Result, Ok, Err}
 use Rattle.std.specs.List.{All}
-use Rattle.x509_cert.specs.der.Form.{Spells}
-use Rattle.x509_cert.specs.base.CivilTime.{CivilTime}
+use Rattle.x509_base.specs.CivilTime.{CivilTime}
 use Rattle.x509_cert.specs.Certificate.{rfc5280_certificate}
-use Rattle.x509_cert.specs.ext.LookUp.{IsRepeated}
+use Rattle.x509_der.specs.Form.{Spells}
+use Rattle.x509_ext.specs.LookUp.{IsRepeated}
 use Rattle.x509_path.specs.Certificates as certificates
 use Rattle.x509_path.specs.Certificates.{Accepting, Certificate, extensions_of}
 use Rattle.x509_path.specs.declared.anchor.Anchor.{Anchor}

@@ -1,17 +1,17 @@
 -- What a certificate says of policies (RFC 5280 4.2.1.4, 4.2.1.5, 4.2.1.11, 4.2.1.14).
 use Rattle.std.specs.Prelude.{◌≡◌, ◌↔◌, ℕ, true, List, [], ◌∷◌, map, Option, Some, None}
 use Rattle.std.specs.Option.{option_map}
-use Rattle.x509_cert.specs.der.Form.{Form}
-use Rattle.x509_cert.specs.ext.CertificatePolicies.{certificate_policies}
-use Rattle.x509_cert.specs.ext.Identifiers.{id_ce}
-use Rattle.x509_cert.specs.ext.InhibitAnyPolicy.{inhibit_any_policy}
-use Rattle.x509_cert.specs.ext.PolicyConstraints.{policy_constraints}
-use Rattle.x509_cert.specs.ext.PolicyMapping.{policy_mappings}
-use Rattle.x509_cert.specs.ext.declared.extension.Extension.{Extension}
-use Rattle.x509_cert.specs.ext.declared.pkix.certificate_policies.CertificatePolicies.{CertificatePolicies}
-use Rattle.x509_cert.specs.ext.declared.pkix.inhibit_any_policy.InhibitAnyPolicy.{InhibitAnyPolicy}
-use Rattle.x509_cert.specs.ext.declared.pkix.policy_constraints.PolicyConstraints.{PolicyConstraints}
-use Rattle.x509_cert.specs.ext.declared.pkix.policy_mapping.PolicyMappings.{PolicyMappings}
+use Rattle.x509_der.specs.Form.{Form}
+use Rattle.x509_ext.specs.CertificatePolicies.{certificate_policies}
+use Rattle.x509_ext.specs.Identifiers.{id_ce}
+use Rattle.x509_ext.specs.InhibitAnyPolicy.{inhibit_any_policy}
+use Rattle.x509_ext.specs.PolicyConstraints.{policy_constraints}
+use Rattle.x509_ext.specs.PolicyMapping.{policy_mappings}
+use Rattle.x509_ext.specs.declared.extension.Extension.{Extension}
+use Rattle.x509_ext.specs.declared.pkix.certificate_policies.CertificatePolicies.{CertificatePolicies}
+use Rattle.x509_ext.specs.declared.pkix.inhibit_any_policy.InhibitAnyPolicy.{InhibitAnyPolicy}
+use Rattle.x509_ext.specs.declared.pkix.policy_constraints.PolicyConstraints.{PolicyConstraints}
+use Rattle.x509_ext.specs.declared.pkix.policy_mapping.PolicyMappings.{PolicyMappings}
 use Rattle.x509_match.specs.Matching.{NamesMatch}
 use Rattle.x509_path.specs.Certificates.{Certificate, HasPayload, extensions_of}
 use Rattle.x509_policy.specs.Values as policies

@@ -2,14 +2,15 @@
 use Rattle.std.specs.List.{All}
 use Rattle.std.specs.Option.{option_map}
 use Rattle.std.specs.Prelude.{◌≡◌, ◌⊎◌, ◌↔◌, ℕ, Bool, false, List, [], ◌++◌, map, Option, Some, None, Contains, Result, Ok, Err}
+use Rattle.x509_base.specs.CivilTime.{CivilTime}
 use Rattle.x509_cert.specs.Certificate.{rfc5280_certificate}
-use Rattle.x509_cert.specs.base.CivilTime.{CivilTime}
-use Rattle.x509_cert.specs.der.Form.{Spells}
-use Rattle.x509_cert.specs.ext.declared.extension.Extension.{Extension}
-use Rattle.x509_cert.specs.ext.declared.pkix.basic_constraints.BasicConstraints.{BasicConstraints}
-use Rattle.x509_cert.specs.ext.declared.pkix.name_constraints.NameConstraints.{NameConstraints}
+use Rattle.x509_check.specs.declared.lent.extension.ExtensionRef.{ExtensionRef}
 use Rattle.x509_constraints.specs.Applied.{AreApplied}
 use Rattle.x509_constraints.specs.Constraints.{IsUsable}
+use Rattle.x509_der.specs.Form.{Spells}
+use Rattle.x509_ext.specs.declared.extension.Extension.{Extension}
+use Rattle.x509_ext.specs.declared.pkix.basic_constraints.BasicConstraints.{BasicConstraints}
+use Rattle.x509_ext.specs.declared.pkix.name_constraints.NameConstraints.{NameConstraints}
 use Rattle.x509_path.specs.Certificates.{Accepting, Certificate, extensions_of}
 use Rattle.x509_path.specs.Inputs.{Inputs}
 use Rattle.x509_path.specs.Lent.{Lends, LendsAnchor, lent_extensions}
@@ -31,7 +32,6 @@ use Rattle.x509_policy.specs.Path.{Reason, Valid}
 use Rattle.x509_policy.specs.Values as policies
 use Rattle.x509_policy.specs.Views.{mapping_of, octets_of}
 use Rattle.x509_policy.specs.declared.state.PolicyState.{PolicyState}
-use Rattle.x509_check.specs.declared.lent.extension.ExtensionRef.{ExtensionRef}
 
 -- more of them aren't self-issued than what is trusted, or one of them, lets follow
 abbrev pub AreTooMany : Option ℕ → List Certificate → Type 0

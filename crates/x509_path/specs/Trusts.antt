@@ -2,38 +2,38 @@
 use Rattle.std.specs.Borrow.{Bor}
 use Rattle.std.specs.Int.RustNames.{bit_and}
 use Rattle.std.specs.Prelude.{◌≡◌, ◌==◌, ◌<◌, ◌≤◌, ◌^◌, ◌⊎◌, ℕ, Bool, false, List, [], ◌∷◌, length, Option, Some, None, is_some, option_map}
+use Rattle.x509_base.specs.Checked.{CheckRefuses}
+use Rattle.x509_base.specs.Profiles.{rfc5280_serial_number}
+use Rattle.x509_base.specs.declared.profile.Rfc5280.{Rfc5280}
+use Rattle.x509_base.specs.SubjectPublicKeyInfo.{subject_public_key_info}
 use Rattle.x509_cert.specs.TrustAnchorChoice.{rfc5280_trust_anchor_choice}
-use Rattle.x509_cert.specs.base.Checked.{CheckRefuses}
-use Rattle.x509_cert.specs.base.Profiles.{rfc5280_serial_number}
-use Rattle.x509_cert.specs.base.declared.profile.Rfc5280.{Rfc5280}
 use Rattle.x509_cert.specs.declared.certificate.tbs_certificate.TbsCertificateInner.{TbsCertificateInner}
-use Rattle.x509_cert.specs.der.Element.{limit}
-use Rattle.x509_cert.specs.der.Form.{Form, Spells, spelling, whole_reading}
-use Rattle.x509_cert.specs.der.Outcome.{IsRefusal}
-use Rattle.x509_cert.specs.der.declared.error.ErrorKind.{ErrorKind}
-use Rattle.x509_cert.specs.der.declared.error.ErrorKind.TheVariants.{Failed, Malformed, Memory, Overlength}
-use Rattle.x509_cert.specs.ext.BasicConstraints.{basic_constraints}
-use Rattle.x509_cert.specs.ext.CertificatePolicies.{certificate_policies}
-use Rattle.x509_cert.specs.ext.Identifiers.{id_ce}
-use Rattle.x509_cert.specs.ext.InhibitAnyPolicy.{inhibit_any_policy}
-use Rattle.x509_cert.specs.ext.LookUp.{members, with_oid}
-use Rattle.x509_cert.specs.ext.NameConstraints.{name_constraints}
-use Rattle.x509_cert.specs.ext.PolicyConstraints.{policy_constraints}
-use Rattle.x509_cert.specs.ext.SubjectKeyIdentifier.{subject_key_identifier}
-use Rattle.x509_cert.specs.ext.declared.extension.Extension.{Extension}
-use Rattle.x509_cert.specs.ext.declared.pkix.basic_constraints.BasicConstraints.{BasicConstraints}
-use Rattle.x509_cert.specs.ext.declared.pkix.certificate_policies.CertificatePolicies.{CertificatePolicies}
-use Rattle.x509_cert.specs.ext.declared.pkix.inhibit_any_policy.InhibitAnyPolicy.{InhibitAnyPolicy}
-use Rattle.x509_cert.specs.ext.declared.pkix.name_constraints.NameConstraints.{NameConstraints}
-use Rattle.x509_cert.specs.ext.declared.pkix.policy_constraints.PolicyConstraints.{PolicyConstraints}
 use Rattle.x509_cert.specs.declared.anchor.cert_path_controls.CertPathControls.{CertPathControls}
 use Rattle.x509_cert.specs.declared.anchor.cert_policies.CertPolicies.{CertPolicies}
 use Rattle.x509_cert.specs.declared.anchor.trust_anchor_choice.TrustAnchorChoice.{TrustAnchorChoice}
 use Rattle.x509_cert.specs.declared.anchor.trust_anchor_choice.TrustAnchorChoice.TheVariants.{Certificate as Whole, TbsCertificate, TaInfo}
 use Rattle.x509_cert.specs.declared.anchor.trust_anchor_info.TrustAnchorInfo.{TrustAnchorInfo}
-use Rattle.x509_cert.specs.base.SubjectPublicKeyInfo.{subject_public_key_info}
-use Rattle.x509_cert.specs.name.Names.{name}
-use Rattle.x509_cert.specs.name.declared.attr.type_and_value.AttributeTypeAndValue.{AttributeTypeAndValue}
+use Rattle.x509_der.specs.Element.{limit}
+use Rattle.x509_der.specs.Form.{Form, Spells, spelling, whole_reading}
+use Rattle.x509_der.specs.Outcome.{IsRefusal}
+use Rattle.x509_der.specs.declared.error.ErrorKind.{ErrorKind}
+use Rattle.x509_der.specs.declared.error.ErrorKind.TheVariants.{Failed, Malformed, Memory, Overlength}
+use Rattle.x509_ext.specs.BasicConstraints.{basic_constraints}
+use Rattle.x509_ext.specs.CertificatePolicies.{certificate_policies}
+use Rattle.x509_ext.specs.Identifiers.{id_ce}
+use Rattle.x509_ext.specs.InhibitAnyPolicy.{inhibit_any_policy}
+use Rattle.x509_ext.specs.LookUp.{members, with_oid}
+use Rattle.x509_ext.specs.NameConstraints.{name_constraints}
+use Rattle.x509_ext.specs.PolicyConstraints.{policy_constraints}
+use Rattle.x509_ext.specs.SubjectKeyIdentifier.{subject_key_identifier}
+use Rattle.x509_ext.specs.declared.extension.Extension.{Extension}
+use Rattle.x509_ext.specs.declared.pkix.basic_constraints.BasicConstraints.{BasicConstraints}
+use Rattle.x509_ext.specs.declared.pkix.certificate_policies.CertificatePolicies.{CertificatePolicies}
+use Rattle.x509_ext.specs.declared.pkix.inhibit_any_policy.InhibitAnyPolicy.{InhibitAnyPolicy}
+use Rattle.x509_ext.specs.declared.pkix.name_constraints.NameConstraints.{NameConstraints}
+use Rattle.x509_ext.specs.declared.pkix.policy_constraints.PolicyConstraints.{PolicyConstraints}
+use Rattle.x509_name.specs.Names.{name}
+use Rattle.x509_name.specs.declared.attr.type_and_value.AttributeTypeAndValue.{AttributeTypeAndValue}
 use Rattle.x509_path.specs.declared.trusted_buf.TrustedBuf.{TrustedBuf}
 use Rattle.x509_path.specs.Certificates.{Certificate, HasPayload, extensions_of}
 use Rattle.x509_path.specs.Inputs.{LendsConstraints, LendsPolicies, Trust}

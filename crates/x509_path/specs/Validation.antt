@@ -2,23 +2,23 @@
 -- as they match (7.1), name constraints hold, and policies are followed.
 use Rattle.std.specs.Prelude.{◌≡◌, ◌≢◌, ◌<◌, ◌+◌, ◌⊎◌, ◌↔◌, ℕ, zero, suc, length, Bool, true, false, List, [], ◌∷◌, ◌++◌, Option, Some, None, Contains, Result, Ok, Err}
 use Rattle.std.specs.List.{All}
-use Rattle.x509_cert.specs.der.Form.{Form, Spells}
 use Rattle.x509_cert.specs.Certificate.{rfc5280_certificate}
-use Rattle.x509_cert.specs.ext.AlternativeNames.{subject_alt_name}
-use Rattle.x509_cert.specs.ext.BasicConstraints.{basic_constraints}
-use Rattle.x509_cert.specs.ext.CertificatePolicies.{certificate_policies}
-use Rattle.x509_cert.specs.ext.ExtendedKeyUsage.{extended_key_usage}
-use Rattle.x509_cert.specs.ext.Identifiers.{id_ce}
-use Rattle.x509_cert.specs.ext.InhibitAnyPolicy.{inhibit_any_policy}
-use Rattle.x509_cert.specs.ext.KeyUsage.{key_usage}
-use Rattle.x509_cert.specs.ext.LookUp.{IsRepeated}
-use Rattle.x509_cert.specs.ext.NameConstraints.{name_constraints}
-use Rattle.x509_cert.specs.ext.PolicyConstraints.{policy_constraints}
-use Rattle.x509_cert.specs.ext.PolicyMapping.{policy_mappings}
-use Rattle.x509_cert.specs.ext.declared.extension.Extension.{Extension}
-use Rattle.x509_cert.specs.ext.declared.pkix.alternative_names.SubjectAltName.{SubjectAltName}
-use Rattle.x509_cert.specs.ext.declared.pkix.name_constraints.NameConstraints.{NameConstraints}
 use Rattle.x509_constraints.specs.Constraints.{IsAllowedBy, IsUsable, names_asked}
+use Rattle.x509_der.specs.Form.{Form, Spells}
+use Rattle.x509_ext.specs.AlternativeNames.{subject_alt_name}
+use Rattle.x509_ext.specs.BasicConstraints.{basic_constraints}
+use Rattle.x509_ext.specs.CertificatePolicies.{certificate_policies}
+use Rattle.x509_ext.specs.ExtendedKeyUsage.{extended_key_usage}
+use Rattle.x509_ext.specs.Identifiers.{id_ce}
+use Rattle.x509_ext.specs.InhibitAnyPolicy.{inhibit_any_policy}
+use Rattle.x509_ext.specs.KeyUsage.{key_usage}
+use Rattle.x509_ext.specs.LookUp.{IsRepeated}
+use Rattle.x509_ext.specs.NameConstraints.{name_constraints}
+use Rattle.x509_ext.specs.PolicyConstraints.{policy_constraints}
+use Rattle.x509_ext.specs.PolicyMapping.{policy_mappings}
+use Rattle.x509_ext.specs.declared.extension.Extension.{Extension}
+use Rattle.x509_ext.specs.declared.pkix.alternative_names.SubjectAltName.{SubjectAltName}
+use Rattle.x509_ext.specs.declared.pkix.name_constraints.NameConstraints.{NameConstraints}
 use Rattle.x509_match.specs.Matching.{NamesMatch}
 use Rattle.x509_path.specs.Certificates as certificates
 use Rattle.x509_path.specs.Certificates.{Accepting, Certificate, HasPathLen, HasPayload, IsReadable, extensions_of}

@@ -1,9 +1,10 @@
 //! Trust anchors of paths.
 
 use std::alloc::Global;
-use x509_cert::der::{Error, TryClone};
-use x509_cert::name::Name;
-use x509_cert::{Certificate, SubjectPublicKeyInfo};
+use x509_base::SubjectPublicKeyInfo;
+use x509_cert::Certificate;
+use x509_der::{Error, TryClone};
+use x509_name::name::Name;
 
 /// A trust anchor: a name and a public key that are trusted (RFC 5280 6.1.1 (d)).
 #[derive(Debug, Drop, PartialEq, Eq)]
@@ -17,7 +18,7 @@ pub struct Anchor {
 
 impl Anchor {
     ghost use Rattle.std.specs.Prelude.{◌≡◌, IfOk, IfErr};
-    ghost use Rattle.x509_cert.specs.der.declared.error.ErrorKind.TheVariants.{Memory};
+    ghost use Rattle.x509_der.specs.declared.error.ErrorKind.TheVariants.{Memory};
     ghost use Rattle.x509_path.specs.Path.{subject_of};
 
     /// The subject and the public key of a certificate. The caller trusts it: nothing else of it is checked.

@@ -1,8 +1,8 @@
 //! The name constraints that apply to a certificate.
 
 use std::alloc::{AllocError, Global};
-use x509_cert::ext::pkix::NameConstraints;
 use x509_constraints::ConstraintSets;
+use x509_ext::pkix::NameConstraints;
 
 /// The name constraints that apply, and whether there are any.
 #[derive(Drop)]
@@ -16,7 +16,7 @@ pub(crate) struct Applied {
 
 impl Applied {
     ghost use Rattle.std.specs.Prelude.{◌++◌, ◌∷◌, [], List, OnOk};
-    ghost use Rattle.x509_cert.specs.ext.declared.pkix.name_constraints.NameConstraints as values;
+    ghost use Rattle.x509_ext.specs.declared.pkix.name_constraints.NameConstraints as values;
     ghost use Rattle.x509_path.specs.Steps.{Holds};
 
     /// None. It takes no memory.

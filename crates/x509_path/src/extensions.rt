@@ -1,9 +1,9 @@
 //! The extensions of a certificate that say where it may stand in a path.
 
 ghost use Rattle.std.specs.Prelude.{◌≡◌, ◌↔◌, [], ◌∷◌, true, List, IfOk, IfErr, IfSome, IsTrue, MatchOption, None, Some, bytes_eq, false, drop, get_or, length, take, ◌+◌, ◌-◌, ◌<◌, ◌≤◌, ℕ};
-ghost use Rattle.x509_cert.specs.ext.LookUp.{IsRepeated, with_oid};
-ghost use Rattle.x509_cert.specs.ext.declared.extension.Extension.{Extension};
 ghost use Rattle.x509_check.specs.ExtensionRefs.{extensions_left, lent_extension};
+ghost use Rattle.x509_ext.specs.LookUp.{IsRepeated, with_oid};
+ghost use Rattle.x509_ext.specs.declared.extension.Extension.{Extension};
 ghost use Rattle.x509_path.specs.Certificates as certificates;
 ghost use Rattle.x509_path.specs.Lent.{lent_extensions};
 ghost use Rattle.x509_path.specs.PathLength.{HasConstraints};
@@ -11,13 +11,12 @@ ghost use Rattle.x509_path.specs.declared.fault.PathFault.TheVariants.{Memory};
 
 use crate::fault::PathFault;
 use std::alloc::Global;
-use x509_cert::der::{AssociatedOid, Decode, ValueOrd};
-use x509_cert::ext::pkix::{BasicConstraints, ExtendedKeyUsage, KeyUsage, SubjectAltName};
-use x509_cert::spki::ObjectIdentifier;
 use x509_check::{Check, ExtensionRef, ExtensionRefs};
+use x509_der::{AssociatedOid, Decode, ObjectIdentifier, ValueOrd};
+use x509_ext::pkix::{BasicConstraints, ExtendedKeyUsage, KeyUsage, SubjectAltName};
 
 /// Up to so many extensions are each compared with those that follow it; of more the OIDs are sorted.
-const FEW: usize = 16;
+const FEW_EXTENSIONS: usize = 16;
 
 /// What stands in a place for an extension before one does.
 fn no_extension<'a>() -> ExtensionRef<'a> {
@@ -29,7 +28,7 @@ fn no_extension<'a>() -> ExtensionRef<'a> {
 }
 
 /// Places for few extensions.
-pub(crate) fn places<'a>() -> [ExtensionRef<'a>; FEW] {
+pub(crate) fn places<'a>() -> [ExtensionRef<'a>; FEW_EXTENSIONS] {
     [
         no_extension(),
         no_extension(),
@@ -80,7 +79,7 @@ pub(crate) fn collect<'a>(
     ensures err { IfErr result (λ e. e ≡ Memory) }
 {
     let mut rest = extensions;
-    let mut list = match Vec::with_capacity(alloc, FEW) {
+    let mut list = match Vec::with_capacity(alloc, FEW_EXTENSIONS) {
         Ok(list) => list,
         Err(_) => return Err(PathFault::Memory),
     };
@@ -183,7 +182,7 @@ pub(crate) fn is_repeated(alloc: Global, extensions: &[ExtensionRef<'_>]) -> Res
     ensures ok { IfOk result (λ b. IsTrue b ↔ IsRepeated (lent_extensions extensions.now)) }
     ensures err { IfErr result (λ e. (e ≡ Memory) × (16 < length extensions.now)) }
 {
-    if extensions.len() <= FEW {
+    if extensions.len() <= FEW_EXTENSIONS {
         return Ok(is_any_repeated(extensions));
     }
     let Ok(mut identifiers) = Vec::with_capacity(alloc, extensions.len()) else {

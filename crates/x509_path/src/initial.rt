@@ -1,10 +1,10 @@
 //! The name constraints that apply.
 
 ghost use Rattle.std.specs.Prelude.{◌≡◌, ◌++◌, ◌⊎◌, List, MatchResult, OnOk, Option, option_to_list};
-ghost use Rattle.x509_cert.specs.der.Form.{Spells};
-ghost use Rattle.x509_cert.specs.ext.NameConstraints.{name_constraints};
-ghost use Rattle.x509_cert.specs.ext.declared.pkix.name_constraints.NameConstraints as values;
 ghost use Rattle.x509_constraints.specs.Constraints.{IsUsable};
+ghost use Rattle.x509_der.specs.Form.{Spells};
+ghost use Rattle.x509_ext.specs.NameConstraints.{name_constraints};
+ghost use Rattle.x509_ext.specs.declared.pkix.name_constraints.NameConstraints as values;
 ghost use Rattle.x509_path.specs.Inputs.{Inputs, LendsConstraints, LendsInputs};
 ghost use Rattle.x509_path.specs.Steps.{AddsLent, Holds, Starts};
 ghost use Rattle.x509_path.specs.declared.validation_fault.ValidationFault.TheVariants as faults;
@@ -14,9 +14,9 @@ use crate::settings::PathSettings;
 use crate::trusted::Trusted;
 use crate::validation_fault::ValidationFault;
 use std::alloc::{AllocError, Global};
-use x509_cert::der::{Decode, ErrorKind};
-use x509_cert::ext::pkix::NameConstraints;
 use x509_constraints::is_usable;
+use x509_der::{Decode, ErrorKind};
+use x509_ext::pkix::NameConstraints;
 
 /// The constraints of which these are the octets, where they can be used.
 fn usable_constraints(alloc: Global, octets: &[u8]) -> Result<NameConstraints, ValidationFault>

@@ -1,10 +1,9 @@
 //! The checks of one certificate of a path.
 
 ghost use Rattle.std.specs.Prelude.{◌≡◌, ◌≢◌, ◌↔◌, ◌∷◌, ◌++◌, [], List, Ok, Err, IfOk, IfErr, IsTrue, MatchResult, false};
+ghost use Rattle.x509_base.specs.AlgorithmIdentifier.{algorithm_identifier};
 ghost use Rattle.x509_cert.specs.Signed.{IsSignedPart};
-ghost use Rattle.x509_cert.specs.base.AlgorithmIdentifier.{algorithm_identifier};
-ghost use Rattle.x509_cert.specs.der.Form.{Spells};
-ghost use Rattle.x509_cert.specs.prim.BitString.{bit_string};
+ghost use Rattle.x509_der.specs.Form.{Spells};
 ghost use Rattle.x509_path.specs.Certificates as certificates;
 ghost use Rattle.x509_path.specs.Lent.{Lends, lent_extensions};
 ghost use Rattle.x509_path.specs.Path.{Breaks};
@@ -12,6 +11,7 @@ ghost use Rattle.x509_path.specs.PathLength.{HasConstraints, IsOver, Judges, Lea
 ghost use Rattle.x509_path.specs.declared.anchor.Anchor.{Anchor};
 ghost use Rattle.x509_path.specs.declared.fault.PathFault.TheVariants.{Memory, At};
 ghost use Rattle.x509_path.specs.declared.fault.PathReason.TheVariants as reasons;
+ghost use Rattle.x509_prim.specs.BitString.{bit_string};
 
 use crate::anchor_ref::AnchorRef;
 use crate::extensions::{
@@ -21,10 +21,10 @@ use crate::extensions::{
 use crate::fault::{PathFault, PathReason};
 use crate::trust::{Signed, Trust};
 use std::alloc::Global;
-use x509_cert::ext::pkix::BasicConstraints;
+use x509_base::DateTime;
 use x509_cert::laws::one_signed_part;
-use x509_cert::time::DateTime;
 use x509_check::{CertificateRef, ExtensionRef};
+use x509_ext::pkix::BasicConstraints;
 
 /// The reasons after `Decode`, in their order.
 const REASONS: [PathReason; 9] = [

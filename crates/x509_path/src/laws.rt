@@ -1,7 +1,7 @@
 //! What holds of all paths. Each law is a function with an empty body, whose contract is the law.
 
 ghost use Rattle.std.specs.Prelude.{◌≡◌, ◌⊎◌, ◌↔◌, List, ℕ, Result, Ok, Err, true};
-ghost use Rattle.x509_cert.specs.base.CivilTime.{CivilTime};
+ghost use Rattle.x509_base.specs.CivilTime.{CivilTime};
 ghost use Rattle.x509_path.specs.Certificates.{Accepting, accept_all};
 ghost use Rattle.x509_path.specs.Path.{Answers, HasFault, IsFirstFault, PathHolds};
 ghost use Rattle.x509_path.specs.declared.anchor.Anchor.{Anchor};
@@ -20,7 +20,7 @@ ghost use Rattle.x509_path.specs.declared.validation_fault.ValidationReason.{Val
 ghost use Rattle.x509_path.specs.declared.validation_fault.ValidationReason.TheVariants as validation_reasons;
 
 use crate::{Anchor, PathFault, PathReason};
-use x509_cert::certificate::Rfc5280;
+use x509_base::Rfc5280;
 use x509_cert::laws::signed_bytes_spell_the_signed_part;
 
 /// Apart from out of memory there is one answer to a path: that it holds, exactly where it does, and else the first

@@ -2,14 +2,14 @@
 
 ghost use Rattle.std.specs.Int.RustNames.{bit_and};
 ghost use Rattle.std.specs.Prelude.{◌≡◌, ◌==◌, ◌⊎◌, MatchResult};
-ghost use Rattle.x509_cert.specs.der.declared.error.ErrorKind.TheVariants as errors;
-ghost use Rattle.x509_cert.specs.ext.BasicConstraints.{basic_constraints};
-ghost use Rattle.x509_cert.specs.ext.CertificatePolicies.{certificate_policies};
-ghost use Rattle.x509_cert.specs.ext.Identifiers.{id_ce};
-ghost use Rattle.x509_cert.specs.ext.InhibitAnyPolicy.{inhibit_any_policy};
-ghost use Rattle.x509_cert.specs.ext.LookUp.{members};
-ghost use Rattle.x509_cert.specs.ext.NameConstraints.{name_constraints};
-ghost use Rattle.x509_cert.specs.ext.PolicyConstraints.{policy_constraints};
+ghost use Rattle.x509_der.specs.declared.error.ErrorKind.TheVariants as errors;
+ghost use Rattle.x509_ext.specs.BasicConstraints.{basic_constraints};
+ghost use Rattle.x509_ext.specs.CertificatePolicies.{certificate_policies};
+ghost use Rattle.x509_ext.specs.Identifiers.{id_ce};
+ghost use Rattle.x509_ext.specs.InhibitAnyPolicy.{inhibit_any_policy};
+ghost use Rattle.x509_ext.specs.LookUp.{members};
+ghost use Rattle.x509_ext.specs.NameConstraints.{name_constraints};
+ghost use Rattle.x509_ext.specs.PolicyConstraints.{policy_constraints};
 ghost use Rattle.x509_path.specs.Trusts as trusts;
 ghost use Rattle.x509_path.specs.Trusts.{AreFlags, AreLimits, AreOwnLimits, HasLimit, IsValueOf, RefusesFlags, RefusesLimits, RefusesOwnLimits, RefusesValue};
 
@@ -19,8 +19,8 @@ use std::alloc::Global;
 use x509_cert::Certificate;
 use x509_cert::anchor::CertPolicyFlags;
 use x509_cert::certificate::TbsCertificate;
-use x509_cert::der::Error;
-use x509_cert::ext::pkix::{
+use x509_der::Error;
+use x509_ext::pkix::{
     BasicConstraints, CertificatePolicies, InhibitAnyPolicy, NameConstraints, PolicyConstraints,
 };
 use x509_policy::AnchorFlags;

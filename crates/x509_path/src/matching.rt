@@ -1,10 +1,10 @@
 //! Names of certificates that match, and how many certificates that aren't self-issued may follow.
 
 ghost use Rattle.std.specs.Prelude.{◌≡◌, ◌↔◌, ◌⊎◌, ◌∷◌, ◌++◌, [], List, Option, ℕ, IfOk, IsTrue};
-ghost use Rattle.x509_cert.specs.der.Form.{Spells};
-ghost use Rattle.x509_cert.specs.name.Names.{name};
-ghost use Rattle.x509_cert.specs.name.declared.attr.type_and_value.AttributeTypeAndValue.{AttributeTypeAndValue};
+ghost use Rattle.x509_der.specs.Form.{Spells};
 ghost use Rattle.x509_match.specs.Matching.{NamesMatch};
+ghost use Rattle.x509_name.specs.Names.{name};
+ghost use Rattle.x509_name.specs.declared.attr.type_and_value.AttributeTypeAndValue.{AttributeTypeAndValue};
 ghost use Rattle.x509_path.specs.Certificates as certificates;
 ghost use Rattle.x509_path.specs.Lent.{Lends};
 ghost use Rattle.x509_path.specs.PathLength.{HasConstraints};
@@ -13,8 +13,8 @@ ghost use Rattle.x509_path.specs.Validation.{IsAsked, IsOver, IsSelfIssued};
 
 use crate::extensions::path_len;
 use std::alloc::{AllocError, Global};
-use x509_cert::ext::pkix::BasicConstraints;
 use x509_check::CertificateRef;
+use x509_ext::pkix::BasicConstraints;
 use x509_match::checked_names_match;
 
 /// Whether the names match of which these are the encodings.

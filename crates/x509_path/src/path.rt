@@ -13,7 +13,7 @@ use crate::judge::{Judge, Place, max_path_length_behind};
 use crate::trust::{Slices, Trust, Values};
 use crate::verifier::{SliceVerifier, Verifier};
 use std::alloc::{AllocError, Global};
-use x509_cert::time::DateTime;
+use x509_base::DateTime;
 
 /// The octets of each input, lent.
 fn slices(alloc: Global, inputs: &[Vec<u8>]) -> Result<Vec<&[u8]>, AllocError>

@@ -2,22 +2,22 @@
 
 ghost use Rattle.std.specs.Option.{option_map};
 ghost use Rattle.std.specs.Prelude.{◌≡◌, ◌+◌, ◌↔◌, ◌<◌, ◌∷◌, ◌++◌, [], ℕ, IfOk, List, MatchResult, Option, Some, suc, length, map};
-ghost use Rattle.x509_cert.specs.ext.CertificatePolicies.{certificate_policies};
-ghost use Rattle.x509_cert.specs.ext.Identifiers.{id_ce};
-ghost use Rattle.x509_cert.specs.ext.PolicyMapping.{policy_mappings};
-ghost use Rattle.x509_cert.specs.ext.declared.pkix.certificate_policies.CertificatePolicies as found_policies;
-ghost use Rattle.x509_cert.specs.ext.declared.pkix.policy_mapping.PolicyMappings as found_mappings;
 ghost use Rattle.x509_der.specs.Form.{Spells};
+ghost use Rattle.x509_ext.specs.CertificatePolicies.{certificate_policies};
+ghost use Rattle.x509_ext.specs.Identifiers.{id_ce};
+ghost use Rattle.x509_ext.specs.PolicyMapping.{policy_mappings};
+ghost use Rattle.x509_ext.specs.declared.pkix.certificate_policies.CertificatePolicies as found_policies;
+ghost use Rattle.x509_ext.specs.declared.pkix.policy_mapping.PolicyMappings as found_mappings;
 ghost use Rattle.x509_path.specs.Certificates as certificates;
 ghost use Rattle.x509_path.specs.Inputs.{LendsPolicies, asked_of, user_set};
 ghost use Rattle.x509_path.specs.Lent.{Lends, lent_extensions};
 ghost use Rattle.x509_path.specs.Says.{IsFound, Says, any_policy_inhibit_of, explicit_policy_of, identifiers, mapping_inhibit_of, mappings_of};
 ghost use Rattle.x509_path.specs.Steps as reasons_for;
 ghost use Rattle.x509_path.specs.Steps.{NoneUnreadable, StopsAt, chosen, said_by};
+ghost use Rattle.x509_path.specs.declared.validation_fault.ValidationFault.TheVariants as faults;
 ghost use Rattle.x509_policy.specs.Anchors.{IsMerged, with_flags};
 ghost use Rattle.x509_policy.specs.Follows.{Follows, IsOutcome, reason_of};
 ghost use Rattle.x509_policy.specs.Levels.{In};
-ghost use Rattle.x509_path.specs.declared.validation_fault.ValidationFault.TheVariants as faults;
 ghost use Rattle.x509_policy.specs.Path.{Valid};
 ghost use Rattle.x509_policy.specs.Values as policies;
 ghost use Rattle.x509_policy.specs.Values.{any_policy};
@@ -30,11 +30,9 @@ use crate::settings::PathSettings;
 use crate::trusted::Trusted;
 use crate::validation_fault::{ValidationFault, ValidationReason};
 use std::alloc::{AllocError, Global};
-use x509_cert::der::AssociatedOid;
-use x509_cert::ext::pkix::{
-    CertificatePolicies, InhibitAnyPolicy, PolicyConstraints, PolicyMappings,
-};
 use x509_check::{CertificateRef, ExtensionRef};
+use x509_der::AssociatedOid;
+use x509_ext::pkix::{CertificatePolicies, InhibitAnyPolicy, PolicyConstraints, PolicyMappings};
 use x509_policy::{
     ANY_POLICY, MappingView, PolicyOutcome, PolicyReason, PolicySettings, PolicyState, PolicyView,
     merged_policies,

@@ -9,12 +9,12 @@ ghost use Rattle.x509_path.specs.Validation.{AreProcessed, AreSpelled, IsAboutPo
 
 use crate::extensions::{find_one, is_known, is_readable};
 use std::alloc::{AllocError, Global};
-use x509_cert::der::{AssociatedOid, Decode, ErrorKind};
-use x509_cert::ext::pkix::{
+use x509_check::{Check, ExtensionRef};
+use x509_der::{AssociatedOid, Decode, ErrorKind};
+use x509_ext::pkix::{
     BasicConstraints, CertificatePolicies, ExtendedKeyUsage, InhibitAnyPolicy, KeyUsage,
     NameConstraints, PolicyConstraints, PolicyMappings, SubjectAltName,
 };
-use x509_check::{Check, ExtensionRef};
 
 /// Whether each critical extension is of a type that is processed here, and can be decoded.
 pub(crate) fn are_processed(extensions: &[ExtensionRef<'_>]) -> bool

@@ -1,6 +1,6 @@
 //! What a caller asks of a path.
 
-use x509_cert::time::DateTime;
+use x509_base::DateTime;
 
 /// What a caller asks of a path (RFC 5280 6.1.1 (b), (c), (e) to (i)).
 #[derive(Clone, Copy, Debug)]

@@ -1,25 +1,25 @@
 //! Verifiers of signatures, of values and of encodings.
 
 ghost use Rattle.std.specs.Prelude.{◌≡◌, IfOk};
-ghost use Rattle.x509_cert.specs.der.Form.{Spells};
+ghost use Rattle.x509_der.specs.Form.{Spells};
 
 use crate::trust::Signed;
 use crate::verifier::{SliceVerifier, Verifier};
 use std::alloc::{AllocError, Global};
-use x509_cert::der::Decode;
-use x509_cert::der::asn1::BitString;
-use x509_cert::spki::{AlgorithmIdentifier, SubjectPublicKeyInfo};
+use x509_base::{AlgorithmIdentifier, SubjectPublicKeyInfo};
+use x509_der::Decode;
+use x509_prim::BitString;
 
 /// A verifier of signatures that is handed encodings, and may take memory for their values.
 pub(crate) trait Signatures {
     ghost use Rattle.std.specs.Prelude.{◌≡◌, IfOk};
-    ghost use Rattle.x509_cert.specs.base.AlgorithmIdentifier.{algorithm_identifier};
-    ghost use Rattle.x509_cert.specs.base.SubjectPublicKeyInfo.{subject_public_key_info};
-    ghost use Rattle.x509_cert.specs.base.declared.algorithm_identifier.AlgorithmIdentifier as algorithms;
-    ghost use Rattle.x509_cert.specs.base.declared.subject_public_key_info.SubjectPublicKeyInfo as keys;
-    ghost use Rattle.x509_cert.specs.der.Form.{Spells};
-    ghost use Rattle.x509_cert.specs.prim.BitString.{BitParts, bit_string};
+    ghost use Rattle.x509_base.specs.AlgorithmIdentifier.{algorithm_identifier};
+    ghost use Rattle.x509_base.specs.SubjectPublicKeyInfo.{subject_public_key_info};
+    ghost use Rattle.x509_base.specs.declared.algorithm_identifier.AlgorithmIdentifier as algorithms;
+    ghost use Rattle.x509_base.specs.declared.subject_public_key_info.SubjectPublicKeyInfo as keys;
+    ghost use Rattle.x509_der.specs.Form.{Spells};
     ghost use Rattle.x509_path.specs.Certificates.{Accepting};
+    ghost use Rattle.x509_prim.specs.BitString.{BitParts, bit_string};
 
     /// What the verifier answers.
     ghost accepts: { Self → Accepting };

@@ -1,7 +1,7 @@
 //! Trust anchors with verifiers of signatures.
 
 ghost use Rattle.std.specs.Prelude.{◌≡◌, IfOk, IfErr};
-ghost use Rattle.x509_cert.specs.der.Form.{Spells};
+ghost use Rattle.x509_der.specs.Form.{Spells};
 ghost use Rattle.x509_path.specs.declared.fault.PathFault.TheVariants.{Memory};
 
 use crate::anchor::Anchor;
@@ -9,11 +9,11 @@ use crate::anchor_ref::AnchorRef;
 use crate::fault::PathFault;
 use crate::verifier::{SliceVerifier, Verifier};
 use std::alloc::Global;
-use x509_cert::der::Decode;
-use x509_cert::der::asn1::BitString;
-use x509_cert::laws::name::equal_names_are_one_value;
-use x509_cert::name::Name;
-use x509_cert::spki::{AlgorithmIdentifier, SubjectPublicKeyInfo};
+use x509_base::{AlgorithmIdentifier, SubjectPublicKeyInfo};
+use x509_der::Decode;
+use x509_name::laws::equal_names_are_one_value;
+use x509_name::name::Name;
+use x509_prim::BitString;
 
 /// What is signed, by which algorithm, and the bits: of a certificate, each as its element.
 #[derive(Clone, Copy)]
@@ -31,16 +31,16 @@ pub(crate) struct Signed<'a> {
 /// A trust anchor, with a verifier of signatures.
 pub(crate) trait Trust {
     ghost use Rattle.std.specs.Prelude.{◌≡◌, ◌↔◌, List, IfOk, IfErr, IsTrue};
-    ghost use Rattle.x509_cert.specs.base.AlgorithmIdentifier.{algorithm_identifier};
-    ghost use Rattle.x509_cert.specs.base.declared.algorithm_identifier.AlgorithmIdentifier as algorithms;
-    ghost use Rattle.x509_cert.specs.der.Form.{Spells};
-    ghost use Rattle.x509_cert.specs.name.Names.{name};
-    ghost use Rattle.x509_cert.specs.name.declared.attr.type_and_value.AttributeTypeAndValue as attributes;
-    ghost use Rattle.x509_cert.specs.prim.BitString.{BitParts, bit_string};
+    ghost use Rattle.x509_base.specs.AlgorithmIdentifier.{algorithm_identifier};
+    ghost use Rattle.x509_base.specs.declared.algorithm_identifier.AlgorithmIdentifier as algorithms;
+    ghost use Rattle.x509_der.specs.Form.{Spells};
+    ghost use Rattle.x509_name.specs.Names.{name};
+    ghost use Rattle.x509_name.specs.declared.attr.type_and_value.AttributeTypeAndValue as attributes;
     ghost use Rattle.x509_path.specs.Certificates.{Accepting};
     ghost use Rattle.x509_path.specs.Lent.{StandsAbove};
     ghost use Rattle.x509_path.specs.declared.anchor.Anchor as anchors;
     ghost use Rattle.x509_path.specs.declared.fault.PathFault.TheVariants.{Memory};
+    ghost use Rattle.x509_prim.specs.BitString.{BitParts, bit_string};
 
     /// Whether it is the anchor.
     ghost is_anchor: { Self → anchors.Anchor → Type 0 };

@@ -1,25 +1,25 @@
 //! What is trusted.
 
 ghost use Rattle.std.specs.Prelude.{◌≡◌, MatchResult, Some};
-ghost use Rattle.x509_cert.specs.der.Form.{Spells};
-ghost use Rattle.x509_cert.specs.ext.BasicConstraints.{basic_constraints};
-ghost use Rattle.x509_cert.specs.ext.CertificatePolicies.{certificate_policies};
-ghost use Rattle.x509_cert.specs.ext.Identifiers.{id_ce};
-ghost use Rattle.x509_cert.specs.ext.NameConstraints.{name_constraints};
-ghost use Rattle.x509_cert.specs.ext.declared.pkix.certificate_policies.CertificatePolicies as policy_values;
-ghost use Rattle.x509_cert.specs.ext.declared.pkix.name_constraints.NameConstraints as values;
 ghost use Rattle.x509_check.specs.ExtensionRefs.{extensions_left};
+ghost use Rattle.x509_der.specs.Form.{Spells};
+ghost use Rattle.x509_ext.specs.BasicConstraints.{basic_constraints};
+ghost use Rattle.x509_ext.specs.CertificatePolicies.{certificate_policies};
+ghost use Rattle.x509_ext.specs.Identifiers.{id_ce};
+ghost use Rattle.x509_ext.specs.NameConstraints.{name_constraints};
+ghost use Rattle.x509_ext.specs.declared.pkix.certificate_policies.CertificatePolicies as policy_values;
+ghost use Rattle.x509_ext.specs.declared.pkix.name_constraints.NameConstraints as values;
 ghost use Rattle.x509_path.specs.Inputs.{LendsConstraints, LendsPolicies};
 ghost use Rattle.x509_path.specs.Trusts as trusts;
 
 use crate::anchor_ref::AnchorRef;
 use crate::limits::{NO_FLAGS, flags_said, length_of};
 use std::alloc::Global;
-use x509_cert::der::{AssociatedOid, Decode, Error};
-use x509_cert::ext::pkix::{
+use x509_check::{CertificateRef, Check, ExtensionRefs};
+use x509_der::{AssociatedOid, Decode, Error};
+use x509_ext::pkix::{
     BasicConstraints, CertificatePolicies, InhibitAnyPolicy, NameConstraints, PolicyConstraints,
 };
-use x509_check::{CertificateRef, Check, ExtensionRefs};
 use x509_policy::AnchorFlags;
 
 /// What is trusted, lent: a name and a public key, and for which paths (RFC 5280 6.1.1 (d), RFC 5937 2).

@@ -1,15 +1,15 @@
 //! What is trusted, owned.
 
 ghost use Rattle.std.specs.Prelude.{◌≡◌, ◌⊎◌, ◌↔◌, IsTrue, MatchResult, option_map};
-ghost use Rattle.x509_cert.specs.base.SubjectPublicKeyInfo.{subject_public_key_info};
-ghost use Rattle.x509_cert.specs.der.Form.{Spells};
-ghost use Rattle.x509_cert.specs.der.declared.error.ErrorKind.TheVariants as errors;
-ghost use Rattle.x509_cert.specs.ext.Identifiers.{id_ce};
-ghost use Rattle.x509_cert.specs.ext.LookUp.{members};
-ghost use Rattle.x509_cert.specs.ext.CertificatePolicies.{certificate_policies};
-ghost use Rattle.x509_cert.specs.ext.NameConstraints.{name_constraints};
-ghost use Rattle.x509_cert.specs.ext.SubjectKeyIdentifier.{subject_key_identifier};
-ghost use Rattle.x509_cert.specs.name.Names.{name as name_form};
+ghost use Rattle.x509_base.specs.SubjectPublicKeyInfo.{subject_public_key_info};
+ghost use Rattle.x509_der.specs.Form.{Spells};
+ghost use Rattle.x509_der.specs.declared.error.ErrorKind.TheVariants as errors;
+ghost use Rattle.x509_ext.specs.Identifiers.{id_ce};
+ghost use Rattle.x509_ext.specs.LookUp.{members};
+ghost use Rattle.x509_ext.specs.CertificatePolicies.{certificate_policies};
+ghost use Rattle.x509_ext.specs.NameConstraints.{name_constraints};
+ghost use Rattle.x509_ext.specs.SubjectKeyIdentifier.{subject_key_identifier};
+ghost use Rattle.x509_name.specs.Names.{name as name_form};
 ghost use Rattle.x509_path.specs.Inputs.{Trust};
 ghost use Rattle.x509_path.specs.Trusts.{HasItsCertificate, HasKeyId, HoldsConstraints, HoldsPolicies, HoldsTrust, IsCertificateOf, IsOverlong, IsTrustOf, IsTrustOfInfo, RefusesEncoding, RefusesInfo, RefusesItsCertificate, RefusesLimits, RefusesOption, RefusesTrust, RefusesValue, or_else};
 
@@ -17,16 +17,16 @@ use crate::anchor_ref::AnchorRef;
 use crate::limits::{flags_or, limits_of, own_limits};
 use crate::trusted::Trusted;
 use std::alloc::Global;
-use x509_cert::SubjectPublicKeyInfo;
+use x509_base::SubjectPublicKeyInfo;
+use x509_base::laws::equality_of_keys_is_exact;
 use x509_cert::anchor::{CertPathControls, TrustAnchorChoice, TrustAnchorInfo};
 use x509_cert::certificate::TbsCertificate;
-use x509_cert::der::asn1::OctetString;
-use x509_cert::der::{Decode, Encode, Error, ErrorKind, Spelled};
-use x509_cert::ext::pkix::{CertificatePolicies, NameConstraints, SubjectKeyIdentifier};
-use x509_cert::laws::base::equality_of_keys_is_exact;
-use x509_cert::laws::name::equal_names_are_one_value;
-use x509_cert::name::Name;
+use x509_der::{Decode, Encode, Error, ErrorKind, Spelled};
+use x509_ext::pkix::{CertificatePolicies, NameConstraints, SubjectKeyIdentifier};
+use x509_name::laws::equal_names_are_one_value;
+use x509_name::name::Name;
 use x509_policy::AnchorFlags;
+use x509_prim::OctetString;
 
 /// What is trusted, owned: that of a trust anchor (RFC 5914), of which not every part can be lent.
 #[derive(Debug, Drop)]
@@ -251,11 +251,11 @@ fn of_info(alloc: Global, info: &TrustAnchorInfo) -> Result<TrustedBuf, Error>
 
 impl TrustedBuf {
     ghost use Rattle.std.specs.Prelude.{◌≡◌, ◌⊎◌, MatchResult};
+    ghost use Rattle.x509_base.specs.declared.profile.Rfc5280.{Rfc5280};
     ghost use Rattle.x509_cert.specs.TrustAnchorChoice.{rfc5280_trust_anchor_choice};
     ghost use Rattle.x509_cert.specs.declared.anchor.trust_anchor_choice.TrustAnchorChoice as choices;
-    ghost use Rattle.x509_cert.specs.base.declared.profile.Rfc5280.{Rfc5280};
-    ghost use Rattle.x509_cert.specs.der.Form.{Spells};
-    ghost use Rattle.x509_cert.specs.der.declared.error.ErrorKind.TheVariants as errors;
+    ghost use Rattle.x509_der.specs.Form.{Spells};
+    ghost use Rattle.x509_der.specs.declared.error.ErrorKind.TheVariants as errors;
     ghost use Rattle.x509_path.specs.Inputs.{LendsTrust, Trust};
     ghost use Rattle.x509_path.specs.Trusts.{HoldsTrust, IsNoAnchor, IsTrustOfAnchor, IsUntrusted, RefusesAnchor, RefusesTrust};
 
@@ -271,7 +271,7 @@ impl TrustedBuf {
     /// Where nothing is trusted: `Failed` where a description has no name, or has a certificate of another name, key or key
     /// identifier, and where one of the extensions that are looked at is repeated; where one can't be decoded, the error of
     /// that. `Memory` when out of memory. Of an anchor that wasn't decoded `Overlength` where the name, the key, the
-    /// constraints or the policies are longer than [`Length::MAX`](x509_cert::der::Length::MAX).
+    /// constraints or the policies are longer than [`Length::MAX`](x509_der::Length::MAX).
     pub fn from_trust_anchor(alloc: Global, anchor: &TrustAnchorChoice) -> Result<TrustedBuf, Error>
         ensures { MatchResult result (λ trusted. (trust : Trust) × IsTrustOfAnchor anchor.now trust × HoldsTrust trusted trust)
             (λ e. RefusesTrust (IsTrustOfAnchor anchor.now) (RefusesAnchor anchor.now) e.kind) }

@@ -1,7 +1,7 @@
 //! The checks of one certificate of a path that is validated.
 
 ghost use Rattle.std.specs.Prelude.{◌≡◌, ◌↔◌, IfOk, IsTrue, List, Option, false};
-ghost use Rattle.x509_cert.specs.ext.LookUp.{IsRepeated};
+ghost use Rattle.x509_ext.specs.LookUp.{IsRepeated};
 ghost use Rattle.x509_path.specs.Certificates as certificates;
 ghost use Rattle.x509_path.specs.Lent.{lent_extensions};
 ghost use Rattle.x509_path.specs.Steps.{AreConstraintsOf};
@@ -21,12 +21,12 @@ use crate::processed::{are_processed, are_spelled, owned_payload};
 use crate::signatures::{Signatures, known_value};
 use crate::validation_fault::{ValidationFault, ValidationReason};
 use std::alloc::{AllocError, Global};
-use x509_cert::ext::pkix::{BasicConstraints, NameConstraints, SubjectAltName};
+use x509_base::DateTime;
 use x509_cert::laws::one_signed_part;
-use x509_cert::name::Name;
-use x509_cert::time::DateTime;
 use x509_check::{CertificateRef, ExtensionRef};
 use x509_constraints::is_usable;
+use x509_ext::pkix::{BasicConstraints, NameConstraints, SubjectAltName};
+use x509_name::name::Name;
 
 /// The reasons after `Decode`, in their order, those of policies apart.
 const REASONS: [ValidationReason; 12] = [

@@ -1,7 +1,7 @@
 //! Verifiers of signatures.
 
-use x509_cert::der::asn1::BitString;
-use x509_cert::{AlgorithmIdentifier, SubjectPublicKeyInfo};
+use x509_base::{AlgorithmIdentifier, SubjectPublicKeyInfo};
+use x509_prim::BitString;
 
 /// A verifier of signatures. Its answer is a function of the four arguments.
 pub trait Verifier {
@@ -26,13 +26,13 @@ pub trait Verifier {
 /// A verifier of signatures that is handed encodings, so that no value need be made of them.
 pub trait SliceVerifier {
     ghost use Rattle.std.specs.Prelude.{◌≡◌};
-    ghost use Rattle.x509_cert.specs.base.AlgorithmIdentifier.{algorithm_identifier};
-    ghost use Rattle.x509_cert.specs.base.SubjectPublicKeyInfo.{subject_public_key_info};
-    ghost use Rattle.x509_cert.specs.base.declared.algorithm_identifier.AlgorithmIdentifier as algorithms;
-    ghost use Rattle.x509_cert.specs.base.declared.subject_public_key_info.SubjectPublicKeyInfo as keys;
-    ghost use Rattle.x509_cert.specs.der.Form.{Spells};
-    ghost use Rattle.x509_cert.specs.prim.BitString.{BitParts, bit_string};
+    ghost use Rattle.x509_base.specs.AlgorithmIdentifier.{algorithm_identifier};
+    ghost use Rattle.x509_base.specs.SubjectPublicKeyInfo.{subject_public_key_info};
+    ghost use Rattle.x509_base.specs.declared.algorithm_identifier.AlgorithmIdentifier as algorithms;
+    ghost use Rattle.x509_base.specs.declared.subject_public_key_info.SubjectPublicKeyInfo as keys;
+    ghost use Rattle.x509_der.specs.Form.{Spells};
     ghost use Rattle.x509_path.specs.Certificates.{Accepting};
+    ghost use Rattle.x509_prim.specs.BitString.{BitParts, bit_string};
 
     /// What it answers.
     ghost accepts: { Self → Accepting };

@@ -9,6 +9,7 @@ use Rattle.std.proofs.lemmas.Simd.{zip2_splat, mask_l-mod, none_from_empty_mask,
 use lib.Lanes.{Each1, zip2, chunk, mask_l, top}
 use Rattle.x509_text.specs.declared.line.Style.{Style}
 use Rattle.x509_text.specs.declared.line.Style.TheVariants.{Text, Json}
+use Rattle.x509_text.specs.Lines.{is_hidden}
 use Rattle.x509_text.specs.Runs.{is_special, ends_run, run_len}
 use Rattle.x509_text.proofs.Runs.{run_nothing, run_ended, run_goes_on, run_boundary}
 
@@ -16,7 +17,7 @@ use Rattle.x509_text.proofs.Runs.{run_nothing, run_ended, run_goes_on, run_bound
 
 -- what isn't special stands for itself in both styles
 goes_on : (style : Style) (first second third : ℕ) → is_special first ≡ false → ends_run style first second third ≡ false
-unfolding ends_run
+unfolding ends_run is_hidden
 goes_on Text first second third plain = grind (arith, nat_tests)
 goes_on Json first second third plain = grind (arith, nat_tests)
 

@@ -1,18 +1,18 @@
 -- Lines of entries of which the octets are the elements.
-use Rattle.std.proofs.Common.{◌≡◌, ℕ, List, [], ◌∷◌, ◌++◌, length, Result, Ok, Err, refl, sym, ap, ◌∙◌}
+use Rattle.std.proofs.Common.{◌≡◌, ℕ, List, [], ◌∷◌, ◌++◌, length, Result, Ok, Err, refl, sym, ap}
 use Rattle.std.specs.List.{flat_map}
 use Rattle.std.specs.Prelude.{IsOk}
-use Rattle.x509_cert.specs.base.declared.profile.Raw.{Raw}
+use Rattle.x509_base.specs.declared.profile.Raw.{Raw}
 use Rattle.x509_cert.specs.declared.crl.revoked_cert.RevokedCert.{RevokedCert}
-use Rattle.x509_text.specs.Crls.{entry_lines}
-use Rattle.x509_text.specs.Pieces.{elements_lines, entries_read}
-use Rattle.x509_text.specs.SplitCrls.{read_entries, read_entry}
-use Rattle.x509_text.specs.declared.line.Place.{Place}
 use Rattle.x509_der.specs.Frames.{field_at}
 use Rattle.x509_der.specs.List.{with_front}
 use Rattle.x509_der.specs.ListLaws.{first_read, none_read}
 use Rattle.x509_der.specs.OutcomeLaws.{ok_is}
 use Rattle.x509_der.specs.declared.error.ErrorKind.{ErrorKind}
+use Rattle.x509_text.specs.Crls.{entry_lines}
+use Rattle.x509_text.specs.Pieces.{elements_lines, entries_read}
+use Rattle.x509_text.specs.SplitCrls.{read_entries, read_entry}
+use Rattle.x509_text.specs.declared.line.Place.{Place}
 
 one_front : (entry : RevokedCert Raw) (others whole : Result (List (RevokedCert Raw)) ErrorKind) → with_front (entry ∷ []) others ≡ whole → IsOk whole → (entries_read whole ≡ entry ∷ entries_read others) × IsOk others
 one_front entry (Ok xs) (Ok ys) e ok = (sym (ok_is (entry ∷ xs) ys e), refl)

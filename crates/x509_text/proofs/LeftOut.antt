@@ -1,5 +1,5 @@
 -- A list that is left out.
-use Rattle.std.proofs.Common.{◌≡◌, ◌≢◌, eqb, false, ◌<◌, ◌⊎◌, inl, inr, ℕ, List, [], ◌∷◌, length, get_or, Option, None, Result, Ok, refl, arith}
+use Rattle.std.proofs.Common.{◌≡◌, ◌≢◌, eqb, false, ◌<◌, ◌⊎◌, inl, inr, ℕ, List, [], ◌∷◌, length, get_or, None, Result, Ok, refl, arith}
 use Rattle.std.proofs.lemmas.Bool.{cases_Bool, eqb-true}
 use Rattle.x509_der.specs.Form.{is_in}
 use Rattle.x509_der.specs.FrameLaws.{optional_none}

@@ -11,8 +11,8 @@ use Rattle.std.proofs.lemmas.Bool.Decides.{nat_tests}
 use Rattle.std.proofs.lemmas.Str.{length-encode, len_utf8_bounds, chars-nil, chars_past_char}
 use Rattle.x509_text.specs.declared.line.Style.{Style}
 use Rattle.x509_text.specs.declared.line.Style.TheVariants.{Text, Json}
-use Rattle.x509_text.specs.Lines.{is_hidden, shown_char, shown}
-use Rattle.x509_text.specs.Runs.{is_quoted, is_special, ends_run, run_len}
+use Rattle.x509_text.specs.Lines.{is_hidden, is_quoted, shown_char, shown}
+use Rattle.x509_text.specs.Runs.{ends_run, run_len}
 
 -- ---- bytes
 
@@ -73,22 +73,16 @@ encode_four c one two three = rw (one, two, three) refl
 -- a character that is neither hidden nor quoted stands for itself
 shown_plain : (style : Style) (c : ℕ) → is_hidden c ≡ false → is_quoted style c ≡ false → shown_char style c ≡ encode_utf8 c
 unfolding shown_char
-shown_plain Text c plain bare = rw plain refl
-shown_plain Json c plain bare = rw (bare, plain) refl
+shown_plain style c plain bare = rw (plain, bare) refl
 
 bare_beyond : (style : Style) (c : ℕ) → 128 ≤ c → is_quoted style c ≡ false
 bare_beyond Text c ge = refl
 bare_beyond Json c ge = grind (arith, nat_tests)
 
 plain_one : (style : Style) (c second third : ℕ) → c < 128 → ends_run style c second third ≡ false → (is_hidden c ≡ false) × (is_quoted style c ≡ false)
-unfolding ends_run is_hidden
+unfolding ends_run
 plain_one Text c second third lt more = (grind (arith, nat_tests), refl)
 plain_one Json c second third lt more = (grind (arith, nat_tests), grind (arith, nat_tests))
-
-pub shown_unless_special : (style : Style) (c : ℕ) → is_special c ≡ false → shown_char style c ≡ encode_utf8 c
-unfolding is_hidden
-shown_unless_special Text c plain = shown_plain Text c (grind (arith, nat_tests)) refl
-shown_unless_special Json c plain = shown_plain Json c (grind (arith, nat_tests)) (grind (arith, nat_tests))
 
 plain_two : (style : Style) (c third : ℕ) → 128 ≤ c → c < 2048 → ends_run style (192 + c / 64) (128 + c % 64) third ≡ false → is_hidden c ≡ false
 unfolding ends_run is_hidden

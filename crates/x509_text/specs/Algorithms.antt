@@ -1,14 +1,14 @@
 -- Lines of algorithms and of public keys (RFC 5280 4.1.1.2, 4.1.2.7).
 use Rattle.std.specs.Prelude.{ℕ, ◌+◌, ◌*◌, List, [], ◌∷◌, ◌++◌, Option, Some, None, length, codes, bytes_eq, nat_lt, if◌then◌else◌}
 use Rattle.std.specs.Fmt.{decimal}
-use Rattle.x509_cert.specs.base.declared.algorithm_identifier.AlgorithmIdentifier.{AlgorithmIdentifier}
-use Rattle.x509_cert.specs.base.declared.subject_public_key_info.SubjectPublicKeyInfo.{SubjectPublicKeyInfo}
-use Rattle.x509_cert.specs.der.ObjectIdentifierForm.{object_identifier}
-use Rattle.x509_cert.specs.der.declared.tag.Tag.TheVariants.{Sequence}
-use Rattle.x509_cert.specs.der.List.{list_of}
-use Rattle.x509_cert.specs.der.declared.any.Any.{Any}
-use Rattle.x509_cert.specs.der.Form.{Form, universal}
-use Rattle.x509_cert.specs.prim.Integer.{unsigned_integer, without_zeros}
+use Rattle.x509_base.specs.declared.algorithm_identifier.AlgorithmIdentifier.{AlgorithmIdentifier}
+use Rattle.x509_base.specs.declared.subject_public_key_info.SubjectPublicKeyInfo.{SubjectPublicKeyInfo}
+use Rattle.x509_der.specs.ObjectIdentifierForm.{object_identifier}
+use Rattle.x509_der.specs.declared.tag.Tag.TheVariants.{Sequence}
+use Rattle.x509_der.specs.List.{list_of}
+use Rattle.x509_der.specs.declared.any.Any.{Any}
+use Rattle.x509_der.specs.Form.{Form, universal}
+use Rattle.x509_prim.specs.Integer.{unsigned_integer, without_zeros}
 use Rattle.x509_text.specs.declared.line.Place.{Place}
 use Rattle.x509_text.specs.Lines.{line, below}
 use Rattle.x509_text.specs.Names.{oid_text}
@@ -23,10 +23,11 @@ algorithm_lines at label algorithm = oid_line at label algorithm.oid ++ paramete
 
 -- ---- how many bits a key has
 
--- how many bits an octet other than 0 has from its highest bit that is set
+-- how many bits an octet has from its highest bit that is set
 abbrev pub bits_of_octet : ℕ → ℕ
 bits_of_octet octet =
-    if nat_lt octet 2 then 1
+    if nat_lt octet 1 then 0
+    else if nat_lt octet 2 then 1
     else if nat_lt octet 4 then 2
     else if nat_lt octet 8 then 3
     else if nat_lt octet 16 then 4
@@ -35,7 +36,7 @@ bits_of_octet octet =
     else if nat_lt octet 128 then 7
     else 8
 
--- how many bits a number has, by its octets without leading zeros
+-- how many bits a number has, by its octets without leading zeros; the number 0 has none
 abbrev pub bit_count : List ℕ → ℕ
 bit_count [] = 0
 bit_count (first ∷ rest) = bits_of_octet first + 8 * length rest
@@ -55,6 +56,15 @@ bits_of_modulus None = None
 
 unfoldable pub modulus_bits : List ℕ → Option ℕ
 modulus_bits octets = bits_of_modulus (value_of numbers octets)
+
+-- Dss-Parms are the prime, its divisor and the base (RFC 3279 2.3.2)
+abbrev pub bits_of_prime : Option (List (List ℕ)) → Option ℕ
+bits_of_prime (Some (prime ∷ divisor ∷ base ∷ [])) = Some (bit_count (without_zeros prime))
+bits_of_prime other = None
+
+unfoldable pub prime_bits : Option Any → Option ℕ
+prime_bits (Some parameters) = bits_of_prime (value_in numbers parameters)
+prime_bits None = None
 
 -- the size of the field of a curve
 abbrev pub curve_bits : List ℕ → Option ℕ
@@ -79,10 +89,12 @@ unfoldable pub parameters_bits : Option Any → Option ℕ
 parameters_bits (Some parameters) = named_curve_bits (value_in object_identifier parameters)
 parameters_bits None = None
 
--- those of the modulus, of the field, or of a key whose length the algorithm fixes (RFC 7748, RFC 8032), by the name of the algorithm
+-- those of the modulus, of the prime, of the field, or of a key whose length the algorithm fixes (RFC 7748, RFC 8032), by the name of the algorithm
 unfoldable pub key_bits : List ℕ → SubjectPublicKeyInfo → Option ℕ
 key_bits name key =
     if bytes_eq name (codes "rsaEncryption") then modulus_bits key.subject_public_key.octets
+    else if bytes_eq name (codes "id-RSASSA-PSS") then modulus_bits key.subject_public_key.octets
+    else if bytes_eq name (codes "id-dsa") then prime_bits key.algorithm.parameters
     else if bytes_eq name (codes "id-ecPublicKey") then parameters_bits key.algorithm.parameters
     else if bytes_eq name (codes "id-X25519") then Some 256
     else if bytes_eq name (codes "id-Ed25519") then Some 256

@@ -9,8 +9,8 @@ use Rattle.x509_cert.specs.declared.anchor.trust_anchor_info.TrustAnchorInfo.{Tr
 use Rattle.x509_cert.specs.declared.anchor.version.Version.{Version}
 use Rattle.x509_cert.specs.declared.anchor.version.Version.TheVariants.{V1}
 use Rattle.x509_cert.specs.declared.certificate.certificate.CertificateInner.{CertificateInner}
-use Rattle.x509_cert.specs.ext.declared.pkix.certificate_policies.CertificatePolicies.{CertificatePolicies}
-use Rattle.x509_cert.specs.ext.declared.pkix.name_constraints.NameConstraints.{NameConstraints}
+use Rattle.x509_ext.specs.declared.pkix.certificate_policies.CertificatePolicies.{CertificatePolicies}
+use Rattle.x509_ext.specs.declared.pkix.name_constraints.NameConstraints.{NameConstraints}
 use Rattle.x509_text.specs.declared.line.Place.{Place}
 use Rattle.x509_text.specs.Algorithms.{key_lines}
 use Rattle.x509_text.specs.Certificates as certificates

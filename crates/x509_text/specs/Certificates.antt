@@ -1,8 +1,8 @@
 -- Lines of certificates (RFC 5280 4.1).
 use Rattle.std.specs.Prelude.{ℕ, List, ◌++◌, codes}
-use Rattle.x509_cert.specs.base.Time.{date_time_of}
-use Rattle.x509_cert.specs.base.declared.time.Time.{Time}
-use Rattle.x509_cert.specs.base.declared.validity.Validity.{Validity}
+use Rattle.x509_base.specs.Time.{date_time_of}
+use Rattle.x509_base.specs.declared.time.Time.{Time}
+use Rattle.x509_base.specs.declared.validity.Validity.{Validity}
 use Rattle.x509_cert.specs.declared.certificate.certificate.CertificateInner.{CertificateInner}
 use Rattle.x509_cert.specs.declared.certificate.tbs_certificate.TbsCertificateInner.{TbsCertificateInner}
 use Rattle.x509_cert.specs.declared.certificate.version.Version.{Version}

@@ -1,7 +1,7 @@
 -- Lines of CRLs (RFC 5280 5.1).
 use Rattle.std.specs.Prelude.{ℕ, List, ◌++◌, Option, Some, None, codes}
 use Rattle.std.specs.List.{flat_map}
-use Rattle.x509_cert.specs.base.declared.time.Time.{Time}
+use Rattle.x509_base.specs.declared.time.Time.{Time}
 use Rattle.x509_cert.specs.declared.certificate.version.Version.{Version}
 use Rattle.x509_cert.specs.declared.crl.certificate_list.CertificateList.{CertificateList}
 use Rattle.x509_cert.specs.declared.crl.revoked_cert.RevokedCert.{RevokedCert}

@@ -1,6 +1,6 @@
 -- The date-time of a number of seconds since 1970.
 use Rattle.std.specs.Prelude.{ℕ, zero, suc, ◌+◌, ◌-◌, ◌/◌, ◌%◌, nat_le, if◌then◌else◌}
-use Rattle.x509_cert.specs.base.CivilTime.{CivilTime, civil_time, days_of_years, days_of_months}
+use Rattle.x509_base.specs.CivilTime.{CivilTime, civil_time, days_of_years, days_of_months}
 
 -- how many whole years from 1970 on, n at most, lie before the day with so many days before it
 unfoldable pub whole_years : ℕ → ℕ → ℕ

@@ -1,31 +1,31 @@
 -- Lines of extensions, by the types of their values (RFC 5280 4.2, 5.2, 5.3; RFC 6962 3.3).
 use Rattle.std.specs.Prelude.{ℕ, List, [], ◌++◌, Option, codes, bytes_eq, if◌then◌else◌}
 use Rattle.std.specs.List.{flat_map}
-use Rattle.x509_cert.specs.base.TimeForms.{generalized_time}
-use Rattle.x509_cert.specs.ext.Access.{authority_info_access_syntax, subject_info_access_syntax}
-use Rattle.x509_cert.specs.ext.AlternativeNames.{subject_alt_name, issuer_alt_name}
-use Rattle.x509_cert.specs.ext.AuthorityKeyIdentifier.{authority_key_identifier}
-use Rattle.x509_cert.specs.ext.BasicConstraints.{basic_constraints}
-use Rattle.x509_cert.specs.ext.ExtendedKeyUsage.{extended_key_usage}
-use Rattle.x509_cert.specs.ext.CertificateIssuer.{certificate_issuer}
-use Rattle.x509_cert.specs.ext.CertificatePolicies.{certificate_policies}
-use Rattle.x509_cert.specs.ext.CrlNumber.{base_crl_number, crl_number}
-use Rattle.x509_cert.specs.ext.CrlReason.{crl_reason}
-use Rattle.x509_cert.specs.ext.DistributionPoint.{crl_distribution_points, freshest_crl}
-use Rattle.x509_cert.specs.ext.InhibitAnyPolicy.{inhibit_any_policy}
-use Rattle.x509_cert.specs.ext.IssuingDistributionPoint.{issuing_distribution_point}
-use Rattle.x509_cert.specs.ext.KeyUsage.{key_usage}
-use Rattle.x509_cert.specs.ext.NameConstraints.{name_constraints}
-use Rattle.x509_cert.specs.ext.PolicyConstraints.{policy_constraints}
-use Rattle.x509_cert.specs.ext.PolicyMapping.{policy_mappings}
-use Rattle.x509_cert.specs.ext.PrivateKeyUsagePeriod.{private_key_usage_period}
-use Rattle.x509_cert.specs.ext.SubjectDirectoryAttributes.{subject_directory_attributes}
-use Rattle.x509_cert.specs.ext.SubjectKeyIdentifier.{subject_key_identifier}
-use Rattle.x509_cert.specs.ext.Identifiers.{id_ce, id_pkix}
-use Rattle.x509_cert.specs.ext.declared.extension.Extension.{Extension}
-use Rattle.x509_cert.specs.sct.Identifier.{embedded_timestamps, precertificate_poison}
-use Rattle.x509_cert.specs.sct.Payload.{signed_certificate_timestamp_list}
-use Rattle.x509_cert.specs.sct.Poison.{ct_precertificate_poison}
+use Rattle.x509_base.specs.TimeForms.{generalized_time}
+use Rattle.x509_ext.specs.Access.{authority_info_access_syntax, subject_info_access_syntax}
+use Rattle.x509_ext.specs.AlternativeNames.{subject_alt_name, issuer_alt_name}
+use Rattle.x509_ext.specs.AuthorityKeyIdentifier.{authority_key_identifier}
+use Rattle.x509_ext.specs.BasicConstraints.{basic_constraints}
+use Rattle.x509_ext.specs.ExtendedKeyUsage.{extended_key_usage}
+use Rattle.x509_ext.specs.CertificateIssuer.{certificate_issuer}
+use Rattle.x509_ext.specs.CertificatePolicies.{certificate_policies}
+use Rattle.x509_ext.specs.CrlNumber.{base_crl_number, crl_number}
+use Rattle.x509_ext.specs.CrlReason.{crl_reason}
+use Rattle.x509_ext.specs.DistributionPoint.{crl_distribution_points, freshest_crl}
+use Rattle.x509_ext.specs.InhibitAnyPolicy.{inhibit_any_policy}
+use Rattle.x509_ext.specs.IssuingDistributionPoint.{issuing_distribution_point}
+use Rattle.x509_ext.specs.KeyUsage.{key_usage}
+use Rattle.x509_ext.specs.NameConstraints.{name_constraints}
+use Rattle.x509_ext.specs.PolicyConstraints.{policy_constraints}
+use Rattle.x509_ext.specs.PolicyMapping.{policy_mappings}
+use Rattle.x509_ext.specs.PrivateKeyUsagePeriod.{private_key_usage_period}
+use Rattle.x509_ext.specs.SubjectDirectoryAttributes.{subject_directory_attributes}
+use Rattle.x509_ext.specs.SubjectKeyIdentifier.{subject_key_identifier}
+use Rattle.x509_ext.specs.Identifiers.{id_ce, id_pkix}
+use Rattle.x509_ext.specs.declared.extension.Extension.{Extension}
+use Rattle.x509_sct.specs.Identifier.{embedded_timestamps, precertificate_poison}
+use Rattle.x509_sct.specs.Payload.{signed_certificate_timestamp_list}
+use Rattle.x509_sct.specs.Poison.{ct_precertificate_poison}
 use Rattle.x509_text.specs.declared.line.Place.{Place}
 use Rattle.x509_text.specs.GeneralNames as names
 use Rattle.x509_text.specs.Lines.{line, below}

@@ -1,16 +1,16 @@
 -- Lines of general names (RFC 5280 4.2.1.6), and of what holds them.
 use Rattle.std.specs.Prelude.{ℕ, List, [], ◌++◌, Option, codes}
 use Rattle.std.specs.List.{flat_map}
-use Rattle.x509_cert.specs.ext.declared.pkix.access.AccessDescription.{AccessDescription}
-use Rattle.x509_cert.specs.ext.declared.pkix.name.distribution_point_name.DistributionPointName.{DistributionPointName}
-use Rattle.x509_cert.specs.ext.declared.pkix.name.distribution_point_name.DistributionPointName.TheVariants.{FullName, NameRelativeToCRLIssuer}
-use Rattle.x509_cert.specs.ext.declared.pkix.name.edi_party_name.EdiPartyName as parties
-use Rattle.x509_cert.specs.ext.declared.pkix.name.general_name.GeneralName.{GeneralName}
-use Rattle.x509_cert.specs.ext.declared.pkix.name.general_name.GeneralName.TheVariants.{OtherName, Rfc822Name, DnsName, DirectoryName, EdiPartyName, UniformResourceIdentifier, IpAddress, RegisteredId}
-use Rattle.x509_cert.specs.ext.declared.pkix.name.other_name.OtherName as others
-use Rattle.x509_cert.specs.name.NameText.{rdn_text}
-use Rattle.x509_cert.specs.name.DirectoryString.{text_of}
-use Rattle.x509_cert.specs.name.declared.name.directory_string.DirectoryString.{DirectoryString}
+use Rattle.x509_ext.specs.declared.pkix.access.AccessDescription.{AccessDescription}
+use Rattle.x509_ext.specs.declared.pkix.name.distribution_point_name.DistributionPointName.{DistributionPointName}
+use Rattle.x509_ext.specs.declared.pkix.name.distribution_point_name.DistributionPointName.TheVariants.{FullName, NameRelativeToCRLIssuer}
+use Rattle.x509_ext.specs.declared.pkix.name.edi_party_name.EdiPartyName as parties
+use Rattle.x509_ext.specs.declared.pkix.name.general_name.GeneralName.{GeneralName}
+use Rattle.x509_ext.specs.declared.pkix.name.general_name.GeneralName.TheVariants.{OtherName, Rfc822Name, DnsName, DirectoryName, EdiPartyName, UniformResourceIdentifier, IpAddress, RegisteredId}
+use Rattle.x509_ext.specs.declared.pkix.name.other_name.OtherName as others
+use Rattle.x509_name.specs.NameText.{rdn_text}
+use Rattle.x509_name.specs.DirectoryString.{text_of}
+use Rattle.x509_name.specs.declared.name.directory_string.DirectoryString.{DirectoryString}
 use Rattle.x509_text.specs.declared.line.Place.{Place}
 use Rattle.x509_text.specs.Lines.{line, below}
 use Rattle.x509_text.specs.Payloads.{optional}

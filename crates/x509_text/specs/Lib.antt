@@ -1,6 +1,7 @@
 pub mod Lines
 pub mod Runs
 pub mod ColonHex
+pub mod OidNames
 pub mod Names
 pub mod Payloads
 pub mod Values

@@ -1,5 +1,5 @@
 -- Lines of a document: a label and a text, as a text for people or as an object of JSON (RFC 8259).
-use Rattle.std.specs.Prelude.{ℕ, ◌/◌, ◌%◌, Bool, ◌||◌, ◌&&◌, nat_eq, nat_lt, nat_le, List, [], ◌∷◌, ◌++◌, codes, encode_utf8, if◌then◌else◌}
+use Rattle.std.specs.Prelude.{ℕ, ◌/◌, ◌%◌, Bool, false, ◌||◌, ◌&&◌, nat_eq, nat_lt, nat_le, List, [], ◌∷◌, ◌++◌, codes, encode_utf8, if◌then◌else◌}
 use Rattle.std.specs.List.{flat_map}
 use Rattle.std.specs.Str.{chars}
 use Rattle.hex.specs.Hex.{encode_lower}
@@ -23,21 +23,22 @@ is_hidden char =
 abbrev pub byte_text : ℕ → List ℕ
 byte_text byte = codes "\\" ++ encode_lower (byte ∷ [])
 
--- a character of a text for people: itself, or the bytes of its UTF-8 so
-abbrev pub text_char : ℕ → List ℕ
-text_char char = if is_hidden char then flat_map byte_text (encode_utf8 char) else encode_utf8 char
+-- whether a character stands behind a backslash: in JSON a quotation mark and a backslash do (RFC 8259 section 7)
+abbrev pub is_quoted : Style → ℕ → Bool
+is_quoted Text char = false
+is_quoted Json char = nat_eq char 34 || nat_eq char 92
 
--- A character of a string of JSON: itself, with a backslash where it is a quotation mark or a backslash, or by four hex digits (RFC 8259
--- section 7). The characters that may not stand for themselves are below U+10000.
-abbrev pub json_char : ℕ → List ℕ
-json_char char =
-    if nat_eq char 34 || nat_eq char 92 then codes "\\" ++ encode_utf8 char
-    else if is_hidden char then codes "\\u" ++ encode_lower ((char / 256 % 256) ∷ (char % 256) ∷ [])
-    else encode_utf8 char
+-- A hidden character: the bytes of its UTF-8 so, in JSON its four hex digits (RFC 8259 section 7), as it is below U+10000.
+abbrev pub hidden_char : Style → ℕ → List ℕ
+hidden_char Text char = flat_map byte_text (encode_utf8 char)
+hidden_char Json char = codes "\\u" ++ encode_lower ((char / 256 % 256) ∷ (char % 256) ∷ [])
 
+-- a character within its line
 unfoldable pub shown_char : Style → ℕ → List ℕ
-shown_char Text char = text_char char
-shown_char Json char = json_char char
+shown_char style char =
+    if is_hidden char then hidden_char style char
+    else if is_quoted style char then codes "\\" ++ encode_utf8 char
+    else encode_utf8 char
 
 -- a text of which no character ends the line or turns its order round
 unfoldable pub shown : Style → List ℕ → List ℕ

@@ -1,19 +1,8 @@
--- The names of object identifiers.
-use Rattle.std.specs.Prelude.{ℕ, List, [], ◌∷◌, map, Option, Some, None, bytes_eq, if◌then◌else◌}
-use Rattle.x509_cert.specs.der.Arcs.{dotted}
-use Rattle.x509_cert.specs.der.ObjectIdentifier.{arcs_of}
-use Rattle.x509_text.specs.declared.names.TheConstants.{NAMES}
-
--- a name, and the content octets of the identifier that has it
-pub record Row : Type 0 where
-  pub name : List ℕ
-  pub octets : List ℕ
-
-abbrev pub row : List ℕ → List ℕ → Row
-row name octets = record { name = name; octets = octets }
-
-unfoldable pub table : List Row
-table = map (λ r. row r.0.now r.1.now) NAMES
+-- What an object identifier is called.
+use Rattle.std.specs.Prelude.{ℕ, List, [], ◌∷◌, Option, Some, None, bytes_eq, if◌then◌else◌}
+use Rattle.x509_der.specs.Arcs.{dotted}
+use Rattle.x509_der.specs.ObjectIdentifier.{arcs_of}
+use Rattle.x509_text.specs.OidNames.{Row, oid_names}
 
 -- the name of the first row with these content octets
 abbrev pub first_name : List ℕ → List Row → Option (List ℕ)
@@ -21,7 +10,7 @@ first_name octets [] = None
 first_name octets (r ∷ rows) = if bytes_eq r.octets octets then Some r.name else first_name octets rows
 
 unfoldable pub name_of : List ℕ → Option (List ℕ)
-name_of octets = first_name octets table
+name_of octets = first_name octets oid_names
 
 abbrev pub name_or_dotted : Option (List ℕ) → List ℕ → List ℕ
 name_or_dotted (Some name) octets = name

@@ -1,13 +1,13 @@
 -- What is printed of bytes.
 use Rattle.std.specs.Prelude.{ℕ, List, Option, Some, None, Result, Ok, codes}
 use Rattle.std.specs.Option.{option_map}
+use Rattle.x509_base.specs.declared.profile.Raw.{Raw}
 use Rattle.x509_cert.specs.CertReq.{cert_req}
 use Rattle.x509_cert.specs.Certificate.{certificate}
 use Rattle.x509_cert.specs.CertificateList.{certificate_list}
 use Rattle.x509_cert.specs.TrustAnchorChoice.{trust_anchor_choice}
-use Rattle.x509_cert.specs.base.declared.profile.Raw.{Raw}
-use Rattle.x509_cert.specs.der.Form.{Form}
-use Rattle.x509_cert.specs.der.declared.error.ErrorKind.{ErrorKind}
+use Rattle.x509_der.specs.Form.{Form}
+use Rattle.x509_der.specs.declared.error.ErrorKind.{ErrorKind}
 use Rattle.x509_text.specs.declared.line.Place.{Place}
 use Rattle.x509_text.specs.declared.line.Style.{Style}
 use Rattle.x509_text.specs.declared.objects.Kind.{Kind}

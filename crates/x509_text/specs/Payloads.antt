@@ -1,11 +1,11 @@
 -- Values that may be left out, octets, and what octets are the encoding of.
 use Rattle.std.specs.Prelude.{ℕ, List, [], Option, Some, None, Result, Ok, Err, length, nat_le, codes, if◌then◌else◌}
 use Rattle.hex.specs.Hex.{encode_lower}
-use Rattle.x509_cert.specs.der.declared.error.ErrorKind.{ErrorKind}
-use Rattle.x509_cert.specs.der.Element.{element, limit}
-use Rattle.x509_cert.specs.der.Tag.{octet_of}
-use Rattle.x509_cert.specs.der.declared.any.Any.{Any}
-use Rattle.x509_cert.specs.der.Form.{Form, whole_reading}
+use Rattle.x509_der.specs.declared.error.ErrorKind.{ErrorKind}
+use Rattle.x509_der.specs.Element.{element, limit}
+use Rattle.x509_der.specs.Tag.{octet_of}
+use Rattle.x509_der.specs.declared.any.Any.{Any}
+use Rattle.x509_der.specs.Form.{Form, whole_reading}
 use Rattle.x509_text.specs.declared.line.Place.{Place}
 use Rattle.x509_text.specs.Lines.{line}
 

@@ -1,10 +1,10 @@
 -- Documents of CRLs that come piece by piece: what is still to come.
 use Rattle.std.specs.Prelude.{◌≡◌, ℕ, ◌+◌, ◌<◌, List, [], ◌++◌, length, Option, Some, None, Result, Ok, Err, codes, string_bytes}
 use Rattle.std.specs.List.{flat_map}
-use Rattle.x509_cert.specs.base.declared.profile.Raw.{Raw}
+use Rattle.x509_base.specs.declared.profile.Raw.{Raw}
 use Rattle.x509_cert.specs.declared.crl.certificate_list.CertificateList.{CertificateList}
 use Rattle.x509_cert.specs.declared.crl.revoked_cert.RevokedCert.{RevokedCert}
-use Rattle.x509_cert.specs.der.declared.error.ErrorKind.{ErrorKind}
+use Rattle.x509_der.specs.declared.error.ErrorKind.{ErrorKind}
 use Rattle.x509_text.specs.declared.line.Place.{Place}
 use Rattle.x509_text.specs.declared.line.Style.{Style}
 use Rattle.x509_text.specs.declared.pieces.CrlPieces.{CrlPieces}

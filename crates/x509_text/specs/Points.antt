@@ -2,8 +2,8 @@
 use Rattle.std.specs.Prelude.{ℕ, ◌^◌, ◌==◌, List, [], ◌++◌, Bool, codes}
 use Rattle.std.specs.Int.RustNames.{bit_and}
 use Rattle.std.specs.List.{flat_map}
-use Rattle.x509_cert.specs.ext.declared.pkix.distribution_point.DistributionPoint.{DistributionPoint}
-use Rattle.x509_cert.specs.ext.declared.pkix.reasons.Reasons.{Reasons}
+use Rattle.x509_ext.specs.declared.pkix.distribution_point.DistributionPoint.{DistributionPoint}
+use Rattle.x509_ext.specs.declared.pkix.reasons.Reasons.{Reasons}
 use Rattle.x509_text.specs.declared.line.Place.{Place}
 use Rattle.x509_text.specs.GeneralNames.{optional_names, point_name_lines}
 use Rattle.x509_text.specs.Lines.{line, line_where, below}

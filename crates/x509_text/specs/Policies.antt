@@ -1,13 +1,13 @@
 -- Lines of policies, and of what limits the certificates that may follow in a path (RFC 5280 4.2.1.4, 4.2.1.5, 4.2.1.10, 4.2.1.11, 4.2.1.14).
 use Rattle.std.specs.Prelude.{ℕ, nat_eq, List, [], ◌++◌, Option, codes, if◌then◌else◌}
 use Rattle.std.specs.List.{flat_map}
-use Rattle.x509_cert.specs.ext.declared.pkix.general_subtree.GeneralSubtree.{GeneralSubtree}
-use Rattle.x509_cert.specs.ext.declared.pkix.inhibit_any_policy.InhibitAnyPolicy.{InhibitAnyPolicy}
-use Rattle.x509_cert.specs.ext.declared.pkix.name_constraints.NameConstraints.{NameConstraints}
-use Rattle.x509_cert.specs.ext.declared.pkix.policy_constraints.PolicyConstraints.{PolicyConstraints}
-use Rattle.x509_cert.specs.ext.declared.pkix.policy_information.PolicyInformation.{PolicyInformation}
-use Rattle.x509_cert.specs.ext.declared.pkix.policy_information.PolicyQualifierInfo.{PolicyQualifierInfo}
-use Rattle.x509_cert.specs.ext.declared.pkix.policy_mapping.PolicyMapping.{PolicyMapping}
+use Rattle.x509_ext.specs.declared.pkix.general_subtree.GeneralSubtree.{GeneralSubtree}
+use Rattle.x509_ext.specs.declared.pkix.inhibit_any_policy.InhibitAnyPolicy.{InhibitAnyPolicy}
+use Rattle.x509_ext.specs.declared.pkix.name_constraints.NameConstraints.{NameConstraints}
+use Rattle.x509_ext.specs.declared.pkix.policy_constraints.PolicyConstraints.{PolicyConstraints}
+use Rattle.x509_ext.specs.declared.pkix.policy_information.PolicyInformation.{PolicyInformation}
+use Rattle.x509_ext.specs.declared.pkix.policy_information.PolicyQualifierInfo.{PolicyQualifierInfo}
+use Rattle.x509_ext.specs.declared.pkix.policy_mapping.PolicyMapping.{PolicyMapping}
 use Rattle.x509_text.specs.declared.line.Place.{Place}
 use Rattle.x509_text.specs.GeneralNames.{general_name_lines}
 use Rattle.x509_text.specs.Lines.{line, below}

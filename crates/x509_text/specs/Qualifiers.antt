@@ -1,16 +1,16 @@
 -- Lines of the qualifiers of policies (RFC 5280 4.2.1.4).
 use Rattle.std.specs.Prelude.{ℕ, List, ◌++◌, Option, bytes_eq, codes, encode_utf8_all, if◌then◌else◌}
 use Rattle.std.specs.List.{flat_map}
-use Rattle.x509_cert.specs.der.declared.any.Any.{Any}
-use Rattle.x509_cert.specs.ext.Identifiers.{id_pkix}
-use Rattle.x509_cert.specs.ext.UserNotice.{user_notice}
-use Rattle.x509_cert.specs.ext.declared.pkix.display_text.DisplayText.{DisplayText}
-use Rattle.x509_cert.specs.ext.declared.pkix.display_text.DisplayText.TheVariants.{Ia5String, VisibleString, BmpString, Utf8String}
-use Rattle.x509_cert.specs.ext.declared.pkix.policy_information.PolicyQualifierInfo.{PolicyQualifierInfo}
-use Rattle.x509_cert.specs.ext.declared.pkix.user_notice.NoticeReference.{NoticeReference}
-use Rattle.x509_cert.specs.ext.declared.pkix.user_notice.UserNotice.{UserNotice}
-use Rattle.x509_cert.specs.prim.Bmp.{bmp_chars}
-use Rattle.x509_cert.specs.prim.Texts.{ia5_string}
+use Rattle.x509_der.specs.declared.any.Any.{Any}
+use Rattle.x509_ext.specs.Identifiers.{id_pkix}
+use Rattle.x509_ext.specs.UserNotice.{user_notice}
+use Rattle.x509_ext.specs.declared.pkix.display_text.DisplayText.{DisplayText}
+use Rattle.x509_ext.specs.declared.pkix.display_text.DisplayText.TheVariants.{Ia5String, VisibleString, BmpString, Utf8String}
+use Rattle.x509_ext.specs.declared.pkix.policy_information.PolicyQualifierInfo.{PolicyQualifierInfo}
+use Rattle.x509_ext.specs.declared.pkix.user_notice.NoticeReference.{NoticeReference}
+use Rattle.x509_ext.specs.declared.pkix.user_notice.UserNotice.{UserNotice}
+use Rattle.x509_prim.specs.Bmp.{bmp_chars}
+use Rattle.x509_prim.specs.Texts.{ia5_string}
 use Rattle.x509_text.specs.declared.line.Place.{Place}
 use Rattle.x509_text.specs.Lines.{line, below}
 use Rattle.x509_text.specs.Payloads.{any_lines, optional}

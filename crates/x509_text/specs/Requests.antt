@@ -8,9 +8,9 @@ use Rattle.x509_cert.specs.declared.request.cert_req.CertReq.{CertReq}
 use Rattle.x509_cert.specs.declared.request.cert_req.CertReqInfo.{CertReqInfo}
 use Rattle.x509_cert.specs.declared.request.version.Version.{Version}
 use Rattle.x509_cert.specs.declared.request.version.Version.TheVariants.{V1}
-use Rattle.x509_cert.specs.der.declared.any.Any.{Any}
-use Rattle.x509_cert.specs.ext.Extension.{extensions}
-use Rattle.x509_cert.specs.name.declared.attr.attribute.Attribute.{Attribute}
+use Rattle.x509_der.specs.declared.any.Any.{Any}
+use Rattle.x509_ext.specs.Extension.{extensions}
+use Rattle.x509_name.specs.declared.attr.attribute.Attribute.{Attribute}
 use Rattle.x509_text.specs.declared.line.Place.{Place}
 use Rattle.x509_text.specs.Algorithms.{algorithm_lines, key_lines}
 use Rattle.x509_text.specs.Extensions.{extensions_lines}

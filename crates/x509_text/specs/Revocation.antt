@@ -1,11 +1,11 @@
 -- Lines of the extensions of CRLs and of their entries (RFC 5280 5.2.3, 5.2.4, 5.2.5, 5.3).
 use Rattle.std.specs.Prelude.{ℕ, List, ◌++◌, codes}
-use Rattle.x509_cert.specs.base.CivilTime.{CivilTime}
-use Rattle.x509_cert.specs.ext.declared.pkix.crl_number.BaseCrlNumber.{BaseCrlNumber}
-use Rattle.x509_cert.specs.ext.declared.pkix.crl_number.CrlNumber.{CrlNumber}
-use Rattle.x509_cert.specs.ext.declared.pkix.crl_reason.CrlReason.{CrlReason}
-use Rattle.x509_cert.specs.ext.declared.pkix.crl_reason.CrlReason.TheVariants.{Unspecified, KeyCompromise, CaCompromise, AffiliationChanged, Superseded, CessationOfOperation, CertificateHold, RemoveFromCRL, PrivilegeWithdrawn, AaCompromise}
-use Rattle.x509_cert.specs.ext.declared.pkix.issuing_distribution_point.IssuingDistributionPoint.{IssuingDistributionPoint}
+use Rattle.x509_base.specs.CivilTime.{CivilTime}
+use Rattle.x509_ext.specs.declared.pkix.crl_number.BaseCrlNumber.{BaseCrlNumber}
+use Rattle.x509_ext.specs.declared.pkix.crl_number.CrlNumber.{CrlNumber}
+use Rattle.x509_ext.specs.declared.pkix.crl_reason.CrlReason.{CrlReason}
+use Rattle.x509_ext.specs.declared.pkix.crl_reason.CrlReason.TheVariants.{Unspecified, KeyCompromise, CaCompromise, AffiliationChanged, Superseded, CessationOfOperation, CertificateHold, RemoveFromCRL, PrivilegeWithdrawn, AaCompromise}
+use Rattle.x509_ext.specs.declared.pkix.issuing_distribution_point.IssuingDistributionPoint.{IssuingDistributionPoint}
 use Rattle.x509_text.specs.declared.line.Place.{Place}
 use Rattle.x509_text.specs.GeneralNames.{point_name_lines}
 use Rattle.x509_text.specs.Lines.{line, line_where}

@@ -1,12 +1,7 @@
 -- Runs of characters that stand for themselves in a line, by the bytes of their text.
-use Rattle.std.specs.Prelude.{ℕ, suc, Bool, false, ◌||◌, ◌&&◌, nat_eq, nat_lt, nat_le, List, [], ◌∷◌, slice_index, if◌then◌else◌}
+use Rattle.std.specs.Prelude.{ℕ, suc, Bool, ◌||◌, ◌&&◌, nat_eq, nat_lt, nat_le, List, [], ◌∷◌, slice_index, if◌then◌else◌}
 use Rattle.x509_text.specs.declared.line.Style.{Style}
-use Rattle.x509_text.specs.declared.line.Style.TheVariants.{Text, Json}
-
--- the quotation mark and the backslash, which stand behind a backslash in JSON
-abbrev pub is_quoted : Style → ℕ → Bool
-is_quoted Text byte = false
-is_quoted Json byte = nat_eq byte 34 || nat_eq byte 92
+use Rattle.x509_text.specs.Lines.{is_hidden, is_quoted}
 
 -- the last bytes of U+200E, U+200F and U+2028 to U+202E, and of U+2066 to U+2069
 abbrev pub is_hidden_end : ℕ → ℕ → Bool
@@ -23,7 +18,7 @@ begins_hidden first second third =
 -- whether a character that doesn't stand for itself begins with these bytes; where the first lies within a character, none does
 unfoldable pub ends_run : Style → ℕ → ℕ → ℕ → Bool
 ends_run style first second third =
-    if nat_lt first 0x80 then (nat_lt first 0x20 || nat_eq first 0x7F) || is_quoted style first else begins_hidden first second third
+    if nat_lt first 0x80 then is_hidden first || is_quoted style first else begins_hidden first second third
 
 -- how many bytes of a text lie in front of its first character that doesn't stand for itself
 unfoldable pub run_len : Style → List ℕ → ℕ

@@ -1,15 +1,15 @@
 -- CRLs of which the entries stay encoded: a CRL without its entries, and the elements of these (RFC 5280 5.1).
 use Rattle.std.specs.Prelude.{◌≡◌, ℕ, List, None, Result, Ok, Err}
+use Rattle.x509_base.specs.declared.profile.Raw.{Raw}
 use Rattle.x509_cert.specs.AnySerial.{any_revoked_cert}
 use Rattle.x509_cert.specs.Revoked.{entries}
-use Rattle.x509_cert.specs.base.declared.profile.Raw.{Raw}
 use Rattle.x509_cert.specs.declared.crl.certificate_list.CertificateList.{CertificateList}
 use Rattle.x509_cert.specs.declared.crl.revoked_cert.RevokedCert.{RevokedCert}
 use Rattle.x509_cert.specs.declared.crl.tbs_cert_list.TbsCertList.{TbsCertList}
-use Rattle.x509_cert.specs.der.List.{list_reading}
-use Rattle.x509_cert.specs.der.Outcome.{IsRefusal}
-use Rattle.x509_cert.specs.der.declared.error.Error.{Error}
-use Rattle.x509_cert.specs.der.declared.error.ErrorKind.{ErrorKind}
+use Rattle.x509_der.specs.List.{list_reading}
+use Rattle.x509_der.specs.Outcome.{IsRefusal}
+use Rattle.x509_der.specs.declared.error.Error.{Error}
+use Rattle.x509_der.specs.declared.error.ErrorKind.{ErrorKind}
 
 -- ---- what stays of a CRL
 

@@ -2,23 +2,23 @@
 use Rattle.std.specs.Prelude.{ℕ, ◌+◌, ◌/◌, ◌%◌, List, [], ◌∷◌, ◌++◌, Option, Some, None, Result, Ok, Err, nat_eq, nat_le, codes, if◌then◌else◌}
 use Rattle.std.specs.Fmt.{decimal}
 use Rattle.std.specs.List.{flat_map}
-use Rattle.x509_cert.specs.base.CivilTime.{CivilTime, last_date_time, unix_seconds}
-use Rattle.x509_cert.specs.base.TimeText.{two_digits}
-use Rattle.x509_cert.specs.sct.FieldReading.{whole_at}
-use Rattle.x509_cert.specs.sct.Lists.{list_reading}
-use Rattle.x509_cert.specs.sct.Numbers.{uint16, vector16}
-use Rattle.x509_cert.specs.sct.Timestamp.{timestamp}
-use Rattle.x509_cert.specs.sct.declared.list.SignedCertificateTimestampList.{SignedCertificateTimestampList}
-use Rattle.x509_cert.specs.sct.declared.poison.CtPrecertificatePoison.{CtPrecertificatePoison}
-use Rattle.x509_cert.specs.sct.declared.signed.DigitallySigned.{DigitallySigned}
-use Rattle.x509_cert.specs.sct.declared.signed.HashAlgorithm.{HashAlgorithm}
-use Rattle.x509_cert.specs.sct.declared.signed.HashAlgorithm.TheVariants as hashes
-use Rattle.x509_cert.specs.sct.declared.signed.SignatureAlgorithm.{SignatureAlgorithm}
-use Rattle.x509_cert.specs.sct.declared.signed.SignatureAlgorithm.TheVariants as signatures
-use Rattle.x509_cert.specs.sct.declared.timestamp.SignedCertificateTimestamp.{SignedCertificateTimestamp}
-use Rattle.x509_cert.specs.sct.declared.timestamp.Version.{Version}
-use Rattle.x509_cert.specs.sct.declared.timestamp.Version.TheVariants.{V1}
-use Rattle.x509_cert.specs.sct.declared.tls.error.TlsError.{TlsError}
+use Rattle.x509_base.specs.CivilTime.{CivilTime, last_date_time, unix_seconds}
+use Rattle.x509_base.specs.TimeText.{two_digits}
+use Rattle.x509_sct.specs.FieldReading.{whole_at}
+use Rattle.x509_sct.specs.Lists.{list_reading}
+use Rattle.x509_sct.specs.Numbers.{uint16, vector16}
+use Rattle.x509_sct.specs.Timestamp.{timestamp}
+use Rattle.x509_sct.specs.declared.list.SignedCertificateTimestampList.{SignedCertificateTimestampList}
+use Rattle.x509_sct.specs.declared.poison.CtPrecertificatePoison.{CtPrecertificatePoison}
+use Rattle.x509_sct.specs.declared.signed.DigitallySigned.{DigitallySigned}
+use Rattle.x509_sct.specs.declared.signed.HashAlgorithm.{HashAlgorithm}
+use Rattle.x509_sct.specs.declared.signed.HashAlgorithm.TheVariants as hashes
+use Rattle.x509_sct.specs.declared.signed.SignatureAlgorithm.{SignatureAlgorithm}
+use Rattle.x509_sct.specs.declared.signed.SignatureAlgorithm.TheVariants as signatures
+use Rattle.x509_sct.specs.declared.timestamp.SignedCertificateTimestamp.{SignedCertificateTimestamp}
+use Rattle.x509_sct.specs.declared.timestamp.Version.{Version}
+use Rattle.x509_sct.specs.declared.timestamp.Version.TheVariants.{V1}
+use Rattle.x509_sct.specs.declared.tls.error.TlsError.{TlsError}
 use Rattle.x509_text.specs.declared.line.Place.{Place}
 use Rattle.x509_text.specs.Dates.{date_time_at}
 use Rattle.x509_text.specs.Lines.{line, below}

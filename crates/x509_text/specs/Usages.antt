@@ -1,15 +1,15 @@
 -- Lines of what a key may be used for, and of key identifiers (RFC 5280 4.2.1).
 use Rattle.std.specs.Prelude.{ℕ, List, ◌++◌, Bool, Option, codes, if◌then◌else◌}
 use Rattle.std.specs.List.{flat_map}
-use Rattle.x509_cert.specs.base.CivilTime.{CivilTime}
-use Rattle.x509_cert.specs.der.declared.any.Any.{Any}
-use Rattle.x509_cert.specs.ext.declared.pkix.authority_key_identifier.AuthorityKeyIdentifier.{AuthorityKeyIdentifier}
-use Rattle.x509_cert.specs.ext.declared.pkix.basic_constraints.BasicConstraints.{BasicConstraints}
-use Rattle.x509_cert.specs.ext.KeyUsage.{has_bit}
-use Rattle.x509_cert.specs.ext.declared.pkix.key_usage.KeyUsage.{KeyUsage}
-use Rattle.x509_cert.specs.ext.declared.pkix.private_key_usage_period.PrivateKeyUsagePeriod.{PrivateKeyUsagePeriod}
-use Rattle.x509_cert.specs.ext.declared.pkix.subject_key_identifier.SubjectKeyIdentifier.{SubjectKeyIdentifier}
-use Rattle.x509_cert.specs.name.declared.attr.attribute.Attribute.{Attribute}
+use Rattle.x509_base.specs.CivilTime.{CivilTime}
+use Rattle.x509_der.specs.declared.any.Any.{Any}
+use Rattle.x509_ext.specs.declared.pkix.authority_key_identifier.AuthorityKeyIdentifier.{AuthorityKeyIdentifier}
+use Rattle.x509_ext.specs.declared.pkix.basic_constraints.BasicConstraints.{BasicConstraints}
+use Rattle.x509_ext.specs.KeyUsage.{has_bit}
+use Rattle.x509_ext.specs.declared.pkix.key_usage.KeyUsage.{KeyUsage}
+use Rattle.x509_ext.specs.declared.pkix.private_key_usage_period.PrivateKeyUsagePeriod.{PrivateKeyUsagePeriod}
+use Rattle.x509_ext.specs.declared.pkix.subject_key_identifier.SubjectKeyIdentifier.{SubjectKeyIdentifier}
+use Rattle.x509_name.specs.declared.attr.attribute.Attribute.{Attribute}
 use Rattle.x509_text.specs.declared.line.Place.{Place}
 use Rattle.x509_text.specs.GeneralNames.{optional_names}
 use Rattle.x509_text.specs.Lines.{line, line_where, below}

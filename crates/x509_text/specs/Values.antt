@@ -4,17 +4,17 @@ use Rattle.std.specs.Fmt.{decimal}
 use Rattle.std.specs.Net.Text as addresses
 use Rattle.std.specs.Net.Addr.{segments_of}
 use Rattle.hex.specs.Hex.{encode_lower}
-use Rattle.x509_cert.specs.base.Serial.{colon_hex}
-use Rattle.x509_cert.specs.base.CivilTime.{CivilTime}
-use Rattle.x509_cert.specs.base.TimeText.{two_digits, four_digits}
-use Rattle.x509_cert.specs.der.ObjectIdentifierForm.{object_identifier}
-use Rattle.x509_cert.specs.der.declared.tag.Tag.{Tag}
-use Rattle.x509_cert.specs.der.declared.tag.Tag.TheVariants as tags
-use Rattle.x509_cert.specs.der.declared.any.Any.{Any}
-use Rattle.x509_cert.specs.name.NameText.{name_text}
-use Rattle.x509_cert.specs.name.declared.attr.type_and_value.AttributeTypeAndValue.{AttributeTypeAndValue}
-use Rattle.x509_cert.specs.prim.BitString.{BitParts}
-use Rattle.x509_cert.specs.prim.Integer.{integer_value, natural_below, without_zeros}
+use Rattle.x509_base.specs.Serial.{colon_hex}
+use Rattle.x509_base.specs.CivilTime.{CivilTime}
+use Rattle.x509_base.specs.TimeText.{two_digits, four_digits}
+use Rattle.x509_der.specs.ObjectIdentifierForm.{object_identifier}
+use Rattle.x509_der.specs.declared.tag.Tag.{Tag}
+use Rattle.x509_der.specs.declared.tag.Tag.TheVariants as tags
+use Rattle.x509_der.specs.declared.any.Any.{Any}
+use Rattle.x509_name.specs.NameText.{name_text}
+use Rattle.x509_name.specs.declared.attr.type_and_value.AttributeTypeAndValue.{AttributeTypeAndValue}
+use Rattle.x509_prim.specs.BitString.{BitParts}
+use Rattle.x509_prim.specs.Integer.{integer_value, natural_below, without_zeros}
 use Rattle.x509_text.specs.declared.line.Place.{Place}
 use Rattle.x509_text.specs.Lines.{line, below}
 use Rattle.x509_text.specs.Names.{oid_text}

@@ -1,15 +1,15 @@
 //! Algorithms and public keys (RFC 5280 4.1.1.2, 4.1.2.7).
 
-ghost use Rattle.std.specs.Prelude.{◌≡◌, ◌++◌, OnOk, IfOk, string_bytes};
+ghost use Rattle.std.specs.Prelude.{◌≡◌, ◌++◌, OnOk, IfOk, Some, string_bytes};
 ghost use Rattle.x509_text.specs.Algorithms as algorithms;
 
 use crate::line::{Place, write_line};
 use crate::show::value_of;
 use crate::values::{oid_text, write_any, write_bits, write_oid};
 use std::alloc::{AllocError, Global};
-use x509_cert::der::ErrorKind;
-use x509_cert::der::asn1::{Any, ObjectIdentifier, SequenceOf, Uint};
-use x509_cert::{AlgorithmIdentifier, SubjectPublicKeyInfo};
+use x509_base::{AlgorithmIdentifier, SubjectPublicKeyInfo};
+use x509_der::{Any, ErrorKind, ObjectIdentifier, SequenceOf};
+use x509_prim::Uint;
 
 /// Writes the parameters of an algorithm, where there are any.
 fn write_parameters(
@@ -41,12 +41,13 @@ pub(crate) fn write_algorithm(
     write_parameters(alloc, at.below(), &algorithm.parameters, out)
 }
 
-/// How many bits an octet other than 0 has from its highest bit that is set.
+/// How many bits an octet has from its highest bit that is set.
 fn bits_of_octet(octet: u8) -> u8
     ensures { result ≡ algorithms.bits_of_octet octet }
 {
     match octet {
-        0..=1 => 1,
+        0 => 0,
+        1 => 1,
         2..=3 => 2,
         4..=7 => 3,
         8..=15 => 4,
@@ -57,7 +58,7 @@ fn bits_of_octet(octet: u8) -> u8
     }
 }
 
-/// How many bits a number has, by its octets without leading zeros.
+/// How many bits a number has, by its octets without leading zeros; the number 0 has none.
 fn bit_count(octets: &[u8]) -> u128
     ensures { result ≡ algorithms.bit_count octets.now }
 {
@@ -85,6 +86,33 @@ fn modulus_bits(alloc: Global, octets: &[u8]) -> Result<Option<u128>, AllocError
     match value_of::<SequenceOf<Uint>>(alloc, octets)? {
         Some(numbers) => Ok(first_bits(numbers.as_slice())),
         None => Ok(None),
+    }
+}
+
+/// How many bits the first of three numbers has.
+fn first_of_three(numbers: &[Uint]) -> Option<u128>
+    ensures { result ≡ algorithms.bits_of_prime (Some numbers.now) }
+{
+    match numbers {
+        [prime, _divisor, _base] => Some(bit_count(prime.as_bytes())),
+        _ => None,
+    }
+}
+
+/// How many bits the prime of a DSA key has, by the parameters of its algorithm (RFC 3279 2.3.2).
+#[tactic(auto, unfolding(crate::specs::Algorithms::prime_bits))]
+fn prime_bits(alloc: Global, parameters: &Option<Any>) -> Result<Option<u128>, AllocError>
+    ensures { IfOk result (λ bits. bits ≡ algorithms.prime_bits parameters.now) }
+{
+    let Some(parameters) = parameters else {
+        return Ok(None);
+    };
+    match parameters.decode_as::<SequenceOf<Uint>>(alloc) {
+        Ok(numbers) => Ok(first_of_three(numbers.as_slice())),
+        Err(e) => match e.kind() {
+            ErrorKind::Memory => Err(AllocError),
+            _ => Ok(None),
+        },
     }
 }
 
@@ -126,7 +154,7 @@ fn parameters_bits(alloc: Global, parameters: &Option<Any>) -> Result<Option<u12
     }
 }
 
-/// How many bits a key has, where that is known of its algorithm, which has this name: those of the modulus or of the field.
+/// How many bits a key has, where that is known of its algorithm, which has this name: those of the modulus, of the prime or of the field.
 #[tactic(auto, unfolding(crate::specs::Algorithms::key_bits))]
 fn key_bits(
     alloc: Global,
@@ -137,6 +165,8 @@ fn key_bits(
 {
     match name {
         "rsaEncryption" => modulus_bits(alloc, key.subject_public_key.raw_bytes()),
+        "id-RSASSA-PSS" => modulus_bits(alloc, key.subject_public_key.raw_bytes()),
+        "id-dsa" => prime_bits(alloc, &key.algorithm.parameters),
         "id-ecPublicKey" => parameters_bits(alloc, &key.algorithm.parameters),
         "id-X25519" => Ok(Some(256)),
         "id-Ed25519" => Ok(Some(256)),
@@ -146,8 +176,13 @@ fn key_bits(
     }
 }
 
-/// The same by the key alone.
-fn known_bits(alloc: Global, key: &SubjectPublicKeyInfo) -> Result<Option<u128>, AllocError>
+/// How many bits a key has, where that is known: those of the modulus of an RSA key (RFC 8017 A.1.1), of the prime of a DSA key whose algorithm has parameters
+/// (RFC 3279 2.3.2), of the field of an elliptic curve that has a name here (RFC 5480 2.1.1), and of a key of RFC 8410 as many as its octets have.
+///
+/// # Errors
+///
+/// `AllocError` when out of memory, and nothing else.
+pub fn key_size(alloc: Global, key: &SubjectPublicKeyInfo) -> Result<Option<u128>, AllocError>
     ensures { IfOk result (λ bits. bits ≡ algorithms.known_bits key.now) }
 {
     let name = oid_text(alloc, &key.algorithm.oid)?;
@@ -183,7 +218,7 @@ fn write_key_bits(
 ) -> Result<(), AllocError>
     ensures { OnOk result (string_bytes out.new ≡ string_bytes out.old ++ algorithms.bits_of_key at key.now) }
 {
-    let bits = known_bits(alloc, key)?;
+    let bits = key_size(alloc, key)?;
     write_size(alloc, at, bits, out)?;
     write_bits(alloc, at, "key", &key.subject_public_key, out)
 }

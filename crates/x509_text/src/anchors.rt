@@ -12,12 +12,13 @@ use crate::show::{Show, show_option, write_octets};
 use crate::values::{write_name, write_optional_number};
 use bitflags::Flags;
 use std::alloc::{AllocError, Global};
+use x509_base::Profile;
 use x509_cert::anchor::{
     CertPathControls, CertPolicies, TrustAnchorChoice, TrustAnchorInfo, Version,
 };
-use x509_cert::certificate::{CertificateInner, Profile};
-use x509_cert::der::asn1::Utf8String;
-use x509_cert::ext::pkix::{CertificatePolicies, NameConstraints};
+use x509_cert::certificate::CertificateInner;
+use x509_ext::pkix::{CertificatePolicies, NameConstraints};
+use x509_prim::Utf8String;
 
 /// Writes a flag where its bit is set.
 fn write_flag(

@@ -9,8 +9,8 @@ use crate::line::{Place, write_line};
 use crate::show::Show;
 use crate::values::{write_bits, write_moment, write_name, write_optional_bits, write_serial};
 use std::alloc::{AllocError, Global};
-use x509_cert::certificate::{CertificateInner, Profile, TbsCertificateInner, Version};
-use x509_cert::time::{Time, Validity};
+use x509_base::{Profile, Time, Validity};
+use x509_cert::certificate::{CertificateInner, TbsCertificateInner, Version};
 
 /// The text of a version.
 pub(crate) fn version_text(version: Version) -> &'static str

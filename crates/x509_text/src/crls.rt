@@ -11,9 +11,9 @@ use crate::line::{Place, write_line};
 use crate::show::{Show, show_each};
 use crate::values::{write_bits, write_name, write_serial};
 use std::alloc::{AllocError, Global};
-use x509_cert::certificate::{Profile, Version};
+use x509_base::{Profile, Time};
+use x509_cert::certificate::Version;
 use x509_cert::crl::{CertificateList, RevokedCert, TbsCertList};
-use x509_cert::time::Time;
 
 /// The text of a version: a CRL without one is of version 1 (RFC 5280 5.1.2.1).
 fn version_text(version: Option<Version>) -> &'static str

@@ -1,24 +1,27 @@
 //! Octets in hex and the numbers of dates, written digit by digit.
 
-ghost use Rattle.std.specs.Prelude.{◌≡◌, ◌∷◌, ◌++◌, ◌*◌, ◌<◌, true, length, slice_index, OnOk, IfOk, string_bytes};
+ghost use Rattle.std.specs.Prelude.{◌≡◌, ◌∷◌, ◌++◌, ◌*◌, ◌<◌, length, OnOk, IfOk, string_bytes};
 ghost use Rattle.std.specs.Fmt.{digit_glyph};
 ghost use Rattle.std.specs.List.{flat_map};
-ghost use Rattle.hex.specs.Hex.{encode_lower, lower_digits};
+ghost use Rattle.hex.specs.Hex.{encode_lower};
 ghost use Rattle.x509_base.specs.Serial.{colon_hex};
 ghost use Rattle.x509_base.specs.TimeText.{four_digits, two_digits};
 ghost use Rattle.x509_text.specs.ColonHex.{octet_colon};
 
 use std::alloc::{AllocError, Global};
 
-/// The hex digit of a number, 0 to 9 and A to F.
-fn upper_digit(number: u8) -> u8
+/// The hex digit of a number, 0 to 9 and a to f, or A to F.
+// It is computed, so that a compiler can take many octets at once.
+fn hex_digit(is_upper: bool, number: u8) -> u8
     requires { number < 16 }
-    ensures { result ≡ digit_glyph true number }
+    ensures { result ≡ digit_glyph is_upper number }
 {
     if number < 10 {
         b'0' + number
-    } else {
+    } else if is_upper {
         b'A' + (number - 10)
+    } else {
+        b'a' + (number - 10)
     }
 }
 
@@ -29,8 +32,8 @@ fn fill_colon_hex(octets: &[u8], digits: &mut [u8])
 {
     'octets: for i in 0..octets.len() {
         let octet = octets[i];
-        digits[3 * i] = upper_digit(octet / 16);
-        digits[3 * i + 1] = upper_digit(octet % 16);
+        digits[3 * i] = hex_digit(true, octet / 16);
+        digits[3 * i + 1] = hex_digit(true, octet % 16);
         digits[3 * i + 2] = b':';
     }
 }
@@ -51,28 +54,15 @@ pub(crate) fn colon_text(alloc: Global, octets: &[u8]) -> Result<String, AllocEr
     Ok(String::from_utf8(digits).unwrap())
 }
 
-/// The hex digit of a number, 0 to 9 and a to f.
-fn lower_digit(number: u8) -> u8
-    requires { number < 16 }
-    ensures { result ≡ slice_index lower_digits number }
-{
-    if number < 10 {
-        b'0' + number
-    } else {
-        b'a' + (number - 10)
-    }
-}
-
 /// Writes the octets in hex over as many digits.
-// The digits are computed, so that a compiler can take many octets at once.
 fn fill_hex(octets: &[u8], digits: &mut [u8])
     requires { length digits.old ≡ 2 * length octets.now }
     ensures { digits.new ≡ encode_lower octets.now }
 {
     'octets: for i in 0..octets.len() {
         let octet = octets[i];
-        digits[2 * i] = lower_digit(octet / 16);
-        digits[2 * i + 1] = lower_digit(octet % 16);
+        digits[2 * i] = hex_digit(false, octet / 16);
+        digits[2 * i + 1] = hex_digit(false, octet % 16);
     }
 }
 

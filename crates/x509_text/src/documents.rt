@@ -10,8 +10,9 @@ ghost use Rattle.x509_text.specs.Requests.{request_lines};
 use crate::line::{Depth, Place, Style, closing, write_opening};
 use crate::show::Show;
 use std::alloc::{AllocError, Global};
+use x509_base::Profile;
 use x509_cert::anchor::TrustAnchorChoice;
-use x509_cert::certificate::{CertificateInner, Profile};
+use x509_cert::certificate::CertificateInner;
 use x509_cert::crl::CertificateList;
 use x509_cert::request::CertReq;
 

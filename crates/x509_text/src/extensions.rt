@@ -8,18 +8,17 @@ use crate::line::{Place, write_line};
 use crate::show::{Show, show_each, show_payload, write_octets};
 use crate::values::oid_text;
 use std::alloc::{AllocError, Global};
-use x509_cert::der::AssociatedOid;
-use x509_cert::der::asn1::{GeneralizedTime, ObjectIdentifier};
-use x509_cert::ext::pkix::sct::{CtPrecertificatePoison, SignedCertificateTimestampList};
-use x509_cert::ext::pkix::{
+use x509_base::GeneralizedTime;
+use x509_der::{AssociatedOid, ObjectIdentifier, oid};
+use x509_ext::pkix::{
     AuthorityInfoAccessSyntax, AuthorityKeyIdentifier, BaseCrlNumber, BasicConstraints,
     CertificateIssuer, CertificatePolicies, CrlDistributionPoints, CrlNumber, CrlReason,
     ExtendedKeyUsage, FreshestCrl, InhibitAnyPolicy, IssuerAltName, IssuingDistributionPoint,
     KeyUsage, NameConstraints, PolicyConstraints, PolicyMappings, PrivateKeyUsagePeriod,
     SubjectAltName, SubjectDirectoryAttributes, SubjectInfoAccessSyntax, SubjectKeyIdentifier,
 };
-use x509_cert::ext::{Extension, Extensions};
-use x509_der::oid;
+use x509_ext::{Extension, Extensions};
+use x509_sct::{CtPrecertificatePoison, SignedCertificateTimestampList};
 
 // id-ce-invalidityDate, 2.5.29.24 (RFC 5280 5.3.2)
 const INVALIDITY_DATE: ObjectIdentifier = oid!(0x55, 0x1D, 24);

@@ -7,13 +7,14 @@ use crate::line::{Place, write_line};
 use crate::show::{Show, show_each};
 use crate::values::{address_text, write_any, write_name, write_oid};
 use std::alloc::{AllocError, Global};
-use x509_cert::ext::pkix::name::{
-    DirectoryString, DistributionPointName, EdiPartyName, GeneralName, GeneralNames, OtherName,
+use x509_ext::pkix::name::{
+    DistributionPointName, EdiPartyName, GeneralName, GeneralNames, OtherName,
 };
-use x509_cert::ext::pkix::{
+use x509_ext::pkix::{
     AccessDescription, AuthorityInfoAccessSyntax, CertificateIssuer, IssuerAltName, SubjectAltName,
     SubjectInfoAccessSyntax,
 };
+use x509_name::name::DirectoryString;
 
 /// Writes a text of a name.
 pub(crate) fn write_directory_string(

@@ -8,6 +8,7 @@ ghost use Rattle.x509_text.specs.Lines as lines;
 ghost use Rattle.x509_text.specs.Runs as runs;
 ghost use Rattle.x509_text.specs.declared.line.Style.TheVariants.{Json};
 
+use crate::digits::hex_text;
 use std::alloc::{AllocError, Global};
 use std::simd::prelude::*;
 
@@ -122,7 +123,7 @@ fn write_byte(alloc: Global, byte: u8, out: &mut String) -> Result<(), AllocErro
     ensures { OnOk result (string_bytes out.new ≡ string_bytes out.old ++ lines.byte_text byte) }
 {
     let octets = [byte];
-    let digits = hex::encode(alloc, octets.as_slice())?;
+    let digits = hex_text(alloc, octets.as_slice())?;
     out.push_str("\\")?;
     out.push_str(digits.as_str())
 }
@@ -137,54 +138,48 @@ fn write_bytes(alloc: Global, bytes: &[u8], out: &mut String) -> Result<(), Allo
     Ok(())
 }
 
-/// Writes a character of a text for people.
-fn write_text_char(alloc: Global, c: char, out: &mut String) -> Result<(), AllocError>
-    ensures { OnOk result (string_bytes out.new ≡ string_bytes out.old ++ lines.text_char c) }
+/// Whether a character stands behind a backslash in this style: in JSON a quotation mark or a backslash does.
+fn is_quoted(style: Style, code: u32) -> bool
+    ensures { result ≡ lines.is_quoted style code }
 {
-    if !is_hidden(c as u32) {
-        return out.push(c);
+    match style {
+        Style::Text => false,
+        Style::Json => code == 0x22 || code == 0x5C,
     }
-    let mut buffer = [0; 4];
-    write_bytes(alloc, c.encode_utf8(&mut buffer).as_bytes(), out)
 }
 
-/// Writes a character of a string of JSON.
-fn write_json_char(alloc: Global, c: char, out: &mut String) -> Result<(), AllocError>
-    ensures { OnOk result (string_bytes out.new ≡ string_bytes out.old ++ lines.json_char c) }
+/// Writes a hidden character by its bytes, in JSON by its code.
+fn write_hidden(alloc: Global, style: Style, c: char, out: &mut String) -> Result<(), AllocError>
+    ensures { OnOk result (string_bytes out.new ≡ string_bytes out.old ++ lines.hidden_char style c) }
 {
-    let code = c as u32;
-    if c == '"' || c == '\\' {
-        out.push('\\')?;
-        return out.push(c);
+    match style {
+        Style::Text => {
+            let mut buffer = [0; 4];
+            write_bytes(alloc, c.encode_utf8(&mut buffer).as_bytes(), out)
+        }
+        Style::Json => {
+            let code = c as u32;
+            let octets = [(code / 256 % 256) as u8, (code % 256) as u8];
+            let digits = hex_text(alloc, octets.as_slice())?;
+            out.push_str("\\u")?;
+            out.push_str(digits.as_str())
+        }
     }
-    if !is_hidden(code) {
-        return out.push(c);
-    }
-    let octets = [(code / 256 % 256) as u8, (code % 256) as u8];
-    let digits = hex::encode(alloc, octets.as_slice())?;
-    out.push_str("\\u")?;
-    out.push_str(digits.as_str())
-}
-
-/// Whether a character is outside of what stands for itself in ASCII, or may be quoted.
-fn is_special(code: u32) -> bool
-    ensures { result ≡ runs.is_special code }
-{
-    code < 0x20 || 0x7E < code || code == 34 || code == 92
 }
 
 /// Writes a character so that it stays within its line.
-#[tactic(auto, unfolding(crate::specs::Lines::shown_char), using(crate::proofs::Runs::shown_unless_special))]
+#[tactic(auto, unfolding(crate::specs::Lines::shown_char))]
 fn write_char(alloc: Global, style: Style, c: char, out: &mut String) -> Result<(), AllocError>
     ensures { OnOk result (string_bytes out.new ≡ string_bytes out.old ++ lines.shown_char style c) }
 {
-    if !is_special(c as u32) {
+    if is_hidden(c as u32) {
+        return write_hidden(alloc, style, c, out);
+    }
+    if is_quoted(style, c as u32) {
+        out.push('\\')?;
         return out.push(c);
     }
-    match style {
-        Style::Text => write_text_char(alloc, c, out),
-        Style::Json => write_json_char(alloc, c, out),
-    }
+    out.push(c)
 }
 
 /// The byte at a place, or 0 behind the last.
@@ -213,23 +208,13 @@ fn begins_hidden(first: u8, after: &[u8]) -> bool
     }
 }
 
-/// Whether a byte stands behind a backslash in this style.
-fn is_quoted(style: Style, byte: u8) -> bool
-    ensures { result ≡ runs.is_quoted style byte }
-{
-    match style {
-        Style::Text => false,
-        Style::Json => byte == b'"' || byte == b'\\',
-    }
-}
-
 /// Whether a character that doesn't stand for itself begins with a byte and the bytes after it.
 #[tactic(auto, unfolding(crate::specs::Runs::ends_run))]
 fn ends_run(style: Style, first: u8, after: &[u8]) -> bool
     ensures { result ≡ runs.ends_run style first (slice_index after.now 0) (slice_index after.now 1) }
 {
     if first < 0x80 {
-        first < 0x20 || first == 0x7F || is_quoted(style, first)
+        is_hidden(u32::from(first)) || is_quoted(style, u32::from(first))
     } else {
         begins_hidden(first, after)
     }
@@ -300,7 +285,7 @@ fn run_len(style: Style, bytes: &[u8]) -> usize
 }
 
 /// How many characters are written one by one before the next run is looked for.
-const FEW: usize = 16;
+const FEW_CHARS: usize = 16;
 
 /// Writes the first characters of a text one by one, and gives the others.
 fn write_few<'a>(
@@ -314,7 +299,7 @@ fn write_few<'a>(
     ensures fewer { 0 < length text.now → IfOk result (λ others. length others.now < length text.now) }
 {
     let mut rest = text;
-    let mut left = FEW;
+    let mut left = FEW_CHARS;
     while left > 0 {
         let mut chars = rest.chars();
         match chars.next() {

@@ -3,6 +3,7 @@
 ghost use Rattle.std.specs.Prelude.{◌≡◌, bytes_eq, map, true};
 ghost use Rattle.std.specs.Option.{option_map};
 ghost use Rattle.x509_text.specs.Names as names;
+ghost use Rattle.x509_text.specs.OidNames as oids;
 
 /// A row of the table: the name, and the content octets of the OID.
 // A tuple, since contracts can't name a constant of structs that borrow.
@@ -376,7 +377,7 @@ fn is_same(one: &[u8], other: &[u8]) -> bool
 
 /// The name of the first row with the content octets.
 fn find(mut rows: &[Row], octets: &[u8]) -> Option<&'static str>
-    ensures { option_map (λ name. name.now) result ≡ names.first_name octets.now (map (λ r. names.row r.0.now r.1.now) rows.entry.now) }
+    ensures { option_map (λ name. name.now) result ≡ names.first_name octets.now (map (λ r. oids.row r.0.now r.1.now) rows.entry.now) }
 {
     while let [row, rest @ ..] = rows {
         if is_same(row.1, octets) {
@@ -388,7 +389,7 @@ fn find(mut rows: &[Row], octets: &[u8]) -> Option<&'static str>
 }
 
 /// The name of the OID with the content octets, where it has one here.
-#[tactic(auto, unfolding(crate::specs::Names::name_of, crate::specs::Names::table))]
+#[tactic(auto, unfolding(crate::specs::Names::name_of, crate::specs::OidNames::oid_names, x509_der::specs::Arcs::subidentifier))]
 pub fn name_of(octets: &[u8]) -> Option<&'static str>
     ensures { option_map (λ name. name.now) result ≡ names.name_of octets.now }
 {

@@ -11,10 +11,11 @@ use crate::line::Style;
 use crate::pieces::{CrlPieces, Document};
 use crate::show::{Show, value_of};
 use std::alloc::{AllocError, Global};
+use x509_base::Raw;
 use x509_cert::anchor::TrustAnchorChoice;
-use x509_cert::certificate::{CertificateInner, Raw};
-use x509_cert::der::Decode;
+use x509_cert::certificate::CertificateInner;
 use x509_cert::request::CertReq;
+use x509_der::Decode;
 
 /// A kind of object.
 #[derive(Clone, Copy, Debug, PartialEq, Eq)]

@@ -8,7 +8,7 @@ use crate::crls::write_signature;
 use crate::line::{Depth, Place, Style, closing, write_opening};
 use crate::show::Show;
 use std::alloc::{AllocError, Global};
-use x509_cert::certificate::Raw;
+use x509_base::Raw;
 use x509_cert::crl::{CertificateList, RevokedCert};
 use x509_der::read_field;
 

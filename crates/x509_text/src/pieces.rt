@@ -7,9 +7,9 @@ use crate::line::{Depth, Place, Style};
 use crate::piece::{behind_piece, entries_piece, front_piece};
 use crate::split_crl::split_whole;
 use std::alloc::{AllocError, Global};
-use x509_cert::certificate::Raw;
+use x509_base::Raw;
 use x509_cert::crl::CertificateList;
-use x509_cert::der::{ErrorKind, Length};
+use x509_der::{ErrorKind, Length};
 
 /// What the next piece of a document is.
 #[derive(Clone, Copy)]

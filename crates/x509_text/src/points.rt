@@ -9,8 +9,8 @@ use crate::line::{Place, write_line, write_where};
 use crate::show::{Show, show_each, show_option};
 use bitflags::Flags;
 use std::alloc::{AllocError, Global};
-use x509_cert::ext::pkix::crl::dp::{DistributionPoint, Reasons};
-use x509_cert::ext::pkix::{CrlDistributionPoints, FreshestCrl};
+use x509_ext::pkix::crl::dp::{DistributionPoint, Reasons};
+use x509_ext::pkix::{CrlDistributionPoints, FreshestCrl};
 
 /// Writes a reason where its bit is set.
 fn write_reason(

@@ -7,10 +7,10 @@ use crate::line::{Place, write_line};
 use crate::show::{Show, show_each};
 use crate::values::{write_number, write_oid, write_optional_number};
 use std::alloc::{AllocError, Global};
-use x509_cert::der::asn1::SequenceOf;
-use x509_cert::ext::pkix::certpolicy::{PolicyInformation, PolicyQualifierInfo};
-use x509_cert::ext::pkix::constraints::name::{GeneralSubtree, GeneralSubtrees};
-use x509_cert::ext::pkix::{
+use x509_der::SequenceOf;
+use x509_ext::pkix::certpolicy::{PolicyInformation, PolicyQualifierInfo};
+use x509_ext::pkix::constraints::name::{GeneralSubtree, GeneralSubtrees};
+use x509_ext::pkix::{
     CertificatePolicies, InhibitAnyPolicy, NameConstraints, PolicyConstraints, PolicyMapping,
     PolicyMappings,
 };

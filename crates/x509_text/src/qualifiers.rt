@@ -7,11 +7,9 @@ use crate::line::{Place, write_line};
 use crate::show::{Show, show_any, show_each, show_option};
 use crate::values::{write_any, write_oid, write_uint};
 use std::alloc::{AllocError, Global};
-use x509_cert::der::asn1::{Any, Ia5String, ObjectIdentifier, SequenceOf, Uint};
-use x509_cert::ext::pkix::certpolicy::{
-    DisplayText, NoticeReference, PolicyQualifierInfo, UserNotice,
-};
-use x509_der::oid;
+use x509_der::{Any, ObjectIdentifier, SequenceOf, oid};
+use x509_ext::pkix::certpolicy::{DisplayText, NoticeReference, PolicyQualifierInfo, UserNotice};
+use x509_prim::{Ia5String, Uint};
 
 // id-qt-cps, 1.3.6.1.5.5.7.2.1 (RFC 5280 4.2.1.4)
 const CPS: ObjectIdentifier = oid!(0x2B, 0x06, 0x01, 0x05, 0x05, 0x07, 2, 1);

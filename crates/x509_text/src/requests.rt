@@ -10,12 +10,11 @@ use crate::line::{Place, write_line};
 use crate::show::{Show, show_each, show_each_any};
 use crate::values::{write_bits, write_name, write_oid};
 use std::alloc::{AllocError, Global};
-use x509_cert::attr::Attribute;
-use x509_cert::der::AssociatedOid;
-use x509_cert::der::asn1::{Any, ObjectIdentifier};
-use x509_cert::ext::Extensions;
 use x509_cert::request::attributes::ChallengePassword;
 use x509_cert::request::{CertReq, CertReqInfo, ExtensionReq, Version};
+use x509_der::{Any, AssociatedOid, ObjectIdentifier};
+use x509_ext::Extensions;
+use x509_name::attr::Attribute;
 
 /// The text of a version.
 fn version_text(version: Version) -> &'static str

@@ -7,8 +7,8 @@ use crate::line::{Place, write_line, write_where};
 use crate::show::{Show, show_option};
 use crate::values::{write_moment, write_uint};
 use std::alloc::{AllocError, Global};
-use x509_cert::der::asn1::GeneralizedTime;
-use x509_cert::ext::pkix::{BaseCrlNumber, CrlNumber, CrlReason, IssuingDistributionPoint};
+use x509_base::GeneralizedTime;
+use x509_ext::pkix::{BaseCrlNumber, CrlNumber, CrlReason, IssuingDistributionPoint};
 
 impl Show for CrlNumber {
     ghost use Rattle.x509_text.specs.Revocation.{crl_number_line};

@@ -7,8 +7,7 @@ ghost use Rattle.x509_text.specs.Payloads as payloads;
 use crate::digits::hex_text;
 use crate::line::{Place, write_line};
 use std::alloc::{AllocError, Global};
-use x509_cert::der::asn1::Any;
-use x509_cert::der::{Decode, Encode, ErrorKind};
+use x509_der::{Any, Decode, Encode, ErrorKind};
 
 /// A value that is printed as lines.
 pub(crate) trait Show {

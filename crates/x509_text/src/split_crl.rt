@@ -1,11 +1,11 @@
 //! CRLs of which the entries stay encoded (RFC 5280 5.1).
 
 ghost use Rattle.std.specs.Prelude.{◌≡◌, Ok};
+ghost use Rattle.x509_base.specs.declared.profile.Raw.{Raw};
 ghost use Rattle.x509_cert.specs.AnySerial.{any_certificate_list, any_revoked_cert, any_tbs_cert_list};
 ghost use Rattle.x509_cert.specs.CertificateList.{certificate_list_contents, tbs_cert_list_contents};
 ghost use Rattle.x509_cert.specs.Respelling.{no_check};
 ghost use Rattle.x509_cert.specs.Revoked.{entries};
-ghost use Rattle.x509_cert.specs.base.declared.profile.Raw.{Raw};
 ghost use Rattle.x509_der.specs.Form.{universal, whole_reading};
 ghost use Rattle.x509_der.specs.Frames.{optional, required};
 ghost use Rattle.x509_der.specs.List.{list_of};
@@ -13,16 +13,17 @@ ghost use Rattle.x509_der.specs.declared.tag.Tag.TheVariants.{Sequence};
 ghost use Rattle.x509_text.specs.SplitCrls.{GivesSo, GivesSoBefore, IsSplit, IsSplitPart, read_entries};
 
 use std::alloc::Global;
-use x509_cert::AlgorithmIdentifier;
-use x509_cert::certificate::{Raw, Version};
+use x509_base::{AlgorithmIdentifier, Raw, Time};
+use x509_cert::certificate::Version;
 use x509_cert::crl::{CertificateList, RevokedCert, TbsCertList};
-use x509_cert::der::asn1::BitString;
-use x509_cert::der::{Error, ErrorKind, Length, Tag};
-use x509_cert::ext::Extensions;
-use x509_cert::name::Name;
-use x509_cert::time::Time;
 use x509_check::check_members;
-use x509_der::{end, read_field, read_optional, read_optional_explicit, split_usual};
+use x509_der::{
+    Error, ErrorKind, Length, Tag, end, read_field, read_optional, read_optional_explicit,
+    split_usual,
+};
+use x509_ext::Extensions;
+use x509_name::name::Name;
+use x509_prim::BitString;
 
 /// Reads the elements of entries, one after the other, each of which is let go.
 fn read_each(alloc: Global, octets: &[u8]) -> Result<(), Error>

@@ -9,12 +9,12 @@ use crate::line::{Place, write_line};
 use crate::show::{Show, show_each, write_octets};
 use crate::values::second_text;
 use std::alloc::{AllocError, Global};
-use x509_cert::ext::pkix::sct::{
+use x509_base::DateTime;
+use x509_sct::tls::{read_list, read_whole};
+use x509_sct::{
     CtPrecertificatePoison, DigitallySigned, HashAlgorithm, SignatureAlgorithm,
     SignedCertificateTimestamp, SignedCertificateTimestampList, TlsByteVecU16, TlsError, Version,
 };
-use x509_cert::time::DateTime;
-use x509_sct::tls::{read_list, read_whole};
 
 /// Writes milliseconds of a second, as a full stop and three digits; nothing of 0.
 fn write_fraction(millis: u64, out: &mut String) -> Result<(), AllocError>

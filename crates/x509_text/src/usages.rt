@@ -8,13 +8,14 @@ use crate::line::{Place, write_line, write_where};
 use crate::show::{Show, show_each, write_octets};
 use crate::values::{write_any, write_moment, write_oid, write_optional_number, write_serial};
 use std::alloc::{AllocError, Global};
-use x509_cert::attr::Attribute;
-use x509_cert::der::asn1::{Any, GeneralizedTime, ObjectIdentifier, OctetString};
-use x509_cert::ext::pkix::{
+use x509_base::{GeneralizedTime, SerialNumber};
+use x509_der::{Any, ObjectIdentifier};
+use x509_ext::pkix::{
     AuthorityKeyIdentifier, BasicConstraints, ExtendedKeyUsage, KeyUsage, PrivateKeyUsagePeriod,
     SubjectDirectoryAttributes, SubjectKeyIdentifier,
 };
-use x509_cert::serial_number::SerialNumber;
+use x509_name::attr::Attribute;
+use x509_prim::OctetString;
 
 /// `yes` or `no`.
 pub(crate) fn yes_or_no(is_so: bool) -> &'static str

@@ -10,12 +10,10 @@ use crate::names::name_of;
 use crate::show::{write_element, write_octets};
 use std::alloc::{AllocError, Global};
 use std::net::{Ipv4Addr, Ipv6Addr};
-use x509_cert::certificate::Profile;
-use x509_cert::der::asn1::{Any, BitString, ObjectIdentifier, Uint};
-use x509_cert::der::{ErrorKind, Tag};
-use x509_cert::name::Name;
-use x509_cert::serial_number::SerialNumber;
-use x509_cert::time::DateTime;
+use x509_base::{DateTime, Profile, SerialNumber};
+use x509_der::{Any, ErrorKind, ObjectIdentifier, Tag};
+use x509_name::name::Name;
+use x509_prim::{BitString, Uint};
 
 /// The name of an OID, or its dotted text where it has none here.
 #[tactic(auto, unfolding(crate::specs::Names::oid_text))]

@@ -61,6 +61,7 @@ from .general_name import (
     UniformResourceIdentifier,
 )
 from .key import AlgorithmIdentifier, KeyKind, PublicKey, SignatureKind
+from .linting import Finding, Severity, lint
 from .name import ASN1Type, Name, NameAttribute, RelativeDistinguishedName, escape_rfc4514_value
 from .oid import (
     AttributeOID,
@@ -157,6 +158,7 @@ __all__ = [
     "ExtensionOID",
     "Extensions",
     "ExtensionType",
+    "Finding",
     "FreshestCRL",
     "GeneralName",
     "GeneralNames",
@@ -169,6 +171,7 @@ __all__ = [
     "KeyKind",
     "KeyUsage",
     "library_version",
+    "lint",
     "load_der_trust_anchor",
     "load_der_x509_certificate",
     "load_der_x509_crl",
@@ -209,6 +212,7 @@ __all__ = [
     "RevokedCertificate",
     "RevokedCertificateBuilder",
     "RFC822Name",
+    "Severity",
     "SignatureAlgorithm",
     "SignatureAlgorithmOID",
     "SignatureKind",

@@ -230,7 +230,7 @@ class ElementView(ctypes.Structure):
 
 
 class KeyView(ctypes.Structure):
-    _fields_ = [*_numbers("kind"), *_spans("oid", "parameters", "bits"), *_numbers("unused_bits"), *_spans("curve")]
+    _fields_ = [*_numbers("kind"), *_spans("oid", "parameters", "bits"), *_numbers("unused_bits"), *_spans("curve"), *_numbers("size")]
 
 
 class RsaKeyView(ctypes.Structure):
@@ -238,6 +238,16 @@ class RsaKeyView(ctypes.Structure):
     public_exponent: Span
 
     _fields_ = [*_spans("modulus", "public_exponent"), *_numbers("modulus_bits")]
+
+
+class FindingView(ctypes.Structure):
+    rule: Span
+    severity: Span
+    section: Span
+    place: Span
+    seen: Span
+
+    _fields_ = _spans("object", "rule", "severity", "section", "place", "seen")
 
 
 class AlgorithmView(ctypes.Structure):

@@ -6,8 +6,7 @@ import enum
 
 from ._extension import _part
 from ._given import octets
-from ._library import MALFORMED, AlgorithmView, KeyView, RsaKeyView, X509Error, view
-from ._numbers import natural_numbers
+from ._library import AlgorithmView, KeyView, RsaKeyView, view
 from ._pem import Encoding, encoded
 from .oid import ObjectIdentifier
 
@@ -51,24 +50,24 @@ class SignatureKind(enum.Enum):
     ed448 = 16
 
 
-# elliptic curves: what they are called, and the bits of a coordinate (RFC 5480 2.1.1.1, SEC 2, RFC 5639 3)
+# elliptic curves: what they are called (RFC 5480 2.1.1.1, SEC 2, RFC 5639 3)
 _CURVES = {
-    "1.2.840.10045.3.1.1": ("secp192r1", 192),
-    "1.3.132.0.33": ("secp224r1", 224),
-    "1.2.840.10045.3.1.7": ("secp256r1", 256),
-    "1.3.132.0.34": ("secp384r1", 384),
-    "1.3.132.0.35": ("secp521r1", 521),
-    "1.3.132.0.10": ("secp256k1", 256),
-    "1.3.36.3.3.2.8.1.1.7": ("brainpoolP256r1", 256),
-    "1.3.36.3.3.2.8.1.1.11": ("brainpoolP384r1", 384),
-    "1.3.36.3.3.2.8.1.1.13": ("brainpoolP512r1", 512),
+    "1.2.840.10045.3.1.1": "secp192r1",
+    "1.3.132.0.33": "secp224r1",
+    "1.2.840.10045.3.1.7": "secp256r1",
+    "1.3.132.0.34": "secp384r1",
+    "1.3.132.0.35": "secp521r1",
+    "1.3.132.0.10": "secp256k1",
+    "1.3.36.3.3.2.8.1.1.7": "brainpoolP256r1",
+    "1.3.36.3.3.2.8.1.1.11": "brainpoolP384r1",
+    "1.3.36.3.3.2.8.1.1.13": "brainpoolP512r1",
 }
 _CURVE_KINDS = (KeyKind.ec_p256, KeyKind.ec_p384, KeyKind.ec_p521, KeyKind.ec_other)
 _RSA_KINDS = (KeyKind.rsa, KeyKind.rsa_pss)
 
 
 class PublicKey:
-    """A public key, by what its SubjectPublicKeyInfo says: its kind, its algorithm with the DER of the parameters, and its bits. The numbers of an RSA or DSA key,
+    """A public key, by what its SubjectPublicKeyInfo says: its kind, its algorithm with the DER of the parameters, its bits, and its size. The numbers of an RSA key,
     the curve and the point of one of an elliptic curve are read when they are asked for: each is an X509Error where the key hasn't that form, and None where
     its kind has no such part."""
 
@@ -81,6 +80,7 @@ class PublicKey:
         self.bits = found.bits.of(self._data)
         self.unused_bits = int(found.unused_bits)
         self._curve = _part(found.curve, self._data)
+        self._size = int(found.size)
 
     def public_bytes(self, encoding: object = Encoding.DER, format: object = None) -> bytes:
         """Its SubjectPublicKeyInfo, the one format that there is here: as DER, or as PEM, a PUBLIC KEY (RFC 7468 13)."""
@@ -112,7 +112,7 @@ class PublicKey:
     def curve(self) -> str | None:
         """What the curve is called, as secp256r1; its dotted text where it isn't known here."""
         oid = self.curve_oid
-        return None if oid is None else _CURVES.get(oid.dotted_string, (oid.dotted_string, 0))[0]
+        return None if oid is None else _CURVES.get(oid.dotted_string, oid.dotted_string)
 
     @property
     def point(self) -> bytes | None:
@@ -122,16 +122,10 @@ class PublicKey:
 
     @property
     def key_size(self) -> int | None:
-        """Its size in bits: of an RSA key that of the modulus, of a DSA key that of the prime, of an elliptic curve that of a coordinate, and of a key of RFC
-        8410 that of its octets; None where it isn't known."""
-        if self.kind in _RSA_KINDS:
-            return self._rsa_numbers[0].bit_length()
-        if self.kind == KeyKind.dsa:
-            return None if self.parameters is None else _prime(self.parameters).bit_length()
-        if self.kind in _CURVE_KINDS:
-            oid = self.curve_oid
-            return None if oid is None else _CURVES.get(oid.dotted_string, ("", None))[1]
-        return None if self.point is None else 8 * len(self.point)
+        """Its size in bits: of an RSA key that of the modulus, of a DSA key that of the prime, which the parameters have, of an elliptic curve that of a coordinate,
+        where the curve has a name that the library knows, and of a key of RFC 8410 that of its octets, as 256 of X25519, of which OpenSSL says 253; None where it
+        isn't known, as where the numbers of an RSA key aren't there."""
+        return self._size or None
 
     def __eq__(self, other: object) -> bool:
         return isinstance(other, PublicKey) and self._data == other._data
@@ -141,14 +135,6 @@ class PublicKey:
 
     def __repr__(self) -> str:
         return f"<PublicKey(kind={self.kind.name}, algorithm_oid={self.algorithm_oid!r})>"
-
-
-def _prime(data: bytes) -> int:
-    """The first of the three numbers of the parameters of a DSA key (RFC 3279 2.3.2)."""
-    found = natural_numbers(data)
-    if len(found) != 3:
-        raise X509Error("the numbers of a key", MALFORMED)
-    return found[0]
 
 
 class AlgorithmIdentifier:

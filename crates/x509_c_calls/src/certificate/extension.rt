@@ -1,21 +1,20 @@
 //! The extension with an OID.
 
-ghost use Rattle.std.specs.Prelude.{◌≡◌, ◌+◌, ◌++◌, ◌∷◌, [], length, List, ℕ, IfSome, MatchOption};
+ghost use Rattle.std.specs.Prelude.{◌≡◌, ◌+◌, length, List, ℕ};
 ghost use Rattle.x509_c_calls.specs.Extensions.{FindsExtension, LooksUpExtension, flag};
 ghost use Rattle.x509_c_calls.specs.Place.{EndsWith, IsAt};
 ghost use Rattle.x509_c_calls.specs.declared.status.status.Status.TheVariants.{Refused};
-ghost use Rattle.x509_check.specs.ExtensionRefs.{extensions_left, lent_extension};
+ghost use Rattle.x509_check.specs.ExtensionRefs.{extensions_left};
 ghost use Rattle.x509_ext.specs.LookUp.{with_oid};
 ghost use Rattle.x509_der.specs.List.{joined};
 ghost use Rattle.x509_der.specs.Form.{spelling};
 ghost use Rattle.x509_der.specs.declared.error.ErrorKind.TheVariants.{Memory};
 ghost use Rattle.x509_ext.specs.Extension as grammar;
-ghost use Rattle.x509_ext.specs.declared.extension.Extension.{Extension};
 
 use crate::{Span, Status};
 use x509_base::Rfc5280;
 use x509_cert::certificate::CertificateInner;
-use x509_check::{CertificateRef, ExtensionRef, ExtensionRefs};
+use x509_check::{CertificateRef, ExtensionRefs};
 use x509_der::Grammar;
 
 /// An extension, by its place in the bytes of a certificate.
@@ -34,24 +33,6 @@ fn flag(is_set: bool) -> u32
     ensures { result ≡ flag is_set }
 {
     if is_set { 1 } else { 0 }
-}
-
-/// The first extension with the OID, and those that follow it.
-fn find<'a>(
-    extensions: ExtensionRefs<'a>,
-    oid: &[u8],
-) -> Option<(ExtensionRef<'a>, ExtensionRefs<'a>)>
-    ensures found { MatchOption result (with_oid oid.now (extensions_left extensions.entry) ≡ [])
-        (λ f. with_oid oid.now (extensions_left extensions.entry) ≡ lent_extension f.0 ∷ with_oid oid.now (extensions_left f.1)) }
-    ensures split { IfSome result (λ f. (before : List Extension) × (extensions_left extensions.entry ≡ before ++ lent_extension f.0 ∷ extensions_left f.1)) }
-{
-    let mut rest = extensions;
-    while let Some(first) = rest.next() {
-        if first.extn_id.as_bytes() == oid {
-            return Some((first, rest));
-        }
-    }
-    None
 }
 
 /// Where a part stands that is so long and ends at the place.
@@ -79,13 +60,15 @@ fn pick(
         → FindsExtension input.now (extensions_left extensions.entry) more (with_oid oid.now (extensions_left extensions.entry)) found.old found.new result }
     ensures memory { result ≡ Refused Memory → ⊥ }
 {
-    let Some((extension, others)) = find(extensions, oid) else {
+    let mut others = extensions;
+    let Some(extension) = others.next_with(oid) else {
         return Status::Absent;
     };
-    if find(others, oid).is_some() {
+    let behind = others.as_bytes().len();
+    if others.next_with(oid).is_some() {
         return Status::Repeated;
     }
-    let end = end.saturating_sub(others.as_bytes().len());
+    let end = end.saturating_sub(behind);
     *found = ExtensionView {
         critical: flag(extension.critical),
         value: ending_at(input, end, extension.extn_value.len()),

@@ -2,8 +2,9 @@
 
 ghost use Rattle.std.specs.Prelude.{◌≡◌, ◌≤◌, length};
 ghost use Rattle.x509_c_calls.specs.Calls.{Reads};
-ghost use Rattle.x509_c_calls.specs.RsaKeys.{IsRsaKey, octet_bits, number_bits};
+ghost use Rattle.x509_c_calls.specs.RsaKeys.{IsRsaKey};
 ghost use Rattle.x509_der.specs.Element.{limit};
+ghost use Rattle.x509_text.specs.Algorithms.{bit_count, bits_of_octet};
 
 use crate::payloads::step_content;
 use crate::{Span, Status, enter};
@@ -92,7 +93,7 @@ pub struct RsaKeyView {
 
 /// How many bits an octet has from its highest bit that is set.
 fn octet_bits(octet: u8) -> u32
-    ensures { result ≡ octet_bits octet }
+    ensures { result ≡ bits_of_octet octet }
 {
     match octet {
         0 => 0,
@@ -110,7 +111,7 @@ fn octet_bits(octet: u8) -> u32
 /// How many bits a number has, by its octets without leading zeros; the number 0 has none.
 fn number_bits(octets: &[u8]) -> u32
     requires { length octets.now ≤ limit }
-    ensures { result ≡ number_bits octets.now }
+    ensures { result ≡ bit_count octets.now }
 {
     match octets {
         [first, rest @ ..] => octet_bits(*first) + 8 * rest.len() as u32,

@@ -22,6 +22,7 @@ use x509_prim::BitString;
 
 /// The fields of the signed part with these content octets (RFC 5280 4.1.2).
 #[tactic(auto, unfolding(x509_cert::specs::TbsCertificate::tbs_certificate_fields, x509_der::specs::Frames::fields_reading))]
+#[inline(always)]
 fn walk_fields<P: Profile>(octets: &[u8]) -> Result<TbsCertificateSlices<'_>, Error>
     requires { length octets.now ≤ limit }
     ensures { LendsSo (LendsPart {P = P}) result ((tbs_certificate_contents {P = P} P.serial_check).reading octets.now) }

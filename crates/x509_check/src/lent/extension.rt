@@ -1,9 +1,11 @@
 //! An extension, lent from its bytes.
 
+ghost use Rattle.std.specs.Prelude.{◌≡◌, true, bytes_eq, IsOk, Ok};
 ghost use Rattle.x509_check.specs.ExtensionRefs.{lent_extension};
 ghost use Rattle.x509_check.specs.Lending.{LendsBy};
 ghost use Rattle.x509_der.specs.Frames.{required};
 ghost use Rattle.x509_ext.specs.Extension.{extension, extension_contents};
+ghost use Rattle.x509_ext.specs.declared.extension.Extension.{Extension};
 
 use crate::element::next_element;
 use crate::lent::fields::{take_defaulted, take_octets, take_plain};
@@ -40,6 +42,51 @@ fn read_content(octets: &[u8]) -> Result<ExtensionRef<'_>, Error>
         critical,
         extn_value,
     })
+}
+
+/// Whether two OIDs may be the same: they have as many content octets, and the same last one.
+#[inline(always)]
+fn is_like(one: &[u8], other: &[u8]) -> bool
+    ensures { one.now ≡ other.now → result ≡ true }
+{
+    match (one, other) {
+        ([.., last], [.., other_last]) => one.len() == other.len() && last == other_last,
+        _ => one.len() == other.len(),
+    }
+}
+
+/// Whether two OIDs have the same content octets. OIDs of extensions begin alike, so the last octets are compared first.
+#[inline(always)]
+fn is_same(one: &[u8], other: &[u8]) -> bool
+    ensures { result ≡ bytes_eq one.now other.now }
+{
+    if !is_like(one, other) {
+        return false;
+    }
+    one == other
+}
+
+/// Whether the extension with these content octets, as is known, has the OID, which stands in front.
+#[inline(always)]
+pub(crate) fn has_oid(octets: &[u8], oid: &[u8]) -> bool
+    ensures { (e : Extension) → extension_contents.reading octets.now ≡ Ok e → result ≡ bytes_eq e.extn_id oid.now }
+{
+    match next_element(octets, Tag::ObjectIdentifier) {
+        Ok(piece) => is_same(piece.content, oid),
+        Err(_) => false,
+    }
+}
+
+/// The extension with these content octets, as is known.
+#[inline(always)]
+pub(crate) fn known_extension(octets: &[u8]) -> ExtensionRef<'_>
+    requires { IsOk (extension_contents.reading octets.now) }
+    ensures { (e : Extension) → extension_contents.reading octets.now ≡ Ok e → lent_extension result ≡ e }
+{
+    let Ok(extension) = read_content(octets) else {
+        unreachable!()
+    };
+    extension
 }
 
 /// The extension at the front, and what follows it.

@@ -8,8 +8,7 @@ ghost use Rattle.x509_ext.specs.declared.extension.Extension.{Extension};
 
 use crate::check::Check;
 use crate::element::next_element;
-use crate::lent::extension::{ExtensionRef, split_extension};
-use crate::lent::look_up::next_with;
+use crate::lent::extension::{ExtensionRef, has_oid, known_extension, split_extension};
 use std::alloc::Global;
 use x509_der::{AssociatedOid, Decode, Error, ErrorKind, ObjectIdentifier, Tag};
 use x509_ext::Extensions;
@@ -24,13 +23,13 @@ pub struct ExtensionRefs<'a> {
 
 impl<'a> ExtensionRefs<'a> {
     ghost use Rattle.std.specs.List.{list_any};
-    ghost use Rattle.std.specs.Prelude.{◌≡◌, ◌<◌, ◌≤◌, ◌||◌, List, [], bytes_eq, length, IfOk, IfErr, IsErrAnd, IsOkAnd};
-    ghost use Rattle.x509_check.specs.ExtensionRefs.{FindsLent, extensions_left};
+    ghost use Rattle.std.specs.Prelude.{◌≡◌, ◌<◌, ◌≤◌, ◌||◌, ◌∷◌, ◌++◌, List, [], bytes_eq, length, IfOk, IfErr, IfSome, IsErrAnd, IsOkAnd, MatchOption, Ok};
+    ghost use Rattle.x509_check.specs.ExtensionRefs.{FindsLent, extensions_left, lent_extension};
     ghost use Rattle.x509_der.specs.Element.{limit};
     ghost use Rattle.x509_der.specs.Form.{Spells, spelling};
     ghost use Rattle.x509_der.specs.declared.error.ErrorKind.TheVariants as errors;
     ghost use Rattle.x509_der.specs.List.{joined};
-    ghost use Rattle.x509_ext.specs.Extension.{extension, extensions};
+    ghost use Rattle.x509_ext.specs.Extension.{extension, extension_contents, extensions};
     ghost use Rattle.x509_ext.specs.LookUp.{Finds, with_oid};
     ghost use Rattle.x509_ext.specs.declared.extension.Extension.{Extension};
 
@@ -75,6 +74,35 @@ impl<'a> ExtensionRefs<'a> {
         self.rest
     }
 
+    /// The content octets of the next extension, which aren't decoded.
+    #[inline(always)]
+    fn next_content(&mut self) -> Option<&'a [u8]>
+        ensures { MatchOption result ((extensions_left self.old ≡ []) × (extensions_left self.new ≡ []))
+            (λ octets. (e : Extension) × (extension_contents.reading octets.now ≡ Ok e) × (extensions_left self.old ≡ e ∷ extensions_left self.new)) }
+    {
+        let Ok(piece) = next_element(self.rest, Tag::Sequence) else {
+            return None;
+        };
+        self.rest = piece.rest;
+        Some(piece.content)
+    }
+
+    /// The next extension with the OID of these content octets; `None` exactly where none is left that has it, and then no other is left. Those that
+    /// are passed over aren't decoded.
+    pub fn next_with(&mut self, oid: &[u8]) -> Option<ExtensionRef<'a>>
+        ensures found { MatchOption result ((with_oid oid.now (extensions_left self.old) ≡ []) × (extensions_left self.new ≡ []))
+            (λ found. with_oid oid.now (extensions_left self.old) ≡ lent_extension found ∷ with_oid oid.now (extensions_left self.new)) }
+        ensures behind { IfSome result (λ found. (before : List Extension)
+            × (extensions_left self.old ≡ before ++ lent_extension found ∷ extensions_left self.new)) }
+    {
+        while let Some(octets) = self.next_content() {
+            if has_oid(octets, oid) {
+                return Some(known_extension(octets));
+            }
+        }
+        None
+    }
+
     /// The extension with the OID; `None` exactly where none has it. An extension may appear once at most (RFC 5280 4.2).
     ///
     /// # Errors
@@ -84,10 +112,10 @@ impl<'a> ExtensionRefs<'a> {
         ensures { FindsLent (with_oid oid (extensions_left self.now)) result }
     {
         let mut rest = *self;
-        let Some(extension) = next_with(&mut rest, oid) else {
+        let Some(extension) = rest.next_with(oid.as_bytes()) else {
             return Ok(None);
         };
-        match next_with(&mut rest, oid) {
+        match rest.next_with(oid.as_bytes()) {
             Some(_) => Err(ErrorKind::Failed.into()),
             None => Ok(Some(extension)),
         }

@@ -45,51 +45,29 @@ fn has_maximum(subtrees: &[GeneralSubtree]) -> bool
     subtrees.iter().any(|subtree| subtree.maximum.is_some())
 }
 
-fn has_no_list(constraints: &Option<NameConstraints>) -> bool
-    ensures { result ≡ passes (λ n. not (is_some n.permitted_subtrees) && not (is_some n.excluded_subtrees)) constraints.now }
+fn has_no_list(constraints: &NameConstraints) -> bool
+    ensures { result ≡ (not (is_some constraints.now.permitted_subtrees) && not (is_some constraints.now.excluded_subtrees)) }
 {
-    match constraints {
-        Some(constraints) => {
-            !constraints.permitted_subtrees.is_some() && !constraints.excluded_subtrees.is_some()
-        }
-        None => false,
-    }
+    !constraints.permitted_subtrees.is_some() && !constraints.excluded_subtrees.is_some()
 }
 
-fn has_empty_subtrees(constraints: &Option<NameConstraints>) -> bool
-    ensures { result ≡ passes grammar.has_empty_subtrees constraints.now }
+fn has_empty_subtrees(constraints: &NameConstraints) -> bool
+    ensures { result ≡ grammar.has_empty_subtrees constraints.now }
 {
-    match constraints {
-        Some(constraints) => {
-            is_empty_sequence(&constraints.permitted_subtrees)
-                || is_empty_sequence(&constraints.excluded_subtrees)
-        }
-        None => false,
-    }
+    is_empty_sequence(&constraints.permitted_subtrees)
+        || is_empty_sequence(&constraints.excluded_subtrees)
 }
 
-fn has_subtree_with_minimum(constraints: &Option<NameConstraints>) -> bool
-    ensures { result ≡ passes (grammar.has_subtree (λ s. not (s.minimum == 0))) constraints.now }
+fn has_subtree_with_minimum(constraints: &NameConstraints) -> bool
+    ensures { result ≡ grammar.has_subtree (λ s. not (s.minimum == 0)) constraints.now }
 {
-    match constraints {
-        Some(constraints) => {
-            have_minimum(&constraints.permitted_subtrees)
-                || have_minimum(&constraints.excluded_subtrees)
-        }
-        None => false,
-    }
+    have_minimum(&constraints.permitted_subtrees) || have_minimum(&constraints.excluded_subtrees)
 }
 
-fn has_subtree_with_maximum(constraints: &Option<NameConstraints>) -> bool
-    ensures { result ≡ passes (grammar.has_subtree (λ s. is_some s.maximum)) constraints.now }
+fn has_subtree_with_maximum(constraints: &NameConstraints) -> bool
+    ensures { result ≡ grammar.has_subtree (λ s. is_some s.maximum) constraints.now }
 {
-    match constraints {
-        Some(constraints) => {
-            have_maximum(&constraints.permitted_subtrees)
-                || have_maximum(&constraints.excluded_subtrees)
-        }
-        None => false,
-    }
+    have_maximum(&constraints.permitted_subtrees) || have_maximum(&constraints.excluded_subtrees)
 }
 
 fn has_fault(fault: BaseFault, subtrees: &[GeneralSubtree]) -> bool
@@ -110,15 +88,34 @@ fn have_fault(fault: BaseFault, subtrees: &Option<GeneralSubtrees>) -> bool
 }
 
 /// Whether the base of a subtree has the fault.
-fn has_faulty_base(fault: BaseFault, constraints: &Option<NameConstraints>) -> bool
-    ensures { result ≡ passes (grammar.has_subtree (λ s. grammar.has_fault fault s.base)) constraints.now }
+fn has_faulty_base(fault: BaseFault, constraints: &NameConstraints) -> bool
+    ensures { result ≡ grammar.has_subtree (λ s. grammar.has_fault fault s.base) constraints.now }
 {
-    match constraints {
-        Some(constraints) => {
-            have_fault(fault, &constraints.permitted_subtrees)
-                || have_fault(fault, &constraints.excluded_subtrees)
+    have_fault(fault, &constraints.permitted_subtrees)
+        || have_fault(fault, &constraints.excluded_subtrees)
+}
+
+/// Whether the name constraints break the rule.
+pub(crate) fn breaks_name_constraints(rule: ConstraintRule, constraints: &NameConstraints) -> bool
+    ensures { result ≡ grammar.breaks_name_constraints rule constraints.now }
+{
+    match rule {
+        ConstraintRule::NameConstraintsEmpty => has_no_list(constraints),
+        ConstraintRule::NameConstraintsOtherForm => {
+            has_faulty_base(BaseFault::OtherForm, constraints)
         }
-        None => false,
+        ConstraintRule::NameConstraintsSubtreesEmpty => has_empty_subtrees(constraints),
+        ConstraintRule::NameConstraintsMinimum => has_subtree_with_minimum(constraints),
+        ConstraintRule::NameConstraintsMaximum => has_subtree_with_maximum(constraints),
+        ConstraintRule::NameConstraintsUriInvalid => {
+            has_faulty_base(BaseFault::NoHost, constraints)
+        }
+        ConstraintRule::NameConstraintsAddressLength => {
+            has_faulty_base(BaseFault::NoRange, constraints)
+        }
+        ConstraintRule::NameConstraintsAddressMask => {
+            has_faulty_base(BaseFault::OddMask, constraints)
+        }
     }
 }
 
@@ -131,33 +128,9 @@ impl Group<CertificateInner<Raw>, ConstraintValues> for ConstraintRule {
     ghost as_rule = { λ rule. Constraint rule };
 
     fn is_broken(&self, _certificate: &CertificateInner<Raw>, values: &ConstraintValues) -> bool {
-        match self {
-            ConstraintRule::NameConstraintsEmpty => has_no_list(&values.name_constraints),
-            ConstraintRule::NameConstraintsOtherForm => has_faulty_base(
-                BaseFault::OtherForm,
-                &values.name_constraints,
-            ),
-            ConstraintRule::NameConstraintsSubtreesEmpty => has_empty_subtrees(
-                &values.name_constraints,
-            ),
-            ConstraintRule::NameConstraintsMinimum => has_subtree_with_minimum(
-                &values.name_constraints,
-            ),
-            ConstraintRule::NameConstraintsMaximum => has_subtree_with_maximum(
-                &values.name_constraints,
-            ),
-            ConstraintRule::NameConstraintsUriInvalid => has_faulty_base(
-                BaseFault::NoHost,
-                &values.name_constraints,
-            ),
-            ConstraintRule::NameConstraintsAddressLength => has_faulty_base(
-                BaseFault::NoRange,
-                &values.name_constraints,
-            ),
-            ConstraintRule::NameConstraintsAddressMask => has_faulty_base(
-                BaseFault::OddMask,
-                &values.name_constraints,
-            ),
+        match &values.name_constraints {
+            Some(constraints) => breaks_name_constraints(*self, constraints),
+            None => false,
         }
     }
 

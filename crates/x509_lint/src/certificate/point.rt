@@ -108,6 +108,10 @@ impl Group<CertificateInner<Raw>, PointValues> for PointRule {
                 ),
                 None => false,
             },
+            PointRule::FreshestCrlPointsPartial => match &values.freshest_crl {
+                Some(list) => are_partial(list.0.as_slice()),
+                None => false,
+            },
             PointRule::AuthorityInfoAccessEmpty => match &values.authority_info_access {
                 Some(list) => list.0.as_slice().is_empty(),
                 None => false,

@@ -130,7 +130,10 @@ fn has_malformed<T: AssociatedOid + Decode + Drop>(
 }
 
 /// The value of the one extensionRequest, where it has one value that can be decoded.
-fn requested(alloc: Global, attributes: &Attributes) -> Result<Option<ExtensionReq>, Error>
+pub(crate) fn requested(
+    alloc: Global,
+    attributes: &Attributes,
+) -> Result<Option<ExtensionReq>, Error>
     ensures ok { IfOk result (λ found. found ≡ grammar.requested_in grammar.extension_req (with_type (pkcs_9 14) attributes.now)) }
     ensures err { IfErr result (λ e. e.kind ≡ Memory) }
 {

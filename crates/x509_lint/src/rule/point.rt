@@ -56,6 +56,9 @@ pub enum PointRule {
     /// The cRLIssuer of a point of the FreshestCRL is the issuer of the certificate (RFC 5280 4.2.1.15, error).
     FreshestCrlPointOwnIssuer,
 
+    /// Each point of the FreshestCRL has reasons, so that none covers all (RFC 5280 4.2.1.15, error).
+    FreshestCrlPointsPartial,
+
     /// The AuthorityInfoAccess has no access description (RFC 5280 4.2.2.1, error).
     AuthorityInfoAccessEmpty,
 
@@ -69,7 +72,7 @@ pub enum PointRule {
     CaRepositoryWithoutUri,
 }
 
-pub(crate) const POINT_RULES: [PointRule; 20] = [
+pub(crate) const POINT_RULES: [PointRule; 21] = [
     PointRule::SubjectDirectoryAttributesEmpty,
     PointRule::CrlDistributionPointsEmpty,
     PointRule::DistributionPointEmpty,
@@ -86,6 +89,7 @@ pub(crate) const POINT_RULES: [PointRule; 20] = [
     PointRule::FreshestCrlPointWithoutUri,
     PointRule::FreshestCrlPointIssuerInvalid,
     PointRule::FreshestCrlPointOwnIssuer,
+    PointRule::FreshestCrlPointsPartial,
     PointRule::AuthorityInfoAccessEmpty,
     PointRule::CaIssuersWithoutUri,
     PointRule::SubjectInfoAccessEmpty,
@@ -175,6 +179,11 @@ impl PointRule {
             ),
             PointRule::FreshestCrlPointOwnIssuer => must(
                 "freshest_crl_point_own_issuer",
+                "4.2.1.15",
+                "tbsCertificate.extensions.freshestCRL",
+            ),
+            PointRule::FreshestCrlPointsPartial => must(
+                "freshest_crl_points_partial",
                 "4.2.1.15",
                 "tbsCertificate.extensions.freshestCRL",
             ),

@@ -32,7 +32,7 @@ pub enum PolicyRule {
     /// The explicit text of a user notice is an IA5String (RFC 5280 4.2.1.4, warning).
     ExplicitTextNotUtf8String,
 
-    /// The explicit text of a user notice has a control character, U+0000 to U+001F or U+007F (RFC 5280 4.2.1.4, warning).
+    /// The explicit text of a user notice has a control character, U+0000 to U+001F or U+007F to U+009F (RFC 5280 4.2.1.4, warning).
     ExplicitTextControl,
 
     /// A user notice has a noticeRef (RFC 5280 4.2.1.4, warning).

@@ -43,6 +43,12 @@ pub enum RequestRule {
     /// A value of a challengePassword isn't a DirectoryString (RFC 2985 5.4.1, error).
     ChallengePasswordMalformed,
 
+    /// A challengePassword has no characters, or more than 255 (RFC 2985 5.4.1, error).
+    ChallengePasswordSize,
+
+    /// A challengePassword is a TeletexString, a BMPString or a UniversalString, or a UTF8String that could be a PrintableString (RFC 2985 5.4.1, warning).
+    ChallengePasswordType,
+
     /// An extensionRequest has two values or more (RFC 2985 5.4.2, error).
     ExtensionRequestValues,
 
@@ -77,7 +83,7 @@ pub enum RequestRule {
     SubjectAltNameUriRelative,
 }
 
-pub(crate) const REQUEST_RULES: [RequestRule; 39] = [
+pub(crate) const REQUEST_RULES: [RequestRule; 41] = [
     RequestRule::SubjectRdnEmpty,
     RequestRule::SubjectCountryNameInvalid,
     RequestRule::SubjectTextType,
@@ -89,6 +95,8 @@ pub(crate) const REQUEST_RULES: [RequestRule; 39] = [
     RequestRule::AttributeValuesEmpty,
     RequestRule::ChallengePasswordValues,
     RequestRule::ChallengePasswordMalformed,
+    RequestRule::ChallengePasswordSize,
+    RequestRule::ChallengePasswordType,
     RequestRule::ExtensionRequestValues,
     RequestRule::ExtensionRequestMalformed,
     RequestRule::ExtensionsEmpty,
@@ -224,6 +232,18 @@ impl RequestRule {
             RequestRule::ChallengePasswordMalformed => must_of(
                 "RFC 2985",
                 "challenge_password_malformed",
+                "5.4.1",
+                "certificationRequestInfo.attributes.challengePassword",
+            ),
+            RequestRule::ChallengePasswordSize => must_of(
+                "RFC 2985",
+                "challenge_password_size",
+                "5.4.1",
+                "certificationRequestInfo.attributes.challengePassword",
+            ),
+            RequestRule::ChallengePasswordType => should_of(
+                "RFC 2985",
+                "challenge_password_type",
                 "5.4.1",
                 "certificationRequestInfo.attributes.challengePassword",
             ),

@@ -1,5 +1,5 @@
 use Rattle.std.proofs.Common.{◌≡◌, drop}
-use Rattle.x509_cert.specs.ext.LookUp.{with_oid}
+use Rattle.x509_ext.specs.LookUp.{with_oid}
 use Rattle.x509_path.specs.Lent.{lent_extensions}
 use Rattle.x509_path.proofs.extensions.has_any.Given as goal
 

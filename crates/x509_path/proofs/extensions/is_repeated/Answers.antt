@@ -4,7 +4,7 @@ use Rattle.std.proofs.lemmas.Cmp.{nat_list_cmp_total}
 use Rattle.std.proofs.lemmas.Fn.{always_returns_same}
 use Rattle.std.proofs.lemmas.List.Sorted.{ranks_by}
 use Rattle.std.specs.Ordering.{is_lt}
-use Rattle.x509_cert.specs.der.Order.{bytes_cmp}
+use Rattle.x509_der.specs.Order.{bytes_cmp}
 use Rattle.x509_ext.proofs.Repeats.{identifiers_of, sorted}
 use Rattle.x509_path.specs.Lent.{lent_extensions}
 use Rattle.x509_path.proofs.extensions.is_repeated.Goals as goal

@@ -1,7 +1,7 @@
 use Rattle.std.proofs.Common.{ap, refl, arith, length}
-use Rattle.x509_cert.specs.ext.Identifiers.{id_ce}
-use Rattle.x509_cert.specs.ext.KeyUsage.{has_bit, key_usage}
-use Rattle.x509_cert.specs.ext.LookUp.{with_oid}
+use Rattle.x509_ext.specs.Identifiers.{id_ce}
+use Rattle.x509_ext.specs.KeyUsage.{has_bit, key_usage}
+use Rattle.x509_ext.specs.LookUp.{with_oid}
 use Rattle.x509_path.specs.Certificates.{HasPayload}
 use Rattle.x509_path.specs.Lent.{lent_extensions}
 use Rattle.x509_path.proofs.Payloads.{lacks, lacks_all}

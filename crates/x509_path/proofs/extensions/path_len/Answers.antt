@@ -1,5 +1,5 @@
-use Rattle.x509_cert.specs.ext.BasicConstraints.{basic_constraints}
-use Rattle.x509_cert.specs.ext.Identifiers.{id_ce}
+use Rattle.x509_ext.specs.BasicConstraints.{basic_constraints}
+use Rattle.x509_ext.specs.Identifiers.{id_ce}
 use Rattle.x509_path.specs.Certificates.{HasPayload}
 use Rattle.x509_path.proofs.Payloads.{limit, no_limit}
 use Rattle.x509_path.proofs.extensions.path_len.Goals as goal

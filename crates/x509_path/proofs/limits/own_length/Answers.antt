@@ -1,5 +1,5 @@
 use Rattle.std.proofs.Common.{Some}
-use Rattle.x509_cert.specs.ext.BasicConstraints.{basic_constraints}
+use Rattle.x509_ext.specs.BasicConstraints.{basic_constraints}
 use Rattle.x509_path.proofs.Values.{value_of}
 use Rattle.x509_path.proofs.limits.own_length.Goals as goal
 

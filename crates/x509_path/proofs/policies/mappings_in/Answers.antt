@@ -1,11 +1,11 @@
 use Rattle.std.proofs.Common.{None, Some, ap, map}
 use Rattle.std.proofs.lemmas.Result.{IfOk-weaker}
-use Rattle.x509_cert.specs.ext.Identifiers.{id_ce}
-use Rattle.x509_cert.specs.ext.PolicyMapping.{policy_mappings}
+use Rattle.x509_ext.specs.Identifiers.{id_ce}
+use Rattle.x509_ext.specs.PolicyMapping.{policy_mappings}
 use Rattle.x509_path.specs.Lent.{lent_extensions}
 use Rattle.x509_path.proofs.Founds.{found_there, not_found, policy_mappings_lawful}
-use Rattle.x509_policy.specs.Views.{mapping_of}
 use Rattle.x509_path.proofs.policies.mappings_in.Goals as goal
+use Rattle.x509_policy.specs.Views.{mapping_of}
 
 pub returns-in-Some : goal.returns-in-Some
 returns-in-Some c = IfOk-weaker c.lent_mappings.result _ _

@@ -1,6 +1,6 @@
 use Rattle.std.proofs.Common.{None, Some, ap, refl}
-use Rattle.x509_cert.specs.ext.CertificatePolicies.{certificate_policies, certificate_policies_lawful}
-use Rattle.x509_cert.specs.ext.Identifiers.{id_ce}
+use Rattle.x509_ext.specs.CertificatePolicies.{certificate_policies, certificate_policies_lawful}
+use Rattle.x509_ext.specs.Identifiers.{id_ce}
 use Rattle.x509_path.specs.Lent.{lent_extensions}
 use Rattle.x509_path.proofs.Founds.{found_there, not_found}
 use Rattle.x509_path.proofs.policies.policies_in.Goals as goal

@@ -3,9 +3,9 @@ use Rattle.std.proofs.lemmas.Bool.{true≢false}
 use Rattle.std.proofs.lemmas.List.Elements.{All-more}
 use Rattle.std.proofs.lemmas.List.{take_all}
 use Rattle.std.specs.List.{All}
-use Rattle.x509_cert.specs.ext.declared.extension.Extension.{Extension}
 use Rattle.x509_check.specs.ExtensionRefs.{lent_extension}
 use Rattle.x509_check.specs.declared.lent.extension.ExtensionRef.{ExtensionRef}
+use Rattle.x509_ext.specs.declared.extension.Extension.{Extension}
 use Rattle.x509_path.specs.Validation.{IsProcessed}
 use Rattle.x509_path.proofs.Looks.{all_lent, lent_all}
 use Rattle.x509_path.proofs.processed.are_processed.Goals as goal

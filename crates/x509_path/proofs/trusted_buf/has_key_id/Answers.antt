@@ -1,10 +1,10 @@
 use Rattle.std.proofs.Common.{◌≡◌, ◌∙◌, inl, inr, Bool, [], ◌∷◌, ap, subst, sym}
 use Rattle.std.proofs.lemmas.Slice.Eq.{bytes_eq-Decides}
-use Rattle.x509_cert.specs.der.Form.{Spells}
-use Rattle.x509_cert.specs.ext.Identifiers.{id_ce}
-use Rattle.x509_cert.specs.ext.LookUp.{members, with_oid}
-use Rattle.x509_cert.specs.ext.SubjectKeyIdentifier.{subject_key_identifier}
-use Rattle.x509_cert.specs.ext.declared.pkix.subject_key_identifier.SubjectKeyIdentifier.{SubjectKeyIdentifier}
+use Rattle.x509_der.specs.Form.{Spells}
+use Rattle.x509_ext.specs.Identifiers.{id_ce}
+use Rattle.x509_ext.specs.LookUp.{members, with_oid}
+use Rattle.x509_ext.specs.SubjectKeyIdentifier.{subject_key_identifier}
+use Rattle.x509_ext.specs.declared.pkix.subject_key_identifier.SubjectKeyIdentifier.{SubjectKeyIdentifier}
 use Rattle.x509_path.proofs.Values.{same_value, value_of}
 use Rattle.x509_path.proofs.trusted_buf.has_key_id.Goals as goal
 

@@ -1,6 +1,6 @@
 use Rattle.std.proofs.Common.{refl}
 use Rattle.std.proofs.lemmas.Result.{err_from_is_err_and}
-use Rattle.x509_cert.specs.ext.LookUp.{members}
+use Rattle.x509_ext.specs.LookUp.{members}
 use Rattle.x509_path.specs.Inputs.{Trust}
 use Rattle.x509_path.specs.Trusts.{IsTrustOf, RefusesLimits, limits_of}
 use Rattle.x509_path.proofs.Refusals.{answered, no_limits, none_trusted}

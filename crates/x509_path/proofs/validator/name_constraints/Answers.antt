@@ -1,6 +1,6 @@
 use Rattle.std.proofs.Common.{◌≡◌, ◌↔◌, Some, subst}
-use Rattle.x509_cert.specs.ext.Identifiers.{id_ce}
-use Rattle.x509_cert.specs.ext.NameConstraints.{name_constraints}
+use Rattle.x509_ext.specs.Identifiers.{id_ce}
+use Rattle.x509_ext.specs.NameConstraints.{name_constraints}
 use Rattle.x509_path.specs.Certificates.{HasPayload}
 use Rattle.x509_path.proofs.validator.name_constraints.Goals as goal
 

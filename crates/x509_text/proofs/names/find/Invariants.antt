@@ -1,5 +1,6 @@
 use Rattle.std.proofs.Common.{◌≡◌, length, map}
-use Rattle.x509_text.specs.Names.{first_name, row}
+use Rattle.x509_text.specs.Names.{first_name}
+use Rattle.x509_text.specs.OidNames.{row}
 use Rattle.x509_text.proofs.names.find.Given as goal
 
 abbrev pub invariant-loop-rows : goal.invariant-loop-rows

@@ -1,5 +1,5 @@
 use Rattle.std.proofs.Common.{◌≡◌, List, length}
-use Rattle.x509_cert.specs.base.declared.profile.Raw.{Raw}
+use Rattle.x509_base.specs.declared.profile.Raw.{Raw}
 use Rattle.x509_cert.specs.declared.crl.revoked_cert.RevokedCert.{RevokedCert}
 use Rattle.x509_der.specs.List.{with_front}
 use Rattle.x509_text.specs.SplitCrls.{read_entries}

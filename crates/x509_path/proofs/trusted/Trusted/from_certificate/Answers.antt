@@ -1,8 +1,8 @@
 use Rattle.std.proofs.Common.{refl, subst, sym}
 use Rattle.std.proofs.lemmas.Result.{err_from_is_err_and}
-use Rattle.x509_cert.specs.ext.CertificatePolicies.{certificate_policies}
-use Rattle.x509_cert.specs.ext.Identifiers.{id_ce}
-use Rattle.x509_cert.specs.ext.NameConstraints.{name_constraints}
+use Rattle.x509_ext.specs.CertificatePolicies.{certificate_policies}
+use Rattle.x509_ext.specs.Identifiers.{id_ce}
+use Rattle.x509_ext.specs.NameConstraints.{name_constraints}
 use Rattle.x509_path.specs.Inputs.{Trust}
 use Rattle.x509_path.specs.Path.{subject_of}
 use Rattle.x509_path.specs.Trusts.{AreFlags, HasLimit, IsValueOf}

@@ -1,9 +1,9 @@
 use Rattle.std.proofs.Common.{◌≡◌, ◌↔◌, Some, subst}
 use Rattle.std.specs.Bool.{IsTrue}
 use Rattle.std.specs.Option.{option_copied}
-use Rattle.x509_cert.specs.ext.AlternativeNames.{subject_alt_name}
-use Rattle.x509_cert.specs.ext.Identifiers.{id_ce}
 use Rattle.x509_constraints.specs.Constraints.{AreAllowed, names_asked}
+use Rattle.x509_ext.specs.AlternativeNames.{subject_alt_name}
+use Rattle.x509_ext.specs.Identifiers.{id_ce}
 use Rattle.x509_path.specs.Certificates.{HasPayload}
 use Rattle.x509_path.specs.Validation.{HasAlternativeNames}
 use Rattle.x509_path.proofs.AllowedNames.{allowed}

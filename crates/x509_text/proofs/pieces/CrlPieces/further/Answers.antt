@@ -1,4 +1,4 @@
-use Rattle.std.proofs.Common.{◌≡◌, length, sym, append-nil, ◌∙◌, arith}
+use Rattle.std.proofs.Common.{◌≡◌, length, sym, append-nil, arith}
 use Rattle.std.proofs.lemmas.Bool.Decides.{nat_tests}
 use Rattle.x509_text.specs.Lines.{top}
 use Rattle.x509_text.proofs.Elements.{no_lines}

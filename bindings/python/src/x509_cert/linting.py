@@ -1,0 +1,56 @@
+"""The rules that certificates, CRLs and CSRs break, beyond the grammar."""
+
+from __future__ import annotations
+
+import dataclasses
+import enum
+
+from ._library import FindingView, Span, fill, walk
+from .certificate import Certificate
+from .crl import CertificateRevocationList
+from .request import CertificateSigningRequest
+
+
+class Severity(enum.Enum):
+    """How bad it is to break a rule: the standard says MUST, or has a size or a type that isn't met (`error`); it says SHOULD (`warning`); or it allows what the
+    library doesn't read, so that rules on it aren't judged (`not_judged`)."""
+
+    error = "error"
+    warning = "warning"
+    not_judged = "not judged"
+
+
+@dataclasses.dataclass(frozen=True)
+class Finding:
+    """A rule that an object breaks: its name, as serial_number_not_positive; how bad that is; the standard with the section, as RFC 5280 4.1.2.2; where in the object
+    it is broken, in the field names of the standard, as tbsCertificate.serialNumber; and what is seen there, in hex, or empty where nothing is told."""
+
+    rule: str
+    severity: Severity
+    section: str
+    place: str
+    seen: str
+
+    def __str__(self) -> str:
+        return f"{self.severity.value} {self.rule} ({self.section})"
+
+
+_CALLS = {
+    Certificate: "x509_certificate_lint",
+    CertificateRevocationList: "x509_crl_lint",
+    CertificateSigningRequest: "x509_request_lint",
+}
+
+
+def lint(given: Certificate | CertificateRevocationList | CertificateSigningRequest) -> list[Finding]:
+    """The rules that the certificate, the CRL (RFC 5280) or the CSR (RFC 2986, RFC 2985) breaks beyond the grammar, in the order of the rules; none where it breaks none."""
+    call = next((call for kind, call in _CALLS.items() if isinstance(given, kind)), None)
+    if call is None:
+        raise TypeError(f"a Certificate, a CertificateRevocationList or a CertificateSigningRequest is linted, not a {type(given).__name__}")
+    lines = fill(call, given.public_bytes())
+
+    def text(part: Span) -> str:
+        return part.of(lines).decode("utf-8")
+
+    found = walk("x509_finding_next", FindingView, lines)
+    return [Finding(text(it.rule), Severity(text(it.severity)), text(it.section), text(it.place), text(it.seen)) for it in found]

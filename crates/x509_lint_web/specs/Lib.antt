@@ -1,0 +1,13 @@
+pub mod Words
+pub mod Sentence
+pub mod Algorithm
+pub mod Key
+pub mod Field
+pub mod Validity
+pub mod Host
+pub mod Name
+pub mod Usage
+pub mod Policy
+pub mod Authority
+pub mod Rules
+pub mod Report

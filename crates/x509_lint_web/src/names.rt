@@ -1,0 +1,248 @@
+//! What is asked of names: those of the SAN, and that of the subject.
+
+ghost use Rattle.std.specs.List.{list_any};
+ghost use Rattle.std.specs.Prelude.{◌≡◌, ◌&&◌, bytes_eq, not};
+ghost use Rattle.x509_lint.specs.Words.{is_empty, passes};
+ghost use Rattle.x509_lint_web.specs.Name as grammar;
+ghost use Rattle.x509_lint_web.specs.Policy as policy;
+ghost use Rattle.x509_lint_web.specs.Words as words;
+
+use crate::hosts::{
+    has_one_label, has_other_wildcard, has_reserved_label, has_underscore, is_http, is_internal,
+    is_reserved_address,
+};
+use x509_der::ObjectIdentifier;
+use x509_ext::pkix::SubjectAltName;
+use x509_ext::pkix::name::GeneralName;
+use x509_name::attr::AttributeTypeAndValue;
+use x509_name::attr::attribute_types::{COMMON_NAME, COUNTRY_NAME};
+use x509_name::name::{Name, RdnSequence, RelativeDistinguishedName};
+
+/// What may be wrong with a name of the SAN (TLS BR 7.1.2.7.12).
+#[derive(Clone, Copy, Debug, PartialEq, Eq)]
+pub(crate) enum NameFault {
+    /// It is neither a dNSName nor an iPAddress.
+    OtherName,
+
+    /// It is a dNSName with an underscore.
+    Underscore,
+
+    /// It is a dNSName with a label with hyphens in its third and fourth places that doesn't begin with xn.
+    ReservedLabel,
+
+    /// It is a dNSName with a * that isn't the whole of its leftmost label.
+    Wildcard,
+
+    /// It is a dNSName of one label, perhaps behind a wildcard.
+    OneLabel,
+
+    /// It is a dNSName whose last label the public DNS never has.
+    Internal,
+
+    /// It is a reserved iPAddress.
+    Reserved,
+}
+
+/// Whether the name has no RDN.
+pub(crate) fn is_empty_name(name: &Name) -> bool
+    ensures { result ≡ is_empty name.now }
+{
+    name.len() == 0
+}
+
+fn is_host_name(name: &GeneralName) -> bool
+    ensures { result ≡ grammar.is_host_name name.now }
+{
+    match name {
+        GeneralName::DnsName(_) | GeneralName::IpAddress(_) => true,
+        _ => false,
+    }
+}
+
+fn is_faulty_host(fault: NameFault, text: &[u8]) -> bool
+    ensures { result ≡ grammar.is_faulty_host fault text.now }
+{
+    match fault {
+        NameFault::Underscore => has_underscore(text),
+        NameFault::ReservedLabel => has_reserved_label(text),
+        NameFault::Wildcard => has_other_wildcard(text),
+        NameFault::OneLabel => has_one_label(text),
+        NameFault::Internal => is_internal(text),
+        NameFault::OtherName | NameFault::Reserved => false,
+    }
+}
+
+fn is_faulty_address(fault: NameFault, octets: &[u8]) -> bool
+    ensures { result ≡ grammar.is_faulty_address fault octets.now }
+{
+    match fault {
+        NameFault::Reserved => is_reserved_address(octets),
+        _ => false,
+    }
+}
+
+fn is_other(fault: NameFault) -> bool
+    ensures { result ≡ grammar.is_other fault }
+{
+    match fault {
+        NameFault::OtherName => true,
+        _ => false,
+    }
+}
+
+fn is_faulty(fault: NameFault, name: &GeneralName) -> bool
+    ensures { result ≡ grammar.has_fault fault name.now }
+{
+    match name {
+        GeneralName::DnsName(text) => is_faulty_host(fault, text.as_str().as_bytes()),
+        GeneralName::IpAddress(octets) => is_faulty_address(fault, octets.as_bytes()),
+        _ => is_other(fault),
+    }
+}
+
+fn is_faulty_among(fault: NameFault, names: &[GeneralName]) -> bool
+    ensures { result ≡ list_any (grammar.has_fault fault) names.now }
+{
+    names.iter().any(|name| is_faulty(fault, name))
+}
+
+/// Whether the SAN is read, and a name of it has the fault.
+pub(crate) fn has_name(fault: NameFault, names: &Option<SubjectAltName>) -> bool
+    ensures { result ≡ passes (λ s. list_any (grammar.has_fault fault) s.0) names.now }
+{
+    match names {
+        Some(names) => is_faulty_among(fault, names.0.as_slice()),
+        None => false,
+    }
+}
+
+fn is_host_among(names: &[GeneralName]) -> bool
+    ensures { result ≡ list_any grammar.is_host_name names.now }
+{
+    names.iter().any(|name| is_host_name(name))
+}
+
+/// Whether the SAN is read, and has neither a dNSName nor an iPAddress.
+pub(crate) fn is_without_host(names: &Option<SubjectAltName>) -> bool
+    ensures { result ≡ passes (λ s. not (list_any grammar.is_host_name s.0)) names.now }
+{
+    match names {
+        Some(names) => !is_host_among(names.0.as_slice()),
+        None => false,
+    }
+}
+
+fn is_in(oid: ObjectIdentifier, rdn: &RelativeDistinguishedName) -> bool
+    ensures { result ≡ list_any (λ a. bytes_eq a.oid oid) rdn.now }
+{
+    rdn.as_slice().iter().any(|attribute| attribute.oid == oid)
+}
+
+fn has_attribute_in(oid: ObjectIdentifier, rdns: &[RelativeDistinguishedName]) -> bool
+    ensures { result ≡ words.has_attribute oid rdns.now }
+{
+    rdns.iter().any(|rdn| is_in(oid, rdn))
+}
+
+/// Whether some attribute of the name has the type.
+pub(crate) fn has_attribute(oid: ObjectIdentifier, name: &Name) -> bool
+    ensures { result ≡ words.has_attribute oid name.now }
+{
+    let rdns: &RdnSequence = name.as_ref();
+    has_attribute_in(oid, rdns.as_slice())
+}
+
+fn is_other_attribute(attribute: &AttributeTypeAndValue) -> bool
+    ensures { result ≡ policy.is_other_attribute attribute.now }
+{
+    attribute.oid != COUNTRY_NAME && attribute.oid != COMMON_NAME
+}
+
+fn has_other_in(rdn: &RelativeDistinguishedName) -> bool
+    ensures { result ≡ list_any policy.is_other_attribute rdn.now }
+{
+    rdn.as_slice()
+        .iter()
+        .any(|attribute| is_other_attribute(attribute))
+}
+
+/// Whether the name has an attribute that is neither countryName nor commonName.
+pub(crate) fn has_other_attribute(name: &Name) -> bool
+    ensures { result ≡ policy.has_other_attribute name.now }
+{
+    let rdns: &RdnSequence = name.as_ref();
+    rdns.as_slice().iter().any(|rdn| has_other_in(rdn))
+}
+
+fn is_address(name: &GeneralName) -> bool
+    ensures { result ≡ grammar.is_address name.now }
+{
+    match name {
+        GeneralName::IpAddress(_) => true,
+        _ => false,
+    }
+}
+
+fn is_address_among(names: &[GeneralName]) -> bool
+    ensures { result ≡ list_any grammar.is_address names.now }
+{
+    names.iter().any(|name| is_address(name))
+}
+
+fn is_dns_name_of(text: &[u8], name: &GeneralName) -> bool
+    ensures { result ≡ grammar.is_dns_name_of text.now name.now }
+{
+    match name {
+        GeneralName::DnsName(other) => other.as_str().as_bytes() == text,
+        _ => false,
+    }
+}
+
+fn is_dns_name_among(text: &[u8], names: &[GeneralName]) -> bool
+    ensures { result ≡ list_any (grammar.is_dns_name_of text.now) names.now }
+{
+    names.iter().any(|name| is_dns_name_of(text, name))
+}
+
+fn is_stray(names: &[GeneralName], attribute: &AttributeTypeAndValue) -> bool
+    ensures { result ≡ grammar.is_stray names.now attribute.now }
+{
+    attribute.oid == COMMON_NAME && !is_dns_name_among(attribute.value.value(), names)
+}
+
+fn has_stray_in(names: &[GeneralName], rdn: &RelativeDistinguishedName) -> bool
+    ensures { result ≡ list_any (grammar.is_stray names.now) rdn.now }
+{
+    rdn.as_slice()
+        .iter()
+        .any(|attribute| is_stray(names, attribute))
+}
+
+fn has_stray(names: &[GeneralName], name: &Name) -> bool
+    ensures { result ≡ grammar.has_stray names.now name.now }
+{
+    let rdns: &RdnSequence = name.as_ref();
+    rdns.as_slice().iter().any(|rdn| has_stray_in(names, rdn))
+}
+
+/// Whether the SAN is read and has no iPAddress, and the name has a commonName that is no dNSName of it.
+pub(crate) fn has_stray_name(names: &Option<SubjectAltName>, name: &Name) -> bool
+    ensures { result ≡ passes (λ s. not (list_any grammar.is_address s.0) && grammar.has_stray s.0 name.now) names.now }
+{
+    match names {
+        Some(names) => {
+            !is_address_among(names.0.as_slice()) && has_stray(names.0.as_slice(), name)
+        }
+        None => false,
+    }
+}
+
+/// Whether the name is an HTTP URI.
+pub(crate) fn is_http_name(name: &GeneralName) -> bool
+    ensures { result ≡ words.is_http_name name.now }
+{
+    match name {
+        GeneralName::UniformResourceIdentifier(text) => is_http(text.as_str().as_bytes()),
+        _ => false,
+    }
+}

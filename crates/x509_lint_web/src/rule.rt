@@ -1,0 +1,227 @@
+//! The rules of the Baseline Requirements that a certificate alone shows.
+
+ghost use Rattle.std.specs.Prelude.{◌≡◌, Some};
+ghost use Rattle.x509_lint.specs.Wording.{wording_text};
+ghost use Rattle.x509_lint_web.specs.Rules.{web_sentence};
+ghost use Rattle.x509_lint_web.specs.Sentence.{IsTold, is_in_force};
+
+use crate::day::Day;
+use crate::entry::WebEntry;
+use crate::scope::{is_above_servers, is_server};
+use crate::values::WebValues;
+use std::fmt;
+use x509_base::{DateTime, Raw};
+use x509_cert::certificate::CertificateInner;
+use x509_lint::{Entry, Severity};
+
+mod authority;
+mod field;
+mod key;
+mod name;
+mod policy;
+mod usage;
+mod validity;
+
+pub use authority::WebAuthorityRule;
+pub use field::WebFieldRule;
+pub use key::WebKeyRule;
+pub use name::WebNameRule;
+pub use policy::WebPolicyRule;
+pub use usage::WebUsageRule;
+pub use validity::WebValidityRule;
+
+/// A rule of the Baseline Requirements for TLS server certificates (TLS BR) of the CA/Browser Forum. It is printed as
+/// `error subject_alt_name_absent (TLS BR 7.1.2.7.12)`.
+#[derive(Clone, Copy, Debug, PartialEq, Eq)]
+pub enum WebRule {
+    /// On any certificate: its version, signature, key identifier and CRL distribution points.
+    Field(WebFieldRule),
+
+    /// On the public key of any certificate.
+    Key(WebKeyRule),
+
+    /// On the validity of a certificate of a TLS server.
+    Validity(WebValidityRule),
+
+    /// On the SAN and the subject of a certificate of a TLS server.
+    Name(WebNameRule),
+
+    /// On what a certificate of a TLS server is used for.
+    Usage(WebUsageRule),
+
+    /// On certificate policies and authority information access of a certificate of a TLS server.
+    Policy(WebPolicyRule),
+
+    /// On a certificate of an authority that may stand above TLS servers.
+    Authority(WebAuthorityRule),
+}
+
+/// All rules, in their order.
+pub(crate) const WEB_RULES: [WebRule; 69] = [
+    WebRule::Field(WebFieldRule::VersionNotV3),
+    WebRule::Field(WebFieldRule::SignatureOfSha1),
+    WebRule::Field(WebFieldRule::SignatureAlgorithmOther),
+    WebRule::Field(WebFieldRule::RsaSignatureParametersNotNull),
+    WebRule::Field(WebFieldRule::EcdsaSignatureParametersPresent),
+    WebRule::Field(WebFieldRule::AuthorityCertIssuerPresent),
+    WebRule::Field(WebFieldRule::CrlDistributionPointsCritical),
+    WebRule::Field(WebFieldRule::CrlDistributionPointNotHttp),
+    WebRule::Field(WebFieldRule::CrlDistributionPointPartial),
+    WebRule::Key(WebKeyRule::KeyAlgorithmOther),
+    WebRule::Key(WebKeyRule::RsaKeyParametersNotNull),
+    WebRule::Key(WebKeyRule::EcCurveOther),
+    WebRule::Key(WebKeyRule::RsaModulusShort),
+    WebRule::Key(WebKeyRule::RsaModulusUneven),
+    WebRule::Key(WebKeyRule::RsaModulusEven),
+    WebRule::Key(WebKeyRule::RsaExponentInvalid),
+    WebRule::Key(WebKeyRule::RsaExponentOutside),
+    WebRule::Validity(WebValidityRule::ValidityOver825Days),
+    WebRule::Validity(WebValidityRule::ValidityOver398Days),
+    WebRule::Validity(WebValidityRule::ValidityOver397Days),
+    WebRule::Validity(WebValidityRule::ValidityOver200Days),
+    WebRule::Validity(WebValidityRule::ValidityOver100Days),
+    WebRule::Validity(WebValidityRule::ValidityOver47Days),
+    WebRule::Name(WebNameRule::SubjectAltNameAbsent),
+    WebRule::Name(WebNameRule::SubjectAltNameWithoutHost),
+    WebRule::Name(WebNameRule::SubjectAltNameOther),
+    WebRule::Name(WebNameRule::SubjectAltNameCritical),
+    WebRule::Name(WebNameRule::DnsNameUnderscore),
+    WebRule::Name(WebNameRule::DnsNameReservedLabel),
+    WebRule::Name(WebNameRule::DnsNameWildcard),
+    WebRule::Name(WebNameRule::DnsNameOneLabel),
+    WebRule::Name(WebNameRule::DnsNameInternal),
+    WebRule::Name(WebNameRule::AddressReserved),
+    WebRule::Name(WebNameRule::CommonNamePresent),
+    WebRule::Name(WebNameRule::CommonNameNotInAltName),
+    WebRule::Name(WebNameRule::OrganizationalUnitPresent),
+    WebRule::Usage(WebUsageRule::ExtendedKeyUsageAbsent),
+    WebRule::Usage(WebUsageRule::ExtendedKeyUsageForbidden),
+    WebRule::Usage(WebUsageRule::ExtendedKeyUsageOther),
+    WebRule::Usage(WebUsageRule::ExtendedKeyUsageCritical),
+    WebRule::Usage(WebUsageRule::KeyUsageAbsent),
+    WebRule::Usage(WebUsageRule::KeyUsageNotCritical),
+    WebRule::Usage(WebUsageRule::KeyUsageOfAuthority),
+    WebRule::Usage(WebUsageRule::KeyUsageNotOfRsa),
+    WebRule::Usage(WebUsageRule::KeyUsageNotOfEc),
+    WebRule::Usage(WebUsageRule::EcWithoutDigitalSignature),
+    WebRule::Usage(WebUsageRule::BasicConstraintsNotCritical),
+    WebRule::Usage(WebUsageRule::SubjectKeyIdentifierPresent),
+    WebRule::Policy(WebPolicyRule::CertificatePoliciesAbsent),
+    WebRule::Policy(WebPolicyRule::CertificatePoliciesCritical),
+    WebRule::Policy(WebPolicyRule::ReservedPolicyAbsent),
+    WebRule::Policy(WebPolicyRule::AnyPolicyPresent),
+    WebRule::Policy(WebPolicyRule::PolicyQualifiersPresent),
+    WebRule::Policy(WebPolicyRule::PolicyQualifierOther),
+    WebRule::Policy(WebPolicyRule::DomainValidatedAttribute),
+    WebRule::Policy(WebPolicyRule::OrganizationValidatedWithoutOrganization),
+    WebRule::Policy(WebPolicyRule::OrganizationValidatedWithoutCountry),
+    WebRule::Policy(WebPolicyRule::AuthorityInfoAccessAbsent),
+    WebRule::Policy(WebPolicyRule::AccessMethodOther),
+    WebRule::Policy(WebPolicyRule::AccessLocationNotHttp),
+    WebRule::Authority(WebAuthorityRule::CaKeyUsageNotCritical),
+    WebRule::Authority(WebAuthorityRule::CaWithoutCrlSign),
+    WebRule::Authority(WebAuthorityRule::CaKeyUsageOther),
+    WebRule::Authority(WebAuthorityRule::CaWithoutCommonName),
+    WebRule::Authority(WebAuthorityRule::CaWithoutOrganization),
+    WebRule::Authority(WebAuthorityRule::CaWithoutCountry),
+    WebRule::Authority(WebAuthorityRule::CaExtendedKeyUsageForbidden),
+    WebRule::Authority(WebAuthorityRule::SubordinateWithoutPolicies),
+    WebRule::Authority(WebAuthorityRule::SubordinateWithoutCrlPoints),
+];
+
+impl WebRule {
+    /// How bad it is to break the rule, its name, its section, its place, and since when it is in force.
+    pub fn entry(self) -> WebEntry
+        ensures { IsTold result (web_sentence self) }
+    {
+        match self {
+            WebRule::Field(rule) => rule.entry(),
+            WebRule::Key(rule) => rule.entry(),
+            WebRule::Validity(rule) => rule.entry(),
+            WebRule::Name(rule) => rule.entry(),
+            WebRule::Usage(rule) => rule.entry(),
+            WebRule::Policy(rule) => rule.entry(),
+            WebRule::Authority(rule) => rule.entry(),
+        }
+    }
+
+    /// How bad it is to break the rule.
+    pub fn severity(self) -> Severity
+        ensures { result ≡ (web_sentence self).wording.severity }
+    {
+        self.entry().entry.severity
+    }
+
+    /// The name of the rule, as `subject_alt_name_absent`.
+    pub fn name(self) -> &'static str
+        ensures { result.now ≡ (web_sentence self).wording.name }
+    {
+        self.entry().entry.name
+    }
+
+    /// The section of the Baseline Requirements, as `7.1.2.7.12`.
+    pub fn section(self) -> &'static str
+        ensures { result.now ≡ (web_sentence self).wording.section }
+    {
+        self.entry().entry.section
+    }
+
+    /// Where in the certificate the rule is broken, in the field names of RFC 5280, as `tbsCertificate.extensions.subjectAltName`.
+    pub fn place(self) -> &'static str
+        ensures { result.now ≡ (web_sentence self).wording.place }
+    {
+        self.entry().entry.place
+    }
+
+    /// The day from which on the rule is in force; `None` where it was from the beginning.
+    pub fn since(self) -> Option<Day>
+        ensures { result ≡ (web_sentence self).since }
+    {
+        self.entry().since
+    }
+
+    /// Whether the rule is in force at the moment.
+    pub fn is_in_force(self, moment: DateTime) -> bool
+        ensures { result ≡ is_in_force (web_sentence self).since moment }
+    {
+        match self.since() {
+            Some(day) => day.is_reached(moment),
+            None => true,
+        }
+    }
+
+    /// Whether the certificate, of which these are the values, breaks the rule.
+    pub(crate) fn is_broken(self, certificate: &CertificateInner<Raw>, values: &WebValues) -> bool
+        ensures { result ≡ (web_sentence self).breaks certificate.now values.now }
+    {
+        match self {
+            WebRule::Field(rule) => rule.is_broken(certificate, values),
+            WebRule::Key(rule) => rule.is_broken(certificate, values),
+            WebRule::Validity(rule) => is_server(certificate, values)
+                && rule.is_broken(certificate, values),
+            WebRule::Name(rule) => is_server(certificate, values)
+                && rule.is_broken(certificate, values),
+            WebRule::Usage(rule) => is_server(certificate, values)
+                && rule.is_broken(certificate, values),
+            WebRule::Policy(rule) => is_server(certificate, values)
+                && rule.is_broken(certificate, values),
+            WebRule::Authority(rule) => is_above_servers(certificate, values)
+                && rule.is_broken(certificate, values),
+        }
+    }
+}
+
+impl fmt::Display for WebRule {
+    ghost output = { λ rule. Some (wording_text (web_sentence rule).wording) };
+
+    fn fmt<W: fmt::Write>(&self, f: &mut fmt::Formatter<W>) -> fmt::Result {
+        let Entry {
+            severity,
+            name,
+            standard,
+            section,
+            place: _,
+        } = self.entry().entry;
+        write!(f, "{severity} {name} ({standard} {section})")
+    }
+}

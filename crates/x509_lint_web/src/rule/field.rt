@@ -1,0 +1,155 @@
+//! Rules on version, signature, key identifier and CRL distribution points of any certificate (TLS BR 7.1.1, 7.1.3.2, 7.1.2.11).
+
+ghost use Rattle.std.specs.Prelude.{◌≡◌};
+ghost use Rattle.x509_lint.specs.Field.{is_v3};
+ghost use Rattle.x509_lint_web.specs.Field as grammar;
+ghost use Rattle.x509_lint_web.specs.Sentence.{IsTold};
+
+use crate::algorithms::{are_null, is_ecdsa, is_of_sha1, is_rsa_pkcs1, is_rsa_pss};
+use crate::entry::{WebEntry, from_day, must};
+use crate::places::{has_issuer, have_other_point, have_partial_point};
+use crate::scope::{is_authority, is_self_issued};
+use crate::values::WebValues;
+use x509_base::Raw;
+use x509_cert::Version;
+use x509_cert::certificate::CertificateInner;
+use x509_ext::pkix::CrlDistributionPoints;
+use x509_lint::extensions::{extensions_of, has_critical};
+
+/// Rules on version, signature, key identifier and CRL distribution points of any certificate (TLS BR 7.1.1, 7.1.3.2, 7.1.2.11).
+#[derive(Clone, Copy, Debug, PartialEq, Eq)]
+pub enum WebFieldRule {
+    /// The version isn't 3 (TLS BR 7.1.1, error).
+    VersionNotV3,
+
+    /// The signature is of SHA-1; a self-issued certificate of an authority aside (TLS BR 7.1.3.2, error, from
+    /// 2016-01-01).
+    SignatureOfSha1,
+
+    /// The signature is neither of RSA nor of ECDSA with SHA-256, SHA-384 or SHA-512 (TLS BR 7.1.3.2, error, from
+    /// 2023-09-15).
+    SignatureAlgorithmOther,
+
+    /// The signature is one of RSASSA-PKCS1-v1_5, and its parameters aren't NULL (TLS BR 7.1.3.2.1, error, from
+    /// 2023-09-15).
+    RsaSignatureParametersNotNull,
+
+    /// The signature is one of ECDSA, and has parameters (TLS BR 7.1.3.2.2, error, from 2023-09-15).
+    EcdsaSignatureParametersPresent,
+
+    /// The AKI has an authorityCertIssuer or an authorityCertSerialNumber (TLS BR 7.1.2.11.1, error, from 2023-09-15).
+    AuthorityCertIssuerPresent,
+
+    /// The CRLDistributionPoints is critical (TLS BR 7.1.2.11.2, error).
+    CrlDistributionPointsCritical,
+
+    /// A distribution point has no full name of HTTP URIs alone (TLS BR 7.1.2.11.2, error, from 2023-09-15).
+    CrlDistributionPointNotHttp,
+
+    /// A distribution point has reasons or a cRLIssuer (TLS BR 7.1.2.11.2, error, from 2023-09-15).
+    CrlDistributionPointPartial,
+}
+
+impl WebFieldRule {
+    /// How the rule is told, and since when it is in force.
+    pub fn entry(self) -> WebEntry
+        ensures { IsTold result (grammar.field_sentence self) }
+    {
+        match self {
+            WebFieldRule::VersionNotV3 => must(
+                "version_not_v3",
+                "7.1.1",
+                None,
+                "tbsCertificate.version",
+            ),
+            WebFieldRule::SignatureOfSha1 => must(
+                "signature_of_sha1",
+                "7.1.3.2",
+                from_day(2016, 1, 1),
+                "signatureAlgorithm",
+            ),
+            WebFieldRule::SignatureAlgorithmOther => must(
+                "signature_algorithm_other",
+                "7.1.3.2",
+                from_day(2023, 9, 15),
+                "signatureAlgorithm",
+            ),
+            WebFieldRule::RsaSignatureParametersNotNull => must(
+                "rsa_signature_parameters_not_null",
+                "7.1.3.2.1",
+                from_day(2023, 9, 15),
+                "signatureAlgorithm",
+            ),
+            WebFieldRule::EcdsaSignatureParametersPresent => must(
+                "ecdsa_signature_parameters_present",
+                "7.1.3.2.2",
+                from_day(2023, 9, 15),
+                "signatureAlgorithm",
+            ),
+            WebFieldRule::AuthorityCertIssuerPresent => must(
+                "authority_cert_issuer_present",
+                "7.1.2.11.1",
+                from_day(2023, 9, 15),
+                "tbsCertificate.extensions.authorityKeyIdentifier",
+            ),
+            WebFieldRule::CrlDistributionPointsCritical => must(
+                "crl_distribution_points_critical",
+                "7.1.2.11.2",
+                None,
+                "tbsCertificate.extensions.cRLDistributionPoints",
+            ),
+            WebFieldRule::CrlDistributionPointNotHttp => must(
+                "crl_distribution_point_not_http",
+                "7.1.2.11.2",
+                from_day(2023, 9, 15),
+                "tbsCertificate.extensions.cRLDistributionPoints",
+            ),
+            WebFieldRule::CrlDistributionPointPartial => must(
+                "crl_distribution_point_partial",
+                "7.1.2.11.2",
+                from_day(2023, 9, 15),
+                "tbsCertificate.extensions.cRLDistributionPoints",
+            ),
+        }
+    }
+
+    /// Whether the certificate, of which these are the values, breaks the rule.
+    pub(crate) fn is_broken(self, certificate: &CertificateInner<Raw>, values: &WebValues) -> bool
+        ensures { result ≡ (grammar.field_sentence self).breaks certificate.now values.now }
+    {
+        let algorithm = certificate.signature_algorithm();
+        match self {
+            WebFieldRule::VersionNotV3 => !is_v3(certificate.tbs_certificate().version()),
+            WebFieldRule::SignatureOfSha1 => is_of_sha1(algorithm.oid)
+                && !(is_authority(values) && is_self_issued(certificate)),
+            WebFieldRule::SignatureAlgorithmOther => !is_rsa_pkcs1(algorithm.oid)
+                && !is_rsa_pss(algorithm.oid)
+                && !is_ecdsa(algorithm.oid),
+            WebFieldRule::RsaSignatureParametersNotNull => is_rsa_pkcs1(algorithm.oid)
+                && !are_null(&algorithm.parameters),
+            WebFieldRule::EcdsaSignatureParametersPresent => is_ecdsa(algorithm.oid)
+                && algorithm.parameters.is_some(),
+            WebFieldRule::AuthorityCertIssuerPresent => has_issuer(
+                &values.authority_key_identifier,
+            ),
+            WebFieldRule::CrlDistributionPointsCritical => has_critical::<CrlDistributionPoints>(
+                extensions_of(certificate),
+            ),
+            WebFieldRule::CrlDistributionPointNotHttp => have_other_point(
+                &values.crl_distribution_points,
+            ),
+            WebFieldRule::CrlDistributionPointPartial => have_partial_point(
+                &values.crl_distribution_points,
+            ),
+        }
+    }
+}
+
+fn is_v3(version: Version) -> bool
+    ensures { result ≡ is_v3 version }
+{
+    match version {
+        Version::V3 => true,
+        Version::V1 | Version::V2 => false,
+    }
+}

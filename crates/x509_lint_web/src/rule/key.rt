@@ -1,0 +1,119 @@
+//! Rules on public keys (TLS BR 6.1.5, 6.1.6, 7.1.3.1).
+
+ghost use Rattle.std.specs.Prelude.{◌≡◌};
+ghost use Rattle.x509_lint_web.specs.Key as grammar;
+ghost use Rattle.x509_lint_web.specs.Sentence.{IsTold};
+
+use crate::algorithms::{are_curve, are_null, is_ec, is_rsa};
+use crate::entry::{WebEntry, from_day, must, should};
+use crate::numbers::{
+    has_even_modulus, has_no_exponent, has_outside_exponent, has_short_modulus, has_uneven_modulus,
+};
+use crate::values::WebValues;
+use x509_base::Raw;
+use x509_cert::certificate::CertificateInner;
+
+/// Rules on public keys (TLS BR 6.1.5, 6.1.6, 7.1.3.1).
+#[derive(Clone, Copy, Debug, PartialEq, Eq)]
+pub enum WebKeyRule {
+    /// The key is neither one of RSA nor one of an elliptic curve (TLS BR 7.1.3.1, error, from 2023-09-15).
+    KeyAlgorithmOther,
+
+    /// The key is one of RSA, and its parameters aren't NULL (TLS BR 7.1.3.1.1, error, from 2023-09-15).
+    RsaKeyParametersNotNull,
+
+    /// The key is one of an elliptic curve other than P-256, P-384 and P-521 (TLS BR 6.1.5, error, from 2013-12-31).
+    EcCurveOther,
+
+    /// The modulus of an RSA key has fewer than 2048 bits (TLS BR 6.1.5, error, from 2013-12-31).
+    RsaModulusShort,
+
+    /// The number of bits of the modulus of an RSA key isn't divisible by 8 (TLS BR 6.1.5, error, from 2023-09-15).
+    RsaModulusUneven,
+
+    /// The modulus of an RSA key is even (TLS BR 6.1.6, warning, from 2023-09-15).
+    RsaModulusEven,
+
+    /// The exponent of an RSA key is even, or below 3 (TLS BR 6.1.6, error, from 2013-01-01).
+    RsaExponentInvalid,
+
+    /// The exponent of an RSA key isn't between 2^16 + 1 and 2^256 - 1 (TLS BR 6.1.6, warning, from 2013-01-01).
+    RsaExponentOutside,
+}
+
+impl WebKeyRule {
+    /// How the rule is told, and since when it is in force.
+    pub fn entry(self) -> WebEntry
+        ensures { IsTold result (grammar.key_sentence self) }
+    {
+        match self {
+            WebKeyRule::KeyAlgorithmOther => must(
+                "key_algorithm_other",
+                "7.1.3.1",
+                from_day(2023, 9, 15),
+                "tbsCertificate.subjectPublicKeyInfo",
+            ),
+            WebKeyRule::RsaKeyParametersNotNull => must(
+                "rsa_key_parameters_not_null",
+                "7.1.3.1.1",
+                from_day(2023, 9, 15),
+                "tbsCertificate.subjectPublicKeyInfo",
+            ),
+            WebKeyRule::EcCurveOther => must(
+                "ec_curve_other",
+                "6.1.5",
+                from_day(2013, 12, 31),
+                "tbsCertificate.subjectPublicKeyInfo",
+            ),
+            WebKeyRule::RsaModulusShort => must(
+                "rsa_modulus_short",
+                "6.1.5",
+                from_day(2013, 12, 31),
+                "tbsCertificate.subjectPublicKeyInfo",
+            ),
+            WebKeyRule::RsaModulusUneven => must(
+                "rsa_modulus_uneven",
+                "6.1.5",
+                from_day(2023, 9, 15),
+                "tbsCertificate.subjectPublicKeyInfo",
+            ),
+            WebKeyRule::RsaModulusEven => should(
+                "rsa_modulus_even",
+                "6.1.6",
+                from_day(2023, 9, 15),
+                "tbsCertificate.subjectPublicKeyInfo",
+            ),
+            WebKeyRule::RsaExponentInvalid => must(
+                "rsa_exponent_invalid",
+                "6.1.6",
+                from_day(2013, 1, 1),
+                "tbsCertificate.subjectPublicKeyInfo",
+            ),
+            WebKeyRule::RsaExponentOutside => should(
+                "rsa_exponent_outside",
+                "6.1.6",
+                from_day(2013, 1, 1),
+                "tbsCertificate.subjectPublicKeyInfo",
+            ),
+        }
+    }
+
+    /// Whether the certificate, of which these are the values, breaks the rule.
+    pub(crate) fn is_broken(self, certificate: &CertificateInner<Raw>, values: &WebValues) -> bool
+        ensures { result ≡ (grammar.key_sentence self).breaks certificate.now values.now }
+    {
+        let key = certificate.tbs_certificate().subject_public_key_info();
+        match self {
+            WebKeyRule::KeyAlgorithmOther => !is_rsa(key) && !is_ec(key),
+            WebKeyRule::RsaKeyParametersNotNull => is_rsa(key)
+                && !are_null(&key.algorithm.parameters),
+            WebKeyRule::EcCurveOther => is_ec(key) && !are_curve(&key.algorithm.parameters),
+            WebKeyRule::RsaModulusShort => is_rsa(key) && has_short_modulus(&values.rsa_numbers),
+            WebKeyRule::RsaModulusUneven => is_rsa(key) && has_uneven_modulus(&values.rsa_numbers),
+            WebKeyRule::RsaModulusEven => is_rsa(key) && has_even_modulus(&values.rsa_numbers),
+            WebKeyRule::RsaExponentInvalid => is_rsa(key) && has_no_exponent(&values.rsa_numbers),
+            WebKeyRule::RsaExponentOutside => is_rsa(key)
+                && has_outside_exponent(&values.rsa_numbers),
+        }
+    }
+}

@@ -1,0 +1,188 @@
+//! Rules on the SAN and the subject of certificates of TLS servers (TLS BR 7.1.2.7.12, 7.1.4.3).
+
+ghost use Rattle.std.specs.Prelude.{◌≡◌};
+ghost use Rattle.x509_lint_web.specs.Name as grammar;
+ghost use Rattle.x509_lint_web.specs.Sentence.{IsTold};
+
+use crate::entry::{WebEntry, from_day, must, should};
+use crate::names::{
+    NameFault, has_attribute, has_name, has_stray_name, is_empty_name, is_without_host,
+};
+use crate::values::WebValues;
+use x509_base::Raw;
+use x509_cert::certificate::CertificateInner;
+use x509_ext::pkix::SubjectAltName;
+use x509_lint::extensions::{extensions_of, has, has_critical};
+use x509_name::attr::attribute_types::{COMMON_NAME, ORGANIZATIONAL_UNIT_NAME};
+
+/// Rules on the SAN and the subject of certificates of TLS servers (TLS BR 7.1.2.7.12, 7.1.4.3).
+#[derive(Clone, Copy, Debug, PartialEq, Eq)]
+pub enum WebNameRule {
+    /// There is no SAN (TLS BR 7.1.2.7.12, error).
+    SubjectAltNameAbsent,
+
+    /// The SAN has neither a dNSName nor an iPAddress (TLS BR 7.1.2.7.12, error).
+    SubjectAltNameWithoutHost,
+
+    /// The SAN has a name that is neither a dNSName nor an iPAddress (TLS BR 7.1.2.7.12, error).
+    SubjectAltNameOther,
+
+    /// The SAN is critical, and the subject isn't empty (TLS BR 7.1.2.7.12, error, from 2023-09-15).
+    SubjectAltNameCritical,
+
+    /// A dNSName has an underscore (TLS BR 7.1.2.7.12, error, from 2019-04-01).
+    DnsNameUnderscore,
+
+    /// A dNSName has a label with hyphens in its third and fourth places that doesn't begin with xn (TLS BR 7.1.2.7.12,
+    /// error, from 2021-10-01).
+    DnsNameReservedLabel,
+
+    /// A dNSName has a * that isn't the whole of its leftmost label (TLS BR 7.1.2.7.12, error).
+    DnsNameWildcard,
+
+    /// A dNSName has one label, perhaps behind a wildcard (TLS BR 7.1.2.7.12, error, from 2015-11-01).
+    DnsNameOneLabel,
+
+    /// A dNSName ends in example, invalid, local, localhost or test (TLS BR 7.1.2.7.12, error, from 2015-11-01).
+    DnsNameInternal,
+
+    /// An iPAddress is a reserved one (TLS BR 7.1.2.7.12, error, from 2015-11-01).
+    AddressReserved,
+
+    /// The subject has a commonName (TLS BR 7.1.2.7.2, warning, from 2023-09-15).
+    CommonNamePresent,
+
+    /// The subject has a commonName that is no dNSName of the SAN, which has no iPAddress (TLS BR 7.1.4.3, error, from
+    /// 2023-09-15).
+    CommonNameNotInAltName,
+
+    /// The subject has an organizationalUnitName (TLS BR 7.1.2.7.4, error, from 2022-09-01).
+    OrganizationalUnitPresent,
+}
+
+impl WebNameRule {
+    /// How the rule is told, and since when it is in force.
+    pub fn entry(self) -> WebEntry
+        ensures { IsTold result (grammar.name_sentence self) }
+    {
+        match self {
+            WebNameRule::SubjectAltNameAbsent => must(
+                "subject_alt_name_absent",
+                "7.1.2.7.12",
+                None,
+                "tbsCertificate.extensions.subjectAltName",
+            ),
+            WebNameRule::SubjectAltNameWithoutHost => must(
+                "subject_alt_name_without_host",
+                "7.1.2.7.12",
+                None,
+                "tbsCertificate.extensions.subjectAltName",
+            ),
+            WebNameRule::SubjectAltNameOther => must(
+                "subject_alt_name_other",
+                "7.1.2.7.12",
+                None,
+                "tbsCertificate.extensions.subjectAltName",
+            ),
+            WebNameRule::SubjectAltNameCritical => must(
+                "subject_alt_name_critical",
+                "7.1.2.7.12",
+                from_day(2023, 9, 15),
+                "tbsCertificate.extensions.subjectAltName",
+            ),
+            WebNameRule::DnsNameUnderscore => must(
+                "dns_name_underscore",
+                "7.1.2.7.12",
+                from_day(2019, 4, 1),
+                "tbsCertificate.extensions.subjectAltName",
+            ),
+            WebNameRule::DnsNameReservedLabel => must(
+                "dns_name_reserved_label",
+                "7.1.2.7.12",
+                from_day(2021, 10, 1),
+                "tbsCertificate.extensions.subjectAltName",
+            ),
+            WebNameRule::DnsNameWildcard => must(
+                "dns_name_wildcard",
+                "7.1.2.7.12",
+                None,
+                "tbsCertificate.extensions.subjectAltName",
+            ),
+            WebNameRule::DnsNameOneLabel => must(
+                "dns_name_one_label",
+                "7.1.2.7.12",
+                from_day(2015, 11, 1),
+                "tbsCertificate.extensions.subjectAltName",
+            ),
+            WebNameRule::DnsNameInternal => must(
+                "dns_name_internal",
+                "7.1.2.7.12",
+                from_day(2015, 11, 1),
+                "tbsCertificate.extensions.subjectAltName",
+            ),
+            WebNameRule::AddressReserved => must(
+                "address_reserved",
+                "7.1.2.7.12",
+                from_day(2015, 11, 1),
+                "tbsCertificate.extensions.subjectAltName",
+            ),
+            WebNameRule::CommonNamePresent => should(
+                "common_name_present",
+                "7.1.2.7.2",
+                from_day(2023, 9, 15),
+                "tbsCertificate.subject",
+            ),
+            WebNameRule::CommonNameNotInAltName => must(
+                "common_name_not_in_alt_name",
+                "7.1.4.3",
+                from_day(2023, 9, 15),
+                "tbsCertificate.subject",
+            ),
+            WebNameRule::OrganizationalUnitPresent => must(
+                "organizational_unit_present",
+                "7.1.2.7.4",
+                from_day(2022, 9, 1),
+                "tbsCertificate.subject",
+            ),
+        }
+    }
+
+    /// Whether the certificate, of which these are the values, breaks the rule.
+    pub(crate) fn is_broken(self, certificate: &CertificateInner<Raw>, values: &WebValues) -> bool
+        ensures { result ≡ (grammar.name_sentence self).breaks certificate.now values.now }
+    {
+        let subject = certificate.tbs_certificate().subject();
+        match self {
+            WebNameRule::SubjectAltNameAbsent => !has::<SubjectAltName>(extensions_of(certificate)),
+            WebNameRule::SubjectAltNameWithoutHost => is_without_host(&values.subject_alt_name),
+            WebNameRule::SubjectAltNameOther => has_name(
+                NameFault::OtherName,
+                &values.subject_alt_name,
+            ),
+            WebNameRule::SubjectAltNameCritical => has_critical::<SubjectAltName>(extensions_of(
+                certificate,
+            )) && !is_empty_name(subject),
+            WebNameRule::DnsNameUnderscore => has_name(
+                NameFault::Underscore,
+                &values.subject_alt_name,
+            ),
+            WebNameRule::DnsNameReservedLabel => has_name(
+                NameFault::ReservedLabel,
+                &values.subject_alt_name,
+            ),
+            WebNameRule::DnsNameWildcard => has_name(NameFault::Wildcard, &values.subject_alt_name),
+            WebNameRule::DnsNameOneLabel => has_name(NameFault::OneLabel, &values.subject_alt_name),
+            WebNameRule::DnsNameInternal => has_name(NameFault::Internal, &values.subject_alt_name),
+            WebNameRule::AddressReserved => has_name(NameFault::Reserved, &values.subject_alt_name),
+            WebNameRule::CommonNamePresent => has_attribute(COMMON_NAME, subject),
+            WebNameRule::CommonNameNotInAltName => has_stray_name(
+                &values.subject_alt_name,
+                subject,
+            ),
+            WebNameRule::OrganizationalUnitPresent => has_attribute(
+                ORGANIZATIONAL_UNIT_NAME,
+                subject,
+            ),
+        }
+    }
+}

@@ -1,0 +1,178 @@
+//! Rules on certificate policies and authority information access of certificates of TLS servers (TLS BR 7.1.2.7.2, 7.1.2.7.4, 7.1.2.7.7, 7.1.2.7.9).
+
+ghost use Rattle.std.specs.Prelude.{◌≡◌};
+ghost use Rattle.x509_lint_web.specs.Policy as grammar;
+ghost use Rattle.x509_lint_web.specs.Sentence.{IsTold};
+
+use crate::entry::{WebEntry, from_day, must, should};
+use crate::names::{has_attribute, has_other_attribute};
+use crate::places::{have_other_location, have_other_method};
+use crate::policies::{
+    ANY_POLICY, DOMAIN_VALIDATED, ORGANIZATION_VALIDATED, has_policy, have_other_qualifier,
+    have_qualifiers, is_without_reserved,
+};
+use crate::values::WebValues;
+use x509_base::Raw;
+use x509_cert::certificate::CertificateInner;
+use x509_ext::pkix::{AuthorityInfoAccessSyntax, CertificatePolicies};
+use x509_lint::extensions::{extensions_of, has, has_critical};
+use x509_name::attr::attribute_types::{COUNTRY_NAME, ORGANIZATION_NAME};
+
+/// Rules on certificate policies and authority information access of certificates of TLS servers (TLS BR 7.1.2.7.2, 7.1.2.7.4, 7.1.2.7.7, 7.1.2.7.9).
+#[derive(Clone, Copy, Debug, PartialEq, Eq)]
+pub enum WebPolicyRule {
+    /// There are no certificate policies (TLS BR 7.1.2.7.9, error).
+    CertificatePoliciesAbsent,
+
+    /// The certificate policies are critical (TLS BR 7.1.2.7.6, error, from 2023-09-15).
+    CertificatePoliciesCritical,
+
+    /// No policy is a reserved one of the CA/Browser Forum (TLS BR 7.1.2.7.9, error, from 2020-09-30).
+    ReservedPolicyAbsent,
+
+    /// A policy is anyPolicy (TLS BR 7.1.2.7.9, error, from 2023-09-15).
+    AnyPolicyPresent,
+
+    /// A policy has qualifiers (TLS BR 7.1.2.7.9, warning, from 2023-09-15).
+    PolicyQualifiersPresent,
+
+    /// A policy has a qualifier that isn't a CPS pointer (TLS BR 7.1.2.7.9, error, from 2023-09-15).
+    PolicyQualifierOther,
+
+    /// The domain alone is validated, by the policy, and the subject has an attribute other than countryName and
+    /// commonName (TLS BR 7.1.2.7.2, error, from 2023-09-15).
+    DomainValidatedAttribute,
+
+    /// The organization is validated, by the policy, and the subject has no organizationName (TLS BR 7.1.2.7.4, error).
+    OrganizationValidatedWithoutOrganization,
+
+    /// The organization is validated, by the policy, and the subject has no countryName (TLS BR 7.1.2.7.4, error).
+    OrganizationValidatedWithoutCountry,
+
+    /// There is no authority information access (TLS BR 7.1.2.7.7, error, from 2023-09-15).
+    AuthorityInfoAccessAbsent,
+
+    /// An access method is neither OCSP nor caIssuers (TLS BR 7.1.2.7.7, error, from 2023-09-15).
+    AccessMethodOther,
+
+    /// An access location isn't an HTTP URI (TLS BR 7.1.2.7.7, error, from 2023-09-15).
+    AccessLocationNotHttp,
+}
+
+impl WebPolicyRule {
+    /// How the rule is told, and since when it is in force.
+    pub fn entry(self) -> WebEntry
+        ensures { IsTold result (grammar.policy_sentence self) }
+    {
+        match self {
+            WebPolicyRule::CertificatePoliciesAbsent => must(
+                "certificate_policies_absent",
+                "7.1.2.7.9",
+                None,
+                "tbsCertificate.extensions.certificatePolicies",
+            ),
+            WebPolicyRule::CertificatePoliciesCritical => must(
+                "certificate_policies_critical",
+                "7.1.2.7.6",
+                from_day(2023, 9, 15),
+                "tbsCertificate.extensions.certificatePolicies",
+            ),
+            WebPolicyRule::ReservedPolicyAbsent => must(
+                "reserved_policy_absent",
+                "7.1.2.7.9",
+                from_day(2020, 9, 30),
+                "tbsCertificate.extensions.certificatePolicies",
+            ),
+            WebPolicyRule::AnyPolicyPresent => must(
+                "any_policy_present",
+                "7.1.2.7.9",
+                from_day(2023, 9, 15),
+                "tbsCertificate.extensions.certificatePolicies",
+            ),
+            WebPolicyRule::PolicyQualifiersPresent => should(
+                "policy_qualifiers_present",
+                "7.1.2.7.9",
+                from_day(2023, 9, 15),
+                "tbsCertificate.extensions.certificatePolicies",
+            ),
+            WebPolicyRule::PolicyQualifierOther => must(
+                "policy_qualifier_other",
+                "7.1.2.7.9",
+                from_day(2023, 9, 15),
+                "tbsCertificate.extensions.certificatePolicies",
+            ),
+            WebPolicyRule::DomainValidatedAttribute => must(
+                "domain_validated_attribute",
+                "7.1.2.7.2",
+                from_day(2023, 9, 15),
+                "tbsCertificate.subject",
+            ),
+            WebPolicyRule::OrganizationValidatedWithoutOrganization => must(
+                "organization_validated_without_organization",
+                "7.1.2.7.4",
+                None,
+                "tbsCertificate.subject",
+            ),
+            WebPolicyRule::OrganizationValidatedWithoutCountry => must(
+                "organization_validated_without_country",
+                "7.1.2.7.4",
+                None,
+                "tbsCertificate.subject",
+            ),
+            WebPolicyRule::AuthorityInfoAccessAbsent => must(
+                "authority_info_access_absent",
+                "7.1.2.7.7",
+                from_day(2023, 9, 15),
+                "tbsCertificate.extensions.authorityInfoAccess",
+            ),
+            WebPolicyRule::AccessMethodOther => must(
+                "access_method_other",
+                "7.1.2.7.7",
+                from_day(2023, 9, 15),
+                "tbsCertificate.extensions.authorityInfoAccess",
+            ),
+            WebPolicyRule::AccessLocationNotHttp => must(
+                "access_location_not_http",
+                "7.1.2.7.7",
+                from_day(2023, 9, 15),
+                "tbsCertificate.extensions.authorityInfoAccess",
+            ),
+        }
+    }
+
+    /// Whether the certificate, of which these are the values, breaks the rule.
+    pub(crate) fn is_broken(self, certificate: &CertificateInner<Raw>, values: &WebValues) -> bool
+        ensures { result ≡ (grammar.policy_sentence self).breaks certificate.now values.now }
+    {
+        let subject = certificate.tbs_certificate().subject();
+        let extensions = extensions_of(certificate);
+        let policies = &values.certificate_policies;
+        match self {
+            WebPolicyRule::CertificatePoliciesAbsent => !has::<CertificatePolicies>(extensions),
+            WebPolicyRule::CertificatePoliciesCritical => has_critical::<CertificatePolicies>(
+                extensions,
+            ),
+            WebPolicyRule::ReservedPolicyAbsent => is_without_reserved(policies),
+            WebPolicyRule::AnyPolicyPresent => has_policy(ANY_POLICY, policies),
+            WebPolicyRule::PolicyQualifiersPresent => have_qualifiers(policies),
+            WebPolicyRule::PolicyQualifierOther => have_other_qualifier(policies),
+            WebPolicyRule::DomainValidatedAttribute => has_policy(DOMAIN_VALIDATED, policies)
+                && has_other_attribute(subject),
+            WebPolicyRule::OrganizationValidatedWithoutOrganization => has_policy(
+                ORGANIZATION_VALIDATED,
+                policies,
+            ) && !has_attribute(ORGANIZATION_NAME, subject),
+            WebPolicyRule::OrganizationValidatedWithoutCountry => has_policy(
+                ORGANIZATION_VALIDATED,
+                policies,
+            ) && !has_attribute(COUNTRY_NAME, subject),
+            WebPolicyRule::AuthorityInfoAccessAbsent => !has::<AuthorityInfoAccessSyntax>(
+                extensions,
+            ),
+            WebPolicyRule::AccessMethodOther => have_other_method(&values.authority_info_access),
+            WebPolicyRule::AccessLocationNotHttp => have_other_location(
+                &values.authority_info_access,
+            ),
+        }
+    }
+}

@@ -1,0 +1,171 @@
+//! Rules on what certificates of TLS servers are used for (TLS BR 7.1.2.7.6, 7.1.2.7.10, 7.1.2.7.11).
+
+ghost use Rattle.std.specs.Prelude.{◌≡◌};
+ghost use Rattle.x509_lint_web.specs.Usage as grammar;
+ghost use Rattle.x509_lint_web.specs.Sentence.{IsTold};
+
+use crate::algorithms::{is_ec, is_rsa};
+use crate::entry::{WebEntry, from_day, must, should};
+use crate::usages::{
+    has_forbidden_purpose, has_other_purpose, is_not_of_ec, is_not_of_rsa, lacks_digital_signature,
+    signs_as_authority,
+};
+use crate::values::WebValues;
+use x509_base::Raw;
+use x509_cert::certificate::CertificateInner;
+use x509_ext::pkix::{BasicConstraints, ExtendedKeyUsage, KeyUsage, SubjectKeyIdentifier};
+use x509_lint::extensions::{extensions_of, has, has_critical, has_uncritical};
+
+/// Rules on what certificates of TLS servers are used for (TLS BR 7.1.2.7.6, 7.1.2.7.10, 7.1.2.7.11).
+#[derive(Clone, Copy, Debug, PartialEq, Eq)]
+pub enum WebUsageRule {
+    /// There is no EKU (TLS BR 7.1.2.7.10, error).
+    ExtendedKeyUsageAbsent,
+
+    /// The EKU has codeSigning, emailProtection, timeStamping, OCSPSigning or anyExtendedKeyUsage, or that of
+    /// certificates that sign precertificates (TLS BR 7.1.2.7.10, error, from 2023-09-15).
+    ExtendedKeyUsageForbidden,
+
+    /// The EKU has a purpose that is neither serverAuth nor clientAuth nor forbidden (TLS BR 7.1.2.7.10, warning, from
+    /// 2023-09-15).
+    ExtendedKeyUsageOther,
+
+    /// The EKU is critical (TLS BR 7.1.2.7.6, error, from 2023-09-15).
+    ExtendedKeyUsageCritical,
+
+    /// There is no KeyUsage (TLS BR 7.1.2.7.6, warning, from 2023-09-15).
+    KeyUsageAbsent,
+
+    /// The KeyUsage isn't critical (TLS BR 7.1.2.7.6, error, from 2023-09-15).
+    KeyUsageNotCritical,
+
+    /// The KeyUsage has keyCertSign or cRLSign (TLS BR 7.1.2.7.11, error).
+    KeyUsageOfAuthority,
+
+    /// The key is one of RSA, and the KeyUsage has nonRepudiation, keyAgreement, encipherOnly or decipherOnly (TLS BR
+    /// 7.1.2.7.11, error, from 2023-09-15).
+    KeyUsageNotOfRsa,
+
+    /// The key is one of an elliptic curve, and the KeyUsage has nonRepudiation, keyEncipherment, dataEncipherment,
+    /// encipherOnly or decipherOnly (TLS BR 7.1.2.7.11, error, from 2023-09-15).
+    KeyUsageNotOfEc,
+
+    /// The key is one of an elliptic curve, and the KeyUsage lacks digitalSignature (TLS BR 7.1.2.7.11, error, from
+    /// 2023-09-15).
+    EcWithoutDigitalSignature,
+
+    /// There are basic constraints that aren't critical (TLS BR 7.1.2.7.6, error, from 2023-09-15).
+    BasicConstraintsNotCritical,
+
+    /// There is an SKI (TLS BR 7.1.2.7.6, warning, from 2023-09-15).
+    SubjectKeyIdentifierPresent,
+}
+
+impl WebUsageRule {
+    /// How the rule is told, and since when it is in force.
+    pub fn entry(self) -> WebEntry
+        ensures { IsTold result (grammar.usage_sentence self) }
+    {
+        match self {
+            WebUsageRule::ExtendedKeyUsageAbsent => must(
+                "extended_key_usage_absent",
+                "7.1.2.7.10",
+                None,
+                "tbsCertificate.extensions.extKeyUsage",
+            ),
+            WebUsageRule::ExtendedKeyUsageForbidden => must(
+                "extended_key_usage_forbidden",
+                "7.1.2.7.10",
+                from_day(2023, 9, 15),
+                "tbsCertificate.extensions.extKeyUsage",
+            ),
+            WebUsageRule::ExtendedKeyUsageOther => should(
+                "extended_key_usage_other",
+                "7.1.2.7.10",
+                from_day(2023, 9, 15),
+                "tbsCertificate.extensions.extKeyUsage",
+            ),
+            WebUsageRule::ExtendedKeyUsageCritical => must(
+                "extended_key_usage_critical",
+                "7.1.2.7.6",
+                from_day(2023, 9, 15),
+                "tbsCertificate.extensions.extKeyUsage",
+            ),
+            WebUsageRule::KeyUsageAbsent => should(
+                "key_usage_absent",
+                "7.1.2.7.6",
+                from_day(2023, 9, 15),
+                "tbsCertificate.extensions.keyUsage",
+            ),
+            WebUsageRule::KeyUsageNotCritical => must(
+                "key_usage_not_critical",
+                "7.1.2.7.6",
+                from_day(2023, 9, 15),
+                "tbsCertificate.extensions.keyUsage",
+            ),
+            WebUsageRule::KeyUsageOfAuthority => must(
+                "key_usage_of_authority",
+                "7.1.2.7.11",
+                None,
+                "tbsCertificate.extensions.keyUsage",
+            ),
+            WebUsageRule::KeyUsageNotOfRsa => must(
+                "key_usage_not_of_rsa",
+                "7.1.2.7.11",
+                from_day(2023, 9, 15),
+                "tbsCertificate.extensions.keyUsage",
+            ),
+            WebUsageRule::KeyUsageNotOfEc => must(
+                "key_usage_not_of_ec",
+                "7.1.2.7.11",
+                from_day(2023, 9, 15),
+                "tbsCertificate.extensions.keyUsage",
+            ),
+            WebUsageRule::EcWithoutDigitalSignature => must(
+                "ec_without_digital_signature",
+                "7.1.2.7.11",
+                from_day(2023, 9, 15),
+                "tbsCertificate.extensions.keyUsage",
+            ),
+            WebUsageRule::BasicConstraintsNotCritical => must(
+                "basic_constraints_not_critical",
+                "7.1.2.7.6",
+                from_day(2023, 9, 15),
+                "tbsCertificate.extensions.basicConstraints",
+            ),
+            WebUsageRule::SubjectKeyIdentifierPresent => should(
+                "subject_key_identifier_present",
+                "7.1.2.7.6",
+                from_day(2023, 9, 15),
+                "tbsCertificate.extensions.subjectKeyIdentifier",
+            ),
+        }
+    }
+
+    /// Whether the certificate, of which these are the values, breaks the rule.
+    pub(crate) fn is_broken(self, certificate: &CertificateInner<Raw>, values: &WebValues) -> bool
+        ensures { result ≡ (grammar.usage_sentence self).breaks certificate.now values.now }
+    {
+        let key = certificate.tbs_certificate().subject_public_key_info();
+        let extensions = extensions_of(certificate);
+        match self {
+            WebUsageRule::ExtendedKeyUsageAbsent => !has::<ExtendedKeyUsage>(extensions),
+            WebUsageRule::ExtendedKeyUsageForbidden => has_forbidden_purpose(
+                &values.extended_key_usage,
+            ),
+            WebUsageRule::ExtendedKeyUsageOther => has_other_purpose(&values.extended_key_usage),
+            WebUsageRule::ExtendedKeyUsageCritical => has_critical::<ExtendedKeyUsage>(extensions),
+            WebUsageRule::KeyUsageAbsent => !has::<KeyUsage>(extensions),
+            WebUsageRule::KeyUsageNotCritical => has_uncritical::<KeyUsage>(extensions),
+            WebUsageRule::KeyUsageOfAuthority => signs_as_authority(&values.key_usage),
+            WebUsageRule::KeyUsageNotOfRsa => is_rsa(key) && is_not_of_rsa(&values.key_usage),
+            WebUsageRule::KeyUsageNotOfEc => is_ec(key) && is_not_of_ec(&values.key_usage),
+            WebUsageRule::EcWithoutDigitalSignature => is_ec(key)
+                && lacks_digital_signature(&values.key_usage),
+            WebUsageRule::BasicConstraintsNotCritical => has_uncritical::<BasicConstraints>(
+                extensions,
+            ),
+            WebUsageRule::SubjectKeyIdentifierPresent => has::<SubjectKeyIdentifier>(extensions),
+        }
+    }
+}

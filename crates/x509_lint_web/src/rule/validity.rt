@@ -1,0 +1,93 @@
+//! Rules on the validity of certificates of TLS servers (TLS BR 6.3.2).
+
+ghost use Rattle.std.specs.Prelude.{◌≡◌};
+ghost use Rattle.x509_lint_web.specs.Validity as grammar;
+ghost use Rattle.x509_lint_web.specs.Sentence.{IsTold};
+
+use crate::entry::{WebEntry, from_day, must, should};
+use crate::times::is_longer;
+use crate::values::WebValues;
+use x509_base::Raw;
+use x509_cert::certificate::CertificateInner;
+
+/// Rules on the validity of certificates of TLS servers (TLS BR 6.3.2).
+#[derive(Clone, Copy, Debug, PartialEq, Eq)]
+pub enum WebValidityRule {
+    /// The validity is longer than 825 days (TLS BR 6.3.2, error, from 2018-03-02).
+    ValidityOver825Days,
+
+    /// The validity is longer than 398 days (TLS BR 6.3.2, error, from 2020-09-01).
+    ValidityOver398Days,
+
+    /// The validity is longer than 397 days (TLS BR 6.3.2, warning, from 2020-09-01).
+    ValidityOver397Days,
+
+    /// The validity is longer than 200 days (TLS BR 6.3.2, error, from 2026-03-15).
+    ValidityOver200Days,
+
+    /// The validity is longer than 100 days (TLS BR 6.3.2, error, from 2027-03-15).
+    ValidityOver100Days,
+
+    /// The validity is longer than 47 days (TLS BR 6.3.2, error, from 2029-03-15).
+    ValidityOver47Days,
+}
+
+impl WebValidityRule {
+    /// How the rule is told, and since when it is in force.
+    pub fn entry(self) -> WebEntry
+        ensures { IsTold result (grammar.validity_sentence self) }
+    {
+        match self {
+            WebValidityRule::ValidityOver825Days => must(
+                "validity_over_825_days",
+                "6.3.2",
+                from_day(2018, 3, 2),
+                "tbsCertificate.validity",
+            ),
+            WebValidityRule::ValidityOver398Days => must(
+                "validity_over_398_days",
+                "6.3.2",
+                from_day(2020, 9, 1),
+                "tbsCertificate.validity",
+            ),
+            WebValidityRule::ValidityOver397Days => should(
+                "validity_over_397_days",
+                "6.3.2",
+                from_day(2020, 9, 1),
+                "tbsCertificate.validity",
+            ),
+            WebValidityRule::ValidityOver200Days => must(
+                "validity_over_200_days",
+                "6.3.2",
+                from_day(2026, 3, 15),
+                "tbsCertificate.validity",
+            ),
+            WebValidityRule::ValidityOver100Days => must(
+                "validity_over_100_days",
+                "6.3.2",
+                from_day(2027, 3, 15),
+                "tbsCertificate.validity",
+            ),
+            WebValidityRule::ValidityOver47Days => must(
+                "validity_over_47_days",
+                "6.3.2",
+                from_day(2029, 3, 15),
+                "tbsCertificate.validity",
+            ),
+        }
+    }
+
+    /// Whether the certificate, of which these are the values, breaks the rule.
+    pub(crate) fn is_broken(self, certificate: &CertificateInner<Raw>, _values: &WebValues) -> bool
+        ensures { result ≡ (grammar.validity_sentence self).breaks certificate.now _values.now }
+    {
+        match self {
+            WebValidityRule::ValidityOver825Days => is_longer(825, certificate),
+            WebValidityRule::ValidityOver398Days => is_longer(398, certificate),
+            WebValidityRule::ValidityOver397Days => is_longer(397, certificate),
+            WebValidityRule::ValidityOver200Days => is_longer(200, certificate),
+            WebValidityRule::ValidityOver100Days => is_longer(100, certificate),
+            WebValidityRule::ValidityOver47Days => is_longer(47, certificate),
+        }
+    }
+}

@@ -1,0 +1,98 @@
+//! The values that rules look at. Each is `None` where there isn't one extension of the type that can be decoded.
+
+ghost use Rattle.std.specs.Prelude.{◌≡◌, IfOk, IfErr};
+ghost use Rattle.x509_der.specs.declared.error.ErrorKind.TheVariants.{Memory};
+ghost use Rattle.x509_lint_web.specs.Words.{AreValuesOf, AreWebValues, IsSpelled};
+
+use std::alloc::Global;
+use x509_base::{Raw, SubjectPublicKeyInfo};
+use x509_cert::certificate::CertificateInner;
+use x509_der::{Decode, Error, ErrorKind, SequenceOf};
+use x509_ext::Extension;
+use x509_ext::pkix::{
+    AuthorityInfoAccessSyntax, AuthorityKeyIdentifier, CertificatePolicies, CrlDistributionPoints,
+    ExtendedKeyUsage, KeyUsage, SubjectAltName,
+};
+use x509_lint::AnyBasicConstraints;
+use x509_lint::extensions::{extensions_of, payload};
+use x509_prim::Uint;
+
+/// The values of extensions, and of the key.
+#[derive(Debug)]
+pub(crate) struct WebValues {
+    pub(crate) basic_constraints: Option<AnyBasicConstraints>,
+    pub(crate) key_usage: Option<KeyUsage>,
+    pub(crate) extended_key_usage: Option<ExtendedKeyUsage>,
+    pub(crate) subject_alt_name: Option<SubjectAltName>,
+    pub(crate) authority_key_identifier: Option<AuthorityKeyIdentifier>,
+    pub(crate) certificate_policies: Option<CertificatePolicies>,
+    pub(crate) crl_distribution_points: Option<CrlDistributionPoints>,
+    pub(crate) authority_info_access: Option<AuthorityInfoAccessSyntax>,
+
+    /// The numbers of the key, where its bits are a SEQUENCE OF INTEGER.
+    pub(crate) rsa_numbers: Option<SequenceOf<Uint>>,
+}
+
+impl Drop for WebValues {
+    fn drop(self) {
+        let WebValues {
+            basic_constraints: _,
+            key_usage: _,
+            extended_key_usage: _,
+            subject_alt_name: _,
+            authority_key_identifier: _,
+            certificate_policies: _,
+            crl_distribution_points: _,
+            authority_info_access: _,
+            rsa_numbers: _,
+        } = self;
+    }
+}
+
+/// The value whose encoding the octets are; `None` where they are that of none.
+fn spelled<T: Decode + Drop>(alloc: Global, octets: &[u8]) -> Result<Option<T>, Error>
+    ensures ok { IfOk result (IsSpelled T.form octets.now) }
+    ensures err { IfErr result (λ e. e.kind ≡ Memory) }
+{
+    match T::from_der(alloc, octets) {
+        Ok(value) => Ok(Some(value)),
+        Err(e) => match e.kind() {
+            ErrorKind::Memory => Err(e),
+            _ => Ok(None),
+        },
+    }
+}
+
+/// The values of extensions and of a key.
+fn values_of(
+    alloc: Global,
+    extensions: &[Extension],
+    key: &SubjectPublicKeyInfo,
+) -> Result<WebValues, Error>
+    ensures ok { IfOk result (AreValuesOf extensions.now key.now) }
+    ensures err { IfErr result (λ e. e.kind ≡ Memory) }
+{
+    Ok(WebValues {
+        basic_constraints: payload(alloc, extensions)?,
+        key_usage: payload(alloc, extensions)?,
+        extended_key_usage: payload(alloc, extensions)?,
+        subject_alt_name: payload(alloc, extensions)?,
+        authority_key_identifier: payload(alloc, extensions)?,
+        certificate_policies: payload(alloc, extensions)?,
+        crl_distribution_points: payload(alloc, extensions)?,
+        authority_info_access: payload(alloc, extensions)?,
+        rsa_numbers: spelled(alloc, key.subject_public_key.raw_bytes())?,
+    })
+}
+
+/// The values of a certificate.
+pub(crate) fn web_values(
+    alloc: Global,
+    certificate: &CertificateInner<Raw>,
+) -> Result<WebValues, Error>
+    ensures ok { IfOk result (AreWebValues certificate.now) }
+    ensures err { IfErr result (λ e. e.kind ≡ Memory) }
+{
+    let key = certificate.tbs_certificate().subject_public_key_info();
+    values_of(alloc, extensions_of(certificate), key)
+}

@@ -1,0 +1,79 @@
+#!/usr/bin/env python3
+"""Makes docs/WEB_RULES.md: the rules of x509_lint_web, by group in the order in which they are asked, of each what breaks it, its section, how bad it is and
+since when it is in force.
+
+All of it is taken from the code, crates/x509_lint_web/src/rule. With `--check` it fails where the docs of a rule don't say its section, how bad it is or its
+date, where a rule stands in no place of the list of all rules, or in another order there than its group has, and where docs/WEB_RULES.md is another text.
+"""
+import argparse
+import pathlib
+import re
+import sys
+
+TOP = pathlib.Path(__file__).resolve().parents[2]
+CODE = TOP / "crates/x509_lint_web/src"
+PAGE = TOP / "docs/WEB_RULES.md"
+SEVERITIES = {"must": "error", "should": "warning"}
+HEAD = """# The rules of `x509_lint_web`
+
+`tools/gate/list_web_rules.py` makes this page of the rules in `crates/x509_lint_web/src/rule`. They are those of the Baseline Requirements for TLS server certificates (TLS BR) of the
+CA/Browser Forum, of version 2.0 and later, that a certificate alone shows. Whether a rule is broken is a definition of `crates/x509_lint_web/specs`, in the file of its group, and
+`lint_web` is proved to find exactly the rules that are in force at a moment and broken. A rule without a date was in force from the beginning.
+`x509_linter --web MOMENT` prints a line for each rule that a certificate breaks, of those in force at the moment, as `2026-03-15T00:00:00Z`.
+
+- A certificate of a *TLS server* has no basic constraints, or ones that are read and don't set cA, and no EKU, or one that is read and has serverAuth.
+- One of an *authority that may stand above TLS servers* has basic constraints that are read and set cA, and such an EKU or none.
+- What an extension says is judged where there is one of its type alone, and it is read. What RFC 5280 says just as strictly is a rule of `x509_lint` (`docs/RULES.md`).
+
+"""
+
+
+def rules_of(path):
+    """The rules of a group: each its variant, its docs, and of its entry how bad it is, its name, its section and its date."""
+    text = path.read_text()
+    said = re.findall(r"((?:    ///[^\n]*\n)+)    (\w+),\n", text)
+    docs = {variant: " ".join(lines.replace("///", " ").split()) for lines, variant in said}
+    for variant, severity, given in re.findall(r"::(\w+) => (must|should)\(([^;]*?)\),\n", text):
+        name, section = re.findall(r'"([^"]*)"', given)[:2]
+        date = re.search(r"from_day\((\d+), (\d+), (\d+)", given)
+        yield variant, docs.get(variant, ""), SEVERITIES[severity], name, section, "{}-{:0>2}-{:0>2}".format(*date.groups()) if date else ""
+
+
+def groups():
+    """The groups in the order of all rules: each its enum, what it is about, and its rules."""
+    text = (CODE / "rule.rt").read_text()
+    listed = re.findall(r"^    WebRule::(\w+)\((\w+)::(\w+)\),$", text, re.M)
+    for group, enum in dict.fromkeys((group, enum) for group, enum, _ in listed):
+        path = CODE / "rule" / f"{group.lower()}.rt"
+        about = re.match(r"((?://! [^\n]*\n)+)", path.read_text())[1].replace("//! ", "").replace("\n", " ").strip()
+        yield about, list(rules_of(path)), [variant for other, _, variant in listed if other == group]
+
+
+def main(is_check):
+    faults, lines, count = [], [], 0
+    for about, rules, listed in groups():
+        lines.append(f"\n## {about}\n\n| Rule | What breaks it | Section | How bad | From |\n|---|---|---|---|---|\n")
+        count += len(rules)
+        if [variant for variant, *_ in rules] != listed:
+            faults.append(f"the list of all rules has others, or another order: {about}")
+        for variant, docs, severity, name, section, date in rules:
+            end = f" (TLS BR {section}, {severity}{f', from {date}' if date else ''})."
+            if not docs.endswith(end):
+                faults.append(f"the docs of {variant} don't end in{end}")
+            lines.append(f"| `{name}` | {docs.removesuffix(end)} | {section} | {severity} | {date} |\n")
+    text = HEAD + f"{count} rules.\n" + "".join(lines)
+    if not is_check:
+        PAGE.write_text(text)
+    elif not PAGE.exists() or PAGE.read_text() != text:
+        faults.append("docs/WEB_RULES.md isn't what tools/gate/list_web_rules.py makes")
+    for fault in faults:
+        print(f"failed: web rules: {fault}")
+    if not faults:
+        print(f"passed: docs/WEB_RULES.md, {count} rules")
+    return int(bool(faults))
+
+
+if __name__ == "__main__":
+    parser = argparse.ArgumentParser(description=__doc__, formatter_class=argparse.RawDescriptionHelpFormatter)
+    parser.add_argument("--check", action="store_true", help="compares docs/WEB_RULES.md, and writes nothing")
+    sys.exit(main(parser.parse_args().check))

@@ -1,0 +1,308 @@
+"""Certificates that break rules of the Baseline Requirements, most of them one alone, and what `x509_linter --web` is to print of each.
+
+The certificates are made by the package `cryptography`; some octets of them are changed then. Which rules each breaks is stated here by hand, from the
+sections of docs/WEB_RULES.md, of which the severities, the sections and the days are taken.
+"""
+import datetime
+import ipaddress
+import pathlib
+import re
+
+from cryptography import x509
+from cryptography.hazmat.primitives import hashes, serialization
+from cryptography.hazmat.primitives.asymmetric import ec, ed25519, rsa
+from cryptography.x509.oid import AuthorityInformationAccessOID, ExtendedKeyUsageOID, NameOID, ObjectIdentifier
+
+PAGE = pathlib.Path(__file__).resolve().parents[2] / "docs/WEB_RULES.md"
+NOW = "2030-01-01T00:00:00Z"
+SECOND, DAY = datetime.timedelta(seconds=1), datetime.timedelta(days=1)
+NOT_BEFORE = datetime.datetime(2024, 1, 1, tzinfo=datetime.timezone.utc)
+
+RSA_KEY, EC_KEY = rsa.generate_private_key(65537, 2048), ec.generate_private_key(ec.SECP256R1())
+MODULUS = RSA_KEY.public_key().public_numbers().n.to_bytes(256, "big")
+KEY_ID = bytes(20)
+COMMON_NAME, ORGANIZATION, COUNTRY = NameOID.COMMON_NAME, NameOID.ORGANIZATION_NAME, NameOID.COUNTRY_NAME
+UNIT, LOCALITY = NameOID.ORGANIZATIONAL_UNIT_NAME, NameOID.LOCALITY_NAME
+SERVER_AUTH, CLIENT_AUTH = ExtendedKeyUsageOID.SERVER_AUTH, ExtendedKeyUsageOID.CLIENT_AUTH
+OCSP, CA_ISSUERS = AuthorityInformationAccessOID.OCSP, AuthorityInformationAccessOID.CA_ISSUERS
+DOMAIN_VALIDATED, ORGANIZATION_VALIDATED = "2.23.140.1.2.1", "2.23.140.1.2.2"
+BITS = "digital_signature content_commitment key_encipherment data_encipherment key_agreement key_cert_sign crl_sign encipher_only decipher_only".split()
+
+
+def name(*attributes):
+    return x509.Name([x509.NameAttribute(oid, value) for oid, value in attributes])
+
+
+def key_usage(*bits):
+    return x509.KeyUsage(**{bit: bit in bits for bit in BITS})
+
+
+def key_purposes(*purposes):
+    return x509.ExtendedKeyUsage(purposes)
+
+
+def uri(text):
+    return x509.UniformResourceIdentifier(text)
+
+
+def point(text="http://c.example.net/1.crl", reasons=None, issuer=None):
+    return x509.DistributionPoint([uri(text)], None, reasons, issuer)
+
+
+def points(*all_points):
+    return x509.CRLDistributionPoints(all_points)
+
+
+def policies(*oids, qualifiers=None):
+    return x509.CertificatePolicies([x509.PolicyInformation(ObjectIdentifier(oid), qualifiers) for oid in oids])
+
+
+def hosts(*names):
+    return x509.SubjectAlternativeName([x509.DNSName(it) for it in names])
+
+
+def addresses(*texts):
+    return x509.SubjectAlternativeName([x509.IPAddress(ipaddress.ip_address(it)) for it in texts])
+
+
+def accesses(*all_accesses):
+    return x509.AuthorityInformationAccess([x509.AccessDescription(method, uri(text)) for method, text in all_accesses])
+
+
+# ---- certificates that break no rule, and changes of them
+
+AUTHORITY = name((COMMON_NAME, "I"), (ORGANIZATION, "o"), (COUNTRY, "NL"))
+SERVER = {
+    "constraints": (x509.BasicConstraints(False, None), True),
+    "usage": (key_usage("digital_signature", "key_encipherment"), True),
+    "purposes": (key_purposes(SERVER_AUTH, CLIENT_AUTH), False),
+    "names": (hosts("a.example.com", "*.example.com"), False),
+    "issuer_key": (x509.AuthorityKeyIdentifier(KEY_ID, None, None), False),
+    "policies": (policies(DOMAIN_VALIDATED), False),
+    "points": (points(point()), False),
+    "accesses": (accesses((OCSP, "http://o.example.net"), (CA_ISSUERS, "HTTP://o.example.net/i")), False),
+}
+OF_EC = {"key": EC_KEY.public_key(), "usage": key_usage("digital_signature")}
+ABOVE_SERVERS = {
+    "constraints": (x509.BasicConstraints(True, 0), True),
+    "usage": (key_usage("key_cert_sign", "crl_sign"), True),
+    "purposes": (key_purposes(SERVER_AUTH), False),
+    "key_id": (x509.SubjectKeyIdentifier(KEY_ID), False),
+    "issuer_key": (x509.AuthorityKeyIdentifier(KEY_ID, None, None), False),
+    "policies": (policies(DOMAIN_VALIDATED), False),
+    "points": (points(point()), False),
+}
+
+
+def certificate(extensions, subject, days, key=None, issuer=AUTHORITY, lasts=-SECOND, marked=(), unmarked=(), patches=(), **changed):
+    """A certificate with such extensions: those of `changed` are others, or left out where they are None; those that are marked are critical.
+
+    It is valid for the days and what `lasts` adds, with the last second in it. Of its octets some are others, as `patches` says.
+    """
+    found = extensions | {it: (value, extensions.get(it, (None, False))[1]) for it, value in changed.items()}
+    builder = x509.CertificateBuilder().subject_name(subject).issuer_name(issuer).public_key(key or RSA_KEY.public_key()).serial_number(2**100 + 1)
+    builder = builder.not_valid_before(NOT_BEFORE).not_valid_after(NOT_BEFORE + days * DAY + lasts)
+    for it, (value, critical) in found.items():
+        if value is not None:
+            builder = builder.add_extension(value, critical and it not in unmarked or it in marked)
+    octets = builder.sign(RSA_KEY, hashes.SHA256()).public_bytes(serialization.Encoding.DER)
+    for old, new in patches:
+        assert len(old) == len(new) and old in octets
+        octets = octets.replace(old, new)
+    return octets
+
+
+def server(**changed):
+    """A certificate of a TLS server that breaks no rule, changed so."""
+    return certificate(**{"extensions": SERVER, "subject": name((COUNTRY, "NL")), "days": 47, **changed})
+
+
+def authority(**changed):
+    """One of an authority above TLS servers that breaks no rule, changed so."""
+    subject = name((COMMON_NAME, "S"), (ORGANIZATION, "o"), (COUNTRY, "NL"))
+    return certificate(**{"extensions": ABOVE_SERVERS, "subject": subject, "days": 3650, **changed})
+
+
+def validated(**changed):
+    """A certificate of a TLS server whose organization is validated."""
+    return server(**{"policies": policies(ORGANIZATION_VALIDATED), "subject": name((COUNTRY, "NL"), (ORGANIZATION, "o")), **changed})
+
+
+# ---- certificates, each with the rules that it breaks
+
+
+def clean_ones():
+    yield server(), ""
+    yield server(**OF_EC), ""
+    yield authority(), ""
+    yield authority(issuer=name((COMMON_NAME, "S"), (ORGANIZATION, "o"), (COUNTRY, "NL")), policies=None, points=None, purposes=None), ""
+
+
+def field_rules():
+    of_rsa, of_sha1 = bytes.fromhex("06092a864886f70d01010b"), bytes.fromhex("06092a864886f70d010105")
+    of_ec = b"\x06\x08" + bytes.fromhex("2a8648ce3d040302") + b"\x04\x01\x00"
+    yield server(patches=[(b"\xa0\3\2\1\2", b"\xa0\3\2\1\1")]), "version_not_v3"
+    yield server(patches=[(of_rsa, of_sha1)]), "signature_of_sha1 signature_algorithm_other"
+    yield server(patches=[(of_rsa, of_rsa[:-1] + b"\x0e")]), "signature_algorithm_other"
+    yield server(patches=[(of_rsa + b"\5\0", of_rsa + b"\x0c\0")]), "rsa_signature_parameters_not_null"
+    yield server(patches=[(of_rsa + b"\5\0", of_ec)]), "ecdsa_signature_parameters_present"
+    of_issuer = x509.AuthorityKeyIdentifier(KEY_ID, [x509.DirectoryName(AUTHORITY)], 5)
+    yield server(issuer_key=of_issuer), "authority_cert_issuer_present"
+    yield server(marked=["points"]), "crl_distribution_points_critical"
+    yield server(points=points(point("https://c.example.net/"))), "crl_distribution_point_not_http"
+    yield server(points=points(point(), point("ldap://c.example.net/"))), "crl_distribution_point_not_http"
+    yield server(points=points(point(reasons=frozenset([x509.ReasonFlags.key_compromise])))), "crl_distribution_point_partial"
+    yield server(points=points(point(issuer=[x509.DirectoryName(AUTHORITY)]))), "crl_distribution_point_partial"
+
+
+def key_rules():
+    of_rsa = bytes.fromhex("06092a864886f70d010101")
+    exponent = b"\2\3\1\0\1"
+    yield server(key=ed25519.Ed25519PrivateKey.generate().public_key()), "key_algorithm_other"
+    yield server(patches=[(of_rsa + b"\5\0", of_rsa + b"\x0c\0")]), "rsa_key_parameters_not_null"
+    for curve, rules in ((ec.SECP256K1(), "ec_curve_other"), (ec.SECP384R1(), ""), (ec.SECP521R1(), "")):
+        yield server(**OF_EC | {"key": ec.generate_private_key(curve).public_key()}), rules
+    yield server(key=rsa.generate_private_key(65537, 1024).public_key()), "rsa_modulus_short"
+    yield server(key=rsa.generate_private_key(65537, 2047).public_key()), "rsa_modulus_short rsa_modulus_uneven"
+    yield server(patches=[(b"\0" + MODULUS, b"\1" + MODULUS)]), "rsa_modulus_uneven"
+    yield server(patches=[(MODULUS, MODULUS[:-1] + bytes([MODULUS[-1] - 1]))]), "rsa_modulus_even"
+    yield server(patches=[(MODULUS + exponent, MODULUS + b"\2\3\1\0\2")]), "rsa_exponent_invalid"
+    yield server(patches=[(MODULUS + exponent, MODULUS + b"\2\3\1\0\3")]), ""
+    yield server(key=rsa.generate_private_key(3, 2048).public_key()), "rsa_exponent_outside"
+
+
+def validity_rules():
+    last = "validity_over_47_days"
+    yield server(days=47, lasts=0 * SECOND), last
+    for limit, rule in ((100, "validity_over_100_days"), (200, "validity_over_200_days"), (397, "validity_over_397_days")):
+        yield server(days=limit), last
+        last += f" {rule}"
+        yield server(days=limit, lasts=0 * SECOND), last
+    for limit, rule in ((398, "validity_over_398_days"), (825, "validity_over_825_days")):
+        yield server(days=limit), last
+        last += f" {rule}"
+        yield server(days=limit, lasts=0 * SECOND), last
+
+
+def host_rules():
+    for text in ("a.example.com", "xn--c.example.com", "XN--d.example.com", "local.com", "a.test.com", "a.onion"):
+        yield server(names=hosts(text)), ""
+    yield server(names=hosts("a_b.example.com")), "dns_name_underscore"
+    yield server(names=hosts("ab--c.example.com")), "dns_name_reserved_label"
+    for text in ("a*.example.com", "*.*.example.com"):
+        yield server(names=hosts(text)), "dns_name_wildcard"
+    for text in ("com", "*.com"):
+        yield server(names=hosts(text)), "dns_name_one_label"
+    for text in ("a.local", "b.TEST", "c.example", "d.invalid", "e.localHost"):
+        yield server(names=hosts("a.example.com", text)), "dns_name_internal"
+    yield server(names=hosts("localhost")), "dns_name_internal dns_name_one_label"
+    reserved = "10.1.2.3 127.0.0.1 0.1.2.3 192.168.1.1 172.16.0.1 172.31.255.255 169.254.1.1 100.64.0.1 198.19.0.1 240.0.0.1 255.255.255.255"
+    for text in f"{reserved} ::1 :: fe80::1 febf::1 fc00::1 fdff::1 2001:db8::1".split():
+        yield server(names=addresses("9.9.9.9", text)), "address_reserved"
+    others = "9.1.2.3 172.15.0.1 172.32.0.1 192.169.1.1 169.253.1.1 100.128.0.1 198.20.0.1 11.0.0.1"
+    for text in f"{others} fec0::1 2001:db9::1 2600::1 fb00::1".split():
+        yield server(names=addresses(text)), ""
+
+
+def name_rules():
+    yield server(names=None), "subject_alt_name_absent"
+    yield server(names=x509.SubjectAlternativeName([x509.RFC822Name("a@example.com")])), "subject_alt_name_without_host subject_alt_name_other"
+    both = x509.SubjectAlternativeName([x509.DNSName("a.example.com"), uri("http://a")])
+    yield server(names=both), "subject_alt_name_other"
+    yield server(marked=["names"]), "subject_alt_name_critical"
+    yield server(marked=["names"], subject=name()), ""
+    for text, rules in (("a", "common_name_present"), ("b", "common_name_present common_name_not_in_alt_name")):
+        yield server(subject=name((COUNTRY, "NL"), (COMMON_NAME, f"{text}.example.com")), names=hosts("a.example.com")), rules
+    yield validated(subject=name((COUNTRY, "NL"), (ORGANIZATION, "o"), (UNIT, "u"))), "organizational_unit_present"
+
+
+def usage_rules():
+    purposes = ExtendedKeyUsageOID
+    yield server(purposes=None), "extended_key_usage_absent"
+    named = (purposes.CODE_SIGNING, purposes.EMAIL_PROTECTION, purposes.TIME_STAMPING, purposes.OCSP_SIGNING, purposes.ANY_EXTENDED_KEY_USAGE)
+    for purpose in (*named, ObjectIdentifier("1.3.6.1.4.1.11129.2.4.4")):
+        yield server(purposes=key_purposes(SERVER_AUTH, purpose)), "extended_key_usage_forbidden"
+        yield authority(purposes=key_purposes(SERVER_AUTH, purpose)), "ca_extended_key_usage_forbidden"
+        yield server(purposes=key_purposes(purpose)), ""
+    yield server(purposes=key_purposes(SERVER_AUTH, ObjectIdentifier("1.2.3.4"))), "extended_key_usage_other"
+    yield server(marked=["purposes"]), "extended_key_usage_critical"
+    yield server(usage=None), "key_usage_absent"
+    yield server(unmarked=["usage"]), "key_usage_not_critical"
+    for bit in ("key_cert_sign", "crl_sign"):
+        yield server(usage=key_usage("digital_signature", bit)), "key_usage_of_authority"
+    agreed = ("key_agreement",), ("key_agreement", "encipher_only"), ("key_agreement", "decipher_only")
+    for bits in (("content_commitment",), *agreed):
+        yield server(usage=key_usage("digital_signature", *bits)), "key_usage_not_of_rsa"
+    for bits in (("content_commitment",), ("key_encipherment",), ("data_encipherment",), *agreed[1:]):
+        yield server(**OF_EC | {"usage": key_usage("digital_signature", *bits)}), "key_usage_not_of_ec"
+    yield server(**OF_EC | {"usage": key_usage("digital_signature", "key_agreement")}), ""
+    yield server(**OF_EC | {"usage": key_usage("key_agreement")}), "ec_without_digital_signature"
+    yield server(unmarked=["constraints"]), "basic_constraints_not_critical"
+    yield server(constraints=None), ""
+    yield server(key_id=x509.SubjectKeyIdentifier(KEY_ID)), "subject_key_identifier_present"
+
+
+def policy_rules():
+    yield server(policies=None), "certificate_policies_absent"
+    yield server(marked=["policies"]), "certificate_policies_critical"
+    yield server(policies=policies("1.2.3.4")), "reserved_policy_absent"
+    for oid in ("2.23.140.1.2.3", "2.23.140.1.1"):
+        yield server(policies=policies(oid)), ""
+    yield server(policies=policies("2.5.29.32.0", DOMAIN_VALIDATED)), "any_policy_present"
+    yield server(policies=policies(DOMAIN_VALIDATED, qualifiers=["http://cps"])), "policy_qualifiers_present"
+    notice = x509.UserNotice(None, "x")
+    yield server(policies=policies(DOMAIN_VALIDATED, qualifiers=[notice])), "policy_qualifiers_present policy_qualifier_other"
+    yield server(subject=name((COUNTRY, "NL"), (LOCALITY, "x"))), "domain_validated_attribute"
+    yield validated(subject=name((COUNTRY, "NL"), (ORGANIZATION, "o"), (LOCALITY, "x"))), ""
+    yield validated(subject=name((COUNTRY, "NL"))), "organization_validated_without_organization"
+    yield validated(subject=name((ORGANIZATION, "o"))), "organization_validated_without_country"
+    yield server(accesses=None), "authority_info_access_absent"
+    yield server(accesses=accesses((ObjectIdentifier("1.3.6.1.5.5.7.48.5"), "http://o"))), "access_method_other"
+    yield server(accesses=accesses((OCSP, "https://o"))), "access_location_not_http"
+
+
+def authority_rules():
+    yield authority(unmarked=["usage"]), "ca_key_usage_not_critical"
+    yield authority(usage=key_usage("key_cert_sign")), "ca_without_crl_sign"
+    yield authority(usage=key_usage("key_cert_sign", "crl_sign", "key_encipherment")), "ca_key_usage_other"
+    yield authority(usage=key_usage("key_cert_sign", "crl_sign", "digital_signature")), ""
+    yield authority(subject=name((ORGANIZATION, "o"), (COUNTRY, "NL"))), "ca_without_common_name"
+    yield authority(subject=name((COMMON_NAME, "S"), (COUNTRY, "NL"))), "ca_without_organization"
+    yield authority(subject=name((COMMON_NAME, "S"), (ORGANIZATION, "o"))), "ca_without_country"
+    yield authority(policies=None), "subordinate_without_policies"
+    yield authority(points=None), "subordinate_without_crl_points"
+
+
+GROUPS = clean_ones, field_rules, key_rules, validity_rules, host_rules, name_rules, usage_rules, policy_rules, authority_rules
+
+
+def rules_of_page():
+    """Of each rule of docs/WEB_RULES.md, in their order, its severity, its section, and the day from which on it is in force, or nothing."""
+    rows = re.findall(r"^\| `(\w+)` \| .* \| ([0-9.]+) \| (\w+) \| ([0-9-]*) \|$", PAGE.read_text(encoding="utf-8"), re.M)
+    return {rule: (severity, section, day) for rule, section, severity, day in rows}
+
+
+def second_before(day):
+    return (datetime.datetime.fromisoformat(day) - SECOND).isoformat() + "Z"
+
+
+def told(rules, moment, page):
+    """What is printed of a certificate that breaks these rules, and the status: a line for each rule that is in force."""
+    found = [(rule, severity, section) for rule, (severity, section, day) in page.items() if rule in rules and (not day or f"{day}T00:00:00Z" <= moment)]
+    text = "".join(f"certificate: {severity} {rule} (TLS BR {section})\n" for rule, severity, section in found)
+    return text, int(any(severity == "error" for _, severity, _ in found))
+
+
+def web_runs():
+    """For each run a name, its words, its input, what it is to print, and its status: of all in force, and about the day of each rule that is broken."""
+    page = rules_of_page()
+    broken = set()
+    for group in GROUPS:
+        for at, (data, listed) in enumerate(group()):
+            rules = listed.split()
+            broken.update(rules)
+            days = sorted({page[rule][2] for rule in rules} - {""})
+            for moment in [NOW, *(f"{day}T00:00:00Z" for day in days), *map(second_before, days)]:
+                yield f"{group.__name__} {at} at {moment}", ["--web", moment], data, *told(rules, moment, page)
+    if broken != set(page):
+        raise ValueError(f"no certificate breaks these rules: {sorted(set(page) - broken)}")
