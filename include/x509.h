@@ -387,8 +387,8 @@ typedef struct {
  * Answers X509_OK, X509_OVERLENGTH, X509_MALFORMED. */
 x509_status x509_policy_constraints(const uint8_t *value, size_t len, x509_policy_constraints_view *view);
 
-/* Reads an InhibitAnyPolicy (2.5.29.54), and says after how many more certificates any policy isn't taken. X509_MALFORMED also for a number above 4,294,967,295.
- * It takes no memory.
+/* Reads an InhibitAnyPolicy (2.5.29.54), and says after how many more certificates any policy isn't taken. X509_MALFORMED also for a number above
+ * 4,294,967,295. It takes no memory.
  * Answers X509_OK, X509_OVERLENGTH, X509_MALFORMED. */
 x509_status x509_inhibit_any_policy(const uint8_t *value, size_t len, uint32_t *certificates);
 
@@ -463,8 +463,8 @@ typedef struct {
     uint32_t maximum;       /* where; 0 where it doesn't */
 } x509_subtree;
 
-/* The subtrees of a list of them under an implicit tag [number] of the context-specific class, one after the other. X509_MALFORMED also where the number is above 30,
- * and for a minimum or maximum above 4,294,967,295.
+/* The subtrees of a list of them under an implicit tag [number] of the context-specific class, one after the other. X509_MALFORMED also where the number is
+ * above 30, and for a minimum or maximum above 4,294,967,295.
  * Answers X509_OK, X509_MEMORY, X509_OVERLENGTH, X509_MALFORMED, X509_ABSENT. */
 x509_status x509_subtrees_under_next(uint32_t number, const uint8_t *value, size_t len, size_t *at, x509_subtree *found);
 
@@ -493,55 +493,57 @@ typedef struct {
     x509_span content; /* the content octets of its value, which aren't looked at: in a UTF8String they needn't be UTF-8 */
 } x509_attribute;
 
-/* The attributes of a relative name, one after the other. Their places are offsets in `rdn`. Whether they are in order, and all different, isn't looked at here, but by
- * x509_name_next.
+/* The attributes of a relative name, one after the other. Their places are offsets in `rdn`. Whether they are in order, and all different, isn't looked at
+ * here, but by x509_name_next.
  * Answers X509_OK, X509_MEMORY, X509_OVERLENGTH, X509_MALFORMED, X509_ABSENT. */
 x509_status x509_relative_name_next(const uint8_t *rdn, size_t len, size_t *at, x509_attribute *found);
 
-/* The same of a relative name under an implicit tag [number] of the context-specific class, as within a distribution point. X509_MALFORMED also where the number
- * is above 30.
+/* The same of a relative name under an implicit tag [number] of the context-specific class, as within a distribution point. X509_MALFORMED also where the
+ * number is above 30.
  * Answers X509_OK, X509_MEMORY, X509_OVERLENGTH, X509_MALFORMED, X509_ABSENT. */
 x509_status x509_relative_name_under_next(uint32_t number, const uint8_t *rdn, size_t len, size_t *at, x509_attribute *found);
 
-/* Decodes a Name, and finds its first attribute of a type, in the order of the encoding. The OID of the type is given by its content octets, such as "\x55\x04\x03" for
- * 2.5.4.3, CN. Places are offsets in `name`. X509_ABSENT where there is none. x509_name_next walks over all of them.
+/* Decodes a Name, and finds its first attribute of a type, in the order of the encoding. The OID of the type is given by its content octets, such as
+ * "\x55\x04\x03" for 2.5.4.3, CN. Places are offsets in `name`. X509_ABSENT where there is none. x509_name_next walks over all of them.
  * Answers X509_OK, X509_MEMORY, X509_OVERLENGTH, X509_MALFORMED, X509_ABSENT. */
 x509_status x509_name_find(const uint8_t *name, size_t len, const uint8_t *oid, size_t oid_len, x509_attribute *found);
 
-/* Decodes two Names, and says whether they match (RFC 5280 7.1): `*matches` is 1 where they do, else 0. They have as many relative names, in order, and in each as
- * many attributes, in any order, each with a partner of its own of the same type whose value is the same element or the same text. Texts are PrintableString, UTF8String,
- * BMPString and IA5String, compared without regard to case, to spaces at their ends and to how many stand within, as RFC 4518 prepares them, with the data of Unicode 18;
- * a text with a character that RFC 4518 2.4 prohibits matches only the same element. Of an e-mail address what stands before the last @ is compared as it is, and the
- * rest, as a domain component, without regard to the case of ASCII. Equal bytes, and texts in ASCII, are compared without memory.
+/* Decodes two Names, and says whether they match (RFC 5280 7.1): `*matches` is 1 where they do, else 0. They have as many relative names, in order, and in each
+ * as many attributes, in any order, each with a partner of its own of the same type whose value is the same element or the same text. Texts are
+ * PrintableString, UTF8String, BMPString and IA5String, compared without regard to case, to spaces at their ends and to how many stand within, as RFC 4518
+ * prepares them, with the data of Unicode 18; a text with a character that RFC 4518 2.4 prohibits matches only the same element. Of an e-mail address what
+ * stands before the last @ is compared as it is, and the rest, as a domain component, without regard to the case of ASCII. Equal bytes, and texts in ASCII, are
+ * compared without memory.
  * Refused as the first is that is no Name.
  * Answers X509_OK, X509_MEMORY, X509_OVERLENGTH, X509_MALFORMED. */
 x509_status x509_names_match(const uint8_t *a, size_t a_len, const uint8_t *b, size_t b_len, uint32_t *matches);
 
-/* Names of values. Here no character of a text is taken for a part of the name, as it is where a text of a name is put together by hand. Rooms are as said under
- * whole values.
+/* Names of values. Here no character of a text is taken for a part of the name, as it is where a text of a name is put together by hand. Rooms are as said
+ * under whole values.
  *
- * Writes an attribute: of the type with an OID, given by its content octets, and of a text (UTF-8), in the string type with this identifier octet: 0x0c UTF8String, 0x13
- * PrintableString, 0x16 IA5String, 0x1e BMPString, or 0 for the one that the attribute wants, which is PrintableString or IA5String where it allows that alone, else
- * UTF8String. Where `is_bounded` isn't 0, the text has as many characters as RFC 5280 appendix A.1 says of the type, as 1 to 64 of a common name and just 2 of a country; where
- * the appendix says no SIZE, any number. X509_MALFORMED where no OID has the content octets. X509_FAILED where the text isn't UTF-8, or the string type is none of these, or one that the
- * attribute doesn't allow: of a country, a serial number and a DN qualifier all but PrintableString, of an e-mail address and a domain component all but IA5String,
- * of the other types of the appendix IA5String. X509_VALUE where a character isn't one of the string type's, or there are too few or too many.
+ * Writes an attribute: of the type with an OID, given by its content octets, and of a text (UTF-8), in the string type with this identifier octet: 0x0c
+ * UTF8String, 0x13 PrintableString, 0x16 IA5String, 0x1e BMPString, or 0 for the one that the attribute wants, which is PrintableString or IA5String where it
+ * allows that alone, else UTF8String. Where `is_bounded` isn't 0, the text has as many characters as RFC 5280 appendix A.1 says of the type, as 1 to 64 of a
+ * common name and just 2 of a country; where the appendix says no SIZE, any number. X509_MALFORMED where no OID has the content octets. X509_FAILED where the
+ * text isn't UTF-8, or the string type is none of these, or one that the attribute doesn't allow: of a country, a serial number and a DN qualifier all but
+ * PrintableString, of an e-mail address and a domain component all but IA5String, of the other types of the appendix IA5String. X509_VALUE where a character
+ * isn't one of the string type's, or there are too few or too many.
  * Answers X509_OK, X509_ROOM, X509_MEMORY, X509_OVERLENGTH, X509_MALFORMED, X509_FAILED, X509_VALUE. */
 x509_status x509_attribute_encode(const uint8_t *oid, size_t oid_len, uint32_t string_type, const uint8_t *text, size_t text_len, uint32_t is_bounded,
                                   uint8_t *out, size_t room, size_t *written);
 
-/* Writes a relative name: the set of these attributes, their encodings one after the other, in any order. X509_SET_DUPLICATE where two are equal, X509_VALUE where
- * there are none.
+/* Writes a relative name: the set of these attributes, their encodings one after the other, in any order. X509_SET_DUPLICATE where two are equal, X509_VALUE
+ * where there are none.
  * Answers X509_OK, X509_ROOM, X509_MEMORY, X509_OVERLENGTH, X509_MALFORMED, X509_SET_DUPLICATE, X509_VALUE. */
 x509_status x509_relative_name_encode(const uint8_t *attributes, size_t attributes_len, uint8_t *out, size_t room, size_t *written);
 
-/* Writes a Name: of these relative names, their encodings one after the other, of which the first is the topmost, as the country. Of none it is the empty name. X509_VALUE
- * where one of them has no attribute.
+/* Writes a Name: of these relative names, their encodings one after the other, of which the first is the topmost, as the country. Of none it is the empty name.
+ * X509_VALUE where one of them has no attribute.
  * Answers X509_OK, X509_ROOM, X509_MEMORY, X509_OVERLENGTH, X509_MALFORMED, X509_VALUE. */
 x509_status x509_name_build(const uint8_t *relative_names, size_t relative_names_len, uint8_t *out, size_t room, size_t *written);
 
-/* Writes a text (UTF-8) as it stands for one value in the text of a name (RFC 4514 2.4): behind "CN=", x509_name_from_text reads just that text, whatever it holds.
- * X509_FAILED where it isn't UTF-8.
+/* Writes a text (UTF-8) as it stands for one value in the text of a name (RFC 4514 2.4): behind "CN=", x509_name_from_text reads just that text, whatever it
+ * holds. X509_FAILED where it isn't UTF-8.
  * Answers X509_OK, X509_ROOM, X509_MEMORY, X509_FAILED. */
 x509_status x509_name_escape(const uint8_t *text, size_t text_len, uint8_t *out, size_t room, size_t *written);
 
@@ -549,18 +551,18 @@ x509_status x509_name_escape(const uint8_t *text, size_t text_len, uint8_t *out,
 
 /* Reads a character string, a whole element, and writes its text (UTF-8, no zero at the end): of the types UTF8String, NumericString, PrintableString,
  * TeletexString, IA5String, VisibleString, UniversalString and BMPString, as `element` of x509_attribute, of x509_element, or what qualifies a policy. A
- * TeletexString is read in its characters up to 7F alone. Characters of control, NUL among them, stand as they are. X509_MALFORMED where it is an element of another type, or has a
- * character that its type hasn't.
+ * TeletexString is read in its characters up to 7F alone. Characters of control, NUL among them, stand as they are. X509_MALFORMED where it is an element of
+ * another type, or has a character that its type hasn't.
  * Answers X509_OK, X509_ROOM, X509_MEMORY, X509_OVERLENGTH, X509_MALFORMED. */
 x509_status x509_string_text(const uint8_t *element, size_t len, uint8_t *out, size_t room, size_t *written);
 
-/* Reads a serial number under RFC 5280, as `serial_number` of x509_certificate, and says where the content octets of its INTEGER stand. X509_MALFORMED also where there
- * are more than 21.
+/* Reads a serial number under RFC 5280, as `serial_number` of x509_certificate, and says where the content octets of its INTEGER stand. X509_MALFORMED also
+ * where there are more than 21.
  * Answers X509_OK, X509_MEMORY, X509_OVERLENGTH, X509_MALFORMED. */
 x509_status x509_serial_number(const uint8_t *in, size_t len, x509_span *found);
 
-/* Writes these content octets of an INTEGER in hex, as "00:FF" (no zero at the end): of a serial number, or of the number of a CRL. X509_MALFORMED where they are none's
- * (X.690 8.3): no octets, or more than there need to be.
+/* Writes these content octets of an INTEGER in hex, as "00:FF" (no zero at the end): of a serial number, or of the number of a CRL. X509_MALFORMED where they
+ * are none's (X.690 8.3): no octets, or more than there need to be.
  * Answers X509_OK, X509_ROOM, X509_MEMORY, X509_MALFORMED. */
 x509_status x509_serial_text(const uint8_t *content, size_t len, uint8_t *out, size_t room, size_t *written);
 
@@ -569,7 +571,8 @@ x509_status x509_serial_text(const uint8_t *content, size_t len, uint8_t *out, s
  * Answers X509_OK, X509_ROOM, X509_MALFORMED, X509_VALUE. */
 x509_status x509_serial_decimal(const uint8_t *content, size_t len, uint8_t *out, size_t room, size_t *written);
 
-/* Writes the text of a moment, in seconds since 1970-01-01T00:00:00Z: 20 bytes, as "2026-01-02T03:04:05Z" (no zero at the end). X509_VALUE after 9999-12-31T23:59:59Z.
+/* Writes the text of a moment, in seconds since 1970-01-01T00:00:00Z: 20 bytes, as "2026-01-02T03:04:05Z" (no zero at the end). X509_VALUE after
+ * 9999-12-31T23:59:59Z.
  * Answers X509_OK, X509_ROOM, X509_MEMORY, X509_VALUE. */
 x509_status x509_time_text(uint64_t moment, uint8_t *out, size_t room, size_t *written);
 
@@ -650,8 +653,8 @@ x509_status x509_path_check(const uint8_t *anchor, size_t anchor_len, const uint
 
 /* Further reasons, of x509_path_validate and the two calls like it alone. */
 
-/* An extension can't be decoded that is one of those of X509_PATH_CRITICAL, a NameConstraints, a CertificatePolicies, a PolicyMappings, a PolicyConstraints or an
- * InhibitAnyPolicy, critical or not. */
+/* An extension can't be decoded that is one of those of X509_PATH_CRITICAL, a NameConstraints, a CertificatePolicies, a PolicyMappings, a PolicyConstraints or
+ * an InhibitAnyPolicy, critical or not. */
 #define X509_PATH_EXTENSION 11
 /* A name isn't within what the name constraints above permit, or is within what they exclude. Asked of the last, and of those that aren't self-issued. */
 #define X509_PATH_NAMES 12
@@ -671,8 +674,8 @@ x509_status x509_path_check(const uint8_t *anchor, size_t anchor_len, const uint
 /* Any-policy in a certificate counts for nothing (6.1.1 (g)). */
 #define X509_PATH_INHIBIT_ANY_POLICY 4
 
-/* What is asked of a path. A caller hands over its size too, so that later versions of this library can ask for more: what stands behind what the library knows has to be
- * zeros, which ask for nothing, or the answer is X509_VALUE. So set all of it to zeros first. */
+/* What is asked of a path. A caller hands over its size too, so that later versions of this library can ask for more: what stands behind what the library knows
+ * has to be zeros, which ask for nothing, or the answer is X509_VALUE. So set all of it to zeros first. */
 typedef struct {
     uint64_t moment; /* the time at which the path is to be valid */
     uint64_t flags;  /* X509_PATH_EXPLICIT_POLICY and the others; any other number is X509_VALUE */
@@ -687,28 +690,29 @@ typedef struct {
     size_t policies_len; /* how many bytes the policies have, whether they fit into the buffer or not */
 } x509_path_answer;
 
-/* Validates a path of `count` certificates, topmost first, under an anchor's certificate (RFC 5280 6.1, RFC 5937): its subject, its public key, its name constraints,
- * its path length constraint, the policies of its CertificatePolicies, which are merged with those of the caller, and the flags about policies that its PolicyConstraints
- * and its InhibitAnyPolicy set, whatever the numbers in them. Nothing else of it is checked. BUT NOT THE SIGNATURES, which the caller verifies as x509_path_check says;
- * without that X509_OK gives no security. Revocation isn't checked.
+/* Validates a path of `count` certificates, topmost first, under an anchor's certificate (RFC 5280 6.1, RFC 5937): its subject, its public key, its name
+ * constraints, its path length constraint, the policies of its CertificatePolicies, which are merged with those of the caller, and the flags about policies
+ * that its PolicyConstraints and its InhibitAnyPolicy set, whatever the numbers in them. Nothing else of it is checked. BUT NOT THE SIGNATURES, which the
+ * caller verifies as x509_path_check says; without that X509_OK gives no security. Revocation isn't checked.
  *
- * It is x509_path_check with these differences: issuers and subjects are compared as x509_names_match does, also where it is asked whether a certificate is self-issued;
- * name constraints hold, those of the anchor, those of `name_constraints`, which are the initial permitted and excluded subtrees (6.1.1 (h), (i)) as the encoding of a
- * NameConstraints, or none where there are no bytes, and those of each certificate above; policies are followed, where `policies` are those that the caller accepts
- * (6.1.1 (c)) as the encoding of a CertificatePolicies, whose qualifiers aren't looked at, or any where there are no bytes; critical extensions of the types that
- * X509_PATH_EXTENSION names are no fault, and each of them has to be such that can be decoded. Of several faults of one certificate the one with the lowest number is
- * reported, but X509_PATH_EXTENSION comes behind X509_PATH_CRITICAL.
+ * It is x509_path_check with these differences: issuers and subjects are compared as x509_names_match does, also where it is asked whether a certificate is
+ * self-issued; name constraints hold, those of the anchor, those of `name_constraints`, which are the initial permitted and excluded subtrees (6.1.1 (h), (i))
+ * as the encoding of a NameConstraints, or none where there are no bytes, and those of each certificate above; policies are followed, where `policies` are
+ * those that the caller accepts (6.1.1 (c)) as the encoding of a CertificatePolicies, whose qualifiers aren't looked at, or any where there are no bytes;
+ * critical extensions of the types that X509_PATH_EXTENSION names are no fault, and each of them has to be such that can be decoded. Of several faults of one
+ * certificate the one with the lowest number is reported, but X509_PATH_EXTENSION comes behind X509_PATH_CRITICAL.
  *
  * The certificates stand one after the other in path[0..path_len), and lens[i] is the length of the i-th. `settings_size` is the size of `*settings`.
  *
- * X509_FAILED where the lengths don't add up to `path_len`, or where the anchor has one of the extensions that are followed more than once; X509_VALUE where there are no
- * settings, as said there, or `moment` is after 9999-12-31T23:59:59Z; X509_OVERLENGTH or X509_MALFORMED where decoding the anchor's certificate, one of its extensions, the
- * name constraints or the policies answers that; where several of these are bad, any of their answers may come. Else X509_ABSENT where `count` is 0. Else X509_VALUE where
- * the name constraints of the anchor or of the caller can't be used, as X509_PATH_CONSTRAINTS says. Else X509_FAULT where there is a fault: `*answer` is the lowest place
- * that has one other than a signature's, and the first of its faults there. Else X509_OK: there is no fault, except perhaps of signatures, and `*answer` says where the name
- * and the key of the last certificate stand. The policies under which the path is valid (6.1.6) are put into out[0..room), where they fit, as the encoding of a
- * CertificatePolicies without qualifiers, which x509_certificate_policies_next goes over; any-policy may be one of them, and none is no fault where none is asked for.
- * X509_OVERLENGTH also where that encoding would be more than 268,435,455 bytes.
+ * X509_FAILED where the lengths don't add up to `path_len`, or where the anchor has one of the extensions that are followed more than once; X509_VALUE where
+ * there are no settings, as said there, or `moment` is after 9999-12-31T23:59:59Z; X509_OVERLENGTH or X509_MALFORMED where decoding the anchor's certificate,
+ * one of its extensions, the name constraints or the policies answers that; where several of these are bad, any of their answers may come. Else X509_ABSENT
+ * where `count` is 0. Else X509_VALUE where the name constraints of the anchor or of the caller can't be used, as X509_PATH_CONSTRAINTS says. Else X509_FAULT
+ * where there is a fault: `*answer` is the lowest place that has one other than a signature's, and the first of its faults there. Else X509_OK: there is no
+ * fault, except perhaps of signatures, and `*answer` says where the name and the key of the last certificate stand. The policies under which the path is valid
+ * (6.1.6) are put into out[0..room), where they fit, as the encoding of a CertificatePolicies without qualifiers, which x509_certificate_policies_next goes
+ * over; any-policy may be one of them, and none is no fault where none is asked for. X509_OVERLENGTH also where that encoding would be more than 268,435,455
+ * bytes.
  * Answers X509_OK, X509_MEMORY, X509_OVERLENGTH, X509_MALFORMED, X509_FAILED, X509_VALUE, X509_ABSENT, X509_FAULT. */
 x509_status x509_path_validate(const uint8_t *anchor, size_t anchor_len, const uint8_t *path, size_t path_len, const size_t *lens, size_t count,
                                const uint8_t *name_constraints, size_t name_constraints_len, const uint8_t *policies, size_t policies_len,
@@ -722,9 +726,9 @@ x509_status x509_path_validate_under_key(const uint8_t *name, size_t name_len, c
                                          uint8_t *out, size_t room, x509_path_answer *answer);
 
 /* The same under a trust anchor (RFC 5914, RFC 5937 2), the encoding of a TrustAnchorChoice, as x509_anchor_view reads: of a certificate or a TBSCertificate as
- * x509_path_validate says; of a description its key, and the name, the name constraints, the path length constraint, the policies and the flags about them of its
- * constraints on paths; where one of the last four isn't there, that of the certificate there, if it has one, whose subject, key and key identifier have to be the
- * description's (RFC 5914 2.5). X509_FAILED also where a description has no name, or a certificate of another anchor.
+ * x509_path_validate says; of a description its key, and the name, the name constraints, the path length constraint, the policies and the flags about them of
+ * its constraints on paths; where one of the last four isn't there, that of the certificate there, if it has one, whose subject, key and key identifier have to
+ * be the description's (RFC 5914 2.5). X509_FAILED also where a description has no name, or a certificate of another anchor.
  * Answers X509_OK, X509_MEMORY, X509_OVERLENGTH, X509_MALFORMED, X509_FAILED, X509_VALUE, X509_ABSENT, X509_FAULT. */
 x509_status x509_path_validate_under_anchor(const uint8_t *anchor, size_t anchor_len, const uint8_t *path, size_t path_len, const size_t *lens, size_t count,
                                             const uint8_t *name_constraints, size_t name_constraints_len, const uint8_t *policies, size_t policies_len,
@@ -778,24 +782,24 @@ typedef struct {
  * Answers X509_OK, X509_MEMORY, X509_OVERLENGTH, X509_MALFORMED, X509_ABSENT. */
 x509_status x509_crl_entry_next(const uint8_t *value, size_t len, size_t *at, x509_crl_entry *found);
 
-/* The same, and who issued the certificate of each entry of an indirect CRL (RFC 5280 5.3.3). `*issuer` is 0 and 0 to begin. Of an entry that has a CertificateIssuer
- * (2.5.29.29) it becomes the place of that extension's value, for x509_general_names_next; else it stays. So behind each step it says whose names are in force for the
- * entry: those of the last one up to there that has the extension, or of the issuer of the CRL, where both numbers are 0. X509_FAILED where an entry has the extension
- * twice or more, and X509_MALFORMED also where it holds no names; `*at` and `*issuer` are unchanged then.
+/* The same, and who issued the certificate of each entry of an indirect CRL (RFC 5280 5.3.3). `*issuer` is 0 and 0 to begin. Of an entry that has a
+ * CertificateIssuer (2.5.29.29) it becomes the place of that extension's value, for x509_general_names_next; else it stays. So behind each step it says whose
+ * names are in force for the entry: those of the last one up to there that has the extension, or of the issuer of the CRL, where both numbers are 0.
+ * X509_FAILED where an entry has the extension twice or more, and X509_MALFORMED also where it holds no names; `*at` and `*issuer` are unchanged then.
  * Answers X509_OK, X509_MEMORY, X509_OVERLENGTH, X509_MALFORMED, X509_FAILED, X509_ABSENT. */
 x509_status x509_crl_issued_next(const uint8_t *value, size_t len, size_t *at, x509_span *issuer, x509_crl_entry *found);
 
 /* Finds the first entry with a serial number (the DER encoding of an INTEGER, as the view of a certificate has it); `value` is `entries` of the view of a CRL,
- * which isn't checked once more, so that a CRL is checked once for many look-ups: of the entries in front of the one that is found no more is read than their lengths
- * and numbers. Places are offsets in `value`. X509_ABSENT where no entry has the number; the issuer isn't compared. Else refused as the serial number is. Of bytes that
- * are no list of entries any entry may be found, or none, or the answer is X509_MALFORMED.
+ * which isn't checked once more, so that a CRL is checked once for many look-ups: of the entries in front of the one that is found no more is read than their
+ * lengths and numbers. Places are offsets in `value`. X509_ABSENT where no entry has the number; the issuer isn't compared. Else refused as the serial number
+ * is. Of bytes that are no list of entries any entry may be found, or none, or the answer is X509_MALFORMED.
  * Answers X509_OK, X509_MEMORY, X509_OVERLENGTH, X509_MALFORMED, X509_ABSENT. */
 x509_status x509_crl_entry_find(const uint8_t *value, size_t len, const uint8_t *serial_number, size_t serial_number_len, x509_crl_entry *found);
 
 /* ---- revocation */
 
-/* Says whether the key of a certificate may sign CRLs (RFC 5280 4.2.1.3, 6.3.3 (f)): `*may_sign` is 1 where the certificate has no KeyUsage, or one that can be decoded, with
- * cRLSign; else 0. Whether the certificate is valid isn't checked. It takes no memory.
+/* Says whether the key of a certificate may sign CRLs (RFC 5280 4.2.1.3, 6.3.3 (f)): `*may_sign` is 1 where the certificate has no KeyUsage, or one that can be
+ * decoded, with cRLSign; else 0. Whether the certificate is valid isn't checked. It takes no memory.
  * Answers X509_OK, X509_OVERLENGTH, X509_MALFORMED. */
 x509_status x509_may_sign_crls(const uint8_t *certificate, size_t certificate_len, uint32_t *may_sign);
 
@@ -809,9 +813,9 @@ typedef struct {
 
 /* A flag of what is asked: a CRL is in date that doesn't say by when the next one will be issued, which RFC 5280 5.1.2.5 wants each to say. */
 #define X509_REVOCATION_WITHOUT_NEXT_UPDATE 1
-/* Another, added to it: delta CRLs are used (RFC 5280 5.2.4). They are given among the others, and the first one that fits a complete CRL is asked before it: it has its issuer, its
- * IssuingDistributionPoint and its AuthorityKeyIdentifier, a base that isn't later and a number that is, and is in date. Its signer has to be that of the complete one
- * (6.3.3 (h)): so verify it with that key. */
+/* Another, added to it: delta CRLs are used (RFC 5280 5.2.4). They are given among the others, and the first one that fits a complete CRL is asked before it:
+ * it has its issuer, its IssuingDistributionPoint and its AuthorityKeyIdentifier, a base that isn't later and a number that is, and is in date. Its signer has
+ * to be that of the complete one (6.3.3 (h)): so verify it with that key. */
 #define X509_REVOCATION_USE_DELTAS 2
 
 /* What is asked of CRLs. It is handed over with its size, and what stands behind what the library knows has to be zeros, as said of x509_path_settings. */
@@ -828,28 +832,34 @@ typedef struct {
 /* What doesn't belong to the status is 0. */
 typedef struct {
     uint32_t status;  /* one of these numbers */
-    uint32_t reason;  /* where it is revoked, the reason code (RFC 5280 5.3.1), 0 to 10, but not 7; 0, unspecified, also where the entry has none that can be decoded */
+    uint32_t reason;  /* where it is revoked, the reason code (RFC 5280 5.3.1), 0 to 10, but not 7; 0, unspecified, also where the entry has none that can
+                       * be decoded */
     size_t crl;       /* which CRL says that it is revoked: its index in `crls`, from 0 */
     uint64_t date;    /* when it was revoked */
-    uint32_t reasons; /* where it is undetermined, the reasons that no CRL covered, a sum of the numbers X509_REASONS_KEY_COMPROMISE to X509_REASONS_AA_COMPROMISE */
+    uint32_t reasons; /* where it is undetermined, the reasons that no CRL covered, a sum of the numbers X509_REASONS_KEY_COMPROMISE to
+                       * X509_REASONS_AA_COMPROMISE */
 } x509_revocation_answer;
 
-/* Says what CRLs say of a certificate at a time (RFC 5280 6.3.3), BUT NOT WHETHER THEIR SIGNATURES AND SIGNERS ARE GOOD. Of each CRL the caller does three things before:
- * - chooses its signer: the issuer of the certificate, or another certificate, or a trust anchor, whose subject is the CRL's issuer. Of another certificate the path has to be
- *   valid, as x509_path_validate says, under the anchor of the certificate's own path, and x509_may_sign_crls has to say 1 (6.3.3 (f)); so also of the issuer;
- * - verifies that `signature.bits` of x509_crl_view are a signature of `signature.signed_part`, the bytes as they stand, by `signature.algorithm`, for the signer's key;
+/* Says what CRLs say of a certificate at a time (RFC 5280 6.3.3), BUT NOT WHETHER THEIR SIGNATURES AND SIGNERS ARE GOOD. Of each CRL the caller does three
+ * things before:
+ * - chooses its signer: the issuer of the certificate, or another certificate, or a trust anchor, whose subject is the CRL's issuer. Of another certificate the
+ *   path has to be valid, as x509_path_validate says, under the anchor of the certificate's own path, and x509_may_sign_crls has to say 1 (6.3.3 (f)); so also
+ *   of the issuer;
+ * - verifies that `signature.bits` of x509_crl_view are a signature of `signature.signed_part`, the bytes as they stand, by `signature.algorithm`, for the
+ *   signer's key;
  * - sets `verified` to 1 where they are. A CRL with 0 there, as in a struct that was set to zeros, counts for nothing, and so does one with any other number.
  *
- * The CRLs, and the names and the keys of their signers, are parts of in[0..len), which may have other bytes too, and two CRLs may share a part. They are asked in the
- * order of `crls`, up to the first that revokes the certificate, or until no reason is left; one that covers no reason that those before it left isn't used, so of several CRLs
- * for the same reasons the latest comes first. A CRL is used where it is in date; the signer's name is its issuer, as x509_names_match compares; the algorithm in its signed
- * part is the one outside; it is that of a distribution point of the certificate, or of its issuer; the certificate is within the scope that its IssuingDistributionPoint states;
- * it is no delta CRL, but where these are used and it fits one; and neither it nor one of its entries has a critical extension that isn't known. crates/x509_revocation says each of these in full. `settings_size` is
- * the size of `*settings`. An attacker who withholds a CRL makes the status X509_UNDETERMINED: so treat that as your policy says, and not as X509_UNREVOKED.
+ * The CRLs, and the names and the keys of their signers, are parts of in[0..len), which may have other bytes too, and two CRLs may share a part. They are asked
+ * in the order of `crls`, up to the first that revokes the certificate, or until no reason is left; one that covers no reason that those before it left isn't
+ * used, so of several CRLs for the same reasons the latest comes first. A CRL is used where it is in date; the signer's name is its issuer, as x509_names_match
+ * compares; the algorithm in its signed part is the one outside; it is that of a distribution point of the certificate, or of its issuer; the certificate is
+ * within the scope that its IssuingDistributionPoint states; it is no delta CRL, but where these are used and it fits one; and neither it nor one of its
+ * entries has a critical extension that isn't known. crates/x509_revocation says each of these in full. `settings_size` is the size of `*settings`. An attacker
+ * who withholds a CRL makes the status X509_UNDETERMINED: so treat that as your policy says, and not as X509_UNREVOKED.
  *
- * X509_VALUE where there are no settings, as said there, or `moment` is after 9999-12-31T23:59:59Z; X509_OVERLENGTH or X509_MALFORMED where decoding the certificate answers
- * that; of the CRLs that are verified X509_FAILED where a part isn't within the bytes, and X509_OVERLENGTH or X509_MALFORMED where decoding the CRL, the name or the key
- * answers that; where several of these are bad, any of their answers may come.
+ * X509_VALUE where there are no settings, as said there, or `moment` is after 9999-12-31T23:59:59Z; X509_OVERLENGTH or X509_MALFORMED where decoding the
+ * certificate answers that; of the CRLs that are verified X509_FAILED where a part isn't within the bytes, and X509_OVERLENGTH or X509_MALFORMED where decoding
+ * the CRL, the name or the key answers that; where several of these are bad, any of their answers may come.
  * Answers X509_OK, X509_MEMORY, X509_OVERLENGTH, X509_MALFORMED, X509_FAILED, X509_VALUE. */
 x509_status x509_revocation_status(const uint8_t *certificate, size_t certificate_len, const uint8_t *in, size_t len, const x509_signed_crl *crls, size_t count,
                                    const x509_revocation_settings *settings, size_t settings_size, x509_revocation_answer *answer);
@@ -899,8 +909,8 @@ x509_status x509_subject_directory_attributes_next(const uint8_t *value, size_t 
 x509_status x509_attribute_value_next(const uint8_t *value, size_t len, size_t *at, x509_element *found);
 
 /* Decodes a CSR, and says where the extensions stand that it asks for, a whole SEQUENCE, for x509_extensions_next: the value of its attribute extensionRequest
- * (1.2.840.113549.1.9.14; RFC 2985 5.4.2). X509_ABSENT where it has no such attribute, X509_REPEATED where it has two or more, X509_FAILED where the attribute hasn't just one
- * value, X509_MALFORMED where that value is no list of extensions. Else refused as x509_request_check is.
+ * (1.2.840.113549.1.9.14; RFC 2985 5.4.2). X509_ABSENT where it has no such attribute, X509_REPEATED where it has two or more, X509_FAILED where the attribute
+ * hasn't just one value, X509_MALFORMED where that value is no list of extensions. Else refused as x509_request_check is.
  * Answers X509_OK, X509_MEMORY, X509_OVERLENGTH, X509_MALFORMED, X509_FAILED, X509_ABSENT, X509_REPEATED. */
 x509_status x509_request_extensions(const uint8_t *in, size_t len, x509_span *found);
 
@@ -930,12 +940,12 @@ typedef struct {
     uint32_t size;        /* how many bits it has, as 2048; 0 where that isn't known */
 } x509_key;
 
-/* Decodes a SubjectPublicKeyInfo, such as `subject_public_key_info` of x509_certificate, and says what it holds and where. The key isn't looked into, but for its
- * size: its bits are the point of an elliptic curve (RFC 5480 2.2), or what x509_rsa_key_view reads.
+/* Decodes a SubjectPublicKeyInfo, such as `subject_public_key_info` of x509_certificate, and says what it holds and where. The key isn't looked into, but for
+ * its size: its bits are the point of an elliptic curve (RFC 5480 2.2), or what x509_rsa_key_view reads.
  *
- * The size is the bits of the modulus of an RSA key (RFC 8017 A.1.1), of the prime of a DSA key whose algorithm has parameters (RFC 3279 2.3.2), and of the field
- * of these curves: secp192r1, secp224r1, secp256r1, secp256k1, secp384r1, secp521r1, and brainpoolP256r1, brainpoolP384r1, brainpoolP512r1; 256 of Ed25519 and
- * X25519, 456 of Ed448, 448 of X448, as their octets have (OpenSSL says 253 of X25519). It is 0 of other keys, and where the numbers can't be read.
+ * The size is the bits of the modulus of an RSA key (RFC 8017 A.1.1), of the prime of a DSA key whose algorithm has parameters (RFC 3279 2.3.2), and of the
+ * field of these curves: secp192r1, secp224r1, secp256r1, secp256k1, secp384r1, secp521r1, and brainpoolP256r1, brainpoolP384r1, brainpoolP512r1; 256 of
+ * Ed25519 and X25519, 456 of Ed448, 448 of X448, as their octets have (OpenSSL says 253 of X25519). It is 0 of other keys, and where the numbers can't be read.
  * Answers X509_OK, X509_MEMORY, X509_OVERLENGTH, X509_MALFORMED. */
 x509_status x509_key_view(const uint8_t *in, size_t len, x509_key *view);
 
@@ -1055,8 +1065,9 @@ x509_status x509_anchor_json(const uint8_t *in, size_t len, uint8_t *out, size_t
 /* ---- rules
  *
  * These calls decode an object by the grammar alone, as under X509_RAW, and write which rules it breaks that no grammar has: those on certificates and CRLs
- * (RFC 5280) and on CSRs (RFC 2986, 2985) that docs/RULES.md lists, in UTF-8 (no zero at the end). There is a line for each rule that is broken, in the order of
- * the rules, an object of JSON (RFC 8259) such as
+ * (RFC 5280), on CSRs (RFC 2986, 2985) and on trust anchors (RFC 5914; of one that is a certificate or a TBSCertificate, those on certificates) that
+ * docs/RULES.md lists, in UTF-8 (no zero at the end). There is a line for each rule that is broken, in the order of the rules, an object of JSON (RFC 8259)
+ * such as
  *
  *     {"object": "certificate", "rule": "serial_number_not_positive", "severity": "error", "section": "RFC 5280 4.1.2.2",
  *      "place": "tbsCertificate.serialNumber", "seen": "00"}
@@ -1070,10 +1081,11 @@ x509_status x509_anchor_json(const uint8_t *in, size_t len, uint8_t *out, size_t
 x509_status x509_certificate_lint(const uint8_t *in, size_t len, uint8_t *out, size_t room, size_t *written);
 x509_status x509_crl_lint(const uint8_t *in, size_t len, uint8_t *out, size_t room, size_t *written);
 x509_status x509_request_lint(const uint8_t *in, size_t len, uint8_t *out, size_t room, size_t *written);
+x509_status x509_anchor_lint(const uint8_t *in, size_t len, uint8_t *out, size_t room, size_t *written);
 
 /* The texts of a finding, without their quotation marks. */
 typedef struct {
-    x509_span object;   /* what the object is called: "certificate", "crl" or "csr" */
+    x509_span object;   /* what the object is called: "certificate", "crl", "csr" or "anchor" */
     x509_span rule;     /* the name of the rule */
     x509_span severity; /* "error", "warning" or "not judged" */
     x509_span section;  /* the standard and its section, as "RFC 5280 4.1.2.2" */
@@ -1081,9 +1093,9 @@ typedef struct {
     x509_span seen;     /* what is seen there, in hex; of no bytes where nothing is told */
 } x509_finding;
 
-/* The findings of such lines, one after the other: where the texts of one stand. `*at` is 0 to begin, and is moved behind the line. X509_ABSENT at the end of the
- * lines, so at once where no rule is broken. X509_MALFORMED where no line of these members, without a quotation mark in a text, stands at `*at`, or where `*at` is
- * behind the end; so bytes that no call wrote do no harm. It takes no memory.
+/* The findings of such lines, one after the other: where the texts of one stand. `*at` is 0 to begin, and is moved behind the line. X509_ABSENT at the end of
+ * the lines, so at once where no rule is broken. X509_MALFORMED where no line of these members, without a quotation mark in a text, stands at `*at`, or where
+ * `*at` is behind the end; so bytes that no call wrote do no harm. It takes no memory.
  * Answers X509_OK, X509_MALFORMED, X509_ABSENT. */
 x509_status x509_finding_next(const uint8_t *lines, size_t len, size_t *at, x509_finding *found);
 
@@ -1119,93 +1131,98 @@ x509_status x509_timestamp_view(const uint8_t *in, size_t len, x509_timestamp *v
  * A certificate, a CRL and a CSR are built in two steps, since the private key stays with the caller: the x509_build_ calls write the bytes to be signed,
  * the caller signs them, and x509_assemble puts them and the signature together. That the signature is one of these bytes isn't checked.
  *
- * Names are whole Names, as x509_name_build and x509_name_from_text write them; keys are SubjectPublicKeyInfo and algorithms AlgorithmIdentifier, in DER. A list of extensions or
- * attributes is given as the encodings of its members one after the other, as x509_extension_encode writes them; a length of 0 is the empty list. X509_REPEATED where what
- * is to be built would have two extensions of one OID in one list (RFC 5280 4.2); nothing is written then. Where several inputs are bad, any of their answers may come. Rooms are as said under whole values. */
+ * Names are whole Names, as x509_name_build and x509_name_from_text write them; keys are SubjectPublicKeyInfo and algorithms AlgorithmIdentifier, in DER. A
+ * list of extensions or attributes is given as the encodings of its members one after the other, as x509_extension_encode writes them; a length of 0 is the
+ * empty list. X509_REPEATED where what is to be built would have two extensions of one OID in one list (RFC 5280 4.2); nothing is written then. Where several
+ * inputs are bad, any of their answers may come. Rooms are as said under whole values. */
 
-/* Writes an extension: with an OID, given by its content octets, critical where `critical` isn't 0, and holding these bytes, the encoding of its value, which isn't
- * decoded. X509_MALFORMED where no OID has the content octets.
+/* Writes an extension: with an OID, given by its content octets, critical where `critical` isn't 0, and holding these bytes, the encoding of its value, which
+ * isn't decoded. X509_MALFORMED where no OID has the content octets.
  * Answers X509_OK, X509_ROOM, X509_MEMORY, X509_OVERLENGTH, X509_MALFORMED. */
 x509_status x509_extension_encode(const uint8_t *oid, size_t oid_len, uint32_t critical, const uint8_t *value, size_t value_len,
                                   uint8_t *out, size_t room, size_t *written);
 
-/* Writes an entry of a CRL: of the certificate with this serial number (the DER encoding of an INTEGER, as the view of a certificate has it), revoked at that time, with
- * these extensions. X509_VALUE where the time is after 9999-12-31T23:59:59Z.
+/* Writes an entry of a CRL: of the certificate with this serial number (the DER encoding of an INTEGER, as the view of a certificate has it), revoked at that
+ * time, with these extensions. X509_VALUE where the time is after 9999-12-31T23:59:59Z.
  * Answers X509_OK, X509_ROOM, X509_MEMORY, X509_OVERLENGTH, X509_MALFORMED, X509_VALUE, X509_REPEATED. */
 x509_status x509_crl_entry_encode(const uint8_t *serial_number, size_t serial_number_len, uint64_t date, const uint8_t *extensions, size_t extensions_len,
                                   uint8_t *out, size_t room, size_t *written);
 
-/* Writes the bytes to be signed of a CSR (RFC 2986 4.1): for that subject and key, with these attributes, in any order, and with one that asks for these extensions, which stands
- * there where there are none too. X509_SET_DUPLICATE where two attributes are equal.
+/* Writes the bytes to be signed of a CSR (RFC 2986 4.1): for that subject and key, with these attributes, in any order, and with one that asks for these
+ * extensions, which stands there where there are none too. X509_SET_DUPLICATE where two attributes are equal.
  * Answers X509_OK, X509_ROOM, X509_MEMORY, X509_OVERLENGTH, X509_MALFORMED, X509_SET_DUPLICATE, X509_REPEATED. */
 x509_status x509_build_request(const uint8_t *subject, size_t subject_len, const uint8_t *key, size_t key_len, const uint8_t *attributes, size_t attributes_len,
                                const uint8_t *extensions, size_t extensions_len, uint8_t *out, size_t room, size_t *written);
 
-/* Writes the bytes to be signed of a certificate (TBSCertificate, RFC 5280 4.1): with that serial number (the DER encoding of an INTEGER), for a signature by that algorithm, by that
- * issuer, from the one moment to the other, which are UTCTime through 2049 and else GeneralizedTime, for that subject and key, and with these extensions in their order. It is of v3
- * where there are extensions, else of v1, and has no unique identifiers. That the certificate keeps the further rules of RFC 5280 isn't looked at. X509_VALUE where a date is after
- * 9999-12-31T23:59:59Z, or `not_after` is before `not_before`.
+/* Writes the bytes to be signed of a certificate (TBSCertificate, RFC 5280 4.1): with that serial number (the DER encoding of an INTEGER), for a signature by
+ * that algorithm, by that issuer, from the one moment to the other, which are UTCTime through 2049 and else GeneralizedTime, for that subject and key, and with
+ * these extensions in their order. It is of v3 where there are extensions, else of v1, and has no unique identifiers. That the certificate keeps the further
+ * rules of RFC 5280 isn't looked at. X509_VALUE where a date is after 9999-12-31T23:59:59Z, or `not_after` is before `not_before`.
  * Answers X509_OK, X509_ROOM, X509_MEMORY, X509_OVERLENGTH, X509_MALFORMED, X509_VALUE, X509_REPEATED. */
 x509_status x509_build_certificate(const uint8_t *serial_number, size_t serial_number_len, const uint8_t *algorithm, size_t algorithm_len,
-                                   const uint8_t *issuer, size_t issuer_len, uint64_t not_before, uint64_t not_after, const uint8_t *subject, size_t subject_len,
-                                   const uint8_t *key, size_t key_len, const uint8_t *extensions, size_t extensions_len, uint8_t *out, size_t room, size_t *written);
+                                   const uint8_t *issuer, size_t issuer_len, uint64_t not_before, uint64_t not_after,
+                                   const uint8_t *subject, size_t subject_len, const uint8_t *key, size_t key_len,
+                                   const uint8_t *extensions, size_t extensions_len, uint8_t *out, size_t room, size_t *written);
 
-/* The next four write the bytes to be signed of certificates of one kind each, with the extensions that the kind has: those that are said there, in that order. `extensions`
- * are put in front of them, as they are; X509_REPEATED also where one of them is one that the kind has. A key identifier is the SHA-1 digest of a key's octets (RFC 5280 4.2.1.2). Dates are as
- * said above. What is asked for by a number is asked for where it isn't 0.
+/* The next four write the bytes to be signed of certificates of one kind each, with the extensions that the kind has: those that are said there, in that order.
+ * `extensions` are put in front of them, as they are; X509_REPEATED also where one of them is one that the kind has. A key identifier is the SHA-1 digest of a
+ * key's octets (RFC 5280 4.2.1.2). Dates are as said above. What is asked for by a number is asked for where it isn't 0.
  *
- * A root authority (CA/Browser Forum, Baseline Requirements 7.1.2.1), which is its own issuer and signs with its own key: AKI; BasicConstraints of an authority, without a path
- * length constraint; KeyUsage with keyCertSign and cRLSign, and with digitalSignature where it signs OCSP responses; SKI. X509_FAILED where an authority can't have that
- * subject: it has a country, an organization and a common name, and may have state, locality, street address and postal code; each is alone in its relative name, is there once,
- * and stands in the order of 7.1.4.2.
+ * A root authority (CA/Browser Forum, Baseline Requirements 7.1.2.1), which is its own issuer and signs with its own key: AKI; BasicConstraints of an
+ * authority, without a path length constraint; KeyUsage with keyCertSign and cRLSign, and with digitalSignature where it signs OCSP responses; SKI. X509_FAILED
+ * where an authority can't have that subject: it has a country, an organization and a common name, and may have state, locality, street address and postal
+ * code; each is alone in its relative name, is there once, and stands in the order of 7.1.4.2.
  * Answers X509_OK, X509_ROOM, X509_MEMORY, X509_OVERLENGTH, X509_MALFORMED, X509_FAILED, X509_VALUE, X509_REPEATED. */
 x509_status x509_build_root(const uint8_t *serial_number, size_t serial_number_len, const uint8_t *algorithm, size_t algorithm_len,
                             uint64_t not_before, uint64_t not_after, const uint8_t *subject, size_t subject_len, const uint8_t *key, size_t key_len,
                             uint32_t signs_ocsp_responses, const uint8_t *extensions, size_t extensions_len, uint8_t *out, size_t room, size_t *written);
 
-/* An authority for TLS below another one, which has that name and that key (7.1.2.6): AKI of the issuer's key; BasicConstraints of an authority, with that path length
- * constraint where `has_path_len` isn't 0; KeyUsage as of a root; SKI; ExtendedKeyUsage with serverAuth, and with clientAuth where asked for. X509_VALUE also where the path
- * length constraint is above 255.
+/* An authority for TLS below another one, which has that name and that key (7.1.2.6): AKI of the issuer's key; BasicConstraints of an authority, with that path
+ * length constraint where `has_path_len` isn't 0; KeyUsage as of a root; SKI; ExtendedKeyUsage with serverAuth, and with clientAuth where asked for. X509_VALUE
+ * also where the path length constraint is above 255.
  * Answers X509_OK, X509_ROOM, X509_MEMORY, X509_OVERLENGTH, X509_MALFORMED, X509_VALUE, X509_REPEATED. */
 x509_status x509_build_subordinate(const uint8_t *serial_number, size_t serial_number_len, const uint8_t *algorithm, size_t algorithm_len,
-                                   const uint8_t *issuer, size_t issuer_len, const uint8_t *issuer_key, size_t issuer_key_len, uint64_t not_before, uint64_t not_after,
-                                   const uint8_t *subject, size_t subject_len, const uint8_t *key, size_t key_len, uint32_t has_path_len, uint32_t path_len,
+                                   const uint8_t *issuer, size_t issuer_len, const uint8_t *issuer_key, size_t issuer_key_len,
+                                   uint64_t not_before, uint64_t not_after, const uint8_t *subject, size_t subject_len,
+                                   const uint8_t *key, size_t key_len, uint32_t has_path_len, uint32_t path_len,
                                    uint32_t signs_ocsp_responses, uint32_t client_auth, const uint8_t *extensions, size_t extensions_len,
                                    uint8_t *out, size_t room, size_t *written);
 
 /* A TLS server of which control of its domains was validated (7.1.2.7): of the subject only the country and the common names are kept. AKI of the issuer's key;
- * ExtendedKeyUsage with serverAuth, and with clientAuth where asked for; BasicConstraints of no authority; KeyUsage with digitalSignature, and where asked for of an RSA key with
- * keyEncipherment and dataEncipherment, of an elliptic curve key with keyAgreement. The SAN isn't made: it is one of `extensions`.
+ * ExtendedKeyUsage with serverAuth, and with clientAuth where asked for; BasicConstraints of no authority; KeyUsage with digitalSignature, and where asked for
+ * of an RSA key with keyEncipherment and dataEncipherment, of an elliptic curve key with keyAgreement. The SAN isn't made: it is one of `extensions`.
  * Answers X509_OK, X509_ROOM, X509_MEMORY, X509_OVERLENGTH, X509_MALFORMED, X509_VALUE, X509_REPEATED. */
 x509_status x509_build_subscriber(const uint8_t *serial_number, size_t serial_number_len, const uint8_t *algorithm, size_t algorithm_len,
-                                  const uint8_t *issuer, size_t issuer_len, const uint8_t *issuer_key, size_t issuer_key_len, uint64_t not_before, uint64_t not_after,
-                                  const uint8_t *subject, size_t subject_len, const uint8_t *key, size_t key_len, uint32_t client_auth, uint32_t key_encipherment,
-                                  uint32_t key_agreement, uint32_t data_encipherment, const uint8_t *extensions, size_t extensions_len,
-                                  uint8_t *out, size_t room, size_t *written);
+                                  const uint8_t *issuer, size_t issuer_len, const uint8_t *issuer_key, size_t issuer_key_len,
+                                  uint64_t not_before, uint64_t not_after, const uint8_t *subject, size_t subject_len, const uint8_t *key, size_t key_len,
+                                  uint32_t client_auth, uint32_t key_encipherment, uint32_t key_agreement, uint32_t data_encipherment,
+                                  const uint8_t *extensions, size_t extensions_len, uint8_t *out, size_t room, size_t *written);
 
-/* A device (IEEE 802.1AR 8): AKI of the issuer's key; KeyUsage with digitalSignature; a SAN of `names`, a whole GeneralNames, which is left out where there are no bytes, and is
- * critical where the subject is the empty name. One of the names has to be that of a hardware module (RFC 4108 5): X509_FAILED where none says that it is, X509_MALFORMED where
- * the first that says so isn't one.
+/* A device (IEEE 802.1AR 8): AKI of the issuer's key; KeyUsage with digitalSignature; a SAN of `names`, a whole GeneralNames, which is left out where there are
+ * no bytes, and is critical where the subject is the empty name. One of the names has to be that of a hardware module (RFC 4108 5): X509_FAILED where none says
+ * that it is, X509_MALFORMED where the first that says so isn't one.
  * Answers X509_OK, X509_ROOM, X509_MEMORY, X509_OVERLENGTH, X509_MALFORMED, X509_FAILED, X509_VALUE, X509_REPEATED. */
 x509_status x509_build_device(const uint8_t *serial_number, size_t serial_number_len, const uint8_t *algorithm, size_t algorithm_len,
-                              const uint8_t *issuer, size_t issuer_len, const uint8_t *issuer_key, size_t issuer_key_len, uint64_t not_before, uint64_t not_after,
-                              const uint8_t *subject, size_t subject_len, const uint8_t *key, size_t key_len, const uint8_t *names, size_t names_len,
+                              const uint8_t *issuer, size_t issuer_len, const uint8_t *issuer_key, size_t issuer_key_len,
+                              uint64_t not_before, uint64_t not_after, const uint8_t *subject, size_t subject_len,
+                              const uint8_t *key, size_t key_len, const uint8_t *names, size_t names_len,
                               const uint8_t *extensions, size_t extensions_len, uint8_t *out, size_t room, size_t *written);
 
-/* Writes the bytes to be signed of a CRL of v2 (TBSCertList, RFC 5280 5.1.2): issued at that time by the subject of the issuer's certificate, for a signature by that
- * algorithm, with that next update where `has_next_update` isn't 0, with these entries, and with these extensions behind two: the CRL number, whose octets stand most
- * significant first, and the AKI, which is the SKI in the issuer's certificate, and where that has none, the SHA-1 digest of its public key (RFC 5280 4.2.1.2).
- * `issuer` is a certificate, and entries are given as extensions are, as x509_crl_entry_encode writes them. X509_FAILED where the issuer's certificate has two SKIs;
- * X509_VALUE where the number has no octets, a time is after 9999-12-31T23:59:59Z, or the next update is before this one; X509_REPEATED also where `extensions` has a CRL
- * number or an AKI. The extensions of entries aren't looked at here, but by x509_crl_entry_encode.
+/* Writes the bytes to be signed of a CRL of v2 (TBSCertList, RFC 5280 5.1.2): issued at that time by the subject of the issuer's certificate, for a signature
+ * by that algorithm, with that next update where `has_next_update` isn't 0, with these entries, and with these extensions behind two: the CRL number, whose
+ * octets stand most significant first, and the AKI, which is the SKI in the issuer's certificate, and where that has none, the SHA-1 digest of its public key
+ * (RFC 5280 4.2.1.2). `issuer` is a certificate, and entries are given as extensions are, as x509_crl_entry_encode writes them. X509_FAILED where the issuer's
+ * certificate has two SKIs; X509_VALUE where the number has no octets, a time is after 9999-12-31T23:59:59Z, or the next update is before this one;
+ * X509_REPEATED also where `extensions` has a CRL number or an AKI. The extensions of entries aren't looked at here, but by x509_crl_entry_encode.
  * Answers X509_OK, X509_ROOM, X509_MEMORY, X509_OVERLENGTH, X509_MALFORMED, X509_FAILED, X509_VALUE, X509_REPEATED. */
 x509_status x509_build_crl(const uint8_t *issuer, size_t issuer_len, const uint8_t *algorithm, size_t algorithm_len, const uint8_t *number, size_t number_len,
                            uint64_t this_update, uint32_t has_next_update, uint64_t next_update, const uint8_t *entries, size_t entries_len,
                            const uint8_t *extensions, size_t extensions_len, uint8_t *out, size_t room, size_t *written);
 
-/* Writes the certificate, the CRL or the CSR of a signed part, an algorithm and a signature (its octets, all bits of which are used): SEQUENCE { part, algorithm, BIT STRING }, in
- * which the bytes of the part and of the algorithm stand as they are. X509_FAILED where the part is that of a certificate or of a CRL with another algorithm inside
- * (RFC 5280 4.1.1.2, 5.1.1.2). X509_MALFORMED where the algorithm is no AlgorithmIdentifier, or the part none of the three kinds under RFC 5280.
+/* Writes the certificate, the CRL or the CSR of a signed part, an algorithm and a signature (its octets, all bits of which are used): SEQUENCE { part,
+ * algorithm, BIT STRING }, in which the bytes of the part and of the algorithm stand as they are. X509_FAILED where the part is that of a certificate or of a
+ * CRL with another algorithm inside (RFC 5280 4.1.1.2, 5.1.1.2). X509_MALFORMED where the algorithm is no AlgorithmIdentifier, or the part none of the three
+ * kinds under RFC 5280.
  * Answers X509_OK, X509_ROOM, X509_MEMORY, X509_OVERLENGTH, X509_MALFORMED, X509_FAILED. */
 x509_status x509_assemble(const uint8_t *part, size_t part_len, const uint8_t *algorithm, size_t algorithm_len, const uint8_t *signature, size_t signature_len,
                           uint8_t *out, size_t room, size_t *written);

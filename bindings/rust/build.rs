@@ -1,13 +1,14 @@
 //! Finds the C library: where `X509_LIBRARY` names its folder or a file there, or else by `pkg-config`.
 //!
-//! The variable means the same to the package for Python: of a folder each takes the library that it can use, here the static one and only where there is none the shared
-//! one; of a file that is a shared library, that; and an empty text is as none.
+//! The variable means the same to the package for Python: of a folder each takes the library that it can use, here the static one and only where there is none
+//! the shared one; of a file that is a shared library, that; and an empty text is as none.
 use std::env;
 use std::path::Path;
 use std::process::{exit, Command};
 
 const MISSING: &str = "the C library x509 isn't found.
-Install it, from the archive of a release, by libx509-rattle-dev on Debian, or by `tools/build/install_c.sh PREFIX` of the sources, and say where it is by one of
+Install it, from the archive of a release, by libx509-rattle-dev on Debian, or by `tools/build/install_c.sh PREFIX` of the sources, and say where it is \
+by one of
   X509_LIBRARY=PREFIX/lib              a folder of libx509.a, of libx509_c.a and liblibc_c.a, or of libx509.so; or a file there
   PKG_CONFIG_PATH=PREFIX/lib/pkgconfig a folder of x509.pc, for the program pkg-config";
 

@@ -221,11 +221,14 @@ static void paths(void)
 #define ALL_EXCLUDED "\x30\x08\xa1\x06\x30\x04\xa4\x02\x30\x00"
 #define UNUSABLE "\x30\x0b\xa1\x09\x30\x07\xa4\x02\x30\x00\x80\x01\x01"
 
+/* What is said last to a call that validates: no constraints, any policies, these settings, no room for policies, and where it answers. */
+#define PLAINLY(settings) NULL, 0, NULL, 0, &(settings), sizeof(settings), NULL, 0, &answer
+
 /* The certificate of the examples as a path under itself, with settings of so many bytes and constraints. */
 static x509_status validate(const void *settings, size_t size, const uint8_t *constraints, size_t constraints_len, x509_path_answer *answer)
 {
-    return x509_path_validate(certificate, certificate_len, certificate, certificate_len, &certificate_len, 1, constraints, constraints_len, NULL, 0, settings, size, NULL, 0,
-                              answer);
+    return x509_path_validate(certificate, certificate_len, certificate, certificate_len, &certificate_len, 1, constraints, constraints_len, NULL, 0,
+                              settings, size, NULL, 0, answer);
 }
 
 static int is_fault(x509_status status, const x509_path_answer *answer, size_t place, uint32_t reason)
@@ -273,7 +276,8 @@ static void policies_of_paths(void)
     x509_path_answer answer = UNTOUCHED;
     const size_t len = certificate_len;
     memset(out, 7, sizeof out);
-    WANT(x509_path_validate(certificate, len, certificate, len, &len, 1, NULL, 0, BYTES(ONE_POLICY), &asked, sizeof asked, out, sizeof out, &answer) == X509_OK);
+    WANT(x509_path_validate(certificate, len, certificate, len, &len, 1, NULL, 0, BYTES(ONE_POLICY), &asked, sizeof asked, out, sizeof out, &answer)
+         == X509_OK);
     WANT(answer.policies_len == 2 && memcmp(out, NO_POLICY "\7", 3) == 0);
     memset(out, 7, sizeof out);
     WANT(x509_path_validate(certificate, len, certificate, len, &len, 1, NULL, 0, NULL, 0, &asked, sizeof asked, out, 1, &answer) == X509_OK);
@@ -289,8 +293,8 @@ static void policies_of_paths(void)
     asked.flags = UINT64_MAX;
     WANT(validate(&asked, sizeof asked, NULL, 0, &answer) == X509_VALUE && is_untouched(answer));
     asked.flags = X509_PATH_EXPLICIT_POLICY;
-    WANT(is_fault(x509_path_validate(certificate, len, certificate, len, &len, 1, NULL, 0, BYTES(ANY_POLICY), &asked, sizeof asked, NULL, 0, &answer), &answer, 0,
-                  X509_PATH_POLICY));
+    WANT(is_fault(x509_path_validate(certificate, len, certificate, len, &len, 1, NULL, 0, BYTES(ANY_POLICY), &asked, sizeof asked, NULL, 0, &answer), &answer,
+                  0, X509_PATH_POLICY));
     answer = UNTOUCHED;
     WANT(x509_path_validate(certificate, len, certificate, len, &len, 1, NULL, 0, BYTES("\x30\x01"), &asked, sizeof asked, NULL, 0, &answer) == X509_MALFORMED);
     WANT(is_untouched(answer));
@@ -318,36 +322,35 @@ static void validated_paths(void)
     WANT(validate(&first, sizeof first, BYTES(UNUSABLE), &answer) == X509_VALUE && is_untouched(answer));
     WANT(validate(&first, sizeof first, BYTES("\x30\x01"), &answer) == X509_MALFORMED && is_untouched(answer));
 
-    WANT(x509_path_validate(certificate, len, NULL, 0, NULL, 0, NULL, 0, NULL, 0, &first, sizeof first, NULL, 0, &answer) == X509_ABSENT && is_untouched(answer));
-    WANT(x509_path_validate(certificate, len, certificate, len - 1, &len, 1, NULL, 0, NULL, 0, &first, sizeof first, NULL, 0, &answer) == X509_FAILED && is_untouched(answer));
-    WANT(x509_path_validate(certificate, len, certificate, len, around, 2, NULL, 0, NULL, 0, &first, sizeof first, NULL, 0, &answer) == X509_FAILED && is_untouched(answer));
-    WANT(x509_path_validate(NULL, 0, certificate, len, &len, 1, NULL, 0, NULL, 0, &first, sizeof first, NULL, 0, &answer) == X509_MALFORMED && is_untouched(answer));
-    WANT(is_fault(x509_path_validate(certificate, len, list, list_len, &list_len, 1, NULL, 0, NULL, 0, &first, sizeof first, NULL, 0, &answer), &answer, 0, X509_PATH_DECODE));
+    WANT(x509_path_validate(certificate, len, NULL, 0, NULL, 0, PLAINLY(first)) == X509_ABSENT && is_untouched(answer));
+    WANT(x509_path_validate(certificate, len, certificate, len - 1, &len, 1, PLAINLY(first)) == X509_FAILED && is_untouched(answer));
+    WANT(x509_path_validate(certificate, len, certificate, len, around, 2, PLAINLY(first)) == X509_FAILED && is_untouched(answer));
+    WANT(x509_path_validate(NULL, 0, certificate, len, &len, 1, PLAINLY(first)) == X509_MALFORMED && is_untouched(answer));
+    WANT(is_fault(x509_path_validate(certificate, len, list, list_len, &list_len, 1, PLAINLY(first)), &answer, 0, X509_PATH_DECODE));
 
     const uint8_t *name = certificate + view.subject.place, *key = certificate + view.subject_public_key_info.place;
     const size_t name_len = view.subject.len, key_len = view.subject_public_key_info.len;
     answer = UNTOUCHED;
-    WANT(x509_path_validate_under_anchor(list, list_len, certificate, len, &len, 1, NULL, 0, NULL, 0, &first, sizeof first, NULL, 0, &answer) == X509_MALFORMED && is_untouched(answer));
-    WANT(x509_path_validate_under_key(name, name_len - 1, key, key_len, certificate, len, &len, 1, NULL, 0, NULL, 0, &first, sizeof first, NULL, 0, &answer) == X509_MALFORMED);
-    WANT(x509_path_validate_under_key(name, name_len, key, key_len - 1, certificate, len, &len, 1, NULL, 0, NULL, 0, &first, sizeof first, NULL, 0, &answer) == X509_MALFORMED);
+    WANT(x509_path_validate_under_anchor(list, list_len, certificate, len, &len, 1, PLAINLY(first)) == X509_MALFORMED && is_untouched(answer));
+    WANT(x509_path_validate_under_key(name, name_len - 1, key, key_len, certificate, len, &len, 1, PLAINLY(first)) == X509_MALFORMED);
+    WANT(x509_path_validate_under_key(name, name_len, key, key_len - 1, certificate, len, &len, 1, PLAINLY(first)) == X509_MALFORMED);
     WANT(is_untouched(answer));
-    WANT(x509_path_validate_under_anchor(certificate, len, certificate, len, &len, 1, NULL, 0, NULL, 0, &first, sizeof first, NULL, 0, &answer) == X509_OK);
+    WANT(x509_path_validate_under_anchor(certificate, len, certificate, len, &len, 1, PLAINLY(first)) == X509_OK);
     WANT(is_at(answer.name, view.subject.place, name_len) && is_at(answer.key, view.subject_public_key_info.place, key_len));
     answer = UNTOUCHED;
-    WANT(x509_path_validate_under_key(name, name_len, key, key_len, certificate, len, &len, 1, NULL, 0, NULL, 0, &first, sizeof first, NULL, 0, &answer) == X509_OK);
+    WANT(x509_path_validate_under_key(name, name_len, key, key_len, certificate, len, &len, 1, PLAINLY(first)) == X509_OK);
     WANT(is_at(answer.name, view.subject.place, name_len) && is_at(answer.key, view.subject_public_key_info.place, key_len));
-    WANT(is_fault(x509_path_validate_under_key(BYTES(NAME), key, key_len, certificate, len, &len, 1, NULL, 0, NULL, 0, &first, sizeof first, NULL, 0, &answer), &answer, 0,
-                  X509_PATH_ISSUER));
-    WANT(is_fault(x509_path_validate_under_anchor(certificate, len, certificate, len, &len, 1, NULL, 0, NULL, 0, &before, sizeof before, NULL, 0, &answer), &answer, 0,
-                  X509_PATH_MOMENT));
+    WANT(is_fault(x509_path_validate_under_key(BYTES(NAME), key, key_len, certificate, len, &len, 1, PLAINLY(first)), &answer, 0, X509_PATH_ISSUER));
+    WANT(is_fault(x509_path_validate_under_anchor(certificate, len, certificate, len, &len, 1, PLAINLY(before)), &answer, 0, X509_PATH_MOMENT));
     /* no certificates, lengths that don't add up, and no settings */
     answer = UNTOUCHED;
-    WANT(x509_path_validate_under_key(name, name_len, key, key_len, NULL, 0, NULL, 0, NULL, 0, NULL, 0, &first, sizeof first, NULL, 0, &answer) == X509_ABSENT);
-    WANT(x509_path_validate_under_anchor(certificate, len, NULL, 0, NULL, 0, NULL, 0, NULL, 0, &first, sizeof first, NULL, 0, &answer) == X509_ABSENT);
-    WANT(x509_path_validate_under_key(name, name_len, key, key_len, certificate, len - 1, &len, 1, NULL, 0, NULL, 0, &first, sizeof first, NULL, 0, &answer) == X509_FAILED);
-    WANT(x509_path_validate_under_anchor(certificate, len, certificate, len - 1, &len, 1, NULL, 0, NULL, 0, &first, sizeof first, NULL, 0, &answer) == X509_FAILED);
+    WANT(x509_path_validate_under_key(name, name_len, key, key_len, NULL, 0, NULL, 0, PLAINLY(first)) == X509_ABSENT);
+    WANT(x509_path_validate_under_anchor(certificate, len, NULL, 0, NULL, 0, PLAINLY(first)) == X509_ABSENT);
+    WANT(x509_path_validate_under_key(name, name_len, key, key_len, certificate, len - 1, &len, 1, PLAINLY(first)) == X509_FAILED);
+    WANT(x509_path_validate_under_anchor(certificate, len, certificate, len - 1, &len, 1, PLAINLY(first)) == X509_FAILED);
     WANT(x509_path_validate_under_key(name, name_len, key, key_len, certificate, len, &len, 1, NULL, 0, NULL, 0, NULL, 0, NULL, 0, &answer) == X509_VALUE);
-    WANT(x509_path_validate_under_anchor(certificate, len, certificate, len, &len, 1, NULL, 0, NULL, 0, NULL, 0, NULL, 0, &answer) == X509_VALUE && is_untouched(answer));
+    WANT(x509_path_validate_under_anchor(certificate, len, certificate, len, &len, 1, NULL, 0, NULL, 0, NULL, 0, NULL, 0, &answer) == X509_VALUE
+         && is_untouched(answer));
 }
 
 /* Ten certificates, each an authority that is its own issuer, from 1970 to 9999, without a path length constraint (RFC 5280 4.1). */
@@ -370,14 +373,15 @@ static void long_paths(void)
     x509_certificate view;
     WANT(x509_certificate_view(BYTES(authority), &view) == X509_OK && is_at(view.extensions, view.extensions.place, 19));
     WANT(x509_path_check(BYTES(authority), path, sizeof path, lens, COUNT, now.moment, &fault) == X509_OK && fault.reason == 7);
-    WANT(x509_path_validate(BYTES(authority), path, sizeof path, lens, COUNT, NULL, 0, NULL, 0, &now, sizeof now, NULL, 0, &answer) == X509_OK && answer.reason == 0);
-    WANT(x509_path_validate_under_anchor(BYTES(authority), path, sizeof path, lens, COUNT, NULL, 0, NULL, 0, &now, sizeof now, NULL, 0, &answer) == X509_OK);
-    WANT(x509_path_validate_under_key(BYTES(NAME), BYTES("\x30\x08\x30\x03\x06\x01\x2a\x03\x01\x00"), path, sizeof path, lens, COUNT, NULL, 0, NULL, 0, &now, sizeof now,
-                                      NULL, 0, &answer) == X509_OK);
+    WANT(x509_path_validate(BYTES(authority), path, sizeof path, lens, COUNT, PLAINLY(now)) == X509_OK && answer.reason == 0);
+    WANT(x509_path_validate_under_anchor(BYTES(authority), path, sizeof path, lens, COUNT, PLAINLY(now)) == X509_OK);
+    WANT(x509_path_validate_under_key(BYTES(NAME), BYTES("\x30\x08\x30\x03\x06\x01\x2a\x03\x01\x00"), path, sizeof path, lens, COUNT, PLAINLY(now))
+         == X509_OK);
     /* the fifth isn't, with cA false in its BasicConstraints, which DER doesn't encode */
     path[5 * LEN - 11] = 0;
-    WANT(x509_path_check(BYTES(authority), path, sizeof path, lens, COUNT, now.moment, &fault) == X509_FAULT && fault.place == 4 && fault.reason == X509_PATH_CRITICAL);
-    WANT(is_fault(x509_path_validate(BYTES(authority), path, sizeof path, lens, COUNT, NULL, 0, NULL, 0, &now, sizeof now, NULL, 0, &answer), &answer, 4, X509_PATH_CRITICAL));
+    WANT(x509_path_check(BYTES(authority), path, sizeof path, lens, COUNT, now.moment, &fault) == X509_FAULT && fault.place == 4
+         && fault.reason == X509_PATH_CRITICAL);
+    WANT(is_fault(x509_path_validate(BYTES(authority), path, sizeof path, lens, COUNT, PLAINLY(now)), &answer, 4, X509_PATH_CRITICAL));
 }
 
 static void lists(void)
@@ -412,8 +416,10 @@ static void found_entries(const uint8_t *entries, size_t len)
 {
     x509_crl_entry entry = {{7, 7}, 7, {7, 7}};
     WANT(x509_crl_entry_find(entries, len, BYTES("\x02\x01\x02"), &entry) == X509_ABSENT && is_at(entry.serial_number, 7, 7) && entry.date == 7);
-    WANT(x509_crl_entry_find(entries, len, BYTES("\x02\x00"), &entry) == X509_MALFORMED && x509_crl_entry_find(entries, len, BYTES("\x04\x01\x03"), &entry) == X509_MALFORMED);
-    WANT(x509_crl_entry_find(nothing, 0, BYTES("\x02\x01\x03"), &entry) == X509_MALFORMED && x509_crl_entry_find(entries, len - 1, BYTES("\x02\x01\x03"), &entry) == X509_MALFORMED);
+    WANT(x509_crl_entry_find(entries, len, BYTES("\x02\x00"), &entry) == X509_MALFORMED
+         && x509_crl_entry_find(entries, len, BYTES("\x04\x01\x03"), &entry) == X509_MALFORMED);
+    WANT(x509_crl_entry_find(nothing, 0, BYTES("\x02\x01\x03"), &entry) == X509_MALFORMED
+         && x509_crl_entry_find(entries, len - 1, BYTES("\x02\x01\x03"), &entry) == X509_MALFORMED);
     WANT(is_at(entry.serial_number, 7, 7) && entry.date == 7 && is_at(entry.extensions, 7, 7));
     WANT(x509_crl_entry_find(entries, len, BYTES("\x02\x08\x12\x34\x56\x78\x90\xab\xcd\xef"), &entry) == X509_OK);
     WANT(is_at(entry.serial_number, 24, 10) && entry.date == 1768903200 && is_at(entry.extensions, 49, 14));
@@ -421,10 +427,12 @@ static void found_entries(const uint8_t *entries, size_t len)
     WANT(x509_crl_entry_find(entries, len, BYTES("\x02\x01\x03"), &entry) == X509_OK && is_at(entry.serial_number, 65, 3));
 
     /* the first of two; what stands behind the one that is found isn't looked at */
-    const char twice[] = "\x30\x3c\x30\x12\x02\x01\x05\x17\x0d" "260101000000Z" "\x30\x12\x02\x01\x06\x17\x0d" "260102000000Z" "\x30\x12\x02\x01\x05\x17\x0d" "260103000000Z";
+    const char twice[] = "\x30\x3c\x30\x12\x02\x01\x05\x17\x0d" "260101000000Z" "\x30\x12\x02\x01\x06\x17\x0d" "260102000000Z"
+                         "\x30\x12\x02\x01\x05\x17\x0d" "260103000000Z";
     WANT(x509_crl_entry_find(BYTES(twice), BYTES("\x02\x01\x05"), &entry) == X509_OK && is_at(entry.serial_number, 4, 3) && entry.date == 1767225600);
     WANT(x509_crl_entry_find(BYTES(twice), BYTES("\x02\x01\x06"), &entry) == X509_OK && is_at(entry.serial_number, 24, 3) && entry.date == 1767312000);
-    WANT(x509_crl_entry_find(BYTES("\x30\x15\x30\x12\x02\x01\x05\x17\x0d" "260101000000Z" "\x05"), BYTES("\x02\x01\x05"), &entry) == X509_OK && is_at(entry.serial_number, 4, 3));
+    WANT(x509_crl_entry_find(BYTES("\x30\x15\x30\x12\x02\x01\x05\x17\x0d" "260101000000Z" "\x05"), BYTES("\x02\x01\x05"), &entry) == X509_OK
+         && is_at(entry.serial_number, 4, 3));
     WANT(x509_crl_entry_find(BYTES("\x30\x00"), BYTES("\x02\x01\x05"), &entry) == X509_ABSENT);
     /* no lists: of no entry, of one without a date, and octets behind */
     WANT(x509_crl_entry_find(BYTES("\x30\x02\x05\x00"), BYTES("\x02\x01\x05"), &entry) == X509_ABSENT);
@@ -439,7 +447,8 @@ static void found_entries(const uint8_t *entries, size_t len)
 /* An indirect list by hand (RFC 5280 5.3.3): the entries 5, 6, 7 and 8, of which 6 names the issuer with the DNS name a, behind a reason, and 8 that with b. */
 static void issued_entries(void)
 {
-    const char value[] = "\x30\x81\x82" ENTRY_OF("\x12", "\x05") ENTRY_OF("\x31", "\x06") "\x30\x1d\x30\x0a\x06\x03\x55\x1d\x15\x04\x03\x0a\x01\x01" ISSUED_BY("a")
+    const char value[] = "\x30\x81\x82" ENTRY_OF("\x12", "\x05") ENTRY_OF("\x31", "\x06")
+                         "\x30\x1d\x30\x0a\x06\x03\x55\x1d\x15\x04\x03\x0a\x01\x01" ISSUED_BY("a")
                          ENTRY_OF("\x12", "\x07") ENTRY_OF("\x25", "\x08") "\x30\x11" ISSUED_BY("b");
     x509_crl_entry entry = {{7, 7}, 7, {7, 7}};
     x509_span issuer = {0, 0};
@@ -451,7 +460,8 @@ static void issued_entries(void)
     WANT(x509_crl_issued_next(BYTES(value), &at, &issuer, &entry) == X509_ABSENT && at == 133 && is_at(issuer, 128, 5) && is_at(entry.serial_number, 96, 3));
     x509_general_name name;
     size_t within = 0;
-    WANT(x509_general_names_next((const uint8_t *)value + issuer.place, issuer.len, &within, &name) == X509_OK && name.kind == X509_GENERAL_NAME_DNS && is_at(name.content, 4, 1));
+    WANT(x509_general_names_next((const uint8_t *)value + issuer.place, issuer.len, &within, &name) == X509_OK && name.kind == X509_GENERAL_NAME_DNS
+         && is_at(name.content, 4, 1));
 
     /* twice in one entry; what holds no names; and a place that is none */
     const char twice[] = "\x30\x38" ENTRY_OF("\x36", "\x05") "\x30\x22" ISSUED_BY("a") ISSUED_BY("b");
@@ -501,8 +511,8 @@ static int is_unanswered(const x509_revocation_answer *answer)
     return is_answer(answer, 7, 7, 7, 7, 7);
 }
 
-/* Of examples/data/make.py: the list is in date from 2026-02-01T00:00:00Z to 2026-03-01T00:00:00Z, and has the serial number of the certificate, revoked at 2026-01-20T10:00:00Z since
- * its key is compromised. The reasons are the bits 1 to 8 (RFC 5280 4.2.1.13). */
+/* Of examples/data/make.py: the list is in date from 2026-02-01T00:00:00Z to 2026-03-01T00:00:00Z, and has the serial number of the certificate, revoked at
+ * 2026-01-20T10:00:00Z since its key is compromised. The reasons are the bits 1 to 8 (RFC 5280 4.2.1.13). */
 static void statuses_by_lists(void)
 {
     enum { FROM = 1769904000, TO = 1772323200, DATE = 1768903200, ALL = 0x1fe };
@@ -511,7 +521,8 @@ static void statuses_by_lists(void)
     WANT(asked_status(&given, 1, (x509_revocation_settings){FROM, 0}, &answer) == X509_OK && is_answer(&answer, X509_REVOKED, 1, 0, DATE, 0));
     WANT(asked_status(&given, 1, (x509_revocation_settings){TO, 0}, &answer) == X509_OK && is_answer(&answer, X509_REVOKED, 1, 0, DATE, 0));
     WANT(asked_status(&given, 1, (x509_revocation_settings){TO, X509_REVOCATION_WITHOUT_NEXT_UPDATE}, &answer) == X509_OK && answer.status == X509_REVOKED);
-    WANT(asked_status(&given, 1, (x509_revocation_settings){FROM, X509_REVOCATION_USE_DELTAS}, &answer) == X509_OK && is_answer(&answer, X509_REVOKED, 1, 0, DATE, 0));
+    WANT(asked_status(&given, 1, (x509_revocation_settings){FROM, X509_REVOCATION_USE_DELTAS}, &answer) == X509_OK
+         && is_answer(&answer, X509_REVOKED, 1, 0, DATE, 0));
     WANT(asked_status(&given, 1, (x509_revocation_settings){FROM - 1, 0}, &answer) == X509_OK && is_answer(&answer, X509_UNDETERMINED, 0, 0, 0, ALL));
     WANT(asked_status(&given, 1, (x509_revocation_settings){TO + 1, 0}, &answer) == X509_OK && is_answer(&answer, X509_UNDETERMINED, 0, 0, 0, ALL));
     WANT(asked_status(NULL, 0, (x509_revocation_settings){FROM, 0}, &answer) == X509_OK && is_answer(&answer, X509_UNDETERMINED, 0, 0, 0, ALL));
@@ -575,7 +586,8 @@ static void refused_statuses(void)
     WANT(x509_revocation_status(certificate, certificate_len, signed_list, signed_list_len, &given, 1, &settings, sizeof settings - 1, &answer) == X509_VALUE);
     WANT(x509_revocation_status(nothing, 0, signed_list, signed_list_len, &given, 1, &settings, sizeof settings, &answer) == X509_MALFORMED);
     WANT(x509_revocation_status(list, list_len, signed_list, signed_list_len, &given, 1, &settings, sizeof settings, &answer) == X509_MALFORMED);
-    WANT(x509_revocation_status(certificate, certificate_len, nothing, 0, &given, 1, &settings, sizeof settings, &answer) == X509_FAILED && is_unanswered(&answer));
+    WANT(x509_revocation_status(certificate, certificate_len, nothing, 0, &given, 1, &settings, sizeof settings, &answer) == X509_FAILED
+         && is_unanswered(&answer));
     other.key.len++;
     WANT(asked_status(&other, 1, settings, &answer) == X509_FAILED && is_unanswered(&answer));
     other.key = (x509_span){SIZE_MAX, 2};

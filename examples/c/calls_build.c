@@ -40,8 +40,8 @@ static void built_requests(void)
     WANT(x509_build_request(BYTES("\x30\x00"), BYTES("\x30\x00"), nothing, 0, nothing, 0, room, sizeof room, &written) == X509_MALFORMED);
     WANT(x509_build_request(BYTES("\x30\x00"), BYTES(KEY), nothing, 0, BYTES("\x30\x00"), room, sizeof room, &written) == X509_MALFORMED);
     /* the attribute 1.2.3 twice, and one that asks for extensions too */
-    WANT(x509_build_request(BYTES("\x30\x00"), BYTES(KEY), BYTES("\x30\x08\x06\x02\x2a\x03\x31\x02\x05\x00" "\x30\x08\x06\x02\x2a\x03\x31\x02\x05\x00"), nothing, 0,
-                            room, sizeof room, &written) == X509_SET_DUPLICATE && written == 77);
+    WANT(x509_build_request(BYTES("\x30\x00"), BYTES(KEY), BYTES("\x30\x08\x06\x02\x2a\x03\x31\x02\x05\x00" "\x30\x08\x06\x02\x2a\x03\x31\x02\x05\x00"),
+                            nothing, 0, room, sizeof room, &written) == X509_SET_DUPLICATE && written == 77);
     WANT(x509_build_request(BYTES("\x30\x00"), BYTES(KEY), BYTES("\x30\x0f\x06\x09\x2a\x86\x48\x86\xf7\x0d\x01\x09\x0e\x31\x02\x30\x00"), nothing, 0,
                             room, sizeof room, &written) == X509_SET_DUPLICATE && written == 77);
     WANT(WROTE(x509_assemble(BYTES(REQUEST), BYTES(ALGORITHM), nothing, 0, room, sizeof room, &written), "\x30\x33" REQUEST ALGORITHM "\x03\x01\x00"));
@@ -58,7 +58,8 @@ static void built_requests(void)
 #define CERTIFICATE_PART "\x30\x6b\xa0\x03\x02\x01\x02\x02\x01\x01" ALGORITHM ISSUER VALIDITY ISSUER KEY "\xa3\x0f\x30\x0d" SKI
 #define ISSUER_CERTIFICATE "\x30\x77" CERTIFICATE_PART ALGORITHM "\x03\x01\x00"
 /* The same certificate, with that extension twice. */
-#define TWO_KEY_IDENTIFIERS "\x30\x81\x84\x30\x78\xa0\x03\x02\x01\x02\x02\x01\x01" ALGORITHM ISSUER VALIDITY ISSUER KEY "\xa3\x1c\x30\x1a" SKI SKI ALGORITHM "\x03\x01\x00"
+#define TWO_KEY_IDENTIFIERS "\x30\x81\x84\x30\x78\xa0\x03\x02\x01\x02\x02\x01\x01" ALGORITHM ISSUER VALIDITY ISSUER KEY "\xa3\x1c\x30\x1a" SKI SKI \
+    ALGORITHM "\x03\x01\x00"
 /* The same part without extensions, of v1, and with the last moment of 9999 as its end. */
 #define BARE_PART "\x30\x55\x02\x01\x01" ALGORITHM ISSUER VALIDITY ISSUER KEY
 #define LONG_PART "\x30\x57\x02\x01\x01" ALGORITHM ISSUER "\x30\x20" THIS_UPDATE "\x18\x0f" "99991231235959Z" ISSUER KEY
@@ -102,8 +103,8 @@ static void built_certificates(void)
     WANT(build_certificate("\x02\x01\x01", 3, 253402300800, "", 0) == X509_VALUE && written == 77);
     WANT(build_certificate("\x02\x00", 2, A_MONTH_LATER, "", 0) == X509_MALFORMED && written == 77);
     WANT(build_certificate("\x02\x01\x01", 3, A_MONTH_LATER, SKI, sizeof SKI - 2) == X509_MALFORMED && written == 77);
-    WANT(x509_build_certificate(BYTES("\x02\x01\x01"), BYTES(ALGORITHM), BYTES(KEY), MOMENT, A_MONTH_LATER, BYTES(ISSUER), BYTES(KEY), nothing, 0, room, sizeof room,
-                                &written) == X509_MALFORMED && written == 77);
+    WANT(x509_build_certificate(BYTES("\x02\x01\x01"), BYTES(ALGORITHM), BYTES(KEY), MOMENT, A_MONTH_LATER, BYTES(ISSUER), BYTES(KEY), nothing, 0, room,
+                                sizeof room, &written) == X509_MALFORMED && written == 77);
     WANT(x509_build_certificate(BYTES("\x02\x01\x01"), BYTES(ALGORITHM), BYTES(ISSUER), MOMENT, A_MONTH_LATER, BYTES(ISSUER), BYTES(ISSUER), nothing, 0, room,
                                 sizeof room, &written) == X509_MALFORMED && written == 77);
 }
@@ -142,7 +143,8 @@ static void built_certificates(void)
                          SKI_OF(ABC_DIGEST) FOR_SERVERS
 #define SUBSCRIBER_PART "\x30\x81\xbf" V3 NAME VALIDITY KEPT_NAME KEY "\xa3\x56\x30\x54" AKI_OF(EMPTY_DIGEST) FOR_SERVERS NO_AUTHORITY KEY_USAGE("\x07\x80")
 #define DEVICE_PART "\x30\x81\x8f" V3 NAME VALIDITY NAME KEY "\xa3\x33\x30\x31" AKI_OF(EMPTY_DIGEST) KEY_USAGE("\x07\x80")
-/* The name of a hardware module (RFC 4108 5) of type 1.2.3.4 with the serial number ab, as GeneralNames, and another name of that type; and the part with the first. */
+/* The name of a hardware module (RFC 4108 5) of type 1.2.3.4 with the serial number ab, as GeneralNames, and another name of that type; and the part with the
+ * first. */
 #define MODULE "\x30\x17\xa0\x15\x06\x08\x2b\x06\x01\x05\x05\x07\x08\x04\xa0\x09\x30\x07\x06\x02\x2a\x03\x04\x01\xab"
 #define NO_MODULE "\x30\x10\xa0\x0e\x06\x08\x2b\x06\x01\x05\x05\x07\x08\x04\xa0\x02\x05\x00"
 #define MODULE_PART "\x30\x81\xb1" V3 NAME VALIDITY NAME KEY "\xa3\x55\x30\x53" AKI_OF(EMPTY_DIGEST) KEY_USAGE("\x07\x80") \
@@ -177,8 +179,8 @@ static void built_subordinates(void)
     WANT(x509_build_subordinate(NUMBER_AND_ALGORITHM, ISSUER_AND_DATES, BYTES(NAME), BYTES(KEY), 0, 256, 1, 1, nothing, 0, OUT) == X509_OK);
     const char behind[] = AUTHORITY KEY_USAGE("\x01\x86") SKI_OF(ABC_DIGEST) FOR_BOTH;
     WANT(written > sizeof behind && memcmp(room + written - (sizeof behind - 1), behind, sizeof behind - 1) == 0);
-    WANT(x509_build_subordinate(NUMBER_AND_ALGORITHM, ISSUER_AND_DATES, BYTES(NAME), BYTES(KEY), 1, 0, 0, 0, nothing, 0, room, sizeof SUBORDINATE_PART - 2, &written)
-         == X509_ROOM && written == sizeof SUBORDINATE_PART - 1);
+    WANT(x509_build_subordinate(NUMBER_AND_ALGORITHM, ISSUER_AND_DATES, BYTES(NAME), BYTES(KEY), 1, 0, 0, 0, nothing, 0, room, sizeof SUBORDINATE_PART - 2,
+                                &written) == X509_ROOM && written == sizeof SUBORDINATE_PART - 1);
     written = 77;
     WANT(x509_build_subordinate(NUMBER_AND_ALGORITHM, ISSUER_AND_DATES, BYTES(NAME), BYTES(KEY), 1, 256, 0, 0, nothing, 0, OUT) == X509_VALUE && written == 77);
     WANT(x509_build_subordinate(NUMBER_AND_ALGORITHM, BYTES(NAME), BYTES(NAME), MOMENT, A_MONTH_LATER, BYTES(NAME), BYTES(KEY), 1, 0, 0, 0, nothing, 0, OUT)
@@ -204,8 +206,8 @@ static void built_subscribers(void)
     WANT(ends_with_usage(x509_build_subscriber(NUMBER_AND_ALGORITHM, ISSUER_AND_DATES, BYTES(NAME), BYTES(EC_KEY), 1, 1, 0, 1, nothing, 0, OUT), 7, 0x80));
     const char behind[] = FOR_BOTH NO_AUTHORITY KEY_USAGE("\x07\x80");
     WANT(memcmp(room + written - (sizeof behind - 1), behind, sizeof behind - 1) == 0);
-    WANT(x509_build_subscriber(NUMBER_AND_ALGORITHM, ISSUER_AND_DATES, BYTES(ROOT_NAME), BYTES(KEY), 0, 1, 1, 1, nothing, 0, room, sizeof SUBSCRIBER_PART - 2, &written)
-         == X509_ROOM && written == sizeof SUBSCRIBER_PART - 1);
+    WANT(x509_build_subscriber(NUMBER_AND_ALGORITHM, ISSUER_AND_DATES, BYTES(ROOT_NAME), BYTES(KEY), 0, 1, 1, 1, nothing, 0, room, sizeof SUBSCRIBER_PART - 2,
+                               &written) == X509_ROOM && written == sizeof SUBSCRIBER_PART - 1);
     written = 77;
     WANT(x509_build_subscriber(NUMBER_AND_ALGORITHM, ISSUER_AND_DATES, BYTES(KEY), BYTES(KEY), 0, 0, 0, 0, nothing, 0, OUT) == X509_MALFORMED && written == 77);
 }
@@ -215,13 +217,15 @@ static void built_devices(void)
     WANT(WROTE(x509_build_device(NUMBER_AND_ALGORITHM, ISSUER_AND_DATES, BYTES(NAME), BYTES(KEY), nothing, 0, nothing, 0, OUT), DEVICE_PART));
     WANT(WROTE(x509_build_device(NUMBER_AND_ALGORITHM, ISSUER_AND_DATES, BYTES(NAME), BYTES(KEY), NULL, 0, NULL, 0, OUT), DEVICE_PART));
     WANT(WROTE(x509_build_device(NUMBER_AND_ALGORITHM, ISSUER_AND_DATES, BYTES(NAME), BYTES(KEY), BYTES(MODULE), nothing, 0, OUT), MODULE_PART));
-    WANT(x509_build_device(NUMBER_AND_ALGORITHM, ISSUER_AND_DATES, BYTES(NAME), BYTES(KEY), nothing, 0, nothing, 0, room, sizeof DEVICE_PART - 2, &written) == X509_ROOM
-         && written == sizeof DEVICE_PART - 1);
+    WANT(x509_build_device(NUMBER_AND_ALGORITHM, ISSUER_AND_DATES, BYTES(NAME), BYTES(KEY), nothing, 0, nothing, 0, room, sizeof DEVICE_PART - 2, &written)
+         == X509_ROOM && written == sizeof DEVICE_PART - 1);
     written = 77;
-    WANT(x509_build_device(NUMBER_AND_ALGORITHM, ISSUER_AND_DATES, BYTES(NAME), BYTES(KEY), BYTES("\x30\x00"), nothing, 0, OUT) == X509_FAILED && written == 77);
+    WANT(x509_build_device(NUMBER_AND_ALGORITHM, ISSUER_AND_DATES, BYTES(NAME), BYTES(KEY), BYTES("\x30\x00"), nothing, 0, OUT) == X509_FAILED
+         && written == 77);
     WANT(x509_build_device(NUMBER_AND_ALGORITHM, ISSUER_AND_DATES, BYTES(NAME), BYTES(KEY), BYTES("\x30\x03\x82\x01" "a"), nothing, 0, OUT) == X509_FAILED);
     WANT(x509_build_device(NUMBER_AND_ALGORITHM, ISSUER_AND_DATES, BYTES(NAME), BYTES(KEY), BYTES(NO_MODULE), nothing, 0, OUT) == X509_MALFORMED);
-    WANT(x509_build_device(NUMBER_AND_ALGORITHM, ISSUER_AND_DATES, BYTES(NAME), BYTES(KEY), BYTES("\x05\x00"), nothing, 0, OUT) == X509_MALFORMED && written == 77);
+    WANT(x509_build_device(NUMBER_AND_ALGORITHM, ISSUER_AND_DATES, BYTES(NAME), BYTES(KEY), BYTES("\x05\x00"), nothing, 0, OUT) == X509_MALFORMED
+         && written == 77);
 }
 
 static void built_crls(void)
@@ -232,7 +236,7 @@ static void built_crls(void)
     WANT(WROTE(build_crl("\x00\x07", 2, 0, "", 0, "", 0), EMPTY_CRL));
     WANT(WROTE(build_crl("\x07", 1, 0, NULL, 0, NULL, 0), EMPTY_CRL));
     WANT(WROTE(build_crl("\x07", 1, 0, "", 0, DELTA, sizeof DELTA - 1), DELTA_CRL));
-    WANT(WROTE(x509_assemble(BYTES(EMPTY_CRL), BYTES(ALGORITHM), nothing, 0, room, sizeof room, &written), "\x30\x52" EMPTY_CRL ALGORITHM "\x03\x01\x00"));
+    WANT(WROTE(x509_assemble(BYTES(EMPTY_CRL), BYTES(ALGORITHM), nothing, 0, OUT), "\x30\x52" EMPTY_CRL ALGORITHM "\x03\x01\x00"));
     WANT(x509_crl_check(room, written) == X509_OK);
     WANT(x509_build_crl(BYTES(ISSUER_CERTIFICATE), BYTES(ALGORITHM), BYTES("\x07"), MOMENT, 0, too_late, nothing, 0, nothing, 0, room, sizeof EMPTY_CRL - 2,
                         &written) == X509_ROOM && written == sizeof EMPTY_CRL - 1);
@@ -242,9 +246,9 @@ static void built_crls(void)
     WANT(build_crl("\x07", 1, 0, "\x30", 1, "", 0) == X509_MALFORMED && written == 77);
     WANT(build_crl("\x07", 1, 0, "", 0, ENTRY, sizeof ENTRY - 1) == X509_MALFORMED && written == 77);
     /* an issuer's certificate with two SKIs */
-    WANT(x509_build_crl(BYTES(TWO_KEY_IDENTIFIERS), BYTES(ALGORITHM), BYTES("\x07"), MOMENT, 0, 0, nothing, 0, nothing, 0, room, sizeof room, &written) == X509_FAILED);
-    WANT(x509_build_crl(BYTES(ISSUER), BYTES(ALGORITHM), BYTES("\x07"), MOMENT, 0, 0, nothing, 0, nothing, 0, room, sizeof room, &written) == X509_MALFORMED);
-    WANT(x509_build_crl(BYTES(ISSUER_CERTIFICATE), BYTES("\x05\x00"), BYTES("\x07"), MOMENT, 0, 0, nothing, 0, nothing, 0, room, sizeof room, &written)
+    WANT(x509_build_crl(BYTES(TWO_KEY_IDENTIFIERS), BYTES(ALGORITHM), BYTES("\x07"), MOMENT, 0, 0, nothing, 0, nothing, 0, OUT) == X509_FAILED);
+    WANT(x509_build_crl(BYTES(ISSUER), BYTES(ALGORITHM), BYTES("\x07"), MOMENT, 0, 0, nothing, 0, nothing, 0, OUT) == X509_MALFORMED);
+    WANT(x509_build_crl(BYTES(ISSUER_CERTIFICATE), BYTES("\x05\x00"), BYTES("\x07"), MOMENT, 0, 0, nothing, 0, nothing, 0, OUT)
          == X509_MALFORMED && written == 77);
 }
 
@@ -258,15 +262,15 @@ static void reassembled(const uint8_t *whole, size_t len, x509_status other)
     const uint8_t *bits = algorithm + algorithm_len;
     bits += bits[1] < 0x80 ? 3 : bits[1] == 0x81 ? 4 : 5; /* 03, the length, and 00 */
     const size_t bits_len = (size_t)(whole + len - bits);
-    WANT(x509_assemble(signed_part, part.len, algorithm, algorithm_len, bits, bits_len, room, sizeof room, &written) == X509_OK);
+    WANT(x509_assemble(signed_part, part.len, algorithm, algorithm_len, bits, bits_len, OUT) == X509_OK);
     WANT(written == len && memcmp(room, whole, len) == 0);
     WANT(x509_assemble(signed_part, part.len, algorithm, algorithm_len, bits, bits_len, room, len - 1, &written) == X509_ROOM && written == len);
     written = 77;
-    WANT(x509_assemble(signed_part, part.len, BYTES(ALGORITHM), bits, bits_len, room, sizeof room, &written) == other);
+    WANT(x509_assemble(signed_part, part.len, BYTES(ALGORITHM), bits, bits_len, OUT) == other);
     WANT(other == X509_OK || written == 77);
     written = 77;
-    WANT(x509_assemble(signed_part, part.len - 1, algorithm, algorithm_len, bits, bits_len, room, sizeof room, &written) == X509_MALFORMED && written == 77);
-    WANT(x509_assemble(signed_part, part.len, algorithm, algorithm_len - 1, bits, bits_len, room, sizeof room, &written) == X509_MALFORMED && written == 77);
+    WANT(x509_assemble(signed_part, part.len - 1, algorithm, algorithm_len, bits, bits_len, OUT) == X509_MALFORMED && written == 77);
+    WANT(x509_assemble(signed_part, part.len, algorithm, algorithm_len - 1, bits, bits_len, OUT) == X509_MALFORMED && written == 77);
 }
 
 /* Two extensions of one OID (RFC 5280 4.2), those of a profile and of a CRL among them; and dates that are turned round. Nothing is written then. */
@@ -282,8 +286,8 @@ static void refused_combinations(void)
     WANT(x509_build_root(NUMBER_AND_ALGORITHM, MOMENT, A_MONTH_LATER, BYTES(ROOT_NAME), BYTES(KEY), 0, BYTES(OTHER OTHER), OUT) == X509_REPEATED);
     WANT(x509_build_subordinate(NUMBER_AND_ALGORITHM, ISSUER_AND_DATES, BYTES(NAME), BYTES(KEY), 1, 0, 0, 0, BYTES(AUTHORITY), OUT) == X509_REPEATED);
     WANT(x509_build_subscriber(NUMBER_AND_ALGORITHM, ISSUER_AND_DATES, BYTES(NAME), BYTES(KEY), 0, 0, 0, 0, BYTES(FOR_SERVERS), OUT) == X509_REPEATED);
-    WANT(x509_build_device(NUMBER_AND_ALGORITHM, ISSUER_AND_DATES, BYTES(NAME), BYTES(KEY), BYTES(MODULE), BYTES("\x30\x20\x06\x03\x55\x1d\x11\x04\x19" MODULE), OUT)
-         == X509_REPEATED);
+    WANT(x509_build_device(NUMBER_AND_ALGORITHM, ISSUER_AND_DATES, BYTES(NAME), BYTES(KEY), BYTES(MODULE), BYTES("\x30\x20\x06\x03\x55\x1d\x11\x04\x19" MODULE),
+                           OUT) == X509_REPEATED);
     WANT(build_crl("\x07", 1, 0, "", 0, CRL_EXTENSIONS, 12) == X509_REPEATED);
     WANT(build_crl("\x07", 1, 0, "", 0, CRL_EXTENSIONS, sizeof CRL_EXTENSIONS - 1) == X509_REPEATED);
     WANT(build_crl("\x07", 1, 0, "", 0, DELTA DELTA, 2 * (sizeof DELTA - 1)) == X509_REPEATED);
@@ -292,8 +296,10 @@ static void refused_combinations(void)
 
     WANT(build_certificate("\x02\x01\x01", 3, MOMENT - 1, "", 0) == X509_VALUE);
     WANT(x509_build_root(NUMBER_AND_ALGORITHM, MOMENT, MOMENT - 1, BYTES(ROOT_NAME), BYTES(KEY), 0, nothing, 0, OUT) == X509_VALUE);
-    WANT(x509_build_subordinate(NUMBER_AND_ALGORITHM, BYTES(NAME), BYTES(EMPTY_KEY), MOMENT, 0, BYTES(NAME), BYTES(KEY), 1, 0, 0, 0, nothing, 0, OUT) == X509_VALUE);
-    WANT(x509_build_subscriber(NUMBER_AND_ALGORITHM, BYTES(NAME), BYTES(EMPTY_KEY), MOMENT, 0, BYTES(NAME), BYTES(KEY), 0, 0, 0, 0, nothing, 0, OUT) == X509_VALUE);
+    WANT(x509_build_subordinate(NUMBER_AND_ALGORITHM, BYTES(NAME), BYTES(EMPTY_KEY), MOMENT, 0, BYTES(NAME), BYTES(KEY), 1, 0, 0, 0, nothing, 0, OUT)
+         == X509_VALUE);
+    WANT(x509_build_subscriber(NUMBER_AND_ALGORITHM, BYTES(NAME), BYTES(EMPTY_KEY), MOMENT, 0, BYTES(NAME), BYTES(KEY), 0, 0, 0, 0, nothing, 0, OUT)
+         == X509_VALUE);
     WANT(x509_build_device(NUMBER_AND_ALGORITHM, BYTES(NAME), BYTES(EMPTY_KEY), MOMENT, 0, BYTES(NAME), BYTES(KEY), nothing, 0, nothing, 0, OUT) == X509_VALUE);
     WANT(build_crl("\x07", 1, MOMENT - 1, "", 0, "", 0) == X509_VALUE);
     WANT(written == 77 && memcmp(before, room, sizeof room) == 0);
@@ -338,14 +344,17 @@ static void attributes(void)
     WANT(x509_attribute_encode(CN, 0x14, BYTES("a"), 1, OUT) == X509_FAILED && x509_attribute_encode(CN, 0x10c, BYTES("a"), 1, OUT) == X509_FAILED);
     /* string types that the attribute doesn't allow */
     WANT(x509_attribute_encode(CN, 0x16, BYTES("a"), 1, OUT) == X509_FAILED);
-    WANT(x509_attribute_encode(COUNTRY_TYPE, 0x0c, BYTES("US"), 1, OUT) == X509_FAILED && x509_attribute_encode(COUNTRY_TYPE, 0x1e, BYTES("US"), 1, OUT) == X509_FAILED);
+    WANT(x509_attribute_encode(COUNTRY_TYPE, 0x0c, BYTES("US"), 1, OUT) == X509_FAILED
+         && x509_attribute_encode(COUNTRY_TYPE, 0x1e, BYTES("US"), 1, OUT) == X509_FAILED);
     WANT(x509_attribute_encode(EMAIL, 0x0c, BYTES("a"), 1, OUT) == X509_FAILED && x509_attribute_encode(EMAIL, 0x13, BYTES("a"), 1, OUT) == X509_FAILED);
     /* characters outside of the alphabet: @ and _ in a PrintableString, U+00FC in an IA5String, U+1F600 in a BMPString */
     WANT(x509_attribute_encode(CN, 0x13, BYTES("a@b"), 0, OUT) == X509_VALUE && x509_attribute_encode(CN, 0x13, BYTES("a_b"), 0, OUT) == X509_VALUE);
-    WANT(x509_attribute_encode(EMAIL, 0, BYTES("\xc3\xbc"), 0, OUT) == X509_VALUE && x509_attribute_encode(CN, 0x1e, BYTES("\xf0\x9f\x98\x80"), 0, OUT) == X509_VALUE);
+    WANT(x509_attribute_encode(EMAIL, 0, BYTES("\xc3\xbc"), 0, OUT) == X509_VALUE
+         && x509_attribute_encode(CN, 0x1e, BYTES("\xf0\x9f\x98\x80"), 0, OUT) == X509_VALUE);
     /* too few and too many characters */
     WANT(x509_attribute_encode(CN, 0, nothing, 0, 1, OUT) == X509_VALUE && x509_attribute_encode(CN, 0, x, 65, 1, OUT) == X509_VALUE);
-    WANT(x509_attribute_encode(COUNTRY_TYPE, 0, BYTES("U"), 1, OUT) == X509_VALUE && x509_attribute_encode(COUNTRY_TYPE, 0, BYTES("USA"), 1, OUT) == X509_VALUE);
+    WANT(x509_attribute_encode(COUNTRY_TYPE, 0, BYTES("U"), 1, OUT) == X509_VALUE
+         && x509_attribute_encode(COUNTRY_TYPE, 0, BYTES("USA"), 1, OUT) == X509_VALUE);
     WANT(x509_attribute_encode(EMAIL, 0, x, 256, 1, OUT) == X509_VALUE && x509_attribute_encode(BYTES("\x55\x04\x07"), 0, x, 129, 1, OUT) == X509_VALUE);
     WANT(x509_attribute_encode(BYTES("\x55\x04\x29"), 0, x, 32769, 1, OUT) == X509_VALUE && written == 77);
     WANT(x509_attribute_encode(CN, 0, x, 64, 1, OUT) == X509_OK && x509_attribute_encode(EMAIL, 0, x, 255, 1, OUT) == X509_OK);
@@ -377,7 +386,8 @@ static void names_of_values(void)
 static void escapes(void)
 {
     static const char *const texts[][2] = {
-        {"a", "a"}, {"a,O=Evil", "a\\,O=Evil"}, {" a ", "\\ a\\ "}, {"#a#", "\\#a#"}, {"a+b", "a\\+b"}, {"\\\"<;>", "\\\\\\\"\\<\\;\\>"}, {"\x1b\x7f", "\\1b\\7f"}, {"\xc3\xbc", "\xc3\xbc"}, {"", ""}};
+        {"a", "a"}, {"a,O=Evil", "a\\,O=Evil"}, {" a ", "\\ a\\ "}, {"#a#", "\\#a#"}, {"a+b", "a\\+b"}, {"\\\"<;>", "\\\\\\\"\\<\\;\\>"},
+        {"\x1b\x7f", "\\1b\\7f"}, {"\xc3\xbc", "\xc3\xbc"}, {"", ""}};
     for (size_t i = 0; i < sizeof texts / sizeof texts[0]; i++) {
         const size_t len = strlen(texts[i][0]);
         uint8_t text[64] = "CN=", name[64], value[64];
@@ -399,8 +409,8 @@ static void assembled(void)
     reassembled(list, list_len, X509_FAILED);
     reassembled(request, request_len, X509_OK);
     written = 77;
-    WANT(x509_assemble(nothing, 0, nothing, 0, nothing, 0, room, sizeof room, &written) == X509_MALFORMED && written == 77);
-    WANT(x509_assemble(BYTES(NAME), BYTES(ALGORITHM), nothing, 0, room, sizeof room, &written) == X509_MALFORMED && written == 77);
+    WANT(x509_assemble(nothing, 0, nothing, 0, nothing, 0, OUT) == X509_MALFORMED && written == 77);
+    WANT(x509_assemble(BYTES(NAME), BYTES(ALGORITHM), nothing, 0, OUT) == X509_MALFORMED && written == 77);
 }
 
 int main(int argc, char **argv)

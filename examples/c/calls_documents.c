@@ -268,8 +268,8 @@ static void long_serial_number(void)
     "{\"object\": \"" object "\", \"rule\": \"" rule "\", \"severity\": \"" severity "\", \"section\": \"" section "\", \"place\": \"" place              \
     "\", \"seen\": \"" seen "\"}\n"
 
-/* A certificate of an authority for a subject, which breaks no rule: number 1, from 2026-01-02 for a year, with AKI, SKI and KeyUsage, the latter critical. Its number is
- * the octet at NUMBER. */
+/* A certificate of an authority for a subject, which breaks no rule: number 1, from 2026-01-02 for a year, with AKI, SKI and KeyUsage, the latter critical. Its
+ * number is the octet at NUMBER. */
 static const char CERTIFICATE[] =
     "\x30\x82\x01\x14\x30\x81\xfa\xa0\x03\x02\x01\x02\x02\x01\x01\x30\x0a\x06\x08\x2a\x86\x48\xce\x3d\x04\x03\x02\x30\x17\x31\x15\x30"
     "\x13\x06\x03\x55\x04\x03\x0c\x0c\x41\x6e\x20\x61\x75\x74\x68\x6f\x72\x69\x74\x79\x30\x1e\x17\x0d\x32\x36\x30\x31\x30\x32\x30\x33"
@@ -282,6 +282,9 @@ static const char CERTIFICATE[] =
     "\x80\x30\x0a\x06\x08\x2a\x86\x48\xce\x3d\x04\x03\x02\x03\x09\x00\x30\x06\x02\x01\x01\x02\x01\x02";
 enum { NUMBER = 14 };
 
+/* A TrustAnchorInfo with a title of no characters (RFC 5914 2.4 wants one to 64), and with a KeyUsage that is a NULL. */
+#define DESCRIPTION "\xa2\x1f\x30\x1d\x30\x08\x30\x03\x06\x01\x2a\x03\x01\x00\x04\x00\x0c\x00\xa1\x0d\x30\x0b\x30\x09\x06\x03\x55\x1d\x0f\x04\x02\x05\x00"
+
 /* The object breaks none of the rules. */
 static void want_nothing(const char *what, write_call lint, const uint8_t *bytes, size_t len)
 {
@@ -292,21 +295,30 @@ static void want_nothing(const char *what, write_call lint, const uint8_t *bytes
     want(what, lint(bytes, len, NULL, 0, &written) == X509_OK && written == 0);
 }
 
-/* The certificate of the files is its own issuer's, so that it needs no AKI, and has no SKI (RFC 5280 4.2.1.1, 4.2.1.2); the CRL has neither AKI nor a number (5.2.1, 5.2.3). */
+/* The certificate of the files is its own issuer's, so that it needs no AKI, and has no SKI (RFC 5280 4.2.1.1, 4.2.1.2); the CRL has neither AKI nor a number
+ * (5.2.1, 5.2.3). */
 static void rules(void)
 {
     static const char of_certificate[] =
         FINDING("certificate", "subject_key_identifier_absent", "warning", "RFC 5280 4.2.1.2", "tbsCertificate.extensions.subjectKeyIdentifier", "");
-    static const char of_list[] = FINDING("crl", "authority_key_identifier_absent", "error", "RFC 5280 5.2.1", "tbsCertList.crlExtensions.authorityKeyIdentifier", "")
+    static const char of_list[] = FINDING("crl", "authority_key_identifier_absent", "error", "RFC 5280 5.2.1",
+                                            "tbsCertList.crlExtensions.authorityKeyIdentifier", "")
         FINDING("crl", "crl_number_absent", "error", "RFC 5280 5.2.3", "tbsCertList.crlExtensions.cRLNumber", "");
     /* the password is a UTF8String, which a PrintableString could hold */
     static const char of_request[] =
         FINDING("csr", "challenge_password_type", "warning", "RFC 2985 5.4.1", "certificationRequestInfo.attributes.challengePassword", "");
+    /* of an anchor that is a certificate, what of that */
+    static const char of_anchor[] = FINDING("anchor", "subject_key_identifier_absent", "warning", "RFC 5280 4.2.1.2", "tbsCertificate.extensions.subjectKeyIdentifier", "");
+    static const char of_description[] = FINDING("anchor", "ta_title_size", "error", "RFC 5914 2.4", "taInfo.taTitle", "")
+        FINDING("anchor", "extension_malformed", "error", "RFC 5280 4.2", "taInfo.exts.keyUsage", "0500");
     static const char of_number[] =
         FINDING("certificate", "serial_number_not_positive", "error", "RFC 5280 4.1.2.2", "tbsCertificate.serialNumber", "00");
     want_document("the rules of a certificate", x509_certificate_lint, certificate, certificate_len, of_certificate, sizeof of_certificate - 1);
     want_document("the rules of a CRL", x509_crl_lint, list, list_len, of_list, sizeof of_list - 1);
     want_document("the rules of a CSR", x509_request_lint, request, request_len, of_request, sizeof of_request - 1);
+    want_document("the rules of an anchor", x509_anchor_lint, certificate, certificate_len, of_anchor, sizeof of_anchor - 1);
+    want_document("the rules of a description", x509_anchor_lint, BYTES(DESCRIPTION), of_description, sizeof of_description - 1);
+    want_nothing("an anchor that breaks no rule", x509_anchor_lint, BYTES(ANCHOR));
     uint8_t own[sizeof CERTIFICATE - 1];
     memcpy(own, CERTIFICATE, sizeof own);
     want_nothing("a certificate that breaks no rule", x509_certificate_lint, own, sizeof own);
@@ -318,6 +330,8 @@ static void rules(void)
     refused(x509_crl_lint, x509_crl_lint, nothing, 0);
     refused(x509_request_lint, x509_request_lint, list, list_len);
     refused(x509_request_lint, x509_request_lint, BYTES("\x30\x00"));
+    refused(x509_anchor_lint, x509_anchor_lint, list, list_len);
+    refused(x509_anchor_lint, x509_anchor_lint, BYTES(DESCRIPTION "\x00"));
 }
 
 static int is_text(const char *lines, x509_span part, const char *text)

@@ -33,7 +33,8 @@ static void strings(void)
     WANT(TEXT("\x04\x01" "a") == X509_MALFORMED && TEXT("\x2c\x01" "a") == X509_MALFORMED);
     /* fewer octets than a character has; a half of a surrogate pair, the number behind the last, and one of 32 bits */
     WANT(TEXT("\x1c\x03\x00\x00" "a") == X509_MALFORMED && TEXT("\x1c\x05\x00\x00\x00" "a\x00") == X509_MALFORMED);
-    WANT(TEXT("\x1c\x04\x00\x00\xd8\x00") == X509_MALFORMED && TEXT("\x1c\x04\x00\x11\x00\x00") == X509_MALFORMED && TEXT("\x1c\x04\x80\x00\x00" "a") == X509_MALFORMED);
+    WANT(TEXT("\x1c\x04\x00\x00\xd8\x00") == X509_MALFORMED && TEXT("\x1c\x04\x00\x11\x00\x00") == X509_MALFORMED
+         && TEXT("\x1c\x04\x80\x00\x00" "a") == X509_MALFORMED);
     WANT(TEXT("\x0c\x02" "a") == X509_MALFORMED && TEXT("\x0c\x01" "ab") == X509_MALFORMED && written == 77);
 }
 
@@ -90,9 +91,12 @@ static void moments(void)
 
     moment = 77;
     WANT(x509_time_from_text(nothing, 0, &moment) == X509_FAILED && x509_time_from_text(BYTES("2026-01-02T03:04:05"), &moment) == X509_FAILED);
-    WANT(x509_time_from_text(BYTES("2026-13-02T03:04:05Z"), &moment) == X509_FAILED && x509_time_from_text(BYTES("2026-02-29T03:04:05Z"), &moment) == X509_FAILED);
-    WANT(x509_time_from_text(BYTES("1969-12-31T23:59:59Z"), &moment) == X509_FAILED && x509_time_from_text(BYTES("2026-01-02 03:04:05Z"), &moment) == X509_FAILED);
-    WANT(x509_time_from_text(BYTES("2026-01-02T03:04:05z"), &moment) == X509_FAILED && x509_time_from_text(BYTES("2026-01-02T03:04:05\xff"), &moment) == X509_FAILED);
+    WANT(x509_time_from_text(BYTES("2026-13-02T03:04:05Z"), &moment) == X509_FAILED
+         && x509_time_from_text(BYTES("2026-02-29T03:04:05Z"), &moment) == X509_FAILED);
+    WANT(x509_time_from_text(BYTES("1969-12-31T23:59:59Z"), &moment) == X509_FAILED
+         && x509_time_from_text(BYTES("2026-01-02 03:04:05Z"), &moment) == X509_FAILED);
+    WANT(x509_time_from_text(BYTES("2026-01-02T03:04:05z"), &moment) == X509_FAILED
+         && x509_time_from_text(BYTES("2026-01-02T03:04:05\xff"), &moment) == X509_FAILED);
     WANT(moment == 77 && x509_time_from_text(BYTES("2026-01-02T03:04:05Z"), &moment) == X509_OK && moment == MOMENT);
     WANT(x509_time_from_text(BYTES("1970-01-01T00:00:00Z"), &moment) == X509_OK && moment == 0);
     WANT(x509_time_from_text(BYTES("9999-12-31T23:59:59Z"), &moment) == X509_OK && moment == 253402300799);
@@ -111,7 +115,8 @@ static void names(void)
     at = 0;
     WANT(x509_general_names_next(BYTES("\x30\x03\x82\x01" "a"), &at, &found) == X509_OK && is_at(found.name_assigner, 0, 0) && is_at(found.party_name, 0, 0));
     at = 0;
-    WANT(x509_general_names_next(BYTES("\x30\x07\xa5\x05\xa0\x03\x0c\x01" "a"), &at, &found) == X509_MALFORMED && at == 0 && found.kind == X509_GENERAL_NAME_DNS);
+    WANT(x509_general_names_next(BYTES("\x30\x07\xa5\x05\xa0\x03\x0c\x01" "a"), &at, &found) == X509_MALFORMED && at == 0
+         && found.kind == X509_GENERAL_NAME_DNS);
 
     /* CN=a as an attribute of the subject (RFC 5280 4.2.1.8) */
     x509_request_attribute attribute = {{7, 7}, {7, 7}};
@@ -206,7 +211,8 @@ static void unique_identifiers(void)
     WANT(x509_certificate_view(room, certificate_len + 8, &other) == X509_OK);
     WANT(is_at(other.issuer_unique_id, end + 3, 2) && other.issuer_unused_bits == 4);
     WANT(is_at(other.subject_unique_id, end + 8, 0) && other.subject_unused_bits == 0);
-    WANT(is_at(other.extensions, view.extensions.place + 8, view.extensions.len) && is_at(other.inner_algorithm, view.inner_algorithm.place, view.inner_algorithm.len));
+    WANT(is_at(other.extensions, view.extensions.place + 8, view.extensions.len)
+         && is_at(other.inner_algorithm, view.inner_algorithm.place, view.inner_algorithm.len));
 }
 
 static int is_dotted(const uint8_t *oid, size_t len, const char *text)

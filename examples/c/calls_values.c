@@ -71,7 +71,8 @@ static void keys(void)
  * name CN=a, any policy is allowed and a policy is required, the DNS names below a are permitted, and three certificates may follow. */
 static const char ANCHOR[] = "\xa2\x45\x30\x43\x30\x08\x30\x03\x06\x01\x2a\x03\x01\x00\x04\x02\xab\xcd\x0c\x01T"
                              "\x30\x28\x30\x0c\x31\x0a\x30\x08\x06\x03\x55\x04\x03\x0c\x01\x61"
-                             "\xa1\x08\x30\x06\x06\x04\x55\x1d\x20\x00\x82\x02\x06\x40\xa3\x07\xa0\x05\x30\x03\x82\x01\x61\x84\x01\x03\xa1\x02\x30\x00\x82\x02" "en";
+                             "\xa1\x08\x30\x06\x06\x04\x55\x1d\x20\x00\x82\x02\x06\x40\xa3\x07\xa0\x05\x30\x03\x82\x01\x61\x84\x01\x03\xa1\x02\x30\x00"
+                             "\x82\x02" "en";
 
 static void anchors(void)
 {
@@ -182,7 +183,8 @@ static void attributes(void)
     WANT(x509_name_next((const uint8_t *)NAME, 13, &at, &rdn) == X509_MALFORMED && at == 0);
     WANT(x509_name_next(BYTES("\x30\x00"), &at, &rdn) == X509_ABSENT && at == 0);
     /* two equal attributes */
-    WANT(x509_name_next(BYTES("\x30\x16\x31\x14\x30\x08\x06\x03\x55\x04\x03\x0c\x01\x61\x30\x08\x06\x03\x55\x04\x03\x0c\x01\x61"), &at, &rdn) == X509_MALFORMED);
+    WANT(x509_name_next(BYTES("\x30\x16\x31\x14\x30\x08\x06\x03\x55\x04\x03\x0c\x01\x61\x30\x08\x06\x03\x55\x04\x03\x0c\x01\x61"), &at, &rdn)
+         == X509_MALFORMED);
 
     x509_attribute found = {{7, 7}, 7, {7, 7}, {7, 7}};
     WANT(x509_relative_name_next(BYTES(NAME), &at, &found) == X509_MALFORMED && found.tag == 7 && at == 0);
@@ -314,12 +316,14 @@ static void extensions(void)
     x509_basic_constraints_view constraints;
     WANT(x509_basic_constraints(BYTES("\x30\x06\x01\x01\xff\x02\x01\x03"), &constraints) == X509_OK);
     WANT(constraints.ca == 1 && constraints.has_path_len == 1 && constraints.path_len == 3);
-    WANT(x509_basic_constraints(BYTES("\x30\x00"), &constraints) == X509_OK && constraints.ca == 0 && constraints.has_path_len == 0 && constraints.path_len == 0);
+    WANT(x509_basic_constraints(BYTES("\x30\x00"), &constraints) == X509_OK && constraints.ca == 0 && constraints.has_path_len == 0
+         && constraints.path_len == 0);
 
     /* the DNS name a, also under the tag [1] */
     x509_general_name name;
     at = 0;
-    WANT(x509_general_names_next(BYTES("\x30\x03\x82\x01" "a"), &at, &name) == X509_OK && at == 5 && name.kind == X509_GENERAL_NAME_DNS && is_at(name.content, 4, 1));
+    WANT(x509_general_names_next(BYTES("\x30\x03\x82\x01" "a"), &at, &name) == X509_OK && at == 5 && name.kind == X509_GENERAL_NAME_DNS
+         && is_at(name.content, 4, 1));
     WANT(x509_general_names_next(BYTES("\x30\x03\x82\x01" "a"), &at, &name) == X509_ABSENT && at == 5);
     at = 0;
     WANT(x509_general_names_under_next(0, BYTES("\xa1\x03\x82\x01" "a"), &at, &name) == X509_MALFORMED && at == 0);
@@ -381,7 +385,8 @@ static void policies(void)
     at = 0;
     WANT(x509_policy_qualifiers_next(BYTES("\x30\x08\x30\x06\x06\x01\x2a\x16\x01\x61"), &at, &qualifier) == X509_OK && at == 10);
     WANT(is_at(qualifier.identifier, 6, 1) && is_at(qualifier.qualifier, 7, 3));
-    WANT(x509_policy_qualifiers_next(BYTES("\x30\x08\x30\x06\x06\x01\x2a\x16\x01\x61"), &at, &qualifier) == X509_ABSENT && at == 10 && is_at(qualifier.qualifier, 7, 3));
+    WANT(x509_policy_qualifiers_next(BYTES("\x30\x08\x30\x06\x06\x01\x2a\x16\x01\x61"), &at, &qualifier) == X509_ABSENT && at == 10
+         && is_at(qualifier.qualifier, 7, 3));
 
     x509_policy_mapping mapping;
     at = 0;
@@ -389,7 +394,8 @@ static void policies(void)
     WANT(is_at(mapping.issuer_policy, 6, 3) && is_at(mapping.subject_policy, 11, 3));
     WANT(x509_policy_mappings_next(BYTES("\x30\x0c\x30\x0a\x06\x03\x55\x1d\x20\x06\x03\x55\x1d\x21"), &at, &mapping) == X509_ABSENT && at == 14);
     at = 0;
-    WANT(x509_policy_mappings_next(BYTES("\x30\x07\x30\x05\x06\x03\x55\x1d\x20"), &at, &mapping) == X509_MALFORMED && at == 0 && mapping.issuer_policy.place == 6);
+    WANT(x509_policy_mappings_next(BYTES("\x30\x07\x30\x05\x06\x03\x55\x1d\x20"), &at, &mapping) == X509_MALFORMED && at == 0
+         && mapping.issuer_policy.place == 6);
 
     x509_policy_constraints_view constraints = {7, 7, 7, 7};
     WANT(x509_policy_constraints(BYTES("\x30\x03\x82\x01\x03"), &constraints) == X509_MALFORMED && constraints.require_explicit_policy == 7);
@@ -409,7 +415,8 @@ static void points(void)
     x509_distribution_point point;
     size_t at = 0;
     /* the URI a, for keys that aren't secret, from the issuer b */
-    WANT(x509_distribution_points_next(BYTES("\x30\x12\x30\x10\xa0\x05\xa0\x03\x86\x01\x61\x81\x02\x06\x40\xa2\x03\x82\x01\x62"), &at, &point) == X509_OK && at == 20);
+    WANT(x509_distribution_points_next(BYTES("\x30\x12\x30\x10\xa0\x05\xa0\x03\x86\x01\x61\x81\x02\x06\x40\xa2\x03\x82\x01\x62"), &at, &point) == X509_OK
+         && at == 20);
     WANT(is_at(point.full_name, 6, 5) && is_at(point.relative_name, 0, 0) && is_at(point.crl_issuer, 15, 5));
     WANT(point.has_reasons == 1 && point.reasons == X509_REASONS_KEY_COMPROMISE);
     /* CN=a below the issuer's name */
@@ -417,9 +424,11 @@ static void points(void)
     WANT(x509_distribution_points_next(BYTES("\x30\x10\x30\x0e\xa0\x0c\xa1\x0a\x30\x08\x06\x03\x55\x04\x03\x0c\x01\x61"), &at, &point) == X509_OK && at == 18);
     WANT(is_at(point.full_name, 0, 0) && is_at(point.relative_name, 6, 12) && is_at(point.crl_issuer, 0, 0));
     WANT(point.has_reasons == 0 && point.reasons == 0);
-    WANT(x509_distribution_points_next(BYTES("\x30\x10\x30\x0e\xa0\x0c\xa1\x0a\x30\x08\x06\x03\x55\x04\x03\x0c\x01\x61"), &at, &point) == X509_ABSENT && at == 18);
+    WANT(x509_distribution_points_next(BYTES("\x30\x10\x30\x0e\xa0\x0c\xa1\x0a\x30\x08\x06\x03\x55\x04\x03\x0c\x01\x61"), &at, &point) == X509_ABSENT
+         && at == 18);
     at = 0;
-    WANT(x509_distribution_points_next(BYTES("\x30\x06\x30\x04\x81\x02\x00\x40"), &at, &point) == X509_MALFORMED && at == 0 && is_at(point.relative_name, 6, 12));
+    WANT(x509_distribution_points_next(BYTES("\x30\x06\x30\x04\x81\x02\x00\x40"), &at, &point) == X509_MALFORMED && at == 0
+         && is_at(point.relative_name, 6, 12));
 
     x509_issuing_distribution_point_view view;
     WANT(x509_issuing_distribution_point(BYTES("\x30\x11\xa0\x05\xa0\x03\x86\x01\x61\x81\x01\xff\x83\x02\x06\x40\x84\x01\xff"), &view) == X509_OK);

@@ -71,7 +71,7 @@ static void refused_documents(const uint8_t *bytes, size_t len, x509_status stat
     static x509_status (*const calls[])(const uint8_t *, size_t, uint8_t *, size_t, size_t *) = {
         x509_certificate_text, x509_certificate_json, x509_crl_text,    x509_crl_json,
         x509_request_text,     x509_request_json,     x509_anchor_text, x509_anchor_json,
-        x509_certificate_lint, x509_crl_lint,         x509_request_lint,
+        x509_certificate_lint, x509_crl_lint,         x509_request_lint, x509_anchor_lint,
     };
     for (size_t at = 0; at < sizeof calls / sizeof *calls; at++) {
         written = 77;
@@ -105,7 +105,8 @@ static void no_pointers(void)
     WANT(x509_revocation_status(certificate, certificate_len, NULL, 0, NULL, 0, NULL, 0, &told) == X509_VALUE);
     WANT(x509_revocation_status(NULL, 0, NULL, 0, NULL, 0, &at_moment, sizeof at_moment, &told) == X509_MALFORMED);
     WANT(x509_revocation_status(certificate, certificate_len, NULL, 0, &empty, 1, &at_moment, sizeof at_moment, &told) == X509_MALFORMED && is_untold());
-    WANT(x509_revocation_status(certificate, certificate_len, NULL, 0, NULL, 0, &at_moment, sizeof at_moment, &told) == X509_OK && told.status == X509_UNDETERMINED);
+    WANT(x509_revocation_status(certificate, certificate_len, NULL, 0, NULL, 0, &at_moment, sizeof at_moment, &told) == X509_OK
+         && told.status == X509_UNDETERMINED);
     told = (x509_revocation_answer){7, 7, 7, 7, 7};
 
     written = 77;
@@ -150,7 +151,8 @@ static void no_pointers(void)
     WANT(x509_build_certificate(NULL, 0, NULL, 0, NULL, 0, MOMENT, MOMENT, NULL, 0, NULL, 0, NULL, 0, NULL, 0, &written) == X509_MALFORMED && written == 77);
     WANT(x509_build_crl(NULL, 0, NULL, 0, NULL, 0, MOMENT, 0, 0, NULL, 0, NULL, 0, NULL, 0, &written) == X509_MALFORMED && written == 77);
     WANT(x509_build_root(NULL, 0, NULL, 0, MOMENT, MOMENT, NULL, 0, NULL, 0, 0, NULL, 0, NULL, 0, &written) == X509_MALFORMED && written == 77);
-    WANT(x509_build_subordinate(NULL, 0, NULL, 0, NULL, 0, NULL, 0, MOMENT, MOMENT, NULL, 0, NULL, 0, 0, 0, 0, 0, NULL, 0, NULL, 0, &written) == X509_MALFORMED);
+    WANT(x509_build_subordinate(NULL, 0, NULL, 0, NULL, 0, NULL, 0, MOMENT, MOMENT, NULL, 0, NULL, 0, 0, 0, 0, 0, NULL, 0, NULL, 0, &written)
+         == X509_MALFORMED);
     WANT(x509_build_subscriber(NULL, 0, NULL, 0, NULL, 0, NULL, 0, MOMENT, MOMENT, NULL, 0, NULL, 0, 0, 0, 0, 0, NULL, 0, NULL, 0, &written) == X509_MALFORMED);
     WANT(x509_build_device(NULL, 0, NULL, 0, NULL, 0, NULL, 0, MOMENT, MOMENT, NULL, 0, NULL, 0, NULL, 0, NULL, 0, NULL, 0, &written) == X509_MALFORMED);
     WANT(written == 77);
@@ -333,19 +335,20 @@ static void early_dates(void)
 
 #define BYTES(text) (const uint8_t *)(text), sizeof(text) - 1
 #define OUT NULL, 0, &written
+#define NUMBER_AND_ALGORITHM BYTES("\x02\x01\x01"), BYTES(ALGORITHM)
+/* The certificate as a path of its own, and what is said last to a call that validates one. */
+#define PATH certificate, certificate_len, &certificate_len, 1
+#define SETTINGS &settings, sizeof settings, NULL, 0, &answer
 
 /* An anchor or a part of one that is too long. */
 static void overlong_paths(const uint8_t *bytes, size_t len)
 {
     const x509_path_settings settings = {MOMENT, 0};
     x509_path_answer answer = {7, 7, {7, 7}, {7, 7}, 7};
-    WANT(x509_path_validate(bytes, len, certificate, certificate_len, &certificate_len, 1, NULL, 0, NULL, 0, &settings, sizeof settings, NULL, 0, &answer) == X509_OVERLENGTH);
-    WANT(x509_path_validate(certificate, certificate_len, certificate, certificate_len, &certificate_len, 1, bytes, len, NULL, 0, &settings, sizeof settings, NULL, 0, &answer)
-         == X509_OVERLENGTH);
-    WANT(x509_path_validate_under_key(bytes, len, BYTES(KEY), certificate, certificate_len, &certificate_len, 1, NULL, 0, NULL, 0, &settings, sizeof settings, NULL, 0, &answer)
-         == X509_OVERLENGTH);
-    WANT(x509_path_validate_under_anchor(bytes, len, certificate, certificate_len, &certificate_len, 1, NULL, 0, NULL, 0, &settings, sizeof settings, NULL, 0, &answer)
-         == X509_OVERLENGTH);
+    WANT(x509_path_validate(bytes, len, PATH, NULL, 0, NULL, 0, SETTINGS) == X509_OVERLENGTH);
+    WANT(x509_path_validate(certificate, certificate_len, PATH, bytes, len, NULL, 0, SETTINGS) == X509_OVERLENGTH);
+    WANT(x509_path_validate_under_key(bytes, len, BYTES(KEY), PATH, NULL, 0, NULL, 0, SETTINGS) == X509_OVERLENGTH);
+    WANT(x509_path_validate_under_anchor(bytes, len, PATH, NULL, 0, NULL, 0, SETTINGS) == X509_OVERLENGTH);
     WANT(answer.place == 7 && answer.reason == 7 && answer.name.len == 7 && answer.key.len == 7 && answer.policies_len == 7);
 }
 
@@ -357,13 +360,13 @@ static void overlong_parts(uint8_t *bytes, size_t len)
     WANT(x509_crl_entry_encode(bytes, len, MOMENT, NULL, 0, OUT) == X509_OVERLENGTH);
     WANT(x509_attribute_encode(BYTES("\x55\x04\x03"), 0x0c, bytes, len, 0, OUT) == X509_OVERLENGTH);
     WANT(x509_build_request(bytes, len, BYTES(KEY), NULL, 0, NULL, 0, OUT) == X509_OVERLENGTH);
-    WANT(x509_build_certificate(BYTES("\x02\x01\x01"), BYTES(ALGORITHM), bytes, len, MOMENT, MOMENT, BYTES(NO_NAME), BYTES(KEY), NULL, 0, OUT) == X509_OVERLENGTH);
-    WANT(x509_build_root(BYTES("\x02\x01\x01"), BYTES(ALGORITHM), MOMENT, MOMENT, bytes, len, BYTES(KEY), 0, NULL, 0, OUT) == X509_OVERLENGTH);
-    WANT(x509_build_subordinate(BYTES("\x02\x01\x01"), BYTES(ALGORITHM), bytes, len, BYTES(KEY), MOMENT, MOMENT, BYTES(NO_NAME), BYTES(KEY), 0, 0, 0, 0, NULL, 0, OUT)
+    WANT(x509_build_certificate(NUMBER_AND_ALGORITHM, bytes, len, MOMENT, MOMENT, BYTES(NO_NAME), BYTES(KEY), NULL, 0, OUT) == X509_OVERLENGTH);
+    WANT(x509_build_root(NUMBER_AND_ALGORITHM, MOMENT, MOMENT, bytes, len, BYTES(KEY), 0, NULL, 0, OUT) == X509_OVERLENGTH);
+    WANT(x509_build_subordinate(NUMBER_AND_ALGORITHM, bytes, len, BYTES(KEY), MOMENT, MOMENT, BYTES(NO_NAME), BYTES(KEY), 0, 0, 0, 0, NULL, 0, OUT)
          == X509_OVERLENGTH);
-    WANT(x509_build_subscriber(BYTES("\x02\x01\x01"), BYTES(ALGORITHM), bytes, len, BYTES(KEY), MOMENT, MOMENT, BYTES(NO_NAME), BYTES(KEY), 0, 0, 0, 0, NULL, 0, OUT)
+    WANT(x509_build_subscriber(NUMBER_AND_ALGORITHM, bytes, len, BYTES(KEY), MOMENT, MOMENT, BYTES(NO_NAME), BYTES(KEY), 0, 0, 0, 0, NULL, 0, OUT)
          == X509_OVERLENGTH);
-    WANT(x509_build_device(BYTES("\x02\x01\x01"), BYTES(ALGORITHM), bytes, len, BYTES(KEY), MOMENT, MOMENT, BYTES(NO_NAME), BYTES(KEY), NULL, 0, NULL, 0, OUT) == X509_OVERLENGTH);
+    WANT(x509_build_device(NUMBER_AND_ALGORITHM, bytes, len, BYTES(KEY), MOMENT, MOMENT, BYTES(NO_NAME), BYTES(KEY), NULL, 0, NULL, 0, OUT) == X509_OVERLENGTH);
     WANT(x509_build_crl(bytes, len, BYTES(ALGORITHM), BYTES("\x01"), MOMENT, 0, 0, NULL, 0, NULL, 0, OUT) == X509_OVERLENGTH);
     WANT(x509_assemble(bytes, len, BYTES(ALGORITHM), NULL, 0, OUT) == X509_OVERLENGTH);
     /* an attribute of 268,435,455 bytes, which a set round it makes too long; and a set of as many bytes round one, as a name of it is */
@@ -390,7 +393,7 @@ static void overlong(void)
     WANT(x509_certificate_view(bytes, len, &view) == X509_OVERLENGTH);
     WANT(x509_certificate_extension(bytes, len, OID, 3, &found) == X509_OVERLENGTH);
     WANT(x509_certificate_signature(bytes, len, &signature) == X509_OVERLENGTH);
-    WANT(x509_path_check(bytes, len, certificate, certificate_len, &certificate_len, 1, MOMENT, &fault) == X509_OVERLENGTH);
+    WANT(x509_path_check(bytes, len, PATH, MOMENT, &fault) == X509_OVERLENGTH);
     WANT(is_decode(x509_path_check(certificate, certificate_len, bytes, len, &len, 1, MOMENT, &fault)));
     WANT(x509_crl_walk(bytes, len, &entries) == X509_OVERLENGTH);
     WANT(x509_crl_lookup(bytes, len, SERIAL, 3, &revocation) == X509_OVERLENGTH);

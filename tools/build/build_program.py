@@ -51,7 +51,9 @@ def copy(path, to):
 def prove(folder, told):
     """Runs `rt ci` in the folder, and tells each crate. Returns whether it succeeded, and what it printed."""
     printed = []
-    with subprocess.Popen(["rt", "ci"], cwd=folder, stdin=subprocess.DEVNULL, stdout=subprocess.PIPE, stderr=subprocess.STDOUT, text=True, errors="replace") as run:
+    with subprocess.Popen(
+        ["rt", "ci"], cwd=folder, stdin=subprocess.DEVNULL, stdout=subprocess.PIPE, stderr=subprocess.STDOUT, text=True, errors="replace"
+    ) as run:
         for line in run.stdout:
             printed.append(line)
             if found := PROVED.match(line):

@@ -265,7 +265,11 @@ def build(clone, folder, moment):
         programs={it.name: it.read_bytes() for it in programs},
         pages=pages(clone, moment),
         python=python_files(clone),
-        calls={name.split()[1]: since for name, (since, _) in listed((clone / "include/abi.txt").read_text(encoding="utf-8")).items() if name.startswith("call ")},
+        calls={
+            name.split()[1]: since
+            for name, (since, _) in listed((clone / "include/abi.txt").read_text(encoding="utf-8")).items()
+            if name.startswith("call ")
+        },
         licences=copyright_of(clone, linked),
         linked=linked,
         changelog=(clone / "CHANGELOG.md").read_bytes(),

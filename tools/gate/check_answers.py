@@ -1,8 +1,8 @@
 #!/usr/bin/env python3
 """Holds the calls of include/x509.h and the answers that it lists for each against the contracts, and against what tests have seen.
 
-With --wrap it writes FOLDER/answers.c and FOLDER/answers.link: a program that is linked with the first, by the options of the second, notes which answers each call
-gave it, and appends them at its end to the file that X509_ANSWERS names.
+With --wrap it writes FOLDER/answers.c and FOLDER/answers.link: a program that is linked with the first, by the options of the second, notes which answers each
+call gave it, and appends them at its end to the file that X509_ANSWERS names.
 
 Else it takes two such files, and tells each of these:
 - a call whose contract allows another answer than the header lists, or doesn't allow one of these, of X509_OK, X509_ROOM, X509_MEMORY, X509_ABSENT,

@@ -7,6 +7,7 @@ import ast
 import pathlib
 import re
 import sys
+import textwrap
 
 sys.path.insert(0, str(pathlib.Path(__file__).resolve().parents[1]))
 from common.header import TOP, calls
@@ -15,6 +16,17 @@ RUST, PYTHON = TOP / "bindings" / "rust" / "src", TOP / "bindings" / "python" / 
 FEWEST = 40
 IMPL = re.compile(r"^(?:impl|pub trait)\b(?:<[^>{]*>)?\s+(?:[^{]*?\bfor\s+)?(\w+)[^\n]*\{\n(.*?)^\}", re.S | re.M)
 METHOD = re.compile(r"^    (?:    )?(?:pub )?(?:const )?fn (\w+)", re.M)
+MACRO = re.compile(r"macro_rules! (\w+) \{\n    \(([^)]*)\) => \{\n(.*?)^    \};\n\}", re.S | re.M)
+
+
+def written_by_macros(text, macros):
+    """The items that macros write where they are called among items, by the names that they are given."""
+    for name, (parameters, body) in macros.items():
+        for given in re.findall(rf"^{name}!\(([^)]*)\);", text, re.M):
+            written = textwrap.dedent(body)
+            for parameter, word in zip(re.findall(r"(\$\w+)", parameters), given.split(", ")):
+                written = written.replace(parameter, word)
+            yield written
 
 
 def rust_names():
@@ -30,11 +42,12 @@ def rust_names():
         for part in re.findall(r"^pub use \w+::([^;]*);", text, re.M):
             found.update(re.findall(r"\w+", part))
     exported = set(found)
-    for file in RUST.rglob("*.rs"):
-        text = file.read_text(encoding="utf-8")
-        macros = dict(re.findall(r"macro_rules! (\w+) \{\n    \(\) => \{\n(.*?)^    \};\n\}", text, re.S | re.M))
+    texts = [file.read_text(encoding="utf-8") for file in sorted(RUST.rglob("*.rs"))]
+    macros = {it[1]: (it[2], it[3]) for text in texts for it in MACRO.finditer(text)}
+    for text in texts:
+        text = "\n".join([text, *written_by_macros(text, macros)])
         for it in IMPL.finditer(text):
-            body = it[2] + "".join(macro for name, macro in macros.items() if f"{name}!();" in it[2])
+            body = it[2] + "".join(body for name, (_, body) in macros.items() if f"{name}!();" in it[2])
             if it[1] in exported:
                 found.update(f"{it[1]}::{method}" for method in METHOD.findall(body))
     return found

@@ -1,6 +1,6 @@
 #!/usr/bin/env python3
-"""Looks whether each snippet of README.md in C, C++, CMake, Rust or Python stands in a file that a test runs: its lines, one behind the other, indented as a whole.
-So it does for the examples in docs of the crates, the blocks ```rust: each of their parts, between empty lines, stands so in a file of a crate of tests.
+"""Looks whether each snippet of README.md in C, C++, CMake, Rust or Python stands in a file that a test runs: its lines, one behind the other, indented as a
+whole. So it does for the examples in docs of the crates, the blocks ```rust: each of their parts, between empty lines, stands so in a file of a crate of tests.
 """
 import argparse
 import pathlib
@@ -10,7 +10,12 @@ import textwrap
 
 TOP = pathlib.Path(__file__).resolve().parents[2]
 INSTALLED = ("text.c", "text.cc", "CMakeLists.txt", "text.rs", "text.py")
-REVOKED = ("crates/x509_revocation_tests/src/validated.rt", "examples/c/revoked.c", "bindings/rust/tests/revocation.rs", "bindings/python/tests/test_revocation.py")
+REVOKED = (
+    "crates/x509_revocation_tests/src/validated.rt",
+    "examples/c/revoked.c",
+    "bindings/rust/tests/revocation.rs",
+    "bindings/python/tests/test_revocation.py",
+)
 FILES = ("crates/x509_cert_tests/src/example.rt", *(f"examples/installed/{name}" for name in INSTALLED), *REVOKED, "bindings/python/tests/test_lint.py")
 ENTRIES = (
     "x509_build/src/certificate_builder.rt",

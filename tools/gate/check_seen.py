@@ -207,7 +207,10 @@ def main():
     for it in wrong:
         print(it)
     unseen, untested = (sum(len(it.answers) for it in told if it.where[0] == why) for why in ("unseen", "untested"))
-    print(f"{len(asked)} calls with {len(answers)} answers beside Memory, {unseen} of them unseen, {untested} untested; {len(wrong)} without a line, or lines that don't hold")
+    print(
+        f"{len(asked)} calls with {len(answers)} answers beside Memory, {unseen} of them unseen, {untested} untested; "
+        f"{len(wrong)} without a line, or lines that don't hold"
+    )
     return int(bool(wrong) or not asked)
 
 

@@ -1,7 +1,7 @@
 #!/usr/bin/env python3
 """Looks whether each type that x509_check could check has its check: of each impl of `Content`, `Newtype` and `Decode` in a crate that x509_check stands on,
-the impl of `CheckContent`, `NewtypeCheck` and `Check` for that type in x509_check; and whether each check has its type. Looks too whether each of those types has
-its byte order and may be a member of sets: `ValueOrd` or `NewtypeOrd`, `SetOrd` and `SetMember`.
+the impl of `CheckContent`, `NewtypeCheck` and `Check` for that type in x509_check; and whether each check has its type. Looks too whether each of those types
+has its byte order and may be a member of sets: `ValueOrd` or `NewtypeOrd`, `SetOrd` and `SetMember`.
 """
 import argparse
 import collections

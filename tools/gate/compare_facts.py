@@ -1,8 +1,9 @@
 #!/usr/bin/env python3
 """Holds the programs that say all that certificates have, `facts` of examples/c, bindings/rust/examples and examples/python, against what is stated here of
 certificates that Python's `cryptography` makes, which have each extension and each kind of a name; and against one another, over these, the certificate of the
-examples, the hostile ones of FOLDER and the system's store. Where a program reads a text in a name and another doesn't, as one with a character that isn't of its type,
-the texts aren't compared. Each PROGRAM is a command, in the words of a shell. Without any FOLDER gets what is stated: each.der, other.der, and said.txt of the two.
+examples, the hostile ones of FOLDER and the system's store. Where a program reads a text in a name and another doesn't, as one with a character that isn't of
+its type, the texts aren't compared. Each PROGRAM is a command, in the words of a shell. Without any FOLDER gets what is stated: each.der, other.der, and
+said.txt of the two.
 """
 import argparse
 import datetime
@@ -153,7 +154,9 @@ def made(extensions):
         (x509.NameOID.COMMON_NAME, "a+b", x509.name._ASN1Type.BMPString),
     ]
     subject = x509.Name([x509.NameAttribute(oid, value, kind) for oid, value, kind in values])
-    issuer = x509.Name([x509.RelativeDistinguishedName([x509.NameAttribute(x509.NameOID.COMMON_NAME, "R"), x509.NameAttribute(x509.NameOID.COUNTRY_NAME, "US")])])
+    issuer = x509.Name(
+        [x509.RelativeDistinguishedName([x509.NameAttribute(x509.NameOID.COMMON_NAME, "R"), x509.NameAttribute(x509.NameOID.COUNTRY_NAME, "US")])]
+    )
     builder = x509.CertificateBuilder().serial_number(0x80FF).issuer_name(issuer).subject_name(subject).public_key(key.public_key())
     builder = builder.not_valid_before(FIRST).not_valid_after(LAST)
     for value, critical, _ in extensions:

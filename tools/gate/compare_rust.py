@@ -1,7 +1,8 @@
 #!/usr/bin/env python3
 """Compares what the crate for Rust says of the certificates of the system's store with what `cryptography` says of them: version, serial number, dates,
-names, key with its size and parts, signature, and extensions, policies with their qualifiers. FACTS is the program of `bindings/rust/examples/told.rs`. The crate refuses values that aren't DER, as a KeyUsage that
-ends with zero bits (X.690 11.2.2); these are counted, and have to be such that `cryptography` writes them otherwise.
+names, key with its size and parts, signature, and extensions, policies with their qualifiers. FACTS is the program of `bindings/rust/examples/told.rs`. The
+crate refuses values that aren't DER, as a KeyUsage that ends with zero bits (X.690 11.2.2); these are counted, and have to be such that `cryptography` writes
+them otherwise.
 """
 import argparse
 import glob

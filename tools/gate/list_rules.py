@@ -28,15 +28,18 @@ REASONS = {
 }
 HEAD = """# What RFC 5280 says, and the rules of `x509_lint`
 
-`tools/gate/list_rules.py` makes this page of `tools/data/rfc5280.txt` and of the rules in `crates/x509_lint/src/rule`. Each line has what a section of RFC 5280, or of another standard that is named,
-says MUST or SHOULD hold, in our own words, and the rule that tells where it is broken, or why there is none. GRAMMAR stands for a size or a type of the ASN.1. Whether a rule is broken is a definition of `crates/x509_lint/specs`, in the
-file of its group, and `lint_certificate`, `lint_crl`, `lint_request` and `lint_anchor` are proved to find it exactly there; what was seen is said at the rule in the code. Why there is none:
+`tools/gate/list_rules.py` makes this page of `tools/data/rfc5280.txt` and of the rules in `crates/x509_lint/src/rule`. Each line has what a section of RFC
+5280, or of another standard that is named, says MUST or SHOULD hold, in our own words, and the rule that tells where it is broken, or why there is none.
+GRAMMAR stands for a size or a type of the ASN.1. Whether a rule is broken is a definition of `crates/x509_lint/specs`, in the file of its group, and
+`lint_certificate`, `lint_crl`, `lint_request` and `lint_anchor` are proved to find it exactly there; what was seen is said at the rule in the code. Why there
+is none:
 
 """
 
 
 class Rules(dict):
-    """The rules of the code, by what the lines call them: `name` of a certificate's, `crl:name` of a CRL's, `csr:name` of a CSR's, `anchor:name` of an anchor's."""
+    """The rules of the code, by what the lines call them: `name` of a certificate's, `crl:name` of a CRL's, `csr:name` of a CSR's, `anchor:name` of an
+    anchor's."""
 
     def __init__(self):
         super().__init__()

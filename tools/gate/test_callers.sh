@@ -128,7 +128,8 @@ authority() {
     wants "openssl, the CSR of $name" 0 "$folder/nothing" openssl req -inform DER -in "$made/request.der" -verify -noout
 }
 
-# usage: revoked NAME WORDS..: the program says of the server of the last authority what the CRLs before and after say; and of a certificate by one that may not sign CRLs nothing
+# usage: revoked NAME WORDS..: the program says of the server of the last authority what the CRLs before and after say; and of a certificate by one that may not
+# sign CRLs nothing
 revoked() {
     local name=$1 made=$folder/made
     shift
@@ -157,7 +158,8 @@ echo 'refused with 5' >"$folder/no_name.txt"
 printf '0' >"$folder/one"
 head -c -1 "$data/certificate.der" >"$folder/short"
 
-if has python3 "hostile payloads, the rows, the snippets of README.md, the names in docs/PROMISES.md and docs/OPERATIONS.md, docs/RULES.md, and ./x509_tool"; then
+if has python3 \
+    "hostile payloads, the rows, the snippets of README.md, the names in docs/PROMISES.md and docs/OPERATIONS.md, docs/RULES.md, and ./x509_tool"; then
     python3 -B "$gate/make_rows.py" --check || failed=1
     python3 -B "$gate/check_readme_snippets.py" || failed=1
     python3 -B "$gate/check_promises.py" || failed=1
@@ -335,8 +337,8 @@ run_tests() {
     fi
 }
 
-# the tests of the crate for Rust under valgrind, and with AddressSanitizer where the compiler has it, as that of a release has behind RUSTC_BOOTSTRAP. Some lend bytes
-# for good, so leaks aren't looked for here: the library's are above.
+# the tests of the crate for Rust under valgrind, and with AddressSanitizer where the compiler has it, as that of a release has behind RUSTC_BOOTSTRAP. Some
+# lend bytes for good, so leaks aren't looked for here: the library's are above.
 test_watched() {
     local tests=(cargo test -q --offline --lib --tests --manifest-path "$top/bindings/rust/Cargo.toml") host
     host=$(rustc -vV | sed -n 's/^host: //p')

@@ -1,6 +1,8 @@
 #!/usr/bin/env bash
-# Installs the C library under a fresh folder, and builds and runs a caller over it: in C with the flags of pkg-config, shared and static, in C++ with all warnings, and by CMake; and the
-# packages for Rust, found by pkg-config, and Python, installed by pip, also as a wheel that carries its library; and the programs of examples/installed. What isn't installed is left out, with a line that says so. Asks too that the shared library lets nothing be seen but calls that begin with x509_.
+# Installs the C library under a fresh folder, and builds and runs a caller over it: in C with the flags of pkg-config, shared and static, in C++ with all
+# warnings, and by CMake; and the packages for Rust, found by pkg-config, and Python, installed by pip, also as a wheel that carries its library; and the
+# programs of examples/installed. What isn't installed is left out, with a line that says so. Asks too that the shared library lets nothing be seen but calls
+# that begin with x509_.
 set -eu
 top=$(cd "$(dirname "${BASH_SOURCE[0]}")/../.." && pwd)
 folder=$(mktemp -d)
@@ -65,14 +67,16 @@ if has pkg-config "callers with the flags of pkg-config"; then
     "${CC:-cc}" -std=c11 -Wall -Wextra -pedantic -Werror $(pkg-config --cflags x509) "$folder/caller.c" "$prefix/lib/libx509.a" -o "$folder/static"
     says "C, static" 2.5.29.15 "$("$folder/static")"
     # shellcheck disable=SC2046
-    "${CC:-cc}" -std=c11 -Wall -Wextra -pedantic -Werror $(pkg-config --cflags x509) "$top/examples/installed/text.c" $(pkg-config --libs x509) -o "$folder/text"
+    "${CC:-cc}" -std=c11 -Wall -Wextra -pedantic -Werror $(pkg-config --cflags x509) "$top/examples/installed/text.c" \
+        $(pkg-config --libs x509) -o "$folder/text"
     tells "C, the text of a certificate" env LD_LIBRARY_PATH="$prefix/lib" "$folder/text"
     if has "${CXX:-c++}" "a caller in C++"; then
         # shellcheck disable=SC2046
         "${CXX:-c++}" -std=c++17 -Wall -Wextra -pedantic -Werror $(pkg-config --cflags x509) "$folder/caller.cc" $(pkg-config --libs x509) -o "$folder/cpp"
         says "C++" 2.5.29.15 "$(LD_LIBRARY_PATH=$prefix/lib "$folder/cpp")"
         # shellcheck disable=SC2046
-        "${CXX:-c++}" -std=c++17 -Wall -Wextra -pedantic -Werror $(pkg-config --cflags x509) "$top/examples/installed/text.cc" $(pkg-config --libs x509) -o "$folder/text"
+        "${CXX:-c++}" -std=c++17 -Wall -Wextra -pedantic -Werror $(pkg-config --cflags x509) "$top/examples/installed/text.cc" \
+            $(pkg-config --libs x509) -o "$folder/text"
         tells "C++, the text of a certificate" env LD_LIBRARY_PATH="$prefix/lib" "$folder/text"
     fi
 fi
@@ -87,21 +91,25 @@ target_link_libraries(by_cmake x509::x509)
 add_executable(by_cmake_static caller.c)
 target_link_libraries(by_cmake_static x509::static)
 CMAKE
-    cmake -S "$folder" -B "$folder/build" -DCMAKE_PREFIX_PATH="$prefix" >"$folder/said" 2>&1 && cmake --build "$folder/build" >>"$folder/said" 2>&1 || cat "$folder/said"
+    cmake -S "$folder" -B "$folder/build" -DCMAKE_PREFIX_PATH="$prefix" >"$folder/said" 2>&1 &&
+        cmake --build "$folder/build" >>"$folder/said" 2>&1 || cat "$folder/said"
     says "CMake, shared" 2.5.29.15 "$("$folder/build/by_cmake")"
     says "CMake, static" 2.5.29.15 "$("$folder/build/by_cmake_static")"
-    cmake -S "$top/examples/installed" -B "$folder/build_text" -DCMAKE_PREFIX_PATH="$prefix" >"$folder/said" 2>&1 && cmake --build "$folder/build_text" >>"$folder/said" 2>&1 || cat "$folder/said"
+    cmake -S "$top/examples/installed" -B "$folder/build_text" -DCMAKE_PREFIX_PATH="$prefix" >"$folder/said" 2>&1 &&
+        cmake --build "$folder/build_text" >>"$folder/said" 2>&1 || cat "$folder/said"
     tells "CMake, the text of a certificate" "$folder/build_text/text"
 fi
 
 if has pkg-config "the crate for Rust over the install" && has cargo "the crate for Rust over the install"; then
     ended=0
-    env -u X509_LIBRARY CARGO_TARGET_DIR="$folder/target" cargo test -q --offline --test builder --manifest-path "$top/bindings/rust/Cargo.toml" >"$folder/said" 2>&1 || ended=$?
+    env -u X509_LIBRARY CARGO_TARGET_DIR="$folder/target" cargo test -q --offline --test builder \
+        --manifest-path "$top/bindings/rust/Cargo.toml" >"$folder/said" 2>&1 || ended=$?
     [ "$ended" = 0 ] || cat "$folder/said"
     says "Rust, by pkg-config" 0 "$ended"
     mkdir -p "$folder/project/src"
     cp "$top/examples/installed/text.rs" "$folder/project/src/main.rs"
-    printf '[package]\nname = "text"\nversion = "0.0.0"\nedition = "2021"\n[dependencies]\nx509-rattle = { path = "%s" }\n[workspace]\n' "$top/bindings/rust" >"$folder/project/Cargo.toml"
+    printf '[package]\nname = "text"\nversion = "0.0.0"\nedition = "2021"\n[dependencies]\nx509-rattle = { path = "%s" }\n[workspace]\n' \
+        "$top/bindings/rust" >"$folder/project/Cargo.toml"
     env -u X509_LIBRARY CARGO_TARGET_DIR="$folder/target" cargo build -q --offline --manifest-path "$folder/project/Cargo.toml" || true
     tells "Rust, the text of a certificate" "$folder/target/debug/text"
     X509_LIBRARY=$prefix/lib/libx509.so CARGO_TARGET_DIR="$folder/target_shared" cargo build -q --offline --manifest-path "$folder/project/Cargo.toml" || true
@@ -115,8 +123,10 @@ if has python3 "the package for Python over the install"; then
     [ "$ended" = 0 ] || cat "$folder/said"
     says "Python, by pip" "0 2.5.29.15" "$ended $(X509_LIBRARY=$prefix/lib/libx509.so PYTHONPATH=$folder/package python3 -B -c \
         'import x509_cert; print(x509_cert.KeyUsage(crl_sign=True).oid.dotted_string)')"
-    python3 -m pip wheel -q --no-index --no-deps -C library="$prefix/lib/libx509.so" -w "$folder/wheel" "$top/bindings/python" >"$folder/said" 2>&1 || cat "$folder/said"
+    python3 -m pip wheel -q --no-index --no-deps -C library="$prefix/lib/libx509.so" -w "$folder/wheel" "$top/bindings/python" >"$folder/said" 2>&1 ||
+        cat "$folder/said"
     python3 -m pip install -q --no-index --no-deps --target "$folder/carries" "$folder"/wheel/*.whl >"$folder/said" 2>&1 || cat "$folder/said"
-    tells "Python, the text of a certificate by a wheel that carries the library" env -u X509_LIBRARY PYTHONPATH="$folder/carries" python3 -B "$top/examples/installed/text.py"
+    tells "Python, the text of a certificate by a wheel that carries the library" env -u X509_LIBRARY PYTHONPATH="$folder/carries" \
+        python3 -B "$top/examples/installed/text.py"
 fi
 exit "$failed"

@@ -321,12 +321,12 @@ def malformed_rules():
 
 def critical_rules():
     """Which extensions of a certificate are critical (RFC 5280 4.2.1, 4.2.2)."""
-    mappings = sequence(sequence(POLICY, object_identifier(1, 2, 3, 5)))
+    mappings, policies = sequence(sequence(POLICY, object_identifier(1, 2, 3, 5))), ce(32, sequence(sequence(POLICY)))
     limits = sequence(implicit(0, b"\0"))
     yield certificate(extensions=(ce(35, sequence(KEY_ID), True), SKI, KU)), [error("authority_key_identifier_critical", "4.2.1.1")]
     yield certificate(extensions=(AKI, ce(14, octet_string(b"subject"), True), KU)), [error("subject_key_identifier_critical", "4.2.1.2")]
     yield certificate(extensions=(AKI, SKI, ce(15, DIGITAL_SIGNATURE))), [warning("key_usage_not_critical", "4.2.1.3")]
-    yield ca_with(ce(33, mappings)), [warning("policy_mappings_not_critical", "4.2.1.5")]
+    yield ca_with(policies, ce(33, mappings)), [warning("policy_mappings_not_critical", "4.2.1.5")]
     yield leaf_with(ce(17, NAMES, True)), [warning("subject_alt_name_critical", "4.2.1.6")]
     yield leaf_with(ce(18, NAMES, True)), [warning("issuer_alt_name_critical", "4.2.1.7")]
     yield leaf_with(ce(9, ATTRIBUTES, True)), [error("subject_directory_attributes_critical", "4.2.1.8")]
@@ -337,7 +337,7 @@ def critical_rules():
     yield leaf_with(ce(46, sequence(POINT), True)), [error("freshest_crl_critical", "4.2.1.15")]
     yield leaf_with(pe(1, ACCESS, True)), [error("authority_info_access_critical", "4.2.2.1")]
     yield ca_with(pe(11, ACCESS, True)), [error("subject_info_access_critical", "4.2.2.2")]
-    yield ca_with(ce(33, mappings, True), ce(30, sequence(SUBTREES), True), ce(36, limits, True), ce(54, integer(0), True), pe(11, ACCESS)), []
+    yield ca_with(policies, ce(33, mappings, True), ce(30, sequence(SUBTREES), True), ce(36, limits, True), ce(54, integer(0), True), pe(11, ACCESS)), []
     yield leaf_with(ce(17, NAMES), ce(18, NAMES), ce(9, ATTRIBUTES), ce(31, sequence(POINT)), ce(46, sequence(POINT)), pe(1, ACCESS)), []
 
 
@@ -386,6 +386,47 @@ def key_rules():
     yield leaf_with(ce(16, sequence(implicit(0, b"20260102030405Z")))), []
 
 
+MARKS = b"-._~!$&'()*+,;="
+
+# of another syntax than RFC 3986 has, behind hosts that are as RFC 5280 4.2.1.6 wants them
+INVALID_URIS = (
+    *(b"http://a.example/" + mark for mark in (b"[", b"]", b" ", b'"', b"<", b">", b"\\", b"^", b"`", b"{", b"|", b"}", b"\x7f", b"%", b"%4", b"%zz", b"%4g", b"%g4", b"%%41")),
+    *(b"http://a.example/?" + mark for mark in (b"[", b"]", b" ", b"%", b"|")),
+    *(b"http://a.example/#" + mark for mark in (b"#", b"[", b" ", b"%4", b"a#b")),
+    *(b"http://" + user + b"@a.example/" for user in (b"[", b"%", b"a b", b'"')),
+    *(b"http://" + host for host in (b"a.example:8a", b"a.example:80:80", b"[::1", b"[::1]a", b"[::1]:a")),
+    b"urn:[",
+    b"a:%",
+    b"a:b c",
+)
+
+# neither fully qualified domain names nor addresses (RFC 1034 3.5, RFC 1123 2.1, RFC 3986 3.2.2)
+OTHER_HOSTS = (
+    *(b"", b":80", b"localhost", b"localhost:80", b"user@localhost", b"a_b.example", b"*.example.org", b"-a.example", b"a-.example", b"%61.example", b"a~b.example"),
+    *(b".example", b"a..example", b"a.example..", b".", b"a" * 64 + b".example", b".".join([b"a" * 63] * 4)),
+    *(b"256.1.1.1", b"1.2.3", b"1.2.3.4.5", b"01.2.3.4", b"1.2.3.4.", b"1.2.3.", b"999.1.1.1", b"260.1.1.1"),
+)
+
+# what may stand between brackets (RFC 3986 3.2.2), and what may not
+ADDRESSES = (
+    *(b"::", b"::1", b"1::", b"1::8", b"1:2:3:4:5:6:7:8", b"::2:3:4:5:6:7:8", b"1:2:3:4:5:6:7::", b"1:2:3::5:6:7:8", b"ABCD:ef01:0000:9::"),
+    *(b"::192.0.2.1", b"::ffff:255.199.25.0", b"1:2:3:4:5:6:192.0.2.1", b"1:2:3:4:5::192.0.2.1", b"v1.a:b", b"V1F.~!"),
+)
+NO_ADDRESSES = (
+    *(b"", b":", b":::", b"1", b"1:2:3:4:5:6:7", b"1:2:3:4:5:6:7:8:9", b"1::2::3", b"1:2:3:4::5:6:7:8", b"::1:2:3:4:5:6:7:8", b"12345::", b"::g", b"1:", b":1", b"::1:"),
+    *(b"192.0.2.1", b"::1.2.3", b"::256.0.0.1", b"::01.2.3.4", b"1.2.3.4::", b"::1.2.3.4:5", b"1:2:3:4:5:6:7:1.2.3.4", b"1:2:3:4:5:6::1.2.3.4", b"1.2.3.4"),
+    *(b"v.a", b"v1.", b"v1", b"vg.a", b"v1.a%b", b"w1.a", b"a.example", b"::1%25eth0"),
+)
+URIS = (
+    *(b"http://a.example", b"http://a.example:", b"http://a.example:80/", b"http://a.example./", b"http://1a.2b/", b"http://192.0.2.1", b"http://255.249.199.99:65536/?"),
+    *(b"http://u:%20:p@a.example:8080/~a//b;c=%41%e9?d=/?e#f/?g", b"http://[::1]:80/", b"http://u@[::1]", b"http://a.example?b", b"http://a.example#b"),
+    *(b"mailto:a@example.org", b"urn:uuid:f81d4fae-7dec-11d0-a765-00a0c91e6bf6", b"sip:a@b", b"data:,", b"a:/", b"a:?", b"a:#", b"a:/b//c", b"ldap://a.example/cn=a?b?c?d"),
+    b"a:" + MARKS + b":@/?" + MARKS + b":@/?#" + MARKS + b":@/?",
+    b"a://" + MARKS + b":@a.example/" + MARKS + b":@/",
+    b"http://" + b".".join([b"a" * 63] * 3) + b"." + b"a" * 61 + b"./",
+)
+
+
 def alternative_rules():
     """The alternative names of the subject and the issuer (RFC 5280 4.2.1.6, 4.2.1.7)."""
     for number, who, section in ((17, "subject", "4.2.1.6"), (18, "issuer", "4.2.1.7")):
@@ -399,13 +440,48 @@ def alternative_rules():
             yield with_names(implicit(2, text)), [error(f"{who}_alt_name_dns_name_invalid", section)]
         for octets in (b"\1\2\3", b"\1\2\3\4\5", bytes(8), bytes(17)):
             yield with_names(implicit(7, octets)), [error(f"{who}_alt_name_address_length", section)]
-        for text in (b"a", b"@example.org", b"a@", b"a b@example.org", b".a@example.org", b"a.@example.org", b"a..b@example.org", b"a@b@example.org", b"a@-b.org", b"<a@b.org>"):
+        for text in (
+            b"a",
+            b"@example.org",
+            b"a@",
+            b"a b@example.org",
+            b".a@example.org",
+            b"a.@example.org",
+            b"a..b@example.org",
+            b"a@b@example.org",
+            b"a@-b.org",
+            b"<a@b.org>",
+            b'"',
+            b'""',
+            b'"a@example.org',
+            b'"a"example.org',
+            b'"a"@',
+            b'"a"@-b.org',
+            b'"a"b@example.org',
+            b'"a"b"@example.org',
+            b'"a\\"@example.org',
+            b'"a\x1f"@example.org',
+            b'"a\\\x7f"@example.org',
+            b'"a".b@example.org',
+            b'a."b"@example.org',
+        ):
             yield with_names(implicit(1, text)), [error(f"{who}_alt_name_mailbox_invalid", section)]
-        for text in (b"a@example.org", b"a.b@c", b"a!#$%&'*+-/=?^_`{|}~1@example.org", b"A@[192.0.2.1]", b'"a b"@example.org'):
+        for text in (b"a@example.org", b"a.b@c", b"a!#$%&'*+-/=?^_`{|}~1@example.org", b"A@[192.0.2.1]", b'"a b"@example.org', b'""@c', b'"a\\"b"@example.org',
+                     b'"a\\\\"@example.org', b'"a@b"@example.org', b'"\\ !#[]~"@[192.0.2.1]'):
             yield with_names(implicit(1, text)), []
         for text in (b"example.org", b"/a", b"//example.org/a", b"http:", b"1a:b", b":a", b"a_b:c", b"?a", b"#a"):
             yield with_names(implicit(6, text)), [error(f"{who}_alt_name_uri_relative", section)]
         for text in (b"http://example.org/", b"urn:a", b"a+b-c.1:d", b"LDAP://example.org"):
+            yield with_names(implicit(6, text)), []
+        invalid, other_host = error(f"{who}_alt_name_uri_invalid", section), error(f"{who}_alt_name_uri_host_invalid", section)
+        for text in INVALID_URIS:
+            yield with_names(URI, implicit(6, text)), [invalid]
+        for text in (*(b"http://" + host + b"/" for host in OTHER_HOSTS), b"file:///etc", b"http://", b"a://?b", b"a://#b", b"spiffe://domain/a"):
+            yield with_names(implicit(6, text), URI), [other_host]
+        for address in NO_ADDRESSES:
+            yield with_names(implicit(6, b"http://[" + address + b"]/")), [invalid, other_host]
+        yield with_names(implicit(6, b"http://a@b@c.example/")), [invalid, other_host]
+        for text in (*URIS, *(b"http://[" + address + b"]" for address in ADDRESSES)):
             yield with_names(implicit(6, text)), []
         for text in (b"*.example", b"a", b"A-1.example", b"a" * 63, b".".join([b"a" * 63] * 3) + b"." + b"a" * 61):
             yield with_names(implicit(2, text), implicit(7, bytes(4)), implicit(7, bytes(16))), []
@@ -451,6 +527,13 @@ def policy_rules():
         yield leaf_with(with_text(element(BMP_STRING, b"\0a" + bytes((0, code))))), [*old, warning("explicit_text_control", "4.2.1.4")]
     yield leaf_with(with_text(element(BMP_STRING, b"\x20\xac\0\xa0\x1f\0"))), old
     yield leaf_with(with_text(element(UTF8_STRING, "a ~ä\u00a0".encode()))), []
+    # of two canonically equivalent spellings the composed one is NFC; U+212B, the angstrom sign, is U+00C5 in NFC; U+0344 and U+0958 never are; marks have an order
+    unnormalized = [warning("explicit_text_not_normalized", "4.2.1.4")]
+    for text in ("a\u0308", "\u212b", "\u0344", "\u0958", "a\u0327\u0302b".replace("\u0327\u0302", "\u0302\u0327"), "\u1100\u1161", "\u2126"):
+        yield leaf_with(with_text(element(UTF8_STRING, text.encode()))), unnormalized
+    for text in ("\u00e4", "\u00c5", "q\u0308", "\u0915\u093c", "q\u0327\u0302", "\uac00", "\u03a9", "\ufb01"):
+        yield leaf_with(with_text(element(UTF8_STRING, text.encode()))), []
+    yield leaf_with(with_text(element(BMP_STRING, b"\0a\x03\x08"))), old
     reference = sequence(sequence(element(UTF8_STRING, b"a"), sequence(integer(1))))
     yield leaf_with(ce(32, sequence(sequence(POLICY, sequence(sequence(NOTICE, reference)))))), [warning("notice_reference_present", "4.2.1.4")]
     pointer, other = sequence(CPS, element(IA5_STRING, b"http://example.org/")), sequence(object_identifier(1, 2, 3), NULL)
@@ -462,9 +545,37 @@ def policy_rules():
     yield leaf_with(ce(32, sequence(sequence(POLICY, sequence(sequence(CPS, sequence(long))))))), []
     yield leaf_with(ce(32, sequence(sequence(POLICY, sequence(sequence(NOTICE, long)))))), []
     yield ca_with(ce(33, sequence(), True)), [error("policy_mappings_empty", "4.2.1.5")]
-    yield ca_with(ce(33, sequence(sequence(POLICY, ANY_POLICY)), True)), [error("policy_mapping_any_policy", "4.2.1.5")]
-    yield ca_with(ce(33, sequence(sequence(ANY_POLICY, POLICY)), True)), [error("policy_mapping_any_policy", "4.2.1.5")]
+    asserted = ce(32, sequence(sequence(POLICY), sequence(ANY_POLICY)))
+    yield ca_with(asserted, ce(33, sequence(sequence(POLICY, ANY_POLICY)), True)), [error("policy_mapping_any_policy", "4.2.1.5")]
+    yield ca_with(asserted, ce(33, sequence(sequence(ANY_POLICY, POLICY)), True)), [error("policy_mapping_any_policy", "4.2.1.5")]
+    yield from mapping_rules()
     yield ca_with(ce(36, sequence(), True)), [error("policy_constraints_empty", "4.2.1.11")]
+
+
+def mapping_rules():
+    """Policies that are mapped, and stand among the certificate policies (RFC 5280 4.2.1.5)."""
+
+    def mapped(count, *policies):
+        mappings = sequence(*(sequence(object_identifier(1, 2, 3, 4, at), POLICY) for at in range(count)))
+        return ca_with(*policies, ce(33, mappings, True))
+
+    def asserted(*numbers):
+        return ce(32, sequence(*(sequence(object_identifier(1, 2, 3, 4, number)) for number in numbers)))
+
+    lacking = [warning("policy_mapping_not_asserted", "4.2.1.5")]
+    yield mapped(1), lacking
+    yield mapped(1, ce(32, sequence(sequence(ANY_POLICY)))), lacking
+    yield mapped(1, ce(32, sequence(sequence(POLICY)))), lacking
+    yield mapped(1, asserted(0)), []
+    for count in (2, 3, 10):
+        yield mapped(count, asserted(*reversed(range(count)))), []
+        for left_out in range(count):
+            yield mapped(count, asserted(*(number for number in range(count + 3) if number != left_out))), lacking
+    yield mapped(1, ce(32, NULL)), [malformed("certificatePolicies")]
+    yield mapped(1, asserted(0), asserted(0)), [error("extension_repeated", "4.2")]
+    many = [(at * 7919) % 4000 for at in range(4000)]
+    yield mapped(4000, asserted(*many)), []
+    yield mapped(4000, asserted(*many[:-1])), lacking
 
 
 def constraint_rules():
@@ -509,7 +620,7 @@ def point_rules():
     yield leaf_with(ce(31, sequence(POINT, relative))), [warning("distribution_point_relative", "4.2.1.13")]
     for name in (implicit(6, b"https://example.org/"), implicit(6, b"ftp://example.org/"), implicit(6, b"http"), DNS, context(4, ISSUER)):
         yield leaf_with(ce(31, sequence(POINT, sequence(context(0, context(0, name)))))), [warning("distribution_point_without_uri", "4.2.1.13")]
-    for name in (implicit(6, b"HTTP://example.org/"), implicit(6, b"ldap://example.org/cn=a?b"), implicit(6, b"lDaP:a")):
+    for name in (implicit(6, b"HTTP://example.org/"), implicit(6, b"ldap://example.org/cn=a?b"), implicit(6, b"lDaP://a/b?c")):
         yield leaf_with(ce(31, sequence(sequence(context(0, context(0, DNS, name)))))), []
     yield leaf_with(ce(31, sequence(sequence(context(2, context(4, common_name(b"Another")), DNS))))), [error("distribution_point_issuer_invalid", "4.2.1.13")]
     yield leaf_with(ce(31, sequence(POINT, sequence(context(2, context(4, ISSUER)))))), [error("distribution_point_own_issuer", "4.2.1.13")]
@@ -522,6 +633,12 @@ def point_rules():
                        context(2, context(4, common_name(b"Another")), context(4, common_name(b"One more"))))
     for number, section, name in ((31, "4.2.1.13", "distribution_point"), (46, "4.2.1.15", "freshest_crl_point")):
         yield leaf_with(ce(number, sequence(POINT, several))), [warning(f"{name}_relative", section), error(f"{name}_relative_to_several", section)]
+        def with_uri(text, number=number):
+            return leaf_with(ce(number, sequence(POINT, sequence(context(0, context(0, URI, implicit(6, text)))))))
+
+        yield from ldap_rules(name, section, with_uri)
+        for attributes in (b"a,b", b"a,", b","):
+            yield with_uri(b"ldap://a.example/cn=a?" + attributes), [error(f"{name}_ldap_incomplete", section)]
     yield leaf_with(ce(46, sequence(POINT, relative))), [warning("freshest_crl_point_relative", "4.2.1.15")]
     yield leaf_with(ce(46, sequence(POINT, sequence(context(0, context(0, DNS)))))), [warning("freshest_crl_point_without_uri", "4.2.1.15")]
     yield leaf_with(ce(46, sequence(sequence(context(2, context(4, common_name(b"Another")), DNS))))), [error("freshest_crl_point_issuer_invalid", "4.2.1.15")]
@@ -536,6 +653,29 @@ def point_rules():
         yield ca_with(pe(number, sequence(sequence(place, DNS), sequence(ocsp, URI)))), [warning(name, section)]
         yield ca_with(pe(number, sequence(sequence(place, DNS), sequence(place, URI)))), []
         yield ca_with(pe(number, sequence(sequence(ocsp, DNS)))), []
+
+    def with_place(text, number=2):
+        other = object_identifier(1, 3, 6, 1, 5, 5, 7, 48, number)
+        return leaf_with(pe(1, sequence(sequence(object_identifier(1, 3, 6, 1, 5, 5, 7, 48, 2), URI), sequence(other, implicit(6, text)))))
+
+    yield from ldap_rules("ca_issuers", "4.2.2.1", with_place)
+    for attributes in (b"a,", b",a", b",", b"a,,b"):
+        yield with_place(b"ldap://a.example/cn=a?" + attributes), [error("ca_issuers_ldap_incomplete", "4.2.2.1")]
+    yield with_place(b"ldap://a.example/cn=a?a;binary,b;binary"), []
+    yield with_place(b"ldap:a", 1), []
+
+
+def ldap_rules(name, section, with_uri):
+    """LDAP URIs (RFC 4516 2) of distribution points and access descriptions (RFC 5280 4.2.1.13, 4.2.2.1)."""
+    incomplete, hostless = error(f"{name}_ldap_incomplete", section), warning(f"{name}_ldap_without_host", section)
+    for behind in (b"", b"/", b"/cn=a", b"/cn=a?", b"/?a", b"/cn=a??base", b"?a", b"/cn=a#?b"):
+        yield with_uri(b"ldap://a.example" + behind), [incomplete]
+    for text in (b"ldap:///cn=a?b", b"ldap://:389/cn=a,dc=b?c;binary?base?d=e", b"LDAP:///cn=a?b"):
+        yield with_uri(text), [hostless]
+    for text in (b"ldap:a", b"ldap:/cn=a?b", b"ldap:", b"lDaP:///?b"):
+        yield with_uri(text), [incomplete, hostless]
+    for text in (b"ldap://a/cn=a?b", b"ldap://a.example:389/cn=a,dc=b?c;binary?base?d=e,f", b"ldap://[::1]/cn=a?b", b"ldaps:///", b"http:///a"):
+        yield with_uri(text), []
 
 
 def crl_field_rules():
@@ -640,6 +780,11 @@ def crl_entry_rules():
     for octets in (b"", NULL, date[:-1], date + b"\0", element(GENERALIZED_TIME, b"202601010000Z"), element(UTC_TIME, b"260101000000Z"),
                    element(GENERALIZED_TIME, b"20260101000000."), element(GENERALIZED_TIME, b"2026010100000aZ"), element(UTC_TIME, b"20260101000000Z")):
         yield with_entry(ce(24, octets)), [error("entry_invalidity_date_invalid", "5.3.2")]
+    for text in ("20261301000000Z", "20260001000000Z", "20260132000000Z", "20260100000000Z", "20260230000000Z", "20260229000000Z", "21000229000000Z", "20260431000000Z",
+                 "20260631000000Z", "20260931000000Z", "20261131000000Z", "20260101240000Z", "20260101006000Z", "20260101000060Z", "20161231235960Z"):
+        yield with_entry(ce(24, element(GENERALIZED_TIME, text.encode()))), [error("entry_invalidity_date_invalid", "5.3.2")]
+    for text in ("20260131235959Z", "20240229000000Z", "20000229000000Z", "19691231235959Z", "00010101000000Z", "99991231235959Z", "20260430000000Z", "20260731000000Z", "20260831000000Z"):
+        yield with_entry(ce(24, element(GENERALIZED_TIME, text.encode()))), []
     yield with_entry(ce(24, date, True)), [error("entry_invalidity_date_critical", "5.3.2")]
     yield with_entry(ce(29, issuer, True), more=(indirect,)), []
     yield with_entry(ce(29, issuer), more=(indirect,)), [error("entry_certificate_issuer_not_critical", "5.3.3")]
@@ -725,7 +870,10 @@ def csr_rules():
         (sequence(implicit(2, b"a_b")), "subject_alt_name_dns_name_invalid"),
         (sequence(implicit(7, bytes(5))), "subject_alt_name_address_length"),
         (sequence(implicit(1, b"example.org")), "subject_alt_name_mailbox_invalid"),
+        (sequence(implicit(1, b'"a"b@example.org')), "subject_alt_name_mailbox_invalid"),
         (sequence(implicit(6, b"example.org")), "subject_alt_name_uri_relative"),
+        (sequence(implicit(6, b"urn:[")), "subject_alt_name_uri_invalid"),
+        (sequence(implicit(6, b"http://localhost/")), "subject_alt_name_uri_host_invalid"),
     ):
         yield csr(extensions=(ce(17, names),)), [error(rule, "4.2.1.6")]
 
@@ -860,7 +1008,7 @@ CERTIFICATE_RULES = (
     constraint_rules,
     point_rules,
 )
-USAGE = "usage: x509_linter [certificate|crl|csr|anchor] [-v|--json] [FILE..]\n       x509_linter --web MOMENT [FILE..]\n"
+USAGE = "usage: x509_linter [certificate|crl|csr|anchor] [-v|--json] [FILE..]\n       x509_linter --web [-v|--json] MOMENT [FILE..]\n"
 WEB_HELP = """  --web                          tells which rules of the Baseline Requirements of the
                                  CA/Browser Forum certificates break, of those in force at
                                  MOMENT, as 2026-03-15T00:00:00Z
@@ -976,7 +1124,12 @@ def refused(program):
     ):
         found = ended(program, [], data)
         yield name, found == (2, "", f"x509_linter: standard input: {NO_OBJECT}\n"), found
-    for name, words in (("-v twice", ["-v", "-v"]), ("two options", ["-v", "--json"]), ("--json twice", ["--json", "--json"]), ("-v with more behind it", ["-vv"])):
+    for name, words in (
+        ("-v twice", ["-v", "-v"]),
+        ("two options", ["-v", "--json"]),
+        ("--json twice", ["--json", "--json"]),
+        ("-v with more behind it", ["-vv"]),
+    ):
         found = ended(program, words, odd)
         yield name, found == (2, "", USAGE), found
     for kind, data in (("certificate", crl()), ("crl", csr()), ("csr", anchor()), ("anchor", csr())):
@@ -1008,13 +1161,24 @@ def at_moments(program):
         ("--web behind the moment", [moment, "--web"], data),
         ("--web and --", ["--web", "--", moment, "-"], data),
         ("--web and hex", ["--web", moment], data.hex().encode()),
+        ("--web and -v", ["--web", "-v", moment], data),
+        ("-v and --web", ["-v", moment, "--web"], data),
     ):
         found = ended(program, words, given)
         yield name, found == (1, line, ""), found
-    for text in ("2026-03-15", "2026-03-15T00:00:00", "2026-02-29T00:00:00Z", "2026-03-15T24:00:00Z", "1969-12-31T23:59:59Z", "2026-03-15t00:00:00z", "certificate", ""):
+    for text in (
+        "2026-03-15",
+        "2026-03-15T00:00:00",
+        "2026-02-29T00:00:00Z",
+        "2026-03-15T24:00:00Z",
+        "1969-12-31T23:59:59Z",
+        "2026-03-15t00:00:00z",
+        "certificate",
+        "",
+    ):
         found = ended(program, ["--web", text], data)
         yield f"the moment `{text}`", found == usage, found
-    for words in (["--web"], ["--web", "-v", moment], ["--json", "--web", moment], ["--web", "--web", moment], ["--web=" + moment]):
+    for words in (["--web"], ["--web", "-v"], ["--web", "--web", moment], ["--web", "-v", "--json", moment], ["--web", "-x", moment], ["--web=" + moment]):
         found = ended(program, words, data)
         yield f"the words {words}", found == usage, found
     for name, other in (("CRL", crl()), ("CSR", csr()), ("trust anchor", anchor())):
@@ -1026,6 +1190,11 @@ def at_moments(program):
             pathlib.Path(path).write_bytes(data)
         found = ended(program, ["--web", moment, *paths])
         yield "several files with --web", found == (1, "".join(f"{path}:\n{line}" for path in paths), ""), found
+        place = "tbsCertificate.extensions.subjectAltName"
+        finding = "certificate", "subject_alt_name_absent", "error", "TLS BR 7.1.2.7.12", place
+        status, text, said = ended(program, ["--json", moment, *paths, "--web"])
+        lines = text.splitlines(keepends=True)
+        yield "several files with --web and --json", (status, said) == (1, "") and all(told(path, *finding) in lines for path in paths), text
 
 
 def alike(program):

@@ -147,14 +147,22 @@ def try_programs(test, folder, pages, at, what):
         text = test.run(name, [folder / name, "--help"], at) or ""
         if pages and test.has("man", f"{what}: manual pages"):
             page = test.run(name, ["man", "--warnings", "-l", f"{pages}/{name}.1"], at, MANWIDTH="200", MAN_KEEP_FORMATTING="") or ""
-            test.says(f"{what}: the manual page of {name} has each word of its help", ([it for it in words_of(text) if it not in page], len(words_of(text)) > 3), ([], True))
+            test.says(
+                f"{what}: the manual page of {name} has each word of its help",
+                ([it for it in words_of(text) if it not in page], len(words_of(text)) > 3),
+                ([], True),
+            )
             test.says(f"{what}: and its version", f"x509-rattle {VERSION}" in page)
     test.prints(f"{what}: x509_show", [folder / "x509_show", "cert.der"], at)
     said = test.run("x509_tool", [folder / "x509_tool", "reencode", "oid"], at, data="0603550406\n")
     test.says(f"{what}: x509_tool", said, "0603550406\n")
     found = test.ended([folder / "x509_linter", "cert.der", "text.c"], at)
     lines = [it for it in found.stdout.splitlines() if it != "cert.der:" and not re.fullmatch(r"certificate: (error|warning) \w+ \(RFC 5280 [\d.]+\)", it)]
-    test.says(f"{what}: x509_linter", (found.returncode, lines, found.stderr), (2, [], "x509_linter: text.c: not a certificate, CRL, CSR or trust anchor in DER or hex\n"))
+    test.says(
+        f"{what}: x509_linter",
+        (found.returncode, lines, found.stderr),
+        (2, [], "x509_linter: text.c: not a certificate, CRL, CSR or trust anchor in DER or hex\n"),
+    )
     try_store(test, folder / "x509_show", at, what)
 
 
@@ -285,7 +293,11 @@ def root_directory(test):
     for name in ("info", "updates", "triggers"):
         (root / "var/lib/dpkg" / name).mkdir(parents=True)
     said = subprocess.run(["dpkg-query", "--status", *OTHERS], check=False, capture_output=True, text=True).stdout
-    kept = [it for it in said.splitlines() if it.startswith(("Package:", "Status:", "Architecture:", "Multi-Arch:", "Version:", "Maintainer:", "Description:")) or not it]
+    kept = [
+        it
+        for it in said.splitlines()
+        if it.startswith(("Package:", "Status:", "Architecture:", "Multi-Arch:", "Version:", "Maintainer:", "Description:")) or not it
+    ]
     (root / "var/lib/dpkg/status").write_text("\n".join([*kept, ""]), encoding="utf-8")
     for name in OTHERS:
         (root / f"var/lib/dpkg/info/{name}.list").write_text("", encoding="utf-8")
@@ -343,7 +355,9 @@ def try_refusals(test):
     if not test.has("rt", "what make_release.py refuses"):
         return
     clone, out = test.folder / "changed", test.folder / "refused"
-    git = lambda *words: subprocess.run(["git", "-c", "user.name=test", "-c", "user.email=test@example.org", *map(str, words)], cwd=clone, check=True, capture_output=True)
+    git = lambda *words: subprocess.run(
+        ["git", "-c", "user.name=test", "-c", "user.email=test@example.org", *map(str, words)], cwd=clone, check=True, capture_output=True
+    )
     subprocess.run(["git", "clone", "--quiet", TOP, clone], check=True)
     source = clone / "crates/x509_prim/src/lib.rt"
     source.write_text(source.read_text(encoding="utf-8") + "// changed\n", encoding="utf-8")
@@ -373,7 +387,9 @@ def compare(test, one, other):
 
 def main():
     parser = argparse.ArgumentParser(description=__doc__, formatter_class=argparse.RawDescriptionHelpFormatter)
-    parser.add_argument("releases", metavar="FOLDER", nargs="*", type=pathlib.Path, help="one or two folders that make_release.py has made of this commit, in place of new ones")
+    parser.add_argument(
+        "releases", metavar="FOLDER", nargs="*", type=pathlib.Path, help="one or two folders that make_release.py has made of this commit, in place of new ones"
+    )
     asked = [it.resolve() for it in parser.parse_args().releases]
     with tempfile.TemporaryDirectory(prefix="test-release-") as name:
         folder = pathlib.Path(name).resolve()

@@ -1,10 +1,10 @@
 #!/usr/bin/env python3
-"""Asks `validate_path` and `path_revocation_statuses` of the package for Python about NIST's path validation tests (PKITS, in the public domain), compares their
-answers with what they are to be, and prints for each section how many are right. Signatures are verified by `cryptography`; where that isn't installed, all are taken
-for good, and CRLs aren't asked: a case whose only fault is a CRL's has to be valid then.
+"""Asks `validate_path` and `path_revocation_statuses` of the package for Python about NIST's path validation tests (PKITS, in the public domain), compares
+their answers with what they are to be, and prints for each section how many are right. Signatures are verified by `cryptography`; where that isn't installed,
+all are taken for good, and CRLs aren't asked: a case whose only fault is a CRL's has to be valid then.
 
-tools/data/pkits.json.gz has the anchor and, of each case, the path (topmost first), its CRLs, all its certificates, whether it is valid (`want` is 0, and else the number of
-what `openssl verify` says of it), and what is asked of policies. A path is good where it is valid and each of its certificates is unrevoked.
+tools/data/pkits.json.gz has the anchor and, of each case, the path (topmost first), its CRLs, all its certificates, whether it is valid (`want` is 0, and else
+the number of what `openssl verify` says of it), and what is asked of policies. A path is good where it is valid and each of its certificates is unrevoked.
 """
 import argparse
 import collections

@@ -5,6 +5,7 @@ sections of docs/WEB_RULES.md, of which the severities, the sections and the day
 """
 import datetime
 import ipaddress
+import json
 import pathlib
 import re
 
@@ -31,6 +32,11 @@ BITS = "digital_signature content_commitment key_encipherment data_encipherment 
 
 def name(*attributes):
     return x509.Name([x509.NameAttribute(oid, value) for oid, value in attributes])
+
+
+def in_one(*attributes):
+    """A name of one RDN."""
+    return x509.Name([x509.RelativeDistinguishedName([x509.NameAttribute(oid, value) for oid, value in attributes])])
 
 
 def key_usage(*bits):
@@ -114,7 +120,7 @@ def certificate(extensions, subject, days, key=None, issuer=AUTHORITY, lasts=-SE
 
 def server(**changed):
     """A certificate of a TLS server that breaks no rule, changed so."""
-    return certificate(**{"extensions": SERVER, "subject": name((COUNTRY, "NL")), "days": 47, **changed})
+    return certificate(**{"extensions": SERVER, "subject": name((COUNTRY, "NL")), "days": 46, **changed})
 
 
 def authority(**changed):
@@ -142,7 +148,7 @@ def field_rules():
     of_rsa, of_sha1 = bytes.fromhex("06092a864886f70d01010b"), bytes.fromhex("06092a864886f70d010105")
     of_ec = b"\x06\x08" + bytes.fromhex("2a8648ce3d040302") + b"\x04\x01\x00"
     yield server(patches=[(b"\xa0\3\2\1\2", b"\xa0\3\2\1\1")]), "version_not_v3"
-    yield server(patches=[(of_rsa, of_sha1)]), "signature_of_sha1 signature_algorithm_other"
+    yield server(patches=[(of_rsa, of_sha1)]), "signature_of_sha1"
     yield server(patches=[(of_rsa, of_rsa[:-1] + b"\x0e")]), "signature_algorithm_other"
     yield server(patches=[(of_rsa + b"\5\0", of_rsa + b"\x0c\0")]), "rsa_signature_parameters_not_null"
     yield server(patches=[(of_rsa + b"\5\0", of_ec)]), "ecdsa_signature_parameters_present"
@@ -172,15 +178,10 @@ def key_rules():
 
 
 def validity_rules():
-    last = "validity_over_47_days"
-    yield server(days=47, lasts=0 * SECOND), last
-    for limit, rule in ((100, "validity_over_100_days"), (200, "validity_over_200_days"), (397, "validity_over_397_days")):
+    last = ""
+    for limit in (46, 47, 99, 100, 199, 200, 397, 398, 825):
         yield server(days=limit), last
-        last += f" {rule}"
-        yield server(days=limit, lasts=0 * SECOND), last
-    for limit, rule in ((398, "validity_over_398_days"), (825, "validity_over_825_days")):
-        yield server(days=limit), last
-        last += f" {rule}"
+        last += f" validity_over_{limit}_days"
         yield server(days=limit, lasts=0 * SECOND), last
 
 
@@ -214,6 +215,10 @@ def name_rules():
     for text, rules in (("a", "common_name_present"), ("b", "common_name_present common_name_not_in_alt_name")):
         yield server(subject=name((COUNTRY, "NL"), (COMMON_NAME, f"{text}.example.com")), names=hosts("a.example.com")), rules
     yield validated(subject=name((COUNTRY, "NL"), (ORGANIZATION, "o"), (UNIT, "u"))), "organizational_unit_present"
+    first, second = ((COMMON_NAME, f"{letter}.example.com") for letter in "ab")
+    of_both = hosts("a.example.com", "b.example.com")
+    for subject in (name(first, second), name(first, (COUNTRY, "NL"), first), in_one(first, second), in_one(first, second, (COUNTRY, "NL"))):
+        yield server(subject=subject, names=of_both), "common_name_present common_name_repeated"
 
 
 def usage_rules():
@@ -293,6 +298,43 @@ def told(rules, moment, page):
     return text, int(any(severity == "error" for _, severity, _ in found))
 
 
+def seen_of():
+    """Certificates, each with a rule that it breaks, the rule's place, and what is seen there."""
+    key, subject, names = "tbsCertificate.subjectPublicKeyInfo", "tbsCertificate.subject", "tbsCertificate.extensions.subjectAltName"
+    of_rsa, of_sha1 = bytes.fromhex("06092a864886f70d01010b"), bytes.fromhex("06092a864886f70d010105")
+    yield server(patches=[(b"\xa0\3\2\1\2", b"\xa0\3\2\1\1")]), "version_not_v3", "tbsCertificate.version", ""
+    yield server(patches=[(of_rsa, of_sha1)]), "signature_of_sha1", "signatureAlgorithm", "1.2.840.113549.1.1.5"
+    yield server(key=ed25519.Ed25519PrivateKey.generate().public_key()), "key_algorithm_other", key, "1.3.101.112"
+    yield server(**OF_EC | {"key": ec.generate_private_key(ec.SECP256K1()).public_key()}), "ec_curve_other", key, "2b8104000a"
+    short = rsa.generate_private_key(65537, 1024).public_key()
+    octets = short.public_bytes(serialization.Encoding.DER, serialization.PublicFormat.PKCS1)
+    yield server(key=short), "rsa_modulus_short", key, octets[:32].hex() + ".."
+    yield server(lasts=0 * SECOND), "validity_over_46_days", "tbsCertificate.validity", "2024-01-01T00:00:00Z/2024-02-16T00:00:00Z"
+    yield server(names=hosts("a.example.com", "b_c.example.com", "d_e.example.com")), "dns_name_underscore", names, "b_c.example.com"
+    odd = [(b"b_c.example.com", b"b\"\\\1_xample.com")]
+    yield server(names=hosts("b_c.example.com"), patches=odd), "dns_name_underscore", names, "b\"\\\1_xample.com"
+    yield server(names=addresses("9.9.9.9", "10.1.2.3")), "address_reserved", names, "0a010203"
+    yield server(names=x509.SubjectAlternativeName([x509.DNSName("a.example.com"), uri("http://a")])), "subject_alt_name_other", names, "http://a"
+    yield server(names=None), "subject_alt_name_absent", names, ""
+    yield server(marked=["names"], names=hosts("a.example.com")), "subject_alt_name_critical", names, "300f820d612e6578616d706c652e636f6d"
+    quoted = name((COUNTRY, "NL"), (LOCALITY, 'x"y'))
+    yield server(subject=quoted), "domain_validated_attribute", subject, 'L=x\\"y,C=NL'
+    yield server(unmarked=["usage"]), "key_usage_not_critical", "tbsCertificate.extensions.keyUsage", "030205a0"
+    yield server(key_id=x509.SubjectKeyIdentifier(KEY_ID)), "subject_key_identifier_present", "tbsCertificate.extensions.subjectKeyIdentifier", f"0414{KEY_ID.hex()}"
+    yield server(policies=policies("1.2.3.4")), "reserved_policy_absent", "tbsCertificate.extensions.certificatePolicies", "300730050603" + "2a0304"
+    yield authority(points=None), "subordinate_without_crl_points", "tbsCertificate.extensions.cRLDistributionPoints", ""
+
+
+def seen_runs(page):
+    """Runs with `--json`."""
+    for data, rule, place, seen in seen_of():
+        severity, section, _ = page[rule]
+        members = {"file": "standard input", "object": "certificate", "rule": rule, "severity": severity, "section": f"TLS BR {section}", "place": place, "seen": seen}
+        yield f"JSON of {rule}", ["--web", NOW, "--json"], data, json.dumps(members) + "\n", int(severity == "error")
+    yield "JSON of a certificate that breaks no rule", ["--json", "--web", NOW], server(), "", 0
+    yield "a certificate that breaks no rule, with -v", ["--web", "-v", NOW], server(), "nothing found\n", 0
+
+
 def web_runs():
     """For each run a name, its words, its input, what it is to print, and its status: of all in force, and about the day of each rule that is broken."""
     page = rules_of_page()
@@ -304,5 +346,6 @@ def web_runs():
             days = sorted({page[rule][2] for rule in rules} - {""})
             for moment in [NOW, *(f"{day}T00:00:00Z" for day in days), *map(second_before, days)]:
                 yield f"{group.__name__} {at} at {moment}", ["--web", moment], data, *told(rules, moment, page)
+    yield from seen_runs(page)
     if broken != set(page):
         raise ValueError(f"no certificate breaks these rules: {sorted(set(page) - broken)}")

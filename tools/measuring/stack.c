@@ -1,5 +1,5 @@
-/* Says how much stack x509_reencode takes, over the rows of crates/x509_test_rows/stdin (a type, a profile, bytes in hex): the most of each type, and the type that
- * takes the most. Each row is encoded again by a thread whose stack is filled beforehand; what a thread takes that does nothing isn't counted.
+/* Says how much stack x509_reencode takes, over the rows of crates/x509_test_rows/stdin (a type, a profile, bytes in hex): the most of each type, and the type
+ * that takes the most. Each row is encoded again by a thread whose stack is filled beforehand; what a thread takes that does nothing isn't counted.
  *
  * usage: stack ROWS */
 #include <pthread.h>

@@ -1,7 +1,7 @@
 /* Asks the C library both ways whether bytes are a certificate, a CRL or a CSR: by the call that checks them without a value, and by x509_reencode,
  * which decodes them to one. The statuses have to be the same, apart from X509_ROOM, which is X509_OK here; so have those of x509_certificate_view,
- * x509_certificate_extension, x509_crl_walk, x509_crl_view and x509_crl_lookup where the bytes are refused. Of those that are accepted these calls have to answer what a
- * walk over the extensions or the entries comes to.
+ * x509_certificate_extension, x509_crl_walk, x509_crl_view and x509_crl_lookup where the bytes are refused. Of those that are accepted these calls have to
+ * answer what a walk over the extensions or the entries comes to.
  *
  * It asks about the bytes of each row of ROWS, crates/x509_test_rows/stdin, as each of the three, and then about COUNT spoilt encodings: rows of the three
  * types and the FILES, one after the other, of which one to three bytes were changed, put in or taken out, or the end cut off, as a generator with the
@@ -96,7 +96,8 @@ static int finds_entries(const uint8_t *bytes, size_t len, x509_status decoded)
     x509_status status = X509_ABSENT;
     const uint8_t *list = bytes + view.entries.place;
     while (view.entries.len != 0 && (status = x509_crl_entry_next(list, view.entries.len, &at, &entry)) == X509_OK) {
-        const x509_status answer = count < MOST_LOOKED_UP ? x509_crl_lookup(bytes, len, list + entry.serial_number.place, entry.serial_number.len, &found) : X509_OK;
+        const x509_status answer =
+            count < MOST_LOOKED_UP ? x509_crl_lookup(bytes, len, list + entry.serial_number.place, entry.serial_number.len, &found) : X509_OK;
         if (answer == X509_ABSENT || (count == 0 && answer == X509_OK && found.date != entry.date))
             return 0;
         count++;

@@ -1,10 +1,11 @@
 #!/usr/bin/env python3
 """Compares what the package for Python says of certificates by CRLs (RFC 5280 6.3.3) with what `openssl verify` says, on made cases.
 
-PACKAGE is the folder that holds the package `x509_cert`, and LIBRARY is `libx509.so`. A case is a certificate, with or without distribution points, and CRLs of its issuer or of
-another signer: in date or not, whole or for some reasons, of this distribution point or of another, indirect, with deltas, with unknown critical extensions, signed by the right key
-or not. They are made by `cryptography` and signed; both are asked whether the certificate is revoked, isn't, or neither is told. Where the answers differ and it isn't known why,
-that is a fault. It prints how many answers there were of each kind, and the known differences.
+PACKAGE is the folder that holds the package `x509_cert`, and LIBRARY is `libx509.so`. A case is a certificate, with or without distribution points, and CRLs of
+its issuer or of another signer: in date or not, whole or for some reasons, of this distribution point or of another, indirect, with deltas, with unknown
+critical extensions, signed by the right key or not. They are made by `cryptography` and signed; both are asked whether the certificate is revoked, isn't, or
+neither is told. Where the answers differ and it isn't known why, that is a fault. It prints how many answers there were of each kind, and the known
+differences.
 """
 import argparse
 import collections
@@ -43,7 +44,9 @@ def certificate(subject, serial, is_ca, *extensions):
     made = x509.CertificateBuilder(name("root"), name(subject), KEYS[subject].public_key(), serial, NOW - 900 * DAY, NOW + 900 * DAY)
     made = made.add_extension(x509.BasicConstraints(is_ca, None), critical=True)
     if is_ca:
-        usages = dict.fromkeys(("digital_signature", "content_commitment", "key_encipherment", "data_encipherment", "key_agreement", "encipher_only", "decipher_only"), False)
+        usages = dict.fromkeys(
+            ("digital_signature", "content_commitment", "key_encipherment", "data_encipherment", "key_agreement", "encipher_only", "decipher_only"), False
+        )
         made = made.add_extension(x509.KeyUsage(key_cert_sign=True, crl_sign=True, **usages), critical=True)
     for it in extensions:
         made = made.add_extension(it, critical=False)
@@ -181,7 +184,20 @@ def openssl(case, folder):
     (folder / "others.pem").write_bytes(OTHER.public_bytes(PEM))
     (folder / "leaf.pem").write_bytes(case.leaf.public_bytes(PEM))
     (folder / "crls.pem").write_bytes(b"".join(crl.public_bytes(PEM) for crl, _ in case.crls))
-    words = ["-CAfile", "root.pem", "-untrusted", "others.pem", "-crl_check", "-extended_crl", "-use_deltas", "-attime", str(int(NOW.timestamp())), "-CRLfile", "crls.pem", "leaf.pem"]
+    words = [
+        "-CAfile",
+        "root.pem",
+        "-untrusted",
+        "others.pem",
+        "-crl_check",
+        "-extended_crl",
+        "-use_deltas",
+        "-attime",
+        str(int(NOW.timestamp())),
+        "-CRLfile",
+        "crls.pem",
+        "leaf.pem",
+    ]
     ended = subprocess.run(["openssl", "verify", *words], cwd=folder, capture_output=True, text=True, check=False)
     errors = {int(it) for it in re.findall(r"^error (\d+) at \d+ depth", ended.stderr, re.M)}
     # X509_V_ERR_CERT_REVOKED; where another error comes with it, the CRL that says so isn't good

@@ -60,7 +60,7 @@ WHOLE += [
     for kind in ("certificate", "crl", "request", "anchor")
     for style in ("text", "json")
 ]
-WHOLE += [(f"x509_{kind}_lint", writes(f"x509_{kind}_lint", lambda data: 0), OVERLENGTH, MALFORMED) for kind in ("certificate", "crl", "request")]
+WHOLE += [(f"x509_{kind}_lint", writes(f"x509_{kind}_lint", lambda data: 0), OVERLENGTH, MALFORMED) for kind in ("certificate", "crl", "request", "anchor")]
 WHOLE += [(name, looks(name, "I"), OVERLENGTH, MALFORMED) for name in ("x509_certificate_view", "x509_crl_walk", "x509_may_sign_crls")]
 WHOLE += [
     ("x509_certificate_extension", lambda library, data: find_extension(library, data, ONE[2:]), OVERLENGTH, MALFORMED),
@@ -250,7 +250,8 @@ def other_calls():
 
 
 def path_calls():
-    """The same of paths: of one certificate with many extensions or names, and of many certificates of authorities, also with a hundred extensions or names each."""
+    """The same of paths: of one certificate with many extensions or names, and of many certificates of authorities, also with a hundred extensions or names
+    each."""
     anchor = certificate()
     is_ca = sequence(object_identifier(2, 5, 29, 19), octet_string(sequence(TRUE)))
     named = lambda size: sequence(object_identifier(2, 5, 29, 17), TRUE, octet_string(sequence(*rising(dns_name, size))))

@@ -73,7 +73,7 @@ static void wrong(const char *what, long number)
 
 /* ---- each call */
 
-enum { CALLS = 87 };
+enum { CALLS = 88 };
 
 static uint8_t certificate[65536], list[65536], request[65536], room[65536], signed_list[3 * 65536];
 static size_t certificate_len, list_len, request_len;
@@ -179,7 +179,8 @@ static x509_status call(int number)
     case 13:
         return x509_authority_key_identifier(BYTES("\x30\x0c\x80\x02\xab\xcd\xa1\x03\x82\x01\x61\x82\x01\x05"), &filled.authority);
     case 14:
-        return x509_certificate_policies_next(BYTES("\x30\x12\x30\x10\x06\x04\x55\x1d\x20\x00\x30\x08\x30\x06\x06\x01\x2a\x16\x01\x61"), &filled.at, &filled.policy);
+        return x509_certificate_policies_next(BYTES("\x30\x12\x30\x10\x06\x04\x55\x1d\x20\x00\x30\x08\x30\x06\x06\x01\x2a\x16\x01\x61"), &filled.at,
+                                              &filled.policy);
     case 15:
         return x509_distribution_points_next(BYTES("\x30\x0b\x30\x09\xa0\x07\xa0\x05\x86\x03\x61\x3a\x62"), &filled.at, &filled.point);
     case 16:
@@ -204,13 +205,16 @@ static x509_status call(int number)
         return x509_anchor_view(certificate, certificate_len, &filled.anchor);
     case 25:
         /* of version 1, without extensions, with a signature of one octet */
-        return x509_timestamp_view(BYTES("\x00" "0123456789abcdef0123456789abcdef" "\x00\x00\x01\x8b\xcf\xe5\x68\x7b\x00\x00\x04\x03\x00\x01\xab"), &filled.timestamp);
+        return x509_timestamp_view(BYTES("\x00" "0123456789abcdef0123456789abcdef" "\x00\x00\x01\x8b\xcf\xe5\x68\x7b\x00\x00\x04\x03\x00\x01\xab"),
+                                   &filled.timestamp);
     case 26:
         return x509_extension_encode(BYTES("\x2a\x03"), 0, BYTES(THIRTY), room, sizeof room, &filled.count);
     case 27:
-        return x509_crl_entry_encode(BYTES("\x02\x01\x05"), 1767323045, BYTES("\x30\x0a\x06\x03\x55\x1d\x15\x04\x03\x0a\x01\x01"), room, sizeof room, &filled.count);
+        return x509_crl_entry_encode(BYTES("\x02\x01\x05"), 1767323045, BYTES("\x30\x0a\x06\x03\x55\x1d\x15\x04\x03\x0a\x01\x01"), room, sizeof room,
+                                     &filled.count);
     case 28:
-        return x509_build_request(BYTES("\x30\x00"), BYTES(KEY), BYTES("\x30\x08\x06\x02\x2a\x03\x31\x02\x05\x00"), BYTES(EXTENSION), room, sizeof room, &filled.count);
+        return x509_build_request(BYTES("\x30\x00"), BYTES(KEY), BYTES("\x30\x08\x06\x02\x2a\x03\x31\x02\x05\x00"), BYTES(EXTENSION), room, sizeof room,
+                                  &filled.count);
     case 29:
         return x509_assemble(BYTES(REQUEST), BYTES(ALGORITHM), BYTES(THIRTY), room, sizeof room, &filled.count);
     case 30:
@@ -278,7 +282,8 @@ static x509_status call(int number)
                                             own.subject_public_key_info.len, certificate, certificate_len, &certificate_len, 1, NULL, 0, NULL, 0, &FIRST_SECOND,
                                             sizeof FIRST_SECOND, room, sizeof room, &filled.answer);
     case 54:
-        return x509_string_text(BYTES("\x1e\x1e" "\x00" "a\x00" "a\x00" "a\x00" "a\x00" "a\x00" "a\x00" "a\x00" "a\x00" "a\x00" "a\x00" "a\x00" "a\x00" "a\x00" "a\x00" "a"),
+        return x509_string_text(BYTES("\x1e\x1e" "\x00" "a\x00" "a\x00" "a\x00" "a\x00" "a\x00" "a\x00" "a\x00" "a\x00"
+                                      "a\x00" "a\x00" "a\x00" "a\x00" "a\x00" "a\x00" "a"),
                                 room, sizeof room, &filled.count);
     case 55:
         return x509_user_notice(BYTES("\x30\x20\x0c\x1e" THIRTY), &filled.notice);
@@ -335,7 +340,8 @@ static x509_status call(int number)
     case 79:
         return x509_string_text(BYTES("\x1c\x04\x00\x00\x00" "a"), room, sizeof room, &filled.count);
     case 80:
-        return x509_crl_issued_next(BYTES("\x30\x48\x30\x46\x02\x01\x05\x17\x0d" "260120100000Z\x30\x32\x30\x30\x06\x03\x55\x1d\x1d\x01\x01\xff\x04\x26\x30\x24\x82\x22"
+        return x509_crl_issued_next(BYTES("\x30\x48\x30\x46\x02\x01\x05\x17\x0d"
+                                          "260120100000Z\x30\x32\x30\x30\x06\x03\x55\x1d\x1d\x01\x01\xff\x04\x26\x30\x24\x82\x22"
                                           "aaaa" THIRTY),
                                     &filled.at, &filled.part, &filled.entry);
     case 81:
@@ -348,6 +354,8 @@ static x509_status call(int number)
         return x509_crl_lint(list, list_len, room, sizeof room, &filled.count);
     case 85:
         return x509_request_lint(request, request_len, room, sizeof room, &filled.count);
+    case 86:
+        return x509_anchor_lint(certificate, certificate_len, room, sizeof room, &filled.count);
     default:
         /* in the first second of the validity */
         return x509_path_check(certificate, certificate_len, certificate, certificate_len, &certificate_len, 1, 1767323045, &filled.fault);

@@ -158,7 +158,8 @@ static void put(pool *to, size_t number)
 }
 
 /* Which pool an input is of: that of what the call with one input accepts, or `found:` and the call whose first span it is, or `kind:` and the type of rows,
- * or `paths`, certificates that are a path under themselves, `constraints` and `policies`, NameConstraints, CertificatePolicies and no bytes, or `settings` of a path or of CRLs. For a call with one input it is its own. */
+ * or `paths`, certificates that are a path under themselves, `constraints` and `policies`, NameConstraints, CertificatePolicies and no bytes, or `settings` of
+ * a path or of CRLs. For a call with one input it is its own. */
 typedef struct {
     const char *call, *input, *pool;
 } source;
@@ -533,8 +534,8 @@ static void take_moment(asker *by, int path)
     copy_in(by, input, (const uint8_t *)&settings, sizeof settings);
 }
 
-/* One or two CRLs, each with its issuer and the key of a certificate behind it, in the one input; the moment is mostly that of the first's issue, and the certificate often one of
- * its issuer. Now and then a part lies elsewhere, or a CRL isn't verified. */
+/* One or two CRLs, each with its issuer and the key of a certificate behind it, in the one input; the moment is mostly that of the first's issue, and the
+ * certificate often one of its issuer. Now and then a part lies elsewhere, or a CRL isn't verified. */
 static void take_crls(asker *by, arguments *with)
 {
     const int in = input_of(by->now, "in"), settings = input_of(by->now, "settings");
@@ -556,7 +557,8 @@ static void take_crls(asker *by, arguments *with)
         }
         if (below(&by->state, 16) == 0) {
             x509_span *part = (x509_span *[]){&by->crls[at].crl, &by->crls[at].name, &by->crls[at].key}[below(&by->state, 3)];
-            *part = (x509_span){below(&by->state, 2) == 0 ? SIZE_MAX - (size_t)below(&by->state, 4) : (size_t)below(&by->state, len + 3), (size_t)below(&by->state, len + 3)};
+            *part = (x509_span){below(&by->state, 2) == 0 ? SIZE_MAX - (size_t)below(&by->state, 4) : (size_t)below(&by->state, len + 3),
+                                (size_t)below(&by->state, len + 3)};
         }
         if (below(&by->state, 16) == 0)
             by->crls[at].verified = below(&by->state, 2) == 0 ? 2 : UINT32_MAX;

@@ -846,12 +846,20 @@ TABLE: dict[str, dict[str, Row]] = {
     },
     "CPSPointer": {
         "uri": Row(
-            lambda it: qualified(ours.CPSPointer(it)), (*QUALIFIED, "data"), ("urn:a", "https://a.example/"), (*NO_TEXT, "", "a", ":a", "https://ö.example"), ia5
+            lambda it: qualified(ours.CPSPointer(it)),
+            (*QUALIFIED, "data"),
+            ("urn:a", "https://a.example/"),
+            (*NO_TEXT, "", "a", ":a", "https://ö.example"),
+            ia5,
         ),
     },
     "UserNotice": {
         "notice_reference": Row(
-            lambda it: qualified(ours.UserNotice(it, "text")), QUALIFIED, (None, *REFERENCES), ("Org", 5, ["Org", [1]]), lambda it: tree(ours.UserNotice(it, "text"))
+            lambda it: qualified(ours.UserNotice(it, "text")),
+            QUALIFIED,
+            (None, *REFERENCES),
+            ("Org", 5, ["Org", [1]]),
+            lambda it: tree(ours.UserNotice(it, "text")),
         ),
         "explicit_text": Row(
             lambda it: qualified(ours.UserNotice(None, it)),

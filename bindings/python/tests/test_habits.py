@@ -1,4 +1,5 @@
-"""The habits of `cryptography.x509`, in reading and in building: what it says of the same bytes, and what it makes of the same values, is what the package does.
+"""The habits of `cryptography.x509`, in reading and in building: what it says of the same bytes, and what it makes of the same values, is what the package
+does.
 
 usage: X509_LIBRARY=.../libx509.so PYTHONPATH=bindings/python/src python3 -m unittest discover -s bindings/python/tests
 """
@@ -231,7 +232,11 @@ class Reading(unittest.TestCase):
         with self.assertRaises(UnsupportedAlgorithm):
             changed.signature_algorithm_parameters
         with self.assertRaises(UnsupportedAlgorithm):
-            changed.verify_directly_issued_by(our) if changed.issuer == our.subject else our._verify(changed.public_key_bytes) or changed._verify(our.public_key_bytes)
+            (
+                changed.verify_directly_issued_by(our)
+                if changed.issuer == our.subject
+                else our._verify(changed.public_key_bytes) or changed._verify(our.public_key_bytes)
+            )
 
     def test_of_crls(self) -> None:
         name = theirs.Name([theirs.NameAttribute(theirs.NameOID.COMMON_NAME, "a")])

@@ -16,15 +16,20 @@ import x509_cert as x509
 
 TOP = pathlib.Path(__file__).resolve().parents[3]
 sys.path[:0] = [str(TOP / "tools"), str(TOP / "tools/gate")]
-from common.der import integer  # noqa: E402
-from test_linter import cases, certificate  # noqa: E402
+from common.der import UTF8_STRING, element, integer  # noqa: E402
+from test_linter import anchor, cases, certificate  # noqa: E402
 
-LOADERS = {"certificate": x509.load_der_x509_certificate, "crl": x509.load_der_x509_crl, "csr": x509.load_der_x509_csr}
+LOADERS = {
+    "certificate": x509.load_der_x509_certificate,
+    "crl": x509.load_der_x509_crl,
+    "csr": x509.load_der_x509_csr,
+    "anchor": x509.load_der_trust_anchor,
+}
 
 
 def kind_of(name: str) -> str:
     """Of which kind the object of a case is, by the name of the case."""
-    return next((kind for kind in ("crl", "csr") if name.startswith(kind)), "certificate")
+    return next((kind for kind in ("crl", "csr", "anchor") if name.startswith(kind)), "certificate")
 
 
 def line(kind: str, it: x509.Finding) -> str:
@@ -44,8 +49,6 @@ class Rules(unittest.TestCase):
     def test_stated(self) -> None:
         broken = 0
         for name, data, lines in cases():
-            if name.startswith("anchor"):  # which the program lints alone
-                continue
             kind = kind_of(name)
             with self.subTest(name):
                 found = x509.lint(LOADERS[kind](data))  # type: ignore[operator]
@@ -59,6 +62,10 @@ class Rules(unittest.TestCase):
         self.assertEqual(dataclasses.astuple(found), number)
         self.assertEqual(str(found), "error serial_number_not_positive (RFC 5280 4.1.2.2)")
         self.assertEqual(x509.lint(x509.load_der_x509_certificate(certificate())), [])
+        (found,) = x509.lint(x509.load_der_trust_anchor(certificate(serial=integer(0))))
+        self.assertEqual(dataclasses.astuple(found), number)
+        (found,) = x509.lint(x509.load_der_trust_anchor(anchor(title=element(UTF8_STRING, b""))))
+        self.assertEqual(dataclasses.astuple(found), ("ta_title_size", x509.Severity.error, "RFC 5914 2.4", "taInfo.taTitle", ""))
         with self.assertRaises(dataclasses.FrozenInstanceError):
             found.rule = "another"  # type: ignore[misc]
 

@@ -100,7 +100,9 @@ class Extensions(unittest.TestCase):
                 their = theirs.InvalidityDate(naive(moment))
                 self.assertEqual((made.public_bytes(), made.invalidity_date_utc), (their.public_bytes(), their.invalidity_date_utc))
         # a UTCTime, fractions, a zone, no seconds, and a month that there isn't (RFC 5280 4.1.2.5.2)
-        self.refuses(ours.InvalidityDate, "", "0500", "170d" + b"300102030405Z".hex(), "1811" + b"20300102030405.5Z".hex(), "1813" + b"20300102030405+0100".hex())
+        self.refuses(
+            ours.InvalidityDate, "", "0500", "170d" + b"300102030405Z".hex(), "1811" + b"20300102030405.5Z".hex(), "1813" + b"20300102030405+0100".hex()
+        )
         self.refuses(ours.InvalidityDate, "180d" + b"203001020304Z".hex(), "180f" + b"20301302030405Z".hex(), "180f" + b"20300102030405Z".hex() + "00")
         late = datetime.datetime(9999, 12, 31, 23, tzinfo=datetime.timezone(datetime.timedelta(hours=-2)))
         for bad in (None, "2030", naive(NOW), NOW.replace(microsecond=1), late, datetime.datetime(1969, 12, 31, tzinfo=UTC)):

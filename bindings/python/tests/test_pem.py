@@ -170,7 +170,10 @@ class Pem(unittest.TestCase):
             with open(file, "rb") as it, warnings.catch_warnings():
                 warnings.simplefilter("ignore")
                 texts.append(it.read())
-                self.assertEqual(ours.load_pem_x509_certificate(texts[-1]).public_bytes(ours.Encoding.PEM), theirs.load_pem_x509_certificate(texts[-1]).public_bytes(theirs_pem()))
+                self.assertEqual(
+                    ours.load_pem_x509_certificate(texts[-1]).public_bytes(ours.Encoding.PEM),
+                    theirs.load_pem_x509_certificate(texts[-1]).public_bytes(theirs_pem()),
+                )
         whole = b"".join(texts)
         with warnings.catch_warnings():
             warnings.simplefilter("ignore")

@@ -1,4 +1,5 @@
-"""What CRLs say of certificates, of one and of a path, with signatures that are digests, so that each signer is known by its key; and CRLs that `cryptography` signs.
+"""What CRLs say of certificates, of one and of a path, with signatures that are digests, so that each signer is known by its key; and CRLs that `cryptography`
+signs.
 
 usage: X509_LIBRARY=.../libx509.so PYTHONPATH=bindings/python/src python3 -m unittest discover -s bindings/python/tests
 """

@@ -1,4 +1,5 @@
-"""Paths that are valid under what is trusted: names that match, name constraints, each argument of `validate_path`, and chains that `cryptography` signs and verifies.
+"""Paths that are valid under what is trusted: names that match, name constraints, each argument of `validate_path`, and chains that `cryptography` signs and
+verifies.
 
 usage: X509_LIBRARY=.../libx509.so PYTHONPATH=bindings/python/src python3 -m unittest discover -s bindings/python/tests
 """
@@ -307,7 +308,13 @@ class Arguments(unittest.TestCase):
         },
     }
     REFUSED: dict[str, list[tuple[Any, type[Exception]]]] = {
-        "anchor": [(None, TypeError), (ROOT.public_bytes(), TypeError), ((name("CN=R"),), TypeError), (("CN=R", KEY), TypeError), ((name("CN=R"), 5), TypeError)],
+        "anchor": [
+            (None, TypeError),
+            (ROOT.public_bytes(), TypeError),
+            ((name("CN=R"),), TypeError),
+            (("CN=R", KEY), TypeError),
+            ((name("CN=R"), 5), TypeError),
+        ],
         "path": [([], ValueError), (ROOT.public_bytes(), TypeError), ([5], TypeError), (None, TypeError)],
         "moment": [(None, TypeError), (5, TypeError), (NOW.replace(tzinfo=None), ValueError), (NOW.replace(year=1969), ValueError)],
         "verify": [(5, TypeError)],

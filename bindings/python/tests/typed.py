@@ -39,6 +39,7 @@ def reading(certificate: x509.Certificate) -> None:
     assert_type(found.value, x509.SubjectKeyIdentifier)
     assert_type(certificate.public_key_info.key_size, "int | None")
     assert_type(x509.lint(certificate), list[x509.Finding])
+    assert_type(x509.lint(x509.load_der_trust_anchor(certificate.public_bytes())), list[x509.Finding])
 
 
 def values() -> None:

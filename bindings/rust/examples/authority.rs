@@ -1,5 +1,5 @@
-//! A small authority: a root (RSA), an intermediate (P-256), a server (Ed25519) by its CSR, and CRLs of the intermediate. Profiles make AKI, SKI, constraints and usages;
-//! the program openssl has the keys, and signs.
+//! A small authority: a root (RSA), an intermediate (P-256), a server (Ed25519) by its CSR, and CRLs of the intermediate. Profiles make AKI, SKI, constraints
+//! and usages; the program openssl has the keys, and signs.
 //!
 //! It writes root.der, intermediate.der, request.der and server.der into the folder, with the CRLs before.der, which is empty, and after.der, which revokes the
 //! server, and beside them the keys.

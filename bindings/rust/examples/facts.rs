@@ -1,5 +1,5 @@
-//! Says all that certificates have: their fields, their key, their signature, and what each extension holds. `examples/c/facts.c` and `examples/python/facts.py` say
-//! the same.
+//! Says all that certificates have: their fields, their key, their signature, and what each extension holds. `examples/c/facts.c` and
+//! `examples/python/facts.py` say the same.
 //!
 //! usage: facts CERTIFICATE.., each a file of DER
 use std::fmt::Write;

@@ -1,5 +1,5 @@
-//! Makes a name of values: whatever characters they have, none adds an attribute. Prints the name's text, by the library and then put together from escaped values, which
-//! is the same where both are right.
+//! Makes a name of values: whatever characters they have, none adds an attribute. Prints the name's text, by the library and then put together from escaped
+//! values, which is the same where both are right.
 //!
 //! usage: name TYPE VALUE [TYPE VALUE ..], the topmost first; a type is one of CN, O, OU, C, L, ST, E
 use x509_rattle::oid::attribute;

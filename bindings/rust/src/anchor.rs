@@ -2,6 +2,7 @@
 use crate::error::Error;
 use crate::extension::Extensions;
 use crate::ffi;
+use crate::lint::{self, Finding};
 use crate::name::NameRef;
 use std::fmt;
 
@@ -139,6 +140,15 @@ impl<'a> TrustAnchor<'a> {
     /// [`Error::Memory`].
     pub fn to_json(&self) -> Result<String, Error> {
         ffi::ANCHOR_JSON.text_of(self.der)
+    }
+
+    /// The rules that it breaks beyond the grammar, those of RFC 5914 that `docs/RULES.md` of the sources lists, and of a Certificate or a TBSCertificate those of
+    /// RFC 5280, in their order; none where it breaks none.
+    ///
+    /// # Errors
+    /// [`Error::Memory`].
+    pub fn lint(&self) -> Result<Vec<Finding>, Error> {
+        lint::findings(&ffi::ANCHOR_LINT, self.der)
     }
 }
 

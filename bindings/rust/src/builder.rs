@@ -177,8 +177,8 @@ macro_rules! with_extensions {
     };
 }
 
-/// A kind of certificates, whose extensions the library makes, behind those that were added, of which none may be one of them. A key is told by the SHA-1 digest
-/// of its octets (RFC 5280 4.2.1.2). What a profile doesn't take is refused, with [`Error::NotInProfile`].
+/// A kind of certificates, whose extensions the library makes, behind those that were added, of which none may be one of them. A key is told by the SHA-1
+/// digest of its octets (RFC 5280 4.2.1.2). What a profile doesn't take is refused, with [`Error::NotInProfile`].
 #[derive(Clone, Debug)]
 #[non_exhaustive]
 pub enum CertificateProfile<'a> {
@@ -334,9 +334,9 @@ impl CertificateBuilder {
     /// whole SubjectPublicKeyInfo.
     ///
     /// # Errors
-    /// As of [`tbs_certificate`](CertificateBuilder::tbs_certificate); [`Error::Malformed`] also where the issuer's key is none; [`Error::Repeated`] where an added
-    /// extension is one that the profile makes; [`Error::NotInProfile`] where the issuer's name or key aren't a root's own, where a root can't have that name, where a
-    /// server's subject has another attribute or its key no such use, or where no name of a device is that of a hardware module.
+    /// As of [`tbs_certificate`](CertificateBuilder::tbs_certificate); [`Error::Malformed`] also where the issuer's key is none; [`Error::Repeated`] where an
+    /// added extension is one that the profile makes; [`Error::NotInProfile`] where the issuer's name or key aren't a root's own, where a root can't have that
+    /// name, where a server's subject has another attribute or its key no such use, or where no name of a device is that of a hardware module.
     pub fn tbs_certificate_as(
         &self,
         profile: &CertificateProfile<'_>,

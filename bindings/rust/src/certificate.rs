@@ -35,8 +35,8 @@ pub struct Validity {
     pub not_after: SystemTime,
 }
 
-/// What is to be verified of a certificate, a CRL or a CSR: that these bits are a signature of the signed part, by that algorithm, for the key of the certificate above, for
-/// that of the issuer, or for the CSR's own.
+/// What is to be verified of a certificate, a CRL or a CSR: that these bits are a signature of the signed part, by that algorithm, for the key of the
+/// certificate above, for that of the issuer, or for the CSR's own.
 #[derive(Clone, Copy, Debug, PartialEq, Eq, Hash)]
 pub struct Signature<'a> {
     /// What is signed: a whole TBSCertificate, TBSCertList or CertificationRequestInfo.

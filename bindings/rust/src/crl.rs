@@ -76,8 +76,8 @@ impl<'a> CrlEntry<'a> {
         Ok(self.get::<InvalidityDate>()?.map(|(_, it)| it.0))
     }
 
-    /// Who issued the certificate, and those of the entries behind it up to the next that says so, in an indirect CRL (RFC 5280 5.3.3); where no entry up to here says it, that
-    /// is the issuer of the CRL.
+    /// Who issued the certificate, and those of the entries behind it up to the next that says so, in an indirect CRL (RFC 5280 5.3.3); where no entry up to
+    /// here says it, that is the issuer of the CRL.
     ///
     /// # Errors
     /// As of [`reason`](CrlEntry::reason).

@@ -194,7 +194,8 @@ impl<'a> CsrRef<'a> {
         ffi::REQUEST_JSON.text_of(self.der)
     }
 
-    /// The rules that it breaks beyond the grammar, those of RFC 2986 and RFC 2985 that `docs/RULES.md` of the sources lists, in their order; none where it breaks none.
+    /// The rules that it breaks beyond the grammar, those of RFC 2986 and RFC 2985 that `docs/RULES.md` of the sources lists, in their order; none where it
+    /// breaks none.
     ///
     /// # Errors
     /// [`Error::Memory`].

@@ -48,8 +48,8 @@ pub enum Error {
 
     /// A text is not of its form.
     Text {
-        /// How many bytes stand in front of the first part that can't be read: of a name an attribute, of an object identifier a number, of a moment a number or what
-        /// stands between two, of a serial number an octet. Where the text ends too soon, as many as it has.
+        /// How many bytes stand in front of the first part that can't be read: of a name an attribute, of an object identifier a number, of a moment a number
+        /// or what stands between two, of a serial number an octet. Where the text ends too soon, as many as it has.
         place: usize,
     },
 

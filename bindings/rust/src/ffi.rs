@@ -471,17 +471,34 @@ extern "C" {
     fn x509_time_text(moment: u64, out: *mut u8, room: usize, written: *mut usize) -> c_int;
     fn x509_time_from_text(text: *const u8, len: usize, moment: *mut u64) -> c_int;
     fn x509_certificate_signature(input: *const u8, len: usize, signature: *mut Signature) -> c_int;
-    fn x509_path_check(anchor: *const u8, anchor_len: usize, path: *const u8, path_len: usize, lens: *const usize, count: usize, moment: u64, fault: *mut PathFault) -> c_int;
-    fn x509_path_validate(anchor: *const u8, anchor_len: usize, path: *const u8, path_len: usize, lens: *const usize, count: usize, name_constraints: *const u8, name_constraints_len: usize, policies: *const u8, policies_len: usize, settings: *const PathSettings, settings_size: usize, out: *mut u8, room: usize, answer: *mut PathAnswer) -> c_int;
-    fn x509_path_validate_under_key(name: *const u8, name_len: usize, key: *const u8, key_len: usize, path: *const u8, path_len: usize, lens: *const usize, count: usize, name_constraints: *const u8, name_constraints_len: usize, policies: *const u8, policies_len: usize, settings: *const PathSettings, settings_size: usize, out: *mut u8, room: usize, answer: *mut PathAnswer) -> c_int;
-    fn x509_path_validate_under_anchor(anchor: *const u8, anchor_len: usize, path: *const u8, path_len: usize, lens: *const usize, count: usize, name_constraints: *const u8, name_constraints_len: usize, policies: *const u8, policies_len: usize, settings: *const PathSettings, settings_size: usize, out: *mut u8, room: usize, answer: *mut PathAnswer) -> c_int;
+    fn x509_path_check(
+        anchor: *const u8, anchor_len: usize, path: *const u8, path_len: usize, lens: *const usize, count: usize, moment: u64, fault: *mut PathFault
+    ) -> c_int;
+    fn x509_path_validate(
+        anchor: *const u8, anchor_len: usize, path: *const u8, path_len: usize, lens: *const usize, count: usize, name_constraints: *const u8,
+        name_constraints_len: usize, policies: *const u8, policies_len: usize, settings: *const PathSettings, settings_size: usize, out: *mut u8, room: usize,
+        answer: *mut PathAnswer
+    ) -> c_int;
+    fn x509_path_validate_under_key(
+        name: *const u8, name_len: usize, key: *const u8, key_len: usize, path: *const u8, path_len: usize, lens: *const usize, count: usize,
+        name_constraints: *const u8, name_constraints_len: usize, policies: *const u8, policies_len: usize, settings: *const PathSettings, settings_size: usize,
+        out: *mut u8, room: usize, answer: *mut PathAnswer
+    ) -> c_int;
+    fn x509_path_validate_under_anchor(
+        anchor: *const u8, anchor_len: usize, path: *const u8, path_len: usize, lens: *const usize, count: usize, name_constraints: *const u8,
+        name_constraints_len: usize, policies: *const u8, policies_len: usize, settings: *const PathSettings, settings_size: usize, out: *mut u8, room: usize,
+        answer: *mut PathAnswer
+    ) -> c_int;
     fn x509_crl_lookup(input: *const u8, len: usize, serial_number: *const u8, serial_number_len: usize, revocation: *mut Revocation) -> c_int;
     fn x509_crl_view(input: *const u8, len: usize, view: *mut Crl) -> c_int;
     fn x509_crl_entry_next(value: *const u8, len: usize, at: *mut usize, found: *mut CrlEntry) -> c_int;
     fn x509_crl_issued_next(value: *const u8, len: usize, at: *mut usize, issuer: *mut Span, found: *mut CrlEntry) -> c_int;
     fn x509_crl_entry_find(value: *const u8, len: usize, serial_number: *const u8, serial_number_len: usize, found: *mut CrlEntry) -> c_int;
     fn x509_may_sign_crls(certificate: *const u8, certificate_len: usize, may_sign: *mut u32) -> c_int;
-    fn x509_revocation_status(certificate: *const u8, certificate_len: usize, input: *const u8, len: usize, crls: *const SignedCrl, count: usize, settings: *const RevocationSettings, settings_size: usize, answer: *mut RevocationAnswer) -> c_int;
+    fn x509_revocation_status(
+        certificate: *const u8, certificate_len: usize, input: *const u8, len: usize, crls: *const SignedCrl, count: usize, settings: *const RevocationSettings,
+        settings_size: usize, answer: *mut RevocationAnswer
+    ) -> c_int;
     fn x509_request_view(input: *const u8, len: usize, view: *mut Request) -> c_int;
     fn x509_request_attribute_next(value: *const u8, len: usize, at: *mut usize, found: *mut RequestAttribute) -> c_int;
     fn x509_subject_directory_attributes_next(value: *const u8, len: usize, at: *mut usize, found: *mut RequestAttribute) -> c_int;
@@ -504,6 +521,7 @@ extern "C" {
     fn x509_certificate_lint(input: *const u8, len: usize, out: *mut u8, room: usize, written: *mut usize) -> c_int;
     fn x509_crl_lint(input: *const u8, len: usize, out: *mut u8, room: usize, written: *mut usize) -> c_int;
     fn x509_request_lint(input: *const u8, len: usize, out: *mut u8, room: usize, written: *mut usize) -> c_int;
+    fn x509_anchor_lint(input: *const u8, len: usize, out: *mut u8, room: usize, written: *mut usize) -> c_int;
     fn x509_finding_next(lines: *const u8, len: usize, at: *mut usize, found: *mut Finding) -> c_int;
     fn x509_timestamp_next(value: *const u8, len: usize, at: *mut usize, found: *mut Span) -> c_int;
     fn x509_timestamp_view(input: *const u8, len: usize, view: *mut Timestamp) -> c_int;
@@ -784,6 +802,7 @@ pub(crate) const ANCHOR_JSON: Fill = Fill::new(x509_anchor_json);
 pub(crate) const CERTIFICATE_LINT: Fill = Fill::new(x509_certificate_lint);
 pub(crate) const CRL_LINT: Fill = Fill::new(x509_crl_lint);
 pub(crate) const REQUEST_LINT: Fill = Fill::new(x509_request_lint);
+pub(crate) const ANCHOR_LINT: Fill = Fill::new(x509_anchor_lint);
 
 pub(crate) static EXTENSIONS: Walk<ExtensionEntry> = Walk(Next::Plain(x509_extensions_next));
 pub(crate) static GENERAL_NAMES: Walk<GeneralName> = Walk(Next::Plain(x509_general_names_next));
@@ -1117,8 +1136,8 @@ pub(crate) fn revocation_status(
         })
         .collect();
     let mut answer = RevocationAnswer::default();
-    // SAFETY: the header lets the call read both slices of bytes, `given` of as many structs as it is told, and `settings` of its size, which are lent for it, and
-    // fill in `answer`.
+    // SAFETY: the header lets the call read both slices of bytes, `given` of as many structs as it is told, and `settings` of its size, which are lent for it,
+    // and fill in `answer`.
     let status = unsafe {
         x509_revocation_status(
             certificate.as_ptr(),

@@ -180,9 +180,9 @@ impl<'a> PublicKey<'a> {
         is_point.then_some(self.bits)
     }
 
-    /// Its size in bits: of an RSA key that of the modulus, of a DSA key that of the prime, which the parameters have, of an elliptic curve that of a coordinate, where
-    /// the curve has a name that the library knows, and of a key of RFC 8410 that of its octets, as 256 of X25519, of which OpenSSL says 253; none where it isn't
-    /// known, as where the numbers of an RSA key aren't there.
+    /// Its size in bits: of an RSA key that of the modulus, of a DSA key that of the prime, which the parameters have, of an elliptic curve that of a
+    /// coordinate, where the curve has a name that the library knows, and of a key of RFC 8410 that of its octets, as 256 of X25519, of which OpenSSL says 253;
+    /// none where it isn't known, as where the numbers of an RSA key aren't there.
     pub fn size(&self) -> Option<u32> {
         (self.size != 0).then_some(self.size)
     }

@@ -1,8 +1,8 @@
 //! X.509 certificates, CRLs and names in strict DER (RFC 5280), over the C library of `include/x509.h`, whose answers are proved.
 //!
 //! All bytes are taken apart by the C library; nothing here parses DER. Whatever goes in, calls answer an [`Error`] and don't panic.
-//! Values of extensions that builders take ([`extension::ToExtension`]) are written here, and read back by the library before they are taken. All that is given to a
-//! builder is in what it builds, or refused before anything is signed; of moments the parts of a second are left out.
+//! Values of extensions that builders take ([`extension::ToExtension`]) are written here, and read back by the library before they are taken. All that is given
+//! to a builder is in what it builds, or refused before anything is signed; of moments the parts of a second are left out.
 //!
 //! ```
 //! use x509_rattle::extension::ParsedExtension;

@@ -1,4 +1,4 @@
-//! The rules that certificates, CRLs and CSRs break, beyond the grammar.
+//! The rules that certificates, CRLs, CSRs and trust anchors break, beyond the grammar.
 use crate::error::Error;
 use crate::ffi::{self, Fill};
 use std::fmt;

@@ -77,9 +77,9 @@ impl<'a> NameRef<'a> {
         found.map(read).transpose()
     }
 
-    /// Whether the names match (RFC 5280 7.1): they have as many relative names, in order, and in each as many attributes, in any order, of the same types, whose
-    /// values are the same or are texts that differ in case, in spaces at their ends or in how many stand within alone, as RFC 4518 prepares texts. `==` compares
-    /// the bytes.
+    /// Whether the names match (RFC 5280 7.1): they have as many relative names, in order, and in each as many attributes, in any order, of the same types,
+    /// whose values are the same or are texts that differ in case, in spaces at their ends or in how many stand within alone, as RFC 4518 prepares texts. `==`
+    /// compares the bytes.
     ///
     /// # Errors
     /// [`Error::Memory`].

@@ -25,7 +25,8 @@ impl<F: Fn(&[u8], &Signature<'_>) -> bool> Verifier for F {
 }
 
 /// What is wrong with a certificate of a path. Of several faults of one certificate the first of this order is told, but for
-/// [`Extension`](FaultReason::Extension), which comes behind [`Critical`](FaultReason::Critical). Those from [`Extension`](FaultReason::Extension) on are told by [`validate_path`] alone.
+/// [`Extension`](FaultReason::Extension), which comes behind [`Critical`](FaultReason::Critical). Those from [`Extension`](FaultReason::Extension) on are told
+/// by [`validate_path`] alone.
 #[derive(Clone, Copy, Debug, PartialEq, Eq, PartialOrd, Ord, Hash)]
 pub enum FaultReason {
     /// The bytes are those of no certificate.
@@ -244,8 +245,8 @@ fn verified<'a>(
 /// What a path is to be valid under.
 #[derive(Clone, Copy, Debug)]
 pub enum Trusted<'a> {
-    /// The subject and the key of a certificate, for the paths that its name constraints, its path length and its policies allow (RFC 5937). A PolicyConstraints or an
-    /// InhibitAnyPolicy of it sets the flag whatever its number. Nothing else of it is looked at.
+    /// The subject and the key of a certificate, for the paths that its name constraints, its path length and its policies allow (RFC 5937). A
+    /// PolicyConstraints or an InhibitAnyPolicy of it sets the flag whatever its number. Nothing else of it is looked at.
     Certificate(CertificateRef<'a>),
 
     /// The same of a trust anchor (RFC 5914, RFC 5937): of a description the key, and what its constraints on paths say.
@@ -302,7 +303,8 @@ const OF_ANCHORS: [ObjectIdentifier; 3] = [
 ];
 
 impl Trusted<'_> {
-    /// Why it gives no trust, as the library has found: an extension stands there twice, or the description of an anchor has no name, or a certificate of another.
+    /// Why it gives no trust, as the library has found: an extension stands there twice, or the description of an anchor has no name, or a certificate of
+    /// another.
     fn fault(&self) -> Result<Error, Error> {
         let Trusted::Anchor(anchor) = self else {
             return Ok(Error::Repeated);
@@ -453,8 +455,8 @@ fn identifiers(der: &[u8]) -> Result<Vec<ObjectIdentifier>, Error> {
 ///
 /// [`PathError::Refused`] with [`Error::Absent`] where the path is empty; with [`Error::Value`] where the moment is before 1970 or after 9999, and where name
 /// constraints of the settings or of what is trusted can't be used; with [`Error::Repeated`] where what is trusted has one of the extensions that are looked at
-/// twice, with [`Error::UnnamedAnchor`] where it has no name, and with [`Error::OtherCertificate`] where its certificate is another's; with [`Error::Malformed`]
-/// or [`Error::Overlength`] where these, the name constraints or the key are none; and with [`Error::Memory`].
+/// twice, with [`Error::UnnamedAnchor`] where it has no name, and with [`Error::OtherCertificate`] where its certificate is another's; with
+/// [`Error::Malformed`] or [`Error::Overlength`] where these, the name constraints or the key are none; and with [`Error::Memory`].
 pub fn validate_path<'a, 'b, B: AsRef<[u8]>>(
     trusted: impl Into<Trusted<'b>>,
     path: &'a [B],

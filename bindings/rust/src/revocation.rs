@@ -61,8 +61,8 @@ impl RevocationStatus {
     }
 }
 
-/// A CRL, and its signer: the certificate, the trust anchor, or the name and the key, under which it is to be verified. That the signer is one whose CRLs count is for the
-/// caller to know: it is the issuer of the certificate, or another whose path is valid, and [`may_sign_crls`] says so of it (RFC 5280 6.3.3 (f)).
+/// A CRL, and its signer: the certificate, the trust anchor, or the name and the key, under which it is to be verified. That the signer is one whose CRLs count
+/// is for the caller to know: it is the issuer of the certificate, or another whose path is valid, and [`may_sign_crls`] says so of it (RFC 5280 6.3.3 (f)).
 #[derive(Clone, Copy, Debug)]
 pub struct SignedCrl<'a> {
     /// The CRL.
@@ -112,8 +112,8 @@ impl RevocationSettings {
         self.flag(WITHOUT_NEXT_UPDATE, is_taken)
     }
 
-    /// Whether delta CRLs are used that are among the CRLs (RFC 5280 5.2.4): the first one that fits a complete CRL is asked before it; its signer has to be that of
-    /// the complete one (6.3.3 (h)).
+    /// Whether delta CRLs are used that are among the CRLs (RFC 5280 5.2.4): the first one that fits a complete CRL is asked before it; its signer has to be
+    /// that of the complete one (6.3.3 (h)).
     pub fn use_deltas(&mut self, are_used: bool) -> &mut RevocationSettings {
         self.flag(USE_DELTAS, are_used)
     }
@@ -127,8 +127,9 @@ pub fn may_sign_crls(certificate: CertificateRef<'_>) -> Result<bool, Error> {
     Ok(ffi::MAY_SIGN_CRLS.of(certificate.as_der())? == 1)
 }
 
-/// What CRLs say of a certificate (RFC 5280 6.3.3), asked in their order: of several for the same reasons the latest comes first. A CRL counts where the verifier accepts its
-/// signature for its signer's key, where the signer's name is its issuer, where it is in date, and where it is one for the certificate, as `x509_revocation_status` of `x509.h` says.
+/// What CRLs say of a certificate (RFC 5280 6.3.3), asked in their order: of several for the same reasons the latest comes first. A CRL counts where the
+/// verifier accepts its signature for its signer's key, where the signer's name is its issuer, where it is in date, and where it is one for the certificate, as
+/// `x509_revocation_status` of `x509.h` says.
 ///
 /// ```
 /// use std::time::{Duration, UNIX_EPOCH};
@@ -151,7 +152,7 @@ pub fn may_sign_crls(certificate: CertificateRef<'_>) -> Result<bool, Error> {
 /// ```
 ///
 /// # Errors
-/// [`Error::Value`] where the moment is before 1970 or after 9999; [`Error::Failed`] where a signer is a trust anchor without a name; [`Error::Malformed`] or
+/// [`Error::Value`] where the moment is before 1970 or after 9999; [`Error::UnnamedAnchor`] where a signer is a trust anchor without a name; [`Error::Malformed`] or
 /// [`Error::Overlength`] where a signer's key is none; [`Error::Memory`].
 pub fn revocation_status(
     certificate: CertificateRef<'_>,
@@ -192,14 +193,14 @@ fn ask(
 /// What CRLs say of each certificate of a path that is valid under what is trusted, topmost first. The path is good where each of them
 /// [`is_unrevoked`](RevocationStatus::is_unrevoked).
 ///
-/// The signer of a CRL is found by its issuer's name, and by the identifier of its key where both say one: what is trusted, a certificate of the path, or one of the further
-/// certificates, of which the path is found here, and has to be valid, and each certificate in it that isn't in the given path unrevoked. A signer counts only where
-/// [`may_sign_crls`] says so, so also of a certificate that is trusted. The status of a further certificate may be told by a CRL of its own key, but not by
-/// one of a signer whose status it tells. Of CRLs for the same reasons the latest is asked first, and `crl` is the place in `crls`.
+/// The signer of a CRL is found by its issuer's name, and by the identifier of its key where both say one: what is trusted, a certificate of the path, or one
+/// of the further certificates, of which the path is found here, and has to be valid, and each certificate in it that isn't in the given path unrevoked. A
+/// signer counts only where [`may_sign_crls`] says so, so also of a certificate that is trusted. The status of a further certificate may be told by a CRL of
+/// its own key, but not by one of a signer whose status it tells. Of CRLs for the same reasons the latest is asked first, and `crl` is the place in `crls`.
 ///
 /// # Errors
-/// [`Error::Value`] where the moment is before 1970 or after 9999; [`Error::Failed`] where what is trusted is a trust anchor without a name; [`Error::Malformed`] or
-/// [`Error::Overlength`] where the key that is trusted is none; [`Error::Memory`].
+/// [`Error::Value`] where the moment is before 1970 or after 9999; [`Error::UnnamedAnchor`] where what is trusted is a trust anchor without a name;
+/// [`Error::Malformed`] or [`Error::Overlength`] where the key that is trusted is none; [`Error::Memory`].
 pub fn path_revocation_statuses<'a>(
     path: &Validated<'a>,
     trusted: impl Into<Trusted<'a>>,

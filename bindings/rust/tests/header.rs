@@ -98,11 +98,9 @@ fn calls_are_those_of_the_header() {
     for call in declared.into_iter().chain(others) {
         let (name, arguments) = call.split_once('(').expect("arguments");
         let name = format!("x509_{name}");
-        assert_eq!(
-            calls.get(&name).map(String::as_str),
-            arguments.strip_suffix(')'),
-            "{name}"
-        );
+        let words = arguments.strip_suffix(')').expect("an end").split(',');
+        let words = words.map(str::trim).collect::<Vec<_>>().join(", ");
+        assert_eq!(calls.get(&name), Some(&words), "{name}");
     }
 }
 

@@ -1,5 +1,7 @@
-//! The rules that the files of the examples and a certificate by hand break (RFC 5280 4.1, 4.2, 5.2).
-use x509_rattle::{Certificate, CertificateRef, Crl, CrlRef, Csr, CsrRef, Finding, Severity};
+//! The rules that the files of the examples, and a certificate and trust anchors by hand, break (RFC 5280 4.1, 4.2, 5.2; RFC 5914 2.4).
+use x509_rattle::{
+    Certificate, CertificateRef, Crl, CrlRef, Csr, CsrRef, Finding, Severity, TrustAnchor,
+};
 
 const CERTIFICATE: &[u8] = include_bytes!("../../../examples/data/certificate.der");
 const LIST: &[u8] = include_bytes!("../../../examples/data/list.der");
@@ -107,4 +109,41 @@ fn csrs() {
     );
     let owned = Csr::from_der(REQUEST.to_vec()).expect("a CSR");
     assert_eq!(owned.lint().as_ref(), Ok(&found));
+}
+
+#[test]
+fn anchors() {
+    // the certificate of the files is a trust anchor, and breaks what the certificate does
+    let it = TrustAnchor::from_der(CERTIFICATE).expect("an anchor");
+    let found = it.lint().expect("findings");
+    let certificate = CertificateRef::from_der(CERTIFICATE).expect("a certificate");
+    assert_eq!(certificate.lint().as_ref(), Ok(&found));
+    // a description with the identifier abcd and the title é, in German
+    let der = b"\xa2\x18\x30\x16\x30\x08\x30\x03\x06\x01\x2a\x03\x01\x00\x04\x02\xab\xcd\x0c\x02\xc3\xa9\x82\x02de";
+    let it = TrustAnchor::from_der(der).expect("an anchor");
+    assert_eq!(it.lint(), Ok(vec![]));
+    // one with a title of no characters, and a key usage that is a NULL
+    let der = b"\xa2\x1f\x30\x1d\x30\x08\x30\x03\x06\x01\x2a\x03\x01\x00\x04\x00\x0c\x00\xa1\x0d\x30\x0b\x30\x09\x06\x03\x55\x1d\x0f\x04\x02\x05\x00";
+    let it = TrustAnchor::from_der(der).expect("an anchor");
+    let found = it.lint().expect("findings");
+    let told: Vec<_> = found.iter().map(told).collect();
+    assert_eq!(
+        told,
+        [
+            (
+                "ta_title_size",
+                Severity::Error,
+                "RFC 5914 2.4",
+                "taInfo.taTitle",
+                ""
+            ),
+            (
+                "extension_malformed",
+                Severity::Error,
+                "RFC 5280 4.2",
+                "taInfo.exts.keyUsage",
+                "0500"
+            ),
+        ]
+    );
 }

@@ -1,5 +1,5 @@
-//! What CRLs say of certificates, of one and of a path, of certificates and CRLs that are built here. A signature is the key and the signed part, so each signer is
-//! known by its key.
+//! What CRLs say of certificates, of one and of a path, of certificates and CRLs that are built here. A signature is the key and the signed part, so each
+//! signer is known by its key.
 use std::convert::Infallible;
 use std::time::{Duration, SystemTime, UNIX_EPOCH};
 use x509_rattle::extension::{

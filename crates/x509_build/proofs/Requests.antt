@@ -57,21 +57,21 @@ not_refused old asked writable fresh (InvalidAttribute oid, r) = r
 not_refused old asked writable fresh (MissingAttributes, r) = r
 not_refused old asked writable fresh (UnsupportedKind, r) = r
 
-module _ (subject : NameList) (key : SubjectPublicKeyInfo) (attributes copied : List Attribute) (asked copy : List Extension) (made : Attribute) (same : copied ≡ attributes) (alike : copy ≡ asked) (h : HoldsAlone (pkcs_9 14) extensions (writes plain copy) made) where
+module _ (subject : NameList) (key : SubjectPublicKeyInfo) (attributes : List Attribute) (asked : List Extension) (made : Attribute) (h : HoldsAlone (pkcs_9 14) extensions (writes plain asked) made) where
   is : made ≡ extension_request asked
-  is = asks copy made h ∙ ap extension_request alike
+  is = asks asked made h
 
-  -- a part with the copies of what was added is the next
-  pub made_part : (names : NameList) (new : List Attribute) → names ≡ subject → IsWritable extensions (writes plain copy) limit → (¬ Contains copied made) × (new ≡ insert_key attribute_cmp copied made) → (part_of names key new ≡ (next_part subject attributes asked key).value) × (IsRefused (next_part subject attributes asked key) → ⊥)
-  made_part names new named writable put =
-      let placed : new ≡ insert_key attribute_cmp attributes (extension_request asked) = put.1 ∙ (λ i. insert_key attribute_cmp (same i) (is i)) in
-      let fresh : ¬ Contains attributes (extension_request asked) = λ c. put.0 (subst (λ l. Contains l made) (sym same) (subst (λ x. Contains attributes x) (sym is) c)) in
-      (λ i. part_of (named i) key (placed i), not_refused attributes asked (subst (λ x. IsWritable extensions (writes plain x) limit) alike writable) fresh)
+  -- a part with what was added is the next
+  pub made_part : (new : List Attribute) → IsWritable extensions (writes plain asked) limit → (¬ Contains attributes made) × (new ≡ insert_key attribute_cmp attributes made) → (part_of subject key new ≡ (next_part subject attributes asked key).value) × (IsRefused (next_part subject attributes asked key) → ⊥)
+  made_part new writable put = (
+    ap (part_of subject key) (put.1 ∙ ap (insert_key attribute_cmp attributes) is),
+    not_refused attributes asked writable (subst (λ x. ¬ Contains attributes x) is put.0),
+  )
 
   -- where the set refuses, so is the next part refused
-  pub refused_part : (refusal : Error) (answer : Result CertReqInfo builder.Error) → IsErrAnd answer (λ e. e ≡ Asn1 refusal) → (refusal.kind ≡ Memory) ⊎ ((refusal.kind ≡ SetDuplicate) × Contains copied made) → Gives (λ part. part) (next_part subject attributes asked key) answer
+  pub refused_part : (refusal : Error) (answer : Result CertReqInfo builder.Error) → IsErrAnd answer (λ e. e ≡ Asn1 refusal) → (refusal.kind ≡ Memory) ⊎ ((refusal.kind ≡ SetDuplicate) × Contains attributes made) → Gives (λ part. part) (next_part subject attributes asked key) answer
   refused_part refusal (Ok part) told why = absurd told
   refused_part refusal (Err e) told why = subst (λ x. LacksMemory x ⊎ RefusesRequest attributes asked x) (sym told) (elim why [
     | inl memory ↦ inl memory
-    | inr there ↦ inr (inr (there.0, subst (λ l. Contains l (extension_request asked)) same (subst (λ x. Contains copied x) is there.1)))
+    | inr there ↦ inr (inr (there.0, subst (λ x. Contains attributes x) is there.1))
   ])

@@ -1,6 +1,6 @@
 -- The signed parts that a builder of CRLs makes (RFC 5280 5.1.2).
 use Rattle.sha1.specs.Sha1.{sha1}
-use Rattle.std.specs.Prelude.{◌≡◌, ◌⊎◌, ◌<◌, ℕ, Bool, false, List, [], ◌∷◌, Option, Some, None, Result, Ok, Err}
+use Rattle.std.specs.Prelude.{◌≡◌, ◌⊎◌, ℕ, Bool, false, List, [], ◌∷◌, Option, Some, None, Result, Ok, Err}
 use Rattle.x509_base.specs.declared.algorithm_identifier.AlgorithmIdentifier.{AlgorithmIdentifier}
 use Rattle.x509_base.specs.declared.profile.Rfc5280.{Rfc5280}
 use Rattle.x509_base.specs.declared.time.Time.{Time}
@@ -87,10 +87,11 @@ abbrev pub members : {X : Type 0} → Option (List X) → List X
 members None = []
 members (Some revoked) = revoked
 
--- that of the last time, and before any the part as it was at first
-abbrev pub current_part : {P : Type 0} → Option (TbsCertList P) → TbsCertList P → TbsCertList P
+-- that of the last time, which may be the part itself; before any the part as it was at first
+abbrev pub current_part : {P : Type 0} → Option (Option (TbsCertList P)) → TbsCertList P → TbsCertList P
 current_part None part = record part { next_update = None; revoked_certificates = None }
-current_part (Some last) part = last
+current_part (Some None) part = part
+current_part (Some (Some last)) part = last
 
 -- the part with the extensions that the builder has, and the signer's algorithm; nothing refuses it
 abbrev pub next_part : {P : Type 0} → TbsCertList P → List Extension → AlgorithmIdentifier → Answer (TbsCertList P)

@@ -1,7 +1,7 @@
 //! The builder of certificates.
 
 ghost use Rattle.std.specs.Prelude.{◌≡◌, ◌⊎◌, [], ◌∷◌, ◌++◌, Ok, Err, IfOk, IfErr, OnOk, OnErr};
-ghost use Rattle.x509_build.specs.CertificateParts.{bare_part, new_builder, next_part, part_with};
+ghost use Rattle.x509_build.specs.CertificateParts.{new_builder, next_part, part_with};
 ghost use Rattle.x509_build.specs.declared.error.Error.TheVariants.{Asn1};
 ghost use Rattle.x509_build.specs.Answer.{Gives};
 ghost use Rattle.x509_build.specs.Refusals.{LacksMemory};
@@ -152,105 +152,51 @@ impl<P: BuilderProfile> CertificateBuilder<P> {
     {
         &self.tbs
     }
-
-    /// The signed part with which the profile is asked: it has the signer's algorithm, and no extensions.
-    fn bare_part(
-        &self,
-        alloc: Global,
-        algorithm: AlgorithmIdentifier,
-    ) -> std::result::Result<TbsCertificate, Error>
-        ensures ok { IfOk result (λ part. part ≡ bare_part self.now.tbs algorithm) }
-        ensures err { IfErr result (λ e. e.kind ≡ Memory) }
-    {
-        let tbs = &self.tbs;
-        Ok(TbsCertificate::from_parts(
-            Version::V3,
-            tbs.serial_number().try_clone(alloc)?,
-            algorithm,
-            tbs.issuer().try_clone(alloc)?,
-            *tbs.validity(),
-            tbs.subject().try_clone(alloc)?,
-            tbs.subject_public_key_info().try_clone(alloc)?,
-            None,
-            None,
-            None,
-        ))
-    }
-
-    /// The profile's extensions, for the key of that part and for the signer's.
-    fn of_profile(
-        alloc: Global,
-        profile: &P,
-        bare: &TbsCertificate,
-        issuer_key: &SubjectPublicKeyInfo,
-    ) -> Result<Vec<Extension>>
-        ensures { Gives (λ extensions. extensions.items) (P.extensions_of profile.now bare.now.subject_public_key_info issuer_key.now bare.now) result }
-    {
-        profile.build_extensions(
-            alloc,
-            bare.subject_public_key_info().owned_to_ref(),
-            issuer_key.owned_to_ref(),
-            bare,
-        )
-    }
-
-    /// The signed part for a signer with that algorithm and that key.
-    fn next_part(
-        &self,
-        alloc: Global,
-        algorithm: AlgorithmIdentifier,
-        issuer_key: &SubjectPublicKeyInfo,
-    ) -> Result<TbsCertificate>
-        ensures { Gives (λ part. part) (next_part (P.extensions_of self.now.profile) self.now.tbs self.now.extensions algorithm issuer_key.now) result }
-    {
-        let bare = self.bare_part(alloc, algorithm)?;
-        let of_profile = CertificateBuilder::of_profile(alloc, &self.profile, &bare, issuer_key)?;
-        let extensions = joined(alloc, &self.extensions, of_profile)?;
-        Ok(part_with(bare, extensions))
-    }
 }
 
-/// The signed part for a signer with that algorithm and that key, into which the other part and the extensions are
-/// moved.
-fn last_part<P: BuilderProfile>(
+/// The profile's extensions, for the key of that part and for the signer's.
+fn of_profile<P: BuilderProfile>(
     alloc: Global,
     profile: &P,
-    tbs: TbsCertificate,
+    bare: &TbsCertificate,
+    issuer_key: &SubjectPublicKeyInfo,
+) -> Result<Vec<Extension>>
+    ensures { Gives (λ extensions. extensions.items) (P.extensions_of profile.now bare.now.subject_public_key_info issuer_key.now bare.now) result }
+{
+    profile.build_extensions(
+        alloc,
+        bare.subject_public_key_info().owned_to_ref(),
+        issuer_key.owned_to_ref(),
+        bare,
+    )
+}
+
+/// The signed part for a signer with that algorithm and that key, of what stands in the other part and of the added
+/// extensions.
+fn next_part<P: BuilderProfile>(
+    alloc: Global,
+    profile: &P,
+    part: TbsCertificate,
     added: Extensions,
     algorithm: AlgorithmIdentifier,
     issuer_key: &SubjectPublicKeyInfo,
 ) -> Result<TbsCertificate>
-    ensures { Gives (λ part. part) (next_part (P.extensions_of profile.now) tbs added algorithm issuer_key.now) result }
+    ensures { Gives (λ part. part) (next_part (P.extensions_of profile.now) part added algorithm issuer_key.now) result }
 {
-    let bare = tbs.into_bare(algorithm);
-    let of_profile = CertificateBuilder::of_profile(alloc, profile, &bare, issuer_key)?;
+    let bare = part.into_bare(algorithm);
+    let of_profile = of_profile(alloc, profile, &bare, issuer_key)?;
     let extensions = followed_by(added, Extensions::from(of_profile))?;
-    Ok(part_with(bare, extensions.into_vec()))
-}
-
-/// Copies of the extensions, followed by the others.
-fn joined(
-    alloc: Global,
-    added: &Extensions,
-    others: Vec<Extension>,
-) -> std::result::Result<Vec<Extension>, Error>
-    ensures ok { IfOk result (λ extensions. extensions.items ≡ added.now ++ others.items) }
-    ensures err { IfErr result (λ e. e.kind ≡ Memory) }
-{
-    let mut extensions = added.try_clone(alloc)?.into_vec();
-    let mut behind = others;
-    extensions.append(&mut behind)?;
-    Ok(extensions)
+    Ok(part_with(bare, extensions))
 }
 
 /// The signed part with these extensions; without any it is of version 1 (RFC 5280 4.1.2.1).
-fn part_with(part: TbsCertificate, extensions: Vec<Extension>) -> TbsCertificate
-    ensures { result ≡ part_with part extensions.items }
+fn part_with(part: TbsCertificate, extensions: Extensions) -> TbsCertificate
+    ensures { result ≡ part_with part extensions }
 {
     if extensions.is_empty() {
         part.with_extensions(Version::V1, None)
     } else {
-        part.with_extensions(Version::V3, Some(Extensions::from(extensions)))
+        part.with_extensions(Version::V3, Some(extensions))
     }
 }
 
@@ -280,7 +226,9 @@ impl<P: BuilderProfile> Builder for CertificateBuilder<P> {
     fn finalize<S: Signer>(&mut self, alloc: Global, signer: &S) -> Result<Vec<u8>> {
         let algorithm = signer.algorithm(alloc)?;
         let key = signer.public_key(alloc)?;
-        let part = self.next_part(alloc, algorithm, &key)?;
+        let given = self.tbs.try_clone(alloc)?;
+        let added = self.extensions.try_clone(alloc)?;
+        let part = next_part(alloc, &self.profile, given, added, algorithm, &key)?;
         let bytes = part.to_der(alloc)?;
         self.tbs = part;
         Ok(bytes)
@@ -298,11 +246,11 @@ impl<P: BuilderProfile> Builder for CertificateBuilder<P> {
             tbs,
             extensions,
         } = self;
-        let last = last_part(alloc, &profile, tbs, extensions, algorithm, &issuer_key)?;
-        let message = last.to_der(alloc)?;
+        let part = next_part(alloc, &profile, tbs, extensions, algorithm, &issuer_key)?;
+        let message = part.to_der(alloc)?;
         let builder = CertificateBuilder {
             profile,
-            tbs: last,
+            tbs: part,
             extensions: Extensions::new(alloc),
         };
         Ok((builder, message))

@@ -6,7 +6,7 @@ ghost use Rattle.std.specs.Prelude.{◌≡◌, ◌⊎◌, ◌<◌, ◌≤◌, []
 ghost use Rattle.x509_base.specs.CivilTime.{last_date_time, unix_seconds, whole_seconds};
 ghost use Rattle.x509_base.specs.Time.{IsTimeAt};
 ghost use Rattle.x509_base.specs.declared.time.Time.{Time};
-ghost use Rattle.x509_build.specs.CrlParts.{RefusesStart, Starts, members};
+ghost use Rattle.x509_build.specs.CrlParts.{RefusesStart, Starts, members, next_part};
 ghost use Rattle.x509_build.specs.declared.error.Error.TheVariants.{Asn1};
 ghost use Rattle.x509_build.specs.Refusals.{LacksMemory};
 ghost use Rattle.x509_cert.specs.declared.crl.revoked_cert.RevokedCert.{RevokedCert};
@@ -22,13 +22,12 @@ use crate::profile::null_algorithm::no_algorithm;
 use crate::{Builder, Result, Signer};
 use std::alloc::Global;
 use std::time::Duration;
-use x509_base::{DateTime, Profile, Rfc5280, Time};
+use x509_base::{AlgorithmIdentifier, DateTime, Profile, Rfc5280, Time};
 use x509_cert::certificate::{Certificate, Version};
 use x509_cert::crl::{CertificateList, RevokedCert, TbsCertList};
 use x509_der::{Decode, Encode, Error, Grammar, SequenceOf, TryClone};
 use x509_ext::pkix::{CrlNumber, SubjectKeyIdentifier};
 use x509_ext::{Extension, Extensions, ToExtension};
-use x509_name::name::Name;
 use x509_prim::BitString;
 
 /// A builder of a CRL (RFC 5280 5.1).
@@ -38,7 +37,9 @@ use x509_prim::BitString;
 pub struct CrlBuilder<P: Profile = Rfc5280> {
     tbs: TbsCertList<P>,
     extensions: Extensions,
-    finalized: Option<TbsCertList<P>>,
+
+    // The part of the last finalize; `Some(None)` where that part is `tbs` itself.
+    finalized: Option<Option<TbsCertList<P>>>,
 }
 
 impl<P: Profile> CrlBuilder<P> {
@@ -257,11 +258,10 @@ impl<P: Profile> Builder for CrlBuilder<P> {
 
     fn finalize<S: Signer>(&mut self, alloc: Global, signer: &S) -> Result<Vec<u8>> {
         let algorithm = signer.algorithm(alloc)?;
-        let mut part = self.tbs.try_clone(alloc)?;
-        part.signature = algorithm;
-        part.crl_extensions = Some(self.extensions.try_clone(alloc)?);
+        let given = self.tbs.try_clone(alloc)?;
+        let part = next_part(given, self.extensions.try_clone(alloc)?, algorithm);
         let bytes = part.to_der(alloc)?;
-        self.finalized = Some(part);
+        self.finalized = Some(Some(part));
         Ok(bytes)
     }
 
@@ -276,23 +276,12 @@ impl<P: Profile> Builder for CrlBuilder<P> {
             extensions,
             finalized: _,
         } = self;
-        let this_update = tbs.this_update;
-        let mut last = tbs;
-        last.signature = signature;
-        last.crl_extensions = Some(extensions);
-        let message = last.to_der(alloc)?;
+        let part = next_part(tbs, extensions, signature);
+        let message = part.to_der(alloc)?;
         let builder = CrlBuilder {
-            tbs: TbsCertList {
-                version: Some(Version::V2),
-                signature: no_algorithm(),
-                issuer: Name::new(alloc),
-                this_update,
-                next_update: None,
-                revoked_certificates: None,
-                crl_extensions: None,
-            },
+            tbs: part,
             extensions: Extensions::new(alloc),
-            finalized: Some(last),
+            finalized: Some(None),
         };
         Ok((builder, message))
     }
@@ -322,7 +311,8 @@ impl<P: Profile> Builder for CrlBuilder<P> {
             finalized,
         } = self;
         let tbs_cert_list = match finalized {
-            Some(part) => part,
+            Some(Some(part)) => part,
+            Some(None) => tbs,
             None => at_first(tbs),
         };
         let signature_algorithm = tbs_cert_list.signature.try_clone(alloc)?;
@@ -332,6 +322,20 @@ impl<P: Profile> Builder for CrlBuilder<P> {
             signature,
         })
     }
+}
+
+/// The part with these extensions and that algorithm.
+fn next_part<P: Profile>(
+    part: TbsCertList<P>,
+    extensions: Extensions,
+    algorithm: AlgorithmIdentifier,
+) -> TbsCertList<P>
+    ensures { result ≡ (next_part part extensions algorithm).value }
+{
+    let mut next = part;
+    next.signature = algorithm;
+    next.crl_extensions = Some(extensions);
+    next
 }
 
 /// The signed part without what was given after the builder was made.

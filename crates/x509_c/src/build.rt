@@ -50,7 +50,8 @@ pub extern "C" fn x509_build_certificate(
     room: &mut [u8],
     written: &mut usize,
 ) -> i32
-    ensures { Tells (λ status. FillsUnrepeated (BuildsCertificate ⟦<TbsCertificate as Encode>⟧.writing serial_number.now algorithm.now issuer.now not_before not_after
+    ensures { Tells
+        (λ status. FillsUnrepeated (BuildsCertificate ⟦<TbsCertificate as Encode>⟧.writing serial_number.now algorithm.now issuer.now not_before not_after
         subject.now key.now extensions.now) room.old room.new written.old written.new status) result }
 {
     build_certificate(
@@ -122,7 +123,8 @@ pub extern "C" fn x509_build_request(
     room: &mut [u8],
     written: &mut usize,
 ) -> i32
-    ensures { Tells (λ status. FillsUnrepeated (BuildsRequest subject.now key.now attributes.now extensions.now) room.old room.new written.old written.new status)
+    ensures { Tells
+        (λ status. FillsUnrepeated (BuildsRequest subject.now key.now attributes.now extensions.now) room.old room.new written.old written.new status)
         result }
 {
     build_request(alloc, subject, key, attributes, extensions, room, written).code()

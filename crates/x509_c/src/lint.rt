@@ -3,7 +3,7 @@
 ghost use Rattle.x509_c_calls.specs.FindingLines.{FindsTold, StepsFinding};
 ghost use Rattle.x509_c_calls.specs.Findings.{Lints};
 ghost use Rattle.x509_c_calls.specs.Status.{Tells};
-ghost use Rattle.x509_lint.specs.declared.report.Kind.TheVariants.{Certificate, Crl, Csr};
+ghost use Rattle.x509_lint.specs.declared.report.Kind.TheVariants.{Anchor, Certificate, Crl, Csr};
 
 use std::alloc::Global;
 use x509_c_calls::{FindingView, finding_next, lint_object};
@@ -46,6 +46,19 @@ pub extern "C" fn x509_request_lint(
     ensures { Tells (λ status. Lints Csr input.now room.old room.new written.old written.new status) result }
 {
     lint_object(alloc, Kind::Csr, input, room, written).code()
+}
+
+/// Decodes a trust anchor, and puts a line for each rule that it breaks at the front of the buffer.
+#[unsafe(no_mangle)]
+pub extern "C" fn x509_anchor_lint(
+    alloc: Global,
+    input: &[u8],
+    room: &mut [u8],
+    written: &mut usize,
+) -> i32
+    ensures { Tells (λ status. Lints Anchor input.now room.old room.new written.old written.new status) result }
+{
+    lint_object(alloc, Kind::Anchor, input, room, written).code()
 }
 
 /// Fills in where the texts of the next of such lines stand.

@@ -39,8 +39,10 @@ pub extern "C" fn x509_build_root(
           ⟦<Root as BuilderProfile>⟧.issuer_of;
       extensions_of = ⟦<Root as BuilderProfile>⟧.extensions_of;
     }) ⟦<TbsCertificate as Encode>⟧.writing
-        (Inputs (IsRoot subject.now (not (nat_eq emits_ocsp_response 0))) (λ key. Unit {0}) (ArePartInputs serial_number.now algorithm.now not_before not_after key.now extensions.now))
-        (λ e. RefusesRoot subject.now e ⊎ RefusesPartInputs serial_number.now algorithm.now not_before not_after key.now extensions.now e)) room.old room.new written.old written.new status) result }
+        (Inputs (IsRoot subject.now (not (nat_eq emits_ocsp_response 0)))
+        (λ key. Unit {0}) (ArePartInputs serial_number.now algorithm.now not_before not_after key.now extensions.now))
+        (λ e. RefusesRoot subject.now e ⊎ RefusesPartInputs serial_number.now algorithm.now not_before not_after key.now extensions.now e))
+        room.old room.new written.old written.new status) result }
 {
     build_root(
         alloc,
@@ -91,8 +93,13 @@ pub extern "C" fn x509_build_subordinate(
           ⟦<Subordinate as BuilderProfile>⟧.issuer_of;
       extensions_of = ⟦<Subordinate as BuilderProfile>⟧.extensions_of;
     }) ⟦<TbsCertificate as Encode>⟧.writing
-        (Inputs (IsSubordinate issuer.now subject.now (if nat_eq has_path_len 0 then None else Some path_len) (not (nat_eq emits_ocsp_response 0)) (not (nat_eq client_auth 0))) (λ key. Spells subject_public_key_info key issuer_key.now) (ArePartInputs serial_number.now algorithm.now not_before not_after key.now extensions.now))
-        (λ e. RefusesSubordinate issuer.now subject.now (if nat_eq has_path_len 0 then None else Some path_len) e ⊎ (IsRefused subject_public_key_info (λ e. ⊥) issuer_key.now e ⊎ RefusesPartInputs serial_number.now algorithm.now not_before not_after key.now extensions.now e))) room.old room.new written.old written.new status) result }
+        (Inputs (IsSubordinate issuer.now subject.now (if nat_eq has_path_len 0 then None else Some path_len)
+        (not (nat_eq emits_ocsp_response 0)) (not (nat_eq client_auth 0)))
+        (λ key. Spells subject_public_key_info key issuer_key.now) (ArePartInputs serial_number.now algorithm.now not_before not_after key.now extensions.now))
+        (λ e. RefusesSubordinate issuer.now subject.now (if nat_eq has_path_len 0 then None else Some path_len) e
+        ⊎ (IsRefused subject_public_key_info (λ e. ⊥) issuer_key.now e
+        ⊎ RefusesPartInputs serial_number.now algorithm.now not_before not_after key.now extensions.now e)))
+        room.old room.new written.old written.new status) result }
 {
     build_subordinate(
         alloc,
@@ -140,8 +147,16 @@ pub extern "C" fn x509_build_subscriber(
           ⟦<Subscriber as BuilderProfile>⟧.issuer_of;
       extensions_of = ⟦<Subscriber as BuilderProfile>⟧.extensions_of;
     }) ⟦<TbsCertificate as Encode>⟧.writing
-        (Inputs (IsSubscriber issuer.now subject.now (record { client_auth = not (nat_eq client_auth 0); key_encipherment = not (nat_eq key_encipherment 0); key_agreement = not (nat_eq key_agreement 0); data_encipherment = not (nat_eq data_encipherment 0) })) (λ key. Spells subject_public_key_info key issuer_key.now) (ArePartInputs serial_number.now algorithm.now not_before not_after key.now extensions.now))
-        (λ e. RefusesSubscriber issuer.now subject.now e ⊎ (IsRefused subject_public_key_info (λ e. ⊥) issuer_key.now e ⊎ RefusesPartInputs serial_number.now algorithm.now not_before not_after key.now extensions.now e))) room.old room.new written.old written.new status) result }
+        (Inputs (IsSubscriber issuer.now subject.now (record {
+          client_auth = not (nat_eq client_auth 0);
+          key_encipherment = not (nat_eq key_encipherment 0);
+          key_agreement = not (nat_eq key_agreement 0);
+          data_encipherment = not (nat_eq data_encipherment 0);
+        }))
+        (λ key. Spells subject_public_key_info key issuer_key.now) (ArePartInputs serial_number.now algorithm.now not_before not_after key.now extensions.now))
+        (λ e. RefusesSubscriber issuer.now subject.now e ⊎ (IsRefused subject_public_key_info (λ e. ⊥) issuer_key.now e
+        ⊎ RefusesPartInputs serial_number.now algorithm.now not_before not_after key.now extensions.now e)))
+        room.old room.new written.old written.new status) result }
 {
     let uses = SubscriberUses {
         client_auth: client_auth != 0,
@@ -190,8 +205,11 @@ pub extern "C" fn x509_build_device(
           ⟦<DevId as BuilderProfile>⟧.issuer_of;
       extensions_of = ⟦<DevId as BuilderProfile>⟧.extensions_of;
     }) ⟦<TbsCertificate as Encode>⟧.writing
-        (Inputs (IsDevice issuer.now subject.now names.now) (λ key. Spells subject_public_key_info key issuer_key.now) (ArePartInputs serial_number.now algorithm.now not_before not_after key.now extensions.now))
-        (λ e. RefusesDevice issuer.now subject.now names.now e ⊎ (IsRefused subject_public_key_info (λ e. ⊥) issuer_key.now e ⊎ RefusesPartInputs serial_number.now algorithm.now not_before not_after key.now extensions.now e))) room.old room.new written.old written.new status) result }
+        (Inputs (IsDevice issuer.now subject.now names.now) (λ key. Spells subject_public_key_info key issuer_key.now)
+        (ArePartInputs serial_number.now algorithm.now not_before not_after key.now extensions.now))
+        (λ e. RefusesDevice issuer.now subject.now names.now e ⊎ (IsRefused subject_public_key_info (λ e. ⊥) issuer_key.now e
+        ⊎ RefusesPartInputs serial_number.now algorithm.now not_before not_after key.now extensions.now e)))
+        room.old room.new written.old written.new status) result }
 {
     build_device(
         alloc,

@@ -1,5 +1,5 @@
 -- What bytes end with.
-use Rattle.std.proofs.Common.{◌≡◌, ℕ, ◌+◌, ◌-◌, List, [], ◌∷◌, ◌++◌, length, drop, Option, Some, None, is_some, false, Result, refl, sym, ap, subst, ◌∙◌, arith, append_assoc, length-append}
+use Rattle.std.proofs.Common.{◌≡◌, ℕ, ◌+◌, ◌-◌, List, [], ◌∷◌, ◌++◌, length, drop, Option, Some, None, is_some, false, option_map, Result, refl, sym, ap, subst, ◌∙◌, arith, append_assoc, length-append}
 use Rattle.std.proofs.lemmas.List.{append-nil, drop_at}
 use Rattle.std.specs.Prelude.{MatchOption}
 use Rattle.x509_base.specs.AlgorithmIdentifier.{algorithm_identifier}
@@ -7,11 +7,13 @@ use Rattle.x509_base.specs.Serial.{serial_number}
 use Rattle.x509_base.specs.SubjectPublicKeyInfo.{subject_public_key_info}
 use Rattle.x509_base.specs.Validity.{validity}
 use Rattle.x509_c_calls.proofs.Members.{content_is, critical_text, oid_text, value_text}
-use Rattle.x509_c_calls.proofs.Parts.{behind_part, part_text, version_text, whole}
+use Rattle.x509_c_calls.proofs.Parts.{behind_part, extensions_text, laid_out, part_text, version_text, whole}
 use Rattle.x509_c_calls.specs.Place.{EndsWith, IsAt}
+use Rattle.x509_c_calls.specs.View.{IsOptionAt, behind_algorithm, behind_issuer, behind_issuer_id, behind_key, behind_serial_number, behind_subject, behind_subject_id}
+use Rattle.x509_c_calls.specs.declared.place.span.Span.{Span}
 use Rattle.x509_cert.specs.Certificate.{certificate}
 use Rattle.x509_cert.specs.declared.certificate.certificate.CertificateInner.{CertificateInner}
-use Rattle.x509_der.specs.Element.{element, length_octets}
+use Rattle.x509_der.specs.Element.{element, header, length_octets}
 use Rattle.x509_der.specs.Form.{Spells, spelling}
 use Rattle.x509_der.specs.Frames.{explicit, implicit, optional_octets}
 use Rattle.x509_der.specs.List.{joined}
@@ -42,6 +44,10 @@ last_end first text more bytes h = (h.0 ++ first, h.1 ∙ regroup h.0 first text
 pub first_end : (text others more bytes : List ℕ) → EndsWith (text ++ others) more bytes → EndsWith text (others ++ more) bytes
 first_end text others more bytes h = (h.0, h.1 ∙ ap (λ x. h.0 ++ x) (append_assoc text others more))
 
+-- what stands behind a part
+pub next_end : (text others more bytes : List ℕ) → EndsWith text (others ++ more) bytes → EndsWith others more bytes
+next_end text others more bytes h = (h.0 ++ text, h.1 ∙ sym (append_assoc h.0 text (others ++ more)))
+
 -- where it stands, by its end
 pub ends_at : (text more bytes : List ℕ) (end len : ℕ) → EndsWith text more bytes → len ≡ length text → end + length more ≡ length bytes → IsAt text more bytes (record { place = end - len; len = len })
 ends_at text more bytes end len h is_len at =
@@ -58,6 +64,38 @@ end_is text first second bytes a b end h is_a is_b is =
 pub end_before : (text others more bytes : List ℕ) (end len at : ℕ) → EndsWith text (others ++ more) bytes → end + length more ≡ length bytes → len ≡ length others → at ≡ end - len → at + length (others ++ more) ≡ length bytes
 end_before text others more bytes end len at h whole same is =
     omega (arith, ap length h.1, length-append h.0 (text ++ (others ++ more)), length-append text (others ++ more), length-append others more)
+
+-- ---- an element, by the end of its content
+
+in_front : (tag : ℕ) (octets content more : List ℕ) → (tag ∷ (octets ++ content)) ++ more ≡ (tag ∷ octets) ++ (content ++ more)
+in_front tag octets content more = simp append_assoc refl
+
+header_end : (tag : ℕ) (content more bytes : List ℕ) → EndsWith (element tag content) more bytes → EndsWith (header tag (length content)) (content ++ more) bytes
+unfolding element
+header_end tag content more bytes h = (h.0, h.1 ∙ ap (λ x. h.0 ++ x) (in_front tag (length_octets (length content)) content more))
+
+header_len_is : (tag : ℕ) (content more : List ℕ) → length (header tag (length content) ++ (content ++ more)) ≡ length (element tag content ++ more)
+unfolding element
+header_len_is tag content more = ap length (sym (in_front tag (length_octets (length content)) content more))
+
+element_begin : (tag : ℕ) (content more : List ℕ) (begin all : ℕ) → begin + length (header tag (length content) ++ (content ++ more)) ≡ all → begin + length (element tag content ++ more) ≡ all
+element_begin tag content more begin all at = ap (λ n. begin + n) (sym (header_len_is tag content more)) ∙ at
+
+some_is : (xs ys : List ℕ) → Some xs ≡ Some ys → xs ≡ ys
+some_is xs ys e = cc
+
+-- a list of extensions in its tag, from the end of the list to the middle, where it begins, and to the begin of the tag
+pub list_stands : (list : List ℕ) (value : Option (List Extension)) (more bytes : List ℕ) (middle begin : ℕ) (span : Span) → Some list ≡ option_map (spelling extensions) value
+    → EndsWith (optional_octets (spelling (explicit 3 extensions)) value) more bytes
+    → ((text : List ℕ) → EndsWith text more bytes → length list ≡ length text → IsAt text more bytes span × (middle + length (text ++ more) ≡ length bytes))
+    → ((tag : ℕ) (text behind : List ℕ) → EndsWith (header tag (length text)) behind bytes → length text ≡ length list → middle + length behind ≡ length bytes → begin + length (header tag (length text) ++ behind) ≡ length bytes)
+    → IsOptionAt extensions value more bytes span × (begin + length (optional_octets (spelling (explicit 3 extensions)) value ++ more) ≡ length bytes)
+list_stands list None more bytes middle begin span e h inside outside = absurd cc
+list_stands list (Some xs) more bytes middle begin span e h inside outside =
+    let text = spelling extensions xs in
+    let same : list ≡ text = some_is list text e in
+    let found = inside text (content_end 163 text more bytes h) (ap length same) in
+    (found.0, element_begin 163 text more begin (length bytes) (outside 163 text (text ++ more) (header_end 163 text more bytes h) (ap length (sym same)) found.1))
 
 -- ---- extensions
 
@@ -110,3 +148,33 @@ module _ {P : Type 0} (check : List ℕ → Result Unit ErrorKind) (value : Cert
       let text : optional_octets (spelling (explicit 3 extensions)) t.extensions ≡ element 163 (element 48 (joined (spelling extension) xs)) = sym (ap (optional_octets (spelling (explicit 3 extensions))) is) in
       let f = subst (λ (u : List ℕ). EndsWith u behind bytes) text e in
       content_end 48 (joined (spelling extension) xs) behind bytes (content_end 163 (element 48 (joined (spelling extension) xs)) behind bytes f)
+
+  -- each field ends where the next one begins
+  pub serial_number_end : EndsWith (spelling (serial_number check) value.tbs_certificate.serial_number) (behind_serial_number value) bytes
+  serial_number_end =
+      next_end (version_text check value bytes spells) (spelling (serial_number check) value.tbs_certificate.serial_number) (behind_serial_number value) bytes
+      (part_end.0, part_end.1 ∙ ap (λ x. part_end.0 ++ x) (laid_out check value bytes spells (behind_part check value bytes spells)))
+
+  pub algorithm_end : EndsWith (spelling algorithm_identifier value.tbs_certificate.signature) (behind_algorithm value) bytes
+  algorithm_end = next_end (spelling (serial_number check) value.tbs_certificate.serial_number) (spelling algorithm_identifier value.tbs_certificate.signature) (behind_algorithm value) bytes serial_number_end
+
+  pub issuer_end : EndsWith (spelling name value.tbs_certificate.issuer) (behind_issuer value) bytes
+  issuer_end = next_end (spelling algorithm_identifier value.tbs_certificate.signature) (spelling name value.tbs_certificate.issuer) (behind_issuer value) bytes algorithm_end
+
+  pub validity_end : EndsWith (spelling validity value.tbs_certificate.validity) (spelling name value.tbs_certificate.subject ++ behind_subject value) bytes
+  validity_end = next_end (spelling name value.tbs_certificate.issuer) (spelling validity value.tbs_certificate.validity) (spelling name value.tbs_certificate.subject ++ behind_subject value) bytes issuer_end
+
+  pub subject_end : EndsWith (spelling name value.tbs_certificate.subject) (behind_subject value) bytes
+  subject_end = next_end (spelling validity value.tbs_certificate.validity) (spelling name value.tbs_certificate.subject) (behind_subject value) bytes validity_end
+
+  pub key_end : EndsWith (spelling subject_public_key_info value.tbs_certificate.subject_public_key_info) (behind_key value) bytes
+  key_end = next_end (spelling name value.tbs_certificate.subject) (spelling subject_public_key_info value.tbs_certificate.subject_public_key_info) (behind_key value) bytes subject_end
+
+  pub issuer_id_end : EndsWith (optional_octets (spelling (implicit 1 bit_string)) value.tbs_certificate.issuer_unique_id) (behind_issuer_id value) bytes
+  issuer_id_end = next_end (spelling subject_public_key_info value.tbs_certificate.subject_public_key_info) (optional_octets (spelling (implicit 1 bit_string)) value.tbs_certificate.issuer_unique_id) (behind_issuer_id value) bytes key_end
+
+  pub subject_id_end : EndsWith (optional_octets (spelling (implicit 2 bit_string)) value.tbs_certificate.subject_unique_id) (behind_subject_id value) bytes
+  subject_id_end = next_end (optional_octets (spelling (implicit 1 bit_string)) value.tbs_certificate.issuer_unique_id) (optional_octets (spelling (implicit 2 bit_string)) value.tbs_certificate.subject_unique_id) (behind_subject_id value) bytes issuer_id_end
+
+  pub extensions_end : EndsWith (extensions_text check value bytes spells) (behind_part check value bytes spells) bytes
+  extensions_end = next_end (optional_octets (spelling (implicit 2 bit_string)) value.tbs_certificate.subject_unique_id) (extensions_text check value bytes spells) (behind_part check value bytes spells) bytes subject_id_end

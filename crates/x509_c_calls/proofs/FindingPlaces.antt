@@ -163,7 +163,7 @@ behind-place seen z w =
     ++ (codes "\", \"seen\": \"" ++ (seen ++ (codes "\"" ++ z)))))))
 
 -- the line that the linter tells is that of these texts
-told-line : (word seen more : List ℕ) (rule : Rule) → json_line (codes "{") word rule seen ++ more ≡ finding_line (texts_of word (rule_wording rule) seen) more
+told-line : (word seen more : List ℕ) (rule : Rule) → json_line (codes "{") word (rule_wording rule) seen ++ more ≡ finding_line (texts_of word (rule_wording rule) seen) more
 told-line word seen more rule =
     let w = rule_wording rule in
     let rest = codes ", " ++ (place_members w seen ++ codes "}\n") in
@@ -176,7 +176,7 @@ told-line word seen more rule =
 
 pub told-found : (lines : List ℕ) (was is : ℕ) (t : Texts) (more : List ℕ) (view : FindingView) → IsFinding lines was is t more view
     → (word seen others : List ℕ) (rule : Rule) → AreUnquoted (texts_of word (rule_wording rule) seen)
-    → drop was lines ≡ json_line (codes "{") word rule seen ++ others
+    → drop was lines ≡ json_line (codes "{") word (rule_wording rule) seen ++ others
     → IsFinding lines was is (texts_of word (rule_wording rule) seen) others view
 told-found lines was is t more view found word seen others rule unquoted e =
     let told = texts_of word (rule_wording rule) seen in
@@ -185,6 +185,6 @@ told-found lines was is t more view found word seen others rule unquoted e =
 
 pub told-stands : (lines : List ℕ) (at : ℕ) → ((t : Texts) (more : List ℕ) → StandsAt lines at t more → ⊥)
     → (word seen others : List ℕ) (rule : Rule) → AreUnquoted (texts_of word (rule_wording rule) seen)
-    → drop at lines ≡ json_line (codes "{") word rule seen ++ others → ⊥
+    → drop at lines ≡ json_line (codes "{") word (rule_wording rule) seen ++ others → ⊥
 told-stands lines at none word seen others rule unquoted e =
     none (texts_of word (rule_wording rule) seen) others (unquoted, e ∙ told-line word seen others rule)

@@ -6,7 +6,7 @@ use Rattle.x509_base.specs.AlgorithmIdentifier.{algorithm_identifier}
 use Rattle.x509_base.specs.SubjectPublicKeyInfo.{subject_public_key_info}
 use Rattle.x509_base.specs.Serial.{serial_number}
 use Rattle.x509_base.specs.Validity.{validity}
-use Rattle.x509_c_calls.specs.View.{AreBitsAt, IsOptionAt}
+use Rattle.x509_c_calls.specs.View.{AreBitsAt}
 use Rattle.x509_c_calls.specs.Place.{IsAt, IsField}
 use Rattle.x509_c_calls.specs.declared.place.span.Span.{Span}
 use Rattle.x509_cert.specs.Certificate.{certificate, certificate_fields}
@@ -20,7 +20,6 @@ use Rattle.x509_der.specs.declared.error.ErrorKind.{ErrorKind}
 use Rattle.x509_der.specs.Frames.{explicit, implicit, optional_octets, default_octets, fields_octets}
 use Rattle.x509_der.specs.Form.{Spells, spelling}
 use Rattle.x509_ext.specs.Extension.{extensions}
-use Rattle.x509_ext.specs.declared.extension.Extension.{Extension}
 use Rattle.x509_name.specs.Names.{name}
 use Rattle.x509_prim.specs.BitString.{BitParts, bit_string}
 
@@ -33,10 +32,6 @@ is_sequence = refl
 pub is_integer : is_identifier 2 ≡ true
 unfolding is_identifier is_universal
 is_integer = refl
-
-pub is_wrapped : is_identifier 163 ≡ true
-unfolding is_identifier is_universal
-is_wrapped = refl
 
 -- ---- fields that may be left out
 
@@ -68,13 +63,6 @@ subject_field id b is = rw is (subject_is id)
 pub same_presence : {X : Type 0} (r : Option (Bor X)) (o : Option X) → option_copied r ≡ o → is_some r ≡ is_some o
 same_presence None o e = ap is_some e
 same_presence (Some x) o e = ap is_some e
-
--- the extensions in their tag
-pub extensions_at : (o : Option (List Extension)) (bytes more : List ℕ) (place : ℕ) (span : Span) (is_there : Bool) → is_there ≡ is_some o → drop place bytes ≡ optional_octets (spelling (explicit 3 extensions)) o ++ more
-    → (is_there ≡ true → (t u : ℕ) (content behind : List ℕ) → is_identifier t ≡ true → is_identifier u ≡ true → drop place bytes ≡ element t (element u content) ++ behind → IsAt (element u content) behind bytes span)
-    → (is_there ≡ false → span ≡ record { place = 0; len = 0 }) → IsOptionAt extensions o more bytes span
-extensions_at None bytes more place span is_there is stands there absent = absent is
-extensions_at (Some xs) bytes more place span is_there is stands there absent = there is 163 48 (extensions.content xs) more is_wrapped is_sequence stands
 
 -- bits under a tag that may be left out
 pub bits_are : (tag : ℕ) (o : Option BitParts) (bytes more : List ℕ) (place : ℕ) (span : Span) (unused : ℕ) (is_there : Bool) → is_identifier tag ≡ true → is_there ≡ is_some o

@@ -49,8 +49,8 @@ pub record IsNoMember {X : Type 0} (form : Form X) (refuses : ErrorKind → Type
 abbrev pub Stops : {X : Type 0} → Form X → (ErrorKind → Type 0) → Type 0 → ℕ → List ℕ → ℕ → ErrorKind → Type 0
 Stops form refuses wants tag bytes at e = ((e ≡ Memory) × wants) ⊎ (IsNowhere tag bytes at e ⊎ IsNoMember form refuses tag bytes at e)
 
--- What a call leaves that asks for the next member, of which more may be said. Done: there is one. Absent: the list ends there. What isn't filled in stays as it
--- was.
+-- What a call leaves that asks for the next member, of which more may be said. Done: there is one. Absent: the list ends there. What isn't filled in stays as
+-- it was.
 unfoldable pub Steps : {X : Type 0} → Form X → (ErrorKind → Type 0) → Type 0 → ℕ → List ℕ → ℕ → ℕ → (X → List ℕ → Span → Type 0) → Type 0 → Status → Type 0
 Steps {X} form refuses wants tag bytes was is holds unchanged Done =
     (value : X) × (more : List ℕ) × (span : Span) × IsNext form tag bytes was is value more span × holds value more span

@@ -86,7 +86,7 @@ texts_of word w seen = record {
 abbrev pub FindsTold : List ℕ → ℕ → ℕ → FindingView → Status → Type 0
 FindsTold lines was is view status =
     (word seen more : List ℕ) (rule : Rule) → AreUnquoted (texts_of word (rule_wording rule) seen)
-    → drop was lines ≡ json_line (codes "{") word rule seen ++ more
+    → drop was lines ≡ json_line (codes "{") word (rule_wording rule) seen ++ more
     → (status ≡ Done) × IsFinding lines was is (texts_of word (rule_wording rule) seen) more view
 
 -- the lines don't end there, and no line of a finding stands there

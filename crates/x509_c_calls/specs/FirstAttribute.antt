@@ -37,8 +37,8 @@ ShowsFirst bytes name oid view =
     (first : AttributeTypeAndValue) × (rest : List AttributeTypeAndValue) × (behind : List (List AttributeTypeAndValue)) × IsFirstOf oid name first rest behind
     × IsAttribute bytes first (joined (spelling attribute_type_and_value) rest ++ joined (spelling relative_distinguished_name) behind) view
 
--- What a call leaves that asks a name for it. Done: the bytes spell a name that has one. Absent: they spell one that has none. Else they are refused. What isn't filled
--- in stays as it was.
+-- What a call leaves that asks a name for it. Done: the bytes spell a name that has one. Absent: they spell one that has none. Else they are refused. What
+-- isn't filled in stays as it was.
 unfoldable pub FindsAttribute : Form (List (List AttributeTypeAndValue)) → (ErrorKind → Type 0) → List ℕ → List ℕ → AttributeView → AttributeView → Status → Type 0
 FindsAttribute form refuses bytes oid was is Done = (name : List (List AttributeTypeAndValue)) × Spells form name bytes × ShowsFirst bytes name oid is
 FindsAttribute form refuses bytes oid was is Absent = (name : List (List AttributeTypeAndValue)) × Spells form name bytes × (first_of_type oid (members_of name) ≡ None) × (is ≡ was)

@@ -32,8 +32,8 @@ IsNoList refuses bytes e =
     ⊎ (((limit < length bytes) × (e ≡ Overlength))
     ⊎ ((length bytes ≤ limit) × ((e ≡ Malformed) ⊎ refuses e) × ((values : List (RevokedCert Rfc5280)) → IsList values bytes → ⊥)))
 
--- What a call leaves that asks bytes for the first entry with a number. Done: an entry stands there, and of a list it is the first with the number. Absent: of a list
--- none has it. A refusal is never that of a list, apart from memory. What isn't filled in stays as it was.
+-- What a call leaves that asks bytes for the first entry with a number. Done: an entry stands there, and of a list it is the first with the number. Absent: of
+-- a list none has it. A refusal is never that of a list, apart from memory. What isn't filled in stays as it was.
 unfoldable pub FindsEntry : (ErrorKind → Type 0) → List ℕ → List ℕ → CrlEntryView → CrlEntryView → Status → Type 0
 FindsEntry refuses number bytes was is Done =
     (entry : RevokedCert Rfc5280) × (behind : List ℕ) × IsEntry bytes entry behind is × ((values : List (RevokedCert Rfc5280)) → IsList values bytes → IsFirstWith number values entry)

@@ -19,8 +19,8 @@ use Rattle.x509_ext.specs.LookUp.{members}
 use Rattle.x509_ext.specs.declared.extension.Extension.{Extension}
 use Rattle.x509_ext.specs.declared.pkix.certificate_issuer.CertificateIssuer.{CertificateIssuer}
 
--- Where the names stand that are in force behind an entry, with these extensions, in front of those octets; the last list has those that name an issuer. They are as
--- before where there is none, and where there is one its octets.
+-- Where the names stand that are in force behind an entry, with these extensions, in front of those octets; the last list has those that name an issuer. They
+-- are as before where there is none, and where there is one its octets.
 abbrev pub IsCarried : List ℕ → List Extension → List ℕ → List Extension → Span → Span → Type 0
 IsCarried bytes all behind [] was is = is ≡ was
 IsCarried bytes all behind (extension ∷ []) was is =
@@ -32,8 +32,8 @@ abbrev pub IsRefusedIssuer : Form (RevokedCert Rfc5280) → List ℕ → ℕ →
 IsRefusedIssuer form bytes at e =
     (entry : RevokedCert Rfc5280) × (more : List ℕ) × (next : ℕ) × (span : Span) × IsNext form 48 bytes at next entry more span × (why : Error) × (why.kind ≡ e) × FindsIssuer (issuers entry) (Err why)
 
--- What a call leaves that asks for the next entry and for the issuer behind it. Done: there is an entry. Absent: the list ends there. What isn't filled in stays as it
--- was.
+-- What a call leaves that asks for the next entry and for the issuer behind it. Done: there is an entry. Absent: the list ends there. What isn't filled in
+-- stays as it was.
 unfoldable pub StepsIssued : Form (RevokedCert Rfc5280) → (ErrorKind → Type 0) → Type 0 → List ℕ → ℕ → ℕ → Span → Span → CrlEntryView → CrlEntryView → Status → Type 0
 StepsIssued form refuses wants bytes was is issuer_was issuer_is found_was found_is Done =
     (entry : RevokedCert Rfc5280) × (more : List ℕ) × (span : Span) × IsNext form 48 bytes was is entry more span × IsEntry bytes entry more found_is

@@ -20,8 +20,8 @@ pub record IsRequestAttribute (bytes : List ℕ) (attribute : Attribute) (behind
   pub oid : IsAt attribute.oid (spelling grammar.value_set attribute.values ++ behind) bytes view.oid
   pub values : IsAt (spelling grammar.value_set attribute.values) behind bytes view.values
 
--- What a call leaves that asks for one of these attributes, behind which those octets stand, where the last list has those of the type: Absent for none, Done for
--- one, Repeated for two or more. What isn't filled in stays as it was.
+-- What a call leaves that asks for one of these attributes, behind which those octets stand, where the last list has those of the type: Absent for none, Done
+-- for one, Repeated for two or more. What isn't filled in stays as it was.
 unfoldable pub FindsAttribute : List ℕ → List Attribute → List ℕ → List Attribute → RequestAttributeView → RequestAttributeView → Status → Type 0
 FindsAttribute bytes all behind [] was is status = (status ≡ Absent) × (is ≡ was)
 FindsAttribute bytes all behind (attribute ∷ []) was is status =

@@ -8,8 +8,8 @@ use Rattle.x509_der.specs.Element.{element}
 use Rattle.x509_der.specs.declared.error.ErrorKind.TheVariants.{Malformed}
 use Rattle.x509_sct.specs.Numbers.{vector16}
 
--- The bytes are an OCTET STRING that holds a list, SerializedSCT<0..2^16-1>, and these octets are what is left of the list's items from a place in the bytes on. The
--- place 0 is where the first item begins.
+-- The bytes are an OCTET STRING that holds a list, SerializedSCT<0..2^16-1>, and these octets are what is left of the list's items from a place in the bytes
+-- on. The place 0 is where the first item begins.
 pub record IsLeft (bytes : List ℕ) (at : ℕ) (left : List ℕ) : Type 0 where
   pub passed : List ℕ
   pub whole : bytes ≡ element 4 (vector16.bytes (passed ++ left))

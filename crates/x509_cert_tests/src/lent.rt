@@ -45,6 +45,25 @@ fn dates(rt: HostRuntime) -> Result<(), Fail> {
     Ok(())
 }
 
+/// The dates that are answered with the certificate, in seconds.
+fn dates_with(bytes: &[u8]) -> Option<(u64, u64)> {
+    match CertificateRef::<Rfc5280>::from_der_with_validity(bytes) {
+        Ok((_, validity)) => Some((
+            validity.not_before.to_unix_duration().as_secs(),
+            validity.not_after.to_unix_duration().as_secs(),
+        )),
+        Err(_) => None,
+    }
+}
+
+/// The same dates, and none of bytes that end too early.
+#[test]
+fn dates_with_the_certificate(rt: HostRuntime) -> Result<(), Fail> {
+    assert!(rt; dates_with(WHOLE) == Some((1_262_334_600, 1_924_936_200)));
+    assert!(rt; dates_with(&WHOLE[..WHOLE.len() - 1]).is_none());
+    Ok(())
+}
+
 /// What is owned is encoded as the same bytes.
 #[test]
 fn owned(rt: HostRuntime) -> Result<(), Fail> {

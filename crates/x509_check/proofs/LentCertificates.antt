@@ -3,6 +3,8 @@ use Rattle.std.proofs.Common.{◌≡◌, ℕ, ◌≤◌, true, false, List, [], 
 use Rattle.std.specs.Option.{option_copied}
 use Rattle.std.specs.Prelude.{IfSome, IsOk}
 use Rattle.x509_base.specs.Validity.{validity, validity_contents, validity_contents_lawful}
+use Rattle.x509_base.specs.declared.time.Time.{Time}
+use Rattle.x509_base.specs.declared.validity.Validity.{Validity}
 use Rattle.x509_cert.proofs.CertificateSignedPart.{stands}
 use Rattle.x509_cert.proofs.Spellings.{certificate_found}
 use Rattle.x509_cert.specs.Certificate.{certificate, certificate_lawful}
@@ -111,6 +113,14 @@ is_read reading value e = rw e refl
 
 pub signed_is : (bytes : List ℕ) (slices : CertificateSlices) → certificate_reading bytes ≡ Ok (certificate_elements slices) → length bytes ≤ limit → IsSignedPart bytes slices.tbs_certificate.now
 signed_is bytes slices lent within = is_signed bytes (certificate_elements slices) (certificate_sound bytes (certificate_elements slices) within lent)
+
+-- ---- a validity is its two dates
+
+abbrev of_dates : {P : Type 0} → Time → Time → Validity P
+of_dates before after = record { not_before = before; not_after = after; profile = record {} }
+
+pub same_dates : {P : Type 0} (v w : Validity P) → v.not_before ≡ w.not_before → v.not_after ≡ w.not_after → v ≡ w
+same_dates {P} v w before after = ap (λ (t : Time). of_dates {P = P} t v.not_after) before ∙ ap (λ (t : Time). of_dates {P = P} w.not_before t) after
 
 module _ {P : Type 0} (check : List ℕ → Result Unit ErrorKind) (bytes : List ℕ) where
   pub some_certificate : length bytes ≤ limit → IsOk (whole_reading (certificate {P = P} check).reading bytes) → (value : CertificateInner P) × Spells (certificate check) value bytes

@@ -15,6 +15,7 @@ use Rattle.x509_der.specs.declared.error.ErrorKind.TheVariants as errors
 use Rattle.x509_der.specs.Form.{Form, IsForm, Spells, is_in, reading_under, whole_reading}
 use Rattle.x509_der.specs.Frames.{field_at, optional_at}
 use Rattle.x509_der.specs.FormLaws.{whole_sound, whole_complete, whole_refused}
+use Rattle.x509_der.specs.OutcomeLaws.{ok_is}
 
 -- ---- what is found of entries and one more
 
@@ -82,6 +83,10 @@ module _ {X Y : Type 0} {R : ErrorKind → Type 0} (f : Form X) (h : IsForm R f)
   pub so_found : (result : Result Y Error) → length bytes ≤ limit → LendsSo so result (whole_reading f.reading bytes) → IfOk result (λ y. (value : X) × Spells f value bytes × so value y)
   so_found (Ok y) within p = let s = whole_sound f h bytes p.0 p.1 in (p.0, (s.0, s.1, within), p.2)
   so_found (Err e) within p = tt
+
+  -- what is so related to the value, is to each value that the bytes spell
+  pub so_of : (y : Y) → LendsSo so (Ok y) (whole_reading f.reading bytes) → (value : X) → Spells f value bytes → so value y
+  so_of y p value s = subst (λ (v : X). so v y) (ok_is p.0 value (sym p.1 ∙ ap (whole_reading f.reading) s.1 ∙ whole_complete f h value s.0)) p.2
 
   pub so_every : (result : Result Y Error) → LendsSo so result (whole_reading f.reading bytes) → (value : X) → Spells f value bytes → IsOk result
   so_every (Ok y) p value s = refl

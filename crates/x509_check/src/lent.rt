@@ -8,6 +8,6 @@ pub(crate) mod entries;
 pub(crate) mod entry;
 pub(crate) mod extension;
 pub(crate) mod extensions;
-mod fields;
+pub(crate) mod fields;
 pub(crate) mod revoked;
 pub(crate) mod undated;

@@ -3,6 +3,7 @@
 use crate::check::Check;
 use crate::content::{CheckContent, PlainContent};
 use crate::field::check_field;
+use crate::lent::fields::take_time;
 use x509_base::{GeneralizedTime, Profile, Time, UtcTime, Validity};
 use x509_der::{Error, Grammar, end};
 
@@ -52,5 +53,17 @@ impl<P: Profile> CheckContent for Validity<P> {
         check_field::<Time>(&mut rest)?;
         check_field::<Time>(&mut rest)?;
         end(rest)
+    }
+}
+
+#[tactic(auto, unfolding(x509_base::specs::Validity::validity_fields, x509_der::specs::Frames::fields_reading))]
+impl<P: Profile> PlainContent for Validity<P> {
+    #[inline(always)]
+    fn plain_value(octets: &[u8]) -> Result<Validity<P>, Error> {
+        let mut rest = octets;
+        let not_before = take_time(&mut rest)?;
+        let not_after = take_time(&mut rest)?;
+        end(rest)?;
+        Ok(Validity::new(not_before, not_after))
     }
 }

@@ -1,2 +1,3 @@
 pub mod Broken
 pub mod Requested
+pub mod SortedOids

@@ -3,41 +3,17 @@ use Rattle.std.specs.Prelude.{Option, ◌&&◌, ◌||◌, ◌==◌, ◌-◌, ℕ
 use Rattle.std.specs.List.{list_all, list_any, slice_get, slice_split}
 use Rattle.x509_ext.specs.declared.pkix.name.general_name.GeneralName.{GeneralName}
 use Rattle.x509_ext.specs.declared.pkix.name.general_name.GeneralName.TheVariants.{OtherName, Rfc822Name, DnsName, DirectoryName, EdiPartyName, UniformResourceIdentifier, IpAddress, RegisteredId}
-use Rattle.x509_lint.specs.Name.{is_letter}
+use Rattle.x509_lint.specs.Dns.{is_dns_name, is_label, is_letter_or_digit}
 use Rattle.x509_ext.specs.Identifiers.{id_ce}
 use Rattle.x509_ext.specs.declared.extension.Extension.{Extension}
 use Rattle.x509_ext.specs.declared.pkix.alternative_names.SubjectAltName.{SubjectAltName}
 use Rattle.x509_lint.specs.Text.{has_email}
+use Rattle.x509_lint.specs.Uri.{has_other_host, is_absolute, is_uri}
 use Rattle.x509_lint.specs.Words.{Certificate, extensions_of, has, is_empty, passes}
 use Rattle.x509_lint.specs.declared.values.AlternativeValues.{AlternativeValues}
 use Rattle.x509_lint.specs.declared.rule.alternative.AlternativeRule.{AlternativeRule}
-use Rattle.x509_lint.specs.declared.rule.alternative.AlternativeRule.TheVariants.{SubjectEmailNotInAltName, SubjectAltNameEmpty, SubjectAltNameEmptyName, SubjectAltNameDnsNameInvalid, SubjectAltNameAddressLength, SubjectAltNameMailboxInvalid, SubjectAltNameUriRelative, IssuerAltNameEmpty, IssuerAltNameEmptyName, IssuerAltNameDnsNameInvalid, IssuerAltNameAddressLength, IssuerAltNameMailboxInvalid, IssuerAltNameUriRelative}
+use Rattle.x509_lint.specs.declared.rule.alternative.AlternativeRule.TheVariants.{SubjectEmailNotInAltName, SubjectAltNameEmpty, SubjectAltNameEmptyName, SubjectAltNameDnsNameInvalid, SubjectAltNameAddressLength, SubjectAltNameMailboxInvalid, SubjectAltNameUriRelative, SubjectAltNameUriInvalid, SubjectAltNameUriHostInvalid, IssuerAltNameEmpty, IssuerAltNameEmptyName, IssuerAltNameDnsNameInvalid, IssuerAltNameAddressLength, IssuerAltNameMailboxInvalid, IssuerAltNameUriRelative, IssuerAltNameUriInvalid, IssuerAltNameUriHostInvalid}
 use Rattle.x509_lint.specs.Wording.{Wording, must}
-
--- ---- DNS names (RFC 1034 3.5, RFC 1123 2.1)
-
-abbrev pub is_letter_or_digit : ℕ → Bool
-is_letter_or_digit octet = is_letter octet || (nat_le 48 octet && nat_le octet 57)
-
--- a letter, a digit or a hyphen
-abbrev pub is_letter_digit_hyphen : ℕ → Bool
-is_letter_digit_hyphen octet = is_letter_or_digit octet || (octet == 45)
-
--- from 1 to 63 letters, digits and hyphens, neither the first nor the last a hyphen
-abbrev pub is_label : List ℕ → Bool
-is_label label =
-    list_all is_letter_digit_hyphen label && nat_le (length label) 63
-    && passes is_letter_or_digit (slice_get label 0) && passes is_letter_or_digit (slice_get label (length label - 1))
-
--- what follows the wildcard `*.`, where the text begins with it (RFC 5280 4.2.1.6 leaves wildcards to the application)
-abbrev pub behind_wildcard : List ℕ → List ℕ
-behind_wildcard [] = []
-behind_wildcard (star ∷ []) = star ∷ []
-behind_wildcard (star ∷ dot ∷ octets) = if (star == 42) && (dot == 46) then octets else star ∷ dot ∷ octets
-
--- labels between dots, perhaps behind a wildcard, 253 octets at most
-abbrev pub is_dns_name : List ℕ → Bool
-is_dns_name text = list_all is_label (slice_split (λ octet. octet == 46) (behind_wildcard text)) && nat_le (length text) 253
 
 -- ---- general names (RFC 5280 4.2.1.6)
 
@@ -62,7 +38,7 @@ abbrev pub is_no_address : GeneralName → Bool
 is_no_address (IpAddress octets) = not (is_empty octets) && not (length octets == 4) && not (length octets == 16)
 is_no_address other = false
 
--- ---- mailboxes (RFC 2821 4.1.2, RFC 2822 3.2.4)
+-- ---- mailboxes (RFC 2821 4.1.2, RFC 2822 3.2.4, RFC 5321 4.1.2)
 
 -- ! # $ % & ' * + - / = ? ^ _ ` { | } ~
 abbrev pub atom_marks : List ℕ
@@ -88,12 +64,31 @@ is_mailbox_behind in_atom (octet ∷ octets) =
     else if octet == 46 then in_atom && is_mailbox_behind false octets
     else is_atom_octet octet && is_mailbox_behind true octets
 
-abbrev pub is_mailbox : List ℕ → Bool
-is_mailbox text = is_mailbox_behind false text
+-- a printed character of ASCII, or a space
+abbrev pub is_printed : ℕ → Bool
+is_printed octet = nat_le 32 octet && nat_le octet 126
 
--- an rfc822Name that isn't empty, has no quoted part in front, and isn't a mailbox
+-- the sign @ and a domain
+abbrev pub is_at_domain : List ℕ → Bool
+is_at_domain [] = false
+is_at_domain (first ∷ octets) = (first == 64) && is_domain octets
+
+-- what stands behind the quote that opens a quoted string (RFC 5321 4.1.2): printed characters, among which a quote or a backslash has a backslash in front, the quote
+-- that closes it, the sign @ and a domain; the octet before these is such a backslash, or it isn't
+abbrev pub is_quoted_behind : Bool → List ℕ → Bool
+is_quoted_behind escaped [] = false
+is_quoted_behind escaped (octet ∷ octets) =
+    if (octet == 34) && not escaped then is_at_domain octets
+    else is_printed octet && is_quoted_behind ((octet == 92) && not escaped) octets
+
+-- a quoted string or atoms, the sign @, and a domain
+abbrev pub is_mailbox : List ℕ → Bool
+is_mailbox [] = false
+is_mailbox (first ∷ octets) = if first == 34 then is_quoted_behind false octets else is_mailbox_behind false (first ∷ octets)
+
+-- an rfc822Name that isn't empty, and isn't a mailbox
 abbrev pub is_no_mailbox : GeneralName → Bool
-is_no_mailbox (Rfc822Name text) = not (is_empty text) && (not (begins_with 34 text) && not (is_mailbox text))
+is_no_mailbox (Rfc822Name text) = not (is_empty text) && not (is_mailbox text)
 is_no_mailbox other = false
 
 abbrev pub is_rfc822_name : GeneralName → Bool
@@ -104,26 +99,22 @@ is_rfc822_name other = false
 abbrev pub lacks_mailbox : List Extension → Option SubjectAltName → Bool
 lacks_mailbox extensions names = not (has (id_ce 17) extensions) || passes (λ s. not (list_any is_rfc822_name s.0)) names
 
--- ---- URIs (RFC 3986 3.1)
-
--- the octets of a scheme: letters, digits, and + - .
-abbrev pub is_scheme_octet : ℕ → Bool
-is_scheme_octet octet = is_letter_or_digit octet || ((octet == 43) || ((octet == 45) || (octet == 46)))
-
--- octets of a scheme, a colon, and something behind it
-abbrev pub is_absolute_behind : List ℕ → Bool
-is_absolute_behind [] = false
-is_absolute_behind (octet ∷ octets) = if octet == 58 then not (is_empty octets) else is_scheme_octet octet && is_absolute_behind octets
-
--- a scheme, which begins with a letter, a colon, and something behind it
-abbrev pub is_absolute : List ℕ → Bool
-is_absolute [] = false
-is_absolute (first ∷ octets) = is_letter first && is_absolute_behind octets
+-- ---- URIs (RFC 3986)
 
 -- a URI that isn't empty, and isn't absolute
 abbrev pub is_relative : GeneralName → Bool
 is_relative (UniformResourceIdentifier text) = not (is_empty text) && not (is_absolute text)
 is_relative other = false
+
+-- an absolute URI of other syntax
+abbrev pub is_no_uri : GeneralName → Bool
+is_no_uri (UniformResourceIdentifier text) = is_absolute text && not (is_uri text)
+is_no_uri other = false
+
+-- an absolute URI whose authority has another host than a fully qualified name or an address
+abbrev pub is_at_other_host : GeneralName → Bool
+is_at_other_host (UniformResourceIdentifier text) = is_absolute text && has_other_host text
+is_at_other_host other = false
 
 abbrev pub breaks_alternative : Certificate → AlternativeValues → AlternativeRule → Bool
 breaks_alternative c v SubjectEmailNotInAltName = has_email c.tbs_certificate.subject && lacks_mailbox (extensions_of c) v.subject_alt_name
@@ -133,17 +124,21 @@ breaks_alternative c v SubjectAltNameDnsNameInvalid = passes (λ s. list_any is_
 breaks_alternative c v SubjectAltNameAddressLength = passes (λ s. list_any is_no_address s.0) v.subject_alt_name
 breaks_alternative c v SubjectAltNameMailboxInvalid = passes (λ s. list_any is_no_mailbox s.0) v.subject_alt_name
 breaks_alternative c v SubjectAltNameUriRelative = passes (λ s. list_any is_relative s.0) v.subject_alt_name
+breaks_alternative c v SubjectAltNameUriInvalid = passes (λ s. list_any is_no_uri s.0) v.subject_alt_name
+breaks_alternative c v SubjectAltNameUriHostInvalid = passes (λ s. list_any is_at_other_host s.0) v.subject_alt_name
 breaks_alternative c v IssuerAltNameEmpty = passes (λ s. is_empty s.0) v.issuer_alt_name
 breaks_alternative c v IssuerAltNameEmptyName = passes (λ s. list_any is_empty_name s.0) v.issuer_alt_name
 breaks_alternative c v IssuerAltNameDnsNameInvalid = passes (λ s. list_any is_no_dns_name s.0) v.issuer_alt_name
 breaks_alternative c v IssuerAltNameAddressLength = passes (λ s. list_any is_no_address s.0) v.issuer_alt_name
 breaks_alternative c v IssuerAltNameMailboxInvalid = passes (λ s. list_any is_no_mailbox s.0) v.issuer_alt_name
 breaks_alternative c v IssuerAltNameUriRelative = passes (λ s. list_any is_relative s.0) v.issuer_alt_name
+breaks_alternative c v IssuerAltNameUriInvalid = passes (λ s. list_any is_no_uri s.0) v.issuer_alt_name
+breaks_alternative c v IssuerAltNameUriHostInvalid = passes (λ s. list_any is_at_other_host s.0) v.issuer_alt_name
 
 -- ---- the order, and how each is told
 
 abbrev pub alternative_rules : List AlternativeRule
-alternative_rules = SubjectEmailNotInAltName ∷ SubjectAltNameEmpty ∷ SubjectAltNameEmptyName ∷ SubjectAltNameDnsNameInvalid ∷ SubjectAltNameAddressLength ∷ SubjectAltNameMailboxInvalid ∷ SubjectAltNameUriRelative ∷ IssuerAltNameEmpty ∷ IssuerAltNameEmptyName ∷ IssuerAltNameDnsNameInvalid ∷ IssuerAltNameAddressLength ∷ IssuerAltNameMailboxInvalid ∷ IssuerAltNameUriRelative ∷ []
+alternative_rules = SubjectEmailNotInAltName ∷ SubjectAltNameEmpty ∷ SubjectAltNameEmptyName ∷ SubjectAltNameDnsNameInvalid ∷ SubjectAltNameAddressLength ∷ SubjectAltNameMailboxInvalid ∷ SubjectAltNameUriRelative ∷ SubjectAltNameUriInvalid ∷ SubjectAltNameUriHostInvalid ∷ IssuerAltNameEmpty ∷ IssuerAltNameEmptyName ∷ IssuerAltNameDnsNameInvalid ∷ IssuerAltNameAddressLength ∷ IssuerAltNameMailboxInvalid ∷ IssuerAltNameUriRelative ∷ IssuerAltNameUriInvalid ∷ IssuerAltNameUriHostInvalid ∷ []
 
 abbrev pub alternative_wording : AlternativeRule → Wording
 alternative_wording SubjectEmailNotInAltName = must (codes "subject_email_not_in_alt_name") (codes "4.1.2.6") (codes "tbsCertificate.extensions.subjectAltName")
@@ -153,9 +148,13 @@ alternative_wording SubjectAltNameDnsNameInvalid = must (codes "subject_alt_name
 alternative_wording SubjectAltNameAddressLength = must (codes "subject_alt_name_address_length") (codes "4.2.1.6") (codes "tbsCertificate.extensions.subjectAltName")
 alternative_wording SubjectAltNameMailboxInvalid = must (codes "subject_alt_name_mailbox_invalid") (codes "4.2.1.6") (codes "tbsCertificate.extensions.subjectAltName")
 alternative_wording SubjectAltNameUriRelative = must (codes "subject_alt_name_uri_relative") (codes "4.2.1.6") (codes "tbsCertificate.extensions.subjectAltName")
+alternative_wording SubjectAltNameUriInvalid = must (codes "subject_alt_name_uri_invalid") (codes "4.2.1.6") (codes "tbsCertificate.extensions.subjectAltName")
+alternative_wording SubjectAltNameUriHostInvalid = must (codes "subject_alt_name_uri_host_invalid") (codes "4.2.1.6") (codes "tbsCertificate.extensions.subjectAltName")
 alternative_wording IssuerAltNameEmpty = must (codes "issuer_alt_name_empty") (codes "4.2.1.7") (codes "tbsCertificate.extensions.issuerAltName")
 alternative_wording IssuerAltNameEmptyName = must (codes "issuer_alt_name_empty_name") (codes "4.2.1.7") (codes "tbsCertificate.extensions.issuerAltName")
 alternative_wording IssuerAltNameDnsNameInvalid = must (codes "issuer_alt_name_dns_name_invalid") (codes "4.2.1.7") (codes "tbsCertificate.extensions.issuerAltName")
 alternative_wording IssuerAltNameAddressLength = must (codes "issuer_alt_name_address_length") (codes "4.2.1.7") (codes "tbsCertificate.extensions.issuerAltName")
 alternative_wording IssuerAltNameMailboxInvalid = must (codes "issuer_alt_name_mailbox_invalid") (codes "4.2.1.7") (codes "tbsCertificate.extensions.issuerAltName")
 alternative_wording IssuerAltNameUriRelative = must (codes "issuer_alt_name_uri_relative") (codes "4.2.1.7") (codes "tbsCertificate.extensions.issuerAltName")
+alternative_wording IssuerAltNameUriInvalid = must (codes "issuer_alt_name_uri_invalid") (codes "4.2.1.7") (codes "tbsCertificate.extensions.issuerAltName")
+alternative_wording IssuerAltNameUriHostInvalid = must (codes "issuer_alt_name_uri_host_invalid") (codes "4.2.1.7") (codes "tbsCertificate.extensions.issuerAltName")

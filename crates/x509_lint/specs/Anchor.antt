@@ -13,7 +13,7 @@ use Rattle.x509_ext.specs.LookUp.{IsRepeated, members}
 use Rattle.x509_ext.specs.SubjectKeyIdentifier.{subject_key_identifier}
 use Rattle.x509_ext.specs.declared.extension.Extension.{Extension}
 use Rattle.x509_ext.specs.declared.pkix.policy_information.PolicyInformation.{PolicyInformation}
-use Rattle.x509_lint.specs.Alternative.{is_letter_or_digit}
+use Rattle.x509_lint.specs.Dns.{is_letter_or_digit}
 use Rattle.x509_lint.specs.Constraint.{breaks_name_constraints, constraint_rules, constraint_wording}
 use Rattle.x509_lint.specs.List.{extension_kinds}
 use Rattle.x509_lint.specs.Name.{has_empty_rdn, has_no_country}

@@ -5,7 +5,7 @@ use Rattle.x509_ext.specs.declared.pkix.general_subtree.GeneralSubtree.{GeneralS
 use Rattle.x509_ext.specs.declared.pkix.name_constraints.NameConstraints.{NameConstraints}
 use Rattle.x509_ext.specs.declared.pkix.name.general_name.GeneralName.{GeneralName}
 use Rattle.x509_ext.specs.declared.pkix.name.general_name.GeneralName.TheVariants.{OtherName, Rfc822Name, DnsName, DirectoryName, EdiPartyName, UniformResourceIdentifier, IpAddress, RegisteredId}
-use Rattle.x509_lint.specs.Alternative.{is_label}
+use Rattle.x509_lint.specs.Dns.{is_label}
 use Rattle.x509_lint.specs.declared.names.BaseFault.{BaseFault}
 use Rattle.x509_lint.specs.declared.names.BaseFault.TheVariants.{OtherForm, NoHost, NoRange, OddMask}
 use Rattle.x509_lint.specs.Words.{Certificate, is_empty, passes}

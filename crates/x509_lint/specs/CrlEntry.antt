@@ -1,6 +1,8 @@
 -- The rules on the extensions of a CRL's entries (RFC 5280 5.3): what breaks each, their order, and how each is told.
-use Rattle.std.specs.Prelude.{◌&&◌, ◌||◌, ℕ, Bool, not, List, [], ◌∷◌, Option, bytes_eq, codes, length, take, drop, ◌==◌}
+use Rattle.std.specs.Prelude.{◌&&◌, ◌||◌, ℕ, Bool, not, List, [], ◌∷◌, Option, bytes_eq, codes, length, nat_le, take, drop, ◌==◌}
 use Rattle.std.specs.List.{list_all, list_any}
+use Rattle.x509_base.specs.CivilTime.{CivilTime, days_in_month}
+use Rattle.x509_base.specs.TimeReading.{is_in_range, named_generalized_time}
 use Rattle.x509_ext.specs.Identifiers.{id_ce}
 use Rattle.x509_ext.specs.LookUp.{members}
 use Rattle.x509_ext.specs.declared.extension.Extension.{Extension}
@@ -27,10 +29,16 @@ reason_numbers = 0 ∷ 1 ∷ 2 ∷ 3 ∷ 4 ∷ 5 ∷ 6 ∷ 8 ∷ 9 ∷ 10 ∷ []
 abbrev pub is_reason : List ℕ → Bool
 is_reason octets = list_any (λ n. bytes_eq octets (reason_octets n)) reason_numbers
 
--- the DER of a GeneralizedTime of 14 digits and a Z, as a time in GMT with seconds is written (RFC 5280 4.1.2.5.2)
+-- the calendar has the day, of any year, and a clock shows the time; there are no leap seconds (RFC 5280 4.1.2.5.2, ISO 8601 4.3.2)
+abbrev pub is_moment : CivilTime → Bool
+is_moment c =
+    is_in_range 1 12 c.month && (is_in_range 1 (days_in_month c.year c.month) c.day && (nat_le c.hour 23 && (nat_le c.minutes 59 && nat_le c.seconds 59)))
+
+-- the DER of a GeneralizedTime YYYYMMDDHHMMSSZ, as a time in GMT with seconds is written (RFC 5280 4.1.2.5.2), that names a moment
 abbrev pub is_date : List ℕ → Bool
 is_date octets =
-    (length octets == 17) && (bytes_eq (take 2 octets) (0x18 ∷ 15 ∷ []) && (list_all is_digit (take 14 (drop 2 octets)) && bytes_eq (drop 16 octets) (90 ∷ [])))
+    (length octets == 17) && (bytes_eq (take 2 octets) (0x18 ∷ 15 ∷ []) && (list_all is_digit (take 14 (drop 2 octets))
+    && (bytes_eq (drop 16 octets) (90 ∷ []) && is_moment (named_generalized_time (drop 2 octets)))))
 
 -- what is wrong with an extension of an entry: reasonCode is 2.5.29.21, invalidityDate 2.5.29.24, certificateIssuer 2.5.29.29
 abbrev pub is_faulty : EntryFault → Extension → Bool

@@ -1,5 +1,7 @@
 pub mod Wording
 pub mod Words
+pub mod Dns
+pub mod Uri
 pub mod BasicConstraints
 pub mod Notices
 pub mod Place

@@ -7,6 +7,7 @@ use Rattle.x509_der.specs.declared.any.Any.{Any}
 use Rattle.x509_ext.specs.Identifiers.{id_ce}
 use Rattle.x509_name.specs.AttributeTypes.{country_name}
 use Rattle.x509_name.specs.declared.attr.type_and_value.AttributeTypeAndValue.{AttributeTypeAndValue}
+use Rattle.x509_lint.specs.Dns.{is_letter}
 use Rattle.x509_lint.specs.Text.{has_faulty_text}
 use Rattle.x509_lint.specs.declared.texts.TextFault.TheVariants.{OtherType, OldType, OtherCharacter, Size}
 use Rattle.x509_lint.specs.Words.{Certificate, extensions_of, has_critical, is_empty}
@@ -14,10 +15,6 @@ use Rattle.x509_lint.specs.declared.facts.CertificateFacts.{CertificateFacts}
 use Rattle.x509_lint.specs.declared.rule.name.NameRule.{NameRule}
 use Rattle.x509_lint.specs.declared.rule.name.NameRule.TheVariants.{IssuerRdnEmpty, IssuerCountryNameInvalid, IssuerTextType, IssuerTextOldType, IssuerTextCharacters, IssuerTextSize, SubjectRdnEmpty, SubjectCountryNameInvalid, SubjectTextType, SubjectTextOldType, SubjectTextCharacters, SubjectTextSize, SubjectEmptyWithoutCriticalAltName}
 use Rattle.x509_lint.specs.Wording.{Wording, must, should}
-
--- A to Z and a to z
-abbrev pub is_letter : ℕ → Bool
-is_letter octet = (nat_le 65 octet && nat_le octet 90) || (nat_le 97 octet && nat_le octet 122)
 
 abbrev pub is_printable : Tag → Bool
 is_printable PrintableString = true

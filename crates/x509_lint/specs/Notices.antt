@@ -1,7 +1,8 @@
 -- What is wrong with user notices (RFC 5280 4.2.1.4).
-use Rattle.std.specs.Prelude.{ℕ, ◌/◌, Bool, true, false, ◌&&◌, ◌||◌, ◌==◌, nat_le, nat_lt, List, length, Option, Some, None, Result, Ok, Err, bytes_eq, is_some}
+use Rattle.std.specs.Prelude.{ℕ, ◌/◌, Bool, true, false, ◌&&◌, ◌||◌, ◌==◌, not, nat_le, nat_lt, List, length, Option, Some, None, Result, Ok, Err, bytes_eq, is_some}
 use Rattle.std.specs.List.{list_any}
 use Rattle.std.specs.Str.{chars}
+use Rattle.unicode_normalization.specs.Forms.{is_nfc}
 use Rattle.x509_der.specs.Tag.{octet_of}
 use Rattle.x509_der.specs.declared.any.Any.{Any}
 use Rattle.x509_der.specs.declared.error.ErrorKind.{ErrorKind}
@@ -16,7 +17,7 @@ use Rattle.x509_ext.specs.declared.pkix.user_notice.UserNotice.{UserNotice}
 use Rattle.x509_lint.specs.Words.{passes}
 use Rattle.x509_prim.specs.Bmp.{bmp_chars}
 use Rattle.x509_lint.specs.declared.notices.NoticeFault.{NoticeFault}
-use Rattle.x509_lint.specs.declared.notices.NoticeFault.TheVariants.{Long, NoText, OldType, Ia5Type, Control, Reference}
+use Rattle.x509_lint.specs.declared.notices.NoticeFault.TheVariants.{Long, NoText, OldType, Ia5Type, Control, Reference, Unnormalized}
 
 -- how many characters a text has: one for each octet, two octets for each (X.690 8.23.8), or those of UTF-8
 abbrev pub char_count : DisplayText → ℕ
@@ -49,7 +50,14 @@ has_control (VisibleString text) = list_any is_control text
 has_control (BmpString octets) = list_any is_control (bmp_chars octets)
 has_control (Utf8String text) = list_any is_control (chars text)
 
--- what is wrong with an explicit text: it is outside of 1 to 200 characters, which is the size of DisplayText, of another type, or has control characters
+-- a UTF8String that isn't in Unicode Normalization Form C
+abbrev pub is_unnormalized : DisplayText → Bool
+is_unnormalized (Ia5String text) = false
+is_unnormalized (VisibleString text) = false
+is_unnormalized (BmpString octets) = false
+is_unnormalized (Utf8String text) = not (is_nfc (chars text))
+
+-- what is wrong with an explicit text: it is outside of 1 to 200 characters, which is the size of DisplayText, of another type, has control characters, or isn't normalized
 abbrev pub is_faulty_text : NoticeFault → DisplayText → Bool
 is_faulty_text Long text = nat_lt 200 (char_count text)
 is_faulty_text NoText text = char_count text == 0
@@ -57,6 +65,7 @@ is_faulty_text OldType text = is_old_text text
 is_faulty_text Ia5Type text = is_ia5_text text
 is_faulty_text Control text = has_control text
 is_faulty_text Reference text = false
+is_faulty_text Unnormalized text = is_unnormalized text
 
 abbrev pub is_reference : NoticeFault → Bool
 is_reference Reference = true

@@ -10,9 +10,10 @@ use Rattle.x509_ext.specs.declared.pkix.name.general_name.GeneralName.{GeneralNa
 use Rattle.x509_ext.specs.declared.pkix.name.general_name.GeneralName.TheVariants.{OtherName, Rfc822Name, DnsName, DirectoryName, EdiPartyName, UniformResourceIdentifier, IpAddress, RegisteredId}
 use Rattle.x509_name.specs.Names.{rdn_sequence_eq}
 use Rattle.x509_name.specs.declared.attr.type_and_value.AttributeTypeAndValue.{AttributeTypeAndValue}
+use Rattle.x509_lint.specs.Uri.{has_attributes, has_dn, has_ldap_host, has_one_attribute}
 use Rattle.x509_lint.specs.Words.{is_empty, passes}
 use Rattle.x509_lint.specs.declared.places.PointFault.{PointFault}
-use Rattle.x509_lint.specs.declared.places.PointFault.TheVariants.{Relative, RelativeToSeveral, NoUri, OtherIssuer, ReasonsOrIssuer}
+use Rattle.x509_lint.specs.declared.places.PointFault.TheVariants.{Relative, RelativeToSeveral, NoUri, OtherIssuer, ReasonsOrIssuer, LdapIncomplete, LdapWithoutHost}
 
 -- ---- URIs
 
@@ -36,6 +37,21 @@ abbrev pub is_web : GeneralName → Bool
 is_web (UniformResourceIdentifier text) = is_http text || is_ldap text
 is_web other = false
 
+-- an LDAP URI (RFC 4516 2) without a dn, or without one attribute description (RFC 5280 4.2.1.13)
+abbrev pub is_incomplete_entry : GeneralName → Bool
+is_incomplete_entry (UniformResourceIdentifier text) = is_ldap text && not (has_dn text && has_one_attribute text)
+is_incomplete_entry other = false
+
+-- one without a dn, or without attribute descriptions (RFC 5280 4.2.2.1)
+abbrev pub is_incomplete_search : GeneralName → Bool
+is_incomplete_search (UniformResourceIdentifier text) = is_ldap text && not (has_dn text && has_attributes text)
+is_incomplete_search other = false
+
+-- one without a host
+abbrev pub is_without_host : GeneralName → Bool
+is_without_host (UniformResourceIdentifier text) = is_ldap text && not (has_ldap_host text)
+is_without_host other = false
+
 -- ---- distribution points
 
 abbrev pub is_relative_name : DistributionPointName → Bool
@@ -46,6 +62,11 @@ is_relative_name (NameRelativeToCRLIssuer rdn) = true
 abbrev pub is_name_without_uri : DistributionPointName → Bool
 is_name_without_uri (FullName names) = not (list_any is_web names)
 is_name_without_uri (NameRelativeToCRLIssuer rdn) = false
+
+-- some general name passes the test
+abbrev pub has_name : (GeneralName → Bool) → DistributionPointName → Bool
+has_name test (FullName names) = list_any test names
+has_name test (NameRelativeToCRLIssuer rdn) = false
 
 abbrev pub is_no_directory_name : GeneralName → Bool
 is_no_directory_name (DirectoryName rdns) = false
@@ -71,6 +92,8 @@ is_faulty_point RelativeToSeveral p = passes is_relative_name p.distribution_poi
 is_faulty_point NoUri p = passes is_name_without_uri p.distribution_point
 is_faulty_point OtherIssuer p = passes (λ names. list_any is_no_directory_name names) p.crl_issuer
 is_faulty_point ReasonsOrIssuer p = is_some p.reasons || is_some p.crl_issuer
+is_faulty_point LdapIncomplete p = passes (λ n. has_name is_incomplete_entry n) p.distribution_point
+is_faulty_point LdapWithoutHost p = passes (λ n. has_name is_without_host n) p.distribution_point
 
 -- ---- access descriptions
 
@@ -88,6 +111,10 @@ has_method method descriptions = list_any (λ d. bytes_eq d.access_method method
 abbrev pub lacks_uri : List ℕ → List AccessDescription → Bool
 lacks_uri method descriptions =
     has_method method descriptions && not (list_any (λ d. bytes_eq d.access_method method && is_web d.access_location) descriptions)
+
+-- a description of the method has a place that passes the test
+abbrev pub has_place : (GeneralName → Bool) → List ℕ → List AccessDescription → Bool
+has_place test method descriptions = list_any (λ d. bytes_eq d.access_method method && test d.access_location) descriptions
 
 -- there is no description of the method, or one of another
 abbrev pub has_other_method : List ℕ → List AccessDescription → Bool

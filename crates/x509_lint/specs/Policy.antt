@@ -1,14 +1,14 @@
 -- The rules on certificate policies, policy mappings and policy constraints (RFC 5280 4.2.1.4, 4.2.1.5, 4.2.1.11): what breaks each, their order, and how each is told.
 use Rattle.std.specs.Prelude.{◌&&◌, ◌||◌, Bool, not, ℕ, List, [], ◌∷◌, bytes_eq, codes, is_some}
 use Rattle.std.specs.List.{list_any}
-use Rattle.x509_ext.specs.Identifiers.{id_pkix}
+use Rattle.x509_ext.specs.Identifiers.{id_ce, id_pkix}
 use Rattle.x509_ext.specs.declared.pkix.policy_information.PolicyInformation.{PolicyInformation}
 use Rattle.x509_ext.specs.declared.pkix.policy_information.PolicyQualifierInfo.{PolicyQualifierInfo}
 use Rattle.x509_ext.specs.declared.pkix.policy_mapping.PolicyMapping.{PolicyMapping}
-use Rattle.x509_lint.specs.Words.{Certificate, is_empty, passes}
+use Rattle.x509_lint.specs.Words.{Certificate, extensions_of, has, is_empty, passes}
 use Rattle.x509_lint.specs.declared.values.PolicyValues.{PolicyValues}
 use Rattle.x509_lint.specs.declared.rule.policy.PolicyRule.{PolicyRule}
-use Rattle.x509_lint.specs.declared.rule.policy.PolicyRule.TheVariants.{CertificatePoliciesEmpty, CertificatePolicyRepeated, PolicyQualifiersEmpty, AnyPolicyQualifierInvalid, ExplicitTextTooLong, ExplicitTextEmpty, ExplicitTextType, ExplicitTextNotUtf8String, ExplicitTextControl, NoticeReferencePresent, PolicyMappingsEmpty, PolicyMappingAnyPolicy, PolicyConstraintsEmpty}
+use Rattle.x509_lint.specs.declared.rule.policy.PolicyRule.TheVariants.{CertificatePoliciesEmpty, CertificatePolicyRepeated, PolicyQualifiersEmpty, AnyPolicyQualifierInvalid, ExplicitTextTooLong, ExplicitTextEmpty, ExplicitTextType, ExplicitTextNotUtf8String, ExplicitTextControl, NoticeReferencePresent, ExplicitTextNotNormalized, PolicyMappingsEmpty, PolicyMappingAnyPolicy, PolicyMappingNotAsserted, PolicyConstraintsEmpty}
 use Rattle.x509_lint.specs.Wording.{Wording, must, should}
 
 -- the content octets of 2.5.29.32.0, anyPolicy (RFC 5280 4.2.1.4)
@@ -17,6 +17,10 @@ any_policy = 0x55 ∷ 0x1D ∷ 32 ∷ 0 ∷ []
 
 abbrev pub is_of_any_policy : PolicyMapping → Bool
 is_of_any_policy mapping = bytes_eq mapping.issuer_domain_policy any_policy || bytes_eq mapping.subject_domain_policy any_policy
+
+-- the certificate policies are absent, or there is one extension of the type, and it is read
+abbrev pub are_policies_known : Certificate → PolicyValues → Bool
+are_policies_known c v = not (has (id_ce 32) (extensions_of c)) || is_some v.certificate_policies
 
 -- neither id-qt-cps nor id-qt-unotice
 abbrev pub is_other_qualifier : PolicyQualifierInfo → Bool
@@ -37,14 +41,16 @@ breaks_policy c v ExplicitTextType = v.has_old_text
 breaks_policy c v ExplicitTextNotUtf8String = v.has_ia5_text
 breaks_policy c v ExplicitTextControl = v.has_control
 breaks_policy c v NoticeReferencePresent = v.has_reference
+breaks_policy c v ExplicitTextNotNormalized = v.has_unnormalized
 breaks_policy c v PolicyMappingsEmpty = passes (λ m. is_empty m.0) v.policy_mappings
 breaks_policy c v PolicyMappingAnyPolicy = passes (λ m. list_any is_of_any_policy m.0) v.policy_mappings
+breaks_policy c v PolicyMappingNotAsserted = are_policies_known c v && v.has_unasserted_mapping
 breaks_policy c v PolicyConstraintsEmpty = passes (λ p. not (is_some p.require_explicit_policy) && not (is_some p.inhibit_policy_mapping)) v.policy_constraints
 
 -- ---- the order, and how each is told
 
 abbrev pub policy_rules : List PolicyRule
-policy_rules = CertificatePoliciesEmpty ∷ CertificatePolicyRepeated ∷ PolicyQualifiersEmpty ∷ AnyPolicyQualifierInvalid ∷ ExplicitTextTooLong ∷ ExplicitTextEmpty ∷ ExplicitTextType ∷ ExplicitTextNotUtf8String ∷ ExplicitTextControl ∷ NoticeReferencePresent ∷ PolicyMappingsEmpty ∷ PolicyMappingAnyPolicy ∷ PolicyConstraintsEmpty ∷ []
+policy_rules = CertificatePoliciesEmpty ∷ CertificatePolicyRepeated ∷ PolicyQualifiersEmpty ∷ AnyPolicyQualifierInvalid ∷ ExplicitTextTooLong ∷ ExplicitTextEmpty ∷ ExplicitTextType ∷ ExplicitTextNotUtf8String ∷ ExplicitTextControl ∷ NoticeReferencePresent ∷ ExplicitTextNotNormalized ∷ PolicyMappingsEmpty ∷ PolicyMappingAnyPolicy ∷ PolicyMappingNotAsserted ∷ PolicyConstraintsEmpty ∷ []
 
 abbrev pub policy_wording : PolicyRule → Wording
 policy_wording CertificatePoliciesEmpty = must (codes "certificate_policies_empty") (codes "4.2.1.4") (codes "tbsCertificate.extensions.certificatePolicies")
@@ -57,6 +63,8 @@ policy_wording ExplicitTextType = must (codes "explicit_text_type") (codes "4.2.
 policy_wording ExplicitTextNotUtf8String = should (codes "explicit_text_not_utf8_string") (codes "4.2.1.4") (codes "tbsCertificate.extensions.certificatePolicies")
 policy_wording ExplicitTextControl = should (codes "explicit_text_control") (codes "4.2.1.4") (codes "tbsCertificate.extensions.certificatePolicies")
 policy_wording NoticeReferencePresent = should (codes "notice_reference_present") (codes "4.2.1.4") (codes "tbsCertificate.extensions.certificatePolicies")
+policy_wording ExplicitTextNotNormalized = should (codes "explicit_text_not_normalized") (codes "4.2.1.4") (codes "tbsCertificate.extensions.certificatePolicies")
 policy_wording PolicyMappingsEmpty = must (codes "policy_mappings_empty") (codes "4.2.1.5") (codes "tbsCertificate.extensions.policyMappings")
 policy_wording PolicyMappingAnyPolicy = must (codes "policy_mapping_any_policy") (codes "4.2.1.5") (codes "tbsCertificate.extensions.policyMappings")
+policy_wording PolicyMappingNotAsserted = should (codes "policy_mapping_not_asserted") (codes "4.2.1.5") (codes "tbsCertificate.extensions.policyMappings")
 policy_wording PolicyConstraintsEmpty = must (codes "policy_constraints_empty") (codes "4.2.1.11") (codes "tbsCertificate.extensions.policyConstraints")

@@ -48,14 +48,13 @@ abbrev pub place_members : Wording → List ℕ → List ℕ
 place_members w seen =
     codes "\"section\": \"" ++ (w.standard ++ (codes " " ++ (w.section ++ (codes "\", \"place\": \"" ++ (w.place ++ (codes "\", \"seen\": \"" ++ (seen ++ codes "\"")))))))
 
--- the object of JSON (RFC 8259), and a line feed; no member has a character that would be quoted
-abbrev pub json_line : List ℕ → List ℕ → Rule → List ℕ → List ℕ
-json_line front word rule seen =
-    front ++ (what_members word (rule_wording rule) ++ (codes ", " ++ (place_members (rule_wording rule) seen ++ codes "}\n")))
+-- the object of JSON (RFC 8259), and a line feed; no member of x509_lint's has a character that would be quoted
+abbrev pub json_line : List ℕ → List ℕ → Wording → List ℕ → List ℕ
+json_line front word w seen = front ++ (what_members word w ++ (codes ", " ++ (place_members w seen ++ codes "}\n")))
 
 abbrev pub line_of : Option (List ℕ) → List ℕ → (Rule → List ℕ) → Rule → List ℕ
 line_of None word seen rule = text_line word rule
-line_of (Some front) word seen rule = json_line front word rule (seen rule)
+line_of (Some front) word seen rule = json_line front word (rule_wording rule) (seen rule)
 
 abbrev pub report_text : Option (List ℕ) → List ℕ → (Rule → List ℕ) → List Rule → List ℕ
 report_text front word seen findings = flat_map (line_of front word seen) findings

@@ -17,7 +17,7 @@ use Rattle.x509_ext.specs.Extension.{extensions}
 use Rattle.x509_ext.specs.Identifiers.{id_ce}
 use Rattle.x509_ext.specs.LookUp.{IsRepeated}
 use Rattle.x509_ext.specs.declared.extension.Extension.{Extension}
-use Rattle.x509_lint.specs.Alternative.{is_empty_name, is_no_address, is_no_dns_name, is_no_mailbox, is_relative}
+use Rattle.x509_lint.specs.Alternative.{is_at_other_host, is_empty_name, is_no_address, is_no_dns_name, is_no_mailbox, is_no_uri, is_relative}
 use Rattle.x509_lint.specs.List.{extension_kinds}
 use Rattle.x509_lint.specs.Name.{has_empty_rdn, has_no_country}
 use Rattle.x509_lint.specs.Notices.{value_read}
@@ -30,7 +30,7 @@ use Rattle.x509_lint.specs.declared.request.values.RequestValues.{RequestValues}
 use Rattle.x509_lint.specs.declared.rule.list.ExtensionKind.{ExtensionKind}
 use Rattle.x509_lint.specs.declared.rule.list.ExtensionKind.TheVariants as kinds
 use Rattle.x509_lint.specs.declared.rule.request.RequestRule.{RequestRule}
-use Rattle.x509_lint.specs.declared.rule.request.RequestRule.TheVariants.{SubjectRdnEmpty, SubjectCountryNameInvalid, SubjectTextType, SubjectTextOldType, SubjectTextCharacters, SubjectTextSize, SubjectEmptyWithoutAltName, AttributeRepeated, AttributeValuesEmpty, ChallengePasswordValues, ChallengePasswordMalformed, ChallengePasswordSize, ChallengePasswordType, ExtensionRequestValues, ExtensionRequestMalformed, ExtensionsEmpty, ExtensionRepeated, ExtensionMalformed, SubjectAltNameEmpty, SubjectAltNameEmptyName, SubjectAltNameDnsNameInvalid, SubjectAltNameAddressLength, SubjectAltNameMailboxInvalid, SubjectAltNameUriRelative}
+use Rattle.x509_lint.specs.declared.rule.request.RequestRule.TheVariants.{SubjectRdnEmpty, SubjectCountryNameInvalid, SubjectTextType, SubjectTextOldType, SubjectTextCharacters, SubjectTextSize, SubjectEmptyWithoutAltName, AttributeRepeated, AttributeValuesEmpty, ChallengePasswordValues, ChallengePasswordMalformed, ChallengePasswordSize, ChallengePasswordType, ExtensionRequestValues, ExtensionRequestMalformed, ExtensionsEmpty, ExtensionRepeated, ExtensionMalformed, SubjectAltNameEmpty, SubjectAltNameEmptyName, SubjectAltNameDnsNameInvalid, SubjectAltNameAddressLength, SubjectAltNameMailboxInvalid, SubjectAltNameUriRelative, SubjectAltNameUriInvalid, SubjectAltNameUriHostInvalid}
 use Rattle.x509_lint.specs.declared.texts.TextFault.TheVariants.{OtherType, OldType, OtherCharacter, Size}
 use Rattle.x509_lint.specs.Wording.{Wording, must, must_of, should, should_of}
 use Rattle.x509_name.specs.declared.attr.attribute.Attribute.{Attribute}
@@ -139,13 +139,15 @@ breaks_request r v SubjectAltNameDnsNameInvalid = passes (λ s. list_any is_no_d
 breaks_request r v SubjectAltNameAddressLength = passes (λ s. list_any is_no_address s.0) v.subject_alt_name
 breaks_request r v SubjectAltNameMailboxInvalid = passes (λ s. list_any is_no_mailbox s.0) v.subject_alt_name
 breaks_request r v SubjectAltNameUriRelative = passes (λ s. list_any is_relative s.0) v.subject_alt_name
+breaks_request r v SubjectAltNameUriInvalid = passes (λ s. list_any is_no_uri s.0) v.subject_alt_name
+breaks_request r v SubjectAltNameUriHostInvalid = passes (λ s. list_any is_at_other_host s.0) v.subject_alt_name
 
 -- ---- the order, and how each is told
 
 abbrev pub request_rules : List RequestRule
 request_rules =
     SubjectRdnEmpty ∷ SubjectCountryNameInvalid ∷ SubjectTextType ∷ SubjectTextOldType ∷ SubjectTextCharacters ∷ SubjectTextSize ∷ SubjectEmptyWithoutAltName ∷ AttributeRepeated ∷ AttributeValuesEmpty ∷ ChallengePasswordValues ∷ ChallengePasswordMalformed ∷ ChallengePasswordSize ∷ ChallengePasswordType ∷ ExtensionRequestValues ∷ ExtensionRequestMalformed ∷ ExtensionsEmpty ∷ ExtensionRepeated
-    ∷ (map ExtensionMalformed extension_kinds ++ SubjectAltNameEmpty ∷ SubjectAltNameEmptyName ∷ SubjectAltNameDnsNameInvalid ∷ SubjectAltNameAddressLength ∷ SubjectAltNameMailboxInvalid ∷ SubjectAltNameUriRelative ∷ [])
+    ∷ (map ExtensionMalformed extension_kinds ++ SubjectAltNameEmpty ∷ SubjectAltNameEmptyName ∷ SubjectAltNameDnsNameInvalid ∷ SubjectAltNameAddressLength ∷ SubjectAltNameMailboxInvalid ∷ SubjectAltNameUriRelative ∷ SubjectAltNameUriInvalid ∷ SubjectAltNameUriHostInvalid ∷ [])
 
 -- where in a CSR an extension of the type that is asked for stands
 abbrev pub request_extension_place : ExtensionKind → List ℕ
@@ -193,3 +195,5 @@ request_wording SubjectAltNameDnsNameInvalid = must (codes "subject_alt_name_dns
 request_wording SubjectAltNameAddressLength = must (codes "subject_alt_name_address_length") (codes "4.2.1.6") (codes "certificationRequestInfo.attributes.extensionRequest.subjectAltName")
 request_wording SubjectAltNameMailboxInvalid = must (codes "subject_alt_name_mailbox_invalid") (codes "4.2.1.6") (codes "certificationRequestInfo.attributes.extensionRequest.subjectAltName")
 request_wording SubjectAltNameUriRelative = must (codes "subject_alt_name_uri_relative") (codes "4.2.1.6") (codes "certificationRequestInfo.attributes.extensionRequest.subjectAltName")
+request_wording SubjectAltNameUriInvalid = must (codes "subject_alt_name_uri_invalid") (codes "4.2.1.6") (codes "certificationRequestInfo.attributes.extensionRequest.subjectAltName")
+request_wording SubjectAltNameUriHostInvalid = must (codes "subject_alt_name_uri_host_invalid") (codes "4.2.1.6") (codes "certificationRequestInfo.attributes.extensionRequest.subjectAltName")

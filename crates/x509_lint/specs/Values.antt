@@ -1,6 +1,6 @@
 -- What rules look at, beside the object itself: the values of its extensions, and what is asked of it once.
-use Rattle.std.specs.Prelude.{◌≡◌, ◌≢◌, ◌↔◌, IsTrue, ℕ, List, [], Option, Some, None, map}
-use Rattle.std.specs.List.{All}
+use Rattle.std.specs.Prelude.{◌≡◌, ◌≢◌, ◌↔◌, IsTrue, ℕ, Bool, not, List, [], Option, Some, None, bytes_eq, map}
+use Rattle.std.specs.List.{All, list_any}
 use Rattle.x509_der.specs.Form.{Form}
 use Rattle.x509_ext.specs.Access.{authority_info_access_syntax, subject_info_access_syntax}
 use Rattle.x509_ext.specs.AlternativeNames.{issuer_alt_name, subject_alt_name}
@@ -23,14 +23,16 @@ use Rattle.x509_ext.specs.NameConstraints.{name_constraints}
 use Rattle.x509_ext.specs.CertificatePolicies.{certificate_policies}
 use Rattle.x509_ext.specs.declared.pkix.certificate_policies.CertificatePolicies.{CertificatePolicies}
 use Rattle.x509_ext.specs.declared.pkix.policy_information.PolicyInformation.{PolicyInformation}
+use Rattle.x509_ext.specs.declared.pkix.policy_mapping.PolicyMapping.{PolicyMapping}
+use Rattle.x509_ext.specs.declared.pkix.policy_mapping.PolicyMappings.{PolicyMappings}
 use Rattle.x509_der.specs.Set.{AreDistinct}
 use Rattle.x509_ext.specs.PolicyConstraints.{policy_constraints}
 use Rattle.x509_ext.specs.PolicyMapping.{policy_mappings}
 use Rattle.x509_lint.specs.BasicConstraints.{any_basic_constraints}
 use Rattle.x509_lint.specs.Notices.{has_faulty_notice}
-use Rattle.x509_lint.specs.declared.notices.NoticeFault.TheVariants.{Long, NoText, OldType, Ia5Type, Control, Reference}
+use Rattle.x509_lint.specs.declared.notices.NoticeFault.TheVariants.{Long, NoText, OldType, Ia5Type, Control, Reference, Unnormalized}
 use Rattle.x509_lint.specs.Read.{AreExtensionsRead, IsCrlRead}
-use Rattle.x509_lint.specs.Words.{Certificate, Crl, IsValue, crl_extensions_of, extensions_of}
+use Rattle.x509_lint.specs.Words.{Certificate, Crl, IsValue, crl_extensions_of, extensions_of, passes}
 use Rattle.x509_lint.specs.declared.facts.CertificateFacts.{CertificateFacts}
 use Rattle.x509_lint.specs.declared.facts.CrlFacts.{CrlFacts}
 use Rattle.x509_lint.specs.declared.values.AlternativeValues.{AlternativeValues}
@@ -53,6 +55,14 @@ policy_identifiers policies = map (λ (p : PolicyInformation). p.policy_identifi
 abbrev pub policies_of : Option CertificatePolicies → List PolicyInformation
 policies_of None = []
 policies_of (Some policies) = policies.0
+
+-- the issuerDomainPolicy of a mapping is none of the policies
+abbrev pub is_unasserted : List PolicyInformation → PolicyMapping → Bool
+is_unasserted policies mapping = not (list_any (λ (p : PolicyInformation). bytes_eq p.policy_identifier mapping.issuer_domain_policy) policies)
+
+-- the mappings are read, and one is so
+abbrev pub has_unasserted : List PolicyInformation → Option PolicyMappings → Bool
+has_unasserted policies mappings = passes (λ m. list_any (is_unasserted policies) m.0) mappings
 
 -- ---- values of extensions
 
@@ -82,6 +92,8 @@ ArePolicyValues extensions v =
     × (v.has_ia5_text ≡ has_faulty_notice Ia5Type v.certificate_policies)
     × (v.has_control ≡ has_faulty_notice Control v.certificate_policies)
     × (v.has_reference ≡ has_faulty_notice Reference v.certificate_policies)
+    × (v.has_unnormalized ≡ has_faulty_notice Unnormalized v.certificate_policies)
+    × (v.has_unasserted_mapping ≡ has_unasserted (policies_of v.certificate_policies) v.policy_mappings)
 
 abbrev pub AreConstraintValues : List Extension → ConstraintValues → Type 0
 AreConstraintValues extensions v = IsValue name_constraints (id_ce 30) extensions v.name_constraints

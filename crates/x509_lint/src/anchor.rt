@@ -5,7 +5,7 @@ ghost use Rattle.std.specs.Prelude.{◌≡◌, IfErr, IfOk, bytes_eq, is_some, l
 ghost use Rattle.std.specs.Str.{chars};
 ghost use Rattle.x509_der.specs.declared.error.ErrorKind.TheVariants.{Memory};
 ghost use Rattle.x509_lint.specs.Anchor as grammar;
-ghost use Rattle.x509_lint.specs.Alternative.{is_letter_or_digit};
+ghost use Rattle.x509_lint.specs.Dns.{is_letter_or_digit};
 ghost use Rattle.x509_lint.specs.Constraint.{breaks_name_constraints};
 ghost use Rattle.x509_lint.specs.Rules.{AreAnchorFindings, AreFindings, AreInfoFindings};
 ghost use Rattle.x509_lint.specs.Text.{has_faulty_text, is_outside};
@@ -15,9 +15,10 @@ pub(crate) mod values;
 
 use crate::anchor::values::{AnchorValues, anchor_values, policy_set};
 use crate::certificate::{breaks_name_constraints, lint_certificate};
+use crate::dns::is_letter_or_digit;
 use crate::extensions::{has, is_empty_sequence};
 use crate::group::{Group, add_broken};
-use crate::names::{has_empty_rdn, has_no_country, is_empty_name, is_letter_or_digit};
+use crate::names::{has_empty_rdn, has_no_country, is_empty_name};
 use crate::notices::count_chars;
 use crate::rule::anchor::ANCHOR_RULES;
 use crate::rule::{AnchorRule, ConstraintRule, Rule};

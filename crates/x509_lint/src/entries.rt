@@ -8,6 +8,7 @@ ghost use Rattle.x509_lint.specs.CrlEntry.{is_date, is_faulty, is_reason, reason
 ghost use Rattle.x509_lint.specs.Text.{is_digit};
 ghost use Rattle.x509_lint.specs.Values.{IsDistinct};
 
+use crate::dates::names_moment;
 use crate::extensions::{is_critical, is_of, is_uncritical};
 use crate::texts::is_digit;
 use std::alloc::Global;
@@ -35,7 +36,7 @@ pub(crate) enum EntryFault {
     /// It is an invalidityDate, and critical.
     InvalidityDateCritical,
 
-    /// It is an invalidityDate, and not 14 digits and Z.
+    /// It is an invalidityDate, and doesn't name a moment as YYYYMMDDHHMMSSZ.
     InvalidityDateInvalid,
 
     /// It is a certificateIssuer, and not critical.
@@ -90,14 +91,15 @@ fn ends_date(octets: &[u8]) -> bool
     octets == b"Z".as_slice()
 }
 
-/// Whether the octets are the DER of a GeneralizedTime of 14 digits and a Z.
+/// Whether the octets are the DER of a GeneralizedTime YYYYMMDDHHMMSSZ that names a moment.
 fn is_date(octets: &[u8]) -> bool
     ensures { result ≡ is_date octets.now }
 {
     if octets.len() != 17 {
         return false;
     }
-    begins_date(&octets[..2]) && (are_digits(&octets[2..16]) && ends_date(&octets[16..]))
+    begins_date(&octets[..2])
+        && (are_digits(&octets[2..16]) && (ends_date(&octets[16..]) && names_moment(&octets[2..])))
 }
 
 /// Whether the extension has the fault.

@@ -4,9 +4,12 @@
 #![tactic(auto)]
 
 mod anchor;
+mod asserted;
 mod basic_constraints;
 mod certificate;
 mod crl;
+mod dates;
+mod dns;
 mod entries;
 mod entry;
 pub mod extensions;
@@ -20,17 +23,18 @@ mod repeats;
 mod report;
 mod request;
 pub mod rule;
-mod seen;
+pub mod seen;
 mod texts;
 mod times;
+mod uris;
 mod values;
 
 pub use anchor::lint_anchor;
 pub use basic_constraints::AnyBasicConstraints;
 pub use certificate::lint_certificate;
 pub use crl::lint_crl;
+pub use dns::behind_wildcard;
 pub use entry::{Entry, Severity};
-pub use names::behind_wildcard;
-pub use report::{Kind, Report, Style, lint_bytes, lint_kind};
+pub use report::{Kind, Report, Style, json_line, lint_bytes, lint_kind};
 pub use request::lint_request;
 pub use rule::Rule;

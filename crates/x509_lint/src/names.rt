@@ -1,24 +1,20 @@
 //! What is asked of names.
 
 ghost use Rattle.std.specs.List.{list_all, list_any, slice_split};
-ghost use Rattle.std.specs.Option.{option_copied};
-ghost use Rattle.std.specs.Prelude.{◌≡◌, ◌==◌, ◌/◌, drop, length};
-ghost use Rattle.x509_lint.specs.Alternative.{atom_marks, begins_with, behind_wildcard, is_absolute, is_absolute_behind, is_atom_octet, is_dns_name, is_domain, is_mailbox, is_no_mailbox, is_relative, is_rfc822_name, is_scheme_octet, is_empty_name, is_label, is_letter_digit_hyphen, is_letter_or_digit, is_no_address, is_no_dns_name};
+ghost use Rattle.std.specs.Prelude.{◌≡◌, ◌==◌, ◌/◌, drop, false, length};
+ghost use Rattle.x509_lint.specs.Alternative.{atom_marks, begins_with, is_at_domain, is_at_other_host, is_atom_octet, is_domain, is_empty_name, is_mailbox, is_mailbox_behind, is_no_address, is_no_dns_name, is_no_mailbox, is_no_uri, is_printed, is_quoted_behind, is_relative, is_rfc822_name};
 ghost use Rattle.x509_lint.specs.Constraint.{behind_dot, has_fault, has_odd_mask, is_mask, is_no_host, is_no_range, is_other_form, is_partial, is_range};
-ghost use Rattle.x509_lint.specs.Name.{has_empty_rdn, has_no_country, is_country, is_letter, is_no_country, is_printable};
+ghost use Rattle.x509_lint.specs.Dns.{is_letter};
+ghost use Rattle.x509_lint.specs.Name.{has_empty_rdn, has_no_country, is_country, is_no_country, is_printable};
 ghost use Rattle.x509_lint.specs.Words.{is_empty, passes};
 
+use crate::dns::{are_labels, is_dns_name, is_letter, is_letter_or_digit};
+use crate::uris::{has_other_host, is_absolute, is_uri};
 use x509_der::{Any, Tag};
 use x509_ext::pkix::name::GeneralName;
 use x509_name::attr::AttributeTypeAndValue;
 use x509_name::attr::attribute_types::COUNTRY_NAME;
 use x509_name::name::{Name, RdnSequence, RelativeDistinguishedName};
-
-fn is_letter(octet: u8) -> bool
-    ensures { result ≡ is_letter octet }
-{
-    (octet >= b'A' && octet <= b'Z') || (octet >= b'a' && octet <= b'z')
-}
 
 fn is_printable(tag: Tag) -> bool
     ensures { result ≡ is_printable tag }
@@ -85,68 +81,6 @@ pub(crate) fn is_empty_name(name: &Name) -> bool
     ensures { result ≡ is_empty name.now }
 {
     name.len() == 0
-}
-
-pub(crate) fn is_letter_or_digit(octet: u8) -> bool
-    ensures { result ≡ is_letter_or_digit octet }
-{
-    is_letter(octet) || (octet >= b'0' && octet <= b'9')
-}
-
-fn is_letter_digit_hyphen(octet: u8) -> bool
-    ensures { result ≡ is_letter_digit_hyphen octet }
-{
-    is_letter_or_digit(octet) || octet == b'-'
-}
-
-/// Whether there is an octet, and it is a letter or a digit.
-fn is_end(octet: Option<&u8>) -> bool
-    ensures { result ≡ passes is_letter_or_digit (option_copied octet.entry) }
-{
-    match octet {
-        Some(octet) => is_letter_or_digit(*octet),
-        None => false,
-    }
-}
-
-fn are_letters_digits_hyphens(octets: &[u8]) -> bool
-    ensures { result ≡ list_all is_letter_digit_hyphen octets.now }
-{
-    octets.iter().all(|octet| is_letter_digit_hyphen(*octet))
-}
-
-/// Whether the octets are a label of a DNS name.
-fn is_label(label: &[u8]) -> bool
-    ensures { result ≡ is_label label.now }
-{
-    are_letters_digits_hyphens(label)
-        && label.len() <= 63
-        && is_end(label.first())
-        && is_end(label.last())
-}
-
-/// What follows the wildcard `*.`, where the text begins with it; else the text.
-pub fn behind_wildcard(text: &[u8]) -> &[u8]
-    ensures { result.now ≡ behind_wildcard text.now }
-{
-    match text {
-        [b'*', b'.', octets @ ..] => octets,
-        _ => text,
-    }
-}
-
-fn are_labels(text: &[u8]) -> bool
-    ensures { result ≡ list_all is_label (slice_split (λ octet. octet == 46) text.now) }
-{
-    text.split(|octet| *octet == b'.')
-        .all(|label| is_label(label))
-}
-
-/// Whether the text is a DNS name.
-fn is_dns_name(text: &[u8]) -> bool
-    ensures { result ≡ is_dns_name text.now }
-{
-    are_labels(behind_wildcard(text)) && text.len() <= 253
 }
 
 /// Whether the name is empty.
@@ -337,9 +271,9 @@ fn is_domain(text: &[u8]) -> bool
     are_labels(text) || begins_with(b'[', text)
 }
 
-/// Whether the text is a mailbox.
-fn is_mailbox(mut text: &[u8]) -> bool
-    ensures { result ≡ is_mailbox text.entry.now }
+/// Whether the text is atoms between dots, the sign @, and a domain.
+fn is_dotted_mailbox(mut text: &[u8]) -> bool
+    ensures { result ≡ is_mailbox_behind false text.entry.now }
 {
     let mut in_atom = false;
     while let [first, rest @ ..] = text {
@@ -362,14 +296,59 @@ fn is_mailbox(mut text: &[u8]) -> bool
     false
 }
 
-/// Whether the name is an rfc822Name that isn't empty, has no quoted part in front, and isn't a mailbox.
+fn is_printed(octet: u8) -> bool
+    ensures { result ≡ is_printed octet }
+{
+    octet >= b' ' && octet <= b'~'
+}
+
+/// Whether the text is the sign @ and a domain.
+fn is_at_domain(text: &[u8]) -> bool
+    ensures { result ≡ is_at_domain text.now }
+{
+    match text {
+        [first, rest @ ..] => *first == b'@' && is_domain(rest),
+        [] => false,
+    }
+}
+
+/// Whether the text behind an opening quote is a quoted string, the sign @, and a domain.
+fn is_quoted_mailbox(mut text: &[u8]) -> bool
+    ensures { result ≡ is_quoted_behind false text.entry.now }
+{
+    let mut escaped = false;
+    while let [first, rest @ ..] = text {
+        if *first == b'"' && !escaped {
+            return is_at_domain(rest);
+        }
+        if !is_printed(*first) {
+            return false;
+        }
+        escaped = *first == b'\\' && !escaped;
+        text = rest;
+    }
+    false
+}
+
+/// Whether the text is a mailbox.
+fn is_mailbox(text: &[u8]) -> bool
+    ensures { result ≡ is_mailbox text.now }
+{
+    match text {
+        [b'"', rest @ ..] => is_quoted_mailbox(rest),
+        [_, ..] => is_dotted_mailbox(text),
+        [] => false,
+    }
+}
+
+/// Whether the name is an rfc822Name that isn't empty, and isn't a mailbox.
 fn is_no_mailbox(name: &GeneralName) -> bool
     ensures { result ≡ is_no_mailbox name.now }
 {
     match name {
         GeneralName::Rfc822Name(text) => {
             let text = text.as_str().as_bytes();
-            !text.is_empty() && (!begins_with(b'"', text) && !is_mailbox(text))
+            !text.is_empty() && !is_mailbox(text)
         }
         _ => false,
     }
@@ -385,37 +364,6 @@ pub(crate) fn is_rfc822_name(name: &GeneralName) -> bool
     }
 }
 
-fn is_scheme_octet(octet: u8) -> bool
-    ensures { result ≡ is_scheme_octet octet }
-{
-    is_letter_or_digit(octet) || (octet == b'+' || (octet == b'-' || octet == b'.'))
-}
-
-/// Whether the octets are ones of a scheme, a colon, and something behind it.
-fn is_absolute_behind(mut text: &[u8]) -> bool
-    ensures { result ≡ is_absolute_behind text.entry.now }
-{
-    while let [first, rest @ ..] = text {
-        if *first == b':' {
-            return !rest.is_empty();
-        }
-        if !is_scheme_octet(*first) {
-            return false;
-        }
-        text = rest;
-    }
-    false
-}
-
-fn is_absolute(text: &[u8]) -> bool
-    ensures { result ≡ is_absolute text.now }
-{
-    match text {
-        [first, rest @ ..] => is_letter(*first) && is_absolute_behind(rest),
-        [] => false,
-    }
-}
-
 /// Whether the name is a URI that isn't empty, and has no scheme or nothing behind it.
 fn is_relative(name: &GeneralName) -> bool
     ensures { result ≡ is_relative name.now }
@@ -424,6 +372,32 @@ fn is_relative(name: &GeneralName) -> bool
         GeneralName::UniformResourceIdentifier(text) => {
             let text = text.as_str().as_bytes();
             !text.is_empty() && !is_absolute(text)
+        }
+        _ => false,
+    }
+}
+
+/// Whether the name is an absolute URI of other syntax than RFC 3986 has.
+fn is_no_uri(name: &GeneralName) -> bool
+    ensures { result ≡ is_no_uri name.now }
+{
+    match name {
+        GeneralName::UniformResourceIdentifier(text) => {
+            let text = text.as_str().as_bytes();
+            is_absolute(text) && !is_uri(text)
+        }
+        _ => false,
+    }
+}
+
+/// Whether the name is an absolute URI whose authority has another host than a fully qualified name or an address.
+fn is_at_other_host(name: &GeneralName) -> bool
+    ensures { result ≡ is_at_other_host name.now }
+{
+    match name {
+        GeneralName::UniformResourceIdentifier(text) => {
+            let text = text.as_str().as_bytes();
+            is_absolute(text) && has_other_host(text)
         }
         _ => false,
     }
@@ -457,4 +431,16 @@ pub(crate) fn has_relative_uri(names: &[GeneralName]) -> bool
     ensures { result ≡ list_any is_relative names.now }
 {
     names.iter().any(|name| is_relative(name))
+}
+
+pub(crate) fn has_no_uri(names: &[GeneralName]) -> bool
+    ensures { result ≡ list_any is_no_uri names.now }
+{
+    names.iter().any(|name| is_no_uri(name))
+}
+
+pub(crate) fn has_uri_at_other_host(names: &[GeneralName]) -> bool
+    ensures { result ≡ list_any is_at_other_host names.now }
+{
+    names.iter().any(|name| is_at_other_host(name))
 }

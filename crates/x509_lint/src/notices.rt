@@ -3,12 +3,14 @@
 ghost use Rattle.std.specs.List.{list_any};
 ghost use Rattle.std.specs.Prelude.{◌≡◌, IfOk, IfErr, length};
 ghost use Rattle.std.specs.Str.{chars};
+ghost use Rattle.unicode_normalization.specs.Forms.{is_nfc};
 ghost use Rattle.x509_der.specs.declared.error.ErrorKind.TheVariants.{Memory};
 ghost use Rattle.x509_lint.specs.Notices as notices;
 ghost use Rattle.x509_lint.specs.Words.{passes};
 ghost use Rattle.x509_prim.specs.Bmp.{bmp_chars};
 
-use std::alloc::Global;
+use std::alloc::{AllocError, Global};
+use unicode_normalization::is_nfc;
 use x509_der::{Any, Error, ErrorKind, ObjectIdentifier, oid};
 use x509_ext::pkix::CertificatePolicies;
 use x509_ext::pkix::certpolicy::{DisplayText, PolicyInformation, PolicyQualifierInfo, UserNotice};
@@ -58,6 +60,9 @@ pub(crate) enum NoticeFault {
 
     /// There is a noticeRef.
     Reference,
+
+    /// Its explicit text is a UTF8String that isn't in Unicode Normalization Form C.
+    Unnormalized,
 }
 
 fn is_old_text(text: &DisplayText) -> bool
@@ -119,33 +124,58 @@ fn has_control(text: &DisplayText) -> bool
     }
 }
 
-fn is_faulty_text(fault: NoticeFault, text: &DisplayText) -> bool
-    ensures { result ≡ notices.is_faulty_text fault text.now }
+/// Whether a text is in Unicode Normalization Form C.
+fn is_normalized(alloc: Global, text: &str) -> Result<bool, AllocError>
+    ensures { IfOk result (λ is_normalized. is_normalized ≡ is_nfc (chars text.now)) }
+{
+    is_nfc(alloc, text)
+}
+
+fn is_unnormalized(alloc: Global, text: &DisplayText) -> Result<bool, AllocError>
+    ensures { IfOk result (λ is_unnormalized. is_unnormalized ≡ notices.is_unnormalized text.now) }
+{
+    match text {
+        DisplayText::Utf8String(text) => Ok(!is_normalized(alloc, text.as_str())?),
+        _ => Ok(false),
+    }
+}
+
+fn is_faulty_text(alloc: Global, fault: NoticeFault, text: &DisplayText) -> Result<bool, AllocError>
+    ensures { IfOk result (λ is_faulty. is_faulty ≡ notices.is_faulty_text fault text.now) }
 {
     match fault {
-        NoticeFault::Long => char_count(text) > MAX_CHARS,
-        NoticeFault::NoText => char_count(text) == 0,
-        NoticeFault::OldType => is_old_text(text),
-        NoticeFault::Ia5Type => is_ia5_text(text),
-        NoticeFault::Control => has_control(text),
-        NoticeFault::Reference => false,
+        NoticeFault::Long => Ok(char_count(text) > MAX_CHARS),
+        NoticeFault::NoText => Ok(char_count(text) == 0),
+        NoticeFault::OldType => Ok(is_old_text(text)),
+        NoticeFault::Ia5Type => Ok(is_ia5_text(text)),
+        NoticeFault::Control => Ok(has_control(text)),
+        NoticeFault::Reference => Ok(false),
+        NoticeFault::Unnormalized => is_unnormalized(alloc, text),
     }
 }
 
 /// Whether a notice has the fault.
-fn is_faulty_notice(fault: NoticeFault, notice: &UserNotice) -> bool
-    ensures { result ≡ notices.is_faulty_notice fault notice.now }
+fn is_faulty_notice(
+    alloc: Global,
+    fault: NoticeFault,
+    notice: &UserNotice,
+) -> Result<bool, AllocError>
+    ensures { IfOk result (λ is_faulty. is_faulty ≡ notices.is_faulty_notice fault notice.now) }
 {
-    has_faulty_text(fault, &notice.explicit_text)
-        || (is_reference(fault) && notice.notice_ref.is_some())
+    let is_faulty = has_faulty_text(alloc, fault, &notice.explicit_text)?;
+    Ok(is_faulty || (is_reference(fault) && notice.notice_ref.is_some()))
 }
 
-fn has_faulty_text(fault: NoticeFault, text: &Option<DisplayText>) -> bool
-    ensures { result ≡ passes (notices.is_faulty_text fault) text.now }
+fn has_faulty_text(
+    alloc: Global,
+    fault: NoticeFault,
+    text: &Option<DisplayText>,
+) -> Result<bool, AllocError>
+    ensures { IfOk result (λ is_faulty. is_faulty ≡ passes (notices.is_faulty_text fault) text.now) }
 {
     match text {
-        Some(text) => is_faulty_text(fault, text),
-        None => false,
+        Some(text) => is_faulty_text(alloc, fault, text),
+        None => Ok(false),
     }
 }
 
@@ -165,7 +195,7 @@ fn is_faulty_element(alloc: Global, fault: NoticeFault, element: &Any) -> Result
     ensures err { IfErr result (λ e. e.kind ≡ Memory) }
 {
     match element.decode_as::<UserNotice>(alloc) {
-        Ok(notice) => Ok(is_faulty_notice(fault, &notice)),
+        Ok(notice) => Ok(is_faulty_notice(alloc, fault, &notice)?),
         Err(e) => match e.kind() {
             ErrorKind::Memory => Err(ErrorKind::Memory.into()),
             _ => Ok(false),

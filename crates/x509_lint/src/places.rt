@@ -5,6 +5,7 @@ ghost use Rattle.std.specs.Prelude.{◌≡◌, ◌&&◌, bytes_eq, is_some, leng
 ghost use Rattle.x509_lint.specs.Place as place;
 ghost use Rattle.x509_lint.specs.Words.{passes};
 
+use crate::uris::{has_attributes, has_dn, has_ldap_host, has_one_attribute};
 use x509_der::{ObjectIdentifier, oid};
 use x509_ext::pkix::AccessDescription;
 use x509_ext::pkix::crl::dp::DistributionPoint;
@@ -34,6 +35,12 @@ pub(crate) enum PointFault {
 
     /// It has reasons or a cRLIssuer.
     ReasonsOrIssuer,
+
+    /// An LDAP URI of its name has no dn, or not one attribute description.
+    LdapIncomplete,
+
+    /// An LDAP URI of its name has no host.
+    LdapWithoutHost,
 }
 
 fn is_letter_at(text: &[u8], at: usize, upper: u8, lower: u8) -> bool
@@ -89,6 +96,77 @@ fn has_web(names: &[GeneralName]) -> bool
     ensures { result ≡ list_any place.is_web names.now }
 {
     names.iter().any(|name| is_web(name))
+}
+
+/// Whether the name is an LDAP URI without a dn, or without one attribute description.
+fn is_incomplete_entry(name: &GeneralName) -> bool
+    ensures { result ≡ place.is_incomplete_entry name.now }
+{
+    match name {
+        GeneralName::UniformResourceIdentifier(text) => {
+            let text = text.as_str().as_bytes();
+            is_ldap(text) && !(has_dn(text) && has_one_attribute(text))
+        }
+        _ => false,
+    }
+}
+
+/// Whether the name is an LDAP URI without a dn, or without attribute descriptions.
+fn is_incomplete_search(name: &GeneralName) -> bool
+    ensures { result ≡ place.is_incomplete_search name.now }
+{
+    match name {
+        GeneralName::UniformResourceIdentifier(text) => {
+            let text = text.as_str().as_bytes();
+            is_ldap(text) && !(has_dn(text) && has_attributes(text))
+        }
+        _ => false,
+    }
+}
+
+/// Whether the name is an LDAP URI without a host.
+fn is_without_host(name: &GeneralName) -> bool
+    ensures { result ≡ place.is_without_host name.now }
+{
+    match name {
+        GeneralName::UniformResourceIdentifier(text) => {
+            let text = text.as_str().as_bytes();
+            is_ldap(text) && !has_ldap_host(text)
+        }
+        _ => false,
+    }
+}
+
+fn have_incomplete_entry(names: &[GeneralName]) -> bool
+    ensures { result ≡ list_any place.is_incomplete_entry names.now }
+{
+    names.iter().any(|name| is_incomplete_entry(name))
+}
+
+fn are_without_host(names: &[GeneralName]) -> bool
+    ensures { result ≡ list_any place.is_without_host names.now }
+{
+    names.iter().any(|name| is_without_host(name))
+}
+
+fn has_incomplete_entry(name: &Option<DistributionPointName>) -> bool
+    ensures { result ≡ passes (λ n. place.has_name place.is_incomplete_entry n) name.now }
+{
+    match name {
+        Some(DistributionPointName::FullName(names)) => have_incomplete_entry(names.as_slice()),
+        Some(DistributionPointName::NameRelativeToCRLIssuer(_)) => false,
+        None => false,
+    }
+}
+
+fn has_entry_without_host(name: &Option<DistributionPointName>) -> bool
+    ensures { result ≡ passes (λ n. place.has_name place.is_without_host n) name.now }
+{
+    match name {
+        Some(DistributionPointName::FullName(names)) => are_without_host(names.as_slice()),
+        Some(DistributionPointName::NameRelativeToCRLIssuer(_)) => false,
+        None => false,
+    }
 }
 
 fn is_relative(name: &Option<DistributionPointName>) -> bool
@@ -155,6 +233,8 @@ fn is_faulty(fault: PointFault, point: &DistributionPoint) -> bool
         PointFault::NoUri => is_without_uri(&point.distribution_point),
         PointFault::OtherIssuer => has_other_issuer(&point.crl_issuer),
         PointFault::ReasonsOrIssuer => point.reasons.is_some() || point.crl_issuer.is_some(),
+        PointFault::LdapIncomplete => has_incomplete_entry(&point.distribution_point),
+        PointFault::LdapWithoutHost => has_entry_without_host(&point.distribution_point),
     }
 }
 
@@ -236,6 +316,42 @@ pub(crate) fn lacks_uri(method: ObjectIdentifier, descriptions: &[AccessDescript
     ensures { result ≡ place.lacks_uri method descriptions.now }
 {
     has_method(method, descriptions) && !has_web_of(method, descriptions)
+}
+
+fn is_incomplete_search_of(method: ObjectIdentifier, description: &AccessDescription) -> bool
+    ensures { result ≡ (bytes_eq description.now.access_method method && place.is_incomplete_search description.now.access_location) }
+{
+    description.access_method == method && is_incomplete_search(&description.access_location)
+}
+
+/// Whether a description of the method has an LDAP URI without a dn, or without attribute descriptions.
+pub(crate) fn has_incomplete_search(
+    method: ObjectIdentifier,
+    descriptions: &[AccessDescription],
+) -> bool
+    ensures { result ≡ place.has_place place.is_incomplete_search method descriptions.now }
+{
+    descriptions
+        .iter()
+        .any(|description| is_incomplete_search_of(method, description))
+}
+
+fn is_without_host_of(method: ObjectIdentifier, description: &AccessDescription) -> bool
+    ensures { result ≡ (bytes_eq description.now.access_method method && place.is_without_host description.now.access_location) }
+{
+    description.access_method == method && is_without_host(&description.access_location)
+}
+
+/// Whether a description of the method has an LDAP URI without a host.
+pub(crate) fn has_place_without_host(
+    method: ObjectIdentifier,
+    descriptions: &[AccessDescription],
+) -> bool
+    ensures { result ≡ place.has_place place.is_without_host method descriptions.now }
+{
+    descriptions
+        .iter()
+        .any(|description| is_without_host_of(method, description))
 }
 
 fn is_other_among(method: ObjectIdentifier, descriptions: &[AccessDescription]) -> bool

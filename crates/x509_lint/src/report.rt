@@ -5,7 +5,7 @@ ghost use Rattle.std.specs.Prelude.{◌≡◌, ◌++◌, IfErr, IfOk, OnOk, stri
 ghost use Rattle.x509_der.specs.declared.error.ErrorKind.TheVariants.{Memory};
 ghost use Rattle.x509_lint.specs.Report as grammar;
 ghost use Rattle.x509_lint.specs.Rules.{rule_wording};
-ghost use Rattle.x509_lint.specs.Wording.{which_text};
+ghost use Rattle.x509_lint.specs.Wording.{Says, Wording, which_text};
 
 use crate::anchor::lint_anchor;
 use crate::certificate::lint_certificate;
@@ -214,15 +214,17 @@ fn text_line(alloc: Global, word: &str, rule: Rule) -> Result<String, AllocError
     Ok(line)
 }
 
-/// The line of a finding as an object of JSON.
-fn json_line(
+/// The line of a finding on an object that is called so, as an object of JSON in the style [`Style::Json`]: what is seen has to be as it stands
+/// between quotation marks.
+pub fn json_line(
     alloc: Global,
     front: &str,
     word: &str,
-    rule: Rule,
+    entry: Entry,
     seen: &str,
 ) -> Result<String, AllocError>
-    ensures { IfOk result (λ line. string_bytes line ≡ grammar.json_line front.now word.now rule seen.now) }
+    ensures { (wording : Wording) → Says entry wording
+        → IfOk result (λ line. string_bytes line ≡ grammar.json_line front.now word.now wording seen.now) }
 {
     let Entry {
         severity,
@@ -230,7 +232,7 @@ fn json_line(
         standard,
         section,
         place,
-    } = rule.entry();
+    } = entry;
     let what = format!(in alloc;
         "\"object\": \"{word}\", \"rule\": \"{name}\", \"severity\": \"{severity}\""
     )?;
@@ -253,7 +255,7 @@ fn line<T: Linted>(
         Style::Text => text_line(alloc, T::word(), rule),
         Style::Json(front) => {
             let seen = object.seen(alloc, rule)?;
-            json_line(alloc, front, T::word(), rule, seen.as_str())
+            json_line(alloc, front, T::word(), rule.entry(), seen.as_str())
         }
     }
 }

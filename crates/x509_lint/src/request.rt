@@ -14,7 +14,7 @@ use crate::extensions::has;
 use crate::group::{Group, add_broken};
 use crate::names::{
     has_empty_name, has_empty_rdn, has_no_address, has_no_country, has_no_dns_name, has_no_mailbox,
-    has_relative_uri, is_empty_name,
+    has_no_uri, has_relative_uri, has_uri_at_other_host, is_empty_name,
 };
 use crate::request::passwords::{PasswordFault, has_faulty_password};
 use crate::request::values::{RequestValues, request_values, requested_extensions};
@@ -130,6 +130,14 @@ impl Group<CertReq, RequestValues> for RequestRule {
             },
             RequestRule::SubjectAltNameUriRelative => match &values.subject_alt_name {
                 Some(names) => has_relative_uri(names.0.as_slice()),
+                None => false
+            },
+            RequestRule::SubjectAltNameUriInvalid => match &values.subject_alt_name {
+                Some(names) => has_no_uri(names.0.as_slice()),
+                None => false
+            },
+            RequestRule::SubjectAltNameUriHostInvalid => match &values.subject_alt_name {
+                Some(names) => has_uri_at_other_host(names.0.as_slice()),
                 None => false
             },
         }

@@ -22,7 +22,7 @@ const SEEN: usize = 32;
 
 /// The octets in hex; where there are more than [`SEEN`], those alone, and two dots.
 #[tactic(auto, unfolding(crate::specs::Seen::shortened))]
-fn shortened(alloc: Global, octets: &[u8]) -> Result<String, AllocError>
+pub fn shortened(alloc: Global, octets: &[u8]) -> Result<String, AllocError>
     ensures { IfOk result (λ text. string_bytes text ≡ grammar.shortened octets.now) }
 {
     if octets.len() > SEEN {
@@ -33,8 +33,8 @@ fn shortened(alloc: Global, octets: &[u8]) -> Result<String, AllocError>
     hex::encode(alloc, octets)
 }
 
-/// The octets of the first extension with the OID.
-fn value_of(
+/// The octets of the first extension with the OID, in hex as by [`shortened`]; nothing where none has it.
+pub fn value_of(
     alloc: Global,
     oid: ObjectIdentifier,
     mut extensions: &[Extension],

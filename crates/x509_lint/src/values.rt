@@ -5,10 +5,11 @@ ghost use Rattle.std.specs.Prelude.{◌≡◌, IfOk, IfErr};
 ghost use Rattle.x509_der.specs.declared.error.ErrorKind.TheVariants.{Memory};
 ghost use Rattle.x509_lint.specs.Values.{AreAlternativeValues, AreAuthorityValues, AreConstraintValues, AreCrlValues, AreKeyValues, ArePointValues, ArePolicyValues};
 
+use crate::asserted::has_unasserted;
 use crate::basic_constraints::AnyBasicConstraints;
 use crate::extensions::payload;
 use crate::notices::{NoticeFault, has_faulty_notice};
-use crate::repeats::are_policies_distinct;
+use crate::repeats::{are_policies_distinct, policies_of};
 use std::alloc::Global;
 use x509_der::Error;
 use x509_ext::Extension;
@@ -138,6 +139,12 @@ pub(crate) struct PolicyValues {
 
     /// One has a noticeRef.
     pub(crate) has_reference: bool,
+
+    /// One has an explicit text that is a UTF8String and isn't in Unicode Normalization Form C.
+    pub(crate) has_unnormalized: bool,
+
+    /// The issuerDomainPolicy of some mapping is none of the policies.
+    pub(crate) has_unasserted_mapping: bool,
 }
 
 impl Drop for PolicyValues {
@@ -153,6 +160,8 @@ impl Drop for PolicyValues {
             has_ia5_text: _,
             has_control: _,
             has_reference: _,
+            has_unnormalized: _,
+            has_unasserted_mapping: _,
         } = self;
     }
 }
@@ -169,9 +178,20 @@ pub(crate) fn policy_values(alloc: Global, extensions: &[Extension]) -> Result<P
     let has_ia5_text = has_faulty_notice(alloc, NoticeFault::Ia5Type, &certificate_policies)?;
     let has_control = has_faulty_notice(alloc, NoticeFault::Control, &certificate_policies)?;
     let has_reference = has_faulty_notice(alloc, NoticeFault::Reference, &certificate_policies)?;
+    let has_unnormalized = has_faulty_notice(
+        alloc,
+        NoticeFault::Unnormalized,
+        &certificate_policies,
+    )?;
+    let policy_mappings = payload(alloc, extensions)?;
+    let has_unasserted_mapping = has_unasserted(
+        alloc,
+        policies_of(&certificate_policies),
+        &policy_mappings,
+    )?;
     Ok(PolicyValues {
         certificate_policies,
-        policy_mappings: payload(alloc, extensions)?,
+        policy_mappings,
         policy_constraints: payload(alloc, extensions)?,
         are_policies_distinct,
         has_long_text,
@@ -180,6 +200,8 @@ pub(crate) fn policy_values(alloc: Global, extensions: &[Extension]) -> Result<P
         has_ia5_text,
         has_control,
         has_reference,
+        has_unnormalized,
+        has_unasserted_mapping,
     })
 }
 

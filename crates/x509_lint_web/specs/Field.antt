@@ -1,5 +1,5 @@
 -- The rules on version, signature, key identifier and CRL distribution points of any certificate (TLS BR 7.1.1, 7.1.3.2, 7.1.2.11).
-use Rattle.std.specs.Prelude.{◌&&◌, ◌||◌, Bool, false, not, List, [], ◌∷◌, codes, is_some, None}
+use Rattle.std.specs.Prelude.{◌&&◌, ◌||◌, ℕ, Bool, false, not, List, [], ◌∷◌, codes, is_some, None}
 use Rattle.std.specs.List.{list_all, list_any}
 use Rattle.x509_ext.specs.Identifiers.{id_ce}
 use Rattle.x509_ext.specs.declared.pkix.authority_key_identifier.AuthorityKeyIdentifier.{AuthorityKeyIdentifier}
@@ -14,6 +14,10 @@ use Rattle.x509_lint_web.specs.Words.{is_authority, is_http_name}
 use Rattle.x509_lint_web.specs.Sentence.{Sentence, from_day, must}
 use Rattle.x509_lint_web.specs.declared.rule.field.WebFieldRule.{WebFieldRule}
 use Rattle.x509_lint_web.specs.declared.rule.field.WebFieldRule.TheVariants as rules
+
+-- an algorithm that has no rule of its own, as SHA-1 has
+abbrev pub is_allowed : List ℕ → Bool
+is_allowed oid = is_rsa_pkcs1 oid || (is_rsa_pss oid || is_ecdsa oid)
 
 abbrev pub has_issuer : AuthorityKeyIdentifier → Bool
 has_issuer a = is_some a.authority_cert_issuer || is_some a.authority_cert_serial_number
@@ -51,13 +55,13 @@ field_sentence rules.SignatureOfSha1 =
     must (codes "signature_of_sha1") (codes "7.1.3.2") (from_day 2016 1 1) (codes "signatureAlgorithm")
     (λ c v. is_of_sha1 c.signature_algorithm.oid && not (is_authority v && is_self_issued c))
 field_sentence rules.SignatureAlgorithmOther =
-    must (codes "signature_algorithm_other") (codes "7.1.3.2") (from_day 2023 9 15) (codes "signatureAlgorithm")
-    (λ c v. not (is_rsa_pkcs1 c.signature_algorithm.oid) && not (is_rsa_pss c.signature_algorithm.oid) && not (is_ecdsa c.signature_algorithm.oid))
+    must (codes "signature_algorithm_other") (codes "7.1.3.2") (from_day 2020 8 20) (codes "signatureAlgorithm")
+    (λ c v. not (is_allowed c.signature_algorithm.oid) && not (is_of_sha1 c.signature_algorithm.oid))
 field_sentence rules.RsaSignatureParametersNotNull =
-    must (codes "rsa_signature_parameters_not_null") (codes "7.1.3.2.1") (from_day 2023 9 15) (codes "signatureAlgorithm")
+    must (codes "rsa_signature_parameters_not_null") (codes "7.1.3.2.1") (from_day 2020 8 20) (codes "signatureAlgorithm")
     (λ c v. is_rsa_pkcs1 c.signature_algorithm.oid && not (passes is_null c.signature_algorithm.parameters))
 field_sentence rules.EcdsaSignatureParametersPresent =
-    must (codes "ecdsa_signature_parameters_present") (codes "7.1.3.2.2") (from_day 2023 9 15) (codes "signatureAlgorithm")
+    must (codes "ecdsa_signature_parameters_present") (codes "7.1.3.2.2") (from_day 2020 8 20) (codes "signatureAlgorithm")
     (λ c v. is_ecdsa c.signature_algorithm.oid && is_some c.signature_algorithm.parameters)
 field_sentence rules.AuthorityCertIssuerPresent =
     must (codes "authority_cert_issuer_present") (codes "7.1.2.11.1") (from_day 2023 9 15) (codes "tbsCertificate.extensions.authorityKeyIdentifier")

@@ -1,7 +1,7 @@
 -- DNS names and addresses of TLS servers (TLS BR 1.6.1, 7.1.2.7.12).
 use Rattle.std.specs.Prelude.{◌&&◌, ◌||◌, ◌==◌, ℕ, Bool, false, not, nat_le, length, take, List, [], ◌∷◌, codes, if◌then◌else◌}
 use Rattle.std.specs.List.{list_all, list_any, slice_get, slice_split}
-use Rattle.x509_lint.specs.Alternative.{behind_wildcard}
+use Rattle.x509_lint.specs.Dns.{behind_wildcard}
 use Rattle.x509_lint.specs.Words.{passes}
 use Rattle.x509_lint_web.specs.Words.{is_same}
 

@@ -1,5 +1,5 @@
 -- The rules on public keys (TLS BR 6.1.5, 6.1.6, 7.1.3.1).
-use Rattle.std.specs.Prelude.{◌&&◌, ◌||◌, ◌==◌, ◌-◌, ◌%◌, ℕ, Bool, false, not, nat_lt, length, List, [], ◌∷◌, bytes_eq, codes}
+use Rattle.std.specs.Prelude.{◌&&◌, ◌||◌, ◌==◌, ◌-◌, ◌%◌, ℕ, Bool, false, not, nat_lt, length, List, [], ◌∷◌, bytes_eq, codes, None}
 use Rattle.std.specs.List.{slice_get}
 use Rattle.x509_lint.specs.Words.{passes}
 use Rattle.x509_lint_web.specs.Algorithm.{is_ec, is_null, is_rsa, names_curve}
@@ -62,22 +62,22 @@ key_rules =
 
 abbrev pub key_sentence : WebKeyRule → Sentence
 key_sentence rules.KeyAlgorithmOther =
-    must (codes "key_algorithm_other") (codes "7.1.3.1") (from_day 2023 9 15) (codes "tbsCertificate.subjectPublicKeyInfo")
+    must (codes "key_algorithm_other") (codes "7.1.3.1") (from_day 2020 8 20) (codes "tbsCertificate.subjectPublicKeyInfo")
     (λ c v. not (is_rsa (key_of c)) && not (is_ec (key_of c)))
 key_sentence rules.RsaKeyParametersNotNull =
-    must (codes "rsa_key_parameters_not_null") (codes "7.1.3.1.1") (from_day 2023 9 15) (codes "tbsCertificate.subjectPublicKeyInfo")
+    must (codes "rsa_key_parameters_not_null") (codes "7.1.3.1.1") (from_day 2020 8 20) (codes "tbsCertificate.subjectPublicKeyInfo")
     (λ c v. is_rsa (key_of c) && not (passes is_null (key_of c).algorithm.parameters))
 key_sentence rules.EcCurveOther =
-    must (codes "ec_curve_other") (codes "6.1.5") (from_day 2013 12 31) (codes "tbsCertificate.subjectPublicKeyInfo")
+    must (codes "ec_curve_other") (codes "6.1.5") None (codes "tbsCertificate.subjectPublicKeyInfo")
     (λ c v. is_ec (key_of c) && not (passes names_curve (key_of c).algorithm.parameters))
 key_sentence rules.RsaModulusShort =
-    must (codes "rsa_modulus_short") (codes "6.1.5") (from_day 2013 12 31) (codes "tbsCertificate.subjectPublicKeyInfo")
+    must (codes "rsa_modulus_short") (codes "6.1.5") (from_day 2014 1 1) (codes "tbsCertificate.subjectPublicKeyInfo")
     (λ c v. is_rsa (key_of c) && has_modulus is_short v)
 key_sentence rules.RsaModulusUneven =
-    must (codes "rsa_modulus_uneven") (codes "6.1.5") (from_day 2023 9 15) (codes "tbsCertificate.subjectPublicKeyInfo")
+    must (codes "rsa_modulus_uneven") (codes "6.1.5") (from_day 2020 8 20) (codes "tbsCertificate.subjectPublicKeyInfo")
     (λ c v. is_rsa (key_of c) && has_modulus is_uneven v)
 key_sentence rules.RsaModulusEven =
-    should (codes "rsa_modulus_even") (codes "6.1.6") (from_day 2023 9 15) (codes "tbsCertificate.subjectPublicKeyInfo")
+    should (codes "rsa_modulus_even") (codes "6.1.6") (from_day 2013 1 1) (codes "tbsCertificate.subjectPublicKeyInfo")
     (λ c v. is_rsa (key_of c) && has_modulus is_even v)
 key_sentence rules.RsaExponentInvalid =
     must (codes "rsa_exponent_invalid") (codes "6.1.6") (from_day 2013 1 1) (codes "tbsCertificate.subjectPublicKeyInfo")

@@ -9,5 +9,6 @@ pub mod Name
 pub mod Usage
 pub mod Policy
 pub mod Authority
+pub mod Seen
 pub mod Rules
 pub mod Report

@@ -1,5 +1,5 @@
 -- The rules on the SAN and the subject of certificates of TLS servers (TLS BR 7.1.2.7.12, 7.1.4.3).
-use Rattle.std.specs.Prelude.{◌&&◌, ℕ, Bool, true, false, not, List, [], ◌∷◌, bytes_eq, codes, None}
+use Rattle.std.specs.Prelude.{◌&&◌, ◌+◌, ℕ, Bool, true, false, not, nat_lt, length, List, [], ◌∷◌, filter, bytes_eq, codes, None}
 use Rattle.std.specs.List.{list_any}
 use Rattle.x509_ext.specs.Identifiers.{id_ce}
 use Rattle.x509_ext.specs.declared.pkix.name.general_name.GeneralName.{GeneralName}
@@ -62,6 +62,14 @@ is_stray names a = bytes_eq a.oid (id_at 3) && not (list_any (is_dns_name_of a.v
 abbrev pub has_stray : List GeneralName → List (List AttributeTypeAndValue) → Bool
 has_stray names rdns = list_any (λ rdn. list_any (is_stray names) rdn) rdns
 
+abbrev pub is_common_name : AttributeTypeAndValue → Bool
+is_common_name a = bytes_eq a.oid (id_at 3)
+
+-- how many attributes of the name are commonNames
+abbrev pub common_name_count : List (List AttributeTypeAndValue) → ℕ
+common_name_count [] = 0
+common_name_count (rdn ∷ rdns) = length (filter is_common_name rdn) + common_name_count rdns
+
 -- ---- the rules
 
 abbrev pub name_rules : List WebNameRule
@@ -78,7 +86,8 @@ name_rules =
     ∷ rules.AddressReserved
     ∷ rules.CommonNamePresent
     ∷ rules.CommonNameNotInAltName
-    ∷ rules.OrganizationalUnitPresent ∷ []
+    ∷ rules.OrganizationalUnitPresent
+    ∷ rules.CommonNameRepeated ∷ []
 
 abbrev pub name_sentence : WebNameRule → Sentence
 name_sentence rules.SubjectAltNameAbsent =
@@ -115,8 +124,11 @@ name_sentence rules.CommonNamePresent =
     should (codes "common_name_present") (codes "7.1.2.7.2") (from_day 2023 9 15) (codes "tbsCertificate.subject")
     (λ c v. has_attribute (id_at 3) c.tbs_certificate.subject)
 name_sentence rules.CommonNameNotInAltName =
-    must (codes "common_name_not_in_alt_name") (codes "7.1.4.3") (from_day 2023 9 15) (codes "tbsCertificate.subject")
+    must (codes "common_name_not_in_alt_name") (codes "7.1.4.3") (from_day 2021 8 25) (codes "tbsCertificate.subject")
     (λ c v. passes (λ s. not (list_any is_address s.0) && has_stray s.0 c.tbs_certificate.subject) v.subject_alt_name)
 name_sentence rules.OrganizationalUnitPresent =
     must (codes "organizational_unit_present") (codes "7.1.2.7.4") (from_day 2022 9 1) (codes "tbsCertificate.subject")
     (λ c v. has_attribute (id_at 11) c.tbs_certificate.subject)
+name_sentence rules.CommonNameRepeated =
+    must (codes "common_name_repeated") (codes "7.1.4.3") (from_day 2021 8 25) (codes "tbsCertificate.subject")
+    (λ c v. nat_lt 1 (common_name_count c.tbs_certificate.subject))

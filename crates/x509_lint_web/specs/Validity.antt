@@ -21,7 +21,10 @@ validity_rules =
     ∷ rules.ValidityOver397Days
     ∷ rules.ValidityOver200Days
     ∷ rules.ValidityOver100Days
-    ∷ rules.ValidityOver47Days ∷ []
+    ∷ rules.ValidityOver47Days
+    ∷ rules.ValidityOver199Days
+    ∷ rules.ValidityOver99Days
+    ∷ rules.ValidityOver46Days ∷ []
 
 abbrev pub validity_sentence : WebValidityRule → Sentence
 validity_sentence rules.ValidityOver825Days =
@@ -42,3 +45,12 @@ validity_sentence rules.ValidityOver100Days =
 validity_sentence rules.ValidityOver47Days =
     must (codes "validity_over_47_days") (codes "6.3.2") (from_day 2029 3 15) (codes "tbsCertificate.validity")
     (λ c v. is_longer 47 c)
+validity_sentence rules.ValidityOver199Days =
+    should (codes "validity_over_199_days") (codes "6.3.2") (from_day 2026 3 15) (codes "tbsCertificate.validity")
+    (λ c v. is_longer 199 c)
+validity_sentence rules.ValidityOver99Days =
+    should (codes "validity_over_99_days") (codes "6.3.2") (from_day 2027 3 15) (codes "tbsCertificate.validity")
+    (λ c v. is_longer 99 c)
+validity_sentence rules.ValidityOver46Days =
+    should (codes "validity_over_46_days") (codes "6.3.2") (from_day 2029 3 15) (codes "tbsCertificate.validity")
+    (λ c v. is_longer 46 c)

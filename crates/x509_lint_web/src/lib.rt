@@ -16,6 +16,7 @@ mod policies;
 mod report;
 pub mod rule;
 mod scope;
+mod seen;
 mod times;
 mod usages;
 mod values;

@@ -12,7 +12,7 @@ use x509_cert::certificate::CertificateInner;
 use x509_der::Error;
 
 /// Those of the rules that are in force at the moment and that the certificate, of which these are the values, breaks.
-fn found(
+pub(crate) fn found(
     alloc: Global,
     moment: DateTime,
     certificate: &CertificateInner<Raw>,

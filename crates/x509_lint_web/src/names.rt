@@ -1,7 +1,7 @@
 //! What is asked of names: those of the SAN, and that of the subject.
 
 ghost use Rattle.std.specs.List.{list_any};
-ghost use Rattle.std.specs.Prelude.{◌≡◌, ◌&&◌, bytes_eq, not};
+ghost use Rattle.std.specs.Prelude.{◌≡◌, ◌&&◌, bytes_eq, filter, length, nat_lt, not};
 ghost use Rattle.x509_lint.specs.Words.{is_empty, passes};
 ghost use Rattle.x509_lint_web.specs.Name as grammar;
 ghost use Rattle.x509_lint_web.specs.Policy as policy;
@@ -90,7 +90,7 @@ fn is_other(fault: NameFault) -> bool
     }
 }
 
-fn is_faulty(fault: NameFault, name: &GeneralName) -> bool
+pub(crate) fn is_faulty(fault: NameFault, name: &GeneralName) -> bool
     ensures { result ≡ grammar.has_fault fault name.now }
 {
     match name {
@@ -235,6 +235,45 @@ pub(crate) fn has_stray_name(names: &Option<SubjectAltName>, name: &Name) -> boo
         }
         None => false,
     }
+}
+
+fn is_common_name(attribute: &AttributeTypeAndValue) -> bool
+    ensures { result ≡ grammar.is_common_name attribute.now }
+{
+    attribute.oid == COMMON_NAME
+}
+
+/// How many attributes of the RDN are commonNames.
+fn count_in(rdn: &RelativeDistinguishedName) -> usize
+    ensures { result ≡ length (filter grammar.is_common_name rdn.now) }
+{
+    rdn.as_slice()
+        .iter()
+        .filter(|attribute| is_common_name(attribute))
+        .count()
+}
+
+fn has_common_names_in(mut rdns: &[RelativeDistinguishedName]) -> bool
+    ensures { result ≡ nat_lt 1 (grammar.common_name_count rdns.entry.now) }
+{
+    let mut passed = 0;
+    while let [first, rest @ ..] = rdns {
+        let count = count_in(first);
+        if count > 1 || passed + count > 1 {
+            return true;
+        }
+        passed += count;
+        rdns = rest;
+    }
+    false
+}
+
+/// Whether the name has two commonNames or more.
+pub(crate) fn has_common_names(name: &Name) -> bool
+    ensures { result ≡ nat_lt 1 (grammar.common_name_count name.now) }
+{
+    let rdns: &RdnSequence = name.as_ref();
+    has_common_names_in(rdns.as_slice())
 }
 
 /// Whether the name is an HTTP URI.

@@ -3,11 +3,13 @@
 ghost use Rattle.std.specs.Prelude.{◌≡◌, Some};
 ghost use Rattle.x509_lint.specs.Wording.{wording_text};
 ghost use Rattle.x509_lint_web.specs.Rules.{web_sentence};
+ghost use Rattle.x509_lint_web.specs.Seen.{part_of};
 ghost use Rattle.x509_lint_web.specs.Sentence.{IsTold, is_in_force};
 
 use crate::day::Day;
 use crate::entry::WebEntry;
 use crate::scope::{is_above_servers, is_server};
+use crate::seen::Part;
 use crate::values::WebValues;
 use std::fmt;
 use x509_base::{DateTime, Raw};
@@ -57,7 +59,7 @@ pub enum WebRule {
 }
 
 /// All rules, in their order.
-pub(crate) const WEB_RULES: [WebRule; 69] = [
+pub(crate) const WEB_RULES: [WebRule; 73] = [
     WebRule::Field(WebFieldRule::VersionNotV3),
     WebRule::Field(WebFieldRule::SignatureOfSha1),
     WebRule::Field(WebFieldRule::SignatureAlgorithmOther),
@@ -81,6 +83,9 @@ pub(crate) const WEB_RULES: [WebRule; 69] = [
     WebRule::Validity(WebValidityRule::ValidityOver200Days),
     WebRule::Validity(WebValidityRule::ValidityOver100Days),
     WebRule::Validity(WebValidityRule::ValidityOver47Days),
+    WebRule::Validity(WebValidityRule::ValidityOver199Days),
+    WebRule::Validity(WebValidityRule::ValidityOver99Days),
+    WebRule::Validity(WebValidityRule::ValidityOver46Days),
     WebRule::Name(WebNameRule::SubjectAltNameAbsent),
     WebRule::Name(WebNameRule::SubjectAltNameWithoutHost),
     WebRule::Name(WebNameRule::SubjectAltNameOther),
@@ -94,6 +99,7 @@ pub(crate) const WEB_RULES: [WebRule; 69] = [
     WebRule::Name(WebNameRule::CommonNamePresent),
     WebRule::Name(WebNameRule::CommonNameNotInAltName),
     WebRule::Name(WebNameRule::OrganizationalUnitPresent),
+    WebRule::Name(WebNameRule::CommonNameRepeated),
     WebRule::Usage(WebUsageRule::ExtendedKeyUsageAbsent),
     WebRule::Usage(WebUsageRule::ExtendedKeyUsageForbidden),
     WebRule::Usage(WebUsageRule::ExtendedKeyUsageOther),
@@ -187,6 +193,21 @@ impl WebRule {
         match self.since() {
             Some(day) => day.is_reached(moment),
             None => true,
+        }
+    }
+
+    /// Of which part of a certificate the rule speaks.
+    pub(crate) fn part(self) -> Part
+        ensures { result ≡ part_of self }
+    {
+        match self {
+            WebRule::Field(rule) => rule.part(),
+            WebRule::Key(rule) => rule.part(),
+            WebRule::Validity(_) => Part::Validity,
+            WebRule::Name(rule) => rule.part(),
+            WebRule::Usage(rule) => rule.part(),
+            WebRule::Policy(rule) => rule.part(),
+            WebRule::Authority(rule) => rule.part(),
         }
     }
 

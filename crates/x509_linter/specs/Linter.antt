@@ -32,9 +32,12 @@ kind_of word =
     else None
 
 -- `-v`: whether it is said of an object that nothing was found; `--json`: objects of JSON
+abbrev pub telling_named : List ℕ → Option Telling
+telling_named option = if bytes_eq option (codes "-v") then Some Verbose else if bytes_eq option (codes "--json") then Some Json else None
+
 abbrev pub telling_of : List (List ℕ) → Option Telling
 telling_of [] = Some Lines
-telling_of (option ∷ []) = if bytes_eq option (codes "-v") then Some Verbose else if bytes_eq option (codes "--json") then Some Json else None
+telling_of (option ∷ []) = telling_named option
 telling_of (first ∷ second ∷ options) = None
 
 abbrev pub of_kind : Telling → Kind → Linter
@@ -60,30 +63,40 @@ moment_named text m = if is_date_time m && bytes_eq (date_time_text m) text then
 abbrev pub moment_of : List ℕ → Option CivilTime
 moment_of text = moment_named text (named_by_text text)
 
-abbrev pub web_at : List (List ℕ) → Option CivilTime → Option (Linter × List (List ℕ))
-web_at names None = None
-web_at names (Some moment) = Some (record { kind = Some Certificate; telling = Lines; web = Some moment }, names)
+abbrev pub web_at : Telling → List (List ℕ) → Option CivilTime → Option (Linter × List (List ℕ))
+web_at telling names None = None
+web_at telling names (Some moment) = Some (record { kind = Some Certificate; telling = telling; web = Some moment }, names)
 
 -- a moment in front of the names of inputs, which are certificates
-abbrev pub web_of : List (List ℕ) → Option (Linter × List (List ℕ))
-web_of [] = None
-web_of (moment ∷ names) = web_at names (moment_of moment)
+abbrev pub web_of : Telling → List (List ℕ) → Option (Linter × List (List ℕ))
+web_of telling [] = None
+web_of telling (moment ∷ names) = web_at telling names (moment_of moment)
 
-abbrev pub is_web : List (List ℕ) → Bool
-is_web (option ∷ []) = bytes_eq option (codes "--web")
-is_web options = false
+abbrev pub is_web : List ℕ → Bool
+is_web option = bytes_eq option (codes "--web")
+
+-- `--web`, alone or before or behind one of the others
+abbrev pub web_telling_of : List (List ℕ) → Option Telling
+web_telling_of [] = None
+web_telling_of (option ∷ []) = if is_web option then Some Lines else None
+web_telling_of (first ∷ second ∷ []) = if is_web first then telling_named second else if is_web second then telling_named first else None
+web_telling_of (first ∷ second ∷ third ∷ options) = None
+
+abbrev pub asked_by : Option Telling → List (List ℕ) → List (List ℕ) → Option (Linter × List (List ℕ))
+asked_by (Some telling) options names = web_of telling names
+asked_by None options names = option_map (λ telling. asked_of telling names) (telling_of options)
 
 abbrev pub asked : List (List ℕ) → List (List ℕ) → Option (Linter × List (List ℕ))
-asked options names = if is_web options then web_of names else option_map (λ telling. asked_of telling names) (telling_of options)
+asked options names = asked_by (web_telling_of options) options names
 
 -- ---- what the program says of itself
 
 abbrev pub usage : List ℕ
-usage = codes "usage: x509_linter [certificate|crl|csr|anchor] [-v|--json] [FILE..]\n       x509_linter --web MOMENT [FILE..]"
+usage = codes "usage: x509_linter [certificate|crl|csr|anchor] [-v|--json] [FILE..]\n       x509_linter --web [-v|--json] MOMENT [FILE..]"
 
 abbrev pub help : List ℕ
 help =
-    codes "usage: x509_linter [certificate|crl|csr|anchor] [-v|--json] [FILE..]\n       x509_linter --web MOMENT [FILE..]\n\n"
+    codes "usage: x509_linter [certificate|crl|csr|anchor] [-v|--json] [FILE..]\n       x509_linter --web [-v|--json] MOMENT [FILE..]\n\n"
     ++ codes "Tells which rules certificates, CRLs (RFC 5280), CSRs (RFC 2986, 2985) and trust anchors\n"
     ++ codes "(RFC 5914) break, in DER or hex: a line for each, with its section. Without a FILE, and where\n"
     ++ codes "FILE is -, it reads standard input.\n\n"
@@ -143,7 +156,7 @@ is_said (Some kind) front bytes said = IsSaidAs kind front bytes said
 -- with a moment what is said of a certificate by the rules of the Baseline Requirements
 abbrev pub is_said_at : Option CivilTime → Option Kind → Option (List ℕ) → List ℕ → Option Report → Type 0
 is_said_at None kind front bytes said = is_said kind front bytes said
-is_said_at (Some moment) kind front bytes said = IsWebSaid moment bytes said
+is_said_at (Some moment) kind front bytes said = IsWebSaid front moment bytes said
 
 -- what is said of an object of which nothing is found
 abbrev pub clean : Telling → List ℕ → List ℕ

@@ -3,6 +3,7 @@
 ghost use Rattle.std.specs.Option.{option_map};
 ghost use Rattle.std.specs.Prelude.{◌≡◌, ◌++◌, IfErr, IfOk, List, OnErr, OnOk, map, string_bytes};
 ghost use Rattle.x509_lint.specs.Report.{front_of};
+ghost use Rattle.x509_lint_web.specs.Report.{IsWebSaid};
 ghost use Rattle.x509_linter.specs.Linter as grammar;
 ghost use Rattle.x509_der.specs.declared.error.ErrorKind.TheVariants as errors;
 ghost use Rattle.x509_object_run.specs.Object.{heading_text};
@@ -19,7 +20,7 @@ use x509_text::write_json_text;
 use x509_tool_run::{Sink, WriteError, write_text};
 
 const HELP: &[u8] = b"usage: x509_linter [certificate|crl|csr|anchor] [-v|--json] [FILE..]
-       x509_linter --web MOMENT [FILE..]
+       x509_linter --web [-v|--json] MOMENT [FILE..]
 
 Tells which rules certificates, CRLs (RFC 5280), CSRs (RFC 2986, 2985) and trust anchors
 (RFC 5914) break, in DER or hex: a line for each, with its section. Without a FILE, and where
@@ -74,14 +75,24 @@ fn kind_of(word: &str) -> Option<Kind>
     }
 }
 
+/// How findings are told that an option asks for.
+fn telling_named(option: &str) -> Option<Telling>
+    ensures { result ≡ grammar.telling_named option.now }
+{
+    match option {
+        "-v" => Some(Telling::Verbose),
+        "--json" => Some(Telling::Json),
+        _ => None,
+    }
+}
+
 /// How findings are told that options ask for.
 fn telling_of(options: &[&str]) -> Option<Telling>
     ensures { result ≡ grammar.telling_of (map (λ option. option.now) options.now) }
 {
     match options {
         [] => Some(Telling::Lines),
-        [option] if *option == "-v" => Some(Telling::Verbose),
-        [option] if *option == "--json" => Some(Telling::Json),
+        [option] => telling_named(option),
         _ => None,
     }
 }
@@ -112,13 +123,21 @@ fn asked_of<'a, 'b>(telling: Telling, names: &'a [&'b str]) -> (Linter, &'a [&'b
     )
 }
 
-/// Whether options ask for the rules of the Baseline Requirements.
-fn is_web(options: &[&str]) -> bool
-    ensures { result ≡ grammar.is_web (map (λ option. option.now) options.now) }
+fn is_web(option: &str) -> bool
+    ensures { result ≡ grammar.is_web option.now }
+{
+    option == "--web"
+}
+
+/// How findings are told that options ask for of which one is `--web`; `None` where none is, or they ask for nothing.
+fn web_telling_of(options: &[&str]) -> Option<Telling>
+    ensures { result ≡ grammar.web_telling_of (map (λ option. option.now) options.now) }
 {
     match options {
-        [option] => *option == "--web",
-        _ => false,
+        [option] if is_web(option) => Some(Telling::Lines),
+        [first, second] if is_web(first) => telling_named(second),
+        [first, second] if is_web(second) => telling_named(first),
+        _ => None,
     }
 }
 
@@ -133,8 +152,8 @@ fn moment_of(text: &str) -> Option<DateTime>
 }
 
 /// What names ask for behind `--web`: a moment, and the names of inputs; `None` where there is no such moment.
-fn web_of<'a, 'b>(names: &'a [&'b str]) -> Option<(Linter, &'a [&'b str])>
-    ensures { option_map (λ asked. (asked.0, map (λ name. name.now) asked.1.now)) result ≡ grammar.web_of (map (λ name. name.now) names.now) }
+fn web_of<'a, 'b>(telling: Telling, names: &'a [&'b str]) -> Option<(Linter, &'a [&'b str])>
+    ensures { option_map (λ asked. (asked.0, map (λ name. name.now) asked.1.now)) result ≡ grammar.web_of telling (map (λ name. name.now) names.now) }
 {
     let [moment, others @ ..] = names else {
         return None;
@@ -143,7 +162,7 @@ fn web_of<'a, 'b>(names: &'a [&'b str]) -> Option<(Linter, &'a [&'b str])>
         Some(moment) => Some((
             Linter {
                 kind: Some(Kind::Certificate),
-                telling: Telling::Lines,
+                telling,
                 web: Some(moment),
             },
             others,
@@ -232,6 +251,27 @@ fn styled_of(
     }
 }
 
+/// What is said of it by the rules of the Baseline Requirements that are in force at the moment, as it is told.
+fn web_report_of(
+    alloc: Global,
+    moment: DateTime,
+    telling: Telling,
+    heading: Heading<'_>,
+    bytes: &[u8],
+) -> Result<Option<Report>, Error>
+    ensures ok { IfOk result (IsWebSaid (grammar.front_for telling (heading_text heading.entry)) moment bytes.now) }
+    ensures err { IfErr result (λ e. e.kind ≡ errors.Memory) }
+{
+    match telling {
+        Telling::Json => {
+            let front = front_of(alloc, heading)?;
+            lint_web_bytes(alloc, Style::Json(front.as_str()), moment, bytes)
+        }
+        Telling::Lines => lint_web_bytes(alloc, Style::Text, moment, bytes),
+        Telling::Verbose => lint_web_bytes(alloc, Style::Text, moment, bytes),
+    }
+}
+
 /// What is said of it; with a moment, by the rules of the Baseline Requirements.
 fn report_of(
     alloc: Global,
@@ -244,7 +284,7 @@ fn report_of(
 {
     match linter.web {
         None => styled_of(alloc, linter, heading, bytes),
-        Some(moment) => lint_web_bytes(alloc, moment, bytes),
+        Some(moment) => web_report_of(alloc, moment, linter.telling, heading, bytes),
     }
 }
 
@@ -287,8 +327,8 @@ impl Printer for Linter {
         options: &[&str],
         names: &'a [&'b str],
     ) -> Option<(Linter, &'a [&'b str])> {
-        if is_web(options) {
-            return web_of(names);
+        if let Some(telling) = web_telling_of(options) {
+            return web_of(telling, names);
         }
         match telling_of(options) {
             Some(telling) => Some(asked_of(telling, names)),
@@ -301,7 +341,7 @@ impl Printer for Linter {
     }
 
     fn usage() -> &'static [u8] {
-        b"usage: x509_linter [certificate|crl|csr|anchor] [-v|--json] [FILE..]\n       x509_linter --web MOMENT [FILE..]\n"
+        b"usage: x509_linter [certificate|crl|csr|anchor] [-v|--json] [FILE..]\n       x509_linter --web [-v|--json] MOMENT [FILE..]\n"
     }
 
     fn help() -> &'static [u8] {

@@ -142,7 +142,8 @@ fn compared_value(
     tag: Tag,
     content: &[u8],
 ) -> Result<Option<String>, AllocError>
-    ensures { IfOk result (λ found. option_map string_bytes found ≡ option_map encode_utf8_all (keys.compared_value oid.now (keys.characters tag content.now))) }
+    ensures { IfOk result (λ found. option_map string_bytes found
+        ≡ option_map encode_utf8_all (keys.compared_value oid.now (keys.characters tag content.now))) }
 {
     let given = text_in(alloc, tag, content)?;
     let Some(text) = given else {

@@ -20,3 +20,4 @@ pub mod NameTexts
 pub mod NameReading
 pub mod NameWriting
 pub mod EqualAttributes
+pub mod ShortRdns

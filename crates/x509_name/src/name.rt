@@ -6,6 +6,7 @@ mod look_up;
 mod name;
 mod rdn;
 mod rdn_sequence;
+mod short;
 mod text;
 pub(crate) mod text_ref;
 

@@ -60,5 +60,6 @@ pub trait Printer: Sized + Drop {
         bytes: &[u8],
         writer: &mut W,
     ) -> Result<u8, PrintError>
-        ensures { IsPrinted ((subject self.now).prints (heading_text heading.entry) bytes.now) ((subject self.now).is_none bytes.now) W.takes writer.old writer.new result };
+        ensures { IsPrinted ((subject self.now).prints (heading_text heading.entry) bytes.now)
+            ((subject self.now).is_none bytes.now) W.takes writer.old writer.new result };
 }

@@ -1,4 +1,5 @@
--- Tools of the proofs: max_path_length, how many certificates that aren't self-issued may still follow (RFC 5280 6.1.2 (k)), and what is said of one certificate.
+-- Tools of the proofs: max_path_length, how many certificates that aren't self-issued may still follow (RFC 5280 6.1.2 (k)), and what is said of one
+-- certificate.
 use Rattle.std.specs.Prelude.{◌≡◌, ◌<◌, ◌-◌, ◌⊎◌, ◌↔◌, ℕ, Bool, min, List, ◌++◌, Option, Some, None, Result, Ok, Err, if◌then◌else◌}
 use Rattle.x509_base.specs.CivilTime.{CivilTime}
 use Rattle.x509_base.specs.declared.subject_public_key_info.SubjectPublicKeyInfo.{SubjectPublicKeyInfo}

@@ -78,7 +78,8 @@ fn is_self_issued(certificate: &CertificateRef<'_>) -> bool
 
 /// What is signed of the certificate.
 pub(crate) fn signed_of<'a>(certificate: &CertificateRef<'a>) -> Signed<'a>
-    ensures algorithm { (c : certificates.Certificate) → Lends certificate.now.bytes.now c → Spells algorithm_identifier c.signature_algorithm result.algorithm.now }
+    ensures algorithm { (c : certificates.Certificate) → Lends certificate.now.bytes.now c
+        → Spells algorithm_identifier c.signature_algorithm result.algorithm.now }
     ensures message { IsSignedPart certificate.now.bytes.now result.message.now }
     ensures signature { (c : certificates.Certificate) → Lends certificate.now.bytes.now c → Spells bit_string c.signature result.signature.now }
 {
@@ -228,7 +229,8 @@ impl<T: Trust> Judge<'_, T> {
             → (place.now.is_last ≡ false → HasConstraints (certificates.extensions_of c) lent.now.constraints)
             → StandsAbove (T.is_anchor self.now.trust.now) place.now.above above
             → (before : List certificates.Certificate) → Leaves before place.now.max_path_length → IsTrue b
-            ↔ Breaks (T.accepts self.now.trust.now) self.now.moment (standing above.name above.key before place.now.is_last) lent.now.certificate.now.bytes.now c
+            ↔ Breaks (T.accepts self.now.trust.now) self.now.moment
+            (standing above.name above.key before place.now.is_last) lent.now.certificate.now.bytes.now c
             reason) }
         ensures err { IfErr result (λ e. (e ≡ Memory) × (T.takes_memory ⊎ (16 < length lent.now.extensions.now))) }
     {
@@ -261,7 +263,8 @@ impl<T: Trust> Judge<'_, T> {
         extensions: &[ExtensionRef<'_>],
         index: usize,
     ) -> Result<Option<BasicConstraints>, PathFault>
-        ensures judged { (c : certificates.Certificate) (above : Anchor) → Lends certificate.now.bytes.now c → lent_extensions extensions.now ≡ certificates.extensions_of c
+        ensures judged { (c : certificates.Certificate) (above : Anchor)
+            → Lends certificate.now.bytes.now c → lent_extensions extensions.now ≡ certificates.extensions_of c
             → StandsAbove (T.is_anchor self.now.trust.now) place.now.above above → (before : List certificates.Certificate)
             → Leaves before place.now.max_path_length → MatchResult result
             (λ constraints. (place.now.is_last ≡ false → HasConstraints (certificates.extensions_of c) constraints)

@@ -109,7 +109,8 @@ pub(crate) fn length_behind(
     certificate: &CertificateRef<'_>,
     constraints: Option<BasicConstraints>,
 ) -> Result<Option<u32>, AllocError>
-    ensures { IfOk result (λ left. (c : certificates.Certificate) → Lends certificate.now.bytes.now c → HasConstraints (certificates.extensions_of c) constraints
+    ensures { IfOk result (λ left. (c : certificates.Certificate)
+        → Lends certificate.now.bytes.now c → HasConstraints (certificates.extensions_of c) constraints
         → (limit : Option ℕ) (before : List certificates.Certificate) → Leaves limit before max_path_length → (IsOver max_path_length (c ∷ []) → ⊥)
         → Leaves limit (before ++ c ∷ []) left) }
 {

@@ -33,7 +33,8 @@ fn walk<T: Trust>(
     path: &[&[u8]],
     moment: DateTime,
 ) -> Result<(), PathFault>
-    ensures answers { (anchor : anchors.Anchor) → T.is_anchor trust.now anchor → Answers (T.accepts trust.now) moment anchor (map (λ input. input.now) path.now) result }
+    ensures answers { (anchor : anchors.Anchor) → T.is_anchor trust.now anchor
+        → Answers (T.accepts trust.now) moment anchor (map (λ input. input.now) path.now) result }
     ensures memory { result ≡ Err Memory → T.takes_memory ⊎ ((input : List ℕ) × Contains (map (λ input. input.now) path.now) input × HasMany input) }
 {
     if path.is_empty() {
@@ -128,7 +129,8 @@ pub fn check_path_lent<V: SliceVerifier>(
     moment: DateTime,
     verifier: &V,
 ) -> Result<(), PathFault>
-    ensures answers { (value : anchors.Anchor) → LendsAnchor anchor.now value → Answers (V.accepts verifier.now) moment value (map (λ input. input.now) path.now) result }
+    ensures answers { (value : anchors.Anchor) → LendsAnchor anchor.now value
+        → Answers (V.accepts verifier.now) moment value (map (λ input. input.now) path.now) result }
     ensures memory { result ≡ Err Memory → (input : List ℕ) × Contains (map (λ input. input.now) path.now) input × HasMany input }
 {
     let trust = Slices { anchor, verifier };

@@ -43,7 +43,8 @@ pub struct Trusted<'a> {
 
 /// The octets, where they are those of a NameConstraints.
 fn checked_constraints(octets: &[u8]) -> Result<Option<&[u8]>, Error>
-    ensures { MatchResult result (λ lent. (constraints : values.NameConstraints) × Spells name_constraints constraints octets.now × LendsConstraints lent (Some constraints))
+    ensures { MatchResult result (λ lent. (constraints : values.NameConstraints)
+        × Spells name_constraints constraints octets.now × LendsConstraints lent (Some constraints))
         (λ e. (constraints : values.NameConstraints) → Spells name_constraints constraints octets.now → ⊥) }
 {
     match NameConstraints::check(octets) {
@@ -54,7 +55,8 @@ fn checked_constraints(octets: &[u8]) -> Result<Option<&[u8]>, Error>
 
 /// The octets, where they are those of a CertificatePolicies.
 fn checked_policies(octets: &[u8]) -> Result<Option<&[u8]>, Error>
-    ensures { MatchResult result (λ lent. (policies : policy_values.CertificatePolicies) × Spells certificate_policies policies octets.now × LendsPolicies lent (Some policies))
+    ensures { MatchResult result (λ lent. (policies : policy_values.CertificatePolicies)
+        × Spells certificate_policies policies octets.now × LendsPolicies lent (Some policies))
         (λ e. (policies : policy_values.CertificatePolicies) → Spells certificate_policies policies octets.now → ⊥) }
 {
     match CertificatePolicies::check(octets) {
@@ -65,7 +67,8 @@ fn checked_policies(octets: &[u8]) -> Result<Option<&[u8]>, Error>
 
 /// The octets of the NameConstraints, if there is one.
 fn lent_constraints<'a>(extensions: &ExtensionRefs<'a>) -> Result<Option<&'a [u8]>, Error>
-    ensures { MatchResult result (λ lent. trusts.LendsOwn (extensions_left extensions.now) lent) (λ e. trusts.HasNoValue name_constraints (id_ce 30) (extensions_left extensions.now)) }
+    ensures { MatchResult result (λ lent. trusts.LendsOwn (extensions_left extensions.now) lent)
+        (λ e. trusts.HasNoValue name_constraints (id_ce 30) (extensions_left extensions.now)) }
 {
     match extensions.find_extension(NameConstraints::OID) {
         Ok(Some(extension)) => checked_constraints(extension.extn_value),
@@ -76,7 +79,8 @@ fn lent_constraints<'a>(extensions: &ExtensionRefs<'a>) -> Result<Option<&'a [u8
 
 /// The path length of the BasicConstraints, if there is one.
 fn own_path_len(alloc: Global, extensions: &ExtensionRefs<'_>) -> Result<Option<u32>, Error>
-    ensures { MatchResult result (λ limit. trusts.HasLimit (extensions_left extensions.now) limit) (λ e. trusts.HasNoValue basic_constraints (id_ce 19) (extensions_left extensions.now)) }
+    ensures { MatchResult result (λ limit. trusts.HasLimit (extensions_left extensions.now) limit)
+        (λ e. trusts.HasNoValue basic_constraints (id_ce 19) (extensions_left extensions.now)) }
 {
     match extensions.get_extension::<BasicConstraints>(alloc) {
         Ok(Some((_, constraints))) => Ok(length_of(&constraints)),

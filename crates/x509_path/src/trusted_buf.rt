@@ -292,7 +292,8 @@ impl TrustedBuf {
     /// Those of decoding a `TrustAnchorChoice`; else those of [`TrustedBuf::from_trust_anchor`] where nothing is trusted of
     /// the anchor. `Memory` when out of memory.
     pub fn from_der(alloc: Global, bytes: &[u8]) -> Result<TrustedBuf, Error>
-        ensures { MatchResult result (λ trusted. (anchor : choices.TrustAnchorChoice Rfc5280) × (trust : Trust) × Spells rfc5280_trust_anchor_choice anchor bytes.now
+        ensures { MatchResult result (λ trusted. (anchor : choices.TrustAnchorChoice Rfc5280)
+            × (trust : Trust) × Spells rfc5280_trust_anchor_choice anchor bytes.now
             × IsTrustOfAnchor anchor trust × HoldsTrust trusted trust)
             (λ e. (e.kind ≡ errors.Memory) ⊎ (IsNoAnchor bytes.now e.kind ⊎ IsUntrusted bytes.now e.kind)) }
     {

@@ -51,7 +51,8 @@ fn go_on<'a, S: Signatures>(
         → Stands inputs above before validator.now.moment stand.now.above stand.now.max_path_length stand.now.sets.now → Carries inputs n before state.old
         → stand.now.is_last ≡ false → length before + 1 < n → MatchResult result
         (λ judged. (c : Certificate) × Lends judged.0.bytes.now c × IsLimitOf c judged.1.basic_constraints judged.1.name_constraints
-        × Carries inputs n (before ++ c ∷ []) state.new × Judges (S.accepts validator.now.signatures.now) inputs (standing above before false n) bytes.now index (Ok c))
+        × Carries inputs n (before ++ c ∷ []) state.new
+        × Judges (S.accepts validator.now.signatures.now) inputs (standing above before false n) bytes.now index (Ok c))
         (λ e. Judges (S.accepts validator.now.signatures.now) inputs (standing above before false n) bytes.now index (Err e)) }
 {
     let (certificate, limits) = match validator.judge(stand, bytes, index) {
@@ -75,7 +76,8 @@ fn end<'a, S: Signatures>(
     ensures { (inputs : Inputs) (above : Anchor) (before : List Certificate)
         → Stands inputs above before validator.now.moment stand.now.above stand.now.max_path_length stand.now.sets.now
         → Carries inputs (suc (length before)) before state.now → stand.now.is_last ≡ true → MatchResult result
-        (λ validated. (c : Certificate) × LendsAnchor validated.subject (subject_of c) × EndsUnder inputs (before ++ c ∷ []) (octets_of validated.policies.items)
+        (λ validated. (c : Certificate) × LendsAnchor validated.subject (subject_of c)
+        × EndsUnder inputs (before ++ c ∷ []) (octets_of validated.policies.items)
         × Judges (S.accepts validator.now.signatures.now) inputs (standing above before true (suc (length before))) bytes.now index (Ok c))
         (λ e. Judges (S.accepts validator.now.signatures.now) inputs (standing above before true (suc (length before))) bytes.now index (Err e)) }
 {
@@ -175,7 +177,8 @@ fn walk<'a, S: Signatures>(
     settings: &PathSettings<'a>,
     signatures: &S,
 ) -> Result<Validated<'a>, ValidationFault>
-    ensures { (inputs : Inputs) → LendsInputs trusted.now settings.now inputs → Answers (S.accepts signatures.now) inputs (map (λ input. input.now) path.now) result }
+    ensures { (inputs : Inputs) → LendsInputs trusted.now settings.now inputs
+        → Answers (S.accepts signatures.now) inputs (map (λ input. input.now) path.now) result }
 {
     match split_path(path) {
         Some((front, last)) => walk_under(alloc, trusted, front, last, settings, signatures),
@@ -211,7 +214,8 @@ pub fn validate_path<'a, V: Verifier>(
     settings: &PathSettings<'a>,
     verifier: &V,
 ) -> Result<Validated<'a>, ValidationFault>
-    ensures { (inputs : Inputs) → LendsInputs trusted.now settings.now inputs → Answers (V.accepts verifier.now) inputs (map (λ input. input.now) path.now) result }
+    ensures { (inputs : Inputs) → LendsInputs trusted.now settings.now inputs
+        → Answers (V.accepts verifier.now) inputs (map (λ input. input.now) path.now) result }
 {
     walk(alloc, trusted, path, settings, &OfValues { verifier })
 }
@@ -228,7 +232,8 @@ pub fn validate_path_lent<'a, V: SliceVerifier>(
     settings: &PathSettings<'a>,
     verifier: &V,
 ) -> Result<Validated<'a>, ValidationFault>
-    ensures { (inputs : Inputs) → LendsInputs trusted.now settings.now inputs → Answers (V.accepts verifier.now) inputs (map (λ input. input.now) path.now) result }
+    ensures { (inputs : Inputs) → LendsInputs trusted.now settings.now inputs
+        → Answers (V.accepts verifier.now) inputs (map (λ input. input.now) path.now) result }
 {
     walk(alloc, trusted, path, settings, &OfSlices { verifier })
 }

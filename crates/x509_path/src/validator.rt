@@ -288,7 +288,8 @@ impl<S: Signatures> Validator<'_, S> {
             → Stands inputs above before self.now.moment stand.now.above stand.now.max_path_length stand.now.sets.now → Lends certificate.now.bytes.now c
             → lent_extensions extensions.now ≡ certificates.extensions_of c → MatchResult result
             (λ limits. (stand.now.is_last ≡ false → IsLimitOf c limits.basic_constraints limits.name_constraints)
-            × (Says c (said_by limits.policies) × JudgesAlone (S.accepts self.now.signatures.now) inputs (standing above before stand.now.is_last n) certificate.now.bytes.now index (Ok c)))
+            × (Says c (said_by limits.policies)
+            × JudgesAlone (S.accepts self.now.signatures.now) inputs (standing above before stand.now.is_last n) certificate.now.bytes.now index (Ok c)))
             (λ e. JudgesAlone (S.accepts self.now.signatures.now) inputs (standing above before stand.now.is_last n) certificate.now.bytes.now index (Err e)) }
     {
         let basic_constraints = basic_constraints(self.alloc, stand.is_last, extensions);
@@ -326,7 +327,8 @@ impl<S: Signatures> Validator<'_, S> {
             → Stands inputs above before self.now.moment stand.now.above stand.now.max_path_length stand.now.sets.now → Lends certificate.now.bytes.now c
             → MatchResult result
             (λ limits. (stand.now.is_last ≡ false → IsLimitOf c limits.basic_constraints limits.name_constraints)
-            × (Says c (said_by limits.policies) × JudgesAlone (S.accepts self.now.signatures.now) inputs (standing above before stand.now.is_last n) certificate.now.bytes.now index (Ok c)))
+            × (Says c (said_by limits.policies)
+            × JudgesAlone (S.accepts self.now.signatures.now) inputs (standing above before stand.now.is_last n) certificate.now.bytes.now index (Ok c)))
             (λ e. JudgesAlone (S.accepts self.now.signatures.now) inputs (standing above before stand.now.is_last n) certificate.now.bytes.now index (Err e)) }
     {
         match collect(self.alloc, certificate.extensions()) {
@@ -347,7 +349,8 @@ impl<S: Signatures> Validator<'_, S> {
             → Stands inputs above before self.now.moment stand.now.above stand.now.max_path_length stand.now.sets.now → Lends certificate.now.bytes.now c
             → MatchResult result
             (λ limits. (stand.now.is_last ≡ false → IsLimitOf c limits.basic_constraints limits.name_constraints)
-            × (Says c (said_by limits.policies) × JudgesAlone (S.accepts self.now.signatures.now) inputs (standing above before stand.now.is_last n) certificate.now.bytes.now index (Ok c)))
+            × (Says c (said_by limits.policies)
+            × JudgesAlone (S.accepts self.now.signatures.now) inputs (standing above before stand.now.is_last n) certificate.now.bytes.now index (Ok c)))
             (λ e. JudgesAlone (S.accepts self.now.signatures.now) inputs (standing above before stand.now.is_last n) certificate.now.bytes.now index (Err e)) }
     {
         match gather(certificate.extensions(), few) {
@@ -370,7 +373,8 @@ impl<S: Signatures> Validator<'_, S> {
             → Stands inputs above before self.now.moment stand.now.above stand.now.max_path_length stand.now.sets.now → Lends certificate.now.bytes.now c
             → MatchResult result
             (λ limits. (stand.now.is_last ≡ false → IsLimitOf c limits.basic_constraints limits.name_constraints)
-            × (Says c (said_by limits.policies) × JudgesAlone (S.accepts self.now.signatures.now) inputs (standing above before stand.now.is_last n) certificate.now.bytes.now index (Ok c)))
+            × (Says c (said_by limits.policies)
+            × JudgesAlone (S.accepts self.now.signatures.now) inputs (standing above before stand.now.is_last n) certificate.now.bytes.now index (Ok c)))
             (λ e. JudgesAlone (S.accepts self.now.signatures.now) inputs (standing above before stand.now.is_last n) certificate.now.bytes.now index (Err e)) }
     {
         let mut few = places();
@@ -387,8 +391,10 @@ impl<S: Signatures> Validator<'_, S> {
     ) -> Result<(CertificateRef<'a>, Limits<'a>), ValidationFault>
         ensures { (inputs : Inputs) (above : Anchor) (before : List certificates.Certificate) (n : ℕ)
             → Stands inputs above before self.now.moment stand.now.above stand.now.max_path_length stand.now.sets.now → MatchResult result
-            (λ judged. (c : certificates.Certificate) × Lends judged.0.bytes.now c × (stand.now.is_last ≡ false → IsLimitOf c judged.1.basic_constraints judged.1.name_constraints)
-            × (Says c (said_by judged.1.policies) × JudgesAlone (S.accepts self.now.signatures.now) inputs (standing above before stand.now.is_last n) bytes.now index (Ok c)))
+            (λ judged. (c : certificates.Certificate) × Lends judged.0.bytes.now c
+            × (stand.now.is_last ≡ false → IsLimitOf c judged.1.basic_constraints judged.1.name_constraints)
+            × (Says c (said_by judged.1.policies)
+            × JudgesAlone (S.accepts self.now.signatures.now) inputs (standing above before stand.now.is_last n) bytes.now index (Ok c)))
             (λ e. JudgesAlone (S.accepts self.now.signatures.now) inputs (standing above before stand.now.is_last n) bytes.now index (Err e)) }
     {
         let certificate = match CertificateRef::from_der(bytes) {

@@ -1,4 +1,5 @@
--- Levels by pairs: of a policy with one that leads to it, and with one that it expects. Each step of RFC 5280 6.1.3 (d) and 6.1.4 (b) is a filter of such pairs.
+-- Levels by pairs: of a policy with one that leads to it, and with one that it expects. Each step of RFC 5280 6.1.3 (d) and 6.1.4 (b) is a filter of such
+-- pairs.
 use Rattle.std.specs.Prelude.{◌≡◌, ◌↔◌, Bool, true, false, not, ◌&&◌, ◌||◌, List, [], ◌∷◌, ◌++◌, filter, map, if◌then◌else◌, Option, Some, None}
 use Rattle.x509_policy.specs.Values.{Policy, any_policy, is_any, has, Mapping}
 use Rattle.x509_policy.specs.Levels.{In, Level, IsAt, Expects}

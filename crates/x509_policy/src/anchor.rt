@@ -36,7 +36,8 @@ pub fn merged_policies<'a>(
     user: &[&'a [u8]],
     anchor: Option<&[&'a [u8]]>,
 ) -> Result<Vec<&'a [u8]>, AllocError>
-    ensures { IfOk result (λ found. (p : Policy) → In p (octets_of found.items) ↔ IsMerged (octets_of user.now) (option_map (λ s. octets_of s.now) anchor.entry) p) }
+    ensures { IfOk result (λ found. (p : Policy) → In p (octets_of found.items)
+        ↔ IsMerged (octets_of user.now) (option_map (λ s. octets_of s.now) anchor.entry) p) }
 {
     match anchor {
         Some(anchor) => common(alloc, user, anchor),

@@ -26,5 +26,6 @@ pub fn the_graph_answers_as_the_tree()
 #[tactic(auto, using(crate::proofs::Sizes::grows_by))]
 pub fn the_graph_grows_by_what_certificates_say()
     ensures { (policies : List Policy) (others : Bool) (mappings : List Mapping) (inhibited : Bool) (above : Level) → is_repeated policies ≡ false
-        → count_expected (prepared_level mappings inhibited (next_level (Some policies) others above)) ≤ count_expected above + length policies + length mappings }
+        → count_expected (prepared_level mappings inhibited (next_level (Some policies) others above))
+        ≤ count_expected above + length policies + length mappings }
 {}

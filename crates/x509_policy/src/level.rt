@@ -207,7 +207,8 @@ fn push_selves<'a>(
     policies: &[&'a [u8]],
     issuers: &PolicySet<'_>,
 ) -> Result<(), AllocError>
-    ensures { OnOk result (map expectation_of expectations.new.items ≡ map expectation_of expectations.old.items ++ edges.selves (has issuers.now) (octets_of policies.now)) }
+    ensures { OnOk result (map expectation_of expectations.new.items
+        ≡ map expectation_of expectations.old.items ++ edges.selves (has issuers.now) (octets_of policies.now)) }
 {
     for policy in policies {
         if !issuers.contains(policy) {
@@ -226,7 +227,8 @@ fn push_mapped<'a>(
     mappings: &[MappingView<'a>],
     there: &PolicySet<'_>,
 ) -> Result<(), AllocError>
-    ensures { OnOk result (map expectation_of expectations.new.items ≡ map expectation_of expectations.old.items ++ edges.mapped (has there.now) (map mapping_of mappings.now)) }
+    ensures { OnOk result (map expectation_of expectations.new.items
+        ≡ map expectation_of expectations.old.items ++ edges.mapped (has there.now) (map mapping_of mappings.now)) }
 {
     let all = there.contains(ANY_POLICY.as_slice());
     for mapping in mappings {

@@ -124,7 +124,8 @@ impl<'s, 'a> PolicyState<'s, 'a> {
     ) -> Result<Option<PolicyReason>, AllocError>
         ensures answer { (settings : Settings) (n : ℕ) (before : List Certificate) → Follows settings n before self.old
             → IfOk result (λ refusal. IsAnswered settings n before (certificate_of certificate.now) (option_map reason_of refusal) self.new) }
-        ensures kept { (settings : Settings) (n : ℕ) (before : List Certificate) → Follows settings n before self.old → OnErr result (Follows settings n before self.new) }
+        ensures kept { (settings : Settings) (n : ℕ) (before : List Certificate)
+            → Follows settings n before self.old → OnErr result (Follows settings n before self.new) }
     {
         let again = is_repeated(alloc, certificate)?;
         if again {

@@ -61,7 +61,8 @@ pub(crate) fn are_in_order(
 /// Whether both have the same IssuingDistributionPoint, and the same AuthorityKeyIdentifier.
 pub(crate) fn have_same_scope(complete: &CrlRef<'_>, delta: &CrlRef<'_>) -> bool
     ensures { (whole part : Crl) → LendsCrl complete.now.bytes.now whole → LendsCrl delta.now.bytes.now part
-        → IsTrue result ↔ (HaveSame (id_ce 28) (crl_extensions whole) (crl_extensions part) × HaveSame (id_ce 35) (crl_extensions whole) (crl_extensions part)) }
+        → IsTrue result ↔ (HaveSame (id_ce 28) (crl_extensions whole) (crl_extensions part)
+        × HaveSame (id_ce 35) (crl_extensions whole) (crl_extensions part)) }
 {
     let first = complete.extensions();
     let second = delta.extensions();

@@ -68,7 +68,8 @@ fn has_directory_name(issuer: &[u8]) -> bool
 
 /// Whether the directory name matches the name, where there is one.
 fn is_name(alloc: Global, directory: Option<&[u8]>, name: &[u8]) -> Result<bool, AllocError>
-    ensures { IfOk result (λ found. (first : name_types.GeneralName) (x : Name) → LendsDirectory first (option_copied directory.entry) → Spells grammar.name x name.now
+    ensures { IfOk result (λ found. (first : name_types.GeneralName) (x : Name)
+        → LendsDirectory first (option_copied directory.entry) → Spells grammar.name x name.now
         → IsTrue found ↔ GeneralNamesMatch (general.DirectoryName x) first) }
 {
     match directory {

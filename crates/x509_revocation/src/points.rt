@@ -167,7 +167,8 @@ impl Sides<'_> {
         rdn: &RelativeDistinguishedName,
     ) -> Result<bool, AllocError>
         ensures { IfOk result (λ b. (sides : scopes.Sides) → LendsSides self.now sides
-            → IsTrue b ↔ HaveMatch (scopes.whole_names (Some sides.own) place.now) (scopes.whole_names (Some issuer.now) (places.NameRelativeToCRLIssuer rdn.now))) }
+            → IsTrue b
+            ↔ HaveMatch (scopes.whole_names (Some sides.own) place.now) (scopes.whole_names (Some issuer.now) (places.NameRelativeToCRLIssuer rdn.now))) }
     {
         let names = [made_whole(self.alloc, issuer, rdn)?];
         self.own_match(place, &names)
@@ -181,7 +182,8 @@ impl Sides<'_> {
         crl_issuer: &Option<GeneralNames>,
     ) -> Result<bool, AllocError>
         ensures { IfOk result (λ b. (sides : scopes.Sides) → LendsSides self.now sides
-            → IsTrue b ↔ scopes.MatchPoint sides.issuer (scopes.whole_names (Some sides.own) place.now) (Some (places.NameRelativeToCRLIssuer rdn.now)) crl_issuer.now) }
+            → IsTrue b
+            ↔ scopes.MatchPoint sides.issuer (scopes.whole_names (Some sides.own) place.now) (Some (places.NameRelativeToCRLIssuer rdn.now)) crl_issuer.now) }
     {
         match crl_issuer {
             Some(names) => match single_name(names.as_slice()) {

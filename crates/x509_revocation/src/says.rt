@@ -154,7 +154,8 @@ impl<'a, V: SliceVerifier> Asked<'_, '_, '_, 'a, V> {
 
     /// Whether the delta CRL is one to the complete CRL, its entries aside.
     fn fits(&self, complete: &SignedCrl<'_, '_>, delta: &CrlRef<'_>) -> Result<bool, AllocError>
-        ensures { IfOk result (λ b. (c : Certificate) (g d : GivenCrl) → LendsGiven complete.now g → LendsCrl delta.now.bytes.now d.crl → delta.now.bytes.now ≡ d.bytes
+        ensures { IfOk result (λ b. (c : Certificate) (g d : GivenCrl)
+            → LendsGiven complete.now g → LendsCrl delta.now.bytes.now d.crl → delta.now.bytes.now ≡ d.bytes
             → IsTrue b ↔ Fits (question (V.accepts self.now.verifier.now) self.now.settings.now c) g d) }
     {
         let whole = complete.crl;
@@ -201,7 +202,8 @@ impl<'a, V: SliceVerifier> Asked<'_, '_, '_, 'a, V> {
         ensures { IfOk result (λ looked. (c : Certificate) (all : List GivenCrl) (g : GivenCrl) → Lends self.now.certificate.now.bytes.now c
             → LendsAll self.now.crls.now all → LendsGiven complete.now g
             → MatchOption looked (FindsDelta (question (V.accepts self.now.verifier.now) self.now.settings.now c) is_indirect g 0 all None)
-            (λ found. (d : GivenCrl) × FindsDelta (question (V.accepts self.now.verifier.now) self.now.settings.now c) is_indirect g 0 all (Some (found.place, d))
+            (λ found. (d : GivenCrl)
+            × FindsDelta (question (V.accepts self.now.verifier.now) self.now.settings.now c) is_indirect g 0 all (Some (found.place, d))
             × FindsEntry c d.crl (option_map lent_entry found.entry))) }
     {
         let crls = self.crls;
@@ -256,7 +258,8 @@ impl<'a, V: SliceVerifier> Asked<'_, '_, '_, 'a, V> {
     ) -> Result<Step, AllocError>
         ensures { IfOk result (λ step. (c : Certificate) (all : List GivenCrl) (g : GivenCrl) → Lends self.now.certificate.now.bytes.now c
             → LendsAll self.now.crls.now all → LendsGiven complete.now g → FindsAt c own.now.place g.crl (placed_entry own.now)
-            → (found : Option (ℕ × Entry)) × FindsWith (question (V.accepts self.now.verifier.now) self.now.settings.now c) is_indirect all own.now.place g found
+            → (found : Option (ℕ × Entry))
+            × FindsWith (question (V.accepts self.now.verifier.now) self.now.settings.now c) is_indirect all own.now.place g found
             × ((revoked : Option revocations.Revocation) × Tells found revoked × (step ≡ step_of rest revoked))) }
     {
         match self.find_in_delta(complete, is_indirect) {
@@ -276,7 +279,8 @@ impl<'a, V: SliceVerifier> Asked<'_, '_, '_, 'a, V> {
         left: ReasonFlags,
         rest: ReasonFlags,
     ) -> Result<Step, AllocError>
-        ensures { IfOk result (λ step. (c : Certificate) (all : List GivenCrl) (g : GivenCrl) (reasons : reason_sets.Reasons) → Lends self.now.certificate.now.bytes.now c
+        ensures { IfOk result (λ step. (c : Certificate) (all : List GivenCrl) (g : GivenCrl) (reasons : reason_sets.Reasons)
+            → Lends self.now.certificate.now.bytes.now c
             → LendsAll self.now.crls.now all → LendsGiven given.now g
             → IsComplete self.now.settings.now.without_next_update self.now.settings.now.moment g → Covers c g.crl list.now reasons
             → AddsTo left reasons → rest ≡ minus left reasons
@@ -298,7 +302,8 @@ impl<'a, V: SliceVerifier> Asked<'_, '_, '_, 'a, V> {
 
     /// Whether the CRL is complete, ready, and that of its signer.
     fn is_usable(&self, given: &SignedCrl<'_, '_>) -> Result<bool, AllocError>
-        ensures { IfOk result (λ b. (g : GivenCrl) → LendsGiven given.now g → IsTrue b ↔ IsComplete self.now.settings.now.without_next_update self.now.settings.now.moment g) }
+        ensures { IfOk result (λ b. (g : GivenCrl) → LendsGiven given.now g
+            → IsTrue b ↔ IsComplete self.now.settings.now.without_next_update self.now.settings.now.moment g) }
     {
         let crl = given.crl;
         if !is_ready(self.settings, crl) || !is_complete(crl) {
@@ -315,7 +320,8 @@ impl<'a, V: SliceVerifier> Asked<'_, '_, '_, 'a, V> {
         place: usize,
         given: &SignedCrl<'_, 'a>,
     ) -> Result<Step, AllocError>
-        ensures { IfOk result (λ step. (c : Certificate) (all : List GivenCrl) (g : GivenCrl) → Lends self.now.certificate.now.bytes.now c → HasPoints c self.now.points.now
+        ensures { IfOk result (λ step. (c : Certificate) (all : List GivenCrl) (g : GivenCrl)
+            → Lends self.now.certificate.now.bytes.now c → HasPoints c self.now.points.now
             → LendsAll self.now.crls.now all → LendsGiven given.now g
             → Steps (question (V.accepts self.now.verifier.now) self.now.settings.now c) all place left g step) }
     {

@@ -103,7 +103,8 @@ fn split_part<'a>(alloc: Global, octets: &'a [u8]) -> Result<(TbsCertList<Raw>, 
 /// The same of the part that is signed at the front.
 #[tactic(auto, unfolding(x509_der::specs::Frames::field_at))]
 fn take_part<'a>(alloc: Global, rest: &mut &'a [u8]) -> Result<(TbsCertList<Raw>, &'a [u8]), Error>
-    ensures { GivesSoBefore (λ part split. IsSplitPart part split.0 split.1.now) result rest.new.now ((required (any_tbs_cert_list {P = Raw})).reading rest.old.now) }
+    ensures { GivesSoBefore (λ part split. IsSplitPart part split.0 split.1.now) result rest.new.now
+        ((required (any_tbs_cert_list {P = Raw})).reading rest.old.now) }
 {
     let piece = split_usual(*rest, Tag::Sequence)?;
     if piece.tag != Tag::Sequence.octet() {

@@ -1,6 +1,6 @@
 //! A program over lines of hex text and of names: its words, its input, its answer and its status. What it makes of the
-//! bytes is for a [`Codec`](x509_codec::Codec), a [`NameCodec`](x509_codec::NameCodec) and a [`PathCodec`](x509_codec::PathCodec) to say. Words of our own are explained in
-//! `docs/MAP.md`.
+//! bytes is for a [`Codec`](x509_codec::Codec), a [`NameCodec`](x509_codec::NameCodec) and a [`PathCodec`](x509_codec::PathCodec) to say. Words of our own are
+//! explained in `docs/MAP.md`.
 #![tactic(auto)]
 
 mod arguments;

@@ -225,8 +225,8 @@ def is_valid(info: bytes, algorithm: AlgorithmIdentifier, message: bytes, signat
 
 
 def how(algorithm: AnyAlgorithm, signer: AnySigner, private_key: PrivateKeyOfCryptography | None, rsa_padding: Any) -> tuple[bytes, Signer, bytes | None]:
-    """The algorithm, what signs, and of a key of `cryptography` its public key. What is given is an algorithm and a function that signs; or such a key and a hash, in
-    this order, or by their names."""
+    """The algorithm, what signs, and of a key of `cryptography` its public key. What is given is an algorithm and a function that signs; or such a key and a
+    hash, in this order, or by their names."""
     key: Any = private_key
     hashed: Any = algorithm
     if key is None and hasattr(algorithm, "sign") and hasattr(algorithm, "public_key") and not isinstance(algorithm, type):

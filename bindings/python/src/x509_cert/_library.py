@@ -1,7 +1,7 @@
 """The C library of `include/x509.h`, by `ctypes`: its structs, its statuses, and one way to call it.
 
-The library is the one that the environment variable X509_LIBRARY names, as for the crate for Rust: by its folder, by its file, or by that of a static library beside it;
-or else the one that this package carries; or else that with this package's soname, or `libx509.so`, as the system finds it.
+The library is the one that the environment variable X509_LIBRARY names, as for the crate for Rust: by its folder, by its file, or by that of a static library
+beside it; or else the one that this package carries; or else that with this package's soname, or `libx509.so`, as the system finds it.
 """
 
 from __future__ import annotations
@@ -18,8 +18,8 @@ RFC5280, RAW = 0, 1
 
 
 class X509Error(ValueError):
-    """A call was refused. `status` is its number in `x509.h`. Of a text that isn't of its form `place` is the index of the first part that can't be read: of a name an
-    attribute, of an object identifier a number; where the text ends too soon, its length."""
+    """A call was refused. `status` is its number in `x509.h`. Of a text that isn't of its form `place` is the index of the first part that can't be read: of a
+    name an attribute, of an object identifier a number; where the text ends too soon, its length."""
 
     TEXTS = {
         OVERLENGTH: "longer than 268,435,455 bytes",

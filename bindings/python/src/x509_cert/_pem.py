@@ -37,8 +37,8 @@ def encoded(data: bytes, label: str | None, encoding: object) -> bytes:
 
 
 def blocks(data: bytes, labels: tuple[str, ...]) -> list[bytes]:
-    """The DER in each block with one of these labels, in order; other blocks, and what stands between blocks, are passed over. A ValueError where there is none,
-    one has no end, or one isn't base64."""
+    """The DER in each block with one of these labels, in order; other blocks, and what stands between blocks, are passed over. A ValueError where there is
+    none, one has no end, or one isn't base64."""
     found: list[bytes] = []
     label: str | None = None
     lines: list[bytes] = []

@@ -52,14 +52,14 @@ class Signed:
 
     @property
     def signature_hash_algorithm(self) -> Any:
-        """The hash of the signature: one of `cryptography`, where it is there, else a HashAlgorithm; None where the message is signed as it is. UnsupportedAlgorithm
-        of `cryptography`, or else a NotImplementedError, where the algorithm isn't known."""
+        """The hash of the signature: one of `cryptography`, where it is there, else a HashAlgorithm; None where the message is signed as it is.
+        UnsupportedAlgorithm of `cryptography`, or else a NotImplementedError, where the algorithm isn't known."""
         return _cryptography.signature_hash(self.signature_algorithm)
 
     @property
     def signature_algorithm_parameters(self) -> Any:
-        """What `cryptography` verifies the signature by, beside the hash: a padding, an ECDSA, or None. An ImportError without it; `signature_algorithm.parameters` is
-        their DER."""
+        """What `cryptography` verifies the signature by, beside the hash: a padding, an ECDSA, or None. An ImportError without it;
+        `signature_algorithm.parameters` is their DER."""
         return _cryptography.signature_parameters(self.signature_algorithm)
 
     def _verify(self, key: bytes) -> None:

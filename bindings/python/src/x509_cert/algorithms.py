@@ -74,8 +74,8 @@ _NULL = element(NULL)
 
 
 def way_of(algorithm: AlgorithmIdentifier) -> tuple[str, str | None] | None:
-    """By which way an algorithm signs, and by which hash, where its identifier says that; None where it isn't known, or has parameters that it can't have (RFC 4055 5,
-    RFC 5758 3, RFC 8410 3)."""
+    """By which way an algorithm signs, and by which hash, where its identifier says that; None where it isn't known, or has parameters that it can't have (RFC
+    4055 5, RFC 5758 3, RFC 8410 3)."""
     way = _WAYS.get(algorithm.oid)
     if way is None or way[0] == PSS:
         return way
@@ -83,8 +83,8 @@ def way_of(algorithm: AlgorithmIdentifier) -> tuple[str, str | None] | None:
 
 
 def algorithm_of(way: str, hash_name: str) -> AlgorithmIdentifier | None:
-    """The algorithm that signs in that way by that hash, but for PSS; None where there is none. Those of RSA have NULL for parameters, and others have none (RFC
-    4055 5, RFC 5758 3)."""
+    """The algorithm that signs in that way by that hash, but for PSS; None where there is none. Those of RSA have NULL for parameters, and others have none
+    (RFC 4055 5, RFC 5758 3)."""
     oid = _OF_WAYS.get((way, hash_name))
     return None if oid is None else _written(oid, _NULL if way == RSA else b"")
 
@@ -106,7 +106,8 @@ def pss_algorithm(of: PssParameters) -> AlgorithmIdentifier:
 
 
 def pss_parameters(algorithm: AlgorithmIdentifier) -> PssParameters | None:
-    """The parameters of RSASSA-PSS; None where a hash or the mask isn't known, or the trailer is another than 1. An X509Error where they aren't of that form."""
+    """The parameters of RSASSA-PSS; None where a hash or the mask isn't known, or the trailer is another than 1. An X509Error where they aren't of that
+    form."""
     parts = {}
     if algorithm.parameters is not None:
         found = elements(only(algorithm.parameters, SEQUENCE, "the parameters of RSASSA-PSS").content)

@@ -4,10 +4,10 @@ A builder isn't changed: each method gives a further one. What is given is encod
 type, a ValueError where it can't stand there. An X509Error is the library's ValueError. What is signed is written by the C library; the private key stays with
 the signer. Times have a time zone, and no fractions of a second.
 
-The methods that sign take an algorithm and a signer, a function from the bytes to be signed to the octets of their signature; or in their place a private key of
-`cryptography` and a hash, also by the names private_key and algorithm, and of an RSA key rsa_padding. An algorithm is one of SignatureAlgorithm, another
-AlgorithmIdentifier, or the DER of one. A public key is one of `cryptography`, a PublicKey, or the DER of a SubjectPublicKeyInfo. That a signature is one of these
-bytes isn't checked.
+The methods that sign take an algorithm and a signer, a function from the bytes to be signed to the octets of their signature; or in their place a private key
+of `cryptography` and a hash, also by the names private_key and algorithm, and of an RSA key rsa_padding. An algorithm is one of SignatureAlgorithm, another
+AlgorithmIdentifier, or the DER of one. A public key is one of `cryptography`, a PublicKey, or the DER of a SubjectPublicKeyInfo. That a signature is one of
+these bytes isn't checked.
 """
 
 from __future__ import annotations
@@ -280,9 +280,9 @@ class CertificateBuilder(_WithExtensions):
 
 
 class CertificateRevocationListBuilder(_WithExtensions):
-    """A CRL of v2. Its first extensions are its number and the identifier of the issuer's key (RFC 5280 5.2.1, 5.2.3), which the builder makes; those that are added
-    come behind them. The issuer is given by its certificate, or by its name; with the name the number and the identifier may also be added as
-    extensions, and where no identifier is, it is that of the private key of `cryptography` that signs."""
+    """A CRL of v2. Its first extensions are its number and the identifier of the issuer's key (RFC 5280 5.2.1, 5.2.3), which the builder makes; those that are
+    added come behind them. The issuer is given by its certificate, or by its name; with the name the number and the identifier may also be added as extensions,
+    and where no identifier is, it is that of the private key of `cryptography` that signs."""
 
     def __init__(self) -> None:
         super().__init__()
@@ -324,13 +324,15 @@ class CertificateRevocationListBuilder(_WithExtensions):
         return self._with(_next_update=time)
 
     def add_extension(self, extval: ExtensionType, critical: bool) -> CertificateRevocationListBuilder:
-        """With this extension behind the others; a ValueError where there is one of its identifier, or the builder makes it: the number and the identifier of the
-        key are taken where the issuer's name was given before, not critical, and the identifier without the issuer of a certificate."""
+        """With this extension behind the others; a ValueError where there is one of its identifier, or the builder makes it: the number and the identifier of
+        the key are taken where the issuer's name was given before, not critical, and the identifier without the issuer of a certificate."""
         oid = instance(extval, ExtensionType, "extval").oid
         if oid not in (ExtensionOID.CRL_NUMBER, ExtensionOID.AUTHORITY_KEY_IDENTIFIER):
             return super().add_extension(extval, critical)
         if self._issuer_name is None:
-            raise ValueError("the CRL number is given by crl_number, and the identifier of the issuer's key is that of its certificate; issuer_name allows both")
+            raise ValueError(
+                "the CRL number is given by crl_number, and the identifier of the issuer's key is that of its certificate; issuer_name allows both"
+            )
         if instance(critical, bool, "critical"):
             raise ValueError("the CRL number and the identifier of the issuer's key aren't critical (RFC 5280 5.2.1, 5.2.3)")
         if oid == ExtensionOID.CRL_NUMBER:
@@ -373,8 +375,8 @@ class CertificateRevocationListBuilder(_WithExtensions):
         )
 
     def _issuer_bytes(self, algorithm: bytes, key: bytes | None) -> bytes:
-        """The issuer's certificate. Of a name it is made for the library, which takes the name and the identifier of the key from one: it is signed by nobody, and
-        nobody sees it."""
+        """The issuer's certificate. Of a name it is made for the library, which takes the name and the identifier of the key from one: it is signed by nobody,
+        and nobody sees it."""
         if self._issuer_name is None:
             return _needed(self._issuer, "the issuer").public_bytes()
         identifier = self._key_identifier
@@ -432,7 +434,8 @@ class CertificateSigningRequestBuilder(_WithExtensions):
     def add_attribute(
         self, oid: ObjectIdentifier, value: bytes, tag: int | ASN1Type = UTF8_STRING, *, _tag: ASN1Type | None = None
     ) -> CertificateSigningRequestBuilder:
-        """With a further attribute of one value, by its content octets and its identifier octet, which is that of a UTF8String; `cryptography` says it by _tag."""
+        """With a further attribute of one value, by its content octets and its identifier octet, which is that of a UTF8String; `cryptography` says it by
+        _tag."""
         tag = tag if _tag is None else instance(_tag, ASN1Type, "_tag")
         content, octet = octets(value, "a value"), _below(tag.value if isinstance(tag, ASN1Type) else tag, 256, "tag")
         if octet == UTF8_STRING:

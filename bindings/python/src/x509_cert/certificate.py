@@ -9,14 +9,13 @@ import importlib
 import secrets
 from typing import Any, NamedTuple, Sequence
 
-from . import _cryptography
 from ._given import instance, octets
+from ._keyed import Keyed
 from ._library import FAULT, OK, RAW, RFC5280, CertificateView, PathFaultView, SignatureView, Span, X509Error, fill, status_of, view
 from ._numbers import moment, whole_number
 from ._pem import blocks, refuse_pem
 from ._signed import Signed
 from .extensions import Extensions
-from .key import PublicKey
 from .name import Name
 from .oid import ObjectIdentifier
 
@@ -41,7 +40,7 @@ class UniqueIdentifier(NamedTuple):
     unused_bits: int
 
 
-class Certificate(Signed):
+class Certificate(Keyed, Signed):
     """A certificate, by its DER."""
 
     _label = "CERTIFICATE"
@@ -86,25 +85,6 @@ class Certificate(Signed):
         return moment(int(self._view.not_after))
 
     @property
-    def public_key_bytes(self) -> bytes:
-        """The DER of the SubjectPublicKeyInfo."""
-        return self._view.subject_public_key_info.of(self._data)
-
-    @property
-    def public_key_info(self) -> PublicKey:
-        """The key, by its kind and its bits."""
-        return PublicKey(self.public_key_bytes)
-
-    def public_key(self) -> Any:
-        """The key as `cryptography` reads it, where that is there; else `public_key_info`."""
-        return _cryptography.public_key(self.public_key_bytes)
-
-    @property
-    def public_key_algorithm_oid(self) -> ObjectIdentifier:
-        """The identifier of the key's algorithm."""
-        return self.public_key_info.algorithm_oid
-
-    @property
     def issuer_unique_id(self) -> UniqueIdentifier | None:
         """A further name of the issuer (RFC 5280 4.1.2.8)."""
         return self._unique_id(self._view.issuer_unique_id, int(self._view.issuer_unused_bits))
@@ -136,10 +116,10 @@ class Certificate(Signed):
         return view("x509_certificate_signature", SignatureView, self._data)
 
     def verify_directly_issued_by(self, issuer: Certificate) -> None:
-        """Whether the issuer's certificate has the name that this one says, byte for byte, and its key verifies the signature, by `cryptography`. A ValueError where
-        the name is another, or the algorithm is another than in the signed part (RFC 5280 4.1.1.2) or none for such keys; InvalidSignature of `cryptography`
-        where the signature is none, a TypeError where the issuer's key is of a kind that verifies none. Nothing else is looked at: no date, and not whether the
-        issuer is an authority."""
+        """Whether the issuer's certificate has the name that this one says, byte for byte, and its key verifies the signature, by `cryptography`. A ValueError
+        where the name is another, or the algorithm is another than in the signed part (RFC 5280 4.1.1.2) or none for such keys; InvalidSignature of
+        `cryptography` where the signature is none, a TypeError where the issuer's key is of a kind that verifies none. Nothing else is looked at: no date, and
+        not whether the issuer is an authority."""
         fault = path_fault(instance(issuer, Certificate, "the issuer")._data, [self._data], int(self._view.not_before))
         if fault is not None and fault[1] in _UNFIT:
             raise ValueError(f"the certificate {_UNFIT[fault[1]]}")

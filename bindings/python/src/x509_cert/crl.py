@@ -195,8 +195,8 @@ class CertificateRevocationList(Signed):
         return _entry(found, self._entries)
 
     def issued_entries(self) -> Iterator[tuple[RevokedCertificate, CertificateIssuer | None]]:
-        """The entries of an indirect CRL, each with who issued its certificate (RFC 5280 5.3.3): the names of the last entry up to it that has a CertificateIssuer,
-        and None where none has it, so that the issuer of the CRL did."""
+        """The entries of an indirect CRL, each with who issued its certificate (RFC 5280 5.3.3): the names of the last entry up to it that has a
+        CertificateIssuer, and None where none has it, so that the issuer of the CRL did."""
         at, issuer = ctypes.c_size_t(), Span()
         while self._entries:
             found = CrlEntryView()

@@ -316,8 +316,8 @@ REASONS = (
 
 class DistributionPoint:
     """Where a CRL is found, for which reasons, and who issues it (RFC 5280 4.2.1.13): it has a full name, or one relative to the issuer of the CRL, or an
-    issuer. Reasons are given as ReasonFlags or by the names of their bits, as keyCompromise; `reasons` has ReasonFlags, each of which is that text too. None means
-    all."""
+    issuer. Reasons are given as ReasonFlags or by the names of their bits, as keyCompromise; `reasons` has ReasonFlags, each of which is that text too. None
+    means all."""
 
     def __init__(
         self,
@@ -537,8 +537,8 @@ class IssuingDistributionPoint(ExtensionType):
 
 
 class ReasonFlags(str, enum.Enum):
-    """Why a certificate was revoked (RFC 5280 5.3.1). Each is the text that names it there, as keyCompromise, which is its value in `cryptography`; `value` is its
-    number. Both the number and the text give the reason: ReasonFlags(1), ReasonFlags("keyCompromise")."""
+    """Why a certificate was revoked (RFC 5280 5.3.1). Each is the text that names it there, as keyCompromise, which is its value in `cryptography`; `value` is
+    its number. Both the number and the text give the reason: ReasonFlags(1), ReasonFlags("keyCompromise")."""
 
     unspecified = 0, "unspecified"
     key_compromise = 1, "keyCompromise"

@@ -67,9 +67,9 @@ _RSA_KINDS = (KeyKind.rsa, KeyKind.rsa_pss)
 
 
 class PublicKey:
-    """A public key, by what its SubjectPublicKeyInfo says: its kind, its algorithm with the DER of the parameters, its bits, and its size. The numbers of an RSA key,
-    the curve and the point of one of an elliptic curve are read when they are asked for: each is an X509Error where the key hasn't that form, and None where
-    its kind has no such part."""
+    """A public key, by what its SubjectPublicKeyInfo says: its kind, its algorithm with the DER of the parameters, its bits, and its size. The numbers of an
+    RSA key, the curve and the point of one of an elliptic curve are read when they are asked for: each is an X509Error where the key hasn't that form, and None
+    where its kind has no such part."""
 
     def __init__(self, data: bytes) -> None:
         self._data = octets(data, "a public key")
@@ -122,9 +122,9 @@ class PublicKey:
 
     @property
     def key_size(self) -> int | None:
-        """Its size in bits: of an RSA key that of the modulus, of a DSA key that of the prime, which the parameters have, of an elliptic curve that of a coordinate,
-        where the curve has a name that the library knows, and of a key of RFC 8410 that of its octets, as 256 of X25519, of which OpenSSL says 253; None where it
-        isn't known, as where the numbers of an RSA key aren't there."""
+        """Its size in bits: of an RSA key that of the modulus, of a DSA key that of the prime, which the parameters have, of an elliptic curve that of a
+        coordinate, where the curve has a name that the library knows, and of a key of RFC 8410 that of its octets, as 256 of X25519, of which OpenSSL says 253;
+        None where it isn't known, as where the numbers of an RSA key aren't there."""
         return self._size or None
 
     def __eq__(self, other: object) -> bool:

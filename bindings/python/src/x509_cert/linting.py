@@ -1,4 +1,4 @@
-"""The rules that certificates, CRLs and CSRs break, beyond the grammar."""
+"""The rules that certificates, CRLs, CSRs and trust anchors break, beyond the grammar."""
 
 from __future__ import annotations
 
@@ -8,12 +8,12 @@ import enum
 from ._library import FindingView, Span, fill, walk
 from .certificate import Certificate
 from .crl import CertificateRevocationList
-from .request import CertificateSigningRequest
+from .request import CertificateSigningRequest, TrustAnchor
 
 
 class Severity(enum.Enum):
-    """How bad it is to break a rule: the standard says MUST, or has a size or a type that isn't met (`error`); it says SHOULD (`warning`); or it allows what the
-    library doesn't read, so that rules on it aren't judged (`not_judged`)."""
+    """How bad it is to break a rule: the standard says MUST, or has a size or a type that isn't met (`error`); it says SHOULD (`warning`); or it allows what
+    the library doesn't read, so that rules on it aren't judged (`not_judged`)."""
 
     error = "error"
     warning = "warning"
@@ -22,8 +22,8 @@ class Severity(enum.Enum):
 
 @dataclasses.dataclass(frozen=True)
 class Finding:
-    """A rule that an object breaks: its name, as serial_number_not_positive; how bad that is; the standard with the section, as RFC 5280 4.1.2.2; where in the object
-    it is broken, in the field names of the standard, as tbsCertificate.serialNumber; and what is seen there, in hex, or empty where nothing is told."""
+    """A rule that an object breaks: its name, as serial_number_not_positive; how bad that is; the standard with the section, as RFC 5280 4.1.2.2; where in the
+    object it is broken, in the field names of the standard, as tbsCertificate.serialNumber; and what is seen there, in hex, or empty where nothing is told."""
 
     rule: str
     severity: Severity
@@ -39,14 +39,16 @@ _CALLS = {
     Certificate: "x509_certificate_lint",
     CertificateRevocationList: "x509_crl_lint",
     CertificateSigningRequest: "x509_request_lint",
+    TrustAnchor: "x509_anchor_lint",
 }
 
 
-def lint(given: Certificate | CertificateRevocationList | CertificateSigningRequest) -> list[Finding]:
-    """The rules that the certificate, the CRL (RFC 5280) or the CSR (RFC 2986, RFC 2985) breaks beyond the grammar, in the order of the rules; none where it breaks none."""
+def lint(given: Certificate | CertificateRevocationList | CertificateSigningRequest | TrustAnchor) -> list[Finding]:
+    """The rules that the certificate, the CRL (RFC 5280), the CSR (RFC 2986, RFC 2985) or the trust anchor (RFC 5914) breaks beyond the grammar, in the order of
+    the rules; none where it breaks none."""
     call = next((call for kind, call in _CALLS.items() if isinstance(given, kind)), None)
     if call is None:
-        raise TypeError(f"a Certificate, a CertificateRevocationList or a CertificateSigningRequest is linted, not a {type(given).__name__}")
+        raise TypeError(f"a Certificate, a CertificateRevocationList, a CertificateSigningRequest or a TrustAnchor is linted, not a {type(given).__name__}")
     lines = fill(call, given.public_bytes())
 
     def text(part: Span) -> str:

@@ -183,7 +183,8 @@ class Name:
 
     @classmethod
     def from_rfc4514_string(cls, text: str) -> Name:
-        """The name that the text reads as; an X509Error with a place where it reads as none. What isn't yours to write goes into it by `escape_rfc4514_value`."""
+        """The name that the text reads as; an X509Error with a place where it reads as none. What isn't yours to write goes into it by
+        `escape_rfc4514_value`."""
         return cls(read_text("x509_name_from_text", instance(text, str, "the text of a name"), place_in_name))
 
     def rfc4514_string(self) -> str:
@@ -195,9 +196,9 @@ class Name:
         return encoded(self._data, None, encoding)
 
     def matches(self, other: Name) -> bool:
-        """Whether the names match (RFC 5280 7.1): they have as many relative names, in order, and in each as many attributes, in any order, of the same types, whose
-        values are the same or are texts that differ in case, in spaces at their ends or in how many stand within alone, as RFC 4518 prepares texts. `==` compares
-        the bytes."""
+        """Whether the names match (RFC 5280 7.1): they have as many relative names, in order, and in each as many attributes, in any order, of the same types,
+        whose values are the same or are texts that differ in case, in spaces at their ends or in how many stand within alone, as RFC 4518 prepares texts. `==`
+        compares the bytes."""
         return number("x509_names_match", self._data, instance(other, Name, "the other name").public_bytes()) == 1
 
     @property

@@ -1,5 +1,5 @@
-"""Further extensions: of the time in which a private key is used, of the entries of CRLs, and marks (RFC 3280 4.2.1.4, RFC 5280 4.2.1.8, 5.3, RFC 6960 4.2.2.2.1,
-RFC 6962 3.1, RFC 7633)."""
+"""Further extensions: of the time in which a private key is used, of the entries of CRLs, and marks (RFC 3280 4.2.1.4, RFC 5280 4.2.1.8, 5.3, RFC 6960
+4.2.2.2.1, RFC 6962 3.1, RFC 7633)."""
 
 from __future__ import annotations
 

@@ -36,9 +36,9 @@ def check_path(
 ) -> list[Certificate]:
     """The certificates of a path, topmost first, where it holds at the moment under the subject and the key of the anchor; a PathFault else.
 
-    The anchor and the certificates are a Certificate or its DER each. `verify(public_key, algorithm, message, signature)` says whether the bits are a signature of
-    the message: it is given the DER of the key and of the algorithm. Where it isn't given, `cryptography` verifies. Policies, name constraints and revocation
-    aren't looked at.
+    The anchor and the certificates are a Certificate or its DER each. `verify(public_key, algorithm, message, signature)` says whether the bits are a signature
+    of the message: it is given the DER of the key and of the algorithm. Where it isn't given, `cryptography` verifies. Policies, name constraints and
+    revocation aren't looked at.
     """
     begun = seconds(moment, "the moment")
     anchor = anchor if isinstance(anchor, Certificate) else Certificate(anchor)

@@ -22,14 +22,13 @@ from ._library import (
     view,
     walk,
 )
-from . import _cryptography
 from ._extension import _part
 from ._given import octets
+from ._keyed import Keyed
 from ._pem import Encoding, blocks, encoded, refuse_pem
 from ._signed import Signed
 from .certificate import Certificate
 from .extensions import Extensions, _subtrees
-from .key import PublicKey
 from .name import Name
 from .oid import ObjectIdentifier
 from .policies import policies_under
@@ -75,7 +74,7 @@ class Attributes(list[Attribute]):
         raise AttributeNotFound(oid)
 
 
-class CertificateSigningRequest(Signed):
+class CertificateSigningRequest(Keyed, Signed):
     """A CSR, by its DER."""
 
     _label = "CERTIFICATE REQUEST"
@@ -88,25 +87,6 @@ class CertificateSigningRequest(Signed):
     @property
     def subject(self) -> Name:
         return Name(self._view.subject.of(self._data))
-
-    @property
-    def public_key_bytes(self) -> bytes:
-        """The DER of the SubjectPublicKeyInfo."""
-        return self._view.subject_public_key_info.of(self._data)
-
-    @property
-    def public_key_info(self) -> PublicKey:
-        """The key, by its kind and its bits."""
-        return PublicKey(self.public_key_bytes)
-
-    def public_key(self) -> Any:
-        """The key as `cryptography` reads it, where that is there; else `public_key_info`."""
-        return _cryptography.public_key(self.public_key_bytes)
-
-    @property
-    def public_key_algorithm_oid(self) -> ObjectIdentifier:
-        """The identifier of the key's algorithm."""
-        return self.public_key_info.algorithm_oid
 
     @property
     def attributes(self) -> Attributes:
@@ -230,7 +210,7 @@ class PathControls:
         return f"<PathControls(name={self.name!r}, path_length={self.path_length})>"
 
 
-class TrustAnchor:
+class TrustAnchor(Keyed):
     """A trust anchor, by its DER."""
 
     def __init__(self, data: bytes) -> None:
@@ -255,25 +235,6 @@ class TrustAnchor:
     def name(self) -> Name | None:
         found = _part(self._view.name, self._data)
         return None if found is None else Name(found)
-
-    @property
-    def public_key_bytes(self) -> bytes:
-        """The DER of the SubjectPublicKeyInfo."""
-        return self._view.subject_public_key_info.of(self._data)
-
-    @property
-    def public_key_info(self) -> PublicKey:
-        """The key, by its kind and its bits."""
-        return PublicKey(self.public_key_bytes)
-
-    def public_key(self) -> Any:
-        """The key as `cryptography` reads it, where that is there; else `public_key_info`."""
-        return _cryptography.public_key(self.public_key_bytes)
-
-    @property
-    def public_key_algorithm_oid(self) -> ObjectIdentifier:
-        """The identifier of the key's algorithm."""
-        return self.public_key_info.algorithm_oid
 
     @property
     def key_identifier(self) -> bytes | None:

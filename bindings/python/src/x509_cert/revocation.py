@@ -39,8 +39,8 @@ class RevocationState(enum.Enum):
 
 @dataclasses.dataclass(frozen=True)
 class RevocationStatus:
-    """What CRLs say of a certificate. Of one that is revoked: which CRL says so, by its place from 0, when it was, and why, `unspecified` where the entry gives no reason. Of
-    one that is undetermined: the reasons that no CRL covered."""
+    """What CRLs say of a certificate. Of one that is revoked: which CRL says so, by its place from 0, when it was, and why, `unspecified` where the entry gives
+    no reason. Of one that is undetermined: the reasons that no CRL covered."""
 
     state: RevocationState
     crl: int | None = None
@@ -59,8 +59,9 @@ class RevocationStatus:
 
 @dataclasses.dataclass(frozen=True)
 class SignedCrl:
-    """A CRL, and its signer: the certificate, the trust anchor, or the name and the DER of the public key, under which it is to be verified. That the signer is one whose
-    CRLs count is for the caller to know: it is the issuer of the certificate, or another whose path is valid, and `may_sign_crls` says True of it (RFC 5280 6.3.3 (f))."""
+    """A CRL, and its signer: the certificate, the trust anchor, or the name and the DER of the public key, under which it is to be verified. That the signer is
+    one whose CRLs count is for the caller to know: it is the issuer of the certificate, or another whose path is valid, and `may_sign_crls` says True of it
+    (RFC 5280 6.3.3 (f))."""
 
     crl: CertificateRevocationList
     signer: Anchor
@@ -86,10 +87,11 @@ def revocation_status(
 ) -> RevocationStatus:
     """What CRLs say of a certificate at the moment (RFC 5280 6.3.3), asked in their order: of several for the same reasons the latest comes first.
 
-    A CRL counts where its signature is one by its signer's key, as `verify(public_key, algorithm, message, signature)` says, or else `cryptography`; where the signer's name is
-    its issuer; where it is in date, with `without_next_update` also where it doesn't say by when the next one comes; and where it is one for the certificate, as the call
-    `x509_revocation_status` of `x509.h` says. With `use_deltas` the first delta CRL among them that fits a complete one is asked before it (5.2.4); its signer has to be
-    that of the complete one (6.3.3 (h)). Only `is_unrevoked` says that the certificate may be used: who withholds a CRL makes its status undetermined.
+    A CRL counts where its signature is one by its signer's key, as `verify(public_key, algorithm, message, signature)` says, or else `cryptography`; where the
+    signer's name is its issuer; where it is in date, with `without_next_update` also where it doesn't say by when the next one comes; and where it is one for
+    the certificate, as the call `x509_revocation_status` of `x509.h` says. With `use_deltas` the first delta CRL among them that fits a complete one is asked
+    before it (5.2.4); its signer has to be that of the complete one (6.3.3 (h)). Only `is_unrevoked` says that the certificate may be used: who withholds a CRL
+    makes its status undetermined.
     """
     given = listed(crls, SignedCrl, "the CRLs")
     verify = _verifies if verify is None else verify
@@ -108,13 +110,13 @@ def path_revocation_statuses(
     without_next_update: bool = False,
     use_deltas: bool = False,
 ) -> list[RevocationStatus]:
-    """What CRLs say of each certificate of a path, topmost first, that `validate_path` found valid under the anchor at the moment. The path is good where each of them
-    `is_unrevoked`.
+    """What CRLs say of each certificate of a path, topmost first, that `validate_path` found valid under the anchor at the moment. The path is good where each
+    of them `is_unrevoked`.
 
-    The signer of a CRL is found by its issuer's name, and by the identifier of its key where both say one: the anchor, a certificate of the path, or one of the further
-    `certificates`, of which the path to the anchor is found here, and has to be valid, and each certificate in it that isn't in the given path unrevoked. A signer counts only
-    where `may_sign_crls` says True, so also of an anchor that is a certificate. The status of a further certificate may be told by a CRL of its own key, but not by one of a signer
-    whose status it tells.
+    The signer of a CRL is found by its issuer's name, and by the identifier of its key where both say one: the anchor, a certificate of the path, or one of the
+    further `certificates`, of which the path to the anchor is found here, and has to be valid, and each certificate in it that isn't in the given path
+    unrevoked. A signer counts only where `may_sign_crls` says True, so also of an anchor that is a certificate. The status of a further certificate may be told
+    by a CRL of its own key, but not by one of a signer whose status it tells.
     Of CRLs for the same reasons the latest is asked first, and `crl` is the place in `crls`. `verify`, `without_next_update` and
     `use_deltas` are as of `revocation_status`.
     """
@@ -198,7 +200,8 @@ class _Judge:
         return self.signed[place, chain]
 
     def is_trusted(self, chain: _Chain) -> bool:
-        """Whether each certificate of the chain is unrevoked that isn't in the path. Of itself a CRL may tell that; else what is being asked for is no answer."""
+        """Whether each certificate of the chain is unrevoked that isn't in the path. Of itself a CRL may tell that; else what is being asked for is no
+        answer."""
         for size in range(1, len(chain) + 1):
             part = chain[:size]
             if part == self.path[:size] or (self.asked and part == self.asked[-1]):

@@ -24,8 +24,8 @@ _EXPLICIT_POLICY, _INHIBIT_POLICY_MAPPING, _INHIBIT_ANY_POLICY = 1, 2, 4
 
 @dataclasses.dataclass(frozen=True)
 class ValidatedPath:
-    """A path that is valid: its certificates, topmost first, and what it gives (RFC 5280 6.1.6), the subject and the DER of the public key of the last one, and the
-    policies under which it is valid, of those that the caller accepts. Any-policy may be one of them."""
+    """A path that is valid: its certificates, topmost first, and what it gives (RFC 5280 6.1.6), the subject and the DER of the public key of the last one, and
+    the policies under which it is valid, of those that the caller accepts. Any-policy may be one of them."""
 
     certificates: tuple[Certificate, ...]
     subject: Name
@@ -47,18 +47,23 @@ def validate_path(
 ) -> ValidatedPath:
     """What a path gives that is valid at the moment under what is trusted, topmost certificate first; a PathFault else.
 
-    The anchor is a certificate, for the paths that its name constraints, its path length and its policies allow, and of which nothing else is looked at; a TrustAnchor; or
-    a name and the DER of a public key, for all paths. What an anchor says of policies is merged with what is asked here (RFC 5937 3.2); a PolicyConstraints or an
-    InhibitAnyPolicy of its certificate sets the flag whatever its number. The certificates are a Certificate or its DER each. `verify(public_key, algorithm, message,
-    signature)` says whether the bits are a signature of the message: it is given the DER of the key and of the algorithm. Where it isn't given, `cryptography` verifies.
-    `name_constraints` are the initial permitted and excluded subtrees (RFC 5280 6.1.1 (h), (i)), as the DER of a NameConstraints. `policies` are those that the caller
-    accepts (6.1.1 (c)), any where they aren't given; the path is to be valid under one of them at least where `require_explicit_policy` is true (6.1.1 (f)). The other two
-    say that policies may not be mapped (6.1.1 (e)), and that any-policy in a certificate counts for nothing (6.1.1 (g)).
+    The anchor is a certificate, for the paths that its name constraints, its path length and its policies allow, and of which nothing else is looked at; a
+    TrustAnchor; or a name and the DER of a public key, for all paths. What an anchor says of policies is merged with what is asked here (RFC 5937 3.2); a
+    PolicyConstraints or an InhibitAnyPolicy of its certificate sets the flag whatever its number. The certificates are a Certificate or its DER each.
+    `verify(public_key, algorithm, message, signature)` says whether the bits are a signature of the message: it is given the DER of the key and of the
+    algorithm. Where it isn't given, `cryptography` verifies. `name_constraints` are the initial permitted and excluded subtrees (RFC 5280 6.1.1 (h), (i)), as
+    the DER of a NameConstraints. `policies` are those that the caller accepts (6.1.1 (c)), any where they aren't given; the path is to be valid under one of
+    them at least where `require_explicit_policy` is true (6.1.1 (f)). The other two say that policies may not be mapped (6.1.1 (e)), and that any-policy in a
+    certificate counts for nothing (6.1.1 (g)).
 
-    Beyond what `check_path` looks at, names are compared as they match (RFC 5280 7.1), name constraints hold, policies are followed, and each extension of a type
-    that is looked at is to be one that can be read. Revocation isn't looked at. An X509Error where the anchor or the name constraints can't be followed.
+    Beyond what `check_path` looks at, names are compared as they match (RFC 5280 7.1), name constraints hold, policies are followed, and each extension of a
+    type that is looked at is to be one that can be read. Revocation isn't looked at. An X509Error where the anchor or the name constraints can't be followed.
     """
-    flags = _flag(require_explicit_policy, _EXPLICIT_POLICY) | _flag(inhibit_policy_mapping, _INHIBIT_POLICY_MAPPING) | _flag(inhibit_any_policy, _INHIBIT_ANY_POLICY)
+    flags = (
+        _flag(require_explicit_policy, _EXPLICIT_POLICY)
+        | _flag(inhibit_policy_mapping, _INHIBIT_POLICY_MAPPING)
+        | _flag(inhibit_any_policy, _INHIBIT_ANY_POLICY)
+    )
     settings = PathSettings(seconds(moment, "the moment"), flags)
     call, trusted, key = _trusted(anchor)
     given = _encodings(path)

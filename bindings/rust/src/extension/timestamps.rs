@@ -50,7 +50,8 @@ impl<'a> SignedCertificateTimestamp<'a> {
     }
 }
 
-/// The timestamps of a certificate (RFC 6962 3.3), each by its octets, for [`SignedCertificateTimestamp::from_bytes`]; one of an unknown version is to be passed over.
+/// The timestamps of a certificate (RFC 6962 3.3), each by its octets, for [`SignedCertificateTimestamp::from_bytes`]; one of an unknown version is to be
+/// passed over.
 #[derive(Clone, Debug, PartialEq, Eq)]
 pub struct SignedCertificateTimestamps<'a>(pub Vec<&'a [u8]>);
 

@@ -8,8 +8,8 @@ use crate::oid::{attribute, ObjectIdentifier};
 #[derive(Clone, Copy, Debug, Default, PartialEq, Eq, Hash)]
 #[non_exhaustive]
 pub enum StringType {
-    /// The one that the attribute wants: PrintableString of a country, a serial number and a DN qualifier, IA5String of an e-mail address and a domain component,
-    /// which have no other one (RFC 5280 A.1), and else UTF8String (4.1.2.4).
+    /// The one that the attribute wants: PrintableString of a country, a serial number and a DN qualifier, IA5String of an e-mail address and a domain
+    /// component, which have no other one (RFC 5280 A.1), and else UTF8String (4.1.2.4).
     #[default]
     AsWanted = 0,
 
@@ -132,8 +132,9 @@ impl NameBuilder {
     ///
     /// # Errors
     /// [`Error::Value`] where a text has a character that its string type doesn't have, or is shorter or longer than its attribute may be (RFC 5280 A.1), which
-    /// isn't looked at [`without_bounds`](NameBuilder::without_bounds), or where a relative name has no attributes; [`Error::StringType`] where the attribute doesn't
-    /// allow the string type (RFC 5280 A.1); [`Error::SetDuplicate`] where a relative name has one attribute twice; [`Error::Overlength`] or [`Error::Memory`].
+    /// isn't looked at [`without_bounds`](NameBuilder::without_bounds), or where a relative name has no attributes; [`Error::StringType`] where the attribute
+    /// doesn't allow the string type (RFC 5280 A.1); [`Error::SetDuplicate`] where a relative name has one attribute twice; [`Error::Overlength`] or
+    /// [`Error::Memory`].
     pub fn build(&self) -> Result<Name, Error> {
         let mut rdns = Vec::new();
         for attributes in &self.rdns {

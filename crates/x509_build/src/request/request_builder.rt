@@ -135,42 +135,27 @@ impl RequestBuilder {
         builder.attributes = attributes;
         builder
     }
-
-    /// The signed part for a signer with that key.
-    fn next_part(&self, alloc: Global, public_key: SubjectPublicKeyInfo) -> Result<CertReqInfo>
-        ensures { Gives (λ part. part) (next_part self.now.info.subject self.now.attributes self.now.extension_req.0 public_key) result }
-    {
-        let asked = extension_req_attribute(alloc, self.extension_req.try_clone(alloc)?)?;
-        let mut attributes = self.attributes.try_clone(alloc)?;
-        add(&mut attributes, asked)?;
-        Ok(CertReqInfo {
-            version: Version::V1,
-            subject: self.info.subject.try_clone(alloc)?,
-            public_key,
-            attributes,
-        })
-    }
 }
 
-/// The signed part for a signer with that key, into which the subject of the other part, the attributes and the
-/// extensions are moved.
-fn last_part(
+/// The signed part for a signer with that key, of the subject of the other part, of the attributes and of the one that
+/// asks for the extensions.
+fn next_part(
     alloc: Global,
-    info: CertReqInfo,
+    part: CertReqInfo,
     attributes: Attributes,
     extension_req: ExtensionReq,
     public_key: SubjectPublicKeyInfo,
 ) -> Result<CertReqInfo>
-    ensures { Gives (λ part. part) (next_part info.subject attributes extension_req.0 public_key) result }
+    ensures { Gives (λ part. part) (next_part part.subject attributes extension_req.0 public_key) result }
 {
     let asked = extension_req_attribute(alloc, extension_req)?;
     let mut all = attributes;
     add(&mut all, asked)?;
-    let mut last = info;
-    last.version = Version::V1;
-    last.public_key = public_key;
-    last.attributes = all;
-    Ok(last)
+    let mut next = part;
+    next.version = Version::V1;
+    next.public_key = public_key;
+    next.attributes = all;
+    Ok(next)
 }
 
 /// Puts the attribute in its place among the others. On an error they are unchanged.
@@ -207,7 +192,10 @@ impl Builder for RequestBuilder {
 
     fn finalize<S: Signer>(&mut self, alloc: Global, signer: &S) -> Result<Vec<u8>> {
         let public_key = signer.public_key(alloc)?;
-        let part = self.next_part(alloc, public_key)?;
+        let given = self.info.try_clone(alloc)?;
+        let attributes = self.attributes.try_clone(alloc)?;
+        let extension_req = self.extension_req.try_clone(alloc)?;
+        let part = next_part(alloc, given, attributes, extension_req, public_key)?;
         let bytes = part.to_der(alloc)?;
         self.info = part;
         Ok(bytes)
@@ -224,10 +212,10 @@ impl Builder for RequestBuilder {
             attributes,
             extension_req,
         } = self;
-        let last = last_part(alloc, info, attributes, extension_req, public_key)?;
-        let message = last.to_der(alloc)?;
+        let part = next_part(alloc, info, attributes, extension_req, public_key)?;
+        let message = part.to_der(alloc)?;
         let builder = RequestBuilder {
-            info: last,
+            info: part,
             attributes: Attributes::new(alloc),
             extension_req: ExtensionReq::new(alloc),
         };

@@ -64,15 +64,16 @@ fn part_of(
     ))
 }
 
-/// Puts the bytes to be signed of a certificate, TBSCertificate (RFC 5280 4.1), at the front of the buffer `room`: of v3 where there are extensions, else of v1, and without unique
-/// identifiers. The serial number is the encoding of an INTEGER, the algorithm an AlgorithmIdentifier, the issuer and the subject Names, the key a SubjectPublicKeyInfo; the dates are seconds
-/// since 1970-01-01T00:00:00Z, and are encoded as RFC 5280 4.1.2.5 wants them; extensions are encodings of them one after the other, or none.
+/// Puts the bytes to be signed of a certificate, TBSCertificate (RFC 5280 4.1), at the front of the buffer `room`: of v3 where there are extensions, else of
+/// v1, and without unique identifiers. The serial number is the encoding of an INTEGER, the algorithm an AlgorithmIdentifier, the issuer and the subject Names,
+/// the key a SubjectPublicKeyInfo; the dates are seconds since 1970-01-01T00:00:00Z, and are encoded as RFC 5280 4.1.2.5 wants them; extensions are encodings
+/// of them one after the other, or none.
 ///
 /// # Errors
 ///
-/// [`Status::NoRoom`] where the buffer is too small; then `written` is the needed length. The error of decoding an input; `Value` where a date is after the year 9999, or the second before the
-/// first; where several are bad, any of theirs. Else [`Status::Repeated`] exactly where two extensions have one OID; then nothing is written. `Overlength` where the part is too long. `Memory` when
-/// out of memory.
+/// [`Status::NoRoom`] where the buffer is too small; then `written` is the needed length. The error of decoding an input; `Value` where a date is after the
+/// year 9999, or the second before the first; where several are bad, any of theirs. Else [`Status::Repeated`] exactly where two extensions have one OID; then
+/// nothing is written. `Overlength` where the part is too long. `Memory` when out of memory.
 pub fn build_certificate(
     alloc: Global,
     serial_number: &[u8],
@@ -86,7 +87,8 @@ pub fn build_certificate(
     room: &mut [u8],
     written: &mut usize,
 ) -> Status
-    ensures { FillsUnrepeated (BuildsCertificate ⟦<TbsCertificate as Encode>⟧.writing serial_number.now algorithm.now issuer.now not_before not_after subject.now
+    ensures { FillsUnrepeated
+        (BuildsCertificate ⟦<TbsCertificate as Encode>⟧.writing serial_number.now algorithm.now issuer.now not_before not_after subject.now
         key.now extensions.now) room.old room.new written.old written.new result }
 {
     let part = match part_of(

@@ -135,9 +135,12 @@ fn signer_by(alloc: Global, algorithm: AlgorithmIdentifier) -> Result<Teller, Er
 fn crl_part(alloc: Global, inputs: CrlInputs) -> Result<Option<Vec<u8>>, Error>
     ensures { MatchResult result
         (λ made. MatchOption made
-        (RepeatsCrlExtension (Finds ⟦<SubjectKeyIdentifier as Grammar>⟧.form ⟦<SubjectKeyIdentifier as Decode>⟧.refuses ⟦<SubjectKeyIdentifier as Decode>⟧.wants_memory (with_oid (id_ce 14) (members inputs.issuer.tbs_certificate.extensions))) inputs)
-        (λ bytes. CrlParts (Finds ⟦<SubjectKeyIdentifier as Grammar>⟧.form ⟦<SubjectKeyIdentifier as Decode>⟧.refuses ⟦<SubjectKeyIdentifier as Decode>⟧.wants_memory (with_oid (id_ce 14) (members inputs.issuer.tbs_certificate.extensions))) inputs bytes.items))
-        (λ e. (kind_of e ≡ Memory) ⊎ RefusesCrlPart (Finds ⟦<SubjectKeyIdentifier as Grammar>⟧.form ⟦<SubjectKeyIdentifier as Decode>⟧.refuses ⟦<SubjectKeyIdentifier as Decode>⟧.wants_memory (with_oid (id_ce 14) (members inputs.issuer.tbs_certificate.extensions))) inputs e) }
+        (RepeatsCrlExtension (Finds ⟦<SubjectKeyIdentifier as Grammar>⟧.form ⟦<SubjectKeyIdentifier as Decode>⟧.refuses
+        ⟦<SubjectKeyIdentifier as Decode>⟧.wants_memory (with_oid (id_ce 14) (members inputs.issuer.tbs_certificate.extensions))) inputs)
+        (λ bytes. CrlParts (Finds ⟦<SubjectKeyIdentifier as Grammar>⟧.form ⟦<SubjectKeyIdentifier as Decode>⟧.refuses
+        ⟦<SubjectKeyIdentifier as Decode>⟧.wants_memory (with_oid (id_ce 14) (members inputs.issuer.tbs_certificate.extensions))) inputs bytes.items))
+        (λ e. (kind_of e ≡ Memory) ⊎ RefusesCrlPart (Finds ⟦<SubjectKeyIdentifier as Grammar>⟧.form ⟦<SubjectKeyIdentifier as Decode>⟧.refuses
+        ⟦<SubjectKeyIdentifier as Decode>⟧.wants_memory (with_oid (id_ce 14) (members inputs.issuer.tbs_certificate.extensions))) inputs e) }
 {
     let CrlInputs {
         issuer,

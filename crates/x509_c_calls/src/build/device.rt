@@ -61,8 +61,10 @@ fn read_device(
     extensions: &[u8],
 ) -> Result<ProfileInputs<DevId>, ErrorKind>
     ensures { MatchResult result
-        (Inputs (IsDevice issuer.now subject.now names.now) (λ key. Spells subject_public_key_info key issuer_key.now) (ArePartInputs serial_number.now algorithm.now not_before not_after key.now extensions.now))
-        (λ e. (e ≡ Memory) ⊎ (RefusesDevice issuer.now subject.now names.now e ⊎ (IsRefused subject_public_key_info (λ e. ⊥) issuer_key.now e ⊎ RefusesPartInputs serial_number.now algorithm.now not_before not_after key.now extensions.now e))) }
+        (Inputs (IsDevice issuer.now subject.now names.now) (λ key. Spells subject_public_key_info key issuer_key.now)
+        (ArePartInputs serial_number.now algorithm.now not_before not_after key.now extensions.now))
+        (λ e. (e ≡ Memory) ⊎ (RefusesDevice issuer.now subject.now names.now e ⊎ (IsRefused subject_public_key_info (λ e. ⊥) issuer_key.now e
+        ⊎ RefusesPartInputs serial_number.now algorithm.now not_before not_after key.now extensions.now e))) }
 {
     let profile = device_of(alloc, issuer, subject, names)?;
     let issuer_key = read::<SubjectPublicKeyInfo>(alloc, issuer_key)?;
@@ -114,8 +116,10 @@ pub fn build_device(
       issuer_of = ⟦<DevId as BuilderProfile>⟧.issuer_of;
       extensions_of = ⟦<DevId as BuilderProfile>⟧.extensions_of;
     }) ⟦<TbsCertificate as Encode>⟧.writing
-        (Inputs (IsDevice issuer.now subject.now names.now) (λ key. Spells subject_public_key_info key issuer_key.now) (ArePartInputs serial_number.now algorithm.now not_before not_after key.now extensions.now))
-        (λ e. RefusesDevice issuer.now subject.now names.now e ⊎ (IsRefused subject_public_key_info (λ e. ⊥) issuer_key.now e ⊎ RefusesPartInputs serial_number.now algorithm.now not_before not_after key.now extensions.now e))) room.old room.new written.old written.new result }
+        (Inputs (IsDevice issuer.now subject.now names.now) (λ key. Spells subject_public_key_info key issuer_key.now)
+        (ArePartInputs serial_number.now algorithm.now not_before not_after key.now extensions.now))
+        (λ e. RefusesDevice issuer.now subject.now names.now e ⊎ (IsRefused subject_public_key_info (λ e. ⊥) issuer_key.now e
+        ⊎ RefusesPartInputs serial_number.now algorithm.now not_before not_after key.now extensions.now e))) room.old room.new written.old written.new result }
 {
     let inputs = read_device(
         alloc,

@@ -56,9 +56,9 @@ fn read_attribute(
 ///
 /// # Errors
 ///
-/// [`Status::NoRoom`] where the buffer is too small; then `written` is the needed length. `Malformed` exactly where no OID has the content octets. `Failed` where
-/// the text isn't UTF-8, or the string type is unknown or one that the attribute doesn't allow. `Value` where a character isn't one of the string type's, or,
-/// where `is_bounded`, there are too few or too many. `Overlength` where the attribute is too long. `Memory` when out of memory.
+/// [`Status::NoRoom`] where the buffer is too small; then `written` is the needed length. `Malformed` exactly where no OID has the content octets. `Failed`
+/// where the text isn't UTF-8, or the string type is unknown or one that the attribute doesn't allow. `Value` where a character isn't one of the string type's,
+/// or, where `is_bounded`, there are too few or too many. `Overlength` where the attribute is too long. `Memory` when out of memory.
 #[tactic(auto, unfolding(crate::specs::Status::Fills, crate::specs::Calls::Encodes))]
 pub fn attribute_encode(
     alloc: Global,
@@ -150,8 +150,8 @@ pub fn build_name(
 ///
 /// # Errors
 ///
-/// [`Status::NoRoom`] where the buffer is too small; then `written` is the needed length. `Failed` exactly where the text isn't UTF-8; else `Memory` when out of
-/// memory.
+/// [`Status::NoRoom`] where the buffer is too small; then `written` is the needed length. `Failed` exactly where the text isn't UTF-8; else `Memory` when out
+/// of memory.
 #[tactic(auto, unfolding(crate::specs::Status::Fills))]
 pub fn escape(alloc: Global, text: &[u8], room: &mut [u8], written: &mut usize) -> Status
     ensures { Fills (Escapes text.now) room.old room.new written.old written.new result }

@@ -87,9 +87,11 @@ fn profile_part<P: BuilderProfile>(
 ) -> Result<Option<Vec<u8>>, Error>
     ensures { MatchResult result
         (λ made. MatchOption made (RepeatsExtension (record { subject_of = P.subject_of; issuer_of = P.issuer_of; extensions_of = P.extensions_of }) inputs)
-        (λ bytes. ProfileParts (record { subject_of = P.subject_of; issuer_of = P.issuer_of; extensions_of = P.extensions_of }) ⟦<TbsCertificate as Encode>⟧.writing inputs bytes.items
+        (λ bytes. ProfileParts (record { subject_of = P.subject_of; issuer_of = P.issuer_of; extensions_of = P.extensions_of })
+        ⟦<TbsCertificate as Encode>⟧.writing inputs bytes.items
         × (¬ RepeatsExtension (record { subject_of = P.subject_of; issuer_of = P.issuer_of; extensions_of = P.extensions_of }) inputs)))
-        (λ e. (kind_of e ≡ Memory) ⊎ RefusesProfilePart (record { subject_of = P.subject_of; issuer_of = P.issuer_of; extensions_of = P.extensions_of }) ⟦<TbsCertificate as Encode>⟧.writing inputs e) }
+        (λ e. (kind_of e ≡ Memory) ⊎ RefusesProfilePart (record { subject_of = P.subject_of; issuer_of = P.issuer_of; extensions_of = P.extensions_of })
+        ⟦<TbsCertificate as Encode>⟧.writing inputs e) }
 {
     let ProfileInputs {
         profile,

@@ -41,7 +41,8 @@ fn read_inputs(
     extensions: &[u8],
 ) -> Result<ProfileInputs<Root>, ErrorKind>
     ensures { MatchResult result
-        (Inputs (IsRoot subject.now emits_ocsp_response) (λ key. Unit {0}) (ArePartInputs serial_number.now algorithm.now not_before not_after key.now extensions.now))
+        (Inputs (IsRoot subject.now emits_ocsp_response) (λ key. Unit {0})
+        (ArePartInputs serial_number.now algorithm.now not_before not_after key.now extensions.now))
         (λ e. (e ≡ Memory) ⊎ (RefusesRoot subject.now e ⊎ RefusesPartInputs serial_number.now algorithm.now not_before not_after key.now extensions.now e)) }
 {
     let profile = root_of(alloc, subject, emits_ocsp_response)?;
@@ -91,8 +92,10 @@ pub fn build_root(
       issuer_of = ⟦<Root as BuilderProfile>⟧.issuer_of;
       extensions_of = ⟦<Root as BuilderProfile>⟧.extensions_of;
     }) ⟦<TbsCertificate as Encode>⟧.writing
-        (Inputs (IsRoot subject.now emits_ocsp_response) (λ key. Unit {0}) (ArePartInputs serial_number.now algorithm.now not_before not_after key.now extensions.now))
-        (λ e. RefusesRoot subject.now e ⊎ RefusesPartInputs serial_number.now algorithm.now not_before not_after key.now extensions.now e)) room.old room.new written.old written.new result }
+        (Inputs (IsRoot subject.now emits_ocsp_response) (λ key. Unit {0})
+        (ArePartInputs serial_number.now algorithm.now not_before not_after key.now extensions.now))
+        (λ e. RefusesRoot subject.now e
+        ⊎ RefusesPartInputs serial_number.now algorithm.now not_before not_after key.now extensions.now e)) room.old room.new written.old written.new result }
 {
     let inputs = read_inputs(
         alloc,

@@ -120,8 +120,10 @@ fn read_subordinate(
     extensions: &[u8],
 ) -> Result<ProfileInputs<Subordinate>, ErrorKind>
     ensures { MatchResult result
-        (Inputs (IsSubordinate issuer.now subject.now path_len emits_ocsp_response client_auth) (λ key. Spells subject_public_key_info key issuer_key.now) (ArePartInputs serial_number.now algorithm.now not_before not_after key.now extensions.now))
-        (λ e. (e ≡ Memory) ⊎ (RefusesSubordinate issuer.now subject.now path_len e ⊎ (IsRefused subject_public_key_info (λ e. ⊥) issuer_key.now e ⊎ RefusesPartInputs serial_number.now algorithm.now not_before not_after key.now extensions.now e))) }
+        (Inputs (IsSubordinate issuer.now subject.now path_len emits_ocsp_response client_auth)
+        (λ key. Spells subject_public_key_info key issuer_key.now) (ArePartInputs serial_number.now algorithm.now not_before not_after key.now extensions.now))
+        (λ e. (e ≡ Memory) ⊎ (RefusesSubordinate issuer.now subject.now path_len e ⊎ (IsRefused subject_public_key_info (λ e. ⊥) issuer_key.now e
+        ⊎ RefusesPartInputs serial_number.now algorithm.now not_before not_after key.now extensions.now e))) }
 {
     let profile = subordinate_of(
         alloc,
@@ -183,8 +185,10 @@ pub fn build_subordinate(
           ⟦<Subordinate as BuilderProfile>⟧.issuer_of;
       extensions_of = ⟦<Subordinate as BuilderProfile>⟧.extensions_of;
     }) ⟦<TbsCertificate as Encode>⟧.writing
-        (Inputs (IsSubordinate issuer.now subject.now path_len emits_ocsp_response client_auth) (λ key. Spells subject_public_key_info key issuer_key.now) (ArePartInputs serial_number.now algorithm.now not_before not_after key.now extensions.now))
-        (λ e. RefusesSubordinate issuer.now subject.now path_len e ⊎ (IsRefused subject_public_key_info (λ e. ⊥) issuer_key.now e ⊎ RefusesPartInputs serial_number.now algorithm.now not_before not_after key.now extensions.now e))) room.old room.new written.old written.new result }
+        (Inputs (IsSubordinate issuer.now subject.now path_len emits_ocsp_response client_auth)
+        (λ key. Spells subject_public_key_info key issuer_key.now) (ArePartInputs serial_number.now algorithm.now not_before not_after key.now extensions.now))
+        (λ e. RefusesSubordinate issuer.now subject.now path_len e ⊎ (IsRefused subject_public_key_info (λ e. ⊥) issuer_key.now e
+        ⊎ RefusesPartInputs serial_number.now algorithm.now not_before not_after key.now extensions.now e))) room.old room.new written.old written.new result }
 {
     let inputs = read_subordinate(
         alloc,
@@ -219,8 +223,10 @@ fn read_subscriber(
     extensions: &[u8],
 ) -> Result<ProfileInputs<Subscriber>, ErrorKind>
     ensures { MatchResult result
-        (Inputs (IsSubscriber issuer.now subject.now uses) (λ key. Spells subject_public_key_info key issuer_key.now) (ArePartInputs serial_number.now algorithm.now not_before not_after key.now extensions.now))
-        (λ e. (e ≡ Memory) ⊎ (RefusesSubscriber issuer.now subject.now e ⊎ (IsRefused subject_public_key_info (λ e. ⊥) issuer_key.now e ⊎ RefusesPartInputs serial_number.now algorithm.now not_before not_after key.now extensions.now e))) }
+        (Inputs (IsSubscriber issuer.now subject.now uses) (λ key. Spells subject_public_key_info key issuer_key.now)
+        (ArePartInputs serial_number.now algorithm.now not_before not_after key.now extensions.now))
+        (λ e. (e ≡ Memory) ⊎ (RefusesSubscriber issuer.now subject.now e ⊎ (IsRefused subject_public_key_info (λ e. ⊥) issuer_key.now e
+        ⊎ RefusesPartInputs serial_number.now algorithm.now not_before not_after key.now extensions.now e))) }
 {
     let profile = subscriber_of(alloc, issuer, subject, uses)?;
     let issuer_key = read::<SubjectPublicKeyInfo>(alloc, issuer_key)?;
@@ -272,8 +278,10 @@ pub fn build_subscriber(
           ⟦<Subscriber as BuilderProfile>⟧.issuer_of;
       extensions_of = ⟦<Subscriber as BuilderProfile>⟧.extensions_of;
     }) ⟦<TbsCertificate as Encode>⟧.writing
-        (Inputs (IsSubscriber issuer.now subject.now uses) (λ key. Spells subject_public_key_info key issuer_key.now) (ArePartInputs serial_number.now algorithm.now not_before not_after key.now extensions.now))
-        (λ e. RefusesSubscriber issuer.now subject.now e ⊎ (IsRefused subject_public_key_info (λ e. ⊥) issuer_key.now e ⊎ RefusesPartInputs serial_number.now algorithm.now not_before not_after key.now extensions.now e))) room.old room.new written.old written.new result }
+        (Inputs (IsSubscriber issuer.now subject.now uses) (λ key. Spells subject_public_key_info key issuer_key.now)
+        (ArePartInputs serial_number.now algorithm.now not_before not_after key.now extensions.now))
+        (λ e. RefusesSubscriber issuer.now subject.now e ⊎ (IsRefused subject_public_key_info (λ e. ⊥) issuer_key.now e
+        ⊎ RefusesPartInputs serial_number.now algorithm.now not_before not_after key.now extensions.now e))) room.old room.new written.old written.new result }
 {
     let inputs = read_subscriber(
         alloc,

@@ -25,9 +25,9 @@ pub fn certificate_view(input: &[u8], view: &mut CertificateView) -> Status
         (λ certificate. IsView input.now certificate view.new) (view.new ≡ view.old) result }
     ensures memory { result ≡ Refused Memory → ⊥ }
 {
-    match CertificateRef::<Rfc5280>::from_der(input) {
-        Ok(lent) => {
-            *view = view_of(input, &lent);
+    match CertificateRef::<Rfc5280>::from_der_with_validity(input) {
+        Ok((lent, validity)) => {
+            *view = view_of(input, &lent, &validity);
             Status::Done
         }
         Err(e) => e.into(),

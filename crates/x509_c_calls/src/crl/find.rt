@@ -38,7 +38,8 @@ fn find_octets<'a>(octets: &'a [u8], number: &[u8]) -> Result<Option<&'a [u8]>, 
     ensures within { IfOk result (λ found. IfSome found (λ left. (passed : List ℕ) × (octets.now ≡ passed ++ left.now))) }
     ensures found { (values : List (revoked.RevokedCert rules.Rfc5280)) → octets.now ≡ entry_octets values
         → IsOkAnd result (λ found. MatchOption found (with_serial number.now values ≡ [])
-        (λ left. (before : List (revoked.RevokedCert rules.Rfc5280)) × (first : revoked.RevokedCert rules.Rfc5280) × (others : List (revoked.RevokedCert rules.Rfc5280))
+        (λ left. (before : List (revoked.RevokedCert rules.Rfc5280))
+        × (first : revoked.RevokedCert rules.Rfc5280) × (others : List (revoked.RevokedCert rules.Rfc5280))
         × (values ≡ before ++ first ∷ others) × IsFirstWith number.now values first × (left.now ≡ entry_octets (first ∷ others)))) }
     ensures err { IfErr result (λ e. e.kind ≡ Malformed) }
 {

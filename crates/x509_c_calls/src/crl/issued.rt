@@ -58,7 +58,8 @@ fn own_issuer(
     requires { place ≤ length input.now }
     ensures found { IfOk result (λ own. (found : Option (Bool × issuer.CertificateIssuer)) × FindsIssuer (issuers entry.now) (Ok found)) }
     ensures place { IfOk result (λ own. MatchOption own (issuers entry.now ≡ [])
-        (λ span. (behind : List ℕ) (was : places.Span) → drop place input.now ≡ joined (spelling grammar.extension) (members entry.now.crl_entry_extensions) ++ behind
+        (λ span. (behind : List ℕ) (was : places.Span)
+        → drop place input.now ≡ joined (spelling grammar.extension) (members entry.now.crl_entry_extensions) ++ behind
         → IsCarried input.now (members entry.now.crl_entry_extensions) behind (issuers entry.now) was span)) }
     ensures err { IfErr result (λ e. FindsIssuer (issuers entry.now) (Err e)) }
 {
@@ -70,13 +71,13 @@ fn own_issuer(
 }
 
 /// Fills in the next entry of a list of entries, and moves the place behind it; and where it names the issuer of its certificate, by the extension
-/// [`CertificateIssuer`], where the names stand. So what is in `issuer` behind an entry is in force for it, if it was the place 0 and no length in front of the first one:
-/// both are 0 still where no entry up to there names one, and the issuer of the CRL is in force (RFC 5280 5.3.3).
+/// [`CertificateIssuer`], where the names stand. So what is in `issuer` behind an entry is in force for it, if it was the place 0 and no length in front of the
+/// first one: both are 0 still where no entry up to there names one, and the issuer of the CRL is in force (RFC 5280 5.3.3).
 ///
 /// # Errors
 ///
-/// Those of [`member_next`](crate::member_next). Else `Failed` where the entry has that extension twice or more, and `Malformed` where it holds no names. What is filled in
-/// is unchanged then.
+/// Those of [`member_next`](crate::member_next). Else `Failed` where the entry has that extension twice or more, and `Malformed` where it holds no names. What
+/// is filled in is unchanged then.
 #[tactic(auto, unfolding(crate::specs::Issued::StepsIssued))]
 pub fn crl_issued_next(
     alloc: Global,

@@ -77,9 +77,9 @@ pub(crate) fn subject_of(bytes: &[u8], policies_len: usize) -> PathAnswer
     ensures subject { (c : Certificate) → Spells rfc5280_certificate c bytes.now → IsSubject bytes.now c result }
     ensures policies { result.policies_len ≡ policies_len }
 {
-    let (name, key) = match CertificateRef::<Rfc5280>::from_der(bytes) {
-        Ok(certificate) => {
-            let view = view_of(bytes, &certificate);
+    let (name, key) = match CertificateRef::<Rfc5280>::from_der_with_validity(bytes) {
+        Ok((certificate, validity)) => {
+            let view = view_of(bytes, &certificate, &validity);
             (view.subject, view.subject_public_key_info)
         }
         Err(_) => (NOWHERE, NOWHERE),

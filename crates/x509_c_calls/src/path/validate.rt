@@ -27,7 +27,8 @@ use x509_path::{
 
 /// The constraints, if there are any.
 fn constraints_of(octets: &[u8]) -> Result<Option<&[u8]>, ErrorKind>
-    ensures { MatchResult result (λ lent. (constraints : Option values.NameConstraints) × AreConstraints octets.now constraints × LendsConstraints lent constraints)
+    ensures { MatchResult result (λ lent. (constraints : Option values.NameConstraints)
+        × AreConstraints octets.now constraints × LendsConstraints lent constraints)
         (λ e. (octets.now ≢ []) × IsRefused name_constraints ⟦<NameConstraints as Grammar>⟧.refuses octets.now e) }
 {
     if octets.is_empty() {

@@ -29,7 +29,8 @@ fn first_in(
     requires { place ≤ length input.now }
     ensures none { result ≡ None → first_of_type oid.now attributes.now ≡ None }
     ensures found { IfSome result (λ view. (more : List ℕ) → drop place input.now ≡ joined (spelling attribute_type_and_value) attributes.now ++ more
-        → (first : AttributeTypeAndValue) × (rest : List AttributeTypeAndValue) × IsFirstIn oid.now attributes.now first rest × IsAttribute input.now first (joined (spelling attribute_type_and_value) rest ++ more) view) }
+        → (first : AttributeTypeAndValue) × (rest : List AttributeTypeAndValue)
+        × IsFirstIn oid.now attributes.now first rest × IsAttribute input.now first (joined (spelling attribute_type_and_value) rest ++ more) view) }
 {
     let mut at = place;
     let mut rest = attributes;

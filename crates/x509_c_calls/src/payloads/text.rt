@@ -41,8 +41,8 @@ fn serial_number(alloc: Global, content: &[u8]) -> Result<SerialNumber<Raw>, Err
     }
 }
 
-/// Puts the hex text of the serial number that has these content octets at the front of the room, as `12:34:AB`. `Malformed` exactly where they are those of no INTEGER, and `Memory` only
-/// where they are those of one.
+/// Puts the hex text of the serial number that has these content octets at the front of the room, as `12:34:AB`. `Malformed` exactly where they are those of no
+/// INTEGER, and `Memory` only where they are those of one.
 #[tactic(auto, unfolding(crate::specs::Status::Fills))]
 pub fn serial_text(alloc: Global, content: &[u8], room: &mut [u8], written: &mut usize) -> Status
     ensures filled { Fills (λ answer. IsSerialText content.now answer) room.old room.new written.old written.new result }
@@ -58,7 +58,8 @@ pub fn serial_text(alloc: Global, content: &[u8], room: &mut [u8], written: &mut
     }
 }
 
-/// Puts the text of a moment, in seconds since 1970-01-01T00:00:00Z, at the front of the room, as `2026-01-02T03:04:05Z`. `Value` exactly after 9999-12-31T23:59:59Z, and `Memory` only up to it.
+/// Puts the text of a moment, in seconds since 1970-01-01T00:00:00Z, at the front of the room, as `2026-01-02T03:04:05Z`. `Value` exactly after
+/// 9999-12-31T23:59:59Z, and `Memory` only up to it.
 #[tactic(auto, unfolding(crate::specs::Status::Fills))]
 pub fn time_text(alloc: Global, moment: u64, room: &mut [u8], written: &mut usize) -> Status
     ensures filled { Fills (λ answer. IsTimeText moment answer) room.old room.new written.old written.new result }

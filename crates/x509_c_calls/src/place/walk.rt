@@ -13,7 +13,8 @@ fn content_of(input: &[u8], place: usize) -> (usize, usize)
     requires { place ≤ length input.now }
     ensures ordered { (place ≤ result.0) × (result.0 ≤ result.1) × (result.1 ≤ length input.now) }
     ensures stands { (tag : ℕ) (content more : List ℕ) → is_identifier tag ≡ true → drop place input.now ≡ element tag content ++ more
-        → (drop result.0 input.now ≡ content ++ more) × (drop result.1 input.now ≡ more) × (result.0 + length content ≡ result.1) × (place + length (element tag content) ≡ result.1) }
+        → (drop result.0 input.now ≡ content ++ more) × (drop result.1 input.now ≡ more)
+        × (result.0 + length content ≡ result.1) × (place + length (element tag content) ≡ result.1) }
     ensures nothing { ((tag : ℕ) (content more : List ℕ) → is_identifier tag ≡ true → drop place input.now ≡ element tag content ++ more → ⊥)
         → (result.0 ≡ place) × (result.1 ≡ place) }
 {

@@ -86,8 +86,8 @@ pub fn signed_bytes_spell_the_signed_part<P: Profile>()
         → IsSignedPart bytes signed → Spells ⟦<TbsCertificateInner<P> as Grammar>⟧.form v.tbs_certificate signed }
 {}
 
-/// Where bytes spell a certificate, they have the elements that [`CertificateSlices::from_der`](crate::signed::CertificateSlices::from_der) lends, which are the spellings
-/// of its fields. So they have where they spell a signed part.
+/// Where bytes spell a certificate, they have the elements that [`CertificateSlices::from_der`](crate::signed::CertificateSlices::from_der) lends, which are
+/// the spellings of its fields. So they have where they spell a signed part.
 pub fn slices_are_the_spellings_of_the_fields<P: Profile>()
     ensures signed { (v : TbsCertificateInner P) (bytes : List ℕ) → Spells ⟦<TbsCertificateInner<P> as Grammar>⟧.form v bytes
         → HasTbsElements bytes (tbs_spellings v) }

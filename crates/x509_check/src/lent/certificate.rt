@@ -2,25 +2,23 @@
 
 ghost use Rattle.std.proofs.Props.{props};
 ghost use Rattle.std.specs.Prelude.{◌≡◌, ◌≤◌, length, Some, None, Ok, IsOk, option_copied, if◌then◌else◌};
-ghost use Rattle.x509_base.specs.Validity.{validity_contents};
 ghost use Rattle.x509_cert.specs.Certificate.{certificate};
 ghost use Rattle.x509_cert.specs.ElementParts.{certificate_reading};
 ghost use Rattle.x509_cert.specs.Elements.{certificate_elements};
 ghost use Rattle.x509_cert.specs.Version.{is_first, version};
 ghost use Rattle.x509_cert.specs.declared.certificate.version.Version as versions;
-ghost use Rattle.x509_check.specs.Lending.{LendsBy};
 ghost use Rattle.x509_der.specs.Element.{limit};
 ghost use Rattle.x509_der.specs.Form.{spelling, whole_reading};
 
+use crate::content::PlainContent;
 use crate::element::content_of;
 use crate::lent::certificate_walk::walk_certificate;
 use crate::lent::extensions::ExtensionRefs;
-use crate::lent::fields::take_time;
 use std::alloc::{AllocError, Global};
 use std::marker::PhantomData;
 use x509_base::{Profile, Rfc5280, Validity};
 use x509_cert::certificate::{CertificateInner, CertificateSlices, TbsCertificateInner, Version};
-use x509_der::{AssociatedOid, Decode, Error, ErrorKind, Grammar, Length, end};
+use x509_der::{AssociatedOid, Decode, Error, ErrorKind, Grammar, Length};
 
 /// A certificate that is lent from its encoding (RFC 5280 4.1), which was checked: it is that of a
 /// [`CertificateInner`] under the profile. Each field is lent or decoded when it is asked for; no memory is taken.
@@ -62,18 +60,6 @@ fn version_of(lent: Option<&[u8]>) -> Version
     }
 }
 
-/// The validity of which these are the content octets.
-#[tactic(auto, unfolding(x509_base::specs::Validity::validity_fields, x509_der::specs::Frames::fields_reading))]
-fn read_validity<P: Profile>(octets: &[u8]) -> Result<Validity<P>, Error>
-    ensures { LendsBy (λ x. x) result ((validity_contents {P = P}).reading octets.now) }
-{
-    let mut rest = octets;
-    let not_before = take_time(&mut rest)?;
-    let not_after = take_time(&mut rest)?;
-    end(rest)?;
-    Ok(Validity::new(not_before, not_after))
-}
-
 impl<'a, P: Profile> CertificateRef<'a, P> {
     ghost use Rattle.std.specs.Prelude.{◌≡◌, ◌<◌, ◌≤◌, ◌⊎◌, length, Err, Ok, IfOk, IfErr, IsErrAnd, IsOk};
     ghost use Rattle.x509_base.specs.AlgorithmIdentifier.{algorithm_identifier};
@@ -109,11 +95,44 @@ impl<'a, P: Profile> CertificateRef<'a, P> {
             return Err(ErrorKind::Overlength.into());
         }
         match walk_certificate::<P>(bytes) {
-            Ok(slices) => Ok(CertificateRef {
+            Ok(walked) => Ok(CertificateRef {
                 bytes,
-                slices,
+                slices: walked.slices,
                 profile: PhantomData,
             }),
+            Err(e) => Err(e),
+        }
+    }
+
+    /// As [`CertificateRef::from_der`], with the validity of the certificate, which the same pass decodes.
+    ///
+    /// # Errors
+    ///
+    /// Those of [`CertificateRef::from_der`].
+    pub fn from_der_with_validity(
+        bytes: &'a [u8],
+    ) -> Result<(CertificateRef<'a, P>, Validity<P>), Error>
+        ensures found { IfOk result (λ lent. (lent.0.bytes.now ≡ bytes.now)
+            × ((certificate : whole.CertificateInner P) × Spells ⟦<CertificateInner<P> as Grammar>⟧.form certificate bytes.now)) }
+        ensures validity { IfOk result (λ lent. (certificate : whole.CertificateInner P) → Spells ⟦<CertificateInner<P> as Grammar>⟧.form certificate bytes.now
+            → lent.1 ≡ certificate.tbs_certificate.validity) }
+        ensures overlength { limit < length bytes.now → IsErrAnd result (λ e. e.kind ≡ errors.Overlength) }
+        ensures refused { length bytes.now ≤ limit → IfErr result (λ e. (e.kind ≡ errors.Malformed) ⊎ ⟦<CertificateInner<P> as Grammar>⟧.refuses e.kind) }
+        ensures every { (certificate : whole.CertificateInner P) → Spells ⟦<CertificateInner<P> as Grammar>⟧.form certificate bytes.now → IsOk result }
+        ensures which { length bytes.now ≤ limit → IfErr result (λ e. whole_reading ⟦<CertificateInner<P> as Grammar>⟧.form.reading bytes.now ≡ Err e.kind) }
+    {
+        if bytes.len() > Length::MAX.as_u32() as usize {
+            return Err(ErrorKind::Overlength.into());
+        }
+        match walk_certificate::<P>(bytes) {
+            Ok(walked) => {
+                let lent = CertificateRef {
+                    bytes,
+                    slices: walked.slices,
+                    profile: PhantomData,
+                };
+                Ok((lent, Validity::new(walked.not_before, walked.not_after)))
+            }
             Err(e) => Err(e),
         }
     }
@@ -163,7 +182,8 @@ impl<'a, P: Profile> CertificateRef<'a, P> {
         ensures { (certificate : whole.CertificateInner P) → Spells ⟦<CertificateInner<P> as Grammar>⟧.form certificate self.now.bytes.now
             → result ≡ certificate.tbs_certificate.validity }
     {
-        let Ok(validity) = read_validity::<P>(content_of(self.slices.fields.validity)) else {
+        let octets = content_of(self.slices.fields.validity);
+        let Ok(validity) = Validity::<P>::plain_value(octets) else {
             unreachable!()
         };
         validity

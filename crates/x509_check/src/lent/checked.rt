@@ -12,6 +12,7 @@ use crate::check::{Check, pass_whole};
 use crate::content::PlainContent;
 use crate::element::next_element;
 use crate::field::{check_field, check_implicit, check_other, plain_whole};
+use crate::lent::fields::take_plain;
 use x509_der::{DefaultValue, Error, ErrorKind, FixedTag, Grammar, Tag, implicit_octet};
 
 /// x: a field.
@@ -28,6 +29,24 @@ pub(crate) fn take_field<'a, T: Check>(rest: &mut &'a [u8]) -> Result<&'a [u8], 
     let front = *rest;
     check_field::<T>(rest)?;
     Ok(&front[..front.len() - rest.len()])
+}
+
+/// x: a field of plain data, with its value.
+///
+/// # Errors
+///
+/// As [`take_field`].
+#[inline(always)]
+pub(crate) fn take_with_value<'a, T: PlainContent>(
+    rest: &mut &'a [u8],
+) -> Result<(&'a [u8], T), Error>
+    ensures exact { LendsSoBefore (λ value lent. (lent.0.now ≡ spelling ⟦<T as Grammar>⟧.form value) × (lent.1 ≡ value)) result rest.new.now
+        ((required ⟦<T as Grammar>⟧.form).reading rest.old.now) }
+    ensures left { length rest.new.now ≤ length rest.old.now }
+{
+    let front = *rest;
+    let value = take_plain::<T>(rest)?;
+    Ok((&front[..front.len() - rest.len()], value))
 }
 
 /// [n]x?: a field under an implicit tag that may be absent.

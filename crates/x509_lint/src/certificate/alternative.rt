@@ -8,8 +8,8 @@ ghost use Rattle.x509_lint.specs.Words.{passes};
 use crate::extensions::{extensions_of, has};
 use crate::group::Group;
 use crate::names::{
-    has_empty_name, has_no_address, has_no_dns_name, has_no_mailbox, has_relative_uri,
-    is_rfc822_name,
+    has_empty_name, has_no_address, has_no_dns_name, has_no_mailbox, has_no_uri, has_relative_uri,
+    has_uri_at_other_host, is_rfc822_name,
 };
 use crate::rule::{AlternativeRule, Rule};
 use crate::texts::has_email;
@@ -79,6 +79,14 @@ impl Group<CertificateInner<Raw>, AlternativeValues> for AlternativeRule {
                 Some(names) => has_relative_uri(names.0.as_slice()),
                 None => false,
             },
+            AlternativeRule::SubjectAltNameUriInvalid => match &values.subject_alt_name {
+                Some(names) => has_no_uri(names.0.as_slice()),
+                None => false,
+            },
+            AlternativeRule::SubjectAltNameUriHostInvalid => match &values.subject_alt_name {
+                Some(names) => has_uri_at_other_host(names.0.as_slice()),
+                None => false,
+            },
             AlternativeRule::IssuerAltNameEmpty => match &values.issuer_alt_name {
                 Some(names) => names.0.as_slice().is_empty(),
                 None => false,
@@ -101,6 +109,14 @@ impl Group<CertificateInner<Raw>, AlternativeValues> for AlternativeRule {
             },
             AlternativeRule::IssuerAltNameUriRelative => match &values.issuer_alt_name {
                 Some(names) => has_relative_uri(names.0.as_slice()),
+                None => false,
+            },
+            AlternativeRule::IssuerAltNameUriInvalid => match &values.issuer_alt_name {
+                Some(names) => has_no_uri(names.0.as_slice()),
+                None => false,
+            },
+            AlternativeRule::IssuerAltNameUriHostInvalid => match &values.issuer_alt_name {
+                Some(names) => has_uri_at_other_host(names.0.as_slice()),
                 None => false,
             },
         }

@@ -6,7 +6,8 @@ ghost use Rattle.x509_lint.specs.Point as grammar;
 
 use crate::group::Group;
 use crate::places::{
-    CA_ISSUERS, CA_REPOSITORY, PointFault, are_partial, has_fault, has_point_of, lacks_uri,
+    CA_ISSUERS, CA_REPOSITORY, PointFault, are_partial, has_fault, has_incomplete_search,
+    has_place_without_host, has_point_of, lacks_uri,
 };
 use crate::rule::{PointRule, Rule};
 use crate::values::PointValues;
@@ -77,6 +78,14 @@ impl Group<CertificateInner<Raw>, PointValues> for PointRule {
                 Some(list) => are_partial(list.0.as_slice()),
                 None => false,
             },
+            PointRule::DistributionPointLdapIncomplete => match &values.crl_distribution_points {
+                Some(list) => has_fault(PointFault::LdapIncomplete, list.0.as_slice()),
+                None => false,
+            },
+            PointRule::DistributionPointLdapWithoutHost => match &values.crl_distribution_points {
+                Some(list) => has_fault(PointFault::LdapWithoutHost, list.0.as_slice()),
+                None => false,
+            },
             PointRule::FreshestCrlEmpty => match &values.freshest_crl {
                 Some(list) => list.0.as_slice().is_empty(),
                 None => false,
@@ -112,12 +121,28 @@ impl Group<CertificateInner<Raw>, PointValues> for PointRule {
                 Some(list) => are_partial(list.0.as_slice()),
                 None => false,
             },
+            PointRule::FreshestCrlPointLdapIncomplete => match &values.freshest_crl {
+                Some(list) => has_fault(PointFault::LdapIncomplete, list.0.as_slice()),
+                None => false,
+            },
+            PointRule::FreshestCrlPointLdapWithoutHost => match &values.freshest_crl {
+                Some(list) => has_fault(PointFault::LdapWithoutHost, list.0.as_slice()),
+                None => false,
+            },
             PointRule::AuthorityInfoAccessEmpty => match &values.authority_info_access {
                 Some(list) => list.0.as_slice().is_empty(),
                 None => false,
             },
             PointRule::CaIssuersWithoutUri => match &values.authority_info_access {
                 Some(list) => lacks_uri(CA_ISSUERS, list.0.as_slice()),
+                None => false,
+            },
+            PointRule::CaIssuersLdapIncomplete => match &values.authority_info_access {
+                Some(list) => has_incomplete_search(CA_ISSUERS, list.0.as_slice()),
+                None => false,
+            },
+            PointRule::CaIssuersLdapWithoutHost => match &values.authority_info_access {
+                Some(list) => has_place_without_host(CA_ISSUERS, list.0.as_slice()),
                 None => false,
             },
             PointRule::SubjectInfoAccessEmpty => match &values.subject_info_access {

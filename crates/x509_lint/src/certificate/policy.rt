@@ -5,7 +5,7 @@ ghost use Rattle.std.specs.Prelude.{◌≡◌, ◌&&◌, is_some, not};
 ghost use Rattle.x509_lint.specs.Policy as grammar;
 ghost use Rattle.x509_lint.specs.Words.{is_empty, passes};
 
-use crate::extensions::is_empty_sequence;
+use crate::extensions::{extensions_of, has, is_empty_sequence};
 use crate::group::Group;
 use crate::notices::USER_NOTICE;
 use crate::rule::{PolicyRule, Rule};
@@ -14,7 +14,7 @@ use x509_base::Raw;
 use x509_cert::certificate::CertificateInner;
 use x509_der::{ObjectIdentifier, oid};
 use x509_ext::pkix::certpolicy::{PolicyInformation, PolicyQualifierInfo};
-use x509_ext::pkix::{PolicyConstraints, PolicyMapping};
+use x509_ext::pkix::{CertificatePolicies, PolicyConstraints, PolicyMapping};
 
 /// anyPolicy, 2.5.29.32.0 (RFC 5280 4.2.1.4).
 const ANY_POLICY: ObjectIdentifier = oid!(0x55, 0x1D, 32, 0);
@@ -52,6 +52,13 @@ fn has_no_number(constraints: &Option<PolicyConstraints>) -> bool
         }
         None => false,
     }
+}
+
+/// Whether the certificate policies are absent, or there is one extension of the type, and it is read.
+fn are_policies_known(certificate: &CertificateInner<Raw>, values: &PolicyValues) -> bool
+    ensures { result ≡ grammar.are_policies_known certificate.now values.now }
+{
+    !has::<CertificatePolicies>(extensions_of(certificate)) || values.certificate_policies.is_some()
 }
 
 /// Whether the qualifier is neither a CPS pointer nor a user notice.
@@ -95,7 +102,7 @@ impl Group<CertificateInner<Raw>, PolicyValues> for PolicyRule {
 
     ghost as_rule = { λ rule. Policy rule };
 
-    fn is_broken(&self, _certificate: &CertificateInner<Raw>, values: &PolicyValues) -> bool {
+    fn is_broken(&self, certificate: &CertificateInner<Raw>, values: &PolicyValues) -> bool {
         match self {
             PolicyRule::CertificatePoliciesEmpty => match &values.certificate_policies {
                 Some(policies) => policies.0.as_slice().is_empty(),
@@ -116,6 +123,7 @@ impl Group<CertificateInner<Raw>, PolicyValues> for PolicyRule {
             PolicyRule::ExplicitTextNotUtf8String => values.has_ia5_text,
             PolicyRule::ExplicitTextControl => values.has_control,
             PolicyRule::NoticeReferencePresent => values.has_reference,
+            PolicyRule::ExplicitTextNotNormalized => values.has_unnormalized,
             PolicyRule::PolicyMappingsEmpty => match &values.policy_mappings {
                 Some(mappings) => mappings.0.as_slice().is_empty(),
                 None => false,
@@ -124,6 +132,8 @@ impl Group<CertificateInner<Raw>, PolicyValues> for PolicyRule {
                 Some(mappings) => has_any_policy(mappings.0.as_slice()),
                 None => false,
             },
+            PolicyRule::PolicyMappingNotAsserted => are_policies_known(certificate, values)
+                && values.has_unasserted_mapping,
             PolicyRule::PolicyConstraintsEmpty => has_no_number(&values.policy_constraints),
         }
     }

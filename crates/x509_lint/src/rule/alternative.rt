@@ -23,11 +23,17 @@ pub enum AlternativeRule {
     /// An iPAddress of the SAN has neither 4 nor 16 octets (RFC 5280 4.2.1.6, error).
     SubjectAltNameAddressLength,
 
-    /// An rfc822Name of the SAN isn't empty, and isn't a mailbox; one that begins with a quote isn't judged (RFC 5280 4.2.1.6, error).
+    /// An rfc822Name of the SAN isn't empty, and isn't a mailbox (RFC 5280 4.2.1.6, error).
     SubjectAltNameMailboxInvalid,
 
     /// A URI of the SAN isn't empty, and has no scheme or nothing behind it (RFC 5280 4.2.1.6, error).
     SubjectAltNameUriRelative,
+
+    /// An absolute URI of the SAN doesn't follow the syntax of RFC 3986 (RFC 5280 4.2.1.6, error).
+    SubjectAltNameUriInvalid,
+
+    /// An absolute URI of the SAN has an authority whose host is neither a fully qualified domain name nor an address (RFC 5280 4.2.1.6, error).
+    SubjectAltNameUriHostInvalid,
 
     /// The IAN has no name (RFC 5280 4.2.1.7, error).
     IssuerAltNameEmpty,
@@ -41,14 +47,20 @@ pub enum AlternativeRule {
     /// An iPAddress of the IAN has neither 4 nor 16 octets (RFC 5280 4.2.1.7, error).
     IssuerAltNameAddressLength,
 
-    /// An rfc822Name of the IAN isn't empty, and isn't a mailbox; one that begins with a quote isn't judged (RFC 5280 4.2.1.7, error).
+    /// An rfc822Name of the IAN isn't empty, and isn't a mailbox (RFC 5280 4.2.1.7, error).
     IssuerAltNameMailboxInvalid,
 
     /// A URI of the IAN isn't empty, and has no scheme or nothing behind it (RFC 5280 4.2.1.7, error).
     IssuerAltNameUriRelative,
+
+    /// An absolute URI of the IAN doesn't follow the syntax of RFC 3986 (RFC 5280 4.2.1.7, error).
+    IssuerAltNameUriInvalid,
+
+    /// An absolute URI of the IAN has an authority whose host is neither a fully qualified domain name nor an address (RFC 5280 4.2.1.7, error).
+    IssuerAltNameUriHostInvalid,
 }
 
-pub(crate) const ALTERNATIVE_RULES: [AlternativeRule; 13] = [
+pub(crate) const ALTERNATIVE_RULES: [AlternativeRule; 17] = [
     AlternativeRule::SubjectEmailNotInAltName,
     AlternativeRule::SubjectAltNameEmpty,
     AlternativeRule::SubjectAltNameEmptyName,
@@ -56,12 +68,16 @@ pub(crate) const ALTERNATIVE_RULES: [AlternativeRule; 13] = [
     AlternativeRule::SubjectAltNameAddressLength,
     AlternativeRule::SubjectAltNameMailboxInvalid,
     AlternativeRule::SubjectAltNameUriRelative,
+    AlternativeRule::SubjectAltNameUriInvalid,
+    AlternativeRule::SubjectAltNameUriHostInvalid,
     AlternativeRule::IssuerAltNameEmpty,
     AlternativeRule::IssuerAltNameEmptyName,
     AlternativeRule::IssuerAltNameDnsNameInvalid,
     AlternativeRule::IssuerAltNameAddressLength,
     AlternativeRule::IssuerAltNameMailboxInvalid,
     AlternativeRule::IssuerAltNameUriRelative,
+    AlternativeRule::IssuerAltNameUriInvalid,
+    AlternativeRule::IssuerAltNameUriHostInvalid,
 ];
 
 impl AlternativeRule {
@@ -105,6 +121,16 @@ impl AlternativeRule {
                 "4.2.1.6",
                 "tbsCertificate.extensions.subjectAltName",
             ),
+            AlternativeRule::SubjectAltNameUriInvalid => must(
+                "subject_alt_name_uri_invalid",
+                "4.2.1.6",
+                "tbsCertificate.extensions.subjectAltName",
+            ),
+            AlternativeRule::SubjectAltNameUriHostInvalid => must(
+                "subject_alt_name_uri_host_invalid",
+                "4.2.1.6",
+                "tbsCertificate.extensions.subjectAltName",
+            ),
             AlternativeRule::IssuerAltNameEmpty => must(
                 "issuer_alt_name_empty",
                 "4.2.1.7",
@@ -132,6 +158,16 @@ impl AlternativeRule {
             ),
             AlternativeRule::IssuerAltNameUriRelative => must(
                 "issuer_alt_name_uri_relative",
+                "4.2.1.7",
+                "tbsCertificate.extensions.issuerAltName",
+            ),
+            AlternativeRule::IssuerAltNameUriInvalid => must(
+                "issuer_alt_name_uri_invalid",
+                "4.2.1.7",
+                "tbsCertificate.extensions.issuerAltName",
+            ),
+            AlternativeRule::IssuerAltNameUriHostInvalid => must(
+                "issuer_alt_name_uri_host_invalid",
                 "4.2.1.7",
                 "tbsCertificate.extensions.issuerAltName",
             ),

@@ -23,7 +23,8 @@ pub enum CrlEntryRule {
     /// The invalidityDate of an entry is critical (RFC 5280 5.3.2, error).
     EntryInvalidityDateCritical,
 
-    /// The octets of an entry's invalidityDate aren't those of a GeneralizedTime of 14 digits and Z (RFC 5280 5.3.2, error).
+    /// The octets of an entry's invalidityDate aren't those of a GeneralizedTime YYYYMMDDHHMMSSZ that names a moment of the calendar and the clock, without leap
+    /// seconds (RFC 5280 5.3.2, error).
     EntryInvalidityDateInvalid,
 
     /// The certificateIssuer of an entry isn't critical (RFC 5280 5.3.3, error).

@@ -35,6 +35,12 @@ pub enum PointRule {
     /// Each point of the CRLDistributionPoints has reasons, so that none covers all (RFC 5280 4.2.1.13, error).
     DistributionPointsPartial,
 
+    /// An LDAP URI of a point of the CRLDistributionPoints has no dn, or not one attribute description (RFC 5280 4.2.1.13, error).
+    DistributionPointLdapIncomplete,
+
+    /// An LDAP URI of a point of the CRLDistributionPoints has no host (RFC 5280 4.2.1.13, warning).
+    DistributionPointLdapWithoutHost,
+
     /// The FreshestCRL has no point (RFC 5280 4.2.1.15, error).
     FreshestCrlEmpty,
 
@@ -59,11 +65,23 @@ pub enum PointRule {
     /// Each point of the FreshestCRL has reasons, so that none covers all (RFC 5280 4.2.1.15, error).
     FreshestCrlPointsPartial,
 
+    /// An LDAP URI of a point of the FreshestCRL has no dn, or not one attribute description (RFC 5280 4.2.1.15, error).
+    FreshestCrlPointLdapIncomplete,
+
+    /// An LDAP URI of a point of the FreshestCRL has no host (RFC 5280 4.2.1.15, warning).
+    FreshestCrlPointLdapWithoutHost,
+
     /// The AuthorityInfoAccess has no access description (RFC 5280 4.2.2.1, error).
     AuthorityInfoAccessEmpty,
 
     /// The AuthorityInfoAccess has id-ad-caIssuers, and no HTTP or LDAP URI for it (RFC 5280 4.2.2.1, warning).
     CaIssuersWithoutUri,
+
+    /// An LDAP URI of id-ad-caIssuers has no dn, or no attribute description (RFC 5280 4.2.2.1, error).
+    CaIssuersLdapIncomplete,
+
+    /// An LDAP URI of id-ad-caIssuers has no host (RFC 5280 4.2.2.1, warning).
+    CaIssuersLdapWithoutHost,
 
     /// The SubjectInfoAccess has no access description (RFC 5280 4.2.2.2, error).
     SubjectInfoAccessEmpty,
@@ -72,7 +90,7 @@ pub enum PointRule {
     CaRepositoryWithoutUri,
 }
 
-pub(crate) const POINT_RULES: [PointRule; 21] = [
+pub(crate) const POINT_RULES: [PointRule; 27] = [
     PointRule::SubjectDirectoryAttributesEmpty,
     PointRule::CrlDistributionPointsEmpty,
     PointRule::DistributionPointEmpty,
@@ -82,6 +100,8 @@ pub(crate) const POINT_RULES: [PointRule; 21] = [
     PointRule::DistributionPointIssuerInvalid,
     PointRule::DistributionPointOwnIssuer,
     PointRule::DistributionPointsPartial,
+    PointRule::DistributionPointLdapIncomplete,
+    PointRule::DistributionPointLdapWithoutHost,
     PointRule::FreshestCrlEmpty,
     PointRule::FreshestCrlPointEmpty,
     PointRule::FreshestCrlPointRelative,
@@ -90,8 +110,12 @@ pub(crate) const POINT_RULES: [PointRule; 21] = [
     PointRule::FreshestCrlPointIssuerInvalid,
     PointRule::FreshestCrlPointOwnIssuer,
     PointRule::FreshestCrlPointsPartial,
+    PointRule::FreshestCrlPointLdapIncomplete,
+    PointRule::FreshestCrlPointLdapWithoutHost,
     PointRule::AuthorityInfoAccessEmpty,
     PointRule::CaIssuersWithoutUri,
+    PointRule::CaIssuersLdapIncomplete,
+    PointRule::CaIssuersLdapWithoutHost,
     PointRule::SubjectInfoAccessEmpty,
     PointRule::CaRepositoryWithoutUri,
 ];
@@ -147,6 +171,16 @@ impl PointRule {
                 "4.2.1.13",
                 "tbsCertificate.extensions.cRLDistributionPoints",
             ),
+            PointRule::DistributionPointLdapIncomplete => must(
+                "distribution_point_ldap_incomplete",
+                "4.2.1.13",
+                "tbsCertificate.extensions.cRLDistributionPoints",
+            ),
+            PointRule::DistributionPointLdapWithoutHost => should(
+                "distribution_point_ldap_without_host",
+                "4.2.1.13",
+                "tbsCertificate.extensions.cRLDistributionPoints",
+            ),
             PointRule::FreshestCrlEmpty => must(
                 "freshest_crl_empty",
                 "4.2.1.15",
@@ -187,6 +221,16 @@ impl PointRule {
                 "4.2.1.15",
                 "tbsCertificate.extensions.freshestCRL",
             ),
+            PointRule::FreshestCrlPointLdapIncomplete => must(
+                "freshest_crl_point_ldap_incomplete",
+                "4.2.1.15",
+                "tbsCertificate.extensions.freshestCRL",
+            ),
+            PointRule::FreshestCrlPointLdapWithoutHost => should(
+                "freshest_crl_point_ldap_without_host",
+                "4.2.1.15",
+                "tbsCertificate.extensions.freshestCRL",
+            ),
             PointRule::AuthorityInfoAccessEmpty => must(
                 "authority_info_access_empty",
                 "4.2.2.1",
@@ -194,6 +238,16 @@ impl PointRule {
             ),
             PointRule::CaIssuersWithoutUri => should(
                 "ca_issuers_without_uri",
+                "4.2.2.1",
+                "tbsCertificate.extensions.authorityInfoAccess",
+            ),
+            PointRule::CaIssuersLdapIncomplete => must(
+                "ca_issuers_ldap_incomplete",
+                "4.2.2.1",
+                "tbsCertificate.extensions.authorityInfoAccess",
+            ),
+            PointRule::CaIssuersLdapWithoutHost => should(
+                "ca_issuers_ldap_without_host",
                 "4.2.2.1",
                 "tbsCertificate.extensions.authorityInfoAccess",
             ),

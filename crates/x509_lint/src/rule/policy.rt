@@ -38,17 +38,23 @@ pub enum PolicyRule {
     /// A user notice has a noticeRef (RFC 5280 4.2.1.4, warning).
     NoticeReferencePresent,
 
+    /// The explicit text of a user notice is a UTF8String that isn't in Unicode Normalization Form C (RFC 5280 4.2.1.4, warning).
+    ExplicitTextNotNormalized,
+
     /// The PolicyMappings has no mapping (RFC 5280 4.2.1.5, error).
     PolicyMappingsEmpty,
 
     /// A mapping is from or to anyPolicy (RFC 5280 4.2.1.5, error).
     PolicyMappingAnyPolicy,
 
+    /// The issuerDomainPolicy of a mapping is none of the certificate policies, which are absent or read (RFC 5280 4.2.1.5, warning).
+    PolicyMappingNotAsserted,
+
     /// The PolicyConstraints has neither number (RFC 5280 4.2.1.11, error).
     PolicyConstraintsEmpty,
 }
 
-pub(crate) const POLICY_RULES: [PolicyRule; 13] = [
+pub(crate) const POLICY_RULES: [PolicyRule; 15] = [
     PolicyRule::CertificatePoliciesEmpty,
     PolicyRule::CertificatePolicyRepeated,
     PolicyRule::PolicyQualifiersEmpty,
@@ -59,8 +65,10 @@ pub(crate) const POLICY_RULES: [PolicyRule; 13] = [
     PolicyRule::ExplicitTextNotUtf8String,
     PolicyRule::ExplicitTextControl,
     PolicyRule::NoticeReferencePresent,
+    PolicyRule::ExplicitTextNotNormalized,
     PolicyRule::PolicyMappingsEmpty,
     PolicyRule::PolicyMappingAnyPolicy,
+    PolicyRule::PolicyMappingNotAsserted,
     PolicyRule::PolicyConstraintsEmpty,
 ];
 
@@ -120,6 +128,11 @@ impl PolicyRule {
                 "4.2.1.4",
                 "tbsCertificate.extensions.certificatePolicies",
             ),
+            PolicyRule::ExplicitTextNotNormalized => should(
+                "explicit_text_not_normalized",
+                "4.2.1.4",
+                "tbsCertificate.extensions.certificatePolicies",
+            ),
             PolicyRule::PolicyMappingsEmpty => must(
                 "policy_mappings_empty",
                 "4.2.1.5",
@@ -127,6 +140,11 @@ impl PolicyRule {
             ),
             PolicyRule::PolicyMappingAnyPolicy => must(
                 "policy_mapping_any_policy",
+                "4.2.1.5",
+                "tbsCertificate.extensions.policyMappings",
+            ),
+            PolicyRule::PolicyMappingNotAsserted => should(
+                "policy_mapping_not_asserted",
                 "4.2.1.5",
                 "tbsCertificate.extensions.policyMappings",
             ),

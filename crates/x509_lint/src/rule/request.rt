@@ -81,9 +81,15 @@ pub enum RequestRule {
 
     /// A URI of the SAN that is asked for isn't empty, and isn't absolute (RFC 5280 4.2.1.6, error).
     SubjectAltNameUriRelative,
+
+    /// An absolute URI of the SAN that is asked for doesn't follow the syntax of RFC 3986 (RFC 5280 4.2.1.6, error).
+    SubjectAltNameUriInvalid,
+
+    /// An absolute URI of the SAN that is asked for has an authority whose host is neither a fully qualified domain name nor an address (RFC 5280 4.2.1.6, error).
+    SubjectAltNameUriHostInvalid,
 }
 
-pub(crate) const REQUEST_RULES: [RequestRule; 41] = [
+pub(crate) const REQUEST_RULES: [RequestRule; 43] = [
     RequestRule::SubjectRdnEmpty,
     RequestRule::SubjectCountryNameInvalid,
     RequestRule::SubjectTextType,
@@ -125,6 +131,8 @@ pub(crate) const REQUEST_RULES: [RequestRule; 41] = [
     RequestRule::SubjectAltNameAddressLength,
     RequestRule::SubjectAltNameMailboxInvalid,
     RequestRule::SubjectAltNameUriRelative,
+    RequestRule::SubjectAltNameUriInvalid,
+    RequestRule::SubjectAltNameUriHostInvalid,
 ];
 
 /// The place of an extension that is asked for.
@@ -301,6 +309,16 @@ impl RequestRule {
             ),
             RequestRule::SubjectAltNameUriRelative => must(
                 "subject_alt_name_uri_relative",
+                "4.2.1.6",
+                "certificationRequestInfo.attributes.extensionRequest.subjectAltName",
+            ),
+            RequestRule::SubjectAltNameUriInvalid => must(
+                "subject_alt_name_uri_invalid",
+                "4.2.1.6",
+                "certificationRequestInfo.attributes.extensionRequest.subjectAltName",
+            ),
+            RequestRule::SubjectAltNameUriHostInvalid => must(
+                "subject_alt_name_uri_host_invalid",
                 "4.2.1.6",
                 "certificationRequestInfo.attributes.extensionRequest.subjectAltName",
             ),

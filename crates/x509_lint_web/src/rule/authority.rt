@@ -2,16 +2,19 @@
 
 ghost use Rattle.std.specs.Prelude.{◌≡◌};
 ghost use Rattle.x509_lint_web.specs.Authority as grammar;
+ghost use Rattle.x509_lint_web.specs.Seen as seen;
 ghost use Rattle.x509_lint_web.specs.Sentence.{IsTold};
 
 use crate::entry::{WebEntry, from_day, must};
 use crate::names::has_attribute;
 use crate::scope::is_self_issued;
+use crate::seen::Part;
 use crate::usages::{has_forbidden_purpose, is_not_of_authority, lacks_crl_sign};
 use crate::values::WebValues;
 use x509_base::Raw;
 use x509_cert::certificate::CertificateInner;
-use x509_ext::pkix::{CertificatePolicies, CrlDistributionPoints, KeyUsage};
+use x509_der::AssociatedOid;
+use x509_ext::pkix::{CertificatePolicies, CrlDistributionPoints, ExtendedKeyUsage, KeyUsage};
 use x509_lint::extensions::{extensions_of, has, has_uncritical};
 use x509_name::attr::attribute_types::{COMMON_NAME, COUNTRY_NAME, ORGANIZATION_NAME};
 
@@ -108,6 +111,25 @@ impl WebAuthorityRule {
                 None,
                 "tbsCertificate.extensions.cRLDistributionPoints",
             ),
+        }
+    }
+
+    /// Of which part of a certificate the rule speaks.
+    pub(crate) fn part(self) -> Part
+        ensures { result ≡ seen.authority_part self }
+    {
+        match self {
+            WebAuthorityRule::CaWithoutCommonName
+            | WebAuthorityRule::CaWithoutOrganization
+            | WebAuthorityRule::CaWithoutCountry => Part::Subject,
+            WebAuthorityRule::CaExtendedKeyUsageForbidden => Part::Extension(ExtendedKeyUsage::OID),
+            WebAuthorityRule::SubordinateWithoutPolicies => Part::Extension(
+                CertificatePolicies::OID,
+            ),
+            WebAuthorityRule::SubordinateWithoutCrlPoints => Part::Extension(
+                CrlDistributionPoints::OID,
+            ),
+            _ => Part::Extension(KeyUsage::OID),
         }
     }
 

@@ -3,17 +3,20 @@
 ghost use Rattle.std.specs.Prelude.{◌≡◌};
 ghost use Rattle.x509_lint.specs.Field.{is_v3};
 ghost use Rattle.x509_lint_web.specs.Field as grammar;
+ghost use Rattle.x509_lint_web.specs.Seen as seen;
 ghost use Rattle.x509_lint_web.specs.Sentence.{IsTold};
 
 use crate::algorithms::{are_null, is_ecdsa, is_of_sha1, is_rsa_pkcs1, is_rsa_pss};
 use crate::entry::{WebEntry, from_day, must};
 use crate::places::{has_issuer, have_other_point, have_partial_point};
 use crate::scope::{is_authority, is_self_issued};
+use crate::seen::Part;
 use crate::values::WebValues;
 use x509_base::Raw;
 use x509_cert::Version;
 use x509_cert::certificate::CertificateInner;
-use x509_ext::pkix::CrlDistributionPoints;
+use x509_der::{AssociatedOid, ObjectIdentifier};
+use x509_ext::pkix::{AuthorityKeyIdentifier, CrlDistributionPoints};
 use x509_lint::extensions::{extensions_of, has_critical};
 
 /// Rules on version, signature, key identifier and CRL distribution points of any certificate (TLS BR 7.1.1, 7.1.3.2, 7.1.2.11).
@@ -26,15 +29,15 @@ pub enum WebFieldRule {
     /// 2016-01-01).
     SignatureOfSha1,
 
-    /// The signature is neither of RSA nor of ECDSA with SHA-256, SHA-384 or SHA-512 (TLS BR 7.1.3.2, error, from
-    /// 2023-09-15).
+    /// The signature is neither of RSA nor of ECDSA with SHA-256, SHA-384 or SHA-512, and none of SHA-1, which has a rule of
+    /// its own (TLS BR 7.1.3.2, error, from 2020-08-20).
     SignatureAlgorithmOther,
 
     /// The signature is one of RSASSA-PKCS1-v1_5, and its parameters aren't NULL (TLS BR 7.1.3.2.1, error, from
-    /// 2023-09-15).
+    /// 2020-08-20).
     RsaSignatureParametersNotNull,
 
-    /// The signature is one of ECDSA, and has parameters (TLS BR 7.1.3.2.2, error, from 2023-09-15).
+    /// The signature is one of ECDSA, and has parameters (TLS BR 7.1.3.2.2, error, from 2020-08-20).
     EcdsaSignatureParametersPresent,
 
     /// The AKI has an authorityCertIssuer or an authorityCertSerialNumber (TLS BR 7.1.2.11.1, error, from 2023-09-15).
@@ -71,19 +74,19 @@ impl WebFieldRule {
             WebFieldRule::SignatureAlgorithmOther => must(
                 "signature_algorithm_other",
                 "7.1.3.2",
-                from_day(2023, 9, 15),
+                from_day(2020, 8, 20),
                 "signatureAlgorithm",
             ),
             WebFieldRule::RsaSignatureParametersNotNull => must(
                 "rsa_signature_parameters_not_null",
                 "7.1.3.2.1",
-                from_day(2023, 9, 15),
+                from_day(2020, 8, 20),
                 "signatureAlgorithm",
             ),
             WebFieldRule::EcdsaSignatureParametersPresent => must(
                 "ecdsa_signature_parameters_present",
                 "7.1.3.2.2",
-                from_day(2023, 9, 15),
+                from_day(2020, 8, 20),
                 "signatureAlgorithm",
             ),
             WebFieldRule::AuthorityCertIssuerPresent => must(
@@ -113,6 +116,24 @@ impl WebFieldRule {
         }
     }
 
+    /// Of which part of a certificate the rule speaks.
+    pub(crate) fn part(self) -> Part
+        ensures { result ≡ seen.field_part self }
+    {
+        match self {
+            WebFieldRule::VersionNotV3 => Part::Version,
+            WebFieldRule::AuthorityCertIssuerPresent => Part::Extension(
+                AuthorityKeyIdentifier::OID,
+            ),
+            WebFieldRule::CrlDistributionPointsCritical
+            | WebFieldRule::CrlDistributionPointNotHttp
+            | WebFieldRule::CrlDistributionPointPartial => Part::Extension(
+                CrlDistributionPoints::OID,
+            ),
+            _ => Part::Signature,
+        }
+    }
+
     /// Whether the certificate, of which these are the values, breaks the rule.
     pub(crate) fn is_broken(self, certificate: &CertificateInner<Raw>, values: &WebValues) -> bool
         ensures { result ≡ (grammar.field_sentence self).breaks certificate.now values.now }
@@ -122,9 +143,8 @@ impl WebFieldRule {
             WebFieldRule::VersionNotV3 => !is_v3(certificate.tbs_certificate().version()),
             WebFieldRule::SignatureOfSha1 => is_of_sha1(algorithm.oid)
                 && !(is_authority(values) && is_self_issued(certificate)),
-            WebFieldRule::SignatureAlgorithmOther => !is_rsa_pkcs1(algorithm.oid)
-                && !is_rsa_pss(algorithm.oid)
-                && !is_ecdsa(algorithm.oid),
+            WebFieldRule::SignatureAlgorithmOther => !is_allowed(algorithm.oid)
+                && !is_of_sha1(algorithm.oid),
             WebFieldRule::RsaSignatureParametersNotNull => is_rsa_pkcs1(algorithm.oid)
                 && !are_null(&algorithm.parameters),
             WebFieldRule::EcdsaSignatureParametersPresent => is_ecdsa(algorithm.oid)
@@ -143,6 +163,12 @@ impl WebFieldRule {
             ),
         }
     }
+}
+
+fn is_allowed(oid: ObjectIdentifier) -> bool
+    ensures { result ≡ grammar.is_allowed oid }
+{
+    is_rsa_pkcs1(oid) || (is_rsa_pss(oid) || is_ecdsa(oid))
 }
 
 fn is_v3(version: Version) -> bool

@@ -2,6 +2,7 @@
 
 ghost use Rattle.std.specs.Prelude.{◌≡◌};
 ghost use Rattle.x509_lint_web.specs.Key as grammar;
+ghost use Rattle.x509_lint_web.specs.Seen as seen;
 ghost use Rattle.x509_lint_web.specs.Sentence.{IsTold};
 
 use crate::algorithms::{are_curve, are_null, is_ec, is_rsa};
@@ -9,6 +10,7 @@ use crate::entry::{WebEntry, from_day, must, should};
 use crate::numbers::{
     has_even_modulus, has_no_exponent, has_outside_exponent, has_short_modulus, has_uneven_modulus,
 };
+use crate::seen::Part;
 use crate::values::WebValues;
 use x509_base::Raw;
 use x509_cert::certificate::CertificateInner;
@@ -16,22 +18,22 @@ use x509_cert::certificate::CertificateInner;
 /// Rules on public keys (TLS BR 6.1.5, 6.1.6, 7.1.3.1).
 #[derive(Clone, Copy, Debug, PartialEq, Eq)]
 pub enum WebKeyRule {
-    /// The key is neither one of RSA nor one of an elliptic curve (TLS BR 7.1.3.1, error, from 2023-09-15).
+    /// The key is neither one of RSA nor one of an elliptic curve (TLS BR 7.1.3.1, error, from 2020-08-20).
     KeyAlgorithmOther,
 
-    /// The key is one of RSA, and its parameters aren't NULL (TLS BR 7.1.3.1.1, error, from 2023-09-15).
+    /// The key is one of RSA, and its parameters aren't NULL (TLS BR 7.1.3.1.1, error, from 2020-08-20).
     RsaKeyParametersNotNull,
 
-    /// The key is one of an elliptic curve other than P-256, P-384 and P-521 (TLS BR 6.1.5, error, from 2013-12-31).
+    /// The key is one of an elliptic curve other than P-256, P-384 and P-521 (TLS BR 6.1.5, error).
     EcCurveOther,
 
-    /// The modulus of an RSA key has fewer than 2048 bits (TLS BR 6.1.5, error, from 2013-12-31).
+    /// The modulus of an RSA key has fewer than 2048 bits (TLS BR 6.1.5, error, from 2014-01-01).
     RsaModulusShort,
 
-    /// The number of bits of the modulus of an RSA key isn't divisible by 8 (TLS BR 6.1.5, error, from 2023-09-15).
+    /// The number of bits of the modulus of an RSA key isn't divisible by 8 (TLS BR 6.1.5, error, from 2020-08-20).
     RsaModulusUneven,
 
-    /// The modulus of an RSA key is even (TLS BR 6.1.6, warning, from 2023-09-15).
+    /// The modulus of an RSA key is even (TLS BR 6.1.6, warning, from 2013-01-01).
     RsaModulusEven,
 
     /// The exponent of an RSA key is even, or below 3 (TLS BR 6.1.6, error, from 2013-01-01).
@@ -50,37 +52,37 @@ impl WebKeyRule {
             WebKeyRule::KeyAlgorithmOther => must(
                 "key_algorithm_other",
                 "7.1.3.1",
-                from_day(2023, 9, 15),
+                from_day(2020, 8, 20),
                 "tbsCertificate.subjectPublicKeyInfo",
             ),
             WebKeyRule::RsaKeyParametersNotNull => must(
                 "rsa_key_parameters_not_null",
                 "7.1.3.1.1",
-                from_day(2023, 9, 15),
+                from_day(2020, 8, 20),
                 "tbsCertificate.subjectPublicKeyInfo",
             ),
             WebKeyRule::EcCurveOther => must(
                 "ec_curve_other",
                 "6.1.5",
-                from_day(2013, 12, 31),
+                None,
                 "tbsCertificate.subjectPublicKeyInfo",
             ),
             WebKeyRule::RsaModulusShort => must(
                 "rsa_modulus_short",
                 "6.1.5",
-                from_day(2013, 12, 31),
+                from_day(2014, 1, 1),
                 "tbsCertificate.subjectPublicKeyInfo",
             ),
             WebKeyRule::RsaModulusUneven => must(
                 "rsa_modulus_uneven",
                 "6.1.5",
-                from_day(2023, 9, 15),
+                from_day(2020, 8, 20),
                 "tbsCertificate.subjectPublicKeyInfo",
             ),
             WebKeyRule::RsaModulusEven => should(
                 "rsa_modulus_even",
                 "6.1.6",
-                from_day(2023, 9, 15),
+                from_day(2013, 1, 1),
                 "tbsCertificate.subjectPublicKeyInfo",
             ),
             WebKeyRule::RsaExponentInvalid => must(
@@ -95,6 +97,17 @@ impl WebKeyRule {
                 from_day(2013, 1, 1),
                 "tbsCertificate.subjectPublicKeyInfo",
             ),
+        }
+    }
+
+    /// Of which part of a certificate the rule speaks.
+    pub(crate) fn part(self) -> Part
+        ensures { result ≡ seen.key_part self }
+    {
+        match self {
+            WebKeyRule::KeyAlgorithmOther => Part::KeyAlgorithm,
+            WebKeyRule::RsaKeyParametersNotNull | WebKeyRule::EcCurveOther => Part::KeyParameters,
+            _ => Part::Key,
         }
     }
 

@@ -2,15 +2,19 @@
 
 ghost use Rattle.std.specs.Prelude.{◌≡◌};
 ghost use Rattle.x509_lint_web.specs.Name as grammar;
+ghost use Rattle.x509_lint_web.specs.Seen as seen;
 ghost use Rattle.x509_lint_web.specs.Sentence.{IsTold};
 
 use crate::entry::{WebEntry, from_day, must, should};
 use crate::names::{
-    NameFault, has_attribute, has_name, has_stray_name, is_empty_name, is_without_host,
+    NameFault, has_attribute, has_common_names, has_name, has_stray_name, is_empty_name,
+    is_without_host,
 };
+use crate::seen::Part;
 use crate::values::WebValues;
 use x509_base::Raw;
 use x509_cert::certificate::CertificateInner;
+use x509_der::AssociatedOid;
 use x509_ext::pkix::SubjectAltName;
 use x509_lint::extensions::{extensions_of, has, has_critical};
 use x509_name::attr::attribute_types::{COMMON_NAME, ORGANIZATIONAL_UNIT_NAME};
@@ -53,11 +57,14 @@ pub enum WebNameRule {
     CommonNamePresent,
 
     /// The subject has a commonName that is no dNSName of the SAN, which has no iPAddress (TLS BR 7.1.4.3, error, from
-    /// 2023-09-15).
+    /// 2021-08-25).
     CommonNameNotInAltName,
 
     /// The subject has an organizationalUnitName (TLS BR 7.1.2.7.4, error, from 2022-09-01).
     OrganizationalUnitPresent,
+
+    /// The subject has two commonNames or more (TLS BR 7.1.4.3, error, from 2021-08-25).
+    CommonNameRepeated,
 }
 
 impl WebNameRule {
@@ -135,7 +142,7 @@ impl WebNameRule {
             WebNameRule::CommonNameNotInAltName => must(
                 "common_name_not_in_alt_name",
                 "7.1.4.3",
-                from_day(2023, 9, 15),
+                from_day(2021, 8, 25),
                 "tbsCertificate.subject",
             ),
             WebNameRule::OrganizationalUnitPresent => must(
@@ -144,6 +151,32 @@ impl WebNameRule {
                 from_day(2022, 9, 1),
                 "tbsCertificate.subject",
             ),
+            WebNameRule::CommonNameRepeated => must(
+                "common_name_repeated",
+                "7.1.4.3",
+                from_day(2021, 8, 25),
+                "tbsCertificate.subject",
+            ),
+        }
+    }
+
+    /// Of which part of a certificate the rule speaks.
+    pub(crate) fn part(self) -> Part
+        ensures { result ≡ seen.name_part self }
+    {
+        match self {
+            WebNameRule::SubjectAltNameOther => Part::Name(NameFault::OtherName),
+            WebNameRule::DnsNameUnderscore => Part::Name(NameFault::Underscore),
+            WebNameRule::DnsNameReservedLabel => Part::Name(NameFault::ReservedLabel),
+            WebNameRule::DnsNameWildcard => Part::Name(NameFault::Wildcard),
+            WebNameRule::DnsNameOneLabel => Part::Name(NameFault::OneLabel),
+            WebNameRule::DnsNameInternal => Part::Name(NameFault::Internal),
+            WebNameRule::AddressReserved => Part::Name(NameFault::Reserved),
+            WebNameRule::CommonNamePresent
+            | WebNameRule::CommonNameNotInAltName
+            | WebNameRule::CommonNameRepeated
+            | WebNameRule::OrganizationalUnitPresent => Part::Subject,
+            _ => Part::Extension(SubjectAltName::OID),
         }
     }
 
@@ -183,6 +216,7 @@ impl WebNameRule {
                 ORGANIZATIONAL_UNIT_NAME,
                 subject,
             ),
+            WebNameRule::CommonNameRepeated => has_common_names(subject),
         }
     }
 }

@@ -2,6 +2,7 @@
 
 ghost use Rattle.std.specs.Prelude.{◌≡◌};
 ghost use Rattle.x509_lint_web.specs.Policy as grammar;
+ghost use Rattle.x509_lint_web.specs.Seen as seen;
 ghost use Rattle.x509_lint_web.specs.Sentence.{IsTold};
 
 use crate::entry::{WebEntry, from_day, must, should};
@@ -11,9 +12,11 @@ use crate::policies::{
     ANY_POLICY, DOMAIN_VALIDATED, ORGANIZATION_VALIDATED, has_policy, have_other_qualifier,
     have_qualifiers, is_without_reserved,
 };
+use crate::seen::Part;
 use crate::values::WebValues;
 use x509_base::Raw;
 use x509_cert::certificate::CertificateInner;
+use x509_der::AssociatedOid;
 use x509_ext::pkix::{AuthorityInfoAccessSyntax, CertificatePolicies};
 use x509_lint::extensions::{extensions_of, has, has_critical};
 use x509_name::attr::attribute_types::{COUNTRY_NAME, ORGANIZATION_NAME};
@@ -137,6 +140,23 @@ impl WebPolicyRule {
                 from_day(2023, 9, 15),
                 "tbsCertificate.extensions.authorityInfoAccess",
             ),
+        }
+    }
+
+    /// Of which part of a certificate the rule speaks.
+    pub(crate) fn part(self) -> Part
+        ensures { result ≡ seen.policy_part self }
+    {
+        match self {
+            WebPolicyRule::DomainValidatedAttribute
+            | WebPolicyRule::OrganizationValidatedWithoutOrganization
+            | WebPolicyRule::OrganizationValidatedWithoutCountry => Part::Subject,
+            WebPolicyRule::AuthorityInfoAccessAbsent
+            | WebPolicyRule::AccessMethodOther
+            | WebPolicyRule::AccessLocationNotHttp => Part::Extension(
+                AuthorityInfoAccessSyntax::OID,
+            ),
+            _ => Part::Extension(CertificatePolicies::OID),
         }
     }
 

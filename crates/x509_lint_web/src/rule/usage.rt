@@ -2,10 +2,12 @@
 
 ghost use Rattle.std.specs.Prelude.{◌≡◌};
 ghost use Rattle.x509_lint_web.specs.Usage as grammar;
+ghost use Rattle.x509_lint_web.specs.Seen as seen;
 ghost use Rattle.x509_lint_web.specs.Sentence.{IsTold};
 
 use crate::algorithms::{is_ec, is_rsa};
 use crate::entry::{WebEntry, from_day, must, should};
+use crate::seen::Part;
 use crate::usages::{
     has_forbidden_purpose, has_other_purpose, is_not_of_ec, is_not_of_rsa, lacks_digital_signature,
     signs_as_authority,
@@ -13,6 +15,7 @@ use crate::usages::{
 use crate::values::WebValues;
 use x509_base::Raw;
 use x509_cert::certificate::CertificateInner;
+use x509_der::AssociatedOid;
 use x509_ext::pkix::{BasicConstraints, ExtendedKeyUsage, KeyUsage, SubjectKeyIdentifier};
 use x509_lint::extensions::{extensions_of, has, has_critical, has_uncritical};
 
@@ -139,6 +142,21 @@ impl WebUsageRule {
                 from_day(2023, 9, 15),
                 "tbsCertificate.extensions.subjectKeyIdentifier",
             ),
+        }
+    }
+
+    /// Of which part of a certificate the rule speaks.
+    pub(crate) fn part(self) -> Part
+        ensures { result ≡ seen.usage_part self }
+    {
+        match self {
+            WebUsageRule::ExtendedKeyUsageAbsent
+            | WebUsageRule::ExtendedKeyUsageForbidden
+            | WebUsageRule::ExtendedKeyUsageOther
+            | WebUsageRule::ExtendedKeyUsageCritical => Part::Extension(ExtendedKeyUsage::OID),
+            WebUsageRule::BasicConstraintsNotCritical => Part::Extension(BasicConstraints::OID),
+            WebUsageRule::SubjectKeyIdentifierPresent => Part::Extension(SubjectKeyIdentifier::OID),
+            _ => Part::Extension(KeyUsage::OID),
         }
     }
 

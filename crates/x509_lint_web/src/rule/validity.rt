@@ -30,6 +30,15 @@ pub enum WebValidityRule {
 
     /// The validity is longer than 47 days (TLS BR 6.3.2, error, from 2029-03-15).
     ValidityOver47Days,
+
+    /// The validity is longer than 199 days (TLS BR 6.3.2, warning, from 2026-03-15).
+    ValidityOver199Days,
+
+    /// The validity is longer than 99 days (TLS BR 6.3.2, warning, from 2027-03-15).
+    ValidityOver99Days,
+
+    /// The validity is longer than 46 days (TLS BR 6.3.2, warning, from 2029-03-15).
+    ValidityOver46Days,
 }
 
 impl WebValidityRule {
@@ -74,6 +83,24 @@ impl WebValidityRule {
                 from_day(2029, 3, 15),
                 "tbsCertificate.validity",
             ),
+            WebValidityRule::ValidityOver199Days => should(
+                "validity_over_199_days",
+                "6.3.2",
+                from_day(2026, 3, 15),
+                "tbsCertificate.validity",
+            ),
+            WebValidityRule::ValidityOver99Days => should(
+                "validity_over_99_days",
+                "6.3.2",
+                from_day(2027, 3, 15),
+                "tbsCertificate.validity",
+            ),
+            WebValidityRule::ValidityOver46Days => should(
+                "validity_over_46_days",
+                "6.3.2",
+                from_day(2029, 3, 15),
+                "tbsCertificate.validity",
+            ),
         }
     }
 
@@ -88,6 +115,9 @@ impl WebValidityRule {
             WebValidityRule::ValidityOver200Days => is_longer(200, certificate),
             WebValidityRule::ValidityOver100Days => is_longer(100, certificate),
             WebValidityRule::ValidityOver47Days => is_longer(47, certificate),
+            WebValidityRule::ValidityOver199Days => is_longer(199, certificate),
+            WebValidityRule::ValidityOver99Days => is_longer(99, certificate),
+            WebValidityRule::ValidityOver46Days => is_longer(46, certificate),
         }
     }
 }

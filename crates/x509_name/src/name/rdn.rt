@@ -10,6 +10,7 @@ ghost use Rattle.x509_name.specs.Iterators.{rdn_left};
 
 use crate::attr::AttributeTypeAndValue;
 use crate::name::iterators::RdnIter;
+use crate::name::short::read_short;
 use std::alloc::Global;
 use std::cmp::Ordering;
 use std::hash::{Hash, Hasher};
@@ -177,6 +178,9 @@ impl Content for RelativeDistinguishedName {
 
     #[inline(always)]
     fn read_content(alloc: Global, octets: &[u8]) -> Result<RelativeDistinguishedName, Error> {
+        if let Some(rdn) = read_short(alloc, octets) {
+            return Ok(rdn);
+        }
         Ok(RelativeDistinguishedName(SetOfVec::read_content(alloc, octets)?))
     }
 

@@ -6,6 +6,7 @@ ghost use Rattle.x509_name.specs.Iterators.{rdns_left};
 
 use crate::name::iterators::RdnSequenceIter;
 use crate::name::rdn::RelativeDistinguishedName;
+use crate::name::short::put_rdns;
 use std::alloc::Global;
 use std::cmp::Ordering;
 use std::hash::{Hash, Hasher};
@@ -170,7 +171,7 @@ impl Content for RdnSequence {
     }
 
     fn write_content<R: Room>(&self, room: &mut R) -> Result<(), Error> {
-        self.0.write_content(room)
+        put_rdns(self.0.as_slice(), room)
     }
 
     ghost contents_lawful = { grammar.rdn_list_lawful };

@@ -14,5 +14,5 @@ returns-in_ok-end-in-Ok g c =
     let front = front_is (tbs_certificate {P = g.row.P.Denot} g.P.Profile.serial_check) (tbs_certificate_lawful g.P.Profile.serial_check) _ _ part.0 part.1 in (
       record { tbs_certificate = part.0; signature_algorithm = algorithm.0; signature = signature.0 },
       rw (part.1, algorithm.1, signature.1, c.in_ok-end-in-Ok.ensures.exact) refl,
-      rw (front, part.2, algorithm.2, signature.2) refl,
+      (rw (front, part.2.0, algorithm.2, signature.2) refl, part.2.1, part.2.2),
     )

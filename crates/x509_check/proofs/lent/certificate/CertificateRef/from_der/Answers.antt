@@ -9,7 +9,7 @@ use Rattle.x509_check.proofs.lent.certificate.CertificateRef.from_der.Goals as g
 pub returns-in-Ok-clause-found : goal.returns-in-Ok-clause-found
 returns-in-Ok-clause-found g c =
     let within : length c.args.bytes.now ≤ limit = omega arith in
-    let h = so_found (certificate {P = g.row.P.Denot} g.P.Profile.serial_check) (certificate_lawful g.P.Profile.serial_check) (LendsWhole {P = g.row.P.Denot}) c.args.bytes.now (Ok c.in-Ok.slices) within c.in-Ok.ensures in
+    let h = so_found (certificate {P = g.row.P.Denot} g.P.Profile.serial_check) (certificate_lawful g.P.Profile.serial_check) (LendsWhole {P = g.row.P.Denot}) c.args.bytes.now (Ok c.in-Ok.walked) within c.in-Ok.ensures in
     (refl, (h.0, h.1))
 
 pub returns-in-Err-clause-refused : goal.returns-in-Err-clause-refused
@@ -21,5 +21,5 @@ returns-in-Err-clause-every g c = so_every (certificate {P = g.row.P.Denot} g.P.
 pub invariant_of-result : goal.invariant_of-result
 invariant_of-result g c =
     let within : length c.args.bytes.now ≤ limit = omega arith in
-    let h = so_found (certificate {P = g.row.P.Denot} g.P.Profile.serial_check) (certificate_lawful g.P.Profile.serial_check) (LendsWhole {P = g.row.P.Denot}) c.args.bytes.now (Ok c.in-Ok.slices) within c.in-Ok.ensures in
-    record { within = within; checked = is_read _ _ c.in-Ok.ensures.1; elements = elements_read g.P.Profile.serial_check c.args.bytes.now h.0 h.1 c.in-Ok.slices h.2 }
+    let h = so_found (certificate {P = g.row.P.Denot} g.P.Profile.serial_check) (certificate_lawful g.P.Profile.serial_check) (LendsWhole {P = g.row.P.Denot}) c.args.bytes.now (Ok c.in-Ok.walked) within c.in-Ok.ensures in
+    record { within = within; checked = is_read _ _ c.in-Ok.ensures.1; elements = elements_read g.P.Profile.serial_check c.args.bytes.now h.0 h.1 c.in-Ok.walked.slices h.2.0 }

@@ -9,11 +9,11 @@ use Rattle.x509_check.proofs.lent.certificate.CertificateRef.validity.Goals as g
 pub unreachable-requires : goal.unreachable-requires
 unreachable-requires g c =
     let v = some_certificate {P = g.row.P.Denot} g.P.Profile.serial_check c.args.self.now.bytes.now c.args.self.now.within c.args.self.now.checked in
-    let content = c.content_of.ensures 48 (validity.content v.0.tbs_certificate.validity) (tag_is_identifier Sequence) (ap (λ e. e.fields.validity) (elements_are g.P.Profile.serial_check c.args.self.now.bytes.now c.args.self.now.slices c.args.self.now.elements v.0 v.1)) in
+    let content = c.content_of-octets.ensures 48 (validity.content v.0.tbs_certificate.validity) (tag_is_identifier Sequence) (ap (λ e. e.fields.validity) (elements_are g.P.Profile.serial_check c.args.self.now.bytes.now c.args.self.now.slices c.args.self.now.elements v.0 v.1)) in
     let refused = sym c.in_default.ensures ∙ ap (validity_contents {P = g.row.P.Denot}).reading content ∙ validity_read g.P.Profile.serial_check c.args.self.now.bytes.now v.0 v.1 in
     absurd cc
 
 pub returns : goal.returns
 returns g c = λ certificate spells.
-    let content = c.content_of.ensures 48 (validity.content certificate.tbs_certificate.validity) (tag_is_identifier Sequence) (ap (λ e. e.fields.validity) (elements_are g.P.Profile.serial_check c.args.self.now.bytes.now c.args.self.now.slices c.args.self.now.elements certificate spells)) in
+    let content = c.content_of-octets.ensures 48 (validity.content certificate.tbs_certificate.validity) (tag_is_identifier Sequence) (ap (λ e. e.fields.validity) (elements_are g.P.Profile.serial_check c.args.self.now.bytes.now c.args.self.now.slices c.args.self.now.elements certificate spells)) in
     ok_is _ _ (sym c.in-Ok.ensures ∙ ap (validity_contents {P = g.row.P.Denot}).reading content ∙ validity_read g.P.Profile.serial_check c.args.self.now.bytes.now certificate spells)

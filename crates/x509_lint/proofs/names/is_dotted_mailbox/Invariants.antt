@@ -1,0 +1,9 @@
+use Rattle.std.proofs.Common.{◌≡◌, false, length}
+use Rattle.x509_lint.specs.Alternative.{is_mailbox_behind}
+use Rattle.x509_lint.proofs.names.is_dotted_mailbox.Given as goal
+
+abbrev pub invariant-loop-text : goal.invariant-loop-text
+invariant-loop-text l = is_mailbox_behind l.in_atom l.text ≡ is_mailbox_behind false l.initial.text
+
+abbrev pub decreases-loop-text : goal.decreases-loop-text
+decreases-loop-text l = length l.text

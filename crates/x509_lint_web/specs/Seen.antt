@@ -1,0 +1,151 @@
+-- What is seen of a certificate where it breaks a rule: of the part that the rule speaks of.
+use Rattle.std.specs.Prelude.{ℕ, List, [], ◌∷◌, ◌++◌, Option, Some, None, codes, if◌then◌else◌}
+use Rattle.x509_base.specs.Time.{date_time_of}
+use Rattle.x509_base.specs.TimeText.{date_time_text}
+use Rattle.x509_der.specs.Arcs.{dotted}
+use Rattle.x509_der.specs.ObjectIdentifier.{arcs_of}
+use Rattle.x509_der.specs.declared.any.Any.{Any}
+use Rattle.x509_ext.specs.Identifiers.{id_ce, id_pkix}
+use Rattle.x509_ext.specs.declared.pkix.alternative_names.SubjectAltName.{SubjectAltName}
+use Rattle.x509_ext.specs.declared.pkix.name.general_name.GeneralName.{GeneralName}
+use Rattle.x509_ext.specs.declared.pkix.name.general_name.GeneralName.TheVariants.{Rfc822Name, DnsName, UniformResourceIdentifier, IpAddress}
+use Rattle.x509_lint.specs.Seen.{shortened, value_seen}
+use Rattle.x509_lint.specs.Words.{Certificate, extensions_of}
+use Rattle.x509_lint_web.specs.Name.{has_fault}
+use Rattle.x509_lint_web.specs.Words.{key_of}
+use Rattle.x509_lint_web.specs.declared.names.NameFault.{NameFault}
+use Rattle.x509_lint_web.specs.declared.names.NameFault.TheVariants as faults
+use Rattle.x509_lint_web.specs.declared.rule.WebRule.{WebRule}
+use Rattle.x509_lint_web.specs.declared.rule.WebRule.TheVariants as rules
+use Rattle.x509_lint_web.specs.declared.rule.authority.WebAuthorityRule.{WebAuthorityRule}
+use Rattle.x509_lint_web.specs.declared.rule.authority.WebAuthorityRule.TheVariants as authority
+use Rattle.x509_lint_web.specs.declared.rule.field.WebFieldRule.{WebFieldRule}
+use Rattle.x509_lint_web.specs.declared.rule.field.WebFieldRule.TheVariants as field
+use Rattle.x509_lint_web.specs.declared.rule.key.WebKeyRule.{WebKeyRule}
+use Rattle.x509_lint_web.specs.declared.rule.key.WebKeyRule.TheVariants as key
+use Rattle.x509_lint_web.specs.declared.rule.name.WebNameRule.{WebNameRule}
+use Rattle.x509_lint_web.specs.declared.rule.name.WebNameRule.TheVariants as name
+use Rattle.x509_lint_web.specs.declared.rule.policy.WebPolicyRule.{WebPolicyRule}
+use Rattle.x509_lint_web.specs.declared.rule.policy.WebPolicyRule.TheVariants as policy
+use Rattle.x509_lint_web.specs.declared.rule.usage.WebUsageRule.{WebUsageRule}
+use Rattle.x509_lint_web.specs.declared.rule.usage.WebUsageRule.TheVariants as usage
+use Rattle.x509_lint_web.specs.declared.seen.Part.{Part}
+use Rattle.x509_lint_web.specs.declared.seen.Part.TheVariants.{Version, Signature, KeyAlgorithm, KeyParameters, Key, Validity, Subject, Name, Extension}
+use Rattle.x509_lint_web.specs.declared.values.WebValues.{WebValues}
+use Rattle.x509_name.specs.NameText.{name_text}
+
+-- ---- of which part a rule speaks
+
+abbrev pub field_part : WebFieldRule → Part
+field_part field.VersionNotV3 = Version
+field_part field.AuthorityCertIssuerPresent = Extension (id_ce 35)
+field_part field.CrlDistributionPointsCritical = Extension (id_ce 31)
+field_part field.CrlDistributionPointNotHttp = Extension (id_ce 31)
+field_part field.CrlDistributionPointPartial = Extension (id_ce 31)
+field_part other = Signature
+
+abbrev pub key_part : WebKeyRule → Part
+key_part key.KeyAlgorithmOther = KeyAlgorithm
+key_part key.RsaKeyParametersNotNull = KeyParameters
+key_part key.EcCurveOther = KeyParameters
+key_part other = Key
+
+abbrev pub name_part : WebNameRule → Part
+name_part name.SubjectAltNameOther = Name faults.OtherName
+name_part name.DnsNameUnderscore = Name faults.Underscore
+name_part name.DnsNameReservedLabel = Name faults.ReservedLabel
+name_part name.DnsNameWildcard = Name faults.Wildcard
+name_part name.DnsNameOneLabel = Name faults.OneLabel
+name_part name.DnsNameInternal = Name faults.Internal
+name_part name.AddressReserved = Name faults.Reserved
+name_part name.CommonNamePresent = Subject
+name_part name.CommonNameNotInAltName = Subject
+name_part name.CommonNameRepeated = Subject
+name_part name.OrganizationalUnitPresent = Subject
+name_part other = Extension (id_ce 17)
+
+abbrev pub usage_part : WebUsageRule → Part
+usage_part usage.ExtendedKeyUsageAbsent = Extension (id_ce 37)
+usage_part usage.ExtendedKeyUsageForbidden = Extension (id_ce 37)
+usage_part usage.ExtendedKeyUsageOther = Extension (id_ce 37)
+usage_part usage.ExtendedKeyUsageCritical = Extension (id_ce 37)
+usage_part usage.BasicConstraintsNotCritical = Extension (id_ce 19)
+usage_part usage.SubjectKeyIdentifierPresent = Extension (id_ce 14)
+usage_part other = Extension (id_ce 15)
+
+abbrev pub policy_part : WebPolicyRule → Part
+policy_part policy.DomainValidatedAttribute = Subject
+policy_part policy.OrganizationValidatedWithoutOrganization = Subject
+policy_part policy.OrganizationValidatedWithoutCountry = Subject
+policy_part policy.AuthorityInfoAccessAbsent = Extension (id_pkix 1 1)
+policy_part policy.AccessMethodOther = Extension (id_pkix 1 1)
+policy_part policy.AccessLocationNotHttp = Extension (id_pkix 1 1)
+policy_part other = Extension (id_ce 32)
+
+abbrev pub authority_part : WebAuthorityRule → Part
+authority_part authority.CaWithoutCommonName = Subject
+authority_part authority.CaWithoutOrganization = Subject
+authority_part authority.CaWithoutCountry = Subject
+authority_part authority.CaExtendedKeyUsageForbidden = Extension (id_ce 37)
+authority_part authority.SubordinateWithoutPolicies = Extension (id_ce 32)
+authority_part authority.SubordinateWithoutCrlPoints = Extension (id_ce 31)
+authority_part other = Extension (id_ce 15)
+
+abbrev pub part_of : WebRule → Part
+part_of (rules.Field rule) = field_part rule
+part_of (rules.Key rule) = key_part rule
+part_of (rules.Validity rule) = Validity
+part_of (rules.Name rule) = name_part rule
+part_of (rules.Usage rule) = usage_part rule
+part_of (rules.Policy rule) = policy_part rule
+part_of (rules.Authority rule) = authority_part rule
+
+-- ---- what is seen of a part
+
+-- a dNSName, an rfc822Name or a URI as it is, and an iPAddress in hex
+abbrev pub name_seen : GeneralName → List ℕ
+name_seen (DnsName text) = text
+name_seen (Rfc822Name text) = text
+name_seen (UniformResourceIdentifier text) = text
+name_seen (IpAddress octets) = shortened octets
+name_seen other = []
+
+-- the first of the names that has the fault
+abbrev pub first_seen : NameFault → List GeneralName → List ℕ
+first_seen fault [] = []
+first_seen fault (n ∷ names) = if has_fault fault n then name_seen n else first_seen fault names
+
+abbrev pub faulty_seen : NameFault → Option SubjectAltName → List ℕ
+faulty_seen fault None = []
+faulty_seen fault (Some s) = first_seen fault s.0
+
+abbrev pub parameters_seen : Option Any → List ℕ
+parameters_seen None = []
+parameters_seen (Some a) = shortened a.value
+
+-- as 1.2.840.10045.2.1
+abbrev pub oid_seen : List ℕ → List ℕ
+oid_seen oid = dotted (arcs_of oid)
+
+-- notBefore and notAfter, as 2026-03-15T00:00:00Z/2026-05-01T00:00:00Z (ISO 8601 4.4.4.1)
+abbrev pub validity_seen : Certificate → List ℕ
+validity_seen c = date_time_text (date_time_of c.tbs_certificate.validity.not_before) ++ (codes "/" ++ date_time_text (date_time_of c.tbs_certificate.validity.not_after))
+
+-- the text of the subject (RFC 4514)
+abbrev pub subject_seen : Certificate → List ℕ
+subject_seen c = name_text c.tbs_certificate.subject
+
+abbrev pub part_seen : Certificate → WebValues → Part → List ℕ
+part_seen c v Version = []
+part_seen c v Signature = oid_seen c.signature_algorithm.oid
+part_seen c v KeyAlgorithm = oid_seen (key_of c).algorithm.oid
+part_seen c v KeyParameters = parameters_seen (key_of c).algorithm.parameters
+part_seen c v Key = shortened (key_of c).subject_public_key.octets
+part_seen c v Validity = validity_seen c
+part_seen c v Subject = subject_seen c
+part_seen c v (Name fault) = faulty_seen fault v.subject_alt_name
+part_seen c v (Extension oid) = value_seen oid (extensions_of c)
+
+-- what is seen where the certificate, of which these are the values, breaks the rule
+abbrev pub web_seen : Certificate → WebValues → WebRule → List ℕ
+web_seen c v rule = part_seen c v (part_of rule)
