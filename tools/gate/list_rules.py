@@ -51,12 +51,17 @@ class Rules(dict):
 OWNERS = {"crl_entry": "crl:", "crl_extension": "crl:", "crl_field": "crl:", "request": "csr:", "anchor": "anchor:"}
 
 
+def docs_of(text):
+    """What stands in front of each variant of an enum."""
+    said = re.findall(r"((?:    ///[^\n]*\n)+)    (\w+)(?:\(\w+\))?,\n", text)
+    return {variant: " ".join(lines.replace("///", " ").split()) for lines, variant in said}
+
+
 def rules_of(path, owner):
     """The rules of a group: for each its severity, its standard, its section and its docs."""
     text = path.read_text()
-    said = re.findall(r"((?:    ///[^\n]*\n)+)    (\w+)(?:\(\w+\))?,\n", text)
-    docs = {variant: " ".join(lines.replace("///", " ").split()) for lines, variant in said}
-    for variant, severity, other, given in re.findall(r"::(\w+)(?:\(\w+\))? => (must|should|not_judged)(_of)?\(([^;]*?)\),\n", text):
+    docs = docs_of(text)
+    for variant, severity, other, given in re.findall(r"^ +(\w+)(?:\(\w+\))? =>\s+(must|should|not_judged)(_of)?\(([^;]*?)\),\n", text, re.M):
         texts = re.findall(r'"([^"]*)"', given)
         standard, name, section = texts[:3] if other else ("RFC 5280", *texts[:2])
         yield owner + name, (SEVERITIES[severity], f"{standard} {section}", docs.get(variant, ""))
@@ -113,22 +118,28 @@ def faults(rules, all_sections):
         yield from (f"{number}: no answer: {it['text']}" for it in sentences if not it["rules"] and not it["reasons"])
 
 
-def main(is_check):
+def made():
     rules, all_sections = Rules(), sections()
-    said = list(faults(rules, all_sections))
-    text = page(rules, all_sections)
+    return page(rules, all_sections), len(rules), list(faults(rules, all_sections))
+
+
+def written(description, path, what, make):
+    """Writes a page, or compares it with `--check`; `make` gives its text, how many rules it has, and what is wrong with these. The status."""
+    name = path.relative_to(TOP)
+    parser = argparse.ArgumentParser(description=description, formatter_class=argparse.RawDescriptionHelpFormatter)
+    parser.add_argument("--check", action="store_true", help=f"compares {name}, and writes nothing")
+    is_check = parser.parse_args().check
+    text, count, said = make()
     if not is_check:
-        PAGE.write_text(text)
-    elif not PAGE.exists() or PAGE.read_text() != text:
-        said.append("docs/RULES.md isn't what tools/gate/list_rules.py makes")
+        path.write_text(text)
+    elif not path.exists() or path.read_text() != text:
+        said.append(f"{name} isn't what tools/gate/{pathlib.Path(sys.argv[0]).name} makes")
     for fault in said:
-        print(f"failed: rules: {fault}")
+        print(f"failed: {what}: {fault}")
     if not said:
-        print(f"passed: docs/RULES.md, {len(rules)} rules")
+        print(f"passed: {name}, {count} rules")
     return int(bool(said))
 
 
 if __name__ == "__main__":
-    parser = argparse.ArgumentParser(description=__doc__, formatter_class=argparse.RawDescriptionHelpFormatter)
-    parser.add_argument("--check", action="store_true", help="compares docs/RULES.md, and writes nothing")
-    sys.exit(main(parser.parse_args().check))
+    sys.exit(written(__doc__, PAGE, "rules", made))

@@ -5,12 +5,11 @@ since when it is in force.
 All of it is taken from the code, crates/x509_lint_web/src/rule. With `--check` it fails where the docs of a rule don't say its section, how bad it is or its
 date, where a rule stands in no place of the list of all rules, or in another order there than its group has, and where docs/WEB_RULES.md is another text.
 """
-import argparse
-import pathlib
 import re
 import sys
 
-TOP = pathlib.Path(__file__).resolve().parents[2]
+from list_rules import TOP, docs_of, written
+
 CODE = TOP / "crates/x509_lint_web/src"
 PAGE = TOP / "docs/WEB_RULES.md"
 SEVERITIES = {"must": "error", "should": "warning"}
@@ -33,9 +32,8 @@ without a date was in force from the beginning.
 def rules_of(path):
     """The rules of a group: each its variant, its docs, and of its entry how bad it is, its name, its section and its date."""
     text = path.read_text()
-    said = re.findall(r"((?:    ///[^\n]*\n)+)    (\w+),\n", text)
-    docs = {variant: " ".join(lines.replace("///", " ").split()) for lines, variant in said}
-    for variant, severity, given in re.findall(r"::(\w+) => (must|should)\(([^;]*?)\),\n", text):
+    docs = docs_of(text)
+    for variant, severity, given in re.findall(r"^ +(\w+) =>\s+(must|should)\(([^;]*?)\),\n", text, re.M):
         name, section = re.findall(r'"([^"]*)"', given)[:2]
         date = re.search(r"from_day\((\d+), (\d+), (\d+)", given)
         yield variant, docs.get(variant, ""), SEVERITIES[severity], name, section, "{}-{:0>2}-{:0>2}".format(*date.groups()) if date else ""
@@ -51,7 +49,7 @@ def groups():
         yield about, list(rules_of(path)), [variant for other, _, variant in listed if other == group]
 
 
-def main(is_check):
+def made():
     faults, lines, count = [], [], 0
     for about, rules, listed in groups():
         lines.append(f"\n## {about}\n\n| Rule | What breaks it | Section | How bad | From |\n|---|---|---|---|---|\n")
@@ -63,19 +61,8 @@ def main(is_check):
             if not docs.endswith(end):
                 faults.append(f"the docs of {variant} don't end in{end}")
             lines.append(f"| `{name}` | {docs.removesuffix(end)} | {section} | {severity} | {date} |\n")
-    text = HEAD + f"{count} rules.\n" + "".join(lines)
-    if not is_check:
-        PAGE.write_text(text)
-    elif not PAGE.exists() or PAGE.read_text() != text:
-        faults.append("docs/WEB_RULES.md isn't what tools/gate/list_web_rules.py makes")
-    for fault in faults:
-        print(f"failed: web rules: {fault}")
-    if not faults:
-        print(f"passed: docs/WEB_RULES.md, {count} rules")
-    return int(bool(faults))
+    return HEAD + f"{count} rules.\n" + "".join(lines), count, faults
 
 
 if __name__ == "__main__":
-    parser = argparse.ArgumentParser(description=__doc__, formatter_class=argparse.RawDescriptionHelpFormatter)
-    parser.add_argument("--check", action="store_true", help="compares docs/WEB_RULES.md, and writes nothing")
-    sys.exit(main(parser.parse_args().check))
+    sys.exit(written(__doc__, PAGE, "web rules", made))

@@ -30,6 +30,18 @@ def ended(program, words, data=b"", stdout=subprocess.PIPE, stderr=subprocess.PI
     return run.returncode, (run.stdout or b"").decode(), (run.stderr or b"").decode()
 
 
+def counted(program, runs):
+    """Prints which of the runs didn't end as stated, each a name, whether it did, and how it ended. The status."""
+    count = failed = 0
+    for name, is_so, found in runs:
+        count += 1
+        if not is_so:
+            failed += 1
+            print(f"failed: {program}, {name}: {found}")
+    print(f"{'failed' if failed else 'passed'}: {program}, {count} runs, {failed} of them not as stated")
+    return int(failed > 0)
+
+
 class Program:
     """A program: its file, its name, its line of usage, how it tells that an input is no object, and objects with their texts and statuses."""
 

@@ -2,8 +2,8 @@
 (RFC 5914), timestamps (RFC 6962 3) and qualifiers of policies (RFC 5280 4.2.1.4)."""
 from common.der import BMP_STRING, IA5_STRING, NULL, PRINTABLE_STRING, UTF8_STRING, VISIBLE_STRING
 from common.der import bit_string, context, element, header_len, integer, object_identifier, octet_string, sequence, set_of
-from test_linter import DATES, ECDSA_SHA256, ISSUER, KEY, SIGNATURE, SUBJECT
-from test_linter import ce, certificate, common_name, crl, extension, general, implicit, utc
+from test_linter import CPS, DATES, ECDSA_SHA256, ISSUER, KEY, NOTICE, SUBJECT
+from test_linter import ce, certificate, common_name, crl, csr, extension, general, implicit, utc
 
 # A text that would forge lines, the same in a text for people, and the same in JSON's text.
 FORGED = "x\nserial: 00\r\u2028issuer: y\u202e\x1b[2J\x00\x85\\\""
@@ -149,11 +149,6 @@ def attribute(number, *values):
     return sequence(object_identifier(1, 2, 840, 113549, 1, 9, number), set_of(*sorted(values)))
 
 
-def request(subject, *attributes):
-    """A CSR (RFC 2986 4)."""
-    return sequence(sequence(integer(0), subject, KEY, context(0, *sorted(attributes))), ECDSA_SHA256, SIGNATURE)
-
-
 def request_lines(subject, *lines):
     return ["type: CSR", "version: v1", f"subject: {subject}".strip(), *KEY_LINES, *lines, *SIGNED]
 
@@ -161,13 +156,10 @@ def request_lines(subject, *lines):
 def requests():
     """The same of CSRs."""
     asked = sequence(ce(17, sequence(implicit(2, b"a.example"), implicit(1, ASCII.encode()))), ce(15, bit_string(b"\x80", 7), True))
-    yield "csr", request(common_name(b"A subject")), request_lines("CN=A subject")
-    yield "csr with attributes", request(
-        sequence(),
-        attribute(7, element(UTF8_STRING, FORGED.encode())),
-        attribute(14, asked),
-        sequence(object_identifier(1, 2, 3), set_of(NULL, object_identifier(1, 2, 4), element(PRINTABLE_STRING, b"a"))),
-    ), request_lines(
+    yield "csr", csr(common_name(b"A subject")), request_lines("CN=A subject")
+    other = sequence(object_identifier(1, 2, 3), set_of(NULL, object_identifier(1, 2, 4), element(PRINTABLE_STRING, b"a")))
+    attributes = attribute(7, element(UTF8_STRING, FORGED.encode())), attribute(14, asked), other
+    yield "csr with attributes", csr(sequence(), attributes), request_lines(
         "",
         "attribute: 1.2.3",
         "  value: NULL",
@@ -178,10 +170,10 @@ def requests():
         "attribute: extensionRequest",
         *below("extension: subjectAltName", "  DNS name: a.example", "  email: " + VISIBLE_ASCII, "extension: keyUsage, critical", "  usage: digitalSignature"),
     )
-    yield "csr with undecodable values", request(common_name(b"x"), attribute(7, octet_string(b"a")), attribute(14, NULL, octet_string())), request_lines(
+    yield "csr with undecodable values", csr(common_name(b"x"), [attribute(7, octet_string(b"a")), attribute(14, NULL, octet_string())]), request_lines(
         "CN=x", "attribute: challengePassword", "  undecodable: 040161", "attribute: extensionRequest", "  undecodable: 0400", "  undecodable: 0500"
     )
-    yield "csr with a deep value", request(common_name(b"x"), attribute(14, sequence(ce(31, DEEP_POINT)))), request_lines(
+    yield "csr with a deep value", csr(common_name(b"x"), [attribute(14, sequence(ce(31, DEEP_POINT)))]), request_lines(
         "CN=x",
         "attribute: extensionRequest",
         *below("extension: cRLDistributionPoints", *below(*DEEP_LINES)),
@@ -285,7 +277,6 @@ TIMES = (
 HASHES = ((0, "none"), (1, "md5"), (2, "sha1"), (3, "sha224"), (4, "sha256"), (5, "sha384"), (6, "sha512"), (8, "intrinsic"))
 SIGNATURES = ((0, "anonymous"), (1, "rsa"), (2, "dsa"), (3, "ecdsa"), (7, "ed25519"), (8, "ed448"))
 SCTS, POISON = object_identifier(1, 3, 6, 1, 4, 1, 11129, 2, 4, 2), object_identifier(1, 3, 6, 1, 4, 1, 11129, 2, 4, 3)
-CPS, NOTICE = object_identifier(1, 3, 6, 1, 5, 5, 7, 2, 1), object_identifier(1, 3, 6, 1, 5, 5, 7, 2, 2)
 
 
 def with_extension(oid, payload, name, *lines):

@@ -14,7 +14,7 @@ import tempfile
 sys.path.insert(0, str(pathlib.Path(__file__).resolve().parents[1]))
 from common.der import BIT_STRING, BMP_STRING, GENERALIZED_TIME, IA5_STRING, NULL, PRINTABLE_STRING, TELETEX_STRING, TRUE, UTC_TIME, UTF8_STRING, VISIBLE_STRING
 from common.der import bit_string, context, element, integer, object_identifier, octet_string, sequence, set_of
-from object_runs import Program, ended
+from object_runs import Program, counted, ended
 
 ENUMERATED, NUMERIC_STRING, UNIVERSAL_STRING = 0x0A, 0x12, 0x1C
 EMAIL_ADDRESS, DOMAIN_COMPONENT = object_identifier(1, 2, 840, 113549, 1, 9, 1), object_identifier(0, 9, 2342, 19200300, 100, 1, 25)
@@ -1218,23 +1218,15 @@ def alike(program):
         yield "several files with --json", found == (1, told(paths[1], *rule) + told(quoted, *rule), ""), found
 
 
-def main(program, folder):
-    failed = count = 0
+def checked(program, folder):
+    """For each run a name, whether it ended as stated, and how it ended."""
     for name, words, data, printed, status in runs():
-        count += 1
-        if (found := ended(program, words, data)) != (status, printed, ""):
-            failed += 1
-            print(f"failed: x509_linter, {name}: {found}, and not {status} and\n{printed}", end="")
+        found, wanted = ended(program, words, data), (status, printed, "")
+        yield name, found == wanted, f"{found}, and not {wanted}"
         if folder:
             folder.mkdir(parents=True, exist_ok=True)
             (folder / f"{name.replace(' ', '_')}.der").write_bytes(data)
-    for name, is_so, found in alike(program):
-        count += 1
-        if not is_so:
-            failed += 1
-            print(f"failed: x509_linter, {name}: {found}")
-    print(f"{'failed' if failed else 'passed'}: x509_linter, {count} runs, {failed} of them not as stated")
-    return int(failed > 0)
+    yield from alike(program)
 
 
 if __name__ == "__main__":
@@ -1242,4 +1234,4 @@ if __name__ == "__main__":
     parser.add_argument("program", metavar="PROGRAM", help="the program, as crates/x509_linter/out/x509_linter")
     parser.add_argument("--write", metavar="FOLDER", type=pathlib.Path, help="where the inputs are written")
     given = parser.parse_args()
-    sys.exit(main(given.program, given.write))
+    sys.exit(counted("x509_linter", checked(given.program, given.write)))

@@ -17,11 +17,10 @@ sys.path.insert(0, str(pathlib.Path(__file__).resolve().parents[1]))
 sys.path.insert(0, str(pathlib.Path(__file__).resolve().parents[1] / "robustness"))
 from common.der import UTF8_STRING, element, sequence
 from hostile_payloads import NAME_ROWS, alternative_names, certificate, key_usage, relative_name
-from object_runs import Program, ended
-from shown_objects import anchors, crls, long_crl, objects, requests
+from object_runs import Program, counted, ended
+from shown_objects import FORGED, anchors, crls, long_crl, objects, requests
 from test_linter import SIGNATURE
 
-FORGED = "x\nserial: 00\r\u2028issuer: y\u202e\x1b[2J\x00\x85\\\""
 NO_OBJECT = "not a certificate, CRL, CSR or trust anchor in DER or hex"
 REFUSED = f"x509_show: standard input: {NO_OBJECT}\n"
 UNWRITTEN = "x509_show: standard input: the output can't be written\n"
@@ -206,18 +205,8 @@ def with_files(program):
         yield "files of another kind", None if found == (2, "", wanted) else f"{found}, and not {wanted}"
 
 
-def main(program):
-    failed = count = 0
-    for name, wrong in checked(program):
-        count += 1
-        if wrong:
-            failed += 1
-            print(f"failed: x509_show, {name}: {wrong}")
-    print(f"{'failed' if failed else 'passed'}: x509_show, {count} runs, {failed} of them not as stated")
-    return int(failed > 0)
-
-
 if __name__ == "__main__":
     parser = argparse.ArgumentParser(description=__doc__, formatter_class=argparse.RawDescriptionHelpFormatter)
     parser.add_argument("program", metavar="PROGRAM", help="the program, as crates/x509_show/out/x509_show")
-    sys.exit(main(parser.parse_args().program))
+    runs = checked(parser.parse_args().program)
+    sys.exit(counted("x509_show", ((name, not wrong, wrong) for name, wrong in runs)))

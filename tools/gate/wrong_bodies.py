@@ -4,7 +4,8 @@
 A file of `crates/NAME/wrong-bodies` is an edit as those of `must-fail`, which the gate leaves out for its cost. The crates are copied, those that
 are asked for with all their edits in `must-fail` and the others with none, and `rt must-fail` runs over the copy. The libraries that `rt lib` has
 built here are taken along as they are; others are built in the copy first. What is said of the edits is printed, and then how many were refused; the
-status is 0 where all were.
+status is 0 where all were. With --check nothing is proved: it is seen whether each edit can be applied, that is, whether each text that it takes away
+stands in its file exactly once.
 """
 import argparse
 import os
@@ -56,16 +57,41 @@ def try_all(crates, words):
     return run.returncode
 
 
+def faults(crate, edit):
+    """What can't be applied of an edit, whose pairs of lines are applied one behind the other."""
+    texts, path, old = {}, None, None
+    for line in edit.read_text().splitlines():
+        word, _, rest = line.partition(": ")
+        if word == "file":
+            path = rest
+            texts.setdefault(path, (TOP / "crates" / crate / path).read_text())
+        elif word == "old":
+            old = rest
+            if (count := texts[path].count(old)) != 1:
+                yield f"{crate}: {edit.name}: {path} has {count} times: {old}"
+        elif line.startswith("new:"):
+            texts[path] = texts[path].replace(old, rest)
+
+
+def check(crates, words):
+    """Whether each edit can be applied."""
+    asked = [(crate, edit) for crate in crates for edit in edits(crate, words)]
+    said = [fault for crate, edit in asked for fault in faults(crate, edit)]
+    print("\n".join(f"failed: wrong bodies: {fault}" for fault in said) or f"passed: {len(asked)} wrong bodies can be applied")
+    return int(bool(said))
+
+
 def main():
     parser = argparse.ArgumentParser(description=__doc__, formatter_class=argparse.RawDescriptionHelpFormatter)
     parser.add_argument("--only", metavar="WORD", action="append", default=[], help="those whose names have the word; may be given again")
+    parser.add_argument("--check", action="store_true", help="only sees whether each can be applied")
     parser.add_argument("crates", nargs="*", metavar="CRATE", help="all that have wrong bodies, if left out")
     asked = parser.parse_args()
     found = [folder.name for folder in sorted((TOP / "crates").iterdir()) if edits(folder.name, asked.only)]
     none = [crate for crate in asked.crates if crate not in found]
     if none:
         sys.exit(f"no wrong bodies: {' '.join(none)}")
-    return try_all(asked.crates or found, asked.only)
+    return (check if asked.check else try_all)(asked.crates or found, asked.only)
 
 
 if __name__ == "__main__":

@@ -13,7 +13,7 @@ use crate::integer::{Integer, SerialNumber};
 use crate::name::Name;
 use crate::oid::{self, ObjectIdentifier};
 use crate::time::seconds;
-use crate::writing::{self, OBJECT_IDENTIFIER, SEQUENCE, SET};
+use crate::writing::{self, SEQUENCE, SET};
 use std::collections::HashSet;
 use std::fmt;
 use std::time::SystemTime;
@@ -605,7 +605,7 @@ fn attribute(oid: ObjectIdentifier, values: &[&[u8]]) -> Result<Vec<u8>, Error> 
     // the members of a SET OF stand in the order of their encodings (X.690 11.6)
     values.sort();
     let values = writing::elements(SET, values);
-    let oid = writing::element(OBJECT_IDENTIFIER, oid.as_bytes());
+    let oid = writing::identifier(&oid);
     Ok(writing::elements(SEQUENCE, [oid, values]))
 }
 

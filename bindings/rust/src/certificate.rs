@@ -9,9 +9,9 @@ use crate::key::{AlgorithmIdentifier, PublicKey};
 use crate::lint::{self, Finding};
 use crate::name::NameRef;
 use crate::oid::ObjectIdentifier;
+use crate::owned::traits_by_der;
 use crate::time::moment;
 use std::fmt;
-use std::hash::{Hash, Hasher};
 use std::time::SystemTime;
 
 /// The version of a certificate (RFC 5280 4.1.2.1).
@@ -359,26 +359,6 @@ impl<'a> CertificateRef<'a> {
     }
 }
 
-impl PartialEq for CertificateRef<'_> {
-    fn eq(&self, other: &Self) -> bool {
-        self.der == other.der
-    }
-}
-
-impl Eq for CertificateRef<'_> {}
-
-impl Hash for CertificateRef<'_> {
-    fn hash<H: Hasher>(&self, state: &mut H) {
-        self.der.hash(state);
-    }
-}
-
-impl AsRef<[u8]> for CertificateRef<'_> {
-    fn as_ref(&self) -> &[u8] {
-        self.der
-    }
-}
-
 impl fmt::Debug for CertificateRef<'_> {
     fn fmt(&self, f: &mut fmt::Formatter<'_>) -> fmt::Result {
         f.debug_struct("Certificate")
@@ -386,14 +366,6 @@ impl fmt::Debug for CertificateRef<'_> {
             .field("issuer", &self.issuer())
             .field("subject", &self.subject())
             .finish_non_exhaustive()
-    }
-}
-
-impl<'a> TryFrom<&'a [u8]> for CertificateRef<'a> {
-    type Error = Error;
-
-    fn try_from(der: &'a [u8]) -> Result<CertificateRef<'a>, Error> {
-        CertificateRef::from_der(der)
     }
 }
 
@@ -592,36 +564,4 @@ impl Certificate {
     }
 }
 
-impl PartialEq for Certificate {
-    fn eq(&self, other: &Self) -> bool {
-        self.der == other.der
-    }
-}
-
-impl Eq for Certificate {}
-
-impl Hash for Certificate {
-    fn hash<H: Hasher>(&self, state: &mut H) {
-        self.der.hash(state);
-    }
-}
-
-impl AsRef<[u8]> for Certificate {
-    fn as_ref(&self) -> &[u8] {
-        &self.der
-    }
-}
-
-impl fmt::Debug for Certificate {
-    fn fmt(&self, f: &mut fmt::Formatter<'_>) -> fmt::Result {
-        self.to_ref().fmt(f)
-    }
-}
-
-impl TryFrom<Vec<u8>> for Certificate {
-    type Error = Error;
-
-    fn try_from(der: Vec<u8>) -> Result<Certificate, Error> {
-        Certificate::from_der(der)
-    }
-}
+traits_by_der!(Certificate, CertificateRef);

@@ -4,14 +4,14 @@ use crate::error::Error;
 use crate::extension::{
     CertificateIssuer, CrlReason, Extension, ExtensionValue, Extensions, InvalidityDate,
 };
-use crate::ffi::{self, Members};
+use crate::ffi::{self, iterator, Members};
 use crate::integer::Integer;
 use crate::lint::{self, Finding};
 use crate::name::NameRef;
 use crate::oid::ObjectIdentifier;
+use crate::owned::traits_by_der;
 use crate::time::moment;
 use std::fmt;
-use std::hash::{Hash, Hasher};
 use std::time::SystemTime;
 
 /// What an entry of a CRL says.
@@ -90,14 +90,7 @@ impl<'a> CrlEntry<'a> {
 #[derive(Clone, Debug)]
 pub struct CrlEntries<'a>(Members<'a, ffi::CrlEntry>);
 
-impl<'a> Iterator for CrlEntries<'a> {
-    type Item = Result<CrlEntry<'a>, Error>;
-
-    fn next(&mut self) -> Option<Self::Item> {
-        let found = self.0.next()?;
-        Some(found.and_then(|view| CrlEntry::found(&view, self.0.data)))
-    }
-}
+iterator!(CrlEntries, CrlEntry);
 
 /// The entries of an indirect CRL, in order, each with who issued its certificate (RFC 5280 5.3.3): the names of the last entry up to it that has a
 /// [`CertificateIssuer`]; `None` where none has it, and the issuer of the CRL issued the certificate. After one that can't be read nothing comes.
@@ -357,40 +350,12 @@ fn entries(der: &[u8]) -> Members<'_, ffi::CrlEntry> {
     }
 }
 
-impl PartialEq for CrlRef<'_> {
-    fn eq(&self, other: &Self) -> bool {
-        self.der == other.der
-    }
-}
-
-impl Eq for CrlRef<'_> {}
-
-impl Hash for CrlRef<'_> {
-    fn hash<H: Hasher>(&self, state: &mut H) {
-        self.der.hash(state);
-    }
-}
-
-impl AsRef<[u8]> for CrlRef<'_> {
-    fn as_ref(&self) -> &[u8] {
-        self.der
-    }
-}
-
 impl fmt::Debug for CrlRef<'_> {
     fn fmt(&self, f: &mut fmt::Formatter<'_>) -> fmt::Result {
         f.debug_struct("Crl")
             .field("issuer", &self.issuer())
             .field("len", &self.len)
             .finish_non_exhaustive()
-    }
-}
-
-impl<'a> TryFrom<&'a [u8]> for CrlRef<'a> {
-    type Error = Error;
-
-    fn try_from(der: &'a [u8]) -> Result<CrlRef<'a>, Error> {
-        CrlRef::from_der(der)
     }
 }
 
@@ -573,36 +538,4 @@ impl Crl {
     }
 }
 
-impl PartialEq for Crl {
-    fn eq(&self, other: &Self) -> bool {
-        self.der == other.der
-    }
-}
-
-impl Eq for Crl {}
-
-impl Hash for Crl {
-    fn hash<H: Hasher>(&self, state: &mut H) {
-        self.der.hash(state);
-    }
-}
-
-impl AsRef<[u8]> for Crl {
-    fn as_ref(&self) -> &[u8] {
-        &self.der
-    }
-}
-
-impl fmt::Debug for Crl {
-    fn fmt(&self, f: &mut fmt::Formatter<'_>) -> fmt::Result {
-        self.to_ref().fmt(f)
-    }
-}
-
-impl TryFrom<Vec<u8>> for Crl {
-    type Error = Error;
-
-    fn try_from(der: Vec<u8>) -> Result<Crl, Error> {
-        Crl::from_der(der)
-    }
-}
+traits_by_der!(Crl, CrlRef);

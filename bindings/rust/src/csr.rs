@@ -2,13 +2,13 @@
 use crate::certificate::Signature;
 use crate::error::Error;
 use crate::extension::Extensions;
-use crate::ffi::{self, Members};
+use crate::ffi::{self, iterator, Members};
 use crate::key::PublicKey;
 use crate::lint::{self, Finding};
 use crate::name::NameRef;
 use crate::oid::ObjectIdentifier;
+use crate::owned::traits_by_der;
 use std::fmt;
-use std::hash::{Hash, Hasher};
 
 /// An attribute of a CSR (RFC 2986 4.1), as a challenge password.
 #[derive(Clone, Copy, Debug, PartialEq, Eq, Hash)]
@@ -20,6 +20,13 @@ pub struct CsrAttribute<'a> {
 }
 
 impl<'a> CsrAttribute<'a> {
+    fn found(view: &ffi::RequestAttribute, data: &'a [u8]) -> Result<CsrAttribute<'a>, Error> {
+        Ok(CsrAttribute {
+            oid: ObjectIdentifier::found(view.oid.of(data)?)?,
+            values: view.values.of(data)?,
+        })
+    }
+
     /// Its values, in order. After one that can't be read nothing comes.
     pub fn values(&self) -> AttributeValues<'a> {
         AttributeValues(ffi::ATTRIBUTE_VALUES.over(self.values))
@@ -39,44 +46,27 @@ pub struct AttributeValue<'a> {
     pub der: &'a [u8],
 }
 
+impl<'a> AttributeValue<'a> {
+    fn found(view: &ffi::Element, data: &'a [u8]) -> Result<AttributeValue<'a>, Error> {
+        Ok(AttributeValue {
+            tag: u8::try_from(view.tag).map_err(|_| Error::Unexpected)?,
+            content: view.content.of(data)?,
+            der: view.element.of(data)?,
+        })
+    }
+}
+
 /// The values of an attribute, in order.
 #[derive(Clone, Debug)]
 pub struct AttributeValues<'a>(Members<'a, ffi::Element>);
 
-impl<'a> Iterator for AttributeValues<'a> {
-    type Item = Result<AttributeValue<'a>, Error>;
-
-    fn next(&mut self) -> Option<Self::Item> {
-        let found = self.0.next()?;
-        let data = self.0.data;
-        Some(found.and_then(|view| {
-            Ok(AttributeValue {
-                tag: u8::try_from(view.tag).map_err(|_| Error::Unexpected)?,
-                content: view.content.of(data)?,
-                der: view.element.of(data)?,
-            })
-        }))
-    }
-}
+iterator!(AttributeValues, AttributeValue);
 
 /// The attributes of a CSR, in order. After one that can't be read nothing comes.
 #[derive(Clone, Debug)]
 pub struct CsrAttributes<'a>(Members<'a, ffi::RequestAttribute>);
 
-impl<'a> Iterator for CsrAttributes<'a> {
-    type Item = Result<CsrAttribute<'a>, Error>;
-
-    fn next(&mut self) -> Option<Self::Item> {
-        let found = self.0.next()?;
-        let data = self.0.data;
-        Some(found.and_then(|view| {
-            Ok(CsrAttribute {
-                oid: ObjectIdentifier::found(view.oid.of(data)?)?,
-                values: view.values.of(data)?,
-            })
-        }))
-    }
-}
+iterator!(CsrAttributes, CsrAttribute);
 
 /// A CSR, by its bytes, which are borrowed. CSRs are equal byte for byte. [`Csr`] has bytes of its own.
 ///
@@ -220,34 +210,6 @@ impl<'a> CsrRef<'a> {
     }
 }
 
-impl PartialEq for CsrRef<'_> {
-    fn eq(&self, other: &Self) -> bool {
-        self.der == other.der
-    }
-}
-
-impl Eq for CsrRef<'_> {}
-
-impl Hash for CsrRef<'_> {
-    fn hash<H: Hasher>(&self, state: &mut H) {
-        self.der.hash(state);
-    }
-}
-
-impl AsRef<[u8]> for CsrRef<'_> {
-    fn as_ref(&self) -> &[u8] {
-        self.der
-    }
-}
-
-impl<'a> TryFrom<&'a [u8]> for CsrRef<'a> {
-    type Error = Error;
-
-    fn try_from(der: &'a [u8]) -> Result<CsrRef<'a>, Error> {
-        CsrRef::from_der(der)
-    }
-}
-
 impl fmt::Debug for CsrRef<'_> {
     fn fmt(&self, f: &mut fmt::Formatter<'_>) -> fmt::Result {
         f.debug_struct("Csr")
@@ -380,36 +342,4 @@ impl Csr {
     }
 }
 
-impl PartialEq for Csr {
-    fn eq(&self, other: &Self) -> bool {
-        self.der == other.der
-    }
-}
-
-impl Eq for Csr {}
-
-impl Hash for Csr {
-    fn hash<H: Hasher>(&self, state: &mut H) {
-        self.der.hash(state);
-    }
-}
-
-impl AsRef<[u8]> for Csr {
-    fn as_ref(&self) -> &[u8] {
-        &self.der
-    }
-}
-
-impl fmt::Debug for Csr {
-    fn fmt(&self, f: &mut fmt::Formatter<'_>) -> fmt::Result {
-        self.to_ref().fmt(f)
-    }
-}
-
-impl TryFrom<Vec<u8>> for Csr {
-    type Error = Error;
-
-    fn try_from(der: Vec<u8>) -> Result<Csr, Error> {
-        Csr::from_der(der)
-    }
-}
+traits_by_der!(Csr, CsrRef);

@@ -38,7 +38,7 @@ pub(crate) use writing::is_crl_number;
 pub use writing::ToExtension;
 
 use crate::error::Error;
-use crate::ffi::{self, Members};
+use crate::ffi::{self, iterator, Members};
 use crate::oid::ObjectIdentifier;
 
 /// What an extension with a certain identifier holds.
@@ -145,14 +145,7 @@ impl<'a> Extensions<'a> {
     }
 }
 
-impl<'a> Iterator for Extensions<'a> {
-    type Item = Result<Extension<'a>, Error>;
-
-    fn next(&mut self) -> Option<Self::Item> {
-        let found = self.0.next()?;
-        Some(found.and_then(|entry| Extension::found(&entry, self.0.data)))
-    }
-}
+iterator!(Extensions, Extension);
 
 macro_rules! parsed {
     ($($name:ident($kind:ty),)*) => {

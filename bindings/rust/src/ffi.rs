@@ -6,6 +6,27 @@ use std::ffi::c_int;
 use std::fmt;
 use std::ptr;
 
+/// Asks a call, to which each slice in brackets is lent by its place and its length, and each value in parentheses goes as it is.
+macro_rules! lent {
+    ($call:ident: $($([$slice:expr])? $(($value:expr))?),*) => {
+        $call($($($slice.as_ptr(), $slice.len(),)? $($value,)?)*)
+    };
+}
+
+/// What a call writes, asked as of `lent`. In front stands what X509_FAILED means, where the call lists it.
+macro_rules! filled {
+    ($call:ident: $($given:tt),*) => {
+        filled!(Error::Unexpected, $call: $($given),*)
+    };
+    ($failed:expr, $call:ident: $($given:tt),*) => {
+        fill($failed, |out, room, written| {
+            // SAFETY: the header lets the call read the slices, which are lent for it, take any numbers, and write to `out[0..room)` and `written`, which
+            // `wanted` and `fill` own.
+            unsafe { lent!($call: $($given),*, (out), (room), (written)) }
+        })
+    };
+}
+
 pub(crate) mod build;
 
 const OK: c_int = 0;
@@ -556,22 +577,25 @@ fn accepted_or<T>(failed: Error, status: c_int, found: T) -> Result<T, Error> {
     }
 }
 
-/// A call that fills in what it says of bytes. Only this module makes one.
-pub(crate) struct View<T> {
-    call: ViewCall<T>,
+/// A call of such a type, and what its X509_FAILED means. Only this module makes one.
+pub(crate) struct Call<C> {
+    call: C,
     failed: Error,
 }
 
-impl<T> View<T> {
-    const fn new(call: ViewCall<T>) -> View<T> {
-        View::or(Error::Unexpected, call)
+impl<C: Copy> Call<C> {
+    const fn new(call: C) -> Call<C> {
+        Call::or(Error::Unexpected, call)
     }
 
     /// One whose X509_FAILED means that.
-    const fn or(failed: Error, call: ViewCall<T>) -> View<T> {
-        View { call, failed }
+    const fn or(failed: Error, call: C) -> Call<C> {
+        Call { call, failed }
     }
 }
+
+/// A call that fills in what it says of bytes.
+pub(crate) type View<T> = Call<ViewCall<T>>;
 
 impl<T: Default> View<T> {
     pub(crate) fn of(&self, data: &[u8]) -> Result<T, Error> {
@@ -582,29 +606,17 @@ impl<T: Default> View<T> {
     }
 }
 
-/// A call that writes bytes of bytes. Only this module makes one.
-pub(crate) struct Fill {
-    call: FillCall,
-    failed: Error,
-}
+/// A call that writes bytes of bytes.
+pub(crate) type Fill = Call<FillCall>;
 
 impl Fill {
-    const fn new(call: FillCall) -> Fill {
-        Fill::or(Error::Unexpected, call)
-    }
-
-    /// One whose X509_FAILED means that.
-    const fn or(failed: Error, call: FillCall) -> Fill {
-        Fill { call, failed }
-    }
-
     /// Refused as [`of`](Fill::of) is.
     pub(crate) fn check(&self, data: &[u8]) -> Result<(), Error> {
         wanted(self.failed, &self.over(data)).map(|_| ())
     }
 
     pub(crate) fn of(&self, data: &[u8]) -> Result<Vec<u8>, Error> {
-        fill_or(self.failed, self.over(data))
+        fill(self.failed, self.over(data))
     }
 
     /// The text that the call writes, which is UTF-8.
@@ -641,13 +653,8 @@ fn wanted(
     }
 }
 
-/// What such a call writes that doesn't list X509_FAILED.
-fn fill(write: impl Fn(*mut u8, usize, *mut usize) -> c_int) -> Result<Vec<u8>, Error> {
-    fill_or(Error::Unexpected, write)
-}
-
 /// What such a call writes whose X509_FAILED means that.
-fn fill_or(
+fn fill(
     failed: Error,
     write: impl Fn(*mut u8, usize, *mut usize) -> c_int,
 ) -> Result<Vec<u8>, Error> {
@@ -745,6 +752,22 @@ impl<T: Default> Iterator for Members<'_, T> {
     }
 }
 
+/// The iterator of a struct round members, each read by the `found` of its type.
+macro_rules! iterator {
+    ($members:ident, $member:ident) => {
+        impl<'a> Iterator for $members<'a> {
+            type Item = Result<$member<'a>, $crate::Error>;
+
+            fn next(&mut self) -> Option<Self::Item> {
+                let found = self.0.next()?;
+                Some(found.and_then(|view| $member::found(&view, self.0.data)))
+            }
+        }
+    };
+}
+
+pub(crate) use iterator;
+
 /// Of a text that is none; where it stops to be one its caller says.
 pub(crate) const NO_TEXT: Error = Error::Text { place: 0 };
 
@@ -841,30 +864,11 @@ pub(crate) static RELATIVE_NAME_UNDER_1: Walk<Attribute> =
     Walk(Next::Under(1, x509_relative_name_under_next));
 
 pub(crate) fn reencode(kind: &str, profile: u32, data: &[u8]) -> Result<Vec<u8>, Error> {
-    fill_or(Error::UnknownType, |out, room, written| {
-        // SAFETY: the header lets the call read `kind` and `data`, which are lent for it, and write to `out[0..room)` and `written`, which `wanted`
-        // and `fill` own.
-        unsafe {
-            x509_reencode(
-                kind.as_ptr(),
-                kind.len(),
-                profile,
-                data.as_ptr(),
-                data.len(),
-                out,
-                room,
-                written,
-            )
-        }
-    })
+    filled!(Error::UnknownType, x509_reencode: [kind], (profile), [data])
 }
 
 pub(crate) fn time_text(moment: u64) -> Result<String, Error> {
-    let text = fill(|out, room, written| {
-        // SAFETY: the header lets the call write to `out[0..room)` and `written`, which `wanted` and `fill` own.
-        unsafe { x509_time_text(moment, out, room, written) }
-    })?;
-    String::from_utf8(text).map_err(|_| Error::Unexpected)
+    String::from_utf8(filled!(x509_time_text: (moment))?).map_err(|_| Error::Unexpected)
 }
 
 /// The version of the library that is linked.
@@ -873,36 +877,15 @@ pub(crate) fn version() -> u32 {
     unsafe { x509_version() }
 }
 
-/// A call that finds what bytes hold under other bytes: the content octets of an OID, or the DER of a serial number. Only this module makes one.
-pub(crate) struct Find<T> {
-    call: FindCall<T>,
-    failed: Error,
-}
-
-impl<T> Find<T> {
-    const fn new(call: FindCall<T>) -> Find<T> {
-        Find::or(Error::Unexpected, call)
-    }
-
-    /// One whose X509_FAILED means that.
-    const fn or(failed: Error, call: FindCall<T>) -> Find<T> {
-        Find { call, failed }
-    }
-}
+/// A call that finds what bytes hold under other bytes: the content octets of an OID, or the DER of a serial number.
+pub(crate) type Find<T> = Call<FindCall<T>>;
 
 impl<T: Default> Find<T> {
     pub(crate) fn of(&self, data: &[u8], sought: &[u8]) -> Result<Option<T>, Error> {
         let mut found = T::default();
+        let call = self.call;
         // SAFETY: the header lets the call read both slices, which are lent for it, and fill in `found`, which is of the struct that it takes.
-        let status = unsafe {
-            (self.call)(
-                data.as_ptr(),
-                data.len(),
-                sought.as_ptr(),
-                sought.len(),
-                &mut found,
-            )
-        };
+        let status = unsafe { lent!(call: [data], [sought], (&mut found)) };
         match status {
             ABSENT => Ok(None),
             status => accepted_or(self.failed, status, Some(found)),
@@ -935,8 +918,7 @@ pub(crate) fn crl_issued_next(
 pub(crate) fn names_match(a: &[u8], b: &[u8]) -> Result<bool, Error> {
     let mut matches = 0;
     // SAFETY: the header lets the call read both slices, which are lent for it, and fill in `matches`.
-    let status =
-        unsafe { x509_names_match(a.as_ptr(), a.len(), b.as_ptr(), b.len(), &mut matches) };
+    let status = unsafe { lent!(x509_names_match: [a], [b], (&mut matches)) };
     accepted(status, matches == 1)
 }
 
@@ -950,18 +932,8 @@ pub(crate) fn path_check(
     let lens: Vec<usize> = path.iter().map(|data| data.len()).collect();
     let mut fault = PathFault::default();
     // SAFETY: the header lets the call read the three slices, which are lent for it, `lens` of as many numbers as it is told, and fill in `fault`.
-    let status = unsafe {
-        x509_path_check(
-            anchor.as_ptr(),
-            anchor.len(),
-            joined.as_ptr(),
-            joined.len(),
-            lens.as_ptr(),
-            lens.len(),
-            moment,
-            &mut fault,
-        )
-    };
+    let status =
+        unsafe { lent!(x509_path_check: [anchor], [joined], [lens], (moment), (&mut fault)) };
     match status {
         FAULT => Ok(Some(fault)),
         status => accepted(status, None),
@@ -998,23 +970,8 @@ impl Question<'_> {
         // SAFETY: the header lets the call read the slices, which are lent for it, `lens` of as many numbers as it is told and `settings` of the size that it
         // is told, write into `out`, and fill in `answer`.
         unsafe {
-            call(
-                anchor.as_ptr(),
-                anchor.len(),
-                self.joined.as_ptr(),
-                self.joined.len(),
-                self.lens.as_ptr(),
-                self.lens.len(),
-                self.name_constraints.as_ptr(),
-                self.name_constraints.len(),
-                self.policies.as_ptr(),
-                self.policies.len(),
-                &self.settings,
-                size_of::<PathSettings>(),
-                out.as_mut_ptr(),
-                out.len(),
-                answer,
-            )
+            lent!(call: [anchor], [self.joined], [self.lens], [self.name_constraints], [self.policies], (&self.settings),
+                (size_of::<PathSettings>()), (out.as_mut_ptr()), (out.len()), (answer))
         }
     }
 
@@ -1028,25 +985,8 @@ impl Question<'_> {
     ) -> c_int {
         // SAFETY: as of `call`.
         unsafe {
-            x509_path_validate_under_key(
-                name.as_ptr(),
-                name.len(),
-                key.as_ptr(),
-                key.len(),
-                self.joined.as_ptr(),
-                self.joined.len(),
-                self.lens.as_ptr(),
-                self.lens.len(),
-                self.name_constraints.as_ptr(),
-                self.name_constraints.len(),
-                self.policies.as_ptr(),
-                self.policies.len(),
-                &self.settings,
-                size_of::<PathSettings>(),
-                out.as_mut_ptr(),
-                out.len(),
-                answer,
-            )
+            lent!(x509_path_validate_under_key: [name], [key], [self.joined], [self.lens], [self.name_constraints], [self.policies],
+                (&self.settings), (size_of::<PathSettings>()), (out.as_mut_ptr()), (out.len()), (answer))
         }
     }
 
@@ -1139,17 +1079,7 @@ pub(crate) fn revocation_status(
     // SAFETY: the header lets the call read both slices of bytes, `given` of as many structs as it is told, and `settings` of its size, which are lent for it,
     // and fill in `answer`.
     let status = unsafe {
-        x509_revocation_status(
-            certificate.as_ptr(),
-            certificate.len(),
-            joined.as_ptr(),
-            joined.len(),
-            given.as_ptr(),
-            given.len(),
-            &settings,
-            size_of::<RevocationSettings>(),
-            &mut answer,
-        )
+        lent!(x509_revocation_status: [certificate], [joined], [given], (&settings), (size_of::<RevocationSettings>()), (&mut answer))
     };
     accepted(status, answer)
 }

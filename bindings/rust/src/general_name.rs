@@ -1,6 +1,6 @@
 //! General names (RFC 5280 4.2.1.6).
 use crate::error::Error;
-use crate::ffi::{self, Members};
+use crate::ffi::{self, iterator, Members};
 use crate::name::NameRef;
 use crate::oid::ObjectIdentifier;
 use crate::writing::{context_elements, element, SEQUENCE};
@@ -169,14 +169,7 @@ impl<'a> GeneralNames<'a> {
     }
 }
 
-impl<'a> Iterator for GeneralNames<'a> {
-    type Item = Result<GeneralName<'a>, Error>;
-
-    fn next(&mut self) -> Option<Self::Item> {
-        let found = self.0.next()?;
-        Some(found.and_then(|view| GeneralName::found(&view, self.0.data)))
-    }
-}
+iterator!(GeneralNames, GeneralName);
 
 #[cfg(test)]
 mod tests {

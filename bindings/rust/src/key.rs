@@ -2,34 +2,14 @@
 use crate::error::Error;
 use crate::ffi;
 use crate::integer::Integer;
+use crate::numbered::numbered;
 use crate::oid::ObjectIdentifier;
 
-macro_rules! kinds {
-    ($(#[$said:meta])* $name:ident { $($(#[$kind_said:meta])* $kind:ident = $number:literal,)* }) => {
-        $(#[$said])*
-        #[derive(Clone, Copy, Debug, PartialEq, Eq, Hash)]
-        #[non_exhaustive]
-        pub enum $name {
-            $(
-                $(#[$kind_said])*
-                $kind = $number,
-            )*
-        }
-
-        impl $name {
-            fn found(number: u32) -> Result<$name, Error> {
-                match number {
-                    $($number => Ok($name::$kind),)*
-                    _ => Err(Error::Unexpected),
-                }
-            }
-        }
-    };
-}
-
-kinds! {
+numbered! {
     /// The kind of a public key, by the OID of its algorithm, and of an elliptic curve by the name of the curve.
-    KeyKind {
+    #[derive(Clone, Copy, Debug, PartialEq, Eq, Hash)]
+    #[non_exhaustive]
+    pub enum KeyKind {
         /// None of these.
         Other = 0,
         /// rsaEncryption (RFC 3279 2.3.1).
@@ -57,9 +37,11 @@ kinds! {
     }
 }
 
-kinds! {
+numbered! {
     /// The kind of a signature algorithm, by its OID.
-    SignatureKind {
+    #[derive(Clone, Copy, Debug, PartialEq, Eq, Hash)]
+    #[non_exhaustive]
+    pub enum SignatureKind {
         /// None of these.
         Other = 0,
         /// RSA with SHA-1 (RFC 3279 2.2.1).

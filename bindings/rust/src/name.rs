@@ -1,7 +1,8 @@
 //! Names of certificates (RFC 5280 4.1.2.4), and their texts (RFC 4514).
 use crate::error::{write_text, Error};
-use crate::ffi::{self, Members};
+use crate::ffi::{self, iterator, Members};
 use crate::oid::ObjectIdentifier;
+use crate::owned::traits_by_der;
 use crate::text::{place_in_name, placed};
 use std::borrow::Cow;
 use std::fmt;
@@ -12,7 +13,7 @@ mod builder;
 pub use builder::{escape_value, NameBuilder, StringType};
 
 /// A distinguished name, by its DER. Names are equal byte for byte, as they are compared in a path.
-#[derive(Clone, Copy, PartialEq, Eq, Hash)]
+#[derive(Clone, Copy)]
 pub struct NameRef<'a> {
     der: &'a [u8],
 }
@@ -108,20 +109,6 @@ impl fmt::Debug for NameRef<'_> {
     }
 }
 
-impl AsRef<[u8]> for NameRef<'_> {
-    fn as_ref(&self) -> &[u8] {
-        self.der
-    }
-}
-
-impl<'a> TryFrom<&'a [u8]> for NameRef<'a> {
-    type Error = Error;
-
-    fn try_from(der: &'a [u8]) -> Result<NameRef<'a>, Error> {
-        NameRef::from_der(der)
-    }
-}
-
 /// A distinguished name that has bytes of its own: of values ([`builder`](Name::builder)), of a text of RFC 4514, in which a value is to be escaped
 /// ([`escape_value`]), or of its DER.
 ///
@@ -136,7 +123,7 @@ impl<'a> TryFrom<&'a [u8]> for NameRef<'a> {
 /// }
 /// # Ok::<(), x509_rattle::Error>(())
 /// ```
-#[derive(Clone, PartialEq, Eq, Hash)]
+#[derive(Clone)]
 pub struct Name {
     der: Vec<u8>,
 }
@@ -223,19 +210,7 @@ impl Name {
     }
 }
 
-impl AsRef<[u8]> for Name {
-    fn as_ref(&self) -> &[u8] {
-        &self.der
-    }
-}
-
-impl TryFrom<Vec<u8>> for Name {
-    type Error = Error;
-
-    fn try_from(der: Vec<u8>) -> Result<Name, Error> {
-        Name::from_der(der)
-    }
-}
+traits_by_der!(Name, NameRef);
 
 impl FromStr for Name {
     type Err = Error;
@@ -253,12 +228,6 @@ impl fmt::Display for Name {
     /// The text of RFC 4514. Where [`to_rfc4514`](NameRef::to_rfc4514) is refused, the error in angle brackets, as `<out of memory>`.
     fn fmt(&self, f: &mut fmt::Formatter<'_>) -> fmt::Result {
         self.to_ref().fmt(f)
-    }
-}
-
-impl fmt::Debug for Name {
-    fn fmt(&self, f: &mut fmt::Formatter<'_>) -> fmt::Result {
-        fmt::Debug::fmt(&self.to_ref(), f)
     }
 }
 
@@ -340,14 +309,7 @@ impl fmt::Debug for RelativeDistinguishedName<'_> {
 #[derive(Clone, Debug)]
 pub struct Attributes<'a>(Members<'a, ffi::Attribute>);
 
-impl<'a> Iterator for Attributes<'a> {
-    type Item = Result<AttributeTypeAndValue<'a>, Error>;
-
-    fn next(&mut self) -> Option<Self::Item> {
-        let found = self.0.next()?;
-        Some(found.and_then(|view| AttributeTypeAndValue::found(&view, self.0.data)))
-    }
-}
+iterator!(Attributes, AttributeTypeAndValue);
 
 /// The attributes of a name. After one that can't be read nothing comes.
 #[derive(Clone, Debug)]

@@ -6,6 +6,7 @@ use crate::error::Error;
 use crate::extension::{CertificatePolicies, ExtensionValue};
 use crate::ffi;
 use crate::name::NameRef;
+use crate::numbered::numbered;
 use crate::oid::{extension, ObjectIdentifier};
 use crate::time::seconds;
 use crate::writing::{elements, identifier, SEQUENCE};
@@ -24,70 +25,51 @@ impl<F: Fn(&[u8], &Signature<'_>) -> bool> Verifier for F {
     }
 }
 
-/// What is wrong with a certificate of a path. Of several faults of one certificate the first of this order is told, but for
-/// [`Extension`](FaultReason::Extension), which comes behind [`Critical`](FaultReason::Critical). Those from [`Extension`](FaultReason::Extension) on are told
-/// by [`validate_path`] alone.
-#[derive(Clone, Copy, Debug, PartialEq, Eq, PartialOrd, Ord, Hash)]
-pub enum FaultReason {
-    /// The bytes are those of no certificate.
-    Decode = 1,
-    /// The algorithm in the signed part isn't the one outside it (RFC 5280 4.1.1.2).
-    Algorithm = 2,
-    /// The issuer isn't the subject of the certificate above: byte for byte for [`check_path`], as names match (RFC 5280 7.1) for [`validate_path`].
-    Issuer = 3,
-    /// The moment is before the first or after the last second of the validity.
-    Moment = 4,
-    /// The signature isn't accepted.
-    Signature = 5,
-    /// An extension identifier is there twice.
-    Repeated = 6,
-    /// A critical extension is none of BasicConstraints, KeyUsage, ExtendedKeyUsage and SubjectAltName, or one of these that can't be read. For
-    /// [`validate_path`] NameConstraints and those about policies are of these too.
-    Critical = 7,
-    /// Asked of all but the last: there is no BasicConstraints that can be read and says cA.
-    NotCa = 8,
-    /// Asked of all but the last: there is a KeyUsage without keyCertSign, or one that can't be read.
-    KeyUsage = 9,
-    /// Asked of all but the last: more certificates that aren't self-issued follow one above than its path length allows.
-    PathLen = 10,
-    /// An extension can't be read, critical or not, that is one of those or of those about policies: CertificatePolicies, PolicyMappings, PolicyConstraints and
-    /// InhibitAnyPolicy.
-    Extension = 11,
-    /// A name isn't within what the name constraints above permit, or is within what they exclude (RFC 5280 4.2.1.10).
-    Names = 12,
-    /// Asked of all but the last: there is a NameConstraints that can't be used, with a minimum other than 0, a maximum, or an address or a mask that is none.
-    Constraints = 13,
-    /// A policy is there twice (RFC 5280 4.2.1.4).
-    RepeatedPolicy = 14,
-    /// No policy is left under which the path is valid, and one is asked for (RFC 5280 6.1.3 (f), 6.1.5 (g)).
-    Policy = 15,
-    /// Asked of all but the last: any-policy is mapped, or something to it (RFC 5280 6.1.4 (a)).
-    PolicyMapping = 16,
+numbered! {
+    /// What is wrong with a certificate of a path. Of several faults of one certificate the first of this order is told, but for
+    /// [`Extension`](FaultReason::Extension), which comes behind [`Critical`](FaultReason::Critical). Those from [`Extension`](FaultReason::Extension) on are
+    /// told by [`validate_path`] alone.
+    #[derive(Clone, Copy, Debug, PartialEq, Eq, PartialOrd, Ord, Hash)]
+    pub enum FaultReason {
+        /// The bytes are those of no certificate.
+        Decode = 1,
+        /// The algorithm in the signed part isn't the one outside it (RFC 5280 4.1.1.2).
+        Algorithm = 2,
+        /// The issuer isn't the subject of the certificate above: byte for byte for [`check_path`], as names match (RFC 5280 7.1) for [`validate_path`].
+        Issuer = 3,
+        /// The moment is before the first or after the last second of the validity.
+        Moment = 4,
+        /// The signature isn't accepted.
+        Signature = 5,
+        /// An extension identifier is there twice.
+        Repeated = 6,
+        /// A critical extension is none of BasicConstraints, KeyUsage, ExtendedKeyUsage and SubjectAltName, or one of these that can't be read. For
+        /// [`validate_path`] NameConstraints and those about policies are of these too.
+        Critical = 7,
+        /// Asked of all but the last: there is no BasicConstraints that can be read and says cA.
+        NotCa = 8,
+        /// Asked of all but the last: there is a KeyUsage without keyCertSign, or one that can't be read.
+        KeyUsage = 9,
+        /// Asked of all but the last: more certificates that aren't self-issued follow one above than its path length allows.
+        PathLen = 10,
+        /// An extension can't be read, critical or not, that is one of those or of those about policies: CertificatePolicies, PolicyMappings, PolicyConstraints
+        /// and InhibitAnyPolicy.
+        Extension = 11,
+        /// A name isn't within what the name constraints above permit, or is within what they exclude (RFC 5280 4.2.1.10).
+        Names = 12,
+        /// Asked of all but the last: there is a NameConstraints that can't be used, with a minimum other than 0, a maximum, or an address or a mask that is
+        /// none.
+        Constraints = 13,
+        /// A policy is there twice (RFC 5280 4.2.1.4).
+        RepeatedPolicy = 14,
+        /// No policy is left under which the path is valid, and one is asked for (RFC 5280 6.1.3 (f), 6.1.5 (g)).
+        Policy = 15,
+        /// Asked of all but the last: any-policy is mapped, or something to it (RFC 5280 6.1.4 (a)).
+        PolicyMapping = 16,
+    }
 }
 
 impl FaultReason {
-    fn found(number: u32) -> Result<FaultReason, Error> {
-        Ok(match number {
-            1 => FaultReason::Decode,
-            2 => FaultReason::Algorithm,
-            3 => FaultReason::Issuer,
-            4 => FaultReason::Moment,
-            5 => FaultReason::Signature,
-            6 => FaultReason::Repeated,
-            7 => FaultReason::Critical,
-            8 => FaultReason::NotCa,
-            9 => FaultReason::KeyUsage,
-            10 => FaultReason::PathLen,
-            11 => FaultReason::Extension,
-            12 => FaultReason::Names,
-            13 => FaultReason::Constraints,
-            14 => FaultReason::RepeatedPolicy,
-            15 => FaultReason::Policy,
-            16 => FaultReason::PolicyMapping,
-            _ => return Err(Error::Unexpected),
-        })
-    }
-
     fn text(self) -> &'static str {
         match self {
             FaultReason::Decode => "is no certificate",

@@ -1,4 +1,8 @@
-//! What a borrowed object says its owned one says by the same methods, as the sources have them.
+//! What a borrowed object says its owned one says by the same methods, as the sources have them, and both have the same traits.
+use std::fmt::Debug;
+use std::hash::{DefaultHasher, Hash, Hasher};
+use x509_rattle::{Certificate, CertificateRef, Crl, CrlRef, Csr, CsrRef, Error, Name, NameRef};
+
 const OBJECTS: [(&str, &str, &str); 4] = [
     (
         "Certificate",
@@ -37,32 +41,64 @@ fn the_same_methods() {
     }
 }
 
+fn hashed<T: Hash + ?Sized>(it: &T) -> u64 {
+    let mut state = DefaultHasher::new();
+    it.hash(&mut state);
+    state.finish()
+}
+
+/// Asks whether objects are compared, hashed, lent and read by their DER, of two and of bytes that are refused; what `Debug` writes of the first.
+fn shown<D, T>(from_der: fn(D) -> Result<T, Error>, der: D, other: D, refused: D) -> String
+where
+    D: AsRef<[u8]> + Clone,
+    T: Eq + Hash + AsRef<[u8]> + Debug + TryFrom<D, Error = Error>,
+{
+    let read = from_der(der.clone()).expect("an object");
+    assert_eq!(read.as_ref(), der.as_ref());
+    assert_eq!(hashed(&read), hashed(der.as_ref()));
+    let other = from_der(other).expect("another object");
+    assert!(read != other && hashed(&read) != hashed(&other));
+    let error = from_der(refused.clone()).expect_err("no object");
+    assert_eq!(T::try_from(refused), Err(error));
+    let text = format!("{read:?}");
+    assert_eq!(T::try_from(der), Ok(read));
+    text
+}
+
+/// Asks it of the owned object of these bytes and of the borrowed one: with another last bit they are an object too, without the last byte none.
+macro_rules! same_traits {
+    ($owned:ident, $borrowed:ident, $der:expr) => {
+        let (der, mut other) = ($der.to_vec(), $der.to_vec());
+        *other.last_mut().expect("a byte") ^= 1;
+        let cut = &der[..der.len() - 1];
+        let borrowed = shown($borrowed::from_der, &der[..], &other, cut);
+        let owned = shown($owned::from_der, der.clone(), other.clone(), cut.to_vec());
+        assert_eq!(owned, borrowed);
+        assert!(owned.starts_with(stringify!($owned)), "{owned}");
+    };
+}
+
 #[test]
 fn the_same_traits() {
-    let traits = ["PartialEq", "Eq", "Hash", "AsRef<[u8]>", "fmt::Debug"];
-    for (owned, borrowed, source) in OBJECTS {
-        for name in traits {
-            let derived = name == "PartialEq" || name == "Eq" || name == "Hash";
-            let is_there = |of: &str| source.contains(&format!("impl {name} for {of} {{"));
-            let is_derived = |of: &str| {
-                let front = source
-                    .split_once(&format!("pub struct {of}"))
-                    .expect("it")
-                    .0;
-                let line = front.trim_end().rsplit('\n').next().expect("a line");
-                line.starts_with("#[derive(") && line.contains(name)
-            };
-            for (of, kind) in [
-                (owned.to_owned(), owned),
-                (format!("{borrowed}<'_>"), borrowed),
-            ] {
-                assert!(
-                    is_there(&of) || derived && is_derived(kind),
-                    "{name} for {of}"
-                );
-            }
-        }
-        assert!(source.contains(&format!("impl TryFrom<Vec<u8>> for {owned} {{")));
-        assert!(source.contains(&format!("impl<'a> TryFrom<&'a [u8]> for {borrowed}<'a> {{")));
-    }
+    same_traits!(
+        Certificate,
+        CertificateRef,
+        include_bytes!("../../../examples/data/certificate.der")
+    );
+    same_traits!(
+        Crl,
+        CrlRef,
+        include_bytes!("../../../examples/data/list.der")
+    );
+    same_traits!(
+        Csr,
+        CsrRef,
+        include_bytes!("../../../examples/data/request.der")
+    );
+    // CN=a
+    same_traits!(
+        Name,
+        NameRef,
+        b"\x30\x0c\x31\x0a\x30\x08\x06\x03\x55\x04\x03\x0c\x01a"
+    );
 }

@@ -30,12 +30,8 @@ fills_same B bytes same room filled was written status left good is = fills_with
 -- any other answer is one
 pub unrepeated : (answers : Result (List ℕ) Status → Type 0) (room filled : List ℕ) (was written : ℕ) (status : Status) → Fills (but_repeated answers) room filled was written status → FillsUnrepeated answers room filled was written status
 unfolding Fills FillsUnrepeated
-unrepeated answers room filled was written Done left = left
-unrepeated answers room filled was written NoRoom left = left
-unrepeated answers room filled was written (Refused e) left = left
-unrepeated answers room filled was written Absent left = left
 unrepeated answers room filled was written Repeated left = absurd left
-unrepeated answers room filled was written Faulty left = left
+unrepeated answers room filled was written _ left = left
 
 pub unrepeated_as : (A : Result (List ℕ) ErrorKind → Type 0) (B : Result (List ℕ) Status → Type 0) → ((answer : Result (List ℕ) ErrorKind) → A answer → but_repeated B answer) → (room filled : List ℕ) (was written : ℕ) (status : Status) → Fills A room filled was written status → FillsUnrepeated B room filled was written status
 unrepeated_as A B to room filled was written status left = unrepeated B room filled was written status (fills_as A (but_repeated B) to room filled was written status left)

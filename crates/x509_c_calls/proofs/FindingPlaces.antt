@@ -1,7 +1,6 @@
 -- Where the texts of a finding stand.
 use Rattle.std.proofs.Common.{◌≡◌, ◌≤◌, ◌<◌, ◌+◌, ◌-◌, ◌++◌, ◌∷◌, [], ℕ, Bool, List, drop, take, get_or, length, bytes_eq, false, refl, sym, ap, subst, ◌∙◌, arith, append_assoc, length-append, length-drop, length-take-le, drop-drop, take-append-drop}
 use Rattle.std.proofs.lemmas.Bool.{false≢true}
-use Rattle.std.proofs.lemmas.List.{drop_all}
 use Rattle.std.proofs.lemmas.List.Elements.{All-tail}
 use Rattle.std.proofs.lemmas.Slice.Eq.{bytes_eq-Decides}
 use Rattle.std.specs.Prelude.{codes}
@@ -103,13 +102,6 @@ stands-on lines front x x' behind at span found e =
     ((found.is.0 ∙ ap (λ l. x ++ l) rest, found.is.1, found.is.2), found.stands ∙ ap (λ l. front ++ (x ++ l)) rest)
 
 -- ---- the end of the lines
-
--- behind the end no line of a finding stands
-pub none-past : (lines : List ℕ) (at : ℕ) → length lines ≤ at → (t : Texts) (more : List ℕ) → StandsAt lines at t more → ⊥
-none-past lines at past t more stands =
-    let none : [] ≡ finding_line t more = sym (drop_all at lines past) ∙ stands.1 in
-    let lengths : 0 ≡ length (finding_line t more) = ap length none in
-    omega (arith, lengths)
 
 -- the place behind what is left
 pub end-of : (lines more front : List ℕ) (at : ℕ) → at ≤ length lines → drop at lines ≡ front ++ more → drop (length lines - length more) lines ≡ more

@@ -41,6 +41,3 @@ first_stands text rest others first here more is e = e ∙ rw is (append_assoc (
 pub first_stands_alone : {X : Type 0} (text : X → List ℕ) (rest others : List X) (first : X) (here : List ℕ) → rest ≡ first ∷ others → here ≡ joined text rest → here ≡ text first ++ joined text others
 unfolding joined
 first_stands_alone text rest others first here is e = e ∙ ap (joined text) is
-
-pub all_passed : {X : Type 0} (all before rest : List X) → rest ≡ [] → all ≡ before ++ rest → all ≡ before
-all_passed all before rest is e = e ∙ ap (λ x. before ++ x) is ∙ append-nil before

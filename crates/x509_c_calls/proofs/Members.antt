@@ -1,5 +1,5 @@
 -- Where the extensions of a certificate stand.
-use Rattle.std.proofs.Common.{◌≡◌, ℕ, Bool, true, false, List, ◌∷◌, ◌++◌, drop, Option, Some, None, refl, sym, ap, ◌∙◌, append_assoc, ◌≤◌, length, arith, Bor, option_map, is_some}
+use Rattle.std.proofs.Common.{◌≡◌, ℕ, Bool, true, false, List, ◌∷◌, ◌++◌, drop, Option, Some, None, refl, sym, ap, ◌∙◌, append_assoc, Bor, option_map, is_some}
 use Rattle.std.specs.Option.{option_copied}
 use Rattle.x509_c_calls.specs.Extensions.{FindsExtension}
 use Rattle.x509_c_calls.specs.View.{IsOptionAt}
@@ -50,9 +50,6 @@ unfolding default_octets is_identifier is_universal
 critical_field true = (1, boolean.content true, refl, refl)
 critical_field false = refl
 
-pub critical_field_is : (said b : Bool) → said ≡ b → IsField said (default_octets boolean_default (spelling boolean) b)
-critical_field_is said b same = rw (sym same) (critical_field said)
-
 -- ---- the extensions one after the other
 
 pub first_stands : (rest others : List Extension) (first : Extension) (here more : List ℕ) → rest ≡ first ∷ others → here ≡ joined (spelling extension) rest ++ more → here ≡ spelling extension first ++ (joined (spelling extension) others ++ more)
@@ -80,7 +77,3 @@ no_list (Some bytes) o e is = absurd cc
 pub some_stand : (o : Option (List Extension)) (xs : List Extension) (behind bytes : List ℕ) (span : Span) → Some xs ≡ o → IsOptionAt extensions o behind bytes span → drop span.place bytes ≡ element 48 (joined (spelling extension) xs) ++ behind
 some_stand o xs behind bytes span some stands =
     let here : IsAt (spelling extensions xs) behind bytes span = rw (sym some) at stands in here.0
-
-pub place_within : (o : Option (List Extension)) (behind bytes : List ℕ) (span : Span) → IsOptionAt extensions o behind bytes span → span.place ≤ length bytes
-place_within None behind bytes span nowhere = rw nowhere (omega arith)
-place_within (Some xs) behind bytes span stands = stands.2

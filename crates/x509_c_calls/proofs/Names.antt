@@ -12,31 +12,19 @@ use Rattle.x509_ext.specs.GeneralName.{general_name}
 use Rattle.x509_ext.specs.OtherName.{other_name, other_name_fields}
 use Rattle.x509_ext.specs.declared.pkix.name.edi_party_name.EdiPartyName as parties
 use Rattle.x509_ext.specs.declared.pkix.name.general_name.GeneralName.{GeneralName}
-use Rattle.x509_ext.specs.declared.pkix.name.general_name.GeneralName.TheVariants.{OtherName, Rfc822Name, DnsName, DirectoryName, EdiPartyName, UniformResourceIdentifier, IpAddress, RegisteredId}
+use Rattle.x509_ext.specs.declared.pkix.name.general_name.GeneralName.TheVariants.{OtherName, EdiPartyName}
 use Rattle.x509_ext.specs.declared.pkix.name.other_name.OtherName as others
 use Rattle.x509_name.specs.DirectoryString.{directory_string}
 
 pub content_is : (v : GeneralName) → general_name.content v ≡ held v
 unfolding choice_content
 content_is (OtherName other) = refl
-content_is (Rfc822Name text) = refl
-content_is (DnsName text) = refl
-content_is (DirectoryName rdns) = refl
-content_is (EdiPartyName party) = refl
-content_is (UniformResourceIdentifier text) = refl
-content_is (IpAddress octets) = refl
-content_is (RegisteredId oid) = refl
+content_is _ = refl
 
 pub is_name : (v : GeneralName) → is_identifier (general_name.tag v) ≡ true
 unfolding choice_tag is_identifier is_universal
 is_name (OtherName other) = refl
-is_name (Rfc822Name text) = refl
-is_name (DnsName text) = refl
-is_name (DirectoryName rdns) = refl
-is_name (EdiPartyName party) = refl
-is_name (UniformResourceIdentifier text) = refl
-is_name (IpAddress octets) = refl
-is_name (RegisteredId oid) = refl
+is_name _ = refl
 
 other_content : (o : others.OtherName) → other_name.content o ≡ spelling object_identifier o.type_id ++ spelling (explicit 0 any) o.value
 unfolding fields_octets other_name_fields

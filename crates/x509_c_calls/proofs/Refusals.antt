@@ -4,18 +4,14 @@ use Rattle.std.proofs.lemmas.Bool.{cases_lt}
 use Rattle.x509_base.specs.Checked.{CheckRefuses}
 use Rattle.x509_base.specs.Profiles.{rfc5280_serial_number}
 use Rattle.x509_c_calls.specs.declared.status.status.Status.{Status}
-use Rattle.x509_c_calls.specs.declared.status.status.Status.TheVariants.{Done, NoRoom, Absent, Repeated, Faulty, Refused}
+use Rattle.x509_c_calls.specs.declared.status.status.Status.TheVariants.{Refused}
 use Rattle.x509_der.specs.Element.{limit}
 use Rattle.x509_der.specs.declared.error.ErrorKind.{ErrorKind}
 use Rattle.x509_der.specs.declared.error.ErrorKind.TheVariants.{Memory, Overlength, Malformed}
 
 abbrev kind_of : Status → ErrorKind
-kind_of Done = Malformed
-kind_of NoRoom = Malformed
-kind_of Absent = Malformed
-kind_of Repeated = Malformed
-kind_of Faulty = Malformed
 kind_of (Refused e) = e
+kind_of _ = Malformed
 
 overlength_is_other : {Q : Type 0} → Overlength ≡ Memory → Q
 overlength_is_other e = absurd cc

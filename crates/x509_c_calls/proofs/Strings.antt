@@ -15,7 +15,7 @@ use Rattle.x509_der.specs.declared.any.Any.{Any}
 use Rattle.x509_der.specs.declared.error.ErrorKind.{ErrorKind}
 use Rattle.x509_der.specs.declared.error.ErrorKind.TheVariants.{Memory, Overlength, Malformed, Failed, SetDuplicate, Value}
 use Rattle.x509_der.specs.declared.tag.Tag.{Tag}
-use Rattle.x509_der.specs.declared.tag.Tag.TheVariants.{Boolean, Integer, BitString, OctetString, Null, ObjectIdentifier, Real, Enumerated, Utf8String, RelativeOid, NumericString, PrintableString, TeletexString, VideotexString, Ia5String, UtcTime, GeneralizedTime, GraphicString, VisibleString, GeneralString, UniversalString, BmpString, Sequence, Set, Application, ContextSpecific, Private}
+use Rattle.x509_der.specs.declared.tag.Tag.TheVariants.{UniversalString, BmpString}
 use Rattle.x509_prim.specs.Bmp.{is_bmp, bmp_chars}
 
 -- a refusal fills in nothing
@@ -49,33 +49,9 @@ bmp_refused octets Value h = inr (no_bmp octets Value h)
 -- ---- characters of other strings
 
 pub other_text : (tag : Tag) (octets : List ℕ) → (tag ≡ BmpString → ⊥) → (tag ≡ UniversalString → ⊥) → text_in tag octets ≡ plain_text tag octets
-other_text Boolean octets bmp universal = refl
-other_text Integer octets bmp universal = refl
-other_text BitString octets bmp universal = refl
-other_text OctetString octets bmp universal = refl
-other_text Null octets bmp universal = refl
-other_text ObjectIdentifier octets bmp universal = refl
-other_text Real octets bmp universal = refl
-other_text Enumerated octets bmp universal = refl
-other_text Utf8String octets bmp universal = refl
-other_text RelativeOid octets bmp universal = refl
-other_text NumericString octets bmp universal = refl
-other_text PrintableString octets bmp universal = refl
-other_text TeletexString octets bmp universal = refl
-other_text VideotexString octets bmp universal = refl
-other_text Ia5String octets bmp universal = refl
-other_text UtcTime octets bmp universal = refl
-other_text GeneralizedTime octets bmp universal = refl
-other_text GraphicString octets bmp universal = refl
-other_text VisibleString octets bmp universal = refl
-other_text GeneralString octets bmp universal = refl
 other_text UniversalString octets bmp universal = absurd (universal refl)
 other_text BmpString octets bmp universal = absurd (bmp refl)
-other_text Sequence octets bmp universal = refl
-other_text Set octets bmp universal = refl
-other_text (Application constructed number) octets bmp universal = refl
-other_text (ContextSpecific constructed number) octets bmp universal = refl
-other_text (Private constructed number) octets bmp universal = refl
+other_text _ octets bmp universal = refl
 
 -- ---- the string that bytes are
 

@@ -12,12 +12,8 @@ use Rattle.x509_der.specs.declared.error.ErrorKind.{ErrorKind}
 use Rattle.x509_name.proofs.DottedTexts.{dotted_is_utf8}
 
 abbrev is_refused : Status → Bool
-is_refused Done = false
-is_refused NoRoom = false
-is_refused Absent = false
-is_refused Repeated = false
-is_refused Faulty = false
 is_refused (Refused e) = true
+is_refused _ = false
 
 not_done : (e : ErrorKind) → Refused e ≡ Done → ⊥
 not_done e is = absurd (let k : true ≡ false = ap is_refused is in cc)

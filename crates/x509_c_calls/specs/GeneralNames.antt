@@ -40,26 +40,14 @@ held (RegisteredId oid) = oid
 -- where the type of an otherName stands, and its value, behind which those octets stand; of other names nowhere
 abbrev pub IsOther : GeneralName → List ℕ → List ℕ → Span → Span → Type 0
 IsOther (OtherName other) behind bytes type_id value = IsAt other.type_id (spelling (explicit 0 any) other.value ++ behind) bytes type_id × IsAt (spelling any other.value) behind bytes value
-IsOther (Rfc822Name text) behind bytes type_id value = IsNowhere type_id × IsNowhere value
-IsOther (DnsName text) behind bytes type_id value = IsNowhere type_id × IsNowhere value
-IsOther (DirectoryName rdns) behind bytes type_id value = IsNowhere type_id × IsNowhere value
-IsOther (EdiPartyName party) behind bytes type_id value = IsNowhere type_id × IsNowhere value
-IsOther (UniformResourceIdentifier text) behind bytes type_id value = IsNowhere type_id × IsNowhere value
-IsOther (IpAddress octets) behind bytes type_id value = IsNowhere type_id × IsNowhere value
-IsOther (RegisteredId oid) behind bytes type_id value = IsNowhere type_id × IsNowhere value
+IsOther _ behind bytes type_id value = IsNowhere type_id × IsNowhere value
 
 -- where the names of an ediPartyName stand, its assigner's and the party's, behind which those octets stand; of other names nowhere
 abbrev pub IsParty : GeneralName → List ℕ → List ℕ → Span → Span → Type 0
 IsParty (EdiPartyName party) behind bytes assigner name =
     IsPerhapsAt (spelling directory_string) party.name_assigner (spelling (explicit 1 directory_string) party.party_name ++ behind) bytes assigner
     × IsAt (spelling directory_string party.party_name) behind bytes name
-IsParty (OtherName other) behind bytes assigner name = IsNowhere assigner × IsNowhere name
-IsParty (Rfc822Name text) behind bytes assigner name = IsNowhere assigner × IsNowhere name
-IsParty (DnsName text) behind bytes assigner name = IsNowhere assigner × IsNowhere name
-IsParty (DirectoryName rdns) behind bytes assigner name = IsNowhere assigner × IsNowhere name
-IsParty (UniformResourceIdentifier text) behind bytes assigner name = IsNowhere assigner × IsNowhere name
-IsParty (IpAddress octets) behind bytes assigner name = IsNowhere assigner × IsNowhere name
-IsParty (RegisteredId oid) behind bytes assigner name = IsNowhere assigner × IsNowhere name
+IsParty _ behind bytes assigner name = IsNowhere assigner × IsNowhere name
 
 -- what the view says of a name in these bytes, behind which those others stand
 pub record IsGeneralName (bytes : List ℕ) (value : GeneralName) (behind : List ℕ) (view : GeneralNameView) : Type 0 where

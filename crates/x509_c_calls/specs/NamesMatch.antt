@@ -1,7 +1,7 @@
 -- What a call leaves that asks whether two encoded names match (RFC 5280 7.1).
 use Rattle.std.specs.Prelude.{◌≡◌, ◌⊎◌, ℕ, List}
 use Rattle.x509_c_calls.specs.declared.status.status.Status.{Status}
-use Rattle.x509_c_calls.specs.declared.status.status.Status.TheVariants.{Done, NoRoom, Absent, Repeated, Faulty, Refused}
+use Rattle.x509_c_calls.specs.declared.status.status.Status.TheVariants.{Done, Refused}
 use Rattle.x509_der.specs.declared.error.ErrorKind.{ErrorKind}
 use Rattle.x509_der.specs.declared.error.ErrorKind.TheVariants.{Memory}
 use Rattle.x509_der.specs.Form.{Form, Spells}
@@ -32,7 +32,4 @@ IsWhyRefused form refuses a b e =
 unfoldable pub TellsWhetherNamesMatch : Form (List (List AttributeTypeAndValue)) → (ErrorKind → Type 0) → List ℕ → List ℕ → ℕ → ℕ → Status → Type 0
 TellsWhetherNamesMatch form refuses a b was is Done = (names : TwoNames form a b) × IsAnswer names.left names.right is
 TellsWhetherNamesMatch form refuses a b was is (Refused e) = IsWhyRefused form refuses a b e × (is ≡ was)
-TellsWhetherNamesMatch form refuses a b was is NoRoom = ⊥
-TellsWhetherNamesMatch form refuses a b was is Absent = ⊥
-TellsWhetherNamesMatch form refuses a b was is Repeated = ⊥
-TellsWhetherNamesMatch form refuses a b was is Faulty = ⊥
+TellsWhetherNamesMatch form refuses a b was is _ = ⊥

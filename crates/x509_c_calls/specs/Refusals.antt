@@ -3,7 +3,7 @@ use Rattle.std.specs.Prelude.{◌≡◌, ◌⊎◌, ℕ, List, Result, Ok, Err}
 use Rattle.x509_build.specs.Answer.{Answer}
 use Rattle.x509_build.specs.Parts.{Encodes, PartRefuses}
 use Rattle.x509_build.specs.declared.error.Error as builder
-use Rattle.x509_build.specs.declared.error.Error.TheVariants.{Asn1, PublicKey, Signature, NonUniqueRdn, NonUniqueATV, InvalidAttribute, MissingAttributes, UnsupportedKind}
+use Rattle.x509_build.specs.declared.error.Error.TheVariants.{Asn1, PublicKey, Signature}
 use Rattle.x509_build.specs.declared.error.KeyError.{KeyError}
 use Rattle.x509_build.specs.declared.error.KeyError.TheVariants as keys
 use Rattle.x509_build.specs.declared.error.SignError.{SignError}
@@ -26,11 +26,7 @@ abbrev pub kind_of : builder.Error → ErrorKind
 kind_of (Asn1 e) = e.kind
 kind_of (PublicKey e) = key_kind e
 kind_of (Signature e) = sign_kind e
-kind_of NonUniqueRdn = Failed
-kind_of NonUniqueATV = Failed
-kind_of (InvalidAttribute oid) = Failed
-kind_of MissingAttributes = Failed
-kind_of UnsupportedKind = Failed
+kind_of _ = Failed
 
 -- what a call answers, seen by view, that finalizes a part: the bytes that are encoded of it, to be signed; or why there are none
 abbrev pub FinalizesTo : {V X : Type 0} → (V → List ℕ) → Form X → Writing X → Answer X → Result V builder.Error → Type 0

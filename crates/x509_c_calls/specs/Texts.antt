@@ -4,7 +4,7 @@ use Rattle.x509_base.specs.Serial.{colon_hex}
 use Rattle.x509_base.specs.CivilTime.{CivilTime, IsDateTime, last_date_time, unix_seconds}
 use Rattle.x509_base.specs.TimeText.{date_time_text}
 use Rattle.x509_c_calls.specs.declared.status.status.Status.{Status}
-use Rattle.x509_c_calls.specs.declared.status.status.Status.TheVariants.{Done, NoRoom, Absent, Repeated, Faulty, Refused}
+use Rattle.x509_c_calls.specs.declared.status.status.Status.TheVariants.{Done, Refused}
 use Rattle.x509_der.specs.declared.error.ErrorKind.{ErrorKind}
 use Rattle.x509_der.specs.declared.error.ErrorKind.TheVariants.{Failed, Malformed, Value}
 use Rattle.x509_prim.specs.Integer.{is_integer}
@@ -24,7 +24,4 @@ IsTimeText moment (Err e) = (e ≡ Value) × (unix_seconds last_date_time < mome
 unfoldable pub ReadsMoment : List ℕ → ℕ → ℕ → Status → Type 0
 ReadsMoment text was is Done = (c : CivilTime) × IsDateTime c × (text ≡ date_time_text c) × (is ≡ unix_seconds c)
 ReadsMoment text was is (Refused e) = (e ≡ Failed) × ((c : CivilTime) → IsDateTime c → text ≡ date_time_text c → ⊥) × (is ≡ was)
-ReadsMoment text was is NoRoom = ⊥
-ReadsMoment text was is Absent = ⊥
-ReadsMoment text was is Repeated = ⊥
-ReadsMoment text was is Faulty = ⊥
+ReadsMoment text was is _ = ⊥

@@ -3,7 +3,7 @@ use Rattle.std.specs.Prelude.{◌≡◌, ◌⊎◌, ℕ, List, [], ◌++◌}
 use Rattle.x509_c_calls.specs.Place.{IsAt}
 use Rattle.x509_c_calls.specs.declared.sct.timestamp.TimestampView.{TimestampView}
 use Rattle.x509_c_calls.specs.declared.status.status.Status.{Status}
-use Rattle.x509_c_calls.specs.declared.status.status.Status.TheVariants.{Done, NoRoom, Absent, Repeated, Faulty, Refused}
+use Rattle.x509_c_calls.specs.declared.status.status.Status.TheVariants.{Done, Refused}
 use Rattle.x509_der.specs.declared.error.ErrorKind.{ErrorKind}
 use Rattle.x509_der.specs.declared.error.ErrorKind.TheVariants as errors
 use Rattle.x509_sct.specs.DigitallySigned.{digitally_signed, hash_byte, signature_byte}
@@ -12,7 +12,7 @@ use Rattle.x509_sct.specs.declared.timestamp.SignedCertificateTimestamp.{SignedC
 use Rattle.x509_sct.specs.Form.{Spells}
 use Rattle.x509_sct.specs.Numbers.{uint64, vector16}
 use Rattle.x509_sct.specs.declared.tls.error.TlsError.{TlsError}
-use Rattle.x509_sct.specs.declared.tls.error.TlsError.TheVariants.{EndOfStream, UnknownValue, TrailingData, InvalidVectorLength, Memory}
+use Rattle.x509_sct.specs.declared.tls.error.TlsError.TheVariants.{Memory}
 
 -- what stands behind the extensions, and behind the ID of the log
 abbrev pub signature_text : SignedCertificateTimestamp → List ℕ
@@ -33,18 +33,12 @@ pub record IsTimestamp (bytes : List ℕ) (it : SignedCertificateTimestamp) (vie
 
 -- an error of the TLS encoding as one of DER
 abbrev pub refusal_of : TlsError → ErrorKind
-refusal_of EndOfStream = errors.Malformed
-refusal_of (UnknownValue n) = errors.Malformed
-refusal_of TrailingData = errors.Malformed
-refusal_of InvalidVectorLength = errors.Malformed
 refusal_of Memory = errors.Memory
+refusal_of _ = errors.Malformed
 
 -- What a call leaves that reads a timestamp: the bytes are one; or they are none, as Malformed, and the view is as it was; memory may always be refused.
 unfoldable pub ReadsTimestamp : List ℕ → TimestampView → TimestampView → Status → Type 0
 ReadsTimestamp bytes was is Done = (it : SignedCertificateTimestamp) × Spells timestamp it bytes × IsTimestamp bytes it is
 ReadsTimestamp bytes was is (Refused e) =
     ((e ≡ errors.Memory) ⊎ ((e ≡ errors.Malformed) × ((it : SignedCertificateTimestamp) → Spells timestamp it bytes → ⊥))) × (is ≡ was)
-ReadsTimestamp bytes was is NoRoom = ⊥
-ReadsTimestamp bytes was is Absent = ⊥
-ReadsTimestamp bytes was is Repeated = ⊥
-ReadsTimestamp bytes was is Faulty = ⊥
+ReadsTimestamp bytes was is _ = ⊥

@@ -11,11 +11,8 @@ char_of first second third fourth = 16777216 * first + 65536 * second + 256 * th
 
 -- the characters whose octets they are
 abbrev pub universal_chars : List ℕ → List ℕ
-universal_chars [] = []
-universal_chars (first ∷ []) = []
-universal_chars (first ∷ second ∷ []) = []
-universal_chars (first ∷ second ∷ third ∷ []) = []
 universal_chars (first ∷ second ∷ third ∷ fourth ∷ octets) = char_of first second third fourth ∷ universal_chars octets
+universal_chars _ = []
 
 -- whether the octets are those of characters
 abbrev pub is_universal : List ℕ → Bool

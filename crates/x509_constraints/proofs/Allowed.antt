@@ -1,13 +1,13 @@
 -- What the sets answer of a key is what the constraints say of the name.
-use Rattle.std.proofs.Common.{if◌then◌else◌, ◌==◌, ◌≡◌, ◌↔◌, ◌⊎◌, inl, inr, ℕ, zero, suc, ◌<◌, ◌≤◌, Bool, true, false, ◌||◌, ◌&&◌, not, List, [], ◌∷◌, ◌++◌, map, length, refl, sym, ap, ◌∙◌, subst, arith, IsTrue, slice_index_or, eq-eqb, suc-le-suc, zero-le}
+use Rattle.std.proofs.Common.{if◌then◌else◌, ◌==◌, ◌≡◌, ◌↔◌, ◌⊎◌, inl, inr, ℕ, zero, suc, ◌<◌, ◌≤◌, Bool, true, false, ◌||◌, ◌&&◌, not, List, [], ◌∷◌, ◌++◌, refl, sym, ap, ◌∙◌, arith, IsTrue, slice_index_or, eq-eqb}
 use Rattle.std.proofs.lemmas.Bool.{and_parts, or_cases}
 use Rattle.std.proofs.lemmas.Bool.Decides.{eqb_tells, nat_tests}
 use Rattle.std.proofs.lemmas.List.Elements.{All-cons, All-head, All-tail, All-nil}
 use Rattle.std.proofs.lemmas.List.Folds.{Any-from_list_any, list_any-append, list_any-from_Any, list_all-append}
-use Rattle.std.specs.List.{All, Any, list_all, list_any}
+use Rattle.std.specs.List.{list_all, list_any}
 use Rattle.x509_ext.specs.declared.pkix.general_subtree.GeneralSubtree.{GeneralSubtree}
 use Rattle.x509_ext.specs.declared.pkix.name.general_name.GeneralName.{GeneralName}
-use Rattle.x509_ext.specs.declared.pkix.name.general_name.GeneralName.TheVariants.{OtherName, Rfc822Name, DnsName, DirectoryName, EdiPartyName, UniformResourceIdentifier, IpAddress, RegisteredId}
+use Rattle.x509_ext.specs.declared.pkix.name.general_name.GeneralName.TheVariants.{OtherName}
 use Rattle.x509_ext.specs.declared.pkix.name_constraints.NameConstraints.{NameConstraints}
 use Rattle.x509_constraints.specs.Constraints.{HasForm, IsAllowed, IsAllowedBy, IsWithin, IsWithinOne, excluded, form_of, is_comparable, permitted}
 use Rattle.x509_constraints.specs.Prefixes.{begins, has_prefix}
@@ -112,13 +112,7 @@ permits_of name can few (s ∷ rest) = (forth, (λ h. whole ∙ back h (has_form
 
 pub form-few : (name : GeneralName) → form_of name < 9
 form-few (OtherName n) = omega arith
-form-few (Rfc822Name n) = omega arith
-form-few (DnsName n) = omega arith
-form-few (DirectoryName n) = omega arith
-form-few (EdiPartyName n) = omega arith
-form-few (UniformResourceIdentifier n) = omega arith
-form-few (IpAddress n) = omega arith
-form-few (RegisteredId n) = omega arith
+form-few _ = omega arith
 
 -- what a set says of a name that can be compared
 set_answers : (name : GeneralName) → is_comparable name ≡ true → (set : NameConstraints) →
@@ -195,16 +189,6 @@ free_of name set h =
         HasForm (form_of name) (permitted set) ⊎ HasForm (form_of name) (excluded set) → ⊥
     no_form both (inl has) = clash _ (HasForm-has_form (form_of name) (permitted set) has) both.0
     no_form both (inr has) = clash _ (HasForm-has_form (form_of name) (excluded set) has) both.1
-
-all_free : (name : GeneralName) (sets : List NameConstraints) → list_any (constrains (form_of name)) sets ≡ false → IsAllowed sets name
-all_free name [] h = All-nil (λ set. IsAllowedBy set name)
-all_free name (set ∷ sets) h =
-    let both = or_false (constrains (form_of name) set) (list_any (constrains (form_of name)) sets) h in
-    All-cons (λ s. IsAllowedBy s name) set sets (free_of name set both.0) (all_free name sets both.1)
-
-pub free_answers : (name : GeneralName) (sets : List NameConstraints) (c : Bool) → c ≡ list_any (constrains (form_of name)) sets → c ≡ false →
-    IsTrue true ↔ IsAllowed sets name
-free_answers name sets c is none = ((λ h. all_free name sets (sym is ∙ none)), (λ allowed. refl))
 
 -- ---- where it is, and the name can't be compared
 

@@ -23,11 +23,6 @@ back-EndsWith host end n fits (front, is) =
     let front_len : n ≡ length front = omega (arith, length-map host to_ascii_lowercase, length-map end to_ascii_lowercase) in
     sym (drop-map to_ascii_lowercase n host) ∙ (ap (drop n) is ∙ drop-append_of front (lower end) n front_len)
 
-pub EndsWith-longer : (host end : List ℕ) → EndsWith host end → length end ≤ length host
-EndsWith-longer host end (front, is) =
-    let whole : length (lower host) ≡ length front + length (lower end) = ap length is ∙ length-append front (lower end) in
-    omega (arith, length-map host to_ascii_lowercase, length-map end to_ascii_lowercase)
-
 -- only a dot is a dot in lower case
 pub lowercase-dot : (c : ℕ) → to_ascii_lowercase c ≡ dot → c ≡ dot
 lowercase-dot c is = grind (arith, lowercase_is)

@@ -13,9 +13,6 @@ pub record IsBetween (keys : List (List ℕ)) (key : List ℕ) (low high : ℕ) 
   pub ordered : low ≤ high
   pub between : (j : ℕ) (d : List ℕ) → j < length keys → begins key (get_or keys j d) ≡ true → (low ≤ j) × (j < high)
 
-pub begins_all : (keys : List (List ℕ)) (key : List ℕ) → IsBetween keys key 0 (length keys)
-begins_all keys key = record { fits = omega arith; ordered = omega arith; between = λ j d inside is. (omega arith, inside) }
-
 clash : (b : Bool) → b ≡ true → b ≡ false → ⊥
 clash b t f = let e : true ≡ false = sym t ∙ f in cc
 

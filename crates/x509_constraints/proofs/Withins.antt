@@ -1,6 +1,5 @@
 -- Keys of names, behind the number of their form, say which subtrees have them.
 use Rattle.std.proofs.Common.{if◌then◌else◌, ◌==◌, ◌≡◌, ◌↔◌, ℕ, Bool, true, false, ◌||◌, List, [], ◌∷◌, map, Option, None, Some, is_some, refl, sym, ap, ◌∙◌, subst}
-use Rattle.std.specs.List.{list_any}
 use Rattle.x509_ext.specs.declared.pkix.name.general_name.GeneralName.{GeneralName}
 use Rattle.x509_ext.specs.declared.pkix.name.general_name.GeneralName.TheVariants.{OtherName, Rfc822Name, DnsName, DirectoryName, EdiPartyName, UniformResourceIdentifier, IpAddress, RegisteredId}
 use Rattle.x509_match.specs.Matching.{BeginsWith}
@@ -55,14 +54,6 @@ uri_answers base (Some host) can = host_key_answers host base
 -- ---- all forms
 
 pub within_answers : (name base : GeneralName) → is_comparable name ≡ true → (has_prefix (base_prefixes base) (name_key name) ≡ true) ↔ IsWithin name base
-within_answers (OtherName n) (OtherName b) can = absurd (cc)
-within_answers (OtherName n) (Rfc822Name b) can = absurd (cc)
-within_answers (OtherName n) (DnsName b) can = absurd (cc)
-within_answers (OtherName n) (DirectoryName b) can = absurd (cc)
-within_answers (OtherName n) (EdiPartyName b) can = absurd (cc)
-within_answers (OtherName n) (UniformResourceIdentifier b) can = absurd (cc)
-within_answers (OtherName n) (IpAddress b) can = absurd (cc)
-within_answers (OtherName n) (RegisteredId b) can = absurd (cc)
 within_answers (Rfc822Name n) (OtherName b) can = other_form 1 0 (email_key n) [] refl
 within_answers (Rfc822Name n) (Rfc822Name b) can = same_form 1 (email_key n) (email_prefix b ∷ []) (IsWithinEmail n b) (email_answers n b) refl
 within_answers (Rfc822Name n) (DnsName b) can = other_form 1 2 (email_key n) (dns_prefixes b) refl
@@ -87,14 +78,6 @@ within_answers (DirectoryName n) (EdiPartyName b) can = other_form 4 5 (distingu
 within_answers (DirectoryName n) (UniformResourceIdentifier b) can = other_form 4 6 (distinguished_key n) (host_prefix b ∷ []) refl
 within_answers (DirectoryName n) (IpAddress b) can = other_form 4 7 (distinguished_key n) (address_prefixes b) refl
 within_answers (DirectoryName n) (RegisteredId b) can = other_form 4 8 (distinguished_key n) [] refl
-within_answers (EdiPartyName n) (OtherName b) can = absurd (cc)
-within_answers (EdiPartyName n) (Rfc822Name b) can = absurd (cc)
-within_answers (EdiPartyName n) (DnsName b) can = absurd (cc)
-within_answers (EdiPartyName n) (DirectoryName b) can = absurd (cc)
-within_answers (EdiPartyName n) (EdiPartyName b) can = absurd (cc)
-within_answers (EdiPartyName n) (UniformResourceIdentifier b) can = absurd (cc)
-within_answers (EdiPartyName n) (IpAddress b) can = absurd (cc)
-within_answers (EdiPartyName n) (RegisteredId b) can = absurd (cc)
 within_answers (UniformResourceIdentifier n) (OtherName b) can = other_form 6 0 (key_of_host (host_of n)) [] refl
 within_answers (UniformResourceIdentifier n) (Rfc822Name b) can = other_form 6 1 (key_of_host (host_of n)) (email_prefix b ∷ []) refl
 within_answers (UniformResourceIdentifier n) (DnsName b) can = other_form 6 2 (key_of_host (host_of n)) (dns_prefixes b) refl
@@ -111,78 +94,13 @@ within_answers (IpAddress n) (EdiPartyName b) can = other_form 7 5 (address_key 
 within_answers (IpAddress n) (UniformResourceIdentifier b) can = other_form 7 6 (address_key n) (host_prefix b ∷ []) refl
 within_answers (IpAddress n) (IpAddress b) can = same_form 7 (address_key n) (address_prefixes b) (IsWithinAddress n b) (address_answers n b) refl
 within_answers (IpAddress n) (RegisteredId b) can = other_form 7 8 (address_key n) [] refl
-within_answers (RegisteredId n) (OtherName b) can = absurd (cc)
-within_answers (RegisteredId n) (Rfc822Name b) can = absurd (cc)
-within_answers (RegisteredId n) (DnsName b) can = absurd (cc)
-within_answers (RegisteredId n) (DirectoryName b) can = absurd (cc)
-within_answers (RegisteredId n) (EdiPartyName b) can = absurd (cc)
-within_answers (RegisteredId n) (UniformResourceIdentifier b) can = absurd (cc)
-within_answers (RegisteredId n) (IpAddress b) can = absurd (cc)
-within_answers (RegisteredId n) (RegisteredId b) can = absurd (cc)
+within_answers _ _ can = absurd (cc)
 
 -- what is within a subtree has its form
 pub within_form : (name base : GeneralName) → IsWithin name base → form_of base ≡ form_of name
-within_form (OtherName n) (OtherName b) h = absurd h
-within_form (OtherName n) (Rfc822Name b) h = absurd h
-within_form (OtherName n) (DnsName b) h = absurd h
-within_form (OtherName n) (DirectoryName b) h = absurd h
-within_form (OtherName n) (EdiPartyName b) h = absurd h
-within_form (OtherName n) (UniformResourceIdentifier b) h = absurd h
-within_form (OtherName n) (IpAddress b) h = absurd h
-within_form (OtherName n) (RegisteredId b) h = absurd h
-within_form (Rfc822Name n) (OtherName b) h = absurd h
 within_form (Rfc822Name n) (Rfc822Name b) h = refl
-within_form (Rfc822Name n) (DnsName b) h = absurd h
-within_form (Rfc822Name n) (DirectoryName b) h = absurd h
-within_form (Rfc822Name n) (EdiPartyName b) h = absurd h
-within_form (Rfc822Name n) (UniformResourceIdentifier b) h = absurd h
-within_form (Rfc822Name n) (IpAddress b) h = absurd h
-within_form (Rfc822Name n) (RegisteredId b) h = absurd h
-within_form (DnsName n) (OtherName b) h = absurd h
-within_form (DnsName n) (Rfc822Name b) h = absurd h
 within_form (DnsName n) (DnsName b) h = refl
-within_form (DnsName n) (DirectoryName b) h = absurd h
-within_form (DnsName n) (EdiPartyName b) h = absurd h
-within_form (DnsName n) (UniformResourceIdentifier b) h = absurd h
-within_form (DnsName n) (IpAddress b) h = absurd h
-within_form (DnsName n) (RegisteredId b) h = absurd h
-within_form (DirectoryName n) (OtherName b) h = absurd h
-within_form (DirectoryName n) (Rfc822Name b) h = absurd h
-within_form (DirectoryName n) (DnsName b) h = absurd h
 within_form (DirectoryName n) (DirectoryName b) h = refl
-within_form (DirectoryName n) (EdiPartyName b) h = absurd h
-within_form (DirectoryName n) (UniformResourceIdentifier b) h = absurd h
-within_form (DirectoryName n) (IpAddress b) h = absurd h
-within_form (DirectoryName n) (RegisteredId b) h = absurd h
-within_form (EdiPartyName n) (OtherName b) h = absurd h
-within_form (EdiPartyName n) (Rfc822Name b) h = absurd h
-within_form (EdiPartyName n) (DnsName b) h = absurd h
-within_form (EdiPartyName n) (DirectoryName b) h = absurd h
-within_form (EdiPartyName n) (EdiPartyName b) h = absurd h
-within_form (EdiPartyName n) (UniformResourceIdentifier b) h = absurd h
-within_form (EdiPartyName n) (IpAddress b) h = absurd h
-within_form (EdiPartyName n) (RegisteredId b) h = absurd h
-within_form (UniformResourceIdentifier n) (OtherName b) h = absurd h
-within_form (UniformResourceIdentifier n) (Rfc822Name b) h = absurd h
-within_form (UniformResourceIdentifier n) (DnsName b) h = absurd h
-within_form (UniformResourceIdentifier n) (DirectoryName b) h = absurd h
-within_form (UniformResourceIdentifier n) (EdiPartyName b) h = absurd h
 within_form (UniformResourceIdentifier n) (UniformResourceIdentifier b) h = refl
-within_form (UniformResourceIdentifier n) (IpAddress b) h = absurd h
-within_form (UniformResourceIdentifier n) (RegisteredId b) h = absurd h
-within_form (IpAddress n) (OtherName b) h = absurd h
-within_form (IpAddress n) (Rfc822Name b) h = absurd h
-within_form (IpAddress n) (DnsName b) h = absurd h
-within_form (IpAddress n) (DirectoryName b) h = absurd h
-within_form (IpAddress n) (EdiPartyName b) h = absurd h
-within_form (IpAddress n) (UniformResourceIdentifier b) h = absurd h
 within_form (IpAddress n) (IpAddress b) h = refl
-within_form (IpAddress n) (RegisteredId b) h = absurd h
-within_form (RegisteredId n) (OtherName b) h = absurd h
-within_form (RegisteredId n) (Rfc822Name b) h = absurd h
-within_form (RegisteredId n) (DnsName b) h = absurd h
-within_form (RegisteredId n) (DirectoryName b) h = absurd h
-within_form (RegisteredId n) (EdiPartyName b) h = absurd h
-within_form (RegisteredId n) (UniformResourceIdentifier b) h = absurd h
-within_form (RegisteredId n) (IpAddress b) h = absurd h
-within_form (RegisteredId n) (RegisteredId b) h = absurd h
+within_form _ _ h = absurd h

@@ -14,11 +14,7 @@ use Rattle.x509_name.specs.declared.attr.attribute.Attribute.{Attribute}
 
 unread : (reading : Result ExtensionReq ErrorKind) (kind : ErrorKind) → (kind ≡ errors.Memory → ⊥) → IsRefusal kind reading → None ≡ value_read reading
 unread reading errors.Memory other e = absurd (other refl)
-unread reading errors.Overlength other e = rw e refl
-unread reading errors.Malformed other e = rw e refl
-unread reading errors.Failed other e = rw e refl
-unread reading errors.SetDuplicate other e = rw e refl
-unread reading errors.Value other e = rw e refl
+unread reading _ other e = rw e refl
 
 module _ (form : Form ExtensionReq) (refuses : ErrorKind → Type 0) (wants_memory : Type 0) where
   one_found : (values : List Any) (found : ExtensionReq) → DecodesAlone form refuses wants_memory values (Ok found) → Some found ≡ one_value form values

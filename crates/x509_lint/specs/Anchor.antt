@@ -1,5 +1,5 @@
 -- The rules on trust anchors (RFC 5914 2, RFC 5280 4.1.2.4, 4.2): what breaks each, their order, and how each is told.
-use Rattle.std.specs.Prelude.{◌≡◌, ◌≢◌, ◌↔◌, ◌&&◌, ◌==◌, IsTrue, ℕ, Bool, not, List, [], ◌∷◌, ◌++◌, length, Option, Some, None, bytes_eq, codes, is_some, map}
+use Rattle.std.specs.Prelude.{◌≢◌, ◌↔◌, ◌&&◌, ◌==◌, IsTrue, ℕ, Bool, not, List, [], ◌∷◌, ◌++◌, length, Option, Some, None, bytes_eq, codes, is_some, map}
 use Rattle.std.specs.List.{list_all, list_any, slice_split}
 use Rattle.std.specs.Str.{chars}
 use Rattle.x509_base.specs.declared.profile.Raw.{Raw}
@@ -15,7 +15,7 @@ use Rattle.x509_ext.specs.declared.extension.Extension.{Extension}
 use Rattle.x509_ext.specs.declared.pkix.policy_information.PolicyInformation.{PolicyInformation}
 use Rattle.x509_lint.specs.Dns.{is_letter_or_digit}
 use Rattle.x509_lint.specs.Constraint.{breaks_name_constraints, constraint_rules, constraint_wording}
-use Rattle.x509_lint.specs.List.{extension_kinds}
+use Rattle.x509_lint.specs.List.{extension_kinds, extension_text}
 use Rattle.x509_lint.specs.Name.{has_empty_rdn, has_no_country}
 use Rattle.x509_lint.specs.Read.{AreExtensionsRead, is_read}
 use Rattle.x509_lint.specs.Text.{has_faulty_text, is_outside}
@@ -25,7 +25,6 @@ use Rattle.x509_lint.specs.declared.anchor.values.AnchorValues.{AnchorValues}
 use Rattle.x509_lint.specs.declared.rule.anchor.AnchorRule.{AnchorRule}
 use Rattle.x509_lint.specs.declared.rule.anchor.AnchorRule.TheVariants.{TaTitleSize, TaTitleLangTagInvalid, TaNameEmpty, TaNameRdnEmpty, TaNameCountryNameInvalid, TaNameTextType, TaNameTextOldType, TaNameTextCharacters, TaNameTextSize, CertificateSubjectDiffers, CertificateKeyDiffers, CertificateKeyIdentifierDiffers, PolicySetEmpty, PolicySetRepeated, PolicySetQualifiers, NameConstraint, ExtensionsEmpty, ExtensionRepeated, CertificatePoliciesInExts, PolicyConstraintsInExts, InhibitAnyPolicyInExts, NameConstraintsInExts, ExtensionMalformed}
 use Rattle.x509_lint.specs.declared.rule.list.ExtensionKind.{ExtensionKind}
-use Rattle.x509_lint.specs.declared.rule.list.ExtensionKind.TheVariants as kinds
 use Rattle.x509_lint.specs.declared.texts.TextFault.TheVariants.{OtherType, OldType, OtherCharacter, Size}
 use Rattle.x509_lint.specs.Wording.{Wording, must, must_of, should, should_of}
 use Rattle.x509_prim.specs.BitString.{parts_of}
@@ -124,24 +123,7 @@ anchor_rules =
 
 -- where in an anchor an extension of the type stands
 abbrev pub anchor_extension_place : ExtensionKind → List ℕ
-anchor_extension_place kinds.AuthorityKeyIdentifier = codes "taInfo.exts.authorityKeyIdentifier"
-anchor_extension_place kinds.SubjectKeyIdentifier = codes "taInfo.exts.subjectKeyIdentifier"
-anchor_extension_place kinds.KeyUsage = codes "taInfo.exts.keyUsage"
-anchor_extension_place kinds.ExtendedKeyUsage = codes "taInfo.exts.extKeyUsage"
-anchor_extension_place kinds.PrivateKeyUsagePeriod = codes "taInfo.exts.privateKeyUsagePeriod"
-anchor_extension_place kinds.BasicConstraints = codes "taInfo.exts.basicConstraints"
-anchor_extension_place kinds.SubjectAltName = codes "taInfo.exts.subjectAltName"
-anchor_extension_place kinds.IssuerAltName = codes "taInfo.exts.issuerAltName"
-anchor_extension_place kinds.SubjectDirectoryAttributes = codes "taInfo.exts.subjectDirectoryAttributes"
-anchor_extension_place kinds.NameConstraints = codes "taInfo.exts.nameConstraints"
-anchor_extension_place kinds.AuthorityInfoAccess = codes "taInfo.exts.authorityInfoAccess"
-anchor_extension_place kinds.SubjectInfoAccess = codes "taInfo.exts.subjectInfoAccess"
-anchor_extension_place kinds.CertificatePolicies = codes "taInfo.exts.certificatePolicies"
-anchor_extension_place kinds.PolicyMappings = codes "taInfo.exts.policyMappings"
-anchor_extension_place kinds.PolicyConstraints = codes "taInfo.exts.policyConstraints"
-anchor_extension_place kinds.InhibitAnyPolicy = codes "taInfo.exts.inhibitAnyPolicy"
-anchor_extension_place kinds.CrlDistributionPoints = codes "taInfo.exts.cRLDistributionPoints"
-anchor_extension_place kinds.FreshestCrl = codes "taInfo.exts.freshestCRL"
+anchor_extension_place kind = codes "taInfo.exts." ++ extension_text kind
 
 abbrev pub anchor_wording : AnchorRule → Wording
 anchor_wording TaTitleSize = must_of (codes "RFC 5914") (codes "ta_title_size") (codes "2.4") (codes "taInfo.taTitle")

@@ -40,26 +40,30 @@ extension_kinds =
 abbrev pub list_rules : List ListRule
 list_rules = ExtensionsEmpty ∷ ExtensionRepeated ∷ map ExtensionMalformed extension_kinds
 
+-- the name of an extension of the type
+abbrev pub extension_text : ExtensionKind → List ℕ
+extension_text kinds.AuthorityKeyIdentifier = codes "authorityKeyIdentifier"
+extension_text kinds.SubjectKeyIdentifier = codes "subjectKeyIdentifier"
+extension_text kinds.KeyUsage = codes "keyUsage"
+extension_text kinds.ExtendedKeyUsage = codes "extKeyUsage"
+extension_text kinds.PrivateKeyUsagePeriod = codes "privateKeyUsagePeriod"
+extension_text kinds.BasicConstraints = codes "basicConstraints"
+extension_text kinds.SubjectAltName = codes "subjectAltName"
+extension_text kinds.IssuerAltName = codes "issuerAltName"
+extension_text kinds.SubjectDirectoryAttributes = codes "subjectDirectoryAttributes"
+extension_text kinds.NameConstraints = codes "nameConstraints"
+extension_text kinds.AuthorityInfoAccess = codes "authorityInfoAccess"
+extension_text kinds.SubjectInfoAccess = codes "subjectInfoAccess"
+extension_text kinds.CertificatePolicies = codes "certificatePolicies"
+extension_text kinds.PolicyMappings = codes "policyMappings"
+extension_text kinds.PolicyConstraints = codes "policyConstraints"
+extension_text kinds.InhibitAnyPolicy = codes "inhibitAnyPolicy"
+extension_text kinds.CrlDistributionPoints = codes "cRLDistributionPoints"
+extension_text kinds.FreshestCrl = codes "freshestCRL"
+
 -- where in a certificate an extension of the type stands
 abbrev pub extension_place : ExtensionKind → List ℕ
-extension_place kinds.AuthorityKeyIdentifier = codes "tbsCertificate.extensions.authorityKeyIdentifier"
-extension_place kinds.SubjectKeyIdentifier = codes "tbsCertificate.extensions.subjectKeyIdentifier"
-extension_place kinds.KeyUsage = codes "tbsCertificate.extensions.keyUsage"
-extension_place kinds.ExtendedKeyUsage = codes "tbsCertificate.extensions.extKeyUsage"
-extension_place kinds.PrivateKeyUsagePeriod = codes "tbsCertificate.extensions.privateKeyUsagePeriod"
-extension_place kinds.BasicConstraints = codes "tbsCertificate.extensions.basicConstraints"
-extension_place kinds.SubjectAltName = codes "tbsCertificate.extensions.subjectAltName"
-extension_place kinds.IssuerAltName = codes "tbsCertificate.extensions.issuerAltName"
-extension_place kinds.SubjectDirectoryAttributes = codes "tbsCertificate.extensions.subjectDirectoryAttributes"
-extension_place kinds.NameConstraints = codes "tbsCertificate.extensions.nameConstraints"
-extension_place kinds.AuthorityInfoAccess = codes "tbsCertificate.extensions.authorityInfoAccess"
-extension_place kinds.SubjectInfoAccess = codes "tbsCertificate.extensions.subjectInfoAccess"
-extension_place kinds.CertificatePolicies = codes "tbsCertificate.extensions.certificatePolicies"
-extension_place kinds.PolicyMappings = codes "tbsCertificate.extensions.policyMappings"
-extension_place kinds.PolicyConstraints = codes "tbsCertificate.extensions.policyConstraints"
-extension_place kinds.InhibitAnyPolicy = codes "tbsCertificate.extensions.inhibitAnyPolicy"
-extension_place kinds.CrlDistributionPoints = codes "tbsCertificate.extensions.cRLDistributionPoints"
-extension_place kinds.FreshestCrl = codes "tbsCertificate.extensions.freshestCRL"
+extension_place kind = codes "tbsCertificate.extensions." ++ extension_text kind
 
 abbrev pub list_wording : ListRule → Wording
 list_wording ExtensionsEmpty = must (codes "extensions_empty") (codes "4.1.2.9") (codes "tbsCertificate.extensions")

@@ -18,7 +18,7 @@ use Rattle.x509_ext.specs.Identifiers.{id_ce}
 use Rattle.x509_ext.specs.LookUp.{IsRepeated}
 use Rattle.x509_ext.specs.declared.extension.Extension.{Extension}
 use Rattle.x509_lint.specs.Alternative.{is_at_other_host, is_empty_name, is_no_address, is_no_dns_name, is_no_mailbox, is_no_uri, is_relative}
-use Rattle.x509_lint.specs.List.{extension_kinds}
+use Rattle.x509_lint.specs.List.{extension_kinds, extension_text}
 use Rattle.x509_lint.specs.Name.{has_empty_rdn, has_no_country}
 use Rattle.x509_lint.specs.Notices.{value_read}
 use Rattle.x509_lint.specs.Read.{AreExtensionsRead, is_read}
@@ -28,7 +28,6 @@ use Rattle.x509_lint.specs.declared.request.passwords.PasswordFault.{PasswordFau
 use Rattle.x509_lint.specs.declared.request.passwords.PasswordFault.TheVariants as passwords
 use Rattle.x509_lint.specs.declared.request.values.RequestValues.{RequestValues}
 use Rattle.x509_lint.specs.declared.rule.list.ExtensionKind.{ExtensionKind}
-use Rattle.x509_lint.specs.declared.rule.list.ExtensionKind.TheVariants as kinds
 use Rattle.x509_lint.specs.declared.rule.request.RequestRule.{RequestRule}
 use Rattle.x509_lint.specs.declared.rule.request.RequestRule.TheVariants.{SubjectRdnEmpty, SubjectCountryNameInvalid, SubjectTextType, SubjectTextOldType, SubjectTextCharacters, SubjectTextSize, SubjectEmptyWithoutAltName, AttributeRepeated, AttributeValuesEmpty, ChallengePasswordValues, ChallengePasswordMalformed, ChallengePasswordSize, ChallengePasswordType, ExtensionRequestValues, ExtensionRequestMalformed, ExtensionsEmpty, ExtensionRepeated, ExtensionMalformed, SubjectAltNameEmpty, SubjectAltNameEmptyName, SubjectAltNameDnsNameInvalid, SubjectAltNameAddressLength, SubjectAltNameMailboxInvalid, SubjectAltNameUriRelative, SubjectAltNameUriInvalid, SubjectAltNameUriHostInvalid}
 use Rattle.x509_lint.specs.declared.texts.TextFault.TheVariants.{OtherType, OldType, OtherCharacter, Size}
@@ -151,24 +150,7 @@ request_rules =
 
 -- where in a CSR an extension of the type that is asked for stands
 abbrev pub request_extension_place : ExtensionKind → List ℕ
-request_extension_place kinds.AuthorityKeyIdentifier = codes "certificationRequestInfo.attributes.extensionRequest.authorityKeyIdentifier"
-request_extension_place kinds.SubjectKeyIdentifier = codes "certificationRequestInfo.attributes.extensionRequest.subjectKeyIdentifier"
-request_extension_place kinds.KeyUsage = codes "certificationRequestInfo.attributes.extensionRequest.keyUsage"
-request_extension_place kinds.ExtendedKeyUsage = codes "certificationRequestInfo.attributes.extensionRequest.extKeyUsage"
-request_extension_place kinds.PrivateKeyUsagePeriod = codes "certificationRequestInfo.attributes.extensionRequest.privateKeyUsagePeriod"
-request_extension_place kinds.BasicConstraints = codes "certificationRequestInfo.attributes.extensionRequest.basicConstraints"
-request_extension_place kinds.SubjectAltName = codes "certificationRequestInfo.attributes.extensionRequest.subjectAltName"
-request_extension_place kinds.IssuerAltName = codes "certificationRequestInfo.attributes.extensionRequest.issuerAltName"
-request_extension_place kinds.SubjectDirectoryAttributes = codes "certificationRequestInfo.attributes.extensionRequest.subjectDirectoryAttributes"
-request_extension_place kinds.NameConstraints = codes "certificationRequestInfo.attributes.extensionRequest.nameConstraints"
-request_extension_place kinds.AuthorityInfoAccess = codes "certificationRequestInfo.attributes.extensionRequest.authorityInfoAccess"
-request_extension_place kinds.SubjectInfoAccess = codes "certificationRequestInfo.attributes.extensionRequest.subjectInfoAccess"
-request_extension_place kinds.CertificatePolicies = codes "certificationRequestInfo.attributes.extensionRequest.certificatePolicies"
-request_extension_place kinds.PolicyMappings = codes "certificationRequestInfo.attributes.extensionRequest.policyMappings"
-request_extension_place kinds.PolicyConstraints = codes "certificationRequestInfo.attributes.extensionRequest.policyConstraints"
-request_extension_place kinds.InhibitAnyPolicy = codes "certificationRequestInfo.attributes.extensionRequest.inhibitAnyPolicy"
-request_extension_place kinds.CrlDistributionPoints = codes "certificationRequestInfo.attributes.extensionRequest.cRLDistributionPoints"
-request_extension_place kinds.FreshestCrl = codes "certificationRequestInfo.attributes.extensionRequest.freshestCRL"
+request_extension_place kind = codes "certificationRequestInfo.attributes.extensionRequest." ++ extension_text kind
 
 abbrev pub request_wording : RequestRule → Wording
 request_wording SubjectRdnEmpty = must (codes "subject_rdn_empty") (codes "4.1.2.6") (codes "certificationRequestInfo.subject")

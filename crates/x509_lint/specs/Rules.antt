@@ -64,11 +64,7 @@ breaks c parts (Alternative rule) = alternative.breaks_alternative c parts.alter
 breaks c parts (Policy rule) = policy.breaks_policy c parts.policy rule
 breaks c parts (Constraint rule) = constraint.breaks_constraint c parts.constraint rule
 breaks c parts (Point rule) = point.breaks_point c parts.point rule
-breaks c parts (CrlField rule) = false
-breaks c parts (CrlExtension rule) = false
-breaks c parts (CrlEntry rule) = false
-breaks c parts (Request rule) = false
-breaks c parts (Anchor rule) = false
+breaks c parts _ = false
 
 -- the findings are those of the rules that the certificate breaks, in the order of the rules
 abbrev pub AreFindings : Certificate → List Rule → Type 0
@@ -80,21 +76,10 @@ abbrev pub crl_rules : List Rule
 crl_rules = map CrlField crl_field.crl_field_rules ++ map CrlExtension crl_extension.crl_extension_rules ++ map CrlEntry crl_entry.crl_entry_rules
 
 abbrev pub crl_breaks : Crl → CrlParts → Rule → Bool
-crl_breaks l parts (Field rule) = false
-crl_breaks l parts (Name rule) = false
-crl_breaks l parts (ExtensionList rule) = false
-crl_breaks l parts (Critical rule) = false
-crl_breaks l parts (Authority rule) = false
-crl_breaks l parts (Key rule) = false
-crl_breaks l parts (Alternative rule) = false
-crl_breaks l parts (Policy rule) = false
-crl_breaks l parts (Constraint rule) = false
-crl_breaks l parts (Point rule) = false
 crl_breaks l parts (CrlField rule) = crl_field.breaks_crl_field l parts.facts rule
 crl_breaks l parts (CrlExtension rule) = crl_extension.breaks_crl_extension l parts.values rule
 crl_breaks l parts (CrlEntry rule) = crl_entry.breaks_crl_entry l parts.values rule
-crl_breaks l parts (Request rule) = false
-crl_breaks l parts (Anchor rule) = false
+crl_breaks l parts _ = false
 
 abbrev pub AreCrlFindings : Crl → List Rule → Type 0
 AreCrlFindings l findings = (parts : CrlParts) × AreCrlParts l parts × (findings ≡ filter (crl_breaks l parts) crl_rules)

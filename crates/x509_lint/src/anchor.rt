@@ -20,6 +20,7 @@ use crate::extensions::{has, is_empty_sequence};
 use crate::group::{Group, add_broken};
 use crate::names::{has_empty_rdn, has_no_country, is_empty_name};
 use crate::notices::count_chars;
+use crate::passes;
 use crate::rule::anchor::ANCHOR_RULES;
 use crate::rule::{AnchorRule, ConstraintRule, Rule};
 use crate::texts::{TextFault, has_faulty_text, is_outside};
@@ -44,10 +45,7 @@ const MAX_SUBTAG: usize = 8;
 fn has_odd_size(title: &Option<Utf8String>) -> bool
     ensures { result ≡ passes (λ title. is_outside 64 (length (chars title))) title.now }
 {
-    match title {
-        Some(title) => is_outside(MAX_TITLE, count_chars(title.as_str())),
-        None => false,
-    }
+    passes!(title, title => is_outside(MAX_TITLE, count_chars(title.as_str())))
 }
 
 fn are_letters_and_digits(octets: &[u8]) -> bool
@@ -69,41 +67,17 @@ fn are_subtags(text: &[u8]) -> bool
         .all(|subtag| is_subtag(subtag))
 }
 
-fn is_no_language(tag: &Option<Utf8String>) -> bool
-    ensures { result ≡ passes (λ tag. not (grammar.are_subtags tag)) tag.now }
-{
-    match tag {
-        Some(tag) => !are_subtags(tag.as_str().as_bytes()),
-        None => false,
-    }
-}
-
 fn has_faulty_name(fault: TextFault, controls: &Option<CertPathControls<Raw>>) -> bool
     ensures { result ≡ passes (λ c. has_faulty_text fault c.ta_name) controls.now }
 {
-    match controls {
-        Some(controls) => has_faulty_text(fault, &controls.ta_name),
-        None => false,
-    }
+    passes!(controls, controls => has_faulty_text(fault, &controls.ta_name))
 }
 
 /// Whether the key identifier isn't this one.
 fn is_other_identifier(found: &Option<SubjectKeyIdentifier>, key_id: &OctetString) -> bool
     ensures { result ≡ passes (λ k. not (bytes_eq k.0 key_id.now)) found.now }
 {
-    match found {
-        Some(found) => found.0 != *key_id,
-        None => false,
-    }
-}
-
-fn has_no_policy(policies: &Option<CertificatePolicies>) -> bool
-    ensures { result ≡ passes (λ p. is_empty p.0) policies.now }
-{
-    match policies {
-        Some(policies) => policies.0.as_slice().is_empty(),
-        None => false,
-    }
+    passes!(found, found => found.0 != *key_id)
 }
 
 fn has_qualifiers(policies: &[PolicyInformation]) -> bool
@@ -117,10 +91,7 @@ fn has_qualifiers(policies: &[PolicyInformation]) -> bool
 fn breaks_constraints(rule: ConstraintRule, constraints: &Option<NameConstraints>) -> bool
     ensures { result ≡ passes (breaks_name_constraints rule) constraints.now }
 {
-    match constraints {
-        Some(constraints) => breaks_name_constraints(rule, constraints),
-        None => false,
-    }
+    passes!(constraints, constraints => breaks_name_constraints(rule, constraints))
 }
 
 impl Group<TrustAnchorInfo<Raw>, AnchorValues> for AnchorRule {
@@ -134,19 +105,14 @@ impl Group<TrustAnchorInfo<Raw>, AnchorValues> for AnchorRule {
     fn is_broken(&self, info: &TrustAnchorInfo<Raw>, values: &AnchorValues) -> bool {
         match self {
             AnchorRule::TaTitleSize => has_odd_size(&info.ta_title),
-            AnchorRule::TaTitleLangTagInvalid => is_no_language(&info.ta_title_lang_tag),
-            AnchorRule::TaNameEmpty => match &info.cert_path {
-                Some(controls) => is_empty_name(&controls.ta_name),
-                None => false
-            },
-            AnchorRule::TaNameRdnEmpty => match &info.cert_path {
-                Some(controls) => has_empty_rdn(&controls.ta_name),
-                None => false
-            },
-            AnchorRule::TaNameCountryNameInvalid => match &info.cert_path {
-                Some(controls) => has_no_country(&controls.ta_name),
-                None => false
-            },
+            AnchorRule::TaTitleLangTagInvalid =>
+                passes!(&info.ta_title_lang_tag, tag => !are_subtags(tag.as_str().as_bytes())),
+            AnchorRule::TaNameEmpty =>
+                passes!(&info.cert_path, controls => is_empty_name(&controls.ta_name)),
+            AnchorRule::TaNameRdnEmpty =>
+                passes!(&info.cert_path, controls => has_empty_rdn(&controls.ta_name)),
+            AnchorRule::TaNameCountryNameInvalid =>
+                passes!(&info.cert_path, controls => has_no_country(&controls.ta_name)),
             AnchorRule::TaNameTextType => has_faulty_name(TextFault::OtherType, &info.cert_path),
             AnchorRule::TaNameTextOldType => has_faulty_name(TextFault::OldType, &info.cert_path),
             AnchorRule::TaNameTextCharacters => has_faulty_name(
@@ -160,16 +126,12 @@ impl Group<TrustAnchorInfo<Raw>, AnchorValues> for AnchorRule {
                 &values.key_identifier,
                 &info.key_id,
             ),
-            AnchorRule::PolicySetEmpty => match &info.cert_path {
-                Some(controls) => has_no_policy(&controls.policy_set),
-                None => false
-            },
+            AnchorRule::PolicySetEmpty =>
+                passes!(&info.cert_path, controls => passes!(&controls.policy_set, policies => policies.0.as_slice().is_empty())),
             AnchorRule::PolicySetRepeated => !values.are_policies_distinct,
             AnchorRule::PolicySetQualifiers => has_qualifiers(policy_set(&info.cert_path)),
-            AnchorRule::NameConstraint(rule) => match &info.cert_path {
-                Some(controls) => breaks_constraints(*rule, &controls.name_constr),
-                None => false
-            },
+            AnchorRule::NameConstraint(rule) =>
+                passes!(&info.cert_path, controls => breaks_constraints(*rule, &controls.name_constr)),
             AnchorRule::ExtensionsEmpty => is_empty_sequence(&info.extensions),
             AnchorRule::ExtensionRepeated => values.is_repeated,
             AnchorRule::CertificatePoliciesInExts => {

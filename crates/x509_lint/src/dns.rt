@@ -6,6 +6,8 @@ ghost use Rattle.std.specs.Prelude.{◌≡◌, ◌==◌};
 ghost use Rattle.x509_lint.specs.Dns.{behind_wildcard, is_digit, is_dns_name, is_label, is_letter, is_letter_digit_hyphen, is_letter_or_digit};
 ghost use Rattle.x509_lint.specs.Words.{passes};
 
+use crate::passes;
+
 pub(crate) fn is_letter(octet: u8) -> bool
     ensures { result ≡ is_letter octet }
 {
@@ -34,10 +36,7 @@ fn is_letter_digit_hyphen(octet: u8) -> bool
 fn is_end(octet: Option<&u8>) -> bool
     ensures { result ≡ passes is_letter_or_digit (option_copied octet.entry) }
 {
-    match octet {
-        Some(octet) => is_letter_or_digit(*octet),
-        None => false,
-    }
+    passes!(octet, octet => is_letter_or_digit(*octet))
 }
 
 fn are_letters_digits_hyphens(octets: &[u8]) -> bool

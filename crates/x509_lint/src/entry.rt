@@ -1,6 +1,6 @@
 //! How a rule is told.
 
-ghost use Rattle.std.specs.Prelude.{Some, codes};
+ghost use Rattle.std.specs.Prelude.{Some};
 ghost use Rattle.x509_lint.specs.Wording.{Says, must, must_of, not_judged, severity_text, should, should_of};
 
 use std::fmt;
@@ -36,6 +36,16 @@ pub struct Entry {
     /// Where in the object the rule is broken, in the field names of the standard, as `tbsCertificate.serialNumber`. An extension is named behind its list, as in
     /// `tbsCertificate.extensions.keyUsage`, also one that is wanted and isn't there.
     pub place: &'static str,
+}
+
+/// How the rules of a group are told, a line for each: its variant, how bad it is to break it, its name, its section and its place.
+#[macro_export]
+macro_rules! told {
+    ($rule:ident: $group:ident; $($variant:ident $(($kind:ident))? => $how:ident($($word:expr),+),)+) => {
+        match $rule {
+            $($group::$variant $(($kind))? => $how($($word),+),)+
+        }
+    };
 }
 
 /// The entry of a rule of RFC 5280 that has to be kept.

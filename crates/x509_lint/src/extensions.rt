@@ -5,11 +5,23 @@ ghost use Rattle.std.specs.Prelude.{◌≡◌, ◌&&◌, not, IfOk, IfErr};
 ghost use Rattle.x509_der.specs.declared.error.ErrorKind.TheVariants.{Memory};
 ghost use Rattle.x509_lint.specs.Words.{IsValue, extensions_of, has, has_critical, has_uncritical, is_empty, is_of, passes};
 
+use crate::passes;
 use std::alloc::Global;
 use x509_base::Raw;
 use x509_cert::certificate::CertificateInner;
 use x509_der::{AssociatedOid, Decode, Error, ErrorKind, SequenceOf};
 use x509_ext::{Extension, Extensions, get_extension, members};
+
+/// Whether a value is there and passes a test, as `passes!(usage, usage => usage.key_cert_sign())`.
+#[macro_export]
+macro_rules! passes {
+    ($value:expr, $name:pat => $test:expr) => {
+        match $value {
+            Some($name) => $test,
+            None => false,
+        }
+    };
+}
 
 /// The extensions of a certificate; none where the list is absent.
 pub fn extensions_of(certificate: &CertificateInner<Raw>) -> &[Extension]
@@ -66,20 +78,14 @@ pub fn has_uncritical<T: AssociatedOid>(extensions: &[Extension]) -> bool
 pub(crate) fn is_empty_sequence<T>(list: &Option<SequenceOf<T>>) -> bool
     ensures { result ≡ passes is_empty list.now }
 {
-    match list {
-        Some(list) => list.as_slice().is_empty(),
-        None => false,
-    }
+    passes!(list, list => list.as_slice().is_empty())
 }
 
 /// Whether the list of extensions is there, and has none.
 pub(crate) fn is_empty_list(list: Option<&Extensions>) -> bool
     ensures { result ≡ passes is_empty (option_copied list.entry) }
 {
-    match list {
-        Some(list) => list.as_slice().is_empty(),
-        None => false,
-    }
+    passes!(list, list => list.as_slice().is_empty())
 }
 
 /// The value of the one extension of the type; `None` where there is none, there are several, or it can't be decoded.

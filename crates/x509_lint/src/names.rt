@@ -1,6 +1,6 @@
 //! What is asked of names.
 
-ghost use Rattle.std.specs.List.{list_all, list_any, slice_split};
+ghost use Rattle.std.specs.List.{list_all, list_any};
 ghost use Rattle.std.specs.Prelude.{◌≡◌, ◌==◌, ◌/◌, drop, false, length};
 ghost use Rattle.x509_lint.specs.Alternative.{atom_marks, begins_with, is_at_domain, is_at_other_host, is_atom_octet, is_domain, is_empty_name, is_mailbox, is_mailbox_behind, is_no_address, is_no_dns_name, is_no_mailbox, is_no_uri, is_printed, is_quoted_behind, is_relative, is_rfc822_name};
 ghost use Rattle.x509_lint.specs.Constraint.{behind_dot, has_fault, has_odd_mask, is_mask, is_no_host, is_no_range, is_other_form, is_partial, is_range};
@@ -9,6 +9,7 @@ ghost use Rattle.x509_lint.specs.Name.{has_empty_rdn, has_no_country, is_country
 ghost use Rattle.x509_lint.specs.Words.{is_empty, passes};
 
 use crate::dns::{are_labels, is_dns_name, is_letter, is_letter_or_digit};
+use crate::passes;
 use crate::uris::{has_other_host, is_absolute, is_uri};
 use x509_der::{Any, Tag};
 use x509_ext::pkix::name::GeneralName;
@@ -259,10 +260,7 @@ fn is_atom_mark(octet: u8) -> bool
 fn begins_with(octet: u8, text: &[u8]) -> bool
     ensures { result ≡ begins_with octet text.now }
 {
-    match text.first() {
-        Some(first) => *first == octet,
-        None => false,
-    }
+    passes!(text.first(), first => *first == octet)
 }
 
 fn is_domain(text: &[u8]) -> bool

@@ -1,15 +1,16 @@
 //! What is asked of places where CRLs and certificates are found.
 
 ghost use Rattle.std.specs.List.{list_all, list_any};
-ghost use Rattle.std.specs.Prelude.{◌≡◌, ◌&&◌, bytes_eq, is_some, length, nat_lt, not};
+ghost use Rattle.std.specs.Prelude.{◌≡◌, ◌&&◌, bytes_eq, is_some, not};
 ghost use Rattle.x509_lint.specs.Place as place;
 ghost use Rattle.x509_lint.specs.Words.{passes};
 
+use crate::passes;
 use crate::uris::{has_attributes, has_dn, has_ldap_host, has_one_attribute};
 use x509_der::{ObjectIdentifier, oid};
 use x509_ext::pkix::AccessDescription;
 use x509_ext::pkix::crl::dp::DistributionPoint;
-use x509_ext::pkix::name::{DistributionPointName, GeneralName, GeneralNames};
+use x509_ext::pkix::name::{DistributionPointName, GeneralName};
 use x509_name::name::Name;
 
 /// id-ad-caIssuers, 1.3.6.1.5.5.7.48.2 (RFC 5280 4.2.2.1).
@@ -46,19 +47,13 @@ pub(crate) enum PointFault {
 fn is_letter_at(text: &[u8], at: usize, upper: u8, lower: u8) -> bool
     ensures { result ≡ place.is_letter_at text.now at upper lower }
 {
-    match text.get(at) {
-        Some(octet) => *octet == upper || *octet == lower,
-        None => false,
-    }
+    passes!(text.get(at), octet => *octet == upper || *octet == lower)
 }
 
 fn is_colon_at(text: &[u8], at: usize) -> bool
     ensures { result ≡ place.is_colon_at text.now at }
 {
-    match text.get(at) {
-        Some(octet) => *octet == b':',
-        None => false,
-    }
+    passes!(text.get(at), octet => *octet == b':')
 }
 
 fn is_http(text: &[u8]) -> bool
@@ -204,34 +199,18 @@ fn are_not_directory_names(names: &[GeneralName]) -> bool
     names.iter().any(|name| is_no_directory_name(name))
 }
 
-fn has_other_issuer(issuer: &Option<GeneralNames>) -> bool
-    ensures { result ≡ passes (λ names. list_any place.is_no_directory_name names) issuer.now }
-{
-    match issuer {
-        Some(names) => are_not_directory_names(names.as_slice()),
-        None => false,
-    }
-}
-
-fn has_several(issuer: &Option<GeneralNames>) -> bool
-    ensures { result ≡ passes (λ names. nat_lt 1 (length names)) issuer.now }
-{
-    match issuer {
-        Some(names) => names.as_slice().len() > 1,
-        None => false,
-    }
-}
-
 fn is_faulty(fault: PointFault, point: &DistributionPoint) -> bool
     ensures { result ≡ place.is_faulty_point fault point.now }
 {
     match fault {
         PointFault::Relative => is_relative(&point.distribution_point),
         PointFault::RelativeToSeveral => {
-            is_relative(&point.distribution_point) && has_several(&point.crl_issuer)
+            is_relative(&point.distribution_point)
+                && passes!(&point.crl_issuer, names => names.as_slice().len() > 1)
         }
         PointFault::NoUri => is_without_uri(&point.distribution_point),
-        PointFault::OtherIssuer => has_other_issuer(&point.crl_issuer),
+        PointFault::OtherIssuer =>
+            passes!(&point.crl_issuer, names => are_not_directory_names(names.as_slice())),
         PointFault::ReasonsOrIssuer => point.reasons.is_some() || point.crl_issuer.is_some(),
         PointFault::LdapIncomplete => has_incomplete_entry(&point.distribution_point),
         PointFault::LdapWithoutHost => has_entry_without_host(&point.distribution_point),
@@ -276,10 +255,7 @@ fn are_this_name(name: &Name, names: &[GeneralName]) -> bool
 fn is_point_of(name: &Name, point: &DistributionPoint) -> bool
     ensures { result ≡ place.is_point_of name.now point.now }
 {
-    match &point.crl_issuer {
-        Some(names) => are_this_name(name, names.as_slice()),
-        None => false,
-    }
+    passes!(&point.crl_issuer, names => are_this_name(name, names.as_slice()))
 }
 
 /// Whether the cRLIssuer of a point has the name.

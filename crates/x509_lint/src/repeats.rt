@@ -1,6 +1,6 @@
 //! What stands twice: serial numbers of a CRL's entries, and policies.
 
-ghost use Rattle.std.specs.Prelude.{◌≡◌, ◌↔◌, IfErr, IfOk, IsTrue, map};
+ghost use Rattle.std.specs.Prelude.{◌≡◌, ◌↔◌, IfErr, IfOk, IsTrue};
 ghost use Rattle.x509_der.specs.declared.error.ErrorKind.TheVariants.{Memory};
 ghost use Rattle.x509_der.specs.Set.{AreDistinct};
 ghost use Rattle.x509_lint.specs.Values.{policies_of, policy_identifiers, serials};

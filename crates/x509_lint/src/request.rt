@@ -16,6 +16,7 @@ use crate::names::{
     has_empty_name, has_empty_rdn, has_no_address, has_no_country, has_no_dns_name, has_no_mailbox,
     has_no_uri, has_relative_uri, has_uri_at_other_host, is_empty_name,
 };
+use crate::passes;
 use crate::request::passwords::{PasswordFault, has_faulty_password};
 use crate::request::values::{RequestValues, request_values, requested_extensions};
 use crate::rule::request::REQUEST_RULES;
@@ -49,15 +50,6 @@ fn has_several_values<T: AssociatedOid>(attributes: &[Attribute]) -> bool
     attributes
         .iter()
         .any(|attribute| is_of_several::<T>(attribute))
-}
-
-fn is_empty_request(requested: &Option<ExtensionReq>) -> bool
-    ensures { result ≡ passes (λ q. is_empty q.0) requested.now }
-{
-    match requested {
-        Some(requested) => requested.0.as_slice().is_empty(),
-        None => false,
-    }
 }
 
 impl Group<CertReq, RequestValues> for RequestRule {
@@ -105,41 +97,26 @@ impl Group<CertReq, RequestValues> for RequestRule {
                 request.info.attributes.as_slice(),
             ),
             RequestRule::ExtensionRequestMalformed => values.is_request_malformed,
-            RequestRule::ExtensionsEmpty => is_empty_request(&values.requested),
+            RequestRule::ExtensionsEmpty =>
+                passes!(&values.requested, requested => requested.0.as_slice().is_empty()),
             RequestRule::ExtensionRepeated => values.is_repeated,
             RequestRule::ExtensionMalformed(kind) => !values.read.is_read(*kind),
-            RequestRule::SubjectAltNameEmpty => match &values.subject_alt_name {
-                Some(names) => names.0.as_slice().is_empty(),
-                None => false
-            },
-            RequestRule::SubjectAltNameEmptyName => match &values.subject_alt_name {
-                Some(names) => has_empty_name(names.0.as_slice()),
-                None => false
-            },
-            RequestRule::SubjectAltNameDnsNameInvalid => match &values.subject_alt_name {
-                Some(names) => has_no_dns_name(names.0.as_slice()),
-                None => false
-            },
-            RequestRule::SubjectAltNameAddressLength => match &values.subject_alt_name {
-                Some(names) => has_no_address(names.0.as_slice()),
-                None => false
-            },
-            RequestRule::SubjectAltNameMailboxInvalid => match &values.subject_alt_name {
-                Some(names) => has_no_mailbox(names.0.as_slice()),
-                None => false
-            },
-            RequestRule::SubjectAltNameUriRelative => match &values.subject_alt_name {
-                Some(names) => has_relative_uri(names.0.as_slice()),
-                None => false
-            },
-            RequestRule::SubjectAltNameUriInvalid => match &values.subject_alt_name {
-                Some(names) => has_no_uri(names.0.as_slice()),
-                None => false
-            },
-            RequestRule::SubjectAltNameUriHostInvalid => match &values.subject_alt_name {
-                Some(names) => has_uri_at_other_host(names.0.as_slice()),
-                None => false
-            },
+            RequestRule::SubjectAltNameEmpty =>
+                passes!(&values.subject_alt_name, names => names.0.as_slice().is_empty()),
+            RequestRule::SubjectAltNameEmptyName =>
+                passes!(&values.subject_alt_name, names => has_empty_name(names.0.as_slice())),
+            RequestRule::SubjectAltNameDnsNameInvalid =>
+                passes!(&values.subject_alt_name, names => has_no_dns_name(names.0.as_slice())),
+            RequestRule::SubjectAltNameAddressLength =>
+                passes!(&values.subject_alt_name, names => has_no_address(names.0.as_slice())),
+            RequestRule::SubjectAltNameMailboxInvalid =>
+                passes!(&values.subject_alt_name, names => has_no_mailbox(names.0.as_slice())),
+            RequestRule::SubjectAltNameUriRelative =>
+                passes!(&values.subject_alt_name, names => has_relative_uri(names.0.as_slice())),
+            RequestRule::SubjectAltNameUriInvalid =>
+                passes!(&values.subject_alt_name, names => has_no_uri(names.0.as_slice())),
+            RequestRule::SubjectAltNameUriHostInvalid =>
+                passes!(&values.subject_alt_name, names => has_uri_at_other_host(names.0.as_slice())),
         }
     }
 

@@ -1,11 +1,12 @@
 //! What is asked of the texts of names.
 
 ghost use Rattle.std.specs.List.{list_all, list_any};
-ghost use Rattle.std.specs.Prelude.{◌≡◌, ◌&&◌, ◌||◌, ◌==◌, IfNone, IfSome, bytes_eq, false, length, nat_le, nat_lt, true};
-ghost use Rattle.std.specs.Str.{chars, is_utf8};
+ghost use Rattle.std.specs.Prelude.{◌≡◌, ◌&&◌, ◌||◌, ◌==◌, IfNone, IfSome, bytes_eq, false, nat_le, nat_lt, true};
+ghost use Rattle.std.specs.Str.{is_utf8};
 ghost use Rattle.x509_lint.specs.Text as text;
 
 use crate::notices::count_chars;
+use crate::passes;
 use x509_der::Tag;
 use x509_name::attr::AttributeTypeAndValue;
 use x509_name::attr::attribute_types::{DOMAIN_COMPONENT, EMAIL_ADDRESS};
@@ -180,10 +181,7 @@ fn utf8_text(octets: &[u8]) -> Option<&str>
 fn is_utf8(octets: &[u8]) -> bool
     ensures { result ≡ is_utf8 octets.now }
 {
-    match utf8_text(octets) {
-        Some(_) => true,
-        None => false,
-    }
+    passes!(utf8_text(octets), _ => true)
 }
 
 /// Whether the octets are a text of the string type.

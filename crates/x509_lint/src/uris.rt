@@ -1,13 +1,13 @@
 //! URIs (RFC 3986), and those of LDAP (RFC 4516).
 
-ghost use Rattle.std.specs.List.{position, after_first, before_first, list_all, list_any, slice_get, slice_split};
-ghost use Rattle.std.specs.Option.{option_copied};
+ghost use Rattle.std.specs.List.{position, list_all, list_any, slice_get, slice_split};
 ghost use Rattle.std.specs.Prelude.{◌≡◌, ◌&&◌, ◌==◌, ◌||◌, ◌≤◌, ◌+◌, [], IfSome, MatchOption, None, Some, codes, length, nat_lt, not};
-ghost use Rattle.x509_lint.specs.Dns.{is_digit, is_label, is_letter, is_letter_or_digit};
+ghost use Rattle.x509_lint.specs.Dns.{is_digit, is_letter, is_letter_or_digit};
 ghost use Rattle.x509_lint.specs.Uri as grammar;
 ghost use Rattle.x509_lint.specs.Words.{is_empty, passes};
 
 use crate::dns::{are_labels, is_digit, is_letter, is_letter_or_digit};
+use crate::passes;
 
 fn is_scheme_octet(octet: u8) -> bool
     ensures { result ≡ grammar.is_scheme_octet octet }
@@ -83,10 +83,7 @@ fn is_one_of(marks: &[u8], octet: u8) -> bool
 fn is_hex_digit_at(text: &[u8], at: usize) -> bool
     ensures { result ≡ passes grammar.is_hex_digit (slice_get text.now at) }
 {
-    match text.get(at) {
-        Some(octet) => is_hex_digit(*octet),
-        None => false,
-    }
+    passes!(text.get(at), octet => is_hex_digit(*octet))
 }
 
 fn begins_with_hex(text: &[u8]) -> bool
@@ -466,30 +463,21 @@ fn is_full_host(text: &[u8]) -> bool
 pub(crate) fn has_other_host(uri: &[u8]) -> bool
     ensures { result ≡ grammar.has_other_host uri.now }
 {
-    match behind_slashes(hierarchy_of(uri)) {
-        Some(octets) => !is_full_host(host_and_port(before(b'/', octets))),
-        None => false,
-    }
+    passes!(behind_slashes(hierarchy_of(uri)), octets => !is_full_host(host_and_port(before(b'/', octets))))
 }
 
 /// Whether the LDAP URI has a host.
 pub(crate) fn has_ldap_host(uri: &[u8]) -> bool
     ensures { result ≡ grammar.has_ldap_host uri.now }
 {
-    match behind_slashes(hierarchy_of(uri)) {
-        Some(octets) => !before(b':', before(b'/', octets)).is_empty(),
-        None => false,
-    }
+    passes!(behind_slashes(hierarchy_of(uri)), octets => !before(b':', before(b'/', octets)).is_empty())
 }
 
 /// Whether the LDAP URI has a distinguished name.
 pub(crate) fn has_dn(uri: &[u8]) -> bool
     ensures { result ≡ grammar.has_dn uri.now }
 {
-    match behind_slashes(hierarchy_of(uri)) {
-        Some(octets) => !behind(b'/', octets).is_empty(),
-        None => false,
-    }
+    passes!(behind_slashes(hierarchy_of(uri)), octets => !behind(b'/', octets).is_empty())
 }
 
 fn attributes_of(uri: &[u8]) -> &[u8]

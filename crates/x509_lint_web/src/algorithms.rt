@@ -6,6 +6,7 @@ ghost use Rattle.x509_lint_web.specs.Algorithm as algorithm;
 
 use x509_base::SubjectPublicKeyInfo;
 use x509_der::{Any, ObjectIdentifier, Tag, oid};
+use x509_lint::passes;
 
 /// sha1WithRSAEncryption, 1.2.840.113549.1.1.5 (RFC 8017 C).
 const SHA1_WITH_RSA: ObjectIdentifier = oid!(0x2A, 0x86, 0x48, 0x86, 0xF7, 0x0D, 0x01, 0x01, 5);
@@ -113,10 +114,7 @@ fn is_oid_tag(tag: Tag) -> bool
 pub(crate) fn are_null(parameters: &Option<Any>) -> bool
     ensures { result ≡ passes algorithm.is_null parameters.now }
 {
-    match parameters {
-        Some(parameters) => is_null_tag(parameters.tag()) && parameters.value().is_empty(),
-        None => false,
-    }
+    passes!(parameters, parameters => is_null_tag(parameters.tag()) && parameters.value().is_empty())
 }
 
 fn is_curve(octets: &[u8]) -> bool
@@ -129,8 +127,5 @@ fn is_curve(octets: &[u8]) -> bool
 pub(crate) fn are_curve(parameters: &Option<Any>) -> bool
     ensures { result ≡ passes algorithm.names_curve parameters.now }
 {
-    match parameters {
-        Some(parameters) => is_oid_tag(parameters.tag()) && is_curve(parameters.value()),
-        None => false,
-    }
+    passes!(parameters, parameters => is_oid_tag(parameters.tag()) && is_curve(parameters.value()))
 }

@@ -5,7 +5,7 @@ ghost use Rattle.std.specs.Prelude.{◌≡◌, ◌==◌, ◌≤◌, length};
 ghost use Rattle.x509_lint_web.specs.Host as host;
 ghost use Rattle.x509_lint_web.specs.Words as words;
 
-use x509_lint::behind_wildcard;
+use x509_lint::{behind_wildcard, passes};
 
 /// Whether the texts are the same without regard to ASCII case.
 pub(crate) fn is_same(text: &[u8], other: &[u8]) -> bool
@@ -93,10 +93,7 @@ pub(crate) fn is_internal(text: &[u8]) -> bool
 fn is_between(octets: &[u8], at: usize, low: u8, high: u8) -> bool
     ensures { result ≡ host.is_between octets.now at low high }
 {
-    match octets.get(at) {
-        Some(octet) => low <= *octet && *octet <= high,
-        None => false,
-    }
+    passes!(octets.get(at), octet => low <= *octet && *octet <= high)
 }
 
 fn is_reserved_v4(a: &[u8]) -> bool

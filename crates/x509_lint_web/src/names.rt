@@ -14,6 +14,7 @@ use crate::hosts::{
 use x509_der::ObjectIdentifier;
 use x509_ext::pkix::SubjectAltName;
 use x509_ext::pkix::name::GeneralName;
+use x509_lint::passes;
 use x509_name::attr::AttributeTypeAndValue;
 use x509_name::attr::attribute_types::{COMMON_NAME, COUNTRY_NAME};
 use x509_name::name::{Name, RdnSequence, RelativeDistinguishedName};
@@ -110,26 +111,13 @@ fn is_faulty_among(fault: NameFault, names: &[GeneralName]) -> bool
 pub(crate) fn has_name(fault: NameFault, names: &Option<SubjectAltName>) -> bool
     ensures { result ≡ passes (λ s. list_any (grammar.has_fault fault) s.0) names.now }
 {
-    match names {
-        Some(names) => is_faulty_among(fault, names.0.as_slice()),
-        None => false,
-    }
+    passes!(names, names => is_faulty_among(fault, names.0.as_slice()))
 }
 
-fn is_host_among(names: &[GeneralName]) -> bool
+pub(crate) fn is_host_among(names: &[GeneralName]) -> bool
     ensures { result ≡ list_any grammar.is_host_name names.now }
 {
     names.iter().any(|name| is_host_name(name))
-}
-
-/// Whether the SAN is read, and has neither a dNSName nor an iPAddress.
-pub(crate) fn is_without_host(names: &Option<SubjectAltName>) -> bool
-    ensures { result ≡ passes (λ s. not (list_any grammar.is_host_name s.0)) names.now }
-{
-    match names {
-        Some(names) => !is_host_among(names.0.as_slice()),
-        None => false,
-    }
 }
 
 fn is_in(oid: ObjectIdentifier, rdn: &RelativeDistinguishedName) -> bool

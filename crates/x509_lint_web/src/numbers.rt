@@ -6,26 +6,21 @@ ghost use Rattle.x509_lint.specs.Words.{passes};
 ghost use Rattle.x509_lint_web.specs.Key as grammar;
 
 use x509_der::SequenceOf;
+use x509_lint::passes;
 use x509_prim::Uint;
 
 /// Whether there is an octet, and its highest bit isn't set.
 fn is_low(octet: Option<&u8>) -> bool
     ensures { result ≡ passes (λ octet. nat_lt octet 128) (option_copied octet.entry) }
 {
-    match octet {
-        Some(octet) => *octet < 128,
-        None => false,
-    }
+    passes!(octet, octet => *octet < 128)
 }
 
 /// Whether there is an octet, and it is even.
 fn is_even_octet(octet: Option<&u8>) -> bool
     ensures { result ≡ passes (λ octet. octet % 2 == 0) (option_copied octet.entry) }
 {
-    match octet {
-        Some(octet) => *octet % 2 == 0,
-        None => false,
-    }
+    passes!(octet, octet => *octet % 2 == 0)
 }
 
 fn is_uneven(octets: &[u8]) -> bool

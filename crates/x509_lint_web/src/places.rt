@@ -11,9 +11,8 @@ use crate::names::is_http_name;
 use x509_der::{ObjectIdentifier, oid};
 use x509_ext::pkix::crl::dp::DistributionPoint;
 use x509_ext::pkix::name::{DistributionPointName, GeneralName};
-use x509_ext::pkix::{
-    AccessDescription, AuthorityInfoAccessSyntax, AuthorityKeyIdentifier, CrlDistributionPoints,
-};
+use x509_ext::pkix::{AccessDescription, AuthorityInfoAccessSyntax, AuthorityKeyIdentifier};
+use x509_lint::passes;
 
 /// id-ad-ocsp, 1.3.6.1.5.5.7.48.1 (RFC 5280 4.2.2.1).
 const OCSP: ObjectIdentifier = oid!(0x2B, 0x06, 0x01, 0x05, 0x05, 0x07, 48, 1);
@@ -64,36 +63,16 @@ fn is_partial(point: &DistributionPoint) -> bool
     point.reasons.is_some() || point.crl_issuer.is_some()
 }
 
-fn is_without_http_among(points: &[DistributionPoint]) -> bool
+pub(crate) fn is_without_http_among(points: &[DistributionPoint]) -> bool
     ensures { result ≡ list_any field.is_without_http points.now }
 {
     points.iter().any(|point| is_without_http(point))
 }
 
-fn is_partial_among(points: &[DistributionPoint]) -> bool
+pub(crate) fn is_partial_among(points: &[DistributionPoint]) -> bool
     ensures { result ≡ list_any field.is_partial points.now }
 {
     points.iter().any(|point| is_partial(point))
-}
-
-/// Whether the points are read, and one has no full name of HTTP URIs alone.
-pub(crate) fn have_other_point(points: &Option<CrlDistributionPoints>) -> bool
-    ensures { result ≡ passes (λ p. list_any field.is_without_http p.0) points.now }
-{
-    match points {
-        Some(points) => is_without_http_among(points.0.as_slice()),
-        None => false,
-    }
-}
-
-/// Whether the points are read, and one has reasons or a cRLIssuer.
-pub(crate) fn have_partial_point(points: &Option<CrlDistributionPoints>) -> bool
-    ensures { result ≡ passes (λ p. list_any field.is_partial p.0) points.now }
-{
-    match points {
-        Some(points) => is_partial_among(points.0.as_slice()),
-        None => false,
-    }
 }
 
 fn has_other_method(description: &AccessDescription) -> bool
@@ -108,7 +87,7 @@ fn has_other_location(description: &AccessDescription) -> bool
     !is_http_name(&description.access_location)
 }
 
-fn is_other_method_among(descriptions: &[AccessDescription]) -> bool
+pub(crate) fn is_other_method_among(descriptions: &[AccessDescription]) -> bool
     ensures { result ≡ list_any policy.has_other_method descriptions.now }
 {
     descriptions
@@ -124,22 +103,9 @@ fn is_other_location_among(descriptions: &[AccessDescription]) -> bool
         .any(|description| has_other_location(description))
 }
 
-/// Whether the descriptions are read, and the method of one is neither OCSP nor caIssuers.
-pub(crate) fn have_other_method(descriptions: &Option<AuthorityInfoAccessSyntax>) -> bool
-    ensures { result ≡ passes (λ a. list_any policy.has_other_method a.0) descriptions.now }
-{
-    match descriptions {
-        Some(descriptions) => is_other_method_among(descriptions.0.as_slice()),
-        None => false,
-    }
-}
-
 /// Whether the descriptions are read, and the location of one isn't an HTTP URI.
 pub(crate) fn have_other_location(descriptions: &Option<AuthorityInfoAccessSyntax>) -> bool
     ensures { result ≡ passes (λ a. list_any policy.has_other_location a.0) descriptions.now }
 {
-    match descriptions {
-        Some(descriptions) => is_other_location_among(descriptions.0.as_slice()),
-        None => false,
-    }
+    passes!(descriptions, descriptions => is_other_location_among(descriptions.0.as_slice()))
 }

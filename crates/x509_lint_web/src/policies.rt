@@ -9,6 +9,7 @@ ghost use Rattle.x509_lint_web.specs.Policy as grammar;
 use x509_der::{ObjectIdentifier, oid};
 use x509_ext::pkix::CertificatePolicies;
 use x509_ext::pkix::certpolicy::{PolicyInformation, PolicyQualifierInfo};
+use x509_lint::passes;
 
 /// anyPolicy, 2.5.29.32.0 (RFC 5280 4.2.1.4).
 pub(crate) const ANY_POLICY: ObjectIdentifier = oid!(0x55, 0x1D, 32, 0);
@@ -40,10 +41,7 @@ fn is_policy_among(oid: ObjectIdentifier, policies: &[PolicyInformation]) -> boo
 pub(crate) fn has_policy(oid: ObjectIdentifier, policies: &Option<CertificatePolicies>) -> bool
     ensures { result ≡ passes (λ p. list_any (λ policy. bytes_eq policy.policy_identifier oid) p.0) policies.now }
 {
-    match policies {
-        Some(policies) => is_policy_among(oid, policies.0.as_slice()),
-        None => false,
-    }
+    passes!(policies, policies => is_policy_among(oid, policies.0.as_slice()))
 }
 
 fn is_reserved(policy: &PolicyInformation) -> bool
@@ -55,38 +53,18 @@ fn is_reserved(policy: &PolicyInformation) -> bool
             || (identifier == INDIVIDUAL_VALIDATED || identifier == EXTENDED_VALIDATION))
 }
 
-fn is_reserved_among(policies: &[PolicyInformation]) -> bool
+pub(crate) fn is_reserved_among(policies: &[PolicyInformation]) -> bool
     ensures { result ≡ list_any grammar.is_reserved policies.now }
 {
     policies.iter().any(|policy| is_reserved(policy))
 }
 
-/// Whether the policies are read, and none is a reserved one.
-pub(crate) fn is_without_reserved(policies: &Option<CertificatePolicies>) -> bool
-    ensures { result ≡ passes (λ p. not (list_any grammar.is_reserved p.0)) policies.now }
-{
-    match policies {
-        Some(policies) => !is_reserved_among(policies.0.as_slice()),
-        None => false,
-    }
-}
-
-fn are_qualified(policies: &[PolicyInformation]) -> bool
+pub(crate) fn are_qualified(policies: &[PolicyInformation]) -> bool
     ensures { result ≡ list_any (λ policy. is_some policy.policy_qualifiers) policies.now }
 {
     policies
         .iter()
         .any(|policy| policy.policy_qualifiers.is_some())
-}
-
-/// Whether the policies are read, and one has qualifiers.
-pub(crate) fn have_qualifiers(policies: &Option<CertificatePolicies>) -> bool
-    ensures { result ≡ passes (λ p. list_any (λ policy. is_some policy.policy_qualifiers) p.0) policies.now }
-{
-    match policies {
-        Some(policies) => are_qualified(policies.0.as_slice()),
-        None => false,
-    }
 }
 
 fn are_other_qualifiers(qualifiers: &[PolicyQualifierInfo]) -> bool
@@ -100,24 +78,11 @@ fn are_other_qualifiers(qualifiers: &[PolicyQualifierInfo]) -> bool
 fn has_other_qualifier(policy: &PolicyInformation) -> bool
     ensures { result ≡ grammar.has_other_qualifier policy.now }
 {
-    match &policy.policy_qualifiers {
-        Some(qualifiers) => are_other_qualifiers(qualifiers.as_slice()),
-        None => false,
-    }
+    passes!(&policy.policy_qualifiers, qualifiers => are_other_qualifiers(qualifiers.as_slice()))
 }
 
-fn is_other_among(policies: &[PolicyInformation]) -> bool
+pub(crate) fn is_other_among(policies: &[PolicyInformation]) -> bool
     ensures { result ≡ list_any grammar.has_other_qualifier policies.now }
 {
     policies.iter().any(|policy| has_other_qualifier(policy))
-}
-
-/// Whether the policies are read, and one has a qualifier that isn't a CPS pointer.
-pub(crate) fn have_other_qualifier(policies: &Option<CertificatePolicies>) -> bool
-    ensures { result ≡ passes (λ p. list_any grammar.has_other_qualifier p.0) policies.now }
-{
-    match policies {
-        Some(policies) => is_other_among(policies.0.as_slice()),
-        None => false,
-    }
 }

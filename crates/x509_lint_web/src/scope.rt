@@ -1,7 +1,7 @@
 //! Of whom the rules speak.
 
 ghost use Rattle.std.specs.List.{list_any};
-ghost use Rattle.std.specs.Prelude.{◌≡◌, bytes_eq, not};
+ghost use Rattle.std.specs.Prelude.{◌≡◌, bytes_eq};
 ghost use Rattle.x509_lint.specs.Key.{is_self_issued};
 ghost use Rattle.x509_lint.specs.Words.{passes};
 ghost use Rattle.x509_lint_web.specs.Words as words;
@@ -11,8 +11,8 @@ use x509_base::Raw;
 use x509_cert::certificate::CertificateInner;
 use x509_der::{ObjectIdentifier, oid};
 use x509_ext::pkix::ExtendedKeyUsage;
-use x509_lint::AnyBasicConstraints;
 use x509_lint::extensions::{extensions_of, has};
+use x509_lint::{AnyBasicConstraints, passes};
 
 /// id-kp-serverAuth, 1.3.6.1.5.5.7.3.1 (RFC 5280 4.2.1.12).
 pub(crate) const SERVER_AUTH: ObjectIdentifier = oid!(0x2B, 0x06, 0x01, 0x05, 0x05, 0x07, 3, 1);
@@ -29,26 +29,14 @@ pub(crate) fn is_self_issued(certificate: &CertificateInner<Raw>) -> bool
 pub(crate) fn is_authority(values: &WebValues) -> bool
     ensures { result ≡ words.is_authority values.now }
 {
-    match &values.basic_constraints {
-        Some(constraints) => constraints.ca,
-        None => false,
-    }
-}
-
-fn is_without_ca(constraints: &Option<AnyBasicConstraints>) -> bool
-    ensures { result ≡ passes (λ b. not b.ca) constraints.now }
-{
-    match constraints {
-        Some(constraints) => !constraints.ca,
-        None => false,
-    }
+    passes!(&values.basic_constraints, constraints => constraints.ca)
 }
 
 fn is_leaf(certificate: &CertificateInner<Raw>, values: &WebValues) -> bool
     ensures { result ≡ words.is_leaf certificate.now values.now }
 {
     !has::<AnyBasicConstraints>(extensions_of(certificate))
-        || is_without_ca(&values.basic_constraints)
+        || passes!(&values.basic_constraints, constraints => !constraints.ca)
 }
 
 fn is_server_auth_among(purposes: &[ObjectIdentifier]) -> bool
@@ -57,20 +45,11 @@ fn is_server_auth_among(purposes: &[ObjectIdentifier]) -> bool
     purposes.iter().any(|purpose| *purpose == SERVER_AUTH)
 }
 
-fn has_server_auth(usage: &Option<ExtendedKeyUsage>) -> bool
-    ensures { result ≡ passes (λ u. list_any (λ purpose. bytes_eq purpose words.server_auth) u.0) usage.now }
-{
-    match usage {
-        Some(usage) => is_server_auth_among(usage.0.as_slice()),
-        None => false,
-    }
-}
-
 fn may_serve(certificate: &CertificateInner<Raw>, values: &WebValues) -> bool
     ensures { result ≡ words.may_serve certificate.now values.now }
 {
     !has::<ExtendedKeyUsage>(extensions_of(certificate))
-        || has_server_auth(&values.extended_key_usage)
+        || passes!(&values.extended_key_usage, usage => is_server_auth_among(usage.0.as_slice()))
 }
 
 /// Whether it is the certificate of a TLS server.

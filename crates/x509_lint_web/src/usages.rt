@@ -1,15 +1,14 @@
 //! What is asked of purposes, and of the bits of key usage.
 
 ghost use Rattle.std.specs.List.{list_any};
-ghost use Rattle.std.specs.Prelude.{◌≡◌, not};
-ghost use Rattle.x509_ext.specs.KeyUsage.{has_bit};
+ghost use Rattle.std.specs.Prelude.{◌≡◌};
 ghost use Rattle.x509_lint.specs.Words.{passes};
-ghost use Rattle.x509_lint_web.specs.Authority.{is_not_of_authority};
 ghost use Rattle.x509_lint_web.specs.Usage as grammar;
 
 use crate::scope::SERVER_AUTH;
 use x509_der::{ObjectIdentifier, oid};
 use x509_ext::pkix::{ExtendedKeyUsage, KeyUsage};
+use x509_lint::passes;
 
 /// id-kp-clientAuth, 1.3.6.1.5.5.7.3.2 (RFC 5280 4.2.1.12).
 const CLIENT_AUTH: ObjectIdentifier = oid!(0x2B, 0x06, 0x01, 0x05, 0x05, 0x07, 3, 2);
@@ -56,7 +55,7 @@ fn is_forbidden_among(purposes: &[ObjectIdentifier]) -> bool
     purposes.iter().any(|purpose| is_forbidden(*purpose))
 }
 
-fn is_other_among(purposes: &[ObjectIdentifier]) -> bool
+pub(crate) fn is_other_among(purposes: &[ObjectIdentifier]) -> bool
     ensures { result ≡ list_any grammar.is_other_purpose purposes.now }
 {
     purposes.iter().any(|purpose| is_other_purpose(*purpose))
@@ -66,91 +65,18 @@ fn is_other_among(purposes: &[ObjectIdentifier]) -> bool
 pub(crate) fn has_forbidden_purpose(usage: &Option<ExtendedKeyUsage>) -> bool
     ensures { result ≡ passes (λ u. list_any grammar.is_forbidden u.0) usage.now }
 {
-    match usage {
-        Some(usage) => is_forbidden_among(usage.0.as_slice()),
-        None => false,
-    }
-}
-
-/// Whether the EKU is read, and has a purpose that is neither one of TLS nor forbidden.
-pub(crate) fn has_other_purpose(usage: &Option<ExtendedKeyUsage>) -> bool
-    ensures { result ≡ passes (λ u. list_any grammar.is_other_purpose u.0) usage.now }
-{
-    match usage {
-        Some(usage) => is_other_among(usage.0.as_slice()),
-        None => false,
-    }
-}
-
-/// Whether keyCertSign or cRLSign is set.
-pub(crate) fn signs_as_authority(usage: &Option<KeyUsage>) -> bool
-    ensures { result ≡ passes grammar.signs_as_authority usage.now }
-{
-    match usage {
-        Some(usage) => usage.key_cert_sign() || usage.crl_sign(),
-        None => false,
-    }
+    passes!(usage, usage => is_forbidden_among(usage.0.as_slice()))
 }
 
 /// Whether nonRepudiation, encipherOnly or decipherOnly is set.
-fn is_not_of_servers(usage: &KeyUsage) -> bool
+pub(crate) fn is_not_of_servers(usage: &KeyUsage) -> bool
     ensures { result ≡ grammar.is_not_of_servers usage.now }
 {
     usage.non_repudiation() || (usage.encipher_only() || usage.decipher_only())
 }
 
-/// Whether a bit is set that keys of RSA must not have.
-pub(crate) fn is_not_of_rsa(usage: &Option<KeyUsage>) -> bool
-    ensures { result ≡ passes grammar.is_not_of_rsa usage.now }
-{
-    match usage {
-        Some(usage) => is_not_of_servers(usage) || usage.key_agreement(),
-        None => false,
-    }
-}
-
-fn has_bit_not_of_ec(usage: &KeyUsage) -> bool
+pub(crate) fn has_bit_not_of_ec(usage: &KeyUsage) -> bool
     ensures { result ≡ grammar.is_not_of_ec usage.now }
 {
     is_not_of_servers(usage) || (usage.key_encipherment() || usage.data_encipherment())
-}
-
-/// Whether a bit is set that keys of elliptic curves must not have.
-pub(crate) fn is_not_of_ec(usage: &Option<KeyUsage>) -> bool
-    ensures { result ≡ passes grammar.is_not_of_ec usage.now }
-{
-    match usage {
-        Some(usage) => has_bit_not_of_ec(usage),
-        None => false,
-    }
-}
-
-/// Whether a bit is set that keys of authorities must not have.
-pub(crate) fn is_not_of_authority(usage: &Option<KeyUsage>) -> bool
-    ensures { result ≡ passes is_not_of_authority usage.now }
-{
-    match usage {
-        Some(usage) => has_bit_not_of_ec(usage) || usage.key_agreement(),
-        None => false,
-    }
-}
-
-/// Whether the key usage is read, and digitalSignature isn't set.
-pub(crate) fn lacks_digital_signature(usage: &Option<KeyUsage>) -> bool
-    ensures { result ≡ passes (λ u. not (has_bit u 0)) usage.now }
-{
-    match usage {
-        Some(usage) => !usage.digital_signature(),
-        None => false,
-    }
-}
-
-/// Whether the key usage is read, and cRLSign isn't set.
-pub(crate) fn lacks_crl_sign(usage: &Option<KeyUsage>) -> bool
-    ensures { result ≡ passes (λ u. not (has_bit u 6)) usage.now }
-{
-    match usage {
-        Some(usage) => !usage.crl_sign(),
-        None => false,
-    }
 }

@@ -10,9 +10,7 @@ use Rattle.x509_linter.specs.Linter.{is_said, is_said_at}
 none_as : (kind : Kind) (front other : Option (List ℕ)) (bytes : List ℕ) → IsSaidAs kind front bytes None → IsSaidAs kind other bytes None
 unfolding IsSaidAs
 none_as Certificate front other bytes h = h
-none_as Crl front other bytes h = h
-none_as Csr front other bytes h = h
-none_as Anchor front other bytes h = h
+none_as _ front other bytes h = h
 
 none_is_some : {Q : Type 0} (report : Report) → None ≡ Some report → Q
 none_is_some report h = absurd cc

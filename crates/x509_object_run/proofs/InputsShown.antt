@@ -1,24 +1,10 @@
 -- Inputs that are shown one after the other.
-use Rattle.std.proofs.Common.{◌≡◌, ◌<◌, ◌+◌, ℕ, max, Bool, false, codes, List, [], ◌∷◌, ◌++◌, length, map, take, get_or, Option, None, Err, refl, sym, subst, arith}
+use Rattle.std.proofs.Common.{◌≡◌, ◌<◌, ◌+◌, ℕ, max, false, codes, List, [], ◌∷◌, ◌++◌, length, map, take, get_or, Option, None, refl, sym, subst, arith}
 use Rattle.std.proofs.lemmas.List.{map_push, take_more}
-use Rattle.x509_der.specs.declared.error.ErrorKind.TheVariants as kinds
-use Rattle.x509_object_run.specs.Object.{Subject, fault_of, unread_fault}
+use Rattle.x509_object_run.specs.Object.{Subject}
 use Rattle.x509_object_run.specs.declared.heading.Headed.{Headed}
 use Rattle.x509_object_run.specs.Program.{AreDone, IsDone, Misused, Streams, World, call_from}
 use Rattle.x509_object_run.specs.Words.{has_option}
-use Rattle.x509_tool_run.specs.Input.{EndsReading, Input, IsRead, TooLong, Unreadable, Unkept}
-use Rattle.x509_tool_run.specs.declared.refusal.Refusal.{Refusal}
-use Rattle.x509_tool_run.specs.declared.refusal.Refusal.TheVariants.{Read, Because}
-
--- reading that ends with a refusal gives an input that isn't read whole
-pub refused_input : {X S : Type 0} (view : X → List ℕ) (step : S → Option (List ℕ) → S → Type 0) (s : S) (refusal : Refusal) (t : S) → EndsReading view step s (Err refusal) t → (input : Input) × IsRead step s input t × (fault_of refusal ≡ unread_fault input)
-refused_input view step s Read t h = (Unreadable, h, refl)
-refused_input view step s (Because kinds.Memory) t h = (Unkept, h, refl)
-refused_input view step s (Because kinds.Overlength) t h = (TooLong, h, refl)
-refused_input view step s (Because kinds.Malformed) t h = absurd h
-refused_input view step s (Because kinds.Failed) t h = absurd h
-refused_input view step s (Because kinds.SetDuplicate) t h = absurd h
-refused_input view step s (Because kinds.Value) t h = absurd h
 
 max-zero : (a : ℕ) → max 0 a ≡ max a 0
 max-zero a = omega arith

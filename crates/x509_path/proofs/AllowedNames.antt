@@ -1,5 +1,5 @@
 -- The sets that apply allow the names of a certificate exactly where the constraints above it do.
-use Rattle.std.proofs.Common.{◌≡◌, ◌↔◌, ◌∙◌, inl, inr, List, [], ◌∷◌, ◌++◌, Option, Some, None, Contains, get_or, length, ap, refl, sym, subst, arith}
+use Rattle.std.proofs.Common.{◌≡◌, ◌↔◌, inl, inr, List, [], ◌∷◌, ◌++◌, Option, Some, None, Contains, get_or, length, ap, refl, sym, subst, arith}
 use Rattle.std.specs.Option.{option_to_list}
 use Rattle.std.proofs.lemmas.List.Elements.{All-contains, Contains-append_cases, Contains-append_left, Contains-append_right, Contains-get_or, Contains-push, Contains-push_cases}
 use Rattle.x509_constraints.specs.Constraints.{AreAllowed, IsAllowedBy, names_asked}
@@ -10,6 +10,7 @@ use Rattle.x509_ext.specs.declared.pkix.name_constraints.NameConstraints.{NameCo
 use Rattle.x509_path.specs.Certificates.{Certificate, HasPayload, extensions_of}
 use Rattle.x509_path.specs.Inputs.{Inputs}
 use Rattle.x509_path.specs.Steps.{AreConstraintsOf, Collects}
+use Rattle.x509_path.proofs.Initials.{in_one, one_of}
 use Rattle.x509_path.specs.Validation.{Apply, AreNamesAllowed, HasAlternativeNames, HasConstraints}
 
 -- of what is said of one value there is one answer
@@ -45,21 +46,10 @@ module _ (inputs : Inputs) (before : List Certificate) (c : Certificate) (sets :
   weaker constraints (inr (inl own)) = inr (inl own)
   weaker constraints (inr (inr (d, among, is))) = inr (inr (d, Contains-append_left before (c ∷ []) d among, is))
 
-  of_found : (o : Option NameConstraints) → found ≡ o → (constraints : NameConstraints) → Contains (option_to_list o) constraints → HasConstraints c constraints
-  of_found None none constraints (k, less, at) = absurd (omega (arith, less))
-  of_found (Some x) some constraints within = elim (Contains-push_cases [] x constraints within) [
-    | inl (k, less, at) ↦ absurd (omega (arith, less))
-    | inr same ↦ subst (λ y. HasConstraints c y) same ((has x).1 some)
-  ]
-
-  in_found : (o : Option NameConstraints) → found ≡ o → (constraints : NameConstraints) → found ≡ Some constraints → Contains (option_to_list o) constraints
-  in_found None none constraints is = absurd (let e : None ≡ Some constraints = sym none ∙ is in cc)
-  in_found (Some x) some constraints is = let e : Some constraints ≡ Some x = sym is ∙ some in let one : constraints ≡ x = cc in rw one (Contains-push [] x)
-
   there_more : (constraints : NameConstraints) → Contains (sets ++ option_to_list found) constraints → Apply inputs (before ++ c ∷ []) constraints
   there_more constraints within = elim (Contains-append_cases sets (option_to_list found) constraints within) [
     | inl old ↦ weaker constraints ((collects constraints).0 old)
-    | inr new ↦ inr (inr (c, Contains-push before c, of_found found refl constraints new))
+    | inr new ↦ inr (inr (c, Contains-push before c, (has constraints).1 (one_of found constraints new)))
   ]
 
   old_within : (constraints : NameConstraints) → Apply inputs before constraints → Contains (sets ++ option_to_list found) constraints
@@ -70,7 +60,7 @@ module _ (inputs : Inputs) (before : List Certificate) (c : Certificate) (sets :
   back_more constraints (inr (inl own)) = old_within constraints (inr (inl own))
   back_more constraints (inr (inr (d, among, is))) = elim (Contains-push_cases before c d among) [
     | inl old ↦ old_within constraints (inr (inr (d, old, is)))
-    | inr same ↦ Contains-append_right sets (option_to_list found) constraints (in_found found refl constraints ((has constraints).0 (subst (λ x. HasConstraints x constraints) (sym same) is)))
+    | inr same ↦ Contains-append_right sets (option_to_list found) constraints (in_one found constraints ((has constraints).0 (subst (λ x. HasConstraints x constraints) (sym same) is)))
   ]
 
   pub collected : Collects inputs (before ++ c ∷ []) (sets ++ option_to_list found)

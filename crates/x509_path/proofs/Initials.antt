@@ -11,14 +11,14 @@ use Rattle.x509_path.specs.Validation.{Apply, AreUnusable}
 use Rattle.x509_path.specs.declared.validation_fault.ValidationFault.{ValidationFault}
 use Rattle.x509_path.specs.declared.validation_fault.ValidationFault.TheVariants.{Memory, Empty, Initial, At}
 
-one_of : (o : Option NameConstraints) (constraints : NameConstraints) → Contains (option_to_list o) constraints → o ≡ Some constraints
+pub one_of : (o : Option NameConstraints) (constraints : NameConstraints) → Contains (option_to_list o) constraints → o ≡ Some constraints
 one_of None constraints (k, less, at) = absurd (omega (arith, less))
 one_of (Some x) constraints within = elim (Contains-push_cases [] x constraints within) [
   | inl (k, less, at) ↦ absurd (omega (arith, less))
   | inr same ↦ subst (λ y. Some x ≡ Some y) same refl
 ]
 
-in_one : (o : Option NameConstraints) (constraints : NameConstraints) → o ≡ Some constraints → Contains (option_to_list o) constraints
+pub in_one : (o : Option NameConstraints) (constraints : NameConstraints) → o ≡ Some constraints → Contains (option_to_list o) constraints
 in_one None constraints is = cc
 in_one (Some x) constraints is = let one : constraints ≡ x = cc in rw one (Contains-push [] x)
 

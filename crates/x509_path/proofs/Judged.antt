@@ -1,32 +1,19 @@
 -- What is said of one certificate.
-use Rattle.std.proofs.Common.{ℕ, ◌<◌, inl, inr, List, length, take, get_or, refl}
-use Rattle.std.specs.List.{All}
-use Rattle.x509_base.specs.CivilTime.{CivilTime}
-use Rattle.x509_cert.specs.Certificate.{rfc5280_certificate}
-use Rattle.x509_der.specs.Form.{Spells}
-use Rattle.x509_path.specs.Certificates.{Accepting, Certificate}
-use Rattle.x509_path.specs.Path.{Breaks, IsFault, IsFirst, IsUnreadable, Standing, reasons}
+use Rattle.std.proofs.Common.{arith}
+use Rattle.x509_path.specs.Path.{reasons}
 use Rattle.x509_path.specs.declared.fault.PathReason.{PathReason}
-use Rattle.x509_path.specs.declared.fault.PathReason.TheVariants.{Decode}
-use Rattle.x509_path.proofs.Firsts.{decode_first, first_along, first_at, none}
-use Rattle.x509_path.proofs.Places.{wrong}
+use Rattle.x509_path.specs.declared.fault.PathReason.TheVariants.{Decode, Algorithm, Issuer, Moment, Signature, Repeated, Critical, NotCa, KeyUsage, PathLen}
+use Rattle.x509_path.proofs.Firsts.{Free}
 
-module _ (accepts : Accepting) (moment : CivilTime) (standing : Standing) (bytes : List ℕ) where
-  pub unreadable : IsUnreadable bytes → IsFirst (IsFault accepts moment standing bytes) Decode
-  unreadable is = decode_first (IsFault accepts moment standing bytes) (inl (is, refl))
-
-  module _ (c : Certificate) (spells : Spells rfc5280_certificate c bytes) where
-    abbrev pub Wrong : PathReason → Type 0
-    Wrong r = Breaks accepts moment standing bytes c r
-
-    -- while the reasons are gone over
-    abbrev pub FreeTo : ℕ → Type 0
-    FreeTo i = All (λ r. Wrong r → ⊥) (take i reasons)
-
-    pub first_wrong : (i : ℕ) (d : PathReason) → i < length reasons → FreeTo i → Wrong (get_or reasons i d) → IsFirst (IsFault accepts moment standing bytes) (get_or reasons i d)
-    first_wrong i d less free is =
-        first_along Wrong (IsFault accepts moment standing bytes) (get_or reasons i d) (λ w. inr (c, spells, w)) (λ s. wrong accepts moment standing bytes c spells s)
-        (first_at Wrong i d less (λ h. h) free is)
-
-    pub none_wrong : All (λ r. Wrong r → ⊥) reasons → (r : PathReason) → Wrong r → ⊥
-    none_wrong free = none Wrong (λ h. h) free
+-- the list has all reasons but Decode
+pub none : (P : PathReason → Type 0) → (P Decode → ⊥) → Free P reasons → (r : PathReason) → P r → ⊥
+none P readable free Decode = readable
+none P readable free Algorithm = free 0 Decode (omega arith)
+none P readable free Issuer = free 1 Decode (omega arith)
+none P readable free Moment = free 2 Decode (omega arith)
+none P readable free Signature = free 3 Decode (omega arith)
+none P readable free Repeated = free 4 Decode (omega arith)
+none P readable free Critical = free 5 Decode (omega arith)
+none P readable free NotCa = free 6 Decode (omega arith)
+none P readable free KeyUsage = free 7 Decode (omega arith)
+none P readable free PathLen = free 8 Decode (omega arith)

@@ -14,7 +14,7 @@ use Rattle.x509_cert.specs.Spellings.{certificate_spellings, tbs_spellings}
 use Rattle.x509_cert.specs.TbsCertificate.{tbs_certificate_fields}
 use Rattle.x509_der.specs.Element.{element, limit}
 use Rattle.x509_der.specs.Form.{Form, IsForm, Spells, spelling}
-use Rattle.x509_der.specs.Frames.{fields_good, optional_octets}
+use Rattle.x509_der.specs.Frames.{fields_good}
 use Rattle.x509_der.specs.SpellingLaws.{one_spelled}
 use Rattle.x509_der.specs.declared.error.ErrorKind.{ErrorKind}
 use Rattle.x509_name.specs.declared.attr.type_and_value.AttributeTypeAndValue.{AttributeTypeAndValue}
@@ -52,6 +52,10 @@ pub content_within : (tag : ℕ) (x : List ℕ) → length x ≤ length (element
 unfolding element
 content_within tag x = grind (arith, length-append)
 
+-- what is no longer than the content of an element is no longer than that
+pub inside : (tag : ℕ) (bytes content x : List ℕ) → bytes ≡ element tag content → length x ≤ length content → length x ≤ length bytes
+inside tag bytes content x whole le = omega (arith, ap length whole, le, content_within tag content)
+
 module _ (c : Certificate) (bytes : List ℕ) (spells : Spells rfc5280_certificate c bytes) where
   has : HasCertificateElements bytes (certificate_spellings c)
   has = certificate_found rfc5280_serial_number c bytes spells
@@ -80,77 +84,28 @@ module _ (c : Certificate) (bytes : List ℕ) (spells : Spells rfc5280_certifica
   unfolding certificate_fields fields_good
   bits_good = spells.0.1.1
 
-  issuer_within : length (spelling name c.tbs_certificate.issuer) ≤ limit
-  issuer_within =
-      let e = tbs_spellings c.tbs_certificate in
-      let h = has.tbs_certificate in
-      omega (
-        arith,
-        ap length h.whole,
-        h.within,
-        content_within 0x30 (front_octets e ++ behind_octets e),
-        length-append (front_octets e) (behind_octets e),
-        length-append (optional_octets (element 0xA0) e.version) (e.serial_number ++ (e.signature ++ (e.issuer ++ e.validity))),
-        length-append e.serial_number (e.signature ++ (e.issuer ++ e.validity)),
-        length-append e.signature (e.issuer ++ e.validity),
-        length-append e.issuer e.validity,
-      )
+  in_signed : (x : List ℕ) → length x ≤ length (front_octets (tbs_spellings c.tbs_certificate) ++ behind_octets (tbs_spellings c.tbs_certificate)) → length x ≤ limit
+  in_signed x le = omega (arith, inside 0x30 _ _ x has.tbs_certificate.whole le, has.tbs_certificate.within)
 
-  subject_within : length (spelling name c.tbs_certificate.subject) ≤ limit
-  subject_within =
-      let e = tbs_spellings c.tbs_certificate in
-      let h = has.tbs_certificate in
-      let rest = optional_octets (λ x. x) e.issuer_unique_id ++ (optional_octets (λ x. x) e.subject_unique_id ++ optional_octets (element 0xA3) e.extensions) in
-      omega (
-        arith,
-        ap length h.whole,
-        h.within,
-        content_within 0x30 (front_octets e ++ behind_octets e),
-        length-append (front_octets e) (behind_octets e),
-        length-append e.subject (e.subject_public_key_info ++ rest),
-      )
-
-  key_within : length (spelling subject_public_key_info c.tbs_certificate.subject_public_key_info) ≤ limit
-  key_within =
-      let e = tbs_spellings c.tbs_certificate in
-      let h = has.tbs_certificate in
-      let rest = optional_octets (λ x. x) e.issuer_unique_id ++ (optional_octets (λ x. x) e.subject_unique_id ++ optional_octets (element 0xA3) e.extensions) in
-      omega (
-        arith,
-        ap length h.whole,
-        h.within,
-        content_within 0x30 (front_octets e ++ behind_octets e),
-        length-append (front_octets e) (behind_octets e),
-        length-append e.subject (e.subject_public_key_info ++ rest),
-        length-append e.subject_public_key_info rest,
-      )
-
-  outer_within : length (spelling algorithm_identifier c.signature_algorithm) ≤ limit
-  outer_within =
-      let e = certificate_spellings c in
-      omega (arith, ap length has.whole, has.within, content_within 0x30 (e.tbs_certificate ++ (e.signature_algorithm ++ e.signature)), length-append e.tbs_certificate (e.signature_algorithm ++ e.signature), length-append e.signature_algorithm e.signature)
-
-  bits_within : length (spelling bit_string c.signature) ≤ limit
-  bits_within =
-      let e = certificate_spellings c in
-      omega (arith, ap length has.whole, has.within, content_within 0x30 (e.tbs_certificate ++ (e.signature_algorithm ++ e.signature)), length-append e.tbs_certificate (e.signature_algorithm ++ e.signature), length-append e.signature_algorithm e.signature)
+  in_whole : (x : List ℕ) → length x ≤ length ((certificate_spellings c).tbs_certificate ++ ((certificate_spellings c).signature_algorithm ++ (certificate_spellings c).signature)) → length x ≤ limit
+  in_whole x le = omega (arith, inside 0x30 _ _ x has.whole le, has.within)
 
   -- what is lent spells them
   module _ (lent : List ℕ) where
     pub issuer_spells : lent ≡ spelling name c.tbs_certificate.issuer → Spells name c.tbs_certificate.issuer lent
-    issuer_spells is = (issuer_good, is, rw is issuer_within)
+    issuer_spells is = (issuer_good, is, rw is (in_signed _ (omega (arith, length-append {A = ℕ}))))
 
     pub subject_spells : lent ≡ spelling name c.tbs_certificate.subject → Spells name c.tbs_certificate.subject lent
-    subject_spells is = (subject_good, is, rw is subject_within)
+    subject_spells is = (subject_good, is, rw is (in_signed _ (omega (arith, length-append {A = ℕ}))))
 
     pub key_spells : lent ≡ spelling subject_public_key_info c.tbs_certificate.subject_public_key_info → Spells subject_public_key_info c.tbs_certificate.subject_public_key_info lent
-    key_spells is = (key_good, is, rw is key_within)
+    key_spells is = (key_good, is, rw is (in_signed _ (omega (arith, length-append {A = ℕ}))))
 
     pub outer_spells : lent ≡ spelling algorithm_identifier c.signature_algorithm → Spells algorithm_identifier c.signature_algorithm lent
-    outer_spells is = (outer_good, is, rw is outer_within)
+    outer_spells is = (outer_good, is, rw is (in_whole _ (omega (arith, length-append {A = ℕ}))))
 
     pub bits_spells : lent ≡ spelling bit_string c.signature → Spells bit_string c.signature lent
-    bits_spells is = (bits_good, is, rw is bits_within)
+    bits_spells is = (bits_good, is, rw is (in_whole _ (omega (arith, length-append {A = ℕ}))))
 
   pub two_algorithms : (x y : List ℕ) → x ≡ spelling algorithm_identifier c.tbs_certificate.signature → y ≡ spelling algorithm_identifier c.signature_algorithm → IsTrue (not (bytes_eq x y)) ↔ (c.tbs_certificate.signature ≢ c.signature_algorithm)
   two_algorithms x y is so = differ _ (same_bytes algorithm_identifier algorithm_identifier_lawful _ _ inner_good outer_good x y is so)

@@ -3,6 +3,7 @@ pub mod Looks
 pub mod Payloads
 pub mod PathLengths
 pub mod Firsts
+pub mod Along
 pub mod Places
 pub mod Many
 pub mod Judged

@@ -1,8 +1,11 @@
 -- Look-ups among lent extensions.
-use Rattle.std.proofs.Common.{◌≡◌, ◌↔◌, ◌∙◌, ℕ, suc, ◌+◌, ◌<◌, ◌≤◌, true, List, [], ◌∷◌, length, drop, get_or, bytes_eq, refl, sym, ap, arith}
+use Rattle.std.proofs.Common.{◌≡◌, ◌↔◌, ◌∙◌, ℕ, suc, ◌+◌, ◌<◌, ◌≤◌, true, false, List, [], ◌∷◌, length, take, drop, get_or, bytes_eq, refl, sym, ap, subst, arith}
 use Rattle.std.proofs.Math.Seq.{drop-cons}
 use Rattle.std.proofs.lemmas.Slice.Eq.{bytes_eq-Decides}
-use Rattle.std.proofs.lemmas.List.Elements.{All-nil, All-cons, All-head, All-tail}
+use Rattle.std.proofs.lemmas.List.Elements.{All-nil, All-cons, All-head, All-map, All-more, All-tail}
+use Rattle.std.proofs.lemmas.List.{take_all}
+use Rattle.std.proofs.lemmas.Bool.{true≢false}
+use Rattle.std.specs.Bool.{IsTrue}
 use Rattle.std.specs.List.{All}
 use Rattle.x509_check.specs.ExtensionRefs.{lent_extension}
 use Rattle.x509_check.specs.declared.lent.extension.ExtensionRef.{ExtensionRef}
@@ -29,10 +32,21 @@ module _ (refs : List ExtensionRef) (i : ℕ) (e : ExtensionRef) (less : i < len
 
 -- what holds of all that are lent
 module _ (P : Extension → Type 0) where
-  pub all_lent : (refs : List ExtensionRef) → All (λ e. P (lent_extension e)) refs → All P (lent_extensions refs)
-  all_lent [] all = All-nil P
-  all_lent (e ∷ refs) all = All-cons P (lent_extension e) (lent_extensions refs) (All-head (λ x. P (lent_extension x)) e refs all) (all_lent refs (All-tail (λ x. P (lent_extension x)) e refs all))
+  abbrev pub OfLent : ExtensionRef → Type 0
+  OfLent e = P (lent_extension e)
 
-  pub lent_all : (refs : List ExtensionRef) → All P (lent_extensions refs) → All (λ e. P (lent_extension e)) refs
-  lent_all [] all = All-nil (λ x. P (lent_extension x))
-  lent_all (e ∷ refs) all = All-cons (λ x. P (lent_extension x)) e refs (All-head P (lent_extension e) (lent_extensions refs) all) (lent_all refs (All-tail P (lent_extension e) (lent_extensions refs) all))
+  lent_all : (refs : List ExtensionRef) → All P (lent_extensions refs) → All OfLent refs
+  lent_all [] all = All-nil OfLent
+  lent_all (e ∷ refs) all = All-cons OfLent e refs (All-head P (lent_extension e) (lent_extensions refs) all) (lent_all refs (All-tail P (lent_extension e) (lent_extensions refs) all))
+
+  -- while they are asked one after the other
+  module _ (refs : List ExtensionRef) (i : ℕ) where
+    pub all_hold : length refs ≤ i → All OfLent (take i refs) → IsTrue true ↔ All P (lent_extensions refs)
+    all_hold past all = ((λ is. All-map P lent_extension refs (subst (All OfLent) (take_all i refs past) all)), (λ is. refl))
+
+    module _ (e : ExtensionRef) (less : i < length refs) (is : e ≡ get_or refs i e) where
+      pub one_fails : (OfLent e → ⊥) → IsTrue false ↔ All P (lent_extensions refs)
+      one_fails fails = ((λ never. absurd (true≢false (sym never))), (λ all. absurd (fails (subst OfLent (sym is) (lent_all refs all i e less)))))
+
+      pub one_more : OfLent e → All OfLent (take i refs) → All OfLent (take (i + 1) refs)
+      one_more holds all = All-more OfLent refs i e less all (subst OfLent is holds)

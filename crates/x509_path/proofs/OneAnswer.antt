@@ -1,31 +1,18 @@
 -- There is one answer to a path, out of memory aside.
-use Rattle.std.proofs.Common.{◌≡◌, ◌⊎◌, inl, inr, ◌∙◌, ℕ, ◌<◌, List, [], Result, Ok, Err, refl, sym, ap, subst}
-use Rattle.std.proofs.lemmas.Bool.{cases_lt}
-use Rattle.std.proofs.Math.Nat.{eq-or-lt_of_le}
+use Rattle.std.proofs.Common.{◌≡◌, ◌⊎◌, inl, inr, ℕ, List, [], ◌∷◌, Result, Ok, Err, refl, ap, subst}
 use Rattle.x509_base.specs.CivilTime.{CivilTime}
 use Rattle.x509_path.specs.Certificates.{Accepting}
-use Rattle.x509_path.specs.Path.{Answers, HasFault, IsFirst, IsFirstFault, PathHolds}
+use Rattle.x509_path.specs.Path.{Answers, HasFault, IsFirstFault, PathHolds, reasons}
 use Rattle.x509_path.specs.declared.anchor.Anchor.{Anchor}
 use Rattle.x509_path.specs.declared.fault.PathFault.{PathFault}
 use Rattle.x509_path.specs.declared.fault.PathFault.TheVariants.{Memory, Empty, At}
 use Rattle.x509_path.specs.declared.fault.PathReason.{PathReason}
-use Rattle.x509_path.proofs.Firsts.{one_first}
-
-pub one_lowest : (p q : ℕ) (P : ℕ → Type 0) → P p → P q → ((n : ℕ) → n < p → P n → ⊥) → ((n : ℕ) → n < q → P n → ⊥) → p ≡ q
-one_lowest p q P hp hq below_p below_q = elim (cases_lt p q) [
-  | inl less ↦ absurd (below_q p less hp)
-  | inr le ↦ elim (eq-or-lt_of_le le) [ inl same ↦ sym same | inr less ↦ absurd (below_p q less hq) ]
-]
+use Rattle.x509_path.specs.declared.fault.PathReason.TheVariants.{Decode}
+use Rattle.x509_path.proofs.Firsts.{one_place}
 
 module _ (accepts : Accepting) (moment : CivilTime) (anchor : Anchor) (inputs : List (List ℕ)) where
-  abbrev HasSome : ℕ → Type 0
-  HasSome p = (r : PathReason) × HasFault accepts moment anchor inputs p r
-
   one_fault : (p q : ℕ) (r s : PathReason) → IsFirstFault accepts moment anchor inputs p r → IsFirstFault accepts moment anchor inputs q s → At p r ≡ At q s
-  one_fault p q r s h k =
-      let places : p ≡ q = one_lowest p q HasSome (r, h.first.has) (s, k.first.has) (λ n less f. h.lowest n less f.0 f.1) (λ n less f. k.lowest n less f.0 f.1) in
-      let here : IsFirst (HasFault accepts moment anchor inputs q) r = subst (λ n. IsFirst (HasFault accepts moment anchor inputs n) r) places h.first in
-      ap (λ n. At n r) places ∙ ap (λ t. At q t) (one_first (HasFault accepts moment anchor inputs q) r s here k.first)
+  one_fault p q r s h k = let (place, reason) = one_place (HasFault accepts moment anchor inputs) (Decode ∷ reasons) p q r s h.first k.first h.lowest k.lowest in cc
 
   some_input : (p : ℕ) (r : PathReason) → HasFault accepts moment anchor inputs p r → inputs ≡ [] → ⊥
   some_input p r fault none = subst (λ xs. HasFault accepts moment anchor xs p r) none fault

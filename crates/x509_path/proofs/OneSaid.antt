@@ -1,5 +1,5 @@
 -- A certificate says one thing of policies, and a path asks one thing at its start.
-use Rattle.std.proofs.Common.{◌≡◌, ◌∙◌, ◌+◌, ◌<◌, ℕ, suc, Bool, List, [], ◌∷◌, ◌++◌, length, Option, refl, sym, ap, subst}
+use Rattle.std.proofs.Common.{◌≡◌, ◌∙◌, ◌+◌, ◌<◌, ℕ, Bool, List, [], ◌∷◌, ◌++◌, length, Option, refl, sym, ap, subst}
 use Rattle.std.specs.Option.{option_map}
 use Rattle.x509_ext.specs.CertificatePolicies.{certificate_policies}
 use Rattle.x509_ext.specs.Identifiers.{id_ce}
@@ -46,18 +46,6 @@ one_say [] (s ∷ ss) ts h k = absurd h
 one_say (c ∷ cs) [] ts h k = absurd h
 one_say (c ∷ cs) (s ∷ ss) [] h k = absurd k
 one_say (c ∷ cs) (s ∷ ss) (t ∷ ts) (h, more) (k, others) = ap (λ x. x ∷ ss) (one_said c s t h k) ∙ ap (λ xs. t ∷ xs) (one_say cs ss ts more others)
-
-pub say_push : (cs : List Certificate) (ss : List policies.Certificate) (c : Certificate) (s : policies.Certificate) → Say cs ss → Says c s → Say (cs ++ c ∷ []) (ss ++ s ∷ [])
-say_push [] [] c s h says = (says, tt)
-say_push [] (x ∷ ss) c s h says = absurd h
-say_push (d ∷ cs) [] c s h says = absurd h
-say_push (d ∷ cs) (x ∷ ss) c s (first, more) says = (first, say_push cs ss c s more says)
-
-pub say_length : (cs : List Certificate) (ss : List policies.Certificate) → Say cs ss → length ss ≡ length cs
-say_length [] [] h = refl
-say_length [] (s ∷ ss) h = absurd h
-say_length (c ∷ cs) [] h = absurd h
-say_length (c ∷ cs) (s ∷ ss) (first, more) = ap suc (say_length cs ss more)
 
 one_start : (inputs : Inputs) (s t : Settings) → AreSettings inputs s → AreSettings inputs t → AreSame s t
 one_start inputs s t h k = record {

@@ -1,24 +1,18 @@
 -- There is one answer to a path that is validated, out of memory aside.
-use Rattle.std.proofs.Common.{◌≡◌, ◌⊎◌, inl, inr, ◌∙◌, ℕ, List, [], Result, Ok, Err, IsOk, refl, ap, subst}
+use Rattle.std.proofs.Common.{◌≡◌, ◌⊎◌, inl, inr, ℕ, List, [], ◌∷◌, Result, Ok, Err, IsOk, refl, ap, subst}
 use Rattle.x509_path.specs.Certificates.{Accepting}
 use Rattle.x509_path.specs.Inputs.{Inputs}
-use Rattle.x509_path.specs.Validation.{Answers, AreUnusable, HasFault, IsFirstFault, PathIsValid}
+use Rattle.x509_path.specs.Validation.{Answers, AreUnusable, HasFault, IsFirstFault, PathIsValid, reasons}
 use Rattle.x509_path.specs.declared.validated.Validated.{Validated}
 use Rattle.x509_path.specs.declared.validation_fault.ValidationFault.{ValidationFault}
 use Rattle.x509_path.specs.declared.validation_fault.ValidationFault.TheVariants.{Memory, Empty, Initial, At}
 use Rattle.x509_path.specs.declared.validation_fault.ValidationReason.{ValidationReason}
-use Rattle.x509_path.proofs.FirstReasons.{one_first}
-use Rattle.x509_path.proofs.OneAnswer.{one_lowest}
+use Rattle.x509_path.specs.declared.validation_fault.ValidationReason.TheVariants.{Decode}
+use Rattle.x509_path.proofs.Firsts.{one_place}
 
 module _ (accepts : Accepting) (inputs : Inputs) (path : List (List ℕ)) where
-  abbrev HasSome : ℕ → Type 0
-  HasSome p = (r : ValidationReason) × HasFault accepts inputs path p r
-
   one_fault : (p q : ℕ) (r s : ValidationReason) → IsFirstFault accepts inputs path p r → IsFirstFault accepts inputs path q s → At p r ≡ At q s
-  one_fault p q r s h k =
-      let places : p ≡ q = one_lowest p q HasSome (r, h.first.has) (s, k.first.has) (λ n less f. h.lowest n less f.0 f.1) (λ n less f. k.lowest n less f.0 f.1) in
-      let here = subst (λ n. IsFirstFault accepts inputs path n r) places h in
-      ap (λ n. At n r) places ∙ ap (λ t. At q t) (one_first (HasFault accepts inputs path q) r s here.first k.first)
+  one_fault p q r s h k = let (place, reason) = one_place (HasFault accepts inputs path) (Decode ∷ reasons) p q r s h.first k.first h.lowest k.lowest in cc
 
   some_input : (p : ℕ) (r : ValidationReason) → HasFault accepts inputs path p r → path ≡ [] → ⊥
   some_input p r fault none = subst (λ xs. HasFault accepts inputs xs p r) none fault

@@ -38,10 +38,6 @@ none_over c zero some h = omega (arith, some)
 none_over c (suc n) some (inl h) = h.1
 none_over c (suc n) some (inr h) = h
 
-pub one_over : (c : Certificate) (n : ℕ) → n ≡ 0 → IsOver (Some n) (c ∷ []) ↔ (IsSelfIssued c → ⊥)
-one_over c zero none = (elim [ inl h ↦ h.0 | inr h ↦ absurd h ], (λ other. inl (other, tt)))
-one_over c (suc n) none = absurd (omega (arith, none))
-
 pub lowest : (a b : ℕ) (cs : List Certificate) → (IsOver (Some a) cs ⊎ IsOver (Some b) cs) ↔ IsOver (Some (min b a)) cs
 lowest a b cs = (
   elim [ inl h ↦ at_least (suc (min b a)) (suc a) cs (omega arith) h | inr h ↦ at_least (suc (min b a)) (suc b) cs (omega arith) h ],

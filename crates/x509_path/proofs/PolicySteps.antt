@@ -1,23 +1,32 @@
 -- What the policies of a certificate say of it, with which nothing else is wrong.
-use Rattle.std.proofs.Common.{◌≡◌, ◌+◌, ◌<◌, ℕ, List, [], ◌∷◌, ◌++◌, length, Ok, Err, subst, sym}
+use Rattle.std.proofs.Common.{◌≡◌, ◌↔◌, ◌+◌, ◌<◌, ℕ, List, [], ◌∷◌, ◌++◌, length, Ok, Err}
 use Rattle.std.specs.List.{All}
 use Rattle.x509_cert.specs.Certificate.{rfc5280_certificate}
 use Rattle.x509_der.specs.Form.{Spells}
 use Rattle.x509_path.specs.Certificates.{Accepting, Certificate}
 use Rattle.x509_path.specs.Inputs.{Inputs}
-use Rattle.x509_path.specs.Policies.{AreSettings}
+use Rattle.x509_path.specs.Policies.{AreRefused, AreSettings}
 use Rattle.x509_path.specs.Says.{Say, Says}
-use Rattle.x509_path.specs.Steps.{Judges, StopsAt}
-use Rattle.x509_path.specs.Validation.{Breaks, IsFault, IsFirst, Standing, own_reasons}
+use Rattle.x509_path.specs.Steps.{Judges, StopsAt, reason_for}
+use Rattle.x509_path.specs.Validation.{Breaks, Standing, own_reasons, reasons}
 use Rattle.x509_path.specs.declared.validation_fault.ValidationFault.{ValidationFault}
 use Rattle.x509_path.specs.declared.validation_fault.ValidationFault.TheVariants.{Memory, Empty, Initial, At}
+use Rattle.x509_path.specs.declared.validation_fault.ValidationReason.TheVariants.{Decode}
 use Rattle.x509_path.proofs.OneSaid.{not_on, not_valid, only, refused_so}
-use Rattle.x509_path.proofs.Verdicts.{as_refused, first_refused, none_wrong, of_refused}
+use Rattle.x509_path.proofs.FirstReasons.{first_policy, none}
+use Rattle.x509_path.proofs.Firsts.{first_wrong}
 use Rattle.x509_policy.specs.Follows.{Follows, IsOutcome}
-use Rattle.x509_policy.specs.Path.{Valid}
+use Rattle.x509_policy.specs.Path as refusals
+use Rattle.x509_policy.specs.Path.{Reason, Valid}
 use Rattle.x509_policy.specs.Values as policies
 use Rattle.x509_policy.specs.Values.{Policy, Settings}
 use Rattle.x509_policy.specs.declared.state.PolicyState.{PolicyState}
+
+-- what is wrong with policies is what they are refused for
+as_refused : (accepts : Accepting) (inputs : Inputs) (standing : Standing) (bytes : List ℕ) (c : Certificate) (q : Reason) → Breaks accepts inputs standing bytes c (reason_for q) ↔ AreRefused inputs standing.n standing.before c q
+as_refused accepts inputs standing bytes c refusals.RepeatedPolicy = ((λ w. w), (λ w. w))
+as_refused accepts inputs standing bytes c refusals.NoPolicy = ((λ w. w), (λ w. w))
+as_refused accepts inputs standing bytes c refusals.MapsAnyPolicy = ((λ w. w), (λ w. w))
 
 module _ (accepts : Accepting) (inputs : Inputs) (standing : Standing) (bytes : List ℕ) (c : Certificate) (spells : Spells rfc5280_certificate c bytes)
     (free : All (λ r. Breaks accepts inputs standing bytes c r → ⊥) own_reasons) (settings : Settings) (said : List policies.Certificate) (own : policies.Certificate)
@@ -27,19 +36,19 @@ module _ (accepts : Accepting) (inputs : Inputs) (standing : Standing) (bytes : 
   stopped Empty h = h
   stopped Initial h = h
   stopped (At p reason) h =
-      let here = of_refused accepts inputs standing bytes c spells h.why (refused_so inputs standing.n standing.before c settings said own at_start say says h.why h.refused) in
-      let first = first_refused accepts inputs standing bytes c spells free h.why here
-      (λ o w. only inputs standing.n standing.before c settings said own at_start say says o (as_refused accepts inputs standing bytes c spells o w) within h.why h.refused) in
-      (h.here, subst (IsFirst (IsFault accepts inputs standing bytes)) (sym h.told) first)
+      let here = (as_refused accepts inputs standing bytes c h.why).1 (refused_so inputs standing.n standing.before c settings said own at_start say says h.why h.refused) in
+      let first = first_policy (Breaks accepts inputs standing bytes c) (λ h. h) free h.why here
+      (λ o w. only inputs standing.n standing.before c settings said own at_start say says o ((as_refused accepts inputs standing bytes c o).0 w) within h.why h.refused) in
+      (h.here, rw h.told (first_wrong Decode (Breaks accepts inputs standing bytes) bytes c spells (Decode ∷ reasons) (reason_for h.why) first))
 
   pub passed : length said + 1 < standing.n → (state : PolicyState) → Follows settings standing.n (said ++ own ∷ []) state → Judges accepts inputs standing bytes place (Ok c)
   passed more state follows = (
     spells,
-    none_wrong accepts inputs standing bytes c spells free (λ q w. not_on inputs standing.n standing.before c settings said own at_start say says q (as_refused accepts inputs standing bytes c spells q w) within more state follows),
+    none (Breaks accepts inputs standing bytes c) (λ h. h) free (λ q w. not_on inputs standing.n standing.before c settings said own at_start say says q ((as_refused accepts inputs standing bytes c q).0 w) within more state follows),
   )
 
   pub ended : length said + 1 ≡ standing.n → (found : List Policy) → IsOutcome settings (said ++ own ∷ []) (Valid found) → Judges accepts inputs standing bytes place (Ok c)
   ended all found outcome = (
     spells,
-    none_wrong accepts inputs standing bytes c spells free (λ q w. not_valid inputs standing.n standing.before c settings said own at_start say says q (as_refused accepts inputs standing bytes c spells q w) within all found outcome),
+    none (Breaks accepts inputs standing bytes c) (λ h. h) free (λ q w. not_valid inputs standing.n standing.before c settings said own at_start say says q ((as_refused accepts inputs standing bytes c q).0 w) within all found outcome),
   )

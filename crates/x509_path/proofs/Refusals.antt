@@ -14,7 +14,7 @@ use Rattle.x509_der.specs.Form.{Form, Spells, whole_reading}
 use Rattle.x509_der.specs.Outcome.{IsRefusal}
 use Rattle.x509_der.specs.declared.error.Error.{Error}
 use Rattle.x509_der.specs.declared.error.ErrorKind.{ErrorKind}
-use Rattle.x509_der.specs.declared.error.ErrorKind.TheVariants.{Failed, Malformed, Memory, Overlength, SetDuplicate, Value}
+use Rattle.x509_der.specs.declared.error.ErrorKind.TheVariants.{Failed, Malformed, Memory, Overlength}
 use Rattle.x509_ext.specs.BasicConstraints.{basic_constraints}
 use Rattle.x509_ext.specs.CertificatePolicies.{certificate_policies}
 use Rattle.x509_ext.specs.Identifiers.{id_ce}
@@ -23,9 +23,10 @@ use Rattle.x509_ext.specs.NameConstraints.{name_constraints}
 use Rattle.x509_ext.specs.PolicyConstraints.{policy_constraints}
 use Rattle.x509_ext.specs.SubjectKeyIdentifier.{subject_key_identifier}
 use Rattle.x509_ext.specs.declared.extension.Extension.{Extension}
+use Rattle.x509_ext.specs.declared.pkix.certificate_policies.CertificatePolicies.{CertificatePolicies}
 use Rattle.x509_path.specs.Certificates.{Certificate, extensions_of}
 use Rattle.x509_path.specs.Inputs.{Trust}
-use Rattle.x509_path.specs.Trusts.{AreFlags, AreLimits, AreOwnLimits, HasItsCertificate, HasKeyId, HoldsTrust, IsNoAnchor, IsOverlong, IsTrustOfInfo, IsValueOf, RefusesFlags, RefusesInfo, RefusesItsCertificate, RefusesLimits, RefusesOwnLimits, RefusesTrust, RefusesValue}
+use Rattle.x509_path.specs.Trusts.{AreFlags, AreLimits, AreOwnLimits, HasItsCertificate, HasKeyId, HoldsTrust, IsNoAnchor, IsOverlong, IsTrustOfInfo, IsValueOf, RefusesFlags, RefusesInfo, RefusesItsCertificate, RefusesLimits, RefusesOption, RefusesOwnLimits, RefusesTrust, RefusesValue}
 use Rattle.x509_path.specs.declared.limits.Limits.{Limits}
 use Rattle.x509_path.specs.declared.trusted_buf.TrustedBuf.{TrustedBuf}
 use Rattle.x509_policy.specs.declared.anchor.AnchorFlags.{AnchorFlags}
@@ -73,6 +74,12 @@ module _ (is_trust : Trust → Type 0) (refuses : ErrorKind → Type 0) where
   answered trust (Err e) is (inl memory) = inl memory
   answered trust (Err e) is (inr (long, part)) = inr (inr (long, (trust, is, part)))
 
+-- the encoding of the policies is refused
+pub long_policies : (trust : Trust) (policies : Option CertificatePolicies) (e : ErrorKind) → trust.policies ≡ policies → RefusesOption certificate_policies policies e → (e ≡ Memory) ⊎ ((e ≡ Overlength) × IsOverlong trust)
+long_policies trust None e is refused = absurd refused
+long_policies trust (Some set) e is (inl memory) = inl memory
+long_policies trust (Some set) e is (inr (over, long)) = inr (over, inr (inr (inr (set, is, long))))
+
 -- ---- descriptions
 
 no_certificate : (info : TrustAnchorInfo Rfc5280) (controls : CertPathControls Rfc5280) (own : Option Certificate) (e : ErrorKind) → RefusesItsCertificate info controls own e → HasItsCertificate info controls own → (limits : Limits) → AreOwnLimits own limits → ⊥
@@ -111,11 +118,7 @@ module _ (info : TrustAnchorInfo Rfc5280) (controls : CertPathControls Rfc5280) 
 
 is_memory : (e : ErrorKind) → (e ≡ Memory) ⊎ (e ≡ Memory → ⊥)
 is_memory Memory = inl refl
-is_memory Overlength = inr (λ is. cc)
-is_memory Malformed = inr (λ is. cc)
-is_memory Failed = inr (λ is. cc)
-is_memory SetDuplicate = inr (λ is. cc)
-is_memory Value = inr (λ is. cc)
+is_memory _ = inr (λ is. cc)
 
 -- what decoding says of bytes that it refuses
 module _ (bytes : List ℕ) (e : ErrorKind) (over : limit < length bytes → e ≡ Overlength)

@@ -2,7 +2,7 @@
 use Rattle.std.specs.Borrow.{Bor}
 use Rattle.std.specs.Prelude.{◌≡◌, ℕ, List, [], ◌∷◌, Option, Some, None}
 use Rattle.x509_base.specs.CivilTime.{CivilTime}
-use Rattle.x509_der.specs.Form.{Spells}
+use Rattle.x509_der.specs.Form.{Form, Spells}
 use Rattle.x509_ext.specs.CertificatePolicies.{certificate_policies}
 use Rattle.x509_ext.specs.NameConstraints.{name_constraints}
 use Rattle.x509_ext.specs.declared.pkix.certificate_policies.CertificatePolicies.{CertificatePolicies}
@@ -32,17 +32,17 @@ pub record Inputs : Type 0 where
 
 -- ---- what is lent
 
--- the octets are those of the constraints, and absent where these are
-abbrev pub LendsConstraints : Option (Bor (List ℕ)) → Option NameConstraints → Type 0
-LendsConstraints None constraints = constraints ≡ None
-LendsConstraints (Some lent) None = ⊥
-LendsConstraints (Some lent) (Some constraints) = Spells name_constraints constraints lent.now
+-- the octets that are seen there are those of the value, and absent where it is
+abbrev pub SpellsOption : {L X : Type 0} → (L → List ℕ) → Form X → Option L → Option X → Type 0
+SpellsOption see form None value = value ≡ None
+SpellsOption see form (Some held) None = ⊥
+SpellsOption see form (Some held) (Some value) = Spells form value (see held)
 
--- so of policies
+abbrev pub LendsConstraints : Option (Bor (List ℕ)) → Option NameConstraints → Type 0
+LendsConstraints = SpellsOption (λ lent. lent.now) name_constraints
+
 abbrev pub LendsPolicies : Option (Bor (List ℕ)) → Option CertificatePolicies → Type 0
-LendsPolicies None policies = policies ≡ None
-LendsPolicies (Some lent) None = ⊥
-LendsPolicies (Some lent) (Some policies) = Spells certificate_policies policies lent.now
+LendsPolicies = SpellsOption (λ lent. lent.now) certificate_policies
 
 pub record LendsTrust (trusted : Trusted) (trust : Trust) : Type 0 where
   pub anchor : LendsAnchor trusted.anchor trust.anchor

@@ -39,11 +39,14 @@ Breaks accepts moment standing bytes c PathLen = (standing.is_last ≡ false) ×
 abbrev pub IsUnreadable : List ℕ → Type 0
 IsUnreadable bytes = (c : Certificate) → Spells rfc5280_certificate c bytes → ⊥
 
--- the bytes that stand there are those of no certificate, or of one with which that is wrong
+-- The bytes are those of no certificate, and the reason is the one for that, or of one with which that is wrong. Of any kind of reason.
+abbrev pub IsFaultBy : {R : Type 0} → R → (Certificate → R → Type 0) → List ℕ → R → Type 0
+IsFaultBy decode breaks bytes reason =
+    (IsUnreadable bytes × (reason ≡ decode)) ⊎ ((c : Certificate) × Spells rfc5280_certificate c bytes × breaks c reason)
+
+-- the bytes that stand there have that fault
 abbrev pub IsFault : Accepting → CivilTime → Standing → List ℕ → PathReason → Type 0
-IsFault accepts moment standing bytes reason =
-    (IsUnreadable bytes × (reason ≡ Decode))
-    ⊎ ((c : Certificate) × Spells rfc5280_certificate c bytes × Breaks accepts moment standing bytes c reason)
+IsFault accepts moment standing bytes = IsFaultBy Decode (Breaks accepts moment standing bytes) bytes
 
 -- the name and the key that a certificate gives to the next one
 abbrev pub subject_of : Certificate → Anchor
@@ -55,15 +58,23 @@ abbrev pub is_empty : List (List ℕ) → Bool
 is_empty [] = true
 is_empty (input ∷ inputs) = false
 
+-- which faults an input has under a name and a key, behind certificates, and before the rest of the inputs
+abbrev pub Faults : Type 0 → Type 1
+Faults R = Anchor → List Certificate → List ℕ → List (List ℕ) → R → Type 0
+
 -- The input at that place has that fault, where the path stands under this name and key and behind these certificates. An input that is
 -- of no certificate has none below it.
-abbrev pub HasFaultBehind : Accepting → CivilTime → Anchor → List Certificate → List (List ℕ) → ℕ → PathReason → Type 0
-HasFaultBehind accepts moment above before [] place reason = ⊥
-HasFaultBehind accepts moment above before (input ∷ inputs) zero reason = IsFault accepts moment (record { above = above; before = before; is_last = is_empty inputs }) input reason
-HasFaultBehind accepts moment above before (input ∷ inputs) (suc place) reason = (c : Certificate) × Spells rfc5280_certificate c input × HasFaultBehind accepts moment (subject_of c) (before ++ c ∷ []) inputs place reason
+abbrev pub HasFaultBehind : {R : Type 0} → Faults R → Anchor → List Certificate → List (List ℕ) → ℕ → R → Type 0
+HasFaultBehind faults above before [] place reason = ⊥
+HasFaultBehind faults above before (input ∷ inputs) zero reason = faults above before input inputs reason
+HasFaultBehind faults above before (input ∷ inputs) (suc place) reason =
+    (c : Certificate) × Spells rfc5280_certificate c input × HasFaultBehind faults (subject_of c) (before ++ c ∷ []) inputs place reason
+
+abbrev pub faults_at : Accepting → CivilTime → Faults PathReason
+faults_at accepts moment above before input inputs = IsFault accepts moment (record { above = above; before = before; is_last = is_empty inputs }) input
 
 abbrev pub HasFault : Accepting → CivilTime → Anchor → List (List ℕ) → ℕ → PathReason → Type 0
-HasFault accepts moment anchor inputs place reason = HasFaultBehind accepts moment anchor [] inputs place reason
+HasFault accepts moment anchor inputs place reason = HasFaultBehind (faults_at accepts moment) anchor [] inputs place reason
 
 -- there is an input, and none has a fault
 abbrev pub PathHolds : Accepting → CivilTime → Anchor → List (List ℕ) → Type 0
@@ -75,17 +86,17 @@ PathHolds accepts moment anchor inputs = (inputs ≢ []) × ((place : ℕ) (reas
 abbrev pub reasons : List PathReason
 reasons = Algorithm ∷ Issuer ∷ Moment ∷ Signature ∷ Repeated ∷ Critical ∷ NotCa ∷ KeyUsage ∷ PathLen ∷ []
 
--- it holds of that reason, and of none that stands earlier in the order
-pub record IsFirst (holds : PathReason → Type 0) (reason : PathReason) : Type 0 where
-  pub earlier : List PathReason
-  pub later : List PathReason
-  pub order : Decode ∷ reasons ≡ earlier ++ reason ∷ later
+-- it holds of that reason, and of none that stands earlier among these
+pub record IsFirst {R : Type 0} (among : List R) (holds : R → Type 0) (reason : R) : Type 0 where
+  pub earlier : List R
+  pub later : List R
+  pub order : among ≡ earlier ++ reason ∷ later
   pub has : holds reason
   pub none_earlier : All (λ r. holds r → ⊥) earlier
 
 -- the lowest place that has a fault, and the first of its faults
 pub record IsFirstFault (accepts : Accepting) (moment : CivilTime) (anchor : Anchor) (inputs : List (List ℕ)) (place : ℕ) (reason : PathReason) : Type 0 where
-  pub first : IsFirst (HasFault accepts moment anchor inputs place) reason
+  pub first : IsFirst (Decode ∷ reasons) (HasFault accepts moment anchor inputs place) reason
   pub lowest : (p : ℕ) → p < place → (r : PathReason) → HasFault accepts moment anchor inputs p r → ⊥
 
 -- What is answered to a path. Memory may be refused wherever there is an input.

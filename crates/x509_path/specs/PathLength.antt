@@ -1,6 +1,6 @@
 -- Tools of the proofs: max_path_length, how many certificates that aren't self-issued may still follow (RFC 5280 6.1.2 (k)), and what is said of one
 -- certificate.
-use Rattle.std.specs.Prelude.{◌≡◌, ◌<◌, ◌-◌, ◌⊎◌, ◌↔◌, ℕ, Bool, min, List, ◌++◌, Option, Some, None, Result, Ok, Err, if◌then◌else◌}
+use Rattle.std.specs.Prelude.{◌≡◌, ◌<◌, ◌-◌, ◌⊎◌, ◌↔◌, ℕ, Bool, false, min, List, ◌∷◌, ◌++◌, Option, Some, None, Result, Ok, Err, MatchResult, if◌then◌else◌}
 use Rattle.x509_base.specs.CivilTime.{CivilTime}
 use Rattle.x509_base.specs.declared.subject_public_key_info.SubjectPublicKeyInfo.{SubjectPublicKeyInfo}
 use Rattle.x509_cert.specs.Certificate.{rfc5280_certificate}
@@ -10,12 +10,13 @@ use Rattle.x509_ext.specs.Identifiers.{id_ce}
 use Rattle.x509_ext.specs.declared.extension.Extension.{Extension}
 use Rattle.x509_ext.specs.declared.pkix.basic_constraints.BasicConstraints.{BasicConstraints}
 use Rattle.x509_name.specs.declared.attr.type_and_value.AttributeTypeAndValue.{AttributeTypeAndValue}
-use Rattle.x509_path.specs.Certificates.{Accepting, Certificate, HasPayload, count_not_self_issued, IsTooLong}
-use Rattle.x509_path.specs.Path.{Standing, Breaks, IsFault, IsFirst, subject_of}
+use Rattle.x509_path.specs.Certificates.{Accepting, Certificate, HasPayload, count_not_self_issued, extensions_of, IsTooLong}
+use Rattle.x509_path.specs.Path.{Standing, Breaks, IsFault, IsFirst, reasons, subject_of}
 use Rattle.x509_path.specs.declared.anchor.Anchor.{Anchor}
 use Rattle.x509_path.specs.declared.fault.PathFault.{PathFault}
 use Rattle.x509_path.specs.declared.fault.PathFault.TheVariants.{Memory, Empty, At}
 use Rattle.x509_path.specs.declared.fault.PathReason.{PathReason}
+use Rattle.x509_path.specs.declared.fault.PathReason.TheVariants.{Decode}
 
 -- the value is that of the one BasicConstraints, none where there isn't one that can be decoded
 abbrev pub HasConstraints : List Extension → Option BasicConstraints → Type 0
@@ -50,4 +51,10 @@ abbrev pub Judges : Accepting → CivilTime → Standing → List ℕ → ℕ �
 Judges accepts moment standing bytes place (Ok c) = Spells rfc5280_certificate c bytes × ((r : PathReason) → Breaks accepts moment standing bytes c r → ⊥)
 Judges accepts moment standing bytes place (Err Memory) = Unit {0}
 Judges accepts moment standing bytes place (Err Empty) = ⊥
-Judges accepts moment standing bytes place (Err (At p reason)) = (p ≡ place) × IsFirst (IsFault accepts moment standing bytes) reason
+Judges accepts moment standing bytes place (Err (At p reason)) = (p ≡ place) × IsFirst (Decode ∷ reasons) (IsFault accepts moment standing bytes) reason
+
+-- the same, with the value of its BasicConstraints where another certificate follows
+abbrev pub JudgesLent : Accepting → CivilTime → Standing → List ℕ → ℕ → Certificate → Result (Option BasicConstraints) PathFault → Type 0
+JudgesLent accepts moment standing bytes place c answer =
+    MatchResult answer (λ found. (standing.is_last ≡ false → HasConstraints (extensions_of c) found) × Judges accepts moment standing bytes place (Ok c))
+    (λ e. Judges accepts moment standing bytes place (Err e))

@@ -1,5 +1,6 @@
 -- What a certificate says of policies (RFC 5280 4.2.1.4, 4.2.1.5, 4.2.1.11, 4.2.1.14).
-use Rattle.std.specs.Prelude.{◌≡◌, ◌↔◌, ℕ, true, List, [], ◌∷◌, map, Option, Some, None}
+use Rattle.std.specs.Prelude.{◌≡◌, ◌↔◌, ℕ, true, List, [], map, Option, Some, None}
+use Rattle.std.specs.List.{AllZip}
 use Rattle.std.specs.Option.{option_map}
 use Rattle.x509_der.specs.Form.{Form}
 use Rattle.x509_ext.specs.CertificatePolicies.{certificate_policies}
@@ -60,7 +61,4 @@ pub record Says (c : Certificate) (said : policies.Certificate) : Type 0 where
 
 -- each of the certificates says that
 abbrev pub Say : List Certificate → List policies.Certificate → Type 0
-Say [] [] = Unit {0}
-Say [] (said ∷ rest) = ⊥
-Say (c ∷ certificates) [] = ⊥
-Say (c ∷ certificates) (said ∷ rest) = Says c said × Say certificates rest
+Say = AllZip Says

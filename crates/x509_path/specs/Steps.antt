@@ -1,7 +1,7 @@
 -- Tools of the proofs: what is carried from one certificate to the next while a path is validated, and what is said of one certificate.
 use Rattle.std.specs.List.{All}
 use Rattle.std.specs.Option.{option_map}
-use Rattle.std.specs.Prelude.{◌≡◌, ◌⊎◌, ◌↔◌, ℕ, Bool, false, List, [], ◌++◌, map, Option, Some, None, Contains, Result, Ok, Err}
+use Rattle.std.specs.Prelude.{◌≡◌, ◌⊎◌, ◌↔◌, ℕ, Bool, false, List, [], ◌∷◌, ◌++◌, map, Option, Some, None, Contains, Result, Ok, Err, MatchResult}
 use Rattle.x509_base.specs.CivilTime.{CivilTime}
 use Rattle.x509_cert.specs.Certificate.{rfc5280_certificate}
 use Rattle.x509_check.specs.declared.lent.extension.ExtensionRef.{ExtensionRef}
@@ -15,9 +15,10 @@ use Rattle.x509_path.specs.Certificates.{Accepting, Certificate, extensions_of}
 use Rattle.x509_path.specs.Inputs.{Inputs}
 use Rattle.x509_path.specs.Lent.{Lends, LendsAnchor, lent_extensions}
 use Rattle.x509_path.specs.Policies.{AreSettings, IsRefused}
-use Rattle.x509_path.specs.Says.{Say, any_policy_inhibit_of, explicit_policy_of, mapping_inhibit_of}
+use Rattle.x509_path.specs.Says.{Say, Says, any_policy_inhibit_of, explicit_policy_of, mapping_inhibit_of}
+use Rattle.x509_path.specs.Path.{IsFirst}
 use Rattle.x509_path.specs.PathLength as lengths
-use Rattle.x509_path.specs.Validation.{Apply, AreSpelled, AreUnusable, Breaks, HasConstraints, IsFault, IsFirst, IsOver, IsTooLong, Standing, own_reasons}
+use Rattle.x509_path.specs.Validation.{Apply, AreSpelled, AreUnusable, Breaks, HasConstraints, IsFault, IsOver, IsTooLong, Standing, own_reasons, reasons}
 use Rattle.x509_path.specs.declared.anchor.Anchor.{Anchor}
 use Rattle.x509_path.specs.declared.anchor_ref.AnchorRef.{AnchorRef}
 use Rattle.x509_path.specs.declared.applied.Applied.{Applied}
@@ -25,7 +26,8 @@ use Rattle.x509_path.specs.declared.policies.Said.{Said}
 use Rattle.x509_path.specs.declared.validation_fault.ValidationFault.{ValidationFault}
 use Rattle.x509_path.specs.declared.validation_fault.ValidationFault.TheVariants.{Memory, Empty, Initial, At}
 use Rattle.x509_path.specs.declared.validation_fault.ValidationReason.{ValidationReason}
-use Rattle.x509_path.specs.declared.validation_fault.ValidationReason.TheVariants.{Decode, Algorithm, Issuer, Moment, Signature, Repeated, Critical, Extension as Undecodable, NotCa, KeyUsage, PathLen, Names, Constraints, RepeatedPolicy, Policy, PolicyMapping}
+use Rattle.x509_path.specs.declared.validation_fault.ValidationReason.TheVariants.{Decode, RepeatedPolicy, Policy, PolicyMapping}
+use Rattle.x509_path.specs.declared.validator.Limits.{Limits}
 use Rattle.x509_policy.specs.Follows.{Follows, IsOutcome}
 use Rattle.x509_policy.specs.Path as refusals
 use Rattle.x509_policy.specs.Path.{Reason, Valid}
@@ -84,34 +86,19 @@ Judges accepts inputs standing bytes place (Ok c) = Spells rfc5280_certificate c
 Judges accepts inputs standing bytes place (Err Memory) = Unit {0}
 Judges accepts inputs standing bytes place (Err Empty) = ⊥
 Judges accepts inputs standing bytes place (Err Initial) = ⊥
-Judges accepts inputs standing bytes place (Err (At p reason)) = (p ≡ place) × IsFirst (IsFault accepts inputs standing bytes) reason
+Judges accepts inputs standing bytes place (Err (At p reason)) = (p ≡ place) × IsFirst (Decode ∷ reasons) (IsFault accepts inputs standing bytes) reason
 
 -- the same, its policies apart
 abbrev pub JudgesAlone : Accepting → Inputs → Standing → List ℕ → ℕ → Result Certificate ValidationFault → Type 0
 JudgesAlone accepts inputs standing bytes place (Ok c) = Spells rfc5280_certificate c bytes × All (λ r. Breaks accepts inputs standing bytes c r → ⊥) own_reasons
-JudgesAlone accepts inputs standing bytes place (Err Memory) = Unit {0}
-JudgesAlone accepts inputs standing bytes place (Err Empty) = ⊥
-JudgesAlone accepts inputs standing bytes place (Err Initial) = ⊥
-JudgesAlone accepts inputs standing bytes place (Err (At p reason)) = (p ≡ place) × IsFirst (IsFault accepts inputs standing bytes) reason
+JudgesAlone accepts inputs standing bytes place (Err e) = Judges accepts inputs standing bytes place (Err e)
 
 -- it isn't one of policies
 abbrev pub IsOwn : ValidationReason → Type 0
-IsOwn Decode = Unit {0}
-IsOwn Algorithm = Unit {0}
-IsOwn Issuer = Unit {0}
-IsOwn Moment = Unit {0}
-IsOwn Signature = Unit {0}
-IsOwn Repeated = Unit {0}
-IsOwn Critical = Unit {0}
-IsOwn Undecodable = Unit {0}
-IsOwn NotCa = Unit {0}
-IsOwn KeyUsage = Unit {0}
-IsOwn PathLen = Unit {0}
-IsOwn Names = Unit {0}
-IsOwn Constraints = Unit {0}
 IsOwn RepeatedPolicy = ⊥
 IsOwn Policy = ⊥
 IsOwn PolicyMapping = ⊥
+IsOwn _ = Unit {0}
 
 -- what comes of constraints that are lent: they are added, or can't be used
 abbrev pub AddsLent : Option NameConstraints → List NameConstraints → Applied → Result Unit ValidationFault → Type 0
@@ -155,6 +142,13 @@ abbrev pub reason_for : Reason → ValidationReason
 reason_for refusals.RepeatedPolicy = RepeatedPolicy
 reason_for refusals.NoPolicy = Policy
 reason_for refusals.MapsAnyPolicy = PolicyMapping
+
+-- what is answered of the certificate that stands there, its policies apart, and what it says of those below it
+abbrev pub JudgesParts : Accepting → Inputs → Standing → List ℕ → ℕ → Certificate → Result Limits ValidationFault → Type 0
+JudgesParts accepts inputs standing bytes place c answer =
+    MatchResult answer (λ limits. (standing.is_last ≡ false → IsLimitOf c limits.basic_constraints limits.name_constraints)
+    × (Says c (said_by limits.policies) × JudgesAlone accepts inputs standing bytes place (Ok c)))
+    (λ e. JudgesAlone accepts inputs standing bytes place (Err e))
 
 -- the fault is told at that place, where the certificate that says so is refused behind these
 pub record TellsRefusal (settings : policies.Settings) (n : ℕ) (before : List policies.Certificate) (own : policies.Certificate) (place p : ℕ) (reason : ValidationReason) : Type 0 where

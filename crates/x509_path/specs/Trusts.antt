@@ -36,7 +36,7 @@ use Rattle.x509_name.specs.Names.{name}
 use Rattle.x509_name.specs.declared.attr.type_and_value.AttributeTypeAndValue.{AttributeTypeAndValue}
 use Rattle.x509_path.specs.declared.trusted_buf.TrustedBuf.{TrustedBuf}
 use Rattle.x509_path.specs.Certificates.{Certificate, HasPayload, extensions_of}
-use Rattle.x509_path.specs.Inputs.{LendsConstraints, LendsPolicies, Trust}
+use Rattle.x509_path.specs.Inputs.{SpellsOption, Trust}
 use Rattle.x509_path.specs.Says.{explicit_policy_of, mapping_inhibit_of}
 use Rattle.x509_path.specs.declared.limits.Limits.{Limits}
 use Rattle.x509_policy.specs.declared.anchor.AnchorFlags.{AnchorFlags}
@@ -151,22 +151,12 @@ IsTrustOfAnchor (TaInfo info) trust = IsTrustOfInfo info trust
 
 -- ---- what is owned
 
-abbrev pub HoldsConstraints : Option (List ℕ) → Option NameConstraints → Type 0
-HoldsConstraints None constraints = constraints ≡ None
-HoldsConstraints (Some octets) None = ⊥
-HoldsConstraints (Some octets) (Some constraints) = Spells name_constraints constraints octets
-
-abbrev pub HoldsPolicies : Option (List ℕ) → Option CertificatePolicies → Type 0
-HoldsPolicies None policies = policies ≡ None
-HoldsPolicies (Some octets) None = ⊥
-HoldsPolicies (Some octets) (Some policies) = Spells certificate_policies policies octets
-
 pub record HoldsTrust (trusted : TrustedBuf) (trust : Trust) : Type 0 where
   pub name : Spells name trust.anchor.name trusted.name.items
   pub key : Spells subject_public_key_info trust.anchor.key trusted.key.items
-  pub constraints : HoldsConstraints (option_map (λ octets. octets.items) trusted.name_constraints) trust.constraints
+  pub constraints : SpellsOption (λ octets. octets) name_constraints (option_map (λ octets. octets.items) trusted.name_constraints) trust.constraints
   pub max_path_length : trust.max_path_length ≡ trusted.max_path_length
-  pub policies : HoldsPolicies (option_map (λ octets. octets.items) trusted.policies) trust.policies
+  pub policies : SpellsOption (λ octets. octets) certificate_policies (option_map (λ octets. octets.items) trusted.policies) trust.policies
   pub flags : trust.flags ≡ trusted.policy_flags
 
 -- ---- refusals
@@ -253,11 +243,9 @@ abbrev pub RefusesOwnLimits : Option Certificate → ErrorKind → Type 0
 RefusesOwnLimits None e = ⊥
 RefusesOwnLimits (Some c) e = RefusesLimits (extensions_of c) e
 
-abbrev pub LendsOwn : List Extension → Option (Bor (List ℕ)) → Type 0
-LendsOwn extensions lent = (constraints : Option NameConstraints) × IsValueOf name_constraints (id_ce 30) extensions constraints × LendsConstraints lent constraints
-
-abbrev pub LendsOwnPolicies : List Extension → Option (Bor (List ℕ)) → Type 0
-LendsOwnPolicies extensions lent = (policies : Option CertificatePolicies) × IsValueOf certificate_policies (id_ce 32) extensions policies × LendsPolicies lent policies
+-- the octets are those of the value of the one extension with the identifier
+abbrev pub LendsOwn : {T : Type 0} → Form T → List ℕ → List Extension → Option (Bor (List ℕ)) → Type 0
+LendsOwn {T} form oid extensions lent = (value : Option T) × IsValueOf form oid extensions value × SpellsOption (λ octets. octets.now) form lent value
 
 abbrev pub HasNoValue : {T : Type 0} → Form T → List ℕ → List Extension → Type 0
 HasNoValue {T} form oid extensions = (found : Option T) → IsValueOf form oid extensions found → ⊥

@@ -1,7 +1,7 @@
 -- Validation of paths, topmost certificate first (RFC 5280 6.1): which fault stands at which place, and what is answered. Names are compared
 -- as they match (7.1), name constraints hold, and policies are followed.
 use Rattle.std.specs.Prelude.{◌≡◌, ◌≢◌, ◌<◌, ◌+◌, ◌⊎◌, ◌↔◌, ℕ, zero, suc, length, Bool, true, false, List, [], ◌∷◌, ◌++◌, Option, Some, None, Contains, Result, Ok, Err}
-use Rattle.std.specs.List.{All}
+use Rattle.std.specs.List.{All, AllZip}
 use Rattle.x509_cert.specs.Certificate.{rfc5280_certificate}
 use Rattle.x509_constraints.specs.Constraints.{IsAllowedBy, IsUsable, names_asked}
 use Rattle.x509_der.specs.Form.{Form, Spells}
@@ -24,7 +24,7 @@ use Rattle.x509_path.specs.Certificates as certificates
 use Rattle.x509_path.specs.Certificates.{Accepting, Certificate, HasPathLen, HasPayload, IsReadable, extensions_of}
 use Rattle.x509_path.specs.Inputs.{Inputs}
 use Rattle.x509_path.specs.Lent.{LendsAnchor}
-use Rattle.x509_path.specs.Path.{IsUnreadable, is_empty, subject_of}
+use Rattle.x509_path.specs.Path.{Faults, HasFaultBehind, IsFaultBy, IsFirst, is_empty, subject_of}
 use Rattle.x509_path.specs.Policies.{AreRefused, AreSettings}
 use Rattle.x509_path.specs.Says.{Say}
 use Rattle.x509_path.specs.declared.anchor.Anchor.{Anchor}
@@ -182,23 +182,16 @@ Breaks accepts inputs standing bytes c MapsAnyPolicy = AreRefused inputs standin
 
 -- the bytes that stand there are those of no certificate, or of one with which that is wrong
 abbrev pub IsFault : Accepting → Inputs → Standing → List ℕ → ValidationReason → Type 0
-IsFault accepts inputs standing bytes reason =
-    (IsUnreadable bytes × (reason ≡ Decode))
-    ⊎ ((c : Certificate) × Spells rfc5280_certificate c bytes × Breaks accepts inputs standing bytes c reason)
+IsFault accepts inputs standing bytes = IsFaultBy Decode (Breaks accepts inputs standing bytes) bytes
 
 -- ---- a path
 
--- The input at that place has that fault, where the path stands under this name and key and behind these certificates. An input that is
--- of no certificate has none below it.
-abbrev pub HasFaultBehind : Accepting → Inputs → Anchor → List Certificate → List (List ℕ) → ℕ → ValidationReason → Type 0
-HasFaultBehind accepts inputs above before [] place reason = ⊥
-HasFaultBehind accepts inputs above before (bytes ∷ path) zero reason =
-    IsFault accepts inputs (record { above = above; before = before; is_last = is_empty path; n = length before + suc (length path) }) bytes reason
-HasFaultBehind accepts inputs above before (bytes ∷ path) (suc place) reason =
-    (c : Certificate) × Spells rfc5280_certificate c bytes × HasFaultBehind accepts inputs (subject_of c) (before ++ c ∷ []) path place reason
+abbrev pub faults_at : Accepting → Inputs → Faults ValidationReason
+faults_at accepts inputs above before bytes path =
+    IsFault accepts inputs (record { above = above; before = before; is_last = is_empty path; n = length before + suc (length path) }) bytes
 
 abbrev pub HasFault : Accepting → Inputs → List (List ℕ) → ℕ → ValidationReason → Type 0
-HasFault accepts inputs path place reason = HasFaultBehind accepts inputs inputs.trust.anchor [] path place reason
+HasFault accepts inputs path place reason = HasFaultBehind (faults_at accepts inputs) inputs.trust.anchor [] path place reason
 
 -- constraints of what is trusted or of the caller can't be used
 abbrev pub AreUnusable : Inputs → Type 0
@@ -219,17 +212,9 @@ own_reasons = Algorithm ∷ Issuer ∷ Moment ∷ Signature ∷ Repeated ∷ Cri
 abbrev pub reasons : List ValidationReason
 reasons = own_reasons ++ RepeatedPolicy ∷ NoPolicy ∷ MapsAnyPolicy ∷ []
 
--- it holds of that reason, and of none that stands earlier in the order
-pub record IsFirst (holds : ValidationReason → Type 0) (reason : ValidationReason) : Type 0 where
-  pub earlier : List ValidationReason
-  pub later : List ValidationReason
-  pub order : Decode ∷ reasons ≡ earlier ++ reason ∷ later
-  pub has : holds reason
-  pub none_earlier : All (λ r. holds r → ⊥) earlier
-
 -- the lowest place that has a fault, and the first of its faults
 pub record IsFirstFault (accepts : Accepting) (inputs : Inputs) (path : List (List ℕ)) (place : ℕ) (reason : ValidationReason) : Type 0 where
-  pub first : IsFirst (HasFault accepts inputs path place) reason
+  pub first : IsFirst (Decode ∷ reasons) (HasFault accepts inputs path place) reason
   pub lowest : (p : ℕ) → p < place → (r : ValidationReason) → HasFault accepts inputs path p r → ⊥
 
 -- the name and the key are those of the last certificate (6.1.6)
@@ -243,10 +228,7 @@ pub record IsOfLast (validated : Validated) (path : List (List ℕ)) : Type 0 wh
 
 -- the inputs are those of the certificates
 abbrev pub AreOf : List Certificate → List (List ℕ) → Type 0
-AreOf [] [] = Unit {0}
-AreOf [] (bytes ∷ path) = ⊥
-AreOf (c ∷ certificates) [] = ⊥
-AreOf (c ∷ certificates) (bytes ∷ path) = Spells rfc5280_certificate c bytes × AreOf certificates path
+AreOf = AllZip (λ c bytes. Spells rfc5280_certificate c bytes)
 
 -- the path is valid under these policies, which are its user-constrained policy set (6.1.5 (g), 6.1.6)
 pub record IsUnder (inputs : Inputs) (path : List (List ℕ)) (found : List Policy) : Type 0 where

@@ -177,7 +177,7 @@ impl<T: Trust> Judge<'_, T> {
     ghost use Rattle.x509_path.specs.Certificates as certificates;
     ghost use Rattle.x509_path.specs.Lent.{HasMany, Lends, StandsAbove, lent_extensions};
     ghost use Rattle.x509_path.specs.Path.{Breaks};
-    ghost use Rattle.x509_path.specs.PathLength.{HasConstraints, Judges, Leaves, standing};
+    ghost use Rattle.x509_path.specs.PathLength.{HasConstraints, Judges, JudgesLent, Leaves, standing};
     ghost use Rattle.x509_path.specs.declared.anchor.Anchor.{Anchor};
     ghost use Rattle.x509_path.specs.declared.fault.PathFault.TheVariants.{Memory};
 
@@ -266,12 +266,8 @@ impl<T: Trust> Judge<'_, T> {
         ensures judged { (c : certificates.Certificate) (above : Anchor)
             → Lends certificate.now.bytes.now c → lent_extensions extensions.now ≡ certificates.extensions_of c
             → StandsAbove (T.is_anchor self.now.trust.now) place.now.above above → (before : List certificates.Certificate)
-            → Leaves before place.now.max_path_length → MatchResult result
-            (λ constraints. (place.now.is_last ≡ false → HasConstraints (certificates.extensions_of c) constraints)
-            × Judges (T.accepts self.now.trust.now) self.now.moment (standing above.name above.key before place.now.is_last) certificate.now.bytes.now index
-            (Ok c))
-            (λ e. Judges (T.accepts self.now.trust.now) self.now.moment (standing above.name above.key before place.now.is_last) certificate.now.bytes.now index
-            (Err e)) }
+            → Leaves before place.now.max_path_length → JudgesLent (T.accepts self.now.trust.now) self.now.moment
+            (standing above.name above.key before place.now.is_last) certificate.now.bytes.now index c result }
         ensures memory { result ≡ Err Memory → T.takes_memory ⊎ (16 < length extensions.now) }
     {
         let constraints = basic_constraints(self.alloc, place.is_last, extensions);
@@ -300,12 +296,8 @@ impl<T: Trust> Judge<'_, T> {
     ) -> Result<Option<BasicConstraints>, PathFault>
         ensures { (c : certificates.Certificate) (above : Anchor) → Lends certificate.now.bytes.now c
             → StandsAbove (T.is_anchor self.now.trust.now) place.now.above above → (before : List certificates.Certificate)
-            → Leaves before place.now.max_path_length → MatchResult result
-            (λ constraints. (place.now.is_last ≡ false → HasConstraints (certificates.extensions_of c) constraints)
-            × Judges (T.accepts self.now.trust.now) self.now.moment (standing above.name above.key before place.now.is_last) certificate.now.bytes.now index
-            (Ok c))
-            (λ e. Judges (T.accepts self.now.trust.now) self.now.moment (standing above.name above.key before place.now.is_last) certificate.now.bytes.now index
-            (Err e)) }
+            → Leaves before place.now.max_path_length → JudgesLent (T.accepts self.now.trust.now) self.now.moment
+            (standing above.name above.key before place.now.is_last) certificate.now.bytes.now index c result }
     {
         match collect(self.alloc, certificate.extensions()) {
             Ok(many) => self.judge_lent(place, certificate, many.as_slice(), index),
@@ -323,12 +315,8 @@ impl<T: Trust> Judge<'_, T> {
     ) -> Result<Option<BasicConstraints>, PathFault>
         ensures judged { (c : certificates.Certificate) (above : Anchor) → Lends certificate.now.bytes.now c
             → StandsAbove (T.is_anchor self.now.trust.now) place.now.above above → (before : List certificates.Certificate)
-            → Leaves before place.now.max_path_length → MatchResult result
-            (λ constraints. (place.now.is_last ≡ false → HasConstraints (certificates.extensions_of c) constraints)
-            × Judges (T.accepts self.now.trust.now) self.now.moment (standing above.name above.key before place.now.is_last) certificate.now.bytes.now index
-            (Ok c))
-            (λ e. Judges (T.accepts self.now.trust.now) self.now.moment (standing above.name above.key before place.now.is_last) certificate.now.bytes.now index
-            (Err e)) }
+            → Leaves before place.now.max_path_length → JudgesLent (T.accepts self.now.trust.now) self.now.moment
+            (standing above.name above.key before place.now.is_last) certificate.now.bytes.now index c result }
         ensures memory { (c : certificates.Certificate) → Lends certificate.now.bytes.now c → result ≡ Err Memory
             → T.takes_memory ⊎ (min (length few.old) 16 < length (certificates.extensions_of c)) }
     {
@@ -350,12 +338,8 @@ impl<T: Trust> Judge<'_, T> {
     ) -> Result<Option<BasicConstraints>, PathFault>
         ensures judged { (c : certificates.Certificate) (above : Anchor) → Lends certificate.now.bytes.now c
             → StandsAbove (T.is_anchor self.now.trust.now) place.now.above above → (before : List certificates.Certificate)
-            → Leaves before place.now.max_path_length → MatchResult result
-            (λ constraints. (place.now.is_last ≡ false → HasConstraints (certificates.extensions_of c) constraints)
-            × Judges (T.accepts self.now.trust.now) self.now.moment (standing above.name above.key before place.now.is_last) certificate.now.bytes.now index
-            (Ok c))
-            (λ e. Judges (T.accepts self.now.trust.now) self.now.moment (standing above.name above.key before place.now.is_last) certificate.now.bytes.now index
-            (Err e)) }
+            → Leaves before place.now.max_path_length → JudgesLent (T.accepts self.now.trust.now) self.now.moment
+            (standing above.name above.key before place.now.is_last) certificate.now.bytes.now index c result }
         ensures memory { (c : certificates.Certificate) → Lends certificate.now.bytes.now c → result ≡ Err Memory
             → T.takes_memory ⊎ (16 < length (certificates.extensions_of c)) }
     {
@@ -372,9 +356,8 @@ impl<T: Trust> Judge<'_, T> {
     ) -> Result<Judged<'a>, PathFault>
         ensures judged { (above : Anchor) → StandsAbove (T.is_anchor self.now.trust.now) place.now.above above → (before : List certificates.Certificate)
             → Leaves before place.now.max_path_length → MatchResult result
-            (λ judged. (c : certificates.Certificate) × Lends judged.certificate.bytes.now c
-            × (place.now.is_last ≡ false → HasConstraints (certificates.extensions_of c) judged.constraints)
-            × Judges (T.accepts self.now.trust.now) self.now.moment (standing above.name above.key before place.now.is_last) bytes.now index (Ok c))
+            (λ judged. (c : certificates.Certificate) × Lends judged.certificate.bytes.now c × JudgesLent (T.accepts self.now.trust.now) self.now.moment
+            (standing above.name above.key before place.now.is_last) bytes.now index c (Ok judged.constraints))
             (λ e. Judges (T.accepts self.now.trust.now) self.now.moment (standing above.name above.key before place.now.is_last) bytes.now index (Err e)) }
         ensures memory { result ≡ Err Memory → T.takes_memory ⊎ HasMany bytes.now }
     {

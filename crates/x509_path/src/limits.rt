@@ -2,14 +2,11 @@
 
 ghost use Rattle.std.specs.Int.RustNames.{bit_and};
 ghost use Rattle.std.specs.Prelude.{◌≡◌, ◌==◌, ◌⊎◌, MatchResult};
+ghost use Rattle.x509_der.specs.declared.error.ErrorKind.{ErrorKind};
 ghost use Rattle.x509_der.specs.declared.error.ErrorKind.TheVariants as errors;
 ghost use Rattle.x509_ext.specs.BasicConstraints.{basic_constraints};
-ghost use Rattle.x509_ext.specs.CertificatePolicies.{certificate_policies};
 ghost use Rattle.x509_ext.specs.Identifiers.{id_ce};
-ghost use Rattle.x509_ext.specs.InhibitAnyPolicy.{inhibit_any_policy};
 ghost use Rattle.x509_ext.specs.LookUp.{members};
-ghost use Rattle.x509_ext.specs.NameConstraints.{name_constraints};
-ghost use Rattle.x509_ext.specs.PolicyConstraints.{policy_constraints};
 ghost use Rattle.x509_path.specs.Trusts as trusts;
 ghost use Rattle.x509_path.specs.Trusts.{AreFlags, AreLimits, AreOwnLimits, HasLimit, IsValueOf, RefusesFlags, RefusesLimits, RefusesOwnLimits, RefusesValue};
 
@@ -19,7 +16,7 @@ use std::alloc::Global;
 use x509_cert::Certificate;
 use x509_cert::anchor::CertPolicyFlags;
 use x509_cert::certificate::TbsCertificate;
-use x509_der::Error;
+use x509_der::{AssociatedOid, Decode, Error};
 use x509_ext::pkix::{
     BasicConstraints, CertificatePolicies, InhibitAnyPolicy, NameConstraints, PolicyConstraints,
 };
@@ -94,13 +91,17 @@ pub(crate) fn flags_or(set: Option<CertPolicyFlags>, flags: AnchorFlags) -> Anch
     }
 }
 
-/// The value of the NameConstraints, if there is one.
-fn own_constraints(alloc: Global, signed: &TbsCertificate) -> Result<Option<NameConstraints>, Error>
-    ensures { MatchResult result (λ found. IsValueOf name_constraints (id_ce 30) (members signed.now.extensions) found)
-        (λ e. (e.kind ≡ errors.Memory) ⊎ RefusesValue name_constraints (id_ce 30) (members signed.now.extensions) e.kind) }
+/// The value of the one extension of the type, if there is one. The type has no refusals of its own.
+fn own_value<T: AssociatedOid + Decode>(
+    alloc: Global,
+    signed: &TbsCertificate,
+) -> Result<Option<T>, Error>
+    requires { (e : ErrorKind) → T.refuses e → ⊥ }
+    ensures { MatchResult result (λ found. IsValueOf T.form T.OID (members signed.now.extensions) found)
+        (λ e. ((e.kind ≡ errors.Memory) × T.wants_memory) ⊎ RefusesValue T.form T.OID (members signed.now.extensions) e.kind) }
 {
-    match signed.get_extension::<NameConstraints>(alloc) {
-        Ok(Some((_, constraints))) => Ok(Some(constraints)),
+    match signed.get_extension::<T>(alloc) {
+        Ok(Some((_, value))) => Ok(Some(value)),
         Ok(None) => Ok(None),
         Err(e) => Err(e),
     }
@@ -118,54 +119,12 @@ fn own_length(alloc: Global, signed: &TbsCertificate) -> Result<Option<u32>, Err
     }
 }
 
-/// The value of the CertificatePolicies, if there is one.
-fn own_policies(
-    alloc: Global,
-    signed: &TbsCertificate,
-) -> Result<Option<CertificatePolicies>, Error>
-    ensures { MatchResult result (λ found. IsValueOf certificate_policies (id_ce 32) (members signed.now.extensions) found)
-        (λ e. (e.kind ≡ errors.Memory) ⊎ RefusesValue certificate_policies (id_ce 32) (members signed.now.extensions) e.kind) }
-{
-    match signed.get_extension::<CertificatePolicies>(alloc) {
-        Ok(Some((_, policies))) => Ok(Some(policies)),
-        Ok(None) => Ok(None),
-        Err(e) => Err(e),
-    }
-}
-
-/// The value of the PolicyConstraints, if there is one.
-fn own_policy_constraints(
-    alloc: Global,
-    signed: &TbsCertificate,
-) -> Result<Option<PolicyConstraints>, Error>
-    ensures { MatchResult result (λ found. IsValueOf policy_constraints (id_ce 36) (members signed.now.extensions) found)
-        (λ e. RefusesValue policy_constraints (id_ce 36) (members signed.now.extensions) e.kind) }
-{
-    match signed.get_extension::<PolicyConstraints>(alloc) {
-        Ok(Some((_, constraints))) => Ok(Some(constraints)),
-        Ok(None) => Ok(None),
-        Err(e) => Err(e),
-    }
-}
-
-/// The value of the InhibitAnyPolicy, if there is one.
-fn own_inhibit(alloc: Global, signed: &TbsCertificate) -> Result<Option<InhibitAnyPolicy>, Error>
-    ensures { MatchResult result (λ found. IsValueOf inhibit_any_policy (id_ce 54) (members signed.now.extensions) found)
-        (λ e. RefusesValue inhibit_any_policy (id_ce 54) (members signed.now.extensions) e.kind) }
-{
-    match signed.get_extension::<InhibitAnyPolicy>(alloc) {
-        Ok(Some((_, inhibit))) => Ok(Some(inhibit)),
-        Ok(None) => Ok(None),
-        Err(e) => Err(e),
-    }
-}
-
 /// The flags about policies that the extensions set.
 fn own_flags(alloc: Global, signed: &TbsCertificate) -> Result<AnchorFlags, Error>
     ensures { MatchResult result (λ flags. AreFlags (members signed.now.extensions) flags) (λ e. RefusesFlags (members signed.now.extensions) e.kind) }
 {
-    let constraints = own_policy_constraints(alloc, signed)?;
-    let inhibit = own_inhibit(alloc, signed)?;
+    let constraints = own_value::<PolicyConstraints>(alloc, signed)?;
+    let inhibit = own_value::<InhibitAnyPolicy>(alloc, signed)?;
     Ok(flags_said(constraints, inhibit))
 }
 
@@ -174,9 +133,9 @@ pub(crate) fn limits_of(alloc: Global, signed: &TbsCertificate) -> Result<Limits
     ensures { MatchResult result (λ limits. AreLimits (members signed.now.extensions) limits)
         (λ e. (e.kind ≡ errors.Memory) ⊎ RefusesLimits (members signed.now.extensions) e.kind) }
 {
-    let constraints = own_constraints(alloc, signed)?;
+    let constraints = own_value::<NameConstraints>(alloc, signed)?;
     let max_path_length = own_length(alloc, signed)?;
-    let policies = own_policies(alloc, signed)?;
+    let policies = own_value::<CertificatePolicies>(alloc, signed)?;
     let flags = own_flags(alloc, signed)?;
     Ok(Limits {
         constraints,

@@ -67,7 +67,7 @@ fn checked_policies(octets: &[u8]) -> Result<Option<&[u8]>, Error>
 
 /// The octets of the NameConstraints, if there is one.
 fn lent_constraints<'a>(extensions: &ExtensionRefs<'a>) -> Result<Option<&'a [u8]>, Error>
-    ensures { MatchResult result (λ lent. trusts.LendsOwn (extensions_left extensions.now) lent)
+    ensures { MatchResult result (λ lent. trusts.LendsOwn name_constraints (id_ce 30) (extensions_left extensions.now) lent)
         (λ e. trusts.HasNoValue name_constraints (id_ce 30) (extensions_left extensions.now)) }
 {
     match extensions.find_extension(NameConstraints::OID) {
@@ -91,7 +91,7 @@ fn own_path_len(alloc: Global, extensions: &ExtensionRefs<'_>) -> Result<Option<
 
 /// The octets of the CertificatePolicies, if there is one.
 fn lent_policies<'a>(extensions: &ExtensionRefs<'a>) -> Result<Option<&'a [u8]>, Error>
-    ensures { MatchResult result (λ lent. trusts.LendsOwnPolicies (extensions_left extensions.now) lent)
+    ensures { MatchResult result (λ lent. trusts.LendsOwn certificate_policies (id_ce 32) (extensions_left extensions.now) lent)
         (λ e. trusts.HasNoValue certificate_policies (id_ce 32) (extensions_left extensions.now)) }
 {
     match extensions.find_extension(CertificatePolicies::OID) {

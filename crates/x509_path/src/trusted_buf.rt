@@ -1,17 +1,14 @@
 //! What is trusted, owned.
 
 ghost use Rattle.std.specs.Prelude.{◌≡◌, ◌⊎◌, ◌↔◌, IsTrue, MatchResult, option_map};
-ghost use Rattle.x509_base.specs.SubjectPublicKeyInfo.{subject_public_key_info};
 ghost use Rattle.x509_der.specs.Form.{Spells};
+ghost use Rattle.x509_der.specs.Writing.{plain};
 ghost use Rattle.x509_der.specs.declared.error.ErrorKind.TheVariants as errors;
 ghost use Rattle.x509_ext.specs.Identifiers.{id_ce};
 ghost use Rattle.x509_ext.specs.LookUp.{members};
-ghost use Rattle.x509_ext.specs.CertificatePolicies.{certificate_policies};
-ghost use Rattle.x509_ext.specs.NameConstraints.{name_constraints};
 ghost use Rattle.x509_ext.specs.SubjectKeyIdentifier.{subject_key_identifier};
-ghost use Rattle.x509_name.specs.Names.{name as name_form};
-ghost use Rattle.x509_path.specs.Inputs.{Trust};
-ghost use Rattle.x509_path.specs.Trusts.{HasItsCertificate, HasKeyId, HoldsConstraints, HoldsPolicies, HoldsTrust, IsCertificateOf, IsOverlong, IsTrustOf, IsTrustOfInfo, RefusesEncoding, RefusesInfo, RefusesItsCertificate, RefusesLimits, RefusesOption, RefusesTrust, RefusesValue, or_else};
+ghost use Rattle.x509_path.specs.Inputs.{SpellsOption, Trust};
+ghost use Rattle.x509_path.specs.Trusts.{HasItsCertificate, HasKeyId, HoldsTrust, IsCertificateOf, IsOverlong, IsTrustOf, IsTrustOfInfo, RefusesEncoding, RefusesInfo, RefusesItsCertificate, RefusesLimits, RefusesOption, RefusesTrust, RefusesValue, or_else};
 
 use crate::anchor_ref::AnchorRef;
 use crate::limits::{flags_or, limits_of, own_limits};
@@ -98,51 +95,30 @@ fn has_its_certificate(
     }
 }
 
-/// The encoding of the name.
-fn encoded_name(alloc: Global, name: &Name) -> Result<Vec<u8>, Error>
-    ensures { MatchResult result (λ octets. Spells name_form name.now octets.items) (λ e. RefusesEncoding name_form name.now e.kind) }
+/// The encoding of the value. All values of the type have one.
+fn encoded<T: Encode + Spelled>(alloc: Global, value: &T) -> Result<Vec<u8>, Error>
+    requires plain { T.writing ≡ plain }
+    requires good { (v : T) → T.premise v }
+    ensures { MatchResult result (λ octets. Spells T.form value.now octets.items) (λ e. RefusesEncoding T.form value.now e.kind) }
 {
-    name.has_spelling();
-    name.to_der(alloc)
+    value.has_spelling();
+    value.to_der(alloc)
 }
 
-/// The encoding of the key.
-fn encoded_key(alloc: Global, key: &SubjectPublicKeyInfo) -> Result<Vec<u8>, Error>
-    ensures { MatchResult result (λ octets. Spells subject_public_key_info key.now octets.items) (λ e. RefusesEncoding subject_public_key_info key.now e.kind) }
-{
-    key.has_spelling();
-    key.to_der(alloc)
-}
-
-/// The encoding of the constraints, if there are any.
-fn encoded_constraints(
+/// The encoding of the value, if there is one.
+fn encoded_option<T: Encode + Spelled>(
     alloc: Global,
-    constraints: &Option<NameConstraints>,
+    value: &Option<T>,
 ) -> Result<Option<Vec<u8>>, Error>
-    ensures { MatchResult result (λ octets. HoldsConstraints (option_map (λ o. o.items) octets) constraints.now)
-        (λ e. RefusesOption name_constraints constraints.now e.kind) }
+    requires plain { T.writing ≡ plain }
+    requires good { (v : T) → T.premise v }
+    ensures { MatchResult result (λ octets. SpellsOption (λ o. o) T.form (option_map (λ o. o.items) octets) value.now)
+        (λ e. RefusesOption T.form value.now e.kind) }
 {
-    let Some(constraints) = constraints else {
+    let Some(value) = value else {
         return Ok(None);
     };
-    constraints.has_spelling();
-    let octets = constraints.to_der(alloc)?;
-    Ok(Some(octets))
-}
-
-/// The encoding of the policies, if there are any.
-fn encoded_policies(
-    alloc: Global,
-    policies: &Option<CertificatePolicies>,
-) -> Result<Option<Vec<u8>>, Error>
-    ensures { MatchResult result (λ octets. HoldsPolicies (option_map (λ o. o.items) octets) policies.now)
-        (λ e. RefusesOption certificate_policies policies.now e.kind) }
-{
-    let Some(policies) = policies else {
-        return Ok(None);
-    };
-    policies.has_spelling();
-    let octets = policies.to_der(alloc)?;
+    let octets = encoded(alloc, value)?;
     Ok(Some(octets))
 }
 
@@ -166,11 +142,11 @@ fn held(
         → MatchResult result (λ trusted. HoldsTrust trusted trust) (λ e. (e.kind ≡ errors.Memory) ⊎ ((e.kind ≡ errors.Overlength) × IsOverlong trust)) }
 {
     Ok(TrustedBuf {
-        name: encoded_name(alloc, name)?,
-        key: encoded_key(alloc, key)?,
-        name_constraints: encoded_constraints(alloc, constraints)?,
+        name: encoded(alloc, name)?,
+        key: encoded(alloc, key)?,
+        name_constraints: encoded_option(alloc, constraints)?,
         max_path_length,
-        policies: encoded_policies(alloc, policies)?,
+        policies: encoded_option(alloc, policies)?,
         policy_flags,
     })
 }
@@ -192,38 +168,11 @@ fn of_signed(alloc: Global, signed: &TbsCertificate) -> Result<TrustedBuf, Error
     )
 }
 
-/// The constraints of the controls, or else those.
-fn constraints_or<'a>(
-    constraints: &'a Option<NameConstraints>,
-    others: &'a Option<NameConstraints>,
-) -> &'a Option<NameConstraints>
-    ensures { result.now ≡ or_else constraints.now others.now }
+/// The value of the controls, or else that one.
+fn value_or<'a, T>(value: &'a Option<T>, other: &'a Option<T>) -> &'a Option<T>
+    ensures { result.now ≡ or_else value.now other.now }
 {
-    if constraints.is_some() {
-        constraints
-    } else {
-        others
-    }
-}
-
-/// The path length of the controls, or else that one.
-fn length_or(length: Option<u32>, other: Option<u32>) -> Option<u32>
-    ensures { result ≡ or_else length other }
-{
-    match length {
-        Some(length) => Some(length),
-        None => other,
-    }
-}
-
-/// The policies of the controls, or else those.
-fn policies_or<'a>(
-    policies: &'a Option<CertificatePolicies>,
-    others: &'a Option<CertificatePolicies>,
-) -> &'a Option<CertificatePolicies>
-    ensures { result.now ≡ or_else policies.now others.now }
-{
-    if policies.is_some() { policies } else { others }
+    if value.is_some() { value } else { other }
 }
 
 /// What a description gives.
@@ -242,9 +191,9 @@ fn of_info(alloc: Global, info: &TrustAnchorInfo) -> Result<TrustedBuf, Error>
         alloc,
         &controls.ta_name,
         &info.pub_key,
-        constraints_or(&controls.name_constr, &own.constraints),
-        length_or(controls.path_len_constraint, own.max_path_length),
-        policies_or(&controls.policy_set, &own.policies),
+        value_or(&controls.name_constr, &own.constraints),
+        *value_or(&controls.path_len_constraint, &own.max_path_length),
+        value_or(&controls.policy_set, &own.policies),
         flags_or(controls.policy_flags, own.flags),
     )
 }

@@ -145,8 +145,7 @@ impl<S: Signatures> Validator<'_, S> {
     ghost use Rattle.x509_path.specs.Certificates as certificates;
     ghost use Rattle.x509_path.specs.Inputs.{Inputs};
     ghost use Rattle.x509_path.specs.Lent.{Lends, LendsAnchor, lent_extensions};
-    ghost use Rattle.x509_path.specs.Says.{Says};
-    ghost use Rattle.x509_path.specs.Steps.{IsLimitOf, IsOwn, JudgesAlone, Knows, Stands, said_by, standing};
+    ghost use Rattle.x509_path.specs.Steps.{IsOwn, JudgesAlone, JudgesParts, Knows, Stands, standing};
     ghost use Rattle.x509_path.specs.Validation.{AreNamesAllowed, Breaks};
     ghost use Rattle.x509_path.specs.declared.anchor.Anchor.{Anchor};
     ghost use Rattle.x509_path.specs.declared.validation_fault.ValidationReason.TheVariants as reasons;
@@ -286,11 +285,8 @@ impl<S: Signatures> Validator<'_, S> {
     ) -> Result<Limits<'a>, ValidationFault>
         ensures { (inputs : Inputs) (above : Anchor) (before : List certificates.Certificate) (n : ℕ) (c : certificates.Certificate)
             → Stands inputs above before self.now.moment stand.now.above stand.now.max_path_length stand.now.sets.now → Lends certificate.now.bytes.now c
-            → lent_extensions extensions.now ≡ certificates.extensions_of c → MatchResult result
-            (λ limits. (stand.now.is_last ≡ false → IsLimitOf c limits.basic_constraints limits.name_constraints)
-            × (Says c (said_by limits.policies)
-            × JudgesAlone (S.accepts self.now.signatures.now) inputs (standing above before stand.now.is_last n) certificate.now.bytes.now index (Ok c)))
-            (λ e. JudgesAlone (S.accepts self.now.signatures.now) inputs (standing above before stand.now.is_last n) certificate.now.bytes.now index (Err e)) }
+            → lent_extensions extensions.now ≡ certificates.extensions_of c
+            → JudgesParts (S.accepts self.now.signatures.now) inputs (standing above before stand.now.is_last n) certificate.now.bytes.now index c result }
     {
         let basic_constraints = basic_constraints(self.alloc, stand.is_last, extensions);
         let name_constraints = name_constraints(self.alloc, stand.is_last, extensions)?;
@@ -325,11 +321,7 @@ impl<S: Signatures> Validator<'_, S> {
     ) -> Result<Limits<'a>, ValidationFault>
         ensures { (inputs : Inputs) (above : Anchor) (before : List certificates.Certificate) (n : ℕ) (c : certificates.Certificate)
             → Stands inputs above before self.now.moment stand.now.above stand.now.max_path_length stand.now.sets.now → Lends certificate.now.bytes.now c
-            → MatchResult result
-            (λ limits. (stand.now.is_last ≡ false → IsLimitOf c limits.basic_constraints limits.name_constraints)
-            × (Says c (said_by limits.policies)
-            × JudgesAlone (S.accepts self.now.signatures.now) inputs (standing above before stand.now.is_last n) certificate.now.bytes.now index (Ok c)))
-            (λ e. JudgesAlone (S.accepts self.now.signatures.now) inputs (standing above before stand.now.is_last n) certificate.now.bytes.now index (Err e)) }
+            → JudgesParts (S.accepts self.now.signatures.now) inputs (standing above before stand.now.is_last n) certificate.now.bytes.now index c result }
     {
         match collect(self.alloc, certificate.extensions()) {
             Ok(many) => self.judge_parts(stand, certificate, many.as_slice(), index),
@@ -347,11 +339,7 @@ impl<S: Signatures> Validator<'_, S> {
     ) -> Result<Limits<'a>, ValidationFault>
         ensures { (inputs : Inputs) (above : Anchor) (before : List certificates.Certificate) (n : ℕ) (c : certificates.Certificate)
             → Stands inputs above before self.now.moment stand.now.above stand.now.max_path_length stand.now.sets.now → Lends certificate.now.bytes.now c
-            → MatchResult result
-            (λ limits. (stand.now.is_last ≡ false → IsLimitOf c limits.basic_constraints limits.name_constraints)
-            × (Says c (said_by limits.policies)
-            × JudgesAlone (S.accepts self.now.signatures.now) inputs (standing above before stand.now.is_last n) certificate.now.bytes.now index (Ok c)))
-            (λ e. JudgesAlone (S.accepts self.now.signatures.now) inputs (standing above before stand.now.is_last n) certificate.now.bytes.now index (Err e)) }
+            → JudgesParts (S.accepts self.now.signatures.now) inputs (standing above before stand.now.is_last n) certificate.now.bytes.now index c result }
     {
         match gather(certificate.extensions(), few) {
             Some(count) => {
@@ -371,11 +359,7 @@ impl<S: Signatures> Validator<'_, S> {
     ) -> Result<Limits<'a>, ValidationFault>
         ensures { (inputs : Inputs) (above : Anchor) (before : List certificates.Certificate) (n : ℕ) (c : certificates.Certificate)
             → Stands inputs above before self.now.moment stand.now.above stand.now.max_path_length stand.now.sets.now → Lends certificate.now.bytes.now c
-            → MatchResult result
-            (λ limits. (stand.now.is_last ≡ false → IsLimitOf c limits.basic_constraints limits.name_constraints)
-            × (Says c (said_by limits.policies)
-            × JudgesAlone (S.accepts self.now.signatures.now) inputs (standing above before stand.now.is_last n) certificate.now.bytes.now index (Ok c)))
-            (λ e. JudgesAlone (S.accepts self.now.signatures.now) inputs (standing above before stand.now.is_last n) certificate.now.bytes.now index (Err e)) }
+            → JudgesParts (S.accepts self.now.signatures.now) inputs (standing above before stand.now.is_last n) certificate.now.bytes.now index c result }
     {
         let mut few = places();
         self.judge_within(stand, certificate, &mut few, index)
@@ -392,9 +376,7 @@ impl<S: Signatures> Validator<'_, S> {
         ensures { (inputs : Inputs) (above : Anchor) (before : List certificates.Certificate) (n : ℕ)
             → Stands inputs above before self.now.moment stand.now.above stand.now.max_path_length stand.now.sets.now → MatchResult result
             (λ judged. (c : certificates.Certificate) × Lends judged.0.bytes.now c
-            × (stand.now.is_last ≡ false → IsLimitOf c judged.1.basic_constraints judged.1.name_constraints)
-            × (Says c (said_by judged.1.policies)
-            × JudgesAlone (S.accepts self.now.signatures.now) inputs (standing above before stand.now.is_last n) bytes.now index (Ok c)))
+            × JudgesParts (S.accepts self.now.signatures.now) inputs (standing above before stand.now.is_last n) bytes.now index c (Ok judged.1))
             (λ e. JudgesAlone (S.accepts self.now.signatures.now) inputs (standing above before stand.now.is_last n) bytes.now index (Err e)) }
     {
         let certificate = match CertificateRef::from_der(bytes) {

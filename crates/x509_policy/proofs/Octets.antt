@@ -1,12 +1,11 @@
 -- Going over policies behind references.
-use Rattle.std.proofs.Common.{◌≡◌, ◌∙◌, ℕ, suc, ◌+◌, ◌<◌, ◌≤◌, ◌||◌, Bool, true, false, List, [], ◌∷◌, map, length, drop, get_or, refl, ap, sym, arith}
+use Rattle.std.proofs.Common.{◌≡◌, ◌∙◌, ℕ, suc, ◌+◌, ◌<◌, ◌≤◌, ◌||◌, Bool, true, false, List, [], ◌∷◌, length, drop, get_or, refl, ap, sym, arith}
 use Rattle.std.proofs.Math.Seq.{drop-cons}
 use Rattle.std.proofs.lemmas.List.{drop_all}
 use Rattle.std.specs.Borrow.{Bor}
 use Rattle.std.specs.Str.{bytes_eq}
-use Rattle.x509_policy.specs.Values.{Policy, has, is_any, is_repeated, maps_any_policy}
-use Rattle.x509_policy.specs.Views.{octets_of, mapping_of}
-use Rattle.x509_policy.specs.declared.values.MappingView.{MappingView}
+use Rattle.x509_policy.specs.Values.{Policy, has, is_repeated}
+use Rattle.x509_policy.specs.Views.{octets_of}
 
 pub has-first : (q : Policy) (ps : List Policy) (p : Policy) → has (q ∷ ps) p ≡ (bytes_eq q p || has ps p)
 unfolding has
@@ -30,10 +29,6 @@ module _ (xs : List (Bor (List ℕ))) (i : ℕ) (d : Bor (List ℕ)) (within : i
   pub repeated_left : is_repeated (octets_of (drop i xs)) ≡ (has (octets_of (drop (i + 1) xs)) (get_or xs i d).now || is_repeated (octets_of (drop (i + 1) xs)))
   repeated_left = ap (λ ys. is_repeated (octets_of ys)) front
 
-pub mapped_left : (ms : List MappingView) (i : ℕ) (d : MappingView) → i < length ms
-    → maps_any_policy (map mapping_of (drop i ms)) ≡ ((is_any (get_or ms i d).issuer_domain_policy.now || is_any (get_or ms i d).subject_domain_policy.now) || maps_any_policy (map mapping_of (drop (i + 1) ms)))
-mapped_left ms i d within = ap (λ ys. maps_any_policy (map mapping_of ys)) (drop-cons ms i d within ∙ ap (λ n. get_or ms i d ∷ drop n ms) (next i))
-
 -- ---- a step of a loop that looks for one
 
 pub found : (all here first rest : Bool) → all ≡ here → here ≡ (first || rest) → first ≡ true → true ≡ all
@@ -55,9 +50,3 @@ past xs i h = drop_all i xs h
 
 pub has_past : (xs : List (Bor (List ℕ))) (i : ℕ) (p : Policy) → length xs ≤ i → has (octets_of (drop i xs)) p ≡ false
 has_past xs i p h = ap (λ ys. has (octets_of ys) p) (past xs i h) ∙ has-none p
-
-pub repeated_past : (xs : List (Bor (List ℕ))) (i : ℕ) → length xs ≤ i → is_repeated (octets_of (drop i xs)) ≡ false
-repeated_past xs i h = ap (λ ys. is_repeated (octets_of ys)) (past xs i h)
-
-pub mapped_past : (ms : List MappingView) (i : ℕ) → length ms ≤ i → maps_any_policy (map mapping_of (drop i ms)) ≡ false
-mapped_past ms i h = ap (λ ys. maps_any_policy (map mapping_of ys)) (past ms i h)

@@ -38,12 +38,6 @@ test-In test ps same p h = has-In p ps (sym (ap (λ t. t p) same) ∙ h)
 In-test : (test : Policy → Bool) (ps : List Policy) → SameSet test ps → (p : Policy) → In p ps → test p ≡ true
 In-test test ps same p h = ap (λ t. t p) same ∙ In-has p ps h
 
-out-test : (test : Policy → Bool) (ps : List Policy) → SameSet test ps → (p : Policy) → (In p ps → ⊥) → test p ≡ false
-out-test test ps same p h = is_false (test p) (λ t. h (test-In test ps same p t))
-
-test-out : (test : Policy → Bool) (ps : List Policy) → SameSet test ps → (p : Policy) → test p ≡ false → In p ps → ⊥
-test-out test ps same p h is = not_both (test p) (In-test test ps same p is) h
-
 -- ---- what a level of pairs says
 
 abbrev Lead : Edge → Entry

@@ -27,25 +27,13 @@ is_identified name good = let lawful : IsForm Never general_name = general_name_
 pub directory : (name : GeneralName) (inside : Name) → directory_name name ≡ Some inside → (general_name.tag name ≡ 0xA4) × (general_name.content name ≡ spelling grammar.name inside) × (general_name.good name → grammar.name.good inside)
 unfolding choice_tag choice_content choice_good
 directory (DirectoryName own) inside is = let same : own ≡ inside = cc in rw same (refl, refl, λ good. good)
-directory (OtherName x) inside is = absurd cc
-directory (Rfc822Name x) inside is = absurd cc
-directory (DnsName x) inside is = absurd cc
-directory (EdiPartyName x) inside is = absurd cc
-directory (UniformResourceIdentifier x) inside is = absurd cc
-directory (IpAddress x) inside is = absurd cc
-directory (RegisteredId x) inside is = absurd cc
+directory _ inside is = absurd cc
 
 -- any other name has another
 pub other : (name : GeneralName) → general_name.tag name ≢ 0xA4 → directory_name name ≡ None
 unfolding choice_tag
 other (DirectoryName x) differs = absurd (differs refl)
-other (OtherName x) differs = refl
-other (Rfc822Name x) differs = refl
-other (DnsName x) differs = refl
-other (EdiPartyName x) differs = refl
-other (UniformResourceIdentifier x) differs = refl
-other (IpAddress x) differs = refl
-other (RegisteredId x) differs = refl
+other _ differs = refl
 
 pub own : (name : GeneralName) → general_name.tag name ≡ 0xA4 → (inside : Name) × (directory_name name ≡ Some inside)
 unfolding choice_tag

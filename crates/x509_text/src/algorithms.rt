@@ -42,7 +42,7 @@ pub(crate) fn write_algorithm(
 }
 
 /// How many bits an octet has from its highest bit that is set.
-fn bits_of_octet(octet: u8) -> u8
+pub fn bits_of_octet(octet: u8) -> u8
     ensures { result ≡ algorithms.bits_of_octet octet }
 {
     match octet {

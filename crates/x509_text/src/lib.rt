@@ -29,7 +29,7 @@ mod timestamps;
 mod usages;
 mod values;
 
-pub use algorithms::key_size;
+pub use algorithms::{bits_of_octet, key_size};
 pub use documents::{anchor_text, certificate_text, crl_text, request_text};
 pub use line::{Depth, Style, write_json_text};
 pub use names::{NAMES, Row, name_of};

@@ -397,6 +397,17 @@ def view(name: str, kind: type[View], *arguments: Any) -> View:
     return found
 
 
+def find(name: str, kind: type[View], *arguments: Any) -> View | None:
+    """What a call fills in; None where it answers that there is nothing."""
+    found = kind()
+    status = status_of(name, *arguments, ctypes.byref(found))
+    if status == ABSENT:
+        return None
+    if status != OK:
+        raise X509Error(name, status)
+    return found
+
+
 def number(name: str, *arguments: Any) -> int:
     """The number that a call fills in."""
     found = ctypes.c_uint32()

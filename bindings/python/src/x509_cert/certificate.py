@@ -48,7 +48,7 @@ class Certificate(Keyed, Signed):
     def __init__(self, data: bytes) -> None:
         self._data = octets(data, "a certificate")
         refuse_pem(self._data, "x509_certificate_view", "load_pem_x509_certificate")
-        self._view = view("x509_certificate_view", CertificateView, self._data)
+        self._view: CertificateView = view("x509_certificate_view", CertificateView, self._data)
 
     def canonical_bytes(self) -> bytes:
         """Its DER with the dates as RFC 5280 4.1.2.5 spells them. Where that isn't how they stood, the signature doesn't hold of these bytes."""

@@ -12,7 +12,7 @@ from . import _cryptography
 from ._cryptography import AnyPublicKey
 from ._extension import ExtensionType
 from ._given import instance, octets, whole, whole_seconds
-from ._library import ABSENT, OK, CrlEntryView, CrlView, SignatureView, Span, X509Error, fill, status_of, view, walk
+from ._library import CrlEntryView, CrlView, SignatureView, Span, fill, find, view, walk
 from ._numbers import moment, serial_element, whole_number
 from ._pem import blocks, refuse_pem
 from ._signed import Signed
@@ -184,27 +184,15 @@ class CertificateRevocationList(Signed):
             element = serial_element(serial_number)
         except ValueError:
             return None
-        if not self._entries:
-            return None
-        found = CrlEntryView()
-        status = status_of("x509_crl_entry_find", self._entries, element, ctypes.byref(found))
-        if status == ABSENT:
-            return None
-        if status != OK:
-            raise X509Error("x509_crl_entry_find", status)
-        return _entry(found, self._entries)
+        found = find("x509_crl_entry_find", CrlEntryView, self._entries, element) if self._entries else None
+        return None if found is None else _entry(found, self._entries)
 
     def issued_entries(self) -> Iterator[tuple[RevokedCertificate, CertificateIssuer | None]]:
         """The entries of an indirect CRL, each with who issued its certificate (RFC 5280 5.3.3): the names of the last entry up to it that has a
         CertificateIssuer, and None where none has it, so that the issuer of the CRL did."""
         at, issuer = ctypes.c_size_t(), Span()
-        while self._entries:
-            found = CrlEntryView()
-            status = status_of("x509_crl_issued_next", self._entries, ctypes.byref(at), ctypes.byref(issuer), ctypes.byref(found))
-            if status == ABSENT:
-                return
-            if status != OK:
-                raise X509Error("x509_crl_issued_next", status)
+        words = (self._entries, ctypes.byref(at), ctypes.byref(issuer))
+        while self._entries and (found := find("x509_crl_issued_next", CrlEntryView, *words)) is not None:
             yield _entry(found, self._entries), CertificateIssuer.from_der(issuer.of(self._entries)) if issuer.is_there() else None
 
     def __iter__(self) -> Iterator[RevokedCertificate]:

@@ -42,6 +42,7 @@ from .other_extensions import (
     PrivateKeyUsagePeriod,
     SubjectDirectoryAttributes,
     TLSFeature,
+    _Names,
 )
 from .policies import CertificatePolicies, InhibitAnyPolicy, PolicyConstraints, PolicyMappings
 
@@ -152,21 +153,10 @@ class ExtendedKeyUsage(ListExtension[ObjectIdentifier]):
         return self.usages
 
 
-class _AlternativeNames(ListExtension[GeneralName]):
-    def __init__(self, general_names: Iterable[GeneralName]) -> None:
-        names = GeneralNames(general_names)
-        self._write(general_names_der(names), names=names)
-
-    def _read(self, data: bytes) -> None:
-        super()._read(data)
-        self.names = GeneralNames.from_der(data)
-
+class _AlternativeNames(_Names):
     def get_values_for_type(self, kind: type[GeneralName]) -> list[object]:
         """What the names of that kind hold."""
         return self.names.get_values_for_type(kind)
-
-    def _members(self) -> Sequence[GeneralName]:
-        return list(self.names)
 
 
 class SubjectAlternativeName(_AlternativeNames):

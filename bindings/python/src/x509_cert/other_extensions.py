@@ -118,18 +118,10 @@ class InvalidityDate(ExtensionType):
         self.invalidity_date_utc = moment(seconds("x509_invalidity_date", data))
 
 
-class CertificateIssuer(ListExtension[GeneralName]):
-    """Who issued the revoked certificate, of an entry of a CRL that speaks of others' too (RFC 5280 5.3.3)."""
-
-    oid = ExtensionOID.CERTIFICATE_ISSUER
-
+class _Names(ListExtension[GeneralName]):
     def __init__(self, general_names: Iterable[GeneralName]) -> None:
         names = GeneralNames(general_names)
         self._write(general_names_der(names), names=names)
-
-    def get_values_for_type(self, kind: type[GeneralName]) -> list[Any]:
-        """What the names of that kind hold."""
-        return self.names.get_values_for_type(kind)
 
     def _read(self, data: bytes) -> None:
         super()._read(data)
@@ -137,6 +129,16 @@ class CertificateIssuer(ListExtension[GeneralName]):
 
     def _members(self) -> Sequence[GeneralName]:
         return list(self.names)
+
+
+class CertificateIssuer(_Names):
+    """Who issued the revoked certificate, of an entry of a CRL that speaks of others' too (RFC 5280 5.3.3)."""
+
+    oid = ExtensionOID.CERTIFICATE_ISSUER
+
+    def get_values_for_type(self, kind: type[GeneralName]) -> list[Any]:
+        """What the names of that kind hold."""
+        return self.names.get_values_for_type(kind)
 
 
 class DirectoryAttribute:

@@ -2,26 +2,10 @@
 
 from __future__ import annotations
 
-import ctypes
 import enum
-from typing import Any, Iterator
+from typing import Iterator
 
-from ._library import (
-    ABSENT,
-    OK,
-    AnchorView,
-    ElementView,
-    PathControlsView,
-    RequestAttributeView,
-    RequestView,
-    SignatureView,
-    Span,
-    X509Error,
-    fill,
-    status_of,
-    view,
-    walk,
-)
+from ._library import AnchorView, ElementView, PathControlsView, RequestAttributeView, RequestView, SignatureView, Span, fill, find, view, walk
 from ._extension import _part
 from ._given import octets
 from ._keyed import Keyed
@@ -82,7 +66,7 @@ class CertificateSigningRequest(Keyed, Signed):
     def __init__(self, data: bytes) -> None:
         self._data = octets(data, "a CSR")
         refuse_pem(self._data, "x509_request_view", "load_pem_x509_csr")
-        self._view = view("x509_request_view", RequestView, self._data)
+        self._view: RequestView = view("x509_request_view", RequestView, self._data)
 
     @property
     def subject(self) -> Name:
@@ -102,13 +86,8 @@ class CertificateSigningRequest(Keyed, Signed):
 
     def _attribute(self, oid: bytes) -> bytes | None:
         """The values of the attribute of a type, a whole SET; an X509Error where there are two or more such attributes."""
-        found = RequestAttributeView()
-        status = status_of("x509_request_attribute_find", self._data, oid, ctypes.byref(found))
-        if status == ABSENT:
-            return None
-        if status != OK:
-            raise X509Error("x509_request_attribute_find", status)
-        return found.values.of(self._data)
+        found = find("x509_request_attribute_find", RequestAttributeView, self._data, oid)
+        return None if found is None else found.values.of(self._data)
 
     def get_attribute_for_oid(self, oid: ObjectIdentifier) -> Attribute:
         """The attribute of a type with its first value. An AttributeNotFound where there is none or it has no value, an X509Error where there are two or
@@ -125,13 +104,8 @@ class CertificateSigningRequest(Keyed, Signed):
     def extensions(self) -> Extensions:
         """The extensions that it asks for (RFC 2985 5.4.2). An X509Error where several attributes ask for some, or the one hasn't one value, a list of
         extensions."""
-        found = Span()
-        status = status_of("x509_request_extensions", self._data, ctypes.byref(found))
-        if status == ABSENT:
-            return Extensions([])
-        if status != OK:
-            raise X509Error("x509_request_extensions", status)
-        return Extensions.from_der(found.of(self._data))
+        found = find("x509_request_extensions", Span, self._data)
+        return Extensions([]) if found is None else Extensions.from_der(found.of(self._data))
 
     @property
     def tbs_certrequest_bytes(self) -> bytes:
@@ -216,7 +190,7 @@ class TrustAnchor(Keyed):
     def __init__(self, data: bytes) -> None:
         self._data = octets(data, "a trust anchor")
         refuse_pem(self._data, "x509_anchor_view", "of a certificate load_pem_x509_certificate")
-        self._view = view("x509_anchor_view", AnchorView, self._data)
+        self._view: AnchorView = view("x509_anchor_view", AnchorView, self._data)
 
     def public_bytes(self, encoding: object = Encoding.DER) -> bytes:
         """The DER that it was read from. In PEM it is that of a certificate, and there is none of the other kinds."""

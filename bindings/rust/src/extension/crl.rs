@@ -3,6 +3,7 @@ use super::ExtensionValue;
 use crate::error::Error;
 use crate::ffi;
 use crate::integer::Integer;
+use crate::numbered::numbered;
 use crate::oid::{self, ObjectIdentifier};
 
 /// The number of a CRL (RFC 5280 5.2.3).
@@ -33,47 +34,30 @@ impl<'a> ExtensionValue<'a> for BaseCrlNumber<'a> {
     }
 }
 
-/// Why a certificate was revoked (RFC 5280 5.3.1).
-#[derive(Clone, Copy, Debug, PartialEq, Eq, PartialOrd, Ord, Hash)]
-pub enum CrlReason {
-    /// No reason is said.
-    Unspecified = 0,
-    /// The key is known to another.
-    KeyCompromise = 1,
-    /// The key of the authority is known to another.
-    CaCompromise = 2,
-    /// The name of the subject, or what else was certified, changed.
-    AffiliationChanged = 3,
-    /// Another certificate stands in its place.
-    Superseded = 4,
-    /// It isn't needed any more.
-    CessationOfOperation = 5,
-    /// It is held for some time.
-    CertificateHold = 6,
-    /// It isn't held any more, as a delta CRL says.
-    RemoveFromCrl = 8,
-    /// A privilege was taken from the subject.
-    PrivilegeWithdrawn = 9,
-    /// The key of the authority of attributes is known to another.
-    AaCompromise = 10,
-}
-
-impl CrlReason {
-    /// The reason with a number.
-    pub(crate) fn found(number: u32) -> Result<CrlReason, Error> {
-        Ok(match number {
-            0 => CrlReason::Unspecified,
-            1 => CrlReason::KeyCompromise,
-            2 => CrlReason::CaCompromise,
-            3 => CrlReason::AffiliationChanged,
-            4 => CrlReason::Superseded,
-            5 => CrlReason::CessationOfOperation,
-            6 => CrlReason::CertificateHold,
-            8 => CrlReason::RemoveFromCrl,
-            9 => CrlReason::PrivilegeWithdrawn,
-            10 => CrlReason::AaCompromise,
-            _ => return Err(Error::Unexpected),
-        })
+numbered! {
+    /// Why a certificate was revoked (RFC 5280 5.3.1).
+    #[derive(Clone, Copy, Debug, PartialEq, Eq, PartialOrd, Ord, Hash)]
+    pub enum CrlReason {
+        /// No reason is said.
+        Unspecified = 0,
+        /// The key is known to another.
+        KeyCompromise = 1,
+        /// The key of the authority is known to another.
+        CaCompromise = 2,
+        /// The name of the subject, or what else was certified, changed.
+        AffiliationChanged = 3,
+        /// Another certificate stands in its place.
+        Superseded = 4,
+        /// It isn't needed any more.
+        CessationOfOperation = 5,
+        /// It is held for some time.
+        CertificateHold = 6,
+        /// It isn't held any more, as a delta CRL says.
+        RemoveFromCrl = 8,
+        /// A privilege was taken from the subject.
+        PrivilegeWithdrawn = 9,
+        /// The key of the authority of attributes is known to another.
+        AaCompromise = 10,
     }
 }
 

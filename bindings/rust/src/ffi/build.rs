@@ -1,5 +1,5 @@
 //! The calls of `include/x509.h` that build, and safe ways to make them.
-use super::{fill, fill_or, Fill};
+use super::{fill, Fill};
 use crate::error::{Error, ProfilePart};
 use std::ffi::c_int;
 
@@ -71,41 +71,12 @@ pub(crate) fn attribute(
     text: &str,
     is_bounded: bool,
 ) -> Result<Vec<u8>, Error> {
-    fill_or(Error::StringType, |out, room, written| {
-        // SAFETY: the header lets the call read both slices, which are lent for it, and write to `out[0..room)` and `written`, which `fill` owns.
-        unsafe {
-            x509_attribute_encode(
-                oid.as_ptr(),
-                oid.len(),
-                string_type,
-                text.as_ptr(),
-                text.len(),
-                u32::from(is_bounded),
-                out,
-                room,
-                written,
-            )
-        }
-    })
+    filled!(Error::StringType, x509_attribute_encode: [oid], (string_type), [text], (u32::from(is_bounded)))
 }
 
 /// The DER of an extension.
 pub(crate) fn extension(oid: &[u8], critical: bool, value: &[u8]) -> Result<Vec<u8>, Error> {
-    fill(|out, room, written| {
-        // SAFETY: the header lets the call read both slices, which are lent for it, and write to `out[0..room)` and `written`, which `fill` owns.
-        unsafe {
-            x509_extension_encode(
-                oid.as_ptr(),
-                oid.len(),
-                u32::from(critical),
-                value.as_ptr(),
-                value.len(),
-                out,
-                room,
-                written,
-            )
-        }
-    })
+    filled!(x509_extension_encode: [oid], (u32::from(critical)), [value])
 }
 
 /// The DER of an entry of a CRL; the serial number is a whole INTEGER.
@@ -114,21 +85,7 @@ pub(crate) fn crl_entry(
     date: u64,
     extensions: &[u8],
 ) -> Result<Vec<u8>, Error> {
-    fill(|out, room, written| {
-        // SAFETY: the header lets the call read both slices, which are lent for it, and write to `out[0..room)` and `written`, which `fill` owns.
-        unsafe {
-            x509_crl_entry_encode(
-                serial_number.as_ptr(),
-                serial_number.len(),
-                date,
-                extensions.as_ptr(),
-                extensions.len(),
-                out,
-                room,
-                written,
-            )
-        }
-    })
+    filled!(x509_crl_entry_encode: [serial_number], (date), [extensions])
 }
 
 /// The bytes to be signed of a CSR.
@@ -138,25 +95,7 @@ pub(crate) fn request(
     attributes: &[u8],
     extensions: &[u8],
 ) -> Result<Vec<u8>, Error> {
-    fill(|out, room, written| {
-        // SAFETY: the header lets the call read the four slices, which are lent for it, and write to `out[0..room)` and `written`, which `fill`
-        // owns.
-        unsafe {
-            x509_build_request(
-                subject.as_ptr(),
-                subject.len(),
-                key.as_ptr(),
-                key.len(),
-                attributes.as_ptr(),
-                attributes.len(),
-                extensions.as_ptr(),
-                extensions.len(),
-                out,
-                room,
-                written,
-            )
-        }
-    })
+    filled!(x509_build_request: [subject], [key], [attributes], [extensions])
 }
 
 /// What a certificate is built of. The serial number is a whole INTEGER.
@@ -173,30 +112,8 @@ pub(crate) struct CertificateFields<'a> {
 
 /// The bytes to be signed of a certificate.
 pub(crate) fn certificate(it: &CertificateFields<'_>) -> Result<Vec<u8>, Error> {
-    fill(|out, room, written| {
-        // SAFETY: the header lets the call read the six slices, which are lent for it, and write to `out[0..room)` and `written`, which `fill` owns.
-        unsafe {
-            x509_build_certificate(
-                it.serial_number.as_ptr(),
-                it.serial_number.len(),
-                it.algorithm.as_ptr(),
-                it.algorithm.len(),
-                it.issuer.as_ptr(),
-                it.issuer.len(),
-                it.not_before,
-                it.not_after,
-                it.subject.as_ptr(),
-                it.subject.len(),
-                it.key.as_ptr(),
-                it.key.len(),
-                it.extensions.as_ptr(),
-                it.extensions.len(),
-                out,
-                room,
-                written,
-            )
-        }
-    })
+    filled!(x509_build_certificate: [it.serial_number], [it.algorithm], [it.issuer], (it.not_before), (it.not_after), [it.subject], [it.key],
+        [it.extensions])
 }
 
 /// The bytes to be signed of a root.
@@ -204,33 +121,8 @@ pub(crate) fn root(
     it: &CertificateFields<'_>,
     signs_ocsp_responses: bool,
 ) -> Result<Vec<u8>, Error> {
-    fill_or(
-        Error::NotInProfile(ProfilePart::Subject),
-        |out, room, written| {
-            // SAFETY: the header lets the call read the five slices, which are lent for it, and write to `out[0..room)` and `written`, which `fill`
-            // owns.
-            unsafe {
-                x509_build_root(
-                    it.serial_number.as_ptr(),
-                    it.serial_number.len(),
-                    it.algorithm.as_ptr(),
-                    it.algorithm.len(),
-                    it.not_before,
-                    it.not_after,
-                    it.subject.as_ptr(),
-                    it.subject.len(),
-                    it.key.as_ptr(),
-                    it.key.len(),
-                    u32::from(signs_ocsp_responses),
-                    it.extensions.as_ptr(),
-                    it.extensions.len(),
-                    out,
-                    room,
-                    written,
-                )
-            }
-        },
-    )
+    filled!(Error::NotInProfile(ProfilePart::Subject), x509_build_root: [it.serial_number], [it.algorithm], (it.not_before), (it.not_after),
+        [it.subject], [it.key], (u32::from(signs_ocsp_responses)), [it.extensions])
 }
 
 /// What is asked of an authority under another one.
@@ -246,37 +138,9 @@ pub(crate) fn subordinate(
     issuer_key: &[u8],
     of: &Subordinate,
 ) -> Result<Vec<u8>, Error> {
-    fill(|out, room, written| {
-        // SAFETY: the header lets the call read the seven slices, which are lent for it, and write to `out[0..room)` and `written`, which `fill`
-        // owns.
-        unsafe {
-            x509_build_subordinate(
-                it.serial_number.as_ptr(),
-                it.serial_number.len(),
-                it.algorithm.as_ptr(),
-                it.algorithm.len(),
-                it.issuer.as_ptr(),
-                it.issuer.len(),
-                issuer_key.as_ptr(),
-                issuer_key.len(),
-                it.not_before,
-                it.not_after,
-                it.subject.as_ptr(),
-                it.subject.len(),
-                it.key.as_ptr(),
-                it.key.len(),
-                u32::from(of.path_len.is_some()),
-                u32::from(of.path_len.unwrap_or(0)),
-                u32::from(of.signs_ocsp_responses),
-                u32::from(of.client_auth),
-                it.extensions.as_ptr(),
-                it.extensions.len(),
-                out,
-                room,
-                written,
-            )
-        }
-    })
+    filled!(x509_build_subordinate: [it.serial_number], [it.algorithm], [it.issuer], [issuer_key], (it.not_before), (it.not_after), [it.subject],
+        [it.key], (u32::from(of.path_len.is_some())), (u32::from(of.path_len.unwrap_or(0))), (u32::from(of.signs_ocsp_responses)),
+        (u32::from(of.client_auth)), [it.extensions])
 }
 
 /// What is asked of a TLS server.
@@ -293,37 +157,9 @@ pub(crate) fn subscriber(
     issuer_key: &[u8],
     of: &Subscriber,
 ) -> Result<Vec<u8>, Error> {
-    fill(|out, room, written| {
-        // SAFETY: the header lets the call read the seven slices, which are lent for it, and write to `out[0..room)` and `written`, which `fill`
-        // owns.
-        unsafe {
-            x509_build_subscriber(
-                it.serial_number.as_ptr(),
-                it.serial_number.len(),
-                it.algorithm.as_ptr(),
-                it.algorithm.len(),
-                it.issuer.as_ptr(),
-                it.issuer.len(),
-                issuer_key.as_ptr(),
-                issuer_key.len(),
-                it.not_before,
-                it.not_after,
-                it.subject.as_ptr(),
-                it.subject.len(),
-                it.key.as_ptr(),
-                it.key.len(),
-                u32::from(of.client_auth),
-                u32::from(of.key_encipherment),
-                u32::from(of.key_agreement),
-                u32::from(of.data_encipherment),
-                it.extensions.as_ptr(),
-                it.extensions.len(),
-                out,
-                room,
-                written,
-            )
-        }
-    })
+    filled!(x509_build_subscriber: [it.serial_number], [it.algorithm], [it.issuer], [issuer_key], (it.not_before), (it.not_after), [it.subject],
+        [it.key], (u32::from(of.client_auth)), (u32::from(of.key_encipherment)), (u32::from(of.key_agreement)),
+        (u32::from(of.data_encipherment)), [it.extensions])
 }
 
 /// The bytes to be signed of a device with these names, a whole GeneralNames or none, under an issuer whose key is a whole SubjectPublicKeyInfo.
@@ -332,38 +168,8 @@ pub(crate) fn device(
     issuer_key: &[u8],
     names: &[u8],
 ) -> Result<Vec<u8>, Error> {
-    fill_or(
-        Error::NotInProfile(ProfilePart::Names),
-        |out, room, written| {
-            // SAFETY: the header lets the call read the eight slices, which are lent for it, and write to `out[0..room)` and `written`, which `fill`
-            // owns.
-            unsafe {
-                x509_build_device(
-                    it.serial_number.as_ptr(),
-                    it.serial_number.len(),
-                    it.algorithm.as_ptr(),
-                    it.algorithm.len(),
-                    it.issuer.as_ptr(),
-                    it.issuer.len(),
-                    issuer_key.as_ptr(),
-                    issuer_key.len(),
-                    it.not_before,
-                    it.not_after,
-                    it.subject.as_ptr(),
-                    it.subject.len(),
-                    it.key.as_ptr(),
-                    it.key.len(),
-                    names.as_ptr(),
-                    names.len(),
-                    it.extensions.as_ptr(),
-                    it.extensions.len(),
-                    out,
-                    room,
-                    written,
-                )
-            }
-        },
-    )
+    filled!(Error::NotInProfile(ProfilePart::Names), x509_build_device: [it.serial_number], [it.algorithm], [it.issuer], [issuer_key],
+        (it.not_before), (it.not_after), [it.subject], [it.key], [names], [it.extensions])
 }
 
 /// What a CRL is built of. The issuer is a whole certificate, and the number the octets of a number.
@@ -379,49 +185,11 @@ pub(crate) struct CrlFields<'a> {
 
 /// The bytes to be signed of a CRL.
 pub(crate) fn crl(it: &CrlFields<'_>) -> Result<Vec<u8>, Error> {
-    fill_or(Error::Repeated, |out, room, written| {
-        // SAFETY: the header lets the call read the five slices, which are lent for it, and write to `out[0..room)` and `written`, which `fill`
-        // owns.
-        unsafe {
-            x509_build_crl(
-                it.issuer.as_ptr(),
-                it.issuer.len(),
-                it.algorithm.as_ptr(),
-                it.algorithm.len(),
-                it.number.as_ptr(),
-                it.number.len(),
-                it.this_update,
-                u32::from(it.next_update.is_some()),
-                it.next_update.unwrap_or(0),
-                it.entries.as_ptr(),
-                it.entries.len(),
-                it.extensions.as_ptr(),
-                it.extensions.len(),
-                out,
-                room,
-                written,
-            )
-        }
-    })
+    filled!(Error::Repeated, x509_build_crl: [it.issuer], [it.algorithm], [it.number], (it.this_update), (u32::from(it.next_update.is_some())),
+        (it.next_update.unwrap_or(0)), [it.entries], [it.extensions])
 }
 
 /// The DER of a signed part, an algorithm and the octets of a signature.
 pub(crate) fn assemble(part: &[u8], algorithm: &[u8], signature: &[u8]) -> Result<Vec<u8>, Error> {
-    fill_or(Error::Algorithm, |out, room, written| {
-        // SAFETY: the header lets the call read the three slices, which are lent for it, and write to `out[0..room)` and `written`, which `fill`
-        // owns.
-        unsafe {
-            x509_assemble(
-                part.as_ptr(),
-                part.len(),
-                algorithm.as_ptr(),
-                algorithm.len(),
-                signature.as_ptr(),
-                signature.len(),
-                out,
-                room,
-                written,
-            )
-        }
-    })
+    filled!(Error::Algorithm, x509_assemble: [part], [algorithm], [signature])
 }

@@ -4,7 +4,7 @@ ghost use Rattle.std.specs.Prelude.{◌≡◌, ◌≤◌, length};
 ghost use Rattle.x509_c_calls.specs.Calls.{Reads};
 ghost use Rattle.x509_c_calls.specs.RsaKeys.{IsRsaKey};
 ghost use Rattle.x509_der.specs.Element.{limit};
-ghost use Rattle.x509_text.specs.Algorithms.{bit_count, bits_of_octet};
+ghost use Rattle.x509_text.specs.Algorithms.{bit_count};
 
 use crate::payloads::step_content;
 use crate::{Span, Status, enter};
@@ -13,6 +13,7 @@ use x509_der::{
     Content, Decode, Error, Grammar, PutPart, Room, Spelled, Tag, TryClone, end, read_field,
 };
 use x509_prim::Uint;
+use x509_text::bits_of_octet;
 
 /// An RSA public key (RFC 8017 A.1.1).
 ///
@@ -91,30 +92,13 @@ pub struct RsaKeyView {
     pub modulus_bits: u32,
 }
 
-/// How many bits an octet has from its highest bit that is set.
-fn octet_bits(octet: u8) -> u32
-    ensures { result ≡ bits_of_octet octet }
-{
-    match octet {
-        0 => 0,
-        1 => 1,
-        2..=3 => 2,
-        4..=7 => 3,
-        8..=15 => 4,
-        16..=31 => 5,
-        32..=63 => 6,
-        64..=127 => 7,
-        _ => 8,
-    }
-}
-
 /// How many bits a number has, by its octets without leading zeros; the number 0 has none.
 fn number_bits(octets: &[u8]) -> u32
     requires { length octets.now ≤ limit }
     ensures { result ≡ bit_count octets.now }
 {
     match octets {
-        [first, rest @ ..] => octet_bits(*first) + 8 * rest.len() as u32,
+        [first, rest @ ..] => u32::from(bits_of_octet(*first)) + 8 * rest.len() as u32,
         [] => 0,
     }
 }

@@ -5,6 +5,7 @@ ghost use Rattle.x509_der.specs.declared.error.ErrorKind.TheVariants.{Memory};
 ghost use Rattle.x509_lint.specs.Anchor as grammar;
 
 use crate::extensions::{extensions_of, payload};
+use crate::passes;
 use crate::read::{ExtensionsRead, extensions_read};
 use crate::repeats::{are_identifiers_distinct, policies_of};
 use std::alloc::Global;
@@ -58,40 +59,28 @@ fn has_other_subject(certificate: &Option<CertificateInner<Raw>>, name: &Name) -
     ensures { IsTrue result ↔ grammar.Differs (λ c. c.tbs_certificate.subject) name.now certificate.now }
 {
     equal_names_are_one_value();
-    match certificate {
-        Some(certificate) => *certificate.tbs_certificate().subject() != *name,
-        None => false,
-    }
+    passes!(certificate, certificate => *certificate.tbs_certificate().subject() != *name)
 }
 
 /// Whether the subject of the certificate in the controls isn't their name.
 fn do_subjects_differ(controls: &Option<CertPathControls<Raw>>) -> bool
     ensures { IsTrue result ↔ grammar.SubjectDiffers controls.now }
 {
-    match controls {
-        Some(controls) => has_other_subject(&controls.certificate, &controls.ta_name),
-        None => false,
-    }
+    passes!(controls, controls => has_other_subject(&controls.certificate, &controls.ta_name))
 }
 
 fn has_other_key(certificate: &Option<CertificateInner<Raw>>, key: &SubjectPublicKeyInfo) -> bool
     ensures { IsTrue result ↔ grammar.Differs (λ c. c.tbs_certificate.subject_public_key_info) key.now certificate.now }
 {
     equality_of_keys_is_exact();
-    match certificate {
-        Some(certificate) => *certificate.tbs_certificate().subject_public_key_info() != *key,
-        None => false,
-    }
+    passes!(certificate, certificate => *certificate.tbs_certificate().subject_public_key_info() != *key)
 }
 
 /// Whether the key of the certificate in the controls isn't this one.
 fn do_keys_differ(key: &SubjectPublicKeyInfo, controls: &Option<CertPathControls<Raw>>) -> bool
     ensures { IsTrue result ↔ grammar.KeyDiffers key.now controls.now }
 {
-    match controls {
-        Some(controls) => has_other_key(&controls.certificate, key),
-        None => false,
-    }
+    passes!(controls, controls => has_other_key(&controls.certificate, key))
 }
 
 /// The extensions of the certificate in the controls; none where there is no certificate.

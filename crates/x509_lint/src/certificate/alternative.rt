@@ -1,7 +1,7 @@
 //! The rules on the alternative names of the subject and the issuer of a certificate.
 
 ghost use Rattle.std.specs.List.{list_any};
-ghost use Rattle.std.specs.Prelude.{◌≡◌, not};
+ghost use Rattle.std.specs.Prelude.{◌≡◌};
 ghost use Rattle.x509_lint.specs.Alternative as grammar;
 ghost use Rattle.x509_lint.specs.Words.{passes};
 
@@ -11,6 +11,7 @@ use crate::names::{
     has_empty_name, has_no_address, has_no_dns_name, has_no_mailbox, has_no_uri, has_relative_uri,
     has_uri_at_other_host, is_rfc822_name,
 };
+use crate::passes;
 use crate::rule::{AlternativeRule, Rule};
 use crate::texts::has_email;
 use crate::values::AlternativeValues;
@@ -26,20 +27,11 @@ fn has_mailbox(names: &[GeneralName]) -> bool
     names.iter().any(|name| is_rfc822_name(name))
 }
 
-fn is_without_mailbox(names: &Option<SubjectAltName>) -> bool
-    ensures { result ≡ passes (λ s. not (list_any grammar.is_rfc822_name s.0)) names.now }
-{
-    match names {
-        Some(names) => !has_mailbox(names.0.as_slice()),
-        None => false,
-    }
-}
-
 /// Whether there is no SAN, or the one that there is is read and has no rfc822Name.
 fn lacks_mailbox(extensions: &[Extension], names: &Option<SubjectAltName>) -> bool
     ensures { result ≡ grammar.lacks_mailbox extensions.now names.now }
 {
-    !has::<SubjectAltName>(extensions) || is_without_mailbox(names)
+    !has::<SubjectAltName>(extensions) || passes!(names, names => !has_mailbox(names.0.as_slice()))
 }
 
 impl Group<CertificateInner<Raw>, AlternativeValues> for AlternativeRule {
@@ -55,70 +47,38 @@ impl Group<CertificateInner<Raw>, AlternativeValues> for AlternativeRule {
             AlternativeRule::SubjectEmailNotInAltName => has_email(
                 certificate.tbs_certificate().subject(),
             ) && lacks_mailbox(extensions_of(certificate), &values.subject_alt_name),
-            AlternativeRule::SubjectAltNameEmpty => match &values.subject_alt_name {
-                Some(names) => names.0.as_slice().is_empty(),
-                None => false,
-            },
-            AlternativeRule::SubjectAltNameEmptyName => match &values.subject_alt_name {
-                Some(names) => has_empty_name(names.0.as_slice()),
-                None => false,
-            },
-            AlternativeRule::SubjectAltNameDnsNameInvalid => match &values.subject_alt_name {
-                Some(names) => has_no_dns_name(names.0.as_slice()),
-                None => false,
-            },
-            AlternativeRule::SubjectAltNameAddressLength => match &values.subject_alt_name {
-                Some(names) => has_no_address(names.0.as_slice()),
-                None => false,
-            },
-            AlternativeRule::SubjectAltNameMailboxInvalid => match &values.subject_alt_name {
-                Some(names) => has_no_mailbox(names.0.as_slice()),
-                None => false,
-            },
-            AlternativeRule::SubjectAltNameUriRelative => match &values.subject_alt_name {
-                Some(names) => has_relative_uri(names.0.as_slice()),
-                None => false,
-            },
-            AlternativeRule::SubjectAltNameUriInvalid => match &values.subject_alt_name {
-                Some(names) => has_no_uri(names.0.as_slice()),
-                None => false,
-            },
-            AlternativeRule::SubjectAltNameUriHostInvalid => match &values.subject_alt_name {
-                Some(names) => has_uri_at_other_host(names.0.as_slice()),
-                None => false,
-            },
-            AlternativeRule::IssuerAltNameEmpty => match &values.issuer_alt_name {
-                Some(names) => names.0.as_slice().is_empty(),
-                None => false,
-            },
-            AlternativeRule::IssuerAltNameEmptyName => match &values.issuer_alt_name {
-                Some(names) => has_empty_name(names.0.as_slice()),
-                None => false,
-            },
-            AlternativeRule::IssuerAltNameDnsNameInvalid => match &values.issuer_alt_name {
-                Some(names) => has_no_dns_name(names.0.as_slice()),
-                None => false,
-            },
-            AlternativeRule::IssuerAltNameAddressLength => match &values.issuer_alt_name {
-                Some(names) => has_no_address(names.0.as_slice()),
-                None => false,
-            },
-            AlternativeRule::IssuerAltNameMailboxInvalid => match &values.issuer_alt_name {
-                Some(names) => has_no_mailbox(names.0.as_slice()),
-                None => false,
-            },
-            AlternativeRule::IssuerAltNameUriRelative => match &values.issuer_alt_name {
-                Some(names) => has_relative_uri(names.0.as_slice()),
-                None => false,
-            },
-            AlternativeRule::IssuerAltNameUriInvalid => match &values.issuer_alt_name {
-                Some(names) => has_no_uri(names.0.as_slice()),
-                None => false,
-            },
-            AlternativeRule::IssuerAltNameUriHostInvalid => match &values.issuer_alt_name {
-                Some(names) => has_uri_at_other_host(names.0.as_slice()),
-                None => false,
-            },
+            AlternativeRule::SubjectAltNameEmpty =>
+                passes!(&values.subject_alt_name, names => names.0.as_slice().is_empty()),
+            AlternativeRule::SubjectAltNameEmptyName =>
+                passes!(&values.subject_alt_name, names => has_empty_name(names.0.as_slice())),
+            AlternativeRule::SubjectAltNameDnsNameInvalid =>
+                passes!(&values.subject_alt_name, names => has_no_dns_name(names.0.as_slice())),
+            AlternativeRule::SubjectAltNameAddressLength =>
+                passes!(&values.subject_alt_name, names => has_no_address(names.0.as_slice())),
+            AlternativeRule::SubjectAltNameMailboxInvalid =>
+                passes!(&values.subject_alt_name, names => has_no_mailbox(names.0.as_slice())),
+            AlternativeRule::SubjectAltNameUriRelative =>
+                passes!(&values.subject_alt_name, names => has_relative_uri(names.0.as_slice())),
+            AlternativeRule::SubjectAltNameUriInvalid =>
+                passes!(&values.subject_alt_name, names => has_no_uri(names.0.as_slice())),
+            AlternativeRule::SubjectAltNameUriHostInvalid =>
+                passes!(&values.subject_alt_name, names => has_uri_at_other_host(names.0.as_slice())),
+            AlternativeRule::IssuerAltNameEmpty =>
+                passes!(&values.issuer_alt_name, names => names.0.as_slice().is_empty()),
+            AlternativeRule::IssuerAltNameEmptyName =>
+                passes!(&values.issuer_alt_name, names => has_empty_name(names.0.as_slice())),
+            AlternativeRule::IssuerAltNameDnsNameInvalid =>
+                passes!(&values.issuer_alt_name, names => has_no_dns_name(names.0.as_slice())),
+            AlternativeRule::IssuerAltNameAddressLength =>
+                passes!(&values.issuer_alt_name, names => has_no_address(names.0.as_slice())),
+            AlternativeRule::IssuerAltNameMailboxInvalid =>
+                passes!(&values.issuer_alt_name, names => has_no_mailbox(names.0.as_slice())),
+            AlternativeRule::IssuerAltNameUriRelative =>
+                passes!(&values.issuer_alt_name, names => has_relative_uri(names.0.as_slice())),
+            AlternativeRule::IssuerAltNameUriInvalid =>
+                passes!(&values.issuer_alt_name, names => has_no_uri(names.0.as_slice())),
+            AlternativeRule::IssuerAltNameUriHostInvalid =>
+                passes!(&values.issuer_alt_name, names => has_uri_at_other_host(names.0.as_slice())),
         }
     }
 

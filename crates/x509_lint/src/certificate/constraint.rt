@@ -3,11 +3,12 @@
 ghost use Rattle.std.specs.List.{list_any};
 ghost use Rattle.std.specs.Prelude.{◌≡◌, ◌==◌, ◌&&◌, is_some, not};
 ghost use Rattle.x509_lint.specs.Constraint as grammar;
-ghost use Rattle.x509_lint.specs.Words.{is_empty, passes};
+ghost use Rattle.x509_lint.specs.Words.{passes};
 
 use crate::extensions::is_empty_sequence;
 use crate::group::Group;
 use crate::names::{BaseFault, is_faulty_base};
+use crate::passes;
 use crate::rule::{ConstraintRule, Rule};
 use crate::values::ConstraintValues;
 use x509_base::Raw;
@@ -18,10 +19,7 @@ use x509_ext::pkix::constraints::name::{GeneralSubtree, GeneralSubtrees};
 fn have_minimum(subtrees: &Option<GeneralSubtrees>) -> bool
     ensures { result ≡ passes (λ subtrees. list_any (λ s. not (s.minimum == 0)) subtrees) subtrees.now }
 {
-    match subtrees {
-        Some(subtrees) => has_minimum(subtrees.as_slice()),
-        None => false,
-    }
+    passes!(subtrees, subtrees => has_minimum(subtrees.as_slice()))
 }
 
 fn has_minimum(subtrees: &[GeneralSubtree]) -> bool
@@ -33,10 +31,7 @@ fn has_minimum(subtrees: &[GeneralSubtree]) -> bool
 fn have_maximum(subtrees: &Option<GeneralSubtrees>) -> bool
     ensures { result ≡ passes (λ subtrees. list_any (λ s. is_some s.maximum) subtrees) subtrees.now }
 {
-    match subtrees {
-        Some(subtrees) => has_maximum(subtrees.as_slice()),
-        None => false,
-    }
+    passes!(subtrees, subtrees => has_maximum(subtrees.as_slice()))
 }
 
 fn has_maximum(subtrees: &[GeneralSubtree]) -> bool
@@ -81,10 +76,7 @@ fn has_fault(fault: BaseFault, subtrees: &[GeneralSubtree]) -> bool
 fn have_fault(fault: BaseFault, subtrees: &Option<GeneralSubtrees>) -> bool
     ensures { result ≡ passes (λ subtrees. list_any (λ s. grammar.has_fault fault s.base) subtrees) subtrees.now }
 {
-    match subtrees {
-        Some(subtrees) => has_fault(fault, subtrees.as_slice()),
-        None => false,
-    }
+    passes!(subtrees, subtrees => has_fault(fault, subtrees.as_slice()))
 }
 
 /// Whether the base of a subtree has the fault.
@@ -128,10 +120,7 @@ impl Group<CertificateInner<Raw>, ConstraintValues> for ConstraintRule {
     ghost as_rule = { λ rule. Constraint rule };
 
     fn is_broken(&self, _certificate: &CertificateInner<Raw>, values: &ConstraintValues) -> bool {
-        match &values.name_constraints {
-            Some(constraints) => breaks_name_constraints(*self, constraints),
-            None => false,
-        }
+        passes!(&values.name_constraints, constraints => breaks_name_constraints(*self, constraints))
     }
 
     fn to_rule(&self) -> Rule {

@@ -7,6 +7,7 @@ ghost use Rattle.x509_lint.specs.Words.{is_empty, passes};
 
 use crate::extensions::{has, has_critical, is_empty_sequence};
 use crate::group::Group;
+use crate::passes;
 use crate::rule::{KeyRule, Rule};
 use crate::values::KeyValues;
 use x509_base::Raw;
@@ -26,22 +27,10 @@ fn is_self_issued(certificate: &CertificateInner<Raw>) -> bool
     part.subject() == part.issuer()
 }
 
-fn lacks_key_identifier(identifier: &Option<AuthorityKeyIdentifier>) -> bool
-    ensures { result ≡ passes (λ a. not (is_some a.key_identifier)) identifier.now }
-{
-    match identifier {
-        Some(identifier) => !identifier.key_identifier.is_some(),
-        None => false,
-    }
-}
-
 fn has_empty_issuer(identifier: &Option<AuthorityKeyIdentifier>) -> bool
     ensures { result ≡ passes (λ a. passes is_empty a.authority_cert_issuer) identifier.now }
 {
-    match identifier {
-        Some(identifier) => is_empty_sequence(&identifier.authority_cert_issuer),
-        None => false,
-    }
+    passes!(identifier, identifier => is_empty_sequence(&identifier.authority_cert_issuer))
 }
 
 fn has_half_issuer(identifier: &Option<AuthorityKeyIdentifier>) -> bool
@@ -55,24 +44,6 @@ fn has_half_issuer(identifier: &Option<AuthorityKeyIdentifier>) -> bool
     (has_issuer && !has_serial) || (has_serial && !has_issuer)
 }
 
-fn has_no_purpose(usage: &Option<ExtendedKeyUsage>) -> bool
-    ensures { result ≡ passes (λ u. is_empty u.0) usage.now }
-{
-    match usage {
-        Some(usage) => usage.0.as_slice().is_empty(),
-        None => false,
-    }
-}
-
-fn has_any_purpose(usage: &Option<ExtendedKeyUsage>) -> bool
-    ensures { result ≡ passes (λ u. list_any (λ purpose. bytes_eq purpose grammar.any_extended_key_usage) u.0) usage.now }
-{
-    match usage {
-        Some(usage) => is_any_among(usage.0.as_slice()),
-        None => false,
-    }
-}
-
 fn is_any_among(purposes: &[ObjectIdentifier]) -> bool
     ensures { result ≡ list_any (λ purpose. bytes_eq purpose grammar.any_extended_key_usage) purposes.now }
 {
@@ -84,10 +55,7 @@ fn is_any_among(purposes: &[ObjectIdentifier]) -> bool
 fn has_no_date(period: &Option<PrivateKeyUsagePeriod>) -> bool
     ensures { result ≡ passes (λ p. not (is_some p.not_before) && not (is_some p.not_after)) period.now }
 {
-    match period {
-        Some(period) => !period.not_before.is_some() && !period.not_after.is_some(),
-        None => false,
-    }
+    passes!(period, period => !period.not_before.is_some() && !period.not_after.is_some())
 }
 
 impl Group<CertificateInner<Raw>, KeyValues> for KeyRule {
@@ -103,16 +71,17 @@ impl Group<CertificateInner<Raw>, KeyValues> for KeyRule {
         match self {
             KeyRule::AuthorityKeyIdentifierAbsent => !has::<AuthorityKeyIdentifier>(extensions)
                 && !is_self_issued(certificate),
-            KeyRule::AuthorityKeyIdentifierWithoutKey => lacks_key_identifier(
-                &values.authority_key_identifier,
-            ),
+            KeyRule::AuthorityKeyIdentifierWithoutKey =>
+                passes!(&values.authority_key_identifier, identifier => !identifier.key_identifier.is_some()),
             KeyRule::AuthorityCertIssuerEmpty => has_empty_issuer(&values.authority_key_identifier),
             KeyRule::AuthorityCertIssuerAndSerialApart => has_half_issuer(
                 &values.authority_key_identifier,
             ),
-            KeyRule::ExtendedKeyUsageEmpty => has_no_purpose(&values.extended_key_usage),
-            KeyRule::AnyExtendedKeyUsageCritical => has_any_purpose(&values.extended_key_usage)
-                && has_critical::<ExtendedKeyUsage>(extensions),
+            KeyRule::ExtendedKeyUsageEmpty =>
+                passes!(&values.extended_key_usage, usage => usage.0.as_slice().is_empty()),
+            KeyRule::AnyExtendedKeyUsageCritical =>
+                passes!(&values.extended_key_usage, usage => is_any_among(usage.0.as_slice()))
+                    && has_critical::<ExtendedKeyUsage>(extensions),
             KeyRule::PrivateKeyUsagePeriodEmpty => has_no_date(&values.private_key_usage_period),
         }
     }

@@ -5,6 +5,7 @@ ghost use Rattle.std.specs.Prelude.{◌≡◌};
 ghost use Rattle.x509_lint.specs.Point as grammar;
 
 use crate::group::Group;
+use crate::passes;
 use crate::places::{
     CA_ISSUERS, CA_REPOSITORY, PointFault, are_partial, has_fault, has_incomplete_search,
     has_place_without_host, has_point_of, lacks_uri,
@@ -39,30 +40,19 @@ impl Group<CertificateInner<Raw>, PointValues> for PointRule {
     fn is_broken(&self, certificate: &CertificateInner<Raw>, values: &PointValues) -> bool {
         match self {
             PointRule::SubjectDirectoryAttributesEmpty =>
-                match &values.subject_directory_attributes {
-                    Some(list) => list.0.as_slice().is_empty(),
-                    None => false,
-                },
-            PointRule::CrlDistributionPointsEmpty => match &values.crl_distribution_points {
-                Some(list) => list.0.as_slice().is_empty(),
-                None => false,
-            },
-            PointRule::DistributionPointEmpty => match &values.crl_distribution_points {
-                Some(list) => has_empty_point(list.0.as_slice()),
-                None => false,
-            },
-            PointRule::DistributionPointRelative => match &values.crl_distribution_points {
-                Some(list) => has_fault(PointFault::Relative, list.0.as_slice()),
-                None => false,
-            },
+                passes!(&values.subject_directory_attributes, list => list.0.as_slice().is_empty()),
+            PointRule::CrlDistributionPointsEmpty =>
+                passes!(&values.crl_distribution_points, list => list.0.as_slice().is_empty()),
+            PointRule::DistributionPointEmpty =>
+                passes!(&values.crl_distribution_points, list => has_empty_point(list.0.as_slice())),
+            PointRule::DistributionPointRelative =>
+                passes!(&values.crl_distribution_points, list => has_fault(PointFault::Relative, list.0.as_slice())),
             PointRule::DistributionPointRelativeToSeveral => match &values.crl_distribution_points {
                 Some(list) => has_fault(PointFault::RelativeToSeveral, list.0.as_slice()),
                 None => false,
             },
-            PointRule::DistributionPointWithoutUri => match &values.crl_distribution_points {
-                Some(list) => has_fault(PointFault::NoUri, list.0.as_slice()),
-                None => false,
-            },
+            PointRule::DistributionPointWithoutUri =>
+                passes!(&values.crl_distribution_points, list => has_fault(PointFault::NoUri, list.0.as_slice())),
             PointRule::DistributionPointIssuerInvalid => match &values.crl_distribution_points {
                 Some(list) => has_fault(PointFault::OtherIssuer, list.0.as_slice()),
                 None => false,
@@ -74,10 +64,8 @@ impl Group<CertificateInner<Raw>, PointValues> for PointRule {
                 ),
                 None => false,
             },
-            PointRule::DistributionPointsPartial => match &values.crl_distribution_points {
-                Some(list) => are_partial(list.0.as_slice()),
-                None => false,
-            },
+            PointRule::DistributionPointsPartial =>
+                passes!(&values.crl_distribution_points, list => are_partial(list.0.as_slice())),
             PointRule::DistributionPointLdapIncomplete => match &values.crl_distribution_points {
                 Some(list) => has_fault(PointFault::LdapIncomplete, list.0.as_slice()),
                 None => false,
@@ -86,30 +74,18 @@ impl Group<CertificateInner<Raw>, PointValues> for PointRule {
                 Some(list) => has_fault(PointFault::LdapWithoutHost, list.0.as_slice()),
                 None => false,
             },
-            PointRule::FreshestCrlEmpty => match &values.freshest_crl {
-                Some(list) => list.0.as_slice().is_empty(),
-                None => false,
-            },
-            PointRule::FreshestCrlPointEmpty => match &values.freshest_crl {
-                Some(list) => has_empty_point(list.0.as_slice()),
-                None => false,
-            },
-            PointRule::FreshestCrlPointRelative => match &values.freshest_crl {
-                Some(list) => has_fault(PointFault::Relative, list.0.as_slice()),
-                None => false,
-            },
-            PointRule::FreshestCrlPointRelativeToSeveral => match &values.freshest_crl {
-                Some(list) => has_fault(PointFault::RelativeToSeveral, list.0.as_slice()),
-                None => false,
-            },
-            PointRule::FreshestCrlPointWithoutUri => match &values.freshest_crl {
-                Some(list) => has_fault(PointFault::NoUri, list.0.as_slice()),
-                None => false,
-            },
-            PointRule::FreshestCrlPointIssuerInvalid => match &values.freshest_crl {
-                Some(list) => has_fault(PointFault::OtherIssuer, list.0.as_slice()),
-                None => false,
-            },
+            PointRule::FreshestCrlEmpty =>
+                passes!(&values.freshest_crl, list => list.0.as_slice().is_empty()),
+            PointRule::FreshestCrlPointEmpty =>
+                passes!(&values.freshest_crl, list => has_empty_point(list.0.as_slice())),
+            PointRule::FreshestCrlPointRelative =>
+                passes!(&values.freshest_crl, list => has_fault(PointFault::Relative, list.0.as_slice())),
+            PointRule::FreshestCrlPointRelativeToSeveral =>
+                passes!(&values.freshest_crl, list => has_fault(PointFault::RelativeToSeveral, list.0.as_slice())),
+            PointRule::FreshestCrlPointWithoutUri =>
+                passes!(&values.freshest_crl, list => has_fault(PointFault::NoUri, list.0.as_slice())),
+            PointRule::FreshestCrlPointIssuerInvalid =>
+                passes!(&values.freshest_crl, list => has_fault(PointFault::OtherIssuer, list.0.as_slice())),
             PointRule::FreshestCrlPointOwnIssuer => match &values.freshest_crl {
                 Some(list) => has_point_of(
                     certificate.tbs_certificate().issuer(),
@@ -117,42 +93,24 @@ impl Group<CertificateInner<Raw>, PointValues> for PointRule {
                 ),
                 None => false,
             },
-            PointRule::FreshestCrlPointsPartial => match &values.freshest_crl {
-                Some(list) => are_partial(list.0.as_slice()),
-                None => false,
-            },
-            PointRule::FreshestCrlPointLdapIncomplete => match &values.freshest_crl {
-                Some(list) => has_fault(PointFault::LdapIncomplete, list.0.as_slice()),
-                None => false,
-            },
-            PointRule::FreshestCrlPointLdapWithoutHost => match &values.freshest_crl {
-                Some(list) => has_fault(PointFault::LdapWithoutHost, list.0.as_slice()),
-                None => false,
-            },
-            PointRule::AuthorityInfoAccessEmpty => match &values.authority_info_access {
-                Some(list) => list.0.as_slice().is_empty(),
-                None => false,
-            },
-            PointRule::CaIssuersWithoutUri => match &values.authority_info_access {
-                Some(list) => lacks_uri(CA_ISSUERS, list.0.as_slice()),
-                None => false,
-            },
-            PointRule::CaIssuersLdapIncomplete => match &values.authority_info_access {
-                Some(list) => has_incomplete_search(CA_ISSUERS, list.0.as_slice()),
-                None => false,
-            },
-            PointRule::CaIssuersLdapWithoutHost => match &values.authority_info_access {
-                Some(list) => has_place_without_host(CA_ISSUERS, list.0.as_slice()),
-                None => false,
-            },
-            PointRule::SubjectInfoAccessEmpty => match &values.subject_info_access {
-                Some(list) => list.0.as_slice().is_empty(),
-                None => false,
-            },
-            PointRule::CaRepositoryWithoutUri => match &values.subject_info_access {
-                Some(list) => lacks_uri(CA_REPOSITORY, list.0.as_slice()),
-                None => false,
-            },
+            PointRule::FreshestCrlPointsPartial =>
+                passes!(&values.freshest_crl, list => are_partial(list.0.as_slice())),
+            PointRule::FreshestCrlPointLdapIncomplete =>
+                passes!(&values.freshest_crl, list => has_fault(PointFault::LdapIncomplete, list.0.as_slice())),
+            PointRule::FreshestCrlPointLdapWithoutHost =>
+                passes!(&values.freshest_crl, list => has_fault(PointFault::LdapWithoutHost, list.0.as_slice())),
+            PointRule::AuthorityInfoAccessEmpty =>
+                passes!(&values.authority_info_access, list => list.0.as_slice().is_empty()),
+            PointRule::CaIssuersWithoutUri =>
+                passes!(&values.authority_info_access, list => lacks_uri(CA_ISSUERS, list.0.as_slice())),
+            PointRule::CaIssuersLdapIncomplete =>
+                passes!(&values.authority_info_access, list => has_incomplete_search(CA_ISSUERS, list.0.as_slice())),
+            PointRule::CaIssuersLdapWithoutHost =>
+                passes!(&values.authority_info_access, list => has_place_without_host(CA_ISSUERS, list.0.as_slice())),
+            PointRule::SubjectInfoAccessEmpty =>
+                passes!(&values.subject_info_access, list => list.0.as_slice().is_empty()),
+            PointRule::CaRepositoryWithoutUri =>
+                passes!(&values.subject_info_access, list => lacks_uri(CA_REPOSITORY, list.0.as_slice())),
         }
     }
 

@@ -8,6 +8,7 @@ ghost use Rattle.x509_lint.specs.Words.{is_empty, passes};
 use crate::extensions::{extensions_of, has, is_empty_sequence};
 use crate::group::Group;
 use crate::notices::USER_NOTICE;
+use crate::passes;
 use crate::rule::{PolicyRule, Rule};
 use crate::values::PolicyValues;
 use x509_base::Raw;
@@ -82,10 +83,7 @@ fn is_other_policy(policy: &PolicyInformation) -> bool
     if policy.policy_identifier != ANY_POLICY {
         return false;
     }
-    match &policy.policy_qualifiers {
-        Some(qualifiers) => are_other_qualifiers(qualifiers.as_slice()),
-        None => false,
-    }
+    passes!(&policy.policy_qualifiers, qualifiers => are_other_qualifiers(qualifiers.as_slice()))
 }
 
 fn has_other_qualifier(policies: &[PolicyInformation]) -> bool
@@ -104,19 +102,13 @@ impl Group<CertificateInner<Raw>, PolicyValues> for PolicyRule {
 
     fn is_broken(&self, certificate: &CertificateInner<Raw>, values: &PolicyValues) -> bool {
         match self {
-            PolicyRule::CertificatePoliciesEmpty => match &values.certificate_policies {
-                Some(policies) => policies.0.as_slice().is_empty(),
-                None => false,
-            },
+            PolicyRule::CertificatePoliciesEmpty =>
+                passes!(&values.certificate_policies, policies => policies.0.as_slice().is_empty()),
             PolicyRule::CertificatePolicyRepeated => !values.are_policies_distinct,
-            PolicyRule::PolicyQualifiersEmpty => match &values.certificate_policies {
-                Some(policies) => has_empty_qualifiers(policies.0.as_slice()),
-                None => false,
-            },
-            PolicyRule::AnyPolicyQualifierInvalid => match &values.certificate_policies {
-                Some(policies) => has_other_qualifier(policies.0.as_slice()),
-                None => false,
-            },
+            PolicyRule::PolicyQualifiersEmpty =>
+                passes!(&values.certificate_policies, policies => has_empty_qualifiers(policies.0.as_slice())),
+            PolicyRule::AnyPolicyQualifierInvalid =>
+                passes!(&values.certificate_policies, policies => has_other_qualifier(policies.0.as_slice())),
             PolicyRule::ExplicitTextTooLong => values.has_long_text,
             PolicyRule::ExplicitTextEmpty => values.has_empty_text,
             PolicyRule::ExplicitTextType => values.has_old_text,
@@ -124,14 +116,10 @@ impl Group<CertificateInner<Raw>, PolicyValues> for PolicyRule {
             PolicyRule::ExplicitTextControl => values.has_control,
             PolicyRule::NoticeReferencePresent => values.has_reference,
             PolicyRule::ExplicitTextNotNormalized => values.has_unnormalized,
-            PolicyRule::PolicyMappingsEmpty => match &values.policy_mappings {
-                Some(mappings) => mappings.0.as_slice().is_empty(),
-                None => false,
-            },
-            PolicyRule::PolicyMappingAnyPolicy => match &values.policy_mappings {
-                Some(mappings) => has_any_policy(mappings.0.as_slice()),
-                None => false,
-            },
+            PolicyRule::PolicyMappingsEmpty =>
+                passes!(&values.policy_mappings, mappings => mappings.0.as_slice().is_empty()),
+            PolicyRule::PolicyMappingAnyPolicy =>
+                passes!(&values.policy_mappings, mappings => has_any_policy(mappings.0.as_slice())),
             PolicyRule::PolicyMappingNotAsserted => are_policies_known(certificate, values)
                 && values.has_unasserted_mapping,
             PolicyRule::PolicyConstraintsEmpty => has_no_number(&values.policy_constraints),

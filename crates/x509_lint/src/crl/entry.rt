@@ -1,12 +1,13 @@
 //! The rules on the extensions of a CRL's entries.
 
-ghost use Rattle.std.specs.Prelude.{◌≡◌, not};
+ghost use Rattle.std.specs.Prelude.{◌≡◌};
 ghost use Rattle.x509_lint.specs.CrlEntry as grammar;
 ghost use Rattle.x509_lint.specs.Words.{passes};
 
 use crate::entries::{EntryFault, has_fault};
 use crate::extensions::has;
 use crate::group::Group;
+use crate::passes;
 use crate::rule::{CrlEntryRule, Rule};
 use crate::values::CrlValues;
 use x509_base::Raw;
@@ -14,20 +15,11 @@ use x509_cert::crl::CertificateList;
 use x509_ext::pkix::{BaseCrlNumber, IssuingDistributionPoint};
 use x509_ext::{Extension, members};
 
-fn is_without_indirect(point: &Option<IssuingDistributionPoint>) -> bool
-    ensures { result ≡ passes (λ p. not p.indirect_crl) point.now }
-{
-    match point {
-        Some(point) => !point.indirect_crl,
-        None => false,
-    }
-}
-
 /// Whether there is no issuing distribution point, or the one that there is is read and doesn't set indirectCRL.
 fn is_direct(extensions: &[Extension], point: &Option<IssuingDistributionPoint>) -> bool
     ensures { result ≡ grammar.is_direct extensions.now point.now }
 {
-    !has::<IssuingDistributionPoint>(extensions) || is_without_indirect(point)
+    !has::<IssuingDistributionPoint>(extensions) || passes!(point, point => !point.indirect_crl)
 }
 
 impl Group<CertificateList<Raw>, CrlValues> for CrlEntryRule {

@@ -6,6 +6,7 @@ ghost use Rattle.x509_lint.specs.Words.{passes};
 
 use crate::extensions::{has, has_critical, has_uncritical};
 use crate::group::Group;
+use crate::passes;
 use crate::places::{CA_ISSUERS, PointFault, has_fault, has_other_method, lacks_uri};
 use crate::rule::{CrlExtensionRule, Rule};
 use crate::values::CrlValues;
@@ -20,19 +21,7 @@ use x509_ext::pkix::{
 fn lacks_key_identifier(identifier: &Option<AuthorityKeyIdentifier>) -> bool
     ensures { result ≡ passes (λ a. not (is_some a.key_identifier)) identifier.now }
 {
-    match identifier {
-        Some(identifier) => !identifier.key_identifier.is_some(),
-        None => false,
-    }
-}
-
-fn is_too_long(number: &Option<CrlNumber>) -> bool
-    ensures { result ≡ passes grammar.is_long_number number.now }
-{
-    match number {
-        Some(number) => number.0.as_bytes().len() > 20,
-        None => false,
-    }
+    passes!(identifier, identifier => !identifier.key_identifier.is_some())
 }
 
 /// Whether each field is absent or has its default.
@@ -64,10 +53,7 @@ fn has_several_kinds(point: &Option<IssuingDistributionPoint>) -> bool
 fn has_attribute_certs(point: &Option<IssuingDistributionPoint>) -> bool
     ensures { result ≡ passes (λ p. p.only_contains_attribute_certs) point.now }
 {
-    match point {
-        Some(point) => point.only_contains_attribute_certs,
-        None => false,
-    }
+    passes!(point, point => point.only_contains_attribute_certs)
 }
 
 impl Group<CertificateList<Raw>, CrlValues> for CrlExtensionRule {
@@ -93,7 +79,8 @@ impl Group<CertificateList<Raw>, CrlValues> for CrlExtensionRule {
             CrlExtensionRule::IssuerAltNameCritical => has_critical::<IssuerAltName>(extensions),
             CrlExtensionRule::CrlNumberAbsent => !has::<CrlNumber>(extensions),
             CrlExtensionRule::CrlNumberCritical => has_critical::<CrlNumber>(extensions),
-            CrlExtensionRule::CrlNumberTooLong => is_too_long(&values.crl_number),
+            CrlExtensionRule::CrlNumberTooLong =>
+                passes!(&values.crl_number, number => number.0.as_bytes().len() > 20),
             CrlExtensionRule::DeltaCrlIndicatorNotCritical => has_uncritical::<BaseCrlNumber>(
                 extensions,
             ),
@@ -112,22 +99,15 @@ impl Group<CertificateList<Raw>, CrlValues> for CrlExtensionRule {
             CrlExtensionRule::FreshestCrlCritical => has_critical::<FreshestCrl>(extensions),
             CrlExtensionRule::FreshestCrlInDelta => has::<FreshestCrl>(extensions)
                 && has::<BaseCrlNumber>(extensions),
-            CrlExtensionRule::FreshestCrlReasonsOrIssuer => match &values.freshest_crl {
-                Some(list) => has_fault(PointFault::ReasonsOrIssuer, list.0.as_slice()),
-                None => false,
-            },
+            CrlExtensionRule::FreshestCrlReasonsOrIssuer =>
+                passes!(&values.freshest_crl, list => has_fault(PointFault::ReasonsOrIssuer, list.0.as_slice())),
             CrlExtensionRule::AuthorityInfoAccessCritical => has_critical::<
                 AuthorityInfoAccessSyntax,
             >(extensions),
             CrlExtensionRule::AuthorityInfoAccessOtherMethod =>
-                match &values.authority_info_access {
-                    Some(list) => has_other_method(CA_ISSUERS, list.0.as_slice()),
-                    None => false,
-                },
-            CrlExtensionRule::CaIssuersWithoutUri => match &values.authority_info_access {
-                Some(list) => lacks_uri(CA_ISSUERS, list.0.as_slice()),
-                None => false,
-            },
+                passes!(&values.authority_info_access, list => has_other_method(CA_ISSUERS, list.0.as_slice())),
+            CrlExtensionRule::CaIssuersWithoutUri =>
+                passes!(&values.authority_info_access, list => lacks_uri(CA_ISSUERS, list.0.as_slice())),
         }
     }
 

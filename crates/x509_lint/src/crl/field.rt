@@ -11,6 +11,7 @@ use crate::extensions::{has, is_empty_sequence};
 use crate::facts::CrlFacts;
 use crate::group::Group;
 use crate::names::{has_empty_rdn, has_no_country, is_empty_name};
+use crate::passes;
 use crate::rule::{CrlFieldRule, Rule};
 use crate::texts::{TextFault, has_faulty_text};
 use crate::times::{is_before, is_early_general};
@@ -80,19 +81,13 @@ fn have_early_general_date(entries: &[RevokedCert<Raw>]) -> bool
 fn is_next_early_general(next: Option<Time>) -> bool
     ensures { result ≡ passes is_early_general next }
 {
-    match next {
-        Some(next) => is_early_general(next),
-        None => false,
-    }
+    passes!(next, next => is_early_general(next))
 }
 
 fn is_next_before(next: Option<Time>, this: Time) -> bool
     ensures { result ≡ passes (λ next. is_before next this) next }
 {
-    match next {
-        Some(next) => is_before(next, this),
-        None => false,
-    }
+    passes!(next, next => is_before(next, this))
 }
 
 impl Group<CertificateList<Raw>, CrlFacts> for CrlFieldRule {

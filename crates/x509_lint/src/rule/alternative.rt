@@ -4,6 +4,7 @@ ghost use Rattle.x509_lint.specs.Alternative.{alternative_wording};
 ghost use Rattle.x509_lint.specs.Wording.{Says};
 
 use crate::entry::{Entry, must};
+use crate::told;
 
 /// Rules on the alternative names of the subject and the issuer (RFC 5280 4.2.1.6, 4.2.1.7).
 #[derive(Clone, Copy, Debug, PartialEq, Eq)]
@@ -85,92 +86,24 @@ impl AlternativeRule {
     pub fn entry(self) -> Entry
         ensures { Says result (alternative_wording self) }
     {
-        match self {
-            AlternativeRule::SubjectEmailNotInAltName => must(
-                "subject_email_not_in_alt_name",
-                "4.1.2.6",
-                "tbsCertificate.extensions.subjectAltName",
-            ),
-            AlternativeRule::SubjectAltNameEmpty => must(
-                "subject_alt_name_empty",
-                "4.2.1.6",
-                "tbsCertificate.extensions.subjectAltName",
-            ),
-            AlternativeRule::SubjectAltNameEmptyName => must(
-                "subject_alt_name_empty_name",
-                "4.2.1.6",
-                "tbsCertificate.extensions.subjectAltName",
-            ),
-            AlternativeRule::SubjectAltNameDnsNameInvalid => must(
-                "subject_alt_name_dns_name_invalid",
-                "4.2.1.6",
-                "tbsCertificate.extensions.subjectAltName",
-            ),
-            AlternativeRule::SubjectAltNameAddressLength => must(
-                "subject_alt_name_address_length",
-                "4.2.1.6",
-                "tbsCertificate.extensions.subjectAltName",
-            ),
-            AlternativeRule::SubjectAltNameMailboxInvalid => must(
-                "subject_alt_name_mailbox_invalid",
-                "4.2.1.6",
-                "tbsCertificate.extensions.subjectAltName",
-            ),
-            AlternativeRule::SubjectAltNameUriRelative => must(
-                "subject_alt_name_uri_relative",
-                "4.2.1.6",
-                "tbsCertificate.extensions.subjectAltName",
-            ),
-            AlternativeRule::SubjectAltNameUriInvalid => must(
-                "subject_alt_name_uri_invalid",
-                "4.2.1.6",
-                "tbsCertificate.extensions.subjectAltName",
-            ),
-            AlternativeRule::SubjectAltNameUriHostInvalid => must(
-                "subject_alt_name_uri_host_invalid",
-                "4.2.1.6",
-                "tbsCertificate.extensions.subjectAltName",
-            ),
-            AlternativeRule::IssuerAltNameEmpty => must(
-                "issuer_alt_name_empty",
-                "4.2.1.7",
-                "tbsCertificate.extensions.issuerAltName",
-            ),
-            AlternativeRule::IssuerAltNameEmptyName => must(
-                "issuer_alt_name_empty_name",
-                "4.2.1.7",
-                "tbsCertificate.extensions.issuerAltName",
-            ),
-            AlternativeRule::IssuerAltNameDnsNameInvalid => must(
-                "issuer_alt_name_dns_name_invalid",
-                "4.2.1.7",
-                "tbsCertificate.extensions.issuerAltName",
-            ),
-            AlternativeRule::IssuerAltNameAddressLength => must(
-                "issuer_alt_name_address_length",
-                "4.2.1.7",
-                "tbsCertificate.extensions.issuerAltName",
-            ),
-            AlternativeRule::IssuerAltNameMailboxInvalid => must(
-                "issuer_alt_name_mailbox_invalid",
-                "4.2.1.7",
-                "tbsCertificate.extensions.issuerAltName",
-            ),
-            AlternativeRule::IssuerAltNameUriRelative => must(
-                "issuer_alt_name_uri_relative",
-                "4.2.1.7",
-                "tbsCertificate.extensions.issuerAltName",
-            ),
-            AlternativeRule::IssuerAltNameUriInvalid => must(
-                "issuer_alt_name_uri_invalid",
-                "4.2.1.7",
-                "tbsCertificate.extensions.issuerAltName",
-            ),
-            AlternativeRule::IssuerAltNameUriHostInvalid => must(
-                "issuer_alt_name_uri_host_invalid",
-                "4.2.1.7",
-                "tbsCertificate.extensions.issuerAltName",
-            ),
+        told! { self: AlternativeRule;
+            SubjectEmailNotInAltName => must("subject_email_not_in_alt_name", "4.1.2.6", "tbsCertificate.extensions.subjectAltName"),
+            SubjectAltNameEmpty => must("subject_alt_name_empty", "4.2.1.6", "tbsCertificate.extensions.subjectAltName"),
+            SubjectAltNameEmptyName => must("subject_alt_name_empty_name", "4.2.1.6", "tbsCertificate.extensions.subjectAltName"),
+            SubjectAltNameDnsNameInvalid => must("subject_alt_name_dns_name_invalid", "4.2.1.6", "tbsCertificate.extensions.subjectAltName"),
+            SubjectAltNameAddressLength => must("subject_alt_name_address_length", "4.2.1.6", "tbsCertificate.extensions.subjectAltName"),
+            SubjectAltNameMailboxInvalid => must("subject_alt_name_mailbox_invalid", "4.2.1.6", "tbsCertificate.extensions.subjectAltName"),
+            SubjectAltNameUriRelative => must("subject_alt_name_uri_relative", "4.2.1.6", "tbsCertificate.extensions.subjectAltName"),
+            SubjectAltNameUriInvalid => must("subject_alt_name_uri_invalid", "4.2.1.6", "tbsCertificate.extensions.subjectAltName"),
+            SubjectAltNameUriHostInvalid => must("subject_alt_name_uri_host_invalid", "4.2.1.6", "tbsCertificate.extensions.subjectAltName"),
+            IssuerAltNameEmpty => must("issuer_alt_name_empty", "4.2.1.7", "tbsCertificate.extensions.issuerAltName"),
+            IssuerAltNameEmptyName => must("issuer_alt_name_empty_name", "4.2.1.7", "tbsCertificate.extensions.issuerAltName"),
+            IssuerAltNameDnsNameInvalid => must("issuer_alt_name_dns_name_invalid", "4.2.1.7", "tbsCertificate.extensions.issuerAltName"),
+            IssuerAltNameAddressLength => must("issuer_alt_name_address_length", "4.2.1.7", "tbsCertificate.extensions.issuerAltName"),
+            IssuerAltNameMailboxInvalid => must("issuer_alt_name_mailbox_invalid", "4.2.1.7", "tbsCertificate.extensions.issuerAltName"),
+            IssuerAltNameUriRelative => must("issuer_alt_name_uri_relative", "4.2.1.7", "tbsCertificate.extensions.issuerAltName"),
+            IssuerAltNameUriInvalid => must("issuer_alt_name_uri_invalid", "4.2.1.7", "tbsCertificate.extensions.issuerAltName"),
+            IssuerAltNameUriHostInvalid => must("issuer_alt_name_uri_host_invalid", "4.2.1.7", "tbsCertificate.extensions.issuerAltName"),
         }
     }
 }

@@ -6,7 +6,9 @@ ghost use Rattle.x509_lint.specs.Wording.{Says};
 ghost use Rattle.x509_lint.specs.declared.rule.anchor.AnchorRule.TheVariants.{NameConstraint};
 
 use crate::entry::{Entry, must, must_of, should, should_of};
+use crate::rule::list::{extension_place, with_malformed};
 use crate::rule::{ConstraintRule, ExtensionKind};
+use crate::told;
 
 /// Rules on the descriptions of trust anchors (RFC 5914 2, RFC 5280 4.1.2.4, 4.2).
 #[derive(Clone, Copy, Debug, PartialEq, Eq)]
@@ -82,7 +84,7 @@ pub enum AnchorRule {
     ExtensionMalformed(ExtensionKind),
 }
 
-pub(crate) const ANCHOR_RULES: [AnchorRule; 47] = [
+pub(crate) const ANCHOR_RULES: [AnchorRule; 47] = with_malformed! { AnchorRule:
     AnchorRule::TaTitleSize,
     AnchorRule::TaTitleLangTagInvalid,
     AnchorRule::TaNameEmpty,
@@ -111,51 +113,14 @@ pub(crate) const ANCHOR_RULES: [AnchorRule; 47] = [
     AnchorRule::CertificatePoliciesInExts,
     AnchorRule::PolicyConstraintsInExts,
     AnchorRule::InhibitAnyPolicyInExts,
-    AnchorRule::NameConstraintsInExts,
-    AnchorRule::ExtensionMalformed(ExtensionKind::AuthorityKeyIdentifier),
-    AnchorRule::ExtensionMalformed(ExtensionKind::SubjectKeyIdentifier),
-    AnchorRule::ExtensionMalformed(ExtensionKind::KeyUsage),
-    AnchorRule::ExtensionMalformed(ExtensionKind::ExtendedKeyUsage),
-    AnchorRule::ExtensionMalformed(ExtensionKind::PrivateKeyUsagePeriod),
-    AnchorRule::ExtensionMalformed(ExtensionKind::BasicConstraints),
-    AnchorRule::ExtensionMalformed(ExtensionKind::SubjectAltName),
-    AnchorRule::ExtensionMalformed(ExtensionKind::IssuerAltName),
-    AnchorRule::ExtensionMalformed(ExtensionKind::SubjectDirectoryAttributes),
-    AnchorRule::ExtensionMalformed(ExtensionKind::NameConstraints),
-    AnchorRule::ExtensionMalformed(ExtensionKind::AuthorityInfoAccess),
-    AnchorRule::ExtensionMalformed(ExtensionKind::SubjectInfoAccess),
-    AnchorRule::ExtensionMalformed(ExtensionKind::CertificatePolicies),
-    AnchorRule::ExtensionMalformed(ExtensionKind::PolicyMappings),
-    AnchorRule::ExtensionMalformed(ExtensionKind::PolicyConstraints),
-    AnchorRule::ExtensionMalformed(ExtensionKind::InhibitAnyPolicy),
-    AnchorRule::ExtensionMalformed(ExtensionKind::CrlDistributionPoints),
-    AnchorRule::ExtensionMalformed(ExtensionKind::FreshestCrl),
-];
+    AnchorRule::NameConstraintsInExts;
+};
 
 /// The place of an extension.
 fn place_of(kind: ExtensionKind) -> &'static str
     ensures { result.now ≡ anchor_extension_place kind }
 {
-    match kind {
-        ExtensionKind::AuthorityKeyIdentifier => "taInfo.exts.authorityKeyIdentifier",
-        ExtensionKind::SubjectKeyIdentifier => "taInfo.exts.subjectKeyIdentifier",
-        ExtensionKind::KeyUsage => "taInfo.exts.keyUsage",
-        ExtensionKind::ExtendedKeyUsage => "taInfo.exts.extKeyUsage",
-        ExtensionKind::PrivateKeyUsagePeriod => "taInfo.exts.privateKeyUsagePeriod",
-        ExtensionKind::BasicConstraints => "taInfo.exts.basicConstraints",
-        ExtensionKind::SubjectAltName => "taInfo.exts.subjectAltName",
-        ExtensionKind::IssuerAltName => "taInfo.exts.issuerAltName",
-        ExtensionKind::SubjectDirectoryAttributes => "taInfo.exts.subjectDirectoryAttributes",
-        ExtensionKind::NameConstraints => "taInfo.exts.nameConstraints",
-        ExtensionKind::AuthorityInfoAccess => "taInfo.exts.authorityInfoAccess",
-        ExtensionKind::SubjectInfoAccess => "taInfo.exts.subjectInfoAccess",
-        ExtensionKind::CertificatePolicies => "taInfo.exts.certificatePolicies",
-        ExtensionKind::PolicyMappings => "taInfo.exts.policyMappings",
-        ExtensionKind::PolicyConstraints => "taInfo.exts.policyConstraints",
-        ExtensionKind::InhibitAnyPolicy => "taInfo.exts.inhibitAnyPolicy",
-        ExtensionKind::CrlDistributionPoints => "taInfo.exts.cRLDistributionPoints",
-        ExtensionKind::FreshestCrl => "taInfo.exts.freshestCRL",
-    }
+    extension_place!("taInfo.exts.", kind)
 }
 
 /// The entry of a rule on name constraints, at their place in the controls.
@@ -183,121 +148,31 @@ impl AnchorRule {
     pub fn entry(self) -> Entry
         ensures { Says result (anchor_wording self) }
     {
-        match self {
-            AnchorRule::TaTitleSize => must_of(
-                "RFC 5914",
-                "ta_title_size",
-                "2.4",
-                "taInfo.taTitle",
-            ),
-            AnchorRule::TaTitleLangTagInvalid => should_of(
-                "RFC 5914",
-                "ta_title_lang_tag_invalid",
-                "2.4",
-                "taInfo.taTitleLangTag",
-            ),
-            AnchorRule::TaNameEmpty => must_of(
-                "RFC 5914",
-                "ta_name_empty",
-                "2.5",
-                "taInfo.certPath.taName",
-            ),
-            AnchorRule::TaNameRdnEmpty => must(
-                "ta_name_rdn_empty",
-                "4.1.2.4",
-                "taInfo.certPath.taName",
-            ),
-            AnchorRule::TaNameCountryNameInvalid => must(
-                "ta_name_country_name_invalid",
-                "A.1",
-                "taInfo.certPath.taName",
-            ),
-            AnchorRule::TaNameTextType => must(
-                "ta_name_text_type",
-                "A.1",
-                "taInfo.certPath.taName",
-            ),
-            AnchorRule::TaNameTextOldType => should(
-                "ta_name_text_old_type",
-                "4.1.2.4",
-                "taInfo.certPath.taName",
-            ),
-            AnchorRule::TaNameTextCharacters => must(
-                "ta_name_text_characters",
-                "4.1.2.4",
-                "taInfo.certPath.taName",
-            ),
-            AnchorRule::TaNameTextSize => must(
-                "ta_name_text_size",
-                "A.1",
-                "taInfo.certPath.taName",
-            ),
-            AnchorRule::CertificateSubjectDiffers => must_of(
-                "RFC 5914",
-                "certificate_subject_differs",
-                "2.5",
-                "taInfo.certPath.certificate.tbsCertificate.subject",
-            ),
-            AnchorRule::CertificateKeyDiffers => must_of(
-                "RFC 5914",
-                "certificate_key_differs",
-                "2.5",
-                "taInfo.certPath.certificate.tbsCertificate.subjectPublicKeyInfo",
-            ),
-            AnchorRule::CertificateKeyIdentifierDiffers => must_of(
-                "RFC 5914",
-                "certificate_key_identifier_differs",
-                "2.5",
-                "taInfo.certPath.certificate.tbsCertificate.extensions.subjectKeyIdentifier",
-            ),
-            AnchorRule::PolicySetEmpty => must(
-                "policy_set_empty",
-                "4.2.1.4",
-                "taInfo.certPath.policySet",
-            ),
-            AnchorRule::PolicySetRepeated => must(
-                "policy_set_repeated",
-                "4.2.1.4",
-                "taInfo.certPath.policySet",
-            ),
-            AnchorRule::PolicySetQualifiers => must_of(
-                "RFC 5914",
-                "policy_set_qualifiers",
-                "2.5",
-                "taInfo.certPath.policySet",
-            ),
-            AnchorRule::NameConstraint(rule) => in_controls(rule),
-            AnchorRule::ExtensionsEmpty => must("extensions_empty", "4.1.2.9", "taInfo.exts"),
-            AnchorRule::ExtensionRepeated => must("extension_repeated", "4.2", "taInfo.exts"),
-            AnchorRule::CertificatePoliciesInExts => must_of(
-                "RFC 5914",
-                "certificate_policies_in_exts",
-                "2.6",
-                "taInfo.exts.certificatePolicies",
-            ),
-            AnchorRule::PolicyConstraintsInExts => must_of(
-                "RFC 5914",
-                "policy_constraints_in_exts",
-                "2.6",
-                "taInfo.exts.policyConstraints",
-            ),
-            AnchorRule::InhibitAnyPolicyInExts => must_of(
-                "RFC 5914",
-                "inhibit_any_policy_in_exts",
-                "2.6",
-                "taInfo.exts.inhibitAnyPolicy",
-            ),
-            AnchorRule::NameConstraintsInExts => must_of(
-                "RFC 5914",
-                "name_constraints_in_exts",
-                "2.6",
-                "taInfo.exts.nameConstraints",
-            ),
-            AnchorRule::ExtensionMalformed(kind) => must(
-                "extension_malformed",
-                "4.2",
-                place_of(kind),
-            ),
+        told! { self: AnchorRule;
+            TaTitleSize => must_of("RFC 5914", "ta_title_size", "2.4", "taInfo.taTitle"),
+            TaTitleLangTagInvalid => should_of("RFC 5914", "ta_title_lang_tag_invalid", "2.4", "taInfo.taTitleLangTag"),
+            TaNameEmpty => must_of("RFC 5914", "ta_name_empty", "2.5", "taInfo.certPath.taName"),
+            TaNameRdnEmpty => must("ta_name_rdn_empty", "4.1.2.4", "taInfo.certPath.taName"),
+            TaNameCountryNameInvalid => must("ta_name_country_name_invalid", "A.1", "taInfo.certPath.taName"),
+            TaNameTextType => must("ta_name_text_type", "A.1", "taInfo.certPath.taName"),
+            TaNameTextOldType => should("ta_name_text_old_type", "4.1.2.4", "taInfo.certPath.taName"),
+            TaNameTextCharacters => must("ta_name_text_characters", "4.1.2.4", "taInfo.certPath.taName"),
+            TaNameTextSize => must("ta_name_text_size", "A.1", "taInfo.certPath.taName"),
+            CertificateSubjectDiffers => must_of("RFC 5914", "certificate_subject_differs", "2.5", "taInfo.certPath.certificate.tbsCertificate.subject"),
+            CertificateKeyDiffers => must_of("RFC 5914", "certificate_key_differs", "2.5", "taInfo.certPath.certificate.tbsCertificate.subjectPublicKeyInfo"),
+            CertificateKeyIdentifierDiffers =>
+                must_of("RFC 5914", "certificate_key_identifier_differs", "2.5", "taInfo.certPath.certificate.tbsCertificate.extensions.subjectKeyIdentifier"),
+            PolicySetEmpty => must("policy_set_empty", "4.2.1.4", "taInfo.certPath.policySet"),
+            PolicySetRepeated => must("policy_set_repeated", "4.2.1.4", "taInfo.certPath.policySet"),
+            PolicySetQualifiers => must_of("RFC 5914", "policy_set_qualifiers", "2.5", "taInfo.certPath.policySet"),
+            NameConstraint(rule) => in_controls(rule),
+            ExtensionsEmpty => must("extensions_empty", "4.1.2.9", "taInfo.exts"),
+            ExtensionRepeated => must("extension_repeated", "4.2", "taInfo.exts"),
+            CertificatePoliciesInExts => must_of("RFC 5914", "certificate_policies_in_exts", "2.6", "taInfo.exts.certificatePolicies"),
+            PolicyConstraintsInExts => must_of("RFC 5914", "policy_constraints_in_exts", "2.6", "taInfo.exts.policyConstraints"),
+            InhibitAnyPolicyInExts => must_of("RFC 5914", "inhibit_any_policy_in_exts", "2.6", "taInfo.exts.inhibitAnyPolicy"),
+            NameConstraintsInExts => must_of("RFC 5914", "name_constraints_in_exts", "2.6", "taInfo.exts.nameConstraints"),
+            ExtensionMalformed(kind) => must("extension_malformed", "4.2", place_of(kind)),
         }
     }
 }

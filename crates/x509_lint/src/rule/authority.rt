@@ -4,6 +4,7 @@ ghost use Rattle.x509_lint.specs.Authority.{authority_wording};
 ghost use Rattle.x509_lint.specs.Wording.{Says};
 
 use crate::entry::{Entry, must, not_judged, should};
+use crate::told;
 
 /// Rules on what makes a certificate one of a certification authority (RFC 5280 4.2.1.3, 4.2.1.9).
 #[derive(Clone, Copy, Debug, PartialEq, Eq)]
@@ -65,67 +66,19 @@ impl AuthorityRule {
     pub fn entry(self) -> Entry
         ensures { Says result (authority_wording self) }
     {
-        match self {
-            AuthorityRule::CaSubjectEmpty => must(
-                "ca_subject_empty",
-                "4.1.2.6",
-                "tbsCertificate.subject",
-            ),
-            AuthorityRule::CrlIssuerSubjectEmpty => must(
-                "crl_issuer_subject_empty",
-                "4.1.2.6",
-                "tbsCertificate.subject",
-            ),
-            AuthorityRule::CaWithoutSubjectKeyIdentifier => must(
-                "ca_without_subject_key_identifier",
-                "4.2.1.2",
-                "tbsCertificate.extensions.subjectKeyIdentifier",
-            ),
-            AuthorityRule::SubjectKeyIdentifierAbsent => should(
-                "subject_key_identifier_absent",
-                "4.2.1.2",
-                "tbsCertificate.extensions.subjectKeyIdentifier",
-            ),
-            AuthorityRule::CaWithoutKeyUsage => must(
-                "ca_without_key_usage",
-                "4.2.1.3",
-                "tbsCertificate.extensions.keyUsage",
-            ),
-            AuthorityRule::KeyUsageEmpty => must(
-                "key_usage_empty",
-                "4.2.1.3",
-                "tbsCertificate.extensions.keyUsage",
-            ),
-            AuthorityRule::CaWithoutKeyCertSign => must(
-                "ca_without_key_cert_sign",
-                "4.2.1.3",
-                "tbsCertificate.extensions.keyUsage",
-            ),
-            AuthorityRule::KeyCertSignWithoutCa => must(
-                "key_cert_sign_without_ca",
-                "4.2.1.9",
-                "tbsCertificate.extensions.keyUsage",
-            ),
-            AuthorityRule::CaBasicConstraintsNotCritical => must(
-                "ca_basic_constraints_not_critical",
-                "4.2.1.9",
-                "tbsCertificate.extensions.basicConstraints",
-            ),
-            AuthorityRule::PathLenWithoutCa => must(
-                "path_len_without_ca",
-                "4.2.1.9",
-                "tbsCertificate.extensions.basicConstraints",
-            ),
-            AuthorityRule::PathLenNotJudged => not_judged(
-                "path_len_above_255",
-                "4.2.1.9",
-                "tbsCertificate.extensions.basicConstraints",
-            ),
-            AuthorityRule::NameConstraintsInLeaf => must(
-                "name_constraints_in_leaf",
-                "4.2.1.10",
-                "tbsCertificate.extensions.nameConstraints",
-            ),
+        told! { self: AuthorityRule;
+            CaSubjectEmpty => must("ca_subject_empty", "4.1.2.6", "tbsCertificate.subject"),
+            CrlIssuerSubjectEmpty => must("crl_issuer_subject_empty", "4.1.2.6", "tbsCertificate.subject"),
+            CaWithoutSubjectKeyIdentifier => must("ca_without_subject_key_identifier", "4.2.1.2", "tbsCertificate.extensions.subjectKeyIdentifier"),
+            SubjectKeyIdentifierAbsent => should("subject_key_identifier_absent", "4.2.1.2", "tbsCertificate.extensions.subjectKeyIdentifier"),
+            CaWithoutKeyUsage => must("ca_without_key_usage", "4.2.1.3", "tbsCertificate.extensions.keyUsage"),
+            KeyUsageEmpty => must("key_usage_empty", "4.2.1.3", "tbsCertificate.extensions.keyUsage"),
+            CaWithoutKeyCertSign => must("ca_without_key_cert_sign", "4.2.1.3", "tbsCertificate.extensions.keyUsage"),
+            KeyCertSignWithoutCa => must("key_cert_sign_without_ca", "4.2.1.9", "tbsCertificate.extensions.keyUsage"),
+            CaBasicConstraintsNotCritical => must("ca_basic_constraints_not_critical", "4.2.1.9", "tbsCertificate.extensions.basicConstraints"),
+            PathLenWithoutCa => must("path_len_without_ca", "4.2.1.9", "tbsCertificate.extensions.basicConstraints"),
+            PathLenNotJudged => not_judged("path_len_above_255", "4.2.1.9", "tbsCertificate.extensions.basicConstraints"),
+            NameConstraintsInLeaf => must("name_constraints_in_leaf", "4.2.1.10", "tbsCertificate.extensions.nameConstraints"),
         }
     }
 }

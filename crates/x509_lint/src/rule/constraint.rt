@@ -4,6 +4,7 @@ ghost use Rattle.x509_lint.specs.Constraint.{constraint_wording};
 ghost use Rattle.x509_lint.specs.Wording.{Says};
 
 use crate::entry::{Entry, must, should};
+use crate::told;
 
 /// Rules on name constraints (RFC 5280 4.2.1.10).
 #[derive(Clone, Copy, Debug, PartialEq, Eq)]
@@ -49,47 +50,15 @@ impl ConstraintRule {
     pub fn entry(self) -> Entry
         ensures { Says result (constraint_wording self) }
     {
-        match self {
-            ConstraintRule::NameConstraintsEmpty => must(
-                "name_constraints_empty",
-                "4.2.1.10",
-                "tbsCertificate.extensions.nameConstraints",
-            ),
-            ConstraintRule::NameConstraintsOtherForm => should(
-                "name_constraints_other_form",
-                "4.2.1.10",
-                "tbsCertificate.extensions.nameConstraints",
-            ),
-            ConstraintRule::NameConstraintsSubtreesEmpty => must(
-                "name_constraints_subtrees_empty",
-                "4.2.1.10",
-                "tbsCertificate.extensions.nameConstraints",
-            ),
-            ConstraintRule::NameConstraintsMinimum => must(
-                "name_constraints_minimum",
-                "4.2.1.10",
-                "tbsCertificate.extensions.nameConstraints",
-            ),
-            ConstraintRule::NameConstraintsMaximum => must(
-                "name_constraints_maximum",
-                "4.2.1.10",
-                "tbsCertificate.extensions.nameConstraints",
-            ),
-            ConstraintRule::NameConstraintsUriInvalid => must(
-                "name_constraints_uri_invalid",
-                "4.2.1.10",
-                "tbsCertificate.extensions.nameConstraints",
-            ),
-            ConstraintRule::NameConstraintsAddressLength => must(
-                "name_constraints_address_length",
-                "4.2.1.10",
-                "tbsCertificate.extensions.nameConstraints",
-            ),
-            ConstraintRule::NameConstraintsAddressMask => must(
-                "name_constraints_address_mask",
-                "4.2.1.10",
-                "tbsCertificate.extensions.nameConstraints",
-            ),
+        told! { self: ConstraintRule;
+            NameConstraintsEmpty => must("name_constraints_empty", "4.2.1.10", "tbsCertificate.extensions.nameConstraints"),
+            NameConstraintsOtherForm => should("name_constraints_other_form", "4.2.1.10", "tbsCertificate.extensions.nameConstraints"),
+            NameConstraintsSubtreesEmpty => must("name_constraints_subtrees_empty", "4.2.1.10", "tbsCertificate.extensions.nameConstraints"),
+            NameConstraintsMinimum => must("name_constraints_minimum", "4.2.1.10", "tbsCertificate.extensions.nameConstraints"),
+            NameConstraintsMaximum => must("name_constraints_maximum", "4.2.1.10", "tbsCertificate.extensions.nameConstraints"),
+            NameConstraintsUriInvalid => must("name_constraints_uri_invalid", "4.2.1.10", "tbsCertificate.extensions.nameConstraints"),
+            NameConstraintsAddressLength => must("name_constraints_address_length", "4.2.1.10", "tbsCertificate.extensions.nameConstraints"),
+            NameConstraintsAddressMask => must("name_constraints_address_mask", "4.2.1.10", "tbsCertificate.extensions.nameConstraints"),
         }
     }
 }

@@ -4,6 +4,7 @@ ghost use Rattle.x509_lint.specs.Critical.{critical_wording};
 ghost use Rattle.x509_lint.specs.Wording.{Says};
 
 use crate::entry::{Entry, must, should};
+use crate::told;
 
 /// Rules on which extensions of a certificate are critical (RFC 5280 4.2.1, 4.2.2).
 #[derive(Clone, Copy, Debug, PartialEq, Eq)]
@@ -73,77 +74,22 @@ impl CriticalRule {
     pub fn entry(self) -> Entry
         ensures { Says result (critical_wording self) }
     {
-        match self {
-            CriticalRule::AuthorityKeyIdentifierCritical => must(
-                "authority_key_identifier_critical",
-                "4.2.1.1",
-                "tbsCertificate.extensions.authorityKeyIdentifier",
-            ),
-            CriticalRule::SubjectKeyIdentifierCritical => must(
-                "subject_key_identifier_critical",
-                "4.2.1.2",
-                "tbsCertificate.extensions.subjectKeyIdentifier",
-            ),
-            CriticalRule::KeyUsageNotCritical => should(
-                "key_usage_not_critical",
-                "4.2.1.3",
-                "tbsCertificate.extensions.keyUsage",
-            ),
-            CriticalRule::PolicyMappingsNotCritical => should(
-                "policy_mappings_not_critical",
-                "4.2.1.5",
-                "tbsCertificate.extensions.policyMappings",
-            ),
-            CriticalRule::SubjectAltNameCritical => should(
-                "subject_alt_name_critical",
-                "4.2.1.6",
-                "tbsCertificate.extensions.subjectAltName",
-            ),
-            CriticalRule::IssuerAltNameCritical => should(
-                "issuer_alt_name_critical",
-                "4.2.1.7",
-                "tbsCertificate.extensions.issuerAltName",
-            ),
-            CriticalRule::SubjectDirectoryAttributesCritical => must(
-                "subject_directory_attributes_critical",
-                "4.2.1.8",
-                "tbsCertificate.extensions.subjectDirectoryAttributes",
-            ),
-            CriticalRule::NameConstraintsNotCritical => must(
-                "name_constraints_not_critical",
-                "4.2.1.10",
-                "tbsCertificate.extensions.nameConstraints",
-            ),
-            CriticalRule::PolicyConstraintsNotCritical => must(
-                "policy_constraints_not_critical",
-                "4.2.1.11",
-                "tbsCertificate.extensions.policyConstraints",
-            ),
-            CriticalRule::CrlDistributionPointsCritical => should(
-                "crl_distribution_points_critical",
-                "4.2.1.13",
-                "tbsCertificate.extensions.cRLDistributionPoints",
-            ),
-            CriticalRule::InhibitAnyPolicyNotCritical => must(
-                "inhibit_any_policy_not_critical",
-                "4.2.1.14",
-                "tbsCertificate.extensions.inhibitAnyPolicy",
-            ),
-            CriticalRule::FreshestCrlCritical => must(
-                "freshest_crl_critical",
-                "4.2.1.15",
-                "tbsCertificate.extensions.freshestCRL",
-            ),
-            CriticalRule::AuthorityInfoAccessCritical => must(
-                "authority_info_access_critical",
-                "4.2.2.1",
-                "tbsCertificate.extensions.authorityInfoAccess",
-            ),
-            CriticalRule::SubjectInfoAccessCritical => must(
-                "subject_info_access_critical",
-                "4.2.2.2",
-                "tbsCertificate.extensions.subjectInfoAccess",
-            ),
+        told! { self: CriticalRule;
+            AuthorityKeyIdentifierCritical => must("authority_key_identifier_critical", "4.2.1.1", "tbsCertificate.extensions.authorityKeyIdentifier"),
+            SubjectKeyIdentifierCritical => must("subject_key_identifier_critical", "4.2.1.2", "tbsCertificate.extensions.subjectKeyIdentifier"),
+            KeyUsageNotCritical => should("key_usage_not_critical", "4.2.1.3", "tbsCertificate.extensions.keyUsage"),
+            PolicyMappingsNotCritical => should("policy_mappings_not_critical", "4.2.1.5", "tbsCertificate.extensions.policyMappings"),
+            SubjectAltNameCritical => should("subject_alt_name_critical", "4.2.1.6", "tbsCertificate.extensions.subjectAltName"),
+            IssuerAltNameCritical => should("issuer_alt_name_critical", "4.2.1.7", "tbsCertificate.extensions.issuerAltName"),
+            SubjectDirectoryAttributesCritical =>
+                must("subject_directory_attributes_critical", "4.2.1.8", "tbsCertificate.extensions.subjectDirectoryAttributes"),
+            NameConstraintsNotCritical => must("name_constraints_not_critical", "4.2.1.10", "tbsCertificate.extensions.nameConstraints"),
+            PolicyConstraintsNotCritical => must("policy_constraints_not_critical", "4.2.1.11", "tbsCertificate.extensions.policyConstraints"),
+            CrlDistributionPointsCritical => should("crl_distribution_points_critical", "4.2.1.13", "tbsCertificate.extensions.cRLDistributionPoints"),
+            InhibitAnyPolicyNotCritical => must("inhibit_any_policy_not_critical", "4.2.1.14", "tbsCertificate.extensions.inhibitAnyPolicy"),
+            FreshestCrlCritical => must("freshest_crl_critical", "4.2.1.15", "tbsCertificate.extensions.freshestCRL"),
+            AuthorityInfoAccessCritical => must("authority_info_access_critical", "4.2.2.1", "tbsCertificate.extensions.authorityInfoAccess"),
+            SubjectInfoAccessCritical => must("subject_info_access_critical", "4.2.2.2", "tbsCertificate.extensions.subjectInfoAccess"),
         }
     }
 }

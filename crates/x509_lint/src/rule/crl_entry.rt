@@ -4,6 +4,7 @@ ghost use Rattle.x509_lint.specs.CrlEntry.{crl_entry_wording};
 ghost use Rattle.x509_lint.specs.Wording.{Says};
 
 use crate::entry::{Entry, must, should};
+use crate::told;
 
 /// Rules on the extensions of a CRL's entries (RFC 5280 5.3).
 #[derive(Clone, Copy, Debug, PartialEq, Eq)]
@@ -50,47 +51,17 @@ impl CrlEntryRule {
     pub fn entry(self) -> Entry
         ensures { Says result (crl_entry_wording self) }
     {
-        match self {
-            CrlEntryRule::EntryReasonCritical => must(
-                "entry_reason_critical",
-                "5.3.1",
-                "tbsCertList.revokedCertificates.crlEntryExtensions.reasonCode",
-            ),
-            CrlEntryRule::EntryReasonUnspecified => should(
-                "entry_reason_unspecified",
-                "5.3.1",
-                "tbsCertList.revokedCertificates.crlEntryExtensions.reasonCode",
-            ),
-            CrlEntryRule::EntryReasonRemoveFromCrl => must(
-                "entry_reason_remove_from_crl",
-                "5.3.1",
-                "tbsCertList.revokedCertificates.crlEntryExtensions.reasonCode",
-            ),
-            CrlEntryRule::EntryReasonInvalid => must(
-                "entry_reason_invalid",
-                "5.3.1",
-                "tbsCertList.revokedCertificates.crlEntryExtensions.reasonCode",
-            ),
-            CrlEntryRule::EntryInvalidityDateCritical => must(
-                "entry_invalidity_date_critical",
-                "5.3.2",
-                "tbsCertList.revokedCertificates.crlEntryExtensions.invalidityDate",
-            ),
-            CrlEntryRule::EntryInvalidityDateInvalid => must(
-                "entry_invalidity_date_invalid",
-                "5.3.2",
-                "tbsCertList.revokedCertificates.crlEntryExtensions.invalidityDate",
-            ),
-            CrlEntryRule::EntryCertificateIssuerNotCritical => must(
-                "entry_certificate_issuer_not_critical",
-                "5.3.3",
-                "tbsCertList.revokedCertificates.crlEntryExtensions.certificateIssuer",
-            ),
-            CrlEntryRule::EntryCertificateIssuerNotIndirect => must(
-                "entry_certificate_issuer_not_indirect",
-                "5.3.3",
-                "tbsCertList.revokedCertificates.crlEntryExtensions.certificateIssuer",
-            ),
+        told! { self: CrlEntryRule;
+            EntryReasonCritical => must("entry_reason_critical", "5.3.1", "tbsCertList.revokedCertificates.crlEntryExtensions.reasonCode"),
+            EntryReasonUnspecified => should("entry_reason_unspecified", "5.3.1", "tbsCertList.revokedCertificates.crlEntryExtensions.reasonCode"),
+            EntryReasonRemoveFromCrl => must("entry_reason_remove_from_crl", "5.3.1", "tbsCertList.revokedCertificates.crlEntryExtensions.reasonCode"),
+            EntryReasonInvalid => must("entry_reason_invalid", "5.3.1", "tbsCertList.revokedCertificates.crlEntryExtensions.reasonCode"),
+            EntryInvalidityDateCritical => must("entry_invalidity_date_critical", "5.3.2", "tbsCertList.revokedCertificates.crlEntryExtensions.invalidityDate"),
+            EntryInvalidityDateInvalid => must("entry_invalidity_date_invalid", "5.3.2", "tbsCertList.revokedCertificates.crlEntryExtensions.invalidityDate"),
+            EntryCertificateIssuerNotCritical =>
+                must("entry_certificate_issuer_not_critical", "5.3.3", "tbsCertList.revokedCertificates.crlEntryExtensions.certificateIssuer"),
+            EntryCertificateIssuerNotIndirect =>
+                must("entry_certificate_issuer_not_indirect", "5.3.3", "tbsCertList.revokedCertificates.crlEntryExtensions.certificateIssuer"),
         }
     }
 }

@@ -4,6 +4,7 @@ ghost use Rattle.x509_lint.specs.CrlExtension.{crl_extension_wording};
 ghost use Rattle.x509_lint.specs.Wording.{Says};
 
 use crate::entry::{Entry, must, should};
+use crate::told;
 
 /// Rules on the extensions of a CRL (RFC 5280 5.2).
 #[derive(Clone, Copy, Debug, PartialEq, Eq)]
@@ -89,97 +90,27 @@ impl CrlExtensionRule {
     pub fn entry(self) -> Entry
         ensures { Says result (crl_extension_wording self) }
     {
-        match self {
-            CrlExtensionRule::AuthorityKeyIdentifierAbsent => must(
-                "authority_key_identifier_absent",
-                "5.2.1",
-                "tbsCertList.crlExtensions.authorityKeyIdentifier",
-            ),
-            CrlExtensionRule::AuthorityKeyIdentifierWithoutKey => must(
-                "authority_key_identifier_without_key",
-                "5.2.1",
-                "tbsCertList.crlExtensions.authorityKeyIdentifier",
-            ),
-            CrlExtensionRule::AuthorityKeyIdentifierCritical => must(
-                "authority_key_identifier_critical",
-                "4.2.1.1",
-                "tbsCertList.crlExtensions.authorityKeyIdentifier",
-            ),
-            CrlExtensionRule::IssuerAltNameCritical => should(
-                "issuer_alt_name_critical",
-                "5.2.2",
-                "tbsCertList.crlExtensions.issuerAltName",
-            ),
-            CrlExtensionRule::CrlNumberAbsent => must(
-                "crl_number_absent",
-                "5.2.3",
-                "tbsCertList.crlExtensions.cRLNumber",
-            ),
-            CrlExtensionRule::CrlNumberCritical => must(
-                "crl_number_critical",
-                "5.2.3",
-                "tbsCertList.crlExtensions.cRLNumber",
-            ),
-            CrlExtensionRule::CrlNumberTooLong => must(
-                "crl_number_too_long",
-                "5.2.3",
-                "tbsCertList.crlExtensions.cRLNumber",
-            ),
-            CrlExtensionRule::DeltaCrlIndicatorNotCritical => must(
-                "delta_crl_indicator_not_critical",
-                "5.2.4",
-                "tbsCertList.crlExtensions.deltaCRLIndicator",
-            ),
-            CrlExtensionRule::IssuingDistributionPointNotCritical => must(
-                "issuing_distribution_point_not_critical",
-                "5.2.5",
-                "tbsCertList.crlExtensions.issuingDistributionPoint",
-            ),
-            CrlExtensionRule::IssuingDistributionPointEmpty => must(
-                "issuing_distribution_point_empty",
-                "5.2.5",
-                "tbsCertList.crlExtensions.issuingDistributionPoint",
-            ),
-            CrlExtensionRule::IssuingDistributionPointKinds => must(
-                "issuing_distribution_point_kinds",
-                "5.2.5",
-                "tbsCertList.crlExtensions.issuingDistributionPoint",
-            ),
-            CrlExtensionRule::IssuingDistributionPointAttributeCerts => must(
-                "issuing_distribution_point_attribute_certs",
-                "5.2.5",
-                "tbsCertList.crlExtensions.issuingDistributionPoint",
-            ),
-            CrlExtensionRule::FreshestCrlCritical => must(
-                "freshest_crl_critical",
-                "5.2.6",
-                "tbsCertList.crlExtensions.freshestCRL",
-            ),
-            CrlExtensionRule::FreshestCrlInDelta => must(
-                "freshest_crl_in_delta",
-                "5.2.6",
-                "tbsCertList.crlExtensions.freshestCRL",
-            ),
-            CrlExtensionRule::FreshestCrlReasonsOrIssuer => must(
-                "freshest_crl_reasons_or_issuer",
-                "5.2.6",
-                "tbsCertList.crlExtensions.freshestCRL",
-            ),
-            CrlExtensionRule::AuthorityInfoAccessCritical => must(
-                "authority_info_access_critical",
-                "5.2.7",
-                "tbsCertList.crlExtensions.authorityInfoAccess",
-            ),
-            CrlExtensionRule::AuthorityInfoAccessOtherMethod => must(
-                "authority_info_access_other_method",
-                "5.2.7",
-                "tbsCertList.crlExtensions.authorityInfoAccess",
-            ),
-            CrlExtensionRule::CaIssuersWithoutUri => should(
-                "ca_issuers_without_uri",
-                "5.2.7",
-                "tbsCertList.crlExtensions.authorityInfoAccess",
-            ),
+        told! { self: CrlExtensionRule;
+            AuthorityKeyIdentifierAbsent => must("authority_key_identifier_absent", "5.2.1", "tbsCertList.crlExtensions.authorityKeyIdentifier"),
+            AuthorityKeyIdentifierWithoutKey => must("authority_key_identifier_without_key", "5.2.1", "tbsCertList.crlExtensions.authorityKeyIdentifier"),
+            AuthorityKeyIdentifierCritical => must("authority_key_identifier_critical", "4.2.1.1", "tbsCertList.crlExtensions.authorityKeyIdentifier"),
+            IssuerAltNameCritical => should("issuer_alt_name_critical", "5.2.2", "tbsCertList.crlExtensions.issuerAltName"),
+            CrlNumberAbsent => must("crl_number_absent", "5.2.3", "tbsCertList.crlExtensions.cRLNumber"),
+            CrlNumberCritical => must("crl_number_critical", "5.2.3", "tbsCertList.crlExtensions.cRLNumber"),
+            CrlNumberTooLong => must("crl_number_too_long", "5.2.3", "tbsCertList.crlExtensions.cRLNumber"),
+            DeltaCrlIndicatorNotCritical => must("delta_crl_indicator_not_critical", "5.2.4", "tbsCertList.crlExtensions.deltaCRLIndicator"),
+            IssuingDistributionPointNotCritical =>
+                must("issuing_distribution_point_not_critical", "5.2.5", "tbsCertList.crlExtensions.issuingDistributionPoint"),
+            IssuingDistributionPointEmpty => must("issuing_distribution_point_empty", "5.2.5", "tbsCertList.crlExtensions.issuingDistributionPoint"),
+            IssuingDistributionPointKinds => must("issuing_distribution_point_kinds", "5.2.5", "tbsCertList.crlExtensions.issuingDistributionPoint"),
+            IssuingDistributionPointAttributeCerts =>
+                must("issuing_distribution_point_attribute_certs", "5.2.5", "tbsCertList.crlExtensions.issuingDistributionPoint"),
+            FreshestCrlCritical => must("freshest_crl_critical", "5.2.6", "tbsCertList.crlExtensions.freshestCRL"),
+            FreshestCrlInDelta => must("freshest_crl_in_delta", "5.2.6", "tbsCertList.crlExtensions.freshestCRL"),
+            FreshestCrlReasonsOrIssuer => must("freshest_crl_reasons_or_issuer", "5.2.6", "tbsCertList.crlExtensions.freshestCRL"),
+            AuthorityInfoAccessCritical => must("authority_info_access_critical", "5.2.7", "tbsCertList.crlExtensions.authorityInfoAccess"),
+            AuthorityInfoAccessOtherMethod => must("authority_info_access_other_method", "5.2.7", "tbsCertList.crlExtensions.authorityInfoAccess"),
+            CaIssuersWithoutUri => should("ca_issuers_without_uri", "5.2.7", "tbsCertList.crlExtensions.authorityInfoAccess"),
         }
     }
 }

@@ -6,6 +6,7 @@ ghost use Rattle.x509_lint.specs.Seen.{crl_extension_oid};
 ghost use Rattle.x509_lint.specs.Wording.{Says};
 
 use crate::entry::{Entry, must, should};
+use crate::told;
 use x509_der::{AssociatedOid, ObjectIdentifier};
 use x509_ext::pkix::{
     AuthorityInfoAccessSyntax, AuthorityKeyIdentifier, BaseCrlNumber, CrlNumber, FreshestCrl,
@@ -178,101 +179,29 @@ impl CrlFieldRule {
     pub fn entry(self) -> Entry
         ensures { Says result (crl_field_wording self) }
     {
-        match self {
-            CrlFieldRule::SignatureAlgorithmsDiffer => must(
-                "signature_algorithms_differ",
-                "5.1.1.2",
-                "signatureAlgorithm",
-            ),
-            CrlFieldRule::ExtensionsWithoutV2 => must(
-                "extensions_without_v2",
-                "5.1.2.1",
-                "tbsCertList.version",
-            ),
-            CrlFieldRule::VersionNotV2 => must("version_not_v2", "5.1.2.1", "tbsCertList.version"),
-            CrlFieldRule::IssuerEmpty => must("issuer_empty", "5.1.2.3", "tbsCertList.issuer"),
-            CrlFieldRule::IssuerRdnEmpty => must(
-                "issuer_rdn_empty",
-                "5.1.2.3",
-                "tbsCertList.issuer",
-            ),
-            CrlFieldRule::IssuerCountryNameInvalid => must(
-                "issuer_country_name_invalid",
-                "A.1",
-                "tbsCertList.issuer",
-            ),
-            CrlFieldRule::IssuerTextType => must("issuer_text_type", "A.1", "tbsCertList.issuer"),
-            CrlFieldRule::IssuerTextOldType => should(
-                "issuer_text_old_type",
-                "5.1.2.3",
-                "tbsCertList.issuer",
-            ),
-            CrlFieldRule::IssuerTextCharacters => must(
-                "issuer_text_characters",
-                "5.1.2.3",
-                "tbsCertList.issuer",
-            ),
-            CrlFieldRule::IssuerTextSize => must("issuer_text_size", "A.1", "tbsCertList.issuer"),
-            CrlFieldRule::ThisUpdateNotUtcTime => must(
-                "this_update_not_utc_time",
-                "5.1.2.4",
-                "tbsCertList.thisUpdate",
-            ),
-            CrlFieldRule::NextUpdateAbsent => must(
-                "next_update_absent",
-                "5.1.2.5",
-                "tbsCertList.nextUpdate",
-            ),
-            CrlFieldRule::NextUpdateNotUtcTime => must(
-                "next_update_not_utc_time",
-                "5.1.2.5",
-                "tbsCertList.nextUpdate",
-            ),
-            CrlFieldRule::NextUpdateBeforeThisUpdate => must(
-                "next_update_before_this_update",
-                "5.1.2.5",
-                "tbsCertList.nextUpdate",
-            ),
-            CrlFieldRule::RevokedCertificatesEmpty => must(
-                "revoked_certificates_empty",
-                "5.1.2.6",
-                "tbsCertList.revokedCertificates",
-            ),
-            CrlFieldRule::SerialNumberRepeated => must(
-                "serial_number_repeated",
-                "5.1.2.6",
-                "tbsCertList.revokedCertificates.userCertificate",
-            ),
-            CrlFieldRule::RevocationDateNotUtcTime => must(
-                "revocation_date_not_utc_time",
-                "5.1.2.6",
-                "tbsCertList.revokedCertificates.revocationDate",
-            ),
-            CrlFieldRule::ExtensionsEmpty => must(
-                "extensions_empty",
-                "5.1.2.7",
-                "tbsCertList.crlExtensions",
-            ),
-            CrlFieldRule::ExtensionRepeated => must(
-                "extension_repeated",
-                "5.2",
-                "tbsCertList.crlExtensions",
-            ),
-            CrlFieldRule::ExtensionMalformed(kind) => must(
-                "extension_malformed",
-                "5.2",
-                kind.place(),
-            ),
-            CrlFieldRule::EntryExtensionsEmpty => must(
-                "entry_extensions_empty",
-                "5.3",
-                "tbsCertList.revokedCertificates.crlEntryExtensions",
-            ),
-            CrlFieldRule::EntryExtensionRepeated => must(
-                "entry_extension_repeated",
-                "5.3",
-                "tbsCertList.revokedCertificates.crlEntryExtensions",
-            ),
+        told! { self: CrlFieldRule;
+            SignatureAlgorithmsDiffer => must("signature_algorithms_differ", "5.1.1.2", "signatureAlgorithm"),
+            ExtensionsWithoutV2 => must("extensions_without_v2", "5.1.2.1", "tbsCertList.version"),
+            VersionNotV2 => must("version_not_v2", "5.1.2.1", "tbsCertList.version"),
+            IssuerEmpty => must("issuer_empty", "5.1.2.3", "tbsCertList.issuer"),
+            IssuerRdnEmpty => must("issuer_rdn_empty", "5.1.2.3", "tbsCertList.issuer"),
+            IssuerCountryNameInvalid => must("issuer_country_name_invalid", "A.1", "tbsCertList.issuer"),
+            IssuerTextType => must("issuer_text_type", "A.1", "tbsCertList.issuer"),
+            IssuerTextOldType => should("issuer_text_old_type", "5.1.2.3", "tbsCertList.issuer"),
+            IssuerTextCharacters => must("issuer_text_characters", "5.1.2.3", "tbsCertList.issuer"),
+            IssuerTextSize => must("issuer_text_size", "A.1", "tbsCertList.issuer"),
+            ThisUpdateNotUtcTime => must("this_update_not_utc_time", "5.1.2.4", "tbsCertList.thisUpdate"),
+            NextUpdateAbsent => must("next_update_absent", "5.1.2.5", "tbsCertList.nextUpdate"),
+            NextUpdateNotUtcTime => must("next_update_not_utc_time", "5.1.2.5", "tbsCertList.nextUpdate"),
+            NextUpdateBeforeThisUpdate => must("next_update_before_this_update", "5.1.2.5", "tbsCertList.nextUpdate"),
+            RevokedCertificatesEmpty => must("revoked_certificates_empty", "5.1.2.6", "tbsCertList.revokedCertificates"),
+            SerialNumberRepeated => must("serial_number_repeated", "5.1.2.6", "tbsCertList.revokedCertificates.userCertificate"),
+            RevocationDateNotUtcTime => must("revocation_date_not_utc_time", "5.1.2.6", "tbsCertList.revokedCertificates.revocationDate"),
+            ExtensionsEmpty => must("extensions_empty", "5.1.2.7", "tbsCertList.crlExtensions"),
+            ExtensionRepeated => must("extension_repeated", "5.2", "tbsCertList.crlExtensions"),
+            ExtensionMalformed(kind) => must("extension_malformed", "5.2", kind.place()),
+            EntryExtensionsEmpty => must("entry_extensions_empty", "5.3", "tbsCertList.revokedCertificates.crlEntryExtensions"),
+            EntryExtensionRepeated => must("entry_extension_repeated", "5.3", "tbsCertList.revokedCertificates.crlEntryExtensions"),
         }
     }
 }

@@ -4,6 +4,7 @@ ghost use Rattle.x509_lint.specs.Field.{field_wording};
 ghost use Rattle.x509_lint.specs.Wording.{Says};
 
 use crate::entry::{Entry, must, should};
+use crate::told;
 
 /// Rules on the fields of a certificate (RFC 5280 4.1).
 #[derive(Clone, Copy, Debug, PartialEq, Eq)]
@@ -65,63 +66,19 @@ impl FieldRule {
     pub fn entry(self) -> Entry
         ensures { Says result (field_wording self) }
     {
-        match self {
-            FieldRule::SignatureAlgorithmsDiffer => must(
-                "signature_algorithms_differ",
-                "4.1.1.2",
-                "signatureAlgorithm",
-            ),
-            FieldRule::ExtensionsWithoutV3 => must(
-                "extensions_without_v3",
-                "4.1.2.1",
-                "tbsCertificate.version",
-            ),
-            FieldRule::VersionAboveV2 => should(
-                "version_above_v2",
-                "4.1.2.1",
-                "tbsCertificate.version",
-            ),
-            FieldRule::VersionAboveV1 => should(
-                "version_above_v1",
-                "4.1.2.1",
-                "tbsCertificate.version",
-            ),
-            FieldRule::SerialNumberNotPositive => must(
-                "serial_number_not_positive",
-                "4.1.2.2",
-                "tbsCertificate.serialNumber",
-            ),
-            FieldRule::SerialNumberTooLong => must(
-                "serial_number_too_long",
-                "4.1.2.2",
-                "tbsCertificate.serialNumber",
-            ),
-            FieldRule::IssuerEmpty => must("issuer_empty", "4.1.2.4", "tbsCertificate.issuer"),
-            FieldRule::NotBeforeNotUtcTime => must(
-                "not_before_not_utc_time",
-                "4.1.2.5",
-                "tbsCertificate.validity.notBefore",
-            ),
-            FieldRule::NotAfterNotUtcTime => must(
-                "not_after_not_utc_time",
-                "4.1.2.5",
-                "tbsCertificate.validity.notAfter",
-            ),
-            FieldRule::NotAfterBeforeNotBefore => must(
-                "not_after_before_not_before",
-                "4.1.2.5",
-                "tbsCertificate.validity.notAfter",
-            ),
-            FieldRule::UniqueIdentifierInV1 => must(
-                "unique_identifier_in_v1",
-                "4.1.2.8",
-                "tbsCertificate",
-            ),
-            FieldRule::UniqueIdentifierPresent => must(
-                "unique_identifier_present",
-                "4.1.2.8",
-                "tbsCertificate",
-            ),
+        told! { self: FieldRule;
+            SignatureAlgorithmsDiffer => must("signature_algorithms_differ", "4.1.1.2", "signatureAlgorithm"),
+            ExtensionsWithoutV3 => must("extensions_without_v3", "4.1.2.1", "tbsCertificate.version"),
+            VersionAboveV2 => should("version_above_v2", "4.1.2.1", "tbsCertificate.version"),
+            VersionAboveV1 => should("version_above_v1", "4.1.2.1", "tbsCertificate.version"),
+            SerialNumberNotPositive => must("serial_number_not_positive", "4.1.2.2", "tbsCertificate.serialNumber"),
+            SerialNumberTooLong => must("serial_number_too_long", "4.1.2.2", "tbsCertificate.serialNumber"),
+            IssuerEmpty => must("issuer_empty", "4.1.2.4", "tbsCertificate.issuer"),
+            NotBeforeNotUtcTime => must("not_before_not_utc_time", "4.1.2.5", "tbsCertificate.validity.notBefore"),
+            NotAfterNotUtcTime => must("not_after_not_utc_time", "4.1.2.5", "tbsCertificate.validity.notAfter"),
+            NotAfterBeforeNotBefore => must("not_after_before_not_before", "4.1.2.5", "tbsCertificate.validity.notAfter"),
+            UniqueIdentifierInV1 => must("unique_identifier_in_v1", "4.1.2.8", "tbsCertificate"),
+            UniqueIdentifierPresent => must("unique_identifier_present", "4.1.2.8", "tbsCertificate"),
         }
     }
 }

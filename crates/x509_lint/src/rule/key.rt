@@ -4,6 +4,7 @@ ghost use Rattle.x509_lint.specs.Key.{key_wording};
 ghost use Rattle.x509_lint.specs.Wording.{Says};
 
 use crate::entry::{Entry, must, should};
+use crate::told;
 
 /// Rules on key identifiers, extended key usage and the private key usage period (RFC 5280 4.2.1.1, 4.2.1.12, A.2).
 #[derive(Clone, Copy, Debug, PartialEq, Eq)]
@@ -45,42 +46,14 @@ impl KeyRule {
     pub fn entry(self) -> Entry
         ensures { Says result (key_wording self) }
     {
-        match self {
-            KeyRule::AuthorityKeyIdentifierAbsent => must(
-                "authority_key_identifier_absent",
-                "4.2.1.1",
-                "tbsCertificate.extensions.authorityKeyIdentifier",
-            ),
-            KeyRule::AuthorityKeyIdentifierWithoutKey => must(
-                "authority_key_identifier_without_key",
-                "4.2.1.1",
-                "tbsCertificate.extensions.authorityKeyIdentifier",
-            ),
-            KeyRule::AuthorityCertIssuerEmpty => must(
-                "authority_cert_issuer_empty",
-                "4.2.1.1",
-                "tbsCertificate.extensions.authorityKeyIdentifier",
-            ),
-            KeyRule::AuthorityCertIssuerAndSerialApart => must(
-                "authority_cert_issuer_and_serial_apart",
-                "4.2.1.1",
-                "tbsCertificate.extensions.authorityKeyIdentifier",
-            ),
-            KeyRule::ExtendedKeyUsageEmpty => must(
-                "extended_key_usage_empty",
-                "4.2.1.12",
-                "tbsCertificate.extensions.extKeyUsage",
-            ),
-            KeyRule::AnyExtendedKeyUsageCritical => should(
-                "any_extended_key_usage_critical",
-                "4.2.1.12",
-                "tbsCertificate.extensions.extKeyUsage",
-            ),
-            KeyRule::PrivateKeyUsagePeriodEmpty => must(
-                "private_key_usage_period_empty",
-                "A.2",
-                "tbsCertificate.extensions.privateKeyUsagePeriod",
-            ),
+        told! { self: KeyRule;
+            AuthorityKeyIdentifierAbsent => must("authority_key_identifier_absent", "4.2.1.1", "tbsCertificate.extensions.authorityKeyIdentifier"),
+            AuthorityKeyIdentifierWithoutKey => must("authority_key_identifier_without_key", "4.2.1.1", "tbsCertificate.extensions.authorityKeyIdentifier"),
+            AuthorityCertIssuerEmpty => must("authority_cert_issuer_empty", "4.2.1.1", "tbsCertificate.extensions.authorityKeyIdentifier"),
+            AuthorityCertIssuerAndSerialApart => must("authority_cert_issuer_and_serial_apart", "4.2.1.1", "tbsCertificate.extensions.authorityKeyIdentifier"),
+            ExtendedKeyUsageEmpty => must("extended_key_usage_empty", "4.2.1.12", "tbsCertificate.extensions.extKeyUsage"),
+            AnyExtendedKeyUsageCritical => should("any_extended_key_usage_critical", "4.2.1.12", "tbsCertificate.extensions.extKeyUsage"),
+            PrivateKeyUsagePeriodEmpty => must("private_key_usage_period_empty", "A.2", "tbsCertificate.extensions.privateKeyUsagePeriod"),
         }
     }
 }

@@ -6,6 +6,7 @@ ghost use Rattle.x509_lint.specs.Seen.{extension_oid};
 ghost use Rattle.x509_lint.specs.Wording.{Says};
 
 use crate::entry::{Entry, must};
+use crate::told;
 use x509_der::{AssociatedOid, ObjectIdentifier};
 use x509_ext::pkix::{
     AuthorityInfoAccessSyntax, AuthorityKeyIdentifier, BasicConstraints, CertificatePolicies,
@@ -72,6 +73,64 @@ pub enum ExtensionKind {
     FreshestCrl,
 }
 
+/// The place of an extension, behind that of its list.
+macro_rules! extension_place {
+    ($list:literal, $kind:expr) => {
+        match $kind {
+            ExtensionKind::AuthorityKeyIdentifier => concat!($list, "authorityKeyIdentifier"),
+            ExtensionKind::SubjectKeyIdentifier => concat!($list, "subjectKeyIdentifier"),
+            ExtensionKind::KeyUsage => concat!($list, "keyUsage"),
+            ExtensionKind::ExtendedKeyUsage => concat!($list, "extKeyUsage"),
+            ExtensionKind::PrivateKeyUsagePeriod => concat!($list, "privateKeyUsagePeriod"),
+            ExtensionKind::BasicConstraints => concat!($list, "basicConstraints"),
+            ExtensionKind::SubjectAltName => concat!($list, "subjectAltName"),
+            ExtensionKind::IssuerAltName => concat!($list, "issuerAltName"),
+            ExtensionKind::SubjectDirectoryAttributes => concat!($list, "subjectDirectoryAttributes"),
+            ExtensionKind::NameConstraints => concat!($list, "nameConstraints"),
+            ExtensionKind::AuthorityInfoAccess => concat!($list, "authorityInfoAccess"),
+            ExtensionKind::SubjectInfoAccess => concat!($list, "subjectInfoAccess"),
+            ExtensionKind::CertificatePolicies => concat!($list, "certificatePolicies"),
+            ExtensionKind::PolicyMappings => concat!($list, "policyMappings"),
+            ExtensionKind::PolicyConstraints => concat!($list, "policyConstraints"),
+            ExtensionKind::InhibitAnyPolicy => concat!($list, "inhibitAnyPolicy"),
+            ExtensionKind::CrlDistributionPoints => concat!($list, "cRLDistributionPoints"),
+            ExtensionKind::FreshestCrl => concat!($list, "freshestCRL"),
+        }
+    };
+}
+
+pub(crate) use extension_place;
+
+/// Rules of a group; in the place of the semicolon, that an extension can't be read, of each type.
+macro_rules! with_malformed {
+    ($group:ident: $($before:expr),+; $($behind:expr),*) => {
+        [
+            $($before,)+
+            $group::ExtensionMalformed(ExtensionKind::AuthorityKeyIdentifier),
+            $group::ExtensionMalformed(ExtensionKind::SubjectKeyIdentifier),
+            $group::ExtensionMalformed(ExtensionKind::KeyUsage),
+            $group::ExtensionMalformed(ExtensionKind::ExtendedKeyUsage),
+            $group::ExtensionMalformed(ExtensionKind::PrivateKeyUsagePeriod),
+            $group::ExtensionMalformed(ExtensionKind::BasicConstraints),
+            $group::ExtensionMalformed(ExtensionKind::SubjectAltName),
+            $group::ExtensionMalformed(ExtensionKind::IssuerAltName),
+            $group::ExtensionMalformed(ExtensionKind::SubjectDirectoryAttributes),
+            $group::ExtensionMalformed(ExtensionKind::NameConstraints),
+            $group::ExtensionMalformed(ExtensionKind::AuthorityInfoAccess),
+            $group::ExtensionMalformed(ExtensionKind::SubjectInfoAccess),
+            $group::ExtensionMalformed(ExtensionKind::CertificatePolicies),
+            $group::ExtensionMalformed(ExtensionKind::PolicyMappings),
+            $group::ExtensionMalformed(ExtensionKind::PolicyConstraints),
+            $group::ExtensionMalformed(ExtensionKind::InhibitAnyPolicy),
+            $group::ExtensionMalformed(ExtensionKind::CrlDistributionPoints),
+            $group::ExtensionMalformed(ExtensionKind::FreshestCrl),
+            $($behind,)*
+        ]
+    };
+}
+
+pub(crate) use with_malformed;
+
 impl ExtensionKind {
     /// The OID of the type.
     pub(crate) fn oid(self) -> ObjectIdentifier
@@ -103,30 +162,7 @@ impl ExtensionKind {
     fn place(self) -> &'static str
         ensures { result.now ≡ extension_place self }
     {
-        match self {
-            ExtensionKind::AuthorityKeyIdentifier =>
-                "tbsCertificate.extensions.authorityKeyIdentifier",
-            ExtensionKind::SubjectKeyIdentifier => "tbsCertificate.extensions.subjectKeyIdentifier",
-            ExtensionKind::KeyUsage => "tbsCertificate.extensions.keyUsage",
-            ExtensionKind::ExtendedKeyUsage => "tbsCertificate.extensions.extKeyUsage",
-            ExtensionKind::PrivateKeyUsagePeriod =>
-                "tbsCertificate.extensions.privateKeyUsagePeriod",
-            ExtensionKind::BasicConstraints => "tbsCertificate.extensions.basicConstraints",
-            ExtensionKind::SubjectAltName => "tbsCertificate.extensions.subjectAltName",
-            ExtensionKind::IssuerAltName => "tbsCertificate.extensions.issuerAltName",
-            ExtensionKind::SubjectDirectoryAttributes =>
-                "tbsCertificate.extensions.subjectDirectoryAttributes",
-            ExtensionKind::NameConstraints => "tbsCertificate.extensions.nameConstraints",
-            ExtensionKind::AuthorityInfoAccess => "tbsCertificate.extensions.authorityInfoAccess",
-            ExtensionKind::SubjectInfoAccess => "tbsCertificate.extensions.subjectInfoAccess",
-            ExtensionKind::CertificatePolicies => "tbsCertificate.extensions.certificatePolicies",
-            ExtensionKind::PolicyMappings => "tbsCertificate.extensions.policyMappings",
-            ExtensionKind::PolicyConstraints => "tbsCertificate.extensions.policyConstraints",
-            ExtensionKind::InhibitAnyPolicy => "tbsCertificate.extensions.inhibitAnyPolicy",
-            ExtensionKind::CrlDistributionPoints =>
-                "tbsCertificate.extensions.cRLDistributionPoints",
-            ExtensionKind::FreshestCrl => "tbsCertificate.extensions.freshestCRL",
-        }
+        extension_place!("tbsCertificate.extensions.", self)
     }
 }
 
@@ -144,46 +180,20 @@ pub enum ListRule {
     ExtensionMalformed(ExtensionKind),
 }
 
-pub(crate) const LIST_RULES: [ListRule; 20] = [
+pub(crate) const LIST_RULES: [ListRule; 20] = with_malformed! { ListRule:
     ListRule::ExtensionsEmpty,
-    ListRule::ExtensionRepeated,
-    ListRule::ExtensionMalformed(ExtensionKind::AuthorityKeyIdentifier),
-    ListRule::ExtensionMalformed(ExtensionKind::SubjectKeyIdentifier),
-    ListRule::ExtensionMalformed(ExtensionKind::KeyUsage),
-    ListRule::ExtensionMalformed(ExtensionKind::ExtendedKeyUsage),
-    ListRule::ExtensionMalformed(ExtensionKind::PrivateKeyUsagePeriod),
-    ListRule::ExtensionMalformed(ExtensionKind::BasicConstraints),
-    ListRule::ExtensionMalformed(ExtensionKind::SubjectAltName),
-    ListRule::ExtensionMalformed(ExtensionKind::IssuerAltName),
-    ListRule::ExtensionMalformed(ExtensionKind::SubjectDirectoryAttributes),
-    ListRule::ExtensionMalformed(ExtensionKind::NameConstraints),
-    ListRule::ExtensionMalformed(ExtensionKind::AuthorityInfoAccess),
-    ListRule::ExtensionMalformed(ExtensionKind::SubjectInfoAccess),
-    ListRule::ExtensionMalformed(ExtensionKind::CertificatePolicies),
-    ListRule::ExtensionMalformed(ExtensionKind::PolicyMappings),
-    ListRule::ExtensionMalformed(ExtensionKind::PolicyConstraints),
-    ListRule::ExtensionMalformed(ExtensionKind::InhibitAnyPolicy),
-    ListRule::ExtensionMalformed(ExtensionKind::CrlDistributionPoints),
-    ListRule::ExtensionMalformed(ExtensionKind::FreshestCrl),
-];
+    ListRule::ExtensionRepeated;
+};
 
 impl ListRule {
     /// How bad it is to break the rule, its name, its section, and its place.
     pub fn entry(self) -> Entry
         ensures { Says result (list_wording self) }
     {
-        match self {
-            ListRule::ExtensionsEmpty => must(
-                "extensions_empty",
-                "4.1.2.9",
-                "tbsCertificate.extensions",
-            ),
-            ListRule::ExtensionRepeated => must(
-                "extension_repeated",
-                "4.2",
-                "tbsCertificate.extensions",
-            ),
-            ListRule::ExtensionMalformed(kind) => must("extension_malformed", "4.2", kind.place()),
+        told! { self: ListRule;
+            ExtensionsEmpty => must("extensions_empty", "4.1.2.9", "tbsCertificate.extensions"),
+            ExtensionRepeated => must("extension_repeated", "4.2", "tbsCertificate.extensions"),
+            ExtensionMalformed(kind) => must("extension_malformed", "4.2", kind.place()),
         }
     }
 }

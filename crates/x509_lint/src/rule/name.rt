@@ -4,6 +4,7 @@ ghost use Rattle.x509_lint.specs.Name.{name_wording};
 ghost use Rattle.x509_lint.specs.Wording.{Says};
 
 use crate::entry::{Entry, must, should};
+use crate::told;
 
 /// Rules on the issuer and the subject of a certificate (RFC 5280 4.1.2.4, 4.1.2.6).
 #[derive(Clone, Copy, Debug, PartialEq, Eq)]
@@ -69,56 +70,20 @@ impl NameRule {
     pub fn entry(self) -> Entry
         ensures { Says result (name_wording self) }
     {
-        match self {
-            NameRule::IssuerRdnEmpty => must(
-                "issuer_rdn_empty",
-                "4.1.2.4",
-                "tbsCertificate.issuer",
-            ),
-            NameRule::IssuerCountryNameInvalid => must(
-                "issuer_country_name_invalid",
-                "A.1",
-                "tbsCertificate.issuer",
-            ),
-            NameRule::IssuerTextType => must("issuer_text_type", "A.1", "tbsCertificate.issuer"),
-            NameRule::IssuerTextOldType => should(
-                "issuer_text_old_type",
-                "4.1.2.4",
-                "tbsCertificate.issuer",
-            ),
-            NameRule::IssuerTextCharacters => must(
-                "issuer_text_characters",
-                "4.1.2.4",
-                "tbsCertificate.issuer",
-            ),
-            NameRule::IssuerTextSize => must("issuer_text_size", "A.1", "tbsCertificate.issuer"),
-            NameRule::SubjectRdnEmpty => must(
-                "subject_rdn_empty",
-                "4.1.2.6",
-                "tbsCertificate.subject",
-            ),
-            NameRule::SubjectCountryNameInvalid => must(
-                "subject_country_name_invalid",
-                "A.1",
-                "tbsCertificate.subject",
-            ),
-            NameRule::SubjectTextType => must("subject_text_type", "A.1", "tbsCertificate.subject"),
-            NameRule::SubjectTextOldType => should(
-                "subject_text_old_type",
-                "4.1.2.6",
-                "tbsCertificate.subject",
-            ),
-            NameRule::SubjectTextCharacters => must(
-                "subject_text_characters",
-                "4.1.2.6",
-                "tbsCertificate.subject",
-            ),
-            NameRule::SubjectTextSize => must("subject_text_size", "A.1", "tbsCertificate.subject"),
-            NameRule::SubjectEmptyWithoutCriticalAltName => must(
-                "subject_empty_without_critical_alt_name",
-                "4.1.2.6",
-                "tbsCertificate.subject",
-            ),
+        told! { self: NameRule;
+            IssuerRdnEmpty => must("issuer_rdn_empty", "4.1.2.4", "tbsCertificate.issuer"),
+            IssuerCountryNameInvalid => must("issuer_country_name_invalid", "A.1", "tbsCertificate.issuer"),
+            IssuerTextType => must("issuer_text_type", "A.1", "tbsCertificate.issuer"),
+            IssuerTextOldType => should("issuer_text_old_type", "4.1.2.4", "tbsCertificate.issuer"),
+            IssuerTextCharacters => must("issuer_text_characters", "4.1.2.4", "tbsCertificate.issuer"),
+            IssuerTextSize => must("issuer_text_size", "A.1", "tbsCertificate.issuer"),
+            SubjectRdnEmpty => must("subject_rdn_empty", "4.1.2.6", "tbsCertificate.subject"),
+            SubjectCountryNameInvalid => must("subject_country_name_invalid", "A.1", "tbsCertificate.subject"),
+            SubjectTextType => must("subject_text_type", "A.1", "tbsCertificate.subject"),
+            SubjectTextOldType => should("subject_text_old_type", "4.1.2.6", "tbsCertificate.subject"),
+            SubjectTextCharacters => must("subject_text_characters", "4.1.2.6", "tbsCertificate.subject"),
+            SubjectTextSize => must("subject_text_size", "A.1", "tbsCertificate.subject"),
+            SubjectEmptyWithoutCriticalAltName => must("subject_empty_without_critical_alt_name", "4.1.2.6", "tbsCertificate.subject"),
         }
     }
 }

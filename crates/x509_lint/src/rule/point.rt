@@ -4,6 +4,7 @@ ghost use Rattle.x509_lint.specs.Point.{point_wording};
 ghost use Rattle.x509_lint.specs.Wording.{Says};
 
 use crate::entry::{Entry, must, should};
+use crate::told;
 
 /// Rules on lists of attributes, of CRL distribution points and of access descriptions (RFC 5280 4.2.1.8, 4.2.1.13, 4.2.1.15, 4.2.2).
 #[derive(Clone, Copy, Debug, PartialEq, Eq)]
@@ -125,142 +126,34 @@ impl PointRule {
     pub fn entry(self) -> Entry
         ensures { Says result (point_wording self) }
     {
-        match self {
-            PointRule::SubjectDirectoryAttributesEmpty => must(
-                "subject_directory_attributes_empty",
-                "4.2.1.8",
-                "tbsCertificate.extensions.subjectDirectoryAttributes",
-            ),
-            PointRule::CrlDistributionPointsEmpty => must(
-                "crl_distribution_points_empty",
-                "4.2.1.13",
-                "tbsCertificate.extensions.cRLDistributionPoints",
-            ),
-            PointRule::DistributionPointEmpty => must(
-                "distribution_point_empty",
-                "4.2.1.13",
-                "tbsCertificate.extensions.cRLDistributionPoints",
-            ),
-            PointRule::DistributionPointRelative => should(
-                "distribution_point_relative",
-                "4.2.1.13",
-                "tbsCertificate.extensions.cRLDistributionPoints",
-            ),
-            PointRule::DistributionPointRelativeToSeveral => must(
-                "distribution_point_relative_to_several",
-                "4.2.1.13",
-                "tbsCertificate.extensions.cRLDistributionPoints",
-            ),
-            PointRule::DistributionPointWithoutUri => should(
-                "distribution_point_without_uri",
-                "4.2.1.13",
-                "tbsCertificate.extensions.cRLDistributionPoints",
-            ),
-            PointRule::DistributionPointIssuerInvalid => must(
-                "distribution_point_issuer_invalid",
-                "4.2.1.13",
-                "tbsCertificate.extensions.cRLDistributionPoints",
-            ),
-            PointRule::DistributionPointOwnIssuer => must(
-                "distribution_point_own_issuer",
-                "4.2.1.13",
-                "tbsCertificate.extensions.cRLDistributionPoints",
-            ),
-            PointRule::DistributionPointsPartial => must(
-                "distribution_points_partial",
-                "4.2.1.13",
-                "tbsCertificate.extensions.cRLDistributionPoints",
-            ),
-            PointRule::DistributionPointLdapIncomplete => must(
-                "distribution_point_ldap_incomplete",
-                "4.2.1.13",
-                "tbsCertificate.extensions.cRLDistributionPoints",
-            ),
-            PointRule::DistributionPointLdapWithoutHost => should(
-                "distribution_point_ldap_without_host",
-                "4.2.1.13",
-                "tbsCertificate.extensions.cRLDistributionPoints",
-            ),
-            PointRule::FreshestCrlEmpty => must(
-                "freshest_crl_empty",
-                "4.2.1.15",
-                "tbsCertificate.extensions.freshestCRL",
-            ),
-            PointRule::FreshestCrlPointEmpty => must(
-                "freshest_crl_point_empty",
-                "4.2.1.15",
-                "tbsCertificate.extensions.freshestCRL",
-            ),
-            PointRule::FreshestCrlPointRelative => should(
-                "freshest_crl_point_relative",
-                "4.2.1.15",
-                "tbsCertificate.extensions.freshestCRL",
-            ),
-            PointRule::FreshestCrlPointRelativeToSeveral => must(
-                "freshest_crl_point_relative_to_several",
-                "4.2.1.15",
-                "tbsCertificate.extensions.freshestCRL",
-            ),
-            PointRule::FreshestCrlPointWithoutUri => should(
-                "freshest_crl_point_without_uri",
-                "4.2.1.15",
-                "tbsCertificate.extensions.freshestCRL",
-            ),
-            PointRule::FreshestCrlPointIssuerInvalid => must(
-                "freshest_crl_point_issuer_invalid",
-                "4.2.1.15",
-                "tbsCertificate.extensions.freshestCRL",
-            ),
-            PointRule::FreshestCrlPointOwnIssuer => must(
-                "freshest_crl_point_own_issuer",
-                "4.2.1.15",
-                "tbsCertificate.extensions.freshestCRL",
-            ),
-            PointRule::FreshestCrlPointsPartial => must(
-                "freshest_crl_points_partial",
-                "4.2.1.15",
-                "tbsCertificate.extensions.freshestCRL",
-            ),
-            PointRule::FreshestCrlPointLdapIncomplete => must(
-                "freshest_crl_point_ldap_incomplete",
-                "4.2.1.15",
-                "tbsCertificate.extensions.freshestCRL",
-            ),
-            PointRule::FreshestCrlPointLdapWithoutHost => should(
-                "freshest_crl_point_ldap_without_host",
-                "4.2.1.15",
-                "tbsCertificate.extensions.freshestCRL",
-            ),
-            PointRule::AuthorityInfoAccessEmpty => must(
-                "authority_info_access_empty",
-                "4.2.2.1",
-                "tbsCertificate.extensions.authorityInfoAccess",
-            ),
-            PointRule::CaIssuersWithoutUri => should(
-                "ca_issuers_without_uri",
-                "4.2.2.1",
-                "tbsCertificate.extensions.authorityInfoAccess",
-            ),
-            PointRule::CaIssuersLdapIncomplete => must(
-                "ca_issuers_ldap_incomplete",
-                "4.2.2.1",
-                "tbsCertificate.extensions.authorityInfoAccess",
-            ),
-            PointRule::CaIssuersLdapWithoutHost => should(
-                "ca_issuers_ldap_without_host",
-                "4.2.2.1",
-                "tbsCertificate.extensions.authorityInfoAccess",
-            ),
-            PointRule::SubjectInfoAccessEmpty => must(
-                "subject_info_access_empty",
-                "4.2.2.2",
-                "tbsCertificate.extensions.subjectInfoAccess",
-            ),
-            PointRule::CaRepositoryWithoutUri => should(
-                "ca_repository_without_uri",
-                "4.2.2.2",
-                "tbsCertificate.extensions.subjectInfoAccess",
-            ),
+        told! { self: PointRule;
+            SubjectDirectoryAttributesEmpty => must("subject_directory_attributes_empty", "4.2.1.8", "tbsCertificate.extensions.subjectDirectoryAttributes"),
+            CrlDistributionPointsEmpty => must("crl_distribution_points_empty", "4.2.1.13", "tbsCertificate.extensions.cRLDistributionPoints"),
+            DistributionPointEmpty => must("distribution_point_empty", "4.2.1.13", "tbsCertificate.extensions.cRLDistributionPoints"),
+            DistributionPointRelative => should("distribution_point_relative", "4.2.1.13", "tbsCertificate.extensions.cRLDistributionPoints"),
+            DistributionPointRelativeToSeveral => must("distribution_point_relative_to_several", "4.2.1.13", "tbsCertificate.extensions.cRLDistributionPoints"),
+            DistributionPointWithoutUri => should("distribution_point_without_uri", "4.2.1.13", "tbsCertificate.extensions.cRLDistributionPoints"),
+            DistributionPointIssuerInvalid => must("distribution_point_issuer_invalid", "4.2.1.13", "tbsCertificate.extensions.cRLDistributionPoints"),
+            DistributionPointOwnIssuer => must("distribution_point_own_issuer", "4.2.1.13", "tbsCertificate.extensions.cRLDistributionPoints"),
+            DistributionPointsPartial => must("distribution_points_partial", "4.2.1.13", "tbsCertificate.extensions.cRLDistributionPoints"),
+            DistributionPointLdapIncomplete => must("distribution_point_ldap_incomplete", "4.2.1.13", "tbsCertificate.extensions.cRLDistributionPoints"),
+            DistributionPointLdapWithoutHost => should("distribution_point_ldap_without_host", "4.2.1.13", "tbsCertificate.extensions.cRLDistributionPoints"),
+            FreshestCrlEmpty => must("freshest_crl_empty", "4.2.1.15", "tbsCertificate.extensions.freshestCRL"),
+            FreshestCrlPointEmpty => must("freshest_crl_point_empty", "4.2.1.15", "tbsCertificate.extensions.freshestCRL"),
+            FreshestCrlPointRelative => should("freshest_crl_point_relative", "4.2.1.15", "tbsCertificate.extensions.freshestCRL"),
+            FreshestCrlPointRelativeToSeveral => must("freshest_crl_point_relative_to_several", "4.2.1.15", "tbsCertificate.extensions.freshestCRL"),
+            FreshestCrlPointWithoutUri => should("freshest_crl_point_without_uri", "4.2.1.15", "tbsCertificate.extensions.freshestCRL"),
+            FreshestCrlPointIssuerInvalid => must("freshest_crl_point_issuer_invalid", "4.2.1.15", "tbsCertificate.extensions.freshestCRL"),
+            FreshestCrlPointOwnIssuer => must("freshest_crl_point_own_issuer", "4.2.1.15", "tbsCertificate.extensions.freshestCRL"),
+            FreshestCrlPointsPartial => must("freshest_crl_points_partial", "4.2.1.15", "tbsCertificate.extensions.freshestCRL"),
+            FreshestCrlPointLdapIncomplete => must("freshest_crl_point_ldap_incomplete", "4.2.1.15", "tbsCertificate.extensions.freshestCRL"),
+            FreshestCrlPointLdapWithoutHost => should("freshest_crl_point_ldap_without_host", "4.2.1.15", "tbsCertificate.extensions.freshestCRL"),
+            AuthorityInfoAccessEmpty => must("authority_info_access_empty", "4.2.2.1", "tbsCertificate.extensions.authorityInfoAccess"),
+            CaIssuersWithoutUri => should("ca_issuers_without_uri", "4.2.2.1", "tbsCertificate.extensions.authorityInfoAccess"),
+            CaIssuersLdapIncomplete => must("ca_issuers_ldap_incomplete", "4.2.2.1", "tbsCertificate.extensions.authorityInfoAccess"),
+            CaIssuersLdapWithoutHost => should("ca_issuers_ldap_without_host", "4.2.2.1", "tbsCertificate.extensions.authorityInfoAccess"),
+            SubjectInfoAccessEmpty => must("subject_info_access_empty", "4.2.2.2", "tbsCertificate.extensions.subjectInfoAccess"),
+            CaRepositoryWithoutUri => should("ca_repository_without_uri", "4.2.2.2", "tbsCertificate.extensions.subjectInfoAccess"),
         }
     }
 }

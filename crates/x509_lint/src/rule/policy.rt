@@ -4,6 +4,7 @@ ghost use Rattle.x509_lint.specs.Policy.{policy_wording};
 ghost use Rattle.x509_lint.specs.Wording.{Says};
 
 use crate::entry::{Entry, must, should};
+use crate::told;
 
 /// Rules on certificate policies, policy mappings and policy constraints (RFC 5280 4.2.1.4, 4.2.1.5, 4.2.1.11).
 #[derive(Clone, Copy, Debug, PartialEq, Eq)]
@@ -77,82 +78,22 @@ impl PolicyRule {
     pub fn entry(self) -> Entry
         ensures { Says result (policy_wording self) }
     {
-        match self {
-            PolicyRule::CertificatePoliciesEmpty => must(
-                "certificate_policies_empty",
-                "4.2.1.4",
-                "tbsCertificate.extensions.certificatePolicies",
-            ),
-            PolicyRule::CertificatePolicyRepeated => must(
-                "certificate_policy_repeated",
-                "4.2.1.4",
-                "tbsCertificate.extensions.certificatePolicies",
-            ),
-            PolicyRule::PolicyQualifiersEmpty => must(
-                "policy_qualifiers_empty",
-                "4.2.1.4",
-                "tbsCertificate.extensions.certificatePolicies",
-            ),
-            PolicyRule::AnyPolicyQualifierInvalid => must(
-                "any_policy_qualifier_invalid",
-                "4.2.1.4",
-                "tbsCertificate.extensions.certificatePolicies",
-            ),
-            PolicyRule::ExplicitTextTooLong => must(
-                "explicit_text_too_long",
-                "4.2.1.4",
-                "tbsCertificate.extensions.certificatePolicies",
-            ),
-            PolicyRule::ExplicitTextEmpty => must(
-                "explicit_text_empty",
-                "4.2.1.4",
-                "tbsCertificate.extensions.certificatePolicies",
-            ),
-            PolicyRule::ExplicitTextType => must(
-                "explicit_text_type",
-                "4.2.1.4",
-                "tbsCertificate.extensions.certificatePolicies",
-            ),
-            PolicyRule::ExplicitTextNotUtf8String => should(
-                "explicit_text_not_utf8_string",
-                "4.2.1.4",
-                "tbsCertificate.extensions.certificatePolicies",
-            ),
-            PolicyRule::ExplicitTextControl => should(
-                "explicit_text_control",
-                "4.2.1.4",
-                "tbsCertificate.extensions.certificatePolicies",
-            ),
-            PolicyRule::NoticeReferencePresent => should(
-                "notice_reference_present",
-                "4.2.1.4",
-                "tbsCertificate.extensions.certificatePolicies",
-            ),
-            PolicyRule::ExplicitTextNotNormalized => should(
-                "explicit_text_not_normalized",
-                "4.2.1.4",
-                "tbsCertificate.extensions.certificatePolicies",
-            ),
-            PolicyRule::PolicyMappingsEmpty => must(
-                "policy_mappings_empty",
-                "4.2.1.5",
-                "tbsCertificate.extensions.policyMappings",
-            ),
-            PolicyRule::PolicyMappingAnyPolicy => must(
-                "policy_mapping_any_policy",
-                "4.2.1.5",
-                "tbsCertificate.extensions.policyMappings",
-            ),
-            PolicyRule::PolicyMappingNotAsserted => should(
-                "policy_mapping_not_asserted",
-                "4.2.1.5",
-                "tbsCertificate.extensions.policyMappings",
-            ),
-            PolicyRule::PolicyConstraintsEmpty => must(
-                "policy_constraints_empty",
-                "4.2.1.11",
-                "tbsCertificate.extensions.policyConstraints",
-            ),
+        told! { self: PolicyRule;
+            CertificatePoliciesEmpty => must("certificate_policies_empty", "4.2.1.4", "tbsCertificate.extensions.certificatePolicies"),
+            CertificatePolicyRepeated => must("certificate_policy_repeated", "4.2.1.4", "tbsCertificate.extensions.certificatePolicies"),
+            PolicyQualifiersEmpty => must("policy_qualifiers_empty", "4.2.1.4", "tbsCertificate.extensions.certificatePolicies"),
+            AnyPolicyQualifierInvalid => must("any_policy_qualifier_invalid", "4.2.1.4", "tbsCertificate.extensions.certificatePolicies"),
+            ExplicitTextTooLong => must("explicit_text_too_long", "4.2.1.4", "tbsCertificate.extensions.certificatePolicies"),
+            ExplicitTextEmpty => must("explicit_text_empty", "4.2.1.4", "tbsCertificate.extensions.certificatePolicies"),
+            ExplicitTextType => must("explicit_text_type", "4.2.1.4", "tbsCertificate.extensions.certificatePolicies"),
+            ExplicitTextNotUtf8String => should("explicit_text_not_utf8_string", "4.2.1.4", "tbsCertificate.extensions.certificatePolicies"),
+            ExplicitTextControl => should("explicit_text_control", "4.2.1.4", "tbsCertificate.extensions.certificatePolicies"),
+            NoticeReferencePresent => should("notice_reference_present", "4.2.1.4", "tbsCertificate.extensions.certificatePolicies"),
+            ExplicitTextNotNormalized => should("explicit_text_not_normalized", "4.2.1.4", "tbsCertificate.extensions.certificatePolicies"),
+            PolicyMappingsEmpty => must("policy_mappings_empty", "4.2.1.5", "tbsCertificate.extensions.policyMappings"),
+            PolicyMappingAnyPolicy => must("policy_mapping_any_policy", "4.2.1.5", "tbsCertificate.extensions.policyMappings"),
+            PolicyMappingNotAsserted => should("policy_mapping_not_asserted", "4.2.1.5", "tbsCertificate.extensions.policyMappings"),
+            PolicyConstraintsEmpty => must("policy_constraints_empty", "4.2.1.11", "tbsCertificate.extensions.policyConstraints"),
         }
     }
 }

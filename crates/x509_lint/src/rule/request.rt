@@ -6,6 +6,8 @@ ghost use Rattle.x509_lint.specs.Wording.{Says};
 
 use crate::entry::{Entry, must, must_of, should, should_of};
 use crate::rule::ExtensionKind;
+use crate::rule::list::{extension_place, with_malformed};
+use crate::told;
 
 /// Rules on CSRs (RFC 2986 4.1, RFC 2985 5.4, RFC 5280 4.1.2.6, 4.2).
 #[derive(Clone, Copy, Debug, PartialEq, Eq)]
@@ -89,7 +91,7 @@ pub enum RequestRule {
     SubjectAltNameUriHostInvalid,
 }
 
-pub(crate) const REQUEST_RULES: [RequestRule; 43] = [
+pub(crate) const REQUEST_RULES: [RequestRule; 43] = with_malformed! { RequestRule:
     RequestRule::SubjectRdnEmpty,
     RequestRule::SubjectCountryNameInvalid,
     RequestRule::SubjectTextType,
@@ -106,25 +108,7 @@ pub(crate) const REQUEST_RULES: [RequestRule; 43] = [
     RequestRule::ExtensionRequestValues,
     RequestRule::ExtensionRequestMalformed,
     RequestRule::ExtensionsEmpty,
-    RequestRule::ExtensionRepeated,
-    RequestRule::ExtensionMalformed(ExtensionKind::AuthorityKeyIdentifier),
-    RequestRule::ExtensionMalformed(ExtensionKind::SubjectKeyIdentifier),
-    RequestRule::ExtensionMalformed(ExtensionKind::KeyUsage),
-    RequestRule::ExtensionMalformed(ExtensionKind::ExtendedKeyUsage),
-    RequestRule::ExtensionMalformed(ExtensionKind::PrivateKeyUsagePeriod),
-    RequestRule::ExtensionMalformed(ExtensionKind::BasicConstraints),
-    RequestRule::ExtensionMalformed(ExtensionKind::SubjectAltName),
-    RequestRule::ExtensionMalformed(ExtensionKind::IssuerAltName),
-    RequestRule::ExtensionMalformed(ExtensionKind::SubjectDirectoryAttributes),
-    RequestRule::ExtensionMalformed(ExtensionKind::NameConstraints),
-    RequestRule::ExtensionMalformed(ExtensionKind::AuthorityInfoAccess),
-    RequestRule::ExtensionMalformed(ExtensionKind::SubjectInfoAccess),
-    RequestRule::ExtensionMalformed(ExtensionKind::CertificatePolicies),
-    RequestRule::ExtensionMalformed(ExtensionKind::PolicyMappings),
-    RequestRule::ExtensionMalformed(ExtensionKind::PolicyConstraints),
-    RequestRule::ExtensionMalformed(ExtensionKind::InhibitAnyPolicy),
-    RequestRule::ExtensionMalformed(ExtensionKind::CrlDistributionPoints),
-    RequestRule::ExtensionMalformed(ExtensionKind::FreshestCrl),
+    RequestRule::ExtensionRepeated;
     RequestRule::SubjectAltNameEmpty,
     RequestRule::SubjectAltNameEmptyName,
     RequestRule::SubjectAltNameDnsNameInvalid,
@@ -132,50 +116,17 @@ pub(crate) const REQUEST_RULES: [RequestRule; 43] = [
     RequestRule::SubjectAltNameMailboxInvalid,
     RequestRule::SubjectAltNameUriRelative,
     RequestRule::SubjectAltNameUriInvalid,
-    RequestRule::SubjectAltNameUriHostInvalid,
-];
+    RequestRule::SubjectAltNameUriHostInvalid
+};
 
 /// The place of an extension that is asked for.
 fn place_of(kind: ExtensionKind) -> &'static str
     ensures { result.now ≡ request_extension_place kind }
 {
-    match kind {
-        ExtensionKind::AuthorityKeyIdentifier =>
-            "certificationRequestInfo.attributes.extensionRequest.authorityKeyIdentifier",
-        ExtensionKind::SubjectKeyIdentifier =>
-            "certificationRequestInfo.attributes.extensionRequest.subjectKeyIdentifier",
-        ExtensionKind::KeyUsage => "certificationRequestInfo.attributes.extensionRequest.keyUsage",
-        ExtensionKind::ExtendedKeyUsage =>
-            "certificationRequestInfo.attributes.extensionRequest.extKeyUsage",
-        ExtensionKind::PrivateKeyUsagePeriod =>
-            "certificationRequestInfo.attributes.extensionRequest.privateKeyUsagePeriod",
-        ExtensionKind::BasicConstraints =>
-            "certificationRequestInfo.attributes.extensionRequest.basicConstraints",
-        ExtensionKind::SubjectAltName =>
-            "certificationRequestInfo.attributes.extensionRequest.subjectAltName",
-        ExtensionKind::IssuerAltName =>
-            "certificationRequestInfo.attributes.extensionRequest.issuerAltName",
-        ExtensionKind::SubjectDirectoryAttributes =>
-            "certificationRequestInfo.attributes.extensionRequest.subjectDirectoryAttributes",
-        ExtensionKind::NameConstraints =>
-            "certificationRequestInfo.attributes.extensionRequest.nameConstraints",
-        ExtensionKind::AuthorityInfoAccess =>
-            "certificationRequestInfo.attributes.extensionRequest.authorityInfoAccess",
-        ExtensionKind::SubjectInfoAccess =>
-            "certificationRequestInfo.attributes.extensionRequest.subjectInfoAccess",
-        ExtensionKind::CertificatePolicies =>
-            "certificationRequestInfo.attributes.extensionRequest.certificatePolicies",
-        ExtensionKind::PolicyMappings =>
-            "certificationRequestInfo.attributes.extensionRequest.policyMappings",
-        ExtensionKind::PolicyConstraints =>
-            "certificationRequestInfo.attributes.extensionRequest.policyConstraints",
-        ExtensionKind::InhibitAnyPolicy =>
-            "certificationRequestInfo.attributes.extensionRequest.inhibitAnyPolicy",
-        ExtensionKind::CrlDistributionPoints =>
-            "certificationRequestInfo.attributes.extensionRequest.cRLDistributionPoints",
-        ExtensionKind::FreshestCrl =>
-            "certificationRequestInfo.attributes.extensionRequest.freshestCRL",
-    }
+    extension_place!(
+        "certificationRequestInfo.attributes.extensionRequest.",
+        kind
+    )
 }
 
 impl RequestRule {
@@ -183,145 +134,39 @@ impl RequestRule {
     pub fn entry(self) -> Entry
         ensures { Says result (request_wording self) }
     {
-        match self {
-            RequestRule::SubjectRdnEmpty => must(
-                "subject_rdn_empty",
-                "4.1.2.6",
-                "certificationRequestInfo.subject",
-            ),
-            RequestRule::SubjectCountryNameInvalid => must(
-                "subject_country_name_invalid",
-                "A.1",
-                "certificationRequestInfo.subject",
-            ),
-            RequestRule::SubjectTextType => must(
-                "subject_text_type",
-                "A.1",
-                "certificationRequestInfo.subject",
-            ),
-            RequestRule::SubjectTextOldType => should(
-                "subject_text_old_type",
-                "4.1.2.6",
-                "certificationRequestInfo.subject",
-            ),
-            RequestRule::SubjectTextCharacters => must(
-                "subject_text_characters",
-                "4.1.2.6",
-                "certificationRequestInfo.subject",
-            ),
-            RequestRule::SubjectTextSize => must(
-                "subject_text_size",
-                "A.1",
-                "certificationRequestInfo.subject",
-            ),
-            RequestRule::SubjectEmptyWithoutAltName => must(
-                "subject_empty_without_alt_name",
-                "4.1.2.6",
-                "certificationRequestInfo.subject",
-            ),
-            RequestRule::AttributeRepeated => should_of(
-                "RFC 2986",
-                "attribute_repeated",
-                "4.1",
-                "certificationRequestInfo.attributes",
-            ),
-            RequestRule::AttributeValuesEmpty => must_of(
-                "RFC 2986",
-                "attribute_values_empty",
-                "4.1",
-                "certificationRequestInfo.attributes",
-            ),
-            RequestRule::ChallengePasswordValues => must_of(
-                "RFC 2985",
-                "challenge_password_several_values",
-                "5.4.1",
-                "certificationRequestInfo.attributes.challengePassword",
-            ),
-            RequestRule::ChallengePasswordMalformed => must_of(
-                "RFC 2985",
-                "challenge_password_malformed",
-                "5.4.1",
-                "certificationRequestInfo.attributes.challengePassword",
-            ),
-            RequestRule::ChallengePasswordSize => must_of(
-                "RFC 2985",
-                "challenge_password_size",
-                "5.4.1",
-                "certificationRequestInfo.attributes.challengePassword",
-            ),
-            RequestRule::ChallengePasswordType => should_of(
-                "RFC 2985",
-                "challenge_password_type",
-                "5.4.1",
-                "certificationRequestInfo.attributes.challengePassword",
-            ),
-            RequestRule::ExtensionRequestValues => must_of(
-                "RFC 2985",
-                "extension_request_several_values",
-                "5.4.2",
-                "certificationRequestInfo.attributes.extensionRequest",
-            ),
-            RequestRule::ExtensionRequestMalformed => must_of(
-                "RFC 2985",
-                "extension_request_malformed",
-                "5.4.2",
-                "certificationRequestInfo.attributes.extensionRequest",
-            ),
-            RequestRule::ExtensionsEmpty => must(
-                "extensions_empty",
-                "4.1.2.9",
-                "certificationRequestInfo.attributes.extensionRequest",
-            ),
-            RequestRule::ExtensionRepeated => must(
-                "extension_repeated",
-                "4.2",
-                "certificationRequestInfo.attributes.extensionRequest",
-            ),
-            RequestRule::ExtensionMalformed(kind) => must(
-                "extension_malformed",
-                "4.2",
-                place_of(kind),
-            ),
-            RequestRule::SubjectAltNameEmpty => must(
-                "subject_alt_name_empty",
-                "4.2.1.6",
-                "certificationRequestInfo.attributes.extensionRequest.subjectAltName",
-            ),
-            RequestRule::SubjectAltNameEmptyName => must(
-                "subject_alt_name_empty_name",
-                "4.2.1.6",
-                "certificationRequestInfo.attributes.extensionRequest.subjectAltName",
-            ),
-            RequestRule::SubjectAltNameDnsNameInvalid => must(
-                "subject_alt_name_dns_name_invalid",
-                "4.2.1.6",
-                "certificationRequestInfo.attributes.extensionRequest.subjectAltName",
-            ),
-            RequestRule::SubjectAltNameAddressLength => must(
-                "subject_alt_name_address_length",
-                "4.2.1.6",
-                "certificationRequestInfo.attributes.extensionRequest.subjectAltName",
-            ),
-            RequestRule::SubjectAltNameMailboxInvalid => must(
-                "subject_alt_name_mailbox_invalid",
-                "4.2.1.6",
-                "certificationRequestInfo.attributes.extensionRequest.subjectAltName",
-            ),
-            RequestRule::SubjectAltNameUriRelative => must(
-                "subject_alt_name_uri_relative",
-                "4.2.1.6",
-                "certificationRequestInfo.attributes.extensionRequest.subjectAltName",
-            ),
-            RequestRule::SubjectAltNameUriInvalid => must(
-                "subject_alt_name_uri_invalid",
-                "4.2.1.6",
-                "certificationRequestInfo.attributes.extensionRequest.subjectAltName",
-            ),
-            RequestRule::SubjectAltNameUriHostInvalid => must(
-                "subject_alt_name_uri_host_invalid",
-                "4.2.1.6",
-                "certificationRequestInfo.attributes.extensionRequest.subjectAltName",
-            ),
+        told! { self: RequestRule;
+            SubjectRdnEmpty => must("subject_rdn_empty", "4.1.2.6", "certificationRequestInfo.subject"),
+            SubjectCountryNameInvalid => must("subject_country_name_invalid", "A.1", "certificationRequestInfo.subject"),
+            SubjectTextType => must("subject_text_type", "A.1", "certificationRequestInfo.subject"),
+            SubjectTextOldType => should("subject_text_old_type", "4.1.2.6", "certificationRequestInfo.subject"),
+            SubjectTextCharacters => must("subject_text_characters", "4.1.2.6", "certificationRequestInfo.subject"),
+            SubjectTextSize => must("subject_text_size", "A.1", "certificationRequestInfo.subject"),
+            SubjectEmptyWithoutAltName => must("subject_empty_without_alt_name", "4.1.2.6", "certificationRequestInfo.subject"),
+            AttributeRepeated => should_of("RFC 2986", "attribute_repeated", "4.1", "certificationRequestInfo.attributes"),
+            AttributeValuesEmpty => must_of("RFC 2986", "attribute_values_empty", "4.1", "certificationRequestInfo.attributes"),
+            ChallengePasswordValues =>
+                must_of("RFC 2985", "challenge_password_several_values", "5.4.1", "certificationRequestInfo.attributes.challengePassword"),
+            ChallengePasswordMalformed => must_of("RFC 2985", "challenge_password_malformed", "5.4.1", "certificationRequestInfo.attributes.challengePassword"),
+            ChallengePasswordSize => must_of("RFC 2985", "challenge_password_size", "5.4.1", "certificationRequestInfo.attributes.challengePassword"),
+            ChallengePasswordType => should_of("RFC 2985", "challenge_password_type", "5.4.1", "certificationRequestInfo.attributes.challengePassword"),
+            ExtensionRequestValues => must_of("RFC 2985", "extension_request_several_values", "5.4.2", "certificationRequestInfo.attributes.extensionRequest"),
+            ExtensionRequestMalformed => must_of("RFC 2985", "extension_request_malformed", "5.4.2", "certificationRequestInfo.attributes.extensionRequest"),
+            ExtensionsEmpty => must("extensions_empty", "4.1.2.9", "certificationRequestInfo.attributes.extensionRequest"),
+            ExtensionRepeated => must("extension_repeated", "4.2", "certificationRequestInfo.attributes.extensionRequest"),
+            ExtensionMalformed(kind) => must("extension_malformed", "4.2", place_of(kind)),
+            SubjectAltNameEmpty => must("subject_alt_name_empty", "4.2.1.6", "certificationRequestInfo.attributes.extensionRequest.subjectAltName"),
+            SubjectAltNameEmptyName => must("subject_alt_name_empty_name", "4.2.1.6", "certificationRequestInfo.attributes.extensionRequest.subjectAltName"),
+            SubjectAltNameDnsNameInvalid =>
+                must("subject_alt_name_dns_name_invalid", "4.2.1.6", "certificationRequestInfo.attributes.extensionRequest.subjectAltName"),
+            SubjectAltNameAddressLength =>
+                must("subject_alt_name_address_length", "4.2.1.6", "certificationRequestInfo.attributes.extensionRequest.subjectAltName"),
+            SubjectAltNameMailboxInvalid =>
+                must("subject_alt_name_mailbox_invalid", "4.2.1.6", "certificationRequestInfo.attributes.extensionRequest.subjectAltName"),
+            SubjectAltNameUriRelative =>
+                must("subject_alt_name_uri_relative", "4.2.1.6", "certificationRequestInfo.attributes.extensionRequest.subjectAltName"),
+            SubjectAltNameUriInvalid => must("subject_alt_name_uri_invalid", "4.2.1.6", "certificationRequestInfo.attributes.extensionRequest.subjectAltName"),
+            SubjectAltNameUriHostInvalid =>
+                must("subject_alt_name_uri_host_invalid", "4.2.1.6", "certificationRequestInfo.attributes.extensionRequest.subjectAltName"),
         }
     }
 }

@@ -9,13 +9,14 @@ use crate::entry::{WebEntry, from_day, must};
 use crate::names::has_attribute;
 use crate::scope::is_self_issued;
 use crate::seen::Part;
-use crate::usages::{has_forbidden_purpose, is_not_of_authority, lacks_crl_sign};
+use crate::usages::{has_bit_not_of_ec, has_forbidden_purpose};
 use crate::values::WebValues;
 use x509_base::Raw;
 use x509_cert::certificate::CertificateInner;
 use x509_der::AssociatedOid;
 use x509_ext::pkix::{CertificatePolicies, CrlDistributionPoints, ExtendedKeyUsage, KeyUsage};
 use x509_lint::extensions::{extensions_of, has, has_uncritical};
+use x509_lint::{passes, told};
 use x509_name::attr::attribute_types::{COMMON_NAME, COUNTRY_NAME, ORGANIZATION_NAME};
 
 /// Rules on certificates of authorities that may stand above TLS servers (TLS BR 7.1.2.10, 7.1.2.11.2).
@@ -56,61 +57,17 @@ impl WebAuthorityRule {
     pub fn entry(self) -> WebEntry
         ensures { IsTold result (grammar.authority_sentence self) }
     {
-        match self {
-            WebAuthorityRule::CaKeyUsageNotCritical => must(
-                "ca_key_usage_not_critical",
-                "7.1.2.10.7",
-                None,
-                "tbsCertificate.extensions.keyUsage",
-            ),
-            WebAuthorityRule::CaWithoutCrlSign => must(
-                "ca_without_crl_sign",
-                "7.1.2.10.7",
-                None,
-                "tbsCertificate.extensions.keyUsage",
-            ),
-            WebAuthorityRule::CaKeyUsageOther => must(
-                "ca_key_usage_other",
-                "7.1.2.10.7",
-                from_day(2023, 9, 15),
-                "tbsCertificate.extensions.keyUsage",
-            ),
-            WebAuthorityRule::CaWithoutCommonName => must(
-                "ca_without_common_name",
-                "7.1.2.10.2",
-                from_day(2023, 9, 15),
-                "tbsCertificate.subject",
-            ),
-            WebAuthorityRule::CaWithoutOrganization => must(
-                "ca_without_organization",
-                "7.1.2.10.2",
-                None,
-                "tbsCertificate.subject",
-            ),
-            WebAuthorityRule::CaWithoutCountry => must(
-                "ca_without_country",
-                "7.1.2.10.2",
-                None,
-                "tbsCertificate.subject",
-            ),
-            WebAuthorityRule::CaExtendedKeyUsageForbidden => must(
-                "ca_extended_key_usage_forbidden",
-                "7.1.2.10.6",
-                from_day(2023, 9, 15),
-                "tbsCertificate.extensions.extKeyUsage",
-            ),
-            WebAuthorityRule::SubordinateWithoutPolicies => must(
-                "subordinate_without_policies",
-                "7.1.2.10.5",
-                None,
-                "tbsCertificate.extensions.certificatePolicies",
-            ),
-            WebAuthorityRule::SubordinateWithoutCrlPoints => must(
-                "subordinate_without_crl_points",
-                "7.1.2.11.2",
-                None,
-                "tbsCertificate.extensions.cRLDistributionPoints",
-            ),
+        told! { self: WebAuthorityRule;
+            CaKeyUsageNotCritical => must("ca_key_usage_not_critical", "7.1.2.10.7", None, "tbsCertificate.extensions.keyUsage"),
+            CaWithoutCrlSign => must("ca_without_crl_sign", "7.1.2.10.7", None, "tbsCertificate.extensions.keyUsage"),
+            CaKeyUsageOther => must("ca_key_usage_other", "7.1.2.10.7", from_day(2023, 9, 15), "tbsCertificate.extensions.keyUsage"),
+            CaWithoutCommonName => must("ca_without_common_name", "7.1.2.10.2", from_day(2023, 9, 15), "tbsCertificate.subject"),
+            CaWithoutOrganization => must("ca_without_organization", "7.1.2.10.2", None, "tbsCertificate.subject"),
+            CaWithoutCountry => must("ca_without_country", "7.1.2.10.2", None, "tbsCertificate.subject"),
+            CaExtendedKeyUsageForbidden =>
+                must("ca_extended_key_usage_forbidden", "7.1.2.10.6", from_day(2023, 9, 15), "tbsCertificate.extensions.extKeyUsage"),
+            SubordinateWithoutPolicies => must("subordinate_without_policies", "7.1.2.10.5", None, "tbsCertificate.extensions.certificatePolicies"),
+            SubordinateWithoutCrlPoints => must("subordinate_without_crl_points", "7.1.2.11.2", None, "tbsCertificate.extensions.cRLDistributionPoints"),
         }
     }
 
@@ -141,8 +98,10 @@ impl WebAuthorityRule {
         let extensions = extensions_of(certificate);
         match self {
             WebAuthorityRule::CaKeyUsageNotCritical => has_uncritical::<KeyUsage>(extensions),
-            WebAuthorityRule::CaWithoutCrlSign => lacks_crl_sign(&values.key_usage),
-            WebAuthorityRule::CaKeyUsageOther => is_not_of_authority(&values.key_usage),
+            WebAuthorityRule::CaWithoutCrlSign =>
+                passes!(&values.key_usage, usage => !usage.crl_sign()),
+            WebAuthorityRule::CaKeyUsageOther =>
+                passes!(&values.key_usage, usage => has_bit_not_of_ec(usage) || usage.key_agreement()),
             WebAuthorityRule::CaWithoutCommonName => !has_attribute(COMMON_NAME, subject),
             WebAuthorityRule::CaWithoutOrganization => !has_attribute(ORGANIZATION_NAME, subject),
             WebAuthorityRule::CaWithoutCountry => !has_attribute(COUNTRY_NAME, subject),

@@ -14,6 +14,7 @@ use crate::seen::Part;
 use crate::values::WebValues;
 use x509_base::Raw;
 use x509_cert::certificate::CertificateInner;
+use x509_lint::told;
 
 /// Rules on public keys (TLS BR 6.1.5, 6.1.6, 7.1.3.1).
 #[derive(Clone, Copy, Debug, PartialEq, Eq)]
@@ -48,55 +49,15 @@ impl WebKeyRule {
     pub fn entry(self) -> WebEntry
         ensures { IsTold result (grammar.key_sentence self) }
     {
-        match self {
-            WebKeyRule::KeyAlgorithmOther => must(
-                "key_algorithm_other",
-                "7.1.3.1",
-                from_day(2020, 8, 20),
-                "tbsCertificate.subjectPublicKeyInfo",
-            ),
-            WebKeyRule::RsaKeyParametersNotNull => must(
-                "rsa_key_parameters_not_null",
-                "7.1.3.1.1",
-                from_day(2020, 8, 20),
-                "tbsCertificate.subjectPublicKeyInfo",
-            ),
-            WebKeyRule::EcCurveOther => must(
-                "ec_curve_other",
-                "6.1.5",
-                None,
-                "tbsCertificate.subjectPublicKeyInfo",
-            ),
-            WebKeyRule::RsaModulusShort => must(
-                "rsa_modulus_short",
-                "6.1.5",
-                from_day(2014, 1, 1),
-                "tbsCertificate.subjectPublicKeyInfo",
-            ),
-            WebKeyRule::RsaModulusUneven => must(
-                "rsa_modulus_uneven",
-                "6.1.5",
-                from_day(2020, 8, 20),
-                "tbsCertificate.subjectPublicKeyInfo",
-            ),
-            WebKeyRule::RsaModulusEven => should(
-                "rsa_modulus_even",
-                "6.1.6",
-                from_day(2013, 1, 1),
-                "tbsCertificate.subjectPublicKeyInfo",
-            ),
-            WebKeyRule::RsaExponentInvalid => must(
-                "rsa_exponent_invalid",
-                "6.1.6",
-                from_day(2013, 1, 1),
-                "tbsCertificate.subjectPublicKeyInfo",
-            ),
-            WebKeyRule::RsaExponentOutside => should(
-                "rsa_exponent_outside",
-                "6.1.6",
-                from_day(2013, 1, 1),
-                "tbsCertificate.subjectPublicKeyInfo",
-            ),
+        told! { self: WebKeyRule;
+            KeyAlgorithmOther => must("key_algorithm_other", "7.1.3.1", from_day(2020, 8, 20), "tbsCertificate.subjectPublicKeyInfo"),
+            RsaKeyParametersNotNull => must("rsa_key_parameters_not_null", "7.1.3.1.1", from_day(2020, 8, 20), "tbsCertificate.subjectPublicKeyInfo"),
+            EcCurveOther => must("ec_curve_other", "6.1.5", None, "tbsCertificate.subjectPublicKeyInfo"),
+            RsaModulusShort => must("rsa_modulus_short", "6.1.5", from_day(2014, 1, 1), "tbsCertificate.subjectPublicKeyInfo"),
+            RsaModulusUneven => must("rsa_modulus_uneven", "6.1.5", from_day(2020, 8, 20), "tbsCertificate.subjectPublicKeyInfo"),
+            RsaModulusEven => should("rsa_modulus_even", "6.1.6", from_day(2013, 1, 1), "tbsCertificate.subjectPublicKeyInfo"),
+            RsaExponentInvalid => must("rsa_exponent_invalid", "6.1.6", from_day(2013, 1, 1), "tbsCertificate.subjectPublicKeyInfo"),
+            RsaExponentOutside => should("rsa_exponent_outside", "6.1.6", from_day(2013, 1, 1), "tbsCertificate.subjectPublicKeyInfo"),
         }
     }
 

@@ -8,7 +8,7 @@ ghost use Rattle.x509_lint_web.specs.Sentence.{IsTold};
 use crate::entry::{WebEntry, from_day, must, should};
 use crate::names::{
     NameFault, has_attribute, has_common_names, has_name, has_stray_name, is_empty_name,
-    is_without_host,
+    is_host_among,
 };
 use crate::seen::Part;
 use crate::values::WebValues;
@@ -17,6 +17,7 @@ use x509_cert::certificate::CertificateInner;
 use x509_der::AssociatedOid;
 use x509_ext::pkix::SubjectAltName;
 use x509_lint::extensions::{extensions_of, has, has_critical};
+use x509_lint::{passes, told};
 use x509_name::attr::attribute_types::{COMMON_NAME, ORGANIZATIONAL_UNIT_NAME};
 
 /// Rules on the SAN and the subject of certificates of TLS servers (TLS BR 7.1.2.7.12, 7.1.4.3).
@@ -72,91 +73,21 @@ impl WebNameRule {
     pub fn entry(self) -> WebEntry
         ensures { IsTold result (grammar.name_sentence self) }
     {
-        match self {
-            WebNameRule::SubjectAltNameAbsent => must(
-                "subject_alt_name_absent",
-                "7.1.2.7.12",
-                None,
-                "tbsCertificate.extensions.subjectAltName",
-            ),
-            WebNameRule::SubjectAltNameWithoutHost => must(
-                "subject_alt_name_without_host",
-                "7.1.2.7.12",
-                None,
-                "tbsCertificate.extensions.subjectAltName",
-            ),
-            WebNameRule::SubjectAltNameOther => must(
-                "subject_alt_name_other",
-                "7.1.2.7.12",
-                None,
-                "tbsCertificate.extensions.subjectAltName",
-            ),
-            WebNameRule::SubjectAltNameCritical => must(
-                "subject_alt_name_critical",
-                "7.1.2.7.12",
-                from_day(2023, 9, 15),
-                "tbsCertificate.extensions.subjectAltName",
-            ),
-            WebNameRule::DnsNameUnderscore => must(
-                "dns_name_underscore",
-                "7.1.2.7.12",
-                from_day(2019, 4, 1),
-                "tbsCertificate.extensions.subjectAltName",
-            ),
-            WebNameRule::DnsNameReservedLabel => must(
-                "dns_name_reserved_label",
-                "7.1.2.7.12",
-                from_day(2021, 10, 1),
-                "tbsCertificate.extensions.subjectAltName",
-            ),
-            WebNameRule::DnsNameWildcard => must(
-                "dns_name_wildcard",
-                "7.1.2.7.12",
-                None,
-                "tbsCertificate.extensions.subjectAltName",
-            ),
-            WebNameRule::DnsNameOneLabel => must(
-                "dns_name_one_label",
-                "7.1.2.7.12",
-                from_day(2015, 11, 1),
-                "tbsCertificate.extensions.subjectAltName",
-            ),
-            WebNameRule::DnsNameInternal => must(
-                "dns_name_internal",
-                "7.1.2.7.12",
-                from_day(2015, 11, 1),
-                "tbsCertificate.extensions.subjectAltName",
-            ),
-            WebNameRule::AddressReserved => must(
-                "address_reserved",
-                "7.1.2.7.12",
-                from_day(2015, 11, 1),
-                "tbsCertificate.extensions.subjectAltName",
-            ),
-            WebNameRule::CommonNamePresent => should(
-                "common_name_present",
-                "7.1.2.7.2",
-                from_day(2023, 9, 15),
-                "tbsCertificate.subject",
-            ),
-            WebNameRule::CommonNameNotInAltName => must(
-                "common_name_not_in_alt_name",
-                "7.1.4.3",
-                from_day(2021, 8, 25),
-                "tbsCertificate.subject",
-            ),
-            WebNameRule::OrganizationalUnitPresent => must(
-                "organizational_unit_present",
-                "7.1.2.7.4",
-                from_day(2022, 9, 1),
-                "tbsCertificate.subject",
-            ),
-            WebNameRule::CommonNameRepeated => must(
-                "common_name_repeated",
-                "7.1.4.3",
-                from_day(2021, 8, 25),
-                "tbsCertificate.subject",
-            ),
+        told! { self: WebNameRule;
+            SubjectAltNameAbsent => must("subject_alt_name_absent", "7.1.2.7.12", None, "tbsCertificate.extensions.subjectAltName"),
+            SubjectAltNameWithoutHost => must("subject_alt_name_without_host", "7.1.2.7.12", None, "tbsCertificate.extensions.subjectAltName"),
+            SubjectAltNameOther => must("subject_alt_name_other", "7.1.2.7.12", None, "tbsCertificate.extensions.subjectAltName"),
+            SubjectAltNameCritical => must("subject_alt_name_critical", "7.1.2.7.12", from_day(2023, 9, 15), "tbsCertificate.extensions.subjectAltName"),
+            DnsNameUnderscore => must("dns_name_underscore", "7.1.2.7.12", from_day(2019, 4, 1), "tbsCertificate.extensions.subjectAltName"),
+            DnsNameReservedLabel => must("dns_name_reserved_label", "7.1.2.7.12", from_day(2021, 10, 1), "tbsCertificate.extensions.subjectAltName"),
+            DnsNameWildcard => must("dns_name_wildcard", "7.1.2.7.12", None, "tbsCertificate.extensions.subjectAltName"),
+            DnsNameOneLabel => must("dns_name_one_label", "7.1.2.7.12", from_day(2015, 11, 1), "tbsCertificate.extensions.subjectAltName"),
+            DnsNameInternal => must("dns_name_internal", "7.1.2.7.12", from_day(2015, 11, 1), "tbsCertificate.extensions.subjectAltName"),
+            AddressReserved => must("address_reserved", "7.1.2.7.12", from_day(2015, 11, 1), "tbsCertificate.extensions.subjectAltName"),
+            CommonNamePresent => should("common_name_present", "7.1.2.7.2", from_day(2023, 9, 15), "tbsCertificate.subject"),
+            CommonNameNotInAltName => must("common_name_not_in_alt_name", "7.1.4.3", from_day(2021, 8, 25), "tbsCertificate.subject"),
+            OrganizationalUnitPresent => must("organizational_unit_present", "7.1.2.7.4", from_day(2022, 9, 1), "tbsCertificate.subject"),
+            CommonNameRepeated => must("common_name_repeated", "7.1.4.3", from_day(2021, 8, 25), "tbsCertificate.subject"),
         }
     }
 
@@ -187,7 +118,8 @@ impl WebNameRule {
         let subject = certificate.tbs_certificate().subject();
         match self {
             WebNameRule::SubjectAltNameAbsent => !has::<SubjectAltName>(extensions_of(certificate)),
-            WebNameRule::SubjectAltNameWithoutHost => is_without_host(&values.subject_alt_name),
+            WebNameRule::SubjectAltNameWithoutHost =>
+                passes!(&values.subject_alt_name, names => !is_host_among(names.0.as_slice())),
             WebNameRule::SubjectAltNameOther => has_name(
                 NameFault::OtherName,
                 &values.subject_alt_name,

@@ -7,10 +7,10 @@ ghost use Rattle.x509_lint_web.specs.Sentence.{IsTold};
 
 use crate::entry::{WebEntry, from_day, must, should};
 use crate::names::{has_attribute, has_other_attribute};
-use crate::places::{have_other_location, have_other_method};
+use crate::places::{have_other_location, is_other_method_among};
 use crate::policies::{
-    ANY_POLICY, DOMAIN_VALIDATED, ORGANIZATION_VALIDATED, has_policy, have_other_qualifier,
-    have_qualifiers, is_without_reserved,
+    ANY_POLICY, DOMAIN_VALIDATED, ORGANIZATION_VALIDATED, are_qualified, has_policy,
+    is_other_among, is_reserved_among,
 };
 use crate::seen::Part;
 use crate::values::WebValues;
@@ -19,6 +19,7 @@ use x509_cert::certificate::CertificateInner;
 use x509_der::AssociatedOid;
 use x509_ext::pkix::{AuthorityInfoAccessSyntax, CertificatePolicies};
 use x509_lint::extensions::{extensions_of, has, has_critical};
+use x509_lint::{passes, told};
 use x509_name::attr::attribute_types::{COUNTRY_NAME, ORGANIZATION_NAME};
 
 /// Rules on certificate policies and authority information access of certificates of TLS servers (TLS BR 7.1.2.7.2, 7.1.2.7.4, 7.1.2.7.7, 7.1.2.7.9).
@@ -67,79 +68,21 @@ impl WebPolicyRule {
     pub fn entry(self) -> WebEntry
         ensures { IsTold result (grammar.policy_sentence self) }
     {
-        match self {
-            WebPolicyRule::CertificatePoliciesAbsent => must(
-                "certificate_policies_absent",
-                "7.1.2.7.9",
-                None,
-                "tbsCertificate.extensions.certificatePolicies",
-            ),
-            WebPolicyRule::CertificatePoliciesCritical => must(
-                "certificate_policies_critical",
-                "7.1.2.7.6",
-                from_day(2023, 9, 15),
-                "tbsCertificate.extensions.certificatePolicies",
-            ),
-            WebPolicyRule::ReservedPolicyAbsent => must(
-                "reserved_policy_absent",
-                "7.1.2.7.9",
-                from_day(2020, 9, 30),
-                "tbsCertificate.extensions.certificatePolicies",
-            ),
-            WebPolicyRule::AnyPolicyPresent => must(
-                "any_policy_present",
-                "7.1.2.7.9",
-                from_day(2023, 9, 15),
-                "tbsCertificate.extensions.certificatePolicies",
-            ),
-            WebPolicyRule::PolicyQualifiersPresent => should(
-                "policy_qualifiers_present",
-                "7.1.2.7.9",
-                from_day(2023, 9, 15),
-                "tbsCertificate.extensions.certificatePolicies",
-            ),
-            WebPolicyRule::PolicyQualifierOther => must(
-                "policy_qualifier_other",
-                "7.1.2.7.9",
-                from_day(2023, 9, 15),
-                "tbsCertificate.extensions.certificatePolicies",
-            ),
-            WebPolicyRule::DomainValidatedAttribute => must(
-                "domain_validated_attribute",
-                "7.1.2.7.2",
-                from_day(2023, 9, 15),
-                "tbsCertificate.subject",
-            ),
-            WebPolicyRule::OrganizationValidatedWithoutOrganization => must(
-                "organization_validated_without_organization",
-                "7.1.2.7.4",
-                None,
-                "tbsCertificate.subject",
-            ),
-            WebPolicyRule::OrganizationValidatedWithoutCountry => must(
-                "organization_validated_without_country",
-                "7.1.2.7.4",
-                None,
-                "tbsCertificate.subject",
-            ),
-            WebPolicyRule::AuthorityInfoAccessAbsent => must(
-                "authority_info_access_absent",
-                "7.1.2.7.7",
-                from_day(2023, 9, 15),
-                "tbsCertificate.extensions.authorityInfoAccess",
-            ),
-            WebPolicyRule::AccessMethodOther => must(
-                "access_method_other",
-                "7.1.2.7.7",
-                from_day(2023, 9, 15),
-                "tbsCertificate.extensions.authorityInfoAccess",
-            ),
-            WebPolicyRule::AccessLocationNotHttp => must(
-                "access_location_not_http",
-                "7.1.2.7.7",
-                from_day(2023, 9, 15),
-                "tbsCertificate.extensions.authorityInfoAccess",
-            ),
+        told! { self: WebPolicyRule;
+            CertificatePoliciesAbsent => must("certificate_policies_absent", "7.1.2.7.9", None, "tbsCertificate.extensions.certificatePolicies"),
+            CertificatePoliciesCritical =>
+                must("certificate_policies_critical", "7.1.2.7.6", from_day(2023, 9, 15), "tbsCertificate.extensions.certificatePolicies"),
+            ReservedPolicyAbsent => must("reserved_policy_absent", "7.1.2.7.9", from_day(2020, 9, 30), "tbsCertificate.extensions.certificatePolicies"),
+            AnyPolicyPresent => must("any_policy_present", "7.1.2.7.9", from_day(2023, 9, 15), "tbsCertificate.extensions.certificatePolicies"),
+            PolicyQualifiersPresent => should("policy_qualifiers_present", "7.1.2.7.9", from_day(2023, 9, 15), "tbsCertificate.extensions.certificatePolicies"),
+            PolicyQualifierOther => must("policy_qualifier_other", "7.1.2.7.9", from_day(2023, 9, 15), "tbsCertificate.extensions.certificatePolicies"),
+            DomainValidatedAttribute => must("domain_validated_attribute", "7.1.2.7.2", from_day(2023, 9, 15), "tbsCertificate.subject"),
+            OrganizationValidatedWithoutOrganization => must("organization_validated_without_organization", "7.1.2.7.4", None, "tbsCertificate.subject"),
+            OrganizationValidatedWithoutCountry => must("organization_validated_without_country", "7.1.2.7.4", None, "tbsCertificate.subject"),
+            AuthorityInfoAccessAbsent =>
+                must("authority_info_access_absent", "7.1.2.7.7", from_day(2023, 9, 15), "tbsCertificate.extensions.authorityInfoAccess"),
+            AccessMethodOther => must("access_method_other", "7.1.2.7.7", from_day(2023, 9, 15), "tbsCertificate.extensions.authorityInfoAccess"),
+            AccessLocationNotHttp => must("access_location_not_http", "7.1.2.7.7", from_day(2023, 9, 15), "tbsCertificate.extensions.authorityInfoAccess"),
         }
     }
 
@@ -172,10 +115,13 @@ impl WebPolicyRule {
             WebPolicyRule::CertificatePoliciesCritical => has_critical::<CertificatePolicies>(
                 extensions,
             ),
-            WebPolicyRule::ReservedPolicyAbsent => is_without_reserved(policies),
+            WebPolicyRule::ReservedPolicyAbsent =>
+                passes!(policies, policies => !is_reserved_among(policies.0.as_slice())),
             WebPolicyRule::AnyPolicyPresent => has_policy(ANY_POLICY, policies),
-            WebPolicyRule::PolicyQualifiersPresent => have_qualifiers(policies),
-            WebPolicyRule::PolicyQualifierOther => have_other_qualifier(policies),
+            WebPolicyRule::PolicyQualifiersPresent =>
+                passes!(policies, policies => are_qualified(policies.0.as_slice())),
+            WebPolicyRule::PolicyQualifierOther =>
+                passes!(policies, policies => is_other_among(policies.0.as_slice())),
             WebPolicyRule::DomainValidatedAttribute => has_policy(DOMAIN_VALIDATED, policies)
                 && has_other_attribute(subject),
             WebPolicyRule::OrganizationValidatedWithoutOrganization => has_policy(
@@ -189,7 +135,8 @@ impl WebPolicyRule {
             WebPolicyRule::AuthorityInfoAccessAbsent => !has::<AuthorityInfoAccessSyntax>(
                 extensions,
             ),
-            WebPolicyRule::AccessMethodOther => have_other_method(&values.authority_info_access),
+            WebPolicyRule::AccessMethodOther =>
+                passes!(&values.authority_info_access, descriptions => is_other_method_among(descriptions.0.as_slice())),
             WebPolicyRule::AccessLocationNotHttp => have_other_location(
                 &values.authority_info_access,
             ),

@@ -8,16 +8,14 @@ ghost use Rattle.x509_lint_web.specs.Sentence.{IsTold};
 use crate::algorithms::{is_ec, is_rsa};
 use crate::entry::{WebEntry, from_day, must, should};
 use crate::seen::Part;
-use crate::usages::{
-    has_forbidden_purpose, has_other_purpose, is_not_of_ec, is_not_of_rsa, lacks_digital_signature,
-    signs_as_authority,
-};
+use crate::usages::{has_bit_not_of_ec, has_forbidden_purpose, is_not_of_servers, is_other_among};
 use crate::values::WebValues;
 use x509_base::Raw;
 use x509_cert::certificate::CertificateInner;
 use x509_der::AssociatedOid;
 use x509_ext::pkix::{BasicConstraints, ExtendedKeyUsage, KeyUsage, SubjectKeyIdentifier};
 use x509_lint::extensions::{extensions_of, has, has_critical, has_uncritical};
+use x509_lint::{passes, told};
 
 /// Rules on what certificates of TLS servers are used for (TLS BR 7.1.2.7.6, 7.1.2.7.10, 7.1.2.7.11).
 #[derive(Clone, Copy, Debug, PartialEq, Eq)]
@@ -69,79 +67,21 @@ impl WebUsageRule {
     pub fn entry(self) -> WebEntry
         ensures { IsTold result (grammar.usage_sentence self) }
     {
-        match self {
-            WebUsageRule::ExtendedKeyUsageAbsent => must(
-                "extended_key_usage_absent",
-                "7.1.2.7.10",
-                None,
-                "tbsCertificate.extensions.extKeyUsage",
-            ),
-            WebUsageRule::ExtendedKeyUsageForbidden => must(
-                "extended_key_usage_forbidden",
-                "7.1.2.7.10",
-                from_day(2023, 9, 15),
-                "tbsCertificate.extensions.extKeyUsage",
-            ),
-            WebUsageRule::ExtendedKeyUsageOther => should(
-                "extended_key_usage_other",
-                "7.1.2.7.10",
-                from_day(2023, 9, 15),
-                "tbsCertificate.extensions.extKeyUsage",
-            ),
-            WebUsageRule::ExtendedKeyUsageCritical => must(
-                "extended_key_usage_critical",
-                "7.1.2.7.6",
-                from_day(2023, 9, 15),
-                "tbsCertificate.extensions.extKeyUsage",
-            ),
-            WebUsageRule::KeyUsageAbsent => should(
-                "key_usage_absent",
-                "7.1.2.7.6",
-                from_day(2023, 9, 15),
-                "tbsCertificate.extensions.keyUsage",
-            ),
-            WebUsageRule::KeyUsageNotCritical => must(
-                "key_usage_not_critical",
-                "7.1.2.7.6",
-                from_day(2023, 9, 15),
-                "tbsCertificate.extensions.keyUsage",
-            ),
-            WebUsageRule::KeyUsageOfAuthority => must(
-                "key_usage_of_authority",
-                "7.1.2.7.11",
-                None,
-                "tbsCertificate.extensions.keyUsage",
-            ),
-            WebUsageRule::KeyUsageNotOfRsa => must(
-                "key_usage_not_of_rsa",
-                "7.1.2.7.11",
-                from_day(2023, 9, 15),
-                "tbsCertificate.extensions.keyUsage",
-            ),
-            WebUsageRule::KeyUsageNotOfEc => must(
-                "key_usage_not_of_ec",
-                "7.1.2.7.11",
-                from_day(2023, 9, 15),
-                "tbsCertificate.extensions.keyUsage",
-            ),
-            WebUsageRule::EcWithoutDigitalSignature => must(
-                "ec_without_digital_signature",
-                "7.1.2.7.11",
-                from_day(2023, 9, 15),
-                "tbsCertificate.extensions.keyUsage",
-            ),
-            WebUsageRule::BasicConstraintsNotCritical => must(
-                "basic_constraints_not_critical",
-                "7.1.2.7.6",
-                from_day(2023, 9, 15),
-                "tbsCertificate.extensions.basicConstraints",
-            ),
-            WebUsageRule::SubjectKeyIdentifierPresent => should(
-                "subject_key_identifier_present",
-                "7.1.2.7.6",
-                from_day(2023, 9, 15),
-                "tbsCertificate.extensions.subjectKeyIdentifier",
-            ),
+        told! { self: WebUsageRule;
+            ExtendedKeyUsageAbsent => must("extended_key_usage_absent", "7.1.2.7.10", None, "tbsCertificate.extensions.extKeyUsage"),
+            ExtendedKeyUsageForbidden => must("extended_key_usage_forbidden", "7.1.2.7.10", from_day(2023, 9, 15), "tbsCertificate.extensions.extKeyUsage"),
+            ExtendedKeyUsageOther => should("extended_key_usage_other", "7.1.2.7.10", from_day(2023, 9, 15), "tbsCertificate.extensions.extKeyUsage"),
+            ExtendedKeyUsageCritical => must("extended_key_usage_critical", "7.1.2.7.6", from_day(2023, 9, 15), "tbsCertificate.extensions.extKeyUsage"),
+            KeyUsageAbsent => should("key_usage_absent", "7.1.2.7.6", from_day(2023, 9, 15), "tbsCertificate.extensions.keyUsage"),
+            KeyUsageNotCritical => must("key_usage_not_critical", "7.1.2.7.6", from_day(2023, 9, 15), "tbsCertificate.extensions.keyUsage"),
+            KeyUsageOfAuthority => must("key_usage_of_authority", "7.1.2.7.11", None, "tbsCertificate.extensions.keyUsage"),
+            KeyUsageNotOfRsa => must("key_usage_not_of_rsa", "7.1.2.7.11", from_day(2023, 9, 15), "tbsCertificate.extensions.keyUsage"),
+            KeyUsageNotOfEc => must("key_usage_not_of_ec", "7.1.2.7.11", from_day(2023, 9, 15), "tbsCertificate.extensions.keyUsage"),
+            EcWithoutDigitalSignature => must("ec_without_digital_signature", "7.1.2.7.11", from_day(2023, 9, 15), "tbsCertificate.extensions.keyUsage"),
+            BasicConstraintsNotCritical =>
+                must("basic_constraints_not_critical", "7.1.2.7.6", from_day(2023, 9, 15), "tbsCertificate.extensions.basicConstraints"),
+            SubjectKeyIdentifierPresent =>
+                should("subject_key_identifier_present", "7.1.2.7.6", from_day(2023, 9, 15), "tbsCertificate.extensions.subjectKeyIdentifier"),
         }
     }
 
@@ -171,15 +111,19 @@ impl WebUsageRule {
             WebUsageRule::ExtendedKeyUsageForbidden => has_forbidden_purpose(
                 &values.extended_key_usage,
             ),
-            WebUsageRule::ExtendedKeyUsageOther => has_other_purpose(&values.extended_key_usage),
+            WebUsageRule::ExtendedKeyUsageOther =>
+                passes!(&values.extended_key_usage, usage => is_other_among(usage.0.as_slice())),
             WebUsageRule::ExtendedKeyUsageCritical => has_critical::<ExtendedKeyUsage>(extensions),
             WebUsageRule::KeyUsageAbsent => !has::<KeyUsage>(extensions),
             WebUsageRule::KeyUsageNotCritical => has_uncritical::<KeyUsage>(extensions),
-            WebUsageRule::KeyUsageOfAuthority => signs_as_authority(&values.key_usage),
-            WebUsageRule::KeyUsageNotOfRsa => is_rsa(key) && is_not_of_rsa(&values.key_usage),
-            WebUsageRule::KeyUsageNotOfEc => is_ec(key) && is_not_of_ec(&values.key_usage),
+            WebUsageRule::KeyUsageOfAuthority =>
+                passes!(&values.key_usage, usage => usage.key_cert_sign() || usage.crl_sign()),
+            WebUsageRule::KeyUsageNotOfRsa => is_rsa(key)
+                && passes!(&values.key_usage, usage => is_not_of_servers(usage) || usage.key_agreement()),
+            WebUsageRule::KeyUsageNotOfEc => is_ec(key)
+                && passes!(&values.key_usage, usage => has_bit_not_of_ec(usage)),
             WebUsageRule::EcWithoutDigitalSignature => is_ec(key)
-                && lacks_digital_signature(&values.key_usage),
+                && passes!(&values.key_usage, usage => !usage.digital_signature()),
             WebUsageRule::BasicConstraintsNotCritical => has_uncritical::<BasicConstraints>(
                 extensions,
             ),

@@ -9,6 +9,7 @@ use crate::times::is_longer;
 use crate::values::WebValues;
 use x509_base::Raw;
 use x509_cert::certificate::CertificateInner;
+use x509_lint::told;
 
 /// Rules on the validity of certificates of TLS servers (TLS BR 6.3.2).
 #[derive(Clone, Copy, Debug, PartialEq, Eq)]
@@ -46,61 +47,16 @@ impl WebValidityRule {
     pub fn entry(self) -> WebEntry
         ensures { IsTold result (grammar.validity_sentence self) }
     {
-        match self {
-            WebValidityRule::ValidityOver825Days => must(
-                "validity_over_825_days",
-                "6.3.2",
-                from_day(2018, 3, 2),
-                "tbsCertificate.validity",
-            ),
-            WebValidityRule::ValidityOver398Days => must(
-                "validity_over_398_days",
-                "6.3.2",
-                from_day(2020, 9, 1),
-                "tbsCertificate.validity",
-            ),
-            WebValidityRule::ValidityOver397Days => should(
-                "validity_over_397_days",
-                "6.3.2",
-                from_day(2020, 9, 1),
-                "tbsCertificate.validity",
-            ),
-            WebValidityRule::ValidityOver200Days => must(
-                "validity_over_200_days",
-                "6.3.2",
-                from_day(2026, 3, 15),
-                "tbsCertificate.validity",
-            ),
-            WebValidityRule::ValidityOver100Days => must(
-                "validity_over_100_days",
-                "6.3.2",
-                from_day(2027, 3, 15),
-                "tbsCertificate.validity",
-            ),
-            WebValidityRule::ValidityOver47Days => must(
-                "validity_over_47_days",
-                "6.3.2",
-                from_day(2029, 3, 15),
-                "tbsCertificate.validity",
-            ),
-            WebValidityRule::ValidityOver199Days => should(
-                "validity_over_199_days",
-                "6.3.2",
-                from_day(2026, 3, 15),
-                "tbsCertificate.validity",
-            ),
-            WebValidityRule::ValidityOver99Days => should(
-                "validity_over_99_days",
-                "6.3.2",
-                from_day(2027, 3, 15),
-                "tbsCertificate.validity",
-            ),
-            WebValidityRule::ValidityOver46Days => should(
-                "validity_over_46_days",
-                "6.3.2",
-                from_day(2029, 3, 15),
-                "tbsCertificate.validity",
-            ),
+        told! { self: WebValidityRule;
+            ValidityOver825Days => must("validity_over_825_days", "6.3.2", from_day(2018, 3, 2), "tbsCertificate.validity"),
+            ValidityOver398Days => must("validity_over_398_days", "6.3.2", from_day(2020, 9, 1), "tbsCertificate.validity"),
+            ValidityOver397Days => should("validity_over_397_days", "6.3.2", from_day(2020, 9, 1), "tbsCertificate.validity"),
+            ValidityOver200Days => must("validity_over_200_days", "6.3.2", from_day(2026, 3, 15), "tbsCertificate.validity"),
+            ValidityOver100Days => must("validity_over_100_days", "6.3.2", from_day(2027, 3, 15), "tbsCertificate.validity"),
+            ValidityOver47Days => must("validity_over_47_days", "6.3.2", from_day(2029, 3, 15), "tbsCertificate.validity"),
+            ValidityOver199Days => should("validity_over_199_days", "6.3.2", from_day(2026, 3, 15), "tbsCertificate.validity"),
+            ValidityOver99Days => should("validity_over_99_days", "6.3.2", from_day(2027, 3, 15), "tbsCertificate.validity"),
+            ValidityOver46Days => should("validity_over_46_days", "6.3.2", from_day(2029, 3, 15), "tbsCertificate.validity"),
         }
     }
 

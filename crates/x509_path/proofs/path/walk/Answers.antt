@@ -37,11 +37,11 @@ loop-index-preserved g c = λ anchor is.
     let judged = c.in-Ok.ensures.judged above (c.loop-index.invariant anchor is).1 passed.before (passed.leaves within) in
     let certificate = judged.0 in
     let lends = judged.1 in
-    let said = subst (λ (l : Bool). Judges accepts c.args.moment (standing above.name above.key passed.before l) bytes c.loop-index.index (Ok certificate)) counts judged.3 in (
+    let said = subst (λ (l : Bool). Judges accepts c.args.moment (standing above.name above.key passed.before l) bytes c.loop-index.index (Ok certificate)) counts judged.2.1 in (
       Some certificate,
       c.from_certificate.ensures certificate lends,
       further accepts c.args.moment anchor inputs c.loop-index.index over c.loop-index.max_path_length bytes passed input certificate c.max_path_length_behind-max_path_length.result said
-          (λ early. c.max_path_length_behind-max_path_length.ensures certificate lends (judged.2 (counts ∙ early))),
+          (λ early. c.max_path_length_behind-max_path_length.ensures certificate lends (judged.2.0 (counts ∙ early))),
     )
 
 pub returns-clause-answers : goal.returns-clause-answers

@@ -42,4 +42,4 @@ returns c =
       are_own = c.in_ok-own.ensures;
       anchor = refl;
       limits = refl;
-    }) (c.held.ensures trust (rw (c.constraints_or.ensures, c.length_or.ensures, c.policies_or.ensures, c.flags_or.ensures) refl))
+    }) (c.held.ensures trust (rw (c.value_or.ensures, c.value_or-2.ensures, c.value_or-3.ensures, c.flags_or.ensures) refl))

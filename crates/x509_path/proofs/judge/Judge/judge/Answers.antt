@@ -1,7 +1,9 @@
 use Rattle.std.proofs.Common.{Err, Ok, refl, sym, subst}
 use Rattle.x509_path.specs.Lent.{Lends}
+use Rattle.x509_path.specs.Path.{Breaks, reasons}
 use Rattle.x509_path.specs.PathLength.{Judges, standing}
-use Rattle.x509_path.proofs.Judged.{unreadable}
+use Rattle.x509_path.specs.declared.fault.PathReason.TheVariants.{Decode}
+use Rattle.x509_path.proofs.Firsts.{unreadable}
 use Rattle.x509_path.proofs.Many.{of_these, refused_too}
 use Rattle.x509_path.proofs.judge.Judge.judge.Goals as goal
 
@@ -9,7 +11,7 @@ pub returns-in-Err-clause-judged : goal.returns-in-Err-clause-judged
 returns-in-Err-clause-judged g c = λ above stands before leaves.
     rw c.unreadable.ensures (
       refl,
-      unreadable (g.T.Trust.accepts c.args.self.now.trust.now) c.args.self.now.moment (standing above.name above.key before c.args.place.now.is_last) c.args.bytes.now (λ v s. let ok = c.in-Err.ensures.every v s in cc),
+      unreadable Decode (Breaks (g.T.Trust.accepts c.args.self.now.trust.now) c.args.self.now.moment (standing above.name above.key before c.args.place.now.is_last) c.args.bytes.now) c.args.bytes.now reasons (λ v s. let ok = c.in-Err.ensures.every v s in cc),
     )
 
 pub returns-in-Ok-judge_read-clause-judged : goal.returns-in-Ok-judge_read-clause-judged
@@ -18,7 +20,7 @@ returns-in-Ok-judge_read-clause-judged g c = λ above stands before leaves.
     let certificate = c.in-Ok.ensures.found.1.0 in
     let lends = subst (λ b. Lends b certificate) (sym same) c.in-Ok.ensures.found.1.1 in
     let said = c.in-Ok-judge_read.ensures.judged certificate above lends stands before leaves in
-    (certificate, lends, said.0, subst (λ b. Judges (g.T.Trust.accepts c.args.self.now.trust.now) c.args.self.now.moment (standing above.name above.key before c.args.place.now.is_last) b c.args.index (Ok certificate)) same said.1)
+    (certificate, lends, (said.0, subst (λ b. Judges (g.T.Trust.accepts c.args.self.now.trust.now) c.args.self.now.moment (standing above.name above.key before c.args.place.now.is_last) b c.args.index (Ok certificate)) same said.1))
 
 pub returns-in-Err-judge_read-clause-judged : goal.returns-in-Err-judge_read-clause-judged
 returns-in-Err-judge_read-clause-judged g c = λ above stands before leaves.
