@@ -14,12 +14,13 @@ ghost use Rattle.x509_path.specs.declared.fault.PathReason.TheVariants as reason
 ghost use Rattle.x509_prim.specs.BitString.{bit_string};
 
 use crate::anchor_ref::AnchorRef;
+use crate::certificate::{has_two_algorithms, is_outside, signed_of};
 use crate::extensions::{
     are_handled, basic_constraints, collect, front, gather, is_ca, is_repeated,
     lacks_key_cert_sign, path_len, places,
 };
 use crate::fault::{PathFault, PathReason};
-use crate::trust::{Signed, Trust};
+use crate::trust::Trust;
 use std::alloc::Global;
 use x509_base::DateTime;
 use x509_cert::laws::one_signed_part;
@@ -52,42 +53,12 @@ pub(crate) struct Place<'a> {
     pub(crate) is_last: bool,
 }
 
-/// Whether the algorithm in the signed part isn't the one outside it.
-#[tactic(auto, using(crate::proofs::Lent::two_algorithms))]
-pub(crate) fn has_two_algorithms(certificate: &CertificateRef<'_>) -> bool
-    ensures { (c : certificates.Certificate) → Lends certificate.now.bytes.now c → IsTrue result ↔ certificates.HasTwoAlgorithms c }
-{
-    let slices = certificate.slices();
-    slices.fields.signature != slices.signature_algorithm
-}
-
-/// Whether the moment is before or after the validity.
-pub(crate) fn is_outside(moment: DateTime, certificate: &CertificateRef<'_>) -> bool
-    ensures { (c : certificates.Certificate) → Lends certificate.now.bytes.now c → IsTrue result ↔ certificates.IsOutside moment c.tbs_certificate.validity }
-{
-    !certificate.validity().contains(moment)
-}
-
 /// Whether the subject is the issuer.
 #[tactic(auto, using(crate::proofs::Lent::self_issued))]
 fn is_self_issued(certificate: &CertificateRef<'_>) -> bool
     ensures { (c : certificates.Certificate) → Lends certificate.now.bytes.now c → result ≡ certificates.is_self_issued c }
 {
     certificate.subject() == certificate.issuer()
-}
-
-/// What is signed of the certificate.
-pub(crate) fn signed_of<'a>(certificate: &CertificateRef<'a>) -> Signed<'a>
-    ensures algorithm { (c : certificates.Certificate) → Lends certificate.now.bytes.now c
-        → Spells algorithm_identifier c.signature_algorithm result.algorithm.now }
-    ensures message { IsSignedPart certificate.now.bytes.now result.message.now }
-    ensures signature { (c : certificates.Certificate) → Lends certificate.now.bytes.now c → Spells bit_string c.signature result.signature.now }
-{
-    Signed {
-        algorithm: certificate.signature_algorithm(),
-        message: certificate.signed_part(),
-        signature: certificate.signature(),
-    }
 }
 
 /// Whether a path length constraint above allows no such certificate here.
