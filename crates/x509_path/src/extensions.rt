@@ -7,10 +7,8 @@ ghost use Rattle.x509_ext.specs.declared.extension.Extension.{Extension};
 ghost use Rattle.x509_path.specs.Certificates as certificates;
 ghost use Rattle.x509_path.specs.Lent.{lent_extensions};
 ghost use Rattle.x509_path.specs.PathLength.{HasConstraints};
-ghost use Rattle.x509_path.specs.declared.fault.PathFault.TheVariants.{Memory};
 
-use crate::fault::PathFault;
-use std::alloc::Global;
+use std::alloc::{AllocError, Global};
 use x509_check::{Check, ExtensionRef, ExtensionRefs};
 use x509_der::{AssociatedOid, Decode, ObjectIdentifier, ValueOrd};
 use x509_ext::pkix::{BasicConstraints, ExtendedKeyUsage, KeyUsage, SubjectAltName};
@@ -68,23 +66,20 @@ pub fn gather<'a>(extensions: ExtensionRefs<'a>, few: &mut [ExtensionRef<'a>]) -
 }
 
 /// The extensions, each lent.
+///
+/// # Errors
+///
+/// Out of memory.
 pub fn collect<'a>(
     alloc: Global,
     extensions: ExtensionRefs<'a>,
-) -> Result<Vec<ExtensionRef<'a>>, PathFault>
-    ensures ok { IfOk result (λ list. lent_extensions list.items ≡ extensions_left extensions.entry) }
-    ensures err { IfErr result (λ e. e ≡ Memory) }
+) -> Result<Vec<ExtensionRef<'a>>, AllocError>
+    ensures { IfOk result (λ list. lent_extensions list.items ≡ extensions_left extensions.entry) }
 {
     let mut rest = extensions;
-    let mut list = match Vec::with_capacity(alloc, FEW_EXTENSIONS) {
-        Ok(list) => list,
-        Err(_) => return Err(PathFault::Memory),
-    };
+    let mut list = Vec::with_capacity(alloc, FEW_EXTENSIONS)?;
     while let Some(extension) = rest.next() {
-        match list.push(extension) {
-            Ok(()) => {}
-            Err(_) => return Err(PathFault::Memory),
-        }
+        list.push(extension)?;
     }
     Ok(list)
 }
@@ -168,22 +163,21 @@ fn is_any_repeated(extensions: &[ExtensionRef<'_>]) -> bool
     false
 }
 
-/// Whether two of the extensions have one OID. O(n log n) comparisons. It takes memory for more than 16.
-pub fn is_repeated(alloc: Global, extensions: &[ExtensionRef<'_>]) -> Result<bool, PathFault>
+/// Whether two of the extensions have one OID. O(n log n) comparisons.
+///
+/// # Errors
+///
+/// Out of memory, only of more than 16.
+pub fn is_repeated(alloc: Global, extensions: &[ExtensionRef<'_>]) -> Result<bool, AllocError>
     ensures ok { IfOk result (λ b. IsTrue b ↔ IsRepeated (lent_extensions extensions.now)) }
-    ensures err { IfErr result (λ e. (e ≡ Memory) × (16 < length extensions.now)) }
+    ensures err { IfErr result (λ e. 16 < length extensions.now) }
 {
     if extensions.len() <= FEW_EXTENSIONS {
         return Ok(is_any_repeated(extensions));
     }
-    let Ok(mut identifiers) = Vec::with_capacity(alloc, extensions.len()) else {
-        return Err(PathFault::Memory);
-    };
+    let mut identifiers = Vec::with_capacity(alloc, extensions.len())?;
     for extension in extensions {
-        match identifiers.push(extension.extn_id) {
-            Ok(()) => {}
-            Err(_) => return Err(PathFault::Memory),
-        }
+        identifiers.push(extension.extn_id)?;
     }
     identifiers.sort_unstable_by(|a, b| a.value_cmp(b));
     Ok(!identifiers.is_sorted_by(|a, b| a.value_cmp(b).is_lt()))

@@ -1,9 +1,7 @@
 //! The checks of one certificate of a path.
 
-ghost use Rattle.std.specs.Prelude.{◌≡◌, ◌≢◌, ◌↔◌, ◌∷◌, ◌++◌, [], List, Ok, Err, IfOk, IfErr, IsTrue, MatchResult, false};
-ghost use Rattle.x509_base.specs.AlgorithmIdentifier.{algorithm_identifier};
-ghost use Rattle.x509_cert.specs.Signed.{IsSignedPart};
-ghost use Rattle.x509_der.specs.Form.{Spells};
+ghost use Rattle.std.specs.Prelude.{◌≡◌, ◌≢◌, ◌↔◌, ◌<◌, ◌∷◌, ◌++◌, [], length, List, Ok, Err, IfOk, IfErr, IsTrue, MatchResult, false};
+ghost use Rattle.x509_ext.specs.LookUp.{IsRepeated};
 ghost use Rattle.x509_path.specs.Certificates as certificates;
 ghost use Rattle.x509_path.specs.Lent.{Lends, lent_extensions};
 ghost use Rattle.x509_path.specs.Path.{Breaks};
@@ -11,7 +9,6 @@ ghost use Rattle.x509_path.specs.PathLength.{HasConstraints, IsOver, Judges, Lea
 ghost use Rattle.x509_path.specs.declared.anchor.Anchor.{Anchor};
 ghost use Rattle.x509_path.specs.declared.fault.PathFault.TheVariants.{Memory, At};
 ghost use Rattle.x509_path.specs.declared.fault.PathReason.TheVariants as reasons;
-ghost use Rattle.x509_prim.specs.BitString.{bit_string};
 
 use crate::anchor_ref::AnchorRef;
 use crate::certificate::{has_two_algorithms, is_outside, signed_of};
@@ -68,6 +65,17 @@ fn is_over(max_path_length: Option<u8>, certificate: &CertificateRef<'_>) -> boo
     match max_path_length {
         Some(max_path_length) => max_path_length == 0 && !is_self_issued(certificate),
         None => false,
+    }
+}
+
+/// Whether two of the extensions have one OID.
+fn has_repeated(alloc: Global, extensions: &[ExtensionRef<'_>]) -> Result<bool, PathFault>
+    ensures ok { IfOk result (λ b. IsTrue b ↔ IsRepeated (lent_extensions extensions.now)) }
+    ensures err { IfErr result (λ e. (e ≡ Memory) × (16 < length extensions.now)) }
+{
+    match is_repeated(alloc, extensions) {
+        Ok(repeated) => Ok(repeated),
+        Err(_) => Err(PathFault::Memory),
     }
 }
 
@@ -213,7 +221,7 @@ impl<T: Trust> Judge<'_, T> {
             PathReason::Issuer => self.is_of_another(place, certificate),
             PathReason::Moment => Ok(is_outside(self.moment, certificate)),
             PathReason::Signature => Ok(!self.is_signed(place, certificate)?),
-            PathReason::Repeated => is_repeated(self.alloc, extensions),
+            PathReason::Repeated => has_repeated(self.alloc, extensions),
             PathReason::Critical => Ok(!are_handled(extensions)),
             PathReason::NotCa => Ok(!place.is_last && !is_ca(lent.constraints)),
             PathReason::KeyUsage => {
@@ -272,7 +280,7 @@ impl<T: Trust> Judge<'_, T> {
     {
         match collect(self.alloc, certificate.extensions()) {
             Ok(many) => self.judge_lent(place, certificate, many.as_slice(), index),
-            Err(e) => Err(e),
+            Err(_) => Err(PathFault::Memory),
         }
     }
 

@@ -1,7 +1,6 @@
 //! The checks of one certificate of a path that is validated.
 
 ghost use Rattle.std.specs.Prelude.{◌≡◌, ◌↔◌, IfOk, IsTrue, List, Option, false};
-ghost use Rattle.x509_ext.specs.LookUp.{IsRepeated};
 ghost use Rattle.x509_path.specs.Certificates as certificates;
 ghost use Rattle.x509_path.specs.Lent.{lent_extensions};
 ghost use Rattle.x509_validation.specs.Steps.{AreConstraintsOf};
@@ -129,16 +128,6 @@ fn is_unusable(constraints: &Option<NameConstraints>) -> bool
     }
 }
 
-/// Whether two of the extensions have one OID.
-fn has_repeated(alloc: Global, extensions: &[ExtensionRef<'_>]) -> Result<bool, AllocError>
-    ensures { IfOk result (λ b. IsTrue b ↔ IsRepeated (lent_extensions extensions.now)) }
-{
-    match is_repeated(alloc, extensions) {
-        Ok(repeated) => Ok(repeated),
-        Err(_) => Err(AllocError),
-    }
-}
-
 impl<S: Signatures> Validator<'_, S> {
     ghost use Rattle.std.specs.Prelude.{◌≡◌, ◌↔◌, ◌⊎◌, ℕ, List, Ok, Err, IfOk, IsTrue, MatchResult, true, false};
     ghost use Rattle.x509_match.specs.Matching.{NamesMatch};
@@ -257,7 +246,7 @@ impl<S: Signatures> Validator<'_, S> {
             ValidationReason::Issuer => self.is_of_another(stand, certificate),
             ValidationReason::Moment => Ok(is_outside(self.moment, certificate)),
             ValidationReason::Signature => Ok(!self.is_signed(stand, certificate)?),
-            ValidationReason::Repeated => has_repeated(self.alloc, extensions),
+            ValidationReason::Repeated => is_repeated(self.alloc, extensions),
             ValidationReason::Critical => Ok(!are_processed(extensions)),
             ValidationReason::Extension => Ok(!are_spelled(extensions)),
             ValidationReason::NotCa => Ok(!stand.is_last && !is_ca(parts.basic_constraints)),
