@@ -1,0 +1,5 @@
+//! Tests of Merkle trees.
+#![tactic(auto)]
+
+#[cfg(test)]
+mod reference;
