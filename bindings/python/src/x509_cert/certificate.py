@@ -9,7 +9,7 @@ import importlib
 import secrets
 from typing import Any, NamedTuple, Sequence
 
-from ._given import instance, octets
+from ._given import der_of, instance, octets
 from ._keyed import Keyed
 from ._library import FAULT, OK, RAW, RFC5280, CertificateView, PathFaultView, SignatureView, Span, X509Error, fill, status_of, view
 from ._numbers import moment, whole_number
@@ -120,7 +120,8 @@ class Certificate(Keyed, Signed):
         where the name is another, or the algorithm is another than in the signed part (RFC 5280 4.1.1.2) or none for such keys; InvalidSignature of
         `cryptography` where the signature is none, a TypeError where the issuer's key is of a kind that verifies none. Nothing else is looked at: no date, and
         not whether the issuer is an authority."""
-        fault = path_fault(instance(issuer, Certificate, "the issuer")._data, [self._data], int(self._view.not_before))
+        issuer = certificate_of(issuer, "the issuer")
+        fault = path_fault(issuer._data, [self._data], int(self._view.not_before))
         if fault is not None and fault[1] in _UNFIT:
             raise ValueError(f"the certificate {_UNFIT[fault[1]]}")
         self._verify(issuer.public_key_bytes)
@@ -159,6 +160,12 @@ def load_pem_x509_certificates(data: bytes) -> list[Certificate]:
 def random_serial_number() -> int:
     """A positive serial number of 159 random bits, whose INTEGER has 20 octets at most (RFC 5280 4.1.2.2)."""
     return secrets.randbelow((1 << 159) - 1) + 1
+
+
+def certificate_of(given: object, what: str) -> Certificate:
+    """A Certificate, or that of `cryptography` by its DER."""
+    data = der_of(given, "Certificate")
+    return instance(given, Certificate, what) if data is None else Certificate(data)
 
 
 def path_fault(anchor: bytes, path: Sequence[bytes], moment: int) -> tuple[int, int] | None:
