@@ -335,7 +335,8 @@ impl CertificateBuilder {
     /// # Errors
     /// As of [`tbs_certificate`](CertificateBuilder::tbs_certificate); [`Error::Malformed`] also where the issuer's key is none; [`Error::Repeated`] where an
     /// added extension is one that the profile makes; [`Error::NotInProfile`] where the issuer's name or key aren't a root's own, where a root can't have that
-    /// subject ([`ProfilePart::RootSubject`] says which it can), where a server's subject has another attribute or its key no such use, or where no name of a device is that of a hardware module.
+    /// subject ([`ProfilePart::RootSubject`] says which it can), where a server's subject has another attribute or its key no such use, or where no name of a
+    /// device is that of a hardware module.
     pub fn tbs_certificate_as(
         &self,
         profile: &CertificateProfile<'_>,
