@@ -1,6 +1,6 @@
 //! The policies of a path, certificate by certificate (RFC 5280 6.1).
 
-ghost use Rattle.std.specs.Prelude.{◌≡◌, ◌↔◌, ◌<◌, ◌++◌, ◌∷◌, [], ◌^◌, ℕ, suc, IfOk, IsTrue, List, OnErr, length, map};
+ghost use Rattle.std.specs.Prelude.{◌≡◌, ◌≢◌, ◌↔◌, ◌<◌, ◌++◌, ◌∷◌, [], ◌^◌, ℕ, suc, IfOk, IsTrue, List, OnErr, length, map};
 ghost use Rattle.std.specs.Option.{option_map};
 ghost use Rattle.x509_policy.specs.Edges.{IsLevelOf, certificate_leads};
 ghost use Rattle.x509_policy.specs.Follows.{Follows, IsAnswered, IsOutcome, expectations_of, outcome_of, reason_of};
@@ -112,11 +112,12 @@ impl<'s, 'a> PolicyState<'s, 'a> {
         }
     }
 
-    /// Goes on behind a certificate that isn't the last, unless something is wrong there, which is the answer.
+    /// Goes on behind a certificate that isn't the last, unless something is wrong there, which is the answer; then the state is as
+    /// before.
     ///
     /// # Errors
     ///
-    /// When out of memory; then the state is as before.
+    /// When out of memory; then, too, the state is as before.
     pub fn add(
         &mut self,
         alloc: Global,
@@ -124,6 +125,7 @@ impl<'s, 'a> PolicyState<'s, 'a> {
     ) -> Result<Option<PolicyReason>, AllocError>
         ensures answer { (settings : Settings) (n : ℕ) (before : List Certificate) → Follows settings n before self.old
             → IfOk result (λ refusal. IsAnswered settings n before (certificate_of certificate.now) (option_map reason_of refusal) self.new) }
+        ensures refused { IfOk result (λ refusal. (refusal ≢ None) → self.new ≡ self.old) }
         ensures kept { (settings : Settings) (n : ℕ) (before : List Certificate)
             → Follows settings n before self.old → OnErr result (Follows settings n before self.new) }
     {
