@@ -520,10 +520,10 @@ x509_status x509_name_find(const uint8_t *name, size_t len, const uint8_t *oid, 
 
 /* Decodes two Names, and says whether they match (RFC 5280 7.1): `*matches` is 1 where they do, else 0. They have as many relative names, in order, and in each
  * as many attributes, in any order, each with a partner of its own of the same type whose value is the same element or the same text. Texts are
- * PrintableString, UTF8String, BMPString and IA5String, compared without regard to case, to spaces at their ends and to how many stand within, as RFC 4518
- * prepares them, with the data of Unicode 18; a text with a character that RFC 4518 2.4 prohibits matches only the same element. Of an e-mail address what
- * stands before the last @ is compared as it is, and the rest, as a domain component, without regard to the case of ASCII. Equal bytes, and texts in ASCII, are
- * compared without memory.
+ * PrintableString, UTF8String, BMPString, UniversalString and IA5String, and a TeletexString of ASCII, compared without regard to case, to spaces at their
+ * ends and to how many stand within, as RFC 4518 prepares them, with the data of Unicode 18; a text with a character that RFC 4518 2.4 prohibits matches only
+ * the same element. An e-mail address and a domain component are compared without regard to the case of ASCII (RFC 5280 4.1.2.6, 7.3). Equal bytes, and texts
+ * in ASCII, are compared without memory.
  * Refused as the first is that is no Name.
  * Answers X509_OK, X509_MEMORY, X509_OVERLENGTH, X509_MALFORMED. */
 x509_status x509_names_match(const uint8_t *a, size_t a_len, const uint8_t *b, size_t b_len, uint32_t *matches);

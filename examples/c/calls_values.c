@@ -272,10 +272,17 @@ static void matching_names(void)
     WANT(MATCH("\x0c\x01" "a", "\x13\x01" "A") == 1);
     WANT(MATCH("\x1e\x02\x00" "a", "\x16\x01" "A") == 1);
     WANT(MATCH("\x0c\x01" "a", "\x0c\x01" "b") == 0);
-    /* T61String is compared by its octets */
-    WANT(MATCH("\x14\x01" "a", "\x14\x01" "a") == 1);
-    WANT(MATCH("\x14\x01" "a", "\x14\x01" "A") == 0);
-    WANT(MATCH("\x14\x01" "a", "\x0c\x01" "a") == 0);
+    /* a T61String of ASCII is a text, and one beyond is compared by its octets */
+    WANT(MATCH("\x14\x01" "a", "\x14\x01" "A") == 1);
+    WANT(MATCH("\x14\x01" "a", "\x0c\x01" "a") == 1);
+    WANT(MATCH("\x14\x01\xe4", "\x14\x01\xe4") == 1);
+    WANT(MATCH("\x14\x01\xe4", "\x14\x01\xc4") == 0);
+    WANT(MATCH("\x14\x01\xe4", "\x0c\x02\xc3\xa4") == 0);
+    /* UniversalString, four octets a character (X.690 8.23.8); a half of a surrogate pair is none */
+    WANT(MATCH("\x1c\x04\x00\x00\x00" "A", "\x0c\x01" "a") == 1);
+    WANT(MATCH("\x1c\x04\x00\x00\x00\xc4", "\x1e\x02\x00\xe4") == 1);
+    WANT(MATCH("\x1c\x04\x00\x00\xd8\x00", "\x1c\x04\x00\x00\xd8\x00") == 1);
+    WANT(MATCH("\x1c\x04\x00\x00\xd8\x00", "\x0c\x01" "a") == 0);
     /* spaces at the ends and within (RFC 4518 2.6.1), and what is mapped to them or to nothing (2.2) */
     WANT(MATCH("\x0c\x05" " a  b", "\x0c\x04" "A b ") == 1);
     WANT(MATCH("\x0c\x03" "a b", "\x0c\x02" "ab") == 0);
@@ -294,9 +301,10 @@ static void matching_names(void)
     WANT(MATCH("\x0c\x04" "a\xee\x80\x80", "\x0c\x04" "A\xee\x80\x80") == 0);
     WANT(MATCH("\x0c\x04" "a\xef\xbf\xbd", "\x0c\x04" "A\xef\xbf\xbd") == 0);
 
-    /* the host of an e-mail address without regard to case, and what stands before it as it is; a domain component (RFC 5280 7.3, 7.5) */
+    /* an e-mail address and a domain component without regard to case (RFC 5280 4.1.2.6, 7.3) */
     WANT(match(BYTES(EMAIL("\x16", "\x14", "\x12", "\x05", "a@b.c")), BYTES(EMAIL("\x16", "\x14", "\x12", "\x05", "a@B.C"))) == 1);
-    WANT(match(BYTES(EMAIL("\x16", "\x14", "\x12", "\x05", "a@b.c")), BYTES(EMAIL("\x16", "\x14", "\x12", "\x05", "A@b.c"))) == 0);
+    WANT(match(BYTES(EMAIL("\x16", "\x14", "\x12", "\x05", "a@b.c")), BYTES(EMAIL("\x16", "\x14", "\x12", "\x05", "A@b.c"))) == 1);
+    WANT(match(BYTES(EMAIL("\x16", "\x14", "\x12", "\x05", "a@b.c")), BYTES(EMAIL("\x16", "\x14", "\x12", "\x05", "a@b.d"))) == 0);
     WANT(match(BYTES(DOMAIN("\x15", "\x13", "\x11", "\x03", "a b")), BYTES(DOMAIN("\x15", "\x13", "\x11", "\x03", "A B"))) == 1);
     WANT(match(BYTES(DOMAIN("\x15", "\x13", "\x11", "\x03", "a b")), BYTES(DOMAIN("\x16", "\x14", "\x12", "\x04", "a  b"))) == 0);
 }

@@ -2,7 +2,8 @@
 
 use std::test::*;
 use x509_der::Decode;
-use x509_match::{MatchedName, encoded_names_match};
+use x509_match::{MatchedName, encoded_names_match, is_compared};
+use x509_name::attr::AttributeTypeAndValue;
 use x509_name::name::Name;
 
 /// `C=US` and the UTF8String `CN= John   Smith`, with a space in front and three between.
@@ -23,6 +24,22 @@ const SHARP: &[u8] =
 
 /// The PrintableString `CN=STRASSE`.
 const TWO_LETTERS: &[u8] = b"\x30\x12\x31\x10\x30\x0E\x06\x03\x55\x04\x03\x13\x07STRASSE";
+
+/// The UniversalString `CN=Straße`.
+const IN_FOUR_OCTETS: &[u8] =
+    b"\x30\x23\x31\x21\x30\x1F\x06\x03\x55\x04\x03\x1C\x18\0\0\0S\0\0\0t\0\0\0r\0\0\0a\0\0\0\xDF\0\0\0e";
+
+/// The TeletexString `CN=JohnSmith` after `C=US`.
+const TELETEX: &[u8] =
+    b"\x30\x21\x31\x0B\x30\x09\x06\x03\x55\x04\x06\x13\x02US\x31\x12\x30\x10\x06\x03\x55\x04\x03\x14\x09johnsmith";
+
+/// The emailAddress `Subscriber@Example.COM`.
+const SUBSCRIBER: &[u8] =
+    b"\x30\x27\x31\x25\x30\x23\x06\x09\x2A\x86\x48\x86\xF7\x0D\x01\x09\x01\x16\x16Subscriber@Example.COM";
+
+/// The emailAddress `SUBSCRIBER@EXAMPLE.COM`, as RFC 5280 4.1.2.6 has it.
+const IN_CAPITALS: &[u8] =
+    b"\x30\x27\x31\x25\x30\x23\x06\x09\x2A\x86\x48\x86\xF7\x0D\x01\x09\x01\x16\x16SUBSCRIBER@EXAMPLE.COM";
 
 /// `C=US` alone.
 const COUNTRY: &[u8] = b"\x30\x0D\x31\x0B\x30\x09\x06\x03\x55\x04\x06\x13\x02US";
@@ -78,10 +95,41 @@ fn names(rt: HostRuntime) {
     assert!(rt; is_same(&rt, SHARP, TWO_LETTERS) == Some(true));
 }
 
+/// An emailAddress has no case (RFC 5280 4.1.2.6); a UniversalString and a TeletexString are compared by their characters.
+#[test]
+fn other_strings(rt: HostRuntime) {
+    assert!(rt; is_same(&rt, SUBSCRIBER, IN_CAPITALS) == Some(true));
+    assert!(rt; has_one_key(&rt, SUBSCRIBER, IN_CAPITALS) == Some(true));
+    assert!(rt; is_same(&rt, IN_FOUR_OCTETS, TWO_LETTERS) == Some(true));
+    assert!(rt; has_one_key(&rt, SHARP, IN_FOUR_OCTETS) == Some(true));
+    assert!(rt; is_same(&rt, JOINED, TELETEX) == Some(true));
+}
+
 #[test]
 fn keys(rt: HostRuntime) {
     assert!(rt; has_one_key(&rt, SPACED, CAPITALS) == Some(true));
     assert!(rt; has_one_key(&rt, SPACED, JOINED) == Some(false));
     assert!(rt; has_one_key(&rt, SHARP, TWO_LETTERS) == Some(true));
     assert!(rt; is_below(&rt, CAPITALS, COUNTRY));
+}
+
+/// Whether the attribute with this encoding is compared as a text.
+fn is_text(rt: &HostRuntime, attribute: &[u8]) -> Option<bool> {
+    let Ok(attribute) = AttributeTypeAndValue::from_der(rt.alloc(), attribute) else {
+        return None;
+    };
+    match is_compared(rt.alloc(), &attribute) {
+        Ok(is_text) => Some(is_text),
+        Err(_) => None,
+    }
+}
+
+/// A TeletexString beyond ASCII, a half of a surrogate pair and a number are no texts.
+#[test]
+fn texts(rt: HostRuntime) {
+    assert!(rt; is_text(&rt, b"\x30\x08\x06\x03\x55\x04\x03\x14\x01e") == Some(true));
+    assert!(rt; is_text(&rt, b"\x30\x08\x06\x03\x55\x04\x03\x14\x01\xE9") == Some(false));
+    assert!(rt; is_text(&rt, b"\x30\x0B\x06\x03\x55\x04\x03\x1C\x04\0\0\0e") == Some(true));
+    assert!(rt; is_text(&rt, b"\x30\x0B\x06\x03\x55\x04\x03\x1C\x04\0\0\xD8\0") == Some(false));
+    assert!(rt; is_text(&rt, b"\x30\x08\x06\x03\x55\x04\x03\x02\x01\x05") == Some(false));
 }

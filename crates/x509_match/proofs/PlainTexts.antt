@@ -10,8 +10,7 @@ use Rattle.unicode_normalization.proofs.FormsLemmas.{normalize-ascii}
 use Rattle.unicode_normalization.specs.Forms.{Nfkc}
 use Rattle.x509_prim.specs.Alphabet.{is_ia5, ia5_ascii}
 use Rattle.x509_match.specs.Plain.{is_letter, is_white, plain_behind}
-use Rattle.x509_match.specs.declared.text.TheConstants.{WHITE_SPACE}
-use Rattle.x509_match.specs.Prepared.{is_kept, spaced, is_mark, is_prohibited, mapped, folded, begins_with_mark, is_within, squeezed, prepared}
+use Rattle.x509_match.specs.Prepared.{is_kept, spaced, is_mark, is_prohibited, mapped, folded, begins_with_mark, is_within, squeezed, prepared, white_space}
 
 -- ---- the characters below 80, by computation
 
@@ -73,7 +72,7 @@ prohibited_is c lt = not_true _ (and_parts _ _ (and_parts _ _ (all_hold c lt)).1
 
 spaced_small : (c : ℕ) → c < 128 → spaced c < 128
 unfolding spaced
-spaced_small c lt = elim (cases_Bool (is_within WHITE_SPACE c)) [ inl white ↦ rw white (lit< tt) | inr other ↦ rw other lt ]
+spaced_small c lt = elim (cases_Bool (is_within white_space c)) [ inl white ↦ rw white (lit< tt) | inr other ↦ rw other lt ]
 
 lower_small : (c : ℕ) → c < 128 → to_ascii_lowercase c < 128
 lower_small c lt = grind (arith, nat_tests)

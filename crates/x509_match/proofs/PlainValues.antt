@@ -9,14 +9,14 @@ use Rattle.x509_der.specs.declared.any.Any.{Any}
 use Rattle.x509_der.specs.Tag.{octet_of}
 use Rattle.x509_der.specs.TagReading.{same_tag}
 use Rattle.x509_der.specs.declared.tag.Tag.{Tag}
-use Rattle.x509_der.specs.declared.tag.Tag.TheVariants.{PrintableString, Ia5String}
+use Rattle.x509_der.specs.declared.tag.Tag.TheVariants.{PrintableString, Ia5String, TeletexString}
 use Rattle.x509_name.specs.AttributeTypes as types
 use Rattle.x509_name.specs.declared.attr.type_and_value.AttributeTypeAndValue.{AttributeTypeAndValue}
 use Rattle.x509_prim.specs.Alphabet.{is_ia5}
 use Rattle.x509_match.proofs.AttributesAgree.{attributes_agree}
 use Rattle.x509_match.proofs.PlainTexts.{prepared_ascii}
 use Rattle.x509_match.proofs.Values.{ascii_is}
-use Rattle.x509_match.specs.Keys.{ascii_characters, utf8_characters, characters, mailbox, compared, compared_value, octets_key}
+use Rattle.x509_match.specs.Keys.{ascii_characters, utf8_characters, characters, is_caseless, compared, compared_value, octets_key}
 use Rattle.x509_match.specs.Plain.{plain_behind, IsPlainText}
 
 pub ascii_text : (content : List ℕ) → list_all is_ia5 content ≡ true → ascii_characters content ≡ Some content
@@ -36,29 +36,21 @@ utf8_text content h =
 both : (x y : Option (List ℕ)) (s t : List ℕ) → x ≡ Some s → y ≡ Some t → (s ≡ t) ↔ (x ≡ y)
 both x y s t p q = (λ e. p ∙ ap Some e ∙ sym q, λ e. let k : Some s ≡ Some t = sym p ∙ e ∙ q in cc)
 
-pub mailboxes : (oid a b : List ℕ) → bytes_eq oid types.email_address ≡ true → (mailbox a ≡ mailbox b) ↔ (compared oid a ≡ compared oid b)
+pub labels : (oid a b : List ℕ) → is_caseless oid ≡ true → (map to_ascii_lowercase a ≡ map to_ascii_lowercase b) ↔ (compared oid a ≡ compared oid b)
 unfolding compared
-mailboxes oid a b h = rw h (both (Some (mailbox a)) (Some (mailbox b)) _ _ refl refl)
+labels oid a b h = rw h (both (Some (map to_ascii_lowercase a)) (Some (map to_ascii_lowercase b)) _ _ refl refl)
 
-pub labels : (oid a b : List ℕ) → bytes_eq oid types.email_address ≡ false → bytes_eq oid types.domain_component ≡ true
-    → (map to_ascii_lowercase a ≡ map to_ascii_lowercase b) ↔ (compared oid a ≡ compared oid b)
-unfolding compared
-labels oid a b h k = rw (h, k) (both (Some (map to_ascii_lowercase a)) (Some (map to_ascii_lowercase b)) _ _ refl refl)
-
-pub others : (oid a b : List ℕ) → bytes_eq oid types.email_address ≡ false → bytes_eq oid types.domain_component ≡ false → list_all is_ia5 a ≡ true → list_all is_ia5 b ≡ true
+pub others : (oid a b : List ℕ) → is_caseless oid ≡ false → list_all is_ia5 a ≡ true → list_all is_ia5 b ≡ true
     → (plain_behind false false a ≡ plain_behind false false b) ↔ (compared oid a ≡ compared oid b)
 unfolding compared
-others oid a b h k p q = rw (h, k) (both _ _ _ _ (prepared_ascii a p) (prepared_ascii b q))
+others oid a b h p q = rw h (both _ _ _ _ (prepared_ascii a p) (prepared_ascii b q))
 
 -- an ASCII text is compared as a text
 plain_compared : (oid a : List ℕ) → list_all is_ia5 a ≡ true → (s : List ℕ) × (compared oid a ≡ Some s)
 unfolding compared
-plain_compared oid a h = elim (cases_Bool (bytes_eq oid types.email_address)) [
-  | inl mail ↦ (mailbox a, rw mail refl)
-  | inr other ↦ elim (cases_Bool (bytes_eq oid types.domain_component)) [
-    | inl label ↦ (map to_ascii_lowercase a, rw (other, label) refl)
-    | inr text ↦ (plain_behind false false a, rw (other, text) (prepared_ascii a h))
-  ]
+plain_compared oid a h = elim (cases_Bool (is_caseless oid)) [
+  | inl caseless ↦ (map to_ascii_lowercase a, rw caseless refl)
+  | inr text ↦ (plain_behind false false a, rw text (prepared_ascii a h))
 ]
 
 abbrev attribute : List ℕ → Tag → List ℕ → AttributeTypeAndValue
@@ -91,11 +83,6 @@ no_keys oid s t a b apart p k =
       | inr found ↦ absurd (let e : None ≡ Some found.0 = sym left ∙ found.1 in cc)
     ]
 
-pub mailboxes_end : (left right : List ℕ) (r : Bool) (M : Type 0) → length left < 1 → r ≡ nat_eq (length right) 0 → ((mailbox left ≡ mailbox right) ↔ M) → IsTrue r ↔ M
-mailboxes_end [] [] r M len h k = (λ e. k.0 refl, λ m. h)
-mailboxes_end [] (c ∷ right) r M len h k = (λ e. absurd (let n = eqb-true (length (c ∷ right)) 0 (sym h ∙ e) in omega arith), λ m. absurd (let n = k.1 m in cc))
-mailboxes_end (c ∷ left) right r M len h k = absurd (omega arith)
-
 pub printable_text : (r : Bool) (content : List ℕ) → r ≡ list_all is_ia5 content → IsPlainText r PrintableString content
 printable_text true content h = (sym h, ascii_text content (sym h))
 printable_text false content h = no_ascii_text content (sym h)
@@ -103,6 +90,10 @@ printable_text false content h = no_ascii_text content (sym h)
 pub ia5_text : (r : Bool) (content : List ℕ) → r ≡ list_all is_ia5 content → IsPlainText r Ia5String content
 ia5_text true content h = (sym h, ascii_text content (sym h))
 ia5_text false content h = no_ascii_text content (sym h)
+
+pub teletex_text : (r : Bool) (content : List ℕ) → r ≡ list_all is_ia5 content → IsPlainText r TeletexString content
+teletex_text true content h = (sym h, ascii_text content (sym h))
+teletex_text false content h = no_ascii_text content (sym h)
 
 pub no_text : (r : Bool) (s : Tag) (a : List ℕ) → IsPlainText r s a → r ≡ false → characters s a ≡ None
 no_text true s a h e = absurd cc

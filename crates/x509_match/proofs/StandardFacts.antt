@@ -1,6 +1,7 @@
 -- Texts that RFC 4518 prepares, computed from the definitions.
-use Rattle.std.proofs.Common.{◌≡◌, false, [], ◌∷◌, codes, refl}
-use Rattle.x509_match.specs.Keys.{mailbox}
+use Rattle.std.proofs.Common.{◌≡◌, false, [], ◌∷◌, Some, None, codes, map, refl}
+use Rattle.std.specs.Char.{to_ascii_lowercase}
+use Rattle.x509_match.specs.Keys.{is_character, universal_characters}
 use Rattle.x509_match.specs.Plain.{plain_behind}
 use Rattle.x509_match.specs.Prepared.{is_kept, is_mark, mapped, spaced, squeezed}
 
@@ -24,6 +25,15 @@ pub spaces_alone : squeezed (0x20 ∷ 0x20 ∷ []) ≡ []
 unfolding squeezed is_mark
 spaces_alone = refl
 
--- the local part is kept, also one with an `@` (RFC 5280 7.5)
-pub quoted_mailbox : mailbox (codes "\"A@B\"@Example.ORG") ≡ codes "\"A@B\"@example.org"
-quoted_mailbox = refl
+-- an emailAddress has no case (RFC 5280 4.1.2.6)
+pub no_case : map to_ascii_lowercase (codes "Subscriber@Example.COM") ≡ map to_ascii_lowercase (codes "SUBSCRIBER@EXAMPLE.COM")
+no_case = refl
+
+-- a character in four octets, and a half of a surrogate pair (X.690 8.23.8)
+pub one_in_four : universal_characters (0 ∷ 1 ∷ 0xF6 ∷ 0x00 ∷ []) ≡ Some (0x1F600 ∷ [])
+unfolding is_character
+one_in_four = refl
+
+pub no_half : universal_characters (0 ∷ 0 ∷ 0xD8 ∷ 0x00 ∷ []) ≡ None
+unfolding is_character
+no_half = refl

@@ -1,10 +1,10 @@
 -- What the octets are made of that an attribute is compared by.
-use Rattle.std.proofs.Common.{◌≡◌, ℕ, zero, suc, ◌+◌, ◌-◌, ◌≤◌, Bool, true, false, cond, List, [], ◌∷◌, ◌++◌, length, take, drop, get_or, map, count_by, nat_eq, nat_lt, bytes_eq, encode_utf8, encode_utf8_all, IsUtf8, IsAscii, chars, if◌then◌else◌, Option, Some, None, option_map, Ok, Err, refl, sym, ap, inl, inr, lit<, ◌∙◌, append_assoc, arith}
-use Rattle.std.proofs.lemmas.Bool.{cases_Bool, and_parts, ltb-true}
-use Rattle.std.proofs.lemmas.List.{take_all}
-use Rattle.std.proofs.lemmas.List.Sums.{sum_by-cons}
+use Rattle.std.proofs.Common.{◌≡◌, ℕ, zero, suc, ◌+◌, ◌*◌, ◌-◌, ◌<◌, ◌≤◌, Bool, true, false, cond, List, [], ◌∷◌, ◌++◌, length, take, drop, get_or, map, count_by, nat_eq, nat_lt, bytes_eq, encode_utf8, encode_utf8_all, IsUtf8, IsAscii, chars, if◌then◌else◌, Option, Some, None, MatchOption, SomeIff, option_map, Ok, Err, refl, sym, ap, inl, inr, lit<, ◌∙◌, append_assoc, arith}
+use Rattle.std.proofs.lemmas.Bool.{cases_Bool, and_parts, eqb-true, ltb-true}
+use Rattle.std.proofs.lemmas.List.{append-nil, take_all}
+use Rattle.std.proofs.lemmas.Bool.Decides.{nat_tests}
 use Rattle.std.proofs.lemmas.Str.{encodes-chars, encodes-IsAscii, chars-IsAscii, IsUtf8-from_is_utf8}
-use Rattle.std.specs.Char.{to_ascii_lowercase}
+use Rattle.std.specs.Char.{InScalarRange, IsScalar, OutOfScalarRange, to_ascii_lowercase}
 use Rattle.std.specs.List.{list_all}
 use Rattle.std.specs.Str.{is_utf8}
 use Rattle.x509_der.specs.Arcs.{subidentifier}
@@ -12,7 +12,7 @@ use Rattle.x509_der.specs.OutcomeLaws.{ok_is, test_ok}
 use Rattle.x509_der.specs.Tested.{tested_reading}
 use Rattle.x509_der.specs.declared.error.ErrorKind.TheVariants.{Malformed}
 use Rattle.x509_match.proofs.Texts.{chars_are}
-use Rattle.x509_match.specs.Keys.{ascii_characters, utf8_characters, bmp_characters, mailbox, compared, compared_value}
+use Rattle.x509_match.specs.Keys.{ascii_characters, utf8_characters, bmp_characters, universal_characters, code_of, is_character, is_caseless, compared, compared_value}
 use Rattle.x509_match.specs.Prepared.{prepared}
 use Rattle.x509_name.specs.AttributeTypes as types
 use Rattle.x509_prim.specs.Alphabet.{is_ia5}
@@ -57,41 +57,78 @@ bmp_refused octets h = elim (cases_Bool (is_bmp octets)) [
   | inr other ↦ rw other refl
 ]
 
--- ---- mailboxes
+-- ---- UniversalString
 
-abbrev is_at_sign : ℕ → Bool
-is_at_sign b = nat_eq b 0x40
+pub a_character : (code : ℕ) → InScalarRange code → is_character code ≡ true
+unfolding is_character
+a_character code h = grind (arith, nat_tests)
 
-count_behind : (c n ahead next : ℕ) (b : Bool) → ahead ≡ cond b 1 0 + n → next ≡ cond b (ahead - 1) ahead → next ≡ n
-count_behind c n ahead next true h k = omega arith
-count_behind c n ahead next false h k = omega arith
+pub no_character : (code : ℕ) → OutOfScalarRange code → is_character code ≡ false
+unfolding is_character
+no_character code h = grind (arith, nat_tests)
+
+-- what `from_u32` answers
+pub some_character : (code : ℕ) (found : Option ℕ) → SomeIff found (IsScalar code) code → MatchOption found (OutOfScalarRange code) (λ c. InScalarRange code) →
+    MatchOption found (is_character code ≡ false) (λ c. (is_character code ≡ true) × (c ≡ code))
+some_character code None value cases = no_character code cases
+some_character code (Some c) value cases = (a_character code cases, value.1)
+
+-- what is found, with the rest of the octets behind it
+abbrev pub AreBehind : List ℕ → List ℕ → List ℕ → Type 0
+AreBehind found rest content =
+    option_map (λ behind. found ++ encode_utf8_all behind) (universal_characters rest) ≡ option_map encode_utf8_all (universal_characters content)
 
 -- one character more
-pub one_letter_more : (old new text all : List ℕ) (ahead next c m d : ℕ) → 1 ≤ length text → c ≡ get_or text 0 d → ahead ≡ count_by is_at_sign text
-    → next ≡ (if nat_eq c 0x40 then ahead - 1 else ahead) → m ≡ (if nat_lt 0 next then c else to_ascii_lowercase c) → new ≡ old ++ encode_utf8 m → old ++ encode_utf8_all (mailbox text) ≡ all
-    → (next ≡ count_by is_at_sign (take (length text - 1) (drop 1 text))) × (new ++ encode_utf8_all (mailbox (take (length text - 1) (drop 1 text))) ≡ all)
-one_letter_more old new [] all ahead next c m d len at count left made is before = absurd (omega arith)
-one_letter_more old new (first ∷ text) all ahead next c m d len at count left made is before =
-    let rest : take (length (first ∷ text) - 1) text ≡ text = take_all (length (first ∷ text) - 1) text (omega arith) in
-    let same : c ≡ first = at in
-    let behind : next ≡ count_by is_at_sign text = count_behind first (count_by is_at_sign text) ahead next (nat_eq first 0x40) (count ∙ sum_by-cons (λ b. cond (is_at_sign b) 1 0) first text) (rw same at left) in
-    let letter = rw (behind, same) at made in
-    (rw rest behind, rw (rest, is, append_assoc old (encode_utf8 m) (encode_utf8_all (mailbox text)), letter) before)
+pub one_in_four_more : (rest old new content : List ℕ) (char : ℕ) → 4 ≤ length rest →
+    is_character (code_of (get_or rest 0 0) (get_or rest 1 0) (get_or rest 2 0) (get_or rest 3 0)) ≡ true →
+    char ≡ code_of (get_or rest 0 0) (get_or rest 1 0) (get_or rest 2 0) (get_or rest 3 0) → new ≡ old ++ encode_utf8 char →
+    AreBehind old rest content → AreBehind new (take (length rest - 4) (drop 4 rest)) content
+one_in_four_more [] old new content char len ok is made before = absurd (omega arith)
+one_in_four_more (a ∷ []) old new content char len ok is made before = absurd (omega arith)
+one_in_four_more (a ∷ b ∷ []) old new content char len ok is made before = absurd (omega arith)
+one_in_four_more (a ∷ b ∷ c ∷ []) old new content char len ok is made before = absurd (omega arith)
+one_in_four_more (a ∷ b ∷ c ∷ d ∷ behind) old new content char len ok is made before =
+    let rest : take (length (a ∷ b ∷ c ∷ d ∷ behind) - 4) behind ≡ behind = take_all (length (a ∷ b ∷ c ∷ d ∷ behind) - 4) behind (omega arith) in
+    let opened = rw ok at before in
+    rw rest (by_rest (universal_characters behind) ∙ opened)
+  where
+    by_rest : (found : Option (List ℕ)) → option_map (λ later. new ++ encode_utf8_all later) found
+        ≡ option_map (λ later. old ++ encode_utf8_all later) (option_map (λ later. code_of a b c d ∷ later) found)
+    by_rest None = refl
+    by_rest (Some later) = ap Some (rw (made, is) (append_assoc old (encode_utf8 (code_of a b c d)) (encode_utf8_all later)))
+
+pub no_more_of_four : (rest found content : List ℕ) → length rest < 4 → nat_eq (length rest) 0 ≡ true → AreBehind found rest content →
+    Some found ≡ option_map encode_utf8_all (universal_characters content)
+no_more_of_four [] found content len none before = ap Some (sym (append-nil found)) ∙ before
+no_more_of_four (a ∷ rest) found content len none before = absurd (let n = eqb-true (length (a ∷ rest)) 0 none in omega arith)
+
+pub some_of_four : (rest found content : List ℕ) → length rest < 4 → nat_eq (length rest) 0 ≡ false → AreBehind found rest content →
+    None ≡ option_map encode_utf8_all (universal_characters content)
+some_of_four [] found content len some before = absurd cc
+some_of_four (a ∷ []) found content len some before = before
+some_of_four (a ∷ b ∷ []) found content len some before = before
+some_of_four (a ∷ b ∷ c ∷ []) found content len some before = before
+some_of_four (a ∷ b ∷ c ∷ d ∷ rest) found content len some before = absurd (omega arith)
+
+pub none_in_four : (rest found content : List ℕ) → 4 ≤ length rest →
+    is_character (code_of (get_or rest 0 0) (get_or rest 1 0) (get_or rest 2 0) (get_or rest 3 0)) ≡ false →
+    AreBehind found rest content → None ≡ option_map encode_utf8_all (universal_characters content)
+none_in_four [] found content len not_one before = absurd (omega arith)
+none_in_four (a ∷ []) found content len not_one before = absurd (omega arith)
+none_in_four (a ∷ b ∷ []) found content len not_one before = absurd (omega arith)
+none_in_four (a ∷ b ∷ c ∷ []) found content len not_one before = absurd (omega arith)
+none_in_four (a ∷ b ∷ c ∷ d ∷ behind) found content len not_one before = let opened = rw not_one at before in opened
 
 -- ---- what is compared
 
-pub compared-mailbox : (oid text found : List ℕ) → bytes_eq oid types.email_address ≡ true → found ≡ encode_utf8_all (mailbox text) → Some found ≡ option_map encode_utf8_all (compared oid text)
-unfolding compared
-compared-mailbox oid text found h e = rw h (ap Some e)
-
-pub compared-label : (oid text found : List ℕ) → bytes_eq oid types.email_address ≡ false → bytes_eq oid types.domain_component ≡ true → found ≡ encode_utf8_all (map to_ascii_lowercase text)
+pub compared-caseless : (oid text found : List ℕ) → is_caseless oid ≡ true → found ≡ encode_utf8_all (map to_ascii_lowercase text)
     → Some found ≡ option_map encode_utf8_all (compared oid text)
 unfolding compared
-compared-label oid text found h k e = rw (h, k) (ap Some e)
+compared-caseless oid text found h e = rw h (ap Some e)
 
-pub compared-other : (oid text : List ℕ) → bytes_eq oid types.email_address ≡ false → bytes_eq oid types.domain_component ≡ false → compared oid text ≡ prepared text
+pub compared-other : (oid text : List ℕ) → is_caseless oid ≡ false → compared oid text ≡ prepared text
 unfolding compared
-compared-other oid text h k = rw (h, k) refl
+compared-other oid text h = rw h refl
 
 pub no_value : (oid : List ℕ) (text : Option (List ℕ)) → None ≡ option_map encode_utf8_all text → None ≡ option_map encode_utf8_all (compared_value oid text)
 no_value oid None e = refl

@@ -1,11 +1,11 @@
 -- What an attribute is compared by (RFC 5280 7.1, 7.5): its key, one list of octets.
-use Rattle.std.specs.Prelude.{ℕ, nat_eq, nat_lt, bytes_eq, List, [], ◌∷◌, ◌++◌, map, length, count_by, chars, encode_utf8_all, Option, Some, None, option_map, if◌then◌else◌}
+use Rattle.std.specs.Prelude.{ℕ, ◌+◌, ◌*◌, Bool, ◌&&◌, ◌||◌, nat_lt, nat_le, bytes_eq, List, [], ◌∷◌, ◌++◌, map, length, chars, encode_utf8_all, Option, Some, None, option_map, if◌then◌else◌}
 use Rattle.std.specs.Char.{to_ascii_lowercase}
 use Rattle.std.specs.List.{list_all}
 use Rattle.std.specs.Str.{is_utf8}
 use Rattle.x509_der.specs.Tag.{octet_of}
 use Rattle.x509_der.specs.declared.tag.Tag.{Tag}
-use Rattle.x509_der.specs.declared.tag.Tag.TheVariants.{PrintableString, Ia5String, Utf8String, BmpString}
+use Rattle.x509_der.specs.declared.tag.Tag.TheVariants.{PrintableString, Ia5String, TeletexString, Utf8String, BmpString, UniversalString}
 use Rattle.x509_name.specs.AttributeTypes as types
 use Rattle.x509_name.specs.declared.attr.type_and_value.AttributeTypeAndValue.{AttributeTypeAndValue}
 use Rattle.x509_prim.specs.Alphabet.{is_ia5}
@@ -22,24 +22,41 @@ utf8_characters octets = if is_utf8 octets then Some (chars octets) else None
 unfoldable pub bmp_characters : List ℕ → Option (List ℕ)
 bmp_characters octets = if is_bmp octets then Some (bmp_chars octets) else None
 
--- the characters of a text that is compared as one. A PrintableString with other ASCII characters than its own is one too.
+-- ---- UniversalString: the characters in four octets each, the highest first (X.680 41.16, X.690 8.23.8)
+
+abbrev pub code_of : ℕ → ℕ → ℕ → ℕ → ℕ
+code_of a b c d = 256 * (256 * (256 * a + b) + c) + d
+
+-- no half of a surrogate pair, and not above 10FFFF
+unfoldable pub is_character : ℕ → Bool
+is_character code = nat_lt code 0xD800 || (nat_le 0xE000 code && nat_lt code 0x110000)
+
+abbrev pub universal_characters : List ℕ → Option (List ℕ)
+universal_characters [] = Some []
+universal_characters (a ∷ b ∷ c ∷ d ∷ octets) =
+    if is_character (code_of a b c d) then option_map (λ behind. code_of a b c d ∷ behind) (universal_characters octets) else None
+universal_characters _ = None
+
+-- ---- texts
+
+-- The characters of a text that is compared as one. A PrintableString with other ASCII characters than its own is one too, and so is a
+-- TeletexString of ASCII.
 abbrev pub characters : Tag → List ℕ → Option (List ℕ)
 characters PrintableString octets = ascii_characters octets
 characters Ia5String octets = ascii_characters octets
+characters TeletexString octets = ascii_characters octets
 characters Utf8String octets = utf8_characters octets
 characters BmpString octets = bmp_characters octets
+characters UniversalString octets = universal_characters octets
 characters _ octets = None
 
--- a mailbox: what stands before the last `@` as it is, the rest in small letters (RFC 5280 7.5)
-abbrev pub mailbox : List ℕ → List ℕ
-mailbox [] = []
-mailbox (c ∷ behind) = (if nat_lt 0 (count_by (λ b. nat_eq b 0x40) behind) then c else to_ascii_lowercase c) ∷ mailbox behind
+-- emailAddress (RFC 5280 4.1.2.6) and domainComponent (7.3)
+abbrev pub is_caseless : List ℕ → Bool
+is_caseless oid = bytes_eq oid types.email_address || bytes_eq oid types.domain_component
 
 -- the characters of which an attribute's text is compared, and nothing where it isn't compared as a text
 unfoldable pub compared : List ℕ → List ℕ → Option (List ℕ)
-compared oid text =
-    if bytes_eq oid types.email_address then Some (mailbox text)
-    else (if bytes_eq oid types.domain_component then Some (map to_ascii_lowercase text) else prepared text)
+compared oid text = if is_caseless oid then Some (map to_ascii_lowercase text) else prepared text
 
 abbrev pub compared_value : List ℕ → Option (List ℕ) → Option (List ℕ)
 compared_value oid None = None

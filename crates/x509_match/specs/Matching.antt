@@ -1,5 +1,5 @@
 -- Which names match (RFC 5280 7.1): as many RDNs, in order, of which each matches the other's.
-use Rattle.std.specs.Prelude.{◌≡◌, ◌⊎◌, ℕ, List, [], ◌∷◌, length, map, take, Option, Some, IsPermutation}
+use Rattle.std.specs.Prelude.{◌≡◌, ◌⊎◌, ℕ, Bool, List, [], ◌∷◌, length, map, take, Option, Some, is_some, IsPermutation}
 use Rattle.x509_name.specs.declared.attr.type_and_value.AttributeTypeAndValue.{AttributeTypeAndValue}
 use Rattle.x509_match.specs.Keys.{attribute_key, characters, compared_value}
 
@@ -20,6 +20,10 @@ BeginsWith x y = NamesMatch (take (length y) x) y
 
 abbrev pub compared_text : AttributeTypeAndValue → Option (List ℕ)
 compared_text a = compared_value a.oid (characters a.value.tag a.value.value)
+
+-- its value is compared as a text; another one matches its own element alone
+abbrev pub is_compared : AttributeTypeAndValue → Bool
+is_compared a = is_some (compared_text a)
 
 -- one type, and one element or one text
 abbrev pub AttributesMatch : AttributeTypeAndValue → AttributeTypeAndValue → Type 0

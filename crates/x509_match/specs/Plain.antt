@@ -3,10 +3,9 @@ use Rattle.std.specs.Prelude.{◌≡◌, ℕ, ◌≤◌, Bool, true, false, ◌&
 use Rattle.std.specs.Char.{to_ascii_lowercase}
 use Rattle.std.specs.List.{list_all, AllByRecursion}
 use Rattle.x509_der.specs.declared.tag.Tag.{Tag}
-use Rattle.x509_der.specs.declared.tag.Tag.TheVariants.{Utf8String, BmpString}
+use Rattle.x509_der.specs.declared.tag.Tag.TheVariants.{Utf8String, BmpString, UniversalString}
 use Rattle.x509_name.specs.declared.attr.type_and_value.AttributeTypeAndValue.{AttributeTypeAndValue}
 use Rattle.x509_prim.specs.Alphabet.{is_ia5}
-use Rattle.x509_match.specs.declared.names.TheConstants.{MAX_IN_PLACE}
 use Rattle.x509_match.specs.Keys.{characters}
 use Rattle.x509_match.specs.Prepared.{mapped, squeezed_behind}
 
@@ -14,6 +13,7 @@ use Rattle.x509_match.specs.Prepared.{mapped, squeezed_behind}
 abbrev pub is_plain : Tag → List ℕ → Bool
 is_plain Utf8String content = list_all is_ia5 content
 is_plain BmpString content = false
+is_plain UniversalString content = false
 is_plain _ content = true
 
 abbrev pub is_letter : ℕ → Bool
@@ -44,9 +44,9 @@ IsPlainValue a = is_plain a.value.tag a.value.value ≡ true
 abbrev pub ArePlain : List AttributeTypeAndValue → Type 0
 ArePlain attributes = All IsPlainValue attributes
 
--- no text beyond ASCII, in at most so many attributes
+-- no text beyond ASCII, in at most 16 attributes
 abbrev pub IsPlainRdn : List AttributeTypeAndValue → Type 0
-IsPlainRdn rdn = (length rdn ≤ MAX_IN_PLACE) × ArePlain rdn
+IsPlainRdn rdn = (length rdn ≤ 16) × ArePlain rdn
 
 abbrev pub IsPlainName : List (List AttributeTypeAndValue) → Type 0
 IsPlainName name = AllByRecursion IsPlainRdn name

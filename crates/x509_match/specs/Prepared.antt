@@ -9,20 +9,33 @@ use Rattle.ucd_category.specs.declared.GeneralCategory.{GeneralCategory}
 use Rattle.ucd_category.specs.declared.GeneralCategory.TheVariants.{Unassigned, PrivateUse, Surrogate}
 use Rattle.ucd_category.specs.declared.GeneralCategoryGroup.TheVariants.{Mark}
 use Rattle.unicode_normalization.specs.Forms.{nfkc}
-use Rattle.x509_match.specs.declared.text.TheConstants.{LEFT_OUT, WHITE_SPACE}
 
 abbrev pub is_within : List (ℕ × ℕ) → ℕ → Bool
 is_within ranges c = list_any (λ range. nat_le range.0 c && nat_le c range.1) ranges
 
 -- ---- RFC 4518 2.2: map
 
+-- the characters that are mapped to nothing, from each first one to its last
+abbrev pub left_out : List (ℕ × ℕ)
+left_out =
+    (0x0000, 0x0008) ∷ (0x000E, 0x001F) ∷ (0x007F, 0x0084) ∷ (0x0086, 0x009F) ∷ (0x00AD, 0x00AD) ∷ (0x034F, 0x034F) ∷
+    (0x06DD, 0x06DD) ∷ (0x070F, 0x070F) ∷ (0x1806, 0x1806) ∷ (0x180B, 0x180E) ∷ (0x200B, 0x200F) ∷ (0x202A, 0x202E) ∷
+    (0x2060, 0x2063) ∷ (0x206A, 0x206F) ∷ (0xFE00, 0xFE0F) ∷ (0xFEFF, 0xFEFF) ∷ (0xFFF9, 0xFFFC) ∷ (0x1D173, 0x1D17A) ∷
+    (0xE0001, 0xE0001) ∷ (0xE0020, 0xE007F) ∷ []
+
+-- those that are mapped to a space
+abbrev pub white_space : List (ℕ × ℕ)
+white_space =
+    (0x0009, 0x000D) ∷ (0x0020, 0x0020) ∷ (0x0085, 0x0085) ∷ (0x00A0, 0x00A0) ∷ (0x1680, 0x1680) ∷ (0x2000, 0x200A) ∷
+    (0x2028, 0x2029) ∷ (0x202F, 0x202F) ∷ (0x205F, 0x205F) ∷ (0x3000, 0x3000) ∷ []
+
 -- white space as a space
 unfoldable pub spaced : ℕ → ℕ
-spaced c = if is_within WHITE_SPACE c then 0x20 else c
+spaced c = if is_within white_space c then 0x20 else c
 
 -- it is not among those that are left out
 unfoldable pub is_kept : ℕ → Bool
-is_kept c = not (is_within LEFT_OUT c)
+is_kept c = not (is_within left_out c)
 
 unfoldable pub mapped : List ℕ → List ℕ
 mapped text = map spaced (filter is_kept text)

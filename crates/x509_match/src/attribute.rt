@@ -6,8 +6,8 @@ ghost use Rattle.x509_match.specs.Keys as keys;
 ghost use Rattle.x509_match.specs.Plain as plain;
 ghost use Rattle.x509_prim.specs.Alphabet.{is_ia5};
 
-use crate::plain::{mailboxes_alike, prepared_alike};
-use crate::value::{is_domain_component, is_email_address, octets_key};
+use crate::plain::prepared_alike;
+use crate::value::{is_caseless, octets_key};
 use std::alloc::{AllocError, Global};
 use x509_der::Tag;
 use x509_prim::{Alphabet, Ia5};
@@ -19,6 +19,7 @@ fn is_plain(tag: Tag, content: &[u8]) -> bool
     match tag {
         Tag::Utf8String => Ia5::has_chars(content),
         Tag::BmpString => false,
+        Tag::UniversalString => false,
         _ => true,
     }
 }
@@ -30,6 +31,7 @@ fn is_text(tag: Tag, content: &[u8]) -> bool
     match tag {
         Tag::PrintableString => Ia5::has_chars(content),
         Tag::Ia5String => Ia5::has_chars(content),
+        Tag::TeletexString => Ia5::has_chars(content),
         Tag::Utf8String => true,
         _ => false,
     }
@@ -39,10 +41,7 @@ fn is_text(tag: Tag, content: &[u8]) -> bool
 fn texts_match(oid: &[u8], a: &[u8], b: &[u8]) -> bool
     ensures { list_all is_ia5 a.now ≡ true → list_all is_ia5 b.now ≡ true → (IsTrue result ↔ (keys.compared oid.now a.now ≡ keys.compared oid.now b.now)) }
 {
-    if is_email_address(oid) {
-        return mailboxes_alike(a, b);
-    }
-    if is_domain_component(oid) {
+    if is_caseless(oid) {
         return a.eq_ignore_ascii_case(b);
     }
     prepared_alike(a, b)
@@ -76,7 +75,7 @@ fn plain_values_match(oid: &[u8], a_tag: Tag, a: &[u8], b_tag: Tag, b: &[u8]) ->
 ///
 /// # Errors
 ///
-/// When out of memory, only where one is a BMPString or a UTF8String beyond ASCII.
+/// When out of memory, only where one is a BMPString, a UniversalString or a UTF8String beyond ASCII.
 pub(crate) fn values_match(
     alloc: Global,
     oid: &[u8],

@@ -16,7 +16,7 @@ use x509_name::laws::bytes_determine_the_name;
 ///
 /// # Errors
 ///
-/// When out of memory, only where the encodings differ, and a value is a BMPString or a UTF8String beyond ASCII, or an RDN
+/// When out of memory, only where the encodings differ, and a value is a BMPString, a UniversalString or a UTF8String beyond ASCII, or an RDN
 /// has more than [`MAX_IN_PLACE`](crate::MAX_IN_PLACE) attributes.
 pub fn checked_names_match(alloc: Global, a: &[u8], b: &[u8]) -> Result<bool, AllocError>
     ensures same { (x y : List (List AttributeTypeAndValue)) → Spells name x a.now → Spells name y b.now

@@ -18,3 +18,4 @@ pub use checked::checked_names_match;
 pub use encoded::encoded_names_match;
 pub use key::{MatchedName, RdnKey, attribute_key};
 pub use names::{MAX_IN_PLACE, attributes_match, names_match, rdns_match};
+pub use value::is_compared;

@@ -20,7 +20,7 @@ pub const MAX_IN_PLACE: usize = 16;
 ///
 /// # Errors
 ///
-/// When out of memory, only where one is a BMPString or a UTF8String beyond ASCII.
+/// When out of memory, only where one is a BMPString, a UniversalString or a UTF8String beyond ASCII.
 pub fn attributes_match(
     alloc: Global,
     a: &AttributeTypeAndValue,
@@ -105,7 +105,7 @@ fn keys_match(
 ///
 /// # Errors
 ///
-/// When out of memory, only where a value is a BMPString or a UTF8String beyond ASCII, or there are more than
+/// When out of memory, only where a value is a BMPString, a UniversalString or a UTF8String beyond ASCII, or there are more than
 /// [`MAX_IN_PLACE`] attributes.
 pub fn rdns_match(
     alloc: Global,
@@ -129,7 +129,7 @@ pub fn rdns_match(
 ///
 /// # Errors
 ///
-/// When out of memory, only where the names aren't equal, and a value is a BMPString or a UTF8String beyond ASCII, or an
+/// When out of memory, only where the names aren't equal, and a value is a BMPString, a UniversalString or a UTF8String beyond ASCII, or an
 /// RDN has more than [`MAX_IN_PLACE`] attributes.
 pub fn names_match(alloc: Global, a: &Name, b: &Name) -> Result<bool, AllocError>
     ensures same { IfOk result (λ same. IsTrue same ↔ NamesMatch a.now b.now) }

@@ -2,8 +2,7 @@
 
 ghost use Rattle.std.specs.Char.{to_ascii_lowercase};
 ghost use Rattle.std.specs.List.{list_all};
-ghost use Rattle.std.specs.Prelude.{◌≡◌, ◌↔◌, ◌-◌, ◌<◌, count_by, if◌then◌else◌, nat_eq, nat_lt, ◌&&◌, ◌||◌, [], ◌∷◌, IsTrue, false, length, MatchOption, OnSome, true};
-ghost use Rattle.x509_match.specs.Keys.{mailbox};
+ghost use Rattle.std.specs.Prelude.{◌≡◌, ◌↔◌, ◌<◌, ◌&&◌, ◌||◌, [], ◌∷◌, IsTrue, false, length, MatchOption, OnSome, true};
 ghost use Rattle.x509_match.specs.Plain as plain;
 ghost use Rattle.x509_prim.specs.Alphabet.{is_ia5};
 
@@ -79,52 +78,4 @@ pub(crate) fn prepared_alike(a: &[u8], b: &[u8]) -> bool
         left = left_behind;
         right = right_behind;
     }
-}
-
-/// How many `@` stand behind the octet, of those from it on.
-fn ahead_behind(c: u8, ahead: usize) -> usize
-    ensures { result ≡ (if nat_eq c 0x40 then ahead - 1 else ahead) }
-{
-    if c == b'@' {
-        ahead.saturating_sub(1)
-    } else {
-        ahead
-    }
-}
-
-/// The octet of a mailbox, before so many `@`.
-fn mailbox_octet(c: u8, ahead: usize) -> u8
-    ensures { result ≡ (if nat_lt 0 ahead then c else to_ascii_lowercase c) }
-{
-    if ahead > 0 { c } else { c.to_ascii_lowercase() }
-}
-
-/// How many `@` there are.
-fn count_at_signs(text: &[u8]) -> usize
-    ensures { result ≡ count_by (λ b. nat_eq b 0x40) text.now }
-{
-    text.iter().filter(|c| **c == b'@').count()
-}
-
-/// Whether two mailboxes are alike, whose hosts are compared without regard to ASCII case.
-pub(crate) fn mailboxes_alike(a: &[u8], b: &[u8]) -> bool
-    ensures { IsTrue result ↔ (mailbox a.now ≡ mailbox b.now) }
-{
-    let mut left_ahead = count_at_signs(a);
-    let mut right_ahead = count_at_signs(b);
-    let mut left = a;
-    let mut right = b;
-    while let [x, left_behind @ ..] = left {
-        let [y, right_behind @ ..] = right else {
-            return false;
-        };
-        left_ahead = ahead_behind(*x, left_ahead);
-        right_ahead = ahead_behind(*y, right_ahead);
-        if mailbox_octet(*x, left_ahead) != mailbox_octet(*y, right_ahead) {
-            return false;
-        }
-        left = left_behind;
-        right = right_behind;
-    }
-    right.is_empty()
 }

@@ -1,13 +1,15 @@
 //! The octets that an attribute is compared by (RFC 5280 7.1, 7.5).
 
-ghost use Rattle.std.specs.Char.{to_ascii_lowercase};
-ghost use Rattle.std.specs.Prelude.{◌≡◌, ◌-◌, ◌<◌, ◌++◌, OnOk, bytes_eq, chars, count_by, encode_utf8_all, if◌then◌else◌, IfOk, length, nat_eq, nat_lt, option_map, string_bytes};
+ghost use Rattle.std.specs.Prelude.{◌≡◌, ◌<◌, ◌++◌, OnOk, bytes_eq, chars, encode_utf8_all, false, true, IfOk, length, MatchOption, option_map, string_bytes};
 ghost use Rattle.x509_match.specs.Keys as keys;
+ghost use Rattle.x509_match.specs.Keys.{code_of, is_character};
+ghost use Rattle.x509_match.specs.Matching.{is_compared};
 ghost use Rattle.x509_name.specs.AttributeTypes as types;
 
-use crate::text::{characters_of, lowercase, prepared};
+use crate::text::{lowercase, prepared};
 use std::alloc::{AllocError, Global};
 use x509_der::{Content, ErrorKind, Tag};
+use x509_name::attr::AttributeTypeAndValue;
 use x509_name::attr::attribute_types::{DOMAIN_COMPONENT, EMAIL_ADDRESS};
 use x509_prim::{BmpString, Ia5, text_of, utf8_text};
 
@@ -52,82 +54,73 @@ fn bmp_text(alloc: Global, content: &[u8]) -> Result<Option<String>, AllocError>
     }
 }
 
+/// The character of a code, the highest octet first.
+fn character_of(a: u8, b: u8, c: u8, d: u8) -> Option<char>
+    ensures { MatchOption result (is_character (code_of a b c d) ≡ false) (λ found. (is_character (code_of a b c d) ≡ true) × (found ≡ code_of a b c d)) }
+{
+    char::from_u32(256 * (256 * (256 * a as u32 + b as u32) + c as u32) + d as u32)
+}
+
+/// The text of octets of which four are a character.
+fn universal_text(alloc: Global, content: &[u8]) -> Result<Option<String>, AllocError>
+    ensures { IfOk result (λ found. option_map string_bytes found ≡ option_map encode_utf8_all (keys.universal_characters content.now)) }
+{
+    let mut text = String::new(alloc);
+    let mut rest = content;
+    while let [a, b, c, d, behind @ ..] = rest {
+        let Some(found) = character_of(*a, *b, *c, *d) else {
+            return Ok(None);
+        };
+        text.push(found)?;
+        rest = behind;
+    }
+    if rest.is_empty() {
+        Ok(Some(text))
+    } else {
+        Ok(None)
+    }
+}
+
 /// The text of an element, where it is compared as one.
 fn text_in(alloc: Global, tag: Tag, content: &[u8]) -> Result<Option<String>, AllocError>
     ensures { IfOk result (λ found. option_map string_bytes found ≡ option_map encode_utf8_all (keys.characters tag content.now)) }
 {
     match tag {
-        Tag::PrintableString | Tag::Ia5String => ascii_text(alloc, content),
+        Tag::PrintableString | Tag::Ia5String | Tag::TeletexString => ascii_text(alloc, content),
         Tag::Utf8String => utf8_owned(alloc, content),
         Tag::BmpString => bmp_text(alloc, content),
+        Tag::UniversalString => universal_text(alloc, content),
         _ => Ok(None),
     }
 }
 
 /// Whether it is the type of mailboxes.
-pub(crate) fn is_email_address(oid: &[u8]) -> bool
+fn is_email_address(oid: &[u8]) -> bool
     ensures { result ≡ bytes_eq oid.now types.email_address }
 {
     oid == EMAIL_ADDRESS.as_bytes()
 }
 
 /// Whether it is the type of the labels of hosts.
-pub(crate) fn is_domain_component(oid: &[u8]) -> bool
+fn is_domain_component(oid: &[u8]) -> bool
     ensures { result ≡ bytes_eq oid.now types.domain_component }
 {
     oid == DOMAIN_COMPONENT.as_bytes()
 }
 
-/// How many `@` stand behind the character, of those from it on.
-fn ahead_behind(c: char, ahead: usize) -> usize
-    ensures { result ≡ (if nat_eq c 0x40 then ahead - 1 else ahead) }
+/// Whether texts of the type are the same without regard to ASCII case, and not prepared: of emailAddress (RFC 5280
+/// 4.1.2.6) and domainComponent (7.3).
+pub(crate) fn is_caseless(oid: &[u8]) -> bool
+    ensures { result ≡ keys.is_caseless oid.now }
 {
-    if c == '@' {
-        ahead.saturating_sub(1)
-    } else {
-        ahead
-    }
-}
-
-/// The character of a mailbox, before so many `@`.
-fn mailbox_char(c: char, ahead: usize) -> char
-    ensures { result ≡ (if nat_lt 0 ahead then c else to_ascii_lowercase c) }
-{
-    if ahead > 0 { c } else { c.to_ascii_lowercase() }
-}
-
-/// How many `@` there are.
-fn count_at_signs(text: &[char]) -> usize
-    ensures { result ≡ count_by (λ b. nat_eq b 0x40) text.now }
-{
-    text.iter().filter(|c| **c == '@').count()
-}
-
-/// The mailbox with its host in small letters.
-fn mailbox(alloc: Global, text: &[char]) -> Result<String, AllocError>
-    ensures { IfOk result (λ found. string_bytes found ≡ encode_utf8_all (keys.mailbox text.now)) }
-{
-    let mut out = String::new(alloc);
-    let mut ahead = count_at_signs(text);
-    let mut rest = text;
-    while let [c, behind @ ..] = rest {
-        ahead = ahead_behind(*c, ahead);
-        out.push(mailbox_char(*c, ahead))?;
-        rest = behind;
-    }
-    Ok(out)
+    is_email_address(oid) || is_domain_component(oid)
 }
 
 /// The text that an attribute of the type with the text is compared by.
 fn compared(alloc: Global, oid: &[u8], text: &str) -> Result<Option<String>, AllocError>
     ensures { IfOk result (λ found. option_map string_bytes found ≡ option_map encode_utf8_all (keys.compared oid.now (chars text.now))) }
 {
-    if is_email_address(oid) {
-        let characters = characters_of(alloc, text)?;
-        let found = mailbox(alloc, characters.as_slice())?;
-        return Ok(Some(found));
-    }
-    if is_domain_component(oid) {
+    if is_caseless(oid) {
         let found = lowercase(alloc, text)?;
         return Ok(Some(found));
     }
@@ -151,6 +144,23 @@ fn compared_value(
     };
     let found = compared(alloc, oid, text.as_str())?;
     Ok(found)
+}
+
+/// Whether the value of the attribute is compared as a text (RFC 5280 7.1). One that isn't matches its own element alone.
+///
+/// # Errors
+///
+/// When out of memory.
+pub fn is_compared(alloc: Global, attribute: &AttributeTypeAndValue) -> Result<bool, AllocError>
+    ensures { IfOk result (λ b. b ≡ is_compared attribute.now) }
+{
+    let text = compared_value(
+        alloc,
+        attribute.oid.as_bytes(),
+        attribute.value.tag(),
+        attribute.value.value(),
+    )?;
+    Ok(text.is_some())
 }
 
 /// Adds what the value is compared by.
