@@ -341,7 +341,7 @@ impl<'a, V: Verifier> Judge<'_, 'a, V> {
     fn is_trusted(&mut self, chain: &Chain<'a>) -> Result<bool, Error> {
         for end in 1..=chain.len() {
             let part = &chain[..end];
-            if self.path.starts_with(part) || self.asked.last().is_some_and(|it| it == part) {
+            if self.path.starts_with(part) || matches!(self.asked.last(), Some(it) if it == part) {
                 continue;
             }
             if self.asked.iter().any(|it| it == part) || !self.status(part)?.is_unrevoked() {
