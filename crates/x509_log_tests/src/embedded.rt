@@ -160,17 +160,17 @@ fn timestamps(rt: &HostRuntime) -> Result<EmbeddedTimestamps, LogError> {
     EmbeddedTimestamps::from_certificate(rt.alloc(), &certificate, &issuer)
 }
 
-/// The time of the first SCT, and the digest of what it is a signature of.
-fn first(rt: &HostRuntime) -> Option<(u64, [u8; 32])> {
+/// Whether the first SCT is of that time, and is a signature of octets with that digest.
+fn is_signed(rt: &HostRuntime) -> bool {
     let Ok(all) = timestamps(rt) else {
-        return None;
+        return false;
     };
     match all.signed(rt.alloc(), 0) {
         Ok(Some(signed)) => {
             let digest = <Sha256 as Digest>::digest(signed.octets.as_slice());
-            Some((signed.timestamp.timestamp, digest))
+            signed.timestamp.timestamp == 1_577_836_800_000 && digest == SIGNED
         }
-        _ => None,
+        _ => false,
     }
 }
 
@@ -185,11 +185,7 @@ fn is_one(rt: &HostRuntime) -> bool {
 #[test]
 fn signed(rt: HostRuntime) {
     assert!(rt; is_one(&rt));
-    let Some((time, digest)) = first(&rt) else {
-        return assert!(rt; false);
-    };
-    assert!(rt; time == 1_577_836_800_000);
-    assert!(rt; digest == SIGNED);
+    assert!(rt; is_signed(&rt));
 }
 
 #[test]

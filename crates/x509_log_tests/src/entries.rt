@@ -1,9 +1,7 @@
 //! Leaves, chains and tree heads, as logs give them.
 
 use std::test::*;
-use x509_log::{
-    CertificateChain, LogEntry, MerkleTreeLeaf, PrecertChainEntry, TlsByteVecU24, TreeHead,
-};
+use x509_log::{CertificateChain, MerkleTreeLeaf, PrecertChainEntry, TreeHead};
 use x509_sct::Version;
 use x509_sct::tls::{Tls, TlsError, read_whole};
 
@@ -48,25 +46,10 @@ fn fault<T: Tls + Drop>(rt: &HostRuntime, bytes: &[u8]) -> Option<TlsError> {
     }
 }
 
-/// The TBSCertificate in the leaf of a precertificate.
-fn logged(rt: &HostRuntime, bytes: &[u8]) -> Option<TlsByteVecU24> {
-    let Ok(leaf) = read_whole::<MerkleTreeLeaf>(rt.alloc(), bytes) else {
-        return None;
-    };
-    match leaf.timestamped_entry.entry {
-        LogEntry::Precert(pre_cert) => Some(pre_cert.tbs_certificate),
-        LogEntry::X509(_) => None,
-    }
-}
-
 #[test]
 fn leaves(rt: HostRuntime) {
     assert!(rt; is_same::<MerkleTreeLeaf>(&rt, &LEAF));
     assert!(rt; fault::<MerkleTreeLeaf>(&rt, &LEAF[..50]) == Some(TlsError::EndOfStream));
-    let Some(tbs) = logged(&rt, &LEAF) else {
-        return assert!(rt; false);
-    };
-    assert!(rt; tbs.as_slice() == [0x30, 0x00].as_slice());
 }
 
 #[test]
