@@ -1,0 +1,5 @@
+mod Cuts
+mod Places
+mod Alike
+mod Found
+mod Chains
