@@ -112,7 +112,7 @@ impl RevocationSettings {
         self.flag(WITHOUT_NEXT_UPDATE, is_taken)
     }
 
-    /// Whether delta CRLs are used that are among the CRLs (RFC 5280 5.2.4): the first one that fits a complete CRL is asked before it; its signer has to be
+    /// Whether delta CRLs are used that are among the CRLs (RFC 5280 5.2.4): the newest one that fits a complete CRL is asked before it; its signer has to be
     /// that of the complete one (6.3.3 (h)).
     pub fn use_deltas(&mut self, are_used: bool) -> &mut RevocationSettings {
         self.flag(USE_DELTAS, are_used)
@@ -127,9 +127,9 @@ pub fn may_sign_crls(certificate: CertificateRef<'_>) -> Result<bool, Error> {
     Ok(ffi::MAY_SIGN_CRLS.of(certificate.as_der())? == 1)
 }
 
-/// What CRLs say of a certificate (RFC 5280 6.3.3), asked in their order: of several for the same reasons the latest comes first. A CRL counts where the
-/// verifier accepts its signature for its signer's key, where the signer's name is its issuer, where it is in date, and where it is one for the certificate, as
-/// `x509_revocation_status` of `x509.h` says.
+/// What CRLs say of a certificate (RFC 5280 6.3.3), asked in their order; of several for one scope under one key the newest counts, wherever it stands. A CRL
+/// counts where the verifier accepts its signature for its signer's key, where the signer's name is its issuer, where it is in date, and where it is one for
+/// the certificate, as `x509_revocation_status` of `x509.h` says.
 ///
 /// ```
 /// use std::time::{Duration, UNIX_EPOCH};

@@ -180,8 +180,8 @@ _BROKEN = ("md5", "sha1")
 
 def verify(info: bytes, algorithm: AlgorithmIdentifier, message: bytes, signature: bytes, unused_bits: int = 0) -> None:
     """Verifies a signature of a message with the key of a SubjectPublicKeyInfo. InvalidSignature of `cryptography` where it is none; a ValueError where the
-    algorithm isn't one for such keys, or not with the parameters that the key has (RFC 4055 3.3), or its hash is MD5 or SHA-1, as there; a TypeError where no algorithm is one for such keys, and UnsupportedAlgorithm
-    where the algorithm isn't known."""
+    algorithm isn't one for such keys, or not with the parameters that the key has (RFC 4055 3.3), or its hash is MD5 or SHA-1, as there; a TypeError where no
+    algorithm is one for such keys, and UnsupportedAlgorithm where the algorithm isn't known."""
     if not verifies(info):
         raise TypeError("a key of that kind verifies no signatures")
     way = _known(algorithm)[0]

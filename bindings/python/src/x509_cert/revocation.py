@@ -85,11 +85,12 @@ def revocation_status(
     without_next_update: bool = False,
     use_deltas: bool = False,
 ) -> RevocationStatus:
-    """What CRLs say of a certificate at the moment (RFC 5280 6.3.3), asked in their order: of several for the same reasons the latest comes first.
+    """What CRLs say of a certificate at the moment (RFC 5280 6.3.3), asked in their order; of several for one scope under one key the newest counts, wherever
+    it stands.
 
     A CRL counts where its signature is one by its signer's key, as `verify(public_key, algorithm, message, signature)` says, or else `cryptography`; where the
     signer's name is its issuer; where it is in date, with `without_next_update` also where it doesn't say by when the next one comes; and where it is one for
-    the certificate, as the call `x509_revocation_status` of `x509.h` says. With `use_deltas` the first delta CRL among them that fits a complete one is asked
+    the certificate, as the call `x509_revocation_status` of `x509.h` says. With `use_deltas` the newest delta CRL among them that fits a complete one is asked
     before it (5.2.4); its signer has to be that of the complete one (6.3.3 (h)). Only `is_unrevoked` says that the certificate may be used: who withholds a CRL
     makes its status undetermined.
     """
