@@ -637,9 +637,10 @@ typedef struct {
 } x509_path_fault;
 
 /* Checks a path of `count` certificates, topmost first, at a time, under the subject and the public key of the anchor's certificate, of which
- * nothing else is checked: all of RFC 5280 6.1 that this library has, BUT NOT THE SIGNATURES. These the caller verifies: of each certificate what
- * x509_certificate_signature says, with the key (`subject_public_key_info` of x509_certificate_view) of the certificate above it, and with the
- * anchor's for the first. Without that X509_OK gives no security. Policies, name constraints and revocation aren't checked.
+ * nothing else is checked, BUT NOT THE SIGNATURES. These the caller verifies: of each certificate what x509_certificate_signature says, with the key
+ * (`subject_public_key_info` of x509_certificate_view) of the certificate above it, and with the anchor's for the first. Without that X509_OK gives no
+ * security. It is the part of RFC 5280 6.1 that is quickly checked: names are compared byte for byte; policies, name constraints and revocation aren't
+ * checked. x509_path_validate is all of 6.1, and the call to take where nothing speaks against it.
  *
  * The certificates stand one after the other in path[0..path_len), and lens[i] is the length of the i-th.
  *

@@ -28,14 +28,14 @@ use Rattle.x509_ext.specs.declared.pkix.certificate_policies.CertificatePolicies
 use Rattle.x509_ext.specs.declared.pkix.name_constraints.NameConstraints.{NameConstraints}
 use Rattle.x509_name.specs.Names.{name}
 use Rattle.x509_path.specs.Certificates.{Certificate, accept_all}
-use Rattle.x509_path.specs.Inputs.{Inputs, Trust}
-use Rattle.x509_path.specs.Says.{identifiers}
-use Rattle.x509_path.specs.Trusts as trusts
-use Rattle.x509_path.specs.Trusts.{IsTrustOf, IsTrustOfAnchor}
-use Rattle.x509_path.specs.Validation.{AreUnusable, IsFirstFault, IsUnder, PathIsValid}
+use Rattle.x509_validation.specs.Inputs.{Inputs, Trust}
+use Rattle.x509_validation.specs.Says.{identifiers}
+use Rattle.x509_validation.specs.Trusts as trusts
+use Rattle.x509_validation.specs.Trusts.{IsTrustOf, IsTrustOfAnchor}
+use Rattle.x509_validation.specs.Validation.{AreUnusable, IsFirstFault, IsUnder, PathIsValid}
 use Rattle.x509_path.specs.declared.anchor.Anchor.{Anchor}
-use Rattle.x509_path.specs.declared.validation_fault.ValidationReason.{ValidationReason}
-use Rattle.x509_path.specs.declared.validation_fault.ValidationReason.TheVariants.{Decode, Algorithm, Issuer, Moment, Signature, Repeated, Critical, Extension, NotCa, KeyUsage, PathLen, Names, Constraints, RepeatedPolicy, Policy as NoPolicy, PolicyMapping}
+use Rattle.x509_validation.specs.declared.validation_fault.ValidationReason.{ValidationReason}
+use Rattle.x509_validation.specs.declared.validation_fault.ValidationReason.TheVariants.{Decode, Algorithm, Issuer, Moment, Signature, Repeated, Critical, Extension, NotCa, KeyUsage, PathLen, Names, Constraints, RepeatedPolicy, Policy as NoPolicy, PolicyMapping}
 use Rattle.x509_policy.specs.Values.{Policy, Settings, any_policy}
 use Rattle.x509_types.specs.Reencoding.{IsRefused}
 

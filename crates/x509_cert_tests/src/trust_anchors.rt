@@ -5,8 +5,8 @@ use std::test::*;
 use x509_base::Rfc5280;
 use x509_cert::anchor::TrustAnchorChoice;
 use x509_der::{Decode, ErrorKind};
-use x509_path::TrustedBuf;
 use x509_text::{Style, anchor_text};
+use x509_validation::TrustedBuf;
 
 /// A description of the name `Anchor`, with a certificate of the anchor that has the path length 0.
 const CERTIFIED: &str =

@@ -8,9 +8,8 @@ use std::alloc::Global;
 use std::str::FromStr;
 use std::test::*;
 use x509_base::DateTime;
-use x509_path::{
-    AnchorRef, PathSettings, Trusted, ValidationFault, ValidationReason, validate_path,
-};
+use x509_path::AnchorRef;
+use x509_validation::{PathSettings, Trusted, ValidationFault, ValidationReason, validate_path};
 
 /// The name and the key of [`LEAF`].
 const ANCHOR: AnchorRef<'static> = AnchorRef {

@@ -4,11 +4,3 @@ pub mod Fault
 pub mod PathLength
 pub mod Equality
 pub mod Lent
-pub mod Oids
-pub mod Says
-pub mod Inputs
-pub mod Policies
-pub mod Trusts
-pub mod Validation
-pub mod ValidationFault
-pub mod Steps

@@ -7,10 +7,8 @@ ghost use Rattle.x509_ext.specs.declared.extension.Extension.{Extension};
 ghost use Rattle.x509_path.specs.Certificates as certificates;
 ghost use Rattle.x509_path.specs.Lent.{lent_extensions};
 ghost use Rattle.x509_path.specs.PathLength.{HasConstraints};
-ghost use Rattle.x509_path.specs.declared.fault.PathFault.TheVariants.{Memory};
 
-use crate::fault::PathFault;
-use std::alloc::Global;
+use std::alloc::{AllocError, Global};
 use x509_check::{Check, ExtensionRef, ExtensionRefs};
 use x509_der::{AssociatedOid, Decode, ObjectIdentifier, ValueOrd};
 use x509_ext::pkix::{BasicConstraints, ExtendedKeyUsage, KeyUsage, SubjectAltName};
@@ -28,7 +26,7 @@ fn no_extension<'a>() -> ExtensionRef<'a> {
 }
 
 /// Places for few extensions.
-pub(crate) fn places<'a>() -> [ExtensionRef<'a>; FEW_EXTENSIONS] {
+pub fn places<'a>() -> [ExtensionRef<'a>; FEW_EXTENSIONS] {
     [
         no_extension(),
         no_extension(),
@@ -50,10 +48,7 @@ pub(crate) fn places<'a>() -> [ExtensionRef<'a>; FEW_EXTENSIONS] {
 }
 
 /// How many extensions there are, each lent to a place, from the first on; `None` where the places are too few.
-pub(crate) fn gather<'a>(
-    extensions: ExtensionRefs<'a>,
-    few: &mut [ExtensionRef<'a>],
-) -> Option<usize>
+pub fn gather<'a>(extensions: ExtensionRefs<'a>, few: &mut [ExtensionRef<'a>]) -> Option<usize>
     ensures few { IfSome result (λ count. (count ≤ length few.new) × (lent_extensions (take count few.new) ≡ extensions_left extensions.entry)) }
     ensures many { result ≡ None → length few.old < length (extensions_left extensions.entry) }
     ensures places { length few.new ≡ length few.old }
@@ -71,33 +66,27 @@ pub(crate) fn gather<'a>(
 }
 
 /// The extensions, each lent.
-pub(crate) fn collect<'a>(
+///
+/// # Errors
+///
+/// Out of memory.
+pub fn collect<'a>(
     alloc: Global,
     extensions: ExtensionRefs<'a>,
-) -> Result<Vec<ExtensionRef<'a>>, PathFault>
-    ensures ok { IfOk result (λ list. lent_extensions list.items ≡ extensions_left extensions.entry) }
-    ensures err { IfErr result (λ e. e ≡ Memory) }
+) -> Result<Vec<ExtensionRef<'a>>, AllocError>
+    ensures { IfOk result (λ list. lent_extensions list.items ≡ extensions_left extensions.entry) }
 {
     let mut rest = extensions;
-    let mut list = match Vec::with_capacity(alloc, FEW_EXTENSIONS) {
-        Ok(list) => list,
-        Err(_) => return Err(PathFault::Memory),
-    };
+    let mut list = Vec::with_capacity(alloc, FEW_EXTENSIONS)?;
     while let Some(extension) = rest.next() {
-        match list.push(extension) {
-            Ok(()) => {}
-            Err(_) => return Err(PathFault::Memory),
-        }
+        list.push(extension)?;
     }
     Ok(list)
 }
 
 /// The first extensions.
 #[inline(always)]
-pub(crate) fn front<'s, 'a>(
-    extensions: &'s [ExtensionRef<'a>],
-    count: usize,
-) -> &'s [ExtensionRef<'a>]
+pub fn front<'s, 'a>(extensions: &'s [ExtensionRef<'a>], count: usize) -> &'s [ExtensionRef<'a>]
     requires { count ≤ length extensions.now }
     ensures { result.now ≡ take count extensions.now }
 {
@@ -146,10 +135,7 @@ fn has_any(extensions: &[ExtensionRef<'_>], oid: ObjectIdentifier) -> bool
 }
 
 /// The octets of the one extension with the OID; `None` where there are none or several.
-pub(crate) fn find_one<'a>(
-    extensions: &[ExtensionRef<'a>],
-    oid: ObjectIdentifier,
-) -> Option<&'a [u8]>
+pub fn find_one<'a>(extensions: &[ExtensionRef<'a>], oid: ObjectIdentifier) -> Option<&'a [u8]>
     ensures { MatchOption result ((e : Extension) → with_oid oid (lent_extensions extensions.now) ≡ e ∷ [] → ⊥)
         (λ octets. (e : Extension) × (with_oid oid (lent_extensions extensions.now) ≡ e ∷ []) × (octets.now ≡ e.extn_value)) }
 {
@@ -177,29 +163,28 @@ fn is_any_repeated(extensions: &[ExtensionRef<'_>]) -> bool
     false
 }
 
-/// Whether two of the extensions have one OID. O(n log n) comparisons. It takes memory for more than 16.
-pub(crate) fn is_repeated(alloc: Global, extensions: &[ExtensionRef<'_>]) -> Result<bool, PathFault>
+/// Whether two of the extensions have one OID. O(n log n) comparisons.
+///
+/// # Errors
+///
+/// Out of memory, only of more than 16.
+pub fn is_repeated(alloc: Global, extensions: &[ExtensionRef<'_>]) -> Result<bool, AllocError>
     ensures ok { IfOk result (λ b. IsTrue b ↔ IsRepeated (lent_extensions extensions.now)) }
-    ensures err { IfErr result (λ e. (e ≡ Memory) × (16 < length extensions.now)) }
+    ensures err { IfErr result (λ e. 16 < length extensions.now) }
 {
     if extensions.len() <= FEW_EXTENSIONS {
         return Ok(is_any_repeated(extensions));
     }
-    let Ok(mut identifiers) = Vec::with_capacity(alloc, extensions.len()) else {
-        return Err(PathFault::Memory);
-    };
+    let mut identifiers = Vec::with_capacity(alloc, extensions.len())?;
     for extension in extensions {
-        match identifiers.push(extension.extn_id) {
-            Ok(()) => {}
-            Err(_) => return Err(PathFault::Memory),
-        }
+        identifiers.push(extension.extn_id)?;
     }
     identifiers.sort_unstable_by(|a, b| a.value_cmp(b));
     Ok(!identifiers.is_sorted_by(|a, b| a.value_cmp(b).is_lt()))
 }
 
 /// Whether the extension has the OID of the type, and its octets are an encoding of the type.
-pub(crate) fn is_readable<T: AssociatedOid + Check>(extension: &ExtensionRef<'_>) -> bool
+pub fn is_readable<T: AssociatedOid + Check>(extension: &ExtensionRef<'_>) -> bool
     ensures { IsTrue result ↔ certificates.IsReadable T.form T.OID (lent_extension extension.now) }
 {
     if extension.extn_id != T::OID {
@@ -209,7 +194,7 @@ pub(crate) fn is_readable<T: AssociatedOid + Check>(extension: &ExtensionRef<'_>
 }
 
 /// Whether the extension is of a type that is processed here, and can be decoded.
-pub(crate) fn is_known(extension: &ExtensionRef<'_>) -> bool
+pub fn is_known(extension: &ExtensionRef<'_>) -> bool
     ensures { IsTrue result ↔ certificates.IsKnown (lent_extension extension.now) }
 {
     is_readable::<BasicConstraints>(extension)
@@ -232,7 +217,7 @@ pub(crate) fn are_handled(extensions: &[ExtensionRef<'_>]) -> bool
 
 /// The value of the one extension of the type; `None` where there isn't one that can be decoded. The type is one that
 /// takes no memory.
-pub(crate) fn payload<T: AssociatedOid + Decode>(
+pub fn payload<T: AssociatedOid + Decode>(
     alloc: Global,
     extensions: &[ExtensionRef<'_>],
 ) -> Option<T>
@@ -249,7 +234,7 @@ pub(crate) fn payload<T: AssociatedOid + Decode>(
 }
 
 /// The value of the one BasicConstraints that can be decoded, where another certificate follows.
-pub(crate) fn basic_constraints(
+pub fn basic_constraints(
     alloc: Global,
     is_last: bool,
     extensions: &[ExtensionRef<'_>],
@@ -263,7 +248,7 @@ pub(crate) fn basic_constraints(
 }
 
 /// Whether they are those of a certification authority.
-pub(crate) fn is_ca(constraints: Option<BasicConstraints>) -> bool
+pub fn is_ca(constraints: Option<BasicConstraints>) -> bool
     ensures { (extensions : List Extension) → HasConstraints extensions constraints → IsTrue result ↔ certificates.IsCa extensions }
 {
     match constraints {
@@ -274,7 +259,7 @@ pub(crate) fn is_ca(constraints: Option<BasicConstraints>) -> bool
 
 /// How many certificates that aren't self-issued may follow, the last apart; `None` where there is no path length
 /// constraint.
-pub(crate) fn path_len(constraints: Option<BasicConstraints>) -> Option<u8>
+pub fn path_len(constraints: Option<BasicConstraints>) -> Option<u8>
     ensures { (extensions : List Extension) → HasConstraints extensions constraints → (k : ℕ) → certificates.HasPathLen extensions k ↔ (result ≡ Some k) }
 {
     match constraints {
@@ -284,7 +269,7 @@ pub(crate) fn path_len(constraints: Option<BasicConstraints>) -> Option<u8>
 }
 
 /// Whether there is a KeyUsage without keyCertSign.
-pub(crate) fn lacks_key_cert_sign(alloc: Global, extensions: &[ExtensionRef<'_>]) -> bool
+pub fn lacks_key_cert_sign(alloc: Global, extensions: &[ExtensionRef<'_>]) -> bool
     ensures { IsTrue result ↔ certificates.LacksKeyCertSign (lent_extensions extensions.now) }
 {
     if !has_any(extensions, KeyUsage::OID) {

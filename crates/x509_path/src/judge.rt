@@ -1,9 +1,7 @@
 //! The checks of one certificate of a path.
 
-ghost use Rattle.std.specs.Prelude.{◌≡◌, ◌≢◌, ◌↔◌, ◌∷◌, ◌++◌, [], List, Ok, Err, IfOk, IfErr, IsTrue, MatchResult, false};
-ghost use Rattle.x509_base.specs.AlgorithmIdentifier.{algorithm_identifier};
-ghost use Rattle.x509_cert.specs.Signed.{IsSignedPart};
-ghost use Rattle.x509_der.specs.Form.{Spells};
+ghost use Rattle.std.specs.Prelude.{◌≡◌, ◌≢◌, ◌↔◌, ◌<◌, ◌∷◌, ◌++◌, [], length, List, Ok, Err, IfOk, IfErr, IsTrue, MatchResult, false};
+ghost use Rattle.x509_ext.specs.LookUp.{IsRepeated};
 ghost use Rattle.x509_path.specs.Certificates as certificates;
 ghost use Rattle.x509_path.specs.Lent.{Lends, lent_extensions};
 ghost use Rattle.x509_path.specs.Path.{Breaks};
@@ -11,15 +9,15 @@ ghost use Rattle.x509_path.specs.PathLength.{HasConstraints, IsOver, Judges, Lea
 ghost use Rattle.x509_path.specs.declared.anchor.Anchor.{Anchor};
 ghost use Rattle.x509_path.specs.declared.fault.PathFault.TheVariants.{Memory, At};
 ghost use Rattle.x509_path.specs.declared.fault.PathReason.TheVariants as reasons;
-ghost use Rattle.x509_prim.specs.BitString.{bit_string};
 
 use crate::anchor_ref::AnchorRef;
+use crate::certificate::{has_two_algorithms, is_outside, signed_of};
 use crate::extensions::{
     are_handled, basic_constraints, collect, front, gather, is_ca, is_repeated,
     lacks_key_cert_sign, path_len, places,
 };
 use crate::fault::{PathFault, PathReason};
-use crate::trust::{Signed, Trust};
+use crate::trust::Trust;
 use std::alloc::Global;
 use x509_base::DateTime;
 use x509_cert::laws::one_signed_part;
@@ -52,42 +50,12 @@ pub(crate) struct Place<'a> {
     pub(crate) is_last: bool,
 }
 
-/// Whether the algorithm in the signed part isn't the one outside it.
-#[tactic(auto, using(crate::proofs::Lent::two_algorithms))]
-pub(crate) fn has_two_algorithms(certificate: &CertificateRef<'_>) -> bool
-    ensures { (c : certificates.Certificate) → Lends certificate.now.bytes.now c → IsTrue result ↔ certificates.HasTwoAlgorithms c }
-{
-    let slices = certificate.slices();
-    slices.fields.signature != slices.signature_algorithm
-}
-
-/// Whether the moment is before or after the validity.
-pub(crate) fn is_outside(moment: DateTime, certificate: &CertificateRef<'_>) -> bool
-    ensures { (c : certificates.Certificate) → Lends certificate.now.bytes.now c → IsTrue result ↔ certificates.IsOutside moment c.tbs_certificate.validity }
-{
-    !certificate.validity().contains(moment)
-}
-
 /// Whether the subject is the issuer.
 #[tactic(auto, using(crate::proofs::Lent::self_issued))]
 fn is_self_issued(certificate: &CertificateRef<'_>) -> bool
     ensures { (c : certificates.Certificate) → Lends certificate.now.bytes.now c → result ≡ certificates.is_self_issued c }
 {
     certificate.subject() == certificate.issuer()
-}
-
-/// What is signed of the certificate.
-pub(crate) fn signed_of<'a>(certificate: &CertificateRef<'a>) -> Signed<'a>
-    ensures algorithm { (c : certificates.Certificate) → Lends certificate.now.bytes.now c
-        → Spells algorithm_identifier c.signature_algorithm result.algorithm.now }
-    ensures message { IsSignedPart certificate.now.bytes.now result.message.now }
-    ensures signature { (c : certificates.Certificate) → Lends certificate.now.bytes.now c → Spells bit_string c.signature result.signature.now }
-{
-    Signed {
-        algorithm: certificate.signature_algorithm(),
-        message: certificate.signed_part(),
-        signature: certificate.signature(),
-    }
 }
 
 /// Whether a path length constraint above allows no such certificate here.
@@ -97,6 +65,17 @@ fn is_over(max_path_length: Option<u8>, certificate: &CertificateRef<'_>) -> boo
     match max_path_length {
         Some(max_path_length) => max_path_length == 0 && !is_self_issued(certificate),
         None => false,
+    }
+}
+
+/// Whether two of the extensions have one OID.
+fn has_repeated(alloc: Global, extensions: &[ExtensionRef<'_>]) -> Result<bool, PathFault>
+    ensures ok { IfOk result (λ b. IsTrue b ↔ IsRepeated (lent_extensions extensions.now)) }
+    ensures err { IfErr result (λ e. (e ≡ Memory) × (16 < length extensions.now)) }
+{
+    match is_repeated(alloc, extensions) {
+        Ok(repeated) => Ok(repeated),
+        Err(_) => Err(PathFault::Memory),
     }
 }
 
@@ -242,7 +221,7 @@ impl<T: Trust> Judge<'_, T> {
             PathReason::Issuer => self.is_of_another(place, certificate),
             PathReason::Moment => Ok(is_outside(self.moment, certificate)),
             PathReason::Signature => Ok(!self.is_signed(place, certificate)?),
-            PathReason::Repeated => is_repeated(self.alloc, extensions),
+            PathReason::Repeated => has_repeated(self.alloc, extensions),
             PathReason::Critical => Ok(!are_handled(extensions)),
             PathReason::NotCa => Ok(!place.is_last && !is_ca(lent.constraints)),
             PathReason::KeyUsage => {
@@ -301,7 +280,7 @@ impl<T: Trust> Judge<'_, T> {
     {
         match collect(self.alloc, certificate.extensions()) {
             Ok(many) => self.judge_lent(place, certificate, many.as_slice(), index),
-            Err(e) => Err(e),
+            Err(_) => Err(PathFault::Memory),
         }
     }
 

@@ -9,15 +9,6 @@ ghost use Rattle.x509_path.specs.declared.fault.PathFault.{PathFault};
 ghost use Rattle.x509_path.specs.declared.fault.PathFault.TheVariants.{At, Memory};
 ghost use Rattle.x509_path.specs.declared.fault.PathReason.{PathReason};
 ghost use Rattle.x509_path.specs.declared.fault.PathReason.TheVariants.{Signature};
-ghost use Rattle.std.specs.Prelude.{IsOk};
-ghost use Rattle.x509_path.specs.Inputs.{Inputs};
-ghost use Rattle.x509_path.specs.Validation as validation;
-ghost use Rattle.x509_path.specs.Validation.{AreUnusable, PathIsValid};
-ghost use Rattle.x509_path.specs.declared.validated.Validated.{Validated};
-ghost use Rattle.x509_path.specs.declared.validation_fault.ValidationFault.{ValidationFault};
-ghost use Rattle.x509_path.specs.declared.validation_fault.ValidationFault.TheVariants as validation_faults;
-ghost use Rattle.x509_path.specs.declared.validation_fault.ValidationReason.{ValidationReason};
-ghost use Rattle.x509_path.specs.declared.validation_fault.ValidationReason.TheVariants as validation_reasons;
 
 use crate::{Anchor, PathFault, PathReason};
 use x509_base::Rfc5280;
@@ -40,26 +31,6 @@ pub fn one_answer()
 pub fn signatures_may_be_verified_apart()
     ensures { (accepts : Accepting) (moment : CivilTime) (anchor : Anchor) (inputs : List (List ℕ)) → PathHolds accepts moment anchor inputs
         ↔ (PathHolds accept_all moment anchor inputs × ((place : ℕ) → HasFault accepts moment anchor inputs place Signature → ⊥)) }
-{
-    signed_bytes_spell_the_signed_part::<Rfc5280>();
-}
-
-/// Apart from out of memory there is one answer to a path that is validated: that it is valid, exactly where it is, and
-/// else the first fault of the lowest place that has one.
-pub fn one_validation()
-    ensures valid { (accepts : Accepting) (inputs : Inputs) (path : List (List ℕ)) (a : Result Validated ValidationFault)
-        → PathIsValid accepts inputs path → validation.Answers accepts inputs path a → IsOk a ⊎ (a ≡ Err validation_faults.Memory) }
-    ensures fault { (accepts : Accepting) (inputs : Inputs) (path : List (List ℕ)) (place : ℕ) (reason : ValidationReason)
-        (a : Result Validated ValidationFault) → (AreUnusable inputs → ⊥) → validation.IsFirstFault accepts inputs path place reason
-        → validation.Answers accepts inputs path a → (a ≡ Err (validation_faults.At place reason)) ⊎ (a ≡ Err validation_faults.Memory) }
-{}
-
-/// A path is valid exactly where it is with all bits taken for signatures ([`AnySignature`](crate::AnySignature)), and the
-/// signature of each of its certificates is accepted, for the key above it. So signatures may be verified apart from the
-/// rest, when a path was validated.
-pub fn signatures_of_validated_paths_may_be_verified_apart()
-    ensures { (accepts : Accepting) (inputs : Inputs) (path : List (List ℕ)) → PathIsValid accepts inputs path
-        ↔ (PathIsValid accept_all inputs path × ((place : ℕ) → validation.HasFault accepts inputs path place validation_reasons.Signature → ⊥)) }
 {
     signed_bytes_spell_the_signed_part::<Rfc5280>();
 }

@@ -6,6 +6,7 @@ ghost use Rattle.x509_path.specs.declared.fault.PathFault.TheVariants.{Memory};
 
 use crate::anchor::Anchor;
 use crate::anchor_ref::AnchorRef;
+use crate::certificate::Signed;
 use crate::fault::PathFault;
 use crate::verifier::{SliceVerifier, Verifier};
 use std::alloc::Global;
@@ -14,19 +15,6 @@ use x509_der::Decode;
 use x509_name::laws::equal_names_are_one_value;
 use x509_name::name::Name;
 use x509_prim::BitString;
-
-/// What is signed, by which algorithm, and the bits: of a certificate, each as its element.
-#[derive(Clone, Copy)]
-pub(crate) struct Signed<'a> {
-    /// The algorithm.
-    pub(crate) algorithm: &'a [u8],
-
-    /// The signed part.
-    pub(crate) message: &'a [u8],
-
-    /// The signature.
-    pub(crate) signature: &'a [u8],
-}
 
 /// A trust anchor, with a verifier of signatures.
 pub(crate) trait Trust {

@@ -6,10 +6,9 @@ use std::str::FromStr;
 use std::test::*;
 use x509_base::{DateTime, Rfc5280};
 use x509_check::{CertificateRef, CrlRef};
-use x509_path::{
-    AnchorRef, AnySignature, PathSettings, SliceVerifier, Trusted, validate_path_lent,
-};
+use x509_path::{AnchorRef, AnySignature, SliceVerifier};
 use x509_revocation::{RevocationSettings, RevocationStatus, SignedCrl, revocation_status};
+use x509_validation::{PathSettings, Trusted, validate_path_lent};
 
 /// Whether the certificate is valid under the anchor at the time, and not revoked by the anchor's CRL.
 fn is_good<'a, V: SliceVerifier>(

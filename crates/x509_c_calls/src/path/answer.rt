@@ -10,7 +10,7 @@ use crate::Span;
 use crate::certificate::view_of;
 use x509_base::Rfc5280;
 use x509_check::CertificateRef;
-use x509_path::ValidationReason;
+use x509_validation::ValidationReason;
 
 /// What is answered to a path: what is wrong with it, or what it gives where it is valid. Of the other all numbers are 0.
 #[derive(Clone, Copy, Debug, PartialEq, Eq)]

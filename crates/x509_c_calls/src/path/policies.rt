@@ -8,8 +8,8 @@ ghost use Rattle.x509_der.specs.Tag.{octet_of};
 ghost use Rattle.x509_der.specs.declared.error.ErrorKind.TheVariants.{Memory, Overlength};
 ghost use Rattle.x509_ext.specs.CertificatePolicies.{certificate_policies};
 ghost use Rattle.x509_ext.specs.declared.pkix.certificate_policies.CertificatePolicies as policies;
-ghost use Rattle.x509_path.specs.Inputs.{user_set};
-ghost use Rattle.x509_path.specs.Says.{identifiers};
+ghost use Rattle.x509_validation.specs.Inputs.{user_set};
+ghost use Rattle.x509_validation.specs.Says.{identifiers};
 ghost use Rattle.x509_policy.specs.Views.{octets_of};
 
 use crate::read;

@@ -4,7 +4,7 @@ ghost use Rattle.std.specs.Prelude.{◌≢◌, [], map, MatchOption, MatchResult
 ghost use Rattle.x509_c_calls.specs.PathValidation.{AreConstraints, TellsValidation, Validates, ValidatesUnderAnchor, ValidatesUnderCertificate, ValidatesUnderKey};
 ghost use Rattle.x509_ext.specs.declared.pkix.name_constraints.NameConstraints as values;
 ghost use Rattle.x509_ext.specs.NameConstraints.{name_constraints};
-ghost use Rattle.x509_path.specs.Inputs.{Inputs, LendsConstraints, LendsInputs, LendsTrust, Trust};
+ghost use Rattle.x509_validation.specs.Inputs.{Inputs, LendsConstraints, LendsInputs, LendsTrust, Trust};
 ghost use Rattle.x509_types.specs.Reencoding.{IsRefused};
 
 use crate::Status;
@@ -21,9 +21,8 @@ use x509_check::{CertificateRef, Check};
 use x509_der::{ErrorKind, Grammar};
 use x509_ext::pkix::{CertificatePolicies, NameConstraints};
 use x509_name::name::Name;
-use x509_path::{
-    AnchorRef, AnySignature, PathSettings, Trusted, TrustedBuf, ValidationFault, validate_path_lent,
-};
+use x509_path::{AnchorRef, AnySignature};
+use x509_validation::{PathSettings, Trusted, TrustedBuf, ValidationFault, validate_path_lent};
 
 /// The constraints, if there are any.
 fn constraints_of(octets: &[u8]) -> Result<Option<&[u8]>, ErrorKind>

@@ -2,7 +2,7 @@ use Rattle.std.proofs.Common.{◌≡◌, Bor, List, ℕ, map, refl, sym, subst, 
 use Rattle.x509_c_calls.proofs.PolicyOctets.{why_refused}
 use Rattle.x509_c_calls.proofs.path.validate.tell.Goals as goal
 use Rattle.x509_c_calls.specs.PathValidation.{Left, TellsValidation}
-use Rattle.x509_path.specs.Validation.{IsUnder}
+use Rattle.x509_validation.specs.Validation.{IsUnder}
 use Rattle.x509_policy.specs.Values.{Policy}
 use Rattle.x509_policy.specs.Views.{octets_of}
 

@@ -2,8 +2,8 @@ use Rattle.std.proofs.Common.{◌≡◌, refl, List, ℕ, Bor, inl, map, ap, sub
 use Rattle.x509_c_calls.specs.PathValidation.{Asks, AsksOfPolicies, Left, TellsValidation, Validates, set_of}
 use Rattle.x509_c_calls.specs.Pieces.{AreCut}
 use Rattle.x509_c_calls.proofs.path.validate.validate_under.Goals as goal
-use Rattle.x509_path.specs.Inputs.{Inputs, LendsInputs, asked_of}
-use Rattle.x509_path.specs.declared.settings.PathSettings.{PathSettings}
+use Rattle.x509_validation.specs.Inputs.{Inputs, LendsInputs, asked_of}
+use Rattle.x509_validation.specs.declared.settings.PathSettings.{PathSettings}
 use Rattle.x509_policy.specs.Values.{Settings}
 
 pub returns : goal.returns

@@ -1,8 +1,0 @@
-use Rattle.std.proofs.Common.{◌≡◌, true, take}
-use Rattle.std.specs.List.{All}
-use Rattle.x509_check.specs.ExtensionRefs.{lent_extension}
-use Rattle.x509_path.specs.Validation.{IsProcessed}
-use Rattle.x509_path.proofs.processed.are_processed.Given as goal
-
-abbrev pub invariant-loop-extension : goal.invariant-loop-extension
-invariant-loop-extension l = All (λ e. e.critical ≡ true → IsProcessed (lent_extension e)) (take l.extension-index l.extensions)

@@ -1,0 +1,45 @@
+use Rattle.std.proofs.Common.{◌∙◌, inr, refl, sym}
+use Rattle.std.proofs.lemmas.Bool.{true≢false}
+use Rattle.std.proofs.lemmas.Result.{err_from_is_err_and}
+use Rattle.x509_validation.specs.Inputs.{Trust}
+use Rattle.x509_validation.specs.Trusts.{IsTrustOfInfo, RefusesInfo, flags_or, or_else}
+use Rattle.x509_validation.proofs.Refusals.{answered, described, its_limits, other_certificate}
+use Rattle.x509_validation.proofs.trusted_buf.of_info.Goals as goal
+
+pub returns-in_err-has_its_certificate : goal.returns-in_err-has_its_certificate
+returns-in_err-has_its_certificate c =
+    let p = err_from_is_err_and c.from_residual.result c.from_residual.ensures.1 in
+    rw (p.1, p.2) (described c.args.info.now c.in-Some.controls c.in-Some.is _ c.in_err-has_its_certificate.ensures)
+
+pub returns-then-not-branch : goal.returns-then-not-branch
+returns-then-not-branch c =
+    let controls = c.in-Some.controls in
+    rw c.into-then-not-branch.ensures (described c.args.info.now controls c.in-Some.is _ (inr (other_certificate c.args.info.now controls controls.certificate (λ is. true≢false (sym (c.in_ok-has_its_certificate.ensures.1 is) ∙ c.if-not-branch.true)))))
+
+pub returns-in_err-own : goal.returns-in_err-own
+returns-in_err-own c =
+    let p = err_from_is_err_and c.from_residual-in_err-own.result c.from_residual-in_err-own.ensures.1 in
+    let controls = c.in-Some.controls in
+    rw (p.1, p.2) (described c.args.info.now controls c.in-Some.is _ (its_limits c.args.info.now controls controls.certificate _ c.in_err-own.ensures))
+
+pub returns : goal.returns
+returns c =
+    let info = c.args.info.now in
+    let controls = c.in-Some.controls in
+    let own = c.in_ok-own.own in
+    let trust : Trust = record {
+      anchor = record { name = controls.ta_name; key = info.pub_key };
+      constraints = or_else controls.name_constr own.constraints;
+      max_path_length = or_else controls.path_len_constraint own.max_path_length;
+      policies = or_else controls.policy_set own.policies;
+      flags = flags_or controls.policy_flags own.flags;
+    } in
+    answered (IsTrustOfInfo info) (RefusesInfo info) trust c.held.result (record {
+      controls = controls;
+      own = own;
+      has_controls = c.in-Some.is;
+      certificate = c.in_ok-has_its_certificate.ensures.0 c.if-not-branch.false;
+      are_own = c.in_ok-own.ensures;
+      anchor = refl;
+      limits = refl;
+    }) (c.held.ensures trust (rw (c.value_or.ensures, c.value_or-2.ensures, c.value_or-3.ensures, c.flags_or.ensures) refl))

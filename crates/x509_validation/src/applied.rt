@@ -1,0 +1,44 @@
+//! The name constraints that apply to a certificate.
+
+use std::alloc::{AllocError, Global};
+use x509_constraints::ConstraintSets;
+use x509_ext::pkix::NameConstraints;
+
+/// The name constraints that apply, and whether there are any.
+#[derive(Drop)]
+pub(crate) struct Applied {
+    /// The constraints.
+    pub(crate) sets: ConstraintSets,
+
+    /// Whether there are any.
+    pub(crate) is_any: bool,
+}
+
+impl Applied {
+    ghost use Rattle.std.specs.Prelude.{◌++◌, ◌∷◌, [], List, OnOk};
+    ghost use Rattle.x509_ext.specs.declared.pkix.name_constraints.NameConstraints as values;
+    ghost use Rattle.x509_validation.specs.Steps.{Holds};
+
+    /// None. It takes no memory.
+    pub(crate) fn new(alloc: Global) -> Applied
+        ensures { Holds result [] }
+    {
+        Applied {
+            sets: ConstraintSets::new(alloc),
+            is_any: false,
+        }
+    }
+
+    /// Adds the constraints.
+    pub(crate) fn add(
+        &mut self,
+        alloc: Global,
+        constraints: &NameConstraints,
+    ) -> Result<(), AllocError>
+        ensures { (applied : List values.NameConstraints) → Holds self.old applied → OnOk result (Holds self.new (applied ++ constraints.now ∷ [])) }
+    {
+        self.is_any = true;
+        self.sets.add(alloc, constraints)?;
+        Ok(())
+    }
+}

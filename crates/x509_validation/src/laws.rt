@@ -1,0 +1,35 @@
+//! What holds of all paths that are validated. Each law is a function with an empty body, whose contract is the law.
+
+ghost use Rattle.std.specs.Prelude.{◌≡◌, ◌⊎◌, ◌↔◌, IsOk, List, ℕ, Result, Err};
+ghost use Rattle.x509_path.specs.Certificates.{Accepting, accept_all};
+ghost use Rattle.x509_validation.specs.Inputs.{Inputs};
+ghost use Rattle.x509_validation.specs.Validation as validation;
+ghost use Rattle.x509_validation.specs.Validation.{AreUnusable, PathIsValid};
+ghost use Rattle.x509_validation.specs.declared.validated.Validated.{Validated};
+ghost use Rattle.x509_validation.specs.declared.validation_fault.ValidationFault.{ValidationFault};
+ghost use Rattle.x509_validation.specs.declared.validation_fault.ValidationFault.TheVariants as validation_faults;
+ghost use Rattle.x509_validation.specs.declared.validation_fault.ValidationReason.{ValidationReason};
+ghost use Rattle.x509_validation.specs.declared.validation_fault.ValidationReason.TheVariants as validation_reasons;
+
+use x509_base::Rfc5280;
+use x509_cert::laws::signed_bytes_spell_the_signed_part;
+
+/// Apart from out of memory there is one answer to a path that is validated: that it is valid, exactly where it is, and
+/// else the first fault of the lowest place that has one.
+pub fn one_validation()
+    ensures valid { (accepts : Accepting) (inputs : Inputs) (path : List (List ℕ)) (a : Result Validated ValidationFault)
+        → PathIsValid accepts inputs path → validation.Answers accepts inputs path a → IsOk a ⊎ (a ≡ Err validation_faults.Memory) }
+    ensures fault { (accepts : Accepting) (inputs : Inputs) (path : List (List ℕ)) (place : ℕ) (reason : ValidationReason)
+        (a : Result Validated ValidationFault) → (AreUnusable inputs → ⊥) → validation.IsFirstFault accepts inputs path place reason
+        → validation.Answers accepts inputs path a → (a ≡ Err (validation_faults.At place reason)) ⊎ (a ≡ Err validation_faults.Memory) }
+{}
+
+/// A path is valid exactly where it is with all bits taken for signatures ([`AnySignature`](x509_path::AnySignature)), and the
+/// signature of each of its certificates is accepted, for the key above it. So signatures may be verified apart from the
+/// rest, when a path was validated.
+pub fn signatures_of_validated_paths_may_be_verified_apart()
+    ensures { (accepts : Accepting) (inputs : Inputs) (path : List (List ℕ)) → PathIsValid accepts inputs path
+        ↔ (PathIsValid accept_all inputs path × ((place : ℕ) → validation.HasFault accepts inputs path place validation_reasons.Signature → ⊥)) }
+{
+    signed_bytes_spell_the_signed_part::<Rfc5280>();
+}

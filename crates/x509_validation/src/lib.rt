@@ -1,0 +1,32 @@
+//! Certification paths under what is trusted, validated (RFC 5280 6.1, RFC 5937): whether each certificate is signed by the one
+//! above it, has its subject as issuer, is valid at the time, has names that those above allow, is under acceptable policies, and
+//! may have others below it ([`validate_path`]). Revocation isn't checked.
+//!
+//! The library has no signature algorithm: the caller hands in a [`Verifier`](x509_path::Verifier). Words of our own are explained
+//! in `docs/MAP.md`.
+#![tactic(auto)]
+
+mod applied;
+mod initial;
+pub mod laws;
+mod limits;
+mod matching;
+mod oids;
+mod policies;
+mod processed;
+mod settings;
+mod signatures;
+mod trusted;
+mod trusted_buf;
+mod validate;
+mod validated;
+mod validation_fault;
+mod validator;
+
+pub use settings::PathSettings;
+pub use trusted::Trusted;
+pub use trusted_buf::TrustedBuf;
+pub use validate::{validate_path, validate_path_lent};
+pub use validated::Validated;
+pub use validation_fault::{ValidationFault, ValidationReason};
+pub use x509_policy::AnchorFlags;

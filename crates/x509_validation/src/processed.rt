@@ -1,0 +1,124 @@
+//! The extensions that are looked at where a path is validated.
+
+ghost use Rattle.std.specs.Prelude.{◌≡◌, ◌↔◌, IfOk, IsTrue, Some, Option};
+ghost use Rattle.std.specs.List.{All};
+ghost use Rattle.x509_check.specs.ExtensionRefs.{lent_extension};
+ghost use Rattle.x509_path.specs.Certificates as certificates;
+ghost use Rattle.x509_path.specs.Lent.{lent_extensions};
+ghost use Rattle.x509_validation.specs.Validation.{AreProcessed, AreSpelled, IsAboutPolicies, IsDecodable, IsOfUse, IsPolicySpelled, IsProcessed, IsSpelled, IsUseSpelled};
+
+use std::alloc::{AllocError, Global};
+use x509_check::{Check, ExtensionRef};
+use x509_der::{AssociatedOid, Decode, ErrorKind};
+use x509_ext::pkix::{
+    BasicConstraints, CertificatePolicies, ExtendedKeyUsage, InhibitAnyPolicy, KeyUsage,
+    NameConstraints, PolicyConstraints, PolicyMappings, SubjectAltName,
+};
+use x509_path::extensions::{find_one, is_known, is_readable};
+
+/// Whether each critical extension is of a type that is processed here, and can be decoded.
+pub(crate) fn are_processed(extensions: &[ExtensionRef<'_>]) -> bool
+    ensures { IsTrue result ↔ AreProcessed (lent_extensions extensions.now) }
+{
+    for extension in extensions {
+        if extension.critical && !is_processed(extension) {
+            return false;
+        }
+    }
+    true
+}
+
+/// Whether the extension is of a type that is processed here, and can be decoded.
+fn is_processed(extension: &ExtensionRef<'_>) -> bool
+    ensures { IsTrue result ↔ IsProcessed (lent_extension extension.now) }
+{
+    is_of_use(extension) || is_about_policies(extension)
+}
+
+/// Whether the extension says what the certificate is for, or which names are allowed, and can be decoded.
+fn is_of_use(extension: &ExtensionRef<'_>) -> bool
+    ensures { IsTrue result ↔ IsOfUse (lent_extension extension.now) }
+{
+    is_known(extension) || is_readable::<NameConstraints>(extension)
+}
+
+/// Whether the extension is about policies, and can be decoded.
+fn is_about_policies(extension: &ExtensionRef<'_>) -> bool
+    ensures { IsTrue result ↔ IsAboutPolicies (lent_extension extension.now) }
+{
+    is_readable::<CertificatePolicies>(extension)
+        || is_readable::<PolicyMappings>(extension)
+        || is_readable::<PolicyConstraints>(extension)
+        || is_readable::<InhibitAnyPolicy>(extension)
+}
+
+/// Whether the octets of the extension are an encoding of the type, if it has the OID of it.
+fn is_spelled<T: AssociatedOid + Check>(extension: &ExtensionRef<'_>) -> bool
+    ensures { IsTrue result ↔ IsSpelled T.form T.OID (lent_extension extension.now) }
+{
+    if extension.extn_id != T::OID {
+        return true;
+    }
+    T::check(extension.extn_value).is_ok()
+}
+
+/// Whether the extension can be decoded, if it says what the certificate is for, or which names are allowed.
+fn is_use_spelled(extension: &ExtensionRef<'_>) -> bool
+    ensures { IsTrue result ↔ IsUseSpelled (lent_extension extension.now) }
+{
+    is_spelled::<BasicConstraints>(extension)
+        && is_spelled::<KeyUsage>(extension)
+        && is_spelled::<ExtendedKeyUsage>(extension)
+        && is_spelled::<SubjectAltName>(extension)
+        && is_spelled::<NameConstraints>(extension)
+}
+
+/// Whether the extension can be decoded, if it is about policies.
+fn is_policy_spelled(extension: &ExtensionRef<'_>) -> bool
+    ensures { IsTrue result ↔ IsPolicySpelled (lent_extension extension.now) }
+{
+    is_spelled::<CertificatePolicies>(extension)
+        && is_spelled::<PolicyMappings>(extension)
+        && is_spelled::<PolicyConstraints>(extension)
+        && is_spelled::<InhibitAnyPolicy>(extension)
+}
+
+/// Whether the extension can be decoded, if it is of a type that is looked at.
+fn is_decodable(extension: &ExtensionRef<'_>) -> bool
+    ensures { IsTrue result ↔ IsDecodable (lent_extension extension.now) }
+{
+    is_use_spelled(extension) && is_policy_spelled(extension)
+}
+
+/// Whether each extension of a type that is looked at can be decoded.
+pub(crate) fn are_spelled(extensions: &[ExtensionRef<'_>]) -> bool
+    ensures { IsTrue result ↔ AreSpelled (lent_extensions extensions.now) }
+{
+    for extension in extensions {
+        if !is_decodable(extension) {
+            return false;
+        }
+    }
+    true
+}
+
+/// The value of the one extension of the type; `None` where there isn't one that can be decoded.
+pub(crate) fn owned_payload<T: AssociatedOid + Decode>(
+    alloc: Global,
+    extensions: &[ExtensionRef<'_>],
+) -> Result<Option<T>, AllocError>
+    ensures { IfOk result (λ found. (value : T) → certificates.HasPayload T.form T.OID (lent_extensions extensions.now) value ↔ (found ≡ Some value)) }
+{
+    let Some(octets) = find_one(extensions, T::OID) else {
+        return Ok(None);
+    };
+    match T::from_der(alloc, octets) {
+        Ok(value) => Ok(Some(value)),
+        Err(e) => {
+            if e.kind() == ErrorKind::Memory {
+                return Err(AllocError);
+            }
+            Ok(None)
+        }
+    }
+}

@@ -1,0 +1,238 @@
+//! Validating a path.
+
+ghost use Rattle.std.specs.Prelude.{◌≡◌, ◌++◌, ◌∷◌, ◌+◌, ◌<◌, [], ℕ, List, MatchOption, MatchResult, Ok, Err, false, length, map, suc, true};
+ghost use Rattle.x509_path.specs.Certificates.{Certificate};
+ghost use Rattle.x509_validation.specs.Inputs.{Inputs, LendsInputs};
+ghost use Rattle.x509_path.specs.Lent.{Lends, LendsAnchor};
+ghost use Rattle.x509_path.specs.Path.{subject_of};
+ghost use Rattle.x509_validation.specs.Steps.{Carries, EndsUnder, IsLimitOf, Judges, Stands, standing};
+ghost use Rattle.x509_validation.specs.Validation.{Answers};
+ghost use Rattle.x509_path.specs.declared.anchor.Anchor.{Anchor};
+ghost use Rattle.x509_policy.specs.Views.{octets_of};
+
+use crate::initial::{add_own, initial_sets};
+use crate::matching::length_behind;
+use crate::policies::{
+    add_said, any_policy_alone, end_said, merged_with, settings_at_start, user_policies,
+};
+use crate::settings::PathSettings;
+use crate::signatures::{OfSlices, OfValues, Signatures};
+use crate::trusted::Trusted;
+use crate::validated::Validated;
+use crate::validation_fault::ValidationFault;
+use crate::validator::{Limits, Stand, Validator};
+use std::alloc::Global;
+use x509_check::CertificateRef;
+use x509_path::{AnchorRef, SliceVerifier, Verifier};
+use x509_policy::PolicyState;
+
+/// Those above the last, and the last.
+fn split_path<'s, 'a>(path: &'s [&'a [u8]]) -> Option<(&'s [&'a [u8]], &'a [u8])>
+    ensures { MatchOption result (map (λ input. input.now) path.now ≡ []) (λ parts. map (λ input. input.now) path.now
+        ≡ map (λ input. input.now) parts.0.now ++ parts.1.now ∷ []) }
+{
+    match path {
+        [front @ .., last] => Some((front, last)),
+        [] => None,
+    }
+}
+
+/// The certificate of these bytes, which isn't the last, where nothing is wrong with it, and what it says of those below it;
+/// `index` is its place.
+fn go_on<'a, S: Signatures>(
+    validator: &Validator<'_, S>,
+    stand: &Stand<'_, '_>,
+    state: &mut PolicyState<'_, 'a>,
+    bytes: &'a [u8],
+    index: usize,
+) -> Result<(CertificateRef<'a>, Limits<'a>), ValidationFault>
+    ensures { (inputs : Inputs) (above : Anchor) (before : List Certificate) (n : ℕ)
+        → Stands inputs above before validator.now.moment stand.now.above stand.now.max_path_length stand.now.sets.now → Carries inputs n before state.old
+        → stand.now.is_last ≡ false → length before + 1 < n → MatchResult result
+        (λ judged. (c : Certificate) × Lends judged.0.bytes.now c × IsLimitOf c judged.1.basic_constraints judged.1.name_constraints
+        × Carries inputs n (before ++ c ∷ []) state.new
+        × Judges (S.accepts validator.now.signatures.now) inputs (standing above before false n) bytes.now index (Ok c))
+        (λ e. Judges (S.accepts validator.now.signatures.now) inputs (standing above before false n) bytes.now index (Err e)) }
+{
+    let (certificate, limits) = match validator.judge(stand, bytes, index) {
+        Ok(judged) => judged,
+        Err(e) => return Err(e),
+    };
+    match add_said(validator.alloc, state, &limits.policies, index) {
+        Ok(()) => Ok((certificate, limits)),
+        Err(e) => Err(e),
+    }
+}
+
+/// What the last certificate gives, of these bytes, where nothing is wrong with it; `index` is its place.
+fn end<'a, S: Signatures>(
+    validator: &Validator<'_, S>,
+    stand: &Stand<'_, '_>,
+    state: &PolicyState<'_, 'a>,
+    bytes: &'a [u8],
+    index: usize,
+) -> Result<Validated<'a>, ValidationFault>
+    ensures { (inputs : Inputs) (above : Anchor) (before : List Certificate)
+        → Stands inputs above before validator.now.moment stand.now.above stand.now.max_path_length stand.now.sets.now
+        → Carries inputs (suc (length before)) before state.now → stand.now.is_last ≡ true → MatchResult result
+        (λ validated. (c : Certificate) × LendsAnchor validated.subject (subject_of c)
+        × EndsUnder inputs (before ++ c ∷ []) (octets_of validated.policies.items)
+        × Judges (S.accepts validator.now.signatures.now) inputs (standing above before true (suc (length before))) bytes.now index (Ok c))
+        (λ e. Judges (S.accepts validator.now.signatures.now) inputs (standing above before true (suc (length before))) bytes.now index (Err e)) }
+{
+    let (certificate, limits) = match validator.judge(stand, bytes, index) {
+        Ok(judged) => judged,
+        Err(e) => return Err(e),
+    };
+    match end_said(validator.alloc, state, &limits.policies, index) {
+        Ok(policies) => Ok(Validated {
+            subject: AnchorRef::from_certificate(&certificate),
+            policies,
+        }),
+        Err(e) => Err(e),
+    }
+}
+
+/// Validates the certificates of a path: those above the last, and the last; `policies` is the state before the first.
+fn walk_down<'a, S: Signatures>(
+    validator: &Validator<'_, S>,
+    trusted: &Trusted<'a>,
+    front: &[&'a [u8]],
+    last: &'a [u8],
+    settings: &PathSettings<'a>,
+    policies: PolicyState<'_, 'a>,
+) -> Result<Validated<'a>, ValidationFault>
+    requires { validator.now.moment ≡ settings.now.moment }
+    ensures { (inputs : Inputs) → LendsInputs trusted.now settings.now inputs → Carries inputs (length front.now + 1) [] policies.entry
+        → Answers (S.accepts validator.now.signatures.now) inputs (map (λ input. input.now) front.now ++ last.now ∷ []) result }
+{
+    let alloc = validator.alloc;
+    let mut sets = initial_sets(alloc, trusted, settings)?;
+    let mut state = policies;
+    let mut above = trusted.anchor;
+    let mut max_path_length = trusted.max_path_length;
+    for (index, bytes) in front.iter().enumerate() {
+        let stand = Stand {
+            above,
+            max_path_length,
+            sets: &sets,
+            is_last: false,
+        };
+        let (certificate, limits) = match go_on(validator, &stand, &mut state, bytes, index) {
+            Ok(judged) => judged,
+            Err(e) => return Err(e),
+        };
+        above = AnchorRef::from_certificate(&certificate);
+        max_path_length = length_behind(
+            alloc,
+            max_path_length,
+            &certificate,
+            limits.basic_constraints,
+        )?;
+        add_own(alloc, &mut sets, &limits.name_constraints)?;
+    }
+    let stand = Stand {
+        above,
+        max_path_length,
+        sets: &sets,
+        is_last: true,
+    };
+    match end(validator, &stand, &state, last, front.len()) {
+        Ok(validated) => Ok(validated),
+        Err(e) => Err(e),
+    }
+}
+
+/// Validates the certificates of a path under the policies at the start: those above the last, and the last.
+fn walk_under<'a, S: Signatures>(
+    alloc: Global,
+    trusted: &Trusted<'a>,
+    front: &[&'a [u8]],
+    last: &'a [u8],
+    settings: &PathSettings<'a>,
+    signatures: &S,
+) -> Result<Validated<'a>, ValidationFault>
+    ensures { (inputs : Inputs) → LendsInputs trusted.now settings.now inputs
+        → Answers (S.accepts signatures.now) inputs (map (λ input. input.now) front.now ++ last.now ∷ []) result }
+{
+    let any = any_policy_alone();
+    let user = user_policies(settings, any.as_slice());
+    let merged = merged_with(alloc, trusted, user)?;
+    let asked = settings_at_start(trusted, settings, user, &merged);
+    let policies = PolicyState::new(alloc, &asked, front.len() + 1);
+    let validator = Validator {
+        alloc,
+        signatures,
+        moment: settings.moment,
+    };
+    walk_down(&validator, trusted, front, last, settings, policies)
+}
+
+/// Validates the certificates of a path.
+fn walk<'a, S: Signatures>(
+    alloc: Global,
+    trusted: &Trusted<'a>,
+    path: &[&'a [u8]],
+    settings: &PathSettings<'a>,
+    signatures: &S,
+) -> Result<Validated<'a>, ValidationFault>
+    ensures { (inputs : Inputs) → LendsInputs trusted.now settings.now inputs
+        → Answers (S.accepts signatures.now) inputs (map (λ input. input.now) path.now) result }
+{
+    match split_path(path) {
+        Some((front, last)) => walk_under(alloc, trusted, front, last, settings, signatures),
+        None => Err(ValidationFault::Empty),
+    }
+}
+
+/// Validates a path of certificates, the topmost first, under what is trusted (RFC 5280 6.1, RFC 5937): the first under its
+/// name and key, each other one under the subject and the key of the one before it. It is [`check_path`](x509_path::check_path) with
+/// these differences: names are compared as they match (RFC 5280 7.1), name constraints hold, policies are followed, and each
+/// extension of a type that is looked at has to be one that can be decoded. It is all of 6.1 but revocation, which isn't
+/// checked, and the qualifiers of policies, on which no answer depends. Nor is a certificate looked for that stands in the path
+/// twice: that it may not is for who makes a path; here each has to be valid where it stands.
+///
+/// Each signature is verified over the bytes of the input; nothing is encoded again. Certificates aren't decoded: values are
+/// made of what the verifier is handed, of name constraints and of the names that are under them. Memory is taken else only
+/// for the policies of what is trusted and of certificates, with an entry for each certificate above the last; for names that
+/// differ and have a BMPString, a UTF8String beyond ASCII, or an RDN of more than 16 attributes; and for a certificate of more
+/// than 16 extensions. For p policies and mappings of a certificate the time is that of sorting them, O(p log p), in addition
+/// to those expected from above.
+///
+/// # Errors
+///
+/// [`ValidationFault::Empty`] exactly where there is no certificate; else [`ValidationFault::Initial`] exactly where name
+/// constraints of what is trusted, or of the settings, can't be used; else [`ValidationFault::At`] with the lowest place at
+/// which something is wrong, and the first thing that is wrong there, in the order of
+/// [`ValidationReason`](crate::ValidationReason). [`ValidationFault::Memory`] may come instead, when out of memory, wherever
+/// there is a certificate: no clause says which of them take memory.
+pub fn validate_path<'a, V: Verifier>(
+    alloc: Global,
+    trusted: &Trusted<'a>,
+    path: &[&'a [u8]],
+    settings: &PathSettings<'a>,
+    verifier: &V,
+) -> Result<Validated<'a>, ValidationFault>
+    ensures { (inputs : Inputs) → LendsInputs trusted.now settings.now inputs
+        → Answers (V.accepts verifier.now) inputs (map (λ input. input.now) path.now) result }
+{
+    walk(alloc, trusted, path, settings, &OfValues { verifier })
+}
+
+/// [`validate_path`] with a verifier that is handed encodings.
+///
+/// # Errors
+///
+/// Those of [`validate_path`].
+pub fn validate_path_lent<'a, V: SliceVerifier>(
+    alloc: Global,
+    trusted: &Trusted<'a>,
+    path: &[&'a [u8]],
+    settings: &PathSettings<'a>,
+    verifier: &V,
+) -> Result<Validated<'a>, ValidationFault>
+    ensures { (inputs : Inputs) → LendsInputs trusted.now settings.now inputs
+        → Answers (V.accepts verifier.now) inputs (map (λ input. input.now) path.now) result }
+{
+    walk(alloc, trusted, path, settings, &OfSlices { verifier })
+}

@@ -1,0 +1,390 @@
+//! The checks of one certificate of a path that is validated.
+
+ghost use Rattle.std.specs.Prelude.{◌≡◌, ◌↔◌, IfOk, IsTrue, List, Option, false};
+ghost use Rattle.x509_path.specs.Certificates as certificates;
+ghost use Rattle.x509_path.specs.Lent.{lent_extensions};
+ghost use Rattle.x509_validation.specs.Steps.{AreConstraintsOf};
+ghost use Rattle.x509_validation.specs.Validation.{HasUnusable};
+ghost use Rattle.x509_validation.specs.declared.validation_fault.ValidationFault.TheVariants as faults;
+ghost use Rattle.x509_validation.specs.declared.validation_fault.ValidationReason.TheVariants as reasons;
+
+use crate::applied::Applied;
+use crate::matching::{is_asked, is_over, names_match};
+use crate::policies::{Said, said_of};
+use crate::processed::{are_processed, are_spelled, owned_payload};
+use crate::signatures::{Signatures, known_value};
+use crate::validation_fault::{ValidationFault, ValidationReason};
+use std::alloc::{AllocError, Global};
+use x509_base::DateTime;
+use x509_cert::laws::one_signed_part;
+use x509_check::{CertificateRef, ExtensionRef};
+use x509_constraints::is_usable;
+use x509_ext::pkix::{BasicConstraints, NameConstraints, SubjectAltName};
+use x509_name::name::Name;
+use x509_path::AnchorRef;
+use x509_path::certificate::{has_two_algorithms, is_outside, signed_of};
+use x509_path::extensions::{
+    basic_constraints, collect, front, gather, is_ca, is_repeated, lacks_key_cert_sign, places,
+};
+
+/// The reasons after `Decode`, in their order, those of policies apart.
+const REASONS: [ValidationReason; 12] = [
+    ValidationReason::Algorithm,
+    ValidationReason::Issuer,
+    ValidationReason::Moment,
+    ValidationReason::Signature,
+    ValidationReason::Repeated,
+    ValidationReason::Critical,
+    ValidationReason::Extension,
+    ValidationReason::NotCa,
+    ValidationReason::KeyUsage,
+    ValidationReason::PathLen,
+    ValidationReason::Names,
+    ValidationReason::Constraints,
+];
+
+/// Where a certificate stands in a path.
+#[derive(Clone, Copy)]
+pub(crate) struct Stand<'s, 'a> {
+    /// The name and the key above it.
+    pub(crate) above: AnchorRef<'a>,
+
+    /// How many certificates that aren't self-issued may follow, where that is limited.
+    pub(crate) max_path_length: Option<u32>,
+
+    /// The name constraints that apply.
+    pub(crate) sets: &'s Applied,
+
+    /// Whether it is the last.
+    pub(crate) is_last: bool,
+}
+
+/// What a certificate lends to the checks.
+#[derive(Clone, Copy)]
+struct Parts<'s, 'a> {
+    /// The certificate.
+    certificate: &'s CertificateRef<'a>,
+
+    /// Its extensions.
+    extensions: &'s [ExtensionRef<'a>],
+
+    /// The value of its BasicConstraints, where another certificate follows.
+    basic_constraints: Option<BasicConstraints>,
+
+    /// The value of its NameConstraints, where another certificate follows.
+    name_constraints: &'s Option<NameConstraints>,
+}
+
+/// What a certificate says of those below it.
+#[derive(Drop)]
+pub(crate) struct Limits<'a> {
+    /// The value of its BasicConstraints.
+    pub(crate) basic_constraints: Option<BasicConstraints>,
+
+    /// The value of its NameConstraints.
+    pub(crate) name_constraints: Option<NameConstraints>,
+
+    /// What it says of policies.
+    pub(crate) policies: Said<'a>,
+}
+
+/// What the certificates of a path are checked with.
+#[derive(Drop)]
+pub(crate) struct Validator<'s, S> {
+    /// Where memory is taken.
+    pub(crate) alloc: Global,
+
+    /// The verifier of signatures.
+    pub(crate) signatures: &'s S,
+
+    /// The time.
+    pub(crate) moment: DateTime,
+}
+
+/// The value of the one NameConstraints that can be decoded, where another certificate follows.
+fn name_constraints(
+    alloc: Global,
+    is_last: bool,
+    extensions: &[ExtensionRef<'_>],
+) -> Result<Option<NameConstraints>, AllocError>
+    ensures { IfOk result (λ found. (c : certificates.Certificate) → lent_extensions extensions.now ≡ certificates.extensions_of c → is_last ≡ false
+        → AreConstraintsOf c found) }
+{
+    if is_last {
+        return Ok(None);
+    }
+    let found = owned_payload::<NameConstraints>(alloc, extensions)?;
+    Ok(found)
+}
+
+/// Whether the constraints are there, and can't be used.
+fn is_unusable(constraints: &Option<NameConstraints>) -> bool
+    ensures { (c : certificates.Certificate) → AreConstraintsOf c constraints.now → IsTrue result
+        ↔ HasUnusable c }
+{
+    match constraints {
+        Some(constraints) => !is_usable(constraints),
+        None => false,
+    }
+}
+
+impl<S: Signatures> Validator<'_, S> {
+    ghost use Rattle.std.specs.Prelude.{◌≡◌, ◌↔◌, ◌⊎◌, ℕ, List, Ok, Err, IfOk, IsTrue, MatchResult, true, false};
+    ghost use Rattle.x509_match.specs.Matching.{NamesMatch};
+    ghost use Rattle.x509_path.specs.Certificates as certificates;
+    ghost use Rattle.x509_validation.specs.Inputs.{Inputs};
+    ghost use Rattle.x509_path.specs.Lent.{Lends, LendsAnchor, lent_extensions};
+    ghost use Rattle.x509_validation.specs.Steps.{IsOwn, JudgesAlone, JudgesParts, Knows, Stands, standing};
+    ghost use Rattle.x509_validation.specs.Validation.{AreNamesAllowed, Breaks};
+    ghost use Rattle.x509_path.specs.declared.anchor.Anchor.{Anchor};
+    ghost use Rattle.x509_validation.specs.declared.validation_fault.ValidationReason.TheVariants as reasons;
+
+    /// Whether the issuer doesn't match the name above.
+    fn is_of_another(
+        &self,
+        stand: &Stand<'_, '_>,
+        certificate: &CertificateRef<'_>,
+    ) -> Result<bool, AllocError>
+        ensures { IfOk result (λ b. (c : certificates.Certificate) (above : Anchor) → Lends certificate.now.bytes.now c → LendsAnchor stand.now.above above
+            → IsTrue b ↔ (NamesMatch c.tbs_certificate.issuer above.name → ⊥)) }
+    {
+        let is_same = names_match(self.alloc, certificate.issuer(), stand.above.name)?;
+        Ok(!is_same)
+    }
+
+    /// Whether the verifier accepts the signature of the signed part, as it stands in the bytes.
+    fn is_signed(
+        &self,
+        stand: &Stand<'_, '_>,
+        certificate: &CertificateRef<'_>,
+    ) -> Result<bool, AllocError>
+        ensures { IfOk result (λ b. (c : certificates.Certificate) (above : Anchor) → Lends certificate.now.bytes.now c → LendsAnchor stand.now.above above
+            → IsTrue b ↔ certificates.IsSigned (S.accepts self.now.signatures.now) above.key certificate.now.bytes.now c) }
+    {
+        one_signed_part();
+        let signed = signed_of(certificate);
+        let accepted = self
+            .signatures
+            .is_accepted(self.alloc, stand.above.key, &signed)?;
+        Ok(accepted)
+    }
+
+    /// Whether more certificates follow one above than may, the certificate being one of them.
+    fn is_too_deep(
+        &self,
+        stand: &Stand<'_, '_>,
+        certificate: &CertificateRef<'_>,
+    ) -> Result<bool, AllocError>
+        ensures { IfOk result (λ b. (inputs : Inputs) (above : Anchor) (before : List certificates.Certificate) (n : ℕ) (c : certificates.Certificate)
+            → Stands inputs above before self.now.moment stand.now.above stand.now.max_path_length stand.now.sets.now → Lends certificate.now.bytes.now c
+            → IsTrue b ↔ Breaks (S.accepts self.now.signatures.now) inputs (standing above before stand.now.is_last n) certificate.now.bytes.now c
+            reasons.PathLen) }
+    {
+        if stand.is_last {
+            return Ok(false);
+        }
+        let is_over = is_over(self.alloc, stand.max_path_length, certificate)?;
+        Ok(is_over)
+    }
+
+    /// Whether the names of the certificate are allowed.
+    fn are_allowed(&self, stand: &Stand<'_, '_>, parts: &Parts<'_, '_>) -> Result<bool, AllocError>
+        ensures { IfOk result (λ b. (inputs : Inputs) (above : Anchor) (before : List certificates.Certificate) (c : certificates.Certificate)
+            → Stands inputs above before self.now.moment stand.now.above stand.now.max_path_length stand.now.sets.now
+            → Knows c parts.now.certificate.now.bytes.now parts.now.extensions.now stand.now.is_last parts.now.basic_constraints parts.now.name_constraints.now
+            → IsTrue b ↔ AreNamesAllowed inputs before c) }
+    {
+        let subject = known_value::<Name>(self.alloc, parts.certificate.subject())?;
+        let names = owned_payload::<SubjectAltName>(self.alloc, parts.extensions)?;
+        let are_allowed = stand
+            .sets
+            .sets
+            .allows_names(self.alloc, &subject, names.as_ref())?;
+        Ok(are_allowed)
+    }
+
+    /// Whether the certificate is asked for its names, and they aren't allowed.
+    fn has_other_names(
+        &self,
+        stand: &Stand<'_, '_>,
+        parts: &Parts<'_, '_>,
+    ) -> Result<bool, AllocError>
+        ensures { IfOk result (λ b. (inputs : Inputs) (above : Anchor) (before : List certificates.Certificate) (n : ℕ) (c : certificates.Certificate)
+            → Stands inputs above before self.now.moment stand.now.above stand.now.max_path_length stand.now.sets.now
+            → Knows c parts.now.certificate.now.bytes.now parts.now.extensions.now stand.now.is_last parts.now.basic_constraints parts.now.name_constraints.now
+            → IsTrue b ↔ Breaks (S.accepts self.now.signatures.now) inputs (standing above before stand.now.is_last n) parts.now.certificate.now.bytes.now c
+            reasons.Names) }
+    {
+        if !stand.sets.is_any {
+            return Ok(false);
+        }
+        if !is_asked(self.alloc, stand.is_last, parts.certificate)? {
+            return Ok(false);
+        }
+        let are_allowed = self.are_allowed(stand, parts)?;
+        Ok(!are_allowed)
+    }
+
+    /// Whether the certificate has that fault, its policies apart.
+    fn breaks(
+        &self,
+        stand: &Stand<'_, '_>,
+        parts: &Parts<'_, '_>,
+        reason: ValidationReason,
+    ) -> Result<bool, AllocError>
+        ensures { IfOk result (λ b. (inputs : Inputs) (above : Anchor) (before : List certificates.Certificate) (n : ℕ) (c : certificates.Certificate)
+            → Stands inputs above before self.now.moment stand.now.above stand.now.max_path_length stand.now.sets.now
+            → Knows c parts.now.certificate.now.bytes.now parts.now.extensions.now stand.now.is_last parts.now.basic_constraints parts.now.name_constraints.now
+            → IsOwn reason → IsTrue b
+            ↔ Breaks (S.accepts self.now.signatures.now) inputs (standing above before stand.now.is_last n) parts.now.certificate.now.bytes.now c reason) }
+    {
+        let certificate = parts.certificate;
+        let extensions = parts.extensions;
+        match reason {
+            ValidationReason::Decode => Ok(false),
+            ValidationReason::Algorithm => Ok(has_two_algorithms(certificate)),
+            ValidationReason::Issuer => self.is_of_another(stand, certificate),
+            ValidationReason::Moment => Ok(is_outside(self.moment, certificate)),
+            ValidationReason::Signature => Ok(!self.is_signed(stand, certificate)?),
+            ValidationReason::Repeated => is_repeated(self.alloc, extensions),
+            ValidationReason::Critical => Ok(!are_processed(extensions)),
+            ValidationReason::Extension => Ok(!are_spelled(extensions)),
+            ValidationReason::NotCa => Ok(!stand.is_last && !is_ca(parts.basic_constraints)),
+            ValidationReason::KeyUsage => {
+                Ok(!stand.is_last && lacks_key_cert_sign(self.alloc, extensions))
+            }
+            ValidationReason::PathLen => self.is_too_deep(stand, certificate),
+            ValidationReason::Names => self.has_other_names(stand, parts),
+            ValidationReason::Constraints => {
+                Ok(!stand.is_last && is_unusable(parts.name_constraints))
+            }
+            ValidationReason::RepeatedPolicy
+            | ValidationReason::Policy
+            | ValidationReason::PolicyMapping => Ok(false),
+        }
+    }
+
+    /// What a certificate says of those below it with which nothing is wrong, its policies apart; `index` is its place.
+    fn judge_parts<'a>(
+        &self,
+        stand: &Stand<'_, '_>,
+        certificate: &CertificateRef<'a>,
+        extensions: &[ExtensionRef<'a>],
+        index: usize,
+    ) -> Result<Limits<'a>, ValidationFault>
+        ensures { (inputs : Inputs) (above : Anchor) (before : List certificates.Certificate) (n : ℕ) (c : certificates.Certificate)
+            → Stands inputs above before self.now.moment stand.now.above stand.now.max_path_length stand.now.sets.now → Lends certificate.now.bytes.now c
+            → lent_extensions extensions.now ≡ certificates.extensions_of c
+            → JudgesParts (S.accepts self.now.signatures.now) inputs (standing above before stand.now.is_last n) certificate.now.bytes.now index c result }
+    {
+        let basic_constraints = basic_constraints(self.alloc, stand.is_last, extensions);
+        let name_constraints = name_constraints(self.alloc, stand.is_last, extensions)?;
+        let parts = Parts {
+            certificate,
+            extensions,
+            basic_constraints,
+            name_constraints: &name_constraints,
+        };
+        for reason in REASONS {
+            if self.breaks(stand, &parts, reason)? {
+                return Err(ValidationFault::At {
+                    place: index,
+                    reason,
+                });
+            }
+        }
+        let policies = said_of(self.alloc, certificate, extensions)?;
+        Ok(Limits {
+            basic_constraints,
+            name_constraints,
+            policies,
+        })
+    }
+
+    /// The same of a certificate with any number of extensions.
+    fn judge_many<'a>(
+        &self,
+        stand: &Stand<'_, '_>,
+        certificate: &CertificateRef<'a>,
+        index: usize,
+    ) -> Result<Limits<'a>, ValidationFault>
+        ensures { (inputs : Inputs) (above : Anchor) (before : List certificates.Certificate) (n : ℕ) (c : certificates.Certificate)
+            → Stands inputs above before self.now.moment stand.now.above stand.now.max_path_length stand.now.sets.now → Lends certificate.now.bytes.now c
+            → JudgesParts (S.accepts self.now.signatures.now) inputs (standing above before stand.now.is_last n) certificate.now.bytes.now index c result }
+    {
+        match collect(self.alloc, certificate.extensions()) {
+            Ok(many) => self.judge_parts(stand, certificate, many.as_slice(), index),
+            Err(_) => Err(ValidationFault::Memory),
+        }
+    }
+
+    /// The same, without memory where the places are enough for its extensions.
+    fn judge_within<'a>(
+        &self,
+        stand: &Stand<'_, '_>,
+        certificate: &CertificateRef<'a>,
+        few: &mut [ExtensionRef<'a>],
+        index: usize,
+    ) -> Result<Limits<'a>, ValidationFault>
+        ensures { (inputs : Inputs) (above : Anchor) (before : List certificates.Certificate) (n : ℕ) (c : certificates.Certificate)
+            → Stands inputs above before self.now.moment stand.now.above stand.now.max_path_length stand.now.sets.now → Lends certificate.now.bytes.now c
+            → JudgesParts (S.accepts self.now.signatures.now) inputs (standing above before stand.now.is_last n) certificate.now.bytes.now index c result }
+    {
+        match gather(certificate.extensions(), few) {
+            Some(count) => {
+                let extensions = front(few, count);
+                self.judge_parts(stand, certificate, extensions, index)
+            }
+            None => self.judge_many(stand, certificate, index),
+        }
+    }
+
+    /// The same, without memory for up to 16 extensions.
+    fn judge_read<'a>(
+        &self,
+        stand: &Stand<'_, '_>,
+        certificate: &CertificateRef<'a>,
+        index: usize,
+    ) -> Result<Limits<'a>, ValidationFault>
+        ensures { (inputs : Inputs) (above : Anchor) (before : List certificates.Certificate) (n : ℕ) (c : certificates.Certificate)
+            → Stands inputs above before self.now.moment stand.now.above stand.now.max_path_length stand.now.sets.now → Lends certificate.now.bytes.now c
+            → JudgesParts (S.accepts self.now.signatures.now) inputs (standing above before stand.now.is_last n) certificate.now.bytes.now index c result }
+    {
+        let mut few = places();
+        self.judge_within(stand, certificate, &mut few, index)
+    }
+
+    /// The certificate of these bytes, where nothing is wrong with it, its policies apart, and what it says of those below it;
+    /// `index` is its place.
+    pub(crate) fn judge<'a>(
+        &self,
+        stand: &Stand<'_, '_>,
+        bytes: &'a [u8],
+        index: usize,
+    ) -> Result<(CertificateRef<'a>, Limits<'a>), ValidationFault>
+        ensures { (inputs : Inputs) (above : Anchor) (before : List certificates.Certificate) (n : ℕ)
+            → Stands inputs above before self.now.moment stand.now.above stand.now.max_path_length stand.now.sets.now → MatchResult result
+            (λ judged. (c : certificates.Certificate) × Lends judged.0.bytes.now c
+            × JudgesParts (S.accepts self.now.signatures.now) inputs (standing above before stand.now.is_last n) bytes.now index c (Ok judged.1))
+            (λ e. JudgesAlone (S.accepts self.now.signatures.now) inputs (standing above before stand.now.is_last n) bytes.now index (Err e)) }
+    {
+        let certificate = match CertificateRef::from_der(bytes) {
+            Ok(certificate) => certificate,
+            Err(_) => return Err(unreadable(index)),
+        };
+        match self.judge_read(stand, &certificate, index) {
+            Ok(limits) => Ok((certificate, limits)),
+            Err(e) => Err(e),
+        }
+    }
+}
+
+/// The fault where the bytes are the encoding of no certificate.
+fn unreadable(place: usize) -> ValidationFault
+    ensures { result ≡ faults.At place reasons.Decode }
+{
+    ValidationFault::At {
+        place,
+        reason: ValidationReason::Decode,
+    }
+}
