@@ -1,7 +1,14 @@
 -- Which of two CRLs is older.
-use Rattle.std.proofs.Common.{◌≡◌, ◌<◌, ◌∙◌, ℕ, inl, inr, Option, Some, None, refl, sym, ap, subst, arith}
+use Rattle.std.proofs.Common.{◌≡◌, ◌<◌, ◌↔◌, ◌∙◌, ℕ, Bool, inl, inr, Option, Some, None, refl, sym, ap, subst, arith}
 use Rattle.std.proofs.lemmas.Bool.{cases_order}
-use Rattle.x509_revocation.specs.Crls.{Crl, HasNumber, IsBelow, IsNumbered, IsOlder, this_second}
+use Rattle.std.specs.Bool.{IsTrue}
+use Rattle.std.specs.Prelude.{MatchOption}
+use Rattle.x509_ext.specs.CrlNumber.{crl_number}
+use Rattle.x509_ext.specs.Identifiers.{id_ce}
+use Rattle.x509_ext.specs.declared.pkix.crl_number.CrlNumber.{CrlNumber}
+use Rattle.x509_path.specs.Certificates.{HasPayload}
+use Rattle.x509_revocation.specs.Ages.{numbers}
+use Rattle.x509_revocation.specs.Crls.{Crl, HasNumber, IsBelow, IsNumbered, IsOlder, crl_extensions, this_second}
 use Rattle.x509_revocation.proofs.Orders.{one_number}
 
 pub one_numbered : (crl : Crl) (n m : Option ℕ) → IsNumbered crl n → IsNumbered crl m → n ≡ m
@@ -62,3 +69,25 @@ not_older a (n, m, first, second, h) = not_below n (this_second a) (subst (λ x.
 pub older_other : (a b c : Crl) (number : ℕ) → HasNumber a number → (IsOlder b a → ⊥) → IsOlder b c → IsOlder a c
 older_other a b c number has none (m, o, second, third, k) =
     (Some number, o, has, third, below_other (Some number) m o (this_second a) (this_second b) (this_second c) (λ below. none (m, Some number, second, has, below)) k)
+
+-- ---- what is told of both
+
+pub numbered : (crl : Crl) (found : Option CrlNumber) → MatchOption found ((v : CrlNumber) → HasPayload crl_number (id_ce 20) (crl_extensions crl) v → ⊥) (HasPayload crl_number (id_ce 20) (crl_extensions crl)) → IsNumbered crl (numbers found)
+numbered crl None none = λ n has. none has.0 has.1
+numbered crl (Some v) has = (v, has, refl)
+
+below_so : (n m : Option ℕ) (D E : Type 0) → (D → E) → IsBelow n m D → IsBelow n m E
+below_so None None D E f h = f h
+below_so None (Some m) D E f h = tt
+below_so (Some n) None D E f h = absurd h
+below_so (Some n) (Some m) D E f (inl h) = inl h
+below_so (Some n) (Some m) D E f (inr h) = inr (h.0, f h.1)
+
+pub older_told : (x y : Crl) (n m : Option ℕ) (b e : Bool) → IsNumbered x n → IsNumbered y m → IsTrue b ↔ IsBelow n m (IsTrue e) → IsTrue e ↔ (this_second x < this_second y) → IsTrue b ↔ IsOlder x y
+older_told x y n m b e first second below early = (
+  (λ is. (n, m, first, second, below_so n m (IsTrue e) (this_second x < this_second y) early.0 (below.0 is))),
+  (λ (p, q, third, fourth, h).
+  let one = subst (λ v. IsBelow v q (this_second x < this_second y)) (one_numbered x p n third first) h in
+  let both = subst (λ v. IsBelow n v (this_second x < this_second y)) (one_numbered y q m fourth second) one in
+  below.1 (below_so n m (this_second x < this_second y) (IsTrue e) early.1 both)),
+)

@@ -2,15 +2,20 @@
 
 ghost use Rattle.std.specs.List.{All};
 ghost use Rattle.std.specs.Prelude.{◌≡◌, ◌↔◌, [], true, IfOk, IsTrue, MatchOption, Option};
+ghost use Rattle.x509_base.specs.SubjectPublicKeyInfo.{subject_public_key_info};
+ghost use Rattle.x509_base.specs.declared.subject_public_key_info.SubjectPublicKeyInfo as keys;
+ghost use Rattle.x509_der.specs.Form.{Spells};
 ghost use Rattle.x509_ext.specs.Identifiers.{id_ce};
 ghost use Rattle.x509_ext.specs.LookUp.{with_oid};
 ghost use Rattle.x509_match.specs.Matching.{NamesMatch};
+ghost use Rattle.x509_name.specs.Names as grammar;
 ghost use Rattle.x509_path.specs.Lent.{LendsAnchor};
 ghost use Rattle.x509_path.specs.declared.anchor.Anchor.{Anchor};
 ghost use Rattle.x509_revocation.specs.Crls.{Crl, HasOneAlgorithm, IsOfSigner, IsOlder, IsProcessed, IsSignedBy, crl_extensions};
 ghost use Rattle.x509_revocation.specs.Lent.{LendsCrl, LendsGiven};
 ghost use Rattle.x509_revocation.specs.Lent as steps;
 ghost use Rattle.x509_revocation.specs.LentFound.{placed_entry};
+ghost use Rattle.x509_revocation.specs.Names as names;
 ghost use Rattle.x509_revocation.specs.Says.{GivenCrl, IsReady, Tells};
 ghost use Rattle.x509_revocation.specs.declared.status.Revocation as revocations;
 
@@ -65,11 +70,31 @@ fn is_ready(settings: &RevocationSettings, crl: &CrlRef<'_>) -> bool
     is_in_date(settings, crl) && is_processed(crl) && has_one_algorithm(crl)
 }
 
+/// Whether the bytes are the encoding of a name.
+fn is_name(bytes: &[u8]) -> bool
+    ensures { IsTrue result ↔ ((found : names.Name) × Spells grammar.name found bytes.now) }
+{
+    match Name::check(bytes) {
+        Ok(()) => true,
+        Err(_) => false,
+    }
+}
+
+/// Whether the bytes are the encoding of a public key.
+fn is_key(bytes: &[u8]) -> bool
+    ensures { IsTrue result ↔ ((found : keys.SubjectPublicKeyInfo) × Spells subject_public_key_info found bytes.now) }
+{
+    match SubjectPublicKeyInfo::check(bytes) {
+        Ok(()) => true,
+        Err(_) => false,
+    }
+}
+
 /// Whether the signer's name and key are the encodings of a name and of a key.
 fn is_anchor(signer: &AnchorRef<'_>) -> bool
     ensures { IsTrue result ↔ ((anchor : Anchor) × LendsAnchor signer.now anchor) }
 {
-    Name::check(signer.name).is_ok() && SubjectPublicKeyInfo::check(signer.key).is_ok()
+    is_name(signer.name) && is_key(signer.key)
 }
 
 /// Whether the signer's name is the CRL's issuer.
@@ -281,14 +306,15 @@ impl<'s, 'a, V: SliceVerifier> Asked<'_, '_, 's, 'a, V> {
         let mut found: Option<RevokedCertRef<'a>> = None;
         for (place, given) in crls.iter().enumerate() {
             let crl = given.crl;
-            match self.look_in_newer(complete, is_indirect, &newest, crl) {
-                Ok(Some(entry)) => {
-                    newest = Some(Newest { crl, place });
-                    found = entry;
-                }
-                Ok(None) => {}
+            let looked = match self.look_in_newer(complete, is_indirect, &newest, crl) {
+                Ok(looked) => looked,
                 Err(e) => return Err(e),
-            }
+            };
+            let Some(entry) = looked else {
+                continue;
+            };
+            newest = Some(Newest { crl, place });
+            found = entry;
         }
         match newest {
             Some(it) => Ok(Some(Found {

@@ -1,8 +1,8 @@
 use Rattle.std.proofs.Common.{◌∙◌, ◌+◌, drop, get_or, refl, subst, sym}
 use Rattle.std.proofs.lemmas.Bool.{true≢false}
-use Rattle.std.proofs.lemmas.List.{drop_more}
+use Rattle.std.proofs.lemmas.List.{drop_all, drop_more}
 use Rattle.x509_revocation.specs.Lent.{LendsGiven, question}
-use Rattle.x509_revocation.specs.Says.{GivenCrl, Replaces}
+use Rattle.x509_revocation.specs.Says.{Replaces}
 use Rattle.x509_revocation.proofs.Lists.{Left, fails_left, next_left, none_left}
 use Rattle.x509_revocation.proofs.Signed.{never}
 use Rattle.x509_revocation.proofs.says.Asked.is_current.Goals as goal
@@ -31,4 +31,7 @@ returns-then-replaces g c = λ certificate all older lends lent named.
 
 pub returns : goal.returns
 returns g c = λ certificate all older lends lent named.
-    let asked = question (g.V.SliceVerifier.accepts c.args.self.now.verifier.now) c.args.self.now.settings.now certificate in ?
+    let asked = question (g.V.SliceVerifier.accepts c.args.self.now.verifier.now) c.args.self.now.settings.now certificate in
+    let crls = c.args.self.now.crls.now in
+    let left = subst (λ l. Left (λ newer. Replaces asked c.args.is_indirect newer older → ⊥) all l) (drop_all c.loop-other.other-index crls c.loop-other-test.false) (c.loop-other.invariant certificate all older lends lent named) in
+    ((λ is. none_left (λ newer. Replaces asked c.args.is_indirect newer older → ⊥) all left), (λ every. refl))
